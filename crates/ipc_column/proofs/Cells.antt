@@ -1,0 +1,91 @@
+-- What stands in a row and a column.
+use Rattle.std.proofs.Common.{◌≡◌, ◌∙◌, refl, sym, ap, subst, ℕ, zero, suc, ◌+◌, ◌<◌, Bool, true, List, [], ◌∷◌, ◌++◌, length, get_or, take, arith, add-one, Some, length-append, inl, inr}
+use Rattle.std.specs.Prelude.{slice_get, slice_index_or}
+use Rattle.std.proofs.lemmas.Bool.{and_parts, cases_order, eqb-true}
+use Rattle.std.proofs.lemmas.List.{take_more}
+use Rattle.std.proofs.lemmas.Option.{get_or_from_slice_get}
+use Rattle.ipc_model.specs.declared.value.Value.{Value}
+use Rattle.ipc_column.specs.declared.part.Part.{Part}
+use Rattle.ipc_column.specs.declared.part.Part.TheViews.{out-Part}
+use Rattle.ipc_column.specs.declared.cause.Cause.{Cause}
+use Rattle.ipc_column.specs.declared.cause.Cause.TheVariants as cause
+use Rattle.ipc_column.specs.Columns.{Column, Columns, every, every_top}
+use Rattle.ipc_column.specs.Tests.{passes, top_passes, has_bitmap, holds_values, Holds}
+use Rattle.ipc_column.specs.Values.{row, rows_of, value_of}
+use Rattle.ipc_column.specs.Views.{columns, column_of, own_column}
+use Rattle.std.proofs.Math.ListN.{get_or-append}
+use Rattle.std.proofs.Math.Seq.{get_or-append_seam}
+use Rattle.ipc_column.proofs.Parts.{column_is}
+
+-- a bitmap of n bits has those up to a slot
+pub bitmap_front : (n i bytes : ℕ) → has_bitmap n bytes ≡ true → i < n → has_bitmap (i + 1) bytes ≡ true
+bitmap_front n i bytes h l = grind arith
+
+pub record Long (c : Column) : Type 0 where
+  pub bitmap : has_bitmap c.slots (length c.validity) ≡ true
+  pub values : holds_values c.layout c.slots (length c.values) ≡ true
+
+long : (c : Column) → ((why : Cause) → passes why c ≡ true) → Long c
+long c h =
+    let p = and_parts (has_bitmap c.slots (length c.validity)) (holds_values c.layout c.slots (length c.values)) (h cause.BufferTooShort) in
+    record { bitmap = p.0; values = p.1 }
+
+pub part_long : (body : List ℕ) (p : Part) → ((why : Cause) → passes why (column_of body p) ≡ true) → Long (own_column body p)
+part_long body p h = subst (λ (c : Column). Long c) (column_is body p) (long (column_of body p) h)
+
+pub part_slot : (body : List ℕ) (p : Part) (i : ℕ) → i < (column_of body p).slots → i < (out-Part p).slots
+part_slot body p i h = subst (λ (c : Column). i < c.slots) (column_is body p) h
+
+every_at : (test : Column → Bool) (body : List ℕ) (ps : List Part) (j : ℕ) (p : Part) → j < length ps → p ≡ get_or ps j p → every test (columns body ps) ≡ true → test (column_of body p) ≡ true
+every_at test body [] j p l e h = absurd (omega arith)
+every_at test body (q ∷ ps) zero p l e h = rw e (and_parts _ _ h).0
+every_at test body (q ∷ ps) (suc j) p l e h = every_at test body ps j p (omega arith) e (and_parts _ _ (and_parts _ _ h).1).1
+
+every_top_at : (test : Column → Bool) (body : List ℕ) (ps : List Part) (j : ℕ) (p : Part) → j < length ps → p ≡ get_or ps j p → every_top test (columns body ps) ≡ true → test (column_of body p) ≡ true
+every_top_at test body [] j p l e h = absurd (omega arith)
+every_top_at test body (q ∷ ps) zero p l e h = rw e (and_parts _ _ h).0
+every_top_at test body (q ∷ ps) (suc j) p l e h = every_top_at test body ps j p (omega arith) e (and_parts _ _ h).1
+
+-- what a batch of n rows keeps, for one of its parts
+pub record Kept (n : ℕ) (body : List ℕ) (p : Part) : Type 0 where
+  pub sound : (why : Cause) → passes why (column_of body p) ≡ true
+  pub slots : (column_of body p).slots ≡ n
+
+pub kept_at : (n : ℕ) (body : List ℕ) (ps : List Part) (j : ℕ) (p : Part) → j < length ps → p ≡ get_or ps j p → Holds n (columns body ps) → Kept n body p
+kept_at n body ps j p l e h = record {
+  sound = λ why. every_at (passes why) body ps j p l e (and_parts (every (passes why) (columns body ps)) (every_top (top_passes why n) (columns body ps)) (h why)).0;
+  slots = eqb-true _ _ (every_top_at (top_passes cause.BadNode n) body ps j p l e (and_parts (every (passes cause.BadNode) (columns body ps)) (every_top (top_passes cause.BadNode n) (columns body ps)) (h cause.BadNode)).1);
+}
+
+pub row_length : (body : List ℕ) (ps : List Part) (i : ℕ) → length (row (columns body ps) i) ≡ length ps
+row_length body [] i = refl
+row_length body (p ∷ ps) i = ap (λ (n : ℕ). suc n) (row_length body ps i)
+
+pub row_cell : (body : List ℕ) (ps : List Part) (i j : ℕ) (p : Part) → j < length ps → p ≡ get_or ps j p → slice_get (row (columns body ps) i) j ≡ Some (value_of (column_of body p) i)
+row_cell body [] i j p l e = absurd (omega arith)
+row_cell body (q ∷ ps) i zero p l e = rw e refl
+row_cell body (q ∷ ps) i (suc j) p l e = row_cell body ps i j p (omega arith) e
+
+-- one cell more of a row
+pub row_more : (values done more : List Value) (j : ℕ) (v : Value) → j < length values → slice_get values j ≡ Some v → done ≡ take j values → more ≡ done ++ v ∷ [] → more ≡ take (j + 1) values
+row_more values done more j v l e d m =
+    m ∙ (ap (λ (vs : List Value). vs ++ v ∷ []) d ∙ (ap (λ (w : Value). take j values ++ w ∷ []) (sym (get_or_from_slice_get values j v v e)) ∙ sym (take_more values j v l)))
+
+pub rows_more : (cs : Columns) (n : ℕ) → rows_of cs (n + 1) ≡ rows_of cs n ++ row cs n ∷ []
+rows_more cs n = rw add-one refl
+
+pub rows_length : (cs : Columns) (n : ℕ) → length (rows_of cs n) ≡ n
+rows_length cs zero = refl
+rows_length cs (suc n) = let h = rows_length cs n in omega (arith, h, length-append (rows_of cs n) (row cs n ∷ []))
+
+pub rows_at : (cs : Columns) (n i : ℕ) (d : List Value) → i < n → slice_index_or (rows_of cs n) i d ≡ row cs i
+rows_at cs zero i d l = absurd (omega arith)
+rows_at cs (suc n) i d l =
+    let size = rows_length cs n in
+    elim (cases_order i n) as (λ _. get_or (rows_of cs n ++ (row cs n ∷ [])) i d ≡ row cs i) [
+      | inl e ↦ ap (λ (k : ℕ). get_or (rows_of cs n ++ (row cs n ∷ [])) k d) (e ∙ sym size) ∙ (get_or-append_seam (rows_of cs n) (row cs n) [] d ∙ ap (row cs) (sym e))
+      | inr r ↦ elim r as (λ _. get_or (rows_of cs n ++ (row cs n ∷ [])) i d ≡ row cs i) [
+        | inl m ↦ get_or-append (rows_of cs n) (row cs n ∷ []) d i (omega (arith, size)) ∙ rows_at cs n i d m
+        | inr m ↦ absurd (omega arith)
+      ]
+    ]

@@ -1,0 +1,163 @@
+-- Each test says what the standard asks.
+use Rattle.std.proofs.Common.{◌≡◌, refl, ap, ℕ, zero, suc, ◌+◌, ◌<◌, ◌≤◌, Bool, true, false, cond, not, List, length, arith, le-leb}
+use Rattle.std.specs.Prelude.{◌&&◌, ◌||◌, ◌==◌, nat_le, ◌^◌, ℤ, ◌+ℤ◌, pos, negsuc, int_le, int_lt, ◌≤ℤ◌, ◌<ℤ◌, unsigned_abs, T}
+use Rattle.std.specs.Bool.{Decides}
+use Rattle.std.proofs.lemmas.Bool.{and_parts, and_from, ne_eqb, leb-true}
+use Rattle.std.proofs.lemmas.Bool.Decides.{nat_tests, Decides-eqb, Decides-and, Decides-at, Decides-like, Decides-by_and}
+use Rattle.std.proofs.lemmas.Int.{ints}
+use Rattle.ipc_model.specs.declared.schema.Field.{Field}
+use Rattle.ipc_meta.specs.declared.head.BatchHead.{BatchHead}
+use Rattle.ipc_column.specs.declared.layout.Layout.{Layout}
+use Rattle.ipc_column.specs.declared.layout.Layout.TheVariants.{Signed64, Unread}
+use Rattle.ipc_column.specs.declared.cause.Cause.{Cause}
+use Rattle.ipc_column.specs.declared.cause.Cause.TheVariants as cause
+use Rattle.ipc_column.specs.Columns.{Column, Columns, none, column, Each, EachTop, every, every_top}
+use Rattle.ipc_column.specs.Shapes.{shape_of, columns_of}
+use Rattle.ipc_column.specs.Facts.{HasNodes, HasBuffers, HasLengths, HasRanges, HasBytes, HasNullCounts, IsSlotCount, IsNode, LiesIn, HoldValues, IsLongEnough, CountsNulls}
+use Rattle.ipc_column.specs.Tests.{is_slot_count, is_node, lies_in, all, holds_values, passes, top_passes, fits}
+
+-- ---- numbers
+
+of_test : (b : Bool) → Decides b (T b)
+of_test true = (λ e. tt, λ t. refl)
+of_test false = (λ e. absurd (cc), λ t. absurd t)
+
+of_le : (a b : ℤ) → Decides (int_le a b) (a ≤ℤ b)
+of_le a b = Decides-like (int_le a b) (λ t. record { le = t }) (λ h. h.le) (of_test (int_le a b))
+
+of_lt : (a b : ℤ) → Decides (int_lt a b) (a <ℤ b)
+of_lt a b = Decides-like (int_lt a b) (λ t. record { lt = t }) (λ h. h.lt) (of_test (int_lt a b))
+
+of_slot_count : (z : ℤ) → Decides (is_slot_count z) (IsSlotCount z)
+of_slot_count z =
+    Decides-like (is_slot_count z) (λ p. record { from = p.0; to = p.1 }) (λ h. (h.from, h.to)) (Decides-and _ _ (of_le (pos 0) z) (of_lt z (pos (2 ^ 31))))
+
+of_node : (n : ℤ × ℤ) → Decides (is_node n) (IsNode n)
+of_node n =
+    Decides-like (is_node n) (λ p. record { slots = p.0; nulls_from = p.1.0; nulls_to = p.1.1 }) (λ h. (h.slots, (h.nulls_from, h.nulls_to)))
+    (Decides-and _ _ (of_slot_count n.0) (Decides-and _ _ (of_le (pos 0) n.1) (of_le n.1 n.0)))
+
+-- a bound that counts only where there is something
+of_least : (n least most : ℕ) → Decides (n == 0 || nat_le least most) (0 < n → least ≤ most)
+of_least n least most = (λ e l. grind (arith, nat_tests), λ h. grind (arith, nat_tests))
+
+-- the end of a range
+of_end : (size : ℕ) (a b : ℤ) → pos 0 ≤ℤ a → pos 0 ≤ℤ b → Decides (unsigned_abs b == 0 || nat_le (unsigned_abs a + unsigned_abs b) size) (pos 0 <ℤ b → (a +ℤ b) ≤ℤ pos size)
+of_end size (pos m) (pos n) h k =
+    Decides-like _
+    (λ f l. let g : m + n ≤ size = f (omega (arith, ints, l)) in omega (arith, ints, g))
+    (λ f l. let g : (pos m +ℤ pos n) ≤ℤ pos size = f (omega (arith, ints, l)) in omega (arith, ints, g))
+    (of_least n (m + n) size)
+of_end size (negsuc m) b h k = absurd (omega (arith, ints))
+of_end size a (negsuc n) h k = absurd (omega (arith, ints))
+
+of_range : (size : ℕ) (r : ℤ × ℤ) → Decides (lies_in size r) (LiesIn size r)
+of_range size r = (
+  λ e.
+      let p = and_parts _ _ e in
+      let q = and_parts _ _ p.1 in
+      let a = (of_le (pos 0) r.0).0 p.0 in
+      let b = (of_le (pos 0) r.1).0 q.0 in
+      record { offset = a; bytes = b; within = (of_end size r.0 r.1 a b).0 q.1 },
+  λ h. and_from _ _ ((of_le (pos 0) r.0).1 h.offset) (and_from _ _ ((of_le (pos 0) r.1).1 h.bytes) ((of_end size r.0 r.1 h.offset h.bytes).1 h.within)),
+)
+
+-- ---- columns
+
+of_values : (l : Layout) (n bytes : ℕ) → Decides (holds_values l n bytes) (HoldValues l n bytes)
+of_values Signed64 n bytes = (λ e. grind (arith, nat_tests), λ h. grind (arith, nat_tests))
+of_values Unread n bytes = (λ e. tt, λ h. refl)
+
+of_bytes : (c : Column) → Decides (passes cause.BufferTooShort c) (IsLongEnough c)
+of_bytes c =
+    Decides-like (passes cause.BufferTooShort c) (λ p. record { bitmap = p.0; values = p.1 }) (λ h. (h.bitmap, h.values))
+    (Decides-and _ _ (of_least (length c.validity) _ (length c.validity)) (of_values c.layout c.slots (length c.values)))
+
+-- one test where another holds
+of_when : {P Q : Type 0} (x y : Bool) → Decides x P → Decides y Q → Decides (not x || y) (P → Q)
+of_when true y p q = (λ e h. q.0 e, λ f. q.1 (f (p.0 refl)))
+of_when false y p q = (λ e h. let z : false ≡ true = p.1 h in absurd (cc), λ f. refl)
+
+of_nulls : (nulls bytes least clear : ℕ) → Decides (not (bytes == 0 || nat_le least bytes) || (nulls == cond (bytes == 0) 0 clear)) ((0 < bytes → least ≤ bytes → nulls ≡ clear) × (bytes ≡ 0 → nulls ≡ 0))
+of_nulls nulls zero least clear = Decides-like (nulls == 0) (λ e. (λ l m. absurd (omega arith), λ z. e)) (λ h. h.1 refl) (Decides-eqb nulls 0)
+of_nulls nulls (suc bytes) least clear =
+    let some : (suc bytes == 0) ≡ false = ne_eqb (suc bytes) 0 (omega arith) in
+    let long : Decides (nat_le least (suc bytes)) (least ≤ suc bytes) = (λ e. leb-true least (suc bytes) e, λ l. le-leb least (suc bytes) l) in
+    Decides-at _ (not (nat_le least (suc bytes)) || (nulls == clear)) (rw some refl)
+    (Decides-like _ (λ f. (λ l m. f m, λ z. absurd (omega arith))) (λ h. h.0 (omega arith)) (of_when _ _ long (Decides-eqb nulls clear)))
+
+of_null_count : (c : Column) → Decides (passes cause.BadNullCount c) (CountsNulls c)
+of_null_count c =
+    Decides-like (passes cause.BadNullCount c) (λ p. record { with_bitmap = p.0; without_bitmap = p.1 }) (λ h. (h.with_bitmap, h.without_bitmap))
+    (of_nulls c.nulls (length c.validity) _ _)
+
+of_each : (test : Column → Bool) (P : Column → Type 0) → ((c : Column) → Decides (test c) (P c)) → (cs : Columns) → Decides (every test cs) (Each P cs)
+of_each test P d none = (λ e. tt, λ h. refl)
+of_each test P d (column c children rest) = Decides-and _ _ (d c) (Decides-and _ _ (of_each test P d children) (of_each test P d rest))
+
+of_each_top : (test : Column → Bool) (P : Column → Type 0) → ((c : Column) → Decides (test c) (P c)) → (cs : Columns) → Decides (every_top test cs) (EachTop P cs)
+of_each_top test P d none = (λ e. tt, λ h. refl)
+of_each_top test P d (column c children rest) = Decides-and _ _ (d c) (of_each_top test P d rest)
+
+-- ---- the parts
+
+every_true : (cs : Columns) → every (λ c. true) cs ≡ true
+every_true none = refl
+every_true (column c children rest) = rw (every_true children, every_true rest) refl
+
+every_top_true : (cs : Columns) → every_top (λ c. true) cs ≡ true
+every_top_true none = refl
+every_top_true (column c children rest) = every_top_true rest
+
+of_slots : (z : ℤ) → pos 0 ≤ℤ z → (n : ℕ) → Decides (n == unsigned_abs z) (pos n ≡ z)
+of_slots (pos m) h n = Decides-like (n == m) (λ e. ap pos e) (λ e. ap unsigned_abs e) (Decides-eqb n m)
+of_slots (negsuc m) h n = absurd (omega (arith, ints, h))
+
+-- what is asked, by the cause that is answered where it doesn't hold
+abbrev pub Asked : Cause → List Field → BatchHead → List ℕ → Type 0
+Asked cause.WrongNodeCount fields head body = HasNodes fields head
+Asked cause.WrongBufferCount fields head body = HasBuffers fields head
+Asked cause.BadNode fields head body = HasLengths fields head body
+Asked cause.BufferOutOfBody fields head body = HasRanges head body
+Asked cause.BufferTooShort fields head body = HasBytes fields head body
+Asked cause.BadNullCount fields head body = HasNullCounts fields head body
+
+of_head : (test : Bool) (P : Type 0) (cs : Columns) → Decides test P → Decides (test && (every (λ c. true) cs && every_top (λ c. true) cs)) P
+of_head test P cs d = Decides-like _ (λ p. p.0) (λ h. (h, (every_true cs, every_top_true cs))) (Decides-and _ _ d (Decides-and _ _ (λ e. e, λ e. e) (λ e. e, λ e. e)))
+
+of_columns : (test : Column → Bool) (P : Column → Type 0) (cs : Columns) → ((c : Column) → Decides (test c) (P c)) → Decides (true && (every test cs && every_top (λ c. true) cs)) (Each P cs)
+of_columns test P cs d = Decides-like _ (λ p. p.1.0) (λ h. (refl, (h, every_top_true cs))) (Decides-and _ _ (λ e. e, λ e. e) (Decides-and _ _ (of_each test P d cs) (λ e. e, λ e. e)))
+
+of_lengths : (fields : List Field) (head : BatchHead) (body : List ℕ) → Decides (fits (shape_of fields) head body cause.BadNode) (HasLengths fields head body)
+of_lengths fields head body =
+    let cs = columns_of fields head body in
+    let n = unsigned_abs head.length in
+    let top : Column → Bool = top_passes cause.BadNode n in
+    let nodes = Decides-by_and is_node IsNode (all is_node) of_node refl (λ _ _. refl) head.nodes in (
+      λ e.
+          let p = and_parts (is_slot_count head.length && all is_node head.nodes) (every (λ c. true) cs && every_top top cs) e in
+          let q = and_parts (is_slot_count head.length) (all is_node head.nodes) p.0 in
+          let r = and_parts (every (λ c. true) cs) (every_top top cs) p.1 in
+          let batch = (of_slot_count head.length).0 q.0 in
+          record { batch = batch; nodes = nodes.0 q.1; columns = (of_each_top top (λ c. pos c.slots ≡ head.length) (λ c. of_slots head.length batch.from c.slots) cs).0 r.1 },
+      λ h.
+          and_from (is_slot_count head.length && all is_node head.nodes) (every (λ c. true) cs && every_top top cs)
+          (and_from _ _ ((of_slot_count head.length).1 h.batch) (nodes.1 h.nodes))
+          (and_from _ _ (every_true cs) ((of_each_top top (λ c. pos c.slots ≡ head.length) (λ c. of_slots head.length h.batch.from c.slots) cs).1 h.columns)),
+    )
+
+pub of_ranges : (head : BatchHead) (body : List ℕ) → Decides (all (lies_in (length body)) head.buffers) (HasRanges head body)
+of_ranges head body = Decides-by_and (lies_in (length body)) (LiesIn (length body)) (all (lies_in (length body))) (of_range (length body)) refl (λ _ _. refl) head.buffers
+
+pub decides : (why : Cause) (fields : List Field) (head : BatchHead) (body : List ℕ) → Decides (fits (shape_of fields) head body why) (Asked why fields head body)
+decides cause.WrongNodeCount fields head body = of_head _ _ (columns_of fields head body) (Decides-eqb _ _)
+decides cause.WrongBufferCount fields head body = of_head _ _ (columns_of fields head body) (Decides-eqb _ _)
+decides cause.BadNode fields head body = of_lengths fields head body
+decides cause.BufferOutOfBody fields head body = of_head _ _ (columns_of fields head body) (of_ranges head body)
+decides cause.BufferTooShort fields head body = of_columns _ _ (columns_of fields head body) of_bytes
+decides cause.BadNullCount fields head body = of_columns _ _ (columns_of fields head body) of_null_count
+
+-- a length that isn't negative is its absolute value
+pub length_is : (z : ℤ) → IsSlotCount z → z ≡ pos (unsigned_abs z)
+length_is (pos n) h = refl
+length_is (negsuc n) h = absurd (omega (arith, ints, h.from))

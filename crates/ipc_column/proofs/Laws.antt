@@ -1,0 +1,133 @@
+-- The relation and the tests agree: rows are one, and a refusal leaves none.
+use Rattle.std.proofs.Common.{◌≡◌, ◌∙◌, refl, sym, ap, subst, List, [], ℕ, ◌<◌, true, false, length, get_or, Result, Ok, Err}
+use Rattle.std.specs.Prelude.{IfOk, IfErr, IsErrAnd, MatchResult, pos, unsigned_abs, slice_index_or}
+use Rattle.std.proofs.lemmas.List.{ext_get_or}
+use Rattle.std.proofs.lemmas.Bool.{and_from, and_left, and_right, eqb-true}
+use Rattle.std.proofs.lemmas.Bool.Decides.{not_from_Decides}
+use Rattle.ipc_model.specs.declared.fault.Fault.{Fault}
+use Rattle.ipc_model.specs.declared.fault.Fault.TheVariants as fault
+use Rattle.ipc_model.specs.declared.schema.Field.{Field}
+use Rattle.ipc_model.specs.declared.value.Value.{Value}
+use Rattle.ipc_meta.specs.declared.head.BatchHead.{BatchHead}
+use Rattle.ipc_meta.specs.Open.{are_open}
+use Rattle.ipc_column.specs.declared.cause.Cause.{Cause}
+use Rattle.ipc_column.specs.declared.cause.Cause.TheVariants as cause
+use Rattle.ipc_column.specs.Contents.{Contents}
+use Rattle.ipc_column.specs.Columns.{Columns}
+use Rattle.ipc_column.specs.Shapes.{Shape, shape_of, columns_of, cut}
+use Rattle.ipc_column.specs.Values.{row, rows_of}
+use Rattle.ipc_column.specs.Tests.{fits, head_passes, Holds, Passing, Failing, HeadHolds, all_pass, fault_of}
+use Rattle.ipc_column.specs.Rows.{Rows, Refuses, IsOneList, HasParts}
+use Rattle.ipc_column.proofs.Cells.{rows_length, rows_at}
+use Rattle.ipc_column.proofs.Facts.{decides, length_is, of_ranges}
+
+-- the rows of columns, by index
+rows_values : (rows : List (List Value)) (fields : List Field) (head : BatchHead) (body : List ℕ) (n : ℕ) → rows ≡ rows_of (columns_of fields head body) n
+    → (i : ℕ) → i < length rows → slice_index_or rows i [] ≡ row (columns_of fields head body) i
+rows_values rows fields head body n e i l =
+    let size : length rows ≡ n = ap (λ (x : List (List Value)). length x) e ∙ rows_length (columns_of fields head body) n in
+    ap (λ (x : List (List Value)). get_or x i []) e ∙ rows_at (columns_of fields head body) n i [] (rw size at l)
+
+pub rows_from : (fields : List Field) (head : BatchHead) (body : List ℕ) (rows : List (List Value)) → are_open fields ≡ true → Passing (shape_of fields) head body rows → Rows fields head body rows
+rows_from fields head body rows o p =
+    let lengths = (decides cause.BadNode fields head body).0 (p.sound cause.BadNode) in
+    record {
+      types = o;
+      nodes = (decides cause.WrongNodeCount fields head body).0 (p.sound cause.WrongNodeCount);
+      buffers = (decides cause.WrongBufferCount fields head body).0 (p.sound cause.WrongBufferCount);
+      lengths = lengths;
+      ranges = (decides cause.BufferOutOfBody fields head body).0 (p.sound cause.BufferOutOfBody);
+      bytes = (decides cause.BufferTooShort fields head body).0 (p.sound cause.BufferTooShort);
+      null_counts = (decides cause.BadNullCount fields head body).0 (p.sound cause.BadNullCount);
+      count = length_is head.length lengths.batch ∙ ap (λ (n : ℕ). pos n) (sym (ap (λ (x : List (List Value)). length x) p.values ∙ rows_length (columns_of fields head body) (unsigned_abs head.length)));
+      values = rows_values rows fields head body (unsigned_abs head.length) p.values;
+    }
+
+rows_are : (fields : List Field) (head : BatchHead) (body : List ℕ) (rows : List (List Value)) → Rows fields head body rows → rows ≡ rows_of (columns_of fields head body) (length rows)
+rows_are fields head body rows w =
+    ext_get_or [] rows (rows_of (columns_of fields head body) (length rows)) (sym (rows_length (columns_of fields head body) (length rows)))
+    (λ i l. w.values i l ∙ sym (rows_at (columns_of fields head body) (length rows) i [] l))
+
+pub one_list : IsOneList
+one_list fields head body rows others a b =
+    let size : length rows ≡ length others = ap unsigned_abs (sym a.count ∙ b.count) in
+    rows_are fields head body rows a ∙ (ap (rows_of (columns_of fields head body)) size ∙ sym (rows_are fields head body others b))
+
+has_parts : (fields : List Field) (head : BatchHead) (body : List ℕ) → HeadHolds (shape_of fields) head body → HasParts fields head body
+has_parts fields head body h = record {
+  nodes = eqb-true _ _ (h cause.WrongNodeCount);
+  buffers = eqb-true _ _ (h cause.WrongBufferCount);
+  ranges = (of_ranges head body).0 (h cause.BufferOutOfBody);
+}
+
+-- a fault whose test fails is true of the parts
+pub refuses_from : (f : Fault) (fields : List Field) (head : BatchHead) (body : List ℕ) → Failing f (shape_of fields) head body → Refuses f fields head body
+refuses_from fault.WrongNodeCount fields head body r = not_from_Decides _ (decides cause.WrongNodeCount fields head body) r
+refuses_from fault.WrongBufferCount fields head body r = not_from_Decides _ (decides cause.WrongBufferCount fields head body) r
+refuses_from fault.BadNode fields head body r = (eqb-true _ _ r.0, not_from_Decides _ (decides cause.BadNode fields head body) r.1)
+refuses_from fault.BufferOutOfBody fields head body r = not_from_Decides _ (decides cause.BufferOutOfBody fields head body) r
+refuses_from fault.BufferTooShort fields head body r = (has_parts fields head body r.0, not_from_Decides _ (decides cause.BufferTooShort fields head body) r.1)
+refuses_from fault.BadNullCount fields head body r = (has_parts fields head body r.0, not_from_Decides _ (decides cause.BadNullCount fields head body) r.1)
+refuses_from fault.OutOfMemory fields head body r = tt
+refuses_from _ fields head body r = absurd r
+
+-- and then there are no rows
+no_rows : (f : Fault) (fields : List Field) (head : BatchHead) (body : List ℕ) (rows : List (List Value)) → Refuses f fields head body → Rows fields head body rows → f ≡ fault.OutOfMemory
+no_rows fault.OutOfMemory fields head body rows r w = refl
+no_rows fault.WrongNodeCount fields head body rows r w = absurd (r w.nodes)
+no_rows fault.WrongBufferCount fields head body rows r w = absurd (r w.buffers)
+no_rows fault.BadNode fields head body rows r w = absurd (r.1 w.lengths)
+no_rows fault.BufferOutOfBody fields head body rows r w = absurd (r w.ranges)
+no_rows fault.BufferTooShort fields head body rows r w = absurd (r.1 w.bytes)
+no_rows fault.BadNullCount fields head body rows r w = absurd (r.1 w.null_counts)
+no_rows _ fields head body rows r w = absurd r
+
+pub only_rows : (fields : List Field) (head : BatchHead) (body : List ℕ) (r : Result Contents Fault) → IfOk r (λ b. Rows fields head body b.rows) → IfErr r (λ f. Refuses f fields head body)
+    → (rows : List (List Value)) → Rows fields head body rows → MatchResult r (λ b. b.rows ≡ rows) (λ f. f ≡ fault.OutOfMemory)
+only_rows fields head body (Ok b) a r rows w = one_list fields head body b.rows rows a w
+only_rows fields head body (Err f) a r rows w = no_rows f fields head body rows r w
+
+pub ok_rows : (fields : List Field) (head : BatchHead) (body : List ℕ) (r : Result Contents Fault) → are_open fields ≡ true
+    → IfOk r (λ b. Passing (shape_of fields) head body b.rows) → IfOk r (λ b. Rows fields head body b.rows)
+ok_rows fields head body (Ok b) o h = rows_from fields head body b.rows o h
+ok_rows fields head body (Err f) o h = h
+
+pub err_refuses : (fields : List Field) (head : BatchHead) (body : List ℕ) (r : Result Contents Fault) → IfErr r (λ f. Failing f (shape_of fields) head body) → IfErr r (λ f. Refuses f fields head body)
+err_refuses fields head body (Ok b) h = h
+err_refuses fields head body (Err f) h = refuses_from f fields head body h
+
+-- what the passes found, of the columns that were cut
+pub passing : (shape : Shape) (head : BatchHead) (body : List ℕ) (n : ℕ) (cs : Columns) → n ≡ unsigned_abs head.length → cs ≡ cut shape head body 0 0
+    → ((why : Cause) → head_passes why shape head (length body) ≡ true) → Holds n cs → Passing shape head body (rows_of cs n)
+passing shape head body n cs en ec h p = record {
+  sound = λ why. and_from _ _ (h why) (rw (en, ec) at (p why));
+  values = rw (en, ec) refl;
+}
+
+-- what a refused head says
+pub head_failing : (why : Cause) (shape : Shape) (head : BatchHead) (body : List ℕ) → head_passes why shape head (length body) ≡ false
+    → (why ≡ cause.BadNode → head_passes cause.WrongNodeCount shape head (length body) ≡ true) → Failing (fault_of why) shape head body
+head_failing cause.WrongNodeCount shape head body h n = and_left _ _ h
+head_failing cause.WrongBufferCount shape head body h n = and_left _ _ h
+head_failing cause.BadNode shape head body h n = (n refl, and_left _ _ h)
+head_failing cause.BufferOutOfBody shape head body h n = and_left _ _ h
+head_failing cause.BufferTooShort shape head body h n = absurd (cc)
+head_failing cause.BadNullCount shape head body h n = absurd (cc)
+
+-- what refused columns say
+pub columns_failing : (why : Cause) (shape : Shape) (head : BatchHead) (body : List ℕ) (n : ℕ) (cs : Columns) → n ≡ unsigned_abs head.length → cs ≡ cut shape head body 0 0
+    → HeadHolds shape head body → all_pass why n cs ≡ false → Failing (fault_of why) shape head body
+columns_failing why shape head body n cs en ec h f = of_cause why (and_right (head_passes why shape head (length body)) _ (rw (en, ec) at f))
+  where
+    of_cause : (why : Cause) → fits shape head body why ≡ false → Failing (fault_of why) shape head body
+    of_cause cause.WrongNodeCount e = e
+    of_cause cause.WrongBufferCount e = e
+    of_cause cause.BadNode e = (h cause.WrongNodeCount, e)
+    of_cause cause.BufferOutOfBody e = e
+    of_cause cause.BufferTooShort e = (h, e)
+    of_cause cause.BadNullCount e = (h, e)
+
+-- an exit with the fault of a cause
+pub exits : (r : Result Contents Fault) (f : Fault) (shape : Shape) (head : BatchHead) (body : List ℕ) → IsErrAnd r (λ e. e ≡ f) → Failing f shape head body → IfErr r (λ e. Failing e shape head body)
+exits (Ok b) f shape head body e h = absurd e
+exits (Err d) f shape head body e h = subst (λ (x : Fault). Failing x shape head body) (sym e) h

@@ -1,0 +1,34 @@
+-- Parts as columns, and calls that judge one after another.
+use Rattle.std.proofs.Common.{◌≡◌, refl, ap, ℕ, ◌+◌, ◌<◌, Bool, true, false, List, length, drop, get_or, add-one, drop-cons, Result, Ok, Err}
+use Rattle.std.specs.Prelude.{◌&&◌}
+use Rattle.std.proofs.lemmas.Bool.{and_from, and_right}
+use Rattle.ipc_column.specs.declared.part.Part.{Part}
+use Rattle.ipc_column.specs.declared.part.Part.TheViews.{out-Part}
+use Rattle.ipc_column.specs.declared.part.Part.TheFolds.{fold_out-Part}
+use Rattle.ipc_column.specs.declared.cause.Cause.{Cause}
+use Rattle.ipc_column.specs.Columns.{Column, Columns, column, every}
+use Rattle.ipc_column.specs.Tests.{Judges}
+use Rattle.ipc_column.specs.Views.{columns, part_step, column_of, children_of, own_column}
+
+pub children_out : (body : List ℕ) (p : Part) → children_of body p ≡ columns body (out-Part p).children.items
+children_out body p = ap (λ (v : Column × Columns). v.1) (fold_out-Part (Column × Columns) (part_step body) p)
+
+pub column_is : (body : List ℕ) (p : Part) → column_of body p ≡ own_column body p
+column_is body p = ap (λ (v : Column × Columns). v.0) (fold_out-Part (Column × Columns) (part_step body) p)
+
+-- the columns from one part on
+pub columns_from : (body : List ℕ) (ps : List Part) (i : ℕ) (p : Part) → i < length ps → p ≡ get_or ps i p → columns body (drop i ps) ≡ column (column_of body p) (children_of body p) (columns body (drop (i + 1) ps))
+columns_from body ps i p h e = rw (drop-cons ps i p) (rw (← e, add-one) refl)
+
+regroup : (a b c : Bool) → (a && (b && c)) ≡ ((a && b) && c)
+regroup true b c = refl
+regroup false b c = refl
+
+pub every_from : (test : Column → Bool) (body : List ℕ) (ps : List Part) (i : ℕ) (p : Part) → i < length ps → p ≡ get_or ps i p
+    → every test (columns body (drop i ps)) ≡ ((test (column_of body p) && every test (children_of body p)) && every test (columns body (drop (i + 1) ps)))
+every_from test body ps i p h e = rw (columns_from body ps i p h e) (regroup (test (column_of body p)) (every test (children_of body p)) (every test (columns body (drop (i + 1) ps))))
+
+-- a family whose first part holds is judged by its second
+pub then_judges : {X : Type 0} (s t : Cause → Bool) (r : Result X Cause) → ((c : Cause) → s c ≡ true) → Judges r t → Judges r (λ c. s c && t c)
+then_judges s t (Ok x) h j = λ c. and_from (s c) (t c) (h c) (j c)
+then_judges s t (Err d) h j = and_right (s d) (t d) j

@@ -1,0 +1,25 @@
+use Rattle.std.proofs.Common.{◌≡◌, ◌∙◌, sym, ap, subst, ◌<◌, [], List, ℕ, length}
+use Rattle.std.specs.Prelude.{slice_get, slice_index_or}
+use Rattle.ipc_model.specs.declared.value.Value.{Value}
+use Rattle.ipc_column.specs.Columns.{Columns}
+use Rattle.ipc_column.specs.Contents.{Contents}
+use Rattle.ipc_column.specs.Views.{columns}
+use Rattle.ipc_column.specs.Values.{row, rows_of}
+use Rattle.ipc_column.proofs.Cells.{rows_length, rows_at}
+use Rattle.ipc_column.proofs.batch.Batch.cell.Goals as goal
+
+row_in : (cs : Columns) (n i : ℕ) (rs : List (List Value)) → rows_of cs n ≡ rs → i < length rs → i < n
+row_in cs n i rs e h = let l = subst (λ (x : List (List Value)). i < length x) (sym e) h in rw (rows_length cs n) at l
+
+-- the row that a batch has at a place
+row_is : (cs : Columns) (n i : ℕ) (rs : List (List Value)) → rows_of cs n ≡ rs → i < length rs → slice_index_or rs i [] ≡ row cs i
+row_is cs n i rs e h = subst (λ (x : List (List Value)). slice_index_or x i [] ≡ row cs i) e (rows_at cs n i [] (row_in cs n i rs e h))
+
+pub cell_in-requires-clause-row : goal.cell_in-requires-clause-row
+cell_in-requires-clause-row c =
+    row_in (columns c.self.inside.body.items c.self.inside.parts.items) c.self.inside.count c.args.row _ (ap (λ (v : Contents). v.rows) c.self.view_is) c.requires.row
+
+pub returns : goal.returns
+returns c =
+    ap (λ (x : List Value). slice_get x c.args.column) (row_is (columns c.self.inside.body.items c.self.inside.parts.items) c.self.inside.count c.args.row _ (ap (λ (v : Contents). v.rows) c.self.view_is) c.requires.row)
+    ∙ (rw (c.deref.ensures.value, c.deref-2.ensures.value) at c.cell_in.ensures)

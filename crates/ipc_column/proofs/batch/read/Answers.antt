@@ -1,0 +1,39 @@
+use Rattle.std.proofs.Common.{◌∙◌, arith, rules}
+use Rattle.std.proofs.lemmas.Bool.{eqb-true}
+use Rattle.ipc_column.specs.declared.cause.Cause.TheVariants as cause
+use Rattle.ipc_column.specs.Shapes.{shape_of}
+use Rattle.ipc_column.proofs.Fields.{buffers_most}
+use Rattle.ipc_column.proofs.Laws.{passing, exits, head_failing, columns_failing}
+use Rattle.ipc_column.proofs.batch.read.Goals as goal
+
+pub cut_fields-requires-clause-nodes : goal.cut_fields-requires-clause-nodes
+cut_fields-requires-clause-nodes c = let e = eqb-true _ _ (c.in_ok-check_head.ensures.judged cause.WrongNodeCount) in omega (arith, e)
+
+pub cut_fields-requires-clause-buffers : goal.cut_fields-requires-clause-buffers
+cut_fields-requires-clause-buffers c = let e = eqb-true _ _ (c.in_ok-check_head.ensures.judged cause.WrongBufferCount) in omega (arith, e)
+
+pub cut_fields-requires-clause-few_nodes : goal.cut_fields-requires-clause-few_nodes
+cut_fields-requires-clause-few_nodes c = let e = eqb-true _ _ (c.in_ok-check_head.ensures.judged cause.WrongNodeCount) in omega (arith, e)
+
+pub cut_fields-requires-clause-few_buffers : goal.cut_fields-requires-clause-few_buffers
+cut_fields-requires-clause-few_buffers c =
+    let e = eqb-true _ _ (c.in_ok-check_head.ensures.judged cause.WrongBufferCount) in omega (arith, e, buffers_most (shape_of c.args.fields.now))
+
+pub returns-clause-passing : goal.returns-clause-passing
+returns-clause-passing c =
+    passing (shape_of c.args.fields.now) c.args.head.now c.args.body.items c.unsigned_abs-count.result _ (search rules) (c.in_ok-parts.ensures.parts c.args.body.items)
+    (λ why. rw (c.len.ensures ∙ c.args.body.ok.0) at (c.in_ok-check_head.ensures.judged why)) (λ why. rw (c.deref.ensures.value, c.deref-2.ensures.value) at (c.in_ok-check_columns.ensures why))
+
+pub returns-in_err-check_head-clause-failing : goal.returns-in_err-check_head-clause-failing
+returns-in_err-check_head-clause-failing c =
+    exits c.from_residual.result _ (shape_of c.args.fields.now) c.args.head.now c.args.body.items c.from_residual.ensures.1
+    (head_failing c.in_err-check_head.field-0.0 (shape_of c.args.fields.now) c.args.head.now c.args.body.items
+    (rw (c.len.ensures ∙ c.args.body.ok.0) at c.in_err-check_head.ensures.judged)
+    c.in_err-check_head.ensures.counted)
+
+pub returns-in_err-check_columns-clause-failing : goal.returns-in_err-check_columns-clause-failing
+returns-in_err-check_columns-clause-failing c =
+    exits c.from_residual-in_err-check_columns.result _ (shape_of c.args.fields.now) c.args.head.now c.args.body.items c.from_residual-in_err-check_columns.ensures.1
+    (columns_failing c.in_err-check_columns.field-0.0 (shape_of c.args.fields.now) c.args.head.now c.args.body.items c.unsigned_abs-count.result _ (search rules) (c.in_ok-parts.ensures.parts c.args.body.items)
+    (λ why. rw (c.len.ensures ∙ c.args.body.ok.0) at (c.in_ok-check_head.ensures.judged why))
+    (rw (c.deref.ensures.value, c.deref-2.ensures.value) at c.in_err-check_columns.ensures))

@@ -1,0 +1,9 @@
+use Rattle.ipc_column.proofs.Cells.{bitmap_front, part_long, part_slot}
+use Rattle.ipc_column.proofs.cell.cell_at.Goals as goal
+
+pub is_valid-requires : goal.is_valid-requires
+is_valid-requires c =
+    rw c.bytes_at.ensures (bitmap_front _ _ _ (part_long c.args.body.now c.args.part.now c.requires.sound).bitmap (part_slot c.args.body.now c.args.part.now c.args.slot c.requires.slot))
+
+pub own_cell-requires-clause-values : goal.own_cell-requires-clause-values
+own_cell-requires-clause-values c = rw c.bytes_at-then-is_valid.ensures (part_long c.args.body.now c.args.part.now c.requires.sound).values

@@ -1,0 +1,18 @@
+use Rattle.std.proofs.Common.{◌∙◌, sym, ap, Some}
+use Rattle.ipc_model.specs.declared.value.Value.{Value}
+use Rattle.ipc_column.proofs.Cells.{kept_at, row_cell}
+use Rattle.ipc_column.proofs.cell.cell_in.Goals as goal
+
+pub cell_at-requires-clause-sound : goal.cell_at-requires-clause-sound
+cell_at-requires-clause-sound c =
+    (kept_at c.args.rows c.args.body.now c.args.parts.now c.args.column c.index-parts-column.result c.requires.column c.index-parts-column.is c.requires.holds).sound
+
+pub cell_at-requires-clause-slot : goal.cell_at-requires-clause-slot
+cell_at-requires-clause-slot c =
+    let e = (kept_at c.args.rows c.args.body.now c.args.parts.now c.args.column c.index-parts-column.result c.requires.column c.index-parts-column.is c.requires.holds).slots in
+    rw e c.requires.row
+
+pub returns : goal.returns
+returns c =
+    row_cell c.args.body.now c.args.parts.now c.args.at c.args.column c.index-parts-column.result c.requires.column c.index-parts-column.is
+    ∙ ap (λ (v : Value). Some v) (sym c.cell_at.ensures)

@@ -1,0 +1,7 @@
+use Rattle.std.proofs.Common.{◌≡◌, drop}
+use Rattle.std.specs.Prelude.{◌&&◌}
+use Rattle.ipc_column.specs.Tests.{all, is_node}
+use Rattle.ipc_column.proofs.head.are_nodes.Given as goal
+
+abbrev pub invariant-loop-node : goal.invariant-loop-node
+invariant-loop-node l = (l.good && all is_node (drop l.node-index l.nodes)) ≡ all is_node l.nodes

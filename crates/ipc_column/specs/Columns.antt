@@ -1,0 +1,50 @@
+-- Columns as byte lists.
+use Rattle.std.specs.Prelude.{ℕ, ◌+◌, Bool, ◌&&◌, true, List, [], ◌∷◌, length, nat_le, slice_range, if◌then◌else◌, ⊤}
+use Rattle.ipc_column.specs.declared.layout.Layout.{Layout}
+
+-- a field's node (Message.fbs, FieldNode) with the bytes of its buffers
+pub record Column : Type 0 where
+  pub layout : Layout
+  pub slots : ℕ
+  pub nulls : ℕ
+  pub validity : List ℕ
+  pub values : List ℕ
+
+-- columns side by side: a column, its children, and the columns after it
+pub data Columns : Type 0 where
+  none : Columns
+  column : Column → Columns → Columns → Columns
+
+-- a fact of each column, children included
+abbrev pub Each : (Column → Type 0) → Columns → Type 0
+Each P none = ⊤
+Each P (column c children rest) = P c × (Each P children × Each P rest)
+
+-- a fact of each column, without the children
+abbrev pub EachTop : (Column → Type 0) → Columns → Type 0
+EachTop P none = ⊤
+EachTop P (column c children rest) = P c × EachTop P rest
+
+-- a test of each column, children included
+abbrev pub every : (Column → Bool) → Columns → Bool
+every test none = true
+every test (column c children rest) = test c && (every test children && every test rest)
+
+-- a test of each column, without the children
+abbrev pub every_top : (Column → Bool) → Columns → Bool
+every_top test none = true
+every_top test (column c children rest) = test c && every_top test rest
+
+-- the columns of one list and then those of another
+abbrev pub beside : Columns → Columns → Columns
+beside none after = after
+beside (column c children rest) after = column c children (beside rest after)
+
+-- the columns of a list, each with its children
+abbrev pub forest : List (Column × Columns) → Columns
+forest [] = none
+forest (c ∷ cs) = column c.0 c.1 (forest cs)
+
+-- so many bytes of the body from a place on, or none where they pass its end
+unfoldable pub bytes_of : List ℕ → ℕ → ℕ → List ℕ
+bytes_of body start len = if nat_le (start + len) (length body) then slice_range body start (start + len) else []

@@ -1,0 +1,10 @@
+-- What contracts see of a batch.
+use Rattle.std.specs.Prelude.{ℕ, List}
+use Rattle.ipc_model.specs.declared.value.Value.{Value}
+
+-- its rows, how many columns it has, the bytes of its body, and how many slots were visited to check them
+pub record Contents : Type 0 where
+  pub rows : List (List Value)
+  pub columns : ℕ
+  pub body_len : ℕ
+  pub tests : ℕ

@@ -1,0 +1,9 @@
+pub mod Layouts
+pub mod Columns
+pub mod Shapes
+pub mod Values
+pub mod Facts
+pub mod Rows
+pub mod Tests
+pub mod Views
+pub mod Contents

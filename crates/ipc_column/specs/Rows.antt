@@ -1,0 +1,51 @@
+-- When the parts of a record batch give rows, and what a refusal says of them.
+use Rattle.std.specs.Prelude.{◌≡◌, ℕ, ◌<◌, true, pos, List, [], length, slice_index_or, ⊤}
+use Rattle.ipc_model.specs.declared.fault.Fault.{Fault}
+use Rattle.ipc_model.specs.declared.fault.Fault.TheVariants as fault
+use Rattle.ipc_model.specs.declared.schema.Field.{Field}
+use Rattle.ipc_model.specs.declared.value.Value.{Value}
+use Rattle.ipc_meta.specs.declared.head.BatchHead.{BatchHead}
+use Rattle.ipc_meta.specs.Open.{are_open}
+use Rattle.ipc_column.specs.Shapes.{columns_of}
+use Rattle.ipc_column.specs.Values.{row}
+use Rattle.ipc_column.specs.Facts.{HasNodes, HasBuffers, HasLengths, HasRanges, HasBytes, HasNullCounts}
+
+-- The head and the body are a record batch of the fields (Arrow Columnar Format, "RecordBatch message"), and these are its rows:
+-- in row i stand the values of slot i, a column beside the other.
+pub record Rows (fields : List Field) (head : BatchHead) (body : List ℕ) (rows : List (List Value)) : Type 0 where
+  -- each field is of a type that is read
+  pub types : are_open fields ≡ true
+  -- the head has the nodes and the buffers of the fields, and no others
+  pub nodes : HasNodes fields head
+  pub buffers : HasBuffers fields head
+  -- the lengths are in their bounds and agree, and the ranges lie in the body
+  pub lengths : HasLengths fields head body
+  pub ranges : HasRanges head body
+  -- the buffers are long enough, and the null counts right
+  pub bytes : HasBytes fields head body
+  pub null_counts : HasNullCounts fields head body
+  -- there are as many rows as the head says, and each has its values
+  pub count : head.length ≡ pos (length rows)
+  pub values : (i : ℕ) → i < length rows → slice_index_or rows i [] ≡ row (columns_of fields head body) i
+
+-- each field finds its node, and its buffers in the body
+pub record HasParts (fields : List Field) (head : BatchHead) (body : List ℕ) : Type 0 where
+  pub nodes : HasNodes fields head
+  pub buffers : HasBuffers fields head
+  pub ranges : HasRanges head body
+
+-- The cause of the fault is true of the parts. A fault of nodes or buffers is one of those that the fields find.
+-- Want of memory has no cause in them, and no other fault is answered.
+abbrev pub Refuses : Fault → List Field → BatchHead → List ℕ → Type 0
+Refuses fault.WrongNodeCount fields head body = ¬ HasNodes fields head
+Refuses fault.WrongBufferCount fields head body = ¬ HasBuffers fields head
+Refuses fault.BadNode fields head body = HasNodes fields head × ¬ HasLengths fields head body
+Refuses fault.BufferOutOfBody fields head body = ¬ HasRanges head body
+Refuses fault.BufferTooShort fields head body = HasParts fields head body × ¬ HasBytes fields head body
+Refuses fault.BadNullCount fields head body = HasParts fields head body × ¬ HasNullCounts fields head body
+Refuses fault.OutOfMemory fields head body = ⊤
+Refuses _ fields head body = ⊥
+
+-- parts give one list of rows at most
+abbrev pub IsOneList : Type 0
+IsOneList = (fields : List Field) (head : BatchHead) (body : List ℕ) (rows others : List (List Value)) → Rows fields head body rows → Rows fields head body others → rows ≡ others

@@ -1,0 +1,88 @@
+-- The nodes and buffers that fields need, in pre-order (Arrow Columnar Format, "RecordBatch message"),
+-- and the columns that they cut out of a body.
+use Rattle.std.specs.Prelude.{ℕ, ◌+◌, ℤ, pos, unsigned_abs, List, [], ◌∷◌, map, slice_index_or}
+use Rattle.ipc_model.specs.declared.schema.Field.{Field, fold-Field}
+use Rattle.ipc_model.specs.declared.schema.Field.TheOpen.{Field-F}
+use Rattle.ipc_meta.specs.declared.head.BatchHead.{BatchHead}
+use Rattle.ipc_column.specs.declared.layout.Layout.{Layout}
+use Rattle.ipc_column.specs.declared.layout.Layout.TheVariants.{Signed64, Unread}
+use Rattle.ipc_column.specs.Layouts.{layout, own_buffers}
+use Rattle.ipc_column.specs.Columns.{Column, Columns, none, column, bytes_of}
+
+-- fields side by side: a field, its children, and the fields after it
+pub data Shape : Type 0 where
+  bare : Shape
+  field : Layout → Shape → Shape → Shape
+
+-- the fields of a list, each with its children
+abbrev pub shapes : List (Layout × Shape) → Shape
+shapes [] = bare
+shapes (f ∷ fs) = field f.0 f.1 (shapes fs)
+
+-- one field, with its children's shapes in their place
+abbrev pub field_step : Field-F (Layout × Shape) → Layout × Shape
+field_step f = (layout f.kind f.dictionary, shapes f.children)
+
+-- a field's layout, and the shape of its children
+abbrev pub field_shape : Field → Layout × Shape
+field_shape = fold-Field (Layout × Shape) field_step
+
+-- the shape of fields
+abbrev pub shape_of : List Field → Shape
+shape_of fields = shapes (map field_shape fields)
+
+-- one node for each field, children included
+unfoldable pub nodes_in : Shape → ℕ
+nodes_in bare = 0
+nodes_in (field l children rest) = 1 + nodes_in children + nodes_in rest
+
+-- the buffers of each field, children included
+unfoldable pub buffers_in : Shape → ℕ
+buffers_in bare = 0
+buffers_in (field l children rest) = own_buffers l + buffers_in children + buffers_in rest
+
+-- node n: a length and a null count (Message.fbs, FieldNode)
+abbrev pub node_at : BatchHead → ℕ → ℤ × ℤ
+node_at head n = slice_index_or head.nodes n (pos 0, pos 0)
+
+-- the bytes of buffer b: an offset and a length (Schema.fbs, Buffer)
+abbrev pub buffer_at : BatchHead → List ℕ → ℕ → List ℕ
+buffer_at head body b = let range = slice_index_or head.buffers b (pos 0, pos 0) in bytes_of body (unsigned_abs range.0) (unsigned_abs range.1)
+
+-- the validity bitmap of a field whose first buffer is b
+abbrev pub validity_at : Layout → BatchHead → List ℕ → ℕ → List ℕ
+validity_at Signed64 head body b = buffer_at head body b
+validity_at Unread head body b = []
+
+-- its values
+abbrev pub values_at : Layout → BatchHead → List ℕ → ℕ → List ℕ
+values_at Signed64 head body b = buffer_at head body (b + 1)
+values_at Unread head body b = []
+
+-- the column of a field whose node is n and whose first buffer is b
+abbrev pub column_at : Layout → BatchHead → List ℕ → ℕ → ℕ → Column
+column_at l head body n b = record {
+  layout = l;
+  slots = unsigned_abs (node_at head n).0;
+  nulls = unsigned_abs (node_at head n).1;
+  validity = validity_at l head body b;
+  values = values_at l head body b;
+}
+
+-- a field's own node and buffers come first, then those of its children, then those of the fields after it
+unfoldable pub cut : Shape → BatchHead → List ℕ → ℕ → ℕ → Columns
+cut bare head body n b = none
+cut (field l children rest) head body n b =
+    column (column_at l head body n b) (cut children head body (n + 1) (b + own_buffers l))
+    (cut rest head body (n + 1 + nodes_in children) (b + own_buffers l + buffers_in children))
+
+-- the columns of the fields
+abbrev pub columns_of : List Field → BatchHead → List ℕ → Columns
+columns_of fields head body = cut (shape_of fields) head body 0 0
+
+-- a field's layout, and what its children need
+abbrev pub field_layout : Field → Layout
+field_layout f = (field_shape f).0
+
+abbrev pub field_children : Field → Shape
+field_children f = (field_shape f).1

@@ -1,0 +1,36 @@
+use ipc_model::fault::Fault;
+
+/// Why the parts of a batch give no rows.
+#[derive(Clone, Copy, Debug, PartialEq, Eq, Drop)]
+pub enum Cause {
+    /// F26: not as many nodes as the fields need.
+    WrongNodeCount,
+    /// F27: not as many buffers as the fields need.
+    WrongBufferCount,
+    /// F28: a length or a null count out of its bounds, or a column that isn't as long as the batch.
+    BadNode,
+    /// F29: a buffer that doesn't lie in the body.
+    BufferOutOfBody,
+    /// F30: a buffer with fewer bytes than the slots need.
+    BufferTooShort,
+    /// F31: a null count unlike the clear bits.
+    BadNullCount,
+}
+
+impl From<Cause> for Fault {
+    ghost use Rattle.std.specs.Prelude.{◌≡◌};
+    ghost use Rattle.ipc_column.specs.Tests.{fault_of};
+
+    ghost from_gives = { λ cause fault. fault ≡ fault_of cause };
+
+    fn from(cause: Cause) -> Fault {
+        match cause {
+            Cause::WrongNodeCount => Fault::WrongNodeCount,
+            Cause::WrongBufferCount => Fault::WrongBufferCount,
+            Cause::BadNode => Fault::BadNode,
+            Cause::BufferOutOfBody => Fault::BufferOutOfBody,
+            Cause::BufferTooShort => Fault::BufferTooShort,
+            Cause::BadNullCount => Fault::BadNullCount,
+        }
+    }
+}

@@ -1,0 +1,146 @@
+ghost use Rattle.std.specs.Prelude.{◌≡◌, ◌≤◌, ◌<◌, ◌+◌, ◌^◌, ℕ, List, length, IfOk};
+ghost use Rattle.ipc_column.specs.Layouts.{own_buffers};
+ghost use Rattle.ipc_column.specs.Shapes.{cut, shape_of, field_layout, field_children, nodes_in, buffers_in, column_at, buffer_at, validity_at, values_at};
+ghost use Rattle.ipc_column.specs.Views.{columns, column_of, children_of, span_bytes};
+
+use crate::layout::{Layout, layout_of, own_buffers};
+use crate::part::{Part, Span};
+use ipc_meta::BatchHead;
+use ipc_model::schema::Field;
+use std::alloc::{AllocError, Global};
+
+/// So many nodes and so many buffers.
+#[derive(Clone, Copy, Debug, PartialEq, Eq, Drop)]
+pub(crate) struct Place {
+    pub(crate) node: usize,
+    pub(crate) buffer: usize,
+}
+
+// What a field needs, children included, beside what others need before it.
+#[cycle(count)]
+fn count_field(field: &Field, before: Place) -> Place
+    requires nodes { before.node + (1 + nodes_in (field_children field.now)) < 2 ^ 60 }
+    requires buffers { before.buffer + (own_buffers (field_layout field.now) + buffers_in (field_children field.now)) < 2 ^ 60 }
+    ensures nodes { result.node ≡ before.node + 1 + nodes_in (field_children field.now) }
+    ensures buffers { result.buffer ≡ before.buffer + own_buffers (field_layout field.now) + buffers_in (field_children field.now) }
+{
+    let below = Place {
+        node: before.node + 1,
+        buffer: before.buffer + own_buffers(layout_of(&field.kind, field.dictionary)),
+    };
+    count(field.children.as_slice(), below)
+}
+
+/// The nodes and buffers that fields need, beside what others need before them.
+#[cycle(count)]
+pub(crate) fn count(fields: &[Field], before: Place) -> Place
+    requires nodes { before.node + nodes_in (shape_of fields.now) < 2 ^ 60 }
+    requires buffers { before.buffer + buffers_in (shape_of fields.now) < 2 ^ 60 }
+    ensures nodes { result.node ≡ before.node + nodes_in (shape_of fields.now) }
+    ensures buffers { result.buffer ≡ before.buffer + buffers_in (shape_of fields.now) }
+{
+    let mut place = before;
+    for field in fields {
+        place = count_field(field, place);
+    }
+    place
+}
+
+// Where the head says that a buffer lies.
+fn span_at(head: &BatchHead, buffer: usize) -> Span
+    requires { buffer < length head.now.buffers }
+    ensures { (body : List ℕ) → span_bytes body result ≡ buffer_at head.now body buffer }
+{
+    let (start, len) = head.buffers.as_slice()[buffer];
+    Span {
+        start: start.unsigned_abs() as usize,
+        len: len.unsigned_abs() as usize,
+    }
+}
+
+// The validity bitmap of a field with this first buffer.
+#[tactic(auto, using(crate::proofs::Fields::empty_bytes))]
+fn validity_span(layout: Layout, head: &BatchHead, first: usize) -> Span
+    requires { first + own_buffers layout ≤ length head.now.buffers }
+    ensures { (body : List ℕ) → span_bytes body result ≡ validity_at layout head.now body first }
+{
+    match layout {
+        Layout::Signed64 => span_at(head, first),
+        Layout::Unread => Span { start: 0, len: 0 },
+    }
+}
+
+// The values of a field with this first buffer.
+#[tactic(auto, using(crate::proofs::Fields::empty_bytes))]
+fn values_span(layout: Layout, head: &BatchHead, first: usize) -> Span
+    requires buffers { first + own_buffers layout ≤ length head.now.buffers }
+    requires few { length head.now.buffers < 2 ^ 60 }
+    ensures { (body : List ℕ) → span_bytes body result ≡ values_at layout head.now body first }
+{
+    match layout {
+        Layout::Signed64 => span_at(head, first + 1),
+        Layout::Unread => Span { start: 0, len: 0 },
+    }
+}
+
+// The part of a field with this node and this first buffer, and the place after it.
+#[cycle(cut)]
+fn cut_field(
+    alloc: Global,
+    field: &Field,
+    head: &BatchHead,
+    at: Place,
+) -> Result<(Part, Place), AllocError>
+    requires nodes { at.node + (1 + nodes_in (field_children field.now)) ≤ length head.now.nodes }
+    requires buffers { at.buffer + (own_buffers (field_layout field.now) + buffers_in (field_children field.now)) ≤ length head.now.buffers }
+    requires few_nodes { length head.now.nodes < 2 ^ 60 }
+    requires few_buffers { length head.now.buffers < 2 ^ 60 }
+    ensures column { IfOk result (λ r. (body : List ℕ) → column_of body r.0 ≡ column_at (field_layout field.now) head.now body at.node at.buffer) }
+    ensures children { IfOk result (λ r. (body : List ℕ) → children_of body r.0 ≡ cut (field_children field.now) head.now body (at.node + 1) (at.buffer + own_buffers (field_layout field.now))) }
+    ensures node { IfOk result (λ r. r.1.node ≡ at.node + 1 + nodes_in (field_children field.now)) }
+    ensures buffer { IfOk result (λ r. r.1.buffer ≡ at.buffer + own_buffers (field_layout field.now) + buffers_in (field_children field.now)) }
+{
+    let layout = layout_of(&field.kind, field.dictionary);
+    let (slots, nulls) = head.nodes.as_slice()[at.node];
+    let below = Place {
+        node: at.node + 1,
+        buffer: at.buffer + own_buffers(layout),
+    };
+    let (children, next) = cut_fields(alloc, field.children.as_slice(), head, below)?;
+    let part = Part {
+        layout,
+        slots: slots.unsigned_abs() as usize,
+        nulls: nulls.unsigned_abs() as usize,
+        validity: validity_span(layout, head, at.buffer),
+        values: values_span(layout, head, at.buffer),
+        children,
+    };
+    Ok((part, next))
+}
+
+/// The parts of fields whose nodes and buffers begin at a place, and the place after them.
+#[cycle(cut)]
+pub(crate) fn cut_fields(
+    alloc: Global,
+    fields: &[Field],
+    head: &BatchHead,
+    at: Place,
+) -> Result<(Vec<Part>, Place), AllocError>
+    requires nodes { at.node + nodes_in (shape_of fields.now) ≤ length head.now.nodes }
+    requires buffers { at.buffer + buffers_in (shape_of fields.now) ≤ length head.now.buffers }
+    requires few_nodes { length head.now.nodes < 2 ^ 60 }
+    requires few_buffers { length head.now.buffers < 2 ^ 60 }
+    ensures parts { IfOk result (λ r. (body : List ℕ) → columns body r.0.items ≡ cut (shape_of fields.now) head.now body at.node at.buffer) }
+    ensures number { IfOk result (λ r. length r.0.items ≡ length fields.now) }
+    ensures node { IfOk result (λ r. r.1.node ≡ at.node + nodes_in (shape_of fields.now)) }
+    ensures buffer { IfOk result (λ r. r.1.buffer ≡ at.buffer + buffers_in (shape_of fields.now)) }
+{
+    let mut parts = Vec::with_capacity(alloc, fields.len())?;
+    let mut place = at;
+    for field in fields {
+        let (part, next) = cut_field(alloc, field, head, place)?;
+        parts.push(part)?;
+        place = next;
+    }
+    Ok((parts, place))
+}

@@ -1,0 +1,72 @@
+ghost use Rattle.std.specs.Prelude.{◌≡◌, ◌≤◌, true, IfErr};
+ghost use Rattle.ipc_column.specs.Tests.{Judges, all, is_slot_count, is_node, lies_in, head_passes};
+ghost use Rattle.ipc_column.specs.Shapes.{shape_of, nodes_in};
+
+use crate::cause::Cause;
+use crate::cut::{Place, count};
+use ipc_meta::BatchHead;
+use ipc_model::schema::Field;
+
+fn is_slot_count(count: i64) -> bool
+    ensures { result ≡ is_slot_count count }
+{
+    0 <= count && count < 2_147_483_648
+}
+
+fn is_node(node: (i64, i64)) -> bool
+    ensures { result ≡ is_node node }
+{
+    is_slot_count(node.0) && 0 <= node.1 && node.1 <= node.0
+}
+
+fn lies_in(size: usize, range: (i64, i64)) -> bool
+    ensures { result ≡ lies_in size range }
+{
+    0 <= range.0
+        && 0 <= range.1
+        && (range.1 == 0
+            || range.0.unsigned_abs() as usize + range.1.unsigned_abs() as usize <= size)
+}
+
+fn are_nodes(nodes: &[(i64, i64)]) -> bool
+    ensures { result ≡ all is_node nodes.now }
+{
+    let mut good = true;
+    for node in nodes {
+        good = good && is_node(*node);
+    }
+    good
+}
+
+fn lie_in(size: usize, buffers: &[(i64, i64)]) -> bool
+    ensures { result ≡ all (lies_in size) buffers.now }
+{
+    let mut good = true;
+    for buffer in buffers {
+        good = good && lies_in(size, *buffer);
+    }
+    good
+}
+
+/// Whether the head has the nodes and buffers that the fields need, with lengths in their bounds and ranges within `size` bytes.
+#[tactic(auto, using(crate::proofs::Fields::buffers_most))]
+pub(crate) fn check_head(fields: &[Field], head: &BatchHead, size: usize) -> Result<(), Cause>
+    requires { nodes_in (shape_of fields.now) ≤ 65536 }
+    ensures judged { Judges result (λ why. head_passes why (shape_of fields.now) head.now size) }
+    ensures counted { IfErr result (λ why. why ≡ Cause.BadNode → head_passes Cause.WrongNodeCount (shape_of fields.now) head.now size ≡ true) }
+{
+    let wanted = count(fields, Place { node: 0, buffer: 0 });
+    if head.nodes.len() != wanted.node {
+        return Err(Cause::WrongNodeCount);
+    }
+    if head.buffers.len() != wanted.buffer {
+        return Err(Cause::WrongBufferCount);
+    }
+    if !is_slot_count(head.length) || !are_nodes(head.nodes.as_slice()) {
+        return Err(Cause::BadNode);
+    }
+    if !lie_in(size, head.buffers.as_slice()) {
+        return Err(Cause::BufferOutOfBody);
+    }
+    Ok(())
+}

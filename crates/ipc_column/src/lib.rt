@@ -1,0 +1,18 @@
+//! Record batches read in place: columns over one body, whose cells are lent (Arrow Columnar Format).
+//!
+//! A batch is accepted exactly where its fields, its metadata and its body give rows, want of memory aside.
+#![tactic(auto)]
+
+mod batch;
+mod cause;
+mod cell;
+mod cut;
+mod head;
+mod layout;
+mod part;
+mod rows;
+mod sound;
+mod span;
+
+pub use batch::{Batch, one_list_of_rows};
+pub use cell::Cell;

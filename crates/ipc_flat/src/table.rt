@@ -1,0 +1,202 @@
+ghost use Rattle.std.specs.Prelude.{◌≡◌, ◌≤◌, ◌<◌, ◌+◌, ◌^◌, length, Option, Result, IfOk, IfSome, option_map};
+ghost use Rattle.ipc_scalar.specs.Bytes.{byte, int16, int32, int64};
+ghost use Rattle.ipc_scalar.specs.Flat.{back_of, slot_of, text_of};
+ghost use Rattle.ipc_flat.specs.Views.{Seen, table_at, table_from, scalar, field, elements_from, structs_from};
+
+use crate::offset::{target, text_at};
+use crate::struct_vec::StructVec;
+use crate::table_vec::TableVec;
+use ipc_scalar::{FlatFault, get_i32, get_i64, get_u16};
+use std::marker::Model;
+
+/// A table of borrowed bytes, whose vtable was found ("Tables"). Contracts see it as a `Table`: the
+/// bytes and its place in them.
+///
+/// A `slot` is a field's number, from 0. A field is absent where the vtable ends before its entry or
+/// the entry is 0. Where it is present and its inline bytes (the number's own, or the four of an
+/// offset) pass the end, every accessor answers `OutOfBounds`.
+#[derive(Drop)]
+pub struct TableRef<'a> {
+    bytes: &'a [u8],
+    at: usize,
+    vtable: usize,
+    size: usize,
+}
+
+impl<'a> Model for TableRef<'a> {
+    ghost use Rattle.ipc_flat.specs.Views.{Table, Stands};
+
+    ghost Value = { Table };
+
+    ghost view = { λ t. record { bytes = t.bytes.now; at = t.at } };
+
+    ghost invariant = { λ t. Stands t.bytes.now t.at t.vtable t.size };
+}
+
+// The place that is a signed distance before `at`, or `None` where that is before the first byte.
+fn back_from(at: usize, distance: i32) -> Option<usize>
+    requires { at < 2 ^ 63 }
+    ensures { result ≡ back_of at distance }
+{
+    let far = distance.unsigned_abs() as usize;
+    if distance < 0 {
+        Some(at + far)
+    } else {
+        at.checked_sub(far)
+    }
+}
+
+impl<'a> TableRef<'a> {
+    // The table at a place.
+    #[tactic(auto, unfolding(ipc_scalar::specs::Flat::vtable_of, crate::specs::Views::table_at))]
+    fn at(bytes: &'a [u8], at: usize) -> Result<TableRef<'a>, FlatFault>
+        ensures { result ≡ table_at bytes.now at }
+    {
+        let distance = get_i32(bytes, at).ok_or(FlatFault::OutOfBounds)?;
+        let vtable = back_from(at, distance).ok_or(FlatFault::BadVtable)?;
+        let size = usize::from(get_u16(bytes, vtable).ok_or(FlatFault::BadVtable)?);
+        if size < 4 || size % 2 != 0 || size > bytes.len() - vtable {
+            return Err(FlatFault::BadVtable);
+        }
+        Ok(TableRef {
+            bytes,
+            at,
+            vtable,
+            size,
+        })
+    }
+
+    // The place of a field of `width` bytes, or `None` where the field is absent.
+    #[tactic(auto, unfolding(ipc_scalar::specs::Flat::slot_of))]
+    fn place(&self, slot: u16, width: usize) -> Result<Option<usize>, FlatFault>
+        requires { width ≤ 8 }
+        ensures place { result ≡ slot_of self.now.bytes self.now.at slot width }
+        ensures inside { IfOk result (λ o. IfSome o (λ p. p + width ≤ length self.now.bytes)) }
+    {
+        let entry = 4 + 2 * usize::from(slot);
+        if entry + 2 > self.size {
+            return Ok(None);
+        }
+        let distance = get_u16(self.bytes, self.vtable + entry).unwrap_or(0);
+        if distance == 0 {
+            return Ok(None);
+        }
+        let at = self.at + usize::from(distance);
+        if at + width > self.bytes.len() {
+            return Err(FlatFault::OutOfBounds);
+        }
+        Ok(Some(at))
+    }
+
+    /// The unsigned 8-bit number in a field, or `default` where the field is absent. A boolean is
+    /// such a number too, false at 0 alone.
+    #[tactic(auto, unfolding(crate::specs::Views::scalar), using(crate::proofs::Scalars::byte_is))]
+    pub fn scalar_u8(&self, slot: u16, default: u8) -> Result<u8, FlatFault>
+        ensures { result ≡ scalar self.now slot 1 byte default }
+    {
+        match self.place(slot, 1)? {
+            None => Ok(default),
+            Some(at) => Ok(self.bytes[at]),
+        }
+    }
+
+    /// The signed 16-bit number in a field, or `default` where the field is absent.
+    #[tactic(auto, unfolding(crate::specs::Views::scalar))]
+    pub fn scalar_i16(&self, slot: u16, default: i16) -> Result<i16, FlatFault>
+        ensures { result ≡ scalar self.now slot 2 int16 default }
+    {
+        match self.place(slot, 2)? {
+            None => Ok(default),
+            Some(at) => Ok(get_u16(self.bytes, at).unwrap_or(0).cast_signed()),
+        }
+    }
+
+    /// The signed 32-bit number in a field, or `default` where the field is absent.
+    #[tactic(auto, unfolding(crate::specs::Views::scalar))]
+    pub fn scalar_i32(&self, slot: u16, default: i32) -> Result<i32, FlatFault>
+        ensures { result ≡ scalar self.now slot 4 int32 default }
+    {
+        match self.place(slot, 4)? {
+            None => Ok(default),
+            Some(at) => Ok(get_i32(self.bytes, at).unwrap_or(default)),
+        }
+    }
+
+    /// The signed 64-bit number in a field, or `default` where the field is absent.
+    #[tactic(auto, unfolding(crate::specs::Views::scalar))]
+    pub fn scalar_i64(&self, slot: u16, default: i64) -> Result<i64, FlatFault>
+        ensures { result ≡ scalar self.now slot 8 int64 default }
+    {
+        match self.place(slot, 8)? {
+            None => Ok(default),
+            Some(at) => Ok(get_i64(self.bytes, at).unwrap_or(default)),
+        }
+    }
+
+    /// The table to which a field's offset points, or `None` where the field is absent.
+    ///
+    /// `OffsetZero` where the offset is 0; `OutOfBounds` where its target or the table's first four
+    /// bytes pass the end; `BadVtable` where no vtable stands where the table says.
+    #[tactic(auto, unfolding(crate::specs::Views::field))]
+    pub fn table(&self, slot: u16) -> Result<Option<TableRef<'a>>, FlatFault>
+        ensures { result ≡ field self.now slot table_from }
+    {
+        match self.place(slot, 4)? {
+            None => Ok(None),
+            Some(at) => Ok(Some(TableRef::from(self.bytes, at)?)),
+        }
+    }
+
+    /// The text to which a field's offset points, or `None` where the field is absent ("Strings and
+    /// Vectors"). Its bytes are borrowed.
+    ///
+    /// `OffsetZero` where the offset is 0; `OutOfBounds` where its target, the text's length or its
+    /// bytes pass the end; `NotUtf8` where those bytes are not UTF-8.
+    #[tactic(auto, unfolding(crate::specs::Views::field))]
+    pub fn text(&self, slot: u16) -> Result<Option<&'a str>, FlatFault>
+        ensures { Seen (option_map (λ s. s.now)) result (field self.now slot text_of) }
+    {
+        match self.place(slot, 4)? {
+            None => Ok(None),
+            Some(at) => Ok(Some(text_at(self.bytes, at)?)),
+        }
+    }
+
+    /// The vector of tables to which a field's offset points, or `None` where the field is absent
+    /// ("Strings and Vectors"). Its elements are offsets, each of which is judged once it is asked for.
+    ///
+    /// `OffsetZero` where the offset is 0; `OutOfBounds` where its target, the count or the elements,
+    /// four bytes each, pass the end.
+    #[tactic(auto, unfolding(crate::specs::Views::field))]
+    pub fn tables(&self, slot: u16) -> Result<Option<TableVec<'a>>, FlatFault>
+        ensures { result ≡ field self.now slot (elements_from 4) }
+    {
+        match self.place(slot, 4)? {
+            None => Ok(None),
+            Some(at) => Ok(Some(TableVec::from(self.bytes, at)?)),
+        }
+    }
+
+    /// The vector of structs, of `width` bytes each, to which a field's offset points, or `None` where
+    /// the field is absent ("Structs", "Strings and Vectors"). Structs lie inline, one after another.
+    ///
+    /// `OffsetZero` where the offset is 0; `OutOfBounds` where its target, the count or the structs
+    /// pass the end.
+    #[tactic(auto, unfolding(crate::specs::Views::field))]
+    pub fn structs(&self, slot: u16, width: usize) -> Result<Option<StructVec<'a>>, FlatFault>
+        ensures { result ≡ field self.now slot (structs_from width) }
+    {
+        match self.place(slot, 4)? {
+            None => Ok(None),
+            Some(at) => Ok(Some(StructVec::from(self.bytes, at, width)?)),
+        }
+    }
+
+    // The table to which the offset at a place points.
+    #[tactic(auto, unfolding(ipc_scalar::specs::Flat::table_of, crate::specs::Views::table_from, crate::specs::Views::table_at))]
+    pub(crate) fn from(bytes: &'a [u8], at: usize) -> Result<TableRef<'a>, FlatFault>
+        ensures { result ≡ table_from bytes.now at }
+    {
+        TableRef::at(bytes, target(bytes, at)?)
+    }
+}

@@ -1,0 +1,8 @@
+//! Encapsulated messages: the mark, the size of the metadata, the metadata and the body (Arrow Columnar Format, "Encapsulated message format").
+#![tactic(auto)]
+
+mod frame;
+mod next;
+
+pub use frame::{Frame, Seen};
+pub use next::next_frame;

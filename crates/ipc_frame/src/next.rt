@@ -1,0 +1,87 @@
+ghost use Rattle.std.specs.Prelude.{◌≡◌, ◌↔◌, ◌≤◌, ◌+◌, IsTrue, length, take};
+ghost use Rattle.ipc_frame.specs.Sees.{Sees};
+ghost use Rattle.ipc_frame.specs.Starts.{Starts};
+ghost use Rattle.ipc_frame.specs.Frames.{Begins};
+
+use crate::frame::{Frame, Seen};
+use ipc_meta::read_message;
+use ipc_model::fault::Fault;
+use ipc_scalar::get_i32;
+use std::alloc::Global;
+
+const MARK: [u8; 4] = [255; 4];
+
+const END: [u8; 8] = [255, 255, 255, 255, 0, 0, 0, 0];
+
+const LONGEST_METADATA: i32 = 1 << 24;
+
+// What the first eight bytes say.
+enum Start {
+    Short(usize),
+    End,
+    Metadata(usize),
+}
+
+fn begins_with(bytes: &[u8], front: &[u8]) -> bool
+    requires { length front.now ≤ length bytes.now }
+    ensures { IsTrue result ↔ (take (length front.now) bytes.now ≡ front.now) }
+{
+    &bytes[..front.len()] == front
+}
+
+fn read_start(bytes: &[u8]) -> Result<Start, Fault>
+    ensures { Starts bytes.now result }
+{
+    let len = bytes.len();
+    if len < 4 {
+        return Ok(Start::Short(4 - len));
+    }
+    if !begins_with(bytes, &MARK) {
+        return Err(Fault::NotContinued);
+    }
+    if len < 8 {
+        return Ok(Start::Short(8 - len));
+    }
+    if begins_with(bytes, &END) {
+        return Ok(Start::End);
+    }
+    let size = get_i32(bytes, 4).unwrap_or(0);
+    if size < 0 {
+        return Err(Fault::BadMetadataLength);
+    }
+    if size > LONGEST_METADATA {
+        return Err(Fault::MetadataTooLong);
+    }
+    Ok(Start::Metadata(size.unsigned_abs() as usize))
+}
+
+// The message behind a start, whose metadata has so many bytes.
+fn read_body(alloc: Global, bytes: &[u8], size: usize) -> Result<Seen, Fault>
+    requires { Begins bytes.now size }
+    ensures { Sees bytes.now result }
+{
+    let start = 8 + size;
+    if bytes.len() < start {
+        return Ok(Seen::Short(start - bytes.len()));
+    }
+    let metadata = &bytes[8..start];
+    let (head, len) = read_message(alloc, metadata)?;
+    let end = start + len as usize;
+    if bytes.len() < end {
+        return Ok(Seen::Short(end - bytes.len()));
+    }
+    let meta = Vec::from_slice(alloc, metadata)?;
+    let body = Vec::from_slice(alloc, &bytes[start..end])?;
+    Ok(Seen::Whole(Frame::Message { meta, head, body }, end))
+}
+
+/// The frame at the front of some bytes.
+pub fn next_frame(alloc: Global, bytes: &[u8]) -> Result<Seen, Fault>
+    ensures { Sees bytes.now result }
+{
+    match read_start(bytes)? {
+        Start::Short(wanted) => Ok(Seen::Short(wanted)),
+        Start::End => Ok(Seen::Whole(Frame::End, 8)),
+        Start::Metadata(size) => read_body(alloc, bytes, size),
+    }
+}

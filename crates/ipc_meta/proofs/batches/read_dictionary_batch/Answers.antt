@@ -1,0 +1,28 @@
+use Rattle.std.proofs.Common.{◌∙◌, sym, ap, rules, FitsSigned}
+use Rattle.std.specs.Int.{w64}
+use Rattle.std.proofs.lemmas.Int.{to_z-of_z}
+use Rattle.std.specs.Prelude.{Ok}
+use Rattle.ipc_meta.specs.Lifts.{lift}
+use Rattle.ipc_meta.proofs.Sound.{lift_ok, batch_sound}
+use Rattle.ipc_meta.proofs.Unique.{dictionary_same, values_refused}
+use Rattle.std.proofs.lemmas.Result.{err_from_is_err_and}
+use Rattle.ipc_meta.proofs.batches.read_dictionary_batch.Goals as goal
+
+pub returns-in_ok-read_batch-in-Some-clause-found : goal.returns-in_ok-read_batch-in-Some-clause-found
+returns-in_ok-read_batch-in-Some-clause-found c = record {
+  named =
+      let fits : FitsSigned w64 c.in_ok-id.id = search rules in
+      lift_ok _ _ (ap lift (sym c.scalar_i64.ensures) ∙ sym c.in_ok-id.ensures) ∙ ap Ok (sym (to_z-of_z w64 c.in_ok-id.id fits));
+  values = (c.in-Some.values, lift_ok _ _ (ap lift (sym c.table.ensures) ∙ (sym c.in_ok-lifted.ensures ∙ ap Ok c.in-Some.is)), batch_sound _ _ c.in_ok-read_batch-in-Some.ensures);
+  whole = sym c.in_ok-read_flag.ensures ∙ ap Ok c.if-branch.false;
+}
+
+pub returns-in_ok-read_batch-in-Some-clause-only : goal.returns-in_ok-read_batch-in-Some-clause-only
+returns-in_ok-read_batch-in-Some-clause-only c = λ id batch h.
+    let same = dictionary_same _ id _ batch _ h (returns-in_ok-read_batch-in-Some-clause-found c) in
+    λ i. Ok (same.0 i, same.1 i)
+
+pub returns-in_err-read_batch-in-Some-clause-only : goal.returns-in_err-read_batch-in-Some-clause-only
+returns-in_err-read_batch-in-Some-clause-only c = λ id batch h.
+    let p = err_from_is_err_and c.from_residual-in_err-read_batch-in-Some.result c.from_residual-in_err-read_batch-in-Some.ensures.1 in
+    rw (p.1, p.2) (values_refused _ _ id batch _ h (lift_ok _ _ (ap lift (sym c.table.ensures) ∙ (sym c.in_ok-lifted.ensures ∙ ap Ok c.in-Some.is))) c.in_err-read_batch-in-Some.ensures)

@@ -1,0 +1,16 @@
+use Rattle.std.proofs.Common.{◌≡◌, ◌+◌, ◌*◌}
+use Rattle.ipc_meta.specs.Reading.{fields_read, field_read, with_front}
+use Rattle.ipc_meta.proofs.Each.{from_ith}
+use Rattle.ipc_meta.proofs.fields.+fields.Given as goal
+
+abbrev pub decreases-read_fields : goal.decreases-read_fields
+decreases-read_fields l = 2 * l.depth + 1
+
+abbrev pub decreases-read_field : goal.decreases-read_field
+decreases-read_field l = 2 * l.depth
+
+abbrev pub invariant-read_fields-loop-i : goal.invariant-read_fields-loop-i
+invariant-read_fields-loop-i l = record {
+  range : l.i-end ≡ l.tables.len;
+  read : with_front l.fields.items (from_ith (field_read l.depth) l.tables.bytes l.tables.at l.i l.tables.len l.left) ≡ fields_read (field_read l.depth) l.table l.slot l.fn.left;
+}

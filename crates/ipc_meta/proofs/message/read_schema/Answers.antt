@@ -1,0 +1,34 @@
+use Rattle.std.proofs.Common.{ap}
+use Rattle.std.specs.Prelude.{Ok}
+use Rattle.std.proofs.lemmas.Result.{err_from_is_err_and}
+use Rattle.ipc_meta.proofs.Sound.{pairs_sound, fields_sound, field_sound}
+use Rattle.ipc_meta.proofs.Complete.{schema_complete}
+use Rattle.ipc_meta.proofs.Unique.{schema_same, refused, fields_refused, check_refused}
+use Rattle.ipc_meta.specs.Reading.{field_read}
+use Rattle.ipc_meta.proofs.message.read_schema.Goals as goal
+
+pub returns-clause-found : goal.returns-clause-found
+returns-clause-found c = record {
+  little_endian = c.in_ok-check_endianness.ensures.ok;
+  fields = fields_sound (field_read 64) (field_sound 64) _ _ _ _ _ c.in_ok-fields.ensures;
+  pairs = pairs_sound _ _ _ _ _ c.in_ok-metadata.ensures;
+  well_formed = c.in_ok-check.ensures.ok;
+}
+
+pub returns-clause-only : goal.returns-clause-only
+returns-clause-only c = λ s h. ap Ok (schema_same _ s _ h (returns-clause-found c))
+
+pub returns-in_err-metadata-clause-only : goal.returns-in_err-metadata-clause-only
+returns-in_err-metadata-clause-only c = λ s h.
+    let p = err_from_is_err_and c.from_residual-in_err-metadata.result c.from_residual-in_err-metadata.ensures.1 in
+    rw (p.1, p.2) (refused _ _ _ s (schema_complete _ s h).pairs c.in_err-metadata.ensures)
+
+pub returns-in_err-fields-clause-only : goal.returns-in_err-fields-clause-only
+returns-in_err-fields-clause-only c = λ s h.
+    let p = err_from_is_err_and c.from_residual-in_err-fields.result c.from_residual-in_err-fields.ensures.1 in
+    rw (p.1, p.2) (fields_refused _ s _ _ _ h c.in_ok-metadata.ensures c.in_err-fields.ensures)
+
+pub returns-in_err-check-clause-only : goal.returns-in_err-check-clause-only
+returns-in_err-check-clause-only c = λ s h.
+    let p = err_from_is_err_and c.from_residual-in_err-check.result c.from_residual-in_err-check.ensures.1 in
+    rw (p.1, p.2) (check_refused _ s _ _ _ _ _ h c.in_ok-metadata.ensures c.in_ok-fields.ensures c.in_err-check.ensures.bad)

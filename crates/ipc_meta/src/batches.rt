@@ -1,0 +1,77 @@
+ghost use Rattle.std.specs.Prelude.{◌≡◌, ℤ, IfOk, Ok, length};
+ghost use Rattle.ipc_scalar.specs.Bytes.{int64};
+ghost use Rattle.ipc_model.specs.Answers.{Gives};
+ghost use Rattle.ipc_meta.specs.Heads.{numbers_at, DictionaryAt};
+ghost use Rattle.ipc_meta.specs.Reading.{batch_read};
+
+use crate::head::BatchHead;
+use crate::lifted::lifted;
+use crate::types::read_flag;
+use ipc_flat::TableRef;
+use ipc_model::fault::Fault;
+use ipc_model::items::Items;
+use ipc_scalar::get_i64;
+use std::alloc::Global;
+
+// The two numbers of a FieldNode (Message.fbs) or of a Buffer (Schema.fbs): 64 bits each, signed.
+fn number_pair(bytes: &[u8]) -> (i64, i64)
+    requires { length bytes.now ≡ 16 }
+    ensures { result ≡ (int64 bytes.now 0, int64 bytes.now 8) }
+{
+    let first = get_i64(bytes, 0).unwrap_or(0);
+    let second = get_i64(bytes, 8).unwrap_or(0);
+    (first, second)
+}
+
+// The numbers of all structs in a field; an absent vector has none.
+#[tactic(auto, unfolding(crate::specs::Heads::numbers_at))]
+fn read_numbers(alloc: Global, table: &TableRef<'_>, slot: u16) -> Result<Items<(i64, i64)>, Fault>
+    ensures { Gives (λ ns. ns) result (numbers_at table.now slot) }
+{
+    let Some(structs) = lifted(table.structs(slot, 16))? else {
+        return Ok(Items::from_vec(Vec::new(alloc)));
+    };
+    let mut numbers = Vec::with_capacity(alloc, structs.len())?;
+    for i in 0..structs.len() {
+        numbers.push(number_pair(structs.at(i)))?;
+    }
+    Ok(Items::from_vec(numbers))
+}
+
+/// A RecordBatch table (Message.fbs): 0 length, 1 nodes, 2 buffers, 3 compression. A table for the
+/// compression is `Compressed`, whatever it holds.
+#[tactic(auto, unfolding(crate::specs::Reading::batch_read))]
+pub(crate) fn read_batch(alloc: Global, table: &TableRef<'_>) -> Result<BatchHead, Fault>
+    ensures { Gives (λ b. b) result (batch_read table.now) }
+{
+    if lifted(table.table(3))?.is_some() {
+        return Err(Fault::Compressed);
+    }
+    let length = lifted(table.scalar_i64(0, 0))?;
+    let nodes = read_numbers(alloc, table, 1)?;
+    let buffers = read_numbers(alloc, table, 2)?;
+    Ok(BatchHead {
+        length,
+        nodes,
+        buffers,
+    })
+}
+
+/// A DictionaryBatch table (Message.fbs): 0 id, 1 data, 2 isDelta. Values that add to a dictionary
+/// are `DeltaDictionary`, and absent values `BadHeader`.
+pub(crate) fn read_dictionary_batch(
+    alloc: Global,
+    table: &TableRef<'_>,
+) -> Result<(i64, BatchHead), Fault>
+    ensures found { IfOk result (λ d. DictionaryAt table.now d.0 d.1) }
+    ensures only { (id : ℤ) (batch : BatchHead) → DictionaryAt table.now id batch → Gives (λ y. y) result (Ok (id, batch)) }
+{
+    let id = lifted(table.scalar_i64(0, 0))?;
+    if read_flag(table, 2)? {
+        return Err(Fault::DeltaDictionary);
+    }
+    match lifted(table.table(1))? {
+        None => Err(Fault::BadHeader),
+        Some(values) => Ok((id, read_batch(alloc, &values)?)),
+    }
+}

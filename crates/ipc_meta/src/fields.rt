@@ -1,0 +1,116 @@
+ghost use Rattle.std.specs.Prelude.{◌≡◌};
+ghost use Rattle.ipc_model.specs.Answers.{Gives};
+ghost use Rattle.ipc_meta.specs.Reading.{text_read, pair_read, pairs_read, fields_read, field_read};
+
+use crate::budget::Budget;
+use crate::lifted::lifted;
+use crate::types::{read_counted_type, read_flag, read_stored};
+use ipc_flat::TableRef;
+use ipc_model::fault::Fault;
+use ipc_model::items::{Items, Text};
+use ipc_model::schema::Field;
+use std::alloc::Global;
+
+// The text in a field, copied and counted; an absent text is empty.
+#[tactic(auto, unfolding(crate::specs::Reading::text_read, crate::specs::Tables::text_at))]
+fn read_text(
+    alloc: Global,
+    table: &TableRef<'_>,
+    slot: u16,
+    left: &mut Budget,
+) -> Result<Text, Fault>
+    ensures { Gives (λ s. (s, left.new)) result (text_read table.now slot left.old) }
+{
+    let text = lifted(table.text(slot))?.unwrap_or("");
+    left.take_text(text.len())?;
+    Ok(Text::from_string(String::from_str(alloc, text)?))
+}
+
+// A KeyValue table (Schema.fbs): 0 key, 1 value.
+#[tactic(auto, unfolding(crate::specs::Reading::pair_read))]
+fn read_pair(alloc: Global, table: &TableRef<'_>, left: &mut Budget) -> Result<(Text, Text), Fault>
+    ensures { Gives (λ p. (p, left.new)) result (pair_read table.now left.old) }
+{
+    let key = read_text(alloc, table, 0, left)?;
+    let value = read_text(alloc, table, 1, left)?;
+    Ok((key, value))
+}
+
+/// The pairs of key and value in a field, which holds a vector of KeyValue tables (Schema.fbs). All
+/// are counted before the first is read.
+#[tactic(auto, unfolding(crate::specs::Reading::pairs_read, crate::specs::Tables::vector_at))]
+pub(crate) fn read_pairs(
+    alloc: Global,
+    table: &TableRef<'_>,
+    slot: u16,
+    left: &mut Budget,
+) -> Result<Items<(Text, Text)>, Fault>
+    ensures { Gives (λ ps. (ps, left.new)) result (pairs_read table.now slot left.old) }
+{
+    let mut pairs = Vec::new(alloc);
+    let Some(tables) = lifted(table.tables(slot))? else {
+        return Ok(Items::from_vec(pairs));
+    };
+    left.take_pairs(tables.len())?;
+    for i in 0..tables.len() {
+        let table = lifted(tables.at(i))?;
+        pairs.push(read_pair(alloc, &table, left)?)?;
+    }
+    Ok(Items::from_vec(pairs))
+}
+
+/// The fields in a field, which holds a vector of Field tables (Schema.fbs), with at most `depth`
+/// levels. All are counted before the first is read.
+#[cycle(fields)]
+#[tactic(auto, unfolding(crate::specs::Reading::fields_read, crate::specs::Tables::vector_at))]
+pub(crate) fn read_fields(
+    alloc: Global,
+    table: &TableRef<'_>,
+    slot: u16,
+    depth: u32,
+    left: &mut Budget,
+) -> Result<Items<Field>, Fault>
+    ensures { Gives (λ fs. (fs, left.new)) result (fields_read (field_read depth) table.now slot left.old) }
+{
+    let mut fields = Vec::new(alloc);
+    let Some(tables) = lifted(table.tables(slot))? else {
+        return Ok(Items::from_vec(fields));
+    };
+    left.take_fields(tables.len())?;
+    for i in 0..tables.len() {
+        let table = lifted(tables.at(i))?;
+        fields.push(read_field(alloc, &table, depth, left)?)?;
+    }
+    Ok(Items::from_vec(fields))
+}
+
+// A Field table (Schema.fbs) and all below it, with at most `depth` levels: 0 name, 1 nullable, 2 and
+// 3 type, 4 dictionary, 5 children, 6 custom_metadata.
+#[cycle(fields)]
+#[tactic(auto, unfolding(crate::specs::Reading::field_read))]
+fn read_field(
+    alloc: Global,
+    table: &TableRef<'_>,
+    depth: u32,
+    left: &mut Budget,
+) -> Result<Field, Fault>
+    ensures { Gives (λ f. (f, left.new)) result (field_read depth table.now left.old) }
+{
+    if depth == 0 {
+        return Err(Fault::TooDeep);
+    }
+    let name = read_text(alloc, table, 0, left)?;
+    let nullable = read_flag(table, 1)?;
+    let kind = read_counted_type(alloc, table, left)?;
+    let dictionary = read_stored(table, &kind)?;
+    let metadata = read_pairs(alloc, table, 6, left)?;
+    let children = read_fields(alloc, table, 5, depth - 1, left)?;
+    Ok(Field {
+        name,
+        nullable,
+        kind,
+        dictionary,
+        children,
+        metadata,
+    })
+}

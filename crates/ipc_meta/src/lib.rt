@@ -1,0 +1,19 @@
+//! Reads the metadata of one message of an Arrow IPC stream: a FlatBuffer whose root is a Message
+//! table (Message.fbs), with a schema (Schema.fbs) or the head of a batch in it.
+//!
+//! What is answered is what the tables state. Only the fields that are named here are looked at;
+//! any other field may hold anything.
+#![tactic(auto)]
+
+mod batches;
+mod budget;
+mod fields;
+pub mod head;
+mod laws;
+mod lifted;
+mod message;
+mod types;
+
+pub use head::{BatchHead, Head};
+pub use laws::one_head_per_metadata;
+pub use message::read_message;

@@ -1,0 +1,25 @@
+ghost use Rattle.std.specs.Prelude.{◌≡◌};
+ghost use Rattle.ipc_meta.specs.Lifts.{fault_of, lift};
+
+use ipc_flat::FlatFault;
+use ipc_model::fault::Fault;
+
+// The message's fault of ill-formed FlatBuffers.
+fn fault_of(fault: FlatFault) -> Fault
+    ensures { result ≡ fault_of fault }
+{
+    match fault {
+        FlatFault::NotUtf8 => Fault::NameNotUtf8,
+        _ => Fault::BadFlat,
+    }
+}
+
+/// What the FlatBuffers reader answered, as an answer about the message.
+pub(crate) fn lifted<T>(answer: Result<T, FlatFault>) -> Result<T, Fault>
+    ensures { result ≡ lift answer }
+{
+    match answer {
+        Ok(value) => Ok(value),
+        Err(fault) => Err(fault_of(fault)),
+    }
+}

@@ -1,0 +1,126 @@
+ghost use Rattle.std.specs.Prelude.{◌≡◌, ℕ, IfOk, IfErr, OnOk, MatchResult, Ok, pos};
+ghost use Rattle.ipc_scalar.specs.Bytes.{int16};
+ghost use Rattle.ipc_flat.specs.Views.{scalar};
+ghost use Rattle.ipc_model.specs.Answers.{Gives};
+ghost use Rattle.ipc_meta.specs.Fields.{SchemaAt};
+ghost use Rattle.ipc_meta.specs.Heads.{HeaderAt, HeadOf};
+
+use crate::batches::{read_batch, read_dictionary_batch};
+use crate::budget::Budget;
+use crate::fields::{read_fields, read_pairs};
+use crate::head::Head;
+use crate::lifted::lifted;
+use ipc_flat::{Flat, TableRef};
+use ipc_model::fault::Fault;
+use ipc_model::schema::Schema;
+use std::alloc::Global;
+
+// Schema.fbs, enum MetadataVersion: V5.
+const VERSION: i16 = 4;
+
+// How many bytes a body may have, a limit of this project.
+const LONGEST_BODY: i64 = 1 << 40;
+
+// A Schema table (Schema.fbs) states that numbers begin with their lowest byte: 0 endianness.
+fn check_endianness(table: &TableRef<'_>) -> Result<(), Fault>
+    ensures ok { OnOk result (scalar table.now 0 2 int16 (pos 0) ≡ Ok (pos 0)) }
+    ensures only { IfErr result (λ f. ¬ (scalar table.now 0 2 int16 (pos 0) ≡ Ok (pos 0))) }
+{
+    if lifted(table.scalar_i16(0, 0))? != 0 {
+        return Err(Fault::BigEndian);
+    }
+    Ok(())
+}
+
+// A Schema table (Schema.fbs): 0 endianness, 1 fields, 2 custom_metadata.
+fn read_schema(alloc: Global, table: &TableRef<'_>) -> Result<Schema, Fault>
+    ensures found { IfOk result (λ s. SchemaAt table.now s) }
+    ensures only { (s : Schema) → SchemaAt table.now s → Gives (λ y. y) result (Ok s) }
+{
+    check_endianness(table)?;
+    let mut left = Budget {
+        fields: 65_536,
+        text: 1 << 26,
+        pairs: 1 << 20,
+    };
+    let metadata = read_pairs(alloc, table, 2, &mut left)?;
+    let fields = read_fields(alloc, table, 1, 64, &mut left)?;
+    let schema = Schema { fields, metadata };
+    schema.check(alloc)?;
+    Ok(schema)
+}
+
+// The header of a Message table (Message.fbs): 1 its code in union MessageHeader, 2 its table.
+fn read_header(alloc: Global, root: &TableRef<'_>) -> Result<Head, Fault>
+    ensures found { IfOk result (λ head. HeaderAt root.now head) }
+    ensures only { (head : Head) → HeaderAt root.now head → Gives (λ y. y) result (Ok head) }
+{
+    let code = lifted(root.scalar_u8(1, 0))?;
+    let Some(table) = lifted(root.table(2))? else {
+        return Err(Fault::BadHeader);
+    };
+    match code {
+        1 => Ok(Head::Schema(read_schema(alloc, &table)?)),
+        2 => {
+            let (id, batch) = read_dictionary_batch(alloc, &table)?;
+            Ok(Head::Dictionary(id, batch))
+        }
+        3 => Ok(Head::Batch(read_batch(alloc, &table)?)),
+        _ => Err(Fault::BadHeader),
+    }
+}
+
+/// Reads the metadata of one message: what its header states, and how many bytes the message's body
+/// has, from 0 to 2^40 (Message.fbs, table Message).
+///
+/// `metadata` is the FlatBuffer alone, without the mark and the size before it; padding behind it may
+/// hold anything (Arrow Columnar Format, "Encapsulated message format"). A schema that is answered is
+/// well formed, and columns of each of its fields are read here. An absent vector is empty, an absent
+/// name, key or value is the empty text, and an absent timezone is none, unlike an empty one.
+/// Memory for texts, fields, nodes and buffers is taken from `alloc`.
+///
+/// # Errors
+///
+/// Each is true of the metadata. Where several causes stand in it, one of them is told.
+///
+/// - `BadFlat` (F5): an offset, a vtable or a range that is looked at is ill-formed (FlatBuffers
+///   binary format).
+/// - `BadVersion` (F6): the version is not V5.
+/// - `BadHeader` (F7): the header is neither a schema nor a dictionary batch nor a record batch, or
+///   it is absent, or it is a dictionary batch without data.
+/// - `BadBodyLength` (F8): the body has fewer than 0 bytes.
+/// - `BodyTooLong` (F9): the body has more than 2^40 bytes.
+/// - `BigEndian` (F12): the schema's endianness is not Little.
+/// - `UnsupportedType` (F13): columns of a field's type, with its dictionary, are not read here; with
+///   the type's code in union Type (Schema.fbs).
+/// - `BadType` (F14): a field's type has no table, or a width or a unit that no type has.
+/// - `BadChildren` (F15): a list without exactly one child, or children of a type that has none.
+/// - `NameNotUtf8` (F16): a name, a key, a value or a timezone is not UTF-8.
+/// - `TooManyFields` (F17): more than 65,536 fields with their descendants.
+/// - `TooDeep` (F18): fields more than 64 deep, where a column is 1 deep.
+/// - `TooMuchText` (F19): more than 2^26 bytes of names, keys, values and timezones, or more than
+///   2^20 pairs of key and value.
+/// - `DictionaryConflict` (F20): two fields have one dictionary and values of different types.
+/// - `NestedDictionary` (F21): a dictionary of lists or of structs.
+/// - `BadIndexType` (F22): a dictionary's indices have another width than 8, 16, 32 or 64 bits.
+/// - `Compressed` (F23): a batch has a table for its compression.
+/// - `DeltaDictionary` (F24): a dictionary batch adds to a dictionary.
+/// - `OutOfMemory` (F37): `alloc` refused memory.
+pub fn read_message(alloc: Global, metadata: &[u8]) -> Result<(Head, u64), Fault>
+    ensures found { IfOk result (λ r. HeadOf metadata.now r.0 r.1) }
+    ensures only { (head : Head) (m : ℕ) → HeadOf metadata.now head m → MatchResult result (λ r. (r.0 ≡ head) × (r.1 ≡ m)) (λ f. f ≡ Fault.OutOfMemory) }
+{
+    let root = lifted(Flat::root(metadata))?;
+    if lifted(root.scalar_i16(0, 0))? != VERSION {
+        return Err(Fault::BadVersion);
+    }
+    let body = lifted(root.scalar_i64(3, 0))?;
+    if body < 0 {
+        return Err(Fault::BadBodyLength);
+    }
+    if body > LONGEST_BODY {
+        return Err(Fault::BodyTooLong);
+    }
+    let head = read_header(alloc, &root)?;
+    Ok((head, body.unsigned_abs()))
+}

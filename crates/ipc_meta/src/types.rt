@@ -1,0 +1,235 @@
+ghost use Rattle.std.specs.Prelude.{◌≡◌, ℤ, Ok, option_map, pos};
+ghost use Rattle.ipc_model.specs.Answers.{Gives};
+ghost use Rattle.ipc_model.specs.WellFormed.{kind_text};
+ghost use Rattle.ipc_meta.specs.Open.{is_open};
+ghost use Rattle.ipc_meta.specs.Tables.{bits_of, unit_of, int_at, fixed_at, date_at, timestamp_at, type_of, type_at, code_at, flag_at, index_at, dictionary_in, dictionary_at, map_ok};
+ghost use Rattle.ipc_meta.specs.Reading.{type_read, stored_at};
+
+use crate::budget::Budget;
+use crate::lifted::lifted;
+use ipc_flat::TableRef;
+use ipc_model::fault::Fault;
+use ipc_model::items::Text;
+use ipc_model::schema::{DataType, DateUnit, Dictionary, IndexType, IntBits, TimeUnit};
+use std::alloc::Global;
+
+// The width of an integer (Schema.fbs, table Int, bitWidth).
+fn bits_of(width: i32) -> Option<IntBits>
+    ensures { result ≡ bits_of width }
+{
+    match width {
+        8 => Some(IntBits::B8),
+        16 => Some(IntBits::B16),
+        32 => Some(IntBits::B32),
+        64 => Some(IntBits::B64),
+        _ => None,
+    }
+}
+
+// What a timestamp counts (Schema.fbs, enum TimeUnit).
+fn unit_of(unit: i16) -> Option<TimeUnit>
+    ensures { result ≡ unit_of unit }
+{
+    match unit {
+        0 => Some(TimeUnit::Second),
+        1 => Some(TimeUnit::Millisecond),
+        2 => Some(TimeUnit::Microsecond),
+        3 => Some(TimeUnit::Nanosecond),
+        _ => None,
+    }
+}
+
+/// The truth value in a field: an absent byte and 0 are false, any other byte is true.
+#[tactic(auto, unfolding(crate::specs::Tables::flag_at))]
+pub(crate) fn read_flag(table: &TableRef<'_>, slot: u16) -> Result<bool, Fault>
+    ensures { result ≡ flag_at table.now slot }
+{
+    let flag = lifted(table.scalar_u8(slot, 0))?;
+    Ok(flag > 0)
+}
+
+// An Int table (Schema.fbs): 0 bitWidth, 1 is_signed. A width that no integer has is the fault that is
+// handed in.
+fn read_int(table: &TableRef<'_>, fault: Fault) -> Result<IndexType, Fault>
+    ensures { result ≡ int_at fault table.now }
+{
+    let width = lifted(table.scalar_i32(0, 0))?;
+    let Some(bits) = bits_of(width) else {
+        return Err(fault);
+    };
+    let signed = read_flag(table, 1)?;
+    Ok(IndexType { bits, signed })
+}
+
+// The type of fixed widths (Schema.fbs, table FixedSizeBinary, byteWidth).
+fn fixed_of(width: i32) -> Result<DataType, Fault>
+    ensures { result ≡ fixed_at width }
+{
+    if width < 0 {
+        return Err(Fault::BadType);
+    }
+    Ok(DataType::FixedSizeBinary(width.unsigned_abs()))
+}
+
+// The type of dates (Schema.fbs, table Date, unit).
+fn date_of(unit: i16) -> Result<DataType, Fault>
+    ensures { result ≡ date_at unit }
+{
+    match unit {
+        0 => Ok(DataType::Date(DateUnit::Day)),
+        1 => Ok(DataType::Date(DateUnit::Millisecond)),
+        _ => Err(Fault::BadType),
+    }
+}
+
+// A Timestamp table (Schema.fbs): 0 unit, 1 timezone. An absent timezone and an empty one differ.
+fn read_timestamp(alloc: Global, table: &TableRef<'_>) -> Result<DataType, Fault>
+    ensures { Gives (λ κ. κ) result (timestamp_at table.now) }
+{
+    let unit = lifted(table.scalar_i16(0, 0))?;
+    let Some(unit) = unit_of(unit) else {
+        return Err(Fault::BadType);
+    };
+    let timezone = match lifted(table.text(1))? {
+        None => None,
+        Some(zone) => Some(Text::from_string(String::from_str(alloc, zone)?)),
+    };
+    Ok(DataType::Timestamp { unit, timezone })
+}
+
+// The type with this code and this table (Schema.fbs, union Type).
+#[tactic(auto, unfolding(crate::specs::Tables::type_of))]
+fn type_of(alloc: Global, code: u8, table: &TableRef<'_>) -> Result<DataType, Fault>
+    ensures { Gives (λ κ. κ) result (type_of code table.now) }
+{
+    match code {
+        1 => Ok(DataType::Null),
+        2 => {
+            let IndexType { bits, signed } = read_int(table, Fault::BadType)?;
+            Ok(DataType::Int { bits, signed })
+        }
+        4 => Ok(DataType::Binary),
+        5 => Ok(DataType::Utf8),
+        6 => Ok(DataType::Bool),
+        8 => date_of(lifted(table.scalar_i16(0, 1))?),
+        10 => read_timestamp(alloc, table),
+        12 => Ok(DataType::List),
+        13 => Ok(DataType::Struct),
+        15 => fixed_of(lifted(table.scalar_i32(0, 0))?),
+        _ => Err(Fault::UnsupportedType(code)),
+    }
+}
+
+// The code of a field's type (Schema.fbs, table Field, 2).
+#[tactic(auto, unfolding(crate::specs::Tables::code_at))]
+fn read_code(field: &TableRef<'_>) -> Result<u8, Fault>
+    ensures { result ≡ code_at field.now }
+{
+    lifted(field.scalar_u8(2, 0))
+}
+
+// The type of a field (Schema.fbs, table Field, 2 and 3). A type without a table is `BadType`.
+#[tactic(auto, unfolding(crate::specs::Tables::type_at))]
+fn read_type(alloc: Global, field: &TableRef<'_>) -> Result<DataType, Fault>
+    ensures { Gives (λ κ. κ) result (type_at field.now) }
+{
+    let code = read_code(field)?;
+    match lifted(field.table(3))? {
+        None => Err(Fault::BadType),
+        Some(table) => type_of(alloc, code, &table),
+    }
+}
+
+// How many bytes the timezone of a type has.
+fn text_len(kind: &DataType) -> usize
+    ensures { result ≡ kind_text kind.now }
+{
+    match kind {
+        DataType::Timestamp {
+            timezone: Some(zone),
+            ..
+        } => zone.len(),
+        _ => 0,
+    }
+}
+
+/// The type of a field, with the bytes of its timezone counted.
+#[tactic(auto, unfolding(crate::specs::Reading::type_read))]
+pub(crate) fn read_counted_type(
+    alloc: Global,
+    field: &TableRef<'_>,
+    left: &mut Budget,
+) -> Result<DataType, Fault>
+    ensures { Gives (λ κ. (κ, left.new)) result (type_read field.now left.old) }
+{
+    let kind = read_type(alloc, field)?;
+    left.take_text(text_len(&kind))?;
+    Ok(kind)
+}
+
+// The index type of a DictionaryEncoding table (Schema.fbs): 1 indexType. Where it is absent, indices are
+// signed and have 32 bits.
+fn read_index(encoding: &TableRef<'_>) -> Result<IndexType, Fault>
+    ensures { result ≡ index_at encoding.now }
+{
+    match lifted(encoding.table(1))? {
+        None => Ok(IndexType {
+            bits: IntBits::B32,
+            signed: true,
+        }),
+        Some(table) => read_int(&table, Fault::BadIndexType),
+    }
+}
+
+// A DictionaryEncoding table (Schema.fbs): 0 id, 1 indexType, 2 isOrdered.
+fn read_encoding(table: &TableRef<'_>) -> Result<Dictionary, Fault>
+    ensures { map_ok Some result ≡ dictionary_in (Some table.now) }
+{
+    let id = lifted(table.scalar_i64(0, 0))?;
+    let index = read_index(table)?;
+    let ordered = read_flag(table, 2)?;
+    Ok(Dictionary { id, index, ordered })
+}
+
+// The dictionary of a field (Schema.fbs, table Field, 4).
+#[tactic(auto, unfolding(crate::specs::Tables::dictionary_at))]
+fn read_dictionary(field: &TableRef<'_>) -> Result<Option<Dictionary>, Fault>
+    ensures { result ≡ dictionary_at field.now }
+{
+    match lifted(field.table(4))? {
+        None => Ok(None),
+        Some(table) => Ok(Some(read_encoding(&table)?)),
+    }
+}
+
+// Whether columns of this type with this dictionary are read.
+fn is_open(kind: &DataType, dictionary: Option<Dictionary>) -> bool
+    ensures { result ≡ is_open kind.now dictionary }
+{
+    match (kind, dictionary) {
+        (
+            DataType::Int {
+                bits: IntBits::B64,
+                signed: true,
+            },
+            None,
+        ) => true,
+        _ => false,
+    }
+}
+
+/// The dictionary of a field of this type. A field whose columns are not read is `UnsupportedType`.
+#[tactic(auto, unfolding(crate::specs::Reading::stored_at))]
+pub(crate) fn read_stored(
+    field: &TableRef<'_>,
+    kind: &DataType,
+) -> Result<Option<Dictionary>, Fault>
+    ensures { result ≡ stored_at field.now kind.now }
+{
+    let dictionary = read_dictionary(field)?;
+    let code = read_code(field)?;
+    if !is_open(kind, dictionary) {
+        return Err(Fault::UnsupportedType(code));
+    }
+    Ok(dictionary)
+}

@@ -1,0 +1,3 @@
+pub mod Stream
+pub mod Reasons
+pub mod Whole

@@ -1,0 +1,9 @@
+//! Streams: the schema, its batches and the end (Arrow Columnar Format, "IPC Streaming Format").
+#![tactic(auto)]
+
+mod end;
+mod whole;
+
+pub use end::End;
+pub use whole::read_whole;
+
