@@ -1,6 +1,6 @@
-use ipc_model::items::Items;
-use ipc_model::table::{Row, Table};
-use ipc_model::value::Value;
+ghost use Rattle.std.specs.Prelude.{◌<◌, length};
+
+use ipc_column::{Batch, Cell};
 use itoa::Buffer;
 use std::alloc::{AllocError, Global};
 use std::io::Write;
@@ -22,21 +22,31 @@ impl From<AllocError> for PrintFault {
     }
 }
 
-// A number, or `null` where there is none.
-fn push_value(line: &mut Vec<u8>, digits: &mut Buffer, value: &Value) -> Result<(), AllocError> {
-    match value {
-        Value::Int(number) => line.extend_from_slice(digits.format(*number).as_bytes()),
-        _ => line.extend_from_slice(b"null"),
+// A number, a truth value, or `null`; no column of bytes or texts is read yet.
+fn push_cell(line: &mut Vec<u8>, digits: &mut Buffer, cell: Cell<'_>) -> Result<(), AllocError> {
+    match cell {
+        Cell::Int(number) => line.extend_from_slice(digits.format(number).as_bytes()),
+        Cell::UInt(number) => line.extend_from_slice(digits.format(number).as_bytes()),
+        Cell::Bool(true) => line.extend_from_slice(b"true"),
+        Cell::Bool(false) => line.extend_from_slice(b"false"),
+        Cell::Null | Cell::Bytes(_) | Cell::Text(_) => line.extend_from_slice(b"null"),
     }
 }
 
-fn push_row(line: &mut Vec<u8>, digits: &mut Buffer, row: &Row) -> Result<(), AllocError> {
+fn push_row(
+    line: &mut Vec<u8>,
+    digits: &mut Buffer,
+    batch: &Batch,
+    row: usize,
+) -> Result<(), AllocError>
+    requires { row < length batch.now.rows }
+{
     line.push(b'[')?;
-    for (column, value) in row.as_slice().iter().enumerate() {
+    for column in 0..batch.columns() {
         if column > 0 {
             line.push(b',')?;
         }
-        push_value(line, digits, value)?;
+        push_cell(line, digits, batch.cell(row, column))?;
     }
     line.extend_from_slice(b"]\n")
 }
@@ -45,10 +55,10 @@ fn print_batch<W: Write>(
     writer: &mut W,
     text: &mut Vec<u8>,
     digits: &mut Buffer,
-    batch: &Items<Row>,
+    batch: &Batch,
 ) -> Result<(), PrintFault> {
-    for row in batch.as_slice() {
-        push_row(text, digits, row)?;
+    for row in 0..batch.rows() {
+        push_row(text, digits, batch, row)?;
         if text.len() > FULL {
             if writer.write_all(text).is_err() {
                 return Err(PrintFault::Write);
@@ -59,15 +69,17 @@ fn print_batch<W: Write>(
     Ok(())
 }
 
-/// Prints each row of a table as a JSON array on a line of its own.
-pub fn print_table<W: Write>(
+/// Prints each row of some batches as a JSON array on a line of its own, and flushes the writer.
+///
+/// `PrintFault::Write` is answered where the writer fails, and `PrintFault::OutOfMemory` where a line finds no room.
+pub fn print_batches<W: Write>(
     alloc: Global,
     writer: &mut W,
-    table: &Table,
+    batches: &[Batch],
 ) -> Result<(), PrintFault> {
     let mut text = Vec::with_capacity(alloc, 2 * FULL)?;
     let mut digits = Buffer::new();
-    for batch in table.batches.as_slice() {
+    for batch in batches {
         print_batch(writer, &mut text, &mut digits, batch)?;
     }
     if writer.write_all(&text).is_err() || writer.flush().is_err() {

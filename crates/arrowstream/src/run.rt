@@ -1,7 +1,7 @@
 use crate::input::read_all;
-use crate::rows::{PrintFault, print_table};
+use crate::rows::{PrintFault, print_batches};
 use ipc_model::fault::Fault;
-use ipc_stream::read_whole;
+use ipc_stream::check_whole;
 use std::alloc::Global;
 use std::io::{Read, Write};
 
@@ -18,11 +18,10 @@ fn show<R: Read, W: Write>(alloc: Global, reader: &mut R, writer: &mut W) -> Res
         Ok(bytes) => bytes,
         Err(fault) => return Err(Stop::Stream(fault, 0)),
     };
-    let table = match read_whole(alloc, &bytes) {
-        Ok((table, _, _)) => table,
-        Err((fault, message)) => return Err(Stop::Stream(fault, message)),
-    };
-    print_table(alloc, writer, &table).map_err(Stop::Print)
+    match check_whole(alloc, &bytes) {
+        Ok(stream) => print_batches(alloc, writer, &stream.batches).map_err(Stop::Print),
+        Err((fault, message)) => Err(Stop::Stream(fault, message)),
+    }
 }
 
 // The exit status of a job, whose fault goes to `messages` as one line.

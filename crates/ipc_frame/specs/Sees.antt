@@ -1,5 +1,7 @@
 -- What stands at the front of some bytes.
-use Rattle.std.specs.Prelude.{◌≡◌, ◌≢◌, ℕ, ◌+◌, ◌<◌, ◌≤◌, ℤ, pos, negsuc, List, length, take, Result, Ok, Err, ◌⊎◌, int_lt, true}
+use Rattle.std.specs.Prelude.{◌≡◌, ◌≢◌, ℕ, ◌+◌, ◌≤◌, pos, List, length, take, Result, Ok, Err, ◌⊎◌, int_lt, true, slice_range}
+use Rattle.ipc_meta.specs.declared.head.Head.{Head}
+use Rattle.ipc_meta.specs.Heads.{HeadOf}
 use Rattle.ipc_scalar.specs.Bytes.{int32}
 use Rattle.ipc_model.specs.Answers.{Aside}
 use Rattle.ipc_model.specs.declared.fault.Fault.{Fault}
@@ -22,15 +24,16 @@ RefusesStart z BadMetadataLength = (8 ≤ length z) × (take 4 z ≡ mark) × (i
 RefusesStart z MetadataTooLong = (8 ≤ length z) × (take 4 z ≡ mark) × (int_lt (pos longest_metadata) (int32 z 4) ≡ true)
 RefusesStart z fault = ⊥
 
--- the metadata is whole
-pub record HasMetadata (z : List ℕ) : Type 0 where
+-- the metadata is whole, and states no head
+pub record StatesNoHead (z : List ℕ) : Type 0 where
   pub size : ℕ
   pub begins : Begins z size
   pub whole : 8 + size ≤ length z
+  pub none : (head : Head) (m : ℕ) → HeadOf (slice_range z 8 (8 + size)) head m → ⊥
 
 -- refused at the start, or at the whole metadata
 abbrev pub Refuses : List ℕ → Fault → Type 0
-Refuses z fault = RefusesStart z fault ⊎ HasMetadata z
+Refuses z fault = RefusesStart z fault ⊎ StatesNoHead z
 
 -- a frame is at the front, or nothing is decided yet, or what begins there is refused
 abbrev pub Sees : List ℕ → Result Seen Fault → Type 0

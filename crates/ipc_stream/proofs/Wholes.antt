@@ -1,17 +1,16 @@
 -- What the parts of a stream say of the whole.
-use Rattle.std.proofs.Common.{◌≡◌, ◌∙◌, refl, sym, ap, subst, ℕ, ◌+◌, ◌-◌, ◌<◌, ◌≤◌, List, [], ◌∷◌, ◌++◌, length, take, drop, map, append_assoc, length-take, length-drop, arith, Option, Some, None, Result, Ok, Err}
-use Rattle.std.specs.Prelude.{IfOk, IfErr, Bool, true, false, ◌⊎◌}
+use Rattle.std.proofs.Common.{◌≡◌, ◌∙◌, refl, sym, ap, subst, ℕ, ◌+◌, ◌-◌, ◌<◌, ◌≤◌, List, [], ◌∷◌, ◌++◌, length, take, drop, map, length-take, length-drop, arith, Some, None, Result, Ok, Err}
+use Rattle.std.specs.Prelude.{IfOk, IfErr, Bool, true, false}
 use Rattle.std.proofs.Common.{inl, inr}
 use Rattle.ipc_model.specs.declared.fault.Fault.TheVariants as fault
-use Rattle.ipc_stream.specs.Reasons.{Reason, memory, start, whole_metadata, no_schema, second_schema, dictionary, no_rows, Refused}
+use Rattle.ipc_stream.specs.Reasons.{Reason, memory, start, no_head, no_schema, second_schema, dictionary, no_rows, Refused}
 use Rattle.ipc_model.specs.declared.fault.Fault.{Fault}
 use Rattle.std.proofs.lemmas.List.{map-append, take_all, length-map}
 use Rattle.std.proofs.Math.Seq.{take-add}
 use Rattle.ipc_model.specs.declared.schema.Schema.{Schema}
 use Rattle.ipc_model.specs.declared.value.Value.{Value}
-use Rattle.ipc_meta.specs.declared.head.Head.{Head}
 use Rattle.ipc_meta.specs.declared.head.Head.TheVariants as h
-use Rattle.ipc_meta.specs.Heads.{HeadOf, HeaderAt}
+use Rattle.ipc_meta.specs.Heads.{HeadOf}
 use Rattle.ipc_meta.proofs.Opens.{fields_open}
 use Rattle.ipc_frame.specs.Frames.{eos, Frame}
 use Rattle.ipc_frame.specs.Sees.{Sees, IsFrame, Refuses}
@@ -21,8 +20,9 @@ use Rattle.ipc_stream.specs.declared.end.End.{End}
 use Rattle.ipc_stream.specs.declared.end.End.TheVariants.{Mark, Closed}
 use Rattle.ipc_stream.specs.declared.whole.Next.{Next}
 use Rattle.ipc_stream.specs.declared.whole.Next.TheVariants as next
-use Rattle.ipc_stream.specs.Stream.{Open, State, Event, schema, batch, Step, first, came, Run, done}
-use Rattle.ipc_stream.specs.Whole.{IsReadable, FindsSchema, BringsSchema, BringsNext, FindsNext, Messages, FindsTable}
+use Rattle.ipc_stream.specs.Stream.{Open, State, schema, batch, first, came, Run, done}
+use Rattle.ipc_stream.specs.Whole.{IsReadable, FindsSchema, BringsSchema, BringsNext, FindsNext, Messages, FindsTable, rows_of}
+use Rattle.ipc_column.specs.Contents.{Contents}
 use Rattle.ipc_stream.proofs.Runs.{run_one, run_then}
 
 -- want of memory, and any other fault
@@ -67,18 +67,18 @@ sight_refused σ z fault sees = elim (is_memory fault) as (λ b. is_memory fault
   where
     refused : Refuses z fault → Reason σ z fault
     refused (inl early) = start early
-    refused (inr late) = whole_metadata late
+    refused (inr late) = no_head late
 
 pub next_found : (o : Open) (z : List ℕ) (frame : Framed) (n : ℕ) (x : Next) → n ≤ length z → IsFrame (take n z) frame → BringsNext o.schema frame n (Ok x) → FindsNext o z x
-next_found o z (f.Message meta head body) n (next.Batch rows k) fits is brings =
+next_found o z (f.Message meta head body) n (next.Batch b k) fits is brings =
     let here : Frame (take n z) meta.items (h.Batch brings.1.0) body.items = subst (λ x. Frame (take n z) meta.items x body.items) brings.1.1 is in
     let size = here.begun in
-    let run : Run (Some o) (take n z) (batch rows ∷ []) (Some o) = run_one here (came brings.1.2) in
-    subst (λ j. (j ≤ length z) × (0 < j) × Run (Some o) (take j z) (batch rows ∷ []) (Some o)) brings.0 (fits, omega (arith, size, length-take n z), run)
+    let run : Run (Some o) (take n z) (batch b.rows ∷ []) (Some o) = run_one here (came brings.1.2) in
+    subst (λ j. (j ≤ length z) × (0 < j) × Run (Some o) (take j z) (batch b.rows ∷ []) (Some o)) brings.0 (fits, omega (arith, size, length-take n z), run)
 next_found o z (f.Message meta head body) n (next.Ended end k) fits is brings = absurd brings
 next_found o z f.End n (next.Ended Mark k) fits is brings = subst (λ j. (j ≤ length z) × (take j z ≡ eos)) brings (fits, is)
 next_found o z f.End n (next.Ended Closed k) fits is brings = absurd brings
-next_found o z f.End n (next.Batch rows k) fits is brings = absurd brings
+next_found o z f.End n (next.Batch b k) fits is brings = absurd brings
 
 pub next_refused : (o : Open) (z : List ℕ) (frame : Framed) (n : ℕ) (fault : Fault) → IsFrame (take n z) frame → BringsNext o.schema frame n (Err fault) → Reason (Some o) z fault
 next_refused o z f.End n fault is brings = absurd brings
@@ -99,15 +99,16 @@ pub messages_start : (z : List ℕ) (s : Schema) (n : ℕ) → FindsSchema z s n
 messages_start z s n found = record { within = found.within; run = found.run }
 
 -- one batch more
-pub messages_more : (z : List ℕ) (s : Schema) (bs : List (List (List Value))) (n k : ℕ) (rows : List (List Value)) → Messages z s bs n → FindsNext (record { schema = s }) (drop n z) (next.Batch rows k)
-    → Messages z s (bs ++ rows ∷ []) (n + k)
-messages_more z s bs n k rows before found = record {
+pub messages_more : (z : List ℕ) (s : Schema) (bs : List Contents) (n k : ℕ) (b : Contents) → Messages z s (rows_of bs) n → FindsNext (record { schema = s }) (drop n z) (next.Batch b k)
+    → Messages z s (rows_of (bs ++ b ∷ [])) (n + k)
+messages_more z s bs n k b before found = record {
   within = omega (arith, before.within, found.0, length-drop n z);
   run =
-    let o : Open = record { schema = s } in
-    let both = run_then None (Some o) (Some o) (take n z) (take k (drop n z)) (schema s ∷ map batch bs) (batch rows ∷ []) before.run found.2 in
-    subst (λ y. Run None y (schema s ∷ map batch (bs ++ rows ∷ [])) (Some o)) (sym (take-add n k z))
-    (subst (λ es. Run None (take n z ++ take k (drop n z)) (schema s ∷ es) (Some o)) (sym (map-append batch bs (rows ∷ []))) both);
+      let o : Open = record { schema = s } in
+      let both = run_then None (Some o) (Some o) (take n z) (take k (drop n z)) (schema s ∷ map batch (rows_of bs)) (batch b.rows ∷ []) before.run found.2 in
+      let all : map batch (rows_of (bs ++ b ∷ [])) ≡ map batch (rows_of bs) ++ batch b.rows ∷ [] = ap (map batch) (map-append (λ (c : Contents). c.rows) bs (b ∷ [])) ∙ map-append batch (rows_of bs) (b.rows ∷ []) in
+      subst (λ y. Run None y (schema s ∷ map batch (rows_of (bs ++ b ∷ []))) (Some o)) (sym (take-add n k z))
+      (subst (λ es. Run None (take n z ++ take k (drop n z)) (schema s ∷ es) (Some o)) (sym all) both);
 }
 
 -- the end
@@ -134,13 +135,13 @@ pub refused_first : (z : List ℕ) (fault : Fault) → Reason None z fault → R
 refused_first z e reason = record { events = []; state = None; taken = 0; within = omega arith; run = done; number = refl; reason = reason }
 
 -- a later message is refused
-pub refused_later : (z : List ℕ) (s : Schema) (bs : List (List (List Value))) (n k : ℕ) (e : Fault) → Messages z s bs n → k ≡ length bs + 1 → Reason (Some (record { schema = s })) (drop n z) e → Refused z e k
+pub refused_later : (z : List ℕ) (s : Schema) (bs : List Contents) (n k : ℕ) (e : Fault) → Messages z s (rows_of bs) n → k ≡ length bs + 1 → Reason (Some (record { schema = s })) (drop n z) e → Refused z e k
 refused_later z s bs n k e before count reason = record {
-  events = schema s ∷ map batch bs;
+  events = schema s ∷ map batch (rows_of bs);
   state = Some (record { schema = s });
   taken = n;
   within = before.within;
   run = before.run;
-  number = omega (arith, count, length-map bs batch);
+  number = omega (arith, count, length-map (rows_of bs) batch, length-map bs (λ (c : Contents). c.rows));
   reason = reason;
 }

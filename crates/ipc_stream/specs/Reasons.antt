@@ -1,5 +1,5 @@
 -- Why a stream is refused.
-use Rattle.std.specs.Prelude.{◌≡◌, ℤ, ℕ, ◌≤◌, List, length, take, drop, Option, Some, None, ⊤}
+use Rattle.std.specs.Prelude.{◌≡◌, ℤ, ℕ, ◌≤◌, List, length, take, drop, Some, None, ⊤}
 use Rattle.ipc_model.specs.declared.fault.Fault.{Fault}
 use Rattle.ipc_model.specs.declared.fault.Fault.TheVariants.{OutOfMemory, Truncated, MissingSchema, SecondSchema, UnknownDictionary}
 use Rattle.ipc_model.specs.declared.schema.Schema.{Schema}
@@ -8,7 +8,7 @@ use Rattle.ipc_meta.specs.declared.head.Head.TheVariants as h
 use Rattle.ipc_frame.specs.declared.frame.Frame.{Frame as Framed}
 use Rattle.ipc_frame.specs.declared.frame.Frame.TheVariants as f
 use Rattle.ipc_frame.specs.Frames.{Frame, Pending}
-use Rattle.ipc_frame.specs.Sees.{IsFrame, RefusesStart, HasMetadata}
+use Rattle.ipc_frame.specs.Sees.{IsFrame, RefusesStart, StatesNoHead}
 use Rattle.ipc_column.specs.Rows.{Refuses}
 use Rattle.ipc_stream.specs.Stream.{Open, State, Event, Run}
 
@@ -24,11 +24,11 @@ pub record BeginsWith (z : List ℕ) (frame : Framed) : Type 0 where
   pub within : len ≤ length z
   pub is : IsFrame (take len z) frame
 
--- in this state, the fault is true of the message that begins z; memory aside, and the metadata's own faults are not told apart
+-- in this state, the fault is true of the message that begins z; memory aside, and the causes for which metadata states no head are not told apart
 pub data Reason (σ : State) (z : List ℕ) (fault : Fault) : Type 0 where
   memory : fault ≡ OutOfMemory → Reason σ z fault
   start : RefusesStart z fault → Reason σ z fault
-  whole_metadata : HasMetadata z → Reason σ z fault
+  no_head : StatesNoHead z → Reason σ z fault
   truncated : (k : ℕ) → fault ≡ Truncated → Pending z k → Reason σ z fault
   no_schema : (frame : Framed) → fault ≡ MissingSchema → σ ≡ None → BeginsWith z frame → IsNoSchema frame → Reason σ z fault
   second_schema : (o : Open) (s : Schema) (n : ℕ) (metadata body : List ℕ) → fault ≡ SecondSchema → σ ≡ Some o → Frame (take n z) metadata (h.Schema s) body → Reason σ z fault

@@ -1,10 +1,10 @@
 -- What reading a part of a stream found.
-use Rattle.std.specs.Prelude.{◌≡◌, ℕ, ◌<◌, ◌≤◌, List, [], ◌∷◌, ◌++◌, length, take, Option, Some, None, map}
+use Rattle.std.specs.Prelude.{◌≡◌, ℕ, ◌<◌, ◌≤◌, List, [], ◌∷◌, length, take, Some, None, map}
 use Rattle.ipc_model.specs.WellFormed.{entries, max_fields}
 use Rattle.ipc_model.specs.declared.schema.Schema.{Schema}
 use Rattle.ipc_model.specs.declared.value.Value.{Value}
 use Rattle.ipc_meta.specs.Open.{are_open}
-use Rattle.std.specs.Prelude.{true, ⊤, Result, Ok, Err}
+use Rattle.std.specs.Prelude.{true, Result, Ok, Err}
 use Rattle.ipc_model.specs.declared.fault.Fault.{Fault}
 use Rattle.ipc_model.specs.declared.fault.Fault.TheVariants.{MissingSchema, SecondSchema, UnknownDictionary}
 use Rattle.ipc_stream.specs.Reasons.{IsNoSchema}
@@ -13,12 +13,17 @@ use Rattle.ipc_meta.specs.declared.head.Head.TheVariants as h
 use Rattle.ipc_frame.specs.declared.frame.Frame.{Frame as Framed}
 use Rattle.ipc_frame.specs.declared.frame.Frame.TheVariants as f
 use Rattle.ipc_column.specs.Rows.{Rows, Refuses}
+use Rattle.ipc_column.specs.Contents.{Contents}
 use Rattle.ipc_frame.specs.Frames.{eos}
-use Rattle.ipc_stream.specs.Stream.{Open, State, Event, schema, batch, Run, Denotes}
+use Rattle.ipc_stream.specs.Stream.{Open, schema, batch, Run, Denotes}
 use Rattle.ipc_stream.specs.declared.end.End.{End}
 use Rattle.ipc_stream.specs.declared.end.End.TheVariants.{Mark, Closed}
 use Rattle.ipc_stream.specs.declared.whole.Next.{Next}
 use Rattle.ipc_stream.specs.declared.whole.Next.TheVariants as next
+
+-- the rows of batches
+abbrev pub rows_of : List Contents → List (List (List Value))
+rows_of batches = map (λ b. b.rows) batches
 
 -- a schema whose columns are read
 pub record IsReadable (s : Schema) : Type 0 where
@@ -44,9 +49,9 @@ RefusesNext s (f.Message meta (h.Schema t) body) fault = fault ≡ SecondSchema
 RefusesNext s (f.Message meta (h.Dictionary id b) body) fault = fault ≡ UnknownDictionary
 RefusesNext s (f.Message meta (h.Batch b) body) fault = Refuses fault s.fields b body.items
 
--- a message of so many bytes with these rows, or the end mark, or neither
+-- a message of so many bytes with the rows of this batch, or the end mark, or neither
 abbrev pub BringsNext : Schema → Framed → ℕ → Result Next Fault → Type 0
-BringsNext s (f.Message meta head body) len (Ok (next.Batch rows n)) = (len ≡ n) × ((b : BatchHead) × (head ≡ h.Batch b) × Rows s.fields b body.items rows)
+BringsNext s (f.Message meta head body) len (Ok (next.Batch found n)) = (len ≡ n) × ((b : BatchHead) × (head ≡ h.Batch b) × Rows s.fields b body.items found.rows)
 BringsNext s f.End len (Ok (next.Ended Mark n)) = len ≡ n
 BringsNext s frame len (Err fault) = RefusesNext s frame fault
 BringsNext s frame len next = ⊥
@@ -58,7 +63,7 @@ IsEnd z Closed n = (n ≡ 0) × (z ≡ [])
 
 -- in this state, z begins with a batch, or it ends here
 abbrev pub FindsNext : Open → List ℕ → Next → Type 0
-FindsNext o z (next.Batch rows n) = (n ≤ length z) × (0 < n) × Run (Some o) (take n z) (batch rows ∷ []) (Some o)
+FindsNext o z (next.Batch found n) = (n ≤ length z) × (0 < n) × Run (Some o) (take n z) (batch found.rows ∷ []) (Some o)
 FindsNext o z (next.Ended end n) = (n ≤ length z) × IsEnd z end n
 
 -- the first n bytes are these messages

@@ -5,5 +5,4 @@ mod end;
 mod whole;
 
 pub use end::End;
-pub use whole::read_whole;
-
+pub use whole::{WholeStream, check_whole, read_whole};

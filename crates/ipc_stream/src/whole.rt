@@ -1,14 +1,13 @@
 ghost use Rattle.std.specs.Prelude.{◌≡◌, ◌≤◌, ◌<◌, ◌+◌, take, length, IfOk, IfErr, Some, None};
-ghost use Rattle.ipc_stream.specs.Whole.{IsReadable, FindsSchema, FindsNext, FindsTable, BringsSchema, BringsNext};
+ghost use Rattle.ipc_stream.specs.Whole.{IsReadable, FindsSchema, FindsNext, FindsTable, BringsSchema, BringsNext, rows_of};
 ghost use Rattle.ipc_stream.specs.Stream.{Denotes};
 ghost use Rattle.ipc_stream.specs.Reasons.{Reason, Refused};
-ghost use Rattle.ipc_column.specs.Rows.{Rows, Refuses};
 ghost use Rattle.ipc_stream.specs.declared.end.End.TheVariants.{Closed};
 
 use crate::end::End;
 use ipc_column::Batch;
 use ipc_frame::{Frame, Seen, next_frame};
-use ipc_meta::{BatchHead, Head};
+use ipc_meta::Head;
 use ipc_model::fault::Fault;
 use ipc_model::items::Items;
 use ipc_model::schema::Schema;
@@ -18,8 +17,8 @@ use std::alloc::Global;
 // What comes after the schema.
 #[derive(Drop)]
 enum Next {
-    // The rows of a batch, and how many bytes its message has.
-    Batch(Items<Row>, usize),
+    // A batch, and how many bytes its message has.
+    Batch(Batch, usize),
     // How the stream ends, and how many bytes its mark has.
     Ended(End, usize),
 }
@@ -48,20 +47,6 @@ fn read_schema(alloc: Global, bytes: &[u8]) -> Result<(Schema, usize), Fault>
     }
 }
 
-// The rows of a batch.
-fn read_rows(
-    alloc: Global,
-    schema: &Schema,
-    head: &BatchHead,
-    body: Vec<u8>,
-) -> Result<Items<Row>, Fault>
-    requires { IsReadable schema.now }
-    ensures rows { IfOk result (λ rows. Rows schema.now.fields head.now body.items rows) }
-    ensures refused { IfErr result (λ fault. Refuses fault schema.now.fields head.now body.items) }
-{
-    Batch::check(alloc, schema.fields.as_slice(), head, body)?.to_rows(alloc)
-}
-
 // What a frame behind the schema brings.
 fn next_of(alloc: Global, schema: &Schema, frame: Frame, len: usize) -> Result<Next, Fault>
     requires { IsReadable schema.now }
@@ -70,7 +55,10 @@ fn next_of(alloc: Global, schema: &Schema, frame: Frame, len: usize) -> Result<N
     match frame {
         Frame::End => Ok(Next::Ended(End::Mark, len)),
         Frame::Message { meta, head, body } => match head {
-            Head::Batch(batch) => Ok(Next::Batch(read_rows(alloc, schema, &batch, body)?, len)),
+            Head::Batch(head) => {
+                let batch = Batch::check(alloc, schema.fields.as_slice(), &head, body)?;
+                Ok(Next::Batch(batch, len))
+            }
             Head::Schema(_) => Err(Fault::SecondSchema),
             Head::Dictionary(_, _) => Err(Fault::UnknownDictionary),
         },
@@ -93,7 +81,7 @@ fn read_next(alloc: Global, schema: &Schema, bytes: &[u8]) -> Result<Next, Fault
 }
 
 // The number of the message behind the schema and these batches.
-fn next_number(batches: &[Items<Row>]) -> u64
+fn next_number(batches: &[Batch]) -> u64
     ensures { result ≡ length batches.now + 1 }
 {
     batches.len() as u64 + 1
@@ -105,9 +93,9 @@ fn read_batches(
     schema: &Schema,
     bytes: &[u8],
     start: usize,
-) -> Result<(Items<Items<Row>>, End, usize), (Fault, u64)>
+) -> Result<(Vec<Batch>, End, usize), (Fault, u64)>
     requires { FindsSchema bytes.now schema.now start }
-    ensures found { IfOk result (λ r. FindsTable bytes.now schema.now r.0 r.1 r.2) }
+    ensures found { IfOk result (λ r. FindsTable bytes.now schema.now (rows_of r.0.items) r.1 r.2) }
     ensures refused { IfErr result (λ e. Refused bytes.now e.0 e.1) }
 {
     let mut batches = Vec::new(alloc);
@@ -118,9 +106,9 @@ fn read_batches(
             Err(fault) => return Err((fault, next_number(batches.as_slice()))),
         };
         match next {
-            Next::Ended(end, len) => return Ok((Items::from_vec(batches), end, at + len)),
-            Next::Batch(rows, len) => {
-                if batches.push(rows).is_err() {
+            Next::Ended(end, len) => return Ok((batches, end, at + len)),
+            Next::Batch(batch, len) => {
+                if batches.push(batch).is_err() {
                     return Err((Fault::OutOfMemory, next_number(batches.as_slice())));
                 }
                 at += len;
@@ -129,17 +117,30 @@ fn read_batches(
     }
 }
 
-/// The table of a whole stream, how the stream ends, and how many bytes it has.
+/// A whole stream that was checked. Its batches lend their cells.
+#[derive(Debug, Drop)]
+pub struct WholeStream {
+    /// The schema of the first message.
+    pub schema: Schema,
+    /// The batches in order.
+    pub batches: Vec<Batch>,
+    /// How the stream ends.
+    pub end: End,
+    /// How many bytes it has, an end-of-stream mark included.
+    pub len: usize,
+}
+
+/// The schema and the batches of a whole stream, how it ends, and how many bytes it has.
 ///
 /// What stands behind an end-of-stream mark is left unread and not counted; without a mark the stream is all of `bytes`
 /// (Arrow Columnar Format, "IPC Streaming Format"). A refusal comes with the number of the message that it is true of,
 /// the schema's being 0: F1 to F3 for its first eight bytes, F4 where the input ends within it or before the schema,
 /// F5 to F9 and F12 to F24 for its metadata, F10, F11 and F25 for a message out of place, F26 to F31 for a batch's parts,
 /// and F37 where a list can't grow.
-pub fn read_whole(alloc: Global, bytes: &[u8]) -> Result<(Table, End, usize), (Fault, u64)>
-    ensures denotes { IfOk result (λ r. Denotes (take r.2 bytes.now) r.0 r.1) }
-    ensures within { IfOk result (λ r. r.2 ≤ length bytes.now) }
-    ensures closed { IfOk result (λ r. r.1 ≡ Closed → r.2 ≡ length bytes.now) }
+pub fn check_whole(alloc: Global, bytes: &[u8]) -> Result<WholeStream, (Fault, u64)>
+    ensures denotes { IfOk result (λ w. Denotes (take w.len bytes.now) (record { schema = w.schema; batches = rows_of w.batches.items }) w.end) }
+    ensures within { IfOk result (λ w. w.len ≤ length bytes.now) }
+    ensures closed { IfOk result (λ w. w.end ≡ Closed → w.len ≡ length bytes.now) }
     ensures refused { IfErr result (λ e. Refused bytes.now e.0 e.1) }
 {
     let (schema, start) = match read_schema(alloc, bytes) {
@@ -147,5 +148,42 @@ pub fn read_whole(alloc: Global, bytes: &[u8]) -> Result<(Table, End, usize), (F
         Err(fault) => return Err((fault, 0)),
     };
     let (batches, end, len) = read_batches(alloc, &schema, bytes, start)?;
-    Ok((Table { schema, batches }, end, len))
+    Ok(WholeStream {
+        schema,
+        batches,
+        end,
+        len,
+    })
+}
+
+// The rows of batches.
+fn rows_in(alloc: Global, batches: &[Batch]) -> Result<Items<Items<Row>>, Fault>
+    ensures rows { IfOk result (λ all. all ≡ rows_of batches.now) }
+    ensures memory { IfErr result (λ fault. fault ≡ Fault.OutOfMemory) }
+{
+    let mut all = Vec::with_capacity(alloc, batches.len())?;
+    for batch in batches {
+        all.push(batch.to_rows(alloc)?)?;
+    }
+    Ok(Items::from_vec(all))
+}
+
+/// The table of a whole stream, how the stream ends, and how many bytes it has: what `check_whole` finds, with rows of their
+/// own. It refuses what `check_whole` refuses, and with F37 at message 0 where a row finds no room.
+pub fn read_whole(alloc: Global, bytes: &[u8]) -> Result<(Table, End, usize), (Fault, u64)>
+    ensures denotes { IfOk result (λ r. Denotes (take r.2 bytes.now) r.0 r.1) }
+    ensures within { IfOk result (λ r. r.2 ≤ length bytes.now) }
+    ensures closed { IfOk result (λ r. r.1 ≡ Closed → r.2 ≡ length bytes.now) }
+    ensures refused { IfErr result (λ e. Refused bytes.now e.0 e.1) }
+{
+    let WholeStream {
+        schema,
+        batches,
+        end,
+        len,
+    } = check_whole(alloc, bytes)?;
+    match rows_in(alloc, &batches) {
+        Ok(batches) => Ok((Table { schema, batches }, end, len)),
+        Err(fault) => Err((fault, 0)),
+    }
 }

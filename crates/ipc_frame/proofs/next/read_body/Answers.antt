@@ -1,6 +1,6 @@
-use Rattle.std.proofs.Common.{◌≡◌, ◌∙◌, refl, sym, ap, inl, inr, arith, subst}
+use Rattle.std.proofs.Common.{refl, inr, arith}
 use Rattle.std.proofs.lemmas.Result.{err_from_is_err_and}
-use Rattle.ipc_frame.specs.Frames.{in_metadata, Frame}
+use Rattle.ipc_frame.specs.Frames.{in_metadata}
 use Rattle.ipc_frame.proofs.Wholes.{whole_message, body_short}
 use Rattle.ipc_frame.proofs.next.read_body.Goals as goal
 
@@ -10,7 +10,7 @@ returns-then-bytes-start c = in_metadata (omega arith) (omega arith) c.requires
 pub returns-in_err-head : goal.returns-in_err-head
 returns-in_err-head c =
     let p = err_from_is_err_and c.from_residual.result c.from_residual.ensures.1 in
-    rw (p.1, p.2) (λ ne. inr (record { size = c.args.size; begins = c.requires; whole = omega arith }))
+    rw (p.1, p.2) (λ ne. inr (record { size = c.args.size; begins = c.requires; whole = omega arith; none = λ head m h. ne (c.in_err-head.ensures.only head m h) }))
 
 pub returns-then-bytes-end : goal.returns-then-bytes-end
 returns-then-bytes-end c = body_short _ _ _ _ _ c.requires (omega arith) (omega arith) (omega arith) c.in_ok-head.ensures.found

@@ -1,4 +1,4 @@
-use Rattle.std.proofs.Common.{subst, refl, sym, ap, ◌∙◌, Ok, Err, None}
+use Rattle.std.proofs.Common.{subst, refl, Ok, None}
 use Rattle.std.proofs.lemmas.Result.{err_from_is_err_and}
 use Rattle.ipc_frame.specs.Sees.{Sees}
 use Rattle.ipc_stream.specs.Reasons.{truncated}
