@@ -72,7 +72,7 @@ refuses_from fault.OutOfMemory fields head body r = tt
 refuses_from _ fields head body r = absurd r
 
 -- and then there are no rows
-no_rows : (f : Fault) (fields : List Field) (head : BatchHead) (body : List ℕ) (rows : List (List Value)) → Refuses f fields head body → Rows fields head body rows → f ≡ fault.OutOfMemory
+pub no_rows : (f : Fault) (fields : List Field) (head : BatchHead) (body : List ℕ) (rows : List (List Value)) → Refuses f fields head body → Rows fields head body rows → f ≡ fault.OutOfMemory
 no_rows fault.OutOfMemory fields head body rows r w = refl
 no_rows fault.WrongNodeCount fields head body rows r w = absurd (r w.nodes)
 no_rows fault.WrongBufferCount fields head body rows r w = absurd (r w.buffers)

@@ -1,1 +1,3 @@
 pub mod Wholes
+pub mod OneFrame
+pub mod Decided

@@ -1,3 +1,4 @@
 pub mod Frames
 pub mod Sees
 pub mod Starts
+pub mod Laws

@@ -1,5 +1,5 @@
 -- What stands at the front of some bytes.
-use Rattle.std.specs.Prelude.{◌≡◌, ◌≢◌, ℕ, ◌+◌, ◌≤◌, pos, List, length, take, Result, Ok, Err, ◌⊎◌, int_lt, true, slice_range}
+use Rattle.std.specs.Prelude.{◌≡◌, ◌≢◌, ℕ, ◌+◌, ◌<◌, ◌≤◌, pos, List, length, take, Result, Ok, Err, ◌⊎◌, int_lt, true, slice_range}
 use Rattle.ipc_meta.specs.declared.head.Head.{Head}
 use Rattle.ipc_meta.specs.Heads.{HeadOf}
 use Rattle.ipc_scalar.specs.Bytes.{int32}
@@ -28,6 +28,7 @@ RefusesStart z fault = ⊥
 pub record StatesNoHead (z : List ℕ) : Type 0 where
   pub size : ℕ
   pub begins : Begins z size
+  pub some : 0 < size
   pub whole : 8 + size ≤ length z
   pub none : (head : Head) (m : ℕ) → HeadOf (slice_range z 8 (8 + size)) head m → ⊥
 

@@ -1,5 +1,5 @@
 -- What the first eight bytes say.
-use Rattle.std.specs.Prelude.{◌≡◌, ℕ, ◌≤◌, List, length, take, Result, Ok, Err}
+use Rattle.std.specs.Prelude.{◌≡◌, ℕ, ◌<◌, ◌≤◌, List, length, take, Result, Ok, Err}
 use Rattle.ipc_model.specs.declared.fault.Fault.{Fault}
 use Rattle.ipc_frame.specs.Frames.{eos, Begins, Pending}
 use Rattle.ipc_frame.specs.Sees.{RefusesStart}
@@ -9,5 +9,5 @@ use Rattle.ipc_frame.specs.declared.next.Start.TheVariants.{Short, End, Metadata
 abbrev pub Starts : List ℕ → Result Start Fault → Type 0
 Starts z (Ok (Short k)) = Pending z k
 Starts z (Ok End) = (8 ≤ length z) × (take 8 z ≡ eos)
-Starts z (Ok (Metadata n)) = Begins z n
+Starts z (Ok (Metadata n)) = Begins z n × (0 < n)
 Starts z (Err fault) = RefusesStart z fault

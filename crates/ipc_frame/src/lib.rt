@@ -2,6 +2,7 @@
 #![tactic(auto)]
 
 mod frame;
+pub mod laws;
 mod next;
 
 pub use frame::{Frame, Seen};

@@ -1,4 +1,4 @@
-ghost use Rattle.std.specs.Prelude.{◌≡◌, ◌↔◌, ◌≤◌, ◌+◌, IsTrue, length, take};
+ghost use Rattle.std.specs.Prelude.{◌≡◌, ◌↔◌, ◌<◌, ◌≤◌, ◌+◌, IsTrue, length, take};
 ghost use Rattle.ipc_frame.specs.Sees.{Sees};
 ghost use Rattle.ipc_frame.specs.Starts.{Starts};
 ghost use Rattle.ipc_frame.specs.Frames.{Begins};
@@ -57,7 +57,8 @@ fn read_start(bytes: &[u8]) -> Result<Start, Fault>
 
 // The message behind a start, whose metadata has so many bytes.
 fn read_body(alloc: Global, bytes: &[u8], size: usize) -> Result<Seen, Fault>
-    requires { Begins bytes.now size }
+    requires begins { Begins bytes.now size }
+    requires some { 0 < size }
     ensures { Sees bytes.now result }
 {
     let start = 8 + size;

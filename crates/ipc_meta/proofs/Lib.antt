@@ -5,3 +5,4 @@ pub mod Numbers
 pub mod Opens
 pub mod Complete
 pub mod Unique
+pub mod Empty

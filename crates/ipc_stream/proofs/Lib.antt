@@ -1,2 +1,4 @@
 pub mod Runs
 pub mod Wholes
+pub mod OneReading
+pub mod Complete

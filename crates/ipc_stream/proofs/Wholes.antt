@@ -145,3 +145,6 @@ refused_later z s bs n k e before count reason = record {
   number = omega (arith, count, length-map (rows_of bs) batch, length-map bs (λ (c : Contents). c.rows));
   reason = reason;
 }
+
+pub not_empty : (b : Bool) → b ≡ false → b ≡ true → ⊥
+not_empty b e f = let bad : true ≡ false = sym f ∙ e in cc

@@ -1,3 +1,4 @@
 pub mod Stream
 pub mod Reasons
 pub mod Whole
+pub mod Laws

@@ -1,5 +1,5 @@
 -- Why a stream is refused.
-use Rattle.std.specs.Prelude.{◌≡◌, ℤ, ℕ, ◌≤◌, List, length, take, drop, Some, None, ⊤}
+use Rattle.std.specs.Prelude.{◌≢◌, ◌⊎◌, [], ◌≡◌, ℤ, ℕ, ◌≤◌, List, length, take, drop, Some, None, ⊤}
 use Rattle.ipc_model.specs.declared.fault.Fault.{Fault}
 use Rattle.ipc_model.specs.declared.fault.Fault.TheVariants.{OutOfMemory, Truncated, MissingSchema, SecondSchema, UnknownDictionary}
 use Rattle.ipc_model.specs.declared.schema.Schema.{Schema}
@@ -29,7 +29,7 @@ pub data Reason (σ : State) (z : List ℕ) (fault : Fault) : Type 0 where
   memory : fault ≡ OutOfMemory → Reason σ z fault
   start : RefusesStart z fault → Reason σ z fault
   no_head : StatesNoHead z → Reason σ z fault
-  truncated : (k : ℕ) → fault ≡ Truncated → Pending z k → Reason σ z fault
+  truncated : (k : ℕ) → fault ≡ Truncated → Pending z k → (σ ≡ None) ⊎ (z ≢ []) → Reason σ z fault
   no_schema : (frame : Framed) → fault ≡ MissingSchema → σ ≡ None → BeginsWith z frame → IsNoSchema frame → Reason σ z fault
   second_schema : (o : Open) (s : Schema) (n : ℕ) (metadata body : List ℕ) → fault ≡ SecondSchema → σ ≡ Some o → Frame (take n z) metadata (h.Schema s) body → Reason σ z fault
   dictionary : (o : Open) (b : BatchHead) (n : ℕ) (metadata body : List ℕ) → fault ≡ UnknownDictionary → σ ≡ Some o → (id : ℤ) → Frame (take n z) metadata (h.Dictionary id b) body → Reason σ z fault

@@ -2,6 +2,7 @@
 #![tactic(auto)]
 
 mod end;
+pub mod laws;
 mod whole;
 
 pub use end::End;

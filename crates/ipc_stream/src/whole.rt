@@ -1,4 +1,6 @@
-ghost use Rattle.std.specs.Prelude.{◌≡◌, ◌≤◌, ◌<◌, ◌+◌, take, length, IfOk, IfErr, Some, None};
+ghost use Rattle.std.specs.Prelude.{◌≡◌, ◌≤◌, ◌<◌, ◌+◌, ◌++◌, ℕ, List, [], take, length, IfOk, IfErr, MatchResult, Some, None};
+ghost use Rattle.ipc_model.specs.declared.table.Table.{Table};
+ghost use Rattle.ipc_stream.specs.declared.end.End.{End};
 ghost use Rattle.ipc_stream.specs.Whole.{IsReadable, FindsSchema, FindsNext, FindsTable, BringsSchema, BringsNext, rows_of};
 ghost use Rattle.ipc_stream.specs.Stream.{Denotes};
 ghost use Rattle.ipc_stream.specs.Reasons.{Reason, Refused};
@@ -142,6 +144,8 @@ pub fn check_whole(alloc: Global, bytes: &[u8]) -> Result<WholeStream, (Fault, u
     ensures within { IfOk result (λ w. w.len ≤ length bytes.now) }
     ensures closed { IfOk result (λ w. w.end ≡ Closed → w.len ≡ length bytes.now) }
     ensures refused { IfErr result (λ e. Refused bytes.now e.0 e.1) }
+    // Where a beginning of the bytes denotes a table with the mark, or all of them denote one without, that one is answered, unless memory runs out.
+    ensures only { (x rest : List ℕ) (t : Table) (end : End) → bytes.now ≡ x ++ rest → Denotes x t end → (end ≡ Closed → rest ≡ []) → MatchResult result (λ w. (record { schema = w.schema; batches = rows_of w.batches.items } ≡ t) × (w.end ≡ end)) (λ e. e.0 ≡ Fault.OutOfMemory) }
 {
     let (schema, start) = match read_schema(alloc, bytes) {
         Ok(first) => first,
@@ -175,6 +179,8 @@ pub fn read_whole(alloc: Global, bytes: &[u8]) -> Result<(Table, End, usize), (F
     ensures within { IfOk result (λ r. r.2 ≤ length bytes.now) }
     ensures closed { IfOk result (λ r. r.1 ≡ Closed → r.2 ≡ length bytes.now) }
     ensures refused { IfErr result (λ e. Refused bytes.now e.0 e.1) }
+    // Where a beginning of the bytes denotes a table with the mark, or all of them denote one without, that one is answered, unless memory runs out.
+    ensures only { (x rest : List ℕ) (t : Table) (end : End) → bytes.now ≡ x ++ rest → Denotes x t end → (end ≡ Closed → rest ≡ []) → MatchResult result (λ r. (r.0 ≡ t) × (r.1 ≡ end)) (λ e. e.0 ≡ Fault.OutOfMemory) }
 {
     let WholeStream {
         schema,

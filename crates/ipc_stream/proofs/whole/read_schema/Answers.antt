@@ -1,4 +1,4 @@
-use Rattle.std.proofs.Common.{subst, refl, Ok, None}
+use Rattle.std.proofs.Common.{inl, subst, refl, Ok, None}
 use Rattle.std.proofs.lemmas.Result.{err_from_is_err_and}
 use Rattle.ipc_frame.specs.Sees.{Sees}
 use Rattle.ipc_stream.specs.Reasons.{truncated}
@@ -13,7 +13,7 @@ returns-in_err-next_frame c =
 pub returns-in-Short : goal.returns-in-Short
 returns-in-Short c =
     let seen = subst (λ s. Sees c.args.bytes.now (Ok s)) c.in-Short.is c.in_ok-next_frame.ensures in
-    record { found = tt; refused = truncated _ refl seen }
+    record { found = tt; refused = truncated _ refl seen (inl refl) }
 
 pub returns-in_err-schema_of-in-Whole : goal.returns-in_err-schema_of-in-Whole
 returns-in_err-schema_of-in-Whole c =

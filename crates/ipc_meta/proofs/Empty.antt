@@ -1,0 +1,10 @@
+-- Empty metadata states nothing.
+use Rattle.std.proofs.Common.{◌≡◌, ℕ, List, []}
+use Rattle.ipc_scalar.specs.Flat.{points, table_of}
+use Rattle.ipc_flat.specs.Views.{table_from}
+use Rattle.ipc_meta.specs.declared.head.Head.{Head}
+use Rattle.ipc_meta.specs.Heads.{HeadOf}
+
+pub no_metadata : (g : Head) (m : ℕ) → HeadOf [] g m → ⊥
+unfolding table_from table_of points
+no_metadata g m s = let bad = s.stands in cc

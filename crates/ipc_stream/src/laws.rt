@@ -1,0 +1,11 @@
+ghost use Rattle.ipc_stream.specs.Laws.{NoneBegins, OneTable};
+
+/// The law: bytes denote one table with one end at most (Arrow Columnar Format, "IPC Streaming Format").
+pub fn one_table()
+    ensures { OneTable }
+{}
+
+/// The law: bytes that denote a table with the end-of-stream mark begin no longer bytes that denote one.
+pub fn none_begins()
+    ensures { NoneBegins }
+{}
