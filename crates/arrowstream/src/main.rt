@@ -1,24 +1,23 @@
 //! The command `arrowstream`: `arrowstream show < STREAM` prints each row of an Arrow IPC stream as a JSON array.
 #![tactic(auto)]
 
-mod input;
+mod digits;
 mod rows;
 mod run;
 #[cfg(test)]
 mod tests;
+mod types;
 
 use run::run;
+use std::env::Args;
 use std::process::ExitCode;
-use std::rt::Env;
 use std::{env, io};
 
 const USAGE: &str = "usage: arrowstream show < STREAM";
 
-// Whether the words after the program's name are the one job that it does.
-fn asks_to_show(rt: &(impl Env + AllocGlobal)) -> bool {
-    let Ok(mut words) = env::args(rt) else {
-        return false;
-    };
+// Whether the words, of which the first is the program's name, are the one job that it does.
+fn ask_to_show(words: Args) -> bool {
+    let mut words = words;
     let _program = words.next();
     let Some(job) = words.next() else {
         return false;
@@ -27,7 +26,15 @@ fn asks_to_show(rt: &(impl Env + AllocGlobal)) -> bool {
 }
 
 fn main(rt: HostRuntime) -> ExitCode {
-    if !asks_to_show(&rt) {
+    let is_show = match env::args(&rt) {
+        Ok(words) => ask_to_show(words),
+        Err(error) if error.kind() == io::ErrorKind::OutOfMemory => {
+            let _ = rt.eprintln("out of memory");
+            return ExitCode::from(4);
+        }
+        Err(_) => false,
+    };
+    if !is_show {
         let _ = rt.eprintln(USAGE);
         return ExitCode::from(2);
     }

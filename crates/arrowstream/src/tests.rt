@@ -1,7 +1,5 @@
+use crate::digits::{put_i64, put_u64};
 use crate::run::run;
-use ipc_model::fault::Fault;
-use ipc_model::value::Value;
-use ipc_stream::{End, read_whole};
 use std::alloc::Global;
 use std::io;
 use std::io::{Read, Write};
@@ -10,185 +8,6 @@ use std::test::Fail;
 mod vectors;
 
 use vectors::{NO_FIELDS, NULLS_64, NUMBERS_32, NUMBERS_64, THREE_EMPTY_ROWS};
-
-// The numbers of a stream's only batch with one column, where it is read: how many batches there are, and each
-// number with whether it is there.
-fn numbers(alloc: Global, bytes: &[u8]) -> Result<Vec<(bool, i64)>, Fault> {
-    let mut all = Vec::new(alloc);
-    let table = match read_whole(alloc, bytes) {
-        Ok((table, _, _)) => table,
-        Err((fault, _)) => return Err(fault),
-    };
-    for batch in table.batches.as_slice() {
-        for row in batch.as_slice() {
-            for value in row.as_slice() {
-                match value {
-                    Value::Int(number) => all.push((true, *number))?,
-                    _ => all.push((false, 0))?,
-                }
-            }
-        }
-    }
-    Ok(all)
-}
-
-// How a stream is read: its end and how many bytes it has, or the fault and the number of the message.
-fn verdict(alloc: Global, bytes: &[u8]) -> Result<(End, usize), (Fault, u64)> {
-    match read_whole(alloc, bytes) {
-        Ok((_, end, count)) => Ok((end, count)),
-        Err(fault) => Err(fault),
-    }
-}
-
-#[test]
-fn reads_numbers(rt: HostRuntime) {
-    let alloc = rt.alloc();
-    let wanted = [(true, 1), (true, -2), (true, i64::MAX)];
-    assert_eq!(rt;
-        numbers(alloc, &NUMBERS_64).expect(&rt, "read").as_slice(),
-        wanted.as_slice()
-    );
-    assert_eq!(rt; verdict(alloc, &NUMBERS_64), Ok((End::Mark, 288)));
-    let wanted = [(true, 1), (false, 0), (true, -1)];
-    assert_eq!(rt;
-        numbers(alloc, &NULLS_64).expect(&rt, "read").as_slice(),
-        wanted.as_slice()
-    );
-}
-
-#[test]
-fn reads_ends(rt: HostRuntime) {
-    let alloc = rt.alloc();
-    assert_eq!(rt; verdict(alloc, &NO_FIELDS), Ok((End::Mark, 56)));
-    assert_eq!(rt; verdict(alloc, &NO_FIELDS[..48]), Ok((End::Closed, 48)));
-    assert_eq!(rt; verdict(alloc, &THREE_EMPTY_ROWS), Ok((End::Mark, 120)));
-    for end in [0, 3, 4, 7, 8, 47] {
-        assert_eq!(rt;
-            verdict(alloc, &NO_FIELDS[..end]),
-            Err((Fault::Truncated, 0)),
-            "the first {end} bytes"
-        );
-    }
-}
-
-#[test]
-fn leaves_what_follows(rt: HostRuntime) -> Result<(), Fail> {
-    let alloc = rt.alloc();
-    let mut bytes = Vec::from_slice(alloc, &NO_FIELDS)?;
-    bytes.extend_from_slice(b"AB")?;
-    assert_eq!(rt; verdict(alloc, &bytes), Ok((End::Mark, 56)));
-    Ok(())
-}
-
-#[test]
-fn refuses_the_first_eight_bytes(rt: HostRuntime) {
-    let alloc = rt.alloc();
-    let cases = [
-        ([255, 255, 255, 255, 0, 0, 0, 0], Fault::MissingSchema),
-        ([40, 0, 0, 0, 0, 0, 0, 0], Fault::NotContinued),
-        (
-            [255, 255, 255, 255, 255, 255, 255, 255],
-            Fault::BadMetadataLength,
-        ),
-        ([255, 255, 255, 255, 1, 0, 0, 1], Fault::MetadataTooLong),
-    ];
-    for (bytes, fault) in cases {
-        assert_eq!(rt; verdict(alloc, &bytes), Err((fault, 0)));
-    }
-    assert_eq!(rt;
-        verdict(alloc, &[40, 0, 0, 0]),
-        Err((Fault::NotContinued, 0))
-    );
-    assert_eq!(rt;
-        verdict(alloc, &NUMBERS_32),
-        Err((Fault::UnsupportedType(2), 0))
-    );
-}
-
-#[test]
-fn refuses_a_second_schema(rt: HostRuntime) -> Result<(), Fail> {
-    let alloc = rt.alloc();
-    let mut bytes = Vec::from_slice(alloc, &NO_FIELDS[..48])?;
-    bytes.extend_from_slice(&NO_FIELDS)?;
-    assert_eq!(rt; verdict(alloc, &bytes), Err((Fault::SecondSchema, 1)));
-    Ok(())
-}
-
-#[test]
-fn reads_each_beginning(rt: HostRuntime) {
-    let alloc = rt.alloc();
-    for end in 0..NUMBERS_64.len() {
-        let seen = verdict(alloc, &NUMBERS_64[..end]);
-        if end == 120 || end == 280 {
-            assert_eq!(rt; seen, Ok((End::Closed, end)));
-        } else {
-            assert_eq!(rt;
-                seen,
-                Err((
-                    Fault::Truncated,
-                    if end < 120 {
-                        0
-                    } else if end < 280 {
-                        1
-                    } else {
-                        2
-                    }
-                )),
-                "the first {end} bytes"
-            );
-        }
-    }
-}
-
-// The numbers that a body of three states.
-fn body_numbers(body: &[u8]) -> [(bool, i64); 3] {
-    let mut all = [(true, 0); 3];
-    for (number, bytes) in all.iter_mut().zip(body.as_chunks::<8>().0) {
-        *number = (true, i64::from_le_bytes(*bytes));
-    }
-    all
-}
-
-// A stream of numbers with one byte changed.
-fn changed(at: usize, byte: u8) -> [u8; 288] {
-    let mut bytes = NUMBERS_64;
-    if let Some(place) = bytes.get_mut(at) {
-        *place = byte;
-    }
-    bytes
-}
-
-// The numbers that a stream of 288 bytes states, whose body has its usual place: none where the end mark comes before
-// it.
-fn stated(bytes: &[u8; 288]) -> ([(bool, i64); 3], usize) {
-    let ends_early = bytes[120..128] == bytes[280..288];
-    (
-        body_numbers(&bytes[256..280]),
-        if ends_early { 0 } else { 3 },
-    )
-}
-
-// Each byte set to a few others: the call returns, and what is accepted has the numbers that it states.
-#[test]
-fn reads_changed_bytes(rt: HostRuntime) {
-    let alloc = rt.alloc();
-    let mut accepted = 0u32;
-    for at in 0..288 {
-        for byte in [0x00, 0x01, 0x7f, 0x80, 0xff] {
-            let bytes = changed(at, byte);
-            let Ok(seen) = numbers(alloc, &bytes) else {
-                continue;
-            };
-            let (wanted, count) = stated(&bytes);
-            assert_eq!(rt; seen.len(), count, "byte {at} set to {byte}");
-            for (number, other) in seen.iter().zip(wanted) {
-                assert_eq!(rt; *number, other, "byte {at} set to {byte}");
-            }
-            accepted = accepted.saturating_add(1);
-        }
-    }
-    assert!(rt; accepted > 100);
-}
 
 // What `show` answers and prints, over memory.
 fn shown(alloc: Global, bytes: &[u8]) -> (u8, Vec<u8>, Vec<u8>) {
@@ -259,4 +78,48 @@ fn tells_a_failed_device(rt: HostRuntime) {
     assert_eq!(rt; messages.as_slice(), b"W9 Write\n".as_slice());
     let (status, _, _) = run(alloc, NUMBERS_32.as_slice(), Vec::new(alloc), Broken);
     assert_eq!(rt; status, 1);
+}
+
+// Whether a number, and half of it below zero, are shown as the library shows them.
+fn shows_number(alloc: Global, number: u64) -> Result<bool, Fail> {
+    let mut text = [0; 32];
+    let end = put_u64(&mut text, 0, number).min(32);
+    let half = -(i64::try_from(number / 2).unwrap_or(0));
+    let mut below = [0; 32];
+    let half_end = put_i64(&mut below, 0, half).min(32);
+    Ok(
+        &text[..end] == format!(in alloc; "{number}")?.as_bytes()
+            && &below[..half_end] == format!(in alloc; "{half}")?.as_bytes(),
+    )
+}
+
+#[test]
+fn shows_numbers_of_each_length(rt: HostRuntime) -> Result<(), Fail> {
+    let alloc = rt.alloc();
+    let mut power = 1u64;
+    for _ in 0..20 {
+        for number in [power.saturating_sub(1), power, power.saturating_add(1)] {
+            assert!(rt; shows_number(alloc, number)?, "{number}");
+        }
+        power = power.saturating_mul(10);
+    }
+    let mut number = 1u64;
+    for shift in 0..2_000u32 {
+        number = number
+            .wrapping_mul(6_364_136_223_846_793_005)
+            .wrapping_add(1);
+        assert!(rt; shows_number(alloc, number >> (shift % 64))?, "{number}");
+    }
+    Ok(())
+}
+
+#[test]
+fn shows_the_ends_of_the_range(rt: HostRuntime) {
+    let mut text = [0; 32];
+    let end = put_u64(&mut text, 0, u64::MAX).min(32);
+    assert_eq!(rt; &text[..end], b"18446744073709551615".as_slice());
+    let end = put_i64(&mut text, 0, i64::MIN).min(32);
+    assert_eq!(rt; &text[..end], b"-9223372036854775808".as_slice());
+    let end = put_i64(&mut text, 0, 0).min(32);
+    assert_eq!(rt; &text[..end], b"0".as_slice());
 }

@@ -1,20 +1,25 @@
 -- Each test says what the standard asks.
-use Rattle.std.proofs.Common.{◌≡◌, refl, ap, ℕ, zero, suc, ◌+◌, ◌<◌, ◌≤◌, Bool, true, false, cond, not, List, length, arith, le-leb}
+use Rattle.std.proofs.Common.{◌≡◌, refl, ap, ℕ, zero, suc, ◌+◌, ◌*◌, ◌/◌, ◌<◌, ◌≤◌, Bool, true, false, cond, not, List, length, arith, le-leb}
 use Rattle.std.specs.Prelude.{◌&&◌, ◌||◌, ◌==◌, nat_le, ◌^◌, ℤ, ◌+ℤ◌, pos, negsuc, int_le, int_lt, ◌≤ℤ◌, ◌<ℤ◌, unsigned_abs, T}
 use Rattle.std.specs.Bool.{Decides}
 use Rattle.std.proofs.lemmas.Bool.{and_parts, and_from, ne_eqb, leb-true}
 use Rattle.std.proofs.lemmas.Bool.Decides.{nat_tests, Decides-eqb, Decides-and, Decides-at, Decides-like, Decides-by_and}
 use Rattle.std.proofs.lemmas.Int.{ints}
+use Rattle.std.proofs.lemmas.Str.{IsUtf8-from_is_utf8, is_utf8-from_IsUtf8}
 use Rattle.ipc_model.specs.declared.schema.Field.{Field}
 use Rattle.ipc_meta.specs.declared.head.BatchHead.{BatchHead}
 use Rattle.ipc_column.specs.declared.layout.Layout.{Layout}
-use Rattle.ipc_column.specs.declared.layout.Layout.TheVariants.{Signed64, Unread}
+use Rattle.ipc_column.specs.declared.layout.Layout.TheVariants as l
+use Rattle.ipc_column.specs.Layouts.{number_bytes, has_validity}
 use Rattle.ipc_column.specs.declared.cause.Cause.{Cause}
 use Rattle.ipc_column.specs.declared.cause.Cause.TheVariants as cause
 use Rattle.ipc_column.specs.Columns.{Column, Columns, none, column, Each, EachTop, every, every_top}
 use Rattle.ipc_column.specs.Shapes.{shape_of, columns_of}
-use Rattle.ipc_column.specs.Facts.{HasNodes, HasBuffers, HasLengths, HasRanges, HasBytes, HasNullCounts, IsSlotCount, IsNode, LiesIn, HoldValues, IsLongEnough, CountsNulls}
-use Rattle.ipc_column.specs.Tests.{is_slot_count, is_node, lies_in, all, holds_values, passes, top_passes, fits}
+use Rattle.ipc_column.specs.Facts.{HasNodes, HasBuffers, HasLengths, HasRanges, HasBytes, HasNullCounts, HasOrder, HasTexts, IsSlotCount, IsNode, LiesIn, HoldValues, HoldOffsets, IsLongEnough, CountsNulls, AreOffsets, HasOffsets, IsText, SpellsTexts}
+use Rattle.ipc_column.specs.Tests.{is_slot_count, is_node, lies_in, all, all_below, holds_values, holds_offsets, rises, climbs, in_order, is_text, is_good, passes, top_passes, fits}
+use Rattle.ipc_column.specs.Values.{offset, place, is_valid}
+use Rattle.ipc_column.proofs.Below.{decides_below}
+use Rattle.ipc_column.proofs.Slices.{above}
 
 -- ---- numbers
 
@@ -36,6 +41,9 @@ of_node : (n : ℤ × ℤ) → Decides (is_node n) (IsNode n)
 of_node n =
     Decides-like (is_node n) (λ p. record { slots = p.0; nulls_from = p.1.0; nulls_to = p.1.1 }) (λ h. (h.slots, (h.nulls_from, h.nulls_to)))
     (Decides-and _ _ (of_slot_count n.0) (Decides-and _ _ (of_le (pos 0) n.1) (of_le n.1 n.0)))
+
+pub of_bound : (least most : ℕ) → Decides (nat_le least most) (least ≤ most)
+of_bound least most = (λ e. leb-true least most e, λ h. le-leb least most h)
 
 -- a bound that counts only where there is something
 of_least : (n least most : ℕ) → Decides (n == 0 || nat_le least most) (0 < n → least ≤ most)
@@ -65,16 +73,29 @@ of_range size r = (
 -- ---- columns
 
 of_values : (l : Layout) (n bytes : ℕ) → Decides (holds_values l n bytes) (HoldValues l n bytes)
-of_values Signed64 n bytes = (λ e. grind (arith, nat_tests), λ h. grind (arith, nat_tests))
-of_values Unread n bytes = (λ e. tt, λ h. refl)
+of_values l.Bits n bytes = of_bound ((n + 7) / 8) bytes
+of_values (l.Numbers bits signed) n bytes = of_bound (number_bytes bits * n) bytes
+of_values (l.FixedBytes width) n bytes = of_bound (width * n) bytes
+of_values _ n bytes = (λ e. tt, λ h. refl)
+
+-- a test of what there is, where there is something
+pub of_some : {P : Type 0} (n : ℕ) (b : Bool) → Decides b P → Decides (n == 0 || b) (0 < n → P)
+of_some zero b d = (λ e l. absurd (omega arith), λ h. refl)
+of_some (suc n) b d =
+    let some : (suc n == 0) ≡ false = ne_eqb (suc n) 0 (omega arith) in
+    Decides-at _ b (rw some refl) (Decides-like b (λ f l. f) (λ h. h (omega arith)) d)
+
+of_offsets_bytes : (l : Layout) (n bytes : ℕ) → Decides (holds_offsets l n bytes) (HoldOffsets l n bytes)
+of_offsets_bytes (l.VariableBytes utf8) n bytes = of_some n _ (of_bound (4 * (n + 1)) bytes)
+of_offsets_bytes _ n bytes = (λ e. tt, λ h. refl)
 
 of_bytes : (c : Column) → Decides (passes cause.BufferTooShort c) (IsLongEnough c)
 of_bytes c =
-    Decides-like (passes cause.BufferTooShort c) (λ p. record { bitmap = p.0; values = p.1 }) (λ h. (h.bitmap, h.values))
-    (Decides-and _ _ (of_least (length c.validity) _ (length c.validity)) (of_values c.layout c.slots (length c.values)))
+    Decides-like (passes cause.BufferTooShort c) (λ p. record { bitmap = p.0; values = p.1.0; offsets = p.1.1 }) (λ h. (h.bitmap, (h.values, h.offsets)))
+    (Decides-and _ _ (of_least (length c.validity) _ (length c.validity)) (Decides-and _ _ (of_values c.layout c.slots (length c.values)) (of_offsets_bytes c.layout c.slots (length c.offsets))))
 
 -- one test where another holds
-of_when : {P Q : Type 0} (x y : Bool) → Decides x P → Decides y Q → Decides (not x || y) (P → Q)
+pub of_when : {P Q : Type 0} (x y : Bool) → Decides x P → Decides y Q → Decides (not x || y) (P → Q)
 of_when true y p q = (λ e h. q.0 e, λ f. q.1 (f (p.0 refl)))
 of_when false y p q = (λ e h. let z : false ≡ true = p.1 h in absurd (cc), λ f. refl)
 
@@ -82,14 +103,51 @@ of_nulls : (nulls bytes least clear : ℕ) → Decides (not (bytes == 0 || nat_l
 of_nulls nulls zero least clear = Decides-like (nulls == 0) (λ e. (λ l m. absurd (omega arith), λ z. e)) (λ h. h.1 refl) (Decides-eqb nulls 0)
 of_nulls nulls (suc bytes) least clear =
     let some : (suc bytes == 0) ≡ false = ne_eqb (suc bytes) 0 (omega arith) in
-    let long : Decides (nat_le least (suc bytes)) (least ≤ suc bytes) = (λ e. leb-true least (suc bytes) e, λ l. le-leb least (suc bytes) l) in
     Decides-at _ (not (nat_le least (suc bytes)) || (nulls == clear)) (rw some refl)
-    (Decides-like _ (λ f. (λ l m. f m, λ z. absurd (omega arith))) (λ h. h.0 (omega arith)) (of_when _ _ long (Decides-eqb nulls clear)))
+    (Decides-like _ (λ f. (λ l m. f m, λ z. absurd (omega arith))) (λ h. h.0 (omega arith)) (of_when _ _ (of_bound least (suc bytes)) (Decides-eqb nulls clear)))
 
 of_null_count : (c : Column) → Decides (passes cause.BadNullCount c) (CountsNulls c)
 of_null_count c =
-    Decides-like (passes cause.BadNullCount c) (λ p. record { with_bitmap = p.0; without_bitmap = p.1 }) (λ h. (h.with_bitmap, h.without_bitmap))
-    (of_nulls c.nulls (length c.validity) _ _)
+    Decides-like (passes cause.BadNullCount c) (λ f. record { with_bitmap = λ v. (f v).0; without_bitmap = λ v. (f v).1 }) (λ h v. (h.with_bitmap v, h.without_bitmap v))
+    (of_when (has_validity c.layout) _ (λ e. e, λ e. e) (of_nulls c.nulls (length c.validity) _ _))
+
+-- offsets in order
+of_climbs : (o : List ℕ) (n size : ℕ) → Decides (climbs o n size) (AreOffsets o n size)
+of_climbs o n size = (
+  λ e.
+      let p = and_parts (int_le (pos 0) (offset o 0)) (all_below (rises o) n && nat_le (place o n) size) e in
+      let q = and_parts (all_below (rises o) n) (nat_le (place o n) size) p.1 in
+      record {
+        from = (of_le (pos 0) (offset o 0)).0 p.0;
+        order = (of_rises o n).0 q.0;
+        to = (of_last (offset o n) size (above o n n p.0 q.0 (omega arith))).0 q.1;
+      },
+  λ h.
+      let from = (of_le (pos 0) (offset o 0)).1 h.from in
+      let order = (of_rises o n).1 h.order in
+      and_from _ _ from (and_from _ _ order ((of_last (offset o n) size (above o n n from order (omega arith))).1 h.to)),
+)
+  where
+    of_rises : (o : List ℕ) (n : ℕ) → Decides (all_below (rises o) n) ((i : ℕ) → i < n → offset o i ≤ℤ offset o (i + 1))
+    of_rises o n = decides_below (rises o) (λ i. offset o i ≤ℤ offset o (i + 1)) (λ i. of_le (offset o i) (offset o (i + 1))) n
+
+    of_last : (z : ℤ) (size : ℕ) → int_le (pos 0) z ≡ true → Decides (nat_le (unsigned_abs z) size) (z ≤ℤ pos size)
+    of_last (pos m) size h = of_le (pos m) (pos size)
+    of_last (negsuc m) size h = absurd (cc)
+
+of_order : (l : Layout) (n : ℕ) (o : List ℕ) (size : ℕ) → Decides (in_order l n o size) (HasOffsets l n o size)
+of_order (l.VariableBytes utf8) n o size = of_some n _ (of_when _ _ (of_bound (4 * (n + 1)) (length o)) (of_climbs o n size))
+of_order _ n o size = (λ e. tt, λ h. refl)
+
+-- texts
+of_text : (l : Layout) (o w : List ℕ) (i : ℕ) → Decides (is_text l o w i) (IsText l o w i)
+of_text (l.VariableBytes true) o w i = (λ e. IsUtf8-from_is_utf8 _ e, λ h. is_utf8-from_IsUtf8 _ h)
+of_text _ o w i = (λ e. tt, λ h. refl)
+
+of_texts : (c : Column) → Decides (all_below (is_good c) c.slots) (SpellsTexts c)
+of_texts c =
+    decides_below (is_good c) (λ i. is_valid c.validity i ≡ true → IsText c.layout c.offsets c.values i)
+    (λ i. of_when (is_valid c.validity i) _ (λ e. e, λ e. e) (of_text c.layout c.offsets c.values i)) c.slots
 
 of_each : (test : Column → Bool) (P : Column → Type 0) → ((c : Column) → Decides (test c) (P c)) → (cs : Columns) → Decides (every test cs) (Each P cs)
 of_each test P d none = (λ e. tt, λ h. refl)
@@ -101,11 +159,11 @@ of_each_top test P d (column c children rest) = Decides-and _ _ (d c) (of_each_t
 
 -- ---- the parts
 
-every_true : (cs : Columns) → every (λ c. true) cs ≡ true
+pub every_true : (cs : Columns) → every (λ c. true) cs ≡ true
 every_true none = refl
 every_true (column c children rest) = rw (every_true children, every_true rest) refl
 
-every_top_true : (cs : Columns) → every_top (λ c. true) cs ≡ true
+pub every_top_true : (cs : Columns) → every_top (λ c. true) cs ≡ true
 every_top_true none = refl
 every_top_true (column c children rest) = every_top_true rest
 
@@ -121,12 +179,17 @@ Asked cause.BadNode fields head body = HasLengths fields head body
 Asked cause.BufferOutOfBody fields head body = HasRanges head body
 Asked cause.BufferTooShort fields head body = HasBytes fields head body
 Asked cause.BadNullCount fields head body = HasNullCounts fields head body
+Asked cause.BadOffsets fields head body = HasOrder fields head body
+Asked cause.ValueNotUtf8 fields head body = HasTexts fields head body
 
 of_head : (test : Bool) (P : Type 0) (cs : Columns) → Decides test P → Decides (test && (every (λ c. true) cs && every_top (λ c. true) cs)) P
 of_head test P cs d = Decides-like _ (λ p. p.0) (λ h. (h, (every_true cs, every_top_true cs))) (Decides-and _ _ d (Decides-and _ _ (λ e. e, λ e. e) (λ e. e, λ e. e)))
 
 of_columns : (test : Column → Bool) (P : Column → Type 0) (cs : Columns) → ((c : Column) → Decides (test c) (P c)) → Decides (true && (every test cs && every_top (λ c. true) cs)) (Each P cs)
 of_columns test P cs d = Decides-like _ (λ p. p.1.0) (λ h. (refl, (h, every_top_true cs))) (Decides-and _ _ (λ e. e, λ e. e) (Decides-and _ _ (of_each test P d cs) (λ e. e, λ e. e)))
+
+of_tops : (test : Column → Bool) (P : Column → Type 0) (cs : Columns) → ((c : Column) → Decides (test c) (P c)) → Decides (true && (every (λ c. true) cs && every_top test cs)) (EachTop P cs)
+of_tops test P cs d = Decides-like _ (λ p. p.1.1) (λ h. (refl, (every_true cs, h))) (Decides-and _ _ (λ e. e, λ e. e) (Decides-and _ _ (λ e. e, λ e. e) (of_each_top test P d cs)))
 
 of_lengths : (fields : List Field) (head : BatchHead) (body : List ℕ) → Decides (fits (shape_of fields) head body cause.BadNode) (HasLengths fields head body)
 of_lengths fields head body =
@@ -156,6 +219,8 @@ decides cause.BadNode fields head body = of_lengths fields head body
 decides cause.BufferOutOfBody fields head body = of_head _ _ (columns_of fields head body) (of_ranges head body)
 decides cause.BufferTooShort fields head body = of_columns _ _ (columns_of fields head body) of_bytes
 decides cause.BadNullCount fields head body = of_columns _ _ (columns_of fields head body) of_null_count
+decides cause.BadOffsets fields head body = of_columns _ _ (columns_of fields head body) (λ c. of_order c.layout c.slots c.offsets (length c.values))
+decides cause.ValueNotUtf8 fields head body = of_tops _ _ (columns_of fields head body) of_texts
 
 -- a length that isn't negative is its absolute value
 pub length_is : (z : ℤ) → IsSlotCount z → z ≡ pos (unsigned_abs z)

@@ -4,7 +4,7 @@ use Rattle.std.proofs.lemmas.List.{drop_all}
 use Rattle.ipc_model.specs.declared.schema.Field.{Field, out-Field, fold_out-Field}
 use Rattle.ipc_meta.specs.declared.head.BatchHead.{BatchHead}
 use Rattle.ipc_column.specs.declared.layout.Layout.{Layout}
-use Rattle.ipc_column.specs.declared.layout.Layout.TheVariants.{Signed64, Unread}
+use Rattle.ipc_column.specs.declared.layout.Layout.TheVariants as l
 use Rattle.ipc_column.specs.declared.part.Part.{Part}
 use Rattle.ipc_column.specs.Layouts.{own_buffers}
 use Rattle.ipc_column.specs.Columns.{Columns, none, column, beside, bytes_of}
@@ -68,8 +68,9 @@ cut_step fs i f h body ps p n b m d all l e ec ek em ed before =
     beside_push body ps p _ ∙ (rw (ec, ek, em, ed, ← cut_from fs i f h body n b l e) before)
 
 own_most : (l : Layout) → own_buffers l ≤ 3
-own_most Signed64 = lit≤ tt
-own_most Unread = lit≤ tt
+own_most l.Null = lit≤ tt
+own_most l.Unread = lit≤ tt
+own_most _ = lit≤ tt
 
 pub buffers_most : (s : Shape) → buffers_in s ≤ 3 * nodes_in s
 unfolding nodes_in buffers_in

@@ -1,6 +1,6 @@
 -- The relation and the tests agree: rows are one, and a refusal leaves none.
 use Rattle.std.proofs.Common.{◌≡◌, ◌∙◌, refl, sym, ap, subst, List, [], ℕ, ◌<◌, true, false, length, get_or, Result, Ok, Err}
-use Rattle.std.specs.Prelude.{IfOk, IfErr, IsErrAnd, MatchResult, pos, unsigned_abs, slice_index_or}
+use Rattle.std.specs.Prelude.{Bool, ◌&&◌, IfOk, IfErr, IsErrAnd, MatchResult, pos, unsigned_abs, slice_index_or}
 use Rattle.std.proofs.lemmas.List.{ext_get_or}
 use Rattle.std.proofs.lemmas.Bool.{and_from, and_left, and_right, eqb-true}
 use Rattle.std.proofs.lemmas.Bool.Decides.{not_from_Decides}
@@ -13,13 +13,13 @@ use Rattle.ipc_meta.specs.Open.{are_open}
 use Rattle.ipc_column.specs.declared.cause.Cause.{Cause}
 use Rattle.ipc_column.specs.declared.cause.Cause.TheVariants as cause
 use Rattle.ipc_column.specs.Contents.{Contents}
-use Rattle.ipc_column.specs.Columns.{Columns}
+use Rattle.ipc_column.specs.Columns.{Column, Columns, every, every_top}
 use Rattle.ipc_column.specs.Shapes.{Shape, shape_of, columns_of, cut}
 use Rattle.ipc_column.specs.Values.{row, rows_of}
-use Rattle.ipc_column.specs.Tests.{fits, head_passes, Holds, Passing, Failing, HeadHolds, all_pass, fault_of}
+use Rattle.ipc_column.specs.Tests.{fits, head_passes, Holds, Passing, Failing, HeadHolds, passes, all_pass, fault_of}
 use Rattle.ipc_column.specs.Rows.{Rows, Refuses, IsOneList, HasParts}
 use Rattle.ipc_column.proofs.Cells.{rows_length, rows_at}
-use Rattle.ipc_column.proofs.Facts.{decides, length_is, of_ranges}
+use Rattle.ipc_column.proofs.Facts.{decides, length_is, of_ranges, every_top_true}
 
 -- the rows of columns, by index
 rows_values : (rows : List (List Value)) (fields : List Field) (head : BatchHead) (body : List ℕ) (n : ℕ) → rows ≡ rows_of (columns_of fields head body) n
@@ -39,6 +39,8 @@ rows_from fields head body rows o p =
       ranges = (decides cause.BufferOutOfBody fields head body).0 (p.sound cause.BufferOutOfBody);
       bytes = (decides cause.BufferTooShort fields head body).0 (p.sound cause.BufferTooShort);
       null_counts = (decides cause.BadNullCount fields head body).0 (p.sound cause.BadNullCount);
+      order = (decides cause.BadOffsets fields head body).0 (p.sound cause.BadOffsets);
+      texts = (decides cause.ValueNotUtf8 fields head body).0 (p.sound cause.ValueNotUtf8);
       count = length_is head.length lengths.batch ∙ ap (λ (n : ℕ). pos n) (sym (ap (λ (x : List (List Value)). length x) p.values ∙ rows_length (columns_of fields head body) (unsigned_abs head.length)));
       values = rows_values rows fields head body (unsigned_abs head.length) p.values;
     }
@@ -68,6 +70,11 @@ refuses_from fault.BadNode fields head body r = (eqb-true _ _ r.0, not_from_Deci
 refuses_from fault.BufferOutOfBody fields head body r = not_from_Decides _ (decides cause.BufferOutOfBody fields head body) r
 refuses_from fault.BufferTooShort fields head body r = (has_parts fields head body r.0, not_from_Decides _ (decides cause.BufferTooShort fields head body) r.1)
 refuses_from fault.BadNullCount fields head body r = (has_parts fields head body r.0, not_from_Decides _ (decides cause.BadNullCount fields head body) r.1)
+refuses_from fault.BadOffsets fields head body r = (has_parts fields head body r.0, not_from_Decides _ (decides cause.BadOffsets fields head body) r.1)
+refuses_from fault.ValueNotUtf8 fields head body r = (
+  has_parts fields head body r.0,
+  ((decides cause.BufferTooShort fields head body).0 r.1.0, (decides cause.BadOffsets fields head body).0 r.1.1, not_from_Decides _ (decides cause.ValueNotUtf8 fields head body) r.1.2),
+)
 refuses_from fault.OutOfMemory fields head body r = tt
 refuses_from _ fields head body r = absurd r
 
@@ -80,6 +87,8 @@ no_rows fault.BadNode fields head body rows r w = absurd (r.1 w.lengths)
 no_rows fault.BufferOutOfBody fields head body rows r w = absurd (r w.ranges)
 no_rows fault.BufferTooShort fields head body rows r w = absurd (r.1 w.bytes)
 no_rows fault.BadNullCount fields head body rows r w = absurd (r.1 w.null_counts)
+no_rows fault.BadOffsets fields head body rows r w = absurd (r.1 w.order)
+no_rows fault.ValueNotUtf8 fields head body rows r w = absurd (r.1.2 w.texts)
 no_rows _ fields head body rows r w = absurd r
 
 pub only_rows : (fields : List Field) (head : BatchHead) (body : List ℕ) (r : Result Contents Fault) → IfOk r (λ b. Rows fields head body b.rows) → IfErr r (λ f. Refuses f fields head body)
@@ -113,19 +122,26 @@ head_failing cause.BadNode shape head body h n = (n refl, and_left _ _ h)
 head_failing cause.BufferOutOfBody shape head body h n = and_left _ _ h
 head_failing cause.BufferTooShort shape head body h n = absurd (cc)
 head_failing cause.BadNullCount shape head body h n = absurd (cc)
+head_failing cause.BadOffsets shape head body h n = absurd (cc)
+head_failing cause.ValueNotUtf8 shape head body h n = absurd (cc)
 
 -- what refused columns say
 pub columns_failing : (why : Cause) (shape : Shape) (head : BatchHead) (body : List ℕ) (n : ℕ) (cs : Columns) → n ≡ unsigned_abs head.length → cs ≡ cut shape head body 0 0
-    → HeadHolds shape head body → all_pass why n cs ≡ false → Failing (fault_of why) shape head body
-columns_failing why shape head body n cs en ec h f = of_cause why (and_right (head_passes why shape head (length body)) _ (rw (en, ec) at f))
+    → HeadHolds shape head body → all_pass why n cs ≡ false → (why ≡ cause.ValueNotUtf8 → (other : Cause) → every (passes other) cs ≡ true) → Failing (fault_of why) shape head body
+columns_failing why shape head body n cs en ec h f t = of_cause why (and_right (head_passes why shape head (length body)) _ (rw (en, ec) at f)) (λ e other. rw ec at (t e other))
   where
-    of_cause : (why : Cause) → fits shape head body why ≡ false → Failing (fault_of why) shape head body
-    of_cause cause.WrongNodeCount e = e
-    of_cause cause.WrongBufferCount e = e
-    of_cause cause.BadNode e = (h cause.WrongNodeCount, e)
-    of_cause cause.BufferOutOfBody e = e
-    of_cause cause.BufferTooShort e = (h, e)
-    of_cause cause.BadNullCount e = (h, e)
+    holds : (test : Column → Bool) → every test (cut shape head body 0 0) ≡ true → (true && (every test (cut shape head body 0 0) && every_top (λ c. true) (cut shape head body 0 0))) ≡ true
+    holds test e = and_from (every test (cut shape head body 0 0)) _ e (every_top_true (cut shape head body 0 0))
+
+    of_cause : (why : Cause) → fits shape head body why ≡ false → (why ≡ cause.ValueNotUtf8 → (other : Cause) → every (passes other) (cut shape head body 0 0) ≡ true) → Failing (fault_of why) shape head body
+    of_cause cause.WrongNodeCount e s = e
+    of_cause cause.WrongBufferCount e s = e
+    of_cause cause.BadNode e s = (h cause.WrongNodeCount, e)
+    of_cause cause.BufferOutOfBody e s = e
+    of_cause cause.BufferTooShort e s = (h, e)
+    of_cause cause.BadNullCount e s = (h, e)
+    of_cause cause.BadOffsets e s = (h, e)
+    of_cause cause.ValueNotUtf8 e s = (h, (holds (passes cause.BufferTooShort) (s refl cause.BufferTooShort), holds (passes cause.BadOffsets) (s refl cause.BadOffsets), e))
 
 -- an exit with the fault of a cause
 pub exits : (r : Result Contents Fault) (f : Fault) (shape : Shape) (head : BatchHead) (body : List ℕ) → IsErrAnd r (λ e. e ≡ f) → Failing f shape head body → IfErr r (λ e. Failing e shape head body)

@@ -4,3 +4,8 @@ pub mod Entries
 pub mod Cells
 pub mod Facts
 pub mod Laws
+pub mod Numbers
+pub mod Below
+pub mod Slices
+pub mod Visits
+pub mod Lent

@@ -6,7 +6,8 @@ use Rattle.ipc_column.specs.declared.part.Part.{Part}
 use Rattle.ipc_column.specs.declared.part.Part.TheViews.{out-Part}
 use Rattle.ipc_column.specs.declared.part.Part.TheFolds.{fold_out-Part}
 use Rattle.ipc_column.specs.declared.cause.Cause.{Cause}
-use Rattle.ipc_column.specs.Columns.{Column, Columns, column, every}
+use Rattle.ipc_column.specs.Columns.{Column, Columns, column, every, every_top}
+use Rattle.ipc_column.specs.Facts.{text_slots, texts_in}
 use Rattle.ipc_column.specs.Tests.{Judges}
 use Rattle.ipc_column.specs.Views.{columns, part_step, column_of, children_of, own_column}
 
@@ -27,6 +28,14 @@ regroup false b c = refl
 pub every_from : (test : Column → Bool) (body : List ℕ) (ps : List Part) (i : ℕ) (p : Part) → i < length ps → p ≡ get_or ps i p
     → every test (columns body (drop i ps)) ≡ ((test (column_of body p) && every test (children_of body p)) && every test (columns body (drop (i + 1) ps)))
 every_from test body ps i p h e = rw (columns_from body ps i p h e) (regroup (test (column_of body p)) (every test (children_of body p)) (every test (columns body (drop (i + 1) ps))))
+
+pub every_top_from : (test : Column → Bool) (body : List ℕ) (ps : List Part) (i : ℕ) (p : Part) → i < length ps → p ≡ get_or ps i p
+    → every_top test (columns body (drop i ps)) ≡ (test (column_of body p) && every_top test (columns body (drop (i + 1) ps)))
+every_top_from test body ps i p h e = rw (columns_from body ps i p h e) refl
+
+pub texts_from : (body : List ℕ) (ps : List Part) (i : ℕ) (p : Part) → i < length ps → p ≡ get_or ps i p
+    → texts_in (columns body (drop i ps)) ≡ text_slots (column_of body p) + texts_in (columns body (drop (i + 1) ps))
+texts_from body ps i p h e = rw (columns_from body ps i p h e) refl
 
 -- a family whose first part holds is judged by its second
 pub then_judges : {X : Type 0} (s t : Cause → Bool) (r : Result X Cause) → ((c : Cause) → s c ≡ true) → Judges r t → Judges r (λ c. s c && t c)

@@ -8,6 +8,7 @@ pub record Column : Type 0 where
   pub slots : ℕ
   pub nulls : ℕ
   pub validity : List ℕ
+  pub offsets : List ℕ
   pub values : List ℕ
 
 -- columns side by side: a column, its children, and the columns after it

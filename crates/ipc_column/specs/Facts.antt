@@ -1,12 +1,15 @@
 -- What the standard asks of a record batch's parts.
-use Rattle.std.specs.Prelude.{◌≡◌, ℕ, ◌+◌, ◌*◌, ◌/◌, ◌^◌, ◌<◌, ◌≤◌, ℤ, pos, ◌+ℤ◌, ◌≤ℤ◌, ◌<ℤ◌, List, length, ⊤}
+use Rattle.std.specs.Prelude.{◌≡◌, ℕ, ◌+◌, ◌*◌, ◌/◌, ◌^◌, ◌<◌, ◌≤◌, ℤ, pos, ◌+ℤ◌, ◌≤ℤ◌, ◌<ℤ◌, negsuc, true, List, [], ◌∷◌, length, if◌then◌else◌, ⊤}
 use Rattle.std.specs.List.{All}
+use Rattle.std.specs.Str.{IsUtf8}
 use Rattle.ipc_scalar.specs.Bytes.{clear}
 use Rattle.ipc_model.specs.declared.schema.Field.{Field}
 use Rattle.ipc_meta.specs.declared.head.BatchHead.{BatchHead}
 use Rattle.ipc_column.specs.declared.layout.Layout.{Layout}
-use Rattle.ipc_column.specs.declared.layout.Layout.TheVariants.{Signed64, Unread}
-use Rattle.ipc_column.specs.Columns.{Column, Each, EachTop}
+use Rattle.ipc_column.specs.declared.layout.Layout.TheVariants as l
+use Rattle.ipc_column.specs.Layouts.{number_bytes, has_validity, is_texts}
+use Rattle.ipc_column.specs.Columns.{Column, Columns, none, column, Each, EachTop}
+use Rattle.ipc_column.specs.Values.{offset, between, is_valid}
 use Rattle.ipc_column.specs.Shapes.{shape_of, nodes_in, buffers_in, columns_of}
 
 -- a node for each field (Message.fbs, RecordBatch, "nodes")
@@ -46,27 +49,83 @@ HasRanges head body = All (LiesIn (length body)) head.buffers
 
 -- so many bytes hold the values of n slots (Arrow Columnar Format, "Fixed-size Primitive Layout")
 abbrev pub HoldValues : Layout → ℕ → ℕ → Type 0
-HoldValues Signed64 n bytes = 8 * n ≤ bytes
-HoldValues Unread n bytes = ⊤
+HoldValues l.Bits n bytes = (n + 7) / 8 ≤ bytes
+HoldValues (l.Numbers bits signed) n bytes = number_bytes bits * n ≤ bytes
+HoldValues (l.FixedBytes width) n bytes = width * n ≤ bytes
+HoldValues _ n bytes = ⊤
+
+-- so many bytes hold the offsets of n slots, one more than there are slots, or none for no slots (Arrow Columnar Format, "Variable-size Binary Layout")
+abbrev pub HoldOffsets : Layout → ℕ → ℕ → Type 0
+HoldOffsets (l.VariableBytes utf8) n bytes = 0 < n → 4 * (n + 1) ≤ bytes
+HoldOffsets _ n bytes = ⊤
 
 -- a bit for each slot (Arrow Columnar Format, "Validity bitmaps")
 abbrev pub HasBits : Column → Type 0
 HasBits c = (c.slots + 7) / 8 ≤ length c.validity
 
--- the buffers have the bytes that the slots need: a bit for each slot in a bitmap that is there, and the values
+-- the buffers have the bytes that the slots need: a bit for each slot in a bitmap that is there, the values, and the offsets
 pub record IsLongEnough (c : Column) : Type 0 where
   pub bitmap : 0 < length c.validity → HasBits c
   pub values : HoldValues c.layout c.slots (length c.values)
+  pub offsets : HoldOffsets c.layout c.slots (length c.offsets)
 
 -- each column is long enough
 abbrev pub HasBytes : List Field → BatchHead → List ℕ → Type 0
 HasBytes fields head body = Each IsLongEnough (columns_of fields head body)
 
--- the null count is that of a bitmap's clear bits, and 0 without a bitmap (Arrow Columnar Format, "Null count")
+-- the null count is that of a bitmap's clear bits, and 0 without a bitmap (Arrow Columnar Format, "Null count");
+-- a column of the null layout may have any
 pub record CountsNulls (c : Column) : Type 0 where
-  pub with_bitmap : 0 < length c.validity → HasBits c → c.nulls ≡ clear c.validity c.slots
-  pub without_bitmap : length c.validity ≡ 0 → c.nulls ≡ 0
+  pub with_bitmap : has_validity c.layout ≡ true → 0 < length c.validity → HasBits c → c.nulls ≡ clear c.validity c.slots
+  pub without_bitmap : has_validity c.layout ≡ true → length c.validity ≡ 0 → c.nulls ≡ 0
 
 -- each column counts its nulls
 abbrev pub HasNullCounts : List Field → BatchHead → List ℕ → Type 0
 HasNullCounts fields head body = Each CountsNulls (columns_of fields head body)
+
+-- the offsets of n slots begin at 0 or above, don't decrease and end within so many bytes (Arrow Columnar Format, "Variable-size Binary Layout")
+pub record AreOffsets (offsets : List ℕ) (n size : ℕ) : Type 0 where
+  pub from : pos 0 ≤ℤ offset offsets 0
+  pub order : (i : ℕ) → i < n → offset offsets i ≤ℤ offset offsets (i + 1)
+  pub to : offset offsets n ≤ℤ pos size
+
+-- the offsets that a column's slots need, where they are there
+abbrev pub HasOffsets : Layout → ℕ → List ℕ → ℕ → Type 0
+HasOffsets (l.VariableBytes utf8) n offsets size = 0 < n → 4 * (n + 1) ≤ length offsets → AreOffsets offsets n size
+HasOffsets _ n offsets size = ⊤
+
+-- each column has them, within its values
+abbrev pub HasOrder : List Field → BatchHead → List ℕ → Type 0
+HasOrder fields head body = Each (λ c. HasOffsets c.layout c.slots c.offsets (length c.values)) (columns_of fields head body)
+
+-- what slot i holds is UTF-8, where it is a text (Schema.fbs, Utf8)
+abbrev pub IsText : Layout → List ℕ → List ℕ → ℕ → Type 0
+IsText (l.VariableBytes true) offsets values i = IsUtf8 (between offsets values i)
+IsText _ offsets values i = ⊤
+
+-- each valid slot of a column's
+abbrev pub SpellsTexts : Column → Type 0
+SpellsTexts c = (i : ℕ) → i < c.slots → is_valid c.validity i ≡ true → IsText c.layout c.offsets c.values i
+
+-- each column, whose slots are the rows', spells its texts; what stands at a null slot isn't looked at
+abbrev pub HasTexts : List Field → BatchHead → List ℕ → Type 0
+HasTexts fields head body = EachTop SpellsTexts (columns_of fields head body)
+
+-- the slots that may be visited one by one: those of texts
+abbrev pub text_slots : Column → ℕ
+text_slots c = if is_texts c.layout then c.slots else 0
+
+-- the same of columns side by side
+abbrev pub texts_in : Columns → ℕ
+texts_in none = 0
+texts_in (column c children rest) = text_slots c + texts_in rest
+
+-- a number, or 0 where it is negative
+abbrev pub count_of : ℤ → ℕ
+count_of (pos n) = n
+count_of (negsuc n) = 0
+
+-- the slots of all nodes
+abbrev pub slots_in : List (ℤ × ℤ) → ℕ
+slots_in [] = 0
+slots_in (node ∷ nodes) = count_of node.0 + slots_in nodes

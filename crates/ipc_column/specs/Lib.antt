@@ -7,3 +7,5 @@ pub mod Rows
 pub mod Tests
 pub mod Views
 pub mod Contents
+pub mod Sharing
+pub mod Lending

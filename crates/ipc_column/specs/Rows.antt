@@ -8,7 +8,7 @@ use Rattle.ipc_meta.specs.declared.head.BatchHead.{BatchHead}
 use Rattle.ipc_meta.specs.Open.{are_open}
 use Rattle.ipc_column.specs.Shapes.{columns_of}
 use Rattle.ipc_column.specs.Values.{row}
-use Rattle.ipc_column.specs.Facts.{HasNodes, HasBuffers, HasLengths, HasRanges, HasBytes, HasNullCounts}
+use Rattle.ipc_column.specs.Facts.{HasNodes, HasBuffers, HasLengths, HasRanges, HasBytes, HasNullCounts, HasOrder, HasTexts}
 
 -- The head and the body are a record batch of the fields (Arrow Columnar Format, "RecordBatch message"), and these are its rows:
 -- in row i stand the values of slot i, a column beside the other.
@@ -24,6 +24,9 @@ pub record Rows (fields : List Field) (head : BatchHead) (body : List ℕ) (rows
   -- the buffers are long enough, and the null counts right
   pub bytes : HasBytes fields head body
   pub null_counts : HasNullCounts fields head body
+  -- the offsets are in order, and the texts are UTF-8
+  pub order : HasOrder fields head body
+  pub texts : HasTexts fields head body
   -- there are as many rows as the head says, and each has its values
   pub count : head.length ≡ pos (length rows)
   pub values : (i : ℕ) → i < length rows → slice_index_or rows i [] ≡ row (columns_of fields head body) i
@@ -34,7 +37,8 @@ pub record HasParts (fields : List Field) (head : BatchHead) (body : List ℕ) :
   pub buffers : HasBuffers fields head
   pub ranges : HasRanges head body
 
--- The cause of the fault is true of the parts. A fault of nodes or buffers is one of those that the fields find.
+-- The cause of the fault is true of the parts. A fault of nodes or buffers is one of those that the fields find, and a text
+-- is looked at only where all offsets are there and in order.
 -- Want of memory has no cause in them, and no other fault is answered.
 abbrev pub Refuses : Fault → List Field → BatchHead → List ℕ → Type 0
 Refuses fault.WrongNodeCount fields head body = ¬ HasNodes fields head
@@ -43,6 +47,8 @@ Refuses fault.BadNode fields head body = HasNodes fields head × ¬ HasLengths f
 Refuses fault.BufferOutOfBody fields head body = ¬ HasRanges head body
 Refuses fault.BufferTooShort fields head body = HasParts fields head body × ¬ HasBytes fields head body
 Refuses fault.BadNullCount fields head body = HasParts fields head body × ¬ HasNullCounts fields head body
+Refuses fault.BadOffsets fields head body = HasParts fields head body × ¬ HasOrder fields head body
+Refuses fault.ValueNotUtf8 fields head body = HasParts fields head body × (HasBytes fields head body × HasOrder fields head body × ¬ HasTexts fields head body)
 Refuses fault.OutOfMemory fields head body = ⊤
 Refuses _ fields head body = ⊥
 

@@ -5,7 +5,7 @@ use Rattle.ipc_model.specs.declared.schema.Field.{Field, fold-Field}
 use Rattle.ipc_model.specs.declared.schema.Field.TheOpen.{Field-F}
 use Rattle.ipc_meta.specs.declared.head.BatchHead.{BatchHead}
 use Rattle.ipc_column.specs.declared.layout.Layout.{Layout}
-use Rattle.ipc_column.specs.declared.layout.Layout.TheVariants.{Signed64, Unread}
+use Rattle.ipc_column.specs.declared.layout.Layout.TheVariants as l
 use Rattle.ipc_column.specs.Layouts.{layout, own_buffers}
 use Rattle.ipc_column.specs.Columns.{Column, Columns, none, column, bytes_of}
 
@@ -51,13 +51,21 @@ buffer_at head body b = let range = slice_index_or head.buffers b (pos 0, pos 0)
 
 -- the validity bitmap of a field whose first buffer is b
 abbrev pub validity_at : Layout → BatchHead → List ℕ → ℕ → List ℕ
-validity_at Signed64 head body b = buffer_at head body b
-validity_at Unread head body b = []
+validity_at l.Null head body b = []
+validity_at l.Unread head body b = []
+validity_at _ head body b = buffer_at head body b
+
+-- its offsets
+abbrev pub offsets_at : Layout → BatchHead → List ℕ → ℕ → List ℕ
+offsets_at (l.VariableBytes utf8) head body b = buffer_at head body (b + 1)
+offsets_at _ head body b = []
 
 -- its values
 abbrev pub values_at : Layout → BatchHead → List ℕ → ℕ → List ℕ
-values_at Signed64 head body b = buffer_at head body (b + 1)
-values_at Unread head body b = []
+values_at l.Null head body b = []
+values_at l.Unread head body b = []
+values_at (l.VariableBytes utf8) head body b = buffer_at head body (b + 2)
+values_at _ head body b = buffer_at head body (b + 1)
 
 -- the column of a field whose node is n and whose first buffer is b
 abbrev pub column_at : Layout → BatchHead → List ℕ → ℕ → ℕ → Column
@@ -66,6 +74,7 @@ column_at l head body n b = record {
   slots = unsigned_abs (node_at head n).0;
   nulls = unsigned_abs (node_at head n).1;
   validity = validity_at l head body b;
+  offsets = offsets_at l head body b;
   values = values_at l head body b;
 }
 

@@ -1,16 +1,18 @@
 -- The same facts as tests that compute, by the cause that is answered where one fails.
-use Rattle.std.specs.Prelude.{◌≡◌, ⊤, ℕ, ◌+◌, ◌*◌, ◌/◌, ◌^◌, Bool, true, false, ◌&&◌, ◌||◌, not, ◌==◌, nat_le, ℤ, pos, int_le, int_lt, unsigned_abs, List, [], ◌∷◌, length, if◌then◌else◌, Result, Ok, Err}
+use Rattle.std.specs.Prelude.{◌≡◌, ⊤, ℕ, zero, suc, ◌+◌, ◌-◌, ◌*◌, ◌/◌, ◌^◌, ◌<◌, Bool, true, false, ◌&&◌, ◌||◌, not, ◌==◌, nat_le, ℤ, pos, int_le, int_lt, unsigned_abs, List, [], ◌∷◌, length, if◌then◌else◌, Result, Ok, Err}
+use Rattle.std.specs.Str.{is_utf8, IsCharBoundary}
 use Rattle.ipc_scalar.specs.Bytes.{clear}
 use Rattle.ipc_model.specs.declared.fault.Fault.{Fault}
 use Rattle.ipc_model.specs.declared.fault.Fault.TheVariants as fault
 use Rattle.ipc_meta.specs.declared.head.BatchHead.{BatchHead}
 use Rattle.ipc_column.specs.declared.layout.Layout.{Layout}
-use Rattle.ipc_column.specs.declared.layout.Layout.TheVariants.{Signed64, Unread}
+use Rattle.ipc_column.specs.declared.layout.Layout.TheVariants as l
+use Rattle.ipc_column.specs.Layouts.{number_bytes, has_validity}
 use Rattle.ipc_column.specs.declared.cause.Cause.{Cause}
 use Rattle.ipc_column.specs.declared.cause.Cause.TheVariants as cause
 use Rattle.ipc_column.specs.Columns.{Column, Columns, every, every_top}
 use Rattle.ipc_column.specs.Shapes.{Shape, nodes_in, buffers_in, cut}
-use Rattle.ipc_column.specs.Values.{rows_of}
+use Rattle.ipc_column.specs.Values.{rows_of, offset, place, between, is_valid}
 use Rattle.ipc_model.specs.declared.value.Value.{Value}
 
 -- the fault that a cause is answered as
@@ -21,6 +23,8 @@ fault_of cause.BadNode = fault.BadNode
 fault_of cause.BufferOutOfBody = fault.BufferOutOfBody
 fault_of cause.BufferTooShort = fault.BufferTooShort
 fault_of cause.BadNullCount = fault.BadNullCount
+fault_of cause.BadOffsets = fault.BadOffsets
+fault_of cause.ValueNotUtf8 = fault.ValueNotUtf8
 
 -- a family of tests: at Ok all hold, and a cause is answered only where its own fails
 abbrev pub Judges : {X : Type 0} → Result X Cause → (Cause → Bool) → Type 0
@@ -31,6 +35,11 @@ Judges (Err c) test = test c ≡ false
 abbrev pub all : {X : Type 0} → (X → Bool) → List X → Bool
 all f [] = true
 all f (x ∷ xs) = f x && all f xs
+
+-- a test of each number below n
+abbrev pub all_below : (ℕ → Bool) → ℕ → Bool
+all_below f zero = true
+all_below f (suc n) = all_below f n && f n
 
 -- from 0 to 2^31 - 1
 abbrev pub is_slot_count : ℤ → Bool
@@ -58,8 +67,45 @@ has_bitmap n bytes = bytes == 0 || nat_le ((n + 7) / 8) bytes
 
 -- so many bytes hold the values of n slots
 abbrev pub holds_values : Layout → ℕ → ℕ → Bool
-holds_values Signed64 n bytes = nat_le (8 * n) bytes
-holds_values Unread n bytes = true
+holds_values l.Bits n bytes = nat_le ((n + 7) / 8) bytes
+holds_values (l.Numbers bits signed) n bytes = nat_le (number_bytes bits * n) bytes
+holds_values (l.FixedBytes width) n bytes = nat_le (width * n) bytes
+holds_values _ n bytes = true
+
+-- so many bytes hold the offsets of n slots
+abbrev pub holds_offsets : Layout → ℕ → ℕ → Bool
+holds_offsets (l.VariableBytes utf8) n bytes = n == 0 || nat_le (4 * (n + 1)) bytes
+holds_offsets _ n bytes = true
+
+-- offset i isn't above the next
+abbrev pub rises : List ℕ → ℕ → Bool
+rises offsets i = int_le (offset offsets i) (offset offsets (i + 1))
+
+-- the offsets of n slots are in order, within so many bytes
+abbrev pub climbs : List ℕ → ℕ → ℕ → Bool
+climbs offsets n size = int_le (pos 0) (offset offsets 0) && (all_below (rises offsets) n && nat_le (place offsets n) size)
+
+-- the same of a column's, where they are there
+abbrev pub in_order : Layout → ℕ → List ℕ → ℕ → Bool
+in_order (l.VariableBytes utf8) n offsets size = n == 0 || (not (nat_le (4 * (n + 1)) (length offsets)) || climbs offsets n size)
+in_order _ n offsets size = true
+
+-- what slot i holds is UTF-8, where it is a text
+abbrev pub is_text : Layout → List ℕ → List ℕ → ℕ → Bool
+is_text (l.VariableBytes true) offsets values i = is_utf8 (between offsets values i)
+is_text _ offsets values i = true
+
+-- the n slots of one text begin where that may be cut
+abbrev pub AreCuts : List ℕ → List ℕ → ℕ → Type 0
+AreCuts offsets text n = (i : ℕ) → i < n → IsCharBoundary text (place offsets i - place offsets 0)
+
+-- slot i is null, or holds what its type asks for
+abbrev pub slot_good : Layout → List ℕ → List ℕ → List ℕ → ℕ → Bool
+slot_good layout validity offsets values i = not (is_valid validity i) || is_text layout offsets values i
+
+-- the same of a column's slots
+abbrev pub is_good : Column → ℕ → Bool
+is_good c = slot_good c.layout c.validity c.offsets c.values
 
 -- the nulls among the first n slots
 abbrev pub nulls_in : List ℕ → ℕ → ℕ
@@ -67,13 +113,15 @@ nulls_in validity n = if length validity == 0 then 0 else clear validity n
 
 -- the tests of a column
 abbrev pub passes : Cause → Column → Bool
-passes cause.BufferTooShort c = has_bitmap c.slots (length c.validity) && holds_values c.layout c.slots (length c.values)
-passes cause.BadNullCount c = not (has_bitmap c.slots (length c.validity)) || (c.nulls == nulls_in c.validity c.slots)
+passes cause.BufferTooShort c = has_bitmap c.slots (length c.validity) && (holds_values c.layout c.slots (length c.values) && holds_offsets c.layout c.slots (length c.offsets))
+passes cause.BadNullCount c = not (has_validity c.layout) || (not (has_bitmap c.slots (length c.validity)) || (c.nulls == nulls_in c.validity c.slots))
+passes cause.BadOffsets c = in_order c.layout c.slots c.offsets (length c.values)
 passes _ c = true
 
 -- the tests of a column that has one slot for each of n rows
 abbrev pub top_passes : Cause → ℕ → Column → Bool
 top_passes cause.BadNode n c = c.slots == n
+top_passes cause.ValueNotUtf8 n c = all_below (is_good c) c.slots
 top_passes _ n c = true
 
 -- the tests of n rows of columns
@@ -105,5 +153,7 @@ Failing fault.BadNode shape head body = (head_passes cause.WrongNodeCount shape 
 Failing fault.BufferOutOfBody shape head body = fits shape head body cause.BufferOutOfBody ≡ false
 Failing fault.BufferTooShort shape head body = HeadHolds shape head body × (fits shape head body cause.BufferTooShort ≡ false)
 Failing fault.BadNullCount shape head body = HeadHolds shape head body × (fits shape head body cause.BadNullCount ≡ false)
+Failing fault.BadOffsets shape head body = HeadHolds shape head body × (fits shape head body cause.BadOffsets ≡ false)
+Failing fault.ValueNotUtf8 shape head body = HeadHolds shape head body × ((fits shape head body cause.BufferTooShort ≡ true) × (fits shape head body cause.BadOffsets ≡ true) × (fits shape head body cause.ValueNotUtf8 ≡ false))
 Failing fault.OutOfMemory shape head body = ⊤
 Failing _ shape head body = ⊥

@@ -13,7 +13,7 @@ span_bytes body s = bytes_of body s.start s.len
 
 -- one part, with its children's columns in their place
 abbrev pub part_step : List ℕ → Part-F (Column × Columns) → Column × Columns
-part_step body p = (record { layout = p.layout; slots = p.slots; nulls = p.nulls; validity = span_bytes body p.validity; values = span_bytes body p.values }, forest p.children.items)
+part_step body p = (record { layout = p.layout; slots = p.slots; nulls = p.nulls; validity = span_bytes body p.validity; offsets = span_bytes body p.offsets; values = span_bytes body p.values }, forest p.children.items)
 
 -- a part's column, and those of its children
 abbrev pub view : List ℕ → Part → Column × Columns
@@ -32,4 +32,4 @@ children_of body p = (view body p).1
 
 -- a part's column, by its fields
 abbrev pub own_column : List ℕ → Part → Column
-own_column body p = record { layout = (out-Part p).layout; slots = (out-Part p).slots; nulls = (out-Part p).nulls; validity = span_bytes body (out-Part p).validity; values = span_bytes body (out-Part p).values }
+own_column body p = record { layout = (out-Part p).layout; slots = (out-Part p).slots; nulls = (out-Part p).nulls; validity = span_bytes body (out-Part p).validity; offsets = span_bytes body (out-Part p).offsets; values = span_bytes body (out-Part p).values }

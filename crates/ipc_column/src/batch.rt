@@ -1,10 +1,13 @@
-ghost use Rattle.std.specs.Prelude.{◌≡◌, ◌≤◌, ◌<◌, length, true, List, [], IfOk, IfErr, MatchResult, Some, slice_get, slice_index_or};
+ghost use Rattle.std.specs.Prelude.{◌≡◌, ◌≤◌, ◌<◌, length, true, List, [], IfOk, IfErr, IfSome, MatchResult, Some, slice_get, slice_index_or};
 ghost use Rattle.ipc_model.specs.declared.value.Value.{Value};
 ghost use Rattle.ipc_model.specs.WellFormed.{entries, max_fields};
 ghost use Rattle.ipc_meta.specs.Open.{are_open};
-ghost use Rattle.ipc_column.specs.Shapes.{shape_of, nodes_in};
+ghost use Rattle.ipc_column.specs.Facts.{texts_in, slots_in};
+ghost use Rattle.ipc_column.specs.Shapes.{shape_of, nodes_in, columns_of, cut};
 ghost use Rattle.ipc_column.specs.Rows.{Rows, Refuses, IsOneList};
+ghost use Rattle.ipc_column.specs.Sharing.{contents_of, HasRows};
 ghost use Rattle.ipc_column.specs.Tests.{Passing, Failing};
+ghost use Rattle.ipc_column.specs.Lending.{AreNumbers};
 ghost use Rattle.ipc_column.specs.Values.{cell_value};
 
 use crate::cell::{Cell, cell_in};
@@ -13,17 +16,28 @@ use crate::head::check_head;
 use crate::part::Part;
 use crate::rows::rows_in;
 use crate::sound::check_columns;
+use crate::values::numbers_in;
 use ipc_meta::BatchHead;
 use ipc_model::fault::Fault;
 use ipc_model::items::Items;
 use ipc_model::schema::Field;
 use ipc_model::table::Row;
-use std::alloc::Global;
+use std::alloc::{AllocError, Global};
+use std::collections::BTreeMap;
 use std::marker::Model;
+use std::rc::Rc;
 
 /// The rows of a record batch, read in place from its body.
+///
+/// Clones of a batch share one body.
 #[derive(Debug, Drop)]
 pub struct Batch {
+    shared: Rc<Shared>,
+}
+
+// What the clones of a batch share.
+#[derive(Debug, Drop)]
+struct Shared {
     count: usize,
     parts: Vec<Part>,
     body: Vec<u8>,
@@ -40,92 +54,120 @@ impl Model for Batch {
 
     ghost coded = { Prim.hlevel (codes, value.the_row.coded) };
 
-    ghost use Rattle.ipc_column.specs.Views.{columns};
-    ghost use Rattle.ipc_column.specs.Values.{rows_of};
-    ghost use Rattle.ipc_column.specs.Tests.{Holds};
+    ghost use Rattle.ipc_column.specs.Sharing.{contents_of, HasRows};
 
-    ghost view = { λ b. record { rows = rows_of (columns b.body.items b.parts.items) b.count; columns = length b.parts.items; body_len = length b.body.items; tests = b.slot_tests } };
+    ghost view = { λ batch. contents_of batch.shared.value };
 
-    ghost invariant = { λ b. Holds b.count (columns b.body.items b.parts.items) };
+    ghost invariant = { λ batch. HasRows batch.shared.value };
 }
 
+// A batch of what its clones are to share.
+fn share(alloc: Global, shared: Shared) -> Result<Batch, AllocError>
+    requires { HasRows shared }
+    ensures { IfOk result (λ batch. batch ≡ contents_of shared) }
+{
+    Ok(Batch {
+        shared: Rc::new(alloc, shared)?,
+    })
+}
+
+// The rows of fields, as far as the head and the body give them.
 fn read(alloc: Global, fields: &[Field], head: &BatchHead, body: Vec<u8>) -> Result<Batch, Fault>
     requires { nodes_in (shape_of fields.now) ≤ 65536 }
     ensures passing { IfOk result (λ batch. Passing (shape_of fields.now) head.now body.items batch.rows) }
     ensures columns { IfOk result (λ batch. batch.columns ≡ length fields.now) }
     ensures body { IfOk result (λ batch. batch.body_len ≡ length body.items) }
-    ensures tests { IfOk result (λ batch. batch.tests ≡ 0) }
+    ensures texts { IfOk result (λ batch. batch.tests ≤ texts_in (cut (shape_of fields.now) head.now body.items 0 0)) }
+    ensures slots { IfOk result (λ batch. batch.tests ≤ slots_in head.now.nodes) }
     ensures failing { IfErr result (λ fault. Failing fault (shape_of fields.now) head.now body.items) }
 {
     check_head(fields, head, body.len())?;
     let (parts, _) = cut_fields(alloc, fields, head, Place { node: 0, buffer: 0 })?;
     let count = head.length.unsigned_abs() as usize;
-    check_columns(&body, &parts, count)?;
-    Ok(Batch {
+    let slot_tests = check_columns(&body, &parts, count)?;
+    let shared = Shared {
         count,
         parts,
         body,
-        slot_tests: 0,
-    })
+        slot_tests,
+    };
+    Ok(share(alloc, shared)?)
+}
+
+impl Clone for Batch {
+    ghost use Rattle.std.specs.Prelude.{◌≡◌};
+
+    ghost is_clone = { λ batch copy. copy ≡ batch };
+
+    /// The same batch over the same body. It takes no memory, and is refused only where the count of clones is full.
+    fn clone(&self) -> Result<Batch, AllocError> {
+        Ok(Batch {
+            shared: self.shared.clone()?,
+        })
+    }
 }
 
 impl Batch {
     /// The rows that a batch's metadata and body give for the fields of its schema.
     ///
-    /// The caller has the fields from a schema that passes its check, and each is of a type that is read so far:
-    /// signed numbers of 64 bits without a dictionary, nullable or not.
+    /// The caller has the fields from a schema that passes its check, and each is of a type that is read so far: any
+    /// but lists and structs, without a dictionary. The dictionaries are those in force, by their ids. They aren't looked
+    /// at, since no field that is read can name one yet.
     ///
-    /// Refused with F26 `WrongNodeCount`, F27 `WrongBufferCount`, F28 `BadNode`, F29 `BufferOutOfBody`, F30 `BufferTooShort`
-    /// or F31 `BadNullCount` only where that is true of the parts, and then they give no rows; with `OutOfMemory`
-    /// where the list of columns can't grow (Message.fbs, RecordBatch; Arrow Columnar Format, "RecordBatch message").
+    /// Refused with F26 `WrongNodeCount`, F27 `WrongBufferCount`, F28 `BadNode`, F29 `BufferOutOfBody`, F30 `BufferTooShort`,
+    /// F31 `BadNullCount`, F32 `BadOffsets` or F33 `ValueNotUtf8` only where that is true of the parts, and then they give no
+    /// rows; with `OutOfMemory` where the list of columns or the block that clones share finds no room (Message.fbs,
+    /// RecordBatch; Arrow Columnar Format, "RecordBatch message").
     pub fn check(
         alloc: Global,
-        fields: &[Field],
-        head: &BatchHead,
+        fields: Rc<Vec<Field>>,
+        head: BatchHead,
         body: Vec<u8>,
+        _dictionaries: &BTreeMap<i64, Rc<Batch>>,
     ) -> Result<Batch, Fault>
-        requires read { are_open fields.now ≡ true }
-        requires few { length (entries fields.now) ≤ max_fields }
+        requires read { are_open fields.value.items ≡ true }
+        requires few { length (entries fields.value.items) ≤ max_fields }
         // What is answered are the rows of the parts.
-        ensures rows { IfOk result (λ batch. Rows fields.now head.now body.items batch.rows) }
+        ensures rows { IfOk result (λ batch. Rows fields.value.items head body.items batch.rows) }
         // Where the parts give rows, these are answered, unless memory runs out.
-        ensures only { (rows : List (List Value)) → Rows fields.now head.now body.items rows → MatchResult result (λ batch. batch.rows ≡ rows) (λ fault. fault ≡ Fault.OutOfMemory) }
+        ensures only { (rows : List (List Value)) → Rows fields.value.items head body.items rows → MatchResult result (λ batch. batch.rows ≡ rows) (λ fault. fault ≡ Fault.OutOfMemory) }
         // A refusal is true of the parts.
-        ensures refused { IfErr result (λ fault. Refuses fault fields.now head.now body.items) }
-        ensures columns { IfOk result (λ batch. batch.columns ≡ length fields.now) }
+        ensures refused { IfErr result (λ fault. Refuses fault fields.value.items head body.items) }
+        ensures columns { IfOk result (λ batch. batch.columns ≡ length fields.value.items) }
         ensures body { IfOk result (λ batch. batch.body_len ≡ length body.items) }
-        // Columns of numbers are settled without a visit to their slots.
-        ensures tests { IfOk result (λ batch. batch.tests ≡ 0) }
+        // No slot is visited but those of texts, and each of them once at most.
+        ensures texts { IfOk result (λ batch. batch.tests ≤ texts_in (columns_of fields.value.items head body.items)) }
+        ensures tests { IfOk result (λ batch. batch.tests ≤ slots_in head.nodes) }
     {
-        read(alloc, fields, head, body)
+        read(alloc, fields.as_slice(), &head, body)
     }
 
     /// How many rows there are.
     pub fn rows(&self) -> usize
         ensures { result ≡ length self.now.rows }
     {
-        self.count
+        self.shared.count
     }
 
     /// How many columns there are.
     pub fn columns(&self) -> usize
         ensures { result ≡ self.now.columns }
     {
-        self.parts.len()
+        self.shared.parts.len()
     }
 
     /// How many bytes the body has.
     pub fn body_len(&self) -> usize
         ensures { result ≡ self.now.body_len }
     {
-        self.body.len()
+        self.shared.body.len()
     }
 
     /// How many slots `check` visited one by one.
     pub fn tests(&self) -> u64
         ensures { result ≡ self.now.tests }
     {
-        self.slot_tests
+        self.shared.slot_tests
     }
 
     /// What stands in a row and a column, lent. The caller gives a row below `rows` and a column below `columns`.
@@ -134,7 +176,19 @@ impl Batch {
         requires column { column < self.now.columns }
         ensures { slice_get (slice_index_or self.now.rows row []) column ≡ Some (cell_value result) }
     {
-        cell_in(&self.body, &self.parts, self.count, row, column)
+        let shared = self.shared.as_ref();
+        cell_in(&shared.body, &shared.parts, shared.count, row, column)
+    }
+
+    /// The values of a column of signed 64-bit integers that has no validity bitmap, lent as they lie in the body: eight bytes for each row, the lowest
+    /// first (Arrow Columnar Format, "Fixed-size Primitive Layout"). None where the column has to be read by `cell`. The caller gives a column below
+    /// `columns`.
+    pub fn numbers(&self, column: usize) -> Option<&[u8]>
+        requires { column < self.now.columns }
+        ensures { IfSome result (λ values. AreNumbers self.now.rows column values.now) }
+    {
+        let shared = self.shared.as_ref();
+        numbers_in(&shared.body, &shared.parts, shared.count, column)
     }
 
     /// The rows as values of their own. Refused with `OutOfMemory` alone, where a list can't grow.
@@ -142,7 +196,8 @@ impl Batch {
         ensures rows { IfOk result (λ rows. rows ≡ self.now.rows) }
         ensures memory { IfErr result (λ fault. fault ≡ Fault.OutOfMemory) }
     {
-        let rows = rows_in(alloc, &self.body, &self.parts, self.count)?;
+        let shared = self.shared.as_ref();
+        let rows = rows_in(alloc, &shared.body, &shared.parts, shared.count)?;
         Ok(rows)
     }
 }

@@ -15,6 +15,10 @@ pub enum Cause {
     BufferTooShort,
     /// F31: a null count unlike the clear bits.
     BadNullCount,
+    /// F32: offsets that are negative, decrease or pass the values.
+    BadOffsets,
+    /// F33: a text that isn't UTF-8.
+    ValueNotUtf8,
 }
 
 impl From<Cause> for Fault {
@@ -31,6 +35,8 @@ impl From<Cause> for Fault {
             Cause::BufferOutOfBody => Fault::BufferOutOfBody,
             Cause::BufferTooShort => Fault::BufferTooShort,
             Cause::BadNullCount => Fault::BadNullCount,
+            Cause::BadOffsets => Fault::BadOffsets,
+            Cause::ValueNotUtf8 => Fault::ValueNotUtf8,
         }
     }
 }

@@ -1,13 +1,17 @@
 ghost use Rattle.std.specs.Prelude.{◌≡◌, ◌+◌, ◌<◌, length, true, slice_get, Some, IfOk};
 ghost use Rattle.ipc_column.specs.declared.cause.Cause.{Cause};
-ghost use Rattle.ipc_column.specs.Tests.{Holds, has_bitmap, holds_values, passes};
+ghost use Rattle.ipc_column.specs.Tests.{Holds, has_bitmap, holds_values, holds_offsets, in_order, is_text, is_good, passes};
 ghost use Rattle.ipc_column.specs.Values.{cell_value, is_valid, own_value, value_of, row};
-ghost use Rattle.ipc_column.specs.Views.{columns, column_of};
+ghost use Rattle.ipc_column.specs.Views.{columns, column_of, span_bytes};
 
+use crate::fixed::{bytes_of, signed_at, unsigned_at};
 use crate::layout::Layout;
-use crate::part::Part;
+use crate::offsets::bytes_between;
+use crate::part::{Part, Span};
 use crate::span::bytes_at;
-use ipc_scalar::{bit, get_i64};
+use crate::texts::text_of;
+use ipc_model::schema::IntBits;
+use ipc_scalar::bit;
 
 /// What a slot of a column holds, lent by its batch.
 #[derive(Clone, Copy, Debug, Drop)]
@@ -26,8 +30,8 @@ pub enum Cell<'a> {
     Text(&'a str),
 }
 
-// Whether a slot isn't null.
-fn is_valid(validity: &[u8], slot: usize) -> bool
+/// Whether a slot isn't null.
+pub(crate) fn is_valid(validity: &[u8], slot: usize) -> bool
     requires { has_bitmap (slot + 1) (length validity.now) ≡ true }
     ensures { result ≡ is_valid validity.now slot }
 {
@@ -35,28 +39,73 @@ fn is_valid(validity: &[u8], slot: usize) -> bool
 }
 
 // What a valid slot holds, one of the first `slots`.
-fn own_cell(layout: Layout, values: &[u8], slots: usize, slot: usize) -> Cell<'_>
+#[tactic(auto, using(crate::proofs::Numbers::slot_inside))]
+fn own_cell<'a>(
+    layout: Layout,
+    offsets: &[u8],
+    values: &'a [u8],
+    slots: usize,
+    slot: usize,
+) -> Cell<'a>
     requires slot { slot < slots }
     requires values { holds_values layout slots (length values.now) ≡ true }
-    ensures { cell_value result ≡ own_value layout values.now slot }
+    requires offsets { holds_offsets layout slots (length offsets.now) ≡ true }
+    requires order { in_order layout slots offsets.now (length values.now) ≡ true }
+    requires text { is_text layout offsets.now values.now slot ≡ true }
+    ensures { cell_value result ≡ own_value layout offsets.now values.now slot }
 {
-    match layout {
-        Layout::Signed64 => Cell::Int(get_i64(values, 8 * slot).unwrap_or(0)),
-        Layout::Unread => Cell::Null,
+    // The widest numbers come first, without a table of jumps.
+    if let Layout::Numbers {
+        bits: IntBits::B64,
+        signed: true,
+    } = layout
+    {
+        return Cell::Int(signed_at(IntBits::B64, values, slot));
     }
+    match layout {
+        Layout::Null | Layout::Unread => Cell::Null,
+        Layout::Bits => Cell::Bool(bit(values, slot)),
+        Layout::Numbers { bits, signed: true } => Cell::Int(signed_at(bits, values, slot)),
+        Layout::Numbers {
+            bits,
+            signed: false,
+        } => Cell::UInt(unsigned_at(bits, values, slot)),
+        Layout::FixedBytes(width) => Cell::Bytes(bytes_of(width, values, slot)),
+        Layout::VariableBytes { utf8: true } => Cell::Text(text_of(bytes_between(
+            offsets, values, slots, slot,
+        ))),
+        Layout::VariableBytes { utf8: false } => Cell::Bytes(bytes_between(
+            offsets, values, slots, slot,
+        )),
+    }
+}
+
+// Whether a slot isn't null, where its bitmap is this span. A span of no bytes isn't looked up.
+#[tactic(auto, unfolding(crate::specs::Columns::bytes_of))]
+fn is_valid_in(body: &[u8], validity: Span, slot: usize) -> bool
+    requires { has_bitmap (slot + 1) (length (span_bytes body.now validity)) ≡ true }
+    ensures { result ≡ is_valid (span_bytes body.now validity) slot }
+{
+    validity.len == 0 || is_valid(bytes_at(body, validity), slot)
 }
 
 /// What a slot of a part holds.
 pub(crate) fn cell_at<'a>(body: &'a [u8], part: &'a Part, slot: usize) -> Cell<'a>
     requires sound { (why : Cause) → passes why (column_of body.now part.now) ≡ true }
     requires slot { slot < (column_of body.now part.now).slots }
+    requires good { is_good (column_of body.now part.now) slot ≡ true }
     ensures { cell_value result ≡ value_of (column_of body.now part.now) slot }
 {
-    if is_valid(bytes_at(body, part.validity), slot) {
-        own_cell(part.layout, bytes_at(body, part.values), part.slots, slot)
-    } else {
-        Cell::Null
+    if !is_valid_in(body, part.validity, slot) {
+        return Cell::Null;
     }
+    own_cell(
+        part.layout,
+        bytes_at(body, part.offsets),
+        bytes_at(body, part.values),
+        part.slots,
+        slot,
+    )
 }
 
 /// What stands in a row and a column of parts that give so many rows.

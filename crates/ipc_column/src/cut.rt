@@ -1,6 +1,6 @@
 ghost use Rattle.std.specs.Prelude.{◌≡◌, ◌≤◌, ◌<◌, ◌+◌, ◌^◌, ℕ, List, length, IfOk};
 ghost use Rattle.ipc_column.specs.Layouts.{own_buffers};
-ghost use Rattle.ipc_column.specs.Shapes.{cut, shape_of, field_layout, field_children, nodes_in, buffers_in, column_at, buffer_at, validity_at, values_at};
+ghost use Rattle.ipc_column.specs.Shapes.{cut, shape_of, field_layout, field_children, nodes_in, buffers_in, column_at, buffer_at, validity_at, offsets_at, values_at};
 ghost use Rattle.ipc_column.specs.Views.{columns, column_of, children_of, span_bytes};
 
 use crate::layout::{Layout, layout_of, own_buffers};
@@ -65,8 +65,21 @@ fn validity_span(layout: Layout, head: &BatchHead, first: usize) -> Span
     ensures { (body : List ℕ) → span_bytes body result ≡ validity_at layout head.now body first }
 {
     match layout {
-        Layout::Signed64 => span_at(head, first),
-        Layout::Unread => Span { start: 0, len: 0 },
+        Layout::Null | Layout::Unread => Span { start: 0, len: 0 },
+        _ => span_at(head, first),
+    }
+}
+
+// The offsets of a field with this first buffer.
+#[tactic(auto, using(crate::proofs::Fields::empty_bytes))]
+fn offsets_span(layout: Layout, head: &BatchHead, first: usize) -> Span
+    requires buffers { first + own_buffers layout ≤ length head.now.buffers }
+    requires few { length head.now.buffers < 2 ^ 60 }
+    ensures { (body : List ℕ) → span_bytes body result ≡ offsets_at layout head.now body first }
+{
+    match layout {
+        Layout::VariableBytes { .. } => span_at(head, first + 1),
+        _ => Span { start: 0, len: 0 },
     }
 }
 
@@ -78,8 +91,9 @@ fn values_span(layout: Layout, head: &BatchHead, first: usize) -> Span
     ensures { (body : List ℕ) → span_bytes body result ≡ values_at layout head.now body first }
 {
     match layout {
-        Layout::Signed64 => span_at(head, first + 1),
-        Layout::Unread => Span { start: 0, len: 0 },
+        Layout::Null | Layout::Unread => Span { start: 0, len: 0 },
+        Layout::VariableBytes { .. } => span_at(head, first + 2),
+        _ => span_at(head, first + 1),
     }
 }
 
@@ -112,6 +126,7 @@ fn cut_field(
         slots: slots.unsigned_abs() as usize,
         nulls: nulls.unsigned_abs() as usize,
         validity: validity_span(layout, head, at.buffer),
+        offsets: offsets_span(layout, head, at.buffer),
         values: values_span(layout, head, at.buffer),
         children,
     };

@@ -7,12 +7,16 @@ mod batch;
 mod cause;
 mod cell;
 mod cut;
+mod fixed;
 mod head;
 mod layout;
+mod offsets;
 mod part;
 mod rows;
 mod sound;
 mod span;
+mod texts;
+mod values;
 
 pub use batch::{Batch, one_list_of_rows};
 pub use cell::Cell;

@@ -20,6 +20,8 @@ pub struct Part {
     pub nulls: usize,
     /// The validity bitmap.
     pub validity: Span,
+    /// The offsets of values whose lengths differ.
+    pub offsets: Span,
     /// The values.
     pub values: Span,
     /// The parts of the field's children.

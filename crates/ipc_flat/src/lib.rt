@@ -19,6 +19,3 @@ pub use ipc_scalar::FlatFault;
 pub use struct_vec::StructVec;
 pub use table::TableRef;
 pub use table_vec::TableVec;
-
-#[cfg(test)]
-mod tests;

@@ -1,3 +1,4 @@
 pub mod Wholes
 pub mod OneFrame
 pub mod Decided
+pub mod Exact

@@ -2,3 +2,4 @@ pub mod Frames
 pub mod Sees
 pub mod Starts
 pub mod Laws
+pub mod Decisions

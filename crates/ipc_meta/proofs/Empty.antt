@@ -1,5 +1,5 @@
 -- Empty metadata states nothing.
-use Rattle.std.proofs.Common.{◌≡◌, ℕ, List, []}
+use Rattle.std.proofs.Common.{ℕ, []}
 use Rattle.ipc_scalar.specs.Flat.{points, table_of}
 use Rattle.ipc_flat.specs.Views.{table_from}
 use Rattle.ipc_meta.specs.declared.head.Head.{Head}

@@ -6,3 +6,11 @@ pub mod Opens
 pub mod Complete
 pub mod Unique
 pub mod Empty
+pub mod Texts
+pub mod Refused
+pub mod RefusedTypes
+pub mod Spent
+pub mod RefusedFields
+pub mod Entries
+pub mod Totals
+pub mod RefusedSchemas

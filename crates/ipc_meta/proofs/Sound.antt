@@ -86,7 +86,7 @@ pairs_sound t k left after ps h =
 
 -- ---- the type and the dictionary
 
-type_sound : (t : Table) (left after : Budget) (κ : DataType) → type_read t left ≡ Ok (κ, after) → type_at t ≡ Ok κ
+pub type_sound : (t : Table) (left after : Budget) (κ : DataType) → type_read t left ≡ Ok (κ, after) → type_at t ≡ Ok κ
 unfolding type_read
 type_sound t left after κ h =
     let a = bind_ok (type_at t) _ _ h in

@@ -6,3 +6,6 @@ pub mod Fields
 pub mod Reading
 pub mod Heads
 pub mod Laws
+pub mod Reached
+pub mod Totals
+pub mod Causes

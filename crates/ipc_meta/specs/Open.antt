@@ -1,15 +1,21 @@
 -- Which columns are read (Schema.fbs, union Type and table DictionaryEncoding). A field whose type has no case here denotes nothing.
 use Rattle.std.specs.Prelude.{Bool, true, false, ◌&&◌, List, [], ◌∷◌, Option, Some, None}
-use Rattle.ipc_model.specs.declared.schema.IntBits.TheVariants.{B64}
 use Rattle.ipc_model.specs.declared.schema.DataType.{DataType}
 use Rattle.ipc_model.specs.declared.schema.DataType.TheVariants as t
 use Rattle.ipc_model.specs.declared.schema.Dictionary.{Dictionary}
 use Rattle.ipc_model.specs.declared.schema.Field.{Field, fold-Field}
 use Rattle.ipc_model.specs.declared.schema.Field.TheOpen.{Field-F}
 
--- the types whose columns are read: Int of 64 bits, signed
+-- the types whose columns are read
 abbrev pub is_open_type : DataType → Bool
-is_open_type (t.Int B64 true) = true
+is_open_type t.Null = true
+is_open_type t.Bool = true
+is_open_type (t.Int bits signed) = true
+is_open_type t.Binary = true
+is_open_type t.Utf8 = true
+is_open_type (t.FixedSizeBinary width) = true
+is_open_type (t.Date unit) = true
+is_open_type (t.Timestamp unit timezone) = true
 is_open_type _ = false
 
 -- a field's type with its dictionary: columns without a dictionary are read

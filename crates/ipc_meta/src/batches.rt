@@ -1,8 +1,10 @@
-ghost use Rattle.std.specs.Prelude.{◌≡◌, ℤ, IfOk, Ok, length};
+ghost use Rattle.std.specs.Prelude.{◌≡◌, ℕ, ℤ, List, IfOk, IfErr, Ok, length};
 ghost use Rattle.ipc_scalar.specs.Bytes.{int64};
-ghost use Rattle.ipc_model.specs.Answers.{Gives};
+ghost use Rattle.ipc_model.specs.Answers.{Aside, Gives};
 ghost use Rattle.ipc_meta.specs.Heads.{numbers_at, DictionaryAt};
 ghost use Rattle.ipc_meta.specs.Reading.{batch_read};
+ghost use Rattle.ipc_meta.specs.Reached.{HasTable, dictionary_batch};
+ghost use Rattle.ipc_meta.specs.Causes.{Cause};
 
 use crate::head::BatchHead;
 use crate::lifted::lifted;
@@ -65,6 +67,7 @@ pub(crate) fn read_dictionary_batch(
 ) -> Result<(i64, BatchHead), Fault>
     ensures found { IfOk result (λ d. DictionaryAt table.now d.0 d.1) }
     ensures only { (id : ℤ) (batch : BatchHead) → DictionaryAt table.now id batch → Gives (λ y. y) result (Ok (id, batch)) }
+    ensures refused { IfErr result (λ f. (b : List ℕ) → HasTable b dictionary_batch table.now → Aside f (Cause b f)) }
 {
     let id = lifted(table.scalar_i64(0, 0))?;
     if read_flag(table, 2)? {

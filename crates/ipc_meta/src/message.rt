@@ -1,9 +1,11 @@
-ghost use Rattle.std.specs.Prelude.{◌≡◌, ℕ, IfOk, IfErr, OnOk, MatchResult, Ok, pos};
+ghost use Rattle.std.specs.Prelude.{◌≡◌, ℕ, List, IfOk, IfErr, OnOk, MatchResult, Ok, pos};
 ghost use Rattle.ipc_scalar.specs.Bytes.{int16};
 ghost use Rattle.ipc_flat.specs.Views.{scalar};
-ghost use Rattle.ipc_model.specs.Answers.{Gives};
+ghost use Rattle.ipc_model.specs.Answers.{Aside, Gives};
 ghost use Rattle.ipc_meta.specs.Fields.{SchemaAt};
 ghost use Rattle.ipc_meta.specs.Heads.{HeaderAt, HeadOf};
+ghost use Rattle.ipc_meta.specs.Reached.{HasTable, message, schema};
+ghost use Rattle.ipc_meta.specs.Causes.{Cause};
 
 use crate::batches::{read_batch, read_dictionary_batch};
 use crate::budget::Budget;
@@ -25,6 +27,7 @@ const LONGEST_BODY: i64 = 1 << 40;
 fn check_endianness(table: &TableRef<'_>) -> Result<(), Fault>
     ensures ok { OnOk result (scalar table.now 0 2 int16 (pos 0) ≡ Ok (pos 0)) }
     ensures only { IfErr result (λ f. ¬ (scalar table.now 0 2 int16 (pos 0) ≡ Ok (pos 0))) }
+    ensures refused { IfErr result (λ f. (b : List ℕ) → HasTable b schema table.now → Cause b f) }
 {
     if lifted(table.scalar_i16(0, 0))? != 0 {
         return Err(Fault::BigEndian);
@@ -36,6 +39,7 @@ fn check_endianness(table: &TableRef<'_>) -> Result<(), Fault>
 fn read_schema(alloc: Global, table: &TableRef<'_>) -> Result<Schema, Fault>
     ensures found { IfOk result (λ s. SchemaAt table.now s) }
     ensures only { (s : Schema) → SchemaAt table.now s → Gives (λ y. y) result (Ok s) }
+    ensures refused { IfErr result (λ f. (b : List ℕ) → HasTable b schema table.now → Aside f (Cause b f)) }
 {
     check_endianness(table)?;
     let mut left = Budget {
@@ -54,6 +58,7 @@ fn read_schema(alloc: Global, table: &TableRef<'_>) -> Result<Schema, Fault>
 fn read_header(alloc: Global, root: &TableRef<'_>) -> Result<Head, Fault>
     ensures found { IfOk result (λ head. HeaderAt root.now head) }
     ensures only { (head : Head) → HeaderAt root.now head → Gives (λ y. y) result (Ok head) }
+    ensures refused { IfErr result (λ f. (b : List ℕ) → HasTable b message root.now → Aside f (Cause b f)) }
 {
     let code = lifted(root.scalar_u8(1, 0))?;
     let Some(table) = lifted(root.table(2))? else {
@@ -109,6 +114,7 @@ fn read_header(alloc: Global, root: &TableRef<'_>) -> Result<Head, Fault>
 pub fn read_message(alloc: Global, metadata: &[u8]) -> Result<(Head, u64), Fault>
     ensures found { IfOk result (λ r. HeadOf metadata.now r.0 r.1) }
     ensures only { (head : Head) (m : ℕ) → HeadOf metadata.now head m → MatchResult result (λ r. (r.0 ≡ head) × (r.1 ≡ m)) (λ f. f ≡ Fault.OutOfMemory) }
+    ensures refused { IfErr result (λ f. Aside f (Cause metadata.now f)) }
 {
     let root = lifted(Flat::root(metadata))?;
     if lifted(root.scalar_i16(0, 0))? != VERSION {

@@ -206,16 +206,18 @@ fn read_dictionary(field: &TableRef<'_>) -> Result<Option<Dictionary>, Fault>
 fn is_open(kind: &DataType, dictionary: Option<Dictionary>) -> bool
     ensures { result ≡ is_open kind.now dictionary }
 {
-    match (kind, dictionary) {
-        (
-            DataType::Int {
-                bits: IntBits::B64,
-                signed: true,
-            },
-            None,
-        ) => true,
-        _ => false,
-    }
+    dictionary.is_none()
+        && match kind {
+            DataType::Null
+            | DataType::Bool
+            | DataType::Int { .. }
+            | DataType::Binary
+            | DataType::Utf8
+            | DataType::FixedSizeBinary(_)
+            | DataType::Date(_)
+            | DataType::Timestamp { .. } => true,
+            DataType::List | DataType::Struct => false,
+        }
 }
 
 /// The dictionary of a field of this type. A field whose columns are not read is `UnsupportedType`.

@@ -1,4 +1,10 @@
 pub mod Runs
-pub mod Wholes
 pub mod OneReading
-pub mod Complete
+pub mod FromMemory
+pub mod Intakes
+pub mod FramesRead
+pub mod Nexts
+pub mod Tables
+pub mod Reasons
+pub mod Answered
+pub mod Readers

@@ -1,4 +1,7 @@
+pub mod Failures
 pub mod Stream
+pub mod Readable
 pub mod Reasons
-pub mod Whole
+pub mod Taken
+pub mod Reader
 pub mod Laws

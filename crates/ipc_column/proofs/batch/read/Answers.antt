@@ -1,8 +1,10 @@
-use Rattle.std.proofs.Common.{◌∙◌, arith, rules}
-use Rattle.std.proofs.lemmas.Bool.{eqb-true}
+use Rattle.std.proofs.Common.{◌≡◌, ◌∙◌, true, arith, rules}
+use Rattle.std.proofs.lemmas.Bool.{and_parts, eqb-true}
 use Rattle.ipc_column.specs.declared.cause.Cause.TheVariants as cause
 use Rattle.ipc_column.specs.Shapes.{shape_of}
 use Rattle.ipc_column.proofs.Fields.{buffers_most}
+use Rattle.ipc_column.specs.Tests.{all, is_node, is_slot_count}
+use Rattle.ipc_column.proofs.Visits.{texts_most, slots_most}
 use Rattle.ipc_column.proofs.Laws.{passing, exits, head_failing, columns_failing}
 use Rattle.ipc_column.proofs.batch.read.Goals as goal
 
@@ -21,8 +23,9 @@ cut_fields-requires-clause-few_buffers c =
 
 pub returns-clause-passing : goal.returns-clause-passing
 returns-clause-passing c =
-    passing (shape_of c.args.fields.now) c.args.head.now c.args.body.items c.unsigned_abs-count.result _ (search rules) (c.in_ok-parts.ensures.parts c.args.body.items)
-    (λ why. rw (c.len.ensures ∙ c.args.body.ok.0) at (c.in_ok-check_head.ensures.judged why)) (λ why. rw (c.deref.ensures.value, c.deref-2.ensures.value) at (c.in_ok-check_columns.ensures why))
+    rw c.in_ok-share.ensures
+    (passing (shape_of c.args.fields.now) c.args.head.now c.args.body.items c.unsigned_abs-count.result _ (search rules) (c.in_ok-parts.ensures.parts c.args.body.items)
+    (λ why. rw (c.len.ensures ∙ c.args.body.ok.0) at (c.in_ok-check_head.ensures.judged why)) (λ why. rw (c.deref.ensures.value, c.deref-2.ensures.value) at (c.in_ok-slot_tests.ensures.judged why)))
 
 pub returns-in_err-check_head-clause-failing : goal.returns-in_err-check_head-clause-failing
 returns-in_err-check_head-clause-failing c =
@@ -31,9 +34,26 @@ returns-in_err-check_head-clause-failing c =
     (rw (c.len.ensures ∙ c.args.body.ok.0) at c.in_err-check_head.ensures.judged)
     c.in_err-check_head.ensures.counted)
 
-pub returns-in_err-check_columns-clause-failing : goal.returns-in_err-check_columns-clause-failing
-returns-in_err-check_columns-clause-failing c =
-    exits c.from_residual-in_err-check_columns.result _ (shape_of c.args.fields.now) c.args.head.now c.args.body.items c.from_residual-in_err-check_columns.ensures.1
-    (columns_failing c.in_err-check_columns.field-0.0 (shape_of c.args.fields.now) c.args.head.now c.args.body.items c.unsigned_abs-count.result _ (search rules) (c.in_ok-parts.ensures.parts c.args.body.items)
+pub returns-in_err-slot_tests-clause-failing : goal.returns-in_err-slot_tests-clause-failing
+returns-in_err-slot_tests-clause-failing c =
+    exits c.from_residual-in_err-slot_tests.result _ (shape_of c.args.fields.now) c.args.head.now c.args.body.items c.from_residual-in_err-slot_tests.ensures.1
+    (columns_failing c.in_err-slot_tests.field-0.0 (shape_of c.args.fields.now) c.args.head.now c.args.body.items c.unsigned_abs-count.result _ (search rules) (c.in_ok-parts.ensures.parts c.args.body.items)
     (λ why. rw (c.len.ensures ∙ c.args.body.ok.0) at (c.in_ok-check_head.ensures.judged why))
-    (rw (c.deref.ensures.value, c.deref-2.ensures.value) at c.in_err-check_columns.ensures))
+    (rw (c.deref.ensures.value, c.deref-2.ensures.value) at c.in_err-slot_tests.ensures.judged)
+    (rw (c.deref.ensures.value, c.deref-2.ensures.value) at c.in_err-slot_tests.ensures.texts_last))
+
+pub check_columns-requires : goal.check_columns-requires
+check_columns-requires c =
+    let nodes = eqb-true _ _ (c.in_ok-check_head.ensures.judged cause.WrongNodeCount) in
+    let good : all is_node c.args.head.now.nodes ≡ true = (and_parts (is_slot_count c.args.head.now.length) (all is_node c.args.head.now.nodes) (c.in_ok-check_head.ensures.judged cause.BadNode)).1 in
+    let most = texts_most (shape_of c.args.fields.now) c.args.head.now c.args.body.items good (omega (arith, nodes)) in
+    let few = slots_most c.args.head.now.nodes good in
+    rw (c.deref.ensures.value, c.deref-2.ensures.value, c.in_ok-parts.ensures.parts c.args.body.items) (omega (arith, most, few, nodes))
+
+pub returns-clause-slots : goal.returns-clause-slots
+returns-clause-slots c =
+    let nodes = eqb-true _ _ (c.in_ok-check_head.ensures.judged cause.WrongNodeCount) in
+    let good : all is_node c.args.head.now.nodes ≡ true = (and_parts (is_slot_count c.args.head.now.length) (all is_node c.args.head.now.nodes) (c.in_ok-check_head.ensures.judged cause.BadNode)).1 in
+    let most = texts_most (shape_of c.args.fields.now) c.args.head.now c.args.body.items good (omega (arith, nodes)) in
+    let visited = rw (c.deref.ensures.value, c.deref-2.ensures.value, c.in_ok-parts.ensures.parts c.args.body.items) at c.in_ok-slot_tests.ensures.visited in
+    rw c.in_ok-share.ensures (omega (arith, visited, most))

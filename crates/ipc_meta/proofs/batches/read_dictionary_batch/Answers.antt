@@ -6,6 +6,10 @@ use Rattle.ipc_meta.specs.Lifts.{lift}
 use Rattle.ipc_meta.proofs.Sound.{lift_ok, batch_sound}
 use Rattle.ipc_meta.proofs.Unique.{dictionary_same, values_refused}
 use Rattle.std.proofs.lemmas.Result.{err_from_is_err_and}
+use Rattle.std.specs.Prelude.{pos}
+use Rattle.ipc_scalar.specs.Bytes.{int64}
+use Rattle.ipc_meta.specs.Reached.{dictionary_batch, id, is_delta, values, of_values}
+use Rattle.ipc_meta.proofs.Refused.{bad_number, bad_flag, bad_table, batch_refused}
 use Rattle.ipc_meta.proofs.batches.read_dictionary_batch.Goals as goal
 
 pub returns-in_ok-read_batch-in-Some-clause-found : goal.returns-in_ok-read_batch-in-Some-clause-found
@@ -26,3 +30,24 @@ pub returns-in_err-read_batch-in-Some-clause-only : goal.returns-in_err-read_bat
 returns-in_err-read_batch-in-Some-clause-only c = λ id batch h.
     let p = err_from_is_err_and c.from_residual-in_err-read_batch-in-Some.result c.from_residual-in_err-read_batch-in-Some.ensures.1 in
     rw (p.1, p.2) (values_refused _ _ id batch _ h (lift_ok _ _ (ap lift (sym c.table.ensures) ∙ (sym c.in_ok-lifted.ensures ∙ ap Ok c.in-Some.is))) c.in_err-read_batch-in-Some.ensures)
+
+pub returns-in_err-id-clause-refused : goal.returns-in_err-id-clause-refused
+returns-in_err-id-clause-refused c =
+    let p = err_from_is_err_and c.from_residual.result c.from_residual.ensures.1 in
+    rw (p.1, p.2) (λ b has ne. bad_number b dictionary_batch _ 0 8 int64 (pos 0) _ has id (ap lift (sym c.scalar_i64.ensures) ∙ sym c.in_err-id.ensures))
+
+pub returns-in_err-read_flag-clause-refused : goal.returns-in_err-read_flag-clause-refused
+returns-in_err-read_flag-clause-refused c =
+    let p = err_from_is_err_and c.from_residual-in_err-read_flag.result c.from_residual-in_err-read_flag.ensures.1 in
+    rw (p.1, p.2) (λ b has ne. bad_flag b dictionary_batch _ 2 _ has is_delta (sym c.in_err-read_flag.ensures))
+
+pub returns-in_err-lifted-clause-refused : goal.returns-in_err-lifted-clause-refused
+returns-in_err-lifted-clause-refused c =
+    let p = err_from_is_err_and c.from_residual-in_err-lifted.result c.from_residual-in_err-lifted.ensures.1 in
+    rw (p.1, p.2) (λ b has ne. bad_table b dictionary_batch _ 1 _ has values (ap lift (sym c.table.ensures) ∙ sym c.in_err-lifted.ensures))
+
+pub returns-in_err-read_batch-in-Some-clause-refused : goal.returns-in_err-read_batch-in-Some-clause-refused
+returns-in_err-read_batch-in-Some-clause-refused c =
+    let p = err_from_is_err_and c.from_residual-in_err-read_batch-in-Some.result c.from_residual-in_err-read_batch-in-Some.ensures.1 in
+    let inner = lift_ok _ _ (ap lift (sym c.table.ensures) ∙ (sym c.in_ok-lifted.ensures ∙ ap Ok c.in-Some.is)) in
+    rw (p.1, p.2) (λ b has ne. batch_refused b _ _ (of_values has inner) (c.in_err-read_batch-in-Some.ensures ne))

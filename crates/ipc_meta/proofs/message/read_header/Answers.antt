@@ -4,6 +4,10 @@ use Rattle.std.proofs.lemmas.Result.{err_from_is_err_and}
 use Rattle.ipc_meta.specs.Lifts.{lift}
 use Rattle.ipc_meta.proofs.Sound.{lift_ok, batch_sound}
 use Rattle.ipc_meta.proofs.Unique.{header_same, dictionary_refused, batch_refused}
+use Rattle.ipc_scalar.specs.Bytes.{byte}
+use Rattle.ipc_meta.specs.Reached.{message, header_type, header, of_schema, of_dictionary, of_batch}
+use Rattle.ipc_meta.proofs.Refused as told
+use Rattle.ipc_meta.proofs.Refused.{bad_number, bad_table}
 use Rattle.ipc_meta.proofs.message.read_header.Goals as goal
 
 pub returns-in_ok-read_batch-in-3-clause-found : goal.returns-in_ok-read_batch-in-3-clause-found
@@ -26,3 +30,34 @@ returns-in_err-id-in-2-clause-only c = λ h a.
     let p = err_from_is_err_and c.from_residual-in_err-id-in-2.result c.from_residual-in_err-id-in-2.ensures.1 in
     rw (p.1, p.2) (dictionary_refused _ _ _ h (lift_ok _ _ (ap lift (sym c.scalar_u8.ensures) ∙ (sym c.in_ok-code.ensures ∙ ap Ok c.in-2.is)))
     (lift_ok _ _ (ap lift (sym c.table.ensures) ∙ (sym c.in_ok-table.ensures ∙ ap Ok c.in-Some.is))) c.in_err-id-in-2.ensures.only a)
+
+pub returns-in_err-code-clause-refused : goal.returns-in_err-code-clause-refused
+returns-in_err-code-clause-refused c =
+    let p = err_from_is_err_and c.from_residual.result c.from_residual.ensures.1 in
+    rw (p.1, p.2) (λ b has ne. bad_number b message _ 1 1 byte 0 _ has header_type (ap lift (sym c.scalar_u8.ensures) ∙ sym c.in_err-code.ensures))
+
+pub returns-in_err-table-clause-refused : goal.returns-in_err-table-clause-refused
+returns-in_err-table-clause-refused c =
+    let p = err_from_is_err_and c.from_residual-in_err-table.result c.from_residual-in_err-table.ensures.1 in
+    rw (p.1, p.2) (λ b has ne. bad_table b message _ 2 _ has header (ap lift (sym c.table.ensures) ∙ sym c.in_err-table.ensures))
+
+pub returns-in_err-read_schema-in-1-clause-refused : goal.returns-in_err-read_schema-in-1-clause-refused
+returns-in_err-read_schema-in-1-clause-refused c =
+    let p = err_from_is_err_and c.from_residual-in_err-read_schema-in-1.result c.from_residual-in_err-read_schema-in-1.ensures.1 in
+    let code = lift_ok _ _ (ap lift (sym c.scalar_u8.ensures) ∙ (sym c.in_ok-code.ensures ∙ ap Ok c.in-1.is)) in
+    let table = lift_ok _ _ (ap lift (sym c.table.ensures) ∙ (sym c.in_ok-table.ensures ∙ ap Ok c.in-Some.is)) in
+    rw (p.1, p.2) (λ b has. c.in_err-read_schema-in-1.ensures.refused b (of_schema has (code, table)))
+
+pub returns-in_err-id-in-2-clause-refused : goal.returns-in_err-id-in-2-clause-refused
+returns-in_err-id-in-2-clause-refused c =
+    let p = err_from_is_err_and c.from_residual-in_err-id-in-2.result c.from_residual-in_err-id-in-2.ensures.1 in
+    let code = lift_ok _ _ (ap lift (sym c.scalar_u8.ensures) ∙ (sym c.in_ok-code.ensures ∙ ap Ok c.in-2.is)) in
+    let table = lift_ok _ _ (ap lift (sym c.table.ensures) ∙ (sym c.in_ok-table.ensures ∙ ap Ok c.in-Some.is)) in
+    rw (p.1, p.2) (λ b has. c.in_err-id-in-2.ensures.refused b (of_dictionary has (code, table)))
+
+pub returns-in_err-read_batch-in-3-clause-refused : goal.returns-in_err-read_batch-in-3-clause-refused
+returns-in_err-read_batch-in-3-clause-refused c =
+    let p = err_from_is_err_and c.from_residual-in_err-read_batch-in-3.result c.from_residual-in_err-read_batch-in-3.ensures.1 in
+    let code = lift_ok _ _ (ap lift (sym c.scalar_u8.ensures) ∙ (sym c.in_ok-code.ensures ∙ ap Ok c.in-3.is)) in
+    let table = lift_ok _ _ (ap lift (sym c.table.ensures) ∙ (sym c.in_ok-table.ensures ∙ ap Ok c.in-Some.is)) in
+    rw (p.1, p.2) (λ b has ne. told.batch_refused b _ _ (of_batch has (code, table)) (c.in_err-read_batch-in-3.ensures ne))

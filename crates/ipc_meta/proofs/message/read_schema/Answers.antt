@@ -5,6 +5,8 @@ use Rattle.ipc_meta.proofs.Sound.{pairs_sound, fields_sound, field_sound}
 use Rattle.ipc_meta.proofs.Complete.{schema_complete}
 use Rattle.ipc_meta.proofs.Unique.{schema_same, refused, fields_refused, check_refused}
 use Rattle.ipc_meta.specs.Reading.{field_read}
+use Rattle.ipc_meta.proofs.RefusedSchemas as told
+use Rattle.ipc_meta.proofs.RefusedFields.{own_pairs_refused, columns_refused}
 use Rattle.ipc_meta.proofs.message.read_schema.Goals as goal
 
 pub returns-clause-found : goal.returns-clause-found
@@ -32,3 +34,19 @@ pub returns-in_err-check-clause-only : goal.returns-in_err-check-clause-only
 returns-in_err-check-clause-only c = λ s h.
     let p = err_from_is_err_and c.from_residual-in_err-check.result c.from_residual-in_err-check.ensures.1 in
     rw (p.1, p.2) (check_refused _ s _ _ _ _ _ h c.in_ok-metadata.ensures c.in_ok-fields.ensures c.in_err-check.ensures.bad)
+
+pub returns-in_err-metadata-clause-refused : goal.returns-in_err-metadata-clause-refused
+returns-in_err-metadata-clause-refused c =
+    let p = err_from_is_err_and c.from_residual-in_err-metadata.result c.from_residual-in_err-metadata.ensures.1 in
+    rw (p.1, p.2) (λ b has ne. own_pairs_refused b _ _ has (c.in_err-metadata.ensures ne))
+
+pub returns-in_err-fields-clause-refused : goal.returns-in_err-fields-clause-refused
+returns-in_err-fields-clause-refused c =
+    let p = err_from_is_err_and c.from_residual-in_err-fields.result c.from_residual-in_err-fields.ensures.1 in
+    rw (p.1, p.2) (λ b has ne. columns_refused b _ _ _ has c.in_ok-metadata.ensures (c.in_err-fields.ensures ne))
+
+pub returns-in_err-check-clause-refused : goal.returns-in_err-check-clause-refused
+returns-in_err-check-clause-refused c =
+    let p = err_from_is_err_and c.from_residual-in_err-check.result c.from_residual-in_err-check.ensures.1 in
+    rw (p.1, p.2) (λ b has ne.
+    told.check_refused b _ (record { fields = c.in_ok-fields.fields; metadata = c.in_ok-metadata.metadata }) _ _ _ _ has c.in_ok-metadata.ensures c.in_ok-fields.ensures c.in_err-check.ensures.first ne)

@@ -1,0 +1,4 @@
+pub mod Decimals
+pub mod Fronts
+pub mod Shifts
+pub mod Table

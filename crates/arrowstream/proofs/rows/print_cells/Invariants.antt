@@ -1,0 +1,6 @@
+use Rattle.std.proofs.Common.{◌≤◌, length}
+use Rattle.arrowstream.proofs.rows.print_cells.Given as goal
+
+-- the place is in the text
+abbrev pub invariant-loop-row : goal.invariant-loop-row
+invariant-loop-row g l = l.at ≤ length l.text

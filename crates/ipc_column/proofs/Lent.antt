@@ -1,0 +1,50 @@
+-- Numbers that are lent are those of the rows.
+use Rattle.std.proofs.Common.{◌≡◌, ◌∙◌, refl, sym, ap, subst, ℕ, ◌+◌, ◌-◌, ◌*◌, ◌<◌, true, false, List, [], length, get_or, take, drop, arith, Option, None, Some}
+use Rattle.std.specs.Prelude.{nat_le, slice_get, if◌then◌else◌, Bool, IfSome}
+use Rattle.std.proofs.lemmas.Bool.{leb-true}
+use Rattle.ipc_scalar.specs.Bytes.{int64}
+use Rattle.ipc_model.specs.declared.value.Value.{Value}
+use Rattle.ipc_model.specs.declared.value.Value.TheVariants.{Int}
+use Rattle.ipc_model.specs.declared.schema.IntBits.TheVariants.{B64}
+use Rattle.ipc_column.specs.declared.layout.Layout.{Layout}
+use Rattle.ipc_column.specs.declared.layout.Layout.TheVariants.{Numbers}
+use Rattle.ipc_column.specs.declared.part.Part.{Part}
+use Rattle.ipc_column.specs.Columns.{Column, bytes_of}
+use Rattle.ipc_column.specs.Lending.{AreNumbers, AreValues}
+use Rattle.ipc_column.specs.Tests.{Holds, holds_values}
+use Rattle.ipc_column.specs.Values.{rows_of, value_of}
+use Rattle.ipc_column.specs.Views.{columns, own_column}
+use Rattle.ipc_column.proofs.Cells.{kept_at, part_long, row_cell, rows_at, rows_length}
+use Rattle.ipc_column.proofs.Parts.{column_is}
+
+-- what follows of what is lent
+pub some_lent : {A : Type 0} {P Q : A → Type 0} (o : Option A) → ((a : A) → P a → Q a) → IfSome o P → IfSome o Q
+some_lent None f h = tt
+some_lent (Some a) f h = f a h
+
+-- a span of no bytes has none
+pub no_bytes : (body : List ℕ) (start : ℕ) → bytes_of body start 0 ≡ []
+unfolding bytes_of
+no_bytes body start = go (nat_le (start + 0) (length body))
+  where
+    go : (b : Bool) → (if b then take (start + 0 - start) (drop start body) else []) ≡ []
+    go true = let none : start + 0 - start ≡ 0 = omega arith in rw none refl
+    go false = refl
+
+module _ (body : List ℕ) (ps : List Part) (n j : ℕ) (p : Part) (values : List ℕ) (inside : j < length ps) (is : p ≡ get_or ps j p) (holds : Holds n (columns body ps)) (lent : AreValues body p values) where
+  number_at : (i : ℕ) → value_of (own_column body p) i ≡ Int (int64 values (8 * i))
+  number_at i = rw (lent.no_bitmap, lent.wide, lent.same) refl
+
+  pub lent_numbers : AreNumbers (rows_of (columns body ps) n) j values
+  lent_numbers =
+      let kept = kept_at n body ps j p inside is holds in
+      let size : (own_column body p).slots ≡ n = sym (ap (λ (c : Column). c.slots) (column_is body p)) ∙ kept.slots in
+      let fits : holds_values (Numbers B64 true) (own_column body p).slots (length (own_column body p).values) ≡ true =
+      subst (λ (l : Layout). holds_values l (own_column body p).slots (length (own_column body p).values) ≡ true) lent.wide (part_long body p kept.sound).values in
+      record {
+        long = omega (arith, leb-true _ _ fits, size, rows_length (columns body ps) n, ap length lent.same);
+        each = λ i l.
+            let at : i < n = omega (arith, rows_length (columns body ps) n) in
+            ap (λ (r : List Value). slice_get r j) (rows_at (columns body ps) n i [] at)
+            ∙ (row_cell body ps i j p inside is ∙ ap (λ (v : Value). Some v) (ap (λ (c : Column). value_of c i) (column_is body p) ∙ number_at i));
+      }

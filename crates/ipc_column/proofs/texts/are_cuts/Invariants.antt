@@ -1,0 +1,5 @@
+use Rattle.ipc_column.specs.Tests.{AreCuts}
+use Rattle.ipc_column.proofs.texts.are_cuts.Given as goal
+
+abbrev pub invariant-loop-slot : goal.invariant-loop-slot
+invariant-loop-slot l = AreCuts l.offsets l.text l.slot

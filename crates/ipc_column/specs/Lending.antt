@@ -1,0 +1,20 @@
+-- Columns whose numbers are lent as they lie (Arrow Columnar Format, "Fixed-size Primitive Layout").
+use Rattle.std.specs.Prelude.{◌≡◌, ℕ, ◌*◌, ◌<◌, ◌≤◌, true, List, [], length, Some, slice_get, slice_index_or}
+use Rattle.ipc_scalar.specs.Bytes.{int64}
+use Rattle.ipc_model.specs.declared.schema.IntBits.TheVariants.{B64}
+use Rattle.ipc_model.specs.declared.value.Value.{Value}
+use Rattle.ipc_model.specs.declared.value.Value.TheVariants.{Int}
+use Rattle.ipc_column.specs.declared.layout.Layout.TheVariants.{Numbers}
+use Rattle.ipc_column.specs.declared.part.Part.{Part}
+use Rattle.ipc_column.specs.Views.{own_column}
+
+-- row i has the signed number at byte 8 * i in this column
+pub record AreNumbers (rows : List (List Value)) (column : ℕ) (values : List ℕ) : Type 0 where
+  pub long : 8 * length rows ≤ length values
+  pub each : (i : ℕ) → i < length rows → slice_get (slice_index_or rows i []) column ≡ Some (Int (int64 values (8 * i)))
+
+-- the values of a part of signed 64-bit numbers without a bitmap
+pub record AreValues (body : List ℕ) (p : Part) (values : List ℕ) : Type 0 where
+  pub wide : (own_column body p).layout ≡ Numbers B64 true
+  pub no_bitmap : (own_column body p).validity ≡ []
+  pub same : values ≡ (own_column body p).values

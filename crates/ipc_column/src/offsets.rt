@@ -1,0 +1,55 @@
+ghost use Rattle.std.specs.Prelude.{◌≡◌, ◌≤◌, ◌<◌, ◌+◌, ◌*◌, length, true};
+ghost use Rattle.ipc_column.specs.Tests.{climbs};
+ghost use Rattle.ipc_column.specs.Values.{offset, place, between};
+
+use ipc_scalar::get_i32;
+
+// Offset `i`.
+fn offset_at(offsets: &[u8], i: usize) -> i32
+    requires { 4 * (i + 1) ≤ length offsets.now }
+    ensures { result ≡ offset offsets.now i }
+{
+    get_i32(offsets, 4 * i).unwrap_or(0)
+}
+
+/// Where offset `i` points, if it isn't negative.
+pub(crate) fn place_at(offsets: &[u8], i: usize) -> usize
+    requires { 4 * (i + 1) ≤ length offsets.now }
+    ensures { result ≡ place offsets.now i }
+{
+    offset_at(offsets, i).unsigned_abs() as usize
+}
+
+/// Whether the offsets of so many slots begin at 0 or above, don't decrease and end within so many bytes.
+#[tactic(auto, using(crate::proofs::Below::all_below_more))]
+pub(crate) fn are_in_order(offsets: &[u8], slots: usize, size: usize) -> bool
+    requires { 4 * (slots + 1) ≤ length offsets.now }
+    ensures { result ≡ climbs offsets.now slots size }
+{
+    let first = offset_at(offsets, 0);
+    let mut before = first;
+    let mut ordered = true;
+    for i in 0..slots {
+        let next = offset_at(offsets, i + 1);
+        ordered = ordered && before <= next;
+        before = next;
+    }
+    0 <= first && ordered && before.unsigned_abs() as usize <= size
+}
+
+/// The bytes of a slot, one of so many.
+pub(crate) fn bytes_between<'a>(
+    offsets: &[u8],
+    values: &'a [u8],
+    slots: usize,
+    slot: usize,
+) -> &'a [u8]
+    requires slot { slot < slots }
+    requires bytes { 4 * (slots + 1) ≤ length offsets.now }
+    requires order { climbs offsets.now slots (length values.now) ≡ true }
+    ensures { result.now ≡ between offsets.now values.now slot }
+{
+    let start = place_at(offsets, slot);
+    let end = place_at(offsets, slot + 1);
+    &values[start..end]
+}

@@ -1,0 +1,175 @@
+-- Where a schema that was read is not well formed, the fault's cause is true of the metadata.
+use Rattle.std.proofs.Common.{◌≡◌, ◌∙◌, refl, sym, ap, subst, ℕ, ◌+◌, ◌^◌, Bool, true, false, not, ◌||◌, List, [], ◌∷◌, ◌⊎◌, inl, inr, ⊎_elim, ◌≤◌, ◌<◌, ◌&&◌, length, arith}
+use Rattle.std.specs.Prelude.{sum_by, ℤ, ◌-◌, nat_le, Option, None, Some, is_some, Result, Ok, Err}
+use Rattle.std.specs.List.{AllByRecursion}
+use Rattle.std.specs.Ordering.{int_eq}
+use Rattle.std.proofs.lemmas.Bool.Decides.{nat_tests, Decides-int_eq, Decides-eqb}
+use Rattle.ipc_flat.specs.Views.{Table}
+use Rattle.ipc_model.specs.WellFormed.{Entry, entries, max_fields, max_depth, max_text, max_pairs}
+use Rattle.ipc_model.specs.Meaning.{HasGoodType, HasFittingChildren, IsLeaf}
+use Rattle.ipc_model.specs.SchemaFaults.{Before, after, scan, unless_at, fault_at, has_good_type, has_fitting_children, has_leaf_dictionary, is_leaf, is_little_text, same_type, agrees, has_conflict, with_kind, at_start, done, verdict_on}
+use Rattle.ipc_model.specs.Refusals.{reader_fault}
+use Rattle.ipc_model.specs.declared.check.SchemaFault.{SchemaFault}
+use Rattle.ipc_model.specs.declared.check.SchemaFault.TheVariants as check
+use Rattle.ipc_model.specs.declared.schema.DataType.{DataType}
+use Rattle.ipc_model.specs.declared.schema.DataType.TheVariants as t
+use Rattle.ipc_model.specs.declared.schema.Dictionary.{Dictionary}
+use Rattle.ipc_model.specs.declared.schema.Schema.{Schema}
+use Rattle.ipc_model.proofs.SameTypes.{same_itself}
+use Rattle.ipc_meta.specs.Fields.{VectorAt, FieldAt}
+use Rattle.ipc_meta.specs.Reached.{schema, HasTable}
+use Rattle.ipc_meta.specs.Causes.{Encodes, Cause, too_wide}
+use Rattle.ipc_meta.proofs.Refused.{choose}
+use Rattle.ipc_meta.proofs.Entries.{Told, entries_told}
+use Rattle.ipc_meta.proofs.Totals.{Totals, schema_totals}
+use Rattle.ipc_meta.proofs.Sound.{fields_sound, field_sound}
+use Rattle.ipc_meta.specs.declared.budget.Budget.{Budget}
+use Rattle.ipc_meta.specs.Reading.{pairs_read, fields_read, field_read}
+use Rattle.ipc_meta.specs.Totals.{fields_stated, text_stated, pairs_stated}
+use Rattle.std.proofs.lemmas.List.Sums.{sum_by-cons}
+
+-- ---- the tests of one field
+
+is_false : (c : Bool) → not c ≡ true → c ≡ false
+is_false true h = cc
+is_false false h = refl
+
+good_test : (κ : DataType) → has_good_type κ ≡ false → HasGoodType κ → ⊥
+good_test (t.FixedSizeBinary n) h good = let fits : nat_le n (2 ^ 31 - 1) ≡ true = grind (arith, nat_tests) in cc
+good_test _ h good = cc
+
+fitting_test : (κ : DataType) (n : ℕ) → has_fitting_children κ n ≡ false → HasFittingChildren κ n → ⊥
+fitting_test t.List n h fit = let is = (Decides-eqb n 1).1 fit in cc
+fitting_test t.Struct n h fit = cc
+fitting_test _ n h fit = let is = (Decides-eqb n 0).1 fit in cc
+
+leaf_test : (κ : DataType) → is_leaf κ ≡ false → IsLeaf κ → ⊥
+leaf_test t.List h leaf = leaf
+leaf_test t.Struct h leaf = leaf
+leaf_test _ h leaf = cc
+
+-- a dictionary's types so far are those of the metadata
+abbrev AreEncoded : List ℕ → (ℤ → Option DataType) → Type 0
+AreEncoded b kinds = (id : ℤ) (κ : DataType) → kinds id ≡ Some κ → Encodes b id κ
+
+encoded : (b : List ℕ) (s : Table) (e : Entry) (d : Dictionary) → Told b s e → e.dictionary ≡ Some d → Encodes b d.id e.kind
+encoded b s e d h is = (h.table, h.has, (h.kind, (d, h.dictionary ∙ ap Ok is, refl)))
+
+encoded_after : (b : List ℕ) (s : Table) (kinds : ℤ → Option DataType) (e : Entry) → Told b s e → AreEncoded b kinds → AreEncoded b (with_kind kinds e.dictionary e.kind)
+encoded_after b s kinds e h all = go e.dictionary refl
+  where
+    go : (o : Option Dictionary) → e.dictionary ≡ o → AreEncoded b (with_kind kinds o e.kind)
+    go None is id κ k = all id κ k
+    go (Some d) is id κ k =
+        choose (int_eq d.id id) _ _ _ k
+        (λ same k. let type : e.kind ≡ κ = cc in let one : d.id ≡ id = (Decides-int_eq d.id id).0 same in subst (λ n. Encodes b n κ) one (subst (Encodes b d.id) type (encoded b s e d h is)))
+        (λ other k. all id κ k)
+
+conflict : (b : List ℕ) (s : Table) (kinds : ℤ → Option DataType) (e : Entry) → Told b s e → AreEncoded b kinds → has_conflict kinds e.dictionary e.kind ≡ true → Cause b (reader_fault (check.DictionaryConflict 0))
+conflict b s kinds e h all = go e.dictionary refl
+  where
+    go : (o : Option Dictionary) → e.dictionary ≡ o → has_conflict kinds o e.kind ≡ true → Cause b (reader_fault (check.DictionaryConflict 0))
+    go None is k = cc
+    go (Some d) is k = earlier (kinds d.id) refl (is_false _ k)
+      where
+        earlier : (o : Option DataType) → kinds d.id ≡ o → agrees o e.kind ≡ false → Cause b (reader_fault (check.DictionaryConflict 0))
+        earlier None at k = cc
+        earlier (Some first) at k =
+            (d.id, first, e.kind, all d.id first at, encoded b s e d h is, λ same. let one : same_type first first ≡ false = subst (λ κ. same_type first κ ≡ false) (sym same) k in let two = same_itself first in cc)
+
+nested : (b : List ℕ) (s : Table) (e : Entry) → Told b s e → has_leaf_dictionary e ≡ false → Cause b (reader_fault (check.NestedDictionary 0))
+nested b s e h = go e.dictionary refl
+  where
+    go : (o : Option Dictionary) → e.dictionary ≡ o → not (is_some o) || is_leaf e.kind ≡ false → Cause b (reader_fault (check.NestedDictionary 0))
+    go None is k = cc
+    go (Some d) is k = (d.id, e.kind, encoded b s e d h is, leaf_test e.kind k)
+
+-- ---- the scan
+
+-- what the fields before have with these ones is no more than the Schema table states
+record Within (s : Table) (a : Before) (es : List Entry) : Type 0 where
+  fields : a.fields + length es ≤ fields_stated s
+  text : a.text + sum_by (λ e. e.text) es ≤ text_stated s
+  pairs : a.pairs + sum_by (λ e. e.pairs) es ≤ pairs_stated s
+
+within_after : (s : Table) (a : Before) (e : Entry) (es : List Entry) → Within s a (e ∷ es) → Within s (after a e) es
+within_after s a e es w =
+    let text = sum_by-cons (λ (e : Entry). e.text) e es in
+    let pairs = sum_by-cons (λ (e : Entry). e.pairs) e es in
+    record { fields = omega (arith, w.fields); text = omega (arith, w.text, text); pairs = omega (arith, w.pairs, pairs) }
+
+too_much : (a : Before) → is_little_text a ≡ false → (max_text < a.text) ⊎ (max_pairs < a.pairs)
+too_much a h = go (nat_le a.text max_text) refl h
+  where
+    go : (c : Bool) → nat_le a.text max_text ≡ c → (c && nat_le a.pairs max_pairs) ≡ false → (max_text < a.text) ⊎ (max_pairs < a.pairs)
+    go true is h = inr (grind (arith, nat_tests))
+    go false is h = inl (grind (arith, nat_tests))
+
+text_refused : (b : List ℕ) (s : Table) (a : Before) → HasTable b schema s → Within s a [] → is_little_text a ≡ false → Cause b (reader_fault (check.TooMuchText 0))
+text_refused b s a hs w h = (s, hs, ⊎_elim (λ m. inl (let t = w.text in omega (arith, m, t))) (λ m. inr (let p = w.pairs in omega (arith, m, p))) (too_much a h))
+
+entry_refused : (b : List ℕ) (s : Table) (a : Before) (e : Entry) (x : SchemaFault) → HasTable b schema s → Told b s e → AreEncoded b a.kinds → Within s (after a e) [] → fault_at a e ≡ Some x → Cause b (reader_fault x)
+entry_refused b s a e x hs h all w k =
+    choose (not (has_good_type e.kind)) _ _ _ k
+    (λ i k. let same : check.BadType (a.fields + 1) ≡ x = cc in told same (too_wide (h.table, h.has, (e.kind, h.kind, good_test e.kind (is_false _ i))))) (λ i k.
+    choose (not (has_fitting_children e.kind e.children)) _ _ _ k
+    (λ i k. let same : check.BadChildren (a.fields + 1) ≡ x = cc in
+    let fits : has_fitting_children e.kind h.elements.len ≡ false = rw h.many (is_false _ i) in
+    told same (h.table, h.has, (e.kind, h.elements, h.kind, h.vector, fitting_test e.kind h.elements.len fits))) (λ i k.
+    choose (not (nat_le (a.fields + 1) max_fields)) _ _ _ k
+    (λ i k. let same : check.TooManyFields (a.fields + 1) ≡ x = cc in
+    let few : nat_le (a.fields + 1) max_fields ≡ false = is_false _ i in
+    let more : max_fields < a.fields + 1 = grind (arith, nat_tests) in
+    let all = w.fields in
+    told same (s, hs, omega (arith, more, all))) (λ i k.
+    choose (not (nat_le e.depth max_depth)) _ _ _ k
+    (λ i k. let same : check.TooDeep (a.fields + 1) ≡ x = cc in
+    let shallow : nat_le e.depth max_depth ≡ false = is_false _ i in
+    let deeper : max_depth < e.depth = grind (arith, nat_tests) in
+    told same (s, hs, (h.table, e.depth, deeper, h.deep))) (λ i k.
+    choose (not (is_little_text (after a e))) _ _ _ k
+    (λ i k. let same : check.TooMuchText (a.fields + 1) ≡ x = cc in told same (text_refused b s (after a e) hs w (is_false _ i))) (λ i k.
+    choose (has_conflict a.kinds e.dictionary e.kind) _ _ _ k
+    (λ i k. let same : check.DictionaryConflict (a.fields + 1) ≡ x = cc in told same (conflict b s a.kinds e h all i)) (λ i k.
+    choose (not (has_leaf_dictionary e)) _ _ _ k
+    (λ i k. let same : check.NestedDictionary (a.fields + 1) ≡ x = cc in told same (nested b s e h (is_false _ i))) (λ i k. absurd (cc))))))))
+  where
+    told : {y : SchemaFault} → y ≡ x → Cause b (reader_fault y) → Cause b (reader_fault x)
+    told same cause = subst (λ y. Cause b (reader_fault y)) same cause
+
+scan_refused : (b : List ℕ) (s : Table) (es : List Entry) (a : Before) (x : SchemaFault) → HasTable b schema s → AllByRecursion (Told b s) es → AreEncoded b a.kinds → Within s a es → scan a es ≡ Err x → Cause b (reader_fault x)
+scan_refused b s [] a x hs h all w k = absurd (cc)
+scan_refused b s (e ∷ es) a x hs h all w k =
+    go (fault_at a e) refl (λ k. scan_refused b s es (after a e) x hs h.1 (encoded_after b s a.kinds e h.0 all) next k) k
+  where
+    next : Within s (after a e) es
+    next = within_after s a e es w
+
+    here : Within s (after a e) []
+    here = record { fields = let n = next.fields in omega arith; text = let n = next.text in omega arith; pairs = let n = next.pairs in omega arith }
+
+    go : (o : Option SchemaFault) → fault_at a e ≡ o → (scan (after a e) es ≡ Err x → Cause b (reader_fault x)) → unless_at o (scan (after a e) es) ≡ Err x → Cause b (reader_fault x)
+    go None is later k = later k
+    go (Some y) is later k = let same : y ≡ x = cc in subst (λ y. Cause b (reader_fault y)) same (entry_refused b s a e y hs h.0 all here is)
+
+done_err : (r : Result Before SchemaFault) (x : SchemaFault) → done r ≡ Err x → r ≡ Err x
+done_err (Ok a) x h = absurd (cc)
+done_err (Err e) x h = let same : e ≡ x = cc in ap Err same
+
+schema_refused : (b : List ℕ) (t : Table) (s : Schema) (x : SchemaFault) → HasTable b schema t → VectorAt FieldAt s.fields t 1 → Totals t s.fields s.metadata → verdict_on s ≡ Err x → Cause b (reader_fault x)
+schema_refused b t s x has h totals k =
+    let own = at_start s.metadata in
+    let text = totals.text in
+    let pairs = totals.pairs in
+    choose (is_little_text own) _ _ _ k
+    (λ i k. scan_refused b t (entries s.fields) own x has (entries_told b t s.fields has h) (λ id κ bad. absurd (cc))
+    (record { fields = omega (arith, totals.fields); text = omega (arith, text); pairs = omega (arith, pairs) }) (done_err _ x k))
+    (λ i k. let same : check.TooMuchText 0 ≡ x = cc in
+    subst (λ y. Cause b (reader_fault y)) same (text_refused b t own has (record { fields = omega arith; text = omega (arith, text); pairs = omega (arith, pairs) }) i))
+
+-- the check's refusal, as the call that reads tells it
+pub check_refused : (b : List ℕ) (t : Table) (s : Schema) (x : SchemaFault) (l m n : Budget) → HasTable b schema t → pairs_read t 2 l ≡ Ok (s.metadata, m) → fields_read (field_read 64) t 1 m ≡ Ok (s.fields, n)
+    → (x ≡ check.OutOfMemory) ⊎ (verdict_on s ≡ Err x) → (reader_fault x ≡ reader_fault check.OutOfMemory → ⊥) → Cause b (reader_fault x)
+check_refused b t s x l m n has p q k ne =
+    ⊎_elim (λ is. absurd (ne (ap reader_fault is)))
+    (schema_refused b t s x has (fields_sound (field_read 64) (field_sound 64) t 1 m n s.fields q) (schema_totals t l m n s.fields s.metadata p q)) k

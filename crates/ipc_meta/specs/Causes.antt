@@ -1,0 +1,84 @@
+-- Why metadata is refused: what is true of it for each fault that is told.
+use Rattle.std.specs.Prelude.{◌≡◌, ◌≢◌, ℕ, ◌<◌, ◌⊎◌, ℤ, true, false, pos, int_lt, List, Option, None, Some, Result, Ok}
+use Rattle.ipc_scalar.specs.declared.fault.FlatFault.{FlatFault}
+use Rattle.ipc_scalar.specs.Bytes.{byte, int16, int32, int64}
+use Rattle.ipc_flat.specs.Views.{Table, Elements, table_from, scalar, field}
+use Rattle.ipc_model.specs.declared.fault.Fault.{Fault}
+use Rattle.ipc_model.specs.declared.fault.Fault.TheVariants as f
+use Rattle.ipc_model.specs.declared.schema.DataType.{DataType}
+use Rattle.ipc_model.specs.declared.schema.Dictionary.{Dictionary}
+use Rattle.ipc_model.specs.WellFormed.{max_fields, max_depth, max_text, max_pairs}
+use Rattle.ipc_model.specs.Meaning.{HasGoodType, HasFittingChildren, IsLeaf}
+use Rattle.ipc_meta.specs.Open.{is_open}
+use Rattle.ipc_meta.specs.Tables.{bits_of, unit_of, flag_at, vector_at, code_at, type_at, dictionary_at}
+use Rattle.ipc_meta.specs.Totals.{fields_stated, text_stated, pairs_stated}
+use Rattle.ipc_meta.specs.Heads.{longest_body}
+use Rattle.ipc_meta.specs.Reached.{Kind, HasTable, IsDeep, HasIllFormed, HasOtherText, message, schema, column, type_value, index_type, dictionary_batch, record_batch}
+
+-- the metadata has a table of this kind of which P holds
+abbrev pub Has : List ℕ → Kind → (Table → Type 0) → Type 0
+Has b kind P = (t : Table) × HasTable b kind t × P t
+
+-- the answer is a value of which P holds
+abbrev pub Is : {X : Type 0} → Result X FlatFault → (X → Type 0) → Type 0
+Is {X} r P = (x : X) × (r ≡ Ok x) × P x
+
+-- the header is none of a stream's (Message.fbs, union MessageHeader), or it is absent, or a dictionary batch has no data
+pub data HasNoHeader (b : List ℕ) : Type 0 where
+  other : Has b message (λ t. Is (scalar t 1 1 byte 0) (λ code. (code ≢ 1) × (code ≢ 2) × (code ≢ 3))) → HasNoHeader b
+  absent : Has b message (λ t. field t 2 table_from ≡ Ok None) → HasNoHeader b
+  no_data : Has b dictionary_batch (λ t. field t 1 table_from ≡ Ok None) → HasNoHeader b
+
+-- a type's table with this code in union Type has a width or a unit that no type has (Schema.fbs, tables Int, Date, Timestamp and
+-- FixedSizeBinary)
+pub data IsNoType : ℕ → Table → Type 0 where
+  other_width : {v : Table} → Is (scalar v 0 4 int32 (pos 0)) (λ width. bits_of width ≡ None) → IsNoType 2 v
+  other_date_unit : {v : Table} → Is (scalar v 0 2 int16 (pos 1)) (λ unit. (unit ≢ pos 0) × (unit ≢ pos 1)) → IsNoType 8 v
+  other_time_unit : {v : Table} → Is (scalar v 0 2 int16 (pos 0)) (λ unit. unit_of unit ≡ None) → IsNoType 10 v
+  negative_width : {v : Table} → Is (scalar v 0 4 int32 (pos 0)) (λ width. int_lt width (pos 0) ≡ true) → IsNoType 15 v
+
+-- a field's type has no table, or a table that is no type's, or it is wider than a type can be
+pub data HasBadType (b : List ℕ) : Type 0 where
+  no_table : Has b column (λ t. field t 3 table_from ≡ Ok None) → HasBadType b
+  no_type : {code : ℕ} → Has b (type_value code) (IsNoType code) → HasBadType b
+  too_wide : Has b column (λ t. (κ : DataType) × (type_at t ≡ Ok κ) × (HasGoodType κ → ⊥)) → HasBadType b
+
+-- none of the types that are read has this code (Schema.fbs, union Type: Null 1, Int 2, Binary 4, Utf8 5, Bool 6, Date 8, Timestamp 10,
+-- List 12, Struct_ 13, FixedSizeBinary 15)
+abbrev pub IsNoCode : ℕ → Type 0
+IsNoCode code = (code ≢ 1) × (code ≢ 2) × (code ≢ 4) × (code ≢ 5) × (code ≢ 6) × (code ≢ 8) × (code ≢ 10) × (code ≢ 12) × (code ≢ 13) × (code ≢ 15)
+
+-- the type of a Field table has this code, and columns of it, with its dictionary, are not read
+pub data IsNotRead (code : ℕ) (t : Table) : Type 0 where
+  no_code : code_at t ≡ Ok code → IsNoCode code → IsNotRead code t
+  not_open : (κ : DataType) (d : Option Dictionary) → code_at t ≡ Ok code → type_at t ≡ Ok κ → dictionary_at t ≡ Ok d → is_open κ d ≡ false → IsNotRead code t
+
+-- a field has another number of children than its type (Schema.fbs, table Field, 5 children)
+abbrev pub HasBadChildren : List ℕ → Type 0
+HasBadChildren b = Has b column (λ t. (κ : DataType) × (es : Elements) × (type_at t ≡ Ok κ) × (vector_at t 5 ≡ Ok es) × (HasFittingChildren κ es.len → ⊥))
+
+-- a field has values of this type in the dictionary with this id (Schema.fbs, table DictionaryEncoding)
+abbrev pub Encodes : List ℕ → ℤ → DataType → Type 0
+Encodes b id κ = Has b column (λ t. (type_at t ≡ Ok κ) × ((d : Dictionary) × (dictionary_at t ≡ Ok (Some d)) × (d.id ≡ id)))
+
+-- what each fault says of the metadata
+abbrev pub Cause : List ℕ → Fault → Type 0
+Cause b f.BadFlat = HasIllFormed b
+Cause b f.BadVersion = Has b message (λ t. Is (scalar t 0 2 int16 (pos 0)) (λ v. v ≢ pos 4))
+Cause b f.BadHeader = HasNoHeader b
+Cause b f.BadBodyLength = Has b message (λ t. Is (scalar t 3 8 int64 (pos 0)) (λ n. int_lt n (pos 0) ≡ true))
+Cause b f.BodyTooLong = Has b message (λ t. Is (scalar t 3 8 int64 (pos 0)) (λ n. int_lt (pos longest_body) n ≡ true))
+Cause b f.BigEndian = Has b schema (λ t. Is (scalar t 0 2 int16 (pos 0)) (λ e. e ≢ pos 0))
+Cause b (f.UnsupportedType code) = Has b column (IsNotRead code)
+Cause b f.BadType = HasBadType b
+Cause b f.BadChildren = HasBadChildren b
+Cause b f.NameNotUtf8 = HasOtherText b
+Cause b f.TooManyFields = Has b schema (λ t. max_fields < fields_stated t)
+Cause b f.TooDeep = Has b schema (λ t. (u : Table) × (depth : ℕ) × (max_depth < depth) × IsDeep t depth u)
+Cause b f.TooMuchText = Has b schema (λ t. (max_text < text_stated t) ⊎ (max_pairs < pairs_stated t))
+Cause b f.DictionaryConflict = (id : ℤ) × (κ : DataType) × (μ : DataType) × Encodes b id κ × Encodes b id μ × (κ ≢ μ)
+Cause b f.NestedDictionary = (id : ℤ) × (κ : DataType) × Encodes b id κ × (IsLeaf κ → ⊥)
+Cause b f.BadIndexType = Has b index_type (λ t. Is (scalar t 0 4 int32 (pos 0)) (λ width. bits_of width ≡ None))
+Cause b f.Compressed = Has b record_batch (λ t. (c : Table) × (field t 3 table_from ≡ Ok (Some c)))
+Cause b f.DeltaDictionary = Has b dictionary_batch (λ t. flag_at t 2 ≡ Ok true)
+Cause b fault = ⊥

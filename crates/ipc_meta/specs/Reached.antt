@@ -1,0 +1,119 @@
+-- Which tables the metadata of a message has (Message.fbs, Schema.fbs), and where what they hold is ill-formed.
+use Rattle.std.specs.Prelude.{◌≡◌, ℕ, ◌+◌, ◌*◌, ◌<◌, List, Some, Result, Ok, Err, ◌⊎◌}
+use Rattle.ipc_scalar.specs.Bytes.{byte}
+use Rattle.ipc_scalar.specs.Flat.{slot_of, text_of}
+use Rattle.ipc_flat.specs.Views.{Table, Elements, table_from, scalar, field, elements_from, structs_from}
+use Rattle.ipc_scalar.specs.declared.fault.FlatFault.{FlatFault}
+use Rattle.ipc_scalar.specs.declared.fault.FlatFault.TheVariants.{NotUtf8}
+use Rattle.ipc_model.specs.declared.fault.Fault.TheVariants.{BadFlat}
+use Rattle.ipc_meta.specs.Lifts.{lift}
+use Rattle.ipc_meta.specs.Tables.{vector_at, code_at}
+
+-- the tables that are looked at; a type's table has its code in union Type
+pub data Kind : Type 0 where
+  message : Kind
+  schema : Kind
+  column : Kind
+  key_value : Kind
+  type_value : ℕ → Kind
+  dictionary_encoding : Kind
+  index_type : Kind
+  dictionary_batch : Kind
+  record_batch : Kind
+
+-- what a field of a table holds: a number of so many bytes, or the offset of a table, a text, a vector of tables or a vector of
+-- structs of 16 bytes
+pub data Held : Type 0 where
+  number : ℕ → Held
+  table : Held
+  text : Held
+  tables : Held
+  structs : Held
+
+-- the fields that are looked at, each with its number in its table (Message.fbs, Schema.fbs)
+pub data LooksAt : Kind → ℕ → Held → Type 0 where
+  version : LooksAt message 0 (number 2)
+  header_type : LooksAt message 1 (number 1)
+  header : LooksAt message 2 table
+  body_length : LooksAt message 3 (number 8)
+  endianness : LooksAt schema 0 (number 2)
+  fields : LooksAt schema 1 tables
+  schema_metadata : LooksAt schema 2 tables
+  name : LooksAt column 0 text
+  nullable : LooksAt column 1 (number 1)
+  type_type : LooksAt column 2 (number 1)
+  type : LooksAt column 3 table
+  dictionary : LooksAt column 4 table
+  children : LooksAt column 5 tables
+  field_metadata : LooksAt column 6 tables
+  key : LooksAt key_value 0 text
+  value : LooksAt key_value 1 text
+  bit_width : LooksAt (type_value 2) 0 (number 4)
+  is_signed : LooksAt (type_value 2) 1 (number 1)
+  date_unit : LooksAt (type_value 8) 0 (number 2)
+  time_unit : LooksAt (type_value 10) 0 (number 2)
+  timezone : LooksAt (type_value 10) 1 text
+  byte_width : LooksAt (type_value 15) 0 (number 4)
+  dictionary_id : LooksAt dictionary_encoding 0 (number 8)
+  indices : LooksAt dictionary_encoding 1 table
+  is_ordered : LooksAt dictionary_encoding 2 (number 1)
+  index_bit_width : LooksAt index_type 0 (number 4)
+  index_is_signed : LooksAt index_type 1 (number 1)
+  id : LooksAt dictionary_batch 0 (number 8)
+  values : LooksAt dictionary_batch 1 table
+  is_delta : LooksAt dictionary_batch 2 (number 1)
+  length : LooksAt record_batch 0 (number 8)
+  nodes : LooksAt record_batch 1 structs
+  buffers : LooksAt record_batch 2 structs
+  compression : LooksAt record_batch 3 table
+
+-- u is one of the tables to which the offsets of the vector in field k of t point (FlatBuffers binary format, "Strings and Vectors")
+abbrev pub Element : Table → ℕ → Table → Type 0
+Element t k u = (es : Elements) × (i : ℕ) × (vector_at t k ≡ Ok es) × (i < es.len) × (table_from es.bytes (es.at + i * 4) ≡ Ok u)
+
+-- field 2 of a Message table holds the table of a header with this code in union MessageHeader (Message.fbs)
+abbrev pub Header : Table → ℕ → Table → Type 0
+Header t code u = (scalar t 1 1 byte 0 ≡ Ok code) × (field t 2 table_from ≡ Ok (Some u))
+
+-- the metadata b has the table t of this kind: the root table is the Message, and each other table is the header, the data, a column, a
+-- child, a pair, the type, the dictionary or the index type of one that it has
+pub data HasTable (b : List ℕ) : Kind → Table → Type 0 where
+  of_root : {t : Table} → table_from b 0 ≡ Ok t → HasTable b message t
+  of_schema : {t u : Table} → HasTable b message t → Header t 1 u → HasTable b schema u
+  of_dictionary : {t u : Table} → HasTable b message t → Header t 2 u → HasTable b dictionary_batch u
+  of_batch : {t u : Table} → HasTable b message t → Header t 3 u → HasTable b record_batch u
+  of_values : {t u : Table} → HasTable b dictionary_batch t → field t 1 table_from ≡ Ok (Some u) → HasTable b record_batch u
+  of_column : {t u : Table} → HasTable b schema t → Element t 1 u → HasTable b column u
+  of_child : {t u : Table} → HasTable b column t → Element t 5 u → HasTable b column u
+  of_schema_pair : {t u : Table} → HasTable b schema t → Element t 2 u → HasTable b key_value u
+  of_field_pair : {t u : Table} → HasTable b column t → Element t 6 u → HasTable b key_value u
+  of_type : {t u : Table} {code : ℕ} → HasTable b column t → code_at t ≡ Ok code → field t 3 table_from ≡ Ok (Some u) → HasTable b (type_value code) u
+  of_encoding : {t u : Table} → HasTable b column t → field t 4 table_from ≡ Ok (Some u) → HasTable b dictionary_encoding u
+  of_index : {t u : Table} → HasTable b dictionary_encoding t → field t 1 table_from ≡ Ok (Some u) → HasTable b index_type u
+
+-- the Field table u stands so deep in the Schema table t, where a column is 1 deep (Schema.fbs, tables Schema, 1 fields, and Field, 5 children)
+pub data IsDeep (t : Table) : ℕ → Table → Type 0 where
+  at_top : {u : Table} → Element t 1 u → IsDeep t 1 u
+  one_deeper : {u v : Table} {depth : ℕ} → IsDeep t depth u → Element u 5 v → IsDeep t (depth + 1) v
+
+-- an offset, a vtable or a range is ill-formed: the answer is such a fault (FlatBuffers binary format)
+abbrev pub IsIllFormed : {X : Type 0} → Result X FlatFault → Type 0
+IsIllFormed r = lift r ≡ Err BadFlat
+
+-- field k of t holds what is ill-formed, in its own place or behind its offset; of a vector of tables this may be one of its tables
+abbrev pub HoldsIllFormed : Table → ℕ → Held → Type 0
+HoldsIllFormed t k (number width) = IsIllFormed (slot_of t.bytes t.at k width)
+HoldsIllFormed t k table = IsIllFormed (field t k table_from)
+HoldsIllFormed t k text = IsIllFormed (field t k text_of)
+HoldsIllFormed t k tables =
+    IsIllFormed (field t k (elements_from 4)) ⊎ ((es : Elements) × (i : ℕ) × (vector_at t k ≡ Ok es) × (i < es.len) × IsIllFormed (table_from es.bytes (es.at + i * 4)))
+HoldsIllFormed t k structs = IsIllFormed (field t k (structs_from 16))
+
+-- the root table is ill-formed, or what a field holds that is looked at
+pub data HasIllFormed (b : List ℕ) : Type 0 where
+  no_root : IsIllFormed (table_from b 0) → HasIllFormed b
+  at_field : {kind : Kind} {held : Held} {t : Table} {k : ℕ} → HasTable b kind t → LooksAt kind k held → HoldsIllFormed t k held → HasIllFormed b
+
+-- a text that is looked at is not UTF-8 (FlatBuffers binary format, "Strings and Vectors")
+pub data HasOtherText (b : List ℕ) : Type 0 where
+  at_text : {kind : Kind} {t : Table} {k : ℕ} → HasTable b kind t → LooksAt kind k text → field t k text_of ≡ Err NotUtf8 → HasOtherText b

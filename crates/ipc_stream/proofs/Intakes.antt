@@ -1,0 +1,49 @@
+-- What was taken of a source, piece by piece.
+use Rattle.std.proofs.Common.{◌≡◌, ◌≢◌, ℕ, ◌+◌, ◌-◌, ◌^◌, ◌≤◌, List, [], ◌++◌, Option, length, length-append, arith}
+use Rattle.std.specs.Io.KnownBytes.{Keeps}
+use Rattle.std.proofs.KnownBytes.{Consumes-nil, Consumes-trans, Consumes-kept}
+use Rattle.ipc_model.specs.declared.fault.Fault.{Fault}
+use Rattle.ipc_model.specs.declared.fault.Fault.TheVariants.{Read}
+use Rattle.ipc_stream.specs.Failures.{Tells}
+use Rattle.ipc_stream.specs.Taken.{Takes, Loses}
+
+pub takes_kept : (a b : Option (List ℕ)) (n : ℕ) → n ≤ 2 ^ 64 - 1 → Keeps a b → Takes a b n n []
+takes_kept a b n fits same = record { bytes = Consumes-kept a a b [] (Consumes-nil a) same; counted = omega arith }
+
+pub takes_none : (a : Option (List ℕ)) (n : ℕ) → n ≤ 2 ^ 64 - 1 → Takes a a n n []
+takes_none a n fits = record { bytes = Consumes-nil a; counted = omega arith }
+
+pub takes_then : (a b c : Option (List ℕ)) (n m k : ℕ) (x y : List ℕ) → Takes a b n m x → Takes b c m k y → Takes a c n k (x ++ y)
+takes_then a b c n m k x y t u = record {
+  bytes = Consumes-trans a b c x y t.bytes u.bytes;
+  counted = omega (arith, t.counted, u.counted, length-append x y);
+}
+
+pub loses_none : (a b : Option (List ℕ)) (n wanted : ℕ) → n ≤ 2 ^ 64 - 1 → Keeps a b → Loses a b n n wanted
+loses_none a b n wanted fits same = record { lost = []; few = omega arith; takes = takes_kept a b n fits same }
+
+-- a source that worked so far tells what it does then
+pub tells_after : (a b c : ℕ) (e : Fault) → (a ≡ 0 → b ≡ 0) → Tells b c e → Tells a c e
+tells_after a b c e works t = record { failed = t.failed; worked = λ other none. t.worked other (works none) }
+
+-- some of the bytes that are wanted came
+pub record Filling (old now : Option (List ℕ)) (bound_old bound failed_old failed count_old count : ℕ) (kept_old kept : List ℕ) (wanted came : ℕ) : Type 0 where
+  pub x : List ℕ
+  pub kept_is : kept ≡ kept_old ++ x
+  pub long : length x ≡ came
+  pub few : came ≤ wanted
+  pub takes : Takes old now count_old count x
+  pub fewer : bound + came ≤ bound_old
+  pub works : failed_old ≡ 0 → failed ≡ 0
+
+-- the last read of many lost what it took
+pub loses_more : (old now new : Option (List ℕ)) (b0 b1 f0 f1 n0 n1 n2 : ℕ) (kept0 kept1 : List ℕ) (wanted came : ℕ) → Filling old now b0 b1 f0 f1 n0 n1 kept0 kept1 wanted came → Loses now new n1 n2 (wanted - came) → Loses old new n0 n2 wanted
+loses_more old now new b0 b1 f0 f1 n0 n1 n2 kept0 kept1 wanted came so_far l = record {
+  lost = so_far.x ++ l.lost;
+  few = omega (arith, length-append so_far.x l.lost, so_far.long, so_far.few, l.few);
+  takes = takes_then old now new n0 n1 n2 so_far.x l.lost so_far.takes l.takes;
+}
+
+-- a fault that isn't the source's, while the source works
+pub works_err : (a b : ℕ) (e : Fault) → e ≢ Read → (a ≡ 0 → b ≡ 0) → Tells a b e
+works_err a b e other works = record { failed = λ is. absurd (other is); worked = λ _. works }

@@ -1,0 +1,139 @@
+-- What a reader takes from its source, and what it answers.
+use Rattle.std.specs.Prelude.{◌≡◌, ◌≢◌, ℕ, ◌+◌, ◌-◌, ◌^◌, ◌≤◌, min, List, [], ◌∷◌, ◌++◌, length, take, Option, ⊤, Some, None, Result, Ok, Err}
+use Rattle.std.specs.Io.KnownBytes.{Consumes, IsAtEnd}
+use Rattle.ipc_model.specs.declared.fault.Fault.{Fault}
+use Rattle.ipc_model.specs.declared.fault.Fault.TheVariants.{MissingSchema, SecondSchema, Truncated, UnknownDictionary}
+use Rattle.ipc_model.specs.declared.schema.Schema.{Schema}
+use Rattle.ipc_model.specs.declared.table.Table.{Table}
+use Rattle.ipc_meta.specs.declared.head.BatchHead.{BatchHead}
+use Rattle.ipc_meta.specs.declared.head.Head.TheVariants as h
+use Rattle.ipc_frame.specs.Frames.{Pending}
+use Rattle.ipc_frame.specs.Sees.{IsFrame}
+use Rattle.ipc_frame.specs.Decisions.{RefusesNow}
+use Rattle.ipc_frame.specs.declared.frame.Frame.{Frame as Framed}
+use Rattle.ipc_frame.specs.declared.frame.Frame.TheVariants as f
+use Rattle.ipc_column.specs.Rows.{Rows, Refuses as RefusesRows}
+use Rattle.ipc_stream.specs.declared.end.End.{End}
+use Rattle.ipc_stream.specs.declared.end.End.TheVariants.{Mark}
+use Rattle.ipc_stream.specs.declared.reading.Next.{Next}
+use Rattle.ipc_stream.specs.declared.reading.Next.TheVariants as next
+use Rattle.ipc_stream.specs.declared.scope.Scope.{Scope}
+use Rattle.ipc_stream.specs.Stream.{Open, Event, schema, batch, Run, events_of}
+use Rattle.ipc_stream.specs.Readable.{IsReadable}
+use Rattle.ipc_stream.specs.Reasons.{IsAside, IsNoSchema, Wanted, Reads}
+
+-- a count that stops at 2^64 - 1
+abbrev pub count_up : ℕ → ℕ → ℕ
+count_up n k = min (n + k) (2 ^ 64 - 1)
+
+-- a call took these bytes and counted them
+pub record Takes (old new : Option (List ℕ)) (count_old count_new : ℕ) (x : List ℕ) : Type 0 where
+  pub bytes : Consumes old new x
+  pub counted : count_new ≡ count_up count_old (length x)
+
+-- k bytes came to the front of a piece, at most as many as were wanted, and none only at the end
+pub record Fronts (old new : Option (List ℕ)) (piece : List ℕ) (wanted k : ℕ) : Type 0 where
+  pub few : k ≤ wanted
+  pub fits : k ≤ length piece
+  pub bytes : Consumes old new (take k piece)
+  pub ended : k ≡ 0 → IsAtEnd new
+
+-- k bytes came behind those that were kept, at most as many as were wanted, and none only at the end
+pub record Fills (old new : Option (List ℕ)) (count_old count_new : ℕ) (kept_old kept_new : List ℕ) (wanted k : ℕ) : Type 0 where
+  pub came : List ℕ
+  pub kept : kept_new ≡ kept_old ++ came
+  pub count : length came ≡ k
+  pub few : k ≤ wanted
+  pub takes : Takes old new count_old count_new came
+  pub ended : k ≡ 0 → IsAtEnd new
+
+-- some bytes came and were lost, at most as many as were wanted
+pub record Loses (old new : Option (List ℕ)) (count_old count_new wanted : ℕ) : Type 0 where
+  pub lost : List ℕ
+  pub few : length lost ≤ wanted
+  pub takes : Takes old new count_old count_new lost
+
+-- why no frame is read, whatever the state
+pub data BreaksFrame (z : List ℕ) (left : Option (List ℕ)) (fault : Fault) : Type 0 where
+  refused : RefusesNow z fault → BreaksFrame z left fault
+  truncated : (k : ℕ) → fault ≡ Truncated → Pending z k → z ≢ [] → IsAtEnd left → BreaksFrame z left fault
+  aside : IsAside fault → BreaksFrame z left fault
+
+-- a frame, or the end of the source between two frames, or neither
+abbrev pub GivesFrame : List ℕ → Option (List ℕ) → Result (Option Framed) Fault → Type 0
+GivesFrame z left (Ok (Some frame)) = IsFrame z frame
+GivesFrame z left (Ok None) = (z ≡ []) × IsAtEnd left
+GivesFrame z left (Err fault) = BreaksFrame z left fault
+
+pub record TakesFrame (old new : Option (List ℕ)) (count_old count_new : ℕ) (r : Result (Option Framed) Fault) : Type 0 where
+  pub z : List ℕ
+  pub takes : Takes old new count_old count_new z
+  pub wanted : Wanted z
+  pub gives : GivesFrame z new r
+
+-- a message with this schema, or none
+abbrev pub BringsSchema : Framed → Result Schema Fault → Type 0
+BringsSchema (f.Message meta head body) (Ok s) = head ≡ h.Schema s
+BringsSchema f.End (Ok s) = ⊥
+BringsSchema frame (Err fault) = (fault ≡ MissingSchema) × IsNoSchema frame
+
+-- the first message is this schema's, or there is none
+abbrev pub GivesSchema : List ℕ → Option (List ℕ) → Result Schema Fault → Type 0
+GivesSchema x left (Ok s) = Run None x (schema s ∷ []) (Some (record { schema = s })) × IsReadable s
+GivesSchema x left (Err fault) = Reads None x left [] (Err fault)
+
+pub record TakesSchema (old new : Option (List ℕ)) (count_old count_new : ℕ) (r : Result Schema Fault) : Type 0 where
+  pub x : List ℕ
+  pub takes : Takes old new count_old count_new x
+  pub wanted : Wanted x
+  pub gives : GivesSchema x new r
+
+-- the first message is a schema's, which is in force now, or there is none
+abbrev pub GivesScope : List ℕ → Option (List ℕ) → Result Scope Fault → Type 0
+GivesScope x left (Ok scope) = Run None x (schema scope.schema ∷ []) (Some (record { schema = scope.schema }))
+GivesScope x left (Err fault) = Reads None x left [] (Err fault)
+
+pub record TakesScope (old new : Option (List ℕ)) (count_old count_new : ℕ) (r : Result Scope Fault) : Type 0 where
+  pub x : List ℕ
+  pub takes : Takes old new count_old count_new x
+  pub gives : GivesScope x new r
+
+-- why a frame behind the schema is refused
+abbrev pub RefusesNext : Schema → Framed → Fault → Type 0
+RefusesNext s f.End fault = ⊥
+RefusesNext s (f.Message meta (h.Schema t) body) fault = fault ≡ SecondSchema
+RefusesNext s (f.Message meta (h.Dictionary id b) body) fault = fault ≡ UnknownDictionary
+RefusesNext s (f.Message meta (h.Batch b) body) fault = RefusesRows fault s.fields b body.items
+
+-- a message with the rows of this batch, or the end mark, or neither
+abbrev pub BringsNext : Schema → Framed → Result Next Fault → Type 0
+BringsNext s (f.Message meta head body) (Ok (next.Batch found)) = (b : BatchHead) × (head ≡ h.Batch b) × Rows s.fields b body.items found.rows
+BringsNext s f.End (Ok (next.Ended Mark)) = ⊤
+BringsNext s frame (Err fault) = RefusesNext s frame fault
+BringsNext s frame next = ⊥
+
+-- the next batch, or how the stream ends, or neither
+abbrev pub GivesNext : Open → List ℕ → Option (List ℕ) → Result Next Fault → Type 0
+GivesNext o x left (Ok (next.Batch found)) = Run (Some o) x (batch found.rows ∷ []) (Some o)
+GivesNext o x left (Ok (next.Ended end)) = Reads (Some o) x left [] (Ok end)
+GivesNext o x left (Err fault) = Reads (Some o) x left [] (Err fault)
+
+pub record TakesNext (old new : Option (List ℕ)) (count_old count_new : ℕ) (o : Open) (r : Result Next Fault) : Type 0 where
+  pub x : List ℕ
+  pub takes : Takes old new count_old count_new x
+  pub gives : GivesNext o x new r
+
+abbrev pub IsBatch : Next → Type 0
+IsBatch (next.Batch found) = ⊤
+IsBatch (next.Ended end) = ⊥
+
+-- the bytes are this table and its end, or some messages behind which reading broke off
+abbrev pub GivesTable : List ℕ → Option (List ℕ) → Result (Table × End) Fault → Type 0
+GivesTable x left (Ok t) = Reads None x left (events_of t.0) (Ok t.1)
+GivesTable x left (Err fault) = (events : List Event) × Reads None x left events (Err fault)
+
+-- what was taken of a source, and what that is
+pub record TakesTable (old new : Option (List ℕ)) (r : Result (Table × End) Fault) : Type 0 where
+  pub x : List ℕ
+  pub bytes : Consumes old new x
+  pub gives : GivesTable x new r

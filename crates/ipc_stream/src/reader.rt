@@ -1,0 +1,158 @@
+ghost use Rattle.std.specs.Prelude.{◌≡◌, ◌≤◌, ◌-◌, ◌^◌, ◌<◌, IfOk, IfErr, IsSome, MatchResult};
+ghost use Rattle.ipc_stream.specs.Failures.{FailsAs, Tells};
+ghost use Rattle.ipc_stream.specs.Reader.{Opens, OpensNot, NextTakes, end_of};
+
+use crate::end::End;
+use crate::intake::Intake;
+use crate::phase::Phase;
+use crate::reading::{Next, read_next, read_scope};
+use crate::scope::Scope;
+use crate::source::Source;
+use ipc_column::Batch;
+use ipc_model::fault::Fault;
+use ipc_model::schema::Schema;
+use std::alloc::Global;
+use std::marker::Model;
+
+/// A stream that is read batch by batch.
+#[derive(Drop)]
+pub struct StreamReader<R: Source> {
+    source: R,
+    intake: Intake,
+    scope: Scope,
+    phase: Phase,
+    messages: u64,
+    alloc: Global,
+    ghost counted: { messages ≤ 2 ^ 64 - 1 },
+}
+
+impl<R: Source> Model for StreamReader<R> {
+    ghost use Rattle.std.specs.Coded.{codes};
+    ghost use Rattle.ipc_model.specs.contracts.schema.Field as field;
+    ghost use Rattle.ipc_stream.specs.Reader.{Reader};
+
+    ghost Value = { Reader };
+
+    ghost coded = { Prim.hlevel (codes, field.the_row.coded) };
+
+    ghost view = { λ s. record { remaining = R.remaining s.source; failures = R.failures s.source; bound = R.bound s.source; schema = s.scope.schema; phase = s.phase; messages = s.messages; taken = s.intake.taken } };
+}
+
+// A reader that took a schema's message, or the source again with the fault.
+fn open_with<R: Source>(
+    alloc: Global,
+    source: R,
+    intake: Intake,
+) -> Result<StreamReader<R>, (Fault, R)>
+    requires { intake.taken ≡ 0 }
+    ensures opened { IfOk result (λ s. Opens (R.remaining source) s) }
+    ensures refused { IfErr result (λ e. OpensNot (R.remaining source) (R.remaining e.1) e.0) }
+    ensures failures { MatchResult result (λ s. R.failures source ≡ 0 → s.failures ≡ 0) (λ e. Tells (R.failures source) (R.failures e.1) e.0) }
+{
+    let mut source = source;
+    let mut intake = intake;
+    match read_scope(alloc, &mut source, &mut intake) {
+        Ok(scope) => Ok(StreamReader {
+            source,
+            intake,
+            scope,
+            phase: Phase::Reading,
+            messages: 1,
+            alloc,
+        }),
+        Err(fault) => Err((fault, source)),
+    }
+}
+
+impl<R: Source> StreamReader<R> {
+    /// Reads the first message, which is the schema's. At a refusal the source comes back with the fault.
+    pub fn open(alloc: Global, source: R) -> Result<StreamReader<R>, (Fault, R)>
+        ensures opened { IfOk result (λ s. Opens (R.remaining source) s) }
+        ensures refused { IfErr result (λ e. OpensNot (R.remaining source) (R.remaining e.1) e.0) }
+        ensures failures { MatchResult result (λ s. R.failures source ≡ 0 → s.failures ≡ 0) (λ e. Tells (R.failures source) (R.failures e.1) e.0) }
+    {
+        match Intake::new(alloc) {
+            Ok(intake) => open_with(alloc, source, intake),
+            Err(_) => Err((Fault::OutOfMemory, source)),
+        }
+    }
+
+    /// The schema of the stream.
+    pub fn schema(&self) -> &Schema
+        ensures { result.now ≡ self.now.schema }
+    {
+        &self.scope.schema
+    }
+
+    /// The next batch, or none at the end of the stream and from then on. After a refusal every call answers F35 and takes
+    /// nothing.
+    pub fn next(&mut self) -> Result<Option<Batch>, Fault>
+        ensures next { NextTakes self.old self.new result }
+        ensures fewer { IfOk result (λ batch. IsSome batch → self.new.bound < self.old.bound) }
+        ensures failures { FailsAs self.old.failures self.new.failures result }
+    {
+        match self.phase {
+            Phase::Refused => Err(Fault::Failed),
+            Phase::Ended(_) => Ok(None),
+            Phase::Reading => match read_next(
+                self.alloc,
+                &mut self.source,
+                &mut self.intake,
+                &self.scope,
+            ) {
+                Ok(Next::Batch(batch)) => {
+                    self.messages = self.messages.saturating_add(1);
+                    Ok(Some(batch))
+                }
+                Ok(Next::Ended(end)) => {
+                    self.phase = Phase::Ended(end);
+                    Ok(None)
+                }
+                Err(fault) => {
+                    self.phase = Phase::Refused;
+                    Err(fault)
+                }
+            },
+        }
+    }
+
+    /// How the stream ended: none until `next` has answered `Ok(None)`.
+    pub fn end(&self) -> Option<End>
+        ensures { result ≡ end_of self.now.phase }
+    {
+        match self.phase {
+            Phase::Ended(end) => Some(end),
+            _ => None,
+        }
+    }
+
+    /// How many messages were read, the schema's included; a refused one isn't counted. The count stops at 2^64 - 1.
+    pub fn messages(&self) -> u64
+        ensures { result ≡ self.now.messages }
+    {
+        self.messages
+    }
+
+    /// How many bytes were taken of the source, an end mark included. The count stops at 2^64 - 1.
+    pub fn taken(&self) -> u64
+        ensures { result ≡ self.now.taken }
+    {
+        self.intake.taken
+    }
+
+    /// The source, which has left what was not taken.
+    pub fn into_inner(self) -> R
+        ensures remaining { R.remaining result ≡ self.remaining }
+        ensures failures { R.failures result ≡ self.failures }
+    {
+        let StreamReader {
+            source,
+            intake: _,
+            scope: _,
+            phase: _,
+            messages: _,
+            alloc: _,
+        } = self;
+        source
+    }
+}

@@ -1,0 +1,125 @@
+ghost use Rattle.std.specs.Prelude.{◌<◌, IfOk, IsSome};
+ghost use Rattle.ipc_stream.specs.Failures.{FailsAs};
+ghost use Rattle.ipc_stream.specs.Taken.{BringsNext, BringsSchema, IsBatch, TakesFrame, TakesNext, TakesSchema, TakesScope};
+
+use crate::end::End;
+use crate::intake::{Intake, fill};
+use crate::scope::Scope;
+use crate::source::Source;
+use ipc_column::Batch;
+use ipc_frame::{Frame, Seen, next_frame};
+use ipc_meta::Head;
+use ipc_model::fault::Fault;
+use ipc_model::schema::Schema;
+use std::alloc::Global;
+
+// What comes behind the schema.
+#[derive(Drop)]
+pub enum Next {
+    // A batch.
+    Batch(Batch),
+    // How the stream ends.
+    Ended(End),
+}
+
+// The frame at the front of the source, or none at its end.
+fn read_frame<R: Source>(
+    alloc: Global,
+    source: &mut R,
+    intake: &mut Intake,
+) -> Result<Option<Frame>, Fault>
+    ensures frame { TakesFrame (R.remaining source.old) (R.remaining source.new) intake.old.taken intake.new.taken result }
+    ensures fewer { IfOk result (λ frame. IsSome frame → R.bound source.new < R.bound source.old) }
+    ensures failures { FailsAs (R.failures source.old) (R.failures source.new) result }
+{
+    intake.kept.clear();
+    let mut wanted = 4;
+    loop {
+        if fill(source, intake, wanted)? == 0 {
+            if intake.kept.is_empty() {
+                return Ok(None);
+            }
+            return Err(Fault::Truncated);
+        }
+        match next_frame(alloc, &intake.kept)? {
+            Seen::Short(more) => wanted = more,
+            Seen::Whole(frame, _) => return Ok(Some(frame)),
+        }
+    }
+}
+
+// The schema that a frame brings.
+fn schema_of(frame: Frame) -> Result<Schema, Fault>
+    ensures { BringsSchema frame result }
+{
+    match frame {
+        Frame::End => Err(Fault::MissingSchema),
+        Frame::Message { meta, head, body } => match head {
+            Head::Schema(schema) => Ok(schema),
+            _ => Err(Fault::MissingSchema),
+        },
+    }
+}
+
+// The schema at the front of the source.
+fn read_schema<R: Source>(
+    alloc: Global,
+    source: &mut R,
+    intake: &mut Intake,
+) -> Result<Schema, Fault>
+    ensures schema { TakesSchema (R.remaining source.old) (R.remaining source.new) intake.old.taken intake.new.taken result }
+    ensures failures { FailsAs (R.failures source.old) (R.failures source.new) result }
+{
+    match read_frame(alloc, source, intake)? {
+        Some(frame) => schema_of(frame),
+        None => Err(Fault::Truncated),
+    }
+}
+
+// What the schema at the front of the source puts in force.
+pub fn read_scope<R: Source>(
+    alloc: Global,
+    source: &mut R,
+    intake: &mut Intake,
+) -> Result<Scope, Fault>
+    ensures scope { TakesScope (R.remaining source.old) (R.remaining source.new) intake.old.taken intake.new.taken result }
+    ensures failures { FailsAs (R.failures source.old) (R.failures source.new) result }
+{
+    let schema = read_schema(alloc, source, intake)?;
+    Ok(Scope::new(alloc, schema)?)
+}
+
+// What a frame behind the schema brings.
+fn next_of(alloc: Global, scope: &Scope, frame: Frame) -> Result<Next, Fault>
+    ensures { BringsNext scope.now.schema frame result }
+{
+    match frame {
+        Frame::End => Ok(Next::Ended(End::Mark)),
+        Frame::Message { meta, head, body } => match head {
+            Head::Batch(head) => {
+                let fields = scope.fields.clone()?;
+                let batch = Batch::check(alloc, fields, head, body, &scope.dictionaries)?;
+                Ok(Next::Batch(batch))
+            }
+            Head::Schema(_) => Err(Fault::SecondSchema),
+            Head::Dictionary(_, _) => Err(Fault::UnknownDictionary),
+        },
+    }
+}
+
+// The next batch behind the schema, or how the stream ends.
+pub fn read_next<R: Source>(
+    alloc: Global,
+    source: &mut R,
+    intake: &mut Intake,
+    scope: &Scope,
+) -> Result<Next, Fault>
+    ensures next { TakesNext (R.remaining source.old) (R.remaining source.new) intake.old.taken intake.new.taken (record { schema = scope.now.schema }) result }
+    ensures fewer { IfOk result (λ next. IsBatch next → R.bound source.new < R.bound source.old) }
+    ensures failures { FailsAs (R.failures source.old) (R.failures source.new) result }
+{
+    match read_frame(alloc, source, intake)? {
+        Some(frame) => next_of(alloc, scope, frame),
+        None => Ok(Next::Ended(End::Closed)),
+    }
+}

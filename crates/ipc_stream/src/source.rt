@@ -1,0 +1,27 @@
+ghost use Rattle.std.specs.Prelude.{ℕ, List, Option, ◌≤◌, ◌+◌, length, IfOk};
+ghost use Rattle.std.specs.Io.KnownBytes.{ReadConsumes};
+ghost use Rattle.ipc_stream.specs.Failures.{Counts};
+
+/// A call of a device failed. Each later call of it fails too.
+#[derive(Clone, Copy, Debug, PartialEq, Eq)]
+pub struct Failed;
+
+/// What gives the bytes of a stream, in pieces of its own choice.
+pub trait Source {
+    /// The bytes that are still to come, where the source tells them.
+    ghost remaining: { Self → Option (List ℕ) };
+
+    /// How many calls failed: 0 until one does, 1 from then on.
+    ghost failures: { Self → ℕ };
+
+    /// No more bytes than so many are still to come.
+    ghost bound: { Self → ℕ };
+
+    /// Puts the next bytes at the front of `into` and says how many they are: none only where `into` is empty or no byte is
+    /// left. A call that fails takes no byte, and so does each one after it.
+    fn read(&mut self, into: &mut [u8]) -> Result<usize, Failed>
+        ensures count { IfOk result (λ k. k ≤ length into.new) }
+        ensures bytes { ReadConsumes (remaining self.old) (remaining self.new) result into.new }
+        ensures fewer { IfOk result (λ k. (bound self.new + k) ≤ bound self.old) }
+        ensures failures { Counts (failures self.old) (failures self.new) result };
+}

@@ -1,0 +1,57 @@
+ghost use Rattle.std.specs.Prelude.{◌≡◌, ◌++◌, ℕ, List, IfOk, MatchResult, Some};
+ghost use Rattle.std.specs.Io.KnownBytes.{Consumes, IsAtEnd};
+ghost use Rattle.ipc_model.specs.declared.table.Table.{Table};
+ghost use Rattle.ipc_stream.specs.declared.end.End.TheVariants.{Closed, Mark};
+ghost use Rattle.ipc_stream.specs.Failures.{FailsAs};
+ghost use Rattle.ipc_stream.specs.Stream.{Denotes};
+ghost use Rattle.ipc_stream.specs.Taken.{TakesTable};
+
+use crate::end::End;
+use crate::intake::Intake;
+use crate::reading::{Next, read_next, read_scope};
+use crate::source::Source;
+use ipc_model::fault::Fault;
+use ipc_model::items::Items;
+use ipc_model::table::Table;
+use std::alloc::Global;
+
+// The table at the front of the source, and how the stream ends.
+fn read_batches<R: Source>(alloc: Global, source: &mut R) -> Result<(Table, End), Fault>
+    ensures table { TakesTable (R.remaining source.old) (R.remaining source.new) result }
+    ensures failures { FailsAs (R.failures source.old) (R.failures source.new) result }
+{
+    let mut intake = Intake::new(alloc)?;
+    let scope = read_scope(alloc, source, &mut intake)?;
+    let mut batches = Vec::new(alloc);
+    loop {
+        match read_next(alloc, source, &mut intake, &scope)? {
+            Next::Batch(batch) => batches.push(batch.to_rows(alloc)?)?,
+            Next::Ended(end) => {
+                let batches = Items::from_vec(batches);
+                return Ok((scope.table_of(batches), end));
+            }
+        }
+    }
+}
+
+/// The table that a source gives, and how the stream ends (Arrow Columnar Format, "IPC Streaming Format").
+///
+/// Exactly the bytes through the end-of-stream mark are taken, or all that the source has where the stream ends without a
+/// mark. After a refusal the bytes through the one that decides it were taken: the fourth of a message (F1), its eighth
+/// (F2, F3, and F10 for an end mark), the last of its metadata (F5 to F9, F12 to F24) or of its body (F10, F11, F25 to F34).
+/// F4 comes where the source ends elsewhere than after the schema and between two messages, F36 exactly where the
+/// source failed in this call, and F37 where a growth was refused.
+pub fn read_table<R: Source>(alloc: Global, source: &mut R) -> Result<(Table, End), Fault>
+    // What was taken denotes the answer. Where no mark ended it, nothing is left.
+    ensures denotes { IfOk result (λ a. (x : List ℕ) × Consumes (R.remaining source.old) (R.remaining source.new) x × Denotes x a.0 a.1 × (a.1 ≡ Closed → IsAtEnd (R.remaining source.new))) }
+    // A table with its mark is answered, whatever follows, unless memory runs out or the source fails.
+    ensures marked { (x rest : List ℕ) (t : Table) → R.remaining source.old ≡ Some (x ++ rest) → Denotes x t Mark → R.failures source.new ≡ 0 → MatchResult result (λ a. (a.0 ≡ t) × (a.1 ≡ Mark)) (λ fault. fault ≡ Fault.OutOfMemory) }
+    // A table without a mark is answered where nothing follows, unless memory runs out or the source fails.
+    ensures closed { (x : List ℕ) (t : Table) → R.remaining source.old ≡ Some x → Denotes x t Closed → R.failures source.new ≡ 0 → MatchResult result (λ a. (a.0 ≡ t) × (a.1 ≡ Closed)) (λ fault. fault ≡ Fault.OutOfMemory) }
+    // Whatever the answer, what was taken, and why reading ended there.
+    ensures exact { TakesTable (R.remaining source.old) (R.remaining source.new) result }
+    // F36 is answered exactly where the source failed in this call.
+    ensures failures { FailsAs (R.failures source.old) (R.failures source.new) result }
+{
+    read_batches(alloc, source)
+}

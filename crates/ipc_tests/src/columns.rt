@@ -1,0 +1,296 @@
+//! Batches of one column.
+ghost use Rattle.std.specs.Prelude.{◌≡◌, ◌≤◌, ◌∷◌, [], length, true, IfOk};
+ghost use Rattle.ipc_model.specs.WellFormed.{entries, max_fields};
+ghost use Rattle.ipc_meta.specs.Open.{are_open, is_open_type};
+
+use ipc_column::{Batch, Cell};
+use ipc_meta::BatchHead;
+use ipc_model::fault::Fault;
+use ipc_model::items::{Items, Text};
+use ipc_model::schema::{DataType, DateUnit, Field, IntBits, TimeUnit};
+use std::alloc::{AllocError, Global};
+use std::collections::BTreeMap;
+use std::rc::Rc;
+use std::test::Fail;
+
+const MOST: i64 = 2_147_483_647;
+
+fn field(alloc: Global, kind: DataType) -> Result<Field, AllocError>
+    requires { is_open_type kind ≡ true }
+    ensures open { IfOk result (λ f. are_open (f ∷ []) ≡ true) }
+    ensures few { IfOk result (λ f. length (entries (f ∷ [])) ≤ max_fields) }
+{
+    Ok(Field {
+        name: Text::from_string(String::from_str(alloc, "a")?),
+        nullable: true,
+        kind,
+        dictionary: None,
+        children: Items::from_vec(Vec::new(alloc)),
+        metadata: Items::from_vec(Vec::new(alloc)),
+    })
+}
+
+fn fields(alloc: Global, kind: DataType) -> Result<Rc<Vec<Field>>, AllocError>
+    requires { is_open_type kind ≡ true }
+    ensures open { IfOk result (λ all. are_open all.value.items ≡ true) }
+    ensures few { IfOk result (λ all. length (entries all.value.items) ≤ max_fields) }
+{
+    let mut all = Vec::new(alloc);
+    all.push(field(alloc, kind)?)?;
+    Ok(Rc::new(alloc, all)?)
+}
+
+// A batch of one column, by its length, its null count, where its buffers lie, and the body.
+fn batch(
+    alloc: Global,
+    kind: DataType,
+    node: (i64, i64),
+    buffers: &[(i64, i64)],
+    body: &[u8],
+) -> Result<Batch, Fault>
+    requires { is_open_type kind ≡ true }
+{
+    let mut nodes = Vec::new(alloc);
+    nodes.push(node).map_err(AllocError::from)?;
+    let head = BatchHead {
+        length: node.0,
+        nodes: Items::from_vec(nodes),
+        buffers: Items::from_vec(Vec::from_slice(alloc, buffers)?),
+    };
+    let body = Vec::from_slice(alloc, body)?;
+    Batch::check(
+        alloc,
+        fields(alloc, kind)?,
+        head,
+        body,
+        &BTreeMap::new(alloc),
+    )
+}
+
+fn cell_of(batch: &Batch, row: usize) -> Option<Cell<'_>> {
+    if row < batch.rows() && 0 < batch.columns() {
+        Some(batch.cell(row, 0))
+    } else {
+        None
+    }
+}
+
+fn is_null(batch: &Batch, row: usize) -> bool {
+    matches!(cell_of(batch, row), Some(Cell::Null))
+}
+
+fn is_bool(batch: &Batch, row: usize, wanted: bool) -> bool {
+    matches!(cell_of(batch, row), Some(Cell::Bool(truth)) if truth == wanted)
+}
+
+fn is_int(batch: &Batch, row: usize, wanted: i64) -> bool {
+    matches!(cell_of(batch, row), Some(Cell::Int(number)) if number == wanted)
+}
+
+fn is_uint(batch: &Batch, row: usize, wanted: u64) -> bool {
+    matches!(cell_of(batch, row), Some(Cell::UInt(number)) if number == wanted)
+}
+
+fn is_bytes(batch: &Batch, row: usize, wanted: &[u8]) -> bool {
+    matches!(cell_of(batch, row), Some(Cell::Bytes(bytes)) if bytes == wanted)
+}
+
+fn is_text(batch: &Batch, row: usize, wanted: &str) -> bool {
+    matches!(cell_of(batch, row), Some(Cell::Text(text)) if text == wanted)
+}
+
+fn is_refused(answer: Result<Batch, Fault>, wanted: Fault) -> bool {
+    match answer {
+        Ok(_) => false,
+        Err(fault) => fault == wanted,
+    }
+}
+
+#[test]
+fn nulls(rt: HostRuntime) -> Result<(), Fail> {
+    let alloc = rt.alloc();
+    let found = batch(alloc, DataType::Null, (MOST, 5), &[], &[])?;
+    assert_eq!(rt; found.rows(), 2_147_483_647);
+    assert_eq!(rt; found.tests(), 0);
+    assert!(rt; is_null(&found, 2_147_483_646));
+    let copy = found.clone()?;
+    assert_eq!(rt; copy.rows(), 2_147_483_647);
+    assert_eq!(rt; copy.body_len(), 0);
+    let answer = batch(alloc, DataType::Null, (MOST + 1, 5), &[], &[]);
+    assert!(rt; is_refused(answer, Fault::BadNode));
+    Ok(())
+}
+
+#[test]
+fn truth_values(rt: HostRuntime) -> Result<(), Fail> {
+    let alloc = rt.alloc();
+    let body = [0xff, 0xff];
+    let found = batch(alloc, DataType::Bool, (9, 0), &[(0, 0), (0, 2)], &body)?;
+    for row in 0..9 {
+        assert!(rt; is_bool(&found, row, true));
+    }
+    let answer = batch(alloc, DataType::Bool, (9, 0), &[(0, 0), (0, 1)], &body);
+    assert!(rt; is_refused(answer, Fault::BufferTooShort));
+    let body = [0b101, 0b100];
+    let found = batch(alloc, DataType::Bool, (3, 1), &[(0, 1), (1, 1)], &body)?;
+    assert!(rt; is_bool(&found, 0, false) && is_null(&found, 1) && is_bool(&found, 2, true));
+    let answer = batch(alloc, DataType::Bool, (3, 0), &[(0, 1), (1, 1)], &body);
+    assert!(rt; is_refused(answer, Fault::BadNullCount));
+    Ok(())
+}
+
+// Bytes 80 ff 7f 01, then fe and eleven times ff, as numbers of each width.
+#[test]
+fn numbers(rt: HostRuntime) -> Result<(), Fail> {
+    let alloc = rt.alloc();
+    let mut body = [0xff; 16];
+    body[0] = 0x80;
+    body[2] = 0x7f;
+    body[3] = 0x01;
+    body[4] = 0xfe;
+    let whole = [(0, 0), (0, 16)];
+    let int = |bits, signed| DataType::Int { bits, signed };
+    let found = batch(alloc, int(IntBits::B8, true), (16, 0), &whole, &body)?;
+    assert!(rt; is_int(&found, 0, -128) && is_int(&found, 1, -1) && is_int(&found, 2, 127));
+    let found = batch(alloc, int(IntBits::B8, false), (16, 0), &whole, &body)?;
+    assert!(rt; is_uint(&found, 0, 128) && is_uint(&found, 1, 255));
+    let found = batch(alloc, int(IntBits::B16, true), (8, 0), &whole, &body)?;
+    assert!(rt; is_int(&found, 0, -128) && is_int(&found, 1, 383) && is_int(&found, 2, -2));
+    let found = batch(alloc, int(IntBits::B16, false), (8, 0), &whole, &body)?;
+    assert!(rt; is_uint(&found, 0, 65_408) && is_uint(&found, 2, 65_534));
+    let found = batch(alloc, int(IntBits::B32, true), (4, 0), &whole, &body)?;
+    assert!(rt; is_int(&found, 0, 0x017f_ff80) && is_int(&found, 1, -2));
+    let found = batch(alloc, int(IntBits::B32, false), (4, 0), &whole, &body)?;
+    assert!(rt; is_uint(&found, 1, 4_294_967_294));
+    let found = batch(alloc, int(IntBits::B64, true), (2, 0), &whole, &body)?;
+    assert!(rt; is_int(&found, 1, -1));
+    let found = batch(alloc, int(IntBits::B64, false), (2, 0), &whole, &body)?;
+    assert!(rt; is_uint(&found, 1, u64::MAX));
+    let answer = batch(alloc, int(IntBits::B64, true), (3, 0), &whole, &body);
+    assert!(rt; is_refused(answer, Fault::BufferTooShort));
+    Ok(())
+}
+
+#[test]
+fn dates_and_timestamps(rt: HostRuntime) -> Result<(), Fail> {
+    let alloc = rt.alloc();
+    let body = [0xfe, 0xff, 0xff, 0xff, 0xff, 0xff, 0xff, 0xff];
+    let whole = [(0, 0), (0, 8)];
+    let found = batch(alloc, DataType::Date(DateUnit::Day), (2, 0), &whole, &body)?;
+    assert!(rt; is_int(&found, 0, -2) && is_int(&found, 1, -1));
+    let found = batch(
+        alloc,
+        DataType::Date(DateUnit::Millisecond),
+        (1, 0),
+        &whole,
+        &body,
+    )?;
+    assert!(rt; is_int(&found, 0, -2));
+    let kind = DataType::Timestamp {
+        unit: TimeUnit::Nanosecond,
+        timezone: None,
+    };
+    let found = batch(alloc, kind, (1, 0), &whole, &body)?;
+    assert!(rt; is_int(&found, 0, -2));
+    Ok(())
+}
+
+#[test]
+fn bytes_of_one_width(rt: HostRuntime) -> Result<(), Fail> {
+    let alloc = rt.alloc();
+    let empty = batch(
+        alloc,
+        DataType::FixedSizeBinary(0),
+        (MOST, 0),
+        &[(0, 0), (0, 0)],
+        &[],
+    )?;
+    assert!(rt; is_bytes(&empty, 2_147_483_646, b""));
+    let kind = DataType::FixedSizeBinary(3);
+    let found = batch(alloc, kind, (2, 0), &[(0, 0), (0, 6)], b"abcdef")?;
+    assert!(rt; is_bytes(&found, 0, b"abc") && is_bytes(&found, 1, b"def"));
+    let kind = DataType::FixedSizeBinary(3);
+    let answer = batch(alloc, kind, (2, 0), &[(0, 0), (0, 5)], b"abcdef");
+    assert!(rt; is_refused(answer, Fault::BufferTooShort));
+    Ok(())
+}
+
+// Two slots with these offsets into `xxx` and a letter of two bytes.
+fn two_slots(alloc: Global, kind: DataType, offsets: [u8; 3]) -> Result<Batch, Fault>
+    requires { is_open_type kind ≡ true }
+{
+    let [first, second, third] = offsets;
+    let body = [
+        first, 0, 0, 0, second, 0, 0, 0, third, 0, 0, 0, 0x78, 0x78, 0x78, 0xc3, 0xa9,
+    ];
+    batch(alloc, kind, (2, 0), &[(0, 0), (0, 12), (12, 5)], &body)
+}
+
+#[test]
+fn texts(rt: HostRuntime) -> Result<(), Fail> {
+    let alloc = rt.alloc();
+    let found = two_slots(alloc, DataType::Utf8, [3, 3, 5])?;
+    assert!(rt; is_text(&found, 0, "") && is_text(&found, 1, "é"));
+    let found = two_slots(alloc, DataType::Binary, [3, 4, 5])?;
+    assert!(rt; is_bytes(&found, 0, &[0xc3]) && is_bytes(&found, 1, &[0xa9]));
+    assert_eq!(rt; found.tests(), 0);
+    assert_eq!(rt; found.to_rows(alloc)?.len(), 2);
+    let answer = two_slots(alloc, DataType::Utf8, [3, 4, 5]);
+    assert!(rt; is_refused(answer, Fault::ValueNotUtf8));
+    let answer = two_slots(alloc, DataType::Utf8, [3, 2, 5]);
+    assert!(rt; is_refused(answer, Fault::BadOffsets));
+    let answer = two_slots(alloc, DataType::Utf8, [3, 3, 6]);
+    assert!(rt; is_refused(answer, Fault::BadOffsets));
+    let answer = batch(
+        alloc,
+        DataType::Binary,
+        (1, 0),
+        &[(0, 0), (0, 8), (0, 8)],
+        &[0xff; 8],
+    );
+    assert!(rt; is_refused(answer, Fault::BadOffsets));
+    let answer = batch(
+        alloc,
+        DataType::Utf8,
+        (2, 0),
+        &[(0, 0), (0, 11), (0, 0)],
+        &[0; 11],
+    );
+    assert!(rt; is_refused(answer, Fault::BufferTooShort));
+    let empty = batch(
+        alloc,
+        DataType::Utf8,
+        (0, 0),
+        &[(0, 0), (0, 0), (0, 0)],
+        &[],
+    )?;
+    assert_eq!(rt; empty.rows(), 0);
+    Ok(())
+}
+
+// A null slot over ff, and a slot with `z`.
+#[test]
+fn null_texts(rt: HostRuntime) -> Result<(), Fail> {
+    let alloc = rt.alloc();
+    let body = [
+        0b10, 0, 0, 0, 0, 0, 0, 0, 1, 0, 0, 0, 2, 0, 0, 0, 0xff, 0x7a,
+    ];
+    let found = batch(
+        alloc,
+        DataType::Utf8,
+        (2, 1),
+        &[(0, 1), (4, 12), (16, 2)],
+        &body,
+    )?;
+    assert!(rt; is_null(&found, 0) && is_text(&found, 1, "z"));
+    assert_eq!(rt; found.tests(), 2);
+    let answer = batch(
+        alloc,
+        DataType::Utf8,
+        (2, 0),
+        &[(0, 0), (4, 12), (16, 2)],
+        &body,
+    );
+    assert!(rt; is_refused(answer, Fault::ValueNotUtf8));
+    Ok(())
+}

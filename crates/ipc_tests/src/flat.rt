@@ -1,0 +1,78 @@
+//! FlatBuffers in place.
+
+use ipc_flat::{Flat, FlatFault};
+use std::test::Fail;
+
+// The metadata of a stream's schema message, as the FlatBuffers library writes it for a schema without
+// fields: the message at 16 with its vtable at 4, the schema at 32 with its vtable at 28.
+const SCHEMA_MESSAGE: [u8; 40] = [
+    16, 0, 0, 0, 10, 0, 12, 0, 8, 0, 10, 0, 4, 0, 0, 0, 12, 0, 0, 0, 12, 0, 0, 0, 4, 0, 1, 0, 4, 0,
+    4, 0, 4, 0, 0, 0, 0, 0, 0, 0,
+];
+
+// A table at 4 with its vtable behind it, at 12: field 0 holds 42, and field 1's entry is 0.
+const VTABLE_BEHIND: [u8; 20] = [
+    4, 0, 0, 0, 248, 255, 255, 255, 42, 0, 0, 0, 8, 0, 8, 0, 4, 0, 0, 0,
+];
+
+// A table at 16 with a text, a vector of one table and a vector of structs of two bytes.
+const REFERENCES: [u8; 60] = [
+    16, 0, 0, 0, 10, 0, 16, 0, 4, 0, 8, 0, 12, 0, 0, 0, 12, 0, 0, 0, 12, 0, 0, 0, 16, 0, 0, 0, 20,
+    0, 0, 0, 2, 0, 0, 0, 195, 169, 0, 0, 1, 0, 0, 0, 12, 0, 0, 0, 2, 0, 0, 0, 1, 2, 3, 4, 52, 0, 0,
+    0,
+];
+
+#[test]
+fn schema_message(rt: HostRuntime) -> Result<(), Fail> {
+    let message = Flat::root(&SCHEMA_MESSAGE).ok().ok_or("a message")?;
+    assert!(rt; matches!(message.scalar_i16(0, 0), Ok(4)));
+    assert!(rt; matches!(message.scalar_u8(1, 0), Ok(1)));
+    assert!(rt; matches!(message.scalar_i64(3, -7), Ok(-7)));
+    let schema = message.table(2).ok().flatten().ok_or("a schema")?;
+    assert!(rt; matches!(schema.scalar_i16(0, 0), Ok(0)));
+    assert!(rt; matches!(schema.tables(1), Ok(None)));
+    Ok(())
+}
+
+#[test]
+fn vtable_behind_its_table(rt: HostRuntime) -> Result<(), Fail> {
+    let table = Flat::root(&VTABLE_BEHIND).ok().ok_or("a table")?;
+    assert!(rt; matches!(table.scalar_i32(0, 0), Ok(42)));
+    assert!(rt; matches!(table.scalar_i32(1, 9), Ok(9)));
+    assert!(rt; matches!(table.scalar_i32(2, 9), Ok(9)));
+    Ok(())
+}
+
+#[test]
+fn text_and_vectors(rt: HostRuntime) -> Result<(), Fail> {
+    let table = Flat::root(&REFERENCES).ok().ok_or("a table")?;
+    assert!(rt; matches!(table.text(0), Ok(Some("é"))));
+    let tables = table.tables(1).ok().flatten().ok_or("tables")?;
+    assert_eq!(rt; tables.len(), 1);
+    let structs = table.structs(2, 2).ok().flatten().ok_or("structs")?;
+    assert_eq!(rt; structs.len(), 2);
+    if tables.len() == 1 && structs.len() == 2 {
+        let inner = tables.at(0).ok().ok_or("an inner table")?;
+        assert!(rt; matches!(inner.text(0), Err(FlatFault::OutOfBounds)));
+        assert!(rt; matches!(structs.at(1), [3, 4]));
+    }
+    assert!(rt; matches!(table.structs(2, usize::MAX), Err(FlatFault::OutOfBounds)));
+    Ok(())
+}
+
+#[test]
+fn faults(rt: HostRuntime) -> Result<(), Fail> {
+    assert!(rt; matches!(Flat::root(&[]), Err(FlatFault::OutOfBounds)));
+    assert!(rt; matches!(Flat::root(&[0, 0, 0, 0]), Err(FlatFault::OffsetZero)));
+    assert!(rt;
+        matches!(
+            Flat::root(&[4, 0, 0, 0, 5, 0, 0, 0]),
+            Err(FlatFault::BadVtable)
+        )
+    );
+    let mut bytes = REFERENCES;
+    bytes[37] = 0;
+    let table = Flat::root(&bytes).ok().ok_or("a table")?;
+    assert!(rt; matches!(table.text(0), Err(FlatFault::NotUtf8)));
+    Ok(())
+}
