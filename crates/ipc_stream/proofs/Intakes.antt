@@ -1,11 +1,13 @@
 -- What was taken of a source, piece by piece.
-use Rattle.std.proofs.Common.{◌≡◌, ◌≢◌, ℕ, ◌+◌, ◌-◌, ◌^◌, ◌≤◌, List, [], ◌++◌, Option, length, length-append, arith}
+use Rattle.std.proofs.Common.{◌≡◌, ◌≢◌, ◌∙◌, sym, ap, subst, ℕ, ◌+◌, ◌-◌, ◌^◌, ◌≤◌, List, [], ◌++◌, Option, length, take, drop, length-append, length-take, length-drop, arith}
 use Rattle.std.specs.Io.KnownBytes.{Keeps}
+use Rattle.std.proofs.Math.Seq.{take-add}
+use Rattle.std.proofs.lemmas.List.{take_at}
 use Rattle.std.proofs.KnownBytes.{Consumes-nil, Consumes-trans, Consumes-kept}
 use Rattle.ipc_model.specs.declared.fault.Fault.{Fault}
 use Rattle.ipc_model.specs.declared.fault.Fault.TheVariants.{Read}
 use Rattle.ipc_stream.specs.Failures.{Tells}
-use Rattle.ipc_stream.specs.Taken.{Takes, Loses}
+use Rattle.ipc_stream.specs.Taken.{Behind, Fills, Takes, Loses, count_up}
 
 pub takes_kept : (a b : Option (List ℕ)) (n : ℕ) → n ≤ 2 ^ 64 - 1 → Keeps a b → Takes a b n n []
 takes_kept a b n fits same = record { bytes = Consumes-kept a a b [] (Consumes-nil a) same; counted = omega arith }
@@ -21,6 +23,24 @@ takes_then a b c n m k x y t u = record {
 
 pub loses_none : (a b : Option (List ℕ)) (n wanted : ℕ) → n ≤ 2 ^ 64 - 1 → Keeps a b → Loses a b n n wanted
 loses_none a b n wanted fits same = record { lost = []; few = omega arith; takes = takes_kept a b n fits same }
+
+pub behind_at : (a b : Option (List ℕ)) (x y buffer : List ℕ) (start wanted k : ℕ) → x ≡ y → Behind a b x buffer start wanted k → Behind a b y buffer start wanted k
+behind_at a b x y buffer start wanted k is h = subst (λ z. Behind a b z buffer start wanted k) is h
+
+-- what came to a buffer came behind what was kept of it
+pub fills_behind : (a b : Option (List ℕ)) (n m : ℕ) (kept items buffer : List ℕ) (size start wanted k : ℕ) → size ≡ length items → length buffer ≡ length items → take start items ≡ kept → Behind a b items buffer start wanted k → m ≡ count_up n k
+    → Fills a b n m kept (take (start + k) (take size (buffer ++ drop (length buffer) items))) wanted k
+fills_behind a b n m kept items buffer size start wanted k all same is h counted =
+    let whole : take size (buffer ++ drop (length buffer) items) ≡ buffer = take_at buffer (drop (length buffer) items) size (same ∙ sym all) in
+    let long : length (take k (drop start buffer)) ≡ k = omega (arith, length-take k (drop start buffer), length-drop start buffer, h.fits) in
+    record {
+      came = take k (drop start buffer);
+      kept = ap (take (start + k)) whole ∙ (take-add start k buffer ∙ ap (λ z. z ++ take k (drop start buffer)) (h.before ∙ is));
+      count = long;
+      few = h.few;
+      takes = record { bytes = h.bytes; counted = counted ∙ ap (count_up n) (sym long) };
+      ended = h.ended;
+    }
 
 -- a source that worked so far tells what it does then
 pub tells_after : (a b c : ℕ) (e : Fault) → (a ≡ 0 → b ≡ 0) → Tells b c e → Tells a c e

@@ -1,5 +1,5 @@
 -- What a reader takes from its source, and what it answers.
-use Rattle.std.specs.Prelude.{◌≡◌, ◌≢◌, ℕ, ◌+◌, ◌-◌, ◌^◌, ◌≤◌, min, List, [], ◌∷◌, ◌++◌, length, take, Option, ⊤, Some, None, Result, Ok, Err}
+use Rattle.std.specs.Prelude.{◌≡◌, ◌≢◌, ℕ, ◌+◌, ◌-◌, ◌^◌, ◌≤◌, min, List, [], ◌∷◌, ◌++◌, length, take, drop, Option, ⊤, Some, None, Result, Ok, Err}
 use Rattle.std.specs.Io.KnownBytes.{Consumes, IsAtEnd}
 use Rattle.ipc_model.specs.declared.fault.Fault.{Fault}
 use Rattle.ipc_model.specs.declared.fault.Fault.TheVariants.{MissingSchema, SecondSchema, Truncated, UnknownDictionary}
@@ -31,11 +31,12 @@ pub record Takes (old new : Option (List ℕ)) (count_old count_new : ℕ) (x : 
   pub bytes : Consumes old new x
   pub counted : count_new ≡ count_up count_old (length x)
 
--- k bytes came to the front of a piece, at most as many as were wanted, and none only at the end
-pub record Fronts (old new : Option (List ℕ)) (piece : List ℕ) (wanted k : ℕ) : Type 0 where
+-- k bytes came to a buffer behind its first bytes, at most as many as were wanted, and none only at the end
+pub record Behind (old new : Option (List ℕ)) (buffer_old buffer_new : List ℕ) (start wanted k : ℕ) : Type 0 where
   pub few : k ≤ wanted
-  pub fits : k ≤ length piece
-  pub bytes : Consumes old new (take k piece)
+  pub fits : start + k ≤ length buffer_new
+  pub before : take start buffer_new ≡ take start buffer_old
+  pub bytes : Consumes old new (take k (drop start buffer_new))
   pub ended : k ≡ 0 → IsAtEnd new
 
 -- k bytes came behind those that were kept, at most as many as were wanted, and none only at the end

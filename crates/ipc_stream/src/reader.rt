@@ -71,10 +71,7 @@ impl<R: Source> StreamReader<R> {
         ensures refused { IfErr result (λ e. OpensNot (R.remaining source) (R.remaining e.1) e.0) }
         ensures failures { MatchResult result (λ s. R.failures source ≡ 0 → s.failures ≡ 0) (λ e. Tells (R.failures source) (R.failures e.1) e.0) }
     {
-        match Intake::new(alloc) {
-            Ok(intake) => open_with(alloc, source, intake),
-            Err(_) => Err((Fault::OutOfMemory, source)),
-        }
+        open_with(alloc, source, Intake::new(alloc))
     }
 
     /// The schema of the stream.

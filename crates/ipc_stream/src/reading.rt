@@ -32,16 +32,16 @@ fn read_frame<R: Source>(
     ensures fewer { IfOk result (λ frame. IsSome frame → R.bound source.new < R.bound source.old) }
     ensures failures { FailsAs (R.failures source.old) (R.failures source.new) result }
 {
-    intake.kept.clear();
+    intake.filled = 0;
     let mut wanted = 4;
     loop {
         if fill(source, intake, wanted)? == 0 {
-            if intake.kept.is_empty() {
+            if intake.filled == 0 {
                 return Ok(None);
             }
             return Err(Fault::Truncated);
         }
-        match next_frame(alloc, &intake.kept)? {
+        match next_frame(alloc, &intake.buffer[..intake.filled])? {
             Seen::Short(more) => wanted = more,
             Seen::Whole(frame, _) => return Ok(Some(frame)),
         }

@@ -20,7 +20,7 @@ fn read_batches<R: Source>(alloc: Global, source: &mut R) -> Result<(Table, End)
     ensures table { TakesTable (R.remaining source.old) (R.remaining source.new) result }
     ensures failures { FailsAs (R.failures source.old) (R.failures source.new) result }
 {
-    let mut intake = Intake::new(alloc)?;
+    let mut intake = Intake::new(alloc);
     let scope = read_scope(alloc, source, &mut intake)?;
     let mut batches = Vec::new(alloc);
     loop {
