@@ -51,29 +51,20 @@ fn eight_digits(number: u32) -> u64
     pair(high / 100) + (pair(high % 100) << 16) + (pair(low / 100) << 32) + (pair(low % 100) << 48)
 }
 
-// How many zeros there are in front of a number below 10^8 with eight digits.
+// The digit 0 in each of eight bytes, less one in the last, so that the last digit counts as shown in any case.
+const UNSHOWN: u64 = 0x2f30_3030_3030_3030;
+
+// The eight digits of a number below 10^8, the first in the lowest byte, and how many zeros stand in front: no bit is set in
+// their bytes once the digit 0 is taken from each.
 #[inline(always)]
-fn zeros_before(number: u32) -> usize
+fn digits_and_zeros(number: u32) -> (u64, usize)
     requires { number < 100000000 }
-    ensures { result + length (decimal number) ≡ 8 }
+    ensures digits { to_le_bytes w64 result.0 ≡ last_digits 8 number }
+    ensures zeros { result.1 + length (decimal number) ≡ 8 }
 {
-    if number < 10 {
-        7
-    } else if number < 100 {
-        6
-    } else if number < 1_000 {
-        5
-    } else if number < 10_000 {
-        4
-    } else if number < 100_000 {
-        3
-    } else if number < 1_000_000 {
-        2
-    } else if number < 10_000_000 {
-        1
-    } else {
-        0
-    }
+    let digits = eight_digits(number);
+    let zeros = (digits - UNSHOWN).trailing_zeros() / 8;
+    (digits, zeros as usize)
 }
 
 // Writes eight bytes.
@@ -105,9 +96,8 @@ fn put_first(text: &mut [u8], at: usize, number: u32) -> usize
     ensures end { result ≤ at + 8 }
     ensures text { take result text.new ≡ take at text.old ++ decimal number }
 {
-    let zeros = zeros_before(number);
-    let shown = eight_digits(number) >> (8 * zeros);
-    put_bytes(text, at, shown.to_le_bytes());
+    let (digits, zeros) = digits_and_zeros(number);
+    put_bytes(text, at, (digits >> (8 * zeros)).to_le_bytes());
     at + (8 - zeros)
 }
 
