@@ -1,0 +1,14 @@
+pub mod Ascending
+pub mod Buffers
+pub mod Faults
+pub mod Has
+pub mod Nodes
+pub mod Patches
+pub mod Pieces
+pub mod Placed
+pub mod Points
+pub mod RoomSteps
+pub mod Steps
+pub mod Upward
+pub mod Views
+pub mod Within

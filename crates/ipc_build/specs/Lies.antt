@@ -1,0 +1,78 @@
+-- When a tree lies in bytes b, in the words by which b is read. P is asked of the width and the place of every number there:
+-- scalars, offsets, counts, a vtable's entries.
+use Rattle.std.specs.Prelude.{ℤ, ℕ, ◌+◌, ◌*◌, ◌<◌, ◌≡◌, ◌⊎◌, List, [], ◌∷◌, length, Some, None, Ok, ⊤}
+use Rattle.std.specs.Int.{byte_len, cast_signed}
+use Rattle.ipc_scalar.specs.Bytes.{num, int64}
+use Rattle.ipc_scalar.specs.Flat.{vtable_of, slot_of, points, table_of, elements_of, text_of}
+use Rattle.ipc_build.specs.Trees.{Content, Tree, none, field}
+use Rattle.ipc_build.specs.Trees as k
+use Rattle.ipc_build.specs.Layout.{members}
+
+-- one of the fields has this number
+unfoldable pub HasField : ℕ → Tree → Type 0
+HasField n none = ⊥
+HasField n (field m content inner rest) = (n ≡ m) ⊎ HasField n rest
+
+-- what fields stand in: the table at a place, or the rest of a vector of tables, whose next offset is at a place
+pub data Holder : Type 0 where
+  in_table : ℕ → Holder
+  in_vector : ℕ → Holder
+
+abbrev pub next_in : Holder → Holder
+next_in (in_table t) = in_table t
+next_in (in_vector q) = in_vector (q + 4)
+
+-- FlatBuffers binary format, "Format Components": the width of a scalar, or of an offset
+abbrev pub inline_width : Content → ℕ
+inline_width (k.byte x) = 1
+inline_width (k.signed w z) = byte_len w
+inline_width _ = 4
+
+module _ (P : ℕ → ℕ → Type 0) (b : List ℕ) where
+  -- "Tables", "Strings and Vectors": field n, of w bytes, is at p; or the next offset of a vector is
+  abbrev pub StandsAt : Holder → ℕ → ℕ → ℕ → Type 0
+  StandsAt (in_table t) n w p = slot_of b t n w ≡ Ok (Some p)
+  StandsAt (in_vector q) n w p = p ≡ q
+
+  -- "Structs": structs of two signed 64-bit numbers, one after another from q on
+  unfoldable pub PairsLie : ℕ → List (ℤ × ℤ) → Type 0
+  PairsLie q [] = ⊤
+  PairsLie q (x ∷ xs) = (int64 b q ≡ x.0) × (int64 b (q + 8) ≡ x.1) × (P 8 q × P 8 (q + 8)) × PairsLie (q + 16) xs
+
+  -- "Tables": a table stands at t, and each number that none of these fields has is absent there
+  pub record TableStands (t : ℕ) (f : Tree) : Type 0 where
+    pub vtable : ℕ
+    pub found : vtable_of b t ≡ Ok vtable
+    pub holds : P 4 t
+    pub entries : (i : ℕ) → 2 * i < num b vtable 2 → P 2 (vtable + 2 * i)
+    pub absent : (n w : ℕ) → (HasField n f → ⊥) → slot_of b t n w ≡ Ok None
+
+  -- "Strings and Vectors": the offset at p points to this string
+  pub record StringLies (p : ℕ) (s : List ℕ) : Type 0 where
+    pub start : ℕ
+    pub points_there : points b p ≡ Ok start
+    pub holds : P 4 start
+    pub text : text_of b p ≡ Ok s
+
+  -- the scalar at p is this number, or the offset at p points to this; `below` says of a holder that the tree below lies in it
+  abbrev pub TargetLies : Content → Tree → (Holder → Type 0) → ℕ → Type 0
+  TargetLies (k.byte x) f below p = num b p 1 ≡ x
+  TargetLies (k.signed w z) f below p = cast_signed w (num b p (byte_len w)) ≡ z
+  TargetLies (k.string s) f below p = StringLies p s
+  TargetLies (k.pairs xs) f below p = (q : ℕ) × (elements_of b p 16 ≡ Ok (q + 4, length xs)) × P 4 q × PairsLie (q + 4) xs
+  TargetLies k.table f below p = (t : ℕ) × (table_of b p ≡ Ok t) × TableStands t f × below (in_table t)
+  TargetLies k.tables f below p = (q : ℕ) × (elements_of b p 4 ≡ Ok (q + 4, members f)) × P 4 q × below (in_vector (q + 4))
+
+  -- each field stands in this holder and holds what it is to hold, subtrees included
+  unfoldable pub TreeLies : Holder → Tree → Type 0
+  TreeLies at none = ⊤
+  TreeLies at (field n content inner rest) =
+      ((p : ℕ) × StandsAt at n (inline_width content) p × P (inline_width content) p × TargetLies content inner (λ there. TreeLies there inner) p) × TreeLies (next_in at) rest
+
+-- FlatBuffers binary format, "Format Components": the root table, to which the offset in the first four bytes points, is this tree
+abbrev pub Lies : List ℕ → Tree → Type 0
+Lies b f = TreeLies (λ w p. ⊤) b (in_vector 0) (field 0 k.table f none)
+
+-- the same, and each number stands at a multiple of its width
+abbrev pub Aligned : List ℕ → Tree → Type 0
+Aligned b f = TreeLies (λ w p. (q : ℕ) × (p ≡ q * w)) b (in_vector 0) (field 0 k.table f none)

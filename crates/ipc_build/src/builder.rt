@@ -1,0 +1,59 @@
+//! Writing a whole tree.
+ghost use Rattle.std.specs.Prelude.{◌≡◌, ◌≤◌, ◌<◌, ◌+◌, ◌*◌, ◌/◌, ◌^◌, ◌↔◌, ◌++◌, ℕ, List, length, IfOk, IsErrOf};
+ghost use Rattle.ipc_build.specs.declared.fault.BuildFault.TheVariants.{TooLarge};
+ghost use Rattle.ipc_build.specs.Trees.{view};
+ghost use Rattle.ipc_build.specs.Layout.{as_vector, targets_end, buffer};
+ghost use Rattle.ipc_build.specs.Lies.{Lies, Aligned};
+ghost use Rattle.ipc_build.specs.Ascends.{fields, Ascends, Writable};
+ghost use Rattle.ipc_build.specs.Room.{room};
+
+use crate::fault::BuildFault;
+use crate::places::table_place;
+use crate::room::table_room;
+use crate::scalars::push_u32;
+use crate::tables::write_table;
+use crate::tree::FlatTree;
+use std::alloc::{AllocError, Global};
+
+// The root offset, the root table and all below it.
+fn write_buffer(out: &mut Vec<u8>, tree: &FlatTree) -> Result<(), AllocError>
+    requires writable { Writable (fields 0) (view tree.now) }
+    requires empty { length out.old.items ≡ 0 }
+    requires small { targets_end (as_vector (view tree.now)) 4 < 2 ^ 31 }
+    ensures { IfOk result (λ _. out.new.items ≡ out.old.items ++ buffer (view tree.now)) }
+{
+    push_u32(out, table_place(tree, 4) as u32)?;
+    write_table(out, tree, 4)?;
+    Ok(())
+}
+
+/// The bytes of a buffer whose root table is `tree`, in the FlatBuffers binary format.
+///
+/// The tree lies in them, also where other bytes stand behind them, as padding does; every scalar,
+/// offset, count and vtable entry stands at a multiple of its width from their first byte. They begin
+/// with the root offset and carry neither a file identifier nor their own size. Padded to a multiple
+/// of 8 they are at most `room` bytes, which is 16, 24 and 10 for each vtable entry for a table, 8 and
+/// its bytes for a text, 12 and 4 for each table for a vector of tables, and 12 and 16 for each pair
+/// for a vector of pairs.
+///
+/// The slots' numbers ascend in each table and are below 16, and tables nest at most 255 deep. Each
+/// slot is visited a few times, so the time it takes grows with the slots and the bytes alone.
+///
+/// `TooLarge` exactly where `room` passes 2^24, and before any memory is taken; `OutOfMemory` only
+/// where a growth of the bytes was refused.
+pub fn build(alloc: Global, tree: &FlatTree) -> Result<Vec<u8>, BuildFault>
+    requires { Ascends (fields 0) (view tree.now) }
+    ensures lies { IfOk result (λ bytes. (rest : List ℕ) → Lies (bytes.items ++ rest) (view tree.now)) }
+    ensures aligned { IfOk result (λ bytes. Aligned bytes.items (view tree.now)) }
+    ensures room { IfOk result (λ bytes. (length bytes.items + 7) / 8 * 8 ≤ room (view tree.now)) }
+    ensures too_large { IsErrOf result TooLarge ↔ (2 ^ 24 < room (view tree.now)) }
+{
+    if table_room(tree, 16).is_none() {
+        return Err(BuildFault::TooLarge);
+    }
+    let mut out = Vec::new(alloc);
+    match write_buffer(&mut out, tree) {
+        Ok(()) => Ok(out),
+        Err(_) => Err(BuildFault::OutOfMemory),
+    }
+}
