@@ -14,3 +14,12 @@ pub mod RefusedFields
 pub mod Entries
 pub mod Totals
 pub mod RefusedSchemas
+pub mod Standing
+pub mod WrittenParts
+pub mod WrittenTypes
+pub mod WrittenFields
+pub mod WrittenHeads
+pub mod WrittenTrees
+pub mod WrittenOrder
+pub mod WrittenAnswers
+pub mod ReadableLemmas

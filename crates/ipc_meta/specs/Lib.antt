@@ -5,6 +5,8 @@ pub mod Tables
 pub mod Fields
 pub mod Reading
 pub mod Heads
+pub mod Written
+pub mod Rooms
 pub mod Laws
 pub mod Reached
 pub mod Totals

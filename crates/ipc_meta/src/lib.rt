@@ -1,4 +1,4 @@
-//! Reads the metadata of one message of an Arrow IPC stream: a FlatBuffer whose root is a Message
+//! Reads and writes the metadata of one message of an Arrow IPC stream: a FlatBuffer whose root is a Message
 //! table (Message.fbs), with a schema (Schema.fbs) or the head of a batch in it.
 //!
 //! What is answered is what the tables state. Only the fields that are named here are looked at;
@@ -12,8 +12,15 @@ pub mod head;
 mod laws;
 mod lifted;
 mod message;
+mod readable;
+mod slots;
+mod trees;
+mod type_slots;
 mod types;
+mod write;
 
 pub use head::{BatchHead, Head};
 pub use laws::one_head_per_metadata;
 pub use message::read_message;
+pub use readable::are_open;
+pub use write::{write_batch, write_schema};

@@ -203,7 +203,7 @@ fn read_dictionary(field: &TableRef<'_>) -> Result<Option<Dictionary>, Fault>
 }
 
 // Whether columns of this type with this dictionary are read.
-fn is_open(kind: &DataType, dictionary: Option<Dictionary>) -> bool
+pub(crate) fn is_open(kind: &DataType, dictionary: Option<Dictionary>) -> bool
     ensures { result ≡ is_open kind.now dictionary }
 {
     dictionary.is_none()

@@ -1,0 +1,59 @@
+-- What the calls that write metadata answer.
+use Rattle.std.proofs.Common.{◌≡◌, ◌∙◌, ap, subst, ℕ, ◌^◌, ◌<◌, ◌≤◌, true, List, ◌++◌, length, inl, inr}
+use Rattle.std.specs.Prelude.{◌⊎◌, Result, Ok, Err, IfOk, IfErr}
+use Rattle.ipc_model.specs.Meaning.{WellFormed}
+use Rattle.ipc_model.specs.declared.fault.WriteFault.{WriteFault}
+use Rattle.ipc_model.specs.declared.fault.WriteFault.TheVariants.{TooLong, OutOfMemory}
+use Rattle.ipc_model.specs.declared.schema.Schema.{Schema}
+use Rattle.ipc_build.specs.Trees.{Tree}
+use Rattle.ipc_build.specs.Lies.{Lies}
+use Rattle.ipc_build.specs.Room.{room}
+use Rattle.ipc_meta.specs.Open.{are_open}
+use Rattle.ipc_meta.specs.declared.head.BatchHead.{BatchHead}
+use Rattle.ipc_meta.specs.declared.head.Head.TheVariants as head
+use Rattle.ipc_meta.specs.Heads.{HeadOf}
+use Rattle.ipc_meta.specs.Rooms.{schema_room, batch_room}
+use Rattle.ipc_meta.specs.Written.{schema_tree, batch_tree, message_tree, schema_message, batch_message}
+use Rattle.ipc_meta.proofs.WrittenHeads.{schema_stated, batch_stated}
+use Rattle.ipc_meta.proofs.WrittenOrder.{schema_needs, batch_needs}
+
+pub ok_then : {A E : Type 0} (P Q : A → Type 0) (r : Result A E) → ((x : A) → P x → Q x) → IfOk r P → IfOk r Q
+ok_then P Q (Ok x) f h = f x h
+ok_then P Q (Err e) f h = tt
+
+pub err_then : {A E : Type 0} (P Q : E → Type 0) (r : Result A E) → ((x : E) → P x → Q x) → IfErr r P → IfErr r Q
+err_then P Q (Ok x) f h = tt
+err_then P Q (Err e) f h = f e h
+
+-- memory ran out, or the tree's room is above the limit
+abbrev pub NoRoom : Tree → WriteFault → Type 0
+NoRoom f fault = (fault ≡ OutOfMemory) ⊎ ((fault ≡ TooLong) × (2 ^ 24 < room f))
+
+pub schema_is : (s : Schema) (f g : Tree) → g ≡ message_tree 1 f 0 → f ≡ schema_tree s → g ≡ schema_message s
+schema_is s f g e h = e ∙ ap (λ (x : Tree). message_tree 1 x 0) h
+
+pub batch_is : (b : BatchHead) (m : ℕ) (f g : Tree) → g ≡ message_tree 3 f m → f ≡ batch_tree b → g ≡ batch_message b m
+batch_is b m f g e h = e ∙ ap (λ (x : Tree). message_tree 3 x m) h
+
+pub lies_as : (b : List ℕ) (f g : Tree) → f ≡ g → ((rest : List ℕ) → Lies (b ++ rest) f) → (rest : List ℕ) → Lies (b ++ rest) g
+lies_as b f g e h rest = subst (λ (x : Tree). Lies (b ++ rest) x) e (h rest)
+
+pub schema_states : (b : List ℕ) (s : Schema) (f : Tree) → WellFormed s → f ≡ schema_message s → ((rest : List ℕ) → Lies (b ++ rest) f) → are_open s.fields ≡ true → (rest : List ℕ) → HeadOf (b ++ rest) (head.Schema s) 0
+schema_states b s f w e h read rest = schema_stated (b ++ rest) s w read (lies_as b f (schema_message s) e h rest)
+
+pub schema_room_is : (s : Schema) (f : Tree) → f ≡ schema_message s → room f ≡ schema_room s
+schema_room_is s f e = ap room e ∙ schema_needs s
+
+pub schema_refused : (s : Schema) (f : Tree) (fault : WriteFault) → f ≡ schema_message s → NoRoom f fault → (fault ≡ OutOfMemory) ⊎ ((fault ≡ TooLong) × (2 ^ 24 < schema_room s))
+schema_refused s f fault e h = subst (λ (n : ℕ). (fault ≡ OutOfMemory) ⊎ ((fault ≡ TooLong) × (2 ^ 24 < n))) (schema_room_is s f e) h
+
+pub batch_states : (b : List ℕ) (h : BatchHead) (m : ℕ) (f : Tree) → m ≤ 2 ^ 40 → f ≡ batch_message h m → ((rest : List ℕ) → Lies (b ++ rest) f) → (rest : List ℕ) → HeadOf (b ++ rest) (head.Batch h) m
+batch_states b h m f small e lies rest = batch_stated (b ++ rest) h m small (lies_as b f (batch_message h m) e lies rest)
+
+pub batch_room_is : (h : BatchHead) (m : ℕ) (f : Tree) → f ≡ batch_message h m → room f ≡ batch_room (length h.nodes) (length h.buffers)
+batch_room_is h m f e = ap room e ∙ batch_needs h m
+
+pub batch_refused : (h : BatchHead) (m : ℕ) (f : Tree) (fault : WriteFault) → f ≡ batch_message h m → NoRoom f fault
+    → (fault ≡ OutOfMemory) ⊎ ((fault ≡ TooLong) × ((2 ^ 24 < batch_room (length h.nodes) (length h.buffers)) ⊎ (2 ^ 40 < m)))
+batch_refused h m f fault e (inl o) = inl o
+batch_refused h m f fault e (inr t) = inr (t.0, inl (subst (λ (n : ℕ). 2 ^ 24 < n) (batch_room_is h m f e) t.1))

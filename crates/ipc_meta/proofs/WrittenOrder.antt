@@ -1,0 +1,116 @@
+-- In each table that is written the fields' numbers ascend, and how much room the tables take.
+use Rattle.std.proofs.Common.{◌≡◌, refl, sym, subst, ℕ, ◌≤◌, ◌<◌, Bool, List, [], ◌∷◌, map, length, arith}
+use Rattle.std.specs.Prelude.{Option, None, Some}
+use Rattle.std.specs.List.{AllByRecursion}
+use Rattle.ipc_model.specs.declared.schema.DataType.{DataType}
+use Rattle.ipc_model.specs.declared.schema.DataType.TheVariants as t
+use Rattle.ipc_model.specs.declared.schema.IntBits.{IntBits}
+use Rattle.ipc_model.specs.declared.schema.Dictionary.{Dictionary}
+use Rattle.ipc_model.specs.declared.schema.Field.{Field, roll-Field, ind-Field, fold-roll-Field, map-Field}
+use Rattle.ipc_model.specs.declared.schema.Field.TheOpen.{Field-F}
+use Rattle.ipc_model.specs.declared.schema.Schema.{Schema}
+use Rattle.ipc_build.specs.Trees.{Tree, tables_of}
+use Rattle.ipc_build.specs.Layout.{entry_count, members}
+use Rattle.ipc_build.specs.Ascends.{fields, elements, Ascends}
+use Rattle.ipc_build.specs.Room.{room, targets_room}
+use Rattle.ipc_meta.specs.declared.head.BatchHead.{BatchHead}
+use Rattle.ipc_meta.specs.Rooms.{schema_room, batch_room}
+use Rattle.ipc_meta.specs.Written.{pair_tree, with_pairs, with_tables, int_tree, type_tree, dictionary_tree, with_dictionary, field_step, field_tree, schema_tree, batch_tree, message_tree, schema_message, batch_message}
+
+abbrev InOrder : Tree → Type 0
+InOrder f = Ascends (fields 0) f
+
+elements_in_order : {X : Type 0} (tree : X → Tree) (xs : List X) → AllByRecursion (λ x. InOrder (tree x)) xs → Ascends elements (tables_of (map tree xs))
+unfolding Ascends
+elements_in_order tree [] h = tt
+elements_in_order tree (x ∷ xs) h = (refl, h.0, elements_in_order tree xs h.1)
+
+pair_in_order : (p : List ℕ × List ℕ) → InOrder (pair_tree p)
+unfolding Ascends
+pair_in_order p = (omega arith, omega arith, tt, (omega arith, omega arith, tt, tt))
+
+pairs_in_order : (ps : List (List ℕ × List ℕ)) → AllByRecursion (λ p. InOrder (pair_tree p)) ps
+pairs_in_order [] = tt
+pairs_in_order (p ∷ ps) = (pair_in_order p, pairs_in_order ps)
+
+with_pairs_in_order : (n k : ℕ) (ps : List (List ℕ × List ℕ)) → n ≤ k → k < 16 → Ascends (fields n) (with_pairs k ps)
+unfolding Ascends
+with_pairs_in_order n k [] low high = tt
+with_pairs_in_order n k (p ∷ ps) low high = (low, high, elements_in_order pair_tree (p ∷ ps) (pairs_in_order (p ∷ ps)), tt)
+
+int_in_order : (bits : IntBits) (signed : Bool) → InOrder (int_tree bits signed)
+unfolding Ascends
+int_in_order bits signed = (omega arith, omega arith, tt, (omega arith, omega arith, tt, tt))
+
+type_in_order : (κ : DataType) → InOrder (type_tree κ)
+unfolding Ascends
+type_in_order t.Null = tt
+type_in_order t.Bool = tt
+type_in_order (t.Int bits signed) = int_in_order bits signed
+type_in_order t.Binary = tt
+type_in_order t.Utf8 = tt
+type_in_order (t.FixedSizeBinary n) = (omega arith, omega arith, tt, tt)
+type_in_order (t.Date unit) = (omega arith, omega arith, tt, tt)
+type_in_order (t.Timestamp unit None) = (omega arith, omega arith, tt, tt)
+type_in_order (t.Timestamp unit (Some zone)) = (omega arith, omega arith, tt, (omega arith, omega arith, tt, tt))
+type_in_order t.List = tt
+type_in_order t.Struct = tt
+
+dictionary_in_order : (d : Dictionary) → InOrder (dictionary_tree d)
+unfolding Ascends
+dictionary_in_order d = (omega arith, omega arith, tt, (omega arith, omega arith, int_in_order d.index.bits d.index.signed, (omega arith, omega arith, tt, tt)))
+
+with_dictionary_in_order : (o : Option Dictionary) (cs : List Tree) (ps : List (List ℕ × List ℕ)) → Ascends elements (tables_of cs) → Ascends (fields 4) (with_dictionary o (with_tables 5 cs (with_pairs 6 ps)))
+unfolding Ascends
+with_dictionary_in_order None cs ps h = (omega arith, omega arith, h, with_pairs_in_order 6 6 ps (omega arith) (omega arith))
+with_dictionary_in_order (Some d) cs ps h = (omega arith, omega arith, dictionary_in_order d, (omega arith, omega arith, h, with_pairs_in_order 6 6 ps (omega arith) (omega arith)))
+
+abbrev Shown : Type 0
+Shown = (f : Field) × InOrder (field_tree f)
+
+all_in_order : (cs : List Shown) → AllByRecursion (λ f. InOrder (field_tree f)) (map (λ c. c.0) cs)
+all_in_order [] = tt
+all_in_order (c ∷ cs) = (c.1, all_in_order cs)
+
+field_layer : (y : Field-F Shown) → InOrder (field_tree (roll-Field (map-Field Shown Field (λ c. c.0) y)))
+unfolding Ascends
+field_layer y =
+    let z : Field-F Field = map-Field Shown Field (λ c. c.0) y in
+    let inner = elements_in_order field_tree z.children (all_in_order y.children) in
+    subst (λ (f : Tree). Ascends (fields 0) f) (sym (fold-roll-Field Tree field_step z))
+    (omega arith, omega arith, tt, (omega arith, omega arith, tt, (omega arith, omega arith, tt, (omega arith, omega arith, type_in_order z.kind, with_dictionary_in_order z.dictionary (map field_tree z.children) z.metadata inner))))
+
+field_in_order : (f : Field) → InOrder (field_tree f)
+field_in_order = ind-Field (λ f. InOrder (field_tree f)) (λ x y is. subst (λ z. InOrder (field_tree (roll-Field z))) is (field_layer y))
+
+fields_in_order : (fs : List Field) → AllByRecursion (λ f. InOrder (field_tree f)) fs
+fields_in_order [] = tt
+fields_in_order (f ∷ fs) = (field_in_order f, fields_in_order fs)
+
+message_in_order : (code m : ℕ) (header : Tree) → InOrder header → InOrder (message_tree code header m)
+unfolding Ascends
+message_in_order code m header h = (omega arith, omega arith, tt, (omega arith, omega arith, tt, (omega arith, omega arith, h, (omega arith, omega arith, tt, tt))))
+
+schema_in_order : (s : Schema) → InOrder (schema_tree s)
+unfolding Ascends
+schema_in_order s = (omega arith, omega arith, elements_in_order field_tree s.fields (fields_in_order s.fields), with_pairs_in_order 2 2 s.metadata (omega arith) (omega arith))
+
+batch_in_order : (b : BatchHead) → InOrder (batch_tree b)
+unfolding Ascends
+batch_in_order b = (omega arith, omega arith, tt, (omega arith, omega arith, tt, (omega arith, omega arith, tt, tt)))
+
+pub schema_ascends : (s : Schema) (f g : Tree) → g ≡ message_tree 1 f 0 → f ≡ schema_tree s → Ascends (fields 0) g
+schema_ascends s f g e h = subst (λ (x : Tree). InOrder x) (sym e) (subst (λ (x : Tree). InOrder (message_tree 1 x 0)) (sym h) (message_in_order 1 0 (schema_tree s) (schema_in_order s)))
+
+pub batch_ascends : (b : BatchHead) (m : ℕ) (f g : Tree) → g ≡ message_tree 3 f m → f ≡ batch_tree b → Ascends (fields 0) g
+batch_ascends b m f g e h = subst (λ (x : Tree). InOrder x) (sym e) (subst (λ (x : Tree). InOrder (message_tree 3 x m)) (sym h) (message_in_order 3 m (batch_tree b) (batch_in_order b)))
+
+-- ---- room
+
+pub batch_needs : (b : BatchHead) (m : ℕ) → room (batch_message b m) ≡ batch_room (length b.nodes) (length b.buffers)
+unfolding targets_room entry_count members batch_room
+batch_needs b m = omega arith
+
+pub schema_needs : (s : Schema) → room (schema_message s) ≡ schema_room s
+unfolding schema_room
+schema_needs s = refl

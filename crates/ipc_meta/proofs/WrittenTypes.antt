@@ -1,0 +1,105 @@
+-- The type and the dictionary of a field that were written are those that are read.
+use Rattle.std.proofs.Common.{◌≡◌, ◌∙◌, refl, ap, ℕ, ◌-◌, ◌^◌, ◌≤◌, Bool, List, arith}
+use Rattle.std.specs.Prelude.{ℤ, pos, Option, None, Some, Result, Ok}
+use Rattle.std.specs.Int.{w32, cast_signed}
+use Rattle.std.proofs.Math.Facts.{to_z_pos}
+use Rattle.ipc_scalar.specs.Bytes.{num, byte, int16, int32}
+use Rattle.ipc_scalar.specs.declared.fault.FlatFault.{FlatFault}
+use Rattle.ipc_scalar.specs.Flat.{slot_of, table_of, text_of}
+use Rattle.ipc_flat.specs.Views.{Table, table_from, scalar, field}
+use Rattle.ipc_model.specs.Answers.{◌>>=◌}
+use Rattle.ipc_model.specs.Meaning.{HasGoodType}
+use Rattle.ipc_model.specs.Ranges.{width}
+use Rattle.ipc_model.specs.declared.fault.Fault.{Fault}
+use Rattle.ipc_model.specs.declared.fault.Fault.TheVariants.{BadType}
+use Rattle.ipc_model.specs.declared.schema.IntBits.{IntBits}
+use Rattle.ipc_model.specs.declared.schema.IntBits.TheVariants.{B8, B16, B32, B64}
+use Rattle.ipc_model.specs.declared.schema.DateUnit.{DateUnit}
+use Rattle.ipc_model.specs.declared.schema.DateUnit.TheVariants as date
+use Rattle.ipc_model.specs.declared.schema.TimeUnit.{TimeUnit}
+use Rattle.ipc_model.specs.declared.schema.TimeUnit.TheVariants as time
+use Rattle.ipc_model.specs.declared.schema.DataType.{DataType}
+use Rattle.ipc_model.specs.declared.schema.DataType.TheVariants as t
+use Rattle.ipc_model.specs.declared.schema.IndexType.{IndexType}
+use Rattle.ipc_build.specs.Lies.{TreeLies, HasField}
+use Rattle.ipc_meta.specs.Lifts.{lift}
+use Rattle.ipc_meta.specs.Tables.{bits_of, ok_or, int_at, fixed_at, date_at, unit_of, timestamp_at, type_of, type_in, code_at, type_at, flag_at}
+use Rattle.ipc_meta.specs.Written.{int_tree, date_code, time_code, type_tree, type_code}
+use Rattle.ipc_meta.proofs.Standing.{tab, Holds, scalar_there, field_there, field_absent, table_there}
+use Rattle.ipc_meta.proofs.WrittenParts.{flag_there, neither}
+
+bits_there : (e : Fault) (bits : IntBits) → ok_or e (bits_of (pos (width bits))) ≡ Ok bits
+bits_there e B8 = refl
+bits_there e B16 = refl
+bits_there e B32 = refl
+bits_there e B64 = refl
+
+abbrev integer : IntBits → Bool → IndexType
+integer bits signed = record { bits = bits; signed = signed }
+
+int_there : (e : Fault) (b : List ℕ) (u : ℕ) (bits : IntBits) (signed : Bool) → Holds b u (int_tree bits signed) → int_at e (tab b u) ≡ Ok (integer bits signed)
+unfolding TreeLies
+int_there e b u bits signed h =
+    let size = h.lies.0 in
+    let sign = h.lies.1.0 in
+    ap (λ (r : Result ℤ FlatFault). lift r >>= λ w. ok_or e (bits_of w) >>= λ c. flag_at (tab b u) 1 >>= λ s. Ok (integer c s)) (scalar_there b u 0 4 size.0 int32 (pos 0) size.1)
+    ∙ (ap (λ (z : ℤ). ok_or e (bits_of z) >>= λ c. flag_at (tab b u) 1 >>= λ s. Ok (integer c s)) size.3
+    ∙ (ap (λ (r : Result IntBits Fault). r >>= λ c. flag_at (tab b u) 1 >>= λ s. Ok (integer c s)) (bits_there e bits)
+    ∙ ap (λ (r : Result Bool Fault). r >>= λ s. Ok (integer bits s)) (flag_there b u 1 sign.0 signed sign.1 sign.3)))
+
+fixed_there : (b : List ℕ) (u n p : ℕ) → slot_of b u 0 4 ≡ Ok (Some p) → int32 b p ≡ cast_signed w32 n → n ≤ 2 ^ 31 - 1 → (lift (scalar (tab b u) 0 4 int32 (pos 0)) >>= fixed_at) ≡ Ok (t.FixedSizeBinary n)
+fixed_there b u n p s e h =
+    ap (λ (r : Result ℤ FlatFault). lift r >>= fixed_at) (scalar_there b u 0 4 p int32 (pos 0) s)
+    ∙ (ap fixed_at e ∙ ap fixed_at (to_z_pos w32 (omega (arith, h))))
+
+date_read : (unit : DateUnit) → date_at (date_code unit) ≡ Ok (t.Date unit)
+date_read date.Day = refl
+date_read date.Millisecond = refl
+
+date_there : (b : List ℕ) (u p : ℕ) (unit : DateUnit) → slot_of b u 0 2 ≡ Ok (Some p) → int16 b p ≡ date_code unit → (lift (scalar (tab b u) 0 2 int16 (pos 1)) >>= date_at) ≡ Ok (t.Date unit)
+date_there b u p unit s e = ap (λ (r : Result ℤ FlatFault). lift r >>= date_at) (scalar_there b u 0 2 p int16 (pos 1) s) ∙ (ap date_at e ∙ date_read unit)
+
+unit_read : (unit : TimeUnit) → ok_or BadType (unit_of (time_code unit)) ≡ Ok unit
+unit_read time.Second = refl
+unit_read time.Millisecond = refl
+unit_read time.Microsecond = refl
+unit_read time.Nanosecond = refl
+
+abbrev timestamp : TimeUnit → Option (List ℕ) → Result DataType Fault
+timestamp unit zone = Ok (t.Timestamp unit zone)
+
+zone_there : (b : List ℕ) (u : ℕ) (unit : TimeUnit) (zone : Option (List ℕ)) → Holds b u (type_tree (t.Timestamp unit zone)) → field (tab b u) 1 text_of ≡ Ok zone
+unfolding TreeLies HasField
+zone_there b u unit None h = field_absent b u 1 text_of (h.stands.absent 1 4 (neither (λ e. omega (arith, e)) (λ z. z)))
+zone_there b u unit (Some s) h = let zone = h.lies.1.0 in field_there b u 1 zone.0 text_of s zone.1 zone.3.text
+
+timestamp_there : (b : List ℕ) (u : ℕ) (unit : TimeUnit) (zone : Option (List ℕ)) → Holds b u (type_tree (t.Timestamp unit zone)) → timestamp_at (tab b u) ≡ Ok (t.Timestamp unit zone)
+unfolding TreeLies
+timestamp_there b u unit zone h =
+    let place = h.lies.0 in
+    ap (λ (r : Result ℤ FlatFault). lift r >>= λ n. ok_or BadType (unit_of n) >>= λ c. lift (field (tab b u) 1 text_of) >>= λ z. timestamp c z) (scalar_there b u 0 2 place.0 int16 (pos 0) place.1)
+    ∙ (ap (λ (m : ℤ). ok_or BadType (unit_of m) >>= λ c. lift (field (tab b u) 1 text_of) >>= λ z. timestamp c z) place.3
+    ∙ (ap (λ (r : Result TimeUnit Fault). r >>= λ c. lift (field (tab b u) 1 text_of) >>= λ z. timestamp c z) (unit_read unit)
+    ∙ ap (λ (r : Result (Option (List ℕ)) FlatFault). lift r >>= λ z. timestamp unit z) (zone_there b u unit zone h)))
+
+type_table : (b : List ℕ) (u : ℕ) (κ : DataType) → HasGoodType κ → Holds b u (type_tree κ) → type_of (type_code κ) (tab b u) ≡ Ok κ
+unfolding TreeLies type_of
+type_table b u t.Null g h = refl
+type_table b u t.Bool g h = refl
+type_table b u (t.Int bits signed) g h = ap (λ (r : Result IndexType Fault). r >>= λ i. Ok (t.Int i.bits i.signed)) (int_there BadType b u bits signed h)
+type_table b u t.Binary g h = refl
+type_table b u t.Utf8 g h = refl
+type_table b u (t.FixedSizeBinary n) g h = let place = h.lies.0 in fixed_there b u n place.0 place.1 place.3 g
+type_table b u (t.Date unit) g h = let place = h.lies.0 in date_there b u place.0 unit place.1 place.3
+type_table b u (t.Timestamp unit zone) g h = timestamp_there b u unit zone h
+type_table b u t.List g h = refl
+type_table b u t.Struct g h = refl
+
+pub type_there : (b : List ℕ) (t c p u : ℕ) (κ : DataType) → slot_of b t 2 1 ≡ Ok (Some c) → num b c 1 ≡ type_code κ → slot_of b t 3 4 ≡ Ok (Some p) → table_of b p ≡ Ok u
+    → HasGoodType κ → Holds b u (type_tree κ) → type_at (tab b t) ≡ Ok κ
+unfolding type_at code_at
+type_there b t c p u κ sc e sp table good h =
+    ap (λ (r : Result ℕ FlatFault). lift r >>= λ code. lift (field (tab b t) 3 table_from) >>= type_in code) (scalar_there b t 2 1 c byte 0 sc)
+    ∙ (ap (λ (n : ℕ). lift (field (tab b t) 3 table_from) >>= type_in n) e
+    ∙ (ap (λ (r : Result (Option Table) FlatFault). lift r >>= type_in (type_code κ)) (field_there b t 3 p table_from (tab b u) sp (table_there b p u table))
+    ∙ type_table b u κ good h))

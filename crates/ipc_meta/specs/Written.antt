@@ -1,0 +1,141 @@
+-- What is written of schemas and batches: in each table the fields that are present, by their numbers, and what they hold. A field that
+-- has no place here is absent (Message.fbs, Schema.fbs).
+use Rattle.std.specs.Prelude.{ℕ, ℤ, pos, Bool, if◌then◌else◌, List, [], ◌∷◌, map, Option, None, Some}
+use Rattle.std.specs.Int.{Width, w16, w32, w64, cast_signed}
+use Rattle.ipc_build.specs.declared.tree.Slot.{Slot}
+use Rattle.ipc_build.specs.Trees.{Tree, none, field, byte, signed, string, pairs, table, tables, node, tables_of}
+use Rattle.ipc_model.specs.Ranges.{width}
+use Rattle.ipc_model.specs.declared.schema.IntBits.{IntBits}
+use Rattle.ipc_model.specs.declared.schema.DateUnit.{DateUnit}
+use Rattle.ipc_model.specs.declared.schema.DateUnit.TheVariants as date
+use Rattle.ipc_model.specs.declared.schema.TimeUnit.{TimeUnit}
+use Rattle.ipc_model.specs.declared.schema.TimeUnit.TheVariants as time
+use Rattle.ipc_model.specs.declared.schema.DataType.{DataType}
+use Rattle.ipc_model.specs.declared.schema.DataType.TheVariants as t
+use Rattle.ipc_model.specs.declared.schema.Dictionary.{Dictionary}
+use Rattle.ipc_model.specs.declared.schema.Field.{Field, fold-Field}
+use Rattle.ipc_model.specs.declared.schema.Field.TheOpen.{Field-F}
+use Rattle.ipc_model.specs.declared.schema.Schema.{Schema}
+use Rattle.ipc_meta.specs.declared.head.BatchHead.{BatchHead}
+
+-- these fields, and then the rest
+abbrev pub graft : List (ℕ × Slot) → Tree → Tree
+graft [] rest = rest
+graft (x ∷ xs) rest = field x.0 (node x.1).0 (node x.1).1 (graft xs rest)
+
+-- field k is this byte, and then come the rest
+abbrev pub with_byte : ℕ → ℕ → Tree → Tree
+with_byte k x rest = field k (byte x) none rest
+
+-- field k is this signed number
+abbrev pub with_signed : ℕ → Width → ℤ → Tree → Tree
+with_signed k w z rest = field k (signed w z) none rest
+
+-- field k is a vector of structs of two signed 64-bit numbers
+abbrev pub with_numbers : ℕ → List (ℤ × ℤ) → Tree → Tree
+with_numbers k xs rest = field k (pairs xs) none rest
+
+-- field k is this text
+abbrev pub with_text : ℕ → List ℕ → Tree → Tree
+with_text k s rest = field k (string s) none rest
+
+-- field k is this table
+abbrev pub with_table : ℕ → Tree → Tree → Tree
+with_table k below rest = field k table below rest
+
+-- field k is a vector of these tables
+abbrev pub with_tables : ℕ → List Tree → Tree → Tree
+with_tables k ts rest = field k tables (tables_of ts) rest
+
+-- true is 1, and false is 0
+abbrev pub flag : Bool → ℕ
+flag b = if b then 1 else 0
+
+-- Schema.fbs, table KeyValue: 0 key, 1 value
+abbrev pub pair_tree : List ℕ × List ℕ → Tree
+pair_tree p = with_text 0 p.0 (with_text 1 p.1 none)
+
+-- field k is a vector of pairs, present where there are any
+abbrev pub with_pairs : ℕ → List (List ℕ × List ℕ) → Tree
+with_pairs k [] = none
+with_pairs k (p ∷ ps) = with_tables k (map pair_tree (p ∷ ps)) none
+
+-- Schema.fbs, table Int: 0 bitWidth, 1 is_signed
+abbrev pub int_tree : IntBits → Bool → Tree
+int_tree bits sign = with_signed 0 w32 (pos (width bits)) (with_byte 1 (flag sign) none)
+
+-- Schema.fbs, enum DateUnit
+abbrev pub date_code : DateUnit → ℤ
+date_code date.Day = pos 0
+date_code date.Millisecond = pos 1
+
+-- Schema.fbs, enum TimeUnit
+abbrev pub time_code : TimeUnit → ℤ
+time_code time.Second = pos 0
+time_code time.Millisecond = pos 1
+time_code time.Microsecond = pos 2
+time_code time.Nanosecond = pos 3
+
+-- Schema.fbs, table Timestamp, 1 timezone: present where there is one
+abbrev pub with_timezone : Option (List ℕ) → Tree
+with_timezone None = none
+with_timezone (Some zone) = with_text 1 zone none
+
+-- Schema.fbs, union Type: the table of a type, with all its fields
+abbrev pub type_tree : DataType → Tree
+type_tree (t.Int bits sign) = int_tree bits sign
+type_tree (t.FixedSizeBinary n) = with_signed 0 w32 (cast_signed w32 n) none
+type_tree (t.Date unit) = with_signed 0 w16 (date_code unit) none
+type_tree (t.Timestamp unit timezone) = with_signed 0 w16 (time_code unit) (with_timezone timezone)
+type_tree _ = none
+
+-- Schema.fbs, union Type: the code of a type
+abbrev pub type_code : DataType → ℕ
+type_code t.Null = 1
+type_code (t.Int bits sign) = 2
+type_code t.Binary = 4
+type_code t.Utf8 = 5
+type_code t.Bool = 6
+type_code (t.Date unit) = 8
+type_code (t.Timestamp unit timezone) = 10
+type_code t.List = 12
+type_code t.Struct = 13
+type_code (t.FixedSizeBinary n) = 15
+
+-- Schema.fbs, table DictionaryEncoding: 0 id, 1 indexType, 2 isOrdered
+abbrev pub dictionary_tree : Dictionary → Tree
+dictionary_tree d = with_signed 0 w64 d.id (with_table 1 (int_tree d.index.bits d.index.signed) (with_byte 2 (flag d.ordered) none))
+
+-- Schema.fbs, table Field, 4 dictionary: present where there is one
+abbrev pub with_dictionary : Option Dictionary → Tree → Tree
+with_dictionary None rest = rest
+with_dictionary (Some d) rest = with_table 4 (dictionary_tree d) rest
+
+-- Schema.fbs, table Field: 0 name, 1 nullable, 2 and 3 type, 4 dictionary, 5 children, 6 custom_metadata
+abbrev pub field_step : Field-F Tree → Tree
+field_step f =
+    with_text 0 f.name (with_byte 1 (flag f.nullable) (with_byte 2 (type_code f.kind) (with_table 3 (type_tree f.kind)
+    (with_dictionary f.dictionary (with_tables 5 f.children (with_pairs 6 f.metadata))))))
+
+abbrev pub field_tree : Field → Tree
+field_tree = fold-Field Tree field_step
+
+-- Schema.fbs, table Schema: 1 fields, 2 custom_metadata; its endianness is Little, the default
+abbrev pub schema_tree : Schema → Tree
+schema_tree s = with_tables 1 (map field_tree s.fields) (with_pairs 2 s.metadata)
+
+-- Message.fbs, table RecordBatch: 0 length, 1 nodes, 2 buffers
+abbrev pub batch_tree : BatchHead → Tree
+batch_tree b = with_signed 0 w64 b.length (with_numbers 1 b.nodes (with_numbers 2 b.buffers none))
+
+-- Message.fbs, table Message: 0 version (V5 is 4), 1 and 2 header, 3 bodyLength
+abbrev pub message_tree : ℕ → Tree → ℕ → Tree
+message_tree code header m = with_signed 0 w16 (pos 4) (with_byte 1 code (with_table 2 header (with_signed 3 w64 (pos m) none)))
+
+-- Message.fbs, union MessageHeader: Schema is 1; its message has no body
+abbrev pub schema_message : Schema → Tree
+schema_message s = message_tree 1 (schema_tree s) 0
+
+-- Message.fbs, union MessageHeader: RecordBatch is 3
+abbrev pub batch_message : BatchHead → ℕ → Tree
+batch_message b m = message_tree 3 (batch_tree b) m

@@ -1,0 +1,99 @@
+//! The tables of schemas, batches and messages that are written.
+ghost use Rattle.std.specs.Prelude.{◌≡◌, ◌≤◌, ◌^◌, map, IfOk};
+ghost use Rattle.ipc_build.specs.Trees.{view};
+ghost use Rattle.ipc_model.specs.declared.schema.Field.{out-Field};
+ghost use Rattle.ipc_meta.specs.Written.{field_tree, schema_tree, batch_tree, message_tree};
+
+use crate::head::BatchHead;
+use crate::slots::{push_pairs, table_of, text_slot};
+use crate::type_slots::{push_dictionary, type_number, type_slots};
+use ipc_build::{FlatTree, Slot};
+use ipc_model::items::Items;
+use ipc_model::schema::{Field, Schema};
+use std::alloc::{AllocError, Global};
+
+// Schema.fbs, enum MetadataVersion: V5.
+const VERSION: i16 = 4;
+
+// Schema.fbs, table Field, with the tables of its children.
+fn field_table(
+    alloc: Global,
+    field: &Field,
+    children: Vec<FlatTree>,
+) -> Result<FlatTree, AllocError>
+    requires { map view children.items ≡ map field_tree (out-Field field.now).children }
+    ensures { IfOk result (λ t. view t ≡ field_tree field.now) }
+{
+    let mut slots = vec![in alloc;
+        (0, text_slot(&field.name)?),
+        (1, Slot::Bool(field.nullable)),
+        (2, Slot::U8(type_number(&field.kind))),
+        (3, Slot::Table(table_of(type_slots(alloc, &field.kind)?))),
+    ]?;
+    push_dictionary(alloc, &mut slots, field.dictionary)?;
+    slots.push((5, Slot::Tables(ipc_build::Items::from(children))))?;
+    push_pairs(alloc, &mut slots, 6, &field.metadata)?;
+    Ok(table_of(slots))
+}
+
+#[cycle(field_tree)]
+fn field_tree(alloc: Global, field: &Field) -> Result<FlatTree, AllocError>
+    ensures { IfOk result (λ t. view t ≡ field_tree field.now) }
+{
+    let children = field_trees(alloc, &field.children)?;
+    field_table(alloc, field, children)
+}
+
+#[cycle(field_tree)]
+fn field_trees(alloc: Global, fields: &Items<Field>) -> Result<Vec<FlatTree>, AllocError>
+    ensures { IfOk result (λ ts. map view ts.items ≡ map field_tree fields.now) }
+{
+    let mut trees = Vec::with_capacity(alloc, fields.len())?;
+    for field in fields.as_slice() {
+        trees.push(field_tree(alloc, field)?)?;
+    }
+    Ok(trees)
+}
+
+/// Schema.fbs, table Schema.
+pub(crate) fn schema_tree(alloc: Global, schema: &Schema) -> Result<FlatTree, AllocError>
+    ensures { IfOk result (λ t. view t ≡ schema_tree schema.now) }
+{
+    let fields = field_trees(alloc, &schema.fields)?;
+    let mut slots = vec![in alloc; (1, Slot::Tables(ipc_build::Items::from(fields)))]?;
+    push_pairs(alloc, &mut slots, 2, &schema.metadata)?;
+    Ok(table_of(slots))
+}
+
+/// Message.fbs, table RecordBatch.
+pub(crate) fn batch_tree(alloc: Global, head: &BatchHead) -> Result<FlatTree, AllocError>
+    ensures { IfOk result (λ t. view t ≡ batch_tree head.now) }
+{
+    let nodes = Vec::from_slice(alloc, head.nodes.as_slice())?;
+    let buffers = Vec::from_slice(alloc, head.buffers.as_slice())?;
+    let slots = vec![in alloc;
+        (0, Slot::I64(head.length)),
+        (1, Slot::Pairs(ipc_build::Items::from(nodes))),
+        (2, Slot::Pairs(ipc_build::Items::from(buffers))),
+    ]?;
+    Ok(table_of(slots))
+}
+
+/// Message.fbs, table Message: the header's code in union MessageHeader with its table, and the length of the body.
+pub(crate) fn message_tree(
+    alloc: Global,
+    code: u8,
+    header: FlatTree,
+    body: u64,
+) -> Result<FlatTree, AllocError>
+    requires { body ≤ 2 ^ 40 }
+    ensures { IfOk result (λ t. view t ≡ message_tree code (view header) body) }
+{
+    let slots = vec![in alloc;
+        (0, Slot::I16(VERSION)),
+        (1, Slot::U8(code)),
+        (2, Slot::Table(header)),
+        (3, Slot::I64(body.cast_signed())),
+    ]?;
+    Ok(table_of(slots))
+}

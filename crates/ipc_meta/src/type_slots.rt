@@ -1,0 +1,125 @@
+//! The tables of types and dictionaries that are written.
+ghost use Rattle.std.specs.Prelude.{◌≡◌, IfOk, pos};
+ghost use Rattle.ipc_build.specs.Trees.{Tree, fields_view};
+ghost use Rattle.ipc_model.specs.Ranges.{width};
+ghost use Rattle.ipc_model.specs.declared.schema.DataType.TheVariants as t;
+ghost use Rattle.ipc_meta.specs.Written.{graft, int_tree, date_code, time_code, type_tree, type_code, dictionary_tree, with_dictionary};
+
+use crate::slots::{Slots, table_of, text_slot};
+use ipc_build::Slot;
+use ipc_model::items::Text;
+use ipc_model::schema::{DataType, DateUnit, Dictionary, IntBits, TimeUnit};
+use std::alloc::{AllocError, Global};
+
+fn bits_number(bits: IntBits) -> i32
+    ensures { result ≡ pos (width bits) }
+{
+    match bits {
+        IntBits::B8 => 8,
+        IntBits::B16 => 16,
+        IntBits::B32 => 32,
+        IntBits::B64 => 64,
+    }
+}
+
+fn date_number(unit: DateUnit) -> i16
+    ensures { result ≡ date_code unit }
+{
+    match unit {
+        DateUnit::Day => 0,
+        DateUnit::Millisecond => 1,
+    }
+}
+
+fn time_number(unit: TimeUnit) -> i16
+    ensures { result ≡ time_code unit }
+{
+    match unit {
+        TimeUnit::Second => 0,
+        TimeUnit::Millisecond => 1,
+        TimeUnit::Microsecond => 2,
+        TimeUnit::Nanosecond => 3,
+    }
+}
+
+/// The code of a type in union Type (Schema.fbs).
+pub(crate) fn type_number(kind: &DataType) -> u8
+    ensures { result ≡ type_code kind.now }
+{
+    match kind {
+        DataType::Null => 1,
+        DataType::Int { .. } => 2,
+        DataType::Binary => 4,
+        DataType::Utf8 => 5,
+        DataType::Bool => 6,
+        DataType::Date(_) => 8,
+        DataType::Timestamp { .. } => 10,
+        DataType::List => 12,
+        DataType::Struct => 13,
+        DataType::FixedSizeBinary(_) => 15,
+    }
+}
+
+// Schema.fbs, table Int.
+fn int_slots(alloc: Global, bits: IntBits, signed: bool) -> Result<Slots, AllocError>
+    ensures { IfOk result (λ slots. fields_view slots.items ≡ int_tree bits signed) }
+{
+    Ok(vec![in alloc; (0, Slot::I32(bits_number(bits))), (1, Slot::Bool(signed))]?)
+}
+
+// Schema.fbs, table Timestamp.
+fn timestamp_slots(
+    alloc: Global,
+    unit: TimeUnit,
+    timezone: &Option<Text>,
+) -> Result<Slots, AllocError>
+    ensures { IfOk result (λ slots. fields_view slots.items ≡ type_tree (t.Timestamp unit timezone.now)) }
+{
+    let unit = Slot::I16(time_number(unit));
+    match timezone {
+        Some(zone) => Ok(vec![in alloc; (0, unit), (1, text_slot(zone)?)]?),
+        None => Ok(vec![in alloc; (0, unit)]?),
+    }
+}
+
+/// The fields of a type's table (Schema.fbs, union Type).
+pub(crate) fn type_slots(alloc: Global, kind: &DataType) -> Result<Slots, AllocError>
+    ensures { IfOk result (λ slots. fields_view slots.items ≡ type_tree kind.now) }
+{
+    match kind {
+        DataType::Int { bits, signed } => int_slots(alloc, *bits, *signed),
+        DataType::FixedSizeBinary(width) => {
+            Ok(vec![in alloc; (0, Slot::I32(width.cast_signed()))]?)
+        }
+        DataType::Date(unit) => Ok(vec![in alloc; (0, Slot::I16(date_number(*unit)))]?),
+        DataType::Timestamp { unit, timezone } => timestamp_slots(alloc, *unit, timezone),
+        _ => Ok(Vec::new(alloc)),
+    }
+}
+
+// Schema.fbs, table DictionaryEncoding.
+fn dictionary_slots(alloc: Global, dictionary: Dictionary) -> Result<Slots, AllocError>
+    ensures { IfOk result (λ slots. fields_view slots.items ≡ dictionary_tree dictionary) }
+{
+    let index = int_slots(alloc, dictionary.index.bits, dictionary.index.signed)?;
+    Ok(vec![in alloc;
+        (0, Slot::I64(dictionary.id)),
+        (1, Slot::Table(table_of(index))),
+        (2, Slot::Bool(dictionary.ordered)),
+    ]?)
+}
+
+/// Adds a field's dictionary, where it has one.
+pub(crate) fn push_dictionary(
+    alloc: Global,
+    slots: &mut Slots,
+    dictionary: Option<Dictionary>,
+) -> Result<(), AllocError>
+    ensures { IfOk result (λ _. (rest : Tree) → graft slots.new.items rest ≡ graft slots.old.items (with_dictionary dictionary rest)) }
+{
+    if let Some(dictionary) = dictionary {
+        let encoding = table_of(dictionary_slots(alloc, dictionary)?);
+        slots.push((4, Slot::Table(encoding)))?;
+    }
+    Ok(())
+}

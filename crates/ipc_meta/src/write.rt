@@ -1,0 +1,92 @@
+//! Metadata that is written.
+ghost use Rattle.std.specs.Prelude.{◌≡◌, ◌⊎◌, ◌<◌, ◌≤◌, ◌+◌, ◌*◌, ◌/◌, ◌^◌, ◌++◌, ℕ, List, length, true, IfOk, IfErr};
+ghost use Rattle.ipc_build.specs.Trees.{Tree, view};
+ghost use Rattle.ipc_build.specs.Lies.{Lies, Aligned};
+ghost use Rattle.ipc_build.specs.Ascends.{Ascends, fields};
+ghost use Rattle.ipc_build.specs.Room.{room};
+ghost use Rattle.ipc_model.specs.Meaning.{WellFormed};
+ghost use Rattle.ipc_meta.specs.Heads.{HeadOf};
+ghost use Rattle.ipc_meta.specs.Open.{are_open};
+ghost use Rattle.ipc_meta.specs.Rooms.{batch_room, schema_room};
+ghost use Rattle.ipc_meta.specs.Written.{schema_message, batch_message};
+
+use crate::head::{BatchHead, Head};
+use crate::trees::{batch_tree, message_tree, schema_tree};
+use ipc_build::{BuildFault, FlatTree, build};
+use ipc_model::fault::WriteFault;
+use ipc_model::schema::Schema;
+use std::alloc::Global;
+
+// The most bytes that a body may have, a limit of this project.
+const LONGEST_BODY: u64 = 1 << 40;
+
+// The bytes of a message's metadata.
+fn built(alloc: Global, tree: &FlatTree) -> Result<Vec<u8>, WriteFault>
+    requires { Ascends (fields 0) (view tree.now) }
+    ensures lies { IfOk result (λ b. (rest : List ℕ) → Lies (b.items ++ rest) (view tree.now)) }
+    ensures aligned { IfOk result (λ b. Aligned b.items (view tree.now)) }
+    ensures short { IfOk result (λ b. (length b.items + 7) / 8 * 8 ≤ 2 ^ 24) }
+    ensures room { IfOk result (λ b. room (view tree.now) ≤ 2 ^ 24) }
+    ensures refused { IfErr result (λ f. (f ≡ WriteFault.OutOfMemory) ⊎ ((f ≡ WriteFault.TooLong) × (2 ^ 24 < room (view tree.now)))) }
+{
+    match build(alloc, tree) {
+        Ok(bytes) => Ok(bytes),
+        Err(BuildFault::TooLarge) => Err(WriteFault::TooLong),
+        Err(BuildFault::OutOfMemory) => Err(WriteFault::OutOfMemory),
+    }
+}
+
+/// The metadata of a schema's message (Message.fbs, table Message; Schema.fbs, table Schema), for a schema that is well formed
+/// (`Schema::check`). The message has no body.
+///
+/// The bytes are a FlatBuffer, in which each scalar and offset is aligned to its size. Written are the version (V5), the header
+/// with its code, and the body's length; of the schema its fields, and its pairs where there are any; of each field its name,
+/// whether it is nullable, its type with the code, and its children, and a dictionary and pairs where there are any; of each type
+/// all its fields, but a timezone only where there is one. No other field is present. Padding may follow the bytes: padded to a
+/// multiple of 8 they are at most 2^24.
+///
+/// # Errors
+///
+/// - `TooLong` (W6): the room of the metadata is above 2^24 bytes. It is 16, and for each table 24 and 10 for each of its vtable's
+///   entries, for each text 8 and its bytes, for each vector of tables 12 and 4 for each of them, and for each vector of pairs of
+///   numbers 12 and 16 for each of them.
+/// - `OutOfMemory` (W11): `alloc` refused memory.
+pub fn write_schema(alloc: Global, schema: &Schema) -> Result<Vec<u8>, WriteFault>
+    requires { WellFormed schema.now }
+    // Exactly these fields are there, whatever follows.
+    ensures lies { IfOk result (λ b. (rest : List ℕ) → Lies (b.items ++ rest) (schema_message schema.now)) }
+    ensures aligned { IfOk result (λ b. Aligned b.items (schema_message schema.now)) }
+    // They state this schema to a reader of its types.
+    ensures states { IfOk result (λ b. are_open schema.now.fields ≡ true → (rest : List ℕ) → HeadOf (b.items ++ rest) (Head.Schema schema.now) 0) }
+    ensures short { IfOk result (λ b. (length b.items + 7) / 8 * 8 ≤ 2 ^ 24) }
+    ensures room { IfOk result (λ b. schema_room schema.now ≤ 2 ^ 24) }
+    ensures refused { IfErr result (λ f. (f ≡ WriteFault.OutOfMemory) ⊎ ((f ≡ WriteFault.TooLong) × (2 ^ 24 < schema_room schema.now))) }
+{
+    let header = schema_tree(alloc, schema)?;
+    let message = message_tree(alloc, 1, header, 0)?;
+    built(alloc, &message)
+}
+
+/// The metadata of a record batch's message with a body of so many bytes (Message.fbs, tables Message and RecordBatch). The
+/// numbers of the head are written as they are. Its layout and its padding are those of `write_schema`'s.
+///
+/// # Errors
+///
+/// - `TooLong` (W6): the body has more than 2^40 bytes, or the room of the metadata is above 2^24: 158, and 16 for each node and
+///   each buffer.
+/// - `OutOfMemory` (W11): `alloc` refused memory.
+pub fn write_batch(alloc: Global, head: &BatchHead, body: u64) -> Result<Vec<u8>, WriteFault>
+    ensures lies { IfOk result (λ b. (rest : List ℕ) → Lies (b.items ++ rest) (batch_message head.now body)) }
+    ensures aligned { IfOk result (λ b. Aligned b.items (batch_message head.now body)) }
+    ensures states { IfOk result (λ b. (rest : List ℕ) → HeadOf (b.items ++ rest) (Head.Batch head.now) body) }
+    ensures short { IfOk result (λ b. (length b.items + 7) / 8 * 8 ≤ 2 ^ 24) }
+    ensures room { IfOk result (λ b. (batch_room (length head.now.nodes) (length head.now.buffers) ≤ 2 ^ 24) × (body ≤ 2 ^ 40)) }
+    ensures refused { IfErr result (λ f. (f ≡ WriteFault.OutOfMemory) ⊎ ((f ≡ WriteFault.TooLong) × ((2 ^ 24 < batch_room (length head.now.nodes) (length head.now.buffers)) ⊎ (2 ^ 40 < body)))) }
+{
+    if body > LONGEST_BODY {
+        return Err(WriteFault::TooLong);
+    }
+    let header = batch_tree(alloc, head)?;
+    let message = message_tree(alloc, 3, header, body)?;
+    built(alloc, &message)
+}
