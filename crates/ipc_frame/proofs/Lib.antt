@@ -2,3 +2,4 @@ pub mod Wholes
 pub mod OneFrame
 pub mod Decided
 pub mod Exact
+pub mod Written

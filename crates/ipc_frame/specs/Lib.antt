@@ -3,3 +3,4 @@ pub mod Sees
 pub mod Starts
 pub mod Laws
 pub mod Decisions
+pub mod Written

@@ -4,6 +4,8 @@
 mod frame;
 pub mod laws;
 mod next;
+mod write;
 
 pub use frame::{Frame, Seen};
 pub use next::next_frame;
+pub use write::frame_into;

@@ -9,7 +9,7 @@ use ipc_model::fault::Fault;
 use ipc_scalar::get_i32;
 use std::alloc::Global;
 
-const MARK: [u8; 4] = [255; 4];
+pub(crate) const MARK: [u8; 4] = [255; 4];
 
 const END: [u8; 8] = [255, 255, 255, 255, 0, 0, 0, 0];
 
