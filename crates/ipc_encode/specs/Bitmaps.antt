@@ -1,0 +1,16 @@
+-- Bits packed into bytes (Arrow Columnar Format, "Validity bitmaps").
+use Rattle.std.specs.Prelude.{ℕ, zero, suc, ◌+◌, ◌*◌, ◌/◌, Bool, List, [], ◌∷◌, length, take, drop, if◌then◌else◌}
+
+-- the number whose bits are these flags, the least significant first
+abbrev pub flags_number : List Bool → ℕ
+flags_number [] = 0
+flags_number (flag ∷ flags) = (if flag then 1 else 0) + 2 * flags_number flags
+
+-- so many bytes of flags, eight in a byte; bits behind the last flag are 0
+abbrev pub flags_bytes : ℕ → List Bool → List ℕ
+flags_bytes zero flags = []
+flags_bytes (suc n) flags = flags_number (take 8 flags) ∷ flags_bytes n (drop 8 flags)
+
+-- a bit for each flag
+abbrev pub bitmap : List Bool → List ℕ
+bitmap flags = flags_bytes ((length flags + 7) / 8) flags

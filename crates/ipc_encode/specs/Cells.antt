@@ -1,0 +1,108 @@
+-- The values of a column, and what each gives to the column's buffers.
+use Rattle.std.specs.Prelude.{ℕ, ◌+◌, Bool, true, false, not, List, [], ◌∷◌, ◌++◌, length, replicate, slice_index_or, if◌then◌else◌, ⊤}
+use Rattle.std.specs.Str.{IsUtf8}
+use Rattle.std.specs.Int.{w64, cast_unsigned, bytes_low_first}
+use Rattle.ipc_model.specs.Ranges.{IsSignedWithin, IsUnsignedWithin}
+use Rattle.ipc_model.specs.declared.value.Value.{Value, out-Value}
+use Rattle.ipc_model.specs.declared.value.Value.TheOpen.{Value-F}
+use Rattle.ipc_model.specs.declared.value.Value.TheVariants as v
+use Rattle.ipc_column.specs.Layouts.{number_bytes}
+use Rattle.ipc_encode.specs.declared.pieces.Flag.{Flag}
+use Rattle.ipc_encode.specs.declared.pieces.Flag.TheVariants as flag
+use Rattle.ipc_encode.specs.declared.pieces.Slot.{Slot}
+use Rattle.ipc_encode.specs.declared.pieces.Slot.TheVariants as slot
+
+-- the value that a row has in column j
+abbrev pub cell : ℕ → List Value → Value
+cell j row = slice_index_or row j v.Null
+
+-- column j of the rows
+abbrev pub cells : ℕ → List (List Value) → List Value
+cells j [] = []
+cells j (row ∷ rows) = cell j row ∷ cells j rows
+
+abbrev pub is_null : Value-F Value → Bool
+is_null Value-F.Null = true
+is_null _ = false
+
+abbrev pub is_true : Value-F Value → Bool
+is_true (Value-F.Bool truth) = truth
+is_true _ = false
+
+-- a flag of a value: that it isn't null, or that it is true
+abbrev pub is_set : Flag → Value → Bool
+is_set flag.Valid value = not (is_null (out-Value value))
+is_set flag.True value = is_true (out-Value value)
+
+-- the flags of values
+abbrev pub flags : Flag → List Value → List Bool
+flags which [] = []
+flags which (value ∷ values) = is_set which value ∷ flags which values
+
+-- how many values are null
+abbrev pub nulls : List Value → ℕ
+nulls [] = 0
+nulls (value ∷ values) = (if is_set flag.Valid value then 0 else 1) + nulls values
+
+abbrev pub bits_in : Value-F Value → ℕ
+bits_in (Value-F.Int number) = cast_unsigned w64 number
+bits_in (Value-F.UInt number) = number
+bits_in _ = 0
+
+abbrev pub bytes_in : Value-F Value → List ℕ
+bytes_in (Value-F.Bytes bytes) = bytes
+bytes_in (Value-F.Text text) = text
+bytes_in _ = []
+
+abbrev pub fixed_in : ℕ → Value-F Value → List ℕ
+fixed_in width (Value-F.Bytes bytes) = bytes
+fixed_in width _ = replicate width 0
+
+-- the bits of a number, in two's complement where it is signed; of any other value none is set
+abbrev pub number_bits : Value → ℕ
+number_bits value = bits_in (out-Value value)
+
+-- the bytes of a binary value or a text; none of any other value
+abbrev pub content : Value → List ℕ
+content value = bytes_in (out-Value value)
+
+-- the bytes of a binary value; so many zeros of any other value
+abbrev pub fixed : ℕ → Value → List ℕ
+fixed width value = fixed_in width (out-Value value)
+
+-- a number's low bytes, the lowest first (Arrow Columnar Format, "Byte Order"), the bytes of one width, or those of any length
+abbrev pub slot_bytes : Slot → Value → List ℕ
+slot_bytes (slot.Number bits) value = bytes_low_first 0 (number_bytes bits) (number_bits value)
+slot_bytes (slot.Fixed width) value = fixed width value
+slot_bytes slot.Content value = content value
+
+-- the slots of values, one after another
+abbrev pub slots : Slot → List Value → List ℕ
+slots which [] = []
+slots which (value ∷ values) = slot_bytes which value ++ slots which values
+
+-- where the slots of values end, the first of them beginning at a start: numbers of 32 bits
+abbrev pub ends : ℕ → List Value → List ℕ
+ends start [] = []
+ends start (value ∷ values) = bytes_low_first 0 4 (start + length (content value)) ++ ends (start + length (content value)) values
+
+-- 0, and where each slot ends (Arrow Columnar Format, "Variable-size Binary Layout")
+abbrev pub offsets : List Value → List ℕ
+offsets values = bytes_low_first 0 4 0 ++ ends 0 values
+
+abbrev pub SpellsOut : Value-F Value → Type 0
+SpellsOut (Value-F.Text text) = IsUtf8 text
+SpellsOut _ = ⊤
+
+-- a text is UTF-8 (Schema.fbs, Utf8)
+abbrev pub IsSpelled : Value → Type 0
+IsSpelled value = SpellsOut (out-Value value)
+
+abbrev pub HasBits : Value-F Value → Type 0
+HasBits (Value-F.Int number) = IsSignedWithin 64 number
+HasBits (Value-F.UInt number) = IsUnsignedWithin 64 number
+HasBits _ = ⊤
+
+-- a number has 64 bits
+abbrev pub IsNumber : Value → Type 0
+IsNumber value = HasBits (out-Value value)

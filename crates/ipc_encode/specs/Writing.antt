@@ -1,0 +1,78 @@
+-- What writing says of one buffer, of a column, and of a draft.
+use Rattle.std.specs.Prelude.{◌≡◌, ℕ, ◌+◌, ◌-◌, ◌^◌, ◌<◌, ◌≤◌, List, [], ◌∷◌, ◌++◌, length, ◌⊎◌, ⊤}
+use Rattle.std.specs.List.{AllByRecursion}
+use Rattle.ipc_model.specs.declared.fault.WriteFault.{WriteFault}
+use Rattle.ipc_model.specs.declared.fault.WriteFault.TheVariants as fault
+use Rattle.ipc_model.specs.declared.schema.Field.{Field}
+use Rattle.ipc_model.specs.declared.value.Value.{Value}
+use Rattle.ipc_column.specs.declared.layout.Layout.{Layout}
+use Rattle.ipc_column.specs.declared.layout.Layout.TheVariants as l
+use Rattle.ipc_encode.specs.declared.draft.Draft.{Draft}
+use Rattle.ipc_encode.specs.declared.pieces.Piece.{Piece}
+use Rattle.ipc_encode.specs.declared.pieces.Piece.TheVariants as p
+use Rattle.ipc_encode.specs.declared.pieces.Slot.TheVariants.{Number, Content}
+use Rattle.ipc_encode.specs.Cells.{cells, slots, IsNumber, IsSpelled}
+use Rattle.ipc_encode.specs.Buffers.{layout_of, joined, nodes_from, ranges_from, buffers_of, body_of}
+use Rattle.ipc_encode.specs.Limits.{HasLongData}
+
+-- ---- of one buffer
+
+-- the data is more than offsets reach
+abbrev pub HasLong : Piece → List Value → Type 0
+HasLong p.Offsets values = 2 ^ 31 - 1 < length (slots Content values)
+HasLong _ values = ⊥
+
+-- what is known of values whose buffer was written
+abbrev pub Shows : Piece → List Value → Type 0
+Shows p.Offsets values = length (slots Content values) ≤ 2 ^ 31 - 1
+Shows (p.Slots (Number bits)) values = AllByRecursion IsNumber values
+Shows (p.Slots Content) values = AllByRecursion IsSpelled values
+Shows _ values = ⊤
+
+-- why a buffer isn't written that would make a body so long
+abbrev pub IsRefusedAt : Piece → List Value → ℕ → WriteFault → Type 0
+IsRefusedAt piece values size fault.TooLong = HasLong piece values ⊎ (2 ^ 40 < size)
+IsRefusedAt piece values size fault.OutOfMemory = ⊤
+IsRefusedAt piece values size _ = ⊥
+
+-- one of these buffers
+abbrev pub SomeLong : List Piece → List Value → Type 0
+SomeLong [] values = ⊥
+SomeLong (piece ∷ more) values = HasLong piece values ⊎ SomeLong more values
+
+abbrev pub AreRefusedAt : List Piece → List Value → ℕ → WriteFault → Type 0
+AreRefusedAt pieces values size fault.TooLong = SomeLong pieces values ⊎ (2 ^ 40 < size)
+AreRefusedAt pieces values size fault.OutOfMemory = ⊤
+AreRefusedAt pieces values size _ = ⊥
+
+-- ---- of one column
+
+-- the numbers of a column have 64 bits, and its texts are UTF-8
+abbrev pub AreStored : Layout → List Value → Type 0
+AreStored (l.Numbers bits signed) values = AllByRecursion IsNumber values
+AreStored (l.VariableBytes utf8) values = AllByRecursion IsSpelled values
+AreStored _ values = ⊤
+
+-- the same of the columns from column j on
+abbrev pub AllStored : ℕ → List Field → List (List Value) → Type 0
+AllStored j [] rows = ⊤
+AllStored j (f ∷ fs) rows = AreStored (layout_of f) (cells j rows) × AllStored (j + 1) fs rows
+
+-- why a column isn't written that would make a body so long
+abbrev pub IsColumnRefusedAt : Field → List Value → ℕ → WriteFault → Type 0
+IsColumnRefusedAt f values size fault.TooLong = HasLongData (layout_of f) values ⊎ (2 ^ 40 < size)
+IsColumnRefusedAt f values size fault.OutOfMemory = ⊤
+IsColumnRefusedAt f values size _ = ⊥
+
+-- ---- of a draft
+
+-- these buffers came behind the others
+pub record Adds (old new : Draft) (bs : List (List ℕ)) : Type 0 where
+  pub buffers : new.buffers.items ≡ old.buffers.items ++ ranges_from (length old.body.items) bs
+  pub body : new.body.items ≡ old.body.items ++ joined bs
+
+-- these are the nodes, the buffers and the body of the rows
+pub record IsDrafted (fields : List Field) (rows : List (List Value)) (draft : Draft) : Type 0 where
+  pub nodes : draft.nodes.items ≡ nodes_from 0 fields rows
+  pub buffers : draft.buffers.items ≡ ranges_from 0 (buffers_of fields rows)
+  pub body : draft.body.items ≡ body_of fields rows

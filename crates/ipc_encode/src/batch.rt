@@ -1,0 +1,100 @@
+ghost use Rattle.std.specs.Prelude.{◌≡◌, ◌≤◌, ◌^◌, true, pos, length, IfOk, IfErr};
+ghost use Rattle.std.specs.List.{AllByRecursion};
+ghost use Rattle.ipc_model.specs.Fits.{RowFits};
+ghost use Rattle.ipc_model.specs.Meaning.{IsFine};
+ghost use Rattle.ipc_model.specs.WellFormed.{entries};
+ghost use Rattle.ipc_meta.specs.Open.{are_open};
+ghost use Rattle.ipc_column.specs.Rows.{Rows};
+ghost use Rattle.ipc_encode.specs.Buffers.{AreLaidOut};
+ghost use Rattle.ipc_encode.specs.Writing.{IsDrafted};
+ghost use Rattle.ipc_encode.specs.Limits.{IsWithin, IsRefused};
+ghost use Rattle.ipc_encode.specs.Writing.{AllStored};
+
+use crate::draft::{Draft, add_column};
+use crate::index::IndexOf;
+use ipc_model::fault::WriteFault;
+use ipc_model::items::Items;
+use ipc_model::schema::Field;
+use ipc_model::table::Row;
+use std::alloc::Global;
+
+// The most rows of a batch.
+const MAX_ROWS: usize = 0x7fff_ffff;
+
+/// What rows are written as (Message.fbs, RecordBatch).
+#[derive(Debug, Drop)]
+pub struct Parts {
+    /// For each field in pre-order how many slots it has, and how many of them are null (struct FieldNode).
+    pub nodes: Items<(i64, i64)>,
+    /// For each buffer in pre-order at which byte of the body it begins, and how many bytes it has without its padding
+    /// (Schema.fbs, struct Buffer).
+    pub buffers: Items<(i64, i64)>,
+    /// The bytes of the buffers, each padded with zeros to a multiple of 8 bytes.
+    pub body: Vec<u8>,
+}
+
+/// The parts of the record batch that has these rows (Message.fbs, RecordBatch; Arrow Columnar Format, "RecordBatch message").
+///
+/// The caller has the fields from a schema that passes its check, and rows that fit them. Fields of any type but lists and
+/// structs are written, without a dictionary; nothing is said of the parts where there is another. The indices aren't looked at,
+/// since no field that is written can name a dictionary yet.
+///
+/// Buffers stand in the order of the fields, each padded with zeros to a multiple of 8 bytes; a buffer's length is without its
+/// padding. There is a validity bitmap only where a value is null. A null slot is zeros, false or an empty range, and offsets
+/// begin at 0.
+///
+/// Refused with W8 `TooManyRows` where there are more than 2^31 - 1 rows; with W6 `TooLong` where a binary or UTF-8 column has
+/// more than 2^31 - 1 bytes of data, or the body would have more than 2^40 bytes; with W11 `OutOfMemory` where a list can't
+/// grow.
+pub fn encode<I: IndexOf>(
+    alloc: Global,
+    fields: &[Field],
+    rows: &[Row],
+    _indices: &I,
+) -> Result<Parts, WriteFault>
+    requires fine { AllByRecursion IsFine (entries fields.now) }
+    requires conform { AllByRecursion (RowFits fields.now) rows.now }
+    // The parts give these rows back.
+    ensures rows { IfOk result (λ parts. are_open fields.now ≡ true → Rows fields.now (record { length = pos (length rows.now); nodes = parts.nodes; buffers = parts.buffers }) parts.body.items rows.now) }
+    // They are one list of nodes, buffers and bytes.
+    ensures laid_out { IfOk result (λ parts. are_open fields.now ≡ true → AreLaidOut fields.now rows.now parts) }
+    // What is written is within the limits.
+    ensures within { IfOk result (λ parts. are_open fields.now ≡ true → IsWithin fields.now rows.now) }
+    ensures body { IfOk result (λ parts. length parts.body.items ≤ 2 ^ 40) }
+    // A refusal is true of the rows.
+    ensures refused { IfErr result (λ fault. are_open fields.now ≡ true → IsRefused fields.now rows.now fault) }
+{
+    let draft = draft_of(alloc, fields, rows)?;
+    let Draft {
+        nodes,
+        buffers,
+        body,
+    } = draft;
+    Ok(Parts {
+        nodes: Items::from_vec(nodes),
+        buffers: Items::from_vec(buffers),
+        body,
+    })
+}
+
+// The nodes and buffers of all columns.
+fn draft_of(alloc: Global, fields: &[Field], rows: &[Row]) -> Result<Draft, WriteFault>
+    ensures laid_out { IfOk result (λ draft. IsDrafted fields.now rows.now draft) }
+    ensures within { IfOk result (λ draft. IsWithin fields.now rows.now) }
+    ensures stored { IfOk result (λ draft. AllStored 0 fields.now rows.now) }
+    ensures body { IfOk result (λ draft. length draft.body.items ≤ 2 ^ 40) }
+    ensures refused { IfErr result (IsRefused fields.now rows.now) }
+{
+    if rows.len() > MAX_ROWS {
+        return Err(WriteFault::TooManyRows);
+    }
+    let mut draft = Draft {
+        nodes: Vec::with_capacity(alloc, fields.len())?,
+        buffers: Vec::new(alloc),
+        body: Vec::new(alloc),
+    };
+    for (column, field) in fields.iter().enumerate() {
+        add_column(&mut draft, field, rows, column)?;
+    }
+    Ok(draft)
+}

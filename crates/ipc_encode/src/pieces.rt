@@ -1,0 +1,81 @@
+ghost use Rattle.std.specs.Prelude.{◌≡◌, IfOk};
+ghost use Rattle.ipc_encode.specs.Buffers.{validity, pieces, layout_of};
+
+use ipc_model::schema::{DataType, DateUnit, Field, IntBits};
+use std::alloc::{AllocError, Global};
+
+/// A bit of a value that is packed with those of others.
+#[derive(Clone, Copy, Debug, PartialEq, Eq, Drop)]
+pub enum Flag {
+    /// That it is not null.
+    Valid,
+    /// That it is true.
+    True,
+}
+
+/// What a value gives to its column's buffer of values.
+#[derive(Clone, Copy, Debug, PartialEq, Eq, Drop)]
+pub enum Slot {
+    /// Its number, of this width.
+    Number(IntBits),
+    /// So many bytes.
+    Fixed(u32),
+    /// Its bytes, whatever their number.
+    Content,
+}
+
+/// What one buffer of a column holds.
+#[derive(Clone, Copy, Debug, PartialEq, Eq, Drop)]
+pub enum Piece {
+    /// Nothing: a validity bitmap where no value is null.
+    Absent,
+    /// A bit for each value.
+    Flags(Flag),
+    /// A slot for each value.
+    Slots(Slot),
+    /// Where the slots of different lengths begin and end.
+    Offsets,
+}
+
+// The validity bitmap of values of which so many are null.
+fn validity(nulls: usize) -> Piece
+    ensures { result ≡ validity nulls }
+{
+    if nulls == 0 {
+        Piece::Absent
+    } else {
+        Piece::Flags(Flag::Valid)
+    }
+}
+
+/// What the buffers of a field's column hold, in their order, where so many values are null. No buffers for a type
+/// that isn't written yet.
+pub(crate) fn pieces_of(
+    alloc: Global,
+    field: &Field,
+    nulls: usize,
+) -> Result<Vec<Piece>, AllocError>
+    ensures { IfOk result (λ list. list.items ≡ pieces (layout_of field.now) nulls) }
+{
+    if field.dictionary.is_some() {
+        return Ok(Vec::new(alloc));
+    }
+    let values = match &field.kind {
+        DataType::Null | DataType::List | DataType::Struct => return Ok(Vec::new(alloc)),
+        DataType::Binary | DataType::Utf8 => {
+            return Ok(vec![in alloc;
+                validity(nulls),
+                Piece::Offsets,
+                Piece::Slots(Slot::Content),
+            ]?);
+        }
+        DataType::Bool => Piece::Flags(Flag::True),
+        DataType::Int { bits, .. } => Piece::Slots(Slot::Number(*bits)),
+        DataType::FixedSizeBinary(width) => Piece::Slots(Slot::Fixed(*width)),
+        DataType::Date(DateUnit::Day) => Piece::Slots(Slot::Number(IntBits::B32)),
+        DataType::Date(DateUnit::Millisecond) | DataType::Timestamp { .. } => {
+            Piece::Slots(Slot::Number(IntBits::B64))
+        }
+    };
+    Ok(vec![in alloc; validity(nulls), values]?)
+}
