@@ -8,3 +8,7 @@ pub mod Tables
 pub mod Reasons
 pub mod Answered
 pub mod Readers
+pub mod MessagesWritten
+pub mod SentBytes
+pub mod TablesWritten
+pub mod RoundTrips

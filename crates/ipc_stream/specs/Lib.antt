@@ -5,3 +5,6 @@ pub mod Reasons
 pub mod Taken
 pub mod Reader
 pub mod Laws
+pub mod Writing
+pub mod Writer
+pub mod RoundTrip

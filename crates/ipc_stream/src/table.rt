@@ -1,16 +1,19 @@
-ghost use Rattle.std.specs.Prelude.{◌≡◌, ◌++◌, ℕ, List, IfOk, MatchResult, Some};
-ghost use Rattle.std.specs.Io.KnownBytes.{Consumes, IsAtEnd};
+ghost use Rattle.std.specs.Prelude.{◌≡◌, ◌++◌, ℕ, List, IfErr, IfOk, MatchResult, OnOk, Some};
+ghost use Rattle.std.specs.Io.KnownBytes.{Appends, Consumes, IsAtEnd};
 ghost use Rattle.ipc_model.specs.declared.table.Table.{Table};
 ghost use Rattle.ipc_stream.specs.declared.end.End.TheVariants.{Closed, Mark};
 ghost use Rattle.ipc_stream.specs.Failures.{FailsAs};
 ghost use Rattle.ipc_stream.specs.Stream.{Denotes};
 ghost use Rattle.ipc_stream.specs.Taken.{TakesTable};
+ghost use Rattle.ipc_stream.specs.Writing.{AcceptsTable, BreaksOff, IsTableOf, RefusesTable, Sent};
 
 use crate::end::End;
 use crate::intake::Intake;
 use crate::reading::{Next, read_next, read_scope};
+use crate::sending::{send_batch, send_end, send_schema};
+use crate::sink::Sink;
 use crate::source::Source;
-use ipc_model::fault::Fault;
+use ipc_model::fault::{Fault, WriteFault};
 use ipc_model::items::Items;
 use ipc_model::table::Table;
 use std::alloc::Global;
@@ -54,4 +57,25 @@ pub fn read_table<R: Source>(alloc: Global, source: &mut R) -> Result<(Table, En
     ensures failures { FailsAs (R.failures source.old) (R.failures source.new) result }
 {
     read_batches(alloc, source)
+}
+
+/// Writes a table as a stream with the end-of-stream mark (Arrow Columnar Format, "IPC Streaming Format"): its schema, its batches
+/// in order, and the mark, as `StreamWriter::start`, `write_batch` and `finish` do.
+///
+/// The refusals are theirs: W1 for the schema, W2 to W5 for the first row of a batch that doesn't fit, with its number in its batch
+/// and its path, W6 and W8 for lengths above the limits, W9 where the sink failed and W11 where memory was refused. What
+/// was sent before stands.
+pub fn write_table<W: Sink>(alloc: Global, sink: &mut W, table: &Table) -> Result<(), WriteFault>
+    // What was written denotes the table, with its mark, and no call of the sink failed.
+    ensures denotes { OnOk result (Sent (IsTableOf table.now) (W.written sink.old) (W.written sink.new) (W.failures sink.old) (W.failures sink.new)) }
+    // A refusal is told exactly where a cause stands in the table, where the sink fails or memory runs out.
+    ensures judged { MatchResult result (λ _. AcceptsTable table.now) (λ fault. RefusesTable table.now fault) }
+    // What is out at a refusal.
+    ensures broken { IfErr result (λ fault. BreaksOff table.now (W.written sink.old) (W.written sink.new) (W.failures sink.old) (W.failures sink.new) fault) }
+{
+    let schema = send_schema(alloc, sink, &table.schema)?;
+    for rows in table.batches.as_slice() {
+        send_batch(alloc, sink, &schema, rows.as_slice())?;
+    }
+    send_end(sink)
 }
