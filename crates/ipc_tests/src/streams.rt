@@ -1,6 +1,6 @@
 //! Whole streams.
 
-use crate::vectors::{NO_FIELDS, NULLS_64, NUMBERS_32, NUMBERS_64, THREE_EMPTY_ROWS};
+use crate::vectors::{NO_FIELDS, NULLS_64, NUMBERS_32, NUMBERS_64, OTHER_LAYOUT, THREE_EMPTY_ROWS};
 use ipc_model::{DataType, Fault, IntBits, Table, Value};
 use ipc_stream::{End, Limited, Memory, StreamReader, read_table};
 use std::alloc::{AllocError, Global};
@@ -69,6 +69,28 @@ fn reads_numbers(rt: HostRuntime) -> Result<(), Fail> {
     for (bytes, wanted) in cases {
         let seen = numbers(alloc, &table_of(alloc, bytes)?)?;
         assert_eq!(rt; seen.as_slice(), wanted.as_slice());
+    }
+    Ok(())
+}
+
+// A stream that another producer might write.
+#[test]
+fn reads_another_layout(rt: HostRuntime) -> Result<(), Fail> {
+    let alloc = rt.alloc();
+    let mut source = memory(alloc, &OTHER_LAYOUT)?;
+    let (table, end) = read_table(alloc, &mut source)?;
+    assert_eq!(rt; end, End::Closed);
+    let wanted = [1, 1, -2, -2, i64::MAX, i64::MAX];
+    let found = numbers(alloc, &table)?;
+    assert_eq!(rt; found.len(), wanted.len());
+    for (place, number) in wanted.iter().enumerate() {
+        assert_eq!(rt; found.get(place), Some(&(true, *number)));
+    }
+    let names = table.schema.fields.as_slice();
+    assert_eq!(rt; names.len(), 2);
+    for (field, name) in names.iter().zip(["a", "b"]) {
+        assert_eq!(rt; field.name.as_str(), name);
+        assert!(rt; !field.nullable);
     }
     Ok(())
 }

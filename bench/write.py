@@ -1,0 +1,32 @@
+"""Measures the writer in MB/s of output: four required columns of 64-bit integers from owned rows, 65,536 rows a batch."""
+import pathlib
+import subprocess
+import sys
+import time
+
+TOP = pathlib.Path(__file__).resolve().parent.parent
+PROGRAM = TOP / "crates" / "write_numbers" / "out" / "write_numbers"
+ROWS = 65_536
+BATCH = ROWS * 4 * 8
+
+
+def best(batches, runs=5):
+    """The least time of some runs in seconds."""
+    least = float("inf")
+    for _ in range(runs):
+        start = time.perf_counter()
+        subprocess.run([PROGRAM, str(batches), str(ROWS)], stdout=subprocess.DEVNULL, check=True)
+        least = min(least, time.perf_counter() - start)
+    return least
+
+
+def main():
+    if not PROGRAM.exists():
+        subprocess.run(["rt", "run", "--", "2", "3"], cwd=PROGRAM.parent.parent, stdout=subprocess.DEVNULL, check=True)
+    megabytes = int(sys.argv[1]) if len(sys.argv) > 1 else 64
+    batches = max(1, megabytes * 1_000_000 // BATCH)
+    # The first batch pays for the rows, which are made once.
+    print(f"{batches * BATCH / 1e6:.1f} MB: {batches * BATCH / (best(1 + batches) - best(1)) / 1e6:.0f} MB/s")
+
+
+main()

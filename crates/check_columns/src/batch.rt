@@ -1,0 +1,54 @@
+//! The record batch of some rows, as a stream carries it.
+use ipc_frame::{Frame, Seen, next_frame};
+use ipc_meta::{BatchHead, Head};
+use ipc_model::fault::Fault;
+use ipc_model::items::Items;
+use ipc_model::schema::{Field, Schema};
+use ipc_model::table::{Row, Table};
+use ipc_stream::{Memory, write_table};
+use std::alloc::{AllocError, Global};
+
+// The table of these rows in one batch.
+fn table_of(alloc: Global, fields: &[Field], rows: Items<Row>) -> Result<Table, AllocError> {
+    let mut batches = Vec::new(alloc);
+    batches.push(rows)?;
+    Ok(Table {
+        schema: Schema {
+            fields: Items::from_vec(Vec::from_clones(alloc, fields)?),
+            metadata: Items::from_vec(Vec::new(alloc)),
+        },
+        batches: Items::from_vec(batches),
+    })
+}
+
+/// The head and the body of the one batch that has these rows.
+pub fn batch_of(
+    alloc: Global,
+    fields: &[Field],
+    rows: Items<Row>,
+) -> Result<(BatchHead, Vec<u8>), Fault> {
+    let table = table_of(alloc, fields, rows)?;
+    let mut stream = Memory::new(Vec::new(alloc));
+    if write_table(alloc, &mut stream, &table).is_err() {
+        return Err(Fault::OutOfMemory);
+    }
+    let bytes = stream.into_bytes();
+    let Seen::Whole(_, schema) = next_frame(alloc, &bytes)? else {
+        return Err(Fault::Truncated);
+    };
+    let behind = bytes.get(schema..).unwrap_or(&[]);
+    match next_frame(alloc, behind)? {
+        Seen::Whole(frame, _) => match frame {
+            Frame::Message {
+                meta: _,
+                head,
+                body,
+            } => match head {
+                Head::Batch(head) => Ok((head, body)),
+                _ => Err(Fault::BadHeader),
+            },
+            Frame::End => Err(Fault::Truncated),
+        },
+        Seen::Short(_) => Err(Fault::Truncated),
+    }
+}

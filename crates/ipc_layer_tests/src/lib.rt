@@ -1,0 +1,13 @@
+//! Tests of the crates below the stream: FlatBuffers in place, rows and schemas, and batches of one column.
+#![tactic(auto)]
+
+#[cfg(test)]
+mod columns;
+#[cfg(test)]
+mod encoding;
+#[cfg(test)]
+mod flat;
+#[cfg(test)]
+mod model;
+#[cfg(test)]
+mod trees;

@@ -1,0 +1,171 @@
+//! Trees that are written in the FlatBuffers binary format and read back.
+ghost use Rattle.std.specs.Prelude.{◌≡◌, IfOk};
+ghost use Rattle.std.specs.List.{All};
+ghost use Rattle.ipc_build.specs.Trees.{view};
+ghost use Rattle.ipc_build.specs.Ascends.{fields, Ascends};
+
+use ipc_build::{BuildFault, FlatTree, Items, Slot, Text, build};
+use ipc_flat::Flat;
+use std::alloc::{AllocError, Global};
+use std::test::Fail;
+
+#[tactic(auto, using(ipc_build::proofs::Ascending::ascending))]
+fn of_text(alloc: Global, text: &str) -> Result<FlatTree, AllocError>
+    ensures { IfOk result (λ t. Ascends (fields 0) (view t)) }
+{
+    let text = Text::from(String::from_str(alloc, text)?);
+    let slots = vec![in alloc; (0, Slot::Text(text))]?;
+    Ok(FlatTree {
+        slots: Items::from(slots),
+    })
+}
+
+#[tactic(auto, using(ipc_build::proofs::Ascending::ascending))]
+fn empty(alloc: Global) -> FlatTree
+    ensures { Ascends (fields 0) (view result) }
+{
+    FlatTree {
+        slots: Items::from(Vec::new(alloc)),
+    }
+}
+
+// A vector of a text's table and an empty one.
+#[tactic(auto, using(ipc_build::proofs::Ascending::ascending))]
+fn two_tables(alloc: Global, text: &str) -> Result<Vec<FlatTree>, AllocError>
+    ensures { IfOk result (λ v. All (λ t. Ascends (fields 0) (view t)) v.items) }
+{
+    let mut tables = Vec::new(alloc);
+    tables.push(of_text(alloc, text)?)?;
+    tables.push(empty(alloc))?;
+    Ok(tables)
+}
+
+// Each kind of slot once; fields 5, 7 and those above 10 are absent.
+#[tactic(auto, using(ipc_build::proofs::Ascending::ascending))]
+fn every_slot(alloc: Global) -> Result<FlatTree, AllocError>
+    ensures { IfOk result (λ t. Ascends (fields 0) (view t)) }
+{
+    let name = Text::from(String::from_str(alloc, "é1")?);
+    let inner = of_text(alloc, "inner")?;
+    let tables = two_tables(alloc, "")?;
+    let pairs = vec![in alloc; (1, -1), (i64::MIN, i64::MAX)]?;
+    let slots = vec![in alloc;
+        (0, Slot::U8(200)),
+        (1, Slot::Bool(true)),
+        (2, Slot::I16(-2)),
+        (3, Slot::I32(i32::MIN)),
+        (4, Slot::I64(-3)),
+        (6, Slot::Text(name)),
+        (8, Slot::Table(inner)),
+        (9, Slot::Tables(Items::from(tables))),
+        (10, Slot::Pairs(Items::from(pairs))),
+    ]?;
+    Ok(FlatTree {
+        slots: Items::from(slots),
+    })
+}
+
+fn built(alloc: Global) -> Result<Vec<u8>, Fail> {
+    let tree = every_slot(alloc)?;
+    Ok(build(alloc, &tree)?)
+}
+
+#[test]
+fn scalars_come_back(rt: HostRuntime) -> Result<(), Fail> {
+    let bytes = built(rt.alloc())?;
+    let table = Flat::root(&bytes).ok().ok_or("a table")?;
+    assert!(rt; matches!(table.scalar_u8(0, 0), Ok(200)));
+    assert!(rt; matches!(table.scalar_u8(1, 0), Ok(1)));
+    assert!(rt; matches!(table.scalar_i16(2, 0), Ok(-2)));
+    assert!(rt; matches!(table.scalar_i32(3, 0), Ok(i32::MIN)));
+    assert!(rt; matches!(table.scalar_i64(4, 0), Ok(-3)));
+    for absent in [5, 7, 11, 15] {
+        assert!(rt;
+            matches!(table.scalar_i32(absent, 9), Ok(9)),
+            "field {absent}"
+        );
+    }
+    Ok(())
+}
+
+#[test]
+fn references_come_back(rt: HostRuntime) -> Result<(), Fail> {
+    let bytes = built(rt.alloc())?;
+    let table = Flat::root(&bytes).ok().ok_or("a table")?;
+    assert!(rt; matches!(table.text(6), Ok(Some("é1"))));
+    let inner = table.table(8).ok().flatten().ok_or("a table")?;
+    assert!(rt; matches!(inner.text(0), Ok(Some("inner"))));
+    let tables = table.tables(9).ok().flatten().ok_or("tables")?;
+    assert_eq!(rt; tables.len(), 2);
+    if tables.len() == 2 {
+        let first = tables.at(0).ok().ok_or("the first")?;
+        assert!(rt; matches!(first.text(0), Ok(Some(""))));
+        let second = tables.at(1).ok().ok_or("the second")?;
+        assert!(rt; matches!(second.text(0), Ok(None)));
+    }
+    let pairs = table.structs(10, 16).ok().flatten().ok_or("pairs")?;
+    assert_eq!(rt; pairs.len(), 2);
+    if pairs.len() == 2 {
+        assert!(rt; matches!(pairs.at(0), [1, 0, 0, 0, 0, 0, 0, 0, 255, 255, ..]));
+        assert!(rt; matches!(pairs.at(1), [0, 0, 0, 0, 0, 0, 0, 128, 255, ..]));
+    }
+    Ok(())
+}
+
+// By hand: the root offset, then the vtable of four entries at 4, and the table at 20, after zeros,
+// with the distance 16 to its vtable; field 3 is at 24, 4 behind the table.
+#[test]
+fn one_scalar_byte_for_byte(rt: HostRuntime) -> Result<(), Fail> {
+    let tree = one_scalar(rt.alloc())?;
+    let bytes = build(rt.alloc(), &tree).ok().ok_or("bytes")?;
+    let expected: [u8; 32] = [
+        20, 0, 0, 0, 12, 0, 12, 0, 0, 0, 0, 0, 0, 0, 4, 0, 0, 0, 0, 0, 16, 0, 0, 0, 42, 0, 0, 0, 0,
+        0, 0, 0,
+    ];
+    assert_eq!(rt; bytes.as_slice(), &expected[..]);
+    Ok(())
+}
+
+#[tactic(auto, using(ipc_build::proofs::Ascending::ascending))]
+fn one_scalar(alloc: Global) -> Result<FlatTree, AllocError>
+    ensures { IfOk result (λ t. Ascends (fields 0) (view t)) }
+{
+    let slots = vec![in alloc; (3, Slot::I32(42))]?;
+    Ok(FlatTree {
+        slots: Items::from(slots),
+    })
+}
+
+// The room of a table with field 0, a text of so many bytes, is 58 more than these.
+#[test]
+fn too_large_from_one_byte_on(rt: HostRuntime) -> Result<(), Fail> {
+    let alloc = rt.alloc();
+    for (bytes, fits) in [(16_777_216 - 58, true), (16_777_216 - 57, false)] {
+        let text = "a".repeat(alloc, bytes)?;
+        let tree = of_text(alloc, &text)?;
+        let answer = build(alloc, &tree);
+        assert_eq!(rt; answer.is_ok(), fits);
+        assert_eq!(rt; matches!(answer, Err(BuildFault::TooLarge)), !fits);
+    }
+    Ok(())
+}
+
+#[test]
+fn grows_a_buffer(rt: HostRuntime) -> Result<(), Fail> {
+    let bytes = built(rt.alloc())?;
+    assert!(rt; Flat::root(&bytes).is_ok());
+    Ok(())
+}
+
+#[test]
+fn prints_faults(rt: HostRuntime) -> Result<(), Fail> {
+    let alloc = rt.alloc();
+    let fault = BuildFault::TooLarge;
+    assert_eq!(rt;
+        format!(in alloc; "{fault}")?.as_str(),
+        "the tree has room for more than 16777216 bytes"
+    );
+    let fault = BuildFault::OutOfMemory;
+    assert_eq!(rt; format!(in alloc; "{fault}")?.as_str(), "out of memory");
+    Ok(())
+}

@@ -1,0 +1,112 @@
+//! The program `write_numbers`: `write_numbers BATCHES ROWS` writes a stream of four required columns of signed 64-bit integers
+//! to standard output, with so many batches of so many rows. The writer is measured by it.
+#![tactic(auto)]
+
+use ipc_model::fault::WriteFault;
+use ipc_model::items::{Items, Text};
+use ipc_model::schema::{DataType, Field, IntBits, Schema};
+use ipc_model::table::Row;
+use ipc_model::value::Value;
+use ipc_stream::{Device, StreamWriter};
+use std::alloc::{AllocError, Global};
+use std::env::Args;
+use std::io::Write;
+use std::process::ExitCode;
+use std::{env, io};
+
+const USAGE: &str = "usage: write_numbers BATCHES ROWS > STREAM";
+
+const NAMES: [&str; 4] = ["a", "b", "c", "d"];
+
+// How many batches and rows the words ask for, of which the first is the program's name.
+fn sizes(words: Args) -> Option<(u32, u32)> {
+    let mut words = words;
+    let _program = words.next();
+    let batches = words.next()?.as_str().parse::<u32>().ok()?;
+    let rows = words.next()?.as_str().parse::<u32>().ok()?;
+    if words.next().is_some() {
+        return None;
+    }
+    Some((batches, rows))
+}
+
+fn field(alloc: Global, name: &str) -> Result<Field, AllocError> {
+    Ok(Field {
+        name: Text::from_string(String::from_str(alloc, name)?),
+        nullable: false,
+        kind: DataType::Int {
+            bits: IntBits::B64,
+            signed: true,
+        },
+        dictionary: None,
+        children: Items::from_vec(Vec::new(alloc)),
+        metadata: Items::from_vec(Vec::new(alloc)),
+    })
+}
+
+fn schema(alloc: Global) -> Result<Schema, AllocError> {
+    let mut fields = Vec::with_capacity(alloc, NAMES.len())?;
+    for name in NAMES {
+        fields.push(field(alloc, name)?)?;
+    }
+    Ok(Schema {
+        fields: Items::from_vec(fields),
+        metadata: Items::from_vec(Vec::new(alloc)),
+    })
+}
+
+// A row of numbers that are spread over all lengths.
+fn row(alloc: Global, number: u32) -> Result<Row, AllocError> {
+    let mut values = Vec::with_capacity(alloc, NAMES.len())?;
+    let mut value = i64::from(number);
+    for _ in NAMES {
+        values.push(Value::Int(value))?;
+        value = value.wrapping_mul(-65_599);
+    }
+    Ok(Items::from_vec(values))
+}
+
+fn rows(alloc: Global, count: u32) -> Result<Vec<Row>, AllocError> {
+    let mut rows = Vec::new(alloc);
+    for number in 0..count {
+        rows.push(row(alloc, number)?)?;
+    }
+    Ok(rows)
+}
+
+fn write<W: Write + Drop>(
+    alloc: Global,
+    writer: W,
+    batches: u32,
+    count: u32,
+) -> Result<(), WriteFault> {
+    let schema = schema(alloc)?;
+    let rows = rows(alloc, count)?;
+    let mut stream = StreamWriter::start(alloc, Device::new(writer), &schema).map_err(|(
+        fault,
+        _,
+    )| fault)?;
+    for _ in 0..batches {
+        stream.write_batch(&rows)?;
+    }
+    let _device = stream.finish().map_err(|(fault, _)| fault)?;
+    Ok(())
+}
+
+fn main(rt: HostRuntime) -> ExitCode {
+    let asked = match env::args(&rt) {
+        Ok(words) => sizes(words),
+        Err(_) => None,
+    };
+    let Some((batches, count)) = asked else {
+        let _ = rt.eprintln(USAGE);
+        return ExitCode::from(2);
+    };
+    match write(rt.alloc(), io::writer(&rt), batches, count) {
+        Ok(()) => ExitCode::from(0),
+        Err(fault) => {
+            let _ = eprintln!(rt; "{fault}");
+            ExitCode::from(1)
+        }
+    }
+}
