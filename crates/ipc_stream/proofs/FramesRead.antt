@@ -58,10 +58,10 @@ pub record Pends (old now : Option (List ℕ)) (bound_old bound failed_old faile
   pub some : 0 < wanted
   pub takes : Takes old now count_old count kept
   pub fewer : bound + length kept ≤ bound_old
-  pub works : failed_old ≡ 0 → failed ≡ 0
+  pub same : failed ≡ failed_old
 
 pub pends_none : (a : Option (List ℕ)) (b f n : ℕ) (kept : List ℕ) → n ≤ 2 ^ 64 - 1 → kept ≡ [] → Pends a a b b f f n n kept 4
-pends_none a b f n kept fits none = subst (λ z. Pends a a b b f f n n z 4) (sym none) (record { undecided = pending_none; some = omega arith; takes = takes_none a n fits; fewer = omega arith; works = λ z. z })
+pends_none a b f n kept fits none = subst (λ z. Pends a a b b f f n n z 4) (sym none) (record { undecided = pending_none; some = omega arith; takes = takes_none a n fits; fewer = omega arith; same = refl })
 
 -- bytes were lost on the way to the next decision
 pub frame_lost : (old now new : Option (List ℕ)) (b0 b1 f0 f1 n0 n1 n2 : ℕ) (kept : List ℕ) (wanted : ℕ) (e : Fault) → Pends old now b0 b1 f0 f1 n0 n1 kept wanted → Loses now new n1 n2 wanted → IsAside e → TakesFrame old new n0 n2 (Err e)
@@ -105,11 +105,11 @@ module _ (old now new : Option (List ℕ)) (b0 b1 f0 f1 n0 n1 n2 : ℕ) (kept ke
     gives = truncated wanted refl (subst (λ z. Pending z wanted) (sym (same_kept none)) p.undecided) (λ e. some (ap length e)) (f.ended none);
   }
 
-  pub pends_more : (b2 f2 more : ℕ) → b2 + k ≤ b1 → (f1 ≡ 0 → f2 ≡ 0) → Sees kept' (Ok (Short more)) → Pends old new b0 b2 f0 f2 n0 n2 kept' more
+  pub pends_more : (b2 f2 more : ℕ) → b2 + k ≤ b1 → (f1 ≡ 0) × (f2 ≡ 0) → Sees kept' (Ok (Short more)) → Pends old new b0 b2 f0 f2 n0 n2 kept' more
   pends_more b2 f2 more fewer works s = record {
     undecided = s;
     some = pending_some kept' more s;
     takes = taken_now;
     fewer = omega (arith, p.fewer, f.count, ap length f.kept, length-append kept f.came);
-    works = λ z. works (p.works z);
+    same = works.1 ∙ (sym works.0 ∙ p.same);
   }

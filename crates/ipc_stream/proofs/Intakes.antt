@@ -1,5 +1,5 @@
 -- What was taken of a source, piece by piece.
-use Rattle.std.proofs.Common.{◌≡◌, ◌≢◌, ◌∙◌, sym, ap, subst, ℕ, ◌+◌, ◌-◌, ◌^◌, ◌≤◌, List, [], ◌++◌, Option, length, take, drop, length-append, length-take, length-drop, arith}
+use Rattle.std.proofs.Common.{◌≡◌, ◌≢◌, ◌∙◌, sym, ap, subst, ℕ, ◌+◌, ◌-◌, ◌^◌, ◌<◌, ◌≤◌, List, [], ◌++◌, Option, length, take, drop, length-append, length-take, length-drop, arith}
 use Rattle.std.specs.Io.KnownBytes.{Keeps}
 use Rattle.std.proofs.Math.Seq.{take-add}
 use Rattle.std.proofs.lemmas.List.{take_at}
@@ -42,9 +42,9 @@ fills_behind a b n m kept items buffer size start wanted k all same is h counted
       ended = h.ended;
     }
 
--- a source that worked so far tells what it does then
-pub tells_after : (a b c : ℕ) (e : Fault) → (a ≡ 0 → b ≡ 0) → Tells b c e → Tells a c e
-tells_after a b c e works t = record { failed = t.failed; worked = λ other none. t.worked other (works none) }
+-- a source whose count stayed so far tells what it does then
+pub tells_after : (a b c : ℕ) (e : Fault) → b ≡ a → Tells b c e → Tells a c e
+tells_after a b c e same t = record { failed = t.failed; stayed = λ other. t.stayed other ∙ same }
 
 -- some of the bytes that are wanted came
 pub record Filling (old now : Option (List ℕ)) (bound_old bound failed_old failed count_old count : ℕ) (kept_old kept : List ℕ) (wanted came : ℕ) : Type 0 where
@@ -54,7 +54,8 @@ pub record Filling (old now : Option (List ℕ)) (bound_old bound failed_old fai
   pub few : came ≤ wanted
   pub takes : Takes old now count_old count x
   pub fewer : bound + came ≤ bound_old
-  pub works : failed_old ≡ 0 → failed ≡ 0
+  pub same : failed ≡ failed_old
+  pub works : 0 < came → failed ≡ 0
 
 -- the last read of many lost what it took
 pub loses_more : (old now new : Option (List ℕ)) (b0 b1 f0 f1 n0 n1 n2 : ℕ) (kept0 kept1 : List ℕ) (wanted came : ℕ) → Filling old now b0 b1 f0 f1 n0 n1 kept0 kept1 wanted came → Loses now new n1 n2 (wanted - came) → Loses old new n0 n2 wanted
@@ -65,5 +66,5 @@ loses_more old now new b0 b1 f0 f1 n0 n1 n2 kept0 kept1 wanted came so_far l = r
 }
 
 -- a fault that isn't the source's, while the source works
-pub works_err : (a b : ℕ) (e : Fault) → e ≢ Read → (a ≡ 0 → b ≡ 0) → Tells a b e
-works_err a b e other works = record { failed = λ is. absurd (other is); worked = λ _. works }
+pub works_err : (a b : ℕ) (e : Fault) → e ≢ Read → b ≡ a → Tells a b e
+works_err a b e other same = record { failed = λ is. absurd (other is); stayed = λ _. same }

@@ -8,6 +8,7 @@ pub mod Tables
 pub mod Reasons
 pub mod Answered
 pub mod Readers
+pub mod Calls
 pub mod MessagesWritten
 pub mod SentBytes
 pub mod TablesWritten

@@ -1,5 +1,5 @@
 -- How a device counts its failures.
-use Rattle.std.specs.Prelude.{◌≡◌, ◌≢◌, ℕ, Bool, true, false, Result, MatchResult}
+use Rattle.std.specs.Prelude.{◌≡◌, ◌≢◌, ℕ, Bool, true, false, List, [], Option, Some, None, Result, MatchResult}
 use Rattle.ipc_model.specs.declared.fault.Fault.{Fault}
 use Rattle.ipc_model.specs.declared.fault.Fault.TheVariants.{Read}
 
@@ -12,11 +12,20 @@ abbrev pub count_or : Bool → ℕ → ℕ
 count_or true below = 1
 count_or false below = below
 
--- with this fault the count went from `old` to `new`: F36 says that it is 1, any other that it did not rise
+-- no bytes where the flag is set, else they aren't told
+abbrev pub none_if : Bool → Option (List ℕ)
+none_if true = Some []
+none_if false = None
+
+-- with this fault the count went from `old` to `new`: F36 says that it is 1, any other that it stayed
 pub record Tells (old new : ℕ) (fault : Fault) : Type 0 where
   pub failed : fault ≡ Read → new ≡ 1
-  pub worked : fault ≢ Read → old ≡ 0 → new ≡ 0
+  pub stayed : fault ≢ Read → new ≡ old
 
--- F36 is answered exactly where the source failed in this call
+-- of a call that asks its source: it succeeds only where no call of the source failed, and F36 is answered exactly where one did
 abbrev pub FailsAs : {T : Type 0} → ℕ → ℕ → Result T Fault → Type 0
-FailsAs old new r = MatchResult r (λ _. old ≡ 0 → new ≡ 0) (λ fault. Tells old new fault)
+FailsAs old new r = MatchResult r (λ _. (old ≡ 0) × (new ≡ 0)) (λ fault. Tells old new fault)
+
+-- the same of a call that may ask its source or not
+abbrev pub StaysOrFails : {T : Type 0} → ℕ → ℕ → Result T Fault → Type 0
+StaysOrFails old new r = MatchResult r (λ _. new ≡ old) (λ fault. Tells old new fault)

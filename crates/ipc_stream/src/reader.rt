@@ -1,6 +1,12 @@
-ghost use Rattle.std.specs.Prelude.{◌≡◌, ◌≤◌, ◌-◌, ◌^◌, ◌<◌, IfOk, IfErr, IsSome, MatchResult};
-ghost use Rattle.ipc_stream.specs.Failures.{FailsAs, Tells};
-ghost use Rattle.ipc_stream.specs.Reader.{Opens, OpensNot, NextTakes, end_of};
+ghost use Rattle.std.specs.Prelude.{◌≡◌, ◌≤◌, ◌-◌, ◌^◌, ◌<◌, ◌++◌, ℕ, List, Some, IfOk, IfErr, IsSome, MatchResult};
+ghost use Rattle.ipc_model.specs.declared.schema.Schema.{Schema};
+ghost use Rattle.ipc_model.specs.declared.value.Value.{Value};
+ghost use Rattle.ipc_stream.specs.declared.end.End.{End};
+ghost use Rattle.ipc_stream.specs.declared.phase.Phase.TheVariants.{Reading};
+ghost use Rattle.ipc_stream.specs.Failures.{StaysOrFails, Tells};
+ghost use Rattle.ipc_stream.specs.Reader.{BeginsEnd, GivesRows, NextTakes, Opens, OpensNot, end_of};
+ghost use Rattle.ipc_stream.specs.Reasons.{IsAside};
+ghost use Rattle.ipc_stream.specs.Writing.{AddsRows, OpensStream};
 
 use crate::end::End;
 use crate::intake::Intake;
@@ -23,6 +29,7 @@ pub struct StreamReader<R: Source> {
     phase: Phase,
     messages: u64,
     alloc: Global,
+    ghost works: { phase ≡ Reading → R.failures source ≡ 0 },
     ghost counted: { messages ≤ 2 ^ 64 - 1 },
 }
 
@@ -47,7 +54,8 @@ fn open_with<R: Source>(
     requires { intake.taken ≡ 0 }
     ensures opened { IfOk result (λ s. Opens (R.remaining source) s) }
     ensures refused { IfErr result (λ e. OpensNot (R.remaining source) (R.remaining e.1) e.0) }
-    ensures failures { MatchResult result (λ s. R.failures source ≡ 0 → s.failures ≡ 0) (λ e. Tells (R.failures source) (R.failures e.1) e.0) }
+    ensures failures { MatchResult result (λ s. (R.failures source ≡ 0) × (s.failures ≡ 0)) (λ e. Tells (R.failures source) (R.failures e.1) e.0) }
+    ensures fewer { IfOk result (λ s. s.bound < R.bound source) }
 {
     let mut source = source;
     let mut intake = intake;
@@ -65,11 +73,15 @@ fn open_with<R: Source>(
 }
 
 impl<R: Source> StreamReader<R> {
-    /// Reads the first message, which is the schema's. At a refusal the source comes back with the fault.
+    /// Reads the first message, which is the schema's. At a refusal the source comes back with the fault. A source that failed
+    /// before is told as F36 at its first use.
     pub fn open(alloc: Global, source: R) -> Result<StreamReader<R>, (Fault, R)>
         ensures opened { IfOk result (λ s. Opens (R.remaining source) s) }
         ensures refused { IfErr result (λ e. OpensNot (R.remaining source) (R.remaining e.1) e.0) }
-        ensures failures { MatchResult result (λ s. R.failures source ≡ 0 → s.failures ≡ 0) (λ e. Tells (R.failures source) (R.failures e.1) e.0) }
+        ensures failures { MatchResult result (λ s. (R.failures source ≡ 0) × (s.failures ≡ 0)) (λ e. Tells (R.failures source) (R.failures e.1) e.0) }
+        ensures fewer { IfOk result (λ s. s.bound < R.bound source) }
+        // A schema's message at the front of the source is read, whatever follows it, unless memory runs out or the source fails.
+        ensures schema { (x rest : List ℕ) (s : Schema) → R.remaining source ≡ Some (x ++ rest) → OpensStream s x → MatchResult result (λ reader. reader.schema ≡ s) (λ e. IsAside e.0) }
     {
         open_with(alloc, source, Intake::new(alloc))
     }
@@ -81,12 +93,12 @@ impl<R: Source> StreamReader<R> {
         &self.scope.schema
     }
 
-    /// The next batch, or none at the end of the stream and from then on. After a refusal every call answers F35 and takes
-    /// nothing.
-    pub fn next(&mut self) -> Result<Option<Batch>, Fault>
+    // Reads on, which `next` says in more words.
+    fn advance(&mut self) -> Result<Option<Batch>, Fault>
         ensures next { NextTakes self.old self.new result }
         ensures fewer { IfOk result (λ batch. IsSome batch → self.new.bound < self.old.bound) }
-        ensures failures { FailsAs self.old.failures self.new.failures result }
+        ensures failures { StaysOrFails self.old.failures self.new.failures result }
+        ensures rose { IfErr result (λ fault. fault ≡ Fault.Read → self.old.failures ≡ 0) }
     {
         match self.phase {
             Phase::Refused => Err(Fault::Failed),
@@ -111,6 +123,22 @@ impl<R: Source> StreamReader<R> {
                 }
             },
         }
+    }
+
+    /// The next batch, or none at the end of the stream and from then on. After a refusal every call answers F35 and takes
+    /// nothing.
+    pub fn next(&mut self) -> Result<Option<Batch>, Fault>
+        ensures next { NextTakes self.old self.new result }
+        ensures fewer { IfOk result (λ batch. IsSome batch → self.new.bound < self.old.bound) }
+        ensures failures { StaysOrFails self.old.failures self.new.failures result }
+        // F36 is answered only where the source had not failed before.
+        ensures rose { IfErr result (λ fault. fault ≡ Fault.Read → self.old.failures ≡ 0) }
+        // A batch's message at the front of the source is read, whatever follows it, unless memory runs out or the source fails.
+        ensures batch { (x rest : List ℕ) (rows : List (List Value)) → self.old.phase ≡ Phase.Reading → self.old.remaining ≡ Some (x ++ rest) → AddsRows self.old.schema rows x → MatchResult result (λ batch. GivesRows batch rows) IsAside }
+        // So is an end, by the mark or where nothing is left.
+        ensures ended { (z : List ℕ) (end : End) → self.old.phase ≡ Phase.Reading → self.old.remaining ≡ Some z → BeginsEnd end z → MatchResult result (λ batch. self.new.phase ≡ Phase.Ended end) IsAside }
+    {
+        self.advance()
     }
 
     /// How the stream ended: none until `next` has answered `Ok(None)`.
@@ -140,6 +168,7 @@ impl<R: Source> StreamReader<R> {
     /// The source, which has left what was not taken.
     pub fn into_inner(self) -> R
         ensures remaining { R.remaining result ≡ self.remaining }
+        ensures bound { R.bound result ≡ self.bound }
         ensures failures { R.failures result ≡ self.failures }
     {
         let StreamReader {

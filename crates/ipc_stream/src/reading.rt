@@ -68,6 +68,7 @@ fn read_schema<R: Source>(
     intake: &mut Intake,
 ) -> Result<Schema, Fault>
     ensures schema { TakesSchema (R.remaining source.old) (R.remaining source.new) intake.old.taken intake.new.taken result }
+    ensures fewer { IfOk result (λ schema. R.bound source.new < R.bound source.old) }
     ensures failures { FailsAs (R.failures source.old) (R.failures source.new) result }
 {
     match read_frame(alloc, source, intake)? {
@@ -83,6 +84,7 @@ pub fn read_scope<R: Source>(
     intake: &mut Intake,
 ) -> Result<Scope, Fault>
     ensures scope { TakesScope (R.remaining source.old) (R.remaining source.new) intake.old.taken intake.new.taken result }
+    ensures fewer { IfOk result (λ scope. R.bound source.new < R.bound source.old) }
     ensures failures { FailsAs (R.failures source.old) (R.failures source.new) result }
 {
     let schema = read_schema(alloc, source, intake)?;

@@ -1,11 +1,12 @@
-ghost use Rattle.std.specs.Prelude.{◌≡◌, ◌++◌, ℕ, List, IfErr, IfOk, MatchResult, OnOk, Some};
+ghost use Rattle.std.specs.Prelude.{◌≡◌, ◌++◌, ◌⊎◌, ℕ, List, [], ◌∷◌, IfErr, IfOk, MatchResult, OnOk, Some};
 ghost use Rattle.std.specs.Io.KnownBytes.{Appends, Consumes, IsAtEnd};
 ghost use Rattle.ipc_model.specs.declared.table.Table.{Table};
 ghost use Rattle.ipc_stream.specs.declared.end.End.TheVariants.{Closed, Mark};
 ghost use Rattle.ipc_stream.specs.Failures.{FailsAs};
 ghost use Rattle.ipc_stream.specs.Stream.{Denotes};
 ghost use Rattle.ipc_stream.specs.Taken.{TakesTable};
-ghost use Rattle.ipc_stream.specs.Writing.{AcceptsTable, BreaksOff, IsTableOf, RefusesTable, Sent};
+ghost use Rattle.ipc_model.specs.Fits.{TableFits};
+ghost use Rattle.ipc_stream.specs.Writing.{AcceptsTable, BreaksOff, IsTableOf, IsWithinLimits, Sent};
 
 use crate::end::End;
 use crate::intake::Intake;
@@ -13,10 +14,20 @@ use crate::reading::{Next, read_next, read_scope};
 use crate::sending::{send_batch, send_end, send_schema};
 use crate::sink::Sink;
 use crate::source::Source;
+use ipc_column::Batch;
 use ipc_model::fault::{Fault, WriteFault};
 use ipc_model::items::Items;
-use ipc_model::table::Table;
+use ipc_model::table::{Row, Table};
 use std::alloc::Global;
+
+// Puts the rows of a batch behind those of the batches before.
+fn keep_rows(alloc: Global, batches: &mut Vec<Items<Row>>, batch: &Batch) -> Result<(), Fault>
+    ensures kept { OnOk result (batches.new.items ≡ batches.old.items ++ (batch.now.rows ∷ [])) }
+    ensures memory { IfErr result (λ fault. fault ≡ Fault.OutOfMemory) }
+{
+    batches.push(batch.to_rows(alloc)?)?;
+    Ok(())
+}
 
 // The table at the front of the source, and how the stream ends.
 fn read_batches<R: Source>(alloc: Global, source: &mut R) -> Result<(Table, End), Fault>
@@ -28,7 +39,7 @@ fn read_batches<R: Source>(alloc: Global, source: &mut R) -> Result<(Table, End)
     let mut batches = Vec::new(alloc);
     loop {
         match read_next(alloc, source, &mut intake, &scope)? {
-            Next::Batch(batch) => batches.push(batch.to_rows(alloc)?)?,
+            Next::Batch(batch) => keep_rows(alloc, &mut batches, &batch)?,
             Next::Ended(end) => {
                 let batches = Items::from_vec(batches);
                 return Ok((scope.table_of(batches), end));
@@ -59,6 +70,20 @@ pub fn read_table<R: Source>(alloc: Global, source: &mut R) -> Result<(Table, En
     read_batches(alloc, source)
 }
 
+// Sends the messages of a table and the end mark.
+fn write_messages<W: Sink>(alloc: Global, sink: &mut W, table: &Table) -> Result<(), WriteFault>
+    ensures denotes { OnOk result (Sent (IsTableOf table.now) (W.written sink.old) (W.written sink.new) (W.failures sink.old) (W.failures sink.new)) }
+    ensures handed_on { OnOk result (W.held_back sink.new ≡ Some []) }
+    ensures accepted { OnOk result (AcceptsTable table.now) }
+    ensures broken { IfErr result (λ fault. BreaksOff table.now (W.written sink.old) (W.written sink.new) (W.failures sink.old) (W.failures sink.new) fault) }
+{
+    let schema = send_schema(alloc, sink, &table.schema)?;
+    for rows in table.batches.as_slice() {
+        send_batch(alloc, sink, &schema, rows.as_slice())?;
+    }
+    send_end(sink)
+}
+
 /// Writes a table as a stream with the end-of-stream mark (Arrow Columnar Format, "IPC Streaming Format"): its schema, its batches
 /// in order, and the mark, as `StreamWriter::start`, `write_batch` and `finish` do.
 ///
@@ -68,14 +93,14 @@ pub fn read_table<R: Source>(alloc: Global, source: &mut R) -> Result<(Table, En
 pub fn write_table<W: Sink>(alloc: Global, sink: &mut W, table: &Table) -> Result<(), WriteFault>
     // What was written denotes the table, with its mark, and no call of the sink failed.
     ensures denotes { OnOk result (Sent (IsTableOf table.now) (W.written sink.old) (W.written sink.new) (W.failures sink.old) (W.failures sink.new)) }
-    // A refusal is told exactly where a cause stands in the table, where the sink fails or memory runs out.
-    ensures judged { MatchResult result (λ _. AcceptsTable table.now) (λ fault. RefusesTable table.now fault) }
-    // What is out at a refusal.
+    // Nothing is held back.
+    ensures handed_on { OnOk result (W.held_back sink.new ≡ Some []) }
+    // The schema and all batches are accepted.
+    ensures accepted { OnOk result (AcceptsTable table.now) }
+    // At a refusal, which messages are accepted and out, and why the next one is refused.
     ensures broken { IfErr result (λ fault. BreaksOff table.now (W.written sink.old) (W.written sink.new) (W.failures sink.old) (W.failures sink.new) fault) }
+    // A table that fits its schema and keeps the limits is refused only where the sink fails or memory runs out.
+    ensures fits { TableFits table.now → IsWithinLimits table.now → IfErr result (λ fault. (fault ≡ WriteFault.Write) ⊎ (fault ≡ WriteFault.OutOfMemory)) }
 {
-    let schema = send_schema(alloc, sink, &table.schema)?;
-    for rows in table.batches.as_slice() {
-        send_batch(alloc, sink, &schema, rows.as_slice())?;
-    }
-    send_end(sink)
+    write_messages(alloc, sink, table)
 }

@@ -1,4 +1,4 @@
-use Rattle.std.proofs.Common.{arith, subst, take, Ok, Err}
+use Rattle.std.proofs.Common.{◌∙◌, sym, arith, subst, take, Ok, Err}
 use Rattle.std.proofs.lemmas.Bool.Decides.{nat_tests}
 use Rattle.std.proofs.lemmas.Result.{err_from_is_err_and}
 use Rattle.ipc_frame.specs.Sees.{Sees}
@@ -23,7 +23,7 @@ returns-in_err-more-clause-frame g c =
 pub returns-in_err-more-clause-failures : goal.returns-in_err-more-clause-failures
 returns-in_err-more-clause-failures g c =
     let p = err_from_is_err_and c.from_residual-in_err-more.result c.from_residual-in_err-more.ensures.1 in
-    rw (p.1, p.2) (works_err _ _ _ (not_read _ c.in_err-more.field-0.0 c.in_err-more.ensures) (λ z. c.in_ok-fill.ensures.failures (c.loop-alloc.invariant.works z)))
+    rw (p.1, p.2) (works_err _ _ _ (not_read _ c.in_err-more.field-0.0 c.in_err-more.ensures) (c.in_ok-fill.ensures.failures.1 ∙ (sym c.in_ok-fill.ensures.failures.0 ∙ c.loop-alloc.invariant.same)))
 
 pub loop-alloc-preserved : goal.loop-alloc-preserved
 loop-alloc-preserved g c =

@@ -1,0 +1,171 @@
+-- What a call of a reader answers where a message, or an end, is at the front of what its source gives.
+use Rattle.std.proofs.Common.{◌≡◌, ◌≢◌, ◌∙◌, refl, sym, ap, subst, ℕ, inl, inr, List, [], ◌∷◌, ◌++◌, Option, Some, None, Result, Ok, Err, append_assoc}
+use Rattle.std.specs.Prelude.{IfErr, IfOk, MatchResult}
+use Rattle.std.specs.Io.KnownBytes.{Consumes, IsAtEnd}
+use Rattle.std.proofs.lemmas.List.{append-nil}
+use Rattle.ipc_model.specs.declared.fault.Fault.{Fault}
+use Rattle.ipc_model.specs.declared.schema.Schema.{Schema}
+use Rattle.ipc_model.specs.declared.value.Value.{Value}
+use Rattle.ipc_meta.specs.declared.head.Head.{Head}
+use Rattle.ipc_frame.specs.Frames.{eos, Frame}
+use Rattle.ipc_frame.proofs.OneFrame.{frame_one}
+use Rattle.ipc_column.specs.Contents.{Contents}
+use Rattle.ipc_stream.specs.declared.end.End.{End}
+use Rattle.ipc_stream.specs.declared.end.End.TheVariants.{Mark, Closed}
+use Rattle.ipc_stream.specs.declared.phase.Phase.{Phase}
+use Rattle.ipc_stream.specs.declared.phase.Phase.TheVariants as phase
+use Rattle.ipc_stream.specs.Reader.{BeginsEnd, GivesRows, NextGives, NextTakes, Opens, OpensNot, Reader, open_of}
+use Rattle.ipc_stream.specs.Reasons.{Ends, IsAside, Reads}
+use Rattle.ipc_stream.specs.Stream.{Event, Open, Run, State, Step, batch, came, done, first, more, schema}
+use Rattle.ipc_stream.specs.Writing.{AddsRows, OpensStream}
+use Rattle.ipc_stream.proofs.OneReading.{IsStop, at_eos, frame_stop, step_one}
+use Rattle.ipc_stream.proofs.Reasons.{message_breaks, stop_breaks}
+
+-- ---- runs of one event, and of none
+
+step_event : {σ τ : State} {g : Head} {body : List ℕ} {es : List Event} → Step σ g body es τ → (d : Event) × (es ≡ d ∷ [])
+step_event (first {s = s}) = (schema s, refl)
+step_event (came {rows = rows} r) = (batch rows, refl)
+
+pub run_none : {σ τ : State} {x : List ℕ} {es : List Event} → Run σ x es τ → es ≡ [] → (x ≡ []) × (σ ≡ τ)
+run_none done is = (refl, refl)
+run_none (more {fs = fs} frame step rest) is =
+    let one = step_event step in
+    let some : one.0 ∷ fs ≡ [] = sym (ap (λ es. es ++ fs) one.1) ∙ is in absurd (cc)
+
+-- x is one message, which tells this event
+pub record IsMessage (σ : State) (x : List ℕ) (e : Event) : Type 0 where
+  pub metadata : List ℕ
+  pub head : Head
+  pub body : List ℕ
+  pub next : State
+  pub frame : Frame x metadata head body
+  pub step : Step σ head body (e ∷ []) next
+
+pub one_message : {σ τ : State} {x : List ℕ} {es : List Event} (e : Event) → Run σ x es τ → es ≡ e ∷ [] → IsMessage σ x e
+one_message e done is = absurd (cc)
+one_message e (more {σ = σ} {τ = τ} {x = x} {metadata = m} {body = body} {y = y} {h = g} {es = es} {fs = fs} frame step rest) is =
+    let one = step_event step in
+    let told : one.0 ∷ fs ≡ e ∷ [] = sym (ap (λ ds. ds ++ fs) one.1) ∙ is in
+    let same : one.0 ≡ e = cc in
+    let none : fs ≡ [] = cc in
+    let whole : x ++ y ≡ x = ap (λ z. x ++ z) (run_none rest none).0 ∙ append-nil x in
+    record {
+      metadata = m;
+      head = g;
+      body = body;
+      next = τ;
+      frame = subst (λ z. Frame z m g body) (sym whole) frame;
+      step = subst (λ ds. Step σ g body ds τ) (one.1 ∙ ap (λ d. d ∷ []) same) step;
+    }
+
+-- two messages at the front of the same bytes tell one event
+same_event : (σ : State) (x y u v : List ℕ) (d e : Event) → IsMessage σ x d → IsMessage σ y e → x ++ u ≡ y ++ v → d ≡ e
+same_event σ x y u v d e p q joined =
+    let same = frame_one x y p.metadata q.metadata p.body q.body u v p.head q.head p.frame q.frame joined in
+    let other : Step σ p.head p.body (e ∷ []) q.next = subst (λ g. Step σ g p.body (e ∷ []) q.next) (sym same.same_head) (subst (λ b. Step σ q.head b (e ∷ []) q.next) (sym same.same_body) q.step) in
+    let one : d ∷ [] ≡ e ∷ [] = (step_one p.step other).0 in
+    cc
+
+-- ---- what comes before the first event
+
+-- reading that tells nothing ends at once
+nothing_read : (σ : State) (x : List ℕ) (left : Option (List ℕ)) (r : Result End Fault) → Reads σ x left [] r → Ends σ x left r
+nothing_read σ x left r h =
+    let none = run_none h.run refl in
+    let all : h.rest ≡ x = sym (h.joined ∙ ap (λ z. z ++ h.rest) none.0) in
+    subst (λ z. Ends σ z left r) all (subst (λ τ. Ends τ h.rest left r) (sym none.1) h.ends)
+
+module _ (σ : State) (x u z b : List ℕ) (e : Event) (m : IsMessage σ x e) (joined : x ++ u ≡ z ++ b) where
+  no_end : (end : End) → Ends σ z (Some b) (Ok end) → ⊥
+  no_end Mark h = frame_stop x m.metadata m.body u (z ++ b) m.head m.frame joined (inr (b, ap (λ y. y ++ b) h.0))
+  no_end Closed h = frame_stop x m.metadata m.body u (z ++ b) m.head m.frame joined (inl (ap (λ y. y ++ b) h.0 ∙ h.2))
+
+  only_aside : (fault : Fault) → Ends σ z (Some b) (Err fault) → IsAside fault
+  only_aside fault h = message_breaks σ m.next x m.metadata m.body u z b m.head (e ∷ []) m.frame m.step joined fault h
+
+-- the bytes that are left where they are known
+known : (y z : List ℕ) (old new : Option (List ℕ)) → old ≡ Some y → Consumes old new z → (b : List ℕ) × (new ≡ Some b) × (y ≡ z ++ b)
+known y z old None is h = absurd (subst (λ o. Consumes o None z) is h)
+known y z old (Some b) is h = (b, refl, subst (λ o. Consumes o (Some b) z) is h)
+
+-- ---- the schema
+
+pub opens_schema : (old : Option (List ℕ)) (new : Reader) (x rest : List ℕ) (s : Schema) → Opens old new → old ≡ Some (x ++ rest) → OpensStream s x → new.schema ≡ s
+opens_schema old new x rest s h is o =
+    let k = known (x ++ rest) h.x old new.remaining is h.bytes in
+    let one : schema s ≡ schema new.schema = same_event None x h.x rest k.0 (schema s) (schema new.schema) (one_message (schema s) o refl) (one_message (schema new.schema) h.run refl) k.2 in
+    cc
+
+pub opens_fails : (old new : Option (List ℕ)) (fault : Fault) (x rest : List ℕ) (s : Schema) → OpensNot old new fault → old ≡ Some (x ++ rest) → OpensStream s x → IsAside fault
+opens_fails old new fault x rest s h is o =
+    let k = known (x ++ rest) h.x old new is h.bytes in
+    let reads = subst (λ left. Reads None h.x left [] (Err fault)) k.1 h.reads in
+    only_aside None x rest h.x k.0 (schema s) (one_message (schema s) o refl) k.2 fault (nothing_read None h.x (Some k.0) (Err fault) reads)
+
+-- the schema, or want of memory or a failure of the source
+pub opens_or : {T E : Type 0} (r : Result T E) (view : T → Reader) (left : E → Option (List ℕ)) (fault : E → Fault) (old : Option (List ℕ)) (x rest : List ℕ) (s : Schema)
+    → IfOk r (λ t. Opens old (view t)) → IfErr r (λ e. OpensNot old (left e) (fault e)) → old ≡ Some (x ++ rest) → OpensStream s x → MatchResult r (λ t. (view t).schema ≡ s) (λ e. IsAside (fault e))
+opens_or (Ok t) view left fault old x rest s opened refused is o = opens_schema old (view t) x rest s opened is o
+opens_or (Err e) view left fault old x rest s opened refused is o = opens_fails old (left e) (fault e) x rest s refused is o
+
+-- ---- a batch
+
+module _ (o : Open) (x u z b : List ℕ) (rows : List (List Value)) (m : IsMessage (Some o) x (batch rows)) (joined : x ++ u ≡ z ++ b) where
+  -- `phase` is the one behind the call
+  abbrev RowsOr : Result (Option Contents) Fault → Type 0
+  RowsOr r = MatchResult r (λ found. GivesRows found rows) IsAside
+
+  gives_batch : (r : Result (Option Contents) Fault) (p : Phase) → NextGives o phase.Reading z (Some b) r p → RowsOr r
+  gives_batch (Ok (Some found)) phase.Reading h =
+      let one : batch rows ≡ batch found.rows = same_event (Some o) x z u b (batch rows) (batch found.rows) m (one_message (batch found.rows) h refl) joined in
+      let same : found.rows ≡ rows = cc in same
+  gives_batch (Ok (Some found)) (phase.Ended end) h = absurd h
+  gives_batch (Ok (Some found)) phase.Refused h = absurd h
+  gives_batch (Ok None) phase.Reading h = absurd h
+  gives_batch (Ok None) (phase.Ended end) h = absurd (no_end (Some o) x u z b (batch rows) m joined end (nothing_read (Some o) z (Some b) (Ok end) h))
+  gives_batch (Ok None) phase.Refused h = absurd h
+  gives_batch (Err fault) phase.Reading h = absurd h
+  gives_batch (Err fault) (phase.Ended end) h = absurd h
+  gives_batch (Err fault) phase.Refused h = only_aside (Some o) x u z b (batch rows) m joined fault (nothing_read (Some o) z (Some b) (Err fault) h)
+
+pub next_batch : (old new : Reader) (r : Result (Option Contents) Fault) (x rest : List ℕ) (rows : List (List Value)) → NextTakes old new r → old.phase ≡ phase.Reading → old.remaining ≡ Some (x ++ rest) → AddsRows old.schema rows x → MatchResult r (λ found. GivesRows found rows) IsAside
+next_batch old new r x rest rows h reading is adds =
+    let k = known (x ++ rest) h.x old.remaining new.remaining is h.bytes in
+    let gives = subst (λ left. NextGives (open_of old) phase.Reading h.x left r new.phase) k.1 (subst (λ p. NextGives (open_of old) p h.x new.remaining r new.phase) reading h.gives) in
+    gives_batch (open_of old) x rest h.x k.0 rows (one_message (batch rows) adds refl) k.2 r new.phase gives
+
+-- ---- an end
+
+stop_at : (end : End) (z : List ℕ) → BeginsEnd end z → IsStop z
+stop_at Mark z h = inr h
+stop_at Closed z h = inl h
+
+-- an end at the front of some bytes is the one that is read
+same_end : (σ : State) (z b : List ℕ) (end other : End) → BeginsEnd end (z ++ b) → Ends σ z (Some b) (Ok other) → phase.Ended other ≡ phase.Ended end
+same_end σ z b Mark Mark h e = refl
+same_end σ z b Closed Closed h e = refl
+same_end σ z b Mark Closed h e =
+    let none : eos ++ h.0 ≡ [] = sym h.1 ∙ (ap (λ y. y ++ b) e.0 ∙ e.2) in absurd (cc)
+same_end σ z b Closed Mark h e =
+    let none : eos ++ b ≡ [] = sym (ap (λ y. y ++ b) e.0) ∙ h in absurd (cc)
+
+module _ (o : Open) (z b : List ℕ) (end : End) (begins : BeginsEnd end (z ++ b)) where
+  gives_end : (r : Result (Option Contents) Fault) (p : Phase) → NextGives o phase.Reading z (Some b) r p → MatchResult r (λ found. p ≡ phase.Ended end) IsAside
+  gives_end (Ok (Some found)) phase.Reading h =
+      let m = one_message (batch found.rows) h refl in
+      absurd (frame_stop z m.metadata m.body b (z ++ b) m.head m.frame refl (stop_at end (z ++ b) begins))
+  gives_end (Ok (Some found)) (phase.Ended other) h = absurd h
+  gives_end (Ok (Some found)) phase.Refused h = absurd h
+  gives_end (Ok None) phase.Reading h = absurd h
+  gives_end (Ok None) (phase.Ended other) h = same_end (Some o) z b end other begins (nothing_read (Some o) z (Some b) (Ok other) h)
+  gives_end (Ok None) phase.Refused h = absurd h
+  gives_end (Err fault) phase.Reading h = absurd h
+  gives_end (Err fault) (phase.Ended other) h = absurd h
+  gives_end (Err fault) phase.Refused h = stop_breaks (Some o) z b fault (λ e. absurd (cc)) (stop_at end (z ++ b) begins) (nothing_read (Some o) z (Some b) (Err fault) h)
+
+pub next_end : (old new : Reader) (r : Result (Option Contents) Fault) (z : List ℕ) (end : End) → NextTakes old new r → old.phase ≡ phase.Reading → old.remaining ≡ Some z → BeginsEnd end z → MatchResult r (λ found. new.phase ≡ phase.Ended end) IsAside
+next_end old new r z end h reading is begins =
+    let k = known z h.x old.remaining new.remaining is h.bytes in
+    let gives = subst (λ left. NextGives (open_of old) phase.Reading h.x left r new.phase) k.1 (subst (λ p. NextGives (open_of old) p h.x new.remaining r new.phase) reading h.gives) in
+    gives_end (open_of old) h.x k.0 end (subst (BeginsEnd end) k.2 begins) r new.phase gives
