@@ -11,8 +11,7 @@ use Rattle.ipc_build.specs.Trees.{Tree, Node, none, field, node, view, fields_vi
 use Rattle.ipc_build.specs.Trees as k
 use Rattle.ipc_build.specs.Layout.{little, padding, entry_count, members, inline_bytes, entries, targets_end, inline_end, table_place, head_bytes, own_bytes, target_bytes, targets, struct_bytes, prefix_place, as_vector, buffer}
 use Rattle.ipc_build.specs.Ascends.{fields, elements, Below, Writable}
-use Rattle.ipc_build.proofs.Placed.{length_head, entry_count_small}
-use Rattle.ipc_build.proofs.Within.{members_below}
+use Rattle.ipc_build.proofs.Placed.{length_head, entry_count_small, members_below}
 use Rattle.ipc_build.proofs.Has.{length_little}
 use Rattle.ipc_build.proofs.Nodes.{tables_is, pairs_is}
 use Rattle.ipc_build.proofs.Views.{front, members_fields}

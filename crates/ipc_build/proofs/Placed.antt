@@ -31,6 +31,11 @@ unfolding entry_count Writable
 entry_count_up none n h = omega arith
 entry_count_up (field m content inner rest) n h = let i = entry_count_up rest (m + 1) h.4 in omega (arith, i, h.0)
 
+pub members_below : (f : Tree) (n : ℕ) → Writable (fields n) f → n + members f ≤ entry_count n f
+unfolding members entry_count Writable
+members_below none n h = omega arith
+members_below (field m content inner rest) n h = let e = members_below rest (m + 1) h.4 in omega (arith, e, h.0)
+
 pub entry_count_small : (f : Tree) (n : ℕ) → n ≤ 16 → Writable (fields n) f → entry_count n f ≤ 16
 unfolding entry_count Writable
 entry_count_small none n s h = s
@@ -59,6 +64,7 @@ pub record Entered (b : List ℕ) (t n h : ℕ) (f : Tree) : Type 0 where
   pub vtable : ℕ
   pub found : vtable_of b t ≡ Ok vtable
   pub size : num b vtable 2 ≡ 4 + 2 * entry_count n f
+  pub ends : t + num b (vtable + 2) 2 ≡ h + 8 * members f
   pub there : Has b (vtable + (4 + 2 * n)) (entries n (h - t) f)
   pub above : t + 4 ≤ h
   pub near : h ≤ t + 4 + 8 * n
@@ -101,6 +107,7 @@ multiple h j w e f =
 -- where the parts of a vtable at p and its table stand
 record Parts (b : List ℕ) (f : Tree) (p : ℕ) : Type 0 where
   pub size : Has b p (little 2 (4 + 2 * entry_count 0 f))
+  pub inline_size : Has b (p + 2) (little 2 (4 + 8 * members f))
   pub entered : Has b (p + 4) (entries 0 4 f)
   pub back : Has b (table_place f p) (little 4 (table_place f p - p))
   pub front : Has b (table_place f p + 4) (inline_bytes 8 f (table_place f p + 4) (inline_end f p))
@@ -138,6 +145,7 @@ parts b f p h e =
     let four = has_right b _ (padding (table_place f p - (p + 4 + 2 * entry_count 0 f))) _ three in
     record {
       size = has_left b _ (little 2 (4 + 2 * entry_count 0 f)) _ head;
+      inline_size = has_at b _ (p + 2) _ (omega (arith, a)) (has_left b _ (little 2 (4 + 8 * members f)) _ one);
       entered = has_at b _ (p + 4) _ (omega (arith, a, c)) (has_left b _ (entries 0 4 f) _ two);
       back = has_at b _ (table_place f p) _ (omega (arith, a, c, d, z)) four;
       front = has_at b _ (table_place f p + 4) _ (omega (arith, l)) (has_right b p (head_bytes f p) inline e);
@@ -178,7 +186,7 @@ target_length (k.byte x) f h below p = omega arith
 target_length (k.signed w z) f h below p = omega arith
 target_length (k.string s) f h below p =
     let l = length_little 0 4 (length s) in
-    let z = length-replicate {A = ℕ} (string_end s p - (p + 4 + length s)) 0 in
+    let z = length-replicate {A = ℕ} (string_end s p - (p + 5 + length s)) 0 in
     simp (length-append) (omega (arith, l, z))
 target_length (k.pairs xs) f h below p =
     let l = length_little 0 4 (length xs) in
@@ -234,8 +242,8 @@ module _ (P : ℕ → ℕ → Type 0) (b : List ℕ) (aligned : (w p q : ℕ) �
   table_lies : (f : Tree) (p : ℕ) → Writable (fields 0) f → Has b p (own_bytes f p) → Has b (inline_end f p) (targets f (inline_end f p)) → targets_end f (inline_end f p) < 2 ^ 31 → p % 4 ≡ 0 → (vtable_of b (table_place f p) ≡ Ok p) × TableStands P b (table_place f p) f × Entered b (table_place f p) 0 (table_place f p + 4) f × Stored b 8 f (table_place f p + 4) (inline_end f p)
   table_lies f p h head behind small even = (
     found,
-    record { vtable = p; found = found; holds = aligned 4 _ ((p + 4 + 2 * entry_count 0 f + 3) / 8 * 2 + 1) (omega arith); entries = λ i j. aligned 2 _ (p / 2 + i) (omega arith); absent = λ n w no_such. slot_zero b _ p n w found (absent_entry b f p n h size ps.entered no_such) },
-    record { vtable = p; found = found; size = size; there = subst (λ (d : ℕ). Has b (p + 4) (entries 0 d f)) (omega arith) ps.entered; above = omega arith; near = omega arith },
+    record { vtable = p; found = found; holds = aligned 4 _ ((p + 4 + 2 * entry_count 0 f + 3) / 8 * 2 + 1) (omega arith); inside = omega (arith, inline_size, front_inside, front_length); entries = λ i j. aligned 2 _ (p / 2 + i) (omega arith); absent = λ n w no_such. slot_zero b _ p n w found (absent_entry b f p n h size ps.entered no_such) },
+    record { vtable = p; found = found; size = size; ends = omega (arith, inline_size); there = subst (λ (d : ℕ). Has b (p + 4) (entries 0 d f)) (omega arith) ps.entered; above = omega arith; near = omega arith },
     record { front = ps.front; behind = behind; apart = omega arith; small = small; even = omega arith },
   )
     where
@@ -250,6 +258,18 @@ module _ (P : ℕ → ℕ → Type 0) (b : List ℕ) (aligned : (w p q : ℕ) �
 
       size : num b p 2 ≡ 4 + 2 * entry_count 0 f
       size = has_num b p 2 _ (omega (arith, ts)) ps.size
+
+      ms : members f ≤ entry_count 0 f
+      ms = let m = members_below f 0 h in omega (arith, m)
+
+      inline_size : num b (p + 2) 2 ≡ 4 + 8 * members f
+      inline_size = has_num b _ 2 _ (omega (arith, ts, ms)) ps.inline_size
+
+      front_inside : table_place f p + 4 + length (inline_bytes 8 f (table_place f p + 4) (inline_end f p)) ≤ length b
+      front_inside = ps.front.inside
+
+      front_length : length (inline_bytes 8 f (table_place f p + 4) (inline_end f p)) ≡ 8 * members f
+      front_length = length_inline 8 f (table_place f p + 4) (inline_end f p)
 
       back : num b (table_place f p) 4 ≡ table_place f p - p
       back = has_num b _ 4 _ (omega (arith, up, small)) ps.back
@@ -271,10 +291,12 @@ module _ (P : ℕ → ℕ → Type 0) (b : List ℕ) (aligned : (w p q : ℕ) �
       let head = has_left b p (little 4 (length s)) _ there in
       let tail = has_at b _ (p + 4) _ (omega (arith, l)) (has_right b p (little 4 (length s)) _ there) in
       let own = has_left b (p + 4) s _ tail in
+      let zero_byte = has_left b (p + 4 + length s) (padding 1) _ (has_right b (p + 4) s _ tail) in
       let i = own.inside in
+      let j : p + 4 + length s + 1 ≤ length b = zero_byte.inside in
       let points_p : points b h ≡ Ok p = subst (λ (x : ℕ). points b h ≡ Ok x) (omega arith) (points_at b h (p - h) e (omega arith) (omega arith) (omega arith)) in
       let n = has_num b p 4 (length s) (omega arith) head in
-      record { start = p; points_there = points_p; holds = aligned 4 p (p / 4) (omega arith); text = string_there b s h (p + 4) (elements_there b h p (length s) 1 points_p n (omega arith) (omega arith)) own fine }
+      record { start = p; points_there = points_p; holds = aligned 4 p (p / 4) (omega arith); text = string_there b s h (p + 4) (elements_there b h p (length s) 1 points_p n (omega arith) (omega arith)) own fine; closed = (omega (arith, j), has_num b _ 1 0 (omega arith) zero_byte) }
   target_lies (k.pairs xs) f h p fine inner e apart there small even as_table as_vector =
       let q = prefix_place p in
       let l = length_little 0 4 (length xs) in
@@ -330,7 +352,7 @@ module _ (P : ℕ → ℕ → Type 0) (b : List ℕ) (aligned : (w p q : ℕ) �
   in_table_more m content inner rest inner_table inner_vector rest_table t n h p writable entered stored even = (
     (
       h,
-      found_h,
+      (found_h, (entered.vtable, entered.found, omega (arith, ends, narrow))),
       aligned (inline_width content) h (h / 8 * wide.0) (multiple h wide.0 (inline_width content) even wide.1),
       target_lies content inner h p writable.2 writable.3 (has_narrow b h 8 (inline_width content) x narrow fits own) (omega (arith, apart)) (has_left b p (target_bytes content inner (targets inner) p) _ behind) (omega (arith, up, small)) stored.even inner_table inner_vector,
     ),
@@ -339,6 +361,7 @@ module _ (P : ℕ → ℕ → Type 0) (b : List ℕ) (aligned : (w p q : ℕ) �
           vtable = entered.vtable;
           found = entered.found;
           size = entered.size;
+          ends = omega (arith, ends);
           there = subst (λ (d : ℕ). Has b (entered.vtable + (4 + 2 * (m + 1))) (entries (m + 1) d rest)) (omega (arith, above)) next;
           above = omega (arith, above);
           near = omega (arith, near, writable.0);
@@ -391,6 +414,9 @@ module _ (P : ℕ → ℕ → Type 0) (b : List ℕ) (aligned : (w p q : ℕ) �
 
       near : h ≤ t + 4 + 8 * n
       near = entered.near
+
+      ends : t + num b (entered.vtable + 2) 2 ≡ h + 8 * (1 + members rest)
+      ends = entered.ends
 
       own : Has b h (little 8 x)
       own = has_left b h (little 8 x) _ front

@@ -6,12 +6,7 @@ use Rattle.ipc_build.specs.Layout.{members, entry_count, as_vector, targets_end,
 use Rattle.ipc_build.specs.Ascends.{Role, fields, elements, Below, Writable}
 use Rattle.ipc_build.specs.Room.{target_room, targets_room, room}
 use Rattle.ipc_build.proofs.Upward.{target_ends_up}
-use Rattle.ipc_build.proofs.Placed.{element_range}
-
-pub members_below : (f : Tree) (n : ℕ) → Writable (fields n) f → n + members f ≤ entry_count n f
-unfolding members entry_count Writable
-members_below none n h = omega arith
-members_below (field m content inner rest) n h = let e = members_below rest (m + 1) h.4 in omega (arith, e, h.0)
+use Rattle.ipc_build.proofs.Placed.{element_range, members_below}
 
 target_within : (content : Content) (f : Tree) (p : ℕ) → Below content (λ s. Writable s f) → ((s : Role) (q : ℕ) → Writable s f → q % 4 ≡ 0 → targets_end f q ≤ q + targets_room f) → p % 4 ≡ 0 → target_end content f (targets_end f) p ≤ p + target_room content f (targets_room f)
 target_within (k.byte x) f p h below even = omega arith

@@ -88,7 +88,7 @@ struct_bytes (x ∷ xs) = little 8 (cast_unsigned w64 x.0) ++ (little 8 (cast_un
 abbrev pub target_bytes : Content → Tree → (ℕ → List ℕ) → ℕ → List ℕ
 target_bytes (k.byte x) f g p = []
 target_bytes (k.signed w z) f g p = []
-target_bytes (k.string s) f g p = little 4 (length s) ++ (s ++ padding (string_end s p - (p + 4 + length s)))
+target_bytes (k.string s) f g p = little 4 (length s) ++ (s ++ (padding 1 ++ padding (string_end s p - (p + 5 + length s))))
 target_bytes (k.pairs xs) f g p = padding (prefix_place p - p) ++ (little 4 (length xs) ++ struct_bytes xs)
 target_bytes k.table f g p = own_bytes f p ++ g (inline_end f p)
 target_bytes k.tables f g p = little 4 (members f) ++ (inline_bytes 4 f (p + 4) (p + 4 + 4 * members f) ++ g (p + 4 + 4 * members f))

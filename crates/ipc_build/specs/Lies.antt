@@ -1,8 +1,8 @@
 -- When a tree lies in bytes b, in the words by which b is read. P is asked of the width and the place of every number there:
 -- scalars, offsets, counts, a vtable's entries.
-use Rattle.std.specs.Prelude.{ℤ, ℕ, ◌+◌, ◌*◌, ◌<◌, ◌≡◌, ◌⊎◌, List, [], ◌∷◌, length, Some, None, Ok, ⊤}
+use Rattle.std.specs.Prelude.{ℤ, ℕ, ◌+◌, ◌*◌, ◌<◌, ◌≤◌, ◌≡◌, ◌⊎◌, List, [], ◌∷◌, length, Some, None, Ok, ⊤}
 use Rattle.std.specs.Int.{byte_len, cast_signed}
-use Rattle.ipc_scalar.specs.Bytes.{num, int64}
+use Rattle.ipc_scalar.specs.Bytes.{num, byte, int64}
 use Rattle.ipc_scalar.specs.Flat.{vtable_of, slot_of, points, table_of, elements_of, text_of}
 use Rattle.ipc_build.specs.Trees.{Content, Tree, none, field}
 use Rattle.ipc_build.specs.Trees as k
@@ -28,10 +28,15 @@ inline_width (k.byte x) = 1
 inline_width (k.signed w z) = byte_len w
 inline_width _ = 4
 
+-- "Tables": the second number of the vtable at v is the size of the table's inline part, and so the one at t ends there
+abbrev pub inline_end_of : List ℕ → ℕ → ℕ → ℕ
+inline_end_of b v t = t + num b (v + 2) 2
+
 module _ (P : ℕ → ℕ → Type 0) (b : List ℕ) where
-  -- "Tables", "Strings and Vectors": field n, of w bytes, is at p; or the next offset of a vector is
+  -- "Tables", "Strings and Vectors": field n, of w bytes, is at p and ends within the table's inline part; or the next offset of a vector
+  -- is at p
   abbrev pub StandsAt : Holder → ℕ → ℕ → ℕ → Type 0
-  StandsAt (in_table t) n w p = slot_of b t n w ≡ Ok (Some p)
+  StandsAt (in_table t) n w p = (slot_of b t n w ≡ Ok (Some p)) × ((v : ℕ) × (vtable_of b t ≡ Ok v) × (p + w ≤ inline_end_of b v t))
   StandsAt (in_vector q) n w p = p ≡ q
 
   -- "Structs": structs of two signed 64-bit numbers, one after another from q on
@@ -39,20 +44,22 @@ module _ (P : ℕ → ℕ → Type 0) (b : List ℕ) where
   PairsLie q [] = ⊤
   PairsLie q (x ∷ xs) = (int64 b q ≡ x.0) × (int64 b (q + 8) ≡ x.1) × (P 8 q × P 8 (q + 8)) × PairsLie (q + 16) xs
 
-  -- "Tables": a table stands at t, and each number that none of these fields has is absent there
+  -- "Tables": a table stands at t, its inline part ends inside the bytes, and each number that none of these fields has is absent there
   pub record TableStands (t : ℕ) (f : Tree) : Type 0 where
     pub vtable : ℕ
     pub found : vtable_of b t ≡ Ok vtable
     pub holds : P 4 t
+    pub inside : inline_end_of b vtable t ≤ length b
     pub entries : (i : ℕ) → 2 * i < num b vtable 2 → P 2 (vtable + 2 * i)
     pub absent : (n w : ℕ) → (HasField n f → ⊥) → slot_of b t n w ≡ Ok None
 
-  -- "Strings and Vectors": the offset at p points to this string
+  -- "Strings and Vectors": the offset at p points to this string, behind whose length and bytes a zero byte stands
   pub record StringLies (p : ℕ) (s : List ℕ) : Type 0 where
     pub start : ℕ
     pub points_there : points b p ≡ Ok start
     pub holds : P 4 start
     pub text : text_of b p ≡ Ok s
+    pub closed : (start + 4 + length s < length b) × (byte b (start + 4 + length s) ≡ 0)
 
   -- the scalar at p is this number, or the offset at p points to this; `below` says of a holder that the tree below lies in it
   abbrev pub TargetLies : Content → Tree → (Holder → Type 0) → ℕ → Type 0

@@ -2,7 +2,7 @@
 use Rattle.std.specs.Prelude.{◌≡◌, ℕ, ◌+◌, ◌*◌, ◌^◌, ◌≤◌, ◌<◌, length, Option, MatchOption}
 use Rattle.ipc_build.specs.Trees.{Content, Tree, none, field}
 use Rattle.ipc_build.specs.Trees as k
-use Rattle.ipc_build.specs.Layout.{members, entry_count, as_vector}
+use Rattle.ipc_build.specs.Layout.{members, entry_count, as_vector, targets_end}
 
 -- 8 and its bytes for a string, 12 and 16 for each struct of a vector, 24 and 10 for each vtable entry of a table, 12 and 4 for
 -- each element of a vector of tables; `below` is the room of the tree below
@@ -22,6 +22,11 @@ targets_room (field n content inner rest) = target_room content inner (targets_r
 -- 16, and the room of the root table
 abbrev pub room : Tree → ℕ
 room f = 16 + targets_room (as_vector f)
+
+-- how many bytes a tree takes as it is laid out here: behind the root offset each table with its vtable, and each string and vector, one
+-- after another, and nothing else
+abbrev pub size : Tree → ℕ
+size f = targets_end (as_vector f) 4
 
 -- how room is counted: the sum n, of which P holds, or nothing where n passes 2^24
 abbrev pub Counts : ℕ → Type 0 → Option ℕ → Type 0

@@ -49,12 +49,13 @@ fn write_head(out: &mut Vec<u8>, slots: &[(u16, Slot)], p: usize) -> Result<(), 
 // A string: its length, its bytes, a zero byte, and zeros up to a multiple of 4.
 fn write_string(out: &mut Vec<u8>, text: &str, p: usize) -> Result<(), AllocError>
     requires { string_end text.now p < 2 ^ 32 }
-    ensures { IfOk result (λ _. out.new.items ≡ out.old.items ++ (little 4 (length text.now) ++ (text.now ++ padding (string_end text.now p - (p + 4 + length text.now))))) }
+    ensures { IfOk result (λ _. out.new.items ≡ out.old.items ++ (little 4 (length text.now) ++ (text.now ++ (padding 1 ++ padding (string_end text.now p - (p + 5 + length text.now)))))) }
 {
     let end = (p + text.len() + 8) / 4 * 4;
     push_u32(out, text.len() as u32)?;
     out.extend_from_slice(text.as_bytes())?;
-    push_padding(out, end - (p + 4 + text.len()))?;
+    out.push(0)?;
+    push_padding(out, end - (p + 5 + text.len()))?;
     Ok(())
 }
 

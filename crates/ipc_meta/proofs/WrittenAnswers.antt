@@ -12,10 +12,10 @@ use Rattle.ipc_meta.specs.Open.{are_open}
 use Rattle.ipc_meta.specs.declared.head.BatchHead.{BatchHead}
 use Rattle.ipc_meta.specs.declared.head.Head.TheVariants as head
 use Rattle.ipc_meta.specs.Heads.{HeadOf}
-use Rattle.ipc_meta.specs.Rooms.{schema_room, batch_room}
+use Rattle.ipc_meta.specs.Rooms.{schema_room, head_room}
 use Rattle.ipc_meta.specs.Written.{schema_tree, batch_tree, message_tree, schema_message, batch_message}
 use Rattle.ipc_meta.proofs.WrittenHeads.{schema_stated, batch_stated}
-use Rattle.ipc_meta.proofs.WrittenOrder.{schema_needs, batch_needs}
+use Rattle.ipc_meta.proofs.WrittenOrder.{schema_needs, batch_room_opens}
 
 pub ok_then : {A E : Type 0} (P Q : A → Type 0) (r : Result A E) → ((x : A) → P x → Q x) → IfOk r P → IfOk r Q
 ok_then P Q (Ok x) f h = f x h
@@ -50,10 +50,10 @@ schema_refused s f fault e h = subst (λ (n : ℕ). (fault ≡ OutOfMemory) ⊎ 
 pub batch_states : (b : List ℕ) (h : BatchHead) (m : ℕ) (f : Tree) → m ≤ 2 ^ 40 → f ≡ batch_message h m → ((rest : List ℕ) → Lies (b ++ rest) f) → (rest : List ℕ) → HeadOf (b ++ rest) (head.Batch h) m
 batch_states b h m f small e lies rest = batch_stated (b ++ rest) h m small (lies_as b f (batch_message h m) e lies rest)
 
-pub batch_room_is : (h : BatchHead) (m : ℕ) (f : Tree) → f ≡ batch_message h m → room f ≡ batch_room (length h.nodes) (length h.buffers)
-batch_room_is h m f e = ap room e ∙ batch_needs h m
+pub batch_room_is : (h : BatchHead) (m : ℕ) (f : Tree) → f ≡ batch_message h m → room f ≡ head_room h m
+batch_room_is h m f e = ap room e ∙ batch_room_opens h m
 
 pub batch_refused : (h : BatchHead) (m : ℕ) (f : Tree) (fault : WriteFault) → f ≡ batch_message h m → NoRoom f fault
-    → (fault ≡ OutOfMemory) ⊎ ((fault ≡ TooLong) × ((2 ^ 24 < batch_room (length h.nodes) (length h.buffers)) ⊎ (2 ^ 40 < m)))
+    → (fault ≡ OutOfMemory) ⊎ ((fault ≡ TooLong) × ((2 ^ 24 < head_room h m) ⊎ (2 ^ 40 < m)))
 batch_refused h m f fault e (inl o) = inl o
 batch_refused h m f fault e (inr t) = inr (t.0, inl (subst (λ (n : ℕ). 2 ^ 24 < n) (batch_room_is h m f e) t.1))

@@ -74,13 +74,13 @@ parts_there b t name nullable κ None cs ps good read each h =
     let code = h.lies.1.1.0 in
     let type = h.lies.1.1.1.0 in
     let children = h.lies.1.1.1.1.0 in (
-      text_there b t 0 text.0 name text.1 text.3.text,
-      flag_there b t 1 null.0 nullable null.1 null.3,
-      type_there b t code.0 type.0 type.3.0 κ code.1 code.3 type.1 type.3.1 good (record { stands = type.3.2; lies = type.3.3 }),
+      text_there b t 0 text.0 name text.1.0 text.3.text,
+      flag_there b t 1 null.0 nullable null.1.0 null.3,
+      type_there b t code.0 type.0 type.3.0 κ code.1.0 code.3 type.1.0 type.3.1 good (record { stands = type.3.2; lies = type.3.3 }),
       no_dictionary b t (field_absent b t 4 table_from (h.stands.absent 4 4 (neither (λ e. omega (arith, e)) (neither (λ e. omega (arith, e)) (neither (λ e. omega (arith, e)) (neither (λ e. omega (arith, e)) (neither (λ e. omega (arith, e)) (no_pairs 4 6 ps (λ e. omega (arith, e)))))))))),
       read,
       pairs_there b t 6 ps h.lies.1.1.1.1.1 (λ e. h.stands.absent 6 4 (neither (λ z. omega (arith, z)) (neither (λ z. omega (arith, z)) (neither (λ z. omega (arith, z)) (neither (λ z. omega (arith, z)) (neither (λ z. omega (arith, z)) (pairs_absent 6 6 ps e))))))),
-      vector_lies field_tree FieldAt b t 5 children.0 children.3.0 cs children.1 children.3.1 children.3.3 each,
+      vector_lies field_tree FieldAt b t 5 children.0 children.3.0 cs children.1.0 children.3.1 children.3.3 each,
     )
 
 roll_written : (y : Field-F Shown) → IsWritten (roll-Field (map-Field Shown Field (λ c. c.0) y))

@@ -27,7 +27,7 @@ schema_there b t s w read h =
     let columns = h.lies.0 in
     record {
       little_endian = scalar_absent b t 0 2 int16 (pos 0) (h.stands.absent 0 2 (neither (λ e. omega (arith, e)) (no_pairs 0 2 s.metadata (λ e. omega (arith, e)))));
-      fields = vector_lies field_tree FieldAt b t 1 columns.0 columns.3.0 s.fields columns.1 columns.3.1 columns.3.3 (fields_written s.fields w.each read b);
+      fields = vector_lies field_tree FieldAt b t 1 columns.0 columns.3.0 s.fields columns.1.0 columns.3.1 columns.3.3 (fields_written s.fields w.each read b);
       pairs = pairs_there b t 2 s.metadata h.lies.1 (λ e. h.stands.absent 2 4 (neither (λ z. omega (arith, z)) (pairs_absent 2 2 s.metadata e)));
       well_formed = w;
     }
@@ -56,9 +56,9 @@ batch_there b t h held =
     let nodes = held.lies.1.0 in
     let buffers = held.lies.1.1.0 in
     record {
-      length = scalar_there b t 0 8 length.0 int64 (pos 0) length.1 ∙ ap Ok length.3;
-      nodes = numbers_there b t 1 nodes.0 nodes.3.0 h.nodes nodes.1 nodes.3.1 nodes.3.3;
-      buffers = numbers_there b t 2 buffers.0 buffers.3.0 h.buffers buffers.1 buffers.3.1 buffers.3.3;
+      length = scalar_there b t 0 8 length.0 int64 (pos 0) length.1.0 ∙ ap Ok length.3;
+      nodes = numbers_there b t 1 nodes.0 nodes.3.0 h.nodes nodes.1.0 nodes.3.1 nodes.3.3;
+      buffers = numbers_there b t 2 buffers.0 buffers.3.0 h.buffers buffers.1.0 buffers.3.1 buffers.3.3;
       uncompressed = field_absent b t 3 table_from (held.stands.absent 3 4 (neither (λ e. omega (arith, e)) (neither (λ e. omega (arith, e)) (neither (λ e. omega (arith, e)) (λ z. z)))));
     }
 
@@ -88,11 +88,11 @@ message_there b code m header h =
       t = t;
       u = headed.3.0;
       stands = subst (λ (p : ℕ). table_from b p ≡ Ok (tab b t)) root.1 (table_there b root.0 t root.3.1);
-      version = scalar_there b t 0 2 version.0 int16 (pos 0) version.1 ∙ ap Ok version.3;
-      coded = scalar_there b t 1 1 coded.0 byte 0 coded.1 ∙ ap Ok coded.3;
-      headed = field_there b t 2 headed.0 table_from (tab b headed.3.0) headed.1 (table_there b headed.0 headed.3.0 headed.3.1);
+      version = scalar_there b t 0 2 version.0 int16 (pos 0) version.1.0 ∙ ap Ok version.3;
+      coded = scalar_there b t 1 1 coded.0 byte 0 coded.1.0 ∙ ap Ok coded.3;
+      headed = field_there b t 2 headed.0 table_from (tab b headed.3.0) headed.1.0 (table_there b headed.0 headed.3.0 headed.3.1);
       held = record { stands = headed.3.2; lies = headed.3.3 };
-      body = scalar_there b t 3 8 body.0 int64 (pos 0) body.1 ∙ ap Ok body.3;
+      body = scalar_there b t 3 8 body.0 int64 (pos 0) body.1.0 ∙ ap Ok body.3;
     }
 
 pub schema_stated : (b : List ℕ) (s : Schema) → WellFormed s → are_open s.fields ≡ true → Lies b (schema_message s) → HeadOf b (head.Schema s) 0

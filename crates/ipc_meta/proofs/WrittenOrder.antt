@@ -1,6 +1,7 @@
 -- In each table that is written the fields' numbers ascend, and how much room the tables take.
-use Rattle.std.proofs.Common.{◌≡◌, refl, sym, subst, ℕ, ◌≤◌, ◌<◌, Bool, List, [], ◌∷◌, map, length, arith}
-use Rattle.std.specs.Prelude.{Option, None, Some}
+use Rattle.std.proofs.Common.{◌≡◌, refl, sym, subst, ℕ, ◌+◌, ◌*◌, ◌≤◌, ◌<◌, Bool, List, [], ◌∷◌, map, length, arith}
+use Rattle.std.proofs.lemmas.List.{length-replicate}
+use Rattle.std.specs.Prelude.{ℤ, pos, Option, None, Some}
 use Rattle.std.specs.List.{AllByRecursion}
 use Rattle.ipc_model.specs.declared.schema.DataType.{DataType}
 use Rattle.ipc_model.specs.declared.schema.DataType.TheVariants as t
@@ -14,7 +15,7 @@ use Rattle.ipc_build.specs.Layout.{entry_count, members}
 use Rattle.ipc_build.specs.Ascends.{fields, elements, Ascends}
 use Rattle.ipc_build.specs.Room.{room, targets_room}
 use Rattle.ipc_meta.specs.declared.head.BatchHead.{BatchHead}
-use Rattle.ipc_meta.specs.Rooms.{schema_room, batch_room}
+use Rattle.ipc_meta.specs.Rooms.{schema_room, head_room, zeros, batch_room}
 use Rattle.ipc_meta.specs.Written.{pair_tree, with_pairs, with_tables, int_tree, type_tree, dictionary_tree, with_dictionary, field_step, field_tree, schema_tree, batch_tree, message_tree, schema_message, batch_message}
 
 abbrev InOrder : Tree → Type 0
@@ -107,9 +108,25 @@ batch_ascends b m f g e h = subst (λ (x : Tree). InOrder x) (sym e) (subst (λ 
 
 -- ---- room
 
-pub batch_needs : (b : BatchHead) (m : ℕ) → room (batch_message b m) ≡ batch_room (length b.nodes) (length b.buffers)
-unfolding targets_room entry_count members batch_room
-batch_needs b m = omega arith
+-- in numbers: 158, and 16 for each node and each buffer
+pub head_counts : (b : BatchHead) (m : ℕ) → head_room b m ≡ 158 + 16 * length b.nodes + 16 * length b.buffers
+unfolding targets_room entry_count members head_room
+head_counts b m = omega arith
+
+pub batch_counts : (nodes buffers : ℕ) → batch_room nodes buffers ≡ 158 + 16 * nodes + 16 * buffers
+unfolding batch_room
+batch_counts nodes buffers =
+    let n = length-replicate {A = ℤ × ℤ} nodes (pos 0, pos 0) in
+    let b = length-replicate {A = ℤ × ℤ} buffers (pos 0, pos 0) in
+    let h = head_counts (record { length = pos 0; nodes = zeros nodes; buffers = zeros buffers }) 0 in
+    omega (arith, h, n, b)
+
+pub batch_needs : (b : BatchHead) (m : ℕ) → head_room b m ≡ batch_room (length b.nodes) (length b.buffers)
+batch_needs b m = let h = head_counts b m in let c = batch_counts (length b.nodes) (length b.buffers) in omega (arith, h, c)
+
+pub batch_room_opens : (b : BatchHead) (m : ℕ) → room (batch_message b m) ≡ head_room b m
+unfolding head_room
+batch_room_opens b m = refl
 
 pub schema_needs : (s : Schema) → room (schema_message s) ≡ schema_room s
 unfolding schema_room

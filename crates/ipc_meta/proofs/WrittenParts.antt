@@ -67,7 +67,7 @@ unfolding TreeLies
 pair_there b p t h =
     let key = h.lies.0 in
     let value = h.lies.1.0 in
-    (text_there b t 0 key.0 p.0 key.1 key.3.text, text_there b t 1 value.0 p.1 value.1 value.3.text)
+    (text_there b t 0 key.0 p.0 key.1.0 key.3.text, text_there b t 1 value.0 p.1 value.1.0 value.3.text)
 
 -- a vector of tables in field k
 pub vector_lies : {X : Type 0} (tree : X → Tree) (At : X → Table → Type 0) (b : List ℕ) (t k p q : ℕ) (xs : List X) → slot_of b t k 4 ≡ Ok (Some p)
@@ -88,7 +88,7 @@ all_pairs b (p ∷ ps) = ((λ t h. pair_there b p t h), all_pairs b ps)
 pub pairs_there : (b : List ℕ) (t k : ℕ) (ps : List (List ℕ × List ℕ)) → TreeLies Any b (in_table t) (with_pairs k ps) → (ps ≡ [] → slot_of b t k 4 ≡ Ok None) → VectorAt PairAt ps (tab b t) k
 unfolding TreeLies
 pairs_there b t k [] h absent = (record { bytes = b; at = 0; len = 0 }, vector_absent b t k (absent refl), refl)
-pairs_there b t k (p ∷ ps) h absent = let here = h.0 in vector_lies pair_tree PairAt b t k here.0 here.3.0 (p ∷ ps) here.1 here.3.1 here.3.3 (all_pairs b (p ∷ ps))
+pairs_there b t k (p ∷ ps) h absent = let here = h.0 in vector_lies pair_tree PairAt b t k here.0 here.3.0 (p ∷ ps) here.1.0 here.3.1 here.3.3 (all_pairs b (p ∷ ps))
 
 -- ---- fields that are absent
 

@@ -42,10 +42,10 @@ unfolding TreeLies
 int_there e b u bits signed h =
     let size = h.lies.0 in
     let sign = h.lies.1.0 in
-    ap (λ (r : Result ℤ FlatFault). lift r >>= λ w. ok_or e (bits_of w) >>= λ c. flag_at (tab b u) 1 >>= λ s. Ok (integer c s)) (scalar_there b u 0 4 size.0 int32 (pos 0) size.1)
+    ap (λ (r : Result ℤ FlatFault). lift r >>= λ w. ok_or e (bits_of w) >>= λ c. flag_at (tab b u) 1 >>= λ s. Ok (integer c s)) (scalar_there b u 0 4 size.0 int32 (pos 0) size.1.0)
     ∙ (ap (λ (z : ℤ). ok_or e (bits_of z) >>= λ c. flag_at (tab b u) 1 >>= λ s. Ok (integer c s)) size.3
     ∙ (ap (λ (r : Result IntBits Fault). r >>= λ c. flag_at (tab b u) 1 >>= λ s. Ok (integer c s)) (bits_there e bits)
-    ∙ ap (λ (r : Result Bool Fault). r >>= λ s. Ok (integer bits s)) (flag_there b u 1 sign.0 signed sign.1 sign.3)))
+    ∙ ap (λ (r : Result Bool Fault). r >>= λ s. Ok (integer bits s)) (flag_there b u 1 sign.0 signed sign.1.0 sign.3)))
 
 fixed_there : (b : List ℕ) (u n p : ℕ) → slot_of b u 0 4 ≡ Ok (Some p) → int32 b p ≡ cast_signed w32 n → n ≤ 2 ^ 31 - 1 → (lift (scalar (tab b u) 0 4 int32 (pos 0)) >>= fixed_at) ≡ Ok (t.FixedSizeBinary n)
 fixed_there b u n p s e h =
@@ -71,13 +71,13 @@ timestamp unit zone = Ok (t.Timestamp unit zone)
 zone_there : (b : List ℕ) (u : ℕ) (unit : TimeUnit) (zone : Option (List ℕ)) → Holds b u (type_tree (t.Timestamp unit zone)) → field (tab b u) 1 text_of ≡ Ok zone
 unfolding TreeLies HasField
 zone_there b u unit None h = field_absent b u 1 text_of (h.stands.absent 1 4 (neither (λ e. omega (arith, e)) (λ z. z)))
-zone_there b u unit (Some s) h = let zone = h.lies.1.0 in field_there b u 1 zone.0 text_of s zone.1 zone.3.text
+zone_there b u unit (Some s) h = let zone = h.lies.1.0 in field_there b u 1 zone.0 text_of s zone.1.0 zone.3.text
 
 timestamp_there : (b : List ℕ) (u : ℕ) (unit : TimeUnit) (zone : Option (List ℕ)) → Holds b u (type_tree (t.Timestamp unit zone)) → timestamp_at (tab b u) ≡ Ok (t.Timestamp unit zone)
 unfolding TreeLies
 timestamp_there b u unit zone h =
     let place = h.lies.0 in
-    ap (λ (r : Result ℤ FlatFault). lift r >>= λ n. ok_or BadType (unit_of n) >>= λ c. lift (field (tab b u) 1 text_of) >>= λ z. timestamp c z) (scalar_there b u 0 2 place.0 int16 (pos 0) place.1)
+    ap (λ (r : Result ℤ FlatFault). lift r >>= λ n. ok_or BadType (unit_of n) >>= λ c. lift (field (tab b u) 1 text_of) >>= λ z. timestamp c z) (scalar_there b u 0 2 place.0 int16 (pos 0) place.1.0)
     ∙ (ap (λ (m : ℤ). ok_or BadType (unit_of m) >>= λ c. lift (field (tab b u) 1 text_of) >>= λ z. timestamp c z) place.3
     ∙ (ap (λ (r : Result TimeUnit Fault). r >>= λ c. lift (field (tab b u) 1 text_of) >>= λ z. timestamp c z) (unit_read unit)
     ∙ ap (λ (r : Result (Option (List ℕ)) FlatFault). lift r >>= λ z. timestamp unit z) (zone_there b u unit zone h)))
@@ -89,8 +89,8 @@ type_table b u t.Bool g h = refl
 type_table b u (t.Int bits signed) g h = ap (λ (r : Result IndexType Fault). r >>= λ i. Ok (t.Int i.bits i.signed)) (int_there BadType b u bits signed h)
 type_table b u t.Binary g h = refl
 type_table b u t.Utf8 g h = refl
-type_table b u (t.FixedSizeBinary n) g h = let place = h.lies.0 in fixed_there b u n place.0 place.1 place.3 g
-type_table b u (t.Date unit) g h = let place = h.lies.0 in date_there b u place.0 unit place.1 place.3
+type_table b u (t.FixedSizeBinary n) g h = let place = h.lies.0 in fixed_there b u n place.0 place.1.0 place.3 g
+type_table b u (t.Date unit) g h = let place = h.lies.0 in date_there b u place.0 unit place.1.0 place.3
 type_table b u (t.Timestamp unit zone) g h = timestamp_there b u unit zone h
 type_table b u t.List g h = refl
 type_table b u t.Struct g h = refl

@@ -20,7 +20,7 @@ mod types;
 mod write;
 
 pub use head::{BatchHead, Head};
-pub use laws::one_head_per_metadata;
+pub use laws::{one_head_per_metadata, room_by_counts};
 pub use message::read_message;
 pub use readable::are_open;
 pub use write::{write_batch, write_schema};

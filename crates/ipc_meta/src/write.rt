@@ -3,11 +3,11 @@ ghost use Rattle.std.specs.Prelude.{◌≡◌, ◌⊎◌, ◌<◌, ◌≤◌, �
 ghost use Rattle.ipc_build.specs.Trees.{Tree, view};
 ghost use Rattle.ipc_build.specs.Lies.{Lies, Aligned};
 ghost use Rattle.ipc_build.specs.Ascends.{Ascends, fields};
-ghost use Rattle.ipc_build.specs.Room.{room};
+ghost use Rattle.ipc_build.specs.Room.{room, size};
 ghost use Rattle.ipc_model.specs.Meaning.{WellFormed};
 ghost use Rattle.ipc_meta.specs.Heads.{HeadOf};
 ghost use Rattle.ipc_meta.specs.Open.{are_open};
-ghost use Rattle.ipc_meta.specs.Rooms.{batch_room, schema_room};
+ghost use Rattle.ipc_meta.specs.Rooms.{head_room, schema_room};
 ghost use Rattle.ipc_meta.specs.Written.{schema_message, batch_message};
 
 use crate::head::{BatchHead, Head};
@@ -25,7 +25,8 @@ fn built(alloc: Global, tree: &FlatTree) -> Result<Vec<u8>, WriteFault>
     requires { Ascends (fields 0) (view tree.now) }
     ensures lies { IfOk result (λ b. (rest : List ℕ) → Lies (b.items ++ rest) (view tree.now)) }
     ensures aligned { IfOk result (λ b. Aligned b.items (view tree.now)) }
-    ensures short { IfOk result (λ b. (length b.items + 7) / 8 * 8 ≤ 2 ^ 24) }
+    ensures size { IfOk result (λ b. length b.items ≡ size (view tree.now)) }
+    ensures within { IfOk result (λ b. (length b.items + 7) / 8 * 8 ≤ room (view tree.now)) }
     ensures room { IfOk result (λ b. room (view tree.now) ≤ 2 ^ 24) }
     ensures refused { IfErr result (λ f. (f ≡ WriteFault.OutOfMemory) ⊎ ((f ≡ WriteFault.TooLong) × (2 ^ 24 < room (view tree.now)))) }
 {
@@ -58,6 +59,9 @@ pub fn write_schema(alloc: Global, schema: &Schema) -> Result<Vec<u8>, WriteFaul
     ensures aligned { IfOk result (λ b. Aligned b.items (schema_message schema.now)) }
     // They state this schema to a reader of its types.
     ensures states { IfOk result (λ b. are_open schema.now.fields ≡ true → (rest : List ℕ) → HeadOf (b.items ++ rest) (Head.Schema schema.now) 0) }
+    // Nothing stands behind them.
+    ensures size { IfOk result (λ b. length b.items ≡ size (schema_message schema.now)) }
+    ensures within { IfOk result (λ b. (length b.items + 7) / 8 * 8 ≤ schema_room schema.now) }
     ensures short { IfOk result (λ b. (length b.items + 7) / 8 * 8 ≤ 2 ^ 24) }
     ensures room { IfOk result (λ b. schema_room schema.now ≤ 2 ^ 24) }
     ensures refused { IfErr result (λ f. (f ≡ WriteFault.OutOfMemory) ⊎ ((f ≡ WriteFault.TooLong) × (2 ^ 24 < schema_room schema.now))) }
@@ -79,9 +83,11 @@ pub fn write_batch(alloc: Global, head: &BatchHead, body: u64) -> Result<Vec<u8>
     ensures lies { IfOk result (λ b. (rest : List ℕ) → Lies (b.items ++ rest) (batch_message head.now body)) }
     ensures aligned { IfOk result (λ b. Aligned b.items (batch_message head.now body)) }
     ensures states { IfOk result (λ b. (rest : List ℕ) → HeadOf (b.items ++ rest) (Head.Batch head.now) body) }
+    ensures size { IfOk result (λ b. length b.items ≡ size (batch_message head.now body)) }
+    ensures within { IfOk result (λ b. (length b.items + 7) / 8 * 8 ≤ head_room head.now body) }
     ensures short { IfOk result (λ b. (length b.items + 7) / 8 * 8 ≤ 2 ^ 24) }
-    ensures room { IfOk result (λ b. (batch_room (length head.now.nodes) (length head.now.buffers) ≤ 2 ^ 24) × (body ≤ 2 ^ 40)) }
-    ensures refused { IfErr result (λ f. (f ≡ WriteFault.OutOfMemory) ⊎ ((f ≡ WriteFault.TooLong) × ((2 ^ 24 < batch_room (length head.now.nodes) (length head.now.buffers)) ⊎ (2 ^ 40 < body)))) }
+    ensures room { IfOk result (λ b. (head_room head.now body ≤ 2 ^ 24) × (body ≤ 2 ^ 40)) }
+    ensures refused { IfErr result (λ f. (f ≡ WriteFault.OutOfMemory) ⊎ ((f ≡ WriteFault.TooLong) × ((2 ^ 24 < head_room head.now body) ⊎ (2 ^ 40 < body)))) }
 {
     if body > LONGEST_BODY {
         return Err(WriteFault::TooLong);

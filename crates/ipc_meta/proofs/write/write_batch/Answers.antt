@@ -1,4 +1,4 @@
-use Rattle.std.proofs.Common.{subst, ℕ, ◌≤◌, ◌^◌}
+use Rattle.std.proofs.Common.{subst, ℕ, ◌+◌, ◌*◌, ◌/◌, ◌≤◌, ◌^◌, length}
 use Rattle.ipc_meta.proofs.WrittenOrder.{batch_ascends}
 use Rattle.ipc_meta.proofs.WrittenAnswers.{ok_then, err_then, batch_is, batch_states, batch_room_is, batch_refused}
 use Rattle.ipc_meta.proofs.write.write_batch.Goals as goal
@@ -20,3 +20,8 @@ pub returns-clause-refused : goal.returns-clause-refused
 returns-clause-refused c =
     let is = batch_is c.args.head.now c.args.body _ _ c.in_ok-message.ensures c.in_ok-header.ensures in
     err_then _ _ c.built.result (λ f h. batch_refused c.args.head.now c.args.body _ f is h) c.built.ensures.refused
+
+pub returns-clause-within : goal.returns-clause-within
+returns-clause-within c =
+    let is = batch_is c.args.head.now c.args.body _ _ c.in_ok-message.ensures c.in_ok-header.ensures in
+    ok_then _ _ c.built.result (λ b h. subst (λ (n : ℕ). (length b.items + 7) / 8 * 8 ≤ n) (batch_room_is c.args.head.now c.args.body _ is) h) c.built.ensures.within
