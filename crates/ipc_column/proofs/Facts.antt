@@ -2,6 +2,7 @@
 use Rattle.std.proofs.Common.{◌≡◌, refl, ap, ℕ, zero, suc, ◌+◌, ◌*◌, ◌/◌, ◌<◌, ◌≤◌, Bool, true, false, cond, not, List, length, arith, le-leb}
 use Rattle.std.specs.Prelude.{◌&&◌, ◌||◌, ◌==◌, nat_le, ◌^◌, ℤ, ◌+ℤ◌, pos, negsuc, int_le, int_lt, ◌≤ℤ◌, ◌<ℤ◌, unsigned_abs, T}
 use Rattle.std.specs.Bool.{Decides}
+use Rattle.std.specs.List.{All}
 use Rattle.std.proofs.lemmas.Bool.{and_parts, and_from, ne_eqb, leb-true}
 use Rattle.std.proofs.lemmas.Bool.Decides.{nat_tests, Decides-eqb, Decides-and, Decides-at, Decides-like, Decides-by_and}
 use Rattle.std.proofs.lemmas.Int.{ints}
@@ -33,7 +34,7 @@ of_le a b = Decides-like (int_le a b) (λ t. record { le = t }) (λ h. h.le) (of
 of_lt : (a b : ℤ) → Decides (int_lt a b) (a <ℤ b)
 of_lt a b = Decides-like (int_lt a b) (λ t. record { lt = t }) (λ h. h.lt) (of_test (int_lt a b))
 
-of_slot_count : (z : ℤ) → Decides (is_slot_count z) (IsSlotCount z)
+pub of_slot_count : (z : ℤ) → Decides (is_slot_count z) (IsSlotCount z)
 of_slot_count z =
     Decides-like (is_slot_count z) (λ p. record { from = p.0; to = p.1 }) (λ h. (h.from, h.to)) (Decides-and _ _ (of_le (pos 0) z) (of_lt z (pos (2 ^ 31))))
 
@@ -69,6 +70,9 @@ of_range size r = (
       record { offset = a; bytes = b; within = (of_end size r.0 r.1 a b).0 q.1 },
   λ h. and_from _ _ ((of_le (pos 0) r.0).1 h.offset) (and_from _ _ ((of_le (pos 0) r.1).1 h.bytes) ((of_end size r.0 r.1 h.offset h.bytes).1 h.within)),
 )
+
+pub of_nodes : (nodes : List (ℤ × ℤ)) → Decides (all is_node nodes) (All IsNode nodes)
+of_nodes nodes = Decides-by_and is_node IsNode (all is_node) of_node refl (λ _ _. refl) nodes
 
 -- ---- columns
 
@@ -196,7 +200,7 @@ of_lengths fields head body =
     let cs = columns_of fields head body in
     let n = unsigned_abs head.length in
     let top : Column → Bool = top_passes cause.BadNode n in
-    let nodes = Decides-by_and is_node IsNode (all is_node) of_node refl (λ _ _. refl) head.nodes in (
+    let nodes = of_nodes head.nodes in (
       λ e.
           let p = and_parts (is_slot_count head.length && all is_node head.nodes) (every (λ c. true) cs && every_top top cs) e in
           let q = and_parts (is_slot_count head.length) (all is_node head.nodes) p.0 in

@@ -2,7 +2,7 @@
 use Rattle.std.proofs.Common.{◌≡◌, ◌∙◌, refl, sym, ap, subst, List, [], ℕ, ◌<◌, true, false, length, get_or, Result, Ok, Err}
 use Rattle.std.specs.Prelude.{Bool, ◌&&◌, IfOk, IfErr, IsErrAnd, MatchResult, pos, unsigned_abs, slice_index_or}
 use Rattle.std.proofs.lemmas.List.{ext_get_or}
-use Rattle.std.proofs.lemmas.Bool.{and_from, and_left, and_right, eqb-true}
+use Rattle.std.proofs.lemmas.Bool.{and_from, and_left, and_parts, and_right, eqb-true}
 use Rattle.std.proofs.lemmas.Bool.Decides.{not_from_Decides}
 use Rattle.ipc_model.specs.declared.fault.Fault.{Fault}
 use Rattle.ipc_model.specs.declared.fault.Fault.TheVariants as fault
@@ -16,10 +16,10 @@ use Rattle.ipc_column.specs.Contents.{Contents}
 use Rattle.ipc_column.specs.Columns.{Column, Columns, every, every_top}
 use Rattle.ipc_column.specs.Shapes.{Shape, shape_of, columns_of, cut}
 use Rattle.ipc_column.specs.Values.{row, rows_of}
-use Rattle.ipc_column.specs.Tests.{fits, head_passes, Holds, Passing, Failing, HeadHolds, passes, all_pass, fault_of}
-use Rattle.ipc_column.specs.Rows.{Rows, Refuses, IsOneList, HasParts}
+use Rattle.ipc_column.specs.Tests.{fits, head_passes, all, is_slot_count, is_node, CountsHold, IsCounted, Holds, Passing, Failing, HeadHolds, passes, all_pass, fault_of}
+use Rattle.ipc_column.specs.Rows.{Rows, Refuses, IsOneList, HasCounts, HasParts}
 use Rattle.ipc_column.proofs.Cells.{rows_length, rows_at}
-use Rattle.ipc_column.proofs.Facts.{decides, length_is, of_ranges, every_top_true}
+use Rattle.ipc_column.proofs.Facts.{decides, length_is, of_nodes, of_ranges, of_slot_count, every_top_true}
 
 -- the rows of columns, by index
 rows_values : (rows : List (List Value)) (fields : List Field) (head : BatchHead) (body : List ℕ) (n : ℕ) → rows ≡ rows_of (columns_of fields head body) n
@@ -55,19 +55,25 @@ one_list fields head body rows others a b =
     let size : length rows ≡ length others = ap unsigned_abs (sym a.count ∙ b.count) in
     rows_are fields head body rows a ∙ (ap (rows_of (columns_of fields head body)) size ∙ sym (rows_are fields head body others b))
 
+has_counts : (fields : List Field) (head : BatchHead) (body : List ℕ) → CountsHold (shape_of fields) head (length body) → HasCounts fields head
+has_counts fields head body h = record { nodes = eqb-true _ _ h.nodes; buffers = eqb-true _ _ h.buffers }
+
 has_parts : (fields : List Field) (head : BatchHead) (body : List ℕ) → HeadHolds (shape_of fields) head body → HasParts fields head body
-has_parts fields head body h = record {
-  nodes = eqb-true _ _ (h cause.WrongNodeCount);
-  buffers = eqb-true _ _ (h cause.WrongBufferCount);
-  ranges = (of_ranges head body).0 (h cause.BufferOutOfBody);
-}
+has_parts fields head body h =
+    let own = and_parts (is_slot_count head.length) (all is_node head.nodes) (h cause.BadNode) in
+    record {
+      counts = has_counts fields head body (record { nodes = h cause.WrongNodeCount; buffers = h cause.WrongBufferCount });
+      batch = (of_slot_count head.length).0 own.0;
+      bounds = (of_nodes head.nodes).0 own.1;
+      ranges = (of_ranges head body).0 (h cause.BufferOutOfBody);
+    }
 
 -- a fault whose test fails is true of the parts
 pub refuses_from : (f : Fault) (fields : List Field) (head : BatchHead) (body : List ℕ) → Failing f (shape_of fields) head body → Refuses f fields head body
 refuses_from fault.WrongNodeCount fields head body r = not_from_Decides _ (decides cause.WrongNodeCount fields head body) r
 refuses_from fault.WrongBufferCount fields head body r = not_from_Decides _ (decides cause.WrongBufferCount fields head body) r
-refuses_from fault.BadNode fields head body r = (eqb-true _ _ r.0, not_from_Decides _ (decides cause.BadNode fields head body) r.1)
-refuses_from fault.BufferOutOfBody fields head body r = not_from_Decides _ (decides cause.BufferOutOfBody fields head body) r
+refuses_from fault.BadNode fields head body r = (has_counts fields head body r.0, not_from_Decides _ (decides cause.BadNode fields head body) r.1)
+refuses_from fault.BufferOutOfBody fields head body r = (has_counts fields head body r.0, not_from_Decides _ (decides cause.BufferOutOfBody fields head body) r.1)
 refuses_from fault.BufferTooShort fields head body r = (has_parts fields head body r.0, not_from_Decides _ (decides cause.BufferTooShort fields head body) r.1)
 refuses_from fault.BadNullCount fields head body r = (has_parts fields head body r.0, not_from_Decides _ (decides cause.BadNullCount fields head body) r.1)
 refuses_from fault.BadOffsets fields head body r = (has_parts fields head body r.0, not_from_Decides _ (decides cause.BadOffsets fields head body) r.1)
@@ -84,7 +90,7 @@ no_rows fault.OutOfMemory fields head body rows r w = refl
 no_rows fault.WrongNodeCount fields head body rows r w = absurd (r w.nodes)
 no_rows fault.WrongBufferCount fields head body rows r w = absurd (r w.buffers)
 no_rows fault.BadNode fields head body rows r w = absurd (r.1 w.lengths)
-no_rows fault.BufferOutOfBody fields head body rows r w = absurd (r w.ranges)
+no_rows fault.BufferOutOfBody fields head body rows r w = absurd (r.1 w.ranges)
 no_rows fault.BufferTooShort fields head body rows r w = absurd (r.1 w.bytes)
 no_rows fault.BadNullCount fields head body rows r w = absurd (r.1 w.null_counts)
 no_rows fault.BadOffsets fields head body rows r w = absurd (r.1 w.order)
@@ -115,11 +121,11 @@ passing shape head body n cs en ec h p = record {
 
 -- what a refused head says
 pub head_failing : (why : Cause) (shape : Shape) (head : BatchHead) (body : List ℕ) → head_passes why shape head (length body) ≡ false
-    → (why ≡ cause.BadNode → head_passes cause.WrongNodeCount shape head (length body) ≡ true) → Failing (fault_of why) shape head body
+    → IsCounted why shape head (length body) → Failing (fault_of why) shape head body
 head_failing cause.WrongNodeCount shape head body h n = and_left _ _ h
 head_failing cause.WrongBufferCount shape head body h n = and_left _ _ h
-head_failing cause.BadNode shape head body h n = (n refl, and_left _ _ h)
-head_failing cause.BufferOutOfBody shape head body h n = and_left _ _ h
+head_failing cause.BadNode shape head body h n = (n, and_left _ _ h)
+head_failing cause.BufferOutOfBody shape head body h n = (n, and_left _ _ h)
 head_failing cause.BufferTooShort shape head body h n = absurd (cc)
 head_failing cause.BadNullCount shape head body h n = absurd (cc)
 head_failing cause.BadOffsets shape head body h n = absurd (cc)
@@ -130,14 +136,17 @@ pub columns_failing : (why : Cause) (shape : Shape) (head : BatchHead) (body : L
     → HeadHolds shape head body → all_pass why n cs ≡ false → (why ≡ cause.ValueNotUtf8 → (other : Cause) → every (passes other) cs ≡ true) → Failing (fault_of why) shape head body
 columns_failing why shape head body n cs en ec h f t = of_cause why (and_right (head_passes why shape head (length body)) _ (rw (en, ec) at f)) (λ e other. rw ec at (t e other))
   where
+    counts : CountsHold shape head (length body)
+    counts = record { nodes = h cause.WrongNodeCount; buffers = h cause.WrongBufferCount }
+
     holds : (test : Column → Bool) → every test (cut shape head body 0 0) ≡ true → (true && (every test (cut shape head body 0 0) && every_top (λ c. true) (cut shape head body 0 0))) ≡ true
     holds test e = and_from (every test (cut shape head body 0 0)) _ e (every_top_true (cut shape head body 0 0))
 
     of_cause : (why : Cause) → fits shape head body why ≡ false → (why ≡ cause.ValueNotUtf8 → (other : Cause) → every (passes other) (cut shape head body 0 0) ≡ true) → Failing (fault_of why) shape head body
     of_cause cause.WrongNodeCount e s = e
     of_cause cause.WrongBufferCount e s = e
-    of_cause cause.BadNode e s = (h cause.WrongNodeCount, e)
-    of_cause cause.BufferOutOfBody e s = e
+    of_cause cause.BadNode e s = (counts, e)
+    of_cause cause.BufferOutOfBody e s = (counts, e)
     of_cause cause.BufferTooShort e s = (h, e)
     of_cause cause.BadNullCount e s = (h, e)
     of_cause cause.BadOffsets e s = (h, e)

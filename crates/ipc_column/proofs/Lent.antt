@@ -1,7 +1,7 @@
 -- Numbers that are lent are those of the rows.
-use Rattle.std.proofs.Common.{◌≡◌, ◌∙◌, refl, sym, ap, subst, ℕ, ◌+◌, ◌-◌, ◌*◌, ◌<◌, true, false, List, [], length, get_or, take, drop, arith, Option, None, Some}
-use Rattle.std.specs.Prelude.{nat_le, slice_get, if◌then◌else◌, Bool, IfSome}
-use Rattle.std.proofs.lemmas.Bool.{leb-true}
+use Rattle.std.proofs.Common.{◌≡◌, ◌∙◌, refl, sym, ap, subst, ℕ, zero, suc, ◌*◌, ◌<◌, true, false, List, [], ◌∷◌, length, get_or, arith, Option, None, Some}
+use Rattle.std.specs.Prelude.{slice_get, slice_index_or, IfSome}
+use Rattle.std.proofs.lemmas.Bool.{false≢true, leb-true}
 use Rattle.ipc_scalar.specs.Bytes.{int64}
 use Rattle.ipc_model.specs.declared.value.Value.{Value}
 use Rattle.ipc_model.specs.declared.value.Value.TheVariants.{Int}
@@ -9,8 +9,9 @@ use Rattle.ipc_model.specs.declared.schema.IntBits.TheVariants.{B64}
 use Rattle.ipc_column.specs.declared.layout.Layout.{Layout}
 use Rattle.ipc_column.specs.declared.layout.Layout.TheVariants.{Numbers}
 use Rattle.ipc_column.specs.declared.part.Part.{Part}
-use Rattle.ipc_column.specs.Columns.{Column, bytes_of}
-use Rattle.ipc_column.specs.Lending.{AreNumbers, AreValues}
+use Rattle.ipc_column.specs.Columns.{Column}
+use Rattle.ipc_column.specs.Layouts.{is_signed_64}
+use Rattle.ipc_column.specs.Lending.{AreNumbers, AreValues, is_lent, lent_of}
 use Rattle.ipc_column.specs.Tests.{Holds, holds_values}
 use Rattle.ipc_column.specs.Values.{rows_of, value_of}
 use Rattle.ipc_column.specs.Views.{columns, own_column}
@@ -22,14 +23,19 @@ pub some_lent : {A : Type 0} {P Q : A → Type 0} (o : Option A) → ((a : A) �
 some_lent None f h = tt
 some_lent (Some a) f h = f a h
 
--- a span of no bytes has none
-pub no_bytes : (body : List ℕ) (start : ℕ) → bytes_of body start 0 ≡ []
-unfolding bytes_of
-no_bytes body start = go (nat_le (start + 0) (length body))
-  where
-    go : (b : Bool) → (if b then take (start + 0 - start) (drop start body) else []) ≡ []
-    go true = let none : start + 0 - start ≡ 0 = omega arith in rw none refl
-    go false = refl
+pub wide : (l : Layout) → is_signed_64 l ≡ true → l ≡ Numbers B64 true
+wide (Numbers B64 true) h = refl
+wide _ h = absurd (false≢true h)
+
+pub no_bytes : (bytes : List ℕ) → length bytes ≡ 0 → bytes ≡ []
+no_bytes [] h = refl
+no_bytes (b ∷ bs) h = absurd (omega arith)
+
+-- what is said of a column's place
+pub lent_at : (body : List ℕ) (ps : List Part) (j : ℕ) (p : Part) → j < length ps → p ≡ get_or ps j p → slice_index_or (lent_of (columns body ps)) j false ≡ is_lent (own_column body p)
+lent_at body [] j p l e = absurd (omega arith)
+lent_at body (q ∷ ps) zero p l e = rw (sym e) (ap is_lent (column_is body p))
+lent_at body (q ∷ ps) (suc j) p l e = lent_at body ps j p (omega arith) e
 
 module _ (body : List ℕ) (ps : List Part) (n j : ℕ) (p : Part) (values : List ℕ) (inside : j < length ps) (is : p ≡ get_or ps j p) (holds : Holds n (columns body ps)) (lent : AreValues body p values) where
   number_at : (i : ℕ) → value_of (own_column body p) i ≡ Int (int64 values (8 * i))

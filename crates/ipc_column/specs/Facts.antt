@@ -52,12 +52,18 @@ abbrev pub HoldValues : Layout → ℕ → ℕ → Type 0
 HoldValues l.Bits n bytes = (n + 7) / 8 ≤ bytes
 HoldValues (l.Numbers bits signed) n bytes = number_bytes bits * n ≤ bytes
 HoldValues (l.FixedBytes width) n bytes = width * n ≤ bytes
-HoldValues _ n bytes = ⊤
+HoldValues l.Null n bytes = ⊤
+HoldValues (l.VariableBytes utf8) n bytes = ⊤
+HoldValues l.Unread n bytes = ⊤
 
 -- so many bytes hold the offsets of n slots, one more than there are slots, or none for no slots (Arrow Columnar Format, "Variable-size Binary Layout")
 abbrev pub HoldOffsets : Layout → ℕ → ℕ → Type 0
 HoldOffsets (l.VariableBytes utf8) n bytes = 0 < n → 4 * (n + 1) ≤ bytes
-HoldOffsets _ n bytes = ⊤
+HoldOffsets l.Null n bytes = ⊤
+HoldOffsets l.Bits n bytes = ⊤
+HoldOffsets (l.Numbers bits signed) n bytes = ⊤
+HoldOffsets (l.FixedBytes width) n bytes = ⊤
+HoldOffsets l.Unread n bytes = ⊤
 
 -- a bit for each slot (Arrow Columnar Format, "Validity bitmaps")
 abbrev pub HasBits : Column → Type 0
@@ -92,7 +98,11 @@ pub record AreOffsets (offsets : List ℕ) (n size : ℕ) : Type 0 where
 -- the offsets that a column's slots need, where they are there
 abbrev pub HasOffsets : Layout → ℕ → List ℕ → ℕ → Type 0
 HasOffsets (l.VariableBytes utf8) n offsets size = 0 < n → 4 * (n + 1) ≤ length offsets → AreOffsets offsets n size
-HasOffsets _ n offsets size = ⊤
+HasOffsets l.Null n offsets size = ⊤
+HasOffsets l.Bits n offsets size = ⊤
+HasOffsets (l.Numbers bits signed) n offsets size = ⊤
+HasOffsets (l.FixedBytes width) n offsets size = ⊤
+HasOffsets l.Unread n offsets size = ⊤
 
 -- each column has them, within its values
 abbrev pub HasOrder : List Field → BatchHead → List ℕ → Type 0
@@ -101,7 +111,12 @@ HasOrder fields head body = Each (λ c. HasOffsets c.layout c.slots c.offsets (l
 -- what slot i holds is UTF-8, where it is a text (Schema.fbs, Utf8)
 abbrev pub IsText : Layout → List ℕ → List ℕ → ℕ → Type 0
 IsText (l.VariableBytes true) offsets values i = IsUtf8 (between offsets values i)
-IsText _ offsets values i = ⊤
+IsText (l.VariableBytes utf8) offsets values i = ⊤
+IsText l.Null offsets values i = ⊤
+IsText l.Bits offsets values i = ⊤
+IsText (l.Numbers bits signed) offsets values i = ⊤
+IsText (l.FixedBytes width) offsets values i = ⊤
+IsText l.Unread offsets values i = ⊤
 
 -- each valid slot of a column's
 abbrev pub SpellsTexts : Column → Type 0

@@ -20,7 +20,8 @@ type_layout (t.FixedSizeBinary width) = l.FixedBytes width
 type_layout (t.Date Day) = l.Numbers B32 true
 type_layout (t.Date Millisecond) = l.Numbers B64 true
 type_layout (t.Timestamp unit timezone) = l.Numbers B64 true
-type_layout _ = l.Unread
+type_layout t.List = l.Unread
+type_layout t.Struct = l.Unread
 
 -- the layout of a field's slots
 abbrev pub layout : DataType → Option Dictionary → Layout
@@ -32,17 +33,37 @@ abbrev pub own_buffers : Layout → ℕ
 own_buffers l.Null = 0
 own_buffers l.Unread = 0
 own_buffers (l.VariableBytes utf8) = 3
-own_buffers _ = 2
+own_buffers l.Bits = 2
+own_buffers (l.Numbers bits signed) = 2
+own_buffers (l.FixedBytes width) = 2
 
 -- a null count is that of a validity bitmap; a column of the null layout has none (Arrow Columnar Format, "Null Layout")
 abbrev pub has_validity : Layout → Bool
 has_validity l.Null = false
-has_validity _ = true
+has_validity l.Bits = true
+has_validity (l.Numbers bits signed) = true
+has_validity (l.FixedBytes width) = true
+has_validity (l.VariableBytes utf8) = true
+has_validity l.Unread = true
 
 -- each slot holds a text
 abbrev pub is_texts : Layout → Bool
-is_texts (l.VariableBytes true) = true
-is_texts _ = false
+is_texts (l.VariableBytes utf8) = utf8
+is_texts l.Null = false
+is_texts l.Bits = false
+is_texts (l.Numbers bits signed) = false
+is_texts (l.FixedBytes width) = false
+is_texts l.Unread = false
+
+-- each slot holds a signed number of 64 bits
+abbrev pub is_signed_64 : Layout → Bool
+is_signed_64 (l.Numbers B64 true) = true
+is_signed_64 (l.Numbers bits signed) = false
+is_signed_64 l.Null = false
+is_signed_64 l.Bits = false
+is_signed_64 (l.FixedBytes width) = false
+is_signed_64 (l.VariableBytes utf8) = false
+is_signed_64 l.Unread = false
 
 -- the bytes of a number
 abbrev pub number_bytes : IntBits → ℕ

@@ -1,12 +1,23 @@
 -- Columns whose numbers are lent as they lie (Arrow Columnar Format, "Fixed-size Primitive Layout").
-use Rattle.std.specs.Prelude.{◌≡◌, ℕ, ◌*◌, ◌<◌, ◌≤◌, true, List, [], length, Some, slice_get, slice_index_or}
+use Rattle.std.specs.Prelude.{◌≡◌, ℕ, ◌*◌, ◌<◌, ◌≤◌, Bool, ◌&&◌, ◌==◌, true, List, [], ◌∷◌, length, Some, slice_get, slice_index_or}
 use Rattle.ipc_scalar.specs.Bytes.{int64}
 use Rattle.ipc_model.specs.declared.schema.IntBits.TheVariants.{B64}
 use Rattle.ipc_model.specs.declared.value.Value.{Value}
 use Rattle.ipc_model.specs.declared.value.Value.TheVariants.{Int}
 use Rattle.ipc_column.specs.declared.layout.Layout.TheVariants.{Numbers}
 use Rattle.ipc_column.specs.declared.part.Part.{Part}
+use Rattle.ipc_column.specs.Columns.{Column, Columns, none, column}
+use Rattle.ipc_column.specs.Layouts.{is_signed_64}
 use Rattle.ipc_column.specs.Views.{own_column}
+
+-- a column of signed 64-bit numbers without a validity bitmap is lent as it lies
+abbrev pub is_lent : Column → Bool
+is_lent c = is_signed_64 c.layout && (length c.validity == 0)
+
+-- which of the columns are
+abbrev pub lent_of : Columns → List Bool
+lent_of none = []
+lent_of (column c children rest) = is_lent c ∷ lent_of rest
 
 -- row i has the signed number at byte 8 * i in this column
 pub record AreNumbers (rows : List (List Value)) (column : ℕ) (values : List ℕ) : Type 0 where

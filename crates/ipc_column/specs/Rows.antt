@@ -1,5 +1,6 @@
 -- When the parts of a record batch give rows, and what a refusal says of them.
 use Rattle.std.specs.Prelude.{◌≡◌, ℕ, ◌<◌, true, pos, List, [], length, slice_index_or, ⊤}
+use Rattle.std.specs.List.{All}
 use Rattle.ipc_model.specs.declared.fault.Fault.{Fault}
 use Rattle.ipc_model.specs.declared.fault.Fault.TheVariants as fault
 use Rattle.ipc_model.specs.declared.schema.Field.{Field}
@@ -8,7 +9,7 @@ use Rattle.ipc_meta.specs.declared.head.BatchHead.{BatchHead}
 use Rattle.ipc_meta.specs.Open.{are_open}
 use Rattle.ipc_column.specs.Shapes.{columns_of}
 use Rattle.ipc_column.specs.Values.{row}
-use Rattle.ipc_column.specs.Facts.{HasNodes, HasBuffers, HasLengths, HasRanges, HasBytes, HasNullCounts, HasOrder, HasTexts}
+use Rattle.ipc_column.specs.Facts.{HasNodes, HasBuffers, HasLengths, HasRanges, HasBytes, HasNullCounts, HasOrder, HasTexts, IsSlotCount, IsNode}
 
 -- The head and the body are a record batch of the fields (Arrow Columnar Format, "RecordBatch message"), and these are its rows:
 -- in row i stand the values of slot i, a column beside the other.
@@ -31,20 +32,26 @@ pub record Rows (fields : List Field) (head : BatchHead) (body : List ℕ) (rows
   pub count : head.length ≡ pos (length rows)
   pub values : (i : ℕ) → i < length rows → slice_index_or rows i [] ≡ row (columns_of fields head body) i
 
--- each field finds its node, and its buffers in the body
-pub record HasParts (fields : List Field) (head : BatchHead) (body : List ℕ) : Type 0 where
+-- each field finds its node and its buffers
+pub record HasCounts (fields : List Field) (head : BatchHead) : Type 0 where
   pub nodes : HasNodes fields head
   pub buffers : HasBuffers fields head
+
+-- and what the head says is in its bounds: the lengths, the null counts, and the ranges, which lie in the body
+pub record HasParts (fields : List Field) (head : BatchHead) (body : List ℕ) : Type 0 where
+  pub counts : HasCounts fields head
+  pub batch : IsSlotCount head.length
+  pub bounds : All IsNode head.nodes
   pub ranges : HasRanges head body
 
--- The cause of the fault is true of the parts. A fault of nodes or buffers is one of those that the fields find, and a text
--- is looked at only where all offsets are there and in order.
+-- The cause of the fault is true of the parts. A node or a range is told of only where the head has as many as the fields need, a column only
+-- where all that the head says is in its bounds too, and a text only where all offsets are there and in order.
 -- Want of memory has no cause in them, and no other fault is answered.
 abbrev pub Refuses : Fault → List Field → BatchHead → List ℕ → Type 0
 Refuses fault.WrongNodeCount fields head body = ¬ HasNodes fields head
 Refuses fault.WrongBufferCount fields head body = ¬ HasBuffers fields head
-Refuses fault.BadNode fields head body = HasNodes fields head × ¬ HasLengths fields head body
-Refuses fault.BufferOutOfBody fields head body = ¬ HasRanges head body
+Refuses fault.BadNode fields head body = HasCounts fields head × ¬ HasLengths fields head body
+Refuses fault.BufferOutOfBody fields head body = HasCounts fields head × ¬ HasRanges head body
 Refuses fault.BufferTooShort fields head body = HasParts fields head body × ¬ HasBytes fields head body
 Refuses fault.BadNullCount fields head body = HasParts fields head body × ¬ HasNullCounts fields head body
 Refuses fault.BadOffsets fields head body = HasParts fields head body × ¬ HasOrder fields head body

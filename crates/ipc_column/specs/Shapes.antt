@@ -53,19 +53,28 @@ buffer_at head body b = let range = slice_index_or head.buffers b (pos 0, pos 0)
 abbrev pub validity_at : Layout → BatchHead → List ℕ → ℕ → List ℕ
 validity_at l.Null head body b = []
 validity_at l.Unread head body b = []
-validity_at _ head body b = buffer_at head body b
+validity_at l.Bits head body b = buffer_at head body b
+validity_at (l.Numbers bits signed) head body b = buffer_at head body b
+validity_at (l.FixedBytes width) head body b = buffer_at head body b
+validity_at (l.VariableBytes utf8) head body b = buffer_at head body b
 
 -- its offsets
 abbrev pub offsets_at : Layout → BatchHead → List ℕ → ℕ → List ℕ
 offsets_at (l.VariableBytes utf8) head body b = buffer_at head body (b + 1)
-offsets_at _ head body b = []
+offsets_at l.Null head body b = []
+offsets_at l.Bits head body b = []
+offsets_at (l.Numbers bits signed) head body b = []
+offsets_at (l.FixedBytes width) head body b = []
+offsets_at l.Unread head body b = []
 
 -- its values
 abbrev pub values_at : Layout → BatchHead → List ℕ → ℕ → List ℕ
 values_at l.Null head body b = []
 values_at l.Unread head body b = []
 values_at (l.VariableBytes utf8) head body b = buffer_at head body (b + 2)
-values_at _ head body b = buffer_at head body (b + 1)
+values_at l.Bits head body b = buffer_at head body (b + 1)
+values_at (l.Numbers bits signed) head body b = buffer_at head body (b + 1)
+values_at (l.FixedBytes width) head body b = buffer_at head body (b + 1)
 
 -- the column of a field whose node is n and whose first buffer is b
 abbrev pub column_at : Layout → BatchHead → List ℕ → ℕ → ℕ → Column

@@ -2,13 +2,14 @@
 use Rattle.std.specs.Prelude.{length}
 use Rattle.ipc_column.specs.declared.batch.Shared.{Shared}
 use Rattle.ipc_column.specs.Contents.{Contents}
+use Rattle.ipc_column.specs.Lending.{lent_of}
 use Rattle.ipc_column.specs.Tests.{Holds}
 use Rattle.ipc_column.specs.Values.{rows_of}
 use Rattle.ipc_column.specs.Views.{columns}
 
 -- the rows of its columns, and its numbers
 abbrev pub contents_of : Shared → Contents
-contents_of s = record { rows = rows_of (columns s.body.items s.parts.items) s.count; columns = length s.parts.items; body_len = length s.body.items; tests = s.slot_tests }
+contents_of s = record { rows = rows_of (columns s.body.items s.parts.items) s.count; columns = length s.parts.items; lent = lent_of (columns s.body.items s.parts.items); body_len = length s.body.items; tests = s.slot_tests }
 
 -- its columns have so many rows
 abbrev pub HasRows : Shared → Type 0

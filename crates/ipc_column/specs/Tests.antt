@@ -61,6 +61,17 @@ head_passes cause.BadNode shape head size = is_slot_count head.length && all is_
 head_passes cause.BufferOutOfBody shape head size = all (lies_in size) head.buffers
 head_passes _ shape head size = true
 
+-- the head has as many nodes and buffers as the fields need
+pub record CountsHold (shape : Shape) (head : BatchHead) (size : ℕ) : Type 0 where
+  pub nodes : head_passes cause.WrongNodeCount shape head size ≡ true
+  pub buffers : head_passes cause.WrongBufferCount shape head size ≡ true
+
+-- a cause that is answered only where the head has
+abbrev pub IsCounted : Cause → Shape → BatchHead → ℕ → Type 0
+IsCounted cause.BadNode shape head size = CountsHold shape head size
+IsCounted cause.BufferOutOfBody shape head size = CountsHold shape head size
+IsCounted _ shape head size = ⊤
+
 -- a bitmap of so many bytes has n bits, or is absent
 abbrev pub has_bitmap : ℕ → ℕ → Bool
 has_bitmap n bytes = bytes == 0 || nat_le ((n + 7) / 8) bytes
@@ -149,8 +160,8 @@ HeadHolds shape head body = (why : Cause) → head_passes why shape head (length
 abbrev pub Failing : Fault → Shape → BatchHead → List ℕ → Type 0
 Failing fault.WrongNodeCount shape head body = fits shape head body cause.WrongNodeCount ≡ false
 Failing fault.WrongBufferCount shape head body = fits shape head body cause.WrongBufferCount ≡ false
-Failing fault.BadNode shape head body = (head_passes cause.WrongNodeCount shape head (length body) ≡ true) × (fits shape head body cause.BadNode ≡ false)
-Failing fault.BufferOutOfBody shape head body = fits shape head body cause.BufferOutOfBody ≡ false
+Failing fault.BadNode shape head body = CountsHold shape head (length body) × (fits shape head body cause.BadNode ≡ false)
+Failing fault.BufferOutOfBody shape head body = CountsHold shape head (length body) × (fits shape head body cause.BufferOutOfBody ≡ false)
 Failing fault.BufferTooShort shape head body = HeadHolds shape head body × (fits shape head body cause.BufferTooShort ≡ false)
 Failing fault.BadNullCount shape head body = HeadHolds shape head body × (fits shape head body cause.BadNullCount ≡ false)
 Failing fault.BadOffsets shape head body = HeadHolds shape head body × (fits shape head body cause.BadOffsets ≡ false)

@@ -1,4 +1,4 @@
-ghost use Rattle.std.specs.Prelude.{◌≡◌, ◌≤◌, ◌<◌, length, true, List, [], IfOk, IfErr, IfSome, MatchResult, Some, slice_get, slice_index_or};
+ghost use Rattle.std.specs.Prelude.{◌≡◌, ◌≤◌, ◌<◌, length, true, false, List, [], IfOk, IfErr, IfSome, is_some, MatchResult, Some, slice_get, slice_index_or};
 ghost use Rattle.ipc_model.specs.declared.value.Value.{Value};
 ghost use Rattle.ipc_model.specs.WellFormed.{entries, max_fields};
 ghost use Rattle.ipc_meta.specs.Open.{are_open};
@@ -7,7 +7,7 @@ ghost use Rattle.ipc_column.specs.Shapes.{shape_of, nodes_in, columns_of, cut};
 ghost use Rattle.ipc_column.specs.Rows.{Rows, Refuses, IsOneList};
 ghost use Rattle.ipc_column.specs.Sharing.{contents_of, HasRows};
 ghost use Rattle.ipc_column.specs.Tests.{Passing, Failing};
-ghost use Rattle.ipc_column.specs.Lending.{AreNumbers};
+ghost use Rattle.ipc_column.specs.Lending.{AreNumbers, lent_of};
 ghost use Rattle.ipc_column.specs.Values.{cell_value};
 
 use crate::cell::{Cell, cell_in};
@@ -76,6 +76,7 @@ fn read(alloc: Global, fields: &[Field], head: &BatchHead, body: Vec<u8>) -> Res
     requires { nodes_in (shape_of fields.now) ≤ 65536 }
     ensures passing { IfOk result (λ batch. Passing (shape_of fields.now) head.now body.items batch.rows) }
     ensures columns { IfOk result (λ batch. batch.columns ≡ length fields.now) }
+    ensures lent { IfOk result (λ batch. batch.lent ≡ lent_of (cut (shape_of fields.now) head.now body.items 0 0)) }
     ensures body { IfOk result (λ batch. batch.body_len ≡ length body.items) }
     ensures texts { IfOk result (λ batch. batch.tests ≤ texts_in (cut (shape_of fields.now) head.now body.items 0 0)) }
     ensures slots { IfOk result (λ batch. batch.tests ≤ slots_in head.now.nodes) }
@@ -134,6 +135,8 @@ impl Batch {
         // A refusal is true of the parts.
         ensures refused { IfErr result (λ fault. Refuses fault fields.value.items head body.items) }
         ensures columns { IfOk result (λ batch. batch.columns ≡ length fields.value.items) }
+        // Lent as they lie are the columns of signed 64-bit numbers without a validity bitmap.
+        ensures lent { IfOk result (λ batch. batch.lent ≡ lent_of (columns_of fields.value.items head body.items)) }
         ensures body { IfOk result (λ batch. batch.body_len ≡ length body.items) }
         // No slot is visited but those of texts, and each of them once at most.
         ensures texts { IfOk result (λ batch. batch.tests ≤ texts_in (columns_of fields.value.items head body.items)) }
@@ -181,11 +184,14 @@ impl Batch {
     }
 
     /// The values of a column of signed 64-bit integers that has no validity bitmap, lent as they lie in the body: eight bytes for each row, the lowest
-    /// first (Arrow Columnar Format, "Fixed-size Primitive Layout"). None where the column has to be read by `cell`. The caller gives a column below
+    /// first (Arrow Columnar Format, "Fixed-size Primitive Layout"). Dates in milliseconds and timestamps are such integers too. None for every other
+    /// column: it is read by `cell`. The caller gives a column below
     /// `columns`.
     pub fn numbers(&self, column: usize) -> Option<&[u8]>
         requires { column < self.now.columns }
-        ensures { IfSome result (λ values. AreNumbers self.now.rows column values.now) }
+        // It lends exactly the columns that `check` found so.
+        ensures lent { is_some result ≡ slice_index_or self.now.lent column false }
+        ensures numbers { IfSome result (λ values. AreNumbers self.now.rows column values.now) }
     {
         let shared = self.shared.as_ref();
         numbers_in(&shared.body, &shared.parts, shared.count, column)

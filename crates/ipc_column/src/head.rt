@@ -1,5 +1,5 @@
 ghost use Rattle.std.specs.Prelude.{◌≡◌, ◌≤◌, true, IfErr};
-ghost use Rattle.ipc_column.specs.Tests.{Judges, all, is_slot_count, is_node, lies_in, head_passes};
+ghost use Rattle.ipc_column.specs.Tests.{Judges, IsCounted, all, is_slot_count, is_node, lies_in, head_passes};
 ghost use Rattle.ipc_column.specs.Shapes.{shape_of, nodes_in};
 
 use crate::cause::Cause;
@@ -53,7 +53,7 @@ fn lie_in(size: usize, buffers: &[(i64, i64)]) -> bool
 pub(crate) fn check_head(fields: &[Field], head: &BatchHead, size: usize) -> Result<(), Cause>
     requires { nodes_in (shape_of fields.now) ≤ 65536 }
     ensures judged { Judges result (λ why. head_passes why (shape_of fields.now) head.now size) }
-    ensures counted { IfErr result (λ why. why ≡ Cause.BadNode → head_passes Cause.WrongNodeCount (shape_of fields.now) head.now size ≡ true) }
+    ensures counted { IfErr result (λ why. IsCounted why (shape_of fields.now) head.now size) }
 {
     let wanted = count(fields, Place { node: 0, buffer: 0 });
     if head.nodes.len() != wanted.node {

@@ -1,5 +1,5 @@
 ghost use Rattle.std.specs.Prelude.{◌≡◌};
-ghost use Rattle.ipc_column.specs.Layouts.{type_layout, layout, own_buffers, number_bytes, has_validity, is_texts};
+ghost use Rattle.ipc_column.specs.Layouts.{type_layout, layout, own_buffers, number_bytes, has_validity, is_texts, is_signed_64};
 
 use ipc_model::schema::{DataType, DateUnit, Dictionary, IntBits};
 
@@ -91,6 +91,19 @@ pub(crate) fn is_texts(layout: Layout) -> bool
 {
     match layout {
         Layout::VariableBytes { utf8 } => utf8,
+        _ => false,
+    }
+}
+
+/// Whether each slot holds a signed number of 64 bits.
+pub(crate) fn is_signed_64(layout: Layout) -> bool
+    ensures { result ≡ is_signed_64 layout }
+{
+    match layout {
+        Layout::Numbers {
+            bits: IntBits::B64,
+            signed,
+        } => signed,
         _ => false,
     }
 }

@@ -1,30 +1,28 @@
-ghost use Rattle.std.specs.Prelude.{◌≡◌, ◌<◌, length, List, IfSome};
+ghost use Rattle.std.specs.Prelude.{◌≡◌, ◌<◌, length, List, IfSome, is_some, slice_index_or, false};
 ghost use Rattle.ipc_model.specs.declared.value.Value.{Value};
-ghost use Rattle.ipc_column.specs.Lending.{AreNumbers, AreValues};
+ghost use Rattle.ipc_column.specs.Lending.{AreNumbers, AreValues, is_lent, lent_of};
 ghost use Rattle.ipc_column.specs.Tests.{Holds};
 ghost use Rattle.ipc_column.specs.Values.{rows_of};
-ghost use Rattle.ipc_column.specs.Views.{columns};
+ghost use Rattle.ipc_column.specs.Views.{columns, own_column};
 
-use crate::layout::Layout;
+use crate::layout::is_signed_64;
 use crate::part::Part;
 use crate::span::bytes_at;
-use ipc_model::schema::IntBits;
 
 // The values of a part of signed 64-bit numbers without a bitmap.
-#[tactic(auto, using(crate::proofs::Lent::no_bytes))]
+#[tactic(auto, using(crate::proofs::Lent::wide, crate::proofs::Lent::no_bytes))]
 fn values_of<'a>(body: &'a [u8], part: &Part) -> Option<&'a [u8]>
-    ensures { IfSome result (λ values. AreValues body.now part.now values.now) }
+    ensures lent { is_some result ≡ is_lent (own_column body.now part.now) }
+    ensures values { IfSome result (λ values. AreValues body.now part.now values.now) }
 {
-    match part.layout {
-        Layout::Numbers {
-            bits: IntBits::B64,
-            signed: true,
-        } if part.validity.len == 0 => Some(bytes_at(body, part.values)),
-        _ => None,
+    if is_signed_64(part.layout) && bytes_at(body, part.validity).is_empty() {
+        Some(bytes_at(body, part.values))
+    } else {
+        None
     }
 }
 
-/// The numbers in a column of parts that give so many rows, where it has signed numbers of 64 bits and no bitmap.
+/// The numbers in a column of parts that give so many rows, exactly where it has signed numbers of 64 bits and no bitmap.
 pub(crate) fn numbers_in<'a>(
     body: &'a [u8],
     parts: &[Part],
@@ -33,7 +31,8 @@ pub(crate) fn numbers_in<'a>(
 ) -> Option<&'a [u8]>
     requires holds { Holds rows (columns body.now parts.now) }
     requires column { column < length parts.now }
-    ensures { IfSome result (λ values. AreNumbers (rows_of (columns body.now parts.now) rows) column values.now) }
+    ensures lent { is_some result ≡ slice_index_or (lent_of (columns body.now parts.now)) column false }
+    ensures numbers { IfSome result (λ values. AreNumbers (rows_of (columns body.now parts.now) rows) column values.now) }
 {
     values_of(body, &parts[column])
 }

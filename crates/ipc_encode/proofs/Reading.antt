@@ -29,7 +29,7 @@ use Rattle.ipc_column.specs.Facts.{IsNode, LiesIn, IsLongEnough, CountsNulls, Ha
 use Rattle.ipc_column.specs.Values.{row}
 use Rattle.ipc_column.specs.Rows.{Rows}
 use Rattle.ipc_encode.specs.declared.pieces.Slot.TheVariants.{Content}
-use Rattle.ipc_encode.specs.Cells.{cell, cells, nulls, slots, HasBits, SpellsOut}
+use Rattle.ipc_encode.specs.Cells.{cell, cells, nulls, slots, SpellsOut}
 use Rattle.ipc_encode.specs.Buffers as b
 use Rattle.ipc_encode.specs.Buffers.{layout_of, pieces, column_buffers, nodes_from, ranges_from, buffers_from, buffers_of, body_of, joined}
 use Rattle.ipc_encode.specs.Limits.{HasLongData, SomeLongData, IsWithin}
@@ -138,13 +138,12 @@ all_top (x ∷ xs) = (tt, all_top xs)
 
 -- what is known of a value beyond its fitting
 abbrev Known : Layout → Value-F Value → Type 0
-Known (l.Numbers bits signed) w = HasBits w
 Known (l.VariableBytes utf8) w = SpellsOut w
 Known _ w = ⊤
 
 known : (l : Layout) (vs : List Value) → AreStored l vs → AllByRecursion (λ v. Known l (out-Value v)) vs
-known (l.Numbers bits signed) vs h = h
 known (l.VariableBytes utf8) vs h = h
+known (l.Numbers bits signed) vs h = all_top vs
 known l.Null vs h = all_top vs
 known l.Bits vs h = all_top vs
 known (l.FixedBytes width) vs h = all_top vs
@@ -178,10 +177,10 @@ held (t.Date Day) nullable n Value-F.Null o h m = tt
 held (t.Date Day) nullable n (Value-F.Int z) o h m = h
 held (t.Date Day) nullable n _ o h m = absurd h
 held (t.Date Millisecond) nullable n Value-F.Null o h m = tt
-held (t.Date Millisecond) nullable n (Value-F.Int z) o h m = m
+held (t.Date Millisecond) nullable n (Value-F.Int z) o h m = h.0
 held (t.Date Millisecond) nullable n _ o h m = absurd h
 held (t.Timestamp unit timezone) nullable n Value-F.Null o h m = tt
-held (t.Timestamp unit timezone) nullable n (Value-F.Int z) o h m = m
+held (t.Timestamp unit timezone) nullable n (Value-F.Int z) o h m = h
 held (t.Timestamp unit timezone) nullable n _ o h m = absurd h
 
 all_held : (f : Field) (vs : List Value) → IsFlat f → AllByRecursion (IsOf f) vs → AreStored (layout_of f) vs → AllHeld (layout_of f) vs

@@ -2,7 +2,6 @@
 use Rattle.std.specs.Prelude.{ℕ, ◌+◌, Bool, true, false, not, List, [], ◌∷◌, ◌++◌, length, replicate, slice_index_or, if◌then◌else◌, ⊤}
 use Rattle.std.specs.Str.{IsUtf8}
 use Rattle.std.specs.Int.{w64, cast_unsigned, bytes_low_first}
-use Rattle.ipc_model.specs.Ranges.{IsSignedWithin, IsUnsignedWithin}
 use Rattle.ipc_model.specs.declared.value.Value.{Value, out-Value}
 use Rattle.ipc_model.specs.declared.value.Value.TheOpen.{Value-F}
 use Rattle.ipc_model.specs.declared.value.Value.TheVariants as v
@@ -97,12 +96,3 @@ SpellsOut _ = ⊤
 -- a text is UTF-8 (Schema.fbs, Utf8)
 abbrev pub IsSpelled : Value → Type 0
 IsSpelled value = SpellsOut (out-Value value)
-
-abbrev pub HasBits : Value-F Value → Type 0
-HasBits (Value-F.Int number) = IsSignedWithin 64 number
-HasBits (Value-F.UInt number) = IsUnsignedWithin 64 number
-HasBits _ = ⊤
-
--- a number has 64 bits
-abbrev pub IsNumber : Value → Type 0
-IsNumber value = HasBits (out-Value value)

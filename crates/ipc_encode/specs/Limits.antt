@@ -17,7 +17,11 @@ IsTooMany rows = 2 ^ 31 - 1 < length rows
 -- more bytes than an offset of 32 bits counts (Arrow Columnar Format, "Variable-size Binary Layout")
 abbrev pub HasLongData : Layout → List Value → Type 0
 HasLongData (l.VariableBytes utf8) values = 2 ^ 31 - 1 < length (slots Content values)
-HasLongData _ values = ⊥
+HasLongData l.Null values = ⊥
+HasLongData l.Bits values = ⊥
+HasLongData (l.Numbers bits signed) values = ⊥
+HasLongData (l.FixedBytes width) values = ⊥
+HasLongData l.Unread values = ⊥
 
 -- one of the columns from column j on has
 abbrev pub SomeLongData : ℕ → List Field → List (List Value) → Type 0

@@ -1,6 +1,6 @@
 ghost use Rattle.std.specs.Prelude.{◌≡◌, ◌≤◌, length, slice_index_or};
 ghost use Rattle.std.specs.Str.{IsUtf8};
-ghost use Rattle.ipc_encode.specs.Cells.{cells, is_set, nulls, number_bits, content, IsNumber, IsSpelled};
+ghost use Rattle.ipc_encode.specs.Cells.{cells, is_set, nulls, number_bits, content, IsSpelled};
 
 use crate::pieces::Flag;
 use ipc_model::table::Row;
@@ -25,8 +25,7 @@ pub(crate) fn is_set(value: &Value, flag: Flag) -> bool
 
 /// The bits of a number, in two's complement where it is signed.
 pub(crate) fn number_bits(value: &Value) -> u64
-    ensures bits { result ≡ number_bits value.now }
-    ensures number { IsNumber value.now }
+    ensures { result ≡ number_bits value.now }
 {
     match value {
         Value::Int(number) => number.cast_unsigned(),

@@ -2,7 +2,7 @@ ghost use Rattle.std.specs.Prelude.{◌≡◌, ◌≤◌, ◌<◌, ◌+◌, ◌-
 ghost use Rattle.std.specs.List.{AllByRecursion};
 ghost use Rattle.ipc_encode.specs.Bitmaps.{flags_number, bitmap};
 ghost use Rattle.ipc_encode.specs.Buffers.{piece_bytes};
-ghost use Rattle.ipc_encode.specs.Cells.{cells, flags, slot_bytes, slots, offsets, IsNumber};
+ghost use Rattle.ipc_encode.specs.Cells.{cells, flags, slot_bytes, slots, offsets};
 ghost use Rattle.ipc_encode.specs.Writing.{IsRefusedAt, Shows};
 
 use crate::cells::{content, count_nulls, is_set, number_bits, value_at};
@@ -52,8 +52,7 @@ fn write_flags(
 
 // Appends the low bytes of a value's number.
 fn write_number(body: &mut Vec<u8>, value: &Value, bits: IntBits) -> Result<(), AllocError>
-    ensures ok { OnOk result (body.new.items ≡ body.old.items ++ slot_bytes (Slot.Number bits) value.now) }
-    ensures number { IsNumber value.now }
+    ensures { OnOk result (body.new.items ≡ body.old.items ++ slot_bytes (Slot.Number bits) value.now) }
 {
     let bytes = number_bits(value).to_le_bytes();
     match bits {

@@ -104,10 +104,59 @@ fn rows_that_do_not_fit(rt: HostRuntime) -> Result<(), Fail> {
     for (first, second, cause) in cases {
         assert_eq!(rt; cause_of(judged(alloc, first, second)?), Some(cause));
     }
-    let part_of_a_day = pair(alloc, Value::Int(1), Value::Text(text(alloc, "a")?))?;
+    Ok(())
+}
+
+// What the writer says of this value alone in a row with this number, where it doesn't fit a column of this type.
+fn refused_alone(
+    alloc: Global,
+    kind: DataType,
+    value: Value,
+    row: u64,
+) -> Result<Option<WriteFault>, Fault> {
+    let mut fields = Vec::new(alloc);
+    fields.push(field(alloc, "alone", true, kind)?)?;
+    let schema = Schema {
+        fields: Items::from_vec(fields),
+        metadata: Items::from_vec(Vec::new(alloc)),
+    };
+    schema.check(alloc)?;
+    match conforms(&schema, &[value]) {
+        Ok(()) => Ok(None),
+        Err(fault) => Ok(Some(fault.at_row(row))),
+    }
+}
+
+fn unsigned_byte() -> DataType {
+    DataType::Int {
+        bits: IntBits::B8,
+        signed: false,
+    }
+}
+
+#[test]
+fn numbers_out_of_range(rt: HostRuntime) -> Result<(), Fail> {
+    let alloc = rt.alloc();
+    assert!(rt; refused_alone(alloc, unsigned_byte(), Value::UInt(255), 0)?.is_none());
+    let byte = refused_alone(alloc, unsigned_byte(), Value::UInt(256), 2)?.ok_or("a refusal")?;
     assert_eq!(rt;
-        cause_of(judged(alloc, Value::Int(1), part_of_a_day)?),
-        Some(RowCause::OutOfRange)
+        format!(in alloc; "{byte}")?.as_str(),
+        "W4 OutOfRange at row 2 path 0"
+    );
+    let day = DataType::Date(DateUnit::Millisecond);
+    let date = refused_alone(alloc, day, Value::Int(1), 5)?.ok_or("a refusal")?;
+    assert_eq!(rt;
+        format!(in alloc; "{date}")?.as_str(),
+        "W4 OutOfRange at row 5 path 0"
+    );
+    let part_of_a_day = pair(alloc, Value::Int(1), Value::Text(text(alloc, "a")?))?;
+    let inside = judged(alloc, Value::Int(1), part_of_a_day)?
+        .err()
+        .ok_or("a refusal")?
+        .at_row(1);
+    assert_eq!(rt;
+        format!(in alloc; "{inside}")?.as_str(),
+        "W4 OutOfRange at row 1 path 1.0"
     );
     Ok(())
 }
@@ -137,6 +186,13 @@ fn schemas_that_are_refused(rt: HostRuntime) -> Result<(), Fail> {
     let second = field(alloc, "second", true, DataType::Bool)?;
     wide.fields = items(alloc, first, second)?;
     assert_eq!(rt; wide.check(alloc), Err(SchemaFault::BadChildren(1)));
+    let mut list = field(alloc, "list", true, DataType::List)?;
+    let inner = field(alloc, "inner", true, DataType::Bool)?;
+    let other = field(alloc, "other", true, DataType::Bool)?;
+    list.children = items(alloc, inner, other)?;
+    let first = field(alloc, "first", true, DataType::Bool)?;
+    wide.fields = items(alloc, first, list)?;
+    assert_eq!(rt; wide.check(alloc), Err(SchemaFault::BadChildren(2)));
     assert_eq!(rt;
         Fault::from(SchemaFault::BadChildren(1)),
         Fault::BadChildren

@@ -32,7 +32,7 @@ returns-in_err-check_head-clause-failing c =
     exits c.from_residual.result _ (shape_of c.args.fields.now) c.args.head.now c.args.body.items c.from_residual.ensures.1
     (head_failing c.in_err-check_head.field-0.0 (shape_of c.args.fields.now) c.args.head.now c.args.body.items
     (rw (c.len.ensures ∙ c.args.body.ok.0) at c.in_err-check_head.ensures.judged)
-    c.in_err-check_head.ensures.counted)
+    (rw (c.len.ensures ∙ c.args.body.ok.0) at c.in_err-check_head.ensures.counted))
 
 pub returns-in_err-slot_tests-clause-failing : goal.returns-in_err-slot_tests-clause-failing
 returns-in_err-slot_tests-clause-failing c =
