@@ -1,4 +1,5 @@
 pub mod Runs
+pub mod Dictionaries
 pub mod OneReading
 pub mod FromMemory
 pub mod Intakes

@@ -72,7 +72,7 @@ stop_refused : (σ : State) (z b : List ℕ) (e : Fault) → σ ≢ None → IsS
 stop_refused σ z b e o s (early r) = stop_early z b s e r
 stop_refused σ z b e o s (no_schema fr q none is other) = o none
 stop_refused σ z b e o s (second_schema p t m body q is frame) = stop_frame z b s m body (h.Schema t) frame
-stop_refused σ z b e o s (dictionary p id d m body q is frame) = stop_frame z b s m body (h.Dictionary id d) frame
+stop_refused σ z b e o s (dictionary p id d m body q is none frame) = stop_frame z b s m body (h.Dictionary id d) frame
 stop_refused σ z b e o s (no_rows p d m body is frame refuses) = stop_frame z b s m body (h.Batch d) frame
 
 pub stop_breaks : (σ : State) (z b : List ℕ) (e : Fault) → σ ≢ None → IsStop (z ++ b) → Breaks σ z (Some b) e → IsAside e
@@ -135,7 +135,7 @@ module _ (σ τ : State) (x m body u z b : List ℕ) (g : Head) (es : List Event
   message_refused e (early r) = absurd (message_early e r)
   message_refused e (no_schema fr q none is other) = absurd (message_schema fr none is other)
   message_refused e (second_schema o s l c q is k) = absurd (no_schema_batch o s c (message_batch (h.Schema s) l c o is k))
-  message_refused e (dictionary o id d l c q is k) = absurd (no_dictionary_batch o id d c (message_batch (h.Dictionary id d) l c o is k))
+  message_refused e (dictionary o id d l c q is none k) = absurd (no_dictionary_batch o id d c (message_batch (h.Dictionary id d) l c o is k))
   message_refused e (no_rows o d l c is k r) = batch_refused o d c e (message_batch (h.Batch d) l c o is k) r
 
   message_pending : (k : ℕ) → IsAtEnd (Some b) → Pending z k → ⊥

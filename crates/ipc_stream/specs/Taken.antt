@@ -20,7 +20,7 @@ use Rattle.ipc_stream.specs.declared.reading.Next.TheVariants as next
 use Rattle.ipc_stream.specs.declared.scope.Scope.{Scope}
 use Rattle.ipc_stream.specs.Stream.{Open, Event, schema, batch, Run, events_of}
 use Rattle.ipc_stream.specs.Readable.{IsReadable}
-use Rattle.ipc_stream.specs.Reasons.{IsAside, IsNoSchema, Wanted, Reads}
+use Rattle.ipc_stream.specs.Reasons.{IsAside, IsNoSchema, NamesNone, Wanted, Reads}
 
 -- a count that stops at 2^64 - 1
 abbrev pub count_up : ℕ → ℕ → ℕ
@@ -103,7 +103,7 @@ pub record TakesScope (old new : Option (List ℕ)) (count_old count_new : ℕ) 
 abbrev pub RefusesNext : Schema → Framed → Fault → Type 0
 RefusesNext s f.End fault = ⊥
 RefusesNext s (f.Message meta (h.Schema t) body) fault = fault ≡ SecondSchema
-RefusesNext s (f.Message meta (h.Dictionary id b) body) fault = fault ≡ UnknownDictionary
+RefusesNext s (f.Message meta (h.Dictionary id b) body) fault = (fault ≡ UnknownDictionary) × NamesNone id s
 RefusesNext s (f.Message meta (h.Batch b) body) fault = RefusesRows fault s.fields b body.items
 
 -- a message with the rows of this batch, or the end mark, or neither

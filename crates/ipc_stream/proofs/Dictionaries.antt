@@ -1,0 +1,66 @@
+-- Fields whose columns are read name no dictionary.
+use Rattle.std.proofs.Common.{◌≡◌, ◌≢◌, ◌∙◌, refl, sym, ap, subst, ℕ, ◌+◌, ◌⊎◌, inl, inr, Bool, true, List, [], ◌∷◌, ◌++◌, map, Option, Some, None}
+use Rattle.std.specs.Prelude.{ℤ}
+use Rattle.std.proofs.lemmas.Bool.{and_parts}
+use Rattle.ipc_model.specs.Meaning.{IsAmong}
+use Rattle.ipc_model.specs.WellFormed.{Entry, Listing, all_at, entries, preorder, preorder_step}
+use Rattle.ipc_model.specs.declared.schema.DataType.{DataType}
+use Rattle.ipc_model.specs.declared.schema.Dictionary.{Dictionary}
+use Rattle.ipc_model.specs.declared.schema.Field.{Field, fold-roll-Field, ind-Field, map-Field, roll-Field}
+use Rattle.ipc_model.specs.declared.schema.Field.TheOpen.{Field-F}
+use Rattle.ipc_model.specs.declared.schema.Schema.{Schema}
+use Rattle.ipc_meta.specs.Open.{all_true, are_open, is_open, is_open_field, open_step}
+use Rattle.ipc_stream.specs.Reasons.{NamesNone}
+
+-- no entry of the list has a dictionary
+abbrev Plain : List Entry → Type 0
+Plain es = (e : Entry) → IsAmong e es → e.dictionary ≡ None
+
+plain_both : (xs ys : List Entry) → Plain xs → Plain ys → Plain (xs ++ ys)
+plain_both [] ys p q = q
+plain_both (x ∷ xs) ys p q = go
+  where
+    go : Plain ((x ∷ xs) ++ ys)
+    go e (inl here) = p e (inl here)
+    go e (inr later) = plain_both xs ys (λ a among. p a (inr among)) q e later
+
+plain_first : (x : Entry) (xs : List Entry) → x.dictionary ≡ None → Plain xs → Plain (x ∷ xs)
+plain_first x xs none p e (inl here) = ap (λ a. a.dictionary) (sym here) ∙ none
+plain_first x xs none p e (inr later) = p e later
+
+no_dictionary : (kind : DataType) (d : Option Dictionary) → is_open kind d ≡ true → d ≡ None
+no_dictionary kind None h = refl
+no_dictionary kind (Some d) h = absurd (cc)
+
+abbrev IsPlain : Field → Type 0
+IsPlain f = is_open_field f ≡ true → (d : ℕ) → Plain (preorder f d)
+
+abbrev Shown : Type 0
+Shown = (f : Field) × IsPlain f
+
+children_plain : (d : ℕ) (cs : List Shown) → all_true (map is_open_field (map (λ c. c.0) cs)) ≡ true → Plain (all_at d (map preorder (map (λ c. c.0) cs)))
+children_plain d [] h e among = absurd among
+children_plain d (c ∷ cs) h =
+    let parts = and_parts (is_open_field c.0) (all_true (map is_open_field (map (λ x. x.0) cs))) h in
+    plain_both (preorder c.0 d) (all_at d (map preorder (map (λ x. x.0) cs))) (c.1 parts.0 d) (children_plain d cs parts.1)
+
+roll_plain : (x : Field-F Field) (y : Field-F Shown) → map-Field Shown Field (λ c. c.0) y ≡ x → IsPlain (roll-Field x)
+roll_plain x y is = subst (λ z. IsPlain (roll-Field z)) is (λ h d.
+    let z = map-Field Shown Field (λ c. c.0) y in
+    let parts = and_parts (is_open z.kind z.dictionary) (all_true (map is_open_field z.children)) (sym (fold-roll-Field Bool open_step z) ∙ h) in
+    let layer = map-Field Field Listing preorder z in
+    let below = children_plain (d + 1) y.children parts.1 in
+    subst (λ (l : Listing). Plain (l d)) (sym (fold-roll-Field Listing preorder_step z)) (plain_first _ _ (no_dictionary z.kind z.dictionary parts.0) below))
+
+field_plain : (f : Field) → IsPlain f
+field_plain = ind-Field IsPlain roll_plain
+
+fields_plain : (fs : List Field) → are_open fs ≡ true → Plain (entries fs)
+fields_plain [] h e among = absurd among
+fields_plain (f ∷ fs) h =
+    let parts = and_parts (is_open_field f) (are_open fs) h in
+    plain_both (preorder f 1) (all_at 1 (map preorder fs)) (field_plain f parts.0 1) (fields_plain fs parts.1)
+
+pub open_names_none : (s : Schema) (id : ℤ) → are_open s.fields ≡ true → NamesNone id s
+open_names_none s id h e among d some same =
+    let none : Some d ≡ None = sym some ∙ fields_plain s.fields h e among in absurd (cc)
