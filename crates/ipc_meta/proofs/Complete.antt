@@ -4,24 +4,20 @@ use Rattle.std.specs.Prelude.{sum_by, Option, Ok}
 use Rattle.std.specs.List.{AllByRecursion}
 use Rattle.std.proofs.lemmas.List.Sums.{sum_by-append, sum_by-cons}
 use Rattle.ipc_flat.specs.Views.{Table, table_from, field}
-use Rattle.ipc_model.specs.Answers.{◌>>=◌}
 use Rattle.ipc_model.specs.Meaning.{IsFine}
 use Rattle.ipc_model.specs.WellFormed.{Entry, Listing, entry_of, preorder, preorder_step, all_at, entries, pair_text, kind_text}
 use Rattle.ipc_model.specs.declared.schema.DataType.{DataType}
-use Rattle.ipc_model.specs.declared.schema.Dictionary.{Dictionary}
 use Rattle.ipc_model.specs.declared.schema.Field.{Field, roll-Field, out-Field, ind-Field, fold-roll-Field, fold_out-Field, map-Field}
 use Rattle.ipc_model.specs.declared.schema.Field.TheOpen.{Field-F}
 use Rattle.ipc_model.specs.declared.schema.Schema.{Schema}
 use Rattle.ipc_meta.specs.declared.budget.Budget.{Budget}
 use Rattle.ipc_meta.specs.declared.head.BatchHead.{BatchHead}
 use Rattle.ipc_meta.specs.Budgets.{less_fields, less_text, less_pairs}
-use Rattle.ipc_meta.specs.Lifts.{lift}
-use Rattle.ipc_meta.specs.Open.{is_open}
-use Rattle.ipc_meta.specs.Tables.{text_at, code_at, type_at, type_in, dictionary_at}
+use Rattle.ipc_meta.specs.Tables.{text_at, type_at}
 use Rattle.ipc_meta.specs.Fields.{TablesAt, VectorAt, PairAt, FieldAt, SchemaAt}
 use Rattle.ipc_meta.specs.Heads.{BatchAt}
-use Rattle.ipc_meta.specs.Reading.{batch_read, each, text_read, pair_read, pairs_read, type_read, stored_at, fields_read, field_read}
-use Rattle.ipc_meta.proofs.Sound.{bind_ok, field_roll}
+use Rattle.ipc_meta.specs.Reading.{batch_read, each, text_read, pair_read, pairs_read, type_read, fields_read, field_read}
+use Rattle.ipc_meta.proofs.Sound.{field_roll}
 
 -- so many fields, bytes of text and pairs
 abbrev pub budget : ℕ → ℕ → ℕ → Budget
@@ -81,19 +77,11 @@ pairs_complete t k ps a b c m q h e f =
     let many = tables_many PairAt h.0.bytes ps h.0.at h.0.len h.2 in
     rw (h.1, less_pairs_is h.0.len a b c q (omega arith), each_pair h.0.bytes ps h.0.at h.0.len a b q m h.2 e) refl
 
--- ---- the type and the dictionary
+-- ---- the type
 
 type_complete : (t : Table) (κ : DataType) (a b c m : ℕ) → type_at t ≡ Ok κ → kind_text κ + m ≡ b → type_read t (budget a b c) ≡ Ok (κ, budget a m c)
 unfolding type_read
 type_complete t κ a b c m h e = rw (h, less_text_is (kind_text κ) a b c m e) refl
-
-coded : (t : Table) (κ : DataType) → type_at t ≡ Ok κ → (code : ℕ) × (code_at t ≡ Ok code)
-unfolding type_at
-coded t κ h = let c = bind_ok (code_at t) (λ code. lift (field t 3 table_from) >>= type_in code) κ h in (c.0, c.1)
-
-stored_complete : (t : Table) (κ : DataType) (o : Option Dictionary) → type_at t ≡ Ok κ → dictionary_at t ≡ Ok o → is_open κ o ≡ true → stored_at t κ ≡ Ok o
-unfolding stored_at
-stored_complete t κ o h d is = let c = coded t κ h in rw (d, c.1, is) refl
 
 -- ---- entries
 
@@ -129,12 +117,12 @@ many_entries (f ∷ fs) d = omega (arith, length-append (preorder f d) (all_at d
 abbrev Counted : List Entry → ℕ → ℕ → ℕ → ℕ → ℕ → ℕ → ℕ → Type 0
 Counted es n a b c r m q = (length es + r ≡ a + n) × (text_of es + m ≡ b) × (pairs_of es + q ≡ c)
 
-abbrev IsRead : Field → Type 0
-IsRead f = (n d : ℕ) (t : Table) (a b c r m q : ℕ) → FieldAt f t → n + d ≡ 65 → Within 64 (preorder f d) → Counted (preorder f d) 1 a b c r m q
+abbrev IsReadBack : Field → Type 0
+IsReadBack f = (n d : ℕ) (t : Table) (a b c r m q : ℕ) → FieldAt f t → n + d ≡ 65 → Within 64 (preorder f d) → Counted (preorder f d) 1 a b c r m q
     → field_read n t (budget a b c) ≡ Ok (f, budget r m q)
 
 abbrev Shown : Type 0
-Shown = (f : Field) × IsRead f
+Shown = (f : Field) × IsReadBack f
 
 abbrev fields_of : List Shown → List Field
 fields_of cs = map (λ c. c.0) cs
@@ -174,7 +162,7 @@ children_complete t k cs n d a b c r m q h deep w e =
     let e0 = e.0 in
     rw (h.1, less_fields_is h.0.len a b c (a - h.0.len) (omega arith), each_field h.0.bytes cs n d h.0.at h.0.len (a - h.0.len) b c r m q h.2 deep w (omega arith, e.1, e.2)) refl
 
-roll_read : (y : Field-F Shown) → IsRead (roll-Field (map-Field Shown Field (λ c. c.0) y))
+roll_read : (y : Field-F Shown) → IsReadBack (roll-Field (map-Field Shown Field (λ c. c.0) y))
 unfolding field_read
 roll_read y zero d t a b c r m q h deep w e =
     let z : Field-F Field = map-Field Shown Field (λ c. c.0) y in
@@ -194,13 +182,12 @@ roll_read y (suc n) d t a b c r m q h deep w e =
     let e2 : length y.metadata + pairs_of below + q ≡ c = ap (λ k. k + q) (sym (sum_by-cons (λ e. e.pairs) head below)) ∙ counted.2 in
     let name = text_complete t 0 y.name a b c (kind_text y.kind + (pair_text y.metadata + (text_of below + m))) here.0 (omega arith) in
     let κ = type_complete t y.kind a (kind_text y.kind + (pair_text y.metadata + (text_of below + m))) c (pair_text y.metadata + (text_of below + m)) here.2 refl in
-    let o = stored_complete t y.kind y.dictionary here.2 here.3 here.4 in
-    let ps = pairs_complete t 6 y.metadata a (pair_text y.metadata + (text_of below + m)) c (text_of below + m) (pairs_of below + q) here.5 refl (omega arith) in
-    let cs = children_complete t 5 y.children n (d + 1) a (text_of below + m) (pairs_of below + q) r m q here.6 (omega arith) g.1 (omega arith, refl, refl) in
-    rw (name, here.1, κ, o, ps, cs) refl
+    let ps = pairs_complete t 6 y.metadata a (pair_text y.metadata + (text_of below + m)) c (text_of below + m) (pairs_of below + q) here.4 refl (omega arith) in
+    let cs = children_complete t 5 y.children n (d + 1) a (text_of below + m) (pairs_of below + q) r m q here.5 (omega arith) g.1 (omega arith, refl, refl) in
+    rw (name, here.1, κ, here.3, ps, cs) refl
 
-pub field_complete : (f : Field) → IsRead f
-field_complete = ind-Field IsRead (λ x y is. subst (λ z. IsRead (roll-Field z)) is (roll_read y))
+pub field_complete : (f : Field) → IsReadBack f
+field_complete = ind-Field IsReadBack (λ x y is. subst (λ z. IsReadBack (roll-Field z)) is (roll_read y))
 
 shown : List Field → List Shown
 shown fs = map (λ f. (f, field_complete f)) fs

@@ -64,11 +64,11 @@ module _ (b : List ℕ) (s : Table) where
         deep = deep;
         kind = here.2;
         dictionary = here.3;
-        elements = here.6.0;
-        vector = here.6.1;
-        many = tables_are FieldAt here.6.0.bytes (fields_of y.children) here.6.0.at here.6.0.len here.6.2 ∙ sym (length-map (fields_of y.children) preorder);
+        elements = here.5.0;
+        vector = here.5.1;
+        many = tables_are FieldAt here.5.0.bytes (fields_of y.children) here.5.0.at here.5.0.len here.5.2 ∙ sym (length-map (fields_of y.children) preorder);
       } in
-      let below = each_told here.6.0.bytes y.children (d + 1) here.6.0.at here.6.0.len here.6.2 (λ i u l at. (of_child has (here.6.0, i, here.6.1, l, at), one_deeper deep (here.6.0, i, here.6.1, l, at))) in
+      let below = each_told here.5.0.bytes y.children (d + 1) here.5.0.at here.5.0.len here.5.2 (λ i u l at. (of_child has (here.5.0, i, here.5.1, l, at), one_deeper deep (here.5.0, i, here.5.1, l, at))) in
       subst (λ (l : Listing). AllByRecursion (Told b s) (l d)) (sym rolled) (entry, below)
 
   pub field_told : (f : Field) → IsTold f

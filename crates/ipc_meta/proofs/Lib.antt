@@ -2,13 +2,13 @@ pub mod Each
 pub mod Steps
 pub mod Sound
 pub mod Numbers
-pub mod Opens
 pub mod Complete
 pub mod Unique
 pub mod Empty
 pub mod Texts
 pub mod Refused
 pub mod RefusedTypes
+pub mod GoodTypes
 pub mod Spent
 pub mod RefusedFields
 pub mod Entries

@@ -1,7 +1,8 @@
 -- Which fields are open.
-use Rattle.std.proofs.Common.{◌≡◌, ◌∙◌, refl, ap, Bool, ◌&&◌, List, [], ◌∷◌, map}
+use Rattle.std.proofs.Common.{◌≡◌, ◌∙◌, refl, ap, sym, subst, ℕ, zero, suc, ◌<◌, Bool, true, false, ◌&&◌, List, [], ◌∷◌, map, length, get_or, Option, None, Some, arith}
+use Rattle.std.specs.Prelude.{MatchOption}
 use Rattle.ipc_model.specs.declared.schema.Field.{Field, out-Field, fold_out-Field}
-use Rattle.ipc_meta.specs.Open.{is_open, is_open_field, open_step, all_true, are_open}
+use Rattle.ipc_meta.specs.Open.{is_open, is_open_field, open_step, all_true, are_open, HasUnread, below, behind}
 
 -- the fields of a list are open where each is
 all_open : (fields : List Field) → all_true (map is_open_field fields) ≡ are_open fields
@@ -11,3 +12,32 @@ all_open (f ∷ fs) = ap (λ b. is_open_field f && b) (all_open fs)
 -- a field is open where its own type is and its children are
 pub field_out : (f : Field) → is_open_field f ≡ (is_open (out-Field f).kind (out-Field f).dictionary && are_open (out-Field f).children)
 field_out f = fold_out-Field Bool open_step f ∙ ap (λ b. is_open (out-Field f).kind (out-Field f).dictionary && b) (all_open (out-Field f).children)
+
+-- what is told of fields, whose type's code is this where one of them is not read
+abbrev pub Judged : Option ℕ → List Field → Type 0
+Judged o fs = MatchOption o (are_open fs ≡ true) (λ code. (are_open fs ≡ false) × HasUnread code fs)
+
+abbrev pub JudgedAt : Option ℕ → Field → Type 0
+JudgedAt o f = MatchOption o (is_open_field f ≡ true) (λ code. (is_open_field f ≡ false) × ((fs : List Field) → HasUnread code (f ∷ fs)))
+
+pub closed_itself : (f : Field) → is_open (out-Field f).kind (out-Field f).dictionary ≡ false → is_open_field f ≡ false
+closed_itself f h = field_out f ∙ ap (λ b. b && are_open (out-Field f).children) h
+
+and_false : (b c : Bool) → c ≡ false → (b && c) ≡ false
+and_false true c h = h
+and_false false c h = refl
+
+pub by_children : (f : Field) (o : Option ℕ) (cs : List Field) → is_open (out-Field f).kind (out-Field f).dictionary ≡ true → cs ≡ (out-Field f).children → Judged o cs → JudgedAt o f
+by_children f o cs h e j = go o (subst (λ xs. Judged o xs) e j)
+  where
+    go : (o : Option ℕ) → Judged o (out-Field f).children → JudgedAt o f
+    go None k = field_out f ∙ rw (h, k) refl
+    go (Some code) k = (field_out f ∙ and_false _ _ k.0, λ fs. below k.1)
+
+pub unread_there : (code : ℕ) (xs : List Field) (i : ℕ) (x : Field) → x ≡ get_or xs i x → i < length xs → is_open_field x ≡ false → ((fs : List Field) → HasUnread code (x ∷ fs)) → (are_open xs ≡ false) × HasUnread code xs
+unread_there code [] i x e h closed u = absurd (omega (arith, h))
+unread_there code (y ∷ ys) zero x e h closed u =
+    subst (λ z. (are_open (z ∷ ys) ≡ false) × HasUnread code (z ∷ ys)) e (ap (λ b. b && are_open ys) closed, u ys)
+unread_there code (y ∷ ys) (suc i) x e h closed u =
+    let rest = unread_there code ys i x e (omega (arith, h)) closed u in
+    (and_false _ _ rest.0, behind rest.1)

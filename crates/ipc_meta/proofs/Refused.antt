@@ -57,6 +57,10 @@ bad_flag b kind t k e has look h = step (lift (scalar t k 1 byte 0)) _ e h (bad_
 pub bad_table : (b : List ℕ) (kind : Kind) (t : Table) (k : ℕ) (e : Fault) → HasTable b kind t → LooksAt kind k table → lift (field t k table_from) ≡ Err e → Cause b e
 bad_table b kind t k e has look h = illegible b (field t k table_from) e h (λ i. absurd (no_table_in t k i)) (at_field has look)
 
+-- the value of a union
+pub bad_value : (b : List ℕ) (t : Table) (k : ℕ) (e : Fault) → (IsIllFormed (field t k table_from) → HasIllFormed b) → lift (field t k table_from) ≡ Err e → Cause b e
+bad_value b t k e ill h = illegible b (field t k table_from) e h (λ i. absurd (no_table_in t k i)) ill
+
 pub bad_text : (b : List ℕ) (kind : Kind) (t : Table) (k : ℕ) (e : Fault) → HasTable b kind t → LooksAt kind k text → lift (field t k text_of) ≡ Err e → Cause b e
 bad_text b kind t k e has look h = illegible b (field t k text_of) e h (at_text has look) (at_field has look)
 

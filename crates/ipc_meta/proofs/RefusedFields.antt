@@ -7,21 +7,20 @@ use Rattle.ipc_flat.specs.Views.{Table, Elements, table_from, field}
 use Rattle.ipc_model.specs.WellFormed.{kind_text, max_fields, max_text, max_pairs}
 use Rattle.ipc_model.specs.declared.fault.Fault.{Fault}
 use Rattle.ipc_model.specs.declared.fault.Fault.TheVariants as f
-use Rattle.ipc_model.specs.declared.schema.DataType.{DataType}
 use Rattle.ipc_model.specs.declared.schema.Field.{Field}
 use Rattle.ipc_meta.specs.declared.budget.Budget.{Budget}
 use Rattle.ipc_meta.specs.Budgets.{Reading, less_fields, less_text, less_pairs}
 use Rattle.ipc_meta.specs.Lifts.{lift}
-use Rattle.ipc_meta.specs.Tables.{text_at, flag_at, vector_at, type_at}
-use Rattle.ipc_meta.specs.Reading.{each, text_read, pair_read, pairs_read, type_read, stored_at, fields_read, field_read}
+use Rattle.ipc_meta.specs.Tables.{text_at, flag_at, vector_at, type_at, dictionary_at}
+use Rattle.ipc_meta.specs.Reading.{each, text_read, pair_read, pairs_read, type_read, fields_read, field_read}
 use Rattle.ipc_meta.specs.Reached as r
 use Rattle.ipc_meta.specs.Reached.{Kind, schema, column, key_value, text, tables, LooksAt, HasTable, Element, IsDeep, at_field}
 use Rattle.ipc_meta.specs.Totals.{or_zero, sum_tables, count_in, sum_in, text_in, pair_text_in, own_text, tree, fields_stated, text_stated, pairs_stated}
 use Rattle.ipc_meta.specs.Causes.{Cause}
-use Rattle.ipc_meta.proofs.Sound.{bind_ok, lift_ok, left_parts}
+use Rattle.ipc_meta.proofs.Sound.{lift_ok}
 use Rattle.ipc_meta.proofs.Refused.{step, choose, illegible, bad_flag, bad_text, bad_vector}
 use Rattle.ipc_meta.proofs.Texts.{no_table_from}
-use Rattle.ipc_meta.proofs.RefusedTypes.{type_refused, stored_refused}
+use Rattle.ipc_meta.proofs.RefusedTypes.{type_refused, dictionary_refused}
 use Rattle.ipc_meta.proofs.Spent.{Spent, less_pairs_spent, less_fields_spent, text_spent, pair_spent, pairs_spent, type_spent, field_spent, sum_none, children_in, pairs_in}
 
 -- with what is left, and with so much still to come, the Schema table s states no less than was taken and is to come
@@ -131,14 +130,6 @@ counted_type_refused b s t left e hs room has h =
     let size : or_zero kind_text (type_at t) ≡ kind_text κ = ap (or_zero kind_text) i in
     step (less_text (kind_text κ) left) _ e h (text_counted b s (kind_text κ) left e hs (omega (arith, room, size))) (λ l j h. absurd (cc)))
 
-typed : (t : Table) (left : Budget) (x : DataType × Budget) → type_read t left ≡ Ok x → type_at t ≡ Ok x.0
-unfolding type_read
-typed t left x h =
-    let a = bind_ok (type_at t) _ x h in
-    let c = bind_ok (less_text (kind_text a.0) left) _ x a.2 in
-    let e = left_parts a.0 x.0 c.0 x.1 c.2 in
-    rw (← e.0) a.1
-
 fields_refused : (g : Table → Reading Field) (wa wb wc : Table → ℕ) (b : List ℕ) (s : Table) (kind : Kind) (t : Table) (k : ℕ) (left : Budget) (e : Fault) → HasTable b schema s → Takes g wa wb wc
     → Room s left (count_in t k + sum_in wa t k) (sum_in wb t k) (sum_in wc t k) → HasTable b kind t → LooksAt kind k tables
     → ((u : Table) (l : Budget) → Element t k u → Room s l (wa u) (wb u) (wc u) → g u l ≡ Err e → Cause b e) → fields_read g t k left ≡ Err e → Cause b e
@@ -169,7 +160,7 @@ field_refused b s (suc depth) n t left e hs room deep is has h =
     step (flag_at t 1) _ e h (bad_flag b column t 1 e has r.nullable) (λ nullable i h.
     step (type_read t name.1) _ e h (counted_type_refused b s t name.1 e hs (omega (arith, one.text)) has) (λ κ j h.
     let two : Room s κ.1 (count_in t 5 + wa) (words + wb) (count_in t 6 + wc) = later s name.1 κ.1 0 zone 0 _ _ _ _ _ _ one (type_spent t name.1 κ j) (omega arith) (omega arith) (omega arith) in
-    step (stored_at t κ.0) _ e h (stored_refused b t κ.0 e has (typed t name.1 κ j)) (λ d i h.
+    step (dictionary_at t) _ e h (dictionary_refused b t e has) (λ d i h.
     step (pairs_read t 6 κ.1) _ e h (pairs_refused b s column t 6 κ.1 e hs (record { fields = omega (arith, two.fields); text = omega (arith, two.text); pairs = omega (arith, two.pairs) }) has r.field_metadata (λ u at. r.of_field_pair has at)) (λ ps k h.
     let three : Room s ps.1 (count_in t 5 + wa) wb wc = later s κ.1 ps.1 0 words (count_in t 6) _ _ _ _ _ _ two (pairs_spent t 6 κ.1 ps k) (omega arith) (omega arith) (omega arith) in
     step (fields_read (field_read depth) t 5 ps.1) _ e h

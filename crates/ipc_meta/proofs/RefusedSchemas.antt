@@ -18,8 +18,9 @@ use Rattle.ipc_model.specs.declared.schema.Schema.{Schema}
 use Rattle.ipc_model.proofs.SameTypes.{same_itself}
 use Rattle.ipc_meta.specs.Fields.{VectorAt, FieldAt}
 use Rattle.ipc_meta.specs.Reached.{schema, HasTable}
-use Rattle.ipc_meta.specs.Causes.{Encodes, Cause, too_wide}
+use Rattle.ipc_meta.specs.Causes.{Encodes, Cause}
 use Rattle.ipc_meta.proofs.Refused.{choose}
+use Rattle.ipc_meta.proofs.GoodTypes.{good_type}
 use Rattle.ipc_meta.proofs.Entries.{Told, entries_told}
 use Rattle.ipc_meta.proofs.Totals.{Totals, schema_totals}
 use Rattle.ipc_meta.proofs.Sound.{fields_sound, field_sound}
@@ -111,7 +112,7 @@ text_refused b s a hs w h = (s, hs, ⊎_elim (λ m. inl (let t = w.text in omega
 entry_refused : (b : List ℕ) (s : Table) (a : Before) (e : Entry) (x : SchemaFault) → HasTable b schema s → Told b s e → AreEncoded b a.kinds → Within s (after a e) [] → fault_at a e ≡ Some x → Cause b (reader_fault x)
 entry_refused b s a e x hs h all w k =
     choose (not (has_good_type e.kind)) _ _ _ k
-    (λ i k. let same : check.BadType (a.fields + 1) ≡ x = cc in told same (too_wide (h.table, h.has, (e.kind, h.kind, good_test e.kind (is_false _ i))))) (λ i k.
+    (λ i k. absurd (good_test e.kind (is_false _ i) (good_type h.table e.kind h.kind))) (λ i k.
     choose (not (has_fitting_children e.kind e.children)) _ _ _ k
     (λ i k. let same : check.BadChildren (a.fields + 1) ≡ x = cc in
     let fits : has_fitting_children e.kind h.elements.len ≡ false = rw h.many (is_false _ i) in

@@ -7,16 +7,13 @@ use Rattle.ipc_scalar.specs.Flat.{text_of}
 use Rattle.ipc_flat.specs.Views.{Table, table_from, scalar, field}
 use Rattle.ipc_model.specs.declared.fault.Fault.{Fault}
 use Rattle.ipc_model.specs.declared.fault.Fault.TheVariants as f
-use Rattle.ipc_model.specs.declared.schema.DataType.{DataType}
 use Rattle.ipc_meta.specs.Lifts.{lift}
-use Rattle.ipc_meta.specs.Open.{is_open}
-use Rattle.ipc_meta.specs.Tables.{flag_at, bits_of, ok_or, unit_of, int_at, date_at, fixed_at, timestamp_at, type_of, type_in, code_at, type_at, index_in, index_at, dictionary_in, dictionary_at}
-use Rattle.ipc_meta.specs.Reading.{stored_at}
+use Rattle.ipc_meta.specs.Tables.{flag_at, bits_of, ok_or, unit_of, int_at, date_at, fixed_at, timestamp_at, type_of, type_in, is_type_code, when_type, code_at, type_at, index_in, index_at, dictionary_in, dictionary_at}
 use Rattle.ipc_meta.specs.Reached as r
 use Rattle.ipc_meta.specs.Reached.{Kind, schema, column, type_value, dictionary_encoding, index_type, number, tables, LooksAt, HasTable, Element}
-use Rattle.ipc_meta.specs.Causes.{Cause, IsNoType, other_width, other_date_unit, other_time_unit, negative_width, no_table, no_type, IsNoCode, no_code, not_open}
+use Rattle.ipc_meta.specs.Causes.{Cause, IsNoType, other_width, other_date_unit, other_time_unit, negative_width, no_table, no_type}
 use Rattle.ipc_meta.proofs.Sound.{lift_ok}
-use Rattle.ipc_meta.proofs.Refused.{step, choose, bad_number, bad_flag, bad_table, bad_text}
+use Rattle.ipc_meta.proofs.Refused.{step, choose, bad_number, bad_flag, bad_table, bad_value, bad_text}
 
 ok_or_err : {X : Type 0} (d e : Fault) (o : Option X) → ok_or d o ≡ Err e → (o ≡ None) × (d ≡ e)
 ok_or_err d e None h = (refl, cc)
@@ -46,9 +43,16 @@ timestamp_refused b t e has h bad =
     step (ok_or f.BadType (unit_of w)) _ e h (λ h. let p = ok_or_err f.BadType e (unit_of w) h in bad p.1 (other_time_unit (w, lift_ok (scalar t 0 2 int16 (pos 0)) w i, p.0))) (λ x j h.
     step (lift (field t 1 text_of)) _ e h (bad_text b (type_value 10) t 1 e has r.timezone) (λ g k h. absurd (cc))))
 
-type_of_refused : (b : List ℕ) (code : ℕ) (t : Table) (e : Fault) → HasTable b (type_value code) t → type_of code t ≡ Err e → (f.UnsupportedType code ≡ e → IsNoCode code → Cause b e) → Cause b e
+-- one code that a type has
+type_code_is : (code : ℕ) → is_type_code code ≡ true → (code == 1) ≡ false → (code == 2) ≡ false → (code == 4) ≡ false → (code == 5) ≡ false → (code == 6) ≡ false → (code == 8) ≡ false
+    → (code == 10) ≡ false → (code == 12) ≡ false → (code == 13) ≡ false → (code == 15) ≡ false → ⊥
+unfolding is_type_code
+type_code_is code h n1 n2 n4 n5 n6 n8 n10 n12 n13 n15 =
+    let none : false ≡ true = rw (n1, n2, n4, n5, n6, n8, n10, n12, n13, n15) at h in cc
+
+type_of_refused : (b : List ℕ) (code : ℕ) (t : Table) (e : Fault) → is_type_code code ≡ true → HasTable b (type_value code) t → type_of code t ≡ Err e → Cause b e
 unfolding type_of
-type_of_refused b code t e has h other =
+type_of_refused b code t e known has h =
     choose (code == 1) _ _ _ h (λ i h. absurd (cc)) (λ n1 h.
     choose (code == 2) _ _ _ h (λ i h. step (int_at f.BadType t) _ e h (λ h. int_refused b (type_value 2) t f.BadType e (at 2 i) r.bit_width r.is_signed h (λ w j none same. bad 2 i same (other_width (w, j, none)))) (λ x j h. absurd (cc))) (λ n2 h.
     choose (code == 4) _ _ _ h (λ i h. absurd (cc)) (λ n4 h.
@@ -61,13 +65,10 @@ type_of_refused b code t e has h other =
     choose (code == 13) _ _ _ h (λ i h. absurd (cc)) (λ n13 h.
     choose (code == 15) _ _ _ h (λ i h. step (lift (scalar t 0 4 int32 (pos 0))) _ e h (bad_number b (type_value 15) t 0 4 int32 (pos 0) e (at 15 i) r.byte_width)
     (λ z j h. let p = fixed_refused z e h in bad 15 i p.0 (negative_width (z, lift_ok (scalar t 0 4 int32 (pos 0)) z j, p.1))))
-    (λ n15 h. other (cc) (not_code 1 n1, not_code 2 n2, not_code 4 n4, not_code 5 n5, not_code 6 n6, not_code 8 n8, not_code 10 n10, not_code 12 n12, not_code 13 n13, not_code 15 n15)))))))))))
+    (λ n15 h. absurd (type_code_is code known n1 n2 n4 n5 n6 n8 n10 n12 n13 n15)))))))))))
   where
     at : (n : ℕ) → (code == n) ≡ true → HasTable b (type_value n) t
     at n i = let same : code ≡ n = eqb-true code n i in subst (λ k. HasTable b (type_value k) t) same has
-
-    not_code : (n : ℕ) → (code == n) ≡ false → code ≡ n → ⊥
-    not_code n i same = let is : (code == n) ≡ true = eq-eqb code n same in cc
 
     bad : (n : ℕ) → (code == n) ≡ true → f.BadType ≡ e → IsNoType n t → Cause b e
     bad n i same none = subst (Cause b) same (no_type (t, at n i, none))
@@ -80,12 +81,13 @@ pub type_refused : (b : List ℕ) (t : Table) (e : Fault) → HasTable b column 
 unfolding type_at
 type_refused b t e has h =
     step (code_at t) _ e h (bad_code b t e has) (λ code c i.
-    step (lift (field t 3 table_from)) _ e i (bad_table b column t 3 e has r.type) (λ o j k. in_table code o c (lift_ok (field t 3 table_from) o j) k))
+    choose (is_type_code code) _ _ _ i (λ known i.
+    step (lift (field t 3 table_from)) _ e i (bad_value b t 3 e (r.at_type has c known)) (λ o j k. in_table code o known c (lift_ok (field t 3 table_from) o j) k))
+    (λ other i. let same : f.UnsupportedType code ≡ e = cc in subst (Cause b) same (t, has, (c, other))))
   where
-    in_table : (code : ℕ) (o : Option Table) → code_at t ≡ Ok code → field t 3 table_from ≡ Ok o → type_in code o ≡ Err e → Cause b e
-    in_table code None c i h = let same : f.BadType ≡ e = cc in subst (Cause b) same (no_table (t, has, i))
-    in_table code (Some v) c i h =
-        type_of_refused b code v e (r.of_type has c i) h (λ same none. subst (Cause b) same (t, has, no_code c none))
+    in_table : (code : ℕ) (o : Option Table) → is_type_code code ≡ true → code_at t ≡ Ok code → field t 3 table_from ≡ Ok o → type_in code o ≡ Err e → Cause b e
+    in_table code None known c i h = let same : f.BadType ≡ e = cc in subst (Cause b) same (no_table (t, has, (c, known, i)))
+    in_table code (Some v) known c i h = type_of_refused b code v e known (r.of_type has c i) h
 
 -- ---- the dictionary
 
@@ -98,7 +100,7 @@ index_refused b t e has h = step (lift (field t 1 table_from)) _ e h (bad_table 
         let it : HasTable b index_type v = r.of_index has (lift_ok (field t 1 table_from) (Some v) i) in
         int_refused b index_type v f.BadIndexType e it r.index_bit_width r.index_is_signed h (λ w j none same. subst (Cause b) same (v, it, (w, j, none)))
 
-dictionary_refused : (b : List ℕ) (t : Table) (e : Fault) → HasTable b column t → dictionary_at t ≡ Err e → Cause b e
+pub dictionary_refused : (b : List ℕ) (t : Table) (e : Fault) → HasTable b column t → dictionary_at t ≡ Err e → Cause b e
 unfolding dictionary_at
 dictionary_refused b t e has h = step (lift (field t 4 table_from)) _ e h (bad_table b column t 4 e has r.dictionary) go
   where
@@ -109,10 +111,3 @@ dictionary_refused b t e has h = step (lift (field t 4 table_from)) _ e h (bad_t
         step (lift (scalar d 0 8 int64 (pos 0))) _ e h (bad_number b dictionary_encoding d 0 8 int64 (pos 0) e it r.dictionary_id) (λ id j h.
         step (index_at d) _ e h (index_refused b d e it) (λ x k h.
         step (flag_at d 2) _ e h (bad_flag b dictionary_encoding d 2 e it r.is_ordered) (λ g l h. absurd (cc))))
-
-pub stored_refused : (b : List ℕ) (t : Table) (κ : DataType) (e : Fault) → HasTable b column t → type_at t ≡ Ok κ → stored_at t κ ≡ Err e → Cause b e
-unfolding stored_at
-stored_refused b t κ e has is h =
-    step (dictionary_at t) _ e h (dictionary_refused b t e has) (λ d i h.
-    step (code_at t) _ e h (bad_code b t e has) (λ code j h.
-    choose (is_open κ d) _ _ _ h (λ k h. absurd (cc)) (λ k h. let same : f.UnsupportedType code ≡ e = cc in subst (Cause b) same (t, has, not_open κ d j is i k))))

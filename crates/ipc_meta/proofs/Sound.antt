@@ -1,26 +1,23 @@
 -- What is read is what the tables state.
-use Rattle.std.proofs.Common.{◌≡◌, ◌∙◌, refl, sym, ap, subst, ℕ, zero, suc, ◌+◌, ◌-◌, ◌<◌, Bool, true, false, cond, List, [], ◌∷◌, map, length, arith}
+use Rattle.std.proofs.Common.{◌≡◌, ◌∙◌, refl, sym, ap, subst, ℕ, zero, suc, ◌+◌, ◌-◌, ◌<◌, List, [], ◌∷◌, map, length, arith}
 use Rattle.std.specs.Prelude.{pos, Option, None, Some, Result, Ok, Err}
 use Rattle.ipc_scalar.specs.Bytes.{int64}
 use Rattle.ipc_flat.specs.Views.{Table, Elements, table_from, scalar, field}
 use Rattle.ipc_scalar.specs.declared.fault.FlatFault.{FlatFault}
 use Rattle.ipc_model.specs.Answers.{◌>>=◌}
 use Rattle.ipc_model.specs.declared.fault.Fault.{Fault}
-use Rattle.ipc_model.specs.declared.fault.Fault.TheVariants.{UnsupportedType}
 use Rattle.ipc_model.specs.declared.schema.DataType.{DataType}
-use Rattle.ipc_model.specs.declared.schema.Dictionary.{Dictionary}
 use Rattle.ipc_model.specs.declared.schema.Field.{Field, roll-Field, rec-roll-Field, map-Field}
 use Rattle.ipc_model.specs.declared.schema.Field.TheOpen.{Field-F}
 use Rattle.ipc_model.specs.WellFormed.{kind_text}
 use Rattle.ipc_meta.specs.declared.budget.Budget.{Budget}
 use Rattle.ipc_meta.specs.Budgets.{Reading, less_fields, less_text, less_pairs}
 use Rattle.ipc_meta.specs.Lifts.{lift}
-use Rattle.ipc_meta.specs.Open.{is_open}
-use Rattle.ipc_meta.specs.Tables.{text_at, flag_at, vector_at, code_at, type_at, dictionary_at}
+use Rattle.ipc_meta.specs.Tables.{text_at, flag_at, vector_at, type_at, dictionary_at}
 use Rattle.ipc_meta.specs.Fields.{TablesAt, VectorAt, PairAt, field_step, FieldAt}
 use Rattle.ipc_meta.specs.declared.head.BatchHead.{BatchHead}
 use Rattle.ipc_meta.specs.Heads.{BatchAt, numbers_at}
-use Rattle.ipc_meta.specs.Reading.{batch_read, when_plain, each, text_read, pair_read, pairs_read, type_read, stored_at, fields_read, field_read}
+use Rattle.ipc_meta.specs.Reading.{batch_read, when_plain, each, text_read, pair_read, pairs_read, type_read, fields_read, field_read}
 
 pub bind_ok : {A B : Type 0} (r : Result A Fault) (f : A → Result B Fault) (y : B) → (r >>= f) ≡ Ok y → (x : A) × (r ≡ Ok x) × (f x ≡ Ok y)
 bind_ok (Ok x) f y h = (x, refl, h)
@@ -84,7 +81,7 @@ pairs_sound t k left after ps h =
     let l = bind_ok (less_pairs v.0.len left) _ _ v.2 in
     (v.0, v.1, each_sound pair_read PairAt pair_sound v.0.bytes v.0.len v.0.at l.0 after ps l.2)
 
--- ---- the type and the dictionary
+-- ---- the type
 
 pub type_sound : (t : Table) (left after : Budget) (κ : DataType) → type_read t left ≡ Ok (κ, after) → type_at t ≡ Ok κ
 unfolding type_read
@@ -93,18 +90,6 @@ type_sound t left after κ h =
     let l = bind_ok (less_text (kind_text a.0) left) _ _ a.2 in
     let e = left_parts a.0 κ l.0 after l.2 in
     a.1 ∙ ap Ok e.0
-
-guard_ok : {A : Type 0} (b : Bool) (e : Fault) (x y : A) → cond b (Ok x) (Err e) ≡ Ok y → (b ≡ true) × (x ≡ y)
-guard_ok true e x y h = (refl, cc)
-guard_ok false e x y h = absurd (cc)
-
-stored_sound : (t : Table) (κ : DataType) (o : Option Dictionary) → stored_at t κ ≡ Ok o → (dictionary_at t ≡ Ok o) × (is_open κ o ≡ true)
-unfolding stored_at
-stored_sound t κ o h =
-    let d = bind_ok (dictionary_at t) _ _ h in
-    let c = bind_ok (code_at t) _ _ d.2 in
-    let g = guard_ok (is_open κ d.0) (UnsupportedType c.0) d.0 o c.2 in
-    (d.1 ∙ ap Ok g.1, subst (λ z. is_open κ z ≡ true) g.1 g.0)
 
 -- ---- fields
 
@@ -116,7 +101,7 @@ module _ {X Y : Type 0} (v : X → Y) (k : Y → Table → Type 0) where
 natural : (X : Type 0) (v : X → Field) (k : Field → Table → Type 0) (x : Field-F X) → field_step X v (λ p. k (v p)) x ≡ field_step Field (λ y. y) k (map-Field X Field v x)
 natural X v k x = λ i t.
     (text_at t 0 ≡ Ok x.name) × (flag_at t 1 ≡ Ok x.nullable) × (type_at t ≡ Ok x.kind) × (dictionary_at t ≡ Ok x.dictionary)
-    × (is_open x.kind x.dictionary ≡ true) × VectorAt PairAt x.metadata t 6 × ((es : Elements) × (vector_at t 5 ≡ Ok es) × tables_map v k es.bytes es.at es.len x.children i)
+    × VectorAt PairAt x.metadata t 6 × ((es : Elements) × (vector_at t 5 ≡ Ok es) × tables_map v k es.bytes es.at es.len x.children i)
 
 pub field_roll : (x : Field-F Field) → FieldAt (roll-Field x) ≡ field_step Field (λ y. y) FieldAt x
 field_roll x = rec-roll-Field (Table → Type 0) field_step natural x
@@ -135,18 +120,16 @@ field_sound (suc d) t left after x h =
     let name = bind_ok (text_read t 0 left) _ _ h in
     let nullable = bind_ok (flag_at t 1) _ _ name.2 in
     let κ = bind_ok (type_read t name.0.1) _ _ nullable.2 in
-    let o = bind_ok (stored_at t κ.0.0) _ _ κ.2 in
+    let o = bind_ok (dictionary_at t) _ _ κ.2 in
     let pairs = bind_ok (pairs_read t 6 κ.0.1) _ _ o.2 in
     let children = bind_ok (fields_read (field_read d) t 5 pairs.0.1) _ _ pairs.2 in
     let y : Field-F Field = record { name = name.0.0; nullable = nullable.0; kind = κ.0.0; dictionary = o.0; children = children.0.0; metadata = pairs.0.0 } in
     let e = left_parts (roll-Field y) x children.0.1 after children.2 in
-    let stored = stored_sound t κ.0.0 o.0 o.1 in
     let here : field_step Field (λ z. z) FieldAt y t = (
       text_sound t 0 left name.0.1 name.0.0 name.1,
       nullable.1,
       type_sound t name.0.1 κ.0.1 κ.0.0 κ.1,
-      stored.0,
-      stored.1,
+      o.1,
       pairs_sound t 6 κ.0.1 pairs.0.1 pairs.0.0 pairs.1,
       fields_sound (field_read d) (field_sound d) t 5 pairs.0.1 children.0.1 children.0.0 children.1,
     ) in

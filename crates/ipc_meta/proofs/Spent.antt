@@ -9,8 +9,8 @@ use Rattle.ipc_model.specs.declared.schema.Field.{Field}
 use Rattle.ipc_meta.specs.declared.budget.Budget.{Budget}
 use Rattle.ipc_meta.specs.Budgets.{Reading, less_fields, less_text, less_pairs}
 use Rattle.ipc_meta.specs.Lifts.{lift}
-use Rattle.ipc_meta.specs.Tables.{text_at, flag_at, vector_at, type_at}
-use Rattle.ipc_meta.specs.Reading.{each, text_read, pair_read, pairs_read, type_read, stored_at, fields_read, field_read}
+use Rattle.ipc_meta.specs.Tables.{text_at, flag_at, vector_at, type_at, dictionary_at}
+use Rattle.ipc_meta.specs.Reading.{each, text_read, pair_read, pairs_read, type_read, fields_read, field_read}
 use Rattle.ipc_meta.specs.Totals.{or_zero, sum_tables, count_in, sum_in, text_in, pair_text_in, own_text, tree}
 use Rattle.ipc_meta.proofs.Sound.{bind_ok, lift_ok, left_parts}
 use Rattle.ipc_meta.proofs.Refused.{choose}
@@ -146,7 +146,7 @@ field_spent (suc d) t left x h =
     let name = bind_ok (text_read t 0 left) _ x h in
     let nullable = bind_ok (flag_at t 1) _ x name.2 in
     let κ = bind_ok (type_read t name.0.1) _ x nullable.2 in
-    let o = bind_ok (stored_at t κ.0.0) _ x κ.2 in
+    let o = bind_ok (dictionary_at t) _ x κ.2 in
     let ps = bind_ok (pairs_read t 6 κ.0.1) _ x o.2 in
     let cs = bind_ok (fields_read (field_read d) t 5 ps.0.1) _ x ps.2 in
     let e = left_parts _ x.0 cs.0.1 x.1 cs.2 in

@@ -12,8 +12,8 @@ use Rattle.ipc_model.specs.declared.schema.Field.{Field}
 use Rattle.ipc_meta.specs.declared.budget.Budget.{Budget}
 use Rattle.ipc_meta.specs.Budgets.{Reading, less_fields, less_pairs}
 use Rattle.ipc_meta.specs.Lifts.{lift}
-use Rattle.ipc_meta.specs.Tables.{flag_at, vector_at}
-use Rattle.ipc_meta.specs.Reading.{text_read, type_read, stored_at, pairs_read, fields_read, field_read, each}
+use Rattle.ipc_meta.specs.Tables.{flag_at, vector_at, dictionary_at}
+use Rattle.ipc_meta.specs.Reading.{text_read, type_read, pairs_read, fields_read, field_read, each}
 
 pub field_no_name : (d : ℕ) (t : Table) (left : Budget) (e : Fault) → 0 < d → Fails e (text_read t 0 left) → Fails e (field_read d t left)
 unfolding field_read
@@ -31,19 +31,19 @@ field_no_type zero t left l name n e h a b f = absurd (omega arith)
 field_no_type (suc d) t left l name n e h a b f = λ ne. rw (a, b, f ne) refl
 
 pub field_no_dictionary : (d : ℕ) (t : Table) (left l m : Budget) (name : List ℕ) (n : Bool) (κ : DataType) (e : Fault) → 0 < d → text_read t 0 left ≡ Ok (name, l) → flag_at t 1 ≡ Ok n → type_read t l ≡ Ok (κ, m)
-    → Fails e (stored_at t κ) → Fails e (field_read d t left)
+    → Fails e (dictionary_at t) → Fails e (field_read d t left)
 unfolding field_read
 field_no_dictionary zero t left l m name n κ e h a b f g = absurd (omega arith)
 field_no_dictionary (suc d) t left l m name n κ e h a b f g = λ ne. rw (a, b, f, g ne) refl
 
 pub field_no_pairs : (d : ℕ) (t : Table) (left l m : Budget) (name : List ℕ) (n : Bool) (κ : DataType) (o : Option Dictionary) (e : Fault) → 0 < d → text_read t 0 left ≡ Ok (name, l) → flag_at t 1 ≡ Ok n
-    → type_read t l ≡ Ok (κ, m) → stored_at t κ ≡ Ok o → Fails e (pairs_read t 6 m) → Fails e (field_read d t left)
+    → type_read t l ≡ Ok (κ, m) → dictionary_at t ≡ Ok o → Fails e (pairs_read t 6 m) → Fails e (field_read d t left)
 unfolding field_read
 field_no_pairs zero t left l m name n κ o e h a b f g i = absurd (omega arith)
 field_no_pairs (suc d) t left l m name n κ o e h a b f g i = λ ne. rw (a, b, f, g, i ne) refl
 
 pub field_no_children : (d : ℕ) (t : Table) (left l m k : Budget) (name : List ℕ) (n : Bool) (κ : DataType) (o : Option Dictionary) (ps : List (List ℕ × List ℕ)) (e : Fault) → 0 < d → text_read t 0 left ≡ Ok (name, l)
-    → flag_at t 1 ≡ Ok n → type_read t l ≡ Ok (κ, m) → stored_at t κ ≡ Ok o → pairs_read t 6 m ≡ Ok (ps, k) → Fails e (fields_read (field_read (d - 1)) t 5 k) → Fails e (field_read d t left)
+    → flag_at t 1 ≡ Ok n → type_read t l ≡ Ok (κ, m) → dictionary_at t ≡ Ok o → pairs_read t 6 m ≡ Ok (ps, k) → Fails e (fields_read (field_read (d - 1)) t 5 k) → Fails e (field_read d t left)
 unfolding field_read
 field_no_children zero t left l m k name n κ o ps e h a b f g i j = absurd (omega arith)
 field_no_children (suc d) t left l m k name n κ o ps e h a b f g i j =

@@ -8,9 +8,9 @@ use Rattle.ipc_model.specs.declared.schema.Field.{Field, roll-Field, fold-roll-F
 use Rattle.ipc_model.specs.declared.schema.Field.TheOpen.{Field-F}
 use Rattle.ipc_meta.specs.declared.budget.Budget.{Budget}
 use Rattle.ipc_meta.specs.Budgets.{less_fields}
-use Rattle.ipc_meta.specs.Tables.{flag_at, vector_at, type_at}
+use Rattle.ipc_meta.specs.Tables.{flag_at, vector_at, type_at, dictionary_at}
 use Rattle.ipc_meta.specs.Fields.{TablesAt, VectorAt, PairAt}
-use Rattle.ipc_meta.specs.Reading.{text_read, pairs_read, type_read, stored_at, fields_read, field_read}
+use Rattle.ipc_meta.specs.Reading.{text_read, pairs_read, type_read, fields_read, field_read}
 use Rattle.ipc_meta.specs.Totals.{or_zero, sum_tables, count_in, sum_in, text_in, pair_text_in, own_text, tree, fields_stated, text_stated, pairs_stated}
 use Rattle.ipc_meta.proofs.Sound.{Sound, bind_ok, left_parts, each_sound, text_sound, type_sound, pairs_sound}
 use Rattle.ipc_meta.proofs.Entries.{tables_are}
@@ -103,7 +103,7 @@ field_sums (suc n) t left after x h =
     let name = bind_ok (text_read t 0 left) _ _ h in
     let nullable = bind_ok (flag_at t 1) _ _ name.2 in
     let κ = bind_ok (type_read t name.0.1) _ _ nullable.2 in
-    let o = bind_ok (stored_at t κ.0.0) _ _ κ.2 in
+    let o = bind_ok (dictionary_at t) _ _ κ.2 in
     let ps = bind_ok (pairs_read t 6 κ.0.1) _ _ o.2 in
     let cs = bind_ok (fields_read (field_read n) t 5 ps.0.1) _ _ ps.2 in
     let y : Field-F Field = record { name = name.0.0; nullable = nullable.0; kind = κ.0.0; dictionary = o.0; children = cs.0.0; metadata = ps.0.0 } in

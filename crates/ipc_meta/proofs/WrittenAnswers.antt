@@ -1,5 +1,5 @@
 -- What the calls that write metadata answer.
-use Rattle.std.proofs.Common.{◌≡◌, ◌∙◌, ap, subst, ℕ, ◌^◌, ◌<◌, ◌≤◌, true, List, ◌++◌, length, inl, inr}
+use Rattle.std.proofs.Common.{◌≡◌, ◌∙◌, ap, subst, ℕ, ◌^◌, ◌<◌, ◌≤◌, List, ◌++◌, length, inl, inr}
 use Rattle.std.specs.Prelude.{◌⊎◌, Result, Ok, Err, IfOk, IfErr}
 use Rattle.ipc_model.specs.Meaning.{WellFormed}
 use Rattle.ipc_model.specs.declared.fault.WriteFault.{WriteFault}
@@ -8,7 +8,6 @@ use Rattle.ipc_model.specs.declared.schema.Schema.{Schema}
 use Rattle.ipc_build.specs.Trees.{Tree}
 use Rattle.ipc_build.specs.Lies.{Lies}
 use Rattle.ipc_build.specs.Room.{room}
-use Rattle.ipc_meta.specs.Open.{are_open}
 use Rattle.ipc_meta.specs.declared.head.BatchHead.{BatchHead}
 use Rattle.ipc_meta.specs.declared.head.Head.TheVariants as head
 use Rattle.ipc_meta.specs.Heads.{HeadOf}
@@ -38,8 +37,8 @@ batch_is b m f g e h = e ∙ ap (λ (x : Tree). message_tree 3 x m) h
 pub lies_as : (b : List ℕ) (f g : Tree) → f ≡ g → ((rest : List ℕ) → Lies (b ++ rest) f) → (rest : List ℕ) → Lies (b ++ rest) g
 lies_as b f g e h rest = subst (λ (x : Tree). Lies (b ++ rest) x) e (h rest)
 
-pub schema_states : (b : List ℕ) (s : Schema) (f : Tree) → WellFormed s → f ≡ schema_message s → ((rest : List ℕ) → Lies (b ++ rest) f) → are_open s.fields ≡ true → (rest : List ℕ) → HeadOf (b ++ rest) (head.Schema s) 0
-schema_states b s f w e h read rest = schema_stated (b ++ rest) s w read (lies_as b f (schema_message s) e h rest)
+pub schema_states : (b : List ℕ) (s : Schema) (f : Tree) → WellFormed s → f ≡ schema_message s → ((rest : List ℕ) → Lies (b ++ rest) f) → (rest : List ℕ) → HeadOf (b ++ rest) (head.Schema s) 0
+schema_states b s f w e h rest = schema_stated (b ++ rest) s w (lies_as b f (schema_message s) e h rest)
 
 pub schema_room_is : (s : Schema) (f : Tree) → f ≡ schema_message s → room f ≡ schema_room s
 schema_room_is s f e = ap room e ∙ schema_needs s

@@ -1,5 +1,5 @@
 -- Fields that were written are those that are read.
-use Rattle.std.proofs.Common.{◌≡◌, ◌∙◌, refl, sym, ap, subst, ℕ, ◌+◌, Bool, true, false, ◌&&◌, List, [], ◌∷◌, ◌++◌, map, arith}
+use Rattle.std.proofs.Common.{◌≡◌, ◌∙◌, refl, sym, ap, subst, ℕ, ◌+◌, Bool, List, [], ◌∷◌, ◌++◌, map, arith}
 use Rattle.std.specs.Prelude.{Option, None, Some, Result, Ok}
 use Rattle.std.specs.List.{AllByRecursion}
 use Rattle.ipc_scalar.specs.declared.fault.FlatFault.{FlatFault}
@@ -14,7 +14,6 @@ use Rattle.ipc_model.specs.declared.schema.Field.TheOpen.{Field-F}
 use Rattle.ipc_build.specs.Trees.{Tree}
 use Rattle.ipc_build.specs.Lies.{HasField, TreeLies}
 use Rattle.ipc_meta.specs.Lifts.{lift}
-use Rattle.ipc_meta.specs.Open.{is_open, is_open_field, open_step, all_true, are_open}
 use Rattle.ipc_meta.specs.Tables.{text_at, flag_at, type_at, dictionary_in, dictionary_at}
 use Rattle.ipc_meta.specs.Fields.{VectorAt, PairAt, FieldAt}
 use Rattle.ipc_meta.specs.Written.{flag, with_text, with_byte, with_table, with_tables, with_pairs, with_dictionary, type_code, type_tree, field_tree}
@@ -22,11 +21,11 @@ use Rattle.ipc_meta.specs.Written as written
 use Rattle.ipc_meta.proofs.Sound.{field_roll}
 use Rattle.ipc_meta.proofs.Standing.{tab, Holds, field_absent}
 use Rattle.ipc_meta.proofs.WrittenParts.{States, text_there, flag_there, vector_lies, pairs_there, neither, no_pairs, pairs_absent}
-use Rattle.ipc_meta.proofs.WrittenTypes.{type_there}
+use Rattle.ipc_meta.proofs.WrittenTypes.{type_there, dictionary_there}
 
--- a field that is read, whose type and that of each below it are of a good width, is stated where its table is written
+-- a field whose type and that of each below it are of a good width is stated where its table is written
 abbrev pub IsWritten : Field → Type 0
-IsWritten f = (d : ℕ) → AllByRecursion IsFine (preorder f d) → is_open_field f ≡ true → (b : List ℕ) → States field_tree FieldAt b f
+IsWritten f = (d : ℕ) → AllByRecursion IsFine (preorder f d) → (b : List ℕ) → States field_tree FieldAt b f
 
 abbrev Shown : Type 0
 Shown = (f : Field) × IsWritten f
@@ -34,21 +33,16 @@ Shown = (f : Field) × IsWritten f
 abbrev fields_of : List Shown → List Field
 fields_of cs = map (λ c. c.0) cs
 
-and_parts : (a c : Bool) → (a && c) ≡ true → (a ≡ true) × (c ≡ true)
-and_parts true c h = (refl, h)
-and_parts false c h = absurd (cc)
-
 fine_parts : (xs ys : List Entry) → AllByRecursion IsFine (xs ++ ys) → AllByRecursion IsFine xs × AllByRecursion IsFine ys
 fine_parts [] ys h = (tt, h)
 fine_parts (x ∷ xs) ys h = let p = fine_parts xs ys h.1 in ((h.0, p.0), p.1)
 
-children_written : (cs : List Shown) (d : ℕ) → AllByRecursion IsFine (all_at d (map preorder (fields_of cs))) → all_true (map is_open_field (fields_of cs)) ≡ true → (b : List ℕ)
+children_written : (cs : List Shown) (d : ℕ) → AllByRecursion IsFine (all_at d (map preorder (fields_of cs))) → (b : List ℕ)
     → AllByRecursion (States field_tree FieldAt b) (fields_of cs)
-children_written [] d fine read b = tt
-children_written (c ∷ cs) d fine read b =
+children_written [] d fine b = tt
+children_written (c ∷ cs) d fine b =
     let p = fine_parts (preorder c.0 d) (all_at d (map preorder (fields_of cs))) fine in
-    let q = and_parts (is_open_field c.0) (all_true (map is_open_field (fields_of cs))) read in
-    (c.1 d p.0 q.0 b, children_written cs d p.1 q.1 b)
+    (c.1 d p.0 b, children_written cs d p.1 b)
 
 -- a Field table by its parts
 abbrev tree_with : List ℕ → Bool → DataType → Option Dictionary → List Field → List (List ℕ × List ℕ) → Tree
@@ -58,17 +52,30 @@ tree_with name nullable κ o cs ps =
 abbrev PartsAt : List ℕ → Bool → DataType → Option Dictionary → List Field → List (List ℕ × List ℕ) → Table → Type 0
 PartsAt name nullable κ o cs ps t =
     (text_at t 0 ≡ Ok name) × (flag_at t 1 ≡ Ok nullable) × (type_at t ≡ Ok κ) × (dictionary_at t ≡ Ok o)
-    × (is_open κ o ≡ true) × VectorAt PairAt ps t 6 × VectorAt FieldAt cs t 5
+    × VectorAt PairAt ps t 6 × VectorAt FieldAt cs t 5
 
 no_dictionary : (b : List ℕ) (t : ℕ) → field (tab b t) 4 table_from ≡ Ok None → dictionary_at (tab b t) ≡ Ok None
 unfolding dictionary_at
 no_dictionary b t h = ap (λ (r : Result (Option Table) FlatFault). lift r >>= dictionary_in) h
 
-parts_there : (b : List ℕ) (t : ℕ) (name : List ℕ) (nullable : Bool) (κ : DataType) (o : Option Dictionary) (cs : List Field) (ps : List (List ℕ × List ℕ)) → HasGoodType κ → is_open κ o ≡ true
+parts_there : (b : List ℕ) (t : ℕ) (name : List ℕ) (nullable : Bool) (κ : DataType) (o : Option Dictionary) (cs : List Field) (ps : List (List ℕ × List ℕ)) → HasGoodType κ
     → AllByRecursion (States field_tree FieldAt b) cs → Holds b t (tree_with name nullable κ o cs ps) → PartsAt name nullable κ o cs ps (tab b t)
 unfolding TreeLies HasField
-parts_there b t name nullable κ (Some d) cs ps good read each h = absurd (cc)
-parts_there b t name nullable κ None cs ps good read each h =
+parts_there b t name nullable κ (Some d) cs ps good each h =
+    let text = h.lies.0 in
+    let null = h.lies.1.0 in
+    let code = h.lies.1.1.0 in
+    let type = h.lies.1.1.1.0 in
+    let encoding = h.lies.1.1.1.1.0 in
+    let children = h.lies.1.1.1.1.1.0 in (
+      text_there b t 0 text.0 name text.1.0 text.3.text,
+      flag_there b t 1 null.0 nullable null.1.0 null.3,
+      type_there b t code.0 type.0 type.3.0 κ code.1.0 code.3 type.1.0 type.3.1 good (record { stands = type.3.2; lies = type.3.3 }),
+      dictionary_there b t encoding.0 encoding.3.0 d encoding.1.0 encoding.3.1 (record { stands = encoding.3.2; lies = encoding.3.3 }),
+      pairs_there b t 6 ps h.lies.1.1.1.1.1.1 (λ e. h.stands.absent 6 4 (neither (λ z. omega (arith, z)) (neither (λ z. omega (arith, z)) (neither (λ z. omega (arith, z)) (neither (λ z. omega (arith, z)) (neither (λ z. omega (arith, z)) (neither (λ z. omega (arith, z)) (pairs_absent 6 6 ps e)))))))),
+      vector_lies field_tree FieldAt b t 5 children.0 children.3.0 cs children.1.0 children.3.1 children.3.3 each,
+    )
+parts_there b t name nullable κ None cs ps good each h =
     let text = h.lies.0 in
     let null = h.lies.1.0 in
     let code = h.lies.1.1.0 in
@@ -78,27 +85,24 @@ parts_there b t name nullable κ None cs ps good read each h =
       flag_there b t 1 null.0 nullable null.1.0 null.3,
       type_there b t code.0 type.0 type.3.0 κ code.1.0 code.3 type.1.0 type.3.1 good (record { stands = type.3.2; lies = type.3.3 }),
       no_dictionary b t (field_absent b t 4 table_from (h.stands.absent 4 4 (neither (λ e. omega (arith, e)) (neither (λ e. omega (arith, e)) (neither (λ e. omega (arith, e)) (neither (λ e. omega (arith, e)) (neither (λ e. omega (arith, e)) (no_pairs 4 6 ps (λ e. omega (arith, e)))))))))),
-      read,
       pairs_there b t 6 ps h.lies.1.1.1.1.1 (λ e. h.stands.absent 6 4 (neither (λ z. omega (arith, z)) (neither (λ z. omega (arith, z)) (neither (λ z. omega (arith, z)) (neither (λ z. omega (arith, z)) (neither (λ z. omega (arith, z)) (pairs_absent 6 6 ps e))))))),
       vector_lies field_tree FieldAt b t 5 children.0 children.3.0 cs children.1.0 children.3.1 children.3.3 each,
     )
 
 roll_written : (y : Field-F Shown) → IsWritten (roll-Field (map-Field Shown Field (λ c. c.0) y))
-roll_written y = λ d fine read b t h.
+roll_written y = λ d fine b t h.
     let z : Field-F Field = map-Field Shown Field (λ c. c.0) y in
     let listed : AllByRecursion IsFine (preorder_step (map-Field Field Listing preorder z) d) = subst (λ (l : Listing). AllByRecursion IsFine (l d)) (fold-roll-Field Listing preorder_step z) fine in
-    let opened = and_parts (is_open z.kind z.dictionary) (all_true (map is_open_field z.children)) (sym (fold-roll-Field Bool open_step z) ∙ read) in
     let held : Holds b t (tree_with z.name z.nullable z.kind z.dictionary z.children z.metadata) = subst (λ (f : Tree). Holds b t f) (fold-roll-Field Tree written.field_step z) h in
-    let each = children_written y.children (d + 1) listed.1 opened.1 b in
-    subst (λ (F : Table → Type 0). F (tab b t)) (sym (field_roll z)) (parts_there b t z.name z.nullable z.kind z.dictionary z.children z.metadata listed.0.good_type opened.0 each held)
+    let each = children_written y.children (d + 1) listed.1 b in
+    subst (λ (F : Table → Type 0). F (tab b t)) (sym (field_roll z)) (parts_there b t z.name z.nullable z.kind z.dictionary z.children z.metadata listed.0.good_type each held)
 
 field_written : (f : Field) → IsWritten f
 field_written = ind-Field IsWritten (λ x y is. subst (λ z. IsWritten (roll-Field z)) is (roll_written y))
 
 -- the columns of a schema
-pub fields_written : (fs : List Field) → AllByRecursion IsFine (all_at 1 (map preorder fs)) → are_open fs ≡ true → (b : List ℕ) → AllByRecursion (States field_tree FieldAt b) fs
-fields_written [] fine read b = tt
-fields_written (f ∷ fs) fine read b =
+pub fields_written : (fs : List Field) → AllByRecursion IsFine (all_at 1 (map preorder fs)) → (b : List ℕ) → AllByRecursion (States field_tree FieldAt b) fs
+fields_written [] fine b = tt
+fields_written (f ∷ fs) fine b =
     let p = fine_parts (preorder f 1) (all_at 1 (map preorder fs)) fine in
-    let q = and_parts (is_open_field f) (are_open fs) read in
-    (field_written f 1 p.0 q.0 b, fields_written fs p.1 q.1 b)
+    (field_written f 1 p.0 b, fields_written fs p.1 b)

@@ -1,5 +1,5 @@
 -- Heads that were written are those that are read.
-use Rattle.std.proofs.Common.{◌≡◌, ◌∙◌, refl, ap, subst, ℕ, ◌+◌, ◌^◌, ◌≤◌, true, List, [], ◌∷◌, length, arith}
+use Rattle.std.proofs.Common.{◌≡◌, ◌∙◌, refl, ap, subst, ℕ, ◌+◌, ◌^◌, ◌≤◌, List, [], ◌∷◌, length, arith}
 use Rattle.std.specs.Prelude.{ℤ, pos, Option, Some, Result, Ok}
 use Rattle.ipc_scalar.specs.Bytes.{byte, int16, int64}
 use Rattle.ipc_scalar.specs.declared.fault.FlatFault.{FlatFault}
@@ -11,7 +11,6 @@ use Rattle.ipc_model.specs.declared.schema.Schema.{Schema}
 use Rattle.ipc_build.specs.Trees.{Tree}
 use Rattle.ipc_build.specs.Lies.{HasField, TreeLies, PairsLie, Lies}
 use Rattle.ipc_meta.specs.Lifts.{lift}
-use Rattle.ipc_meta.specs.Open.{are_open}
 use Rattle.ipc_meta.specs.Fields.{SchemaAt, FieldAt}
 use Rattle.ipc_meta.specs.declared.head.BatchHead.{BatchHead}
 use Rattle.ipc_meta.specs.declared.head.Head.TheVariants as head
@@ -21,13 +20,13 @@ use Rattle.ipc_meta.proofs.Standing.{Any, tab, Holds, scalar_there, scalar_absen
 use Rattle.ipc_meta.proofs.WrittenParts.{vector_lies, pairs_there, neither, no_pairs, pairs_absent}
 use Rattle.ipc_meta.proofs.WrittenFields.{fields_written}
 
-pub schema_there : (b : List ℕ) (t : ℕ) (s : Schema) → WellFormed s → are_open s.fields ≡ true → Holds b t (schema_tree s) → SchemaAt (tab b t) s
+pub schema_there : (b : List ℕ) (t : ℕ) (s : Schema) → WellFormed s → Holds b t (schema_tree s) → SchemaAt (tab b t) s
 unfolding TreeLies HasField
-schema_there b t s w read h =
+schema_there b t s w h =
     let columns = h.lies.0 in
     record {
       little_endian = scalar_absent b t 0 2 int16 (pos 0) (h.stands.absent 0 2 (neither (λ e. omega (arith, e)) (no_pairs 0 2 s.metadata (λ e. omega (arith, e)))));
-      fields = vector_lies field_tree FieldAt b t 1 columns.0 columns.3.0 s.fields columns.1.0 columns.3.1 columns.3.3 (fields_written s.fields w.each read b);
+      fields = vector_lies field_tree FieldAt b t 1 columns.0 columns.3.0 s.fields columns.1.0 columns.3.1 columns.3.3 (fields_written s.fields w.each b);
       pairs = pairs_there b t 2 s.metadata h.lies.1 (λ e. h.stands.absent 2 4 (neither (λ z. omega (arith, z)) (pairs_absent 2 2 s.metadata e)));
       well_formed = w;
     }
@@ -95,10 +94,10 @@ message_there b code m header h =
       body = scalar_there b t 3 8 body.0 int64 (pos 0) body.1.0 ∙ ap Ok body.3;
     }
 
-pub schema_stated : (b : List ℕ) (s : Schema) → WellFormed s → are_open s.fields ≡ true → Lies b (schema_message s) → HeadOf b (head.Schema s) 0
-schema_stated b s w read h =
+pub schema_stated : (b : List ℕ) (s : Schema) → WellFormed s → Lies b (schema_message s) → HeadOf b (head.Schema s) 0
+schema_stated b s w h =
     let m = message_there b 1 0 (schema_tree s) h in
-    record { root = tab b m.t; stands = m.stands; version = m.version; body = m.body; fits = omega arith; header = (m.coded, (tab b m.u, m.headed, schema_there b m.u s w read m.held)) }
+    record { root = tab b m.t; stands = m.stands; version = m.version; body = m.body; fits = omega arith; header = (m.coded, (tab b m.u, m.headed, schema_there b m.u s w m.held)) }
 
 pub batch_stated : (b : List ℕ) (h : BatchHead) (body : ℕ) → body ≤ 2 ^ 40 → Lies b (batch_message h body) → HeadOf b (head.Batch h) body
 batch_stated b h body small lies =

@@ -1,9 +1,9 @@
 -- The type and the dictionary of a field that were written are those that are read.
 use Rattle.std.proofs.Common.{◌≡◌, ◌∙◌, refl, ap, ℕ, ◌-◌, ◌^◌, ◌≤◌, Bool, List, arith}
-use Rattle.std.specs.Prelude.{ℤ, pos, Option, None, Some, Result, Ok}
+use Rattle.std.specs.Prelude.{ℤ, pos, true, Option, None, Some, Result, Ok, Err, if◌then◌else◌}
 use Rattle.std.specs.Int.{w32, cast_signed}
 use Rattle.std.proofs.Math.Facts.{to_z_pos}
-use Rattle.ipc_scalar.specs.Bytes.{num, byte, int16, int32}
+use Rattle.ipc_scalar.specs.Bytes.{num, byte, int16, int32, int64}
 use Rattle.ipc_scalar.specs.declared.fault.FlatFault.{FlatFault}
 use Rattle.ipc_scalar.specs.Flat.{slot_of, table_of, text_of}
 use Rattle.ipc_flat.specs.Views.{Table, table_from, scalar, field}
@@ -11,7 +11,7 @@ use Rattle.ipc_model.specs.Answers.{◌>>=◌}
 use Rattle.ipc_model.specs.Meaning.{HasGoodType}
 use Rattle.ipc_model.specs.Ranges.{width}
 use Rattle.ipc_model.specs.declared.fault.Fault.{Fault}
-use Rattle.ipc_model.specs.declared.fault.Fault.TheVariants.{BadType}
+use Rattle.ipc_model.specs.declared.fault.Fault.TheVariants.{UnsupportedType, BadType, BadIndexType}
 use Rattle.ipc_model.specs.declared.schema.IntBits.{IntBits}
 use Rattle.ipc_model.specs.declared.schema.IntBits.TheVariants.{B8, B16, B32, B64}
 use Rattle.ipc_model.specs.declared.schema.DateUnit.{DateUnit}
@@ -21,10 +21,11 @@ use Rattle.ipc_model.specs.declared.schema.TimeUnit.TheVariants as time
 use Rattle.ipc_model.specs.declared.schema.DataType.{DataType}
 use Rattle.ipc_model.specs.declared.schema.DataType.TheVariants as t
 use Rattle.ipc_model.specs.declared.schema.IndexType.{IndexType}
+use Rattle.ipc_model.specs.declared.schema.Dictionary.{Dictionary}
 use Rattle.ipc_build.specs.Lies.{TreeLies, HasField}
 use Rattle.ipc_meta.specs.Lifts.{lift}
-use Rattle.ipc_meta.specs.Tables.{bits_of, ok_or, int_at, fixed_at, date_at, unit_of, timestamp_at, type_of, type_in, code_at, type_at, flag_at}
-use Rattle.ipc_meta.specs.Written.{int_tree, date_code, time_code, type_tree, type_code}
+use Rattle.ipc_meta.specs.Tables.{bits_of, ok_or, int_at, fixed_at, date_at, unit_of, timestamp_at, type_of, type_in, is_type_code, when_type, code_at, type_at, flag_at, index_in, index_at, dictionary_in, dictionary_at}
+use Rattle.ipc_meta.specs.Written.{int_tree, date_code, time_code, type_tree, type_code, dictionary_tree}
 use Rattle.ipc_meta.proofs.Standing.{tab, Holds, scalar_there, field_there, field_absent, table_there}
 use Rattle.ipc_meta.proofs.WrittenParts.{flag_there, neither}
 
@@ -95,11 +96,52 @@ type_table b u (t.Timestamp unit zone) g h = timestamp_there b u unit zone h
 type_table b u t.List g h = refl
 type_table b u t.Struct g h = refl
 
+coded : (κ : DataType) → is_type_code (type_code κ) ≡ true
+unfolding is_type_code
+coded t.Null = refl
+coded t.Bool = refl
+coded (t.Int bits signed) = refl
+coded t.Binary = refl
+coded t.Utf8 = refl
+coded (t.FixedSizeBinary n) = refl
+coded (t.Date unit) = refl
+coded (t.Timestamp unit timezone) = refl
+coded t.List = refl
+coded t.Struct = refl
+
 pub type_there : (b : List ℕ) (t c p u : ℕ) (κ : DataType) → slot_of b t 2 1 ≡ Ok (Some c) → num b c 1 ≡ type_code κ → slot_of b t 3 4 ≡ Ok (Some p) → table_of b p ≡ Ok u
     → HasGoodType κ → Holds b u (type_tree κ) → type_at (tab b t) ≡ Ok κ
 unfolding type_at code_at
 type_there b t c p u κ sc e sp table good h =
-    ap (λ (r : Result ℕ FlatFault). lift r >>= λ code. lift (field (tab b t) 3 table_from) >>= type_in code) (scalar_there b t 2 1 c byte 0 sc)
-    ∙ (ap (λ (n : ℕ). lift (field (tab b t) 3 table_from) >>= type_in n) e
+    ap (λ (r : Result ℕ FlatFault). lift r >>= λ code. when_type code (lift (field (tab b t) 3 table_from) >>= type_in code)) (scalar_there b t 2 1 c byte 0 sc)
+    ∙ (ap (λ (n : ℕ). when_type n (lift (field (tab b t) 3 table_from) >>= type_in n)) e
+    ∙ (ap (λ (k : Bool). if k then (lift (field (tab b t) 3 table_from) >>= type_in (type_code κ)) else Err (UnsupportedType (type_code κ))) (coded κ)
     ∙ (ap (λ (r : Result (Option Table) FlatFault). lift r >>= type_in (type_code κ)) (field_there b t 3 p table_from (tab b u) sp (table_there b p u table))
-    ∙ type_table b u κ good h))
+    ∙ type_table b u κ good h)))
+
+-- ---- the dictionary
+
+abbrev encoding : ℤ → IndexType → Bool → Result (Option Dictionary) Fault
+encoding id index ordered = Ok (Some (record { id = id; index = index; ordered = ordered }))
+
+index_there : (b : List ℕ) (u p v : ℕ) (index : IndexType) → slot_of b u 1 4 ≡ Ok (Some p) → table_of b p ≡ Ok v → Holds b v (int_tree index.bits index.signed) → index_at (tab b u) ≡ Ok index
+index_there b u p v index s table h =
+    ap (λ (r : Result (Option Table) FlatFault). lift r >>= index_in) (field_there b u 1 p table_from (tab b v) s (table_there b p v table))
+    ∙ int_there BadIndexType b v index.bits index.signed h
+
+encoding_there : (b : List ℕ) (u : ℕ) (d : Dictionary) → Holds b u (dictionary_tree d) → dictionary_in (Some (tab b u)) ≡ Ok (Some d)
+unfolding TreeLies
+encoding_there b u d h =
+    let id = h.lies.0 in
+    let index = h.lies.1.0 in
+    let order = h.lies.1.1.0 in
+    ap (λ (r : Result ℤ FlatFault). lift r >>= λ z. index_at (tab b u) >>= λ x. flag_at (tab b u) 2 >>= λ o. encoding z x o) (scalar_there b u 0 8 id.0 int64 (pos 0) id.1.0)
+    ∙ (ap (λ (z : ℤ). index_at (tab b u) >>= λ x. flag_at (tab b u) 2 >>= λ o. encoding z x o) id.3
+    ∙ (ap (λ (r : Result IndexType Fault). r >>= λ x. flag_at (tab b u) 2 >>= λ o. encoding d.id x o) (index_there b u index.0 index.3.0 d.index index.1.0 index.3.1 (record { stands = index.3.2; lies = index.3.3 }))
+    ∙ ap (λ (r : Result Bool Fault). r >>= λ o. encoding d.id d.index o) (flag_there b u 2 order.0 d.ordered order.1.0 order.3)))
+
+pub dictionary_there : (b : List ℕ) (t p u : ℕ) (d : Dictionary) → slot_of b t 4 4 ≡ Ok (Some p) → table_of b p ≡ Ok u → Holds b u (dictionary_tree d) → dictionary_at (tab b t) ≡ Ok (Some d)
+unfolding dictionary_at
+dictionary_there b t p u d s table h =
+    ap (λ (r : Result (Option Table) FlatFault). lift r >>= dictionary_in) (field_there b t 4 p table_from (tab b u) s (table_there b p u table))
+    ∙ encoding_there b u d h

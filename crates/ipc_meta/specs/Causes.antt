@@ -8,9 +8,8 @@ use Rattle.ipc_model.specs.declared.fault.Fault.TheVariants as f
 use Rattle.ipc_model.specs.declared.schema.DataType.{DataType}
 use Rattle.ipc_model.specs.declared.schema.Dictionary.{Dictionary}
 use Rattle.ipc_model.specs.WellFormed.{max_fields, max_depth, max_text, max_pairs}
-use Rattle.ipc_model.specs.Meaning.{HasGoodType, HasFittingChildren, IsLeaf}
-use Rattle.ipc_meta.specs.Open.{is_open}
-use Rattle.ipc_meta.specs.Tables.{bits_of, unit_of, flag_at, vector_at, code_at, type_at, dictionary_at}
+use Rattle.ipc_model.specs.Meaning.{HasFittingChildren, IsLeaf}
+use Rattle.ipc_meta.specs.Tables.{bits_of, unit_of, flag_at, vector_at, code_at, is_type_code, type_at, dictionary_at}
 use Rattle.ipc_meta.specs.Totals.{fields_stated, text_stated, pairs_stated}
 use Rattle.ipc_meta.specs.Heads.{longest_body}
 use Rattle.ipc_meta.specs.Reached.{Kind, HasTable, IsDeep, HasIllFormed, HasOtherText, message, schema, column, type_value, index_type, dictionary_batch, record_batch}
@@ -30,28 +29,17 @@ pub data HasNoHeader (b : List ℕ) : Type 0 where
   no_data : Has b dictionary_batch (λ t. field t 1 table_from ≡ Ok None) → HasNoHeader b
 
 -- a type's table with this code in union Type has a width or a unit that no type has (Schema.fbs, tables Int, Date, Timestamp and
--- FixedSizeBinary)
+-- FixedSizeBinary; Null, Binary, Utf8, Bool, List and Struct_ have no fields)
 pub data IsNoType : ℕ → Table → Type 0 where
   other_width : {v : Table} → Is (scalar v 0 4 int32 (pos 0)) (λ width. bits_of width ≡ None) → IsNoType 2 v
   other_date_unit : {v : Table} → Is (scalar v 0 2 int16 (pos 1)) (λ unit. (unit ≢ pos 0) × (unit ≢ pos 1)) → IsNoType 8 v
   other_time_unit : {v : Table} → Is (scalar v 0 2 int16 (pos 0)) (λ unit. unit_of unit ≡ None) → IsNoType 10 v
   negative_width : {v : Table} → Is (scalar v 0 4 int32 (pos 0)) (λ width. int_lt width (pos 0) ≡ true) → IsNoType 15 v
 
--- a field's type has no table, or a table that is no type's, or it is wider than a type can be
+-- a field's type has a type's code and no table, or a table that is no type's
 pub data HasBadType (b : List ℕ) : Type 0 where
-  no_table : Has b column (λ t. field t 3 table_from ≡ Ok None) → HasBadType b
+  no_table : {code : ℕ} → Has b column (λ t. (code_at t ≡ Ok code) × (is_type_code code ≡ true) × (field t 3 table_from ≡ Ok None)) → HasBadType b
   no_type : {code : ℕ} → Has b (type_value code) (IsNoType code) → HasBadType b
-  too_wide : Has b column (λ t. (κ : DataType) × (type_at t ≡ Ok κ) × (HasGoodType κ → ⊥)) → HasBadType b
-
--- none of the types that are read has this code (Schema.fbs, union Type: Null 1, Int 2, Binary 4, Utf8 5, Bool 6, Date 8, Timestamp 10,
--- List 12, Struct_ 13, FixedSizeBinary 15)
-abbrev pub IsNoCode : ℕ → Type 0
-IsNoCode code = (code ≢ 1) × (code ≢ 2) × (code ≢ 4) × (code ≢ 5) × (code ≢ 6) × (code ≢ 8) × (code ≢ 10) × (code ≢ 12) × (code ≢ 13) × (code ≢ 15)
-
--- the type of a Field table has this code, and columns of it, with its dictionary, are not read
-pub data IsNotRead (code : ℕ) (t : Table) : Type 0 where
-  no_code : code_at t ≡ Ok code → IsNoCode code → IsNotRead code t
-  not_open : (κ : DataType) (d : Option Dictionary) → code_at t ≡ Ok code → type_at t ≡ Ok κ → dictionary_at t ≡ Ok d → is_open κ d ≡ false → IsNotRead code t
 
 -- a field has another number of children than its type (Schema.fbs, table Field, 5 children)
 abbrev pub HasBadChildren : List ℕ → Type 0
@@ -69,7 +57,7 @@ Cause b f.BadHeader = HasNoHeader b
 Cause b f.BadBodyLength = Has b message (λ t. Is (scalar t 3 8 int64 (pos 0)) (λ n. int_lt n (pos 0) ≡ true))
 Cause b f.BodyTooLong = Has b message (λ t. Is (scalar t 3 8 int64 (pos 0)) (λ n. int_lt (pos longest_body) n ≡ true))
 Cause b f.BigEndian = Has b schema (λ t. Is (scalar t 0 2 int16 (pos 0)) (λ e. e ≢ pos 0))
-Cause b (f.UnsupportedType code) = Has b column (IsNotRead code)
+Cause b (f.UnsupportedType code) = Has b column (λ t. (code_at t ≡ Ok code) × (is_type_code code ≡ false))
 Cause b f.BadType = HasBadType b
 Cause b f.BadChildren = HasBadChildren b
 Cause b f.NameNotUtf8 = HasOtherText b

@@ -1,13 +1,12 @@
 -- Which fields and schemas the tables of the metadata state (Schema.fbs, tables Field and Schema): relations between whole values
 -- and tables, in no reading order.
-use Rattle.std.specs.Prelude.{◌≡◌, ℕ, ◌+◌, ◌-◌, ◌<◌, true, pos, List, [], ◌∷◌, Ok}
+use Rattle.std.specs.Prelude.{◌≡◌, ℕ, ◌+◌, ◌-◌, ◌<◌, pos, List, [], ◌∷◌, Ok}
 use Rattle.ipc_scalar.specs.Bytes.{int16}
 use Rattle.ipc_flat.specs.Views.{Table, Elements, table_from, scalar}
 use Rattle.ipc_model.specs.Meaning.{WellFormed}
 use Rattle.ipc_model.specs.declared.schema.Field.{Field, rec-Field}
 use Rattle.ipc_model.specs.declared.schema.Field.TheOpen.{Field-F}
 use Rattle.ipc_model.specs.declared.schema.Schema.{Schema}
-use Rattle.ipc_meta.specs.Open.{is_open}
 use Rattle.ipc_meta.specs.Tables.{text_at, flag_at, vector_at, type_at, dictionary_at}
 
 module _ {X : Type 0} (At : X → Table → Type 0) where
@@ -24,11 +23,11 @@ module _ {X : Type 0} (At : X → Table → Type 0) where
 abbrev pub PairAt : List ℕ × List ℕ → Table → Type 0
 PairAt p t = (text_at t 0 ≡ Ok p.0) × (text_at t 1 ≡ Ok p.1)
 
--- Schema.fbs, table Field: 0 name, 1 nullable, 2 and 3 type, 4 dictionary, 5 children, 6 custom_metadata; a column of its type is read
+-- Schema.fbs, table Field: 0 name, 1 nullable, 2 and 3 type, 4 dictionary, 5 children, 6 custom_metadata
 abbrev pub field_step : (X : Type 0) → (X → Field) → (X → Table → Type 0) → Field-F X → Table → Type 0
 field_step X field At f t =
     (text_at t 0 ≡ Ok f.name) × (flag_at t 1 ≡ Ok f.nullable) × (type_at t ≡ Ok f.kind) × (dictionary_at t ≡ Ok f.dictionary)
-    × (is_open f.kind f.dictionary ≡ true) × VectorAt PairAt f.metadata t 6 × VectorAt At f.children t 5
+    × VectorAt PairAt f.metadata t 6 × VectorAt At f.children t 5
 
 -- the Field table t states this field, with all below it
 abbrev pub FieldAt : Field → Table → Type 0

@@ -1,5 +1,5 @@
 -- Which tables the metadata of a message has (Message.fbs, Schema.fbs), and where what they hold is ill-formed.
-use Rattle.std.specs.Prelude.{◌≡◌, ℕ, ◌+◌, ◌*◌, ◌<◌, List, Some, Result, Ok, Err, ◌⊎◌}
+use Rattle.std.specs.Prelude.{◌≡◌, ℕ, ◌+◌, ◌*◌, ◌<◌, true, List, Some, Result, Ok, Err, ◌⊎◌}
 use Rattle.ipc_scalar.specs.Bytes.{byte}
 use Rattle.ipc_scalar.specs.Flat.{slot_of, text_of}
 use Rattle.ipc_flat.specs.Views.{Table, Elements, table_from, scalar, field, elements_from, structs_from}
@@ -7,7 +7,7 @@ use Rattle.ipc_scalar.specs.declared.fault.FlatFault.{FlatFault}
 use Rattle.ipc_scalar.specs.declared.fault.FlatFault.TheVariants.{NotUtf8}
 use Rattle.ipc_model.specs.declared.fault.Fault.TheVariants.{BadFlat}
 use Rattle.ipc_meta.specs.Lifts.{lift}
-use Rattle.ipc_meta.specs.Tables.{vector_at, code_at}
+use Rattle.ipc_meta.specs.Tables.{vector_at, code_at, is_type_code}
 
 -- the tables that are looked at; a type's table has its code in union Type
 pub data Kind : Type 0 where
@@ -30,11 +30,11 @@ pub data Held : Type 0 where
   tables : Held
   structs : Held
 
--- the fields that are looked at, each with its number in its table (Message.fbs, Schema.fbs)
+-- the fields that are looked at, each with its number in its table (Message.fbs, Schema.fbs); the values of the unions MessageHeader and
+-- Type stand apart, since they are looked at where their codes are known
 pub data LooksAt : Kind → ℕ → Held → Type 0 where
   version : LooksAt message 0 (number 2)
   header_type : LooksAt message 1 (number 1)
-  header : LooksAt message 2 table
   body_length : LooksAt message 3 (number 8)
   endianness : LooksAt schema 0 (number 2)
   fields : LooksAt schema 1 tables
@@ -42,7 +42,6 @@ pub data LooksAt : Kind → ℕ → Held → Type 0 where
   name : LooksAt column 0 text
   nullable : LooksAt column 1 (number 1)
   type_type : LooksAt column 2 (number 1)
-  type : LooksAt column 3 table
   dictionary : LooksAt column 4 table
   children : LooksAt column 5 tables
   field_metadata : LooksAt column 6 tables
@@ -70,6 +69,10 @@ pub data LooksAt : Kind → ℕ → Held → Type 0 where
 -- u is one of the tables to which the offsets of the vector in field k of t point (FlatBuffers binary format, "Strings and Vectors")
 abbrev pub Element : Table → ℕ → Table → Type 0
 Element t k u = (es : Elements) × (i : ℕ) × (vector_at t k ≡ Ok es) × (i < es.len) × (table_from es.bytes (es.at + i * 4) ≡ Ok u)
+
+-- Message.fbs, union MessageHeader: Schema 1, DictionaryBatch 2, RecordBatch 3
+abbrev pub IsHeaderCode : ℕ → Type 0
+IsHeaderCode code = (code ≡ 1) ⊎ ((code ≡ 2) ⊎ (code ≡ 3))
 
 -- field 2 of a Message table holds the table of a header with this code in union MessageHeader (Message.fbs)
 abbrev pub Header : Table → ℕ → Table → Type 0
@@ -109,10 +112,12 @@ HoldsIllFormed t k tables =
     IsIllFormed (field t k (elements_from 4)) ⊎ ((es : Elements) × (i : ℕ) × (vector_at t k ≡ Ok es) × (i < es.len) × IsIllFormed (table_from es.bytes (es.at + i * 4)))
 HoldsIllFormed t k structs = IsIllFormed (field t k (structs_from 16))
 
--- the root table is ill-formed, or what a field holds that is looked at
+-- the root table is ill-formed, or what a field holds that is looked at, or the value of a union whose code is one that is read
 pub data HasIllFormed (b : List ℕ) : Type 0 where
   no_root : IsIllFormed (table_from b 0) → HasIllFormed b
   at_field : {kind : Kind} {held : Held} {t : Table} {k : ℕ} → HasTable b kind t → LooksAt kind k held → HoldsIllFormed t k held → HasIllFormed b
+  at_header : {t : Table} {code : ℕ} → HasTable b message t → scalar t 1 1 byte 0 ≡ Ok code → IsHeaderCode code → IsIllFormed (field t 2 table_from) → HasIllFormed b
+  at_type : {t : Table} {code : ℕ} → HasTable b column t → code_at t ≡ Ok code → is_type_code code ≡ true → IsIllFormed (field t 3 table_from) → HasIllFormed b
 
 -- a text that is looked at is not UTF-8 (FlatBuffers binary format, "Strings and Vectors")
 pub data HasOtherText (b : List ℕ) : Type 0 where

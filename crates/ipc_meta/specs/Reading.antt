@@ -1,22 +1,20 @@
 -- The fields and batches that tables state (Schema.fbs, Message.fbs) as functions: read in the order of the tables' fields, under a
 -- budget, with the fault of what is refused. Laws join them to the relations FieldAt and BatchAt.
-use Rattle.std.specs.Prelude.{pos, ℕ, zero, suc, ◌+◌, List, [], ◌∷◌, ◌++◌, length, Option, None, Some, Result, Ok, Err, if◌then◌else◌}
+use Rattle.std.specs.Prelude.{pos, ℕ, zero, suc, ◌+◌, List, [], ◌∷◌, ◌++◌, length, Option, None, Some, Result, Ok, Err}
 use Rattle.ipc_flat.specs.Views.{Table, table_from, scalar, field}
 use Rattle.ipc_model.specs.Answers.{◌>>=◌}
 use Rattle.ipc_model.specs.WellFormed.{kind_text}
 use Rattle.ipc_model.specs.declared.fault.Fault.{Fault}
-use Rattle.ipc_model.specs.declared.fault.Fault.TheVariants.{TooDeep, UnsupportedType, Compressed}
+use Rattle.ipc_model.specs.declared.fault.Fault.TheVariants.{TooDeep, Compressed}
 use Rattle.ipc_scalar.specs.Bytes.{int64}
 use Rattle.ipc_meta.specs.declared.head.BatchHead.{BatchHead}
 use Rattle.ipc_meta.specs.Heads.{numbers_at}
 use Rattle.ipc_model.specs.declared.schema.DataType.{DataType}
-use Rattle.ipc_model.specs.declared.schema.Dictionary.{Dictionary}
 use Rattle.ipc_model.specs.declared.schema.Field.{Field, roll-Field}
 use Rattle.ipc_meta.specs.declared.budget.Budget.{Budget}
 use Rattle.ipc_meta.specs.Budgets.{Reading, less_fields, less_text, less_pairs}
 use Rattle.ipc_meta.specs.Lifts.{lift}
-use Rattle.ipc_meta.specs.Open.{is_open}
-use Rattle.ipc_meta.specs.Tables.{text_at, flag_at, vector_at, code_at, type_at, dictionary_at}
+use Rattle.ipc_meta.specs.Tables.{text_at, flag_at, vector_at, type_at, dictionary_at}
 
 -- what f reads of n tables, to which the offsets from p on point, one after another
 unfoldable pub each : {X : Type 0} → (Table → Reading X) → List ℕ → ℕ → ℕ → Reading (List X)
@@ -43,10 +41,6 @@ pairs_read t k left = vector_at t k >>= λ es. less_pairs es.len left >>= each p
 unfoldable pub type_read : Table → Reading DataType
 type_read t left = type_at t >>= λ κ. less_text (kind_text κ) left >>= λ l. Ok (κ, l)
 
--- the dictionary of a Field table with this type, where such a column is read
-unfoldable pub stored_at : Table → DataType → Result (Option Dictionary) Fault
-stored_at t κ = dictionary_at t >>= λ d. code_at t >>= λ code. if is_open κ d then Ok d else Err (UnsupportedType code)
-
 -- the Field tables in field k, all counted before f reads the first
 unfoldable pub fields_read : (Table → Reading Field) → Table → ℕ → Reading (List Field)
 fields_read f t k left = vector_at t k >>= λ es. less_fields es.len left >>= each f es.bytes es.at es.len
@@ -58,7 +52,7 @@ field_read (suc depth) t left =
     text_read t 0 left >>= λ name.
     flag_at t 1 >>= λ nullable.
     type_read t name.1 >>= λ κ.
-    stored_at t κ.0 >>= λ dictionary.
+    dictionary_at t >>= λ dictionary.
     pairs_read t 6 κ.1 >>= λ pairs.
     fields_read (field_read depth) t 5 pairs.1 >>= λ children.
     Ok (roll-Field (record { name = name.0; nullable = nullable; kind = κ.0; dictionary = dictionary; children = children.0; metadata = pairs.0 }), children.1)

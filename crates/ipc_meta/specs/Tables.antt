@@ -1,5 +1,5 @@
 -- What single tables of the metadata state (Schema.fbs), with the default for each field that is absent.
-use Rattle.std.specs.Prelude.{ℕ, ◌==◌, Bool, true, nat_lt, ℤ, pos, negsuc, List, [], Option, None, Some, Result, Ok, Err, if◌then◌else◌}
+use Rattle.std.specs.Prelude.{ℕ, ◌==◌, ◌||◌, Bool, true, nat_lt, ℤ, pos, negsuc, List, [], Option, None, Some, Result, Ok, Err, if◌then◌else◌}
 use Rattle.ipc_scalar.specs.Bytes.{byte, int16, int32, int64}
 use Rattle.ipc_scalar.specs.Flat.{text_of}
 use Rattle.ipc_flat.specs.Views.{Table, Elements, table_from, scalar, field, elements_from}
@@ -102,9 +102,18 @@ type_in code (Some v) = type_of code v
 unfoldable pub code_at : Table → Result ℕ Fault
 code_at f = lift (scalar f 2 1 byte 0)
 
--- Schema.fbs, table Field: 2 the type's code, 3 the type's table
+-- Schema.fbs, union Type: the code is that of a type which `type_of` reads
+unfoldable pub is_type_code : ℕ → Bool
+is_type_code code =
+    code == 1 || (code == 2 || (code == 4 || (code == 5 || (code == 6 || (code == 8 || (code == 10 || (code == 12 || (code == 13 || code == 15))))))))
+
+-- what is read where the code is such a type's
+abbrev pub when_type : {X : Type 0} → ℕ → Result X Fault → Result X Fault
+when_type code r = if is_type_code code then r else Err (UnsupportedType code)
+
+-- Schema.fbs, table Field: 2 the type's code, 3 the type's table, which is looked at where the code is a type's
 unfoldable pub type_at : Table → Result DataType Fault
-type_at f = code_at f >>= λ code. lift (field f 3 table_from) >>= type_in code
+type_at f = code_at f >>= λ code. when_type code (lift (field f 3 table_from) >>= type_in code)
 
 -- Schema.fbs, table DictionaryEncoding, indexType: an Int table; where it is absent, indices are signed and have 32 bits
 abbrev pub index_in : Option Table → Result IndexType Fault

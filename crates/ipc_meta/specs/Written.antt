@@ -87,7 +87,12 @@ type_tree (t.Int bits sign) = int_tree bits sign
 type_tree (t.FixedSizeBinary n) = with_signed 0 w32 (cast_signed w32 n) none
 type_tree (t.Date unit) = with_signed 0 w16 (date_code unit) none
 type_tree (t.Timestamp unit timezone) = with_signed 0 w16 (time_code unit) (with_timezone timezone)
-type_tree _ = none
+type_tree t.Null = none
+type_tree t.Bool = none
+type_tree t.Binary = none
+type_tree t.Utf8 = none
+type_tree t.List = none
+type_tree t.Struct = none
 
 -- Schema.fbs, union Type: the code of a type
 abbrev pub type_code : DataType → ℕ

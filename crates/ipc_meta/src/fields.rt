@@ -4,7 +4,7 @@ ghost use Rattle.ipc_meta.specs.Reading.{text_read, pair_read, pairs_read, field
 
 use crate::budget::Budget;
 use crate::lifted::lifted;
-use crate::types::{read_counted_type, read_flag, read_stored};
+use crate::types::{read_counted_type, read_dictionary, read_flag};
 use ipc_flat::TableRef;
 use ipc_model::fault::Fault;
 use ipc_model::items::{Items, Text};
@@ -102,7 +102,7 @@ fn read_field(
     let name = read_text(alloc, table, 0, left)?;
     let nullable = read_flag(table, 1)?;
     let kind = read_counted_type(alloc, table, left)?;
-    let dictionary = read_stored(table, &kind)?;
+    let dictionary = read_dictionary(table)?;
     let metadata = read_pairs(alloc, table, 6, left)?;
     let children = read_fields(alloc, table, 5, depth - 1, left)?;
     Ok(Field {

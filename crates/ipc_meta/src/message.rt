@@ -1,9 +1,10 @@
-ghost use Rattle.std.specs.Prelude.{◌≡◌, ℕ, List, IfOk, IfErr, OnOk, MatchResult, Ok, pos};
+ghost use Rattle.std.specs.Prelude.{◌≡◌, ◌⊎◌, ℕ, List, IfOk, IfErr, OnOk, MatchResult, Ok, pos};
 ghost use Rattle.ipc_scalar.specs.Bytes.{int16};
 ghost use Rattle.ipc_flat.specs.Views.{scalar};
 ghost use Rattle.ipc_model.specs.Answers.{Aside, Gives};
 ghost use Rattle.ipc_meta.specs.Fields.{SchemaAt};
 ghost use Rattle.ipc_meta.specs.Heads.{HeaderAt, HeadOf};
+ghost use Rattle.ipc_meta.specs.Open.{IsRead, IsUnread};
 ghost use Rattle.ipc_meta.specs.Reached.{HasTable, message, schema};
 ghost use Rattle.ipc_meta.specs.Causes.{Cause};
 
@@ -12,6 +13,7 @@ use crate::budget::Budget;
 use crate::fields::{read_fields, read_pairs};
 use crate::head::Head;
 use crate::lifted::lifted;
+use crate::readable::check_read;
 use ipc_flat::{Flat, TableRef};
 use ipc_model::fault::Fault;
 use ipc_model::schema::Schema;
@@ -54,13 +56,17 @@ fn read_schema(alloc: Global, table: &TableRef<'_>) -> Result<Schema, Fault>
     Ok(schema)
 }
 
-// The header of a Message table (Message.fbs): 1 its code in union MessageHeader, 2 its table.
+// The header of a Message table (Message.fbs): 1 its code in union MessageHeader, 2 its table, which isn't
+// looked at where the code is none of a stream's.
 fn read_header(alloc: Global, root: &TableRef<'_>) -> Result<Head, Fault>
     ensures found { IfOk result (λ head. HeaderAt root.now head) }
     ensures only { (head : Head) → HeaderAt root.now head → Gives (λ y. y) result (Ok head) }
     ensures refused { IfErr result (λ f. (b : List ℕ) → HasTable b message root.now → Aside f (Cause b f)) }
 {
     let code = lifted(root.scalar_u8(1, 0))?;
+    if code == 0 || code > 3 {
+        return Err(Fault::BadHeader);
+    }
     let Some(table) = lifted(root.table(2))? else {
         return Err(Fault::BadHeader);
     };
@@ -75,43 +81,9 @@ fn read_header(alloc: Global, root: &TableRef<'_>) -> Result<Head, Fault>
     }
 }
 
-/// Reads the metadata of one message: what its header states, and how many bytes the message's body
-/// has, from 0 to 2^40 (Message.fbs, table Message).
-///
-/// `metadata` is the FlatBuffer alone, without the mark and the size before it; padding behind it may
-/// hold anything (Arrow Columnar Format, "Encapsulated message format"). A schema that is answered is
-/// well formed, and columns of each of its fields are read here. An absent vector is empty, an absent
-/// name, key or value is the empty text, and an absent timezone is none, unlike an empty one.
-/// Memory for texts, fields, nodes and buffers is taken from `alloc`.
-///
-/// # Errors
-///
-/// Each is true of the metadata. Where several causes stand in it, one of them is told.
-///
-/// - `BadFlat` (F5): an offset, a vtable or a range that is looked at is ill-formed (FlatBuffers
-///   binary format).
-/// - `BadVersion` (F6): the version is not V5.
-/// - `BadHeader` (F7): the header is neither a schema nor a dictionary batch nor a record batch, or
-///   it is absent, or it is a dictionary batch without data.
-/// - `BadBodyLength` (F8): the body has fewer than 0 bytes.
-/// - `BodyTooLong` (F9): the body has more than 2^40 bytes.
-/// - `BigEndian` (F12): the schema's endianness is not Little.
-/// - `UnsupportedType` (F13): columns of a field's type, with its dictionary, are not read here; with
-///   the type's code in union Type (Schema.fbs).
-/// - `BadType` (F14): a field's type has no table, or a width or a unit that no type has.
-/// - `BadChildren` (F15): a list without exactly one child, or children of a type that has none.
-/// - `NameNotUtf8` (F16): a name, a key, a value or a timezone is not UTF-8.
-/// - `TooManyFields` (F17): more than 65,536 fields with their descendants.
-/// - `TooDeep` (F18): fields more than 64 deep, where a column is 1 deep.
-/// - `TooMuchText` (F19): more than 2^26 bytes of names, keys, values and timezones, or more than
-///   2^20 pairs of key and value.
-/// - `DictionaryConflict` (F20): two fields have one dictionary and values of different types.
-/// - `NestedDictionary` (F21): a dictionary of lists or of structs.
-/// - `BadIndexType` (F22): a dictionary's indices have another width than 8, 16, 32 or 64 bits.
-/// - `Compressed` (F23): a batch has a table for its compression.
-/// - `DeltaDictionary` (F24): a dictionary batch adds to a dictionary.
-/// - `OutOfMemory` (F37): `alloc` refused memory.
-pub fn read_message(alloc: Global, metadata: &[u8]) -> Result<(Head, u64), Fault>
+// What the root table states (Message.fbs, table Message): the version, the body's length and the header,
+// whether or not columns of its types are read here.
+fn read_stated(alloc: Global, metadata: &[u8]) -> Result<(Head, u64), Fault>
     ensures found { IfOk result (λ r. HeadOf metadata.now r.0 r.1) }
     ensures only { (head : Head) (m : ℕ) → HeadOf metadata.now head m → MatchResult result (λ r. (r.0 ≡ head) × (r.1 ≡ m)) (λ f. f ≡ Fault.OutOfMemory) }
     ensures refused { IfErr result (λ f. Aside f (Cause metadata.now f)) }
@@ -129,4 +101,52 @@ pub fn read_message(alloc: Global, metadata: &[u8]) -> Result<(Head, u64), Fault
     }
     let head = read_header(alloc, &root)?;
     Ok((head, body.unsigned_abs()))
+}
+
+/// Reads the metadata of one message: what its header states, and how many bytes the message's body
+/// has, from 0 to 2^40 (Message.fbs, table Message).
+///
+/// `metadata` is the FlatBuffer alone, without the mark and the size before it; padding behind it may
+/// hold anything (Arrow Columnar Format, "Encapsulated message format"). A schema that is answered is
+/// well formed, and columns of each of its fields are read here (`are_open`). An absent vector is empty, an absent
+/// name, key or value is the empty text, and an absent timezone is none, unlike an empty one.
+/// Memory for texts, fields, nodes and buffers is taken from `alloc`.
+///
+/// # Errors
+///
+/// Each is true of the metadata. Where several causes stand in it, one of them is told.
+///
+/// - `BadFlat` (F5): an offset, a vtable or a range that is looked at is ill-formed (FlatBuffers
+///   binary format). What stands behind the code of another header or type isn't looked at.
+/// - `BadVersion` (F6): the version is not V5.
+/// - `BadHeader` (F7): the header is neither a schema nor a dictionary batch nor a record batch, or
+///   it is absent, or it is a dictionary batch without data.
+/// - `BadBodyLength` (F8): the body has fewer than 0 bytes.
+/// - `BodyTooLong` (F9): the body has more than 2^40 bytes.
+/// - `BigEndian` (F12): the schema's endianness is not Little.
+/// - `UnsupportedType` (F13): a field's type is none of those that are known here, or the metadata
+///   states a schema with a field whose columns are not read here (`are_open`); with the type's code
+///   in union Type (Schema.fbs).
+/// - `BadType` (F14): a field's type has no table, or a width or a unit that no type has.
+/// - `BadChildren` (F15): a list without exactly one child, or children of a type that has none.
+/// - `NameNotUtf8` (F16): a name, a key, a value or a timezone is not UTF-8.
+/// - `TooManyFields` (F17): more than 65,536 fields with their descendants.
+/// - `TooDeep` (F18): fields more than 64 deep, where a column is 1 deep.
+/// - `TooMuchText` (F19): more than 2^26 bytes of names, keys, values and timezones, or more than
+///   2^20 pairs of key and value.
+/// - `DictionaryConflict` (F20): two fields have one dictionary and values of different types.
+/// - `NestedDictionary` (F21): a dictionary of lists or of structs.
+/// - `BadIndexType` (F22): a dictionary's indices have another width than 8, 16, 32 or 64 bits.
+/// - `Compressed` (F23): a batch has a table for its compression.
+/// - `DeltaDictionary` (F24): a dictionary batch adds to a dictionary.
+/// - `OutOfMemory` (F37): `alloc` refused memory.
+pub fn read_message(alloc: Global, metadata: &[u8]) -> Result<(Head, u64), Fault>
+    ensures found { IfOk result (λ r. HeadOf metadata.now r.0 r.1) }
+    ensures read { IfOk result (λ r. IsRead r.0) }
+    ensures only { (head : Head) (m : ℕ) → HeadOf metadata.now head m → IsRead head → MatchResult result (λ r. (r.0 ≡ head) × (r.1 ≡ m)) (λ f. f ≡ Fault.OutOfMemory) }
+    ensures refused { IfErr result (λ f. Aside f (Cause metadata.now f ⊎ IsUnread metadata.now f)) }
+{
+    let (head, body) = read_stated(alloc, metadata)?;
+    check_read(&head)?;
+    Ok((head, body))
 }

@@ -1,27 +1,74 @@
-ghost use Rattle.std.specs.Prelude.{◌≡◌};
-ghost use Rattle.ipc_meta.specs.Open.{are_open, is_open_field};
+ghost use Rattle.std.specs.Prelude.{◌≡◌, true, false, List, ◌∷◌, MatchOption, OnOk, IfErr};
+ghost use Rattle.ipc_meta.specs.Open.{is_open, is_open_field, are_open, IsRead, HasUnread, TellsUnread};
 
-use crate::types::is_open;
-use ipc_model::schema::Field;
+use crate::head::Head;
+use crate::type_slots::type_number;
+use ipc_model::fault::Fault;
+use ipc_model::schema::{DataType, Dictionary, Field};
 
-// Whether columns of this field and of all below it are read and written.
-#[cycle(are_open)]
-fn is_open_field(field: &Field) -> bool
-    ensures { result ≡ is_open_field field.now }
+// Whether columns of this type with this dictionary are read.
+fn is_open(kind: &DataType, dictionary: Option<Dictionary>) -> bool
+    ensures { result ≡ is_open kind.now dictionary }
 {
-    is_open(&field.kind, field.dictionary) && are_open(field.children.as_slice())
+    dictionary.is_none()
+        && match kind {
+            DataType::Null
+            | DataType::Bool
+            | DataType::Int { .. }
+            | DataType::Binary
+            | DataType::Utf8
+            | DataType::FixedSizeBinary(_)
+            | DataType::Date(_)
+            | DataType::Timestamp { .. } => true,
+            DataType::List | DataType::Struct => false,
+        }
+}
+
+// The type's code (Schema.fbs, union Type) of this field, or of the first below it, whose columns are
+// not read.
+#[cycle(unread)]
+fn unread_at(field: &Field) -> Option<u8>
+    ensures { MatchOption result (is_open_field field.now ≡ true) (λ code. (is_open_field field.now ≡ false) × ((behind : List Field) → HasUnread code (field.now ∷ behind))) }
+{
+    if !is_open(&field.kind, field.dictionary) {
+        return Some(type_number(&field.kind));
+    }
+    unread_in(field.children.as_slice())
+}
+
+// The same of several fields.
+#[cycle(unread)]
+fn unread_in(fields: &[Field]) -> Option<u8>
+    ensures { MatchOption result (are_open fields.now ≡ true) (λ code. (are_open fields.now ≡ false) × HasUnread code fields.now) }
+{
+    for field in fields {
+        if let Some(code) = unread_at(field) {
+            return Some(code);
+        }
+    }
+    None
 }
 
 /// Whether columns of these fields, their descendants included, are read and written here: neither a list nor a struct, and
 /// without a dictionary (Schema.fbs, union Type and table DictionaryEncoding). It takes no memory.
-#[cycle(are_open)]
 pub fn are_open(fields: &[Field]) -> bool
     ensures { result ≡ are_open fields.now }
 {
-    for field in fields {
-        if !is_open_field(field) {
-            return false;
-        }
+    unread_in(fields).is_none()
+}
+
+/// Asks that the columns of a schema are read here. One that isn't is `UnsupportedType`, with its
+/// type's code.
+pub(crate) fn check_read(head: &Head) -> Result<(), Fault>
+    ensures ok { OnOk result (IsRead head.now) }
+    ensures only { IfErr result (λ f. ¬ IsRead head.now) }
+    ensures refused { IfErr result (λ f. TellsUnread head.now f) }
+{
+    let Head::Schema(schema) = head else {
+        return Ok(());
+    };
+    match unread_in(schema.fields.as_slice()) {
+        None => Ok(()),
+        Some(code) => Err(Fault::UnsupportedType(code)),
     }
-    true
 }

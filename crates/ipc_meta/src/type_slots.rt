@@ -93,7 +93,12 @@ pub(crate) fn type_slots(alloc: Global, kind: &DataType) -> Result<Slots, AllocE
         }
         DataType::Date(unit) => Ok(vec![in alloc; (0, Slot::I16(date_number(*unit)))]?),
         DataType::Timestamp { unit, timezone } => timestamp_slots(alloc, *unit, timezone),
-        _ => Ok(Vec::new(alloc)),
+        DataType::Null
+        | DataType::Bool
+        | DataType::Binary
+        | DataType::Utf8
+        | DataType::List
+        | DataType::Struct => Ok(Vec::new(alloc)),
     }
 }
 

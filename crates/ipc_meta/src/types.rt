@@ -1,9 +1,8 @@
 ghost use Rattle.std.specs.Prelude.{◌≡◌, ℤ, Ok, option_map, pos};
 ghost use Rattle.ipc_model.specs.Answers.{Gives};
 ghost use Rattle.ipc_model.specs.WellFormed.{kind_text};
-ghost use Rattle.ipc_meta.specs.Open.{is_open};
-ghost use Rattle.ipc_meta.specs.Tables.{bits_of, unit_of, int_at, fixed_at, date_at, timestamp_at, type_of, type_at, code_at, flag_at, index_at, dictionary_in, dictionary_at, map_ok};
-ghost use Rattle.ipc_meta.specs.Reading.{type_read, stored_at};
+ghost use Rattle.ipc_meta.specs.Tables.{bits_of, unit_of, int_at, fixed_at, date_at, timestamp_at, type_of, is_type_code, type_at, code_at, flag_at, index_at, dictionary_in, dictionary_at, map_ok};
+ghost use Rattle.ipc_meta.specs.Reading.{type_read};
 
 use crate::budget::Budget;
 use crate::lifted::lifted;
@@ -128,12 +127,24 @@ fn read_code(field: &TableRef<'_>) -> Result<u8, Fault>
     lifted(field.scalar_u8(2, 0))
 }
 
-// The type of a field (Schema.fbs, table Field, 2 and 3). A type without a table is `BadType`.
+// Whether `type_of` reads types with this code (Schema.fbs, union Type).
+#[tactic(auto, unfolding(crate::specs::Tables::is_type_code))]
+fn is_type_code(code: u8) -> bool
+    ensures { result ≡ is_type_code code }
+{
+    matches!(code, 1 | 2 | 4 | 5 | 6 | 8 | 10 | 12 | 13 | 15)
+}
+
+// The type of a field (Schema.fbs, table Field, 2 and 3). A code that no type here has is
+// `UnsupportedType`, and the table isn't looked at then; a type without a table is `BadType`.
 #[tactic(auto, unfolding(crate::specs::Tables::type_at))]
 fn read_type(alloc: Global, field: &TableRef<'_>) -> Result<DataType, Fault>
     ensures { Gives (λ κ. κ) result (type_at field.now) }
 {
     let code = read_code(field)?;
+    if !is_type_code(code) {
+        return Err(Fault::UnsupportedType(code));
+    }
     match lifted(field.table(3))? {
         None => Err(Fault::BadType),
         Some(table) => type_of(alloc, code, &table),
@@ -191,47 +202,13 @@ fn read_encoding(table: &TableRef<'_>) -> Result<Dictionary, Fault>
     Ok(Dictionary { id, index, ordered })
 }
 
-// The dictionary of a field (Schema.fbs, table Field, 4).
+/// The dictionary of a field (Schema.fbs, table Field, 4), where it has one.
 #[tactic(auto, unfolding(crate::specs::Tables::dictionary_at))]
-fn read_dictionary(field: &TableRef<'_>) -> Result<Option<Dictionary>, Fault>
+pub(crate) fn read_dictionary(field: &TableRef<'_>) -> Result<Option<Dictionary>, Fault>
     ensures { result ≡ dictionary_at field.now }
 {
     match lifted(field.table(4))? {
         None => Ok(None),
         Some(table) => Ok(Some(read_encoding(&table)?)),
     }
-}
-
-// Whether columns of this type with this dictionary are read.
-pub(crate) fn is_open(kind: &DataType, dictionary: Option<Dictionary>) -> bool
-    ensures { result ≡ is_open kind.now dictionary }
-{
-    dictionary.is_none()
-        && match kind {
-            DataType::Null
-            | DataType::Bool
-            | DataType::Int { .. }
-            | DataType::Binary
-            | DataType::Utf8
-            | DataType::FixedSizeBinary(_)
-            | DataType::Date(_)
-            | DataType::Timestamp { .. } => true,
-            DataType::List | DataType::Struct => false,
-        }
-}
-
-/// The dictionary of a field of this type. A field whose columns are not read is `UnsupportedType`.
-#[tactic(auto, unfolding(crate::specs::Reading::stored_at))]
-pub(crate) fn read_stored(
-    field: &TableRef<'_>,
-    kind: &DataType,
-) -> Result<Option<Dictionary>, Fault>
-    ensures { result ≡ stored_at field.now kind.now }
-{
-    let dictionary = read_dictionary(field)?;
-    let code = read_code(field)?;
-    if !is_open(kind, dictionary) {
-        return Err(Fault::UnsupportedType(code));
-    }
-    Ok(dictionary)
 }

@@ -1,12 +1,11 @@
 //! Metadata that is written.
-ghost use Rattle.std.specs.Prelude.{◌≡◌, ◌⊎◌, ◌<◌, ◌≤◌, ◌+◌, ◌*◌, ◌/◌, ◌^◌, ◌++◌, ℕ, List, length, true, IfOk, IfErr};
+ghost use Rattle.std.specs.Prelude.{◌≡◌, ◌⊎◌, ◌<◌, ◌≤◌, ◌+◌, ◌*◌, ◌/◌, ◌^◌, ◌++◌, ℕ, List, length, IfOk, IfErr};
 ghost use Rattle.ipc_build.specs.Trees.{Tree, view};
 ghost use Rattle.ipc_build.specs.Lies.{Lies, Aligned};
 ghost use Rattle.ipc_build.specs.Ascends.{Ascends, fields};
 ghost use Rattle.ipc_build.specs.Room.{room, size};
 ghost use Rattle.ipc_model.specs.Meaning.{WellFormed};
 ghost use Rattle.ipc_meta.specs.Heads.{HeadOf};
-ghost use Rattle.ipc_meta.specs.Open.{are_open};
 ghost use Rattle.ipc_meta.specs.Rooms.{head_room, schema_room};
 ghost use Rattle.ipc_meta.specs.Written.{schema_message, batch_message};
 
@@ -57,8 +56,7 @@ pub fn write_schema(alloc: Global, schema: &Schema) -> Result<Vec<u8>, WriteFaul
     // Exactly these fields are there, whatever follows.
     ensures lies { IfOk result (λ b. (rest : List ℕ) → Lies (b.items ++ rest) (schema_message schema.now)) }
     ensures aligned { IfOk result (λ b. Aligned b.items (schema_message schema.now)) }
-    // They state this schema to a reader of its types.
-    ensures states { IfOk result (λ b. are_open schema.now.fields ≡ true → (rest : List ℕ) → HeadOf (b.items ++ rest) (Head.Schema schema.now) 0) }
+    ensures states { IfOk result (λ b. (rest : List ℕ) → HeadOf (b.items ++ rest) (Head.Schema schema.now) 0) }
     // Nothing stands behind them.
     ensures size { IfOk result (λ b. length b.items ≡ size (schema_message schema.now)) }
     ensures within { IfOk result (λ b. (length b.items + 7) / 8 * 8 ≤ schema_room schema.now) }

@@ -1,14 +1,21 @@
-use Rattle.std.proofs.Common.{◌∙◌, sym, ap}
+use Rattle.std.proofs.Common.{◌≡◌, ◌∙◌, refl, sym, ap, ℕ, zero, suc, ◌≤◌, inl, inr, arith}
 use Rattle.std.specs.Prelude.{Ok}
 use Rattle.std.proofs.lemmas.Result.{err_from_is_err_and}
 use Rattle.ipc_meta.specs.Lifts.{lift}
 use Rattle.ipc_meta.proofs.Sound.{lift_ok, batch_sound}
 use Rattle.ipc_meta.proofs.Unique.{header_same, dictionary_refused, batch_refused}
 use Rattle.ipc_scalar.specs.Bytes.{byte}
-use Rattle.ipc_meta.specs.Reached.{message, header_type, header, of_schema, of_dictionary, of_batch}
+use Rattle.ipc_meta.specs.Reached.{message, header_type, IsHeaderCode, at_header, of_schema, of_dictionary, of_batch}
 use Rattle.ipc_meta.proofs.Refused as told
-use Rattle.ipc_meta.proofs.Refused.{bad_number, bad_table}
+use Rattle.ipc_meta.proofs.Refused.{bad_number, bad_value}
 use Rattle.ipc_meta.proofs.message.read_header.Goals as goal
+
+one_of_three : (n : ℕ) → (n ≡ 0 → ⊥) → n ≤ 3 → IsHeaderCode n
+one_of_three zero some few = absurd (some refl)
+one_of_three (suc zero) some few = inl refl
+one_of_three (suc (suc zero)) some few = inr (inl refl)
+one_of_three (suc (suc (suc zero))) some few = inr (inr refl)
+one_of_three (suc (suc (suc (suc n)))) some few = absurd (omega arith)
 
 pub returns-in_ok-read_batch-in-3-clause-found : goal.returns-in_ok-read_batch-in-3-clause-found
 returns-in_ok-read_batch-in-3-clause-found c = (
@@ -39,7 +46,8 @@ returns-in_err-code-clause-refused c =
 pub returns-in_err-table-clause-refused : goal.returns-in_err-table-clause-refused
 returns-in_err-table-clause-refused c =
     let p = err_from_is_err_and c.from_residual-in_err-table.result c.from_residual-in_err-table.ensures.1 in
-    rw (p.1, p.2) (λ b has ne. bad_table b message _ 2 _ has header (ap lift (sym c.table.ensures) ∙ sym c.in_err-table.ensures))
+    let code = lift_ok _ _ (ap lift (sym c.scalar_u8.ensures) ∙ sym c.in_ok-code.ensures) in
+    rw (p.1, p.2) (λ b has ne. bad_value b _ 2 _ (at_header has code (one_of_three c.in_ok-code.code c.if-code-eq0.false (omega (arith, c.if-code-gt3.false)))) (ap lift (sym c.table.ensures) ∙ sym c.in_err-table.ensures))
 
 pub returns-in_err-read_schema-in-1-clause-refused : goal.returns-in_err-read_schema-in-1-clause-refused
 returns-in_err-read_schema-in-1-clause-refused c =
