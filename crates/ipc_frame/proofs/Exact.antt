@@ -8,6 +8,7 @@ use Rattle.ipc_model.specs.declared.fault.Fault.{Fault}
 use Rattle.ipc_model.specs.declared.fault.Fault.TheVariants.{NotContinued, BadMetadataLength, MetadataTooLong}
 use Rattle.ipc_meta.specs.declared.head.Head.{Head}
 use Rattle.ipc_meta.specs.Causes.{Cause}
+use Rattle.ipc_meta.specs.Open.{IsUnread}
 use Rattle.ipc_meta.specs.Heads.{HeadOf}
 use Rattle.ipc_meta.proofs.Unique.{head_same}
 use Rattle.ipc_meta.proofs.Empty.{no_metadata}
@@ -50,8 +51,8 @@ no_head_longer z c e s = record {
   begins = begins_longer z c s.size s.begins;
   some = s.some;
   whole = omega (arith, s.whole, length-append z c);
-  none = λ head m states. s.none head m (subst (λ x. HeadOf x head m) (metadata_longer z c s.size s.whole) states);
-  cause = subst (λ x. Cause x e) (sym (metadata_longer z c s.size s.whole)) s.cause;
+  none = λ head m states read. s.none head m (subst (λ x. HeadOf x head m) (metadata_longer z c s.size s.whole) states) read;
+  cause = subst (λ x. Cause x e ⊎ IsUnread x e) (sym (metadata_longer z c s.size s.whole)) s.cause;
 }
 
 -- ---- no more than the bytes wanted
@@ -83,7 +84,7 @@ module _ (z c : List ℕ) (k : ℕ) (few : length c ≤ k) where
   frame_exact (in_mark some e) n m body g fits f = omega (arith, long, frame_size n m body g f)
   frame_exact (in_size some e l w) n m body g fits f = omega (arith, long, frame_size n m body g f)
   frame_exact (in_metadata {n = j} some e b) n m body g fits f = omega (arith, long, frame_size n m body g f, frame_sized n j m body g f b)
-  frame_exact (in_body {n = j} {m = q} {head = h} some e b whole states) n m body g fits f =
+  frame_exact (in_body {n = j} {m = q} {head = h} some e b whole states read) n m body g fits f =
       omega (arith, long, frame_size n m body g f, frame_sized n j m body g f b, frame_stated n j q m body g h f b whole states)
 
   end_sized : (n j : ℕ) → take n (z ++ c) ≡ eos → Begins z j → j ≡ 0
@@ -95,7 +96,7 @@ module _ (z c : List ℕ) (k : ℕ) (few : length c ≤ k) where
   end_exact (in_mark some e) n fits is = omega (arith, long, ap length is, length-take n (z ++ c))
   end_exact (in_size some e l w) n fits is = omega (arith, long, ap length is, length-take n (z ++ c))
   end_exact (in_metadata {n = j} some e b) n fits is = omega (arith, long, ap length is, length-take n (z ++ c), end_sized n j is b)
-  end_exact (in_body {n = j} {m = q} {head = h} some e b whole states) n fits is =
+  end_exact (in_body {n = j} {m = q} {head = h} some e b whole states read) n fits is =
       absurd (no_metadata h q (subst (λ i. HeadOf (take (8 + i - 8) (drop 8 z)) h q) (end_sized n j is b) states))
 
   not_negative : (j : ℕ) → Begins z j → int_lt (int32 (z ++ c) 4) (pos 0) ≡ true → ⊥
@@ -108,25 +109,25 @@ module _ (z c : List ℕ) (k : ℕ) (few : length c ≤ k) where
   start_exact (in_mark some e) NotContinued r = omega (arith, long, r.0)
   start_exact (in_size some e l w) NotContinued r = absurd (r.1 (mark_longer z c l w))
   start_exact (in_metadata {n = j} some e b) NotContinued r = absurd (r.1 (begins_longer z c j b).marked)
-  start_exact (in_body {n = j} some e b whole states) NotContinued r = absurd (r.1 (begins_longer z c j b).marked)
+  start_exact (in_body {n = j} some e b whole states read) NotContinued r = absurd (r.1 (begins_longer z c j b).marked)
   start_exact (in_mark some e) BadMetadataLength r = omega (arith, long, r.0)
   start_exact (in_size some e l w) BadMetadataLength r = omega (arith, long, r.0)
   start_exact (in_metadata {n = j} some e b) BadMetadataLength r = absurd (not_negative j b r.2)
-  start_exact (in_body {n = j} some e b whole states) BadMetadataLength r = absurd (not_negative j b r.2)
+  start_exact (in_body {n = j} some e b whole states read) BadMetadataLength r = absurd (not_negative j b r.2)
   start_exact (in_mark some e) MetadataTooLong r = omega (arith, long, r.0)
   start_exact (in_size some e l w) MetadataTooLong r = omega (arith, long, r.0)
   start_exact (in_metadata {n = j} some e b) MetadataTooLong r = absurd (not_longer j b r.2)
-  start_exact (in_body {n = j} some e b whole states) MetadataTooLong r = absurd (not_longer j b r.2)
+  start_exact (in_body {n = j} some e b whole states read) MetadataTooLong r = absurd (not_longer j b r.2)
   start_exact p _ r = absurd r
 
   no_head_exact : (fault : Fault) → Pending z k → (s : StatesNoHead (z ++ c) fault) → length (z ++ c) ≡ 8 + s.size
   no_head_exact fault (in_mark some e) s = omega (arith, long, s.whole, s.some)
   no_head_exact fault (in_size some e l w) s = omega (arith, long, s.whole, s.some)
   no_head_exact fault (in_metadata {n = j} some e b) s = omega (arith, long, s.whole, begins_one (z ++ c) j s.size (begins_longer z c j b) s.begins)
-  no_head_exact fault (in_body {n = j} {m = q} {head = h} some e b whole states) s =
+  no_head_exact fault (in_body {n = j} {m = q} {head = h} some e b whole states read) s =
       let same = begins_one (z ++ c) j s.size (begins_longer z c j b) s.begins in
       let here : HeadOf (slice_range (z ++ c) 8 (8 + j)) h q = subst (λ x. HeadOf x h q) (sym (metadata_longer z c j whole)) states in
-      absurd (s.none h q (subst (λ i. HeadOf (slice_range (z ++ c) 8 (8 + i)) h q) same here))
+      absurd (s.none h q (subst (λ i. HeadOf (slice_range (z ++ c) 8 (8 + i)) h q) same here) read)
 
   refuses_now : Pending z k → (e : Fault) → (RefusesStart (z ++ c) e ⊎ StatesNoHead (z ++ c) e) → RefusesNow (z ++ c) e
   refuses_now p e (inl r) = inl (r, start_exact p e r)
@@ -139,10 +140,10 @@ module _ (z c : List ℕ) (k : ℕ) (few : length c ≤ k) where
   pub seen_exactly : Pending z k → (r : Result Seen Fault) → Sees (z ++ c) r → SeesExactly (z ++ c) r
   seen_exactly p (Ok (Whole (f.Message meta head body) n)) s =
       let all = frame_exact p n meta.items body.items head s.0 s.1 in
-      (all, subst (λ x. Frame x meta.items head body.items) (all_of n all) s.1)
+      (all, subst (λ x. Frame x meta.items head body.items) (all_of n all) s.1, s.2)
   seen_exactly p (Ok (Whole f.End n)) s =
       let all = end_exact p n s.0 s.1 in
-      (all, sym (all_of n all) ∙ s.1)
+      (all, sym (all_of n all) ∙ s.1, tt)
   seen_exactly p (Ok (Short j)) s = s
   seen_exactly p (Err e) s = λ other. refuses_now p e (s other)
 

@@ -80,8 +80,9 @@ fn read_body(alloc: Global, bytes: &[u8], size: usize) -> Result<Seen, Fault>
 ///
 /// `Seen::Whole` gives a message or the end-of-stream mark and how many bytes it has; `Seen::Short` says how many bytes are
 /// still needed before the next decision: at 4 bytes, at 8, at the whole metadata, at the whole body. Refused are first
-/// bytes other than the mark (F1), a size below 0 (F2) or above 2^24 (F3), metadata that states no head (F5 to F9 and F12
-/// to F24, each for its cause in the metadata, as `ipc_meta::read_message` tells them), and F37 where a copy finds no room.
+/// bytes other than the mark (F1), a size below 0 (F2) or above 2^24 (F3), metadata that states no head whose types are read (F5 to
+/// F9 and F12 to F24, each for its cause in the metadata, as `ipc_meta::read_message` tells them), and F37 where a copy finds no
+/// room.
 pub fn next_frame(alloc: Global, bytes: &[u8]) -> Result<Seen, Fault>
     ensures { Sees bytes.now result }
 {

@@ -1,12 +1,13 @@
 -- What a call of a reader answers where a message, or an end, is at the front of what its source gives.
 use Rattle.std.proofs.Common.{◌≡◌, ◌≢◌, ◌∙◌, refl, sym, ap, subst, ℕ, inl, inr, List, [], ◌∷◌, ◌++◌, Option, Some, None, Result, Ok, Err, append_assoc}
-use Rattle.std.specs.Prelude.{IfErr, IfOk, MatchResult}
+use Rattle.std.specs.Prelude.{IfErr, IfOk, MatchResult, true}
 use Rattle.std.specs.Io.KnownBytes.{Consumes, IsAtEnd}
 use Rattle.std.proofs.lemmas.List.{append-nil}
 use Rattle.ipc_model.specs.declared.fault.Fault.{Fault}
 use Rattle.ipc_model.specs.declared.schema.Schema.{Schema}
 use Rattle.ipc_model.specs.declared.value.Value.{Value}
 use Rattle.ipc_meta.specs.declared.head.Head.{Head}
+use Rattle.ipc_meta.specs.Open.{IsRead, are_open}
 use Rattle.ipc_frame.specs.Frames.{eos, Frame}
 use Rattle.ipc_frame.proofs.OneFrame.{frame_one}
 use Rattle.ipc_column.specs.Contents.{Contents}
@@ -19,7 +20,7 @@ use Rattle.ipc_stream.specs.Reasons.{Ends, IsAside, Reads}
 use Rattle.ipc_stream.specs.Stream.{Event, Open, Run, State, Step, batch, came, done, first, more, schema}
 use Rattle.ipc_stream.specs.Writing.{AddsRows, OpensStream}
 use Rattle.ipc_stream.proofs.OneReading.{IsStop, at_eos, frame_stop, step_one}
-use Rattle.ipc_stream.proofs.Reasons.{message_breaks, stop_breaks}
+use Rattle.ipc_stream.proofs.Reasons.{message_breaks, step_read, stop_breaks}
 
 -- ---- runs of one event, and of none
 
@@ -76,13 +77,13 @@ nothing_read σ x left r h =
     let all : h.rest ≡ x = sym (h.joined ∙ ap (λ z. z ++ h.rest) none.0) in
     subst (λ z. Ends σ z left r) all (subst (λ τ. Ends τ h.rest left r) (sym none.1) h.ends)
 
-module _ (σ : State) (x u z b : List ℕ) (e : Event) (m : IsMessage σ x e) (joined : x ++ u ≡ z ++ b) where
+module _ (σ : State) (x u z b : List ℕ) (e : Event) (m : IsMessage σ x e) (read : IsRead m.head) (joined : x ++ u ≡ z ++ b) where
   no_end : (end : End) → Ends σ z (Some b) (Ok end) → ⊥
   no_end Mark h = frame_stop x m.metadata m.body u (z ++ b) m.head m.frame joined (inr (b, ap (λ y. y ++ b) h.0))
   no_end Closed h = frame_stop x m.metadata m.body u (z ++ b) m.head m.frame joined (inl (ap (λ y. y ++ b) h.0 ∙ h.2))
 
   only_aside : (fault : Fault) → Ends σ z (Some b) (Err fault) → IsAside fault
-  only_aside fault h = message_breaks σ m.next x m.metadata m.body u z b m.head (e ∷ []) m.frame m.step joined fault h
+  only_aside fault h = message_breaks σ m.next x m.metadata m.body u z b m.head (e ∷ []) m.frame m.step read joined fault h
 
 -- the bytes that are left where they are known
 known : (y z : List ℕ) (old new : Option (List ℕ)) → old ≡ Some y → Consumes old new z → (b : List ℕ) × (new ≡ Some b) × (y ≡ z ++ b)
@@ -97,22 +98,25 @@ opens_schema old new x rest s h is o =
     let one : schema s ≡ schema new.schema = same_event None x h.x rest k.0 (schema s) (schema new.schema) (one_message (schema s) o refl) (one_message (schema new.schema) h.run refl) k.2 in
     cc
 
-pub opens_fails : (old new : Option (List ℕ)) (fault : Fault) (x rest : List ℕ) (s : Schema) → OpensNot old new fault → old ≡ Some (x ++ rest) → OpensStream s x → IsAside fault
-opens_fails old new fault x rest s h is o =
+pub opens_fails : (old new : Option (List ℕ)) (fault : Fault) (x rest : List ℕ) (s : Schema) → are_open s.fields ≡ true → OpensNot old new fault → old ≡ Some (x ++ rest) → OpensStream s x → IsAside fault
+opens_fails old new fault x rest s read h is o =
     let k = known (x ++ rest) h.x old new is h.bytes in
     let reads = subst (λ left. Reads None h.x left [] (Err fault)) k.1 h.reads in
-    only_aside None x rest h.x k.0 (schema s) (one_message (schema s) o refl) k.2 fault (nothing_read None h.x (Some k.0) (Err fault) reads)
+    let m = one_message (schema s) o refl in
+    only_aside None x rest h.x k.0 (schema s) m (step_read [] m.step (read, tt)).0 k.2 fault (nothing_read None h.x (Some k.0) (Err fault) reads)
 
 -- the schema, or want of memory or a failure of the source
-pub opens_or : {T E : Type 0} (r : Result T E) (view : T → Reader) (left : E → Option (List ℕ)) (fault : E → Fault) (old : Option (List ℕ)) (x rest : List ℕ) (s : Schema)
+pub opens_or : {T E : Type 0} (r : Result T E) (view : T → Reader) (left : E → Option (List ℕ)) (fault : E → Fault) (old : Option (List ℕ)) (x rest : List ℕ) (s : Schema) → are_open s.fields ≡ true
     → IfOk r (λ t. Opens old (view t)) → IfErr r (λ e. OpensNot old (left e) (fault e)) → old ≡ Some (x ++ rest) → OpensStream s x → MatchResult r (λ t. (view t).schema ≡ s) (λ e. IsAside (fault e))
-opens_or (Ok t) view left fault old x rest s opened refused is o = opens_schema old (view t) x rest s opened is o
-opens_or (Err e) view left fault old x rest s opened refused is o = opens_fails old (left e) (fault e) x rest s refused is o
+opens_or (Ok t) view left fault old x rest s read opened refused is o = opens_schema old (view t) x rest s opened is o
+opens_or (Err e) view left fault old x rest s read opened refused is o = opens_fails old (left e) (fault e) x rest s read refused is o
 
 -- ---- a batch
 
 module _ (o : Open) (x u z b : List ℕ) (rows : List (List Value)) (m : IsMessage (Some o) x (batch rows)) (joined : x ++ u ≡ z ++ b) where
-  -- `phase` is the one behind the call
+  read : IsRead m.head
+  read = (step_read [] m.step (tt, tt)).0
+
   abbrev RowsOr : Result (Option Contents) Fault → Type 0
   RowsOr r = MatchResult r (λ found. GivesRows found rows) IsAside
 
@@ -123,11 +127,11 @@ module _ (o : Open) (x u z b : List ℕ) (rows : List (List Value)) (m : IsMessa
   gives_batch (Ok (Some found)) (phase.Ended end) h = absurd h
   gives_batch (Ok (Some found)) phase.Refused h = absurd h
   gives_batch (Ok None) phase.Reading h = absurd h
-  gives_batch (Ok None) (phase.Ended end) h = absurd (no_end (Some o) x u z b (batch rows) m joined end (nothing_read (Some o) z (Some b) (Ok end) h))
+  gives_batch (Ok None) (phase.Ended end) h = absurd (no_end (Some o) x u z b (batch rows) m read joined end (nothing_read (Some o) z (Some b) (Ok end) h))
   gives_batch (Ok None) phase.Refused h = absurd h
   gives_batch (Err fault) phase.Reading h = absurd h
   gives_batch (Err fault) (phase.Ended end) h = absurd h
-  gives_batch (Err fault) phase.Refused h = only_aside (Some o) x u z b (batch rows) m joined fault (nothing_read (Some o) z (Some b) (Err fault) h)
+  gives_batch (Err fault) phase.Refused h = only_aside (Some o) x u z b (batch rows) m read joined fault (nothing_read (Some o) z (Some b) (Err fault) h)
 
 pub next_batch : (old new : Reader) (r : Result (Option Contents) Fault) (x rest : List ℕ) (rows : List (List Value)) → NextTakes old new r → old.phase ≡ phase.Reading → old.remaining ≡ Some (x ++ rest) → AddsRows old.schema rows x → MatchResult r (λ found. GivesRows found rows) IsAside
 next_batch old new r x rest rows h reading is adds =

@@ -10,23 +10,23 @@ use Rattle.ipc_model.specs.declared.schema.Field.{Field, fold-roll-Field, ind-Fi
 use Rattle.ipc_model.specs.declared.schema.Field.TheOpen.{Field-F}
 use Rattle.ipc_model.specs.declared.schema.Schema.{Schema}
 use Rattle.ipc_meta.specs.Open.{all_true, are_open, is_open, is_open_field, open_step}
+use Rattle.ipc_stream.specs.Readable.{IsReadable}
 use Rattle.ipc_stream.specs.Reasons.{NamesNone}
 
 -- no entry of the list has a dictionary
 abbrev Plain : List Entry → Type 0
 Plain es = (e : Entry) → IsAmong e es → e.dictionary ≡ None
 
-plain_both : (xs ys : List Entry) → Plain xs → Plain ys → Plain (xs ++ ys)
-plain_both [] ys p q = q
-plain_both (x ∷ xs) ys p q = go
-  where
-    go : Plain ((x ∷ xs) ++ ys)
-    go e (inl here) = p e (inl here)
-    go e (inr later) = plain_both xs ys (λ a among. p a (inr among)) q e later
+none_plain : Plain []
+none_plain e among = absurd among
 
 plain_first : (x : Entry) (xs : List Entry) → x.dictionary ≡ None → Plain xs → Plain (x ∷ xs)
 plain_first x xs none p e (inl here) = ap (λ a. a.dictionary) (sym here) ∙ none
 plain_first x xs none p e (inr later) = p e later
+
+plain_both : (xs ys : List Entry) → Plain xs → Plain ys → Plain (xs ++ ys)
+plain_both [] ys p q = q
+plain_both (x ∷ xs) ys p q = plain_first x (xs ++ ys) (p x (inl refl)) (plain_both xs ys (λ a among. p a (inr among)) q)
 
 no_dictionary : (kind : DataType) (d : Option Dictionary) → is_open kind d ≡ true → d ≡ None
 no_dictionary kind None h = refl
@@ -39,7 +39,7 @@ abbrev Shown : Type 0
 Shown = (f : Field) × IsPlain f
 
 children_plain : (d : ℕ) (cs : List Shown) → all_true (map is_open_field (map (λ c. c.0) cs)) ≡ true → Plain (all_at d (map preorder (map (λ c. c.0) cs)))
-children_plain d [] h e among = absurd among
+children_plain d [] h = none_plain
 children_plain d (c ∷ cs) h =
     let parts = and_parts (is_open_field c.0) (all_true (map is_open_field (map (λ x. x.0) cs))) h in
     plain_both (preorder c.0 d) (all_at d (map preorder (map (λ x. x.0) cs))) (c.1 parts.0 d) (children_plain d cs parts.1)
@@ -56,11 +56,12 @@ field_plain : (f : Field) → IsPlain f
 field_plain = ind-Field IsPlain roll_plain
 
 fields_plain : (fs : List Field) → are_open fs ≡ true → Plain (entries fs)
-fields_plain [] h e among = absurd among
+fields_plain [] h = none_plain
 fields_plain (f ∷ fs) h =
     let parts = and_parts (is_open_field f) (are_open fs) h in
     plain_both (preorder f 1) (all_at 1 (map preorder fs)) (field_plain f parts.0 1) (fields_plain fs parts.1)
 
-pub open_names_none : (s : Schema) (id : ℤ) → are_open s.fields ≡ true → NamesNone id s
-open_names_none s id h e among d some same =
-    let none : Some d ≡ None = sym some ∙ fields_plain s.fields h e among in absurd (cc)
+pub open_names_none : (s : Schema) (id : ℤ) → IsReadable s → NamesNone id s
+open_names_none s id readable = record {
+  none = λ e among d some same. let none : Some d ≡ None = sym some ∙ fields_plain s.fields readable.open_fields e among in absurd (cc);
+}

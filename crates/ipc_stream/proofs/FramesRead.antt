@@ -1,9 +1,12 @@
 -- A frame that is read from a source.
-use Rattle.std.proofs.Common.{◌≡◌, ◌≢◌, ◌∙◌, refl, sym, ap, subst, ℕ, ◌+◌, ◌^◌, ◌-◌, ◌<◌, ◌≤◌, inl, inr, List, [], ◌++◌, Option, Some, None, Result, Ok, Err, length, length-append, arith}
+use Rattle.std.proofs.Common.{◌≡◌, ◌≢◌, ◌⊎◌, ◌∙◌, refl, sym, ap, subst, ℕ, ◌+◌, ◌^◌, ◌-◌, ◌<◌, ◌≤◌, inl, inr, List, [], ◌++◌, Option, Some, None, Result, Ok, Err, length, length-append, arith}
 use Rattle.std.specs.Prelude.{Bool, true, false}
 use Rattle.std.proofs.lemmas.List.{append-nil, nil_from_length}
 use Rattle.ipc_model.specs.declared.fault.Fault.{Fault}
 use Rattle.ipc_model.specs.declared.fault.Fault.TheVariants.{OutOfMemory, Read, Truncated}
+use Rattle.ipc_meta.specs.declared.head.Head.{Head}
+use Rattle.ipc_meta.specs.declared.head.Head.TheVariants as h
+use Rattle.ipc_meta.specs.Open.{IsUnread, TellsUnread}
 use Rattle.ipc_frame.specs.Frames.{Pending, in_mark, in_size, in_metadata, in_body}
 use Rattle.ipc_frame.specs.Sees.{Refuses, Sees}
 use Rattle.ipc_frame.specs.Decisions.{SeesExactly}
@@ -35,19 +38,28 @@ breaks_frame z left e sees = elim (is_memory e) as (λ b. is_memory e ≡ b → 
   | false ↦ λ h. refused (sees (λ p. other_fault e h p))
 ] refl
 
+not_unread : (head : Head) → TellsUnread head Read → ⊥
+not_unread (h.Schema s) (code, is, unread) = cc
+not_unread (h.Dictionary id b) bad = bad
+not_unread (h.Batch b) bad = bad
+
+no_cause : {metadata : List ℕ} → ⊥ ⊎ IsUnread metadata Read → ⊥
+no_cause (inl bad) = bad
+no_cause (inr unread) = not_unread unread.0 unread.3
+
 -- what is seen of some bytes is no failure of their source
 pub not_read : (z : List ℕ) (e : Fault) → Sees z (Err e) → e ≢ Read
 not_read z e sees is = read_no_refusal (subst (Refuses z) is (sees (λ p. let q : Read ≡ OutOfMemory = sym is ∙ p in cc)))
   where
     read_no_refusal : Refuses z Read → ⊥
     read_no_refusal (inl early) = early
-    read_no_refusal (inr late) = late.cause
+    read_no_refusal (inr late) = no_cause late.cause
 
 pending_some : (z : List ℕ) (k : ℕ) → Pending z k → 0 < k
 pending_some z k (in_mark some e) = some
 pending_some z k (in_size some e l m) = some
 pending_some z k (in_metadata some e b) = some
-pending_some z k (in_body some e b l states) = some
+pending_some z k (in_body some e b l states read) = some
 
 pub wanted_none : Wanted []
 wanted_none = record { front = []; behind = []; wants = 4; joined = refl; undecided = pending_none; few = omega arith }
@@ -89,7 +101,7 @@ module _ (old now new : Option (List ℕ)) (b0 b1 f0 f1 n0 n1 n2 : ℕ) (kept ke
   same_kept none = f.kept ∙ (ap (λ x. kept ++ x) (nil_from_length f.came (f.count ∙ none)) ∙ append-nil kept)
 
   pub frame_read : (frame : Framed) (n : ℕ) → Sees kept' (Ok (Whole frame n)) → TakesFrame old new n0 n2 (Ok (Some frame))
-  frame_read frame n s = record { z = kept'; takes = taken_now; wanted = wanted_now; gives = (seen_now (Ok (Whole frame n)) s).1 }
+  frame_read frame n s = record { z = kept'; takes = taken_now; wanted = wanted_now; gives = let seen = seen_now (Ok (Whole frame n)) s in (seen.1, seen.2) }
 
   pub frame_refused : (e : Fault) → Sees kept' (Err e) → TakesFrame old new n0 n2 (Err e)
   frame_refused e s = record { z = kept'; takes = taken_now; wanted = wanted_now; gives = breaks_frame kept' new e (seen_now (Err e) s) }

@@ -2,6 +2,7 @@
 use Rattle.std.proofs.Common.{◌≡◌, ◌≢◌, ◌∙◌, refl, sym, ap, subst, ℕ, ◌⊎◌, inl, inr, List, [], ◌++◌, length, append_assoc, arith, Some, None}
 use Rattle.std.specs.Io.KnownBytes.{IsAtEnd}
 use Rattle.std.specs.Prelude.{ℤ}
+use Rattle.std.specs.List.{AllByRecursion}
 use Rattle.std.proofs.lemmas.List.{append-nil}
 use Rattle.ipc_model.specs.declared.fault.Fault.{Fault}
 use Rattle.ipc_model.specs.declared.fault.Fault.TheVariants.{OutOfMemory}
@@ -10,6 +11,7 @@ use Rattle.ipc_model.specs.declared.value.Value.{Value}
 use Rattle.ipc_meta.specs.declared.head.Head.{Head}
 use Rattle.ipc_meta.specs.declared.head.Head.TheVariants as h
 use Rattle.ipc_meta.specs.declared.head.BatchHead.{BatchHead}
+use Rattle.ipc_meta.specs.Open.{IsRead}
 use Rattle.ipc_frame.specs.Frames.{Frame, Pending}
 use Rattle.ipc_frame.specs.Sees.{IsFrame, RefusesStart, StatesNoHead}
 use Rattle.ipc_frame.specs.Decisions.{RefusesNow}
@@ -23,6 +25,7 @@ use Rattle.ipc_column.specs.Rows.{Rows, Refuses as RefusesRows}
 use Rattle.ipc_column.proofs.Laws.{no_rows as none_refused}
 use Rattle.ipc_stream.specs.Stream.{Open, State, Event, Step, first, came, Run, done, more}
 use Rattle.ipc_stream.specs.Reasons.{Breaks, refused, truncated, aside, Refuses, early, no_schema, second_schema, dictionary, no_rows, IsAside, IsNoSchema}
+use Rattle.ipc_stream.specs.Readable.{IsReadEvent}
 use Rattle.ipc_stream.proofs.OneReading.{IsStop, frame_stop, step_one}
 
 -- ---- a state after a step has a schema
@@ -111,11 +114,16 @@ batch_refused o d body e b r =
     let same : d ≡ b.batch_head = (let eq : h.Batch d ≡ h.Batch b.batch_head = b.is_batch in cc) in
     none_refused e o.schema.fields d body b.its_rows r (subst (λ z. Rows o.schema.fields z body b.its_rows) (sym same) b.gives)
 
+-- where all schemas that a run tells are of types that are read, so is its first head
+pub step_read : {σ τ : State} {g : Head} {body : List ℕ} {es : List Event} (fs : List Event) → Step σ g body es τ → AllByRecursion IsReadEvent (es ++ fs) → IsRead g × AllByRecursion IsReadEvent fs
+step_read fs first all = (all.0, all.1)
+step_read fs (came r) all = (tt, all.1)
+
 -- a message x and what follows are the bytes z that were taken and those that are left
-module _ (σ τ : State) (x m body u z b : List ℕ) (g : Head) (es : List Event) (frame : Frame x m g body) (step : Step σ g body es τ) (joined : x ++ u ≡ z ++ b) where
+module _ (σ τ : State) (x m body u z b : List ℕ) (g : Head) (es : List Event) (frame : Frame x m g body) (step : Step σ g body es τ) (read : IsRead g) (joined : x ++ u ≡ z ++ b) where
   message_early : (e : Fault) → RefusesNow z e → ⊥
   message_early e (inl r) = start_not_frame x m body u g e frame (subst (λ y. RefusesStart y e) (sym joined) (start_longer z b e r.0))
-  message_early e (inr r) = no_head_not_frame x m body u g e frame (subst (λ y. StatesNoHead y e) (sym joined) (no_head_longer z b e r.0))
+  message_early e (inr r) = no_head_not_frame x m body u g e frame read (subst (λ y. StatesNoHead y e) (sym joined) (no_head_longer z b e r.0))
 
   same_frame : (k : Head) (l other : List ℕ) → Frame z l k other → SameFrame x z body other u b g k
   same_frame k l other q = frame_one x z m l body other u b g k frame q joined
@@ -149,13 +157,13 @@ module _ (σ τ : State) (x m body u z b : List ℕ) (g : Head) (es : List Event
   message_breaks e (aside why wanted) = why
 
 -- two readings of the same bytes: one to where a run may stop, the other to where it breaks off
-pub run_breaks : {σ τ υ : State} {x y : List ℕ} {es fs : List Event} (a z b : List ℕ) (e : Fault) → Run σ x es τ → Run σ y fs υ → τ ≢ None → IsStop a → Breaks υ z (Some b) e → x ++ a ≡ y ++ (z ++ b) → IsAside e
-run_breaks {σ = σ} a z b e done done o s r eq = stop_breaks σ z b e o (subst IsStop eq s) r
-run_breaks a z b e done (more {x = x} {metadata = m} {body = body} {y = y} {h = g} frame step rest) o s r eq = absurd (frame_stop x m body (y ++ (z ++ b)) a g frame (sym (append_assoc x y (z ++ b)) ∙ sym eq) s)
-run_breaks {σ = σ} a z b e (more {τ = τ} {x = x} {metadata = m} {body = body} {y = y} {h = g} {es = es} frame step rest) done o s r eq =
-    message_breaks σ τ x m body (y ++ a) z b g es frame step (sym (append_assoc x y a) ∙ eq) e r
-run_breaks a z b e (more {σ = σ} {τ = τ} {υ = υ} {x = x} {metadata = m} {body = body} {y = y} {h = g} {es = es} {fs = fs} frame step rest) (more {τ = τ'} {υ = υ'} {x = x'} {metadata = m'} {body = body'} {y = y'} {h = g'} {es = es'} {fs = fs'} frame' step' rest') o s r eq =
+pub run_breaks : {σ τ υ : State} {x y : List ℕ} {es fs : List Event} (a z b : List ℕ) (e : Fault) → AllByRecursion IsReadEvent es → Run σ x es τ → Run σ y fs υ → τ ≢ None → IsStop a → Breaks υ z (Some b) e → x ++ a ≡ y ++ (z ++ b) → IsAside e
+run_breaks {σ = σ} a z b e all done done o s r eq = stop_breaks σ z b e o (subst IsStop eq s) r
+run_breaks a z b e all done (more {x = x} {metadata = m} {body = body} {y = y} {h = g} frame step rest) o s r eq = absurd (frame_stop x m body (y ++ (z ++ b)) a g frame (sym (append_assoc x y (z ++ b)) ∙ sym eq) s)
+run_breaks {σ = σ} a z b e all (more {τ = τ} {x = x} {metadata = m} {body = body} {y = y} {h = g} {es = es} {fs = gs} frame step rest) done o s r eq =
+    message_breaks σ τ x m body (y ++ a) z b g es frame step (step_read gs step all).0 (sym (append_assoc x y a) ∙ eq) e r
+run_breaks a z b e all (more {σ = σ} {τ = τ} {υ = υ} {x = x} {metadata = m} {body = body} {y = y} {h = g} {es = es} {fs = fs} frame step rest) (more {τ = τ'} {υ = υ'} {x = x'} {metadata = m'} {body = body'} {y = y'} {h = g'} {es = es'} {fs = fs'} frame' step' rest') o s r eq =
     let same = frame_one x x' m m' body body' (y ++ a) (y' ++ (z ++ b)) g g' frame frame' (sym (append_assoc x y a) ∙ (eq ∙ append_assoc x' y' (z ++ b))) in
     let other : Step σ g body es' τ' = subst (λ q. Step σ q body es' τ') (sym same.same_head) (subst (λ q. Step σ g' q es' τ') (sym same.same_body) step') in
     let one = step_one step other in
-    run_breaks a z b e rest (subst (λ q. Run q y' fs' υ') (sym one.1) rest') o s r same.same_rest
+    run_breaks a z b e (step_read fs step all).1 rest (subst (λ q. Run q y' fs' υ') (sym one.1) rest') o s r same.same_rest

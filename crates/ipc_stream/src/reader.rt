@@ -1,6 +1,7 @@
-ghost use Rattle.std.specs.Prelude.{◌≡◌, ◌≤◌, ◌-◌, ◌^◌, ◌<◌, ◌++◌, ℕ, List, Some, IfOk, IfErr, IsSome, MatchResult};
+ghost use Rattle.std.specs.Prelude.{◌≡◌, ◌≤◌, ◌-◌, ◌^◌, ◌<◌, ◌++◌, ℕ, List, Some, IfOk, IfErr, IsSome, MatchResult, true};
 ghost use Rattle.ipc_model.specs.declared.schema.Schema.{Schema};
 ghost use Rattle.ipc_model.specs.declared.value.Value.{Value};
+ghost use Rattle.ipc_meta.specs.Open.{are_open};
 ghost use Rattle.ipc_stream.specs.declared.end.End.{End};
 ghost use Rattle.ipc_stream.specs.declared.phase.Phase.TheVariants.{Reading};
 ghost use Rattle.ipc_stream.specs.Failures.{StaysOrFails, Tells};
@@ -80,8 +81,9 @@ impl<R: Source> StreamReader<R> {
         ensures refused { IfErr result (λ e. OpensNot (R.remaining source) (R.remaining e.1) e.0) }
         ensures failures { MatchResult result (λ s. (R.failures source ≡ 0) × (s.failures ≡ 0)) (λ e. Tells (R.failures source) (R.failures e.1) e.0) }
         ensures fewer { IfOk result (λ s. s.bound < R.bound source) }
-        // A schema's message at the front of the source is read, whatever follows it, unless memory runs out or the source fails.
-        ensures schema { (x rest : List ℕ) (s : Schema) → R.remaining source ≡ Some (x ++ rest) → OpensStream s x → MatchResult result (λ reader. reader.schema ≡ s) (λ e. IsAside e.0) }
+        // The message of a schema of types that are read, at the front of the source, is read, whatever follows it, unless memory runs out or
+        // the source fails.
+        ensures schema { (x rest : List ℕ) (s : Schema) → are_open s.fields ≡ true → R.remaining source ≡ Some (x ++ rest) → OpensStream s x → MatchResult result (λ reader. reader.schema ≡ s) (λ e. IsAside e.0) }
     {
         open_with(alloc, source, Intake::new(alloc))
     }

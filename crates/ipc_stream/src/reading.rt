@@ -1,5 +1,7 @@
-ghost use Rattle.std.specs.Prelude.{◌<◌, IfOk, IsSome};
+ghost use Rattle.std.specs.Prelude.{◌≡◌, ◌<◌, IfOk, IsSome};
 ghost use Rattle.ipc_stream.specs.Failures.{FailsAs};
+ghost use Rattle.ipc_stream.specs.Readable.{IsReadable};
+ghost use Rattle.ipc_stream.specs.Reasons.{NamesNone};
 ghost use Rattle.ipc_stream.specs.Taken.{BringsNext, BringsSchema, IsBatch, TakesFrame, TakesNext, TakesSchema, TakesScope};
 
 use crate::end::End;
@@ -91,6 +93,16 @@ pub fn read_scope<R: Source>(
     Ok(Scope::new(alloc, schema)?)
 }
 
+// Why a dictionary with this id isn't taken: no field of types that are read names one.
+#[tactic(auto, using(crate::proofs::Dictionaries::open_names_none))]
+fn unknown_dictionary(schema: &Schema, id: i64) -> Fault
+    requires { IsReadable schema.now }
+    ensures fault { result ≡ Fault.UnknownDictionary }
+    ensures names { NamesNone id schema.now }
+{
+    Fault::UnknownDictionary
+}
+
 // What a frame behind the schema brings.
 fn next_of(alloc: Global, scope: &Scope, frame: Frame) -> Result<Next, Fault>
     ensures { BringsNext scope.now.schema frame result }
@@ -104,7 +116,7 @@ fn next_of(alloc: Global, scope: &Scope, frame: Frame) -> Result<Next, Fault>
                 Ok(Next::Batch(batch))
             }
             Head::Schema(_) => Err(Fault::SecondSchema),
-            Head::Dictionary(_, _) => Err(Fault::UnknownDictionary),
+            Head::Dictionary(id, _) => Err(unknown_dictionary(&scope.schema, id)),
         },
     }
 }
