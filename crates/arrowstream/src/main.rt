@@ -8,6 +8,7 @@ mod run;
 mod tests;
 mod types;
 
+use ipc_stream::Device;
 use run::run;
 use std::env::Args;
 use std::process::ExitCode;
@@ -38,6 +39,8 @@ fn main(rt: HostRuntime) -> ExitCode {
         let _ = rt.eprintln(USAGE);
         return ExitCode::from(2);
     }
-    let (status, _output, _messages) = run(rt.alloc(), rt.reader(), io::writer(&rt), rt.stderr());
+    let input = Device::new(rt.reader());
+    let mut output = Device::new(io::writer(&rt));
+    let (status, _input) = run(rt.alloc(), input, &mut output, &mut rt.stderr());
     ExitCode::from(status)
 }

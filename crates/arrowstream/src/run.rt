@@ -1,11 +1,17 @@
-ghost use Rattle.std.specs.Prelude.{◌≡◌, ◌≢◌};
+//! The job `show`: a stream's rows are printed as they come.
+ghost use Rattle.std.specs.Prelude.{◌≡◌, ◌≢◌, ◌⊎◌, [], IfErr, IfOk};
+ghost use Rattle.ipc_stream.specs.declared.phase.Phase.TheVariants.{Reading};
+ghost use Rattle.ipc_stream.specs.Reasons.{IsAside};
+ghost use Rattle.arrowstream.specs.Columns.{AreShownColumns};
+ghost use Rattle.arrowstream.specs.Output.{output};
+ghost use Rattle.arrowstream.specs.Show.{Breaks, PrintsAs, Shows, ShowsPart, ShowsRows, ShowsTable, TellsDevices, exit_status, stop_status};
 
 use crate::rows::{Lines, PrintFault};
 use crate::types::first_not_shown;
 use ipc_model::fault::Fault;
-use ipc_stream::{Device, Source, StreamReader};
+use ipc_stream::{Sink, Source, StreamReader};
 use std::alloc::Global;
-use std::io::{Read, Write};
+use std::io::Write;
 
 // Why a job stopped.
 #[derive(Clone, Copy)]
@@ -16,16 +22,21 @@ enum Stop {
     Print(PrintFault),
 }
 
-// Prints the rows of a stream, and returns the fault at which reading broke off, if it did.
-fn print_rows<R: Source, W: Write>(
+// Prints the rows of a stream, and returns the fault at which reading broke off, if it did. The columns are those that are shown.
+fn print_rows<R: Source, W: Sink>(
     alloc: Global,
     stream: &mut StreamReader<R>,
     lines: &mut Lines,
-    writer: &mut W,
-) -> Result<Option<Fault>, PrintFault> {
+    sink: &mut W,
+) -> Result<Option<Fault>, PrintFault>
+    requires reading { stream.old.phase ≡ Reading }
+    requires columns { AreShownColumns stream.old.schema.fields }
+    ensures schema { stream.new.schema ≡ stream.old.schema }
+    ensures prints { PrintsAs stream.old stream.new (output (W.written sink.old) (W.failures sink.old) lines.old) (output (W.written sink.new) (W.failures sink.new) lines.new) result }
+{
     loop {
         match stream.next() {
-            Ok(Some(batch)) => lines.print(alloc, writer, &batch)?,
+            Ok(Some(batch)) => lines.print(alloc, sink, &batch)?,
             Ok(None) => return Ok(None),
             Err(fault) => return Ok(Some(fault)),
         }
@@ -33,57 +44,70 @@ fn print_rows<R: Source, W: Write>(
 }
 
 // Prints the rows of a stream behind its schema. Those before a fault go out before it is told.
-fn print_stream<R: Source, W: Write>(
+fn print_stream<R: Source, W: Sink>(
     alloc: Global,
     stream: &mut StreamReader<R>,
-    writer: &mut W,
-) -> Result<Option<Fault>, PrintFault> {
+    sink: &mut W,
+) -> Result<Option<Fault>, PrintFault>
+    requires reading { stream.old.phase ≡ Reading }
+    requires columns { AreShownColumns stream.old.schema.fields }
+    ensures works { IfOk result (λ fault. W.failures sink.new ≡ 0) }
+    ensures prints { PrintsAs stream.old stream.new (output (W.written sink.old) (W.failures sink.old) []) (output (W.written sink.new) (W.failures sink.new) []) result }
+{
     let mut lines = Lines::new(alloc)?;
-    let fault = print_rows(alloc, stream, &mut lines, writer)?;
-    lines.flush(writer)?;
+    let fault = print_rows(alloc, stream, &mut lines, sink)?;
+    lines.flush(sink)?;
     Ok(fault)
 }
 
-fn show<R: Read + Drop, W: Write>(alloc: Global, reader: R, writer: &mut W) -> Result<(), Stop> {
-    let mut stream = match StreamReader::open(alloc, Device::new(reader)) {
-        Ok(stream) => stream,
-        Err((fault, _)) => return Err(Stop::Stream(fault, 0)),
-    };
+// Prints a stream whose schema was read.
+fn show_rows<R: Source, W: Sink>(
+    alloc: Global,
+    stream: &mut StreamReader<R>,
+    sink: &mut W,
+) -> Result<(), Stop>
+    requires { stream.old.phase ≡ Reading }
+    ensures shows { ShowsRows stream.old stream.new (output (W.written sink.old) (W.failures sink.old) []) (output (W.written sink.new) (W.failures sink.new) []) result }
+    ensures devices { TellsDevices stream.old.failures stream.new.failures (W.failures sink.old) (W.failures sink.new) (exit_status result) }
+{
     if let Some(code) = first_not_shown(stream.schema()) {
         return Err(Stop::Stream(Fault::UnsupportedType(code), 0));
     }
-    match print_stream(alloc, &mut stream, writer).map_err(Stop::Print)? {
-        Some(fault) => Err(Stop::Stream(fault, stream.messages())),
-        None => Ok(()),
+    match print_stream(alloc, stream, sink) {
+        Ok(None) => Ok(()),
+        Ok(Some(fault)) => Err(Stop::Stream(fault, stream.messages())),
+        Err(fault) => Err(Stop::Print(fault)),
     }
 }
 
-/// The exit status of a refused stream.
-pub fn stream_status(fault: Fault) -> u8
-    ensures memory { fault ≡ Fault.OutOfMemory → result ≡ 4 }
-    ensures device { fault ≡ Fault.Read → result ≡ 3 }
-    ensures refused { fault ≢ Fault.OutOfMemory → fault ≢ Fault.Read → result ≡ 1 }
+// Prints a stream, and gives its source back.
+fn show<R: Source, W: Sink>(alloc: Global, source: R, sink: &mut W) -> (Result<(), Stop>, R)
+    ensures shows { Shows (R.remaining source) (R.remaining result.1) (W.written sink.old) (W.written sink.new) result.0 }
+    ensures devices { TellsDevices (R.failures source) (R.failures result.1) (W.failures sink.old) (W.failures sink.new) (exit_status result.0) }
 {
-    match fault {
-        Fault::OutOfMemory => 4,
-        Fault::Read => 3,
-        _ => 1,
+    match StreamReader::open(alloc, source) {
+        Ok(stream) => {
+            let mut stream = stream;
+            let result = show_rows(alloc, &mut stream, sink);
+            (result, stream.into_inner())
+        }
+        Err((fault, source)) => (Err(Stop::Stream(fault, 0)), source),
     }
 }
 
-/// The exit status of rows that were not printed.
-pub fn print_status(fault: PrintFault) -> u8
-    ensures memory { fault ≡ PrintFault.OutOfMemory → result ≡ 4 }
-    ensures device { fault ≡ PrintFault.Write → result ≡ 3 }
+// The exit status of a job that stopped.
+fn status_of(stop: Stop) -> u8
+    ensures { result ≡ stop_status stop }
 {
-    match fault {
-        PrintFault::OutOfMemory => 4,
-        PrintFault::Write => 3,
+    match stop {
+        Stop::Stream(Fault::OutOfMemory, _) | Stop::Print(PrintFault::OutOfMemory) => 4,
+        Stop::Stream(Fault::Read, _) | Stop::Print(PrintFault::Write) => 3,
+        Stop::Stream(_, _) => 1,
     }
 }
 
-// The exit status of a job, whose fault goes to `messages` as one line.
-fn report<E: Write>(stop: Stop, messages: &mut E) -> u8 {
+// Tells why a job stopped, as one line.
+fn tell<E: Write>(stop: Stop, messages: &mut E) {
     match stop {
         Stop::Stream(Fault::OutOfMemory, _) | Stop::Print(PrintFault::OutOfMemory) => {
             let _ = messages.write_all(b"out of memory\n");
@@ -95,28 +119,36 @@ fn report<E: Write>(stop: Stop, messages: &mut E) -> u8 {
             let _ = writeln!(messages, "{fault} at message {message}");
         }
     }
-    match stop {
-        Stop::Stream(fault, _) => stream_status(fault),
-        Stop::Print(fault) => print_status(fault),
-    }
 }
 
-/// Reads a stream from `reader` batch by batch and prints its rows to `writer`; on a refusal prints the fault's line to
+/// Reads a stream from `source` batch by batch and prints its rows to `sink`; on a refusal prints the fault's line to
 /// `messages`. Rows that were printed before it stand, and no byte behind an end-of-stream mark is read.
 ///
-/// The answer is the exit status (0 done, 1 a refused stream, 3 a failed device, 4 want of memory) and
-/// both writers. A failing `messages` changes nothing.
-pub fn run<R: Read + Drop, W: Write, E: Write>(
+/// The answer is the exit status, and the source again: 0 where the stream was read to its end and all was printed, 1 where it is
+/// refused, or has a column that isn't shown, 3 where the source or the sink failed, 4 where memory ran out. A failing `messages`
+/// changes nothing.
+pub fn run<R: Source, W: Sink, E: Write>(
     alloc: Global,
-    reader: R,
-    writer: W,
-    messages: E,
-) -> (u8, W, E) {
-    let mut writer = writer;
-    let mut messages = messages;
-    let status = match show(alloc, reader, &mut writer) {
-        Ok(()) => 0,
-        Err(stop) => report(stop, &mut messages),
-    };
-    (status, writer, messages)
+    source: R,
+    sink: &mut W,
+    messages: &mut E,
+) -> (u8, R)
+    // At 0 the bytes that were taken denote a table with its end, and exactly its rows were printed.
+    ensures done { result.0 ≡ 0 → ShowsTable (R.remaining source) (R.remaining result.1) (W.written sink.old) (W.written sink.new) }
+    // At 1 the stream is refused, and exactly the rows of the batches before were printed.
+    ensures refused { result.0 ≡ 1 → (fault : Fault) × ¬ IsAside fault × Breaks (R.remaining source) (R.remaining result.1) (W.written sink.old) (W.written sink.new) fault }
+    // 3 comes exactly where a device failed.
+    ensures devices { TellsDevices (R.failures source) (R.failures result.1) (W.failures sink.old) (W.failures sink.new) result.0 }
+    // 4 is left for memory; there is no other status.
+    ensures one { (result.0 ≡ 0) ⊎ (result.0 ≡ 1) ⊎ (result.0 ≡ 3) ⊎ (result.0 ≡ 4) }
+    // Whatever the status, a beginning of the rows of what was read was printed.
+    ensures part { ShowsPart (R.remaining source) (R.remaining result.1) (W.written sink.old) (W.written sink.new) }
+{
+    match show(alloc, source, sink) {
+        (Ok(()), source) => (0, source),
+        (Err(stop), source) => {
+            tell(stop, messages);
+            (status_of(stop), source)
+        }
+    }
 }

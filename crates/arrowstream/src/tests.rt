@@ -1,5 +1,6 @@
 use crate::digits::{put_i64, put_u64};
 use crate::run::run;
+use ipc_stream::{Device, Source};
 use std::alloc::Global;
 use std::io;
 use std::io::{Read, Write};
@@ -11,7 +12,15 @@ use vectors::{NO_FIELDS, NULLS_64, NUMBERS_32, NUMBERS_64, THREE_EMPTY_ROWS};
 
 // What `show` answers and prints, over memory.
 fn shown(alloc: Global, bytes: &[u8]) -> (u8, Vec<u8>, Vec<u8>) {
-    run(alloc, bytes, Vec::new(alloc), Vec::new(alloc))
+    shown_on(alloc, Device::new(bytes), Vec::new(alloc))
+}
+
+// The same of any source and writer.
+fn shown_on<R: Source, W: Write>(alloc: Global, source: R, writer: W) -> (u8, W, Vec<u8>) {
+    let mut sink = Device::new(writer);
+    let mut messages = Vec::new(alloc);
+    let (status, _source) = run(alloc, source, &mut sink, &mut messages);
+    (status, sink.into_inner(), messages)
 }
 
 #[test]
@@ -69,14 +78,20 @@ impl Write for Broken {
 #[test]
 fn tells_a_failed_device(rt: HostRuntime) {
     let alloc = rt.alloc();
-    let (status, output, messages) = run(alloc, Broken, Vec::new(alloc), Vec::new(alloc));
+    let (status, output, messages) = shown_on(alloc, Device::new(Broken), Vec::new(alloc));
     assert_eq!(rt; status, 3);
     assert_eq!(rt; output.len(), 0);
     assert_eq!(rt; messages.as_slice(), b"F36 Read at message 0\n".as_slice());
-    let (status, _, messages) = run(alloc, NUMBERS_64.as_slice(), Broken, Vec::new(alloc));
+    let (status, _, messages) = shown_on(alloc, Device::new(NUMBERS_64.as_slice()), Broken);
     assert_eq!(rt; status, 3);
     assert_eq!(rt; messages.as_slice(), b"W9 Write\n".as_slice());
-    let (status, _, _) = run(alloc, NUMBERS_32.as_slice(), Vec::new(alloc), Broken);
+    let mut sink = Device::new(Vec::new(alloc));
+    let (status, _) = run(
+        alloc,
+        Device::new(NUMBERS_32.as_slice()),
+        &mut sink,
+        &mut Broken,
+    );
     assert_eq!(rt; status, 1);
 }
 

@@ -1,7 +1,13 @@
+//! The columns that are shown.
+ghost use Rattle.std.specs.Prelude.{◌≡◌, ◌↔◌, IsTrue, MatchOption, true};
+ghost use Rattle.arrowstream.specs.Columns.{AreShownColumns, IsNotShown, IsShownColumn, type_code};
+
 use ipc_model::schema::{DataType, Field, IntBits, Schema};
 
 // The code of a type in union Type (Schema.fbs).
-fn code_of(kind: &DataType) -> u8 {
+fn code_of(kind: &DataType) -> u8
+    ensures { result ≡ type_code kind.now }
+{
     match kind {
         DataType::Null => 1,
         DataType::Int { .. } => 2,
@@ -16,20 +22,30 @@ fn code_of(kind: &DataType) -> u8 {
     }
 }
 
-// Whether a column holds signed numbers of 64 bits, without a dictionary.
-fn is_shown(field: &Field) -> bool {
-    let is_number = matches!(
-        field.kind,
+// Whether values of a type are signed numbers of 64 bits.
+fn is_number(kind: &DataType) -> bool
+    ensures { IsTrue result ↔ (kind.now ≡ DataType.Int IntBits.B64 true) }
+{
+    matches!(
+        kind,
         DataType::Int {
             bits: IntBits::B64,
             signed: true
         }
-    );
-    is_number && field.dictionary.is_none()
+    )
+}
+
+// Whether a column holds signed numbers of 64 bits, without a dictionary.
+fn is_shown(field: &Field) -> bool
+    ensures { IsTrue result ↔ IsShownColumn field.now }
+{
+    is_number(&field.kind) && field.dictionary.is_none()
 }
 
 /// The type code of the first column that `show` doesn't print, if there is one.
-pub fn first_not_shown(schema: &Schema) -> Option<u8> {
+pub fn first_not_shown(schema: &Schema) -> Option<u8>
+    ensures { MatchOption result (AreShownColumns schema.now.fields) (λ code. IsNotShown schema.now.fields code) }
+{
     for field in schema.fields.as_slice() {
         if !is_shown(field) {
             return Some(code_of(&field.kind));

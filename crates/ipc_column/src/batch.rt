@@ -1,4 +1,5 @@
 ghost use Rattle.std.specs.Prelude.{◌≡◌, ◌≤◌, ◌<◌, length, true, false, List, [], IfOk, IfErr, IfSome, is_some, MatchResult, Some, slice_get, slice_index_or};
+ghost use Rattle.std.specs.List.{AllByRecursion};
 ghost use Rattle.ipc_model.specs.declared.value.Value.{Value};
 ghost use Rattle.ipc_model.specs.WellFormed.{entries, max_fields};
 ghost use Rattle.ipc_meta.specs.Open.{are_open};
@@ -154,7 +155,9 @@ impl Batch {
 
     /// How many columns there are.
     pub fn columns(&self) -> usize
-        ensures { result ≡ self.now.columns }
+        ensures count { result ≡ self.now.columns }
+        // Each row has a value for each of them.
+        ensures rows { AllByRecursion (λ row. length row ≡ result) self.now.rows }
     {
         self.shared.parts.len()
     }

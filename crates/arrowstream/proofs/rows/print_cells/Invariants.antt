@@ -1,6 +1,11 @@
-use Rattle.std.proofs.Common.{◌≤◌, length}
+use Rattle.std.proofs.Common.{◌≤◌, length, take}
+use Rattle.arrowstream.specs.Output.{output, Puts}
+use Rattle.arrowstream.specs.Rows.{lines}
 use Rattle.arrowstream.proofs.rows.print_cells.Given as goal
 
--- the place is in the text
+-- the first rows were put
 abbrev pub invariant-loop-row : goal.invariant-loop-row
-invariant-loop-row g l = l.at ≤ length l.text
+invariant-loop-row g l = record {
+  inside : l.at ≤ length l.text;
+  put : Puts (output (g.W.Sink.written l.fn.sink) (g.W.Sink.failures l.fn.sink) (take l.fn.start l.fn.text)) (output (g.W.Sink.written l.sink) (g.W.Sink.failures l.sink) (take l.at l.text)) (lines (take l.row l.batch.rows));
+}

@@ -1,6 +1,12 @@
-use Rattle.std.proofs.Common.{◌≤◌, length}
+use Rattle.std.proofs.Common.{◌≤◌, [], length, take}
+use Rattle.std.specs.Prelude.{slice_index_or}
+use Rattle.arrowstream.specs.Output.{output, Puts}
+use Rattle.arrowstream.specs.Rows.{opened}
 use Rattle.arrowstream.proofs.rows.print_row.Given as goal
 
--- the place is in the text
+-- the first cells were put
 abbrev pub invariant-loop-column : goal.invariant-loop-column
-invariant-loop-column g l = l.at ≤ length l.text
+invariant-loop-column g l = record {
+  inside : l.at ≤ length l.text;
+  put : Puts (output (g.W.Sink.written l.fn.sink) (g.W.Sink.failures l.fn.sink) (take l.fn.start l.fn.text)) (output (g.W.Sink.written l.sink) (g.W.Sink.failures l.sink) (take l.at l.text)) (opened (take l.column (slice_index_or l.batch.rows l.row [])));
+}

@@ -1,0 +1,214 @@
+-- Batches that are read and printed.
+use Rattle.std.proofs.Common.{◌≡◌, ◌≢◌, ◌∙◌, refl, sym, ap, subst, ℕ, zero, suc, inl, inr, List, [], ◌∷◌, ◌++◌, map, Option, Some, None, Result, Ok, Err, append_assoc, append-nil, arith}
+use Rattle.std.specs.Io.KnownBytes.{Appends, Consumes, IsAtEnd, Keeps}
+use Rattle.std.specs.List.{AllByRecursion}
+use Rattle.std.proofs.KnownBytes.{Consumes-nil, Consumes-trans}
+use Rattle.std.proofs.lemmas.List.{map-append}
+use Rattle.ipc_model.specs.declared.fault.Fault.{Fault}
+use Rattle.ipc_model.specs.declared.value.Value.{Value}
+use Rattle.ipc_column.specs.Contents.{Contents}
+use Rattle.ipc_stream.specs.declared.end.End.{End}
+use Rattle.ipc_stream.specs.declared.phase.Phase.{Phase}
+use Rattle.ipc_stream.specs.declared.phase.Phase.TheVariants.{Reading, Ended, Refused}
+use Rattle.ipc_stream.specs.Failures.{FailsAs, Tells}
+use Rattle.ipc_stream.specs.Reader.{Reader, open_of, NextGives, NextTakes}
+use Rattle.ipc_stream.specs.Reasons.{Reads}
+use Rattle.ipc_stream.specs.Stream.{State, Event, Open, batch, Run, done, more}
+use Rattle.arrowstream.specs.declared.rows.PrintFault.{PrintFault}
+use Rattle.arrowstream.specs.declared.rows.PrintFault.TheVariants.{Write, OutOfMemory}
+use Rattle.arrowstream.specs.Columns.{AreShownColumns}
+use Rattle.arrowstream.specs.Output.{Output, output, Puts, PutsNot}
+use Rattle.arrowstream.specs.Rows.{AreShownRows, lines, batch_lines}
+use Rattle.arrowstream.specs.Show.{PrintsRows, PrintsPart, PrintsAs}
+use Rattle.arrowstream.proofs.Puts.{puts_then, puts_not_then, puts_none, puts_never}
+use Rattle.arrowstream.proofs.Shown.{all_more}
+use Rattle.arrowstream.proofs.Lines.{put_at, not_at}
+use Rattle.arrowstream.proofs.Texts.{batch_lines_more}
+use Rattle.arrowstream.proofs.BatchesShown.{batch_shown}
+
+-- messages and then others
+pub run_then : (σ τ υ : State) (x y : List ℕ) (es fs : List Event) → Run σ x es τ → Run τ y fs υ → Run σ (x ++ y) (es ++ fs) υ
+run_then σ τ υ x y es fs done r = r
+run_then σ τ υ x y es fs (more {σ = a} {τ = b} {υ = c} {x = u} {y = v} {es = ds} {fs = gs} frame step rest) r =
+    subst (λ z. Run σ z ((ds ++ gs) ++ fs) υ) (sym (append_assoc u v y))
+    (subst (λ hs. Run σ (u ++ (v ++ y)) hs υ) (sym (append_assoc ds gs fs)) (more frame step (run_then b c υ v y gs fs rest r)))
+
+-- messages, and then reading ends
+pub reads_after : (σ τ : State) (x y : List ℕ) (left : Option (List ℕ)) (es fs : List Event) (r : Result End Fault) → Run σ x es τ → Reads τ y left fs r → Reads σ (x ++ y) left (es ++ fs) r
+reads_after σ τ x y left es fs r run reads = record {
+  state = reads.state;
+  whole = x ++ reads.whole;
+  rest = reads.rest;
+  joined = ap (λ z. x ++ z) reads.joined ∙ sym (append_assoc x reads.whole reads.rest);
+  run = run_then σ τ reads.state x reads.whole es fs run reads.run;
+  ends = reads.ends;
+}
+
+-- these batches were read behind the schema, and printed
+pub record Batches (old now : Reader) (before after : Output) : Type 0 where
+  pub x : List ℕ
+  pub batches : List (List (List Value))
+  pub bytes : Consumes old.remaining now.remaining x
+  pub run : Run (Some (open_of old)) x (map batch batches) (Some (open_of old))
+  pub reading : now.phase ≡ Reading
+  pub same : now.schema ≡ old.schema
+  pub works : old.failures ≡ 0 → now.failures ≡ 0
+  pub cells : AllByRecursion AreShownRows batches
+  pub puts : Puts before after (batch_lines batches)
+
+pub batches_none : (r : Reader) (o : Output) → r.phase ≡ Reading → Batches r r o o
+batches_none r o reading = record {
+  x = [];
+  batches = [];
+  bytes = Consumes-nil r.remaining;
+  run = done;
+  reading = reading;
+  same = refl;
+  works = λ z. z;
+  cells = tt;
+  puts = puts_none o;
+}
+
+-- what a call that gave a batch says, where the reader was reading
+gave : (o : Open) (p q : Phase) (x : List ℕ) (left : Option (List ℕ)) (found : Contents) → p ≡ Reading → NextGives o p x left (Ok (Some found)) q → (q ≡ Reading) × Run (Some o) x (batch found.rows ∷ []) (Some o)
+gave o Reading Reading x left found is h = (refl, h)
+gave o Reading (Ended e) x left found is h = absurd h
+gave o Reading Refused x left found is h = absurd h
+gave o (Ended e) q x left found is h = absurd (cc)
+gave o Refused q x left found is h = absurd (cc)
+
+ended : (o : Open) (p q : Phase) (x : List ℕ) (left : Option (List ℕ)) → p ≡ Reading → NextGives o p x left (Ok None) q → (e : End) × Reads (Some o) x left [] (Ok e)
+ended o Reading Reading x left is h = absurd h
+ended o Reading (Ended e) x left is h = (e, h)
+ended o Reading Refused x left is h = absurd h
+ended o (Ended e) q x left is h = absurd (cc)
+ended o Refused q x left is h = absurd (cc)
+
+broke : (o : Open) (p q : Phase) (x : List ℕ) (left : Option (List ℕ)) (f : Fault) → p ≡ Reading → NextGives o p x left (Err f) q → Reads (Some o) x left [] (Err f)
+broke o Reading Reading x left f is h = absurd h
+broke o Reading (Ended e) x left f is h = absurd h
+broke o Reading Refused x left f is h = h
+broke o (Ended e) q x left f is h = absurd (cc)
+broke o Refused q x left f is h = absurd (cc)
+
+module _ (old now new : Reader) (before after : Output) (b : Batches old now before after) where
+  same_open : open_of now ≡ open_of old
+  same_open = ap (λ s. record { schema = s }) b.same
+
+  -- the batch that came
+  found_run : (found : Contents) → (t : NextTakes now new (Ok (Some found))) → (new.phase ≡ Reading) × Run (Some (open_of old)) t.x (batch found.rows ∷ []) (Some (open_of old))
+  found_run found t =
+      let h = gave (open_of now) now.phase new.phase t.x new.remaining found b.reading t.gives in
+      (h.0, subst (λ (o : Open). Run (Some o) t.x (batch found.rows ∷ []) (Some o)) same_open h.1)
+
+  pub found_shown : (found : Contents) → NextTakes now new (Ok (Some found)) → AreShownColumns old.schema.fields → AreShownRows found.rows
+  found_shown found t columns = batch_shown (open_of old) t.x found.rows columns (found_run found t).1
+
+  more_run : (found : Contents) (t : NextTakes now new (Ok (Some found))) → Run (Some (open_of old)) (b.x ++ t.x) (map batch (b.batches ++ found.rows ∷ [])) (Some (open_of old))
+  more_run found t =
+      subst (λ es. Run (Some (open_of old)) (b.x ++ t.x) es (Some (open_of old))) (sym (map-append batch b.batches (found.rows ∷ [])))
+      (run_then _ _ _ b.x t.x (map batch b.batches) (batch found.rows ∷ []) b.run (found_run found t).1)
+
+  pub batches_more : (found : Contents) (next : Output) → NextTakes now new (Ok (Some found)) → (now.failures ≡ 0 → new.failures ≡ 0) → AreShownColumns old.schema.fields → Puts after next (lines found.rows) → Batches old new before next
+  batches_more found next t works columns puts = record {
+    x = b.x ++ t.x;
+    batches = b.batches ++ found.rows ∷ [];
+    bytes = Consumes-trans old.remaining now.remaining new.remaining b.x t.x b.bytes t.bytes;
+    run = more_run found t;
+    reading = (found_run found t).0;
+    same = t.same_schema ∙ b.same;
+    works = λ z. works (b.works z);
+    cells = all_more AreShownRows b.batches found.rows b.cells (found_shown found t columns);
+    puts = put_at before next _ _ (batch_lines_more b.batches found.rows) (puts_then before after next (batch_lines b.batches) (lines found.rows) b.puts puts);
+  }
+
+  -- the rows of the batch that came weren't all printed
+  pub batches_cut : (found : Contents) (w : Option (List ℕ)) (n : ℕ) (e : PrintFault) → NextTakes now new (Ok (Some found)) → (now.failures ≡ 0 → new.failures ≡ 0) → PutsNot after w n (lines found.rows) e → PrintsPart old new before w n e
+  batches_cut found w n e t works q = record {
+    x = b.x ++ t.x;
+    batches = b.batches ++ found.rows ∷ [];
+    bytes = Consumes-trans old.remaining now.remaining new.remaining b.x t.x b.bytes t.bytes;
+    rest = [];
+    whole = b.x ++ t.x;
+    joined = sym (append-nil (b.x ++ t.x));
+    state = Some (open_of old);
+    run = more_run found t;
+    puts = not_at before w n _ _ e (batch_lines_more b.batches found.rows) (puts_not_then before after w n (batch_lines b.batches) (lines found.rows) e b.puts q);
+    works = λ other z. works (b.works z);
+  }
+
+  behind : (y : List ℕ) (r : Result End Fault) → Reads (Some (open_of now)) y new.remaining [] r → Reads (Some (open_of old)) (b.x ++ y) new.remaining (map batch b.batches) r
+  behind y r h =
+      subst (λ es. Reads (Some (open_of old)) (b.x ++ y) new.remaining es r) (append-nil (map batch b.batches))
+      (reads_after _ _ b.x y new.remaining (map batch b.batches) [] r b.run (subst (λ (o : Open). Reads (Some o) y new.remaining [] r) same_open h))
+
+  printed : (y : List ℕ) (r : Result End Fault) → Consumes now.remaining new.remaining y → Reads (Some (open_of now)) y new.remaining [] r → PrintsRows old new before after r
+  printed y r bytes h = record {
+    x = b.x ++ y;
+    batches = b.batches;
+    bytes = Consumes-trans old.remaining now.remaining new.remaining b.x y b.bytes bytes;
+    reads = behind y r h;
+    cells = b.cells;
+    puts = b.puts;
+  }
+
+  pub batches_end : NextTakes now new (Ok None) → (now.failures ≡ 0 → new.failures ≡ 0) → PrintsAs old new before after (Ok None)
+  batches_end t works =
+      let h = ended (open_of now) now.phase new.phase t.x new.remaining b.reading t.gives in
+      (h.0, printed t.x (Ok h.0) t.bytes h.1, λ z. works (b.works z))
+
+  pub batches_break : (f : Fault) → NextTakes now new (Err f) → Tells now.failures new.failures f → PrintsAs old new before after (Ok (Some f))
+  batches_break f t tells = (
+    printed t.x (Err f) t.bytes (broke (open_of now) now.phase new.phase t.x new.remaining f b.reading t.gives),
+    record { failed = tells.failed; worked = λ other z. tells.worked other (b.works z) },
+  )
+
+-- nothing was read and printed, since memory ran out
+pub part_none : (r : Reader) (o : Output) → PrintsPart r r o o.written o.failures OutOfMemory
+part_none r o = record {
+  x = [];
+  batches = [];
+  bytes = Consumes-nil r.remaining;
+  rest = [];
+  whole = [];
+  joined = refl;
+  state = Some (open_of r);
+  run = done;
+  puts = puts_never o [];
+  works = λ other z. z;
+}
+
+module _ (old new : Reader) (before mid : Output) where
+  rows_flushed : (r : Result End Fault) (after : Output) → PrintsRows old new before mid r → Puts mid after [] → PrintsRows old new before after r
+  rows_flushed r after p q = record {
+    x = p.x;
+    batches = p.batches;
+    bytes = p.bytes;
+    reads = p.reads;
+    cells = p.cells;
+    puts = put_at before after _ _ (append-nil (batch_lines p.batches)) (puts_then before mid after (batch_lines p.batches) [] p.puts q);
+  }
+
+  -- what was kept went out too
+  pub flushed : (fault : Option Fault) (after : Output) → PrintsAs old new before mid (Ok fault) → Puts mid after [] → PrintsAs old new before after (Ok fault)
+  flushed None after p q = (p.0, rows_flushed (Ok p.0) after p.1 q, p.2)
+  flushed (Some f) after p q = (rows_flushed (Err f) after p.0 q, p.1)
+
+  rows_unflushed : (r : Result End Fault) (w : Option (List ℕ)) (n : ℕ) → PrintsRows old new before mid r → PutsNot mid w n [] Write → PrintsPart old new before w n Write
+  rows_unflushed r w n p q = record {
+    x = p.x;
+    batches = p.batches;
+    bytes = p.bytes;
+    rest = p.reads.rest;
+    whole = p.reads.whole;
+    joined = p.reads.joined;
+    state = p.reads.state;
+    run = p.reads.run;
+    puts = not_at before w n _ _ Write (append-nil (batch_lines p.batches)) (puts_not_then before mid w n (batch_lines p.batches) [] Write p.puts q);
+    works = λ other. absurd (other refl);
+  }
+
+  -- what was kept did not
+  pub unflushed : (fault : Option Fault) (w : Option (List ℕ)) (n : ℕ) → PrintsAs old new before mid (Ok fault) → PutsNot mid w n [] Write → PrintsPart old new before w n Write
+  unflushed None w n p q = rows_unflushed (Ok p.0) w n p.1 q
+  unflushed (Some f) w n p q = rows_unflushed (Err f) w n p.0 q

@@ -1,0 +1,63 @@
+-- Rows as text, value by value.
+use Rattle.std.proofs.Common.{◌≡◌, ◌∙◌, refl, sym, ap, subst, ℕ, zero, suc, ◌+◌, ◌<◌, ◌≤◌, List, [], ◌∷◌, ◌++◌, length, take, drop, Some, append_assoc, append-nil, take-append-drop, arith}
+use Rattle.std.specs.Prelude.{slice_get, slice_index_or, codes}
+use Rattle.std.proofs.lemmas.List.{take_more, take_all, length-take-le}
+use Rattle.std.proofs.lemmas.Option.{get_or_from_slice_get}
+use Rattle.ipc_model.specs.declared.value.Value.{Value}
+use Rattle.arrowstream.specs.Rows.{cell_text, comma, behind_commas, opened, line, lines, batch_lines}
+
+behind_append : (vs ws : List Value) → behind_commas (vs ++ ws) ≡ behind_commas vs ++ behind_commas ws
+behind_append [] ws = refl
+behind_append (v ∷ vs) ws =
+    ap (λ (x : List ℕ). codes "," ++ cell_text v ++ x) (behind_append vs ws)
+    ∙ sym (append_assoc (codes "," ++ cell_text v) (behind_commas vs) (behind_commas ws))
+
+-- one value more
+opened_more : (vs : List Value) (v : Value) → opened vs ++ (comma (length vs) ++ cell_text v) ≡ opened (vs ++ v ∷ [])
+opened_more [] v = sym (append-nil (codes "[" ++ cell_text v))
+opened_more (w ∷ ws) v =
+    append_assoc (codes "[" ++ cell_text w) (behind_commas ws) (codes "," ++ cell_text v)
+    ∙ ap (λ (x : List ℕ). codes "[" ++ cell_text w ++ x)
+    (ap (λ (x : List ℕ). behind_commas ws ++ x) (sym (append-nil (codes "," ++ cell_text v))) ∙ sym (behind_append ws (v ∷ [])))
+
+-- a row begins with the front of its first values
+opened_front : (vs ws : List Value) → (u : List ℕ) × (opened (vs ++ ws) ≡ opened vs ++ u)
+opened_front [] [] = ([], refl)
+opened_front [] (w ∷ ws) = (cell_text w ++ behind_commas ws, append_assoc (codes "[") (cell_text w) (behind_commas ws))
+opened_front (v ∷ vs) ws =
+    (behind_commas ws, ap (λ (x : List ℕ). codes "[" ++ cell_text v ++ x) (behind_append vs ws) ∙ sym (append_assoc (codes "[" ++ cell_text v) (behind_commas vs) (behind_commas ws)))
+
+pub cell_more : (row : List Value) (c : ℕ) (v : Value) → c < length row → slice_get row c ≡ Some v → opened (take c row) ++ (comma c ++ cell_text v) ≡ opened (take (c + 1) row)
+cell_more row c v inside at =
+    let size : length (take c row) ≡ c = length-take-le c row (omega (arith, inside)) in
+    let last : take c row ++ v ∷ [] ≡ take (c + 1) row = ap (λ (w : Value). take c row ++ w ∷ []) (sym (get_or_from_slice_get row c v v at)) ∙ sym (take_more row c v inside) in
+    ap (λ (n : ℕ). opened (take c row) ++ (comma n ++ cell_text v)) (sym size) ∙ (opened_more (take c row) v ∙ ap opened last)
+
+-- what stands in a row behind its first values
+pub row_rest : (row : List Value) (c : ℕ) → (u : List ℕ) × (line row ≡ opened (take c row) ++ u)
+row_rest row c =
+    let front = opened_front (take c row) (drop c row) in
+    let is : opened row ≡ opened (take c row) ++ front.0 = ap opened (sym (take-append-drop c row)) ∙ front.1 in
+    (front.0 ++ (93 ∷ 10 ∷ []), ap (λ (x : List ℕ). x ++ (93 ∷ 10 ∷ [])) is ∙ append_assoc (opened (take c row)) front.0 (93 ∷ 10 ∷ []))
+
+pub row_whole : (row : List Value) (c : ℕ) → length row ≡ c → opened (take c row) ++ (93 ∷ 10 ∷ []) ≡ line row
+row_whole row c size = ap (λ (x : List Value). opened x ++ (93 ∷ 10 ∷ [])) (take_all c row (omega (arith, size)))
+
+lines_append : (rows more : List (List Value)) → lines (rows ++ more) ≡ lines rows ++ lines more
+lines_append [] more = refl
+lines_append (row ∷ rows) more = ap (λ (x : List ℕ). line row ++ x) (lines_append rows more) ∙ sym (append_assoc (line row) (lines rows) (lines more))
+
+pub lines_more : (rows : List (List Value)) (i : ℕ) → i < length rows → lines (take i rows) ++ line (slice_index_or rows i []) ≡ lines (take (i + 1) rows)
+lines_more rows i inside =
+    ap (λ (x : List ℕ). lines (take i rows) ++ x) (sym (append-nil (line (slice_index_or rows i []))))
+    ∙ (sym (lines_append (take i rows) (slice_index_or rows i [] ∷ [])) ∙ ap lines (sym (take_more rows i [] inside)))
+
+pub lines_rest : (rows : List (List Value)) (i : ℕ) → lines rows ≡ lines (take i rows) ++ lines (drop i rows)
+lines_rest rows i = ap lines (sym (take-append-drop i rows)) ∙ lines_append (take i rows) (drop i rows)
+
+pub lines_whole : (rows : List (List Value)) (n : ℕ) → n ≡ length rows → lines (take n rows) ≡ lines rows
+lines_whole rows n size = ap lines (take_all n rows (omega (arith, size)))
+
+pub batch_lines_more : (batches : List (List (List Value))) (rows : List (List Value)) → batch_lines batches ++ lines rows ≡ batch_lines (batches ++ rows ∷ [])
+batch_lines_more [] rows = sym (append-nil (lines rows))
+batch_lines_more (b ∷ bs) rows = append_assoc (lines b) (batch_lines bs) (lines rows) ∙ ap (λ (x : List ℕ). lines b ++ x) (batch_lines_more bs rows)

@@ -1,0 +1,60 @@
+-- The columns that `show` prints.
+use Rattle.std.specs.Prelude.{◌≡◌, ℕ, ◌<◌, ◌≤◌, true, List, [], length, map, take, Some, None, slice_get, slice_index_or}
+use Rattle.std.specs.List.{AllByRecursion}
+use Rattle.std.specs.Int.{w64, cast_signed, from_le_bytes}
+use Rattle.ipc_model.specs.declared.schema.DataType.{DataType}
+use Rattle.ipc_model.specs.declared.schema.DataType.TheVariants as t
+use Rattle.ipc_model.specs.declared.schema.IntBits.TheVariants.{B64}
+use Rattle.ipc_model.specs.declared.schema.Field.{Field, out-Field}
+use Rattle.ipc_model.specs.declared.value.Value.{Value}
+use Rattle.ipc_model.specs.declared.value.Value.TheVariants.{Int}
+
+-- a column of signed 64-bit numbers, without a dictionary (Schema.fbs, table Int)
+pub record IsShownColumn (f : Field) : Type 0 where
+  pub kind : (out-Field f).kind ≡ t.Int B64 true
+  pub plain : (out-Field f).dictionary ≡ None
+
+-- each column is one
+abbrev pub AreShownColumns : List Field → Type 0
+AreShownColumns fields = AllByRecursion IsShownColumn fields
+
+-- the code of a type (Schema.fbs, union Type)
+abbrev pub type_code : DataType → ℕ
+type_code t.Null = 1
+type_code (t.Int bits signed) = 2
+type_code t.Binary = 4
+type_code t.Utf8 = 5
+type_code t.Bool = 6
+type_code (t.Date unit) = 8
+type_code (t.Timestamp unit timezone) = 10
+type_code t.List = 12
+type_code t.Struct = 13
+type_code (t.FixedSizeBinary width) = 15
+
+-- some column is none of these, the first such of this code, and the fault says so
+pub record IsNotShown (fields : List Field) (code : ℕ) : Type 0 where
+  pub place : ℕ
+  pub column : Field
+  pub there : slice_get fields place ≡ Some column
+  pub coded : type_code (out-Field column).kind ≡ code
+  pub other : ¬ IsShownColumn column
+  pub first : AreShownColumns (take place fields)
+
+-- the number in eight bytes, the lowest first, in two's complement (Arrow Columnar Format, "Byte Order")
+abbrev pub number_in : List ℕ → Value
+number_in bytes = Int (cast_signed w64 (from_le_bytes w64 bytes))
+
+module _ {X : Type 0} (numbers : X → List (List ℕ)) where
+  -- the numbers that columns have in a row
+  abbrev pub row_in : List X → ℕ → List Value
+  row_in columns row = map (λ c. number_in (slice_index_or (numbers c) row [])) columns
+
+  -- each column has so many numbers
+  abbrev pub AreLong : List X → ℕ → Type 0
+  AreLong columns rows = AllByRecursion (λ c. rows ≤ length (numbers c)) columns
+
+  -- columns, at least one, that have exactly the numbers of the rows
+  pub record AreLent (columns : List X) (rows : List (List Value)) : Type 0 where
+    pub some : 0 < length columns
+    pub long : AreLong columns (length rows)
+    pub same : (i : ℕ) → i < length rows → row_in columns i ≡ slice_index_or rows i []

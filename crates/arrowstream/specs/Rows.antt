@@ -1,0 +1,66 @@
+-- What `show` prints: each row as a JSON array on a line of its own (RFC 8259).
+use Rattle.std.specs.Prelude.{ℕ, zero, suc, List, [], ◌∷◌, ◌++◌, codes, ⊤}
+use Rattle.std.specs.List.{AllByRecursion}
+use Rattle.std.specs.Fmt.{signed_decimal}
+use Rattle.ipc_model.specs.declared.value.Value.{Value, out-Value}
+use Rattle.ipc_model.specs.declared.value.Value.TheOpen.{Value-F}
+
+abbrev pub IsShownIn : Value-F Value → Type 0
+IsShownIn Value-F.Null = ⊤
+IsShownIn (Value-F.Bool truth) = ⊥
+IsShownIn (Value-F.Int number) = ⊤
+IsShownIn (Value-F.UInt number) = ⊥
+IsShownIn (Value-F.Bytes bytes) = ⊥
+IsShownIn (Value-F.Text text) = ⊥
+IsShownIn (Value-F.List values) = ⊥
+IsShownIn (Value-F.Struct values) = ⊥
+
+-- the values that `show` prints: null and signed numbers
+abbrev pub IsShown : Value → Type 0
+IsShown value = IsShownIn (out-Value value)
+
+abbrev pub text_in : Value-F Value → List ℕ
+text_in Value-F.Null = codes "null"
+text_in (Value-F.Int number) = signed_decimal number
+text_in _ = []
+
+-- `null`, or the digits of a number behind a minus sign where it is below 0 (RFC 8259, sections 3 and 6); no other value is shown
+abbrev pub cell_text : Value → List ℕ
+cell_text value = text_in (out-Value value)
+
+-- what stands between so many values and the next one
+abbrev pub comma : ℕ → List ℕ
+comma zero = []
+comma (suc n) = codes ","
+
+-- values, each behind a comma
+abbrev pub behind_commas : List Value → List ℕ
+behind_commas [] = []
+behind_commas (value ∷ values) = codes "," ++ cell_text value ++ behind_commas values
+
+-- the front of a row: a bracket, and values with a comma between each two (RFC 8259, section 5)
+abbrev pub opened : List Value → List ℕ
+opened [] = codes "["
+opened (value ∷ values) = codes "[" ++ cell_text value ++ behind_commas values
+
+-- the other bracket, and a line feed
+abbrev pub closed : List ℕ
+closed = 93 ∷ 10 ∷ []
+
+-- a row: its values between brackets, and a line feed
+abbrev pub line : List Value → List ℕ
+line row = opened row ++ closed
+
+-- a line for each row
+abbrev pub lines : List (List Value) → List ℕ
+lines [] = []
+lines (row ∷ rows) = line row ++ lines rows
+
+-- the rows of batches, one after another
+abbrev pub batch_lines : List (List (List Value)) → List ℕ
+batch_lines [] = []
+batch_lines (rows ∷ batches) = lines rows ++ batch_lines batches
+
+-- each value of the rows is one that is shown
+abbrev pub AreShownRows : List (List Value) → Type 0
+AreShownRows rows = AllByRecursion (AllByRecursion IsShown) rows
