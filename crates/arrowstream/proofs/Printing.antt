@@ -52,7 +52,7 @@ pub record Batches (old now : Reader) (before after : Output) : Type 0 where
   pub run : Run (Some (open_of old)) x (map batch batches) (Some (open_of old))
   pub reading : now.phase ≡ Reading
   pub same : now.schema ≡ old.schema
-  pub works : old.failures ≡ 0 → now.failures ≡ 0
+  pub counts : now.failures ≡ old.failures
   pub cells : AllByRecursion AreShownRows batches
   pub puts : Puts before after (batch_lines batches)
 
@@ -64,7 +64,7 @@ batches_none r o reading = record {
   run = done;
   reading = reading;
   same = refl;
-  works = λ z. z;
+  counts = refl;
   cells = tt;
   puts = puts_none o;
 }
@@ -109,7 +109,7 @@ module _ (old now new : Reader) (before after : Output) (b : Batches old now bef
       subst (λ es. Run (Some (open_of old)) (b.x ++ t.x) es (Some (open_of old))) (sym (map-append batch b.batches (found.rows ∷ [])))
       (run_then _ _ _ b.x t.x (map batch b.batches) (batch found.rows ∷ []) b.run (found_run found t).1)
 
-  pub batches_more : (found : Contents) (next : Output) → NextTakes now new (Ok (Some found)) → (now.failures ≡ 0 → new.failures ≡ 0) → AreShownColumns old.schema.fields → Puts after next (lines found.rows) → Batches old new before next
+  pub batches_more : (found : Contents) (next : Output) → NextTakes now new (Ok (Some found)) → new.failures ≡ now.failures → AreShownColumns old.schema.fields → Puts after next (lines found.rows) → Batches old new before next
   batches_more found next t works columns puts = record {
     x = b.x ++ t.x;
     batches = b.batches ++ found.rows ∷ [];
@@ -117,13 +117,13 @@ module _ (old now new : Reader) (before after : Output) (b : Batches old now bef
     run = more_run found t;
     reading = (found_run found t).0;
     same = t.same_schema ∙ b.same;
-    works = λ z. works (b.works z);
+    counts = works ∙ b.counts;
     cells = all_more AreShownRows b.batches found.rows b.cells (found_shown found t columns);
     puts = put_at before next _ _ (batch_lines_more b.batches found.rows) (puts_then before after next (batch_lines b.batches) (lines found.rows) b.puts puts);
   }
 
   -- the rows of the batch that came weren't all printed
-  pub batches_cut : (found : Contents) (w : Option (List ℕ)) (n : ℕ) (e : PrintFault) → NextTakes now new (Ok (Some found)) → (now.failures ≡ 0 → new.failures ≡ 0) → PutsNot after w n (lines found.rows) e → PrintsPart old new before w n e
+  pub batches_cut : (found : Contents) (w : Option (List ℕ)) (n : ℕ) (e : PrintFault) → NextTakes now new (Ok (Some found)) → new.failures ≡ now.failures → PutsNot after w n (lines found.rows) e → PrintsPart old new before w n e
   batches_cut found w n e t works q = record {
     x = b.x ++ t.x;
     batches = b.batches ++ found.rows ∷ [];
@@ -134,7 +134,7 @@ module _ (old now new : Reader) (before after : Output) (b : Batches old now bef
     state = Some (open_of old);
     run = more_run found t;
     puts = not_at before w n _ _ e (batch_lines_more b.batches found.rows) (puts_not_then before after w n (batch_lines b.batches) (lines found.rows) e b.puts q);
-    works = λ other z. works (b.works z);
+    works = λ other z. works ∙ (b.counts ∙ z);
   }
 
   behind : (y : List ℕ) (r : Result End Fault) → Reads (Some (open_of now)) y new.remaining [] r → Reads (Some (open_of old)) (b.x ++ y) new.remaining (map batch b.batches) r
@@ -152,15 +152,15 @@ module _ (old now new : Reader) (before after : Output) (b : Batches old now bef
     puts = b.puts;
   }
 
-  pub batches_end : NextTakes now new (Ok None) → (now.failures ≡ 0 → new.failures ≡ 0) → PrintsAs old new before after (Ok None)
+  pub batches_end : NextTakes now new (Ok None) → new.failures ≡ now.failures → PrintsAs old new before after (Ok None)
   batches_end t works =
       let h = ended (open_of now) now.phase new.phase t.x new.remaining b.reading t.gives in
-      (h.0, printed t.x (Ok h.0) t.bytes h.1, λ z. works (b.works z))
+      (h.0, printed t.x (Ok h.0) t.bytes h.1, λ z. works ∙ (b.counts ∙ z))
 
   pub batches_break : (f : Fault) → NextTakes now new (Err f) → Tells now.failures new.failures f → PrintsAs old new before after (Ok (Some f))
   batches_break f t tells = (
     printed t.x (Err f) t.bytes (broke (open_of now) now.phase new.phase t.x new.remaining f b.reading t.gives),
-    record { failed = tells.failed; worked = λ other z. tells.worked other (b.works z) },
+    record { failed = tells.failed; stayed = λ other. tells.stayed other ∙ b.counts },
   )
 
 -- nothing was read and printed, since memory ran out

@@ -7,6 +7,8 @@ use Rattle.std.proofs.lemmas.Bool.Decides.{nat_tests, Decides-int_eq, Decides-eq
 use Rattle.ipc_flat.specs.Views.{Table}
 use Rattle.ipc_model.specs.WellFormed.{Entry, entries, max_fields, max_depth, max_text, max_pairs}
 use Rattle.ipc_model.specs.Meaning.{HasGoodType, HasFittingChildren, IsLeaf}
+use Rattle.ipc_model.proofs.FirstFaults.{verdict_from_first}
+use Rattle.ipc_model.specs.FirstFault.{IsFirstFault}
 use Rattle.ipc_model.specs.SchemaFaults.{Before, after, scan, unless_at, fault_at, has_good_type, has_fitting_children, has_leaf_dictionary, is_leaf, is_little_text, same_type, agrees, has_conflict, with_kind, at_start, done, verdict_on}
 use Rattle.ipc_model.specs.Refusals.{reader_fault}
 use Rattle.ipc_model.specs.declared.check.SchemaFault.{SchemaFault}
@@ -170,7 +172,7 @@ schema_refused b t s x has h totals k =
 
 -- the check's refusal, as the call that reads tells it
 pub check_refused : (b : List ℕ) (t : Table) (s : Schema) (x : SchemaFault) (l m n : Budget) → HasTable b schema t → pairs_read t 2 l ≡ Ok (s.metadata, m) → fields_read (field_read 64) t 1 m ≡ Ok (s.fields, n)
-    → (x ≡ check.OutOfMemory) ⊎ (verdict_on s ≡ Err x) → (reader_fault x ≡ reader_fault check.OutOfMemory → ⊥) → Cause b (reader_fault x)
+    → (x ≡ check.OutOfMemory) ⊎ IsFirstFault s x → (reader_fault x ≡ reader_fault check.OutOfMemory → ⊥) → Cause b (reader_fault x)
 check_refused b t s x l m n has p q k ne =
     ⊎_elim (λ is. absurd (ne (ap reader_fault is)))
-    (schema_refused b t s x has (fields_sound (field_read 64) (field_sound 64) t 1 m n s.fields q) (schema_totals t l m n s.fields s.metadata p q)) k
+    (λ first. schema_refused b t s x has (fields_sound (field_read 64) (field_sound 64) t 1 m n s.fields q) (schema_totals t l m n s.fields s.metadata p q) (verdict_from_first s x first)) k

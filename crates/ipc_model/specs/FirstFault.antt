@@ -1,0 +1,63 @@
+-- Where a schema is first not well formed: an entry that breaks a rule, and none before it that breaks one.
+use Rattle.std.specs.Prelude.{◌≡◌, ℕ, ◌+◌, ◌<◌, ◌≤◌, List, [], ◌∷◌, ◌++◌, length, take, sum_by, slice_get, Some, IsSome, ◌⊎◌}
+use Rattle.ipc_model.specs.Meaning.{HasGoodType, HasFittingChildren, IsLeaf, IsAmong, HaveOneType}
+use Rattle.ipc_model.specs.WellFormed.{Entry, entries, max_depth, max_fields, max_pairs, max_text, pair_text}
+use Rattle.ipc_model.specs.declared.check.SchemaFault.{SchemaFault}
+use Rattle.ipc_model.specs.declared.check.SchemaFault.TheVariants as f
+use Rattle.ipc_model.specs.declared.schema.Schema.{Schema}
+
+-- the schema's own pairs and these entries have more text, or more pairs, than all may have together
+abbrev pub HasMuchText : Schema → List Entry → Type 0
+HasMuchText s es = (max_text < pair_text s.metadata + sum_by (λ e. e.text) es) ⊎ (max_pairs < length s.metadata + sum_by (λ e. e.pairs) es)
+
+-- an earlier entry has the dictionary of this one, and another type
+abbrev pub HasConflict : List Entry → Entry → Type 0
+HasConflict earlier e = (a : Entry) × (IsAmong a earlier × ¬ HaveOneType a e)
+
+-- an entry behind these earlier ones breaks the rule that the fault is of
+abbrev pub Breaks : Schema → List Entry → Entry → SchemaFault → Type 0
+Breaks s earlier e (f.BadType number) = ¬ HasGoodType e.kind
+Breaks s earlier e (f.BadChildren number) = ¬ HasFittingChildren e.kind e.children
+Breaks s earlier e (f.TooManyFields number) = max_fields < length earlier + 1
+Breaks s earlier e (f.TooDeep number) = max_depth < e.depth
+Breaks s earlier e (f.TooMuchText number) = HasMuchText s (earlier ++ e ∷ [])
+Breaks s earlier e (f.DictionaryConflict number) = HasConflict earlier e
+Breaks s earlier e (f.NestedDictionary number) = ¬ (IsSome e.dictionary → IsLeaf e.kind)
+Breaks s earlier e f.OutOfMemory = ⊥
+
+-- the entry with k before it does
+abbrev pub BreaksAt : Schema → ℕ → SchemaFault → Type 0
+BreaksAt s k fault = (e : Entry) × ((slice_get (entries s.fields) k ≡ Some e) × Breaks s (take k (entries s.fields)) e fault)
+
+-- which of one entry's faults is told before another
+abbrev pub rank : SchemaFault → ℕ
+rank (f.BadType number) = 1
+rank (f.BadChildren number) = 2
+rank (f.TooManyFields number) = 3
+rank (f.TooDeep number) = 4
+rank (f.TooMuchText number) = 5
+rank (f.DictionaryConflict number) = 6
+rank (f.NestedDictionary number) = 7
+rank f.OutOfMemory = 8
+
+-- the number of the entry that a fault is of, counted from 1
+abbrev pub number_of : SchemaFault → ℕ
+number_of (f.BadType number) = number
+number_of (f.BadChildren number) = number
+number_of (f.TooManyFields number) = number
+number_of (f.TooDeep number) = number
+number_of (f.TooMuchText number) = number
+number_of (f.DictionaryConflict number) = number
+number_of (f.NestedDictionary number) = number
+number_of f.OutOfMemory = 0
+
+-- the fault is one of the entry with k before it, the first of that entry's, and no earlier entry has any
+pub record IsFirstAt (s : Schema) (k : ℕ) (fault : SchemaFault) : Type 0 where
+  pub number : number_of fault ≡ k + 1
+  pub broken : BreaksAt s k fault
+  pub told_first : (other : SchemaFault) → BreaksAt s k other → rank fault ≤ rank other
+  pub none_before : (j : ℕ) → j < k → (other : SchemaFault) → ¬ BreaksAt s j other
+
+-- the first fault of a schema: of its own pairs, which are counted before its entries and have the number 0, or of an entry
+abbrev pub IsFirstFault : Schema → SchemaFault → Type 0
+IsFirstFault s fault = (HasMuchText s [] × (fault ≡ f.TooMuchText 0)) ⊎ (¬ HasMuchText s [] × ((k : ℕ) × IsFirstAt s k fault))
