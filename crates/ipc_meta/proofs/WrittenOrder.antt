@@ -100,8 +100,8 @@ batch_in_order : (b : BatchHead) → InOrder (batch_tree b)
 unfolding Ascends
 batch_in_order b = (omega arith, omega arith, tt, (omega arith, omega arith, tt, (omega arith, omega arith, tt, tt)))
 
-pub schema_ascends : (s : Schema) (f g : Tree) → g ≡ message_tree 1 f 0 → f ≡ schema_tree s → Ascends (fields 0) g
-schema_ascends s f g e h = subst (λ (x : Tree). InOrder x) (sym e) (subst (λ (x : Tree). InOrder (message_tree 1 x 0)) (sym h) (message_in_order 1 0 (schema_tree s) (schema_in_order s)))
+pub schema_ascends : (s : Schema) (code m : ℕ) (f g : Tree) → g ≡ message_tree code f m → f ≡ schema_tree s → Ascends (fields 0) g
+schema_ascends s code m f g e h = subst (λ (x : Tree). InOrder x) (sym e) (subst (λ (x : Tree). InOrder (message_tree code x m)) (sym h) (message_in_order code m (schema_tree s) (schema_in_order s)))
 
 pub batch_ascends : (b : BatchHead) (m : ℕ) (f g : Tree) → g ≡ message_tree 3 f m → f ≡ batch_tree b → Ascends (fields 0) g
 batch_ascends b m f g e h = subst (λ (x : Tree). InOrder x) (sym e) (subst (λ (x : Tree). InOrder (message_tree 3 x m)) (sym h) (message_in_order 3 m (batch_tree b) (batch_in_order b)))

@@ -22,6 +22,9 @@ use std::alloc::Global;
 // Schema.fbs, enum MetadataVersion: V5.
 const VERSION: i16 = 4;
 
+// Message.fbs, union MessageHeader: the last of the headers that a stream has, RecordBatch. The first is 1.
+const LAST_HEADER: u8 = 3;
+
 // How many bytes a body may have, a limit of this project.
 const LONGEST_BODY: i64 = 1 << 40;
 
@@ -64,7 +67,7 @@ fn read_header(alloc: Global, root: &TableRef<'_>) -> Result<Head, Fault>
     ensures refused { IfErr result (λ f. (b : List ℕ) → HasTable b message root.now → Aside f (Cause b f)) }
 {
     let code = lifted(root.scalar_u8(1, 0))?;
-    if code == 0 || code > 3 {
+    if code == 0 || code > LAST_HEADER {
         return Err(Fault::BadHeader);
     }
     let Some(table) = lifted(root.table(2))? else {

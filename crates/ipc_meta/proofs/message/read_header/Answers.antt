@@ -47,7 +47,7 @@ pub returns-in_err-table-clause-refused : goal.returns-in_err-table-clause-refus
 returns-in_err-table-clause-refused c =
     let p = err_from_is_err_and c.from_residual-in_err-table.result c.from_residual-in_err-table.ensures.1 in
     let code = lift_ok _ _ (ap lift (sym c.scalar_u8.ensures) ∙ sym c.in_ok-code.ensures) in
-    rw (p.1, p.2) (λ b has ne. bad_value b _ 2 _ (at_header has code (one_of_three c.in_ok-code.code c.if-code-eq0.false (omega (arith, c.if-code-gt3.false)))) (ap lift (sym c.table.ensures) ∙ sym c.in_err-table.ensures))
+    rw (p.1, p.2) (λ b has ne. bad_value b _ 2 _ (at_header has code (one_of_three c.in_ok-code.code c.if-code-eq0.false (omega (arith, c.if-code-gt-LAST_HEADER.false)))) (ap lift (sym c.table.ensures) ∙ sym c.in_err-table.ensures))
 
 pub returns-in_err-read_schema-in-1-clause-refused : goal.returns-in_err-read_schema-in-1-clause-refused
 returns-in_err-read_schema-in-1-clause-refused c =

@@ -12,7 +12,7 @@ use Rattle.ipc_meta.proofs.message.read_schema.Goals as goal
 pub returns-clause-found : goal.returns-clause-found
 returns-clause-found c = record {
   little_endian = c.in_ok-check_endianness.ensures.ok;
-  fields = fields_sound (field_read 64) (field_sound 64) _ _ _ _ _ c.in_ok-fields.ensures;
+  fields = fields_sound (field_read _) (field_sound _) _ _ _ _ _ c.in_ok-fields.ensures;
   pairs = pairs_sound _ _ _ _ _ c.in_ok-metadata.ensures;
   well_formed = c.in_ok-check.ensures.ok;
 }

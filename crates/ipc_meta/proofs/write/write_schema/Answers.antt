@@ -4,7 +4,7 @@ use Rattle.ipc_meta.proofs.WrittenAnswers.{ok_then, err_then, schema_is, schema_
 use Rattle.ipc_meta.proofs.write.write_schema.Goals as goal
 
 pub built-requires : goal.built-requires
-built-requires c = schema_ascends c.args.schema.now _ _ c.in_ok-message.ensures c.in_ok-header.ensures
+built-requires c = schema_ascends c.args.schema.now _ _ _ _ c.in_ok-message.ensures c.in_ok-header.ensures
 
 pub returns-clause-states : goal.returns-clause-states
 returns-clause-states c =
