@@ -118,7 +118,8 @@ impl Batch {
     ///
     /// Refused with F26 `WrongNodeCount`, F27 `WrongBufferCount`, F28 `BadNode`, F29 `BufferOutOfBody`, F30 `BufferTooShort`,
     /// F31 `BadNullCount`, F32 `BadOffsets` or F33 `ValueNotUtf8` only where that is true of the parts, and then they give no
-    /// rows; with `OutOfMemory` where the list of columns or the block that clones share finds no room (Message.fbs,
+    /// rows: F28 and F29 where there are as many nodes and buffers as the fields need, F30 to F33 where also the lengths, the null
+    /// counts and the ranges of the metadata are in their bounds; with `OutOfMemory` where the list of columns or the block that clones share finds no room (Message.fbs,
     /// RecordBatch; Arrow Columnar Format, "RecordBatch message").
     pub fn check(
         alloc: Global,

@@ -1,12 +1,12 @@
 -- The scan finds the first fault, and there is one at most.
 use Rattle.std.proofs.Common.{◌≡◌, ◌∙◌, refl, sym, ap, subst, ℕ, zero, suc, ◌+◌, ◌<◌, ◌≤◌, ℤ, Bool, true, false, not, ◌&&◌, ◌⊎◌, ⊎_elim, inl, inr, List, [], ◌∷◌, ◌++◌, length, take, drop, Option, Some, None, Result, Ok, Err, length-append, arith}
-use Rattle.std.specs.Prelude.{◌↔◌, sum_by, nat_le, slice_get, if◌then◌else◌, is_some, IfErr}
+use Rattle.std.specs.Prelude.{◌↔◌, sum_by, nat_le, slice_get, if◌then◌else◌, IfErr}
 use Rattle.std.proofs.lemmas.Bool.{cases_lt, cases_order, false≢true}
 use Rattle.std.proofs.lemmas.Bool.Decides.{nat_tests}
 use Rattle.std.proofs.lemmas.List.Sums.{sum_by-append, sum_by-cons}
 use Rattle.std.proofs.lemmas.Option.{slice_get_past}
 use Rattle.ipc_model.specs.FirstFault.{HasMuchText, HasConflict, Breaks, BreaksAt, rank, number_of, IsFirstAt, IsFirstFault}
-use Rattle.ipc_model.specs.Meaning.{HaveOneType, IsAmong}
+use Rattle.ipc_model.specs.Meaning.{IsAmong}
 use Rattle.ipc_model.specs.SchemaFaults.{Before, after, scan, unless_at, fault_at, has_good_type, has_fitting_children, has_leaf_dictionary, is_little_text, has_conflict, agrees, same_type, at_start, done, verdict_on}
 use Rattle.ipc_model.specs.WellFormed.{Entry, entries, max_depth, max_fields, max_pairs, max_text, pair_text}
 use Rattle.ipc_model.proofs.Meanings.{Clear, clear_of, holds, good_both, fitting_both, leaf_both, agree_is, after_it, at_it, before_it}
