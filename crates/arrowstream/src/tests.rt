@@ -16,7 +16,7 @@ fn shown(alloc: Global, bytes: &[u8]) -> (u8, Vec<u8>, Vec<u8>) {
 }
 
 // The same of any source and writer.
-fn shown_on<R: Source, W: Write>(alloc: Global, source: R, writer: W) -> (u8, W, Vec<u8>) {
+fn shown_on<R: Source + Drop, W: Write>(alloc: Global, source: R, writer: W) -> (u8, W, Vec<u8>) {
     let mut sink = Device::new(writer);
     let mut messages = Vec::new(alloc);
     let (status, _source) = run(alloc, source, &mut sink, &mut messages);
