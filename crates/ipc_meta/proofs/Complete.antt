@@ -1,9 +1,9 @@
 -- What the tables state is what is read, where it is within the budget.
 use Rattle.std.proofs.Common.{◌≡◌, ◌∙◌, refl, sym, ap, subst, ℕ, zero, suc, ◌+◌, ◌-◌, ◌<◌, ◌≤◌, true, List, [], ◌∷◌, ◌++◌, map, length, nat_le, le-leb, length-append, arith}
-use Rattle.std.specs.Prelude.{sum_by, Option, Ok}
+use Rattle.std.specs.Prelude.{sum_by, Ok}
 use Rattle.std.specs.List.{AllByRecursion}
 use Rattle.std.proofs.lemmas.List.Sums.{sum_by-append, sum_by-cons}
-use Rattle.ipc_flat.specs.Views.{Table, table_from, field}
+use Rattle.ipc_flat.specs.Views.{Table}
 use Rattle.ipc_model.specs.Meaning.{IsFine}
 use Rattle.ipc_model.specs.WellFormed.{Entry, Listing, entry_of, preorder, preorder_step, all_at, entries, pair_text, kind_text}
 use Rattle.ipc_model.specs.declared.schema.DataType.{DataType}

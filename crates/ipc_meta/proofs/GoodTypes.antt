@@ -10,13 +10,12 @@ use Rattle.ipc_flat.specs.Views.{Table, or_default, table_from, scalar, field}
 use Rattle.ipc_scalar.specs.Faulty.{◌>>=◌ as ◌flat_then◌}
 use Rattle.ipc_model.specs.Answers.{◌>>=◌}
 use Rattle.ipc_model.specs.Meaning.{HasGoodType}
-use Rattle.ipc_model.specs.declared.fault.Fault.{Fault}
 use Rattle.ipc_model.specs.declared.fault.Fault.TheVariants.{BadType}
 use Rattle.ipc_model.specs.declared.schema.DataType.{DataType}
 use Rattle.ipc_model.specs.declared.schema.DataType.TheVariants as type
 use Rattle.ipc_model.specs.declared.schema.DateUnit.TheVariants as date
 use Rattle.ipc_meta.specs.Lifts.{lift}
-use Rattle.ipc_meta.specs.Tables.{ok_or, unit_of, int_at, fixed_at, date_at, timestamp_at, type_of, type_in, is_type_code, when_type, code_at, type_at}
+use Rattle.ipc_meta.specs.Tables.{ok_or, unit_of, int_at, fixed_at, date_at, timestamp_at, type_of, type_in, is_type_code, code_at, type_at}
 use Rattle.ipc_meta.proofs.Sound.{bind_ok, lift_ok}
 use Rattle.ipc_meta.proofs.Refused.{choose}
 

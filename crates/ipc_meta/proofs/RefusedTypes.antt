@@ -8,7 +8,7 @@ use Rattle.ipc_flat.specs.Views.{Table, table_from, scalar, field}
 use Rattle.ipc_model.specs.declared.fault.Fault.{Fault}
 use Rattle.ipc_model.specs.declared.fault.Fault.TheVariants as f
 use Rattle.ipc_meta.specs.Lifts.{lift}
-use Rattle.ipc_meta.specs.Tables.{flag_at, bits_of, ok_or, unit_of, int_at, date_at, fixed_at, timestamp_at, type_of, type_in, is_type_code, when_type, code_at, type_at, index_in, index_at, dictionary_in, dictionary_at}
+use Rattle.ipc_meta.specs.Tables.{flag_at, bits_of, ok_or, unit_of, int_at, date_at, fixed_at, timestamp_at, type_of, type_in, is_type_code, code_at, type_at, index_in, index_at, dictionary_in, dictionary_at}
 use Rattle.ipc_meta.specs.Reached as r
 use Rattle.ipc_meta.specs.Reached.{Kind, schema, column, type_value, dictionary_encoding, index_type, number, tables, LooksAt, HasTable, Element}
 use Rattle.ipc_meta.specs.Causes.{Cause, IsNoType, other_width, other_date_unit, other_time_unit, negative_width, no_table, no_type}

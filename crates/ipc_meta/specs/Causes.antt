@@ -1,5 +1,5 @@
 -- Why metadata is refused: what is true of it for each fault that is told.
-use Rattle.std.specs.Prelude.{◌≡◌, ◌≢◌, ℕ, ◌<◌, ◌⊎◌, ℤ, true, false, pos, int_lt, List, Option, None, Some, Result, Ok}
+use Rattle.std.specs.Prelude.{◌≡◌, ◌≢◌, ℕ, ◌<◌, ◌⊎◌, ℤ, true, false, pos, int_lt, List, None, Some, Result, Ok}
 use Rattle.ipc_scalar.specs.declared.fault.FlatFault.{FlatFault}
 use Rattle.ipc_scalar.specs.Bytes.{byte, int16, int32, int64}
 use Rattle.ipc_flat.specs.Views.{Table, Elements, table_from, scalar, field}

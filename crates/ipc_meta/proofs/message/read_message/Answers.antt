@@ -1,5 +1,4 @@
-use Rattle.std.proofs.Common.{◌≡◌, subst}
-use Rattle.std.proofs.lemmas.Result.{err_from_is_err_and}
+use Rattle.std.proofs.Common.{subst}
 use Rattle.ipc_meta.specs.Open.{IsRead}
 use Rattle.ipc_meta.proofs.Unique.{head_same}
 use Rattle.ipc_meta.proofs.message.read_message.Goals as goal
