@@ -108,21 +108,26 @@ fn writes_numbers(rt: HostRuntime) -> Result<(), Fail> {
 fn leaves_what_follows_a_written_table(rt: HostRuntime) -> Result<(), Fail> {
     let alloc = rt.alloc();
     let table = table_of(alloc, &NO_FIELDS)?;
-    let Ok((back, source)) = write_and_read_back(alloc, &table, b"AB") else {
+    let Ok((back, end, source)) = write_and_read_back(alloc, &table, b"AB") else {
         return Err("a table".into());
     };
+    assert_eq!(rt; end, End::Mark);
     assert!(rt; back.is_same(&table));
     assert_eq!(rt; source.unread(), b"AB".as_slice());
     Ok(())
 }
 
 fn field(alloc: Global, kind: DataType) -> Result<Field, AllocError> {
+    field_above(alloc, kind, Vec::new(alloc))
+}
+
+fn field_above(alloc: Global, kind: DataType, children: Vec<Field>) -> Result<Field, AllocError> {
     Ok(Field {
         name: Text::from_string(String::from_str(alloc, "a")?),
         nullable: true,
         kind,
         dictionary: None,
-        children: Items::from_vec(Vec::new(alloc)),
+        children: Items::from_vec(children),
         metadata: Items::from_vec(Vec::new(alloc)),
     })
 }
@@ -339,18 +344,10 @@ fn writes_on_after_a_refused_row(rt: HostRuntime) -> Result<(), Fail> {
 }
 
 // Lists aren't written yet; an ill-formed schema is refused as well.
-#[test]
-fn refuses_schemas(rt: HostRuntime) -> Result<(), Fail> {
-    let alloc = rt.alloc();
+// Why the schema of one such column is refused, and how many bytes went out.
+fn start_refused(alloc: Global, field: Field) -> Result<(WriteFault, usize), Fail> {
     let mut fields = Vec::new(alloc);
-    fields.push(Field {
-        name: Text::from_string(String::from_str(alloc, "a")?),
-        nullable: true,
-        kind: DataType::FixedSizeBinary(1 << 31),
-        dictionary: None,
-        children: Items::from_vec(Vec::new(alloc)),
-        metadata: Items::from_vec(Vec::new(alloc)),
-    })?;
+    fields.push(field)?;
     let schema = Schema {
         fields: Items::from_vec(fields),
         metadata: Items::from_vec(Vec::new(alloc)),
@@ -358,8 +355,23 @@ fn refuses_schemas(rt: HostRuntime) -> Result<(), Fail> {
     let (fault, sink) = StreamWriter::start(alloc, empty(alloc), &schema)
         .err()
         .ok_or("a refusal")?;
-    assert_eq!(rt; fault, WriteFault::BadSchema);
-    assert_eq!(rt; sink.into_bytes().len(), 0);
+    Ok((fault, sink.into_bytes().len()))
+}
+
+// A width that no column has; a list, which is well formed and not written yet; a list without its child.
+#[test]
+fn refuses_schemas(rt: HostRuntime) -> Result<(), Fail> {
+    let alloc = rt.alloc();
+    let wide = field(alloc, DataType::FixedSizeBinary(1 << 31))?;
+    let mut children = Vec::new(alloc);
+    children.push(field(alloc, DataType::Utf8)?)?;
+    let list = field_above(alloc, DataType::List, children)?;
+    let childless = field(alloc, DataType::List)?;
+    for field in vec![in alloc; wide, list, childless]? {
+        let (fault, sent) = start_refused(alloc, field)?;
+        assert_eq!(rt; fault, WriteFault::BadSchema);
+        assert_eq!(rt; sent, 0);
+    }
     Ok(())
 }
 
