@@ -1,5 +1,5 @@
 //! Rows as text: each a JSON array on a line of its own.
-ghost use Rattle.std.specs.Prelude.{◌≡◌, ◌≤◌, ◌<◌, ◌+◌, ◌++◌, ◌∷◌, [], length, take, vec_len, slice_index_or, IfErr, IfOk, IfSome, MatchResult};
+ghost use Rattle.std.specs.Prelude.{◌≡◌, ◌≤◌, ◌<◌, ◌+◌, ◌++◌, ◌∷◌, [], length, take, vec_len, slice_index_or, IfErr, IfOk, IfSome, MatchResult, Some, OnOk};
 ghost use Rattle.std.specs.Fmt.{signed_decimal};
 ghost use Rattle.std.specs.Int.{cast_signed, from_le_bytes, w64};
 ghost use Rattle.ipc_column.specs.Values.{cell_value};
@@ -364,6 +364,8 @@ impl Lines {
     /// Sends what is kept, and flushes the sink. `Write` is answered where it failed, and nothing else; then what was kept is lost.
     pub fn flush<W: Sink>(&mut self, sink: &mut W) -> Result<(), PrintFault>
         ensures works { MatchResult result (λ _. W.failures sink.new ≡ 0) (λ fault. fault ≡ PrintFault.Write) }
+        // Nothing is held back.
+        ensures handed_on { OnOk result (W.held_back sink.new ≡ Some []) }
         ensures puts { PrintsAs (output (W.written sink.old) (W.failures sink.old) self.old) (W.written sink.new) (W.failures sink.new) [] [] result }
     {
         send(sink, &self.text[..self.at])?;

@@ -1,5 +1,5 @@
 //! The job `show`: a stream's rows are printed as they come.
-ghost use Rattle.std.specs.Prelude.{◌≡◌, ◌≢◌, ◌⊎◌, [], IfErr, IfOk};
+ghost use Rattle.std.specs.Prelude.{◌≡◌, ◌≢◌, ◌⊎◌, [], Some, IfErr, IfOk, OnOk};
 ghost use Rattle.ipc_stream.specs.declared.phase.Phase.TheVariants.{Reading};
 ghost use Rattle.ipc_stream.specs.Reasons.{IsAside};
 ghost use Rattle.arrowstream.specs.Columns.{AreShownColumns};
@@ -52,6 +52,7 @@ fn print_stream<R: Source, W: Sink>(
     requires reading { stream.old.phase ≡ Reading }
     requires columns { AreShownColumns stream.old.schema.fields }
     ensures works { IfOk result (λ fault. W.failures sink.new ≡ 0) }
+    ensures handed_on { IfOk result (λ fault. W.held_back sink.new ≡ Some []) }
     ensures prints { PrintsAs stream.old stream.new (output (W.written sink.old) (W.failures sink.old) []) (output (W.written sink.new) (W.failures sink.new) []) result }
 {
     let mut lines = Lines::new(alloc)?;
@@ -67,6 +68,7 @@ fn show_rows<R: Source, W: Sink>(
     sink: &mut W,
 ) -> Result<(), Stop>
     requires { stream.old.phase ≡ Reading }
+    ensures handed_on { OnOk result (W.held_back sink.new ≡ Some []) }
     ensures shows { ShowsRows stream.old stream.new (output (W.written sink.old) (W.failures sink.old) []) (output (W.written sink.new) (W.failures sink.new) []) result }
     ensures devices { TellsDevices stream.old.failures stream.new.failures (W.failures sink.old) (W.failures sink.new) (exit_status result) }
 {
@@ -82,6 +84,7 @@ fn show_rows<R: Source, W: Sink>(
 
 // Prints a stream, and gives its source back.
 fn show<R: Source, W: Sink>(alloc: Global, source: R, sink: &mut W) -> (Result<(), Stop>, R)
+    ensures handed_on { OnOk result.0 (W.held_back sink.new ≡ Some []) }
     ensures shows { Shows (R.remaining source) (R.remaining result.1) (W.written sink.old) (W.written sink.new) result.0 }
     ensures devices { TellsDevices (R.failures source) (R.failures result.1) (W.failures sink.old) (W.failures sink.new) (exit_status result.0) }
 {
@@ -135,6 +138,8 @@ pub fn run<R: Source, W: Sink, E: Write>(
 ) -> (u8, R)
     // At 0 the bytes that were taken denote a table with its end, and exactly its rows were printed.
     ensures done { result.0 ≡ 0 → ShowsTable (R.remaining source) (R.remaining result.1) (W.written sink.old) (W.written sink.new) }
+    // Then the sink holds nothing back.
+    ensures handed_on { result.0 ≡ 0 → W.held_back sink.new ≡ Some [] }
     // At 1 the stream is refused, and exactly the rows of the batches before were printed.
     ensures refused { result.0 ≡ 1 → (fault : Fault) × ¬ IsAside fault × Breaks (R.remaining source) (R.remaining result.1) (W.written sink.old) (W.written sink.new) fault }
     // 3 comes exactly where a device failed.
