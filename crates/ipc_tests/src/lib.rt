@@ -2,6 +2,8 @@
 #![tactic(auto)]
 
 #[cfg(test)]
+mod devices;
+#[cfg(test)]
 mod streams;
 #[cfg(test)]
 mod vectors;
