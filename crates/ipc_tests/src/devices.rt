@@ -82,7 +82,10 @@ fn tells_a_writer_that_fails(rt: HostRuntime) -> Result<(), Fail> {
     let (table, whole) = numbers(alloc)?;
     let mut sink = Device::new(Narrow::new(alloc, 5, true));
     for _ in 0..2 {
-        assert_eq!(rt; write_table(alloc, &mut sink, &table).err(), Some(WriteFault::Write));
+        assert_eq!(rt;
+            write_table(alloc, &mut sink, &table).err(),
+            Some(WriteFault::Write)
+        );
     }
     let bytes = sink.into_inner().bytes;
     assert_eq!(rt; Some(bytes.as_slice()), whole.get(..15));
@@ -95,11 +98,13 @@ fn tells_a_writer_whose_flush_fails(rt: HostRuntime) -> Result<(), Fail> {
     let alloc = rt.alloc();
     let (table, whole) = numbers(alloc)?;
     let mut sink = Device::new(Narrow::new(alloc, u32::MAX, false));
-    assert_eq!(rt; write_table(alloc, &mut sink, &table).err(), Some(WriteFault::Write));
+    assert_eq!(rt;
+        write_table(alloc, &mut sink, &table).err(),
+        Some(WriteFault::Write)
+    );
     assert_eq!(rt; sink.into_inner().bytes.as_slice(), whole.as_slice());
     let sink = Device::new(Narrow::new(alloc, u32::MAX, false));
-    let mut writer =
-        StreamWriter::start(alloc, sink, &table.schema).map_err(|(fault, _)| fault)?;
+    let mut writer = StreamWriter::start(alloc, sink, &table.schema).map_err(|(fault, _)| fault)?;
     for rows in table.batches.as_slice() {
         writer.write_batch(rows.as_slice())?;
     }
@@ -154,8 +159,9 @@ fn tells_values_out_of_range(rt: HostRuntime) -> Result<(), Fail> {
     for (kind, fits, wide) in ranges(alloc)? {
         let schema = schema_of(alloc, kind)?;
         let rows = vec![in alloc; row(alloc, fits)?, row(alloc, wide)?]?;
-        let mut writer = StreamWriter::start(alloc, Memory::new(Vec::new(alloc)), &schema)
-            .map_err(|(fault, _)| fault)?;
+        let mut writer = StreamWriter::start(alloc, Memory::new(Vec::new(alloc)), &schema).map_err(
+            |(fault, _)| fault,
+        )?;
         let fault = writer.write_batch(&rows).err().ok_or("a refusal")?;
         assert_eq!(rt; format!(in alloc; "{fault}")?.as_str(), REFUSED);
         let sent = writer.into_inner().into_bytes();
