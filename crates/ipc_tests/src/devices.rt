@@ -30,27 +30,27 @@ impl Narrow {
     }
 }
 
-fn broken<T: Drop>() -> io::Result<T> {
-    Err(io::Error::from(io::ErrorKind::Other))
+fn broken() -> io::Error {
+    io::Error::from(io::ErrorKind::Other)
 }
 
 impl Write for Narrow {
     fn write(&mut self, bytes: &[u8]) -> io::Result<usize> {
         if self.calls_left == 0 {
-            return broken();
+            return Err(broken());
         }
         self.calls_left -= 1;
         let count = self.step.min(bytes.len());
         for byte in &bytes[..count] {
             if self.bytes.push(*byte).is_err() {
-                return broken();
+                return Err(broken());
             }
         }
         Ok(count)
     }
 
     fn flush(&mut self) -> io::Result<()> {
-        if self.flushes { Ok(()) } else { broken() }
+        if self.flushes { Ok(()) } else { Err(broken()) }
     }
 }
 
