@@ -6,7 +6,7 @@ use Rattle.ipc_scalar.specs.Faulty.{◌>>=◌, where_some}
 use Rattle.ipc_scalar.specs.Flat.{vtable_of, slot_of, table_of, elements_of}
 
 -- a table: the bytes, and its place in them
-pub record Table : Type 0 where
+pub record TableView : Type 0 where
   pub bytes : List ℕ
   pub at : ℕ
 
@@ -24,11 +24,11 @@ pub record Structs : Type 0 where
   pub width : ℕ
 
 -- FlatBuffers binary format, "Tables": the table at t, where its vtable stands
-unfoldable pub table_at : List ℕ → ℕ → Result Table FlatFault
+unfoldable pub table_at : List ℕ → ℕ → Result TableView FlatFault
 table_at b t = vtable_of b t >>= λ v. Ok (record { bytes = b; at = t })
 
 -- "Format Components": the table to which the offset at p points; the root table's offset is at 0
-unfoldable pub table_from : List ℕ → ℕ → Result Table FlatFault
+unfoldable pub table_from : List ℕ → ℕ → Result TableView FlatFault
 table_from b p = table_of b p >>= λ t. Ok (record { bytes = b; at = t })
 
 -- what stands at the place of a field that is there, and x for one that is absent
@@ -37,11 +37,11 @@ or_default read x None = x
 or_default read x (Some p) = read p
 
 -- "Tables": the number of w bytes in field k, as `read` reads it at a place, or the default x where the field is absent
-unfoldable pub scalar : {X : Type 0} → Table → ℕ → ℕ → (List ℕ → ℕ → X) → X → Result X FlatFault
+unfoldable pub scalar : {X : Type 0} → TableView → ℕ → ℕ → (List ℕ → ℕ → X) → X → Result X FlatFault
 scalar t k w read x = slot_of t.bytes t.at k w >>= λ o. Ok (or_default (read t.bytes) x o)
 
 -- "Tables": what f says of the place of field k, which holds an offset of four bytes; an absent field stays absent
-unfoldable pub field : {X : Type 0} → Table → ℕ → (List ℕ → ℕ → Result X FlatFault) → Result (Option X) FlatFault
+unfoldable pub field : {X : Type 0} → TableView → ℕ → (List ℕ → ℕ → Result X FlatFault) → Result (Option X) FlatFault
 field t k f = slot_of t.bytes t.at k 4 >>= where_some (f t.bytes)
 
 -- "Strings and Vectors": the vector of offsets to which the offset at p points
@@ -53,9 +53,9 @@ unfoldable pub structs_from : ℕ → List ℕ → ℕ → Result Structs FlatFa
 structs_from width b p = elements_of b p width >>= λ e. Ok (record { bytes = b; at = e.0; len = e.1; width = width })
 
 -- the answer is what a call returned, its value seen by `view`
-abbrev pub Seen : {X Y : Type 0} → (X → Y) → Result X FlatFault → Result Y FlatFault → Type 0
-Seen view (Ok x) answer = answer ≡ Ok (view x)
-Seen view (Err e) answer = answer ≡ Err e
+abbrev pub IsAnswer : {X Y : Type 0} → (X → Y) → Result X FlatFault → Result Y FlatFault → Type 0
+IsAnswer view (Ok x) answer = answer ≡ Ok (view x)
+IsAnswer view (Err e) answer = answer ≡ Err e
 
 -- a table stands at t, and its vtable of so many bytes at v; both begin inside the bytes
 pub record Stands (b : List ℕ) (t v size : ℕ) : Type 0 where

@@ -3,7 +3,7 @@ ghost use Rattle.std.specs.Str.{is_utf8};
 ghost use Rattle.ipc_scalar.specs.Flat.{points, elements_of, text_of};
 ghost use Rattle.ipc_scalar.specs.Faulty.{ok_if};
 ghost use Rattle.ipc_scalar.specs.declared.fault.FlatFault.TheVariants.{NotUtf8};
-ghost use Rattle.ipc_flat.specs.Views.{Seen};
+ghost use Rattle.ipc_flat.specs.Views.{IsAnswer};
 
 use ipc_scalar::{FlatFault, get_u32};
 use std::str;
@@ -47,7 +47,7 @@ pub(crate) fn elements_at(
 // Bytes as a text.
 #[tactic(auto, using(crate::proofs::Utf8::is_text, crate::proofs::Utf8::is_no_text))]
 fn text_of_bytes(bytes: &[u8]) -> Result<&str, FlatFault>
-    ensures { Seen (λ s. s.now) result (ok_if (is_utf8 bytes.now) NotUtf8 bytes.now) }
+    ensures { IsAnswer (λ s. s.now) result (ok_if (is_utf8 bytes.now) NotUtf8 bytes.now) }
 {
     str::from_utf8(bytes).map_err(|_| FlatFault::NotUtf8)
 }
@@ -55,7 +55,7 @@ fn text_of_bytes(bytes: &[u8]) -> Result<&str, FlatFault>
 // The text to which the offset at `at` points.
 #[tactic(auto, unfolding(ipc_scalar::specs::Flat::text_of))]
 pub(crate) fn text_at(bytes: &[u8], at: usize) -> Result<&str, FlatFault>
-    ensures { Seen (λ s. s.now) result (text_of bytes.now at) }
+    ensures { IsAnswer (λ s. s.now) result (text_of bytes.now at) }
 {
     let (start, len) = elements_at(bytes, at, 1)?;
     text_of_bytes(&bytes[start..start + len])

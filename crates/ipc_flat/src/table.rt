@@ -1,7 +1,7 @@
 ghost use Rattle.std.specs.Prelude.{◌≡◌, ◌≤◌, ◌<◌, ◌+◌, ◌^◌, length, Option, Result, IfOk, IfSome, option_map};
 ghost use Rattle.ipc_scalar.specs.Bytes.{byte, int16, int32, int64};
 ghost use Rattle.ipc_scalar.specs.Flat.{back_of, slot_of, text_of};
-ghost use Rattle.ipc_flat.specs.Views.{Seen, table_at, table_from, scalar, field, elements_from, structs_from};
+ghost use Rattle.ipc_flat.specs.Views.{IsAnswer, table_at, table_from, scalar, field, elements_from, structs_from};
 
 use crate::offset::{target, text_at};
 use crate::struct_vec::StructVec;
@@ -9,7 +9,7 @@ use crate::table_vec::TableVec;
 use ipc_scalar::{FlatFault, get_i32, get_i64, get_u16};
 use std::marker::Model;
 
-/// A table of borrowed bytes, whose vtable was found ("Tables"). Contracts see it as a `Table`: the
+/// A table of borrowed bytes, whose vtable was found ("Tables"). Contracts see it as a `TableView`: the
 /// bytes and its place in them.
 ///
 /// A `slot` is a field's number, from 0. A field is absent where the vtable ends before its entry or
@@ -24,9 +24,9 @@ pub struct TableRef<'a> {
 }
 
 impl<'a> Model for TableRef<'a> {
-    ghost use Rattle.ipc_flat.specs.Views.{Table, Stands};
+    ghost use Rattle.ipc_flat.specs.Views.{TableView, Stands};
 
-    ghost Value = { Table };
+    ghost Value = { TableView };
 
     ghost view = { λ t. record { bytes = t.bytes.now; at = t.at } };
 
@@ -154,7 +154,7 @@ impl<'a> TableRef<'a> {
     /// bytes pass the end; `NotUtf8` where those bytes are not UTF-8.
     #[tactic(auto, unfolding(crate::specs::Views::field))]
     pub fn text(&self, slot: u16) -> Result<Option<&'a str>, FlatFault>
-        ensures { Seen (option_map (λ s. s.now)) result (field self.now slot text_of) }
+        ensures { IsAnswer (option_map (λ s. s.now)) result (field self.now slot text_of) }
     {
         match self.place(slot, 4)? {
             None => Ok(None),

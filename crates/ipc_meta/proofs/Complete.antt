@@ -3,7 +3,7 @@ use Rattle.std.proofs.Common.{◌≡◌, ◌∙◌, refl, sym, ap, subst, ℕ, z
 use Rattle.std.specs.Prelude.{sum_by, Ok}
 use Rattle.std.specs.List.{AllByRecursion}
 use Rattle.std.proofs.lemmas.List.Sums.{sum_by-append, sum_by-cons}
-use Rattle.ipc_flat.specs.Views.{Table}
+use Rattle.ipc_flat.specs.Views.{TableView}
 use Rattle.ipc_model.specs.Meaning.{IsFine}
 use Rattle.ipc_model.specs.WellFormed.{Entry, Listing, entry_of, preorder, preorder_step, all_at, entries, pair_text, kind_text}
 use Rattle.ipc_model.specs.declared.schema.DataType.{DataType}
@@ -45,11 +45,11 @@ less_fields_is n a b c m h =
 
 -- ---- texts and pairs
 
-text_complete : (t : Table) (k : ℕ) (s : List ℕ) (a b c m : ℕ) → text_at t k ≡ Ok s → length s + m ≡ b → text_read t k (budget a b c) ≡ Ok (s, budget a m c)
+text_complete : (t : TableView) (k : ℕ) (s : List ℕ) (a b c m : ℕ) → text_at t k ≡ Ok s → length s + m ≡ b → text_read t k (budget a b c) ≡ Ok (s, budget a m c)
 unfolding text_read
 text_complete t k s a b c m h e = rw (h, less_text_is (length s) a b c m e) refl
 
-pair_complete : (t : Table) (p : List ℕ × List ℕ) (a b c m : ℕ) → PairAt p t → length p.0 + length p.1 + m ≡ b → pair_read t (budget a b c) ≡ Ok (p, budget a m c)
+pair_complete : (t : TableView) (p : List ℕ × List ℕ) (a b c m : ℕ) → PairAt p t → length p.0 + length p.1 + m ≡ b → pair_read t (budget a b c) ≡ Ok (p, budget a m c)
 unfolding pair_read
 pair_complete t p a b c m h e =
     rw (text_complete t 0 p.0 a b c (length p.1 + m) h.0 (omega arith), text_complete t 1 p.1 a (length p.1 + m) c m h.1 refl) refl
@@ -63,14 +63,14 @@ each_pair s (x ∷ ps) p n a b c m h e =
     let size : n ≡ suc (n - 1) = (let l = h.1 in omega arith) in
     rw (size, h.2, pair_complete h.0 x a b c (pair_text ps + m) h.3 (omega arith), each_pair s ps (p + 4) (n - 1) a (pair_text ps + m) c m h.4 refl) refl
 
-tables_many : {X : Type 0} (At : X → Table → Type 0) (s : List ℕ) (xs : List X) (p n : ℕ) → TablesAt At s p n xs → n ≡ length xs
+tables_many : {X : Type 0} (At : X → TableView → Type 0) (s : List ℕ) (xs : List X) (p n : ℕ) → TablesAt At s p n xs → n ≡ length xs
 tables_many At s [] p n h = h
 tables_many At s (x ∷ xs) p n h =
     let rest = tables_many At s xs (p + 4) (n - 1) h.4 in
     let l = h.1 in
     omega arith
 
-pub pairs_complete : (t : Table) (k : ℕ) (ps : List (List ℕ × List ℕ)) (a b c m q : ℕ) → VectorAt PairAt ps t k → pair_text ps + m ≡ b → length ps + q ≡ c
+pub pairs_complete : (t : TableView) (k : ℕ) (ps : List (List ℕ × List ℕ)) (a b c m q : ℕ) → VectorAt PairAt ps t k → pair_text ps + m ≡ b → length ps + q ≡ c
     → pairs_read t k (budget a b c) ≡ Ok (ps, budget a m q)
 unfolding pairs_read
 pairs_complete t k ps a b c m q h e f =
@@ -79,7 +79,7 @@ pairs_complete t k ps a b c m q h e f =
 
 -- ---- the type
 
-type_complete : (t : Table) (κ : DataType) (a b c m : ℕ) → type_at t ≡ Ok κ → kind_text κ + m ≡ b → type_read t (budget a b c) ≡ Ok (κ, budget a m c)
+type_complete : (t : TableView) (κ : DataType) (a b c m : ℕ) → type_at t ≡ Ok κ → kind_text κ + m ≡ b → type_read t (budget a b c) ≡ Ok (κ, budget a m c)
 unfolding type_read
 type_complete t κ a b c m h e = rw (h, less_text_is (kind_text κ) a b c m e) refl
 
@@ -118,7 +118,7 @@ abbrev Counted : List Entry → ℕ → ℕ → ℕ → ℕ → ℕ → ℕ → 
 Counted es n a b c r m q = (length es + r ≡ a + n) × (text_of es + m ≡ b) × (pairs_of es + q ≡ c)
 
 abbrev IsReadBack : Field → Type 0
-IsReadBack f = (n d : ℕ) (t : Table) (a b c r m q : ℕ) → FieldAt f t → n + d ≡ 65 → Within 64 (preorder f d) → Counted (preorder f d) 1 a b c r m q
+IsReadBack f = (n d : ℕ) (t : TableView) (a b c r m q : ℕ) → FieldAt f t → n + d ≡ 65 → Within 64 (preorder f d) → Counted (preorder f d) 1 a b c r m q
     → field_read n t (budget a b c) ≡ Ok (f, budget r m q)
 
 abbrev Shown : Type 0
@@ -153,7 +153,7 @@ each_field s (f ∷ cs) n d p k a b c r m q h deep w e =
     let others = each_field s cs n d (p + 4) (k - 1) (a + 1 - length here) (text_of there + m) (pairs_of there + q) r m q h.4 deep deeper.1 (omega arith, refl, refl) in
     rw (size, h.2, first, others) refl
 
-children_complete : (t : Table) (k : ℕ) (cs : List Shown) (n d a b c r m q : ℕ) → VectorAt FieldAt (fields_of cs) t k → n + d ≡ 65 → Within 64 (all_at d (map preorder (fields_of cs)))
+children_complete : (t : TableView) (k : ℕ) (cs : List Shown) (n d a b c r m q : ℕ) → VectorAt FieldAt (fields_of cs) t k → n + d ≡ 65 → Within 64 (all_at d (map preorder (fields_of cs)))
     → Counted (all_at d (map preorder (fields_of cs))) 0 a b c r m q → fields_read (field_read n) t k (budget a b c) ≡ Ok (fields_of cs, budget r m q)
 unfolding fields_read
 children_complete t k cs n d a b c r m q h deep w e =
@@ -175,7 +175,7 @@ roll_read y (suc n) d t a b c r m q h deep w e =
     let below = all_at (d + 1) (map preorder (fields_of y.children)) in
     let g : Within 64 (preorder_step (map-Field Field Listing preorder z) d) = subst (λ (l : Listing). Within 64 (l d)) rolled w in
     let counted : Counted (entry_of (map-Field Field Listing preorder z) d ∷ below) 1 a b c r m q = subst (λ (l : Listing). Counted (l d) 1 a b c r m q) rolled e in
-    let here = subst (λ (F : Table → Type 0). F t) (field_roll z) h in
+    let here = subst (λ (F : TableView → Type 0). F t) (field_roll z) h in
     let e0 = counted.0 in
     let head = entry_of (map-Field Field Listing preorder z) d in
     let e1 : (length y.name + kind_text y.kind + pair_text y.metadata) + text_of below + m ≡ b = ap (λ k. k + m) (sym (sum_by-cons (λ e. e.text) head below)) ∙ counted.1 in
@@ -196,7 +196,7 @@ shown_are : (fs : List Field) → fields_of (map (λ f. (f, field_complete f)) f
 shown_are [] = refl
 shown_are (f ∷ fs) = ap (λ gs. f ∷ gs) (shown_are fs)
 
-pub columns_complete : (t : Table) (k : ℕ) (fs : List Field) (n d a b c r m q : ℕ) → VectorAt FieldAt fs t k → n + d ≡ 65 → Within 64 (all_at d (map preorder fs))
+pub columns_complete : (t : TableView) (k : ℕ) (fs : List Field) (n d a b c r m q : ℕ) → VectorAt FieldAt fs t k → n + d ≡ 65 → Within 64 (all_at d (map preorder fs))
     → Counted (all_at d (map preorder fs)) 0 a b c r m q → fields_read (field_read n) t k (budget a b c) ≡ Ok (fs, budget r m q)
 columns_complete t k fs n d a b c r m q =
     subst (λ gs. VectorAt FieldAt gs t k → n + d ≡ 65 → Within 64 (all_at d (map preorder gs)) → Counted (all_at d (map preorder gs)) 0 a b c r m q → fields_read (field_read n) t k (budget a b c) ≡ Ok (gs, budget r m q))
@@ -205,13 +205,13 @@ columns_complete t k fs n d a b c r m q =
 -- ---- schemas and batches
 
 -- the schema that a table states is read of it, first its pairs and then its columns
-pub record SchemaRead (t : Table) (s : Schema) : Type 0 where
+pub record SchemaRead (t : TableView) (s : Schema) : Type 0 where
   pub mid : Budget
   pub after : Budget
   pub pairs : pairs_read t 2 (budget 65536 67108864 1048576) ≡ Ok (s.metadata, mid)
   pub fields : fields_read (field_read 64) t 1 mid ≡ Ok (s.fields, after)
 
-pub schema_complete : (t : Table) (s : Schema) → SchemaAt t s → SchemaRead t s
+pub schema_complete : (t : TableView) (s : Schema) → SchemaAt t s → SchemaRead t s
 schema_complete t s h =
     let w = h.well_formed in
     let few = w.few_fields in
@@ -226,6 +226,6 @@ schema_complete t s h =
           h.fields (omega arith) (within_fine es w.each) (omega arith, omega arith, omega arith);
     }
 
-pub batch_complete : (t : Table) (batch : BatchHead) → BatchAt t batch → batch_read t ≡ Ok batch
+pub batch_complete : (t : TableView) (batch : BatchHead) → BatchAt t batch → batch_read t ≡ Ok batch
 unfolding batch_read
 batch_complete t batch h = rw (h.uncompressed, h.length, h.nodes, h.buffers) refl

@@ -3,7 +3,7 @@ use Rattle.std.proofs.Common.{◌≡◌, ◌∙◌, sym, subst, ℕ, suc, ◌+�
 use Rattle.std.specs.Prelude.{Ok}
 use Rattle.std.specs.List.{AllByRecursion}
 use Rattle.std.proofs.lemmas.List.{length-map}
-use Rattle.ipc_flat.specs.Views.{Table, Elements, table_from}
+use Rattle.ipc_flat.specs.Views.{TableView, Elements, table_from}
 use Rattle.ipc_model.specs.WellFormed.{Entry, Listing, entry_of, preorder, preorder_step, all_at}
 use Rattle.ipc_model.specs.declared.schema.Field.{Field, roll-Field, ind-Field, fold-roll-Field, map-Field}
 use Rattle.ipc_model.specs.declared.schema.Field.TheOpen.{Field-F}
@@ -13,8 +13,8 @@ use Rattle.ipc_meta.specs.Reached.{column, schema, HasTable, IsDeep, at_top, one
 use Rattle.ipc_meta.proofs.Sound.{field_roll}
 
 -- a Field table of the metadata has what the entry says
-pub record Told (b : List ℕ) (s : Table) (e : Entry) : Type 0 where
-  pub table : Table
+pub record Told (b : List ℕ) (s : TableView) (e : Entry) : Type 0 where
+  pub table : TableView
   pub has : HasTable b column table
   pub deep : IsDeep s e.depth table
   pub kind : type_at table ≡ Ok e.kind
@@ -27,16 +27,16 @@ both_told : (P : Entry → Type 0) (xs ys : List Entry) → AllByRecursion P xs 
 both_told P [] ys h k = k
 both_told P (x ∷ xs) ys h k = (h.0, both_told P xs ys h.1 k)
 
-pub tables_are : {X : Type 0} (At : X → Table → Type 0) (s : List ℕ) (xs : List X) (p n : ℕ) → TablesAt At s p n xs → n ≡ length xs
+pub tables_are : {X : Type 0} (At : X → TableView → Type 0) (s : List ℕ) (xs : List X) (p n : ℕ) → TablesAt At s p n xs → n ≡ length xs
 tables_are At s [] p n h = h
 tables_are At s (x ∷ xs) p n h =
     let rest = tables_are At s xs (p + 4) (n - 1) h.4 in
     let l = h.1 in
     omega arith
 
-module _ (b : List ℕ) (s : Table) where
+module _ (b : List ℕ) (s : TableView) where
   abbrev IsTold : Field → Type 0
-  IsTold f = (t : Table) (d : ℕ) → HasTable b column t → IsDeep s d t → FieldAt f t → AllByRecursion (Told b s) (preorder f d)
+  IsTold f = (t : TableView) (d : ℕ) → HasTable b column t → IsDeep s d t → FieldAt f t → AllByRecursion (Told b s) (preorder f d)
 
   abbrev Shown : Type 0
   Shown = (f : Field) × IsTold f
@@ -44,7 +44,7 @@ module _ (b : List ℕ) (s : Table) where
   abbrev fields_of : List Shown → List Field
   fields_of cs = map (λ c. c.0) cs
 
-  each_told : (z : List ℕ) (cs : List Shown) (d p n : ℕ) → TablesAt FieldAt z p n (fields_of cs) → ((i : ℕ) (u : Table) → i < n → table_from z (p + i * 4) ≡ Ok u → HasTable b column u × IsDeep s d u)
+  each_told : (z : List ℕ) (cs : List Shown) (d p n : ℕ) → TablesAt FieldAt z p n (fields_of cs) → ((i : ℕ) (u : TableView) → i < n → table_from z (p + i * 4) ≡ Ok u → HasTable b column u × IsDeep s d u)
       → AllByRecursion (Told b s) (all_at d (map preorder (fields_of cs)))
   each_told z [] d p n h reach = tt
   each_told z (c ∷ cs) d p n h reach =
@@ -56,7 +56,7 @@ module _ (b : List ℕ) (s : Table) where
   roll_told : (y : Field-F Shown) → IsTold (roll-Field (map-Field Shown Field (λ c. c.0) y))
   roll_told y t d has deep h =
       let z : Field-F Field = map-Field Shown Field (λ c. c.0) y in
-      let here = subst (λ (F : Table → Type 0). F t) (field_roll z) h in
+      let here = subst (λ (F : TableView → Type 0). F t) (field_roll z) h in
       let rolled = fold-roll-Field Listing preorder_step z in
       let entry : Told b s (entry_of (map-Field Field Listing preorder z) d) = record {
         table = t;
@@ -74,7 +74,7 @@ module _ (b : List ℕ) (s : Table) where
   pub field_told : (f : Field) → IsTold f
   field_told = ind-Field IsTold (λ x y is. subst (λ z. IsTold (roll-Field z)) is (roll_told y))
 
-  columns_told : (z : List ℕ) (fs : List Field) (d p n : ℕ) → TablesAt FieldAt z p n fs → ((i : ℕ) (u : Table) → i < n → table_from z (p + i * 4) ≡ Ok u → HasTable b column u × IsDeep s d u)
+  columns_told : (z : List ℕ) (fs : List Field) (d p n : ℕ) → TablesAt FieldAt z p n fs → ((i : ℕ) (u : TableView) → i < n → table_from z (p + i * 4) ≡ Ok u → HasTable b column u × IsDeep s d u)
       → AllByRecursion (Told b s) (all_at d (map preorder fs))
   columns_told z [] d p n h reach = tt
   columns_told z (f ∷ fs) d p n h reach =

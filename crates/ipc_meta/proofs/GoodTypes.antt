@@ -6,7 +6,7 @@ use Rattle.std.proofs.lemmas.Bool.Decides.{nat_tests}
 use Rattle.ipc_scalar.specs.Bytes.{int16, int32}
 use Rattle.ipc_scalar.specs.Flat.{slot_of, text_of}
 use Rattle.ipc_scalar.specs.declared.fault.FlatFault.{FlatFault}
-use Rattle.ipc_flat.specs.Views.{Table, or_default, table_from, scalar, field}
+use Rattle.ipc_flat.specs.Views.{TableView, or_default, table_from, scalar, field}
 use Rattle.ipc_scalar.specs.Faulty.{◌>>=◌ as ◌flat_then◌}
 use Rattle.ipc_model.specs.Answers.{◌>>=◌}
 use Rattle.ipc_model.specs.Meaning.{HasGoodType}
@@ -30,7 +30,7 @@ stated_small : (b : List ℕ) (o : Option ℕ) (n : ℕ) → or_default (int32 b
 stated_small b None n h = let e : 0 ≡ n = cc in omega (arith, e)
 stated_small b (Some p) n h = signed_small _ n h
 
-fixed_good : (t : Table) (κ : DataType) → (lift (scalar t 0 4 int32 (pos 0)) >>= fixed_at) ≡ Ok κ → HasGoodType κ
+fixed_good : (t : TableView) (κ : DataType) → (lift (scalar t 0 4 int32 (pos 0)) >>= fixed_at) ≡ Ok κ → HasGoodType κ
 unfolding scalar
 fixed_good t κ h =
     let w = bind_ok (lift (scalar t 0 4 int32 (pos 0))) _ κ h in
@@ -54,14 +54,14 @@ date_good (pos n) κ h =
     choose (n == 1) _ _ _ h (λ j h. other_good κ (type.Date date.Millisecond) tt (cc)) (λ j h. absurd (cc)))
 date_good (negsuc n) κ h = absurd (cc)
 
-timestamp_good : (t : Table) (κ : DataType) → timestamp_at t ≡ Ok κ → HasGoodType κ
+timestamp_good : (t : TableView) (κ : DataType) → timestamp_at t ≡ Ok κ → HasGoodType κ
 timestamp_good t κ h =
     let w = bind_ok (lift (scalar t 0 2 int16 (pos 0))) _ κ h in
     let u = bind_ok (ok_or BadType (unit_of w.0)) _ κ w.2 in
     let z = bind_ok (lift (field t 1 text_of)) _ κ u.2 in
     other_good κ (type.Timestamp u.0 z.0) tt (cc)
 
-type_good : (code : ℕ) (t : Table) (κ : DataType) → type_of code t ≡ Ok κ → HasGoodType κ
+type_good : (code : ℕ) (t : TableView) (κ : DataType) → type_of code t ≡ Ok κ → HasGoodType κ
 unfolding type_of
 type_good code t κ h =
     choose (code == 1) _ _ _ h (λ i h. other_good κ type.Null tt (cc)) (λ n1 h.
@@ -75,12 +75,12 @@ type_good code t κ h =
     choose (code == 13) _ _ _ h (λ i h. other_good κ type.Struct tt (cc)) (λ n13 h.
     choose (code == 15) _ _ _ h (λ i h. fixed_good t κ h) (λ n15 h. absurd (cc)))))))))))
 
-pub good_type : (t : Table) (κ : DataType) → type_at t ≡ Ok κ → HasGoodType κ
+pub good_type : (t : TableView) (κ : DataType) → type_at t ≡ Ok κ → HasGoodType κ
 unfolding type_at
 good_type t κ h =
     let code = bind_ok (code_at t) _ κ h in
     choose (is_type_code code.0) _ _ _ code.2 (λ known h. let o = bind_ok (lift (field t 3 table_from)) _ κ h in go code.0 o.0 o.2) (λ other h. absurd (cc))
   where
-    go : (code : ℕ) (o : Option Table) → type_in code o ≡ Ok κ → HasGoodType κ
+    go : (code : ℕ) (o : Option TableView) → type_in code o ≡ Ok κ → HasGoodType κ
     go code None h = absurd (cc)
     go code (Some v) h = type_good code v κ h

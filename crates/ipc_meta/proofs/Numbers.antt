@@ -3,7 +3,7 @@ use Rattle.std.proofs.Common.{subst, ◌≡◌, ◌∙◌, refl, sym, ap, ℕ, z
 use Rattle.ipc_scalar.specs.declared.fault.FlatFault.{FlatFault}
 use Rattle.ipc_scalar.specs.Faulty.{◌>>=◌, where_some}
 use Rattle.ipc_scalar.specs.Flat.{slot_of, elements_of}
-use Rattle.ipc_flat.specs.Views.{Table, Structs, field, structs_from}
+use Rattle.ipc_flat.specs.Views.{TableView, Structs, field, structs_from}
 use Rattle.ipc_meta.specs.Lifts.{lift}
 use Rattle.ipc_meta.proofs.Sound.{lift_ok}
 use Rattle.std.specs.Prelude.{slice_range, ℤ}
@@ -53,7 +53,7 @@ width_or d (Ok (Some s)) = s.width
 width_or d r = d
 
 -- structs that were asked for with a width have it
-pub structs_width : (w : ℕ) (t : Table) (k : ℕ) (s : Structs) → lift (field t k (structs_from w)) ≡ Ok (Some s) → s.width ≡ w
+pub structs_width : (w : ℕ) (t : TableView) (k : ℕ) (s : Structs) → lift (field t k (structs_from w)) ≡ Ok (Some s) → s.width ≡ w
 unfolding field structs_from width_or
 structs_width w t k s h =
     let f = lift_ok (slot_of t.bytes t.at k 4 >>= where_some (structs_from w t.bytes)) (Some s) h in
@@ -68,6 +68,6 @@ structs_width w t k s h =
     go (Ok (Some p)) i = inner (elements_of t.bytes p w) i
     go (Err e) i = absurd (cc)
 
-pub numbers_are : (t : Table) (k : ℕ) (s : Structs) → lift (field t k (structs_from 16)) ≡ Ok (Some s) → numbers_at t k ≡ Ok (number_pairs s.bytes s.at s.len)
+pub numbers_are : (t : TableView) (k : ℕ) (s : Structs) → lift (field t k (structs_from 16)) ≡ Ok (Some s) → numbers_at t k ≡ Ok (number_pairs s.bytes s.at s.len)
 unfolding numbers_at
 numbers_are t k s h = rw h refl

@@ -2,7 +2,7 @@
 use Rattle.std.proofs.Common.{◌≡◌, refl, ap, subst, ℕ, Bool, true, false, List, inl}
 use Rattle.std.specs.Prelude.{pos, Option, None, Some, Result, Ok, Err, if◌then◌else◌}
 use Rattle.ipc_scalar.specs.Bytes.{byte, int64}
-use Rattle.ipc_flat.specs.Views.{Table, table_from, scalar, field, elements_from, structs_from, or_default}
+use Rattle.ipc_flat.specs.Views.{TableView, table_from, scalar, field, elements_from, structs_from, or_default}
 use Rattle.ipc_scalar.specs.Flat.{slot_of, text_of}
 use Rattle.ipc_scalar.specs.declared.fault.FlatFault.{FlatFault}
 use Rattle.ipc_scalar.specs.declared.fault.FlatFault.TheVariants as flat
@@ -44,45 +44,45 @@ before_last (Ok x) last e h = absurd (cc)
 before_last (Err d) last e h = let same : fault_of d ≡ e = cc in ap Err same
 
 -- a number that can't be read has no place
-pub bad_number : {X : Type 0} (b : List ℕ) (kind : Kind) (t : Table) (k w : ℕ) (read : List ℕ → ℕ → X) (x : X) (e : Fault) → HasTable b kind t → LooksAt kind k (number w) → lift (scalar t k w read x) ≡ Err e → Cause b e
+pub bad_number : {X : Type 0} (b : List ℕ) (kind : Kind) (t : TableView) (k w : ℕ) (read : List ℕ → ℕ → X) (x : X) (e : Fault) → HasTable b kind t → LooksAt kind k (number w) → lift (scalar t k w read x) ≡ Err e → Cause b e
 unfolding scalar
 bad_number b kind t k w read x e has look h =
     let none = before_last (slot_of t.bytes t.at k w) (or_default (read t.bytes) x) e h in
     illegible b (slot_of t.bytes t.at k w) e none (λ i. absurd (no_slot t.bytes t.at k w i)) (at_field has look)
 
-pub bad_flag : (b : List ℕ) (kind : Kind) (t : Table) (k : ℕ) (e : Fault) → HasTable b kind t → LooksAt kind k (number 1) → flag_at t k ≡ Err e → Cause b e
+pub bad_flag : (b : List ℕ) (kind : Kind) (t : TableView) (k : ℕ) (e : Fault) → HasTable b kind t → LooksAt kind k (number 1) → flag_at t k ≡ Err e → Cause b e
 unfolding flag_at
 bad_flag b kind t k e has look h = step (lift (scalar t k 1 byte 0)) _ e h (bad_number b kind t k 1 byte 0 e has look) (λ n is bad. absurd (cc))
 
-pub bad_table : (b : List ℕ) (kind : Kind) (t : Table) (k : ℕ) (e : Fault) → HasTable b kind t → LooksAt kind k table → lift (field t k table_from) ≡ Err e → Cause b e
+pub bad_table : (b : List ℕ) (kind : Kind) (t : TableView) (k : ℕ) (e : Fault) → HasTable b kind t → LooksAt kind k table → lift (field t k table_from) ≡ Err e → Cause b e
 bad_table b kind t k e has look h = illegible b (field t k table_from) e h (λ i. absurd (no_table_in t k i)) (at_field has look)
 
 -- the value of a union
-pub bad_value : (b : List ℕ) (t : Table) (k : ℕ) (e : Fault) → (IsIllFormed (field t k table_from) → HasIllFormed b) → lift (field t k table_from) ≡ Err e → Cause b e
+pub bad_value : (b : List ℕ) (t : TableView) (k : ℕ) (e : Fault) → (IsIllFormed (field t k table_from) → HasIllFormed b) → lift (field t k table_from) ≡ Err e → Cause b e
 bad_value b t k e ill h = illegible b (field t k table_from) e h (λ i. absurd (no_table_in t k i)) ill
 
-pub bad_text : (b : List ℕ) (kind : Kind) (t : Table) (k : ℕ) (e : Fault) → HasTable b kind t → LooksAt kind k text → lift (field t k text_of) ≡ Err e → Cause b e
+pub bad_text : (b : List ℕ) (kind : Kind) (t : TableView) (k : ℕ) (e : Fault) → HasTable b kind t → LooksAt kind k text → lift (field t k text_of) ≡ Err e → Cause b e
 bad_text b kind t k e has look h = illegible b (field t k text_of) e h (at_text has look) (at_field has look)
 
-bad_structs : (b : List ℕ) (kind : Kind) (t : Table) (k : ℕ) (e : Fault) → HasTable b kind t → LooksAt kind k structs → numbers_at t k ≡ Err e → Cause b e
+bad_structs : (b : List ℕ) (kind : Kind) (t : TableView) (k : ℕ) (e : Fault) → HasTable b kind t → LooksAt kind k structs → numbers_at t k ≡ Err e → Cause b e
 unfolding numbers_at
 bad_structs b kind t k e has look h = step (lift (field t k (structs_from 16))) _ e h (λ none. illegible b (field t k (structs_from 16)) e none (λ i. absurd (no_structs_in t k i)) (at_field has look)) (λ o is bad. absurd (cc))
 
-pub bad_vector : (b : List ℕ) (kind : Kind) (t : Table) (k : ℕ) (e : Fault) → HasTable b kind t → LooksAt kind k tables → vector_at t k ≡ Err e → Cause b e
+pub bad_vector : (b : List ℕ) (kind : Kind) (t : TableView) (k : ℕ) (e : Fault) → HasTable b kind t → LooksAt kind k tables → vector_at t k ≡ Err e → Cause b e
 unfolding vector_at
 bad_vector b kind t k e has look h = step (lift (field t k (elements_from 4))) _ e h (λ none. illegible b (field t k (elements_from 4)) e none (λ i. absurd (no_tables_in t k i)) (λ ill. at_field has look (inl ill))) (λ o is bad. absurd (cc))
 
 -- ---- batches
 
 -- what a batch without compression states
-abbrev plain_batch : Table → Result BatchHead Fault
+abbrev plain_batch : TableView → Result BatchHead Fault
 plain_batch t = lift (scalar t 0 8 int64 (pos 0)) >>= λ n. numbers_at t 1 >>= λ ns. numbers_at t 2 >>= λ bs. Ok (record { length = n; nodes = ns; buffers = bs })
 
-pub batch_refused : (b : List ℕ) (t : Table) (e : Fault) → HasTable b record_batch t → batch_read t ≡ Err e → Cause b e
+pub batch_refused : (b : List ℕ) (t : TableView) (e : Fault) → HasTable b record_batch t → batch_read t ≡ Err e → Cause b e
 unfolding batch_read
 batch_refused b t e has h = step (lift (field t 3 table_from)) _ e h (bad_table b record_batch t 3 e has compression) go
   where
-    go : (o : Option Table) → lift (field t 3 table_from) ≡ Ok o → when_plain o (plain_batch t) ≡ Err e → Cause b e
+    go : (o : Option TableView) → lift (field t 3 table_from) ≡ Ok o → when_plain o (plain_batch t) ≡ Err e → Cause b e
     go (Some c) i h = let same : f.Compressed ≡ e = cc in subst (Cause b) same (t, has, (c, lift_ok (field t 3 table_from) (Some c) i))
     go None i h =
         step (lift (scalar t 0 8 int64 (pos 0))) _ e h (bad_number b record_batch t 0 8 int64 (pos 0) e has length) (λ n i h.

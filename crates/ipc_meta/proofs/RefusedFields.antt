@@ -3,7 +3,7 @@ use Rattle.std.proofs.Common.{◌≡◌, refl, ap, subst, ℕ, zero, suc, ◌+�
 use Rattle.std.specs.Prelude.{length, nat_le, Ok, Err}
 use Rattle.std.proofs.lemmas.Bool.Decides.{nat_tests}
 use Rattle.ipc_scalar.specs.Flat.{text_of}
-use Rattle.ipc_flat.specs.Views.{Table, Elements, table_from, field}
+use Rattle.ipc_flat.specs.Views.{TableView, Elements, table_from, field}
 use Rattle.ipc_model.specs.WellFormed.{kind_text, max_fields, max_text, max_pairs}
 use Rattle.ipc_model.specs.declared.fault.Fault.{Fault}
 use Rattle.ipc_model.specs.declared.fault.Fault.TheVariants as f
@@ -24,12 +24,12 @@ use Rattle.ipc_meta.proofs.RefusedTypes.{type_refused, dictionary_refused}
 use Rattle.ipc_meta.proofs.Spent.{Spent, less_pairs_spent, less_fields_spent, text_spent, pair_spent, pairs_spent, type_spent, field_spent, sum_none, children_in, pairs_in}
 
 -- with what is left, and with so much still to come, the Schema table s states no less than was taken and is to come
-pub record Room (s : Table) (left : Budget) (a b c : ℕ) : Type 0 where
+pub record Room (s : TableView) (left : Budget) (a b c : ℕ) : Type 0 where
   pub fields : max_fields + a ≤ fields_stated s + left.fields
   pub text : max_text + b ≤ text_stated s + left.text
   pub pairs : max_pairs + c ≤ pairs_stated s + left.pairs
 
-later : (s : Table) (left after : Budget) (a b c x y z p q r : ℕ) → Room s left p q r → Spent left after a b c → a + x ≤ p → b + y ≤ q → c + z ≤ r → Room s after x y z
+later : (s : TableView) (left after : Budget) (a b c x y z p q r : ℕ) → Room s left p q r → Spent left after a b c → a + x ≤ p → b + y ≤ q → c + z ≤ r → Room s after x y z
 later s left after a b c x y z p q r room spent u v w = record {
   fields = omega (arith, room.fields, spent.fields, u);
   text = omega (arith, room.text, spent.text, v);
@@ -38,24 +38,24 @@ later s left after a b c x y z p q r room spent u v w = record {
 
 -- ---- the limits
 
-text_counted : (b : List ℕ) (s : Table) (n : ℕ) (left : Budget) (e : Fault) → HasTable b schema s → max_text + n ≤ text_stated s + left.text → less_text n left ≡ Err e → Cause b e
+text_counted : (b : List ℕ) (s : TableView) (n : ℕ) (left : Budget) (e : Fault) → HasTable b schema s → max_text + n ≤ text_stated s + left.text → less_text n left ≡ Err e → Cause b e
 text_counted b s n left e hs room h =
     choose (nat_le n left.text) _ _ _ h (λ i k. absurd (cc))
     (λ i k. let same : f.TooMuchText ≡ e = cc in let more : left.text < n = grind (arith, nat_tests) in subst (Cause b) same (s, hs, inl (omega (arith, room, more))))
 
-pairs_counted : (b : List ℕ) (s : Table) (n : ℕ) (left : Budget) (e : Fault) → HasTable b schema s → max_pairs + n ≤ pairs_stated s + left.pairs → less_pairs n left ≡ Err e → Cause b e
+pairs_counted : (b : List ℕ) (s : TableView) (n : ℕ) (left : Budget) (e : Fault) → HasTable b schema s → max_pairs + n ≤ pairs_stated s + left.pairs → less_pairs n left ≡ Err e → Cause b e
 pairs_counted b s n left e hs room h =
     choose (nat_le n left.pairs) _ _ _ h (λ i k. absurd (cc))
     (λ i k. let same : f.TooMuchText ≡ e = cc in let more : left.pairs < n = grind (arith, nat_tests) in subst (Cause b) same (s, hs, inr (omega (arith, room, more))))
 
-fields_counted : (b : List ℕ) (s : Table) (n : ℕ) (left : Budget) (e : Fault) → HasTable b schema s → max_fields + n ≤ fields_stated s + left.fields → less_fields n left ≡ Err e → Cause b e
+fields_counted : (b : List ℕ) (s : TableView) (n : ℕ) (left : Budget) (e : Fault) → HasTable b schema s → max_fields + n ≤ fields_stated s + left.fields → less_fields n left ≡ Err e → Cause b e
 fields_counted b s n left e hs room h =
     choose (nat_le n left.fields) _ _ _ h (λ i k. absurd (cc))
     (λ i k. let same : f.TooManyFields ≡ e = cc in let more : left.fields < n = grind (arith, nat_tests) in subst (Cause b) same (s, hs, omega (arith, room, more)))
 
 -- ---- texts
 
-text_refused : (b : List ℕ) (s : Table) (kind : Kind) (t : Table) (k : ℕ) (left : Budget) (e : Fault) → HasTable b schema s → max_text + text_in t k ≤ text_stated s + left.text → HasTable b kind t → LooksAt kind k text
+text_refused : (b : List ℕ) (s : TableView) (kind : Kind) (t : TableView) (k : ℕ) (left : Budget) (e : Fault) → HasTable b schema s → max_text + text_in t k ≤ text_stated s + left.text → HasTable b kind t → LooksAt kind k text
     → text_read t k left ≡ Err e → Cause b e
 unfolding text_read text_at
 text_refused b s kind t k left e hs room has look h =
@@ -63,7 +63,7 @@ text_refused b s kind t k left e hs room has look h =
     let size : text_in t k ≡ length x = ap (or_zero length) i in
     step (less_text (length x) left) _ e h (text_counted b s (length x) left e hs (omega (arith, room, size))) (λ l i bad. absurd (cc)))
 
-pair_refused : (b : List ℕ) (s t : Table) (left : Budget) (e : Fault) → HasTable b schema s → max_text + pair_text_in t ≤ text_stated s + left.text → HasTable b key_value t → pair_read t left ≡ Err e → Cause b e
+pair_refused : (b : List ℕ) (s t : TableView) (left : Budget) (e : Fault) → HasTable b schema s → max_text + pair_text_in t ≤ text_stated s + left.text → HasTable b key_value t → pair_read t left ≡ Err e → Cause b e
 unfolding pair_read
 pair_refused b s t left e hs room has h =
     step (text_read t 0 left) _ e h (text_refused b s key_value t 0 left e hs (omega (arith, room)) has r.key) (λ x i h.
@@ -73,13 +73,13 @@ pair_refused b s t left e hs room has h =
 -- ---- tables one after another
 
 -- what g reads of a table takes so much
-abbrev Takes : {X : Type 0} → (Table → Reading X) → (Table → ℕ) → (Table → ℕ) → (Table → ℕ) → Type 0
-Takes {X} g wa wb wc = (t : Table) (left : Budget) (x : X × Budget) → g t left ≡ Ok x → Spent left x.1 (wa t) (wb t) (wc t)
+abbrev Takes : {X : Type 0} → (TableView → Reading X) → (TableView → ℕ) → (TableView → ℕ) → (TableView → ℕ) → Type 0
+Takes {X} g wa wb wc = (t : TableView) (left : Budget) (x : X × Budget) → g t left ≡ Ok x → Spent left x.1 (wa t) (wb t) (wc t)
 
 -- one of several tables is not there, or is refused
-each_refused : {X P : Type 0} (g : Table → Reading X) (wa wb wc : Table → ℕ) (s : Table) (z : List ℕ) (e : Fault) → Takes g wa wb wc → (n p : ℕ) (left : Budget) → Room s left (sum_tables wa z p n) (sum_tables wb z p n) (sum_tables wc z p n)
+each_refused : {X P : Type 0} (g : TableView → Reading X) (wa wb wc : TableView → ℕ) (s : TableView) (z : List ℕ) (e : Fault) → Takes g wa wb wc → (n p : ℕ) (left : Budget) → Room s left (sum_tables wa z p n) (sum_tables wb z p n) (sum_tables wc z p n)
     → each g z p n left ≡ Err e → ((i : ℕ) → i < n → lift (table_from z (p + i * 4)) ≡ Err e → P)
-    → ((i : ℕ) (u : Table) (l : Budget) → i < n → table_from z (p + i * 4) ≡ Ok u → Room s l (wa u) (wb u) (wc u) → g u l ≡ Err e → P) → P
+    → ((i : ℕ) (u : TableView) (l : Budget) → i < n → table_from z (p + i * 4) ≡ Ok u → Room s l (wa u) (wb u) (wc u) → g u l ≡ Err e → P) → P
 unfolding each sum_tables
 each_refused g wa wb wc s z e takes zero p left room h lost bad = absurd (cc)
 each_refused g wa wb wc s z e takes (suc n) p left room h lost bad =
@@ -99,16 +99,16 @@ each_refused g wa wb wc s z e takes (suc n) p left room h lost bad =
     (λ xs i bad. absurd (cc))))
 
 -- the tables of a vector
-elements_refused : {X : Type 0} (g : Table → Reading X) (wa wb wc : Table → ℕ) (b : List ℕ) (s : Table) (kind : Kind) (t : Table) (k : ℕ) (es : Elements) (left : Budget) (e : Fault) → Takes g wa wb wc → HasTable b kind t → LooksAt kind k tables
+elements_refused : {X : Type 0} (g : TableView → Reading X) (wa wb wc : TableView → ℕ) (b : List ℕ) (s : TableView) (kind : Kind) (t : TableView) (k : ℕ) (es : Elements) (left : Budget) (e : Fault) → Takes g wa wb wc → HasTable b kind t → LooksAt kind k tables
     → vector_at t k ≡ Ok es → Room s left (sum_tables wa es.bytes es.at es.len) (sum_tables wb es.bytes es.at es.len) (sum_tables wc es.bytes es.at es.len)
-    → ((u : Table) (l : Budget) → Element t k u → Room s l (wa u) (wb u) (wc u) → g u l ≡ Err e → Cause b e) → each g es.bytes es.at es.len left ≡ Err e → Cause b e
+    → ((u : TableView) (l : Budget) → Element t k u → Room s l (wa u) (wb u) (wc u) → g u l ≡ Err e → Cause b e) → each g es.bytes es.at es.len left ≡ Err e → Cause b e
 elements_refused g wa wb wc b s kind t k es left e takes has look is room bad h =
     each_refused g wa wb wc s es.bytes e takes es.len es.at left room h
     (λ i l h. illegible b (table_from es.bytes (es.at + i * 4)) e h (λ o. absurd (no_table_from es.bytes (es.at + i * 4) o)) (λ ill. at_field has look (inr (es, i, is, l, ill))))
     (λ i u m l at room h. bad u m (es, i, is, l, at) room h)
 
-pub pairs_refused : (b : List ℕ) (s : Table) (kind : Kind) (t : Table) (k : ℕ) (left : Budget) (e : Fault) → HasTable b schema s → Room s left 0 (sum_in pair_text_in t k) (count_in t k) → HasTable b kind t → LooksAt kind k tables
-    → ((u : Table) → Element t k u → HasTable b key_value u) → pairs_read t k left ≡ Err e → Cause b e
+pub pairs_refused : (b : List ℕ) (s : TableView) (kind : Kind) (t : TableView) (k : ℕ) (left : Budget) (e : Fault) → HasTable b schema s → Room s left 0 (sum_in pair_text_in t k) (count_in t k) → HasTable b kind t → LooksAt kind k tables
+    → ((u : TableView) → Element t k u → HasTable b key_value u) → pairs_read t k left ≡ Err e → Cause b e
 unfolding pairs_read
 pairs_refused b s kind t k left e hs room has look pair h =
     step (vector_at t k) _ e h (bad_vector b kind t k e has look) (λ es is h.
@@ -123,16 +123,16 @@ pairs_refused b s kind t k left e hs room has look pair h =
 
 -- ---- fields
 
-counted_type_refused : (b : List ℕ) (s t : Table) (left : Budget) (e : Fault) → HasTable b schema s → max_text + or_zero kind_text (type_at t) ≤ text_stated s + left.text → HasTable b column t → type_read t left ≡ Err e → Cause b e
+counted_type_refused : (b : List ℕ) (s t : TableView) (left : Budget) (e : Fault) → HasTable b schema s → max_text + or_zero kind_text (type_at t) ≤ text_stated s + left.text → HasTable b column t → type_read t left ≡ Err e → Cause b e
 unfolding type_read
 counted_type_refused b s t left e hs room has h =
     step (type_at t) _ e h (type_refused b t e has) (λ κ i h.
     let size : or_zero kind_text (type_at t) ≡ kind_text κ = ap (or_zero kind_text) i in
     step (less_text (kind_text κ) left) _ e h (text_counted b s (kind_text κ) left e hs (omega (arith, room, size))) (λ l j h. absurd (cc)))
 
-fields_refused : (g : Table → Reading Field) (wa wb wc : Table → ℕ) (b : List ℕ) (s : Table) (kind : Kind) (t : Table) (k : ℕ) (left : Budget) (e : Fault) → HasTable b schema s → Takes g wa wb wc
+fields_refused : (g : TableView → Reading Field) (wa wb wc : TableView → ℕ) (b : List ℕ) (s : TableView) (kind : Kind) (t : TableView) (k : ℕ) (left : Budget) (e : Fault) → HasTable b schema s → Takes g wa wb wc
     → Room s left (count_in t k + sum_in wa t k) (sum_in wb t k) (sum_in wc t k) → HasTable b kind t → LooksAt kind k tables
-    → ((u : Table) (l : Budget) → Element t k u → Room s l (wa u) (wb u) (wc u) → g u l ≡ Err e → Cause b e) → fields_read g t k left ≡ Err e → Cause b e
+    → ((u : TableView) (l : Budget) → Element t k u → Room s l (wa u) (wb u) (wc u) → g u l ≡ Err e → Cause b e) → fields_read g t k left ≡ Err e → Cause b e
 unfolding fields_read
 fields_refused g wa wb wc b s kind t k left e hs takes room has look bad h =
     step (vector_at t k) _ e h (bad_vector b kind t k e has look) (λ es is h.
@@ -145,7 +145,7 @@ fields_refused g wa wb wc b s kind t k left e hs takes room has look bad h =
     room (less_fields_spent es.len left l i) (omega (arith, many, sum_a)) (omega (arith, sum_b)) (omega (arith, sum_c)) in
     elements_refused g wa wb wc b s kind t k es l e takes has look is next bad h))
 
-pub field_refused : (b : List ℕ) (s : Table) (depth n : ℕ) (t : Table) (left : Budget) (e : Fault) → HasTable b schema s → Room s left (tree children_in depth t) (tree own_text depth t) (tree pairs_in depth t) → IsDeep s n t → depth + n ≡ 65
+pub field_refused : (b : List ℕ) (s : TableView) (depth n : ℕ) (t : TableView) (left : Budget) (e : Fault) → HasTable b schema s → Room s left (tree children_in depth t) (tree own_text depth t) (tree pairs_in depth t) → IsDeep s n t → depth + n ≡ 65
     → HasTable b column t → field_read depth t left ≡ Err e → Cause b e
 unfolding field_read tree
 field_refused b s zero n t left e hs room deep is has h = let same : f.TooDeep ≡ e = cc in subst (Cause b) same (s, hs, (t, n, omega arith, deep))
@@ -174,10 +174,10 @@ field_refused b s (suc depth) n t left e hs room deep is has h =
 abbrev whole : Budget
 whole = record { fields = 65536; text = 67108864; pairs = 1048576 }
 
-pub own_pairs_refused : (b : List ℕ) (s : Table) (e : Fault) → HasTable b schema s → pairs_read s 2 whole ≡ Err e → Cause b e
+pub own_pairs_refused : (b : List ℕ) (s : TableView) (e : Fault) → HasTable b schema s → pairs_read s 2 whole ≡ Err e → Cause b e
 own_pairs_refused b s e hs h = pairs_refused b s schema s 2 whole e hs (record { fields = omega arith; text = omega arith; pairs = omega arith }) hs r.schema_metadata (λ u at. r.of_schema_pair hs at) h
 
-pub columns_refused : (b : List ℕ) (s : Table) (x : List (List ℕ × List ℕ) × Budget) (e : Fault) → HasTable b schema s → pairs_read s 2 whole ≡ Ok x → fields_read (field_read 64) s 1 x.1 ≡ Err e → Cause b e
+pub columns_refused : (b : List ℕ) (s : TableView) (x : List (List ℕ × List ℕ) × Budget) (e : Fault) → HasTable b schema s → pairs_read s 2 whole ≡ Ok x → fields_read (field_read 64) s 1 x.1 ≡ Err e → Cause b e
 columns_refused b s x e hs p h =
     let spent = pairs_spent s 2 whole x p in
     fields_refused (field_read 64) (tree children_in 64) (tree own_text 64) (tree pairs_in 64) b s schema s 1 x.1 e hs (field_spent 64)

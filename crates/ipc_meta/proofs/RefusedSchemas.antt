@@ -4,7 +4,7 @@ use Rattle.std.specs.Prelude.{sum_by, ℤ, ◌-◌, nat_le, Option, None, Some, 
 use Rattle.std.specs.List.{AllByRecursion}
 use Rattle.std.specs.Ordering.{int_eq}
 use Rattle.std.proofs.lemmas.Bool.Decides.{nat_tests, Decides-int_eq, Decides-eqb}
-use Rattle.ipc_flat.specs.Views.{Table}
+use Rattle.ipc_flat.specs.Views.{TableView}
 use Rattle.ipc_model.specs.WellFormed.{Entry, entries, max_fields, max_depth, max_text, max_pairs}
 use Rattle.ipc_model.specs.Meaning.{HasGoodType, HasFittingChildren, IsLeaf}
 use Rattle.ipc_model.proofs.FirstFaults.{verdict_from_first}
@@ -55,10 +55,10 @@ leaf_test _ h leaf = cc
 abbrev AreEncoded : List ℕ → (ℤ → Option DataType) → Type 0
 AreEncoded b kinds = (id : ℤ) (κ : DataType) → kinds id ≡ Some κ → Encodes b id κ
 
-encoded : (b : List ℕ) (s : Table) (e : Entry) (d : Dictionary) → Told b s e → e.dictionary ≡ Some d → Encodes b d.id e.kind
+encoded : (b : List ℕ) (s : TableView) (e : Entry) (d : Dictionary) → Told b s e → e.dictionary ≡ Some d → Encodes b d.id e.kind
 encoded b s e d h is = (h.table, h.has, (h.kind, (d, h.dictionary ∙ ap Ok is, refl)))
 
-encoded_after : (b : List ℕ) (s : Table) (kinds : ℤ → Option DataType) (e : Entry) → Told b s e → AreEncoded b kinds → AreEncoded b (with_kind kinds e.dictionary e.kind)
+encoded_after : (b : List ℕ) (s : TableView) (kinds : ℤ → Option DataType) (e : Entry) → Told b s e → AreEncoded b kinds → AreEncoded b (with_kind kinds e.dictionary e.kind)
 encoded_after b s kinds e h all = go e.dictionary refl
   where
     go : (o : Option Dictionary) → e.dictionary ≡ o → AreEncoded b (with_kind kinds o e.kind)
@@ -68,7 +68,7 @@ encoded_after b s kinds e h all = go e.dictionary refl
         (λ same k. let type : e.kind ≡ κ = cc in let one : d.id ≡ id = (Decides-int_eq d.id id).0 same in subst (λ n. Encodes b n κ) one (subst (Encodes b d.id) type (encoded b s e d h is)))
         (λ other k. all id κ k)
 
-conflict : (b : List ℕ) (s : Table) (kinds : ℤ → Option DataType) (e : Entry) → Told b s e → AreEncoded b kinds → has_conflict kinds e.dictionary e.kind ≡ true → Cause b (reader_fault (check.DictionaryConflict 0))
+conflict : (b : List ℕ) (s : TableView) (kinds : ℤ → Option DataType) (e : Entry) → Told b s e → AreEncoded b kinds → has_conflict kinds e.dictionary e.kind ≡ true → Cause b (reader_fault (check.DictionaryConflict 0))
 conflict b s kinds e h all = go e.dictionary refl
   where
     go : (o : Option Dictionary) → e.dictionary ≡ o → has_conflict kinds o e.kind ≡ true → Cause b (reader_fault (check.DictionaryConflict 0))
@@ -80,7 +80,7 @@ conflict b s kinds e h all = go e.dictionary refl
         earlier (Some first) at k =
             (d.id, first, e.kind, all d.id first at, encoded b s e d h is, λ same. let one : same_type first first ≡ false = subst (λ κ. same_type first κ ≡ false) (sym same) k in let two = same_itself first in cc)
 
-nested : (b : List ℕ) (s : Table) (e : Entry) → Told b s e → has_leaf_dictionary e ≡ false → Cause b (reader_fault (check.NestedDictionary 0))
+nested : (b : List ℕ) (s : TableView) (e : Entry) → Told b s e → has_leaf_dictionary e ≡ false → Cause b (reader_fault (check.NestedDictionary 0))
 nested b s e h = go e.dictionary refl
   where
     go : (o : Option Dictionary) → e.dictionary ≡ o → not (is_some o) || is_leaf e.kind ≡ false → Cause b (reader_fault (check.NestedDictionary 0))
@@ -90,12 +90,12 @@ nested b s e h = go e.dictionary refl
 -- ---- the scan
 
 -- what the fields before have with these ones is no more than the Schema table states
-record Within (s : Table) (a : Before) (es : List Entry) : Type 0 where
+record Within (s : TableView) (a : Before) (es : List Entry) : Type 0 where
   fields : a.fields + length es ≤ fields_stated s
   text : a.text + sum_by (λ e. e.text) es ≤ text_stated s
   pairs : a.pairs + sum_by (λ e. e.pairs) es ≤ pairs_stated s
 
-within_after : (s : Table) (a : Before) (e : Entry) (es : List Entry) → Within s a (e ∷ es) → Within s (after a e) es
+within_after : (s : TableView) (a : Before) (e : Entry) (es : List Entry) → Within s a (e ∷ es) → Within s (after a e) es
 within_after s a e es w =
     let text = sum_by-cons (λ (e : Entry). e.text) e es in
     let pairs = sum_by-cons (λ (e : Entry). e.pairs) e es in
@@ -108,10 +108,10 @@ too_much a h = go (nat_le a.text max_text) refl h
     go true is h = inr (grind (arith, nat_tests))
     go false is h = inl (grind (arith, nat_tests))
 
-text_refused : (b : List ℕ) (s : Table) (a : Before) → HasTable b schema s → Within s a [] → is_little_text a ≡ false → Cause b (reader_fault (check.TooMuchText 0))
+text_refused : (b : List ℕ) (s : TableView) (a : Before) → HasTable b schema s → Within s a [] → is_little_text a ≡ false → Cause b (reader_fault (check.TooMuchText 0))
 text_refused b s a hs w h = (s, hs, ⊎_elim (λ m. inl (let t = w.text in omega (arith, m, t))) (λ m. inr (let p = w.pairs in omega (arith, m, p))) (too_much a h))
 
-entry_refused : (b : List ℕ) (s : Table) (a : Before) (e : Entry) (x : SchemaFault) → HasTable b schema s → Told b s e → AreEncoded b a.kinds → Within s (after a e) [] → fault_at a e ≡ Some x → Cause b (reader_fault x)
+entry_refused : (b : List ℕ) (s : TableView) (a : Before) (e : Entry) (x : SchemaFault) → HasTable b schema s → Told b s e → AreEncoded b a.kinds → Within s (after a e) [] → fault_at a e ≡ Some x → Cause b (reader_fault x)
 entry_refused b s a e x hs h all w k =
     choose (not (has_good_type e.kind)) _ _ _ k
     (λ i k. absurd (good_test e.kind (is_false _ i) (good_type h.table e.kind h.kind))) (λ i k.
@@ -140,7 +140,7 @@ entry_refused b s a e x hs h all w k =
     told : {y : SchemaFault} → y ≡ x → Cause b (reader_fault y) → Cause b (reader_fault x)
     told same cause = subst (λ y. Cause b (reader_fault y)) same cause
 
-scan_refused : (b : List ℕ) (s : Table) (es : List Entry) (a : Before) (x : SchemaFault) → HasTable b schema s → AllByRecursion (Told b s) es → AreEncoded b a.kinds → Within s a es → scan a es ≡ Err x → Cause b (reader_fault x)
+scan_refused : (b : List ℕ) (s : TableView) (es : List Entry) (a : Before) (x : SchemaFault) → HasTable b schema s → AllByRecursion (Told b s) es → AreEncoded b a.kinds → Within s a es → scan a es ≡ Err x → Cause b (reader_fault x)
 scan_refused b s [] a x hs h all w k = absurd (cc)
 scan_refused b s (e ∷ es) a x hs h all w k =
     go (fault_at a e) refl (λ k. scan_refused b s es (after a e) x hs h.1 (encoded_after b s a.kinds e h.0 all) next k) k
@@ -159,7 +159,7 @@ done_err : (r : Result Before SchemaFault) (x : SchemaFault) → done r ≡ Err 
 done_err (Ok a) x h = absurd (cc)
 done_err (Err e) x h = let same : e ≡ x = cc in ap Err same
 
-schema_refused : (b : List ℕ) (t : Table) (s : Schema) (x : SchemaFault) → HasTable b schema t → VectorAt FieldAt s.fields t 1 → Totals t s.fields s.metadata → verdict_on s ≡ Err x → Cause b (reader_fault x)
+schema_refused : (b : List ℕ) (t : TableView) (s : Schema) (x : SchemaFault) → HasTable b schema t → VectorAt FieldAt s.fields t 1 → Totals t s.fields s.metadata → verdict_on s ≡ Err x → Cause b (reader_fault x)
 schema_refused b t s x has h totals k =
     let own = at_start s.metadata in
     let text = totals.text in
@@ -171,7 +171,7 @@ schema_refused b t s x has h totals k =
     subst (λ y. Cause b (reader_fault y)) same (text_refused b t own has (record { fields = omega arith; text = omega (arith, text); pairs = omega (arith, pairs) }) i))
 
 -- the check's refusal, as the call that reads tells it
-pub check_refused : (b : List ℕ) (t : Table) (s : Schema) (x : SchemaFault) (l m n : Budget) → HasTable b schema t → pairs_read t 2 l ≡ Ok (s.metadata, m) → fields_read (field_read 64) t 1 m ≡ Ok (s.fields, n)
+pub check_refused : (b : List ℕ) (t : TableView) (s : Schema) (x : SchemaFault) (l m n : Budget) → HasTable b schema t → pairs_read t 2 l ≡ Ok (s.metadata, m) → fields_read (field_read 64) t 1 m ≡ Ok (s.fields, n)
     → (x ≡ check.OutOfMemory) ⊎ IsFirstFault s x → (reader_fault x ≡ reader_fault check.OutOfMemory → ⊥) → Cause b (reader_fault x)
 check_refused b t s x l m n has p q k ne =
     ⊎_elim (λ is. absurd (ne (ap reader_fault is)))

@@ -4,7 +4,7 @@ use Rattle.std.proofs.lemmas.Bool.{eqb-true, eq-eqb}
 use Rattle.std.specs.Prelude.{pos, negsuc, int_lt, ℤ, ◌==◌, Option, None, Some, Ok, Err}
 use Rattle.ipc_scalar.specs.Bytes.{byte, int16, int32, int64}
 use Rattle.ipc_scalar.specs.Flat.{text_of}
-use Rattle.ipc_flat.specs.Views.{Table, table_from, scalar, field}
+use Rattle.ipc_flat.specs.Views.{TableView, table_from, scalar, field}
 use Rattle.ipc_model.specs.declared.fault.Fault.{Fault}
 use Rattle.ipc_model.specs.declared.fault.Fault.TheVariants as f
 use Rattle.ipc_meta.specs.Lifts.{lift}
@@ -19,7 +19,7 @@ ok_or_err : {X : Type 0} (d e : Fault) (o : Option X) → ok_or d o ≡ Err e �
 ok_or_err d e None h = (refl, cc)
 ok_or_err d e (Some x) h = absurd (cc)
 
-int_refused : (b : List ℕ) (kind : Kind) (t : Table) (d e : Fault) → HasTable b kind t → LooksAt kind 0 (number 4) → LooksAt kind 1 (number 1) → int_at d t ≡ Err e
+int_refused : (b : List ℕ) (kind : Kind) (t : TableView) (d e : Fault) → HasTable b kind t → LooksAt kind 0 (number 4) → LooksAt kind 1 (number 1) → int_at d t ≡ Err e
     → ((w : ℤ) → scalar t 0 4 int32 (pos 0) ≡ Ok w → bits_of w ≡ None → d ≡ e → Cause b e) → Cause b e
 int_refused b kind t d e has width signed h other =
     step (lift (scalar t 0 4 int32 (pos 0))) _ e h (bad_number b kind t 0 4 int32 (pos 0) e has width) (λ w i h.
@@ -37,7 +37,7 @@ fixed_refused : (z : ℤ) (e : Fault) → fixed_at z ≡ Err e → (f.BadType �
 fixed_refused (pos n) e h = absurd (cc)
 fixed_refused (negsuc n) e h = (cc, refl)
 
-timestamp_refused : (b : List ℕ) (t : Table) (e : Fault) → HasTable b (type_value 10) t → timestamp_at t ≡ Err e → (f.BadType ≡ e → IsNoType 10 t → Cause b e) → Cause b e
+timestamp_refused : (b : List ℕ) (t : TableView) (e : Fault) → HasTable b (type_value 10) t → timestamp_at t ≡ Err e → (f.BadType ≡ e → IsNoType 10 t → Cause b e) → Cause b e
 timestamp_refused b t e has h bad =
     step (lift (scalar t 0 2 int16 (pos 0))) _ e h (bad_number b (type_value 10) t 0 2 int16 (pos 0) e has r.time_unit) (λ w i h.
     step (ok_or f.BadType (unit_of w)) _ e h (λ h. let p = ok_or_err f.BadType e (unit_of w) h in bad p.1 (other_time_unit (w, lift_ok (scalar t 0 2 int16 (pos 0)) w i, p.0))) (λ x j h.
@@ -50,7 +50,7 @@ unfolding is_type_code
 type_code_is code h n1 n2 n4 n5 n6 n8 n10 n12 n13 n15 =
     let none : false ≡ true = rw (n1, n2, n4, n5, n6, n8, n10, n12, n13, n15) at h in cc
 
-type_of_refused : (b : List ℕ) (code : ℕ) (t : Table) (e : Fault) → is_type_code code ≡ true → HasTable b (type_value code) t → type_of code t ≡ Err e → Cause b e
+type_of_refused : (b : List ℕ) (code : ℕ) (t : TableView) (e : Fault) → is_type_code code ≡ true → HasTable b (type_value code) t → type_of code t ≡ Err e → Cause b e
 unfolding type_of
 type_of_refused b code t e known has h =
     choose (code == 1) _ _ _ h (λ i h. absurd (cc)) (λ n1 h.
@@ -73,11 +73,11 @@ type_of_refused b code t e known has h =
     bad : (n : ℕ) → (code == n) ≡ true → f.BadType ≡ e → IsNoType n t → Cause b e
     bad n i same none = subst (Cause b) same (no_type (t, at n i, none))
 
-bad_code : (b : List ℕ) (t : Table) (e : Fault) → HasTable b column t → code_at t ≡ Err e → Cause b e
+bad_code : (b : List ℕ) (t : TableView) (e : Fault) → HasTable b column t → code_at t ≡ Err e → Cause b e
 unfolding code_at
 bad_code b t e has h = bad_number b column t 2 1 byte 0 e has r.type_type h
 
-pub type_refused : (b : List ℕ) (t : Table) (e : Fault) → HasTable b column t → type_at t ≡ Err e → Cause b e
+pub type_refused : (b : List ℕ) (t : TableView) (e : Fault) → HasTable b column t → type_at t ≡ Err e → Cause b e
 unfolding type_at
 type_refused b t e has h =
     step (code_at t) _ e h (bad_code b t e has) (λ code c i.
@@ -85,26 +85,26 @@ type_refused b t e has h =
     step (lift (field t 3 table_from)) _ e i (bad_value b t 3 e (r.at_type has c known)) (λ o j k. in_table code o known c (lift_ok (field t 3 table_from) o j) k))
     (λ other i. let same : f.UnsupportedType code ≡ e = cc in subst (Cause b) same (t, has, (c, other))))
   where
-    in_table : (code : ℕ) (o : Option Table) → is_type_code code ≡ true → code_at t ≡ Ok code → field t 3 table_from ≡ Ok o → type_in code o ≡ Err e → Cause b e
+    in_table : (code : ℕ) (o : Option TableView) → is_type_code code ≡ true → code_at t ≡ Ok code → field t 3 table_from ≡ Ok o → type_in code o ≡ Err e → Cause b e
     in_table code None known c i h = let same : f.BadType ≡ e = cc in subst (Cause b) same (no_table (t, has, (c, known, i)))
     in_table code (Some v) known c i h = type_of_refused b code v e known (r.of_type has c i) h
 
 -- ---- the dictionary
 
-index_refused : (b : List ℕ) (t : Table) (e : Fault) → HasTable b dictionary_encoding t → index_at t ≡ Err e → Cause b e
+index_refused : (b : List ℕ) (t : TableView) (e : Fault) → HasTable b dictionary_encoding t → index_at t ≡ Err e → Cause b e
 index_refused b t e has h = step (lift (field t 1 table_from)) _ e h (bad_table b dictionary_encoding t 1 e has r.indices) go
   where
-    go : (o : Option Table) → lift (field t 1 table_from) ≡ Ok o → index_in o ≡ Err e → Cause b e
+    go : (o : Option TableView) → lift (field t 1 table_from) ≡ Ok o → index_in o ≡ Err e → Cause b e
     go None i h = absurd (cc)
     go (Some v) i h =
         let it : HasTable b index_type v = r.of_index has (lift_ok (field t 1 table_from) (Some v) i) in
         int_refused b index_type v f.BadIndexType e it r.index_bit_width r.index_is_signed h (λ w j none same. subst (Cause b) same (v, it, (w, j, none)))
 
-pub dictionary_refused : (b : List ℕ) (t : Table) (e : Fault) → HasTable b column t → dictionary_at t ≡ Err e → Cause b e
+pub dictionary_refused : (b : List ℕ) (t : TableView) (e : Fault) → HasTable b column t → dictionary_at t ≡ Err e → Cause b e
 unfolding dictionary_at
 dictionary_refused b t e has h = step (lift (field t 4 table_from)) _ e h (bad_table b column t 4 e has r.dictionary) go
   where
-    go : (o : Option Table) → lift (field t 4 table_from) ≡ Ok o → dictionary_in o ≡ Err e → Cause b e
+    go : (o : Option TableView) → lift (field t 4 table_from) ≡ Ok o → dictionary_in o ≡ Err e → Cause b e
     go None i h = absurd (cc)
     go (Some d) i h =
         let it : HasTable b dictionary_encoding d = r.of_encoding has (lift_ok (field t 4 table_from) (Some d) i) in

@@ -2,7 +2,7 @@
 use Rattle.std.proofs.Common.{◌≡◌, ◌∙◌, refl, sym, ap, subst, ℕ, zero, suc, ◌+◌, ◌-◌, ◌<◌, List, [], ◌∷◌, map, length, arith}
 use Rattle.std.specs.Prelude.{pos, Option, None, Some, Result, Ok, Err}
 use Rattle.ipc_scalar.specs.Bytes.{int64}
-use Rattle.ipc_flat.specs.Views.{Table, Elements, table_from, scalar, field}
+use Rattle.ipc_flat.specs.Views.{TableView, Elements, table_from, scalar, field}
 use Rattle.ipc_scalar.specs.declared.fault.FlatFault.{FlatFault}
 use Rattle.ipc_model.specs.Answers.{◌>>=◌}
 use Rattle.ipc_model.specs.declared.fault.Fault.{Fault}
@@ -38,10 +38,10 @@ left_parts {X} x y l m h =
 
 -- ---- tables one after another
 
-abbrev pub Sound : {X : Type 0} → (Table → Reading X) → (X → Table → Type 0) → Type 0
-Sound {X} f At = (t : Table) (left after : Budget) (x : X) → f t left ≡ Ok (x, after) → At x t
+abbrev pub Sound : {X : Type 0} → (TableView → Reading X) → (X → TableView → Type 0) → Type 0
+Sound {X} f At = (t : TableView) (left after : Budget) (x : X) → f t left ≡ Ok (x, after) → At x t
 
-pub each_sound : {X : Type 0} (f : Table → Reading X) (At : X → Table → Type 0) → Sound f At → (b : List ℕ) (n p : ℕ) (left after : Budget) (xs : List X) → each f b p n left ≡ Ok (xs, after) → TablesAt At b p n xs
+pub each_sound : {X : Type 0} (f : TableView → Reading X) (At : X → TableView → Type 0) → Sound f At → (b : List ℕ) (n p : ℕ) (left after : Budget) (xs : List X) → each f b p n left ≡ Ok (xs, after) → TablesAt At b p n xs
 unfolding each
 each_sound f At s b zero p left after xs h =
     let e = left_parts [] xs left after h in
@@ -58,7 +58,7 @@ each_sound f At s b (suc n) p left after xs h =
 
 -- ---- texts and pairs
 
-pub text_sound : (t : Table) (k : ℕ) (left after : Budget) (s : List ℕ) → text_read t k left ≡ Ok (s, after) → text_at t k ≡ Ok s
+pub text_sound : (t : TableView) (k : ℕ) (left after : Budget) (s : List ℕ) → text_read t k left ≡ Ok (s, after) → text_at t k ≡ Ok s
 unfolding text_read
 text_sound t k left after s h =
     let a = bind_ok (text_at t k) _ _ h in
@@ -74,7 +74,7 @@ pair_sound t left after p h =
     let e = left_parts (k.0.0, v.0.0) p v.0.1 after v.2 in
     subst (λ q. PairAt q t) e.0 (text_sound t 0 left k.0.1 k.0.0 k.1, text_sound t 1 k.0.1 v.0.1 v.0.0 v.1)
 
-pub pairs_sound : (t : Table) (k : ℕ) (left after : Budget) (ps : List (List ℕ × List ℕ)) → pairs_read t k left ≡ Ok (ps, after) → VectorAt PairAt ps t k
+pub pairs_sound : (t : TableView) (k : ℕ) (left after : Budget) (ps : List (List ℕ × List ℕ)) → pairs_read t k left ≡ Ok (ps, after) → VectorAt PairAt ps t k
 unfolding pairs_read
 pairs_sound t k left after ps h =
     let v = bind_ok (vector_at t k) _ _ h in
@@ -83,7 +83,7 @@ pairs_sound t k left after ps h =
 
 -- ---- the type
 
-pub type_sound : (t : Table) (left after : Budget) (κ : DataType) → type_read t left ≡ Ok (κ, after) → type_at t ≡ Ok κ
+pub type_sound : (t : TableView) (left after : Budget) (κ : DataType) → type_read t left ≡ Ok (κ, after) → type_at t ≡ Ok κ
 unfolding type_read
 type_sound t left after κ h =
     let a = bind_ok (type_at t) _ _ h in
@@ -93,20 +93,20 @@ type_sound t left after κ h =
 
 -- ---- fields
 
-module _ {X Y : Type 0} (v : X → Y) (k : Y → Table → Type 0) where
+module _ {X Y : Type 0} (v : X → Y) (k : Y → TableView → Type 0) where
   tables_map : (b : List ℕ) (p n : ℕ) (xs : List X) → TablesAt (λ x. k (v x)) b p n xs ≡ TablesAt k b p n (map v xs)
   tables_map b p n [] = refl
-  tables_map b p n (x ∷ xs) = ap (λ (T : Type 0). (t : Table) × (0 < n) × (table_from b p ≡ Ok t) × k (v x) t × T) (tables_map b (p + 4) (n - 1) xs)
+  tables_map b p n (x ∷ xs) = ap (λ (T : Type 0). (t : TableView) × (0 < n) × (table_from b p ≡ Ok t) × k (v x) t × T) (tables_map b (p + 4) (n - 1) xs)
 
-natural : (X : Type 0) (v : X → Field) (k : Field → Table → Type 0) (x : Field-F X) → field_step X v (λ p. k (v p)) x ≡ field_step Field (λ y. y) k (map-Field X Field v x)
+natural : (X : Type 0) (v : X → Field) (k : Field → TableView → Type 0) (x : Field-F X) → field_step X v (λ p. k (v p)) x ≡ field_step Field (λ y. y) k (map-Field X Field v x)
 natural X v k x = λ i t.
     (text_at t 0 ≡ Ok x.name) × (flag_at t 1 ≡ Ok x.nullable) × (type_at t ≡ Ok x.kind) × (dictionary_at t ≡ Ok x.dictionary)
     × VectorAt PairAt x.metadata t 6 × ((es : Elements) × (vector_at t 5 ≡ Ok es) × tables_map v k es.bytes es.at es.len x.children i)
 
 pub field_roll : (x : Field-F Field) → FieldAt (roll-Field x) ≡ field_step Field (λ y. y) FieldAt x
-field_roll x = rec-roll-Field (Table → Type 0) field_step natural x
+field_roll x = rec-roll-Field (TableView → Type 0) field_step natural x
 
-pub fields_sound : (f : Table → Reading Field) → Sound f FieldAt → (t : Table) (k : ℕ) (left after : Budget) (fs : List Field) → fields_read f t k left ≡ Ok (fs, after) → VectorAt FieldAt fs t k
+pub fields_sound : (f : TableView → Reading Field) → Sound f FieldAt → (t : TableView) (k : ℕ) (left after : Budget) (fs : List Field) → fields_read f t k left ≡ Ok (fs, after) → VectorAt FieldAt fs t k
 unfolding fields_read
 fields_sound f s t k left after fs h =
     let v = bind_ok (vector_at t k) _ _ h in
@@ -133,11 +133,11 @@ field_sound (suc d) t left after x h =
       pairs_sound t 6 κ.0.1 pairs.0.1 pairs.0.0 pairs.1,
       fields_sound (field_read d) (field_sound d) t 5 pairs.0.1 children.0.1 children.0.0 children.1,
     ) in
-    subst (λ z. FieldAt z t) e.0 (subst (λ (F : Table → Type 0). F t) (sym (field_roll y)) here)
+    subst (λ z. FieldAt z t) e.0 (subst (λ (F : TableView → Type 0). F t) (sym (field_roll y)) here)
 
 -- ---- batches
 
-plain_ok : {X : Type 0} (o : Option Table) (r : Result X Fault) (x : X) → when_plain o r ≡ Ok x → (o ≡ None) × (r ≡ Ok x)
+plain_ok : {X : Type 0} (o : Option TableView) (r : Result X Fault) (x : X) → when_plain o r ≡ Ok x → (o ≡ None) × (r ≡ Ok x)
 plain_ok None r x h = (refl, h)
 plain_ok (Some t) r x h = absurd (cc)
 
@@ -147,7 +147,7 @@ given b = Ok b
 batch_same : (a b : BatchHead) → given a ≡ given b → a ≡ b
 batch_same a b h = cc
 
-pub batch_sound : (t : Table) (batch : BatchHead) → batch_read t ≡ Ok batch → BatchAt t batch
+pub batch_sound : (t : TableView) (batch : BatchHead) → batch_read t ≡ Ok batch → BatchAt t batch
 unfolding batch_read
 batch_sound t batch h =
     let o = bind_ok (lift (field t 3 table_from)) _ _ h in

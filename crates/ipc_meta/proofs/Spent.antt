@@ -2,7 +2,7 @@
 use Rattle.std.proofs.Common.{◌≡◌, refl, ap, subst, ℕ, zero, suc, ◌+◌, ◌-◌, ◌≤◌, List, [], ◌∷◌, arith}
 use Rattle.std.specs.Prelude.{length, nat_le, Result, Ok, Err}
 use Rattle.std.proofs.lemmas.Bool.Decides.{nat_tests}
-use Rattle.ipc_flat.specs.Views.{Table, table_from}
+use Rattle.ipc_flat.specs.Views.{TableView, table_from}
 use Rattle.ipc_model.specs.WellFormed.{kind_text}
 use Rattle.ipc_model.specs.declared.schema.DataType.{DataType}
 use Rattle.ipc_model.specs.declared.schema.Field.{Field}
@@ -49,7 +49,7 @@ less_fields_spent n left after h =
 joined : (l m n : Budget) (a b c x y z : ℕ) → Spent l m a b c → Spent m n x y z → Spent l n (a + x) (b + y) (c + z)
 joined l m n a b c x y z h k = record { fields = omega (arith, h.fields, k.fields); text = omega (arith, h.text, k.text); pairs = omega (arith, h.pairs, k.pairs) }
 
-pub text_spent : (t : Table) (k : ℕ) (left : Budget) (x : List ℕ × Budget) → text_read t k left ≡ Ok x → Spent left x.1 0 (text_in t k) 0
+pub text_spent : (t : TableView) (k : ℕ) (left : Budget) (x : List ℕ × Budget) → text_read t k left ≡ Ok x → Spent left x.1 0 (text_in t k) 0
 unfolding text_read
 text_spent t k left x h =
     let a = bind_ok (text_at t k) _ x h in
@@ -58,7 +58,7 @@ text_spent t k left x h =
     let size : text_in t k ≡ length a.0 = ap (or_zero length) a.1 in
     subst (λ m. Spent left m 0 (text_in t k) 0) e.1 (rw size (less_text_spent (length a.0) left l.0 l.1))
 
-pub pair_spent : (t : Table) (left : Budget) (x : (List ℕ × List ℕ) × Budget) → pair_read t left ≡ Ok x → Spent left x.1 0 (pair_text_in t) 0
+pub pair_spent : (t : TableView) (left : Budget) (x : (List ℕ × List ℕ) × Budget) → pair_read t left ≡ Ok x → Spent left x.1 0 (pair_text_in t) 0
 unfolding pair_read
 pair_spent t left x h =
     let k = bind_ok (text_read t 0 left) _ x h in
@@ -66,7 +66,7 @@ pair_spent t left x h =
     let e = left_parts (k.0.0, v.0.0) x.0 v.0.1 x.1 v.2 in
     subst (λ m. Spent left m 0 (pair_text_in t) 0) e.1 (joined left k.0.1 v.0.1 0 (text_in t 0) 0 0 (text_in t 1) 0 (text_spent t 0 left k.0 k.1) (text_spent t 1 k.0.1 v.0 v.1))
 
-pub each_spent : {X : Type 0} (g : Table → Reading X) (wa wb wc : Table → ℕ) → ((t : Table) (left : Budget) (x : X × Budget) → g t left ≡ Ok x → Spent left x.1 (wa t) (wb t) (wc t))
+pub each_spent : {X : Type 0} (g : TableView → Reading X) (wa wb wc : TableView → ℕ) → ((t : TableView) (left : Budget) (x : X × Budget) → g t left ≡ Ok x → Spent left x.1 (wa t) (wb t) (wc t))
     → (z : List ℕ) (n p : ℕ) (left : Budget) (x : List X × Budget) → each g z p n left ≡ Ok x → Spent left x.1 (sum_tables wa z p n) (sum_tables wb z p n) (sum_tables wc z p n)
 unfolding each sum_tables
 each_spent g wa wb wc s z zero p left x h = let e = left_parts [] x.0 left x.1 h in subst (λ m. Spent left m 0 0 0) e.1 (record { fields = omega arith; text = omega arith; pairs = omega arith })
@@ -85,11 +85,11 @@ unfolding sum_tables
 sum_none z zero p = refl
 sum_none z (suc n) p = go (table_from z p) (sum_none z n (p + 4))
   where
-    go : {E : Type 0} (r : Result Table E) → sum_tables (λ u. 0) z (p + 4) n ≡ 0 → or_zero (λ u. 0) r + sum_tables (λ u. 0) z (p + 4) n ≡ 0
+    go : {E : Type 0} (r : Result TableView E) → sum_tables (λ u. 0) z (p + 4) n ≡ 0 → or_zero (λ u. 0) r + sum_tables (λ u. 0) z (p + 4) n ≡ 0
     go (Ok u) h = omega (arith, h)
     go (Err e) h = omega (arith, h)
 
-pub pairs_spent : (t : Table) (k : ℕ) (left : Budget) (x : List (List ℕ × List ℕ) × Budget) → pairs_read t k left ≡ Ok x → Spent left x.1 0 (sum_in pair_text_in t k) (count_in t k)
+pub pairs_spent : (t : TableView) (k : ℕ) (left : Budget) (x : List (List ℕ × List ℕ) × Budget) → pairs_read t k left ≡ Ok x → Spent left x.1 0 (sum_in pair_text_in t k) (count_in t k)
 unfolding pairs_read
 pairs_spent t k left x h =
     let v = bind_ok (vector_at t k) _ x h in
@@ -105,7 +105,7 @@ pairs_spent t k left x h =
       pairs = omega (arith, first.pairs, rest.pairs, none, many);
     }
 
-pub type_spent : (t : Table) (left : Budget) (x : DataType × Budget) → type_read t left ≡ Ok x → Spent left x.1 0 (or_zero kind_text (type_at t)) 0
+pub type_spent : (t : TableView) (left : Budget) (x : DataType × Budget) → type_read t left ≡ Ok x → Spent left x.1 0 (or_zero kind_text (type_at t)) 0
 unfolding type_read
 type_spent t left x h =
     let a = bind_ok (type_at t) _ x h in
@@ -114,8 +114,8 @@ type_spent t left x h =
     let size : or_zero kind_text (type_at t) ≡ kind_text a.0 = ap (or_zero kind_text) a.1 in
     subst (λ m. Spent left m 0 (or_zero kind_text (type_at t)) 0) e.1 (rw size (less_text_spent (kind_text a.0) left l.0 l.1))
 
-pub fields_spent : (g : Table → Reading Field) (wa wb wc : Table → ℕ) → ((t : Table) (left : Budget) (x : Field × Budget) → g t left ≡ Ok x → Spent left x.1 (wa t) (wb t) (wc t))
-    → (t : Table) (k : ℕ) (left : Budget) (x : List Field × Budget) → fields_read g t k left ≡ Ok x → Spent left x.1 (count_in t k + sum_in wa t k) (sum_in wb t k) (sum_in wc t k)
+pub fields_spent : (g : TableView → Reading Field) (wa wb wc : TableView → ℕ) → ((t : TableView) (left : Budget) (x : Field × Budget) → g t left ≡ Ok x → Spent left x.1 (wa t) (wb t) (wc t))
+    → (t : TableView) (k : ℕ) (left : Budget) (x : List Field × Budget) → fields_read g t k left ≡ Ok x → Spent left x.1 (count_in t k + sum_in wa t k) (sum_in wb t k) (sum_in wc t k)
 unfolding fields_read
 fields_spent g wa wb wc s t k left x h =
     let v = bind_ok (vector_at t k) _ x h in
@@ -133,13 +133,13 @@ fields_spent g wa wb wc s t k left x h =
     }
 
 -- a Field table's children, and its pairs
-abbrev pub children_in : Table → ℕ
+abbrev pub children_in : TableView → ℕ
 children_in u = count_in u 5
 
-abbrev pub pairs_in : Table → ℕ
+abbrev pub pairs_in : TableView → ℕ
 pairs_in u = count_in u 6
 
-pub field_spent : (d : ℕ) (t : Table) (left : Budget) (x : Field × Budget) → field_read d t left ≡ Ok x → Spent left x.1 (tree children_in d t) (tree own_text d t) (tree pairs_in d t)
+pub field_spent : (d : ℕ) (t : TableView) (left : Budget) (x : Field × Budget) → field_read d t left ≡ Ok x → Spent left x.1 (tree children_in d t) (tree own_text d t) (tree pairs_in d t)
 unfolding field_read tree
 field_spent zero t left x h = absurd (cc)
 field_spent (suc d) t left x h =

@@ -4,7 +4,7 @@ use Rattle.std.specs.Prelude.{Option, None, Some, Result, Ok, ⊤}
 use Rattle.ipc_scalar.specs.declared.fault.FlatFault.{FlatFault}
 use Rattle.ipc_scalar.specs.Faulty.{◌>>=◌, where_some}
 use Rattle.ipc_scalar.specs.Flat.{slot_of, table_of, elements_of}
-use Rattle.ipc_flat.specs.Views.{Table, or_default, table_from, scalar, field, elements_from, structs_from}
+use Rattle.ipc_flat.specs.Views.{TableView, or_default, table_from, scalar, field, elements_from, structs_from}
 use Rattle.ipc_build.specs.Trees.{Tree}
 use Rattle.ipc_build.specs.Lies.{TableStands, TreeLies, in_table}
 
@@ -12,7 +12,7 @@ abbrev pub Any : ℕ → ℕ → Type 0
 Any w p = ⊤
 
 -- the table at t
-abbrev pub tab : List ℕ → ℕ → Table
+abbrev pub tab : List ℕ → ℕ → TableView
 tab b t = record { bytes = b; at = t }
 
 -- a table at t has these fields, and no others

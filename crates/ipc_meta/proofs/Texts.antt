@@ -6,7 +6,7 @@ use Rattle.ipc_scalar.specs.Faulty.{◌>>=◌, ok_if, where_some}
 use Rattle.ipc_scalar.specs.Flat.{back_of, is_vtable, vtable_behind, vtable_of, entry_of, place_of, slot_of, points, table_of, elements_of}
 use Rattle.ipc_scalar.specs.declared.fault.FlatFault.{FlatFault}
 use Rattle.ipc_scalar.specs.declared.fault.FlatFault.TheVariants.{OffsetZero, OutOfBounds, BadVtable, NotUtf8}
-use Rattle.ipc_flat.specs.Views.{Table, table_from, field, elements_from, structs_from}
+use Rattle.ipc_flat.specs.Views.{TableView, table_from, field, elements_from, structs_from}
 
 -- the answer is no text's
 abbrev pub NoText : {X : Type 0} → Result X FlatFault → Type 0
@@ -69,7 +69,7 @@ no_structs_from : (width : ℕ) (b : List ℕ) (p : ℕ) → NoText (structs_fro
 unfolding structs_from
 no_structs_from width b p = both (elements_of b p width) _ (no_elements b p width) (λ e h. cc)
 
-no_field : {X : Type 0} (t : Table) (k : ℕ) (f : List ℕ → ℕ → Result X FlatFault) → ((p : ℕ) → NoText (f t.bytes p)) → NoText (field t k f)
+no_field : {X : Type 0} (t : TableView) (k : ℕ) (f : List ℕ → ℕ → Result X FlatFault) → ((p : ℕ) → NoText (f t.bytes p)) → NoText (field t k f)
 unfolding field
 no_field t k f other = both (slot_of t.bytes t.at k 4) _ (no_slot t.bytes t.at k 4) go
   where
@@ -77,11 +77,11 @@ no_field t k f other = both (slot_of t.bytes t.at k 4) _ (no_slot t.bytes t.at k
     go None h = cc
     go (Some p) h = both (f t.bytes p) _ (other p) (λ x i. cc) h
 
-pub no_table_in : (t : Table) (k : ℕ) → NoText (field t k table_from)
+pub no_table_in : (t : TableView) (k : ℕ) → NoText (field t k table_from)
 no_table_in t k = no_field t k table_from (no_table_from t.bytes)
 
-pub no_tables_in : (t : Table) (k : ℕ) → NoText (field t k (elements_from 4))
+pub no_tables_in : (t : TableView) (k : ℕ) → NoText (field t k (elements_from 4))
 no_tables_in t k = no_field t k (elements_from 4) (no_elements_from 4 t.bytes)
 
-pub no_structs_in : (t : Table) (k : ℕ) → NoText (field t k (structs_from 16))
+pub no_structs_in : (t : TableView) (k : ℕ) → NoText (field t k (structs_from 16))
 no_structs_in t k = no_field t k (structs_from 16) (no_structs_from 16 t.bytes)

@@ -2,7 +2,7 @@
 use Rattle.std.proofs.Common.{◌≡◌, ◌∙◌, refl, sym, ap, subst, ℕ, zero, suc, ◌+◌, ◌-◌, List, [], ◌∷◌, map, length, length-append, arith}
 use Rattle.std.specs.Prelude.{sum_by, Ok}
 use Rattle.std.proofs.lemmas.List.Sums.{sum_by-append, sum_by-cons}
-use Rattle.ipc_flat.specs.Views.{Table}
+use Rattle.ipc_flat.specs.Views.{TableView}
 use Rattle.ipc_model.specs.WellFormed.{Entry, Listing, entry_of, preorder, preorder_step, all_at, entries, pair_text, kind_text}
 use Rattle.ipc_model.specs.declared.schema.Field.{Field, roll-Field, fold-roll-Field, map-Field}
 use Rattle.ipc_model.specs.declared.schema.Field.TheOpen.{Field-F}
@@ -30,14 +30,14 @@ pairs_sum z (x ∷ ps) p n h =
     let size : n ≡ suc (n - 1) = (let l = h.1 in omega arith) in
     rw (size, h.2, h.3.0, h.3.1, pairs_sum z ps (p + 4) (n - 1) h.4) refl
 
-pair_total : (t : Table) (k : ℕ) (ps : List (List ℕ × List ℕ)) → VectorAt PairAt ps t k → sum_in pair_text_in t k ≡ pair_text ps
+pair_total : (t : TableView) (k : ℕ) (ps : List (List ℕ × List ℕ)) → VectorAt PairAt ps t k → sum_in pair_text_in t k ≡ pair_text ps
 pair_total t k ps h = ap (or_zero (λ es. sum_tables pair_text_in es.bytes es.at es.len)) h.1 ∙ pairs_sum h.0.bytes ps h.0.at h.0.len h.2
 
-pair_count : (t : Table) (k : ℕ) (ps : List (List ℕ × List ℕ)) → VectorAt PairAt ps t k → count_in t k ≡ length ps
+pair_count : (t : TableView) (k : ℕ) (ps : List (List ℕ × List ℕ)) → VectorAt PairAt ps t k → count_in t k ≡ length ps
 pair_count t k ps h = ap (or_zero (λ es. es.len)) h.1 ∙ tables_are PairAt h.0.bytes ps h.0.at h.0.len h.2
 
 -- a field with its descendants has what the table states, within so many levels
-abbrev SumsAre : ℕ → Field → Table → Type 0
+abbrev SumsAre : ℕ → Field → TableView → Type 0
 SumsAre n f u = (d : ℕ) → (length (preorder f d) ≡ 1 + tree children_in n u) × (text_of (preorder f d) ≡ tree own_text n u) × (pairs_of (preorder f d) ≡ tree pairs_in n u)
 
 each_sums : (n : ℕ) (z : List ℕ) (fs : List Field) (p k : ℕ) → TablesAt (SumsAre n) z p k fs → (d : ℕ)
@@ -54,7 +54,7 @@ each_sums n z (f ∷ fs) p k h d =
     rw (size, h.2) (omega (arith, here.0, there.0, count), omega (arith, here.1, there.1, text), omega (arith, here.2, there.2, pairs))
 
 -- the same of the fields of a vector
-vector_sums : (n : ℕ) (t : Table) (k : ℕ) (fs : List Field) → VectorAt (SumsAre n) fs t k → (d : ℕ)
+vector_sums : (n : ℕ) (t : TableView) (k : ℕ) (fs : List Field) → VectorAt (SumsAre n) fs t k → (d : ℕ)
     → (length (all_at d (map preorder fs)) ≡ count_in t k + sum_in (tree children_in n) t k) × (text_of (all_at d (map preorder fs)) ≡ sum_in (tree own_text n) t k) × (pairs_of (all_at d (map preorder fs)) ≡ sum_in (tree pairs_in n) t k)
 vector_sums n t k fs h d =
     let many = tables_are (SumsAre n) h.0.bytes fs h.0.at h.0.len h.2 in
@@ -65,7 +65,7 @@ vector_sums n t k fs h d =
     let sum_c : sum_in (tree pairs_in n) t k ≡ sum_tables (tree pairs_in n) h.0.bytes h.0.at h.0.len = ap (or_zero (λ es. sum_tables (tree pairs_in n) es.bytes es.at es.len)) h.1 in
     (omega (arith, sums.0, many, number, sum_a), sums.1 ∙ sym sum_b, sums.2 ∙ sym sum_c)
 
-fields_sums : (n : ℕ) → Sound (field_read n) (SumsAre n) → (t : Table) (k : ℕ) (left after : Budget) (fs : List Field) → fields_read (field_read n) t k left ≡ Ok (fs, after) → VectorAt (SumsAre n) fs t k
+fields_sums : (n : ℕ) → Sound (field_read n) (SumsAre n) → (t : TableView) (k : ℕ) (left after : Budget) (fs : List Field) → fields_read (field_read n) t k left ≡ Ok (fs, after) → VectorAt (SumsAre n) fs t k
 unfolding fields_read
 fields_sums n s t k left after fs h =
     let v = bind_ok (vector_at t k) _ _ h in
@@ -79,7 +79,7 @@ text_sum : (a b c x y z u v : ℕ) → a ≡ x → b ≡ y → c ≡ z → u ≡
 text_sum a b c x y z u v h k l m = omega arith
 
 -- a field's own entry before those of its children
-rolled_sums : (n : ℕ) (y : Field-F Field) (t : Table) → text_in t 0 ≡ length y.name → or_zero kind_text (type_at t) ≡ kind_text y.kind → sum_in pair_text_in t 6 ≡ pair_text y.metadata → count_in t 6 ≡ length y.metadata
+rolled_sums : (n : ℕ) (y : Field-F Field) (t : TableView) → text_in t 0 ≡ length y.name → or_zero kind_text (type_at t) ≡ kind_text y.kind → sum_in pair_text_in t 6 ≡ pair_text y.metadata → count_in t 6 ≡ length y.metadata
     → ((d : ℕ) → (length (all_at d (map preorder y.children)) ≡ count_in t 5 + sum_in (tree children_in n) t 5) × (text_of (all_at d (map preorder y.children)) ≡ sum_in (tree own_text n) t 5) × (pairs_of (all_at d (map preorder y.children)) ≡ sum_in (tree pairs_in n) t 5))
     → SumsAre (suc n) (roll-Field y) t
 unfolding tree
@@ -115,12 +115,12 @@ field_sums (suc n) t left after x h =
     subst (λ f. SumsAre (suc n) f t) e.0 (rolled_sums n y t title zone (pair_total t 6 ps.0.0 pairs) (pair_count t 6 ps.0.0 pairs) (vector_sums n t 5 cs.0.0 children))
 
 -- a schema that was read has what its table states
-pub record Totals (t : Table) (fs : List Field) (own : List (List ℕ × List ℕ)) : Type 0 where
+pub record Totals (t : TableView) (fs : List Field) (own : List (List ℕ × List ℕ)) : Type 0 where
   pub fields : length (entries fs) ≡ fields_stated t
   pub text : pair_text own + text_of (entries fs) ≡ text_stated t
   pub pairs : length own + pairs_of (entries fs) ≡ pairs_stated t
 
-pub schema_totals : (t : Table) (left mid after : Budget) (fs : List Field) (own : List (List ℕ × List ℕ)) → pairs_read t 2 left ≡ Ok (own, mid) → fields_read (field_read 64) t 1 mid ≡ Ok (fs, after) → Totals t fs own
+pub schema_totals : (t : TableView) (left mid after : Budget) (fs : List Field) (own : List (List ℕ × List ℕ)) → pairs_read t 2 left ≡ Ok (own, mid) → fields_read (field_read 64) t 1 mid ≡ Ok (fs, after) → Totals t fs own
 schema_totals t left mid after fs own p h =
     let ps = pairs_sound t 2 left mid own p in
     let sums = vector_sums 64 t 1 fs (fields_sums 64 (field_sums 64) t 1 mid after fs h) 1 in

@@ -3,7 +3,7 @@ use Rattle.std.proofs.Common.{◌≡◌, ◌∙◌, refl, sym, ap, subst, ℕ, L
 use Rattle.std.specs.Prelude.{pos, ℤ, Option, None, Some, Result, Ok, Err}
 use Rattle.ipc_scalar.specs.Bytes.{byte, int64}
 use Rattle.ipc_scalar.specs.declared.fault.FlatFault.{FlatFault}
-use Rattle.ipc_flat.specs.Views.{Table, table_from, scalar, field}
+use Rattle.ipc_flat.specs.Views.{TableView, table_from, scalar, field}
 use Rattle.ipc_model.specs.Answers.{Fails}
 use Rattle.ipc_model.specs.declared.fault.Fault.{Fault}
 use Rattle.ipc_model.specs.declared.fault.Fault.TheVariants.{OutOfMemory}
@@ -41,10 +41,10 @@ unfolding some_or
 some_same x y o p h k e = ap (some_or x) (sym h ∙ (e ∙ k))
 
 -- the table in a field
-pub table_same : (r : Result (Option Table) FlatFault) (t u : Table) → r ≡ Ok (Some t) → r ≡ Ok (Some u) → t ≡ u
+pub table_same : (r : Result (Option TableView) FlatFault) (t u : TableView) → r ≡ Ok (Some t) → r ≡ Ok (Some u) → t ≡ u
 table_same r t u h k = some_same t u (Some t) (Some u) refl refl (ok_same r (Some t) (Some u) h k)
 
-pub schema_same : (t : Table) (s z : Schema) → SchemaAt t s → SchemaAt t z → s ≡ z
+pub schema_same : (t : TableView) (s z : Schema) → SchemaAt t s → SchemaAt t z → s ≡ z
 schema_same t s z h k =
     let a = schema_complete t s h in
     let b = schema_complete t z k in
@@ -53,10 +53,10 @@ schema_same t s z h k =
     let fs = left_parts s.fields z.fields a.after b.after at in
     λ i. record { fields = fs.0 i; metadata = ps.0 i }
 
-pub batch_one : (t : Table) (a b : BatchHead) → BatchAt t a → BatchAt t b → a ≡ b
+pub batch_one : (t : TableView) (a b : BatchHead) → BatchAt t a → BatchAt t b → a ≡ b
 batch_one t a b h k = ok_same (batch_read t) a b (batch_complete t a h) (batch_complete t b k)
 
-pub dictionary_same : (t : Table) (i j : ℤ) (a b : BatchHead) → DictionaryAt t i a → DictionaryAt t j b → (i ≡ j) × (a ≡ b)
+pub dictionary_same : (t : TableView) (i j : ℤ) (a b : BatchHead) → DictionaryAt t i a → DictionaryAt t j b → (i ≡ j) × (a ≡ b)
 dictionary_same t i j a b h k =
     let tables = table_same (field t 1 table_from) h.values.0 k.values.0 h.values.1 k.values.1 in
     (ok_same (scalar t 0 8 int64 (pos 0)) i j h.named k.named, batch_one k.values.0 a b (subst (λ u. BatchAt u a) tables h.values.2) k.values.2)
@@ -68,17 +68,17 @@ code_of (head.Dictionary id batch) = 2
 code_of (head.Batch batch) = 3
 
 -- the table of a header states this head
-abbrev pub Stated : Table → Head → Type 0
+abbrev pub Stated : TableView → Head → Type 0
 Stated t (head.Schema s) = SchemaAt t s
 Stated t (head.Dictionary id batch) = DictionaryAt t id batch
 Stated t (head.Batch batch) = BatchAt t batch
 
-pub header_parts : (root : Table) (h : Head) → HeaderAt root h → (scalar root 1 1 byte 0 ≡ Ok (code_of h)) × ((t : Table) × (field root 2 table_from ≡ Ok (Some t)) × Stated t h)
+pub header_parts : (root : TableView) (h : Head) → HeaderAt root h → (scalar root 1 1 byte 0 ≡ Ok (code_of h)) × ((t : TableView) × (field root 2 table_from ≡ Ok (Some t)) × Stated t h)
 header_parts root (head.Schema s) a = a
 header_parts root (head.Dictionary id batch) a = a
 header_parts root (head.Batch batch) a = a
 
-pub stated_same : (t : Table) (g h : Head) → code_of g ≡ code_of h → Stated t g → Stated t h → g ≡ h
+pub stated_same : (t : TableView) (g h : Head) → code_of g ≡ code_of h → Stated t g → Stated t h → g ≡ h
 stated_same t (head.Schema s) (head.Schema z) e a b = ap head.Schema (schema_same t s z a b)
 stated_same t (head.Dictionary i x) (head.Dictionary j y) e a b = let p = dictionary_same t i j x y a b in rw (p.0, p.1) refl
 stated_same t (head.Batch x) (head.Batch y) e a b = ap head.Batch (batch_one t x y a b)
@@ -89,7 +89,7 @@ stated_same t (head.Dictionary i x) (head.Batch y) e a b = absurd (omega (arith,
 stated_same t (head.Batch x) (head.Schema z) e a b = absurd (omega (arith, e))
 stated_same t (head.Batch x) (head.Dictionary j y) e a b = absurd (omega (arith, e))
 
-pub header_same : (root : Table) (g h : Head) → HeaderAt root g → HeaderAt root h → g ≡ h
+pub header_same : (root : TableView) (g h : Head) → HeaderAt root g → HeaderAt root h → g ≡ h
 header_same root g h a b =
     let p = header_parts root g a in
     let q = header_parts root h b in
@@ -125,7 +125,7 @@ pub only_memory : (e : Fault) → ((e ≡ OutOfMemory → ⊥) → ⊥) → e �
 only_memory OutOfMemory h = refl
 only_memory _ h = absurd (h (λ q. cc))
 
-pub dictionary_refused : (root t : Table) (e : Fault) (h : Head) → scalar root 1 1 byte 0 ≡ Ok 2 → field root 2 table_from ≡ Ok (Some t)
+pub dictionary_refused : (root t : TableView) (e : Fault) (h : Head) → scalar root 1 1 byte 0 ≡ Ok 2 → field root 2 table_from ≡ Ok (Some t)
     → ((id : ℤ) (batch : BatchHead) → DictionaryAt t id batch → Fails e (pair id batch)) → HeaderAt root h → Fails e (Ok h)
 dictionary_refused root t e (head.Schema s) c f bad a = absurd (omega (arith, ok_same (scalar root 1 1 byte 0) 1 2 a.0 c))
 dictionary_refused root t e (head.Batch batch) c f bad a = absurd (omega (arith, ok_same (scalar root 1 1 byte 0) 3 2 a.0 c))
@@ -133,7 +133,7 @@ dictionary_refused root t e (head.Dictionary id batch) c f bad a =
     let tables = table_same (field root 2 table_from) a.1.0 t a.1.1 f in
     refused_pair e id batch (head.Dictionary id batch) (bad id batch (subst (λ u. DictionaryAt u id batch) tables a.1.2))
 
-pub batch_refused : (root t : Table) (e : Fault) (h : Head) → scalar root 1 1 byte 0 ≡ Ok 3 → field root 2 table_from ≡ Ok (Some t)
+pub batch_refused : (root t : TableView) (e : Fault) (h : Head) → scalar root 1 1 byte 0 ≡ Ok 3 → field root 2 table_from ≡ Ok (Some t)
     → Fails e (batch_read t) → HeaderAt root h → Fails e (Ok h)
 batch_refused root t e (head.Schema s) c f bad a = absurd (omega (arith, ok_same (scalar root 1 1 byte 0) 1 3 a.0 c))
 batch_refused root t e (head.Dictionary id batch) c f bad a = absurd (omega (arith, ok_same (scalar root 1 1 byte 0) 2 3 a.0 c))
@@ -141,7 +141,7 @@ batch_refused root t e (head.Batch batch) c f bad a =
     let tables = table_same (field root 2 table_from) a.1.0 t a.1.1 f in
     refused e (batch_read t) batch (head.Batch batch) (batch_complete t batch (subst (λ u. BatchAt u batch) tables a.1.2)) bad
 
-pub schema_refused : (root t : Table) (e : Fault) (h : Head) → scalar root 1 1 byte 0 ≡ Ok 1 → field root 2 table_from ≡ Ok (Some t)
+pub schema_refused : (root t : TableView) (e : Fault) (h : Head) → scalar root 1 1 byte 0 ≡ Ok 1 → field root 2 table_from ≡ Ok (Some t)
     → ((s : Schema) → SchemaAt t s → Fails e (Ok s)) → HeaderAt root h → Fails e (Ok h)
 schema_refused root t e (head.Dictionary id batch) c f bad a = absurd (omega (arith, ok_same (scalar root 1 1 byte 0) 2 1 a.0 c))
 schema_refused root t e (head.Batch batch) c f bad a = absurd (omega (arith, ok_same (scalar root 1 1 byte 0) 3 1 a.0 c))
@@ -149,7 +149,7 @@ schema_refused root t e (head.Schema s) c f bad a =
     let tables = table_same (field root 2 table_from) a.1.0 t a.1.1 f in
     refused e (Ok s) s (head.Schema s) refl (bad s (subst (λ u. SchemaAt u s) tables a.1.2))
 
-pub fields_refused : (t : Table) (s : Schema) (e : Fault) (ps : List (List ℕ × List ℕ)) (l : Budget) → SchemaAt t s → pairs_read t 2 (budget 65536 67108864 1048576) ≡ Ok (ps, l)
+pub fields_refused : (t : TableView) (s : Schema) (e : Fault) (ps : List (List ℕ × List ℕ)) (l : Budget) → SchemaAt t s → pairs_read t 2 (budget 65536 67108864 1048576) ≡ Ok (ps, l)
     → Fails e (fields_read (field_read 64) t 1 l) → Fails e (Ok s)
 fields_refused t s e ps l h p bad =
     let a = schema_complete t s h in
@@ -159,7 +159,7 @@ fields_refused t s e ps l h p bad =
 abbrev schema_of : List Field → List (List ℕ × List ℕ) → Schema
 schema_of fs ps = record { fields = fs; metadata = ps }
 
-pub check_refused : (t : Table) (s : Schema) (e : SchemaFault) (fs : List Field) (ps : List (List ℕ × List ℕ)) (l m : Budget) → SchemaAt t s
+pub check_refused : (t : TableView) (s : Schema) (e : SchemaFault) (fs : List Field) (ps : List (List ℕ × List ℕ)) (l m : Budget) → SchemaAt t s
     → pairs_read t 2 (budget 65536 67108864 1048576) ≡ Ok (ps, l) → fields_read (field_read 64) t 1 l ≡ Ok (fs, m)
     → ((e ≡ check.OutOfMemory → ⊥) → WellFormed (schema_of fs ps) → ⊥) → Fails (reader_fault e) (Ok s)
 check_refused t s e fs ps l m h p q bad =
@@ -170,7 +170,7 @@ check_refused t s e fs ps l m h p q bad =
     let same : s ≡ schema_of fs ps = λ i. record { fields = y.0 i; metadata = x.0 i } in
     λ ne. absurd (bad (λ is. ne (ap reader_fault is)) (subst WellFormed same h.well_formed))
 
-pub values_refused : (t d : Table) (id : ℤ) (batch : BatchHead) (e : Fault) → DictionaryAt t id batch → field t 1 table_from ≡ Ok (Some d) → Fails e (batch_read d) → Fails e (pair id batch)
+pub values_refused : (t d : TableView) (id : ℤ) (batch : BatchHead) (e : Fault) → DictionaryAt t id batch → field t 1 table_from ≡ Ok (Some d) → Fails e (batch_read d) → Fails e (pair id batch)
 values_refused t d id batch e h f bad =
     let tables = table_same (field t 1 table_from) h.values.0 d h.values.1 f in
     λ ne. let none : Ok batch ≡ Err e = sym (batch_complete d batch (subst (λ u. BatchAt u batch) tables h.values.2)) ∙ bad ne in absurd (cc)

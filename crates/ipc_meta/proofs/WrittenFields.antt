@@ -3,7 +3,7 @@ use Rattle.std.proofs.Common.{◌≡◌, sym, ap, subst, ℕ, ◌+◌, Bool, Lis
 use Rattle.std.specs.Prelude.{Option, None, Some, Result, Ok}
 use Rattle.std.specs.List.{AllByRecursion}
 use Rattle.ipc_scalar.specs.declared.fault.FlatFault.{FlatFault}
-use Rattle.ipc_flat.specs.Views.{Table, table_from, field}
+use Rattle.ipc_flat.specs.Views.{TableView, table_from, field}
 use Rattle.ipc_model.specs.Answers.{◌>>=◌}
 use Rattle.ipc_model.specs.WellFormed.{Entry, Listing, preorder, preorder_step, all_at}
 use Rattle.ipc_model.specs.Meaning.{HasGoodType, IsFine}
@@ -49,14 +49,14 @@ abbrev tree_with : List ℕ → Bool → DataType → Option Dictionary → List
 tree_with name nullable κ o cs ps =
     with_text 0 name (with_byte 1 (flag nullable) (with_byte 2 (type_code κ) (with_table 3 (type_tree κ) (with_dictionary o (with_tables 5 (map field_tree cs) (with_pairs 6 ps))))))
 
-abbrev PartsAt : List ℕ → Bool → DataType → Option Dictionary → List Field → List (List ℕ × List ℕ) → Table → Type 0
+abbrev PartsAt : List ℕ → Bool → DataType → Option Dictionary → List Field → List (List ℕ × List ℕ) → TableView → Type 0
 PartsAt name nullable κ o cs ps t =
     (text_at t 0 ≡ Ok name) × (flag_at t 1 ≡ Ok nullable) × (type_at t ≡ Ok κ) × (dictionary_at t ≡ Ok o)
     × VectorAt PairAt ps t 6 × VectorAt FieldAt cs t 5
 
 no_dictionary : (b : List ℕ) (t : ℕ) → field (tab b t) 4 table_from ≡ Ok None → dictionary_at (tab b t) ≡ Ok None
 unfolding dictionary_at
-no_dictionary b t h = ap (λ (r : Result (Option Table) FlatFault). lift r >>= dictionary_in) h
+no_dictionary b t h = ap (λ (r : Result (Option TableView) FlatFault). lift r >>= dictionary_in) h
 
 parts_there : (b : List ℕ) (t : ℕ) (name : List ℕ) (nullable : Bool) (κ : DataType) (o : Option Dictionary) (cs : List Field) (ps : List (List ℕ × List ℕ)) → HasGoodType κ
     → AllByRecursion (States field_tree FieldAt b) cs → Holds b t (tree_with name nullable κ o cs ps) → PartsAt name nullable κ o cs ps (tab b t)
@@ -95,7 +95,7 @@ roll_written y = λ d fine b t h.
     let listed : AllByRecursion IsFine (preorder_step (map-Field Field Listing preorder z) d) = subst (λ (l : Listing). AllByRecursion IsFine (l d)) (fold-roll-Field Listing preorder_step z) fine in
     let held : Holds b t (tree_with z.name z.nullable z.kind z.dictionary z.children z.metadata) = subst (λ (f : Tree). Holds b t f) (fold-roll-Field Tree written.field_step z) h in
     let each = children_written y.children (d + 1) listed.1 b in
-    subst (λ (F : Table → Type 0). F (tab b t)) (sym (field_roll z)) (parts_there b t z.name z.nullable z.kind z.dictionary z.children z.metadata listed.0.good_type each held)
+    subst (λ (F : TableView → Type 0). F (tab b t)) (sym (field_roll z)) (parts_there b t z.name z.nullable z.kind z.dictionary z.children z.metadata listed.0.good_type each held)
 
 field_written : (f : Field) → IsWritten f
 field_written = ind-Field IsWritten (λ x y is. subst (λ z. IsWritten (roll-Field z)) is (roll_written y))

@@ -5,7 +5,7 @@ use Rattle.std.specs.List.{AllByRecursion}
 use Rattle.ipc_scalar.specs.Bytes.{num, byte}
 use Rattle.ipc_scalar.specs.declared.fault.FlatFault.{FlatFault}
 use Rattle.ipc_scalar.specs.Flat.{slot_of, elements_of, text_of}
-use Rattle.ipc_flat.specs.Views.{Table, Elements, table_from, elements_from}
+use Rattle.ipc_flat.specs.Views.{TableView, Elements, table_from, elements_from}
 use Rattle.ipc_model.specs.Answers.{◌>>=◌}
 use Rattle.ipc_build.specs.Trees.{Tree, tables_of}
 use Rattle.ipc_build.specs.Layout.{members}
@@ -40,7 +40,7 @@ pub vector_absent : (b : List ℕ) (t k : ℕ) → slot_of b t k 4 ≡ Ok None �
 unfolding vector_at
 vector_absent b t k h = ap (λ (r : Result (Option Elements) FlatFault). lift r >>= λ o. Ok (no_elements (tab b t) o)) (field_absent b t k (elements_from 4) h)
 
-module _ {X : Type 0} (tree : X → Tree) (At : X → Table → Type 0) where
+module _ {X : Type 0} (tree : X → Tree) (At : X → TableView → Type 0) where
   pub members_length : (xs : List X) → members (tables_of (map tree xs)) ≡ length xs
   unfolding members
   members_length [] = refl
@@ -70,7 +70,7 @@ pair_there b p t h =
     (text_there b t 0 key.0 p.0 key.1.0 key.3.text, text_there b t 1 value.0 p.1 value.1.0 value.3.text)
 
 -- a vector of tables in field k
-pub vector_lies : {X : Type 0} (tree : X → Tree) (At : X → Table → Type 0) (b : List ℕ) (t k p q : ℕ) (xs : List X) → slot_of b t k 4 ≡ Ok (Some p)
+pub vector_lies : {X : Type 0} (tree : X → Tree) (At : X → TableView → Type 0) (b : List ℕ) (t k p q : ℕ) (xs : List X) → slot_of b t k 4 ≡ Ok (Some p)
     → elements_of b p 4 ≡ Ok (q + 4, members (tables_of (map tree xs))) → TreeLies Any b (in_vector (q + 4)) (tables_of (map tree xs))
     → AllByRecursion (States tree At b) xs → VectorAt At xs (tab b t) k
 vector_lies tree At b t k p q xs s e lies each =

@@ -6,7 +6,7 @@ use Rattle.std.proofs.Math.Facts.{to_z_pos}
 use Rattle.ipc_scalar.specs.Bytes.{num, byte, int16, int32, int64}
 use Rattle.ipc_scalar.specs.declared.fault.FlatFault.{FlatFault}
 use Rattle.ipc_scalar.specs.Flat.{slot_of, table_of, text_of}
-use Rattle.ipc_flat.specs.Views.{Table, table_from, scalar, field}
+use Rattle.ipc_flat.specs.Views.{TableView, table_from, scalar, field}
 use Rattle.ipc_model.specs.Answers.{◌>>=◌}
 use Rattle.ipc_model.specs.Meaning.{HasGoodType}
 use Rattle.ipc_model.specs.Ranges.{width}
@@ -116,7 +116,7 @@ type_there b t c p u κ sc e sp table good h =
     ap (λ (r : Result ℕ FlatFault). lift r >>= λ code. when_type code (lift (field (tab b t) 3 table_from) >>= type_in code)) (scalar_there b t 2 1 c byte 0 sc)
     ∙ (ap (λ (n : ℕ). when_type n (lift (field (tab b t) 3 table_from) >>= type_in n)) e
     ∙ (ap (λ (k : Bool). if k then (lift (field (tab b t) 3 table_from) >>= type_in (type_code κ)) else Err (UnsupportedType (type_code κ))) (coded κ)
-    ∙ (ap (λ (r : Result (Option Table) FlatFault). lift r >>= type_in (type_code κ)) (field_there b t 3 p table_from (tab b u) sp (table_there b p u table))
+    ∙ (ap (λ (r : Result (Option TableView) FlatFault). lift r >>= type_in (type_code κ)) (field_there b t 3 p table_from (tab b u) sp (table_there b p u table))
     ∙ type_table b u κ good h)))
 
 -- ---- the dictionary
@@ -126,7 +126,7 @@ encoding id index ordered = Ok (Some (record { id = id; index = index; ordered =
 
 index_there : (b : List ℕ) (u p v : ℕ) (index : IndexType) → slot_of b u 1 4 ≡ Ok (Some p) → table_of b p ≡ Ok v → Holds b v (int_tree index.bits index.signed) → index_at (tab b u) ≡ Ok index
 index_there b u p v index s table h =
-    ap (λ (r : Result (Option Table) FlatFault). lift r >>= index_in) (field_there b u 1 p table_from (tab b v) s (table_there b p v table))
+    ap (λ (r : Result (Option TableView) FlatFault). lift r >>= index_in) (field_there b u 1 p table_from (tab b v) s (table_there b p v table))
     ∙ int_there BadIndexType b v index.bits index.signed h
 
 encoding_there : (b : List ℕ) (u : ℕ) (d : Dictionary) → Holds b u (dictionary_tree d) → dictionary_in (Some (tab b u)) ≡ Ok (Some d)
@@ -143,5 +143,5 @@ encoding_there b u d h =
 pub dictionary_there : (b : List ℕ) (t p u : ℕ) (d : Dictionary) → slot_of b t 4 4 ≡ Ok (Some p) → table_of b p ≡ Ok u → Holds b u (dictionary_tree d) → dictionary_at (tab b t) ≡ Ok (Some d)
 unfolding dictionary_at
 dictionary_there b t p u d s table h =
-    ap (λ (r : Result (Option Table) FlatFault). lift r >>= dictionary_in) (field_there b t 4 p table_from (tab b u) s (table_there b p u table))
+    ap (λ (r : Result (Option TableView) FlatFault). lift r >>= dictionary_in) (field_there b t 4 p table_from (tab b u) s (table_there b p u table))
     ∙ encoding_there b u d h

@@ -2,7 +2,7 @@
 use Rattle.std.specs.Prelude.{◌≡◌, ◌≢◌, ℕ, ◌<◌, ◌⊎◌, ℤ, true, false, pos, int_lt, List, None, Some, Result, Ok}
 use Rattle.ipc_scalar.specs.declared.fault.FlatFault.{FlatFault}
 use Rattle.ipc_scalar.specs.Bytes.{byte, int16, int32, int64}
-use Rattle.ipc_flat.specs.Views.{Table, Elements, table_from, scalar, field}
+use Rattle.ipc_flat.specs.Views.{TableView, Elements, table_from, scalar, field}
 use Rattle.ipc_model.specs.declared.fault.Fault.{Fault}
 use Rattle.ipc_model.specs.declared.fault.Fault.TheVariants as f
 use Rattle.ipc_model.specs.declared.schema.DataType.{DataType}
@@ -15,8 +15,8 @@ use Rattle.ipc_meta.specs.Heads.{longest_body}
 use Rattle.ipc_meta.specs.Reached.{Kind, HasTable, IsDeep, HasIllFormed, HasOtherText, message, schema, column, type_value, index_type, dictionary_batch, record_batch}
 
 -- the metadata has a table of this kind of which P holds
-abbrev pub Has : List ℕ → Kind → (Table → Type 0) → Type 0
-Has b kind P = (t : Table) × HasTable b kind t × P t
+abbrev pub Has : List ℕ → Kind → (TableView → Type 0) → Type 0
+Has b kind P = (t : TableView) × HasTable b kind t × P t
 
 -- the answer is a value of which P holds
 abbrev pub Is : {X : Type 0} → Result X FlatFault → (X → Type 0) → Type 0
@@ -30,11 +30,11 @@ pub data HasNoHeader (b : List ℕ) : Type 0 where
 
 -- a type's table with this code in union Type has a width or a unit that no type has (Schema.fbs, tables Int, Date, Timestamp and
 -- FixedSizeBinary; Null, Binary, Utf8, Bool, List and Struct_ have no fields)
-pub data IsNoType : ℕ → Table → Type 0 where
-  other_width : {v : Table} → Is (scalar v 0 4 int32 (pos 0)) (λ width. bits_of width ≡ None) → IsNoType 2 v
-  other_date_unit : {v : Table} → Is (scalar v 0 2 int16 (pos 1)) (λ unit. (unit ≢ pos 0) × (unit ≢ pos 1)) → IsNoType 8 v
-  other_time_unit : {v : Table} → Is (scalar v 0 2 int16 (pos 0)) (λ unit. unit_of unit ≡ None) → IsNoType 10 v
-  negative_width : {v : Table} → Is (scalar v 0 4 int32 (pos 0)) (λ width. int_lt width (pos 0) ≡ true) → IsNoType 15 v
+pub data IsNoType : ℕ → TableView → Type 0 where
+  other_width : {v : TableView} → Is (scalar v 0 4 int32 (pos 0)) (λ width. bits_of width ≡ None) → IsNoType 2 v
+  other_date_unit : {v : TableView} → Is (scalar v 0 2 int16 (pos 1)) (λ unit. (unit ≢ pos 0) × (unit ≢ pos 1)) → IsNoType 8 v
+  other_time_unit : {v : TableView} → Is (scalar v 0 2 int16 (pos 0)) (λ unit. unit_of unit ≡ None) → IsNoType 10 v
+  negative_width : {v : TableView} → Is (scalar v 0 4 int32 (pos 0)) (λ width. int_lt width (pos 0) ≡ true) → IsNoType 15 v
 
 -- a field's type has a type's code and no table, or a table that is no type's
 pub data HasBadType (b : List ℕ) : Type 0 where
@@ -62,11 +62,11 @@ Cause b f.BadType = HasBadType b
 Cause b f.BadChildren = HasBadChildren b
 Cause b f.NameNotUtf8 = HasOtherText b
 Cause b f.TooManyFields = Has b schema (λ t. max_fields < fields_stated t)
-Cause b f.TooDeep = Has b schema (λ t. (u : Table) × (depth : ℕ) × (max_depth < depth) × IsDeep t depth u)
+Cause b f.TooDeep = Has b schema (λ t. (u : TableView) × (depth : ℕ) × (max_depth < depth) × IsDeep t depth u)
 Cause b f.TooMuchText = Has b schema (λ t. (max_text < text_stated t) ⊎ (max_pairs < pairs_stated t))
 Cause b f.DictionaryConflict = (id : ℤ) × (κ : DataType) × (μ : DataType) × Encodes b id κ × Encodes b id μ × (κ ≢ μ)
 Cause b f.NestedDictionary = (id : ℤ) × (κ : DataType) × Encodes b id κ × (IsLeaf κ → ⊥)
 Cause b f.BadIndexType = Has b index_type (λ t. Is (scalar t 0 4 int32 (pos 0)) (λ width. bits_of width ≡ None))
-Cause b f.Compressed = Has b record_batch (λ t. (c : Table) × (field t 3 table_from ≡ Ok (Some c)))
+Cause b f.Compressed = Has b record_batch (λ t. (c : TableView) × (field t 3 table_from ≡ Ok (Some c)))
 Cause b f.DeltaDictionary = Has b dictionary_batch (λ t. flag_at t 2 ≡ Ok true)
 Cause b fault = ⊥

@@ -1,7 +1,7 @@
 -- What the metadata of a message states as a whole (Message.fbs, tables Message, RecordBatch and DictionaryBatch).
 use Rattle.std.specs.Prelude.{◌≡◌, ℕ, zero, suc, ◌+◌, ◌^◌, ◌≤◌, false, ℤ, pos, List, [], ◌∷◌, Option, None, Some, Result, Ok}
 use Rattle.ipc_scalar.specs.Bytes.{byte, int16, int64}
-use Rattle.ipc_flat.specs.Views.{Table, Structs, table_from, scalar, field, structs_from}
+use Rattle.ipc_flat.specs.Views.{TableView, Structs, table_from, scalar, field, structs_from}
 use Rattle.ipc_model.specs.Answers.{◌>>=◌}
 use Rattle.ipc_model.specs.declared.fault.Fault.{Fault}
 use Rattle.ipc_meta.specs.declared.head.BatchHead.{BatchHead}
@@ -22,28 +22,28 @@ pairs_in None = []
 pairs_in (Some s) = number_pairs s.bytes s.at s.len
 
 -- the structs in field k: FieldNode (length, null_count; Message.fbs) or Buffer (offset, length; Schema.fbs), 16 bytes each
-unfoldable pub numbers_at : Table → ℕ → Result (List (ℤ × ℤ)) Fault
+unfoldable pub numbers_at : TableView → ℕ → Result (List (ℤ × ℤ)) Fault
 numbers_at t k = lift (field t k (structs_from 16)) >>= λ o. Ok (pairs_in o)
 
 -- Message.fbs, table RecordBatch: 0 length, 1 nodes, 2 buffers, 3 compression (table BodyCompression, absent where nothing is compressed)
-pub record BatchAt (t : Table) (batch : BatchHead) : Type 0 where
+pub record BatchAt (t : TableView) (batch : BatchHead) : Type 0 where
   pub length : scalar t 0 8 int64 (pos 0) ≡ Ok batch.length
   pub nodes : numbers_at t 1 ≡ Ok batch.nodes
   pub buffers : numbers_at t 2 ≡ Ok batch.buffers
   pub uncompressed : field t 3 table_from ≡ Ok None
 
 -- Message.fbs, table DictionaryBatch: 0 id, 1 data (a RecordBatch), 2 isDelta
-pub record DictionaryAt (t : Table) (id : ℤ) (batch : BatchHead) : Type 0 where
+pub record DictionaryAt (t : TableView) (id : ℤ) (batch : BatchHead) : Type 0 where
   pub named : scalar t 0 8 int64 (pos 0) ≡ Ok id
-  pub values : (d : Table) × (field t 1 table_from ≡ Ok (Some d)) × BatchAt d batch
+  pub values : (d : TableView) × (field t 1 table_from ≡ Ok (Some d)) × BatchAt d batch
   pub whole : flag_at t 2 ≡ Ok false
 
 -- Message.fbs, table Message: 1 the header's code in union MessageHeader, 2 the header's table
-abbrev pub IsHeader : Table → ℕ → (Table → Type 0) → Type 0
-IsHeader root code At = (scalar root 1 1 byte 0 ≡ Ok code) × ((t : Table) × (field root 2 table_from ≡ Ok (Some t)) × At t)
+abbrev pub IsHeader : TableView → ℕ → (TableView → Type 0) → Type 0
+IsHeader root code At = (scalar root 1 1 byte 0 ≡ Ok code) × ((t : TableView) × (field root 2 table_from ≡ Ok (Some t)) × At t)
 
 -- Message.fbs, union MessageHeader: Schema 1, DictionaryBatch 2, RecordBatch 3
-abbrev pub HeaderAt : Table → Head → Type 0
+abbrev pub HeaderAt : TableView → Head → Type 0
 HeaderAt root (head.Schema s) = IsHeader root 1 (λ t. SchemaAt t s)
 HeaderAt root (head.Dictionary id batch) = IsHeader root 2 (λ t. DictionaryAt t id batch)
 HeaderAt root (head.Batch batch) = IsHeader root 3 (λ t. BatchAt t batch)
@@ -55,7 +55,7 @@ longest_body = 2 ^ 40
 -- Message.fbs, table Message: the metadata's root table states this head and a body of m bytes: 0 version (Schema.fbs, enum
 -- MetadataVersion, V5 is 4), 3 bodyLength
 pub record HeadOf (metadata : List ℕ) (head : Head) (m : ℕ) : Type 0 where
-  pub root : Table
+  pub root : TableView
   pub stands : table_from metadata 0 ≡ Ok root
   pub version : scalar root 0 2 int16 (pos 0) ≡ Ok (pos 4)
   pub body : scalar root 3 8 int64 (pos 0) ≡ Ok (pos m)

@@ -1,7 +1,7 @@
 -- The fields and batches that tables state (Schema.fbs, Message.fbs) as functions: read in the order of the tables' fields, under a
 -- budget, with the fault of what is refused. Laws join them to the relations FieldAt and BatchAt.
 use Rattle.std.specs.Prelude.{pos, ℕ, zero, suc, ◌+◌, List, [], ◌∷◌, ◌++◌, length, Option, None, Some, Result, Ok, Err}
-use Rattle.ipc_flat.specs.Views.{Table, table_from, scalar, field}
+use Rattle.ipc_flat.specs.Views.{TableView, table_from, scalar, field}
 use Rattle.ipc_model.specs.Answers.{◌>>=◌}
 use Rattle.ipc_model.specs.WellFormed.{kind_text}
 use Rattle.ipc_model.specs.declared.fault.Fault.{Fault}
@@ -17,7 +17,7 @@ use Rattle.ipc_meta.specs.Lifts.{lift}
 use Rattle.ipc_meta.specs.Tables.{text_at, flag_at, vector_at, type_at, dictionary_at}
 
 -- what f reads of n tables, to which the offsets from p on point, one after another
-unfoldable pub each : {X : Type 0} → (Table → Reading X) → List ℕ → ℕ → ℕ → Reading (List X)
+unfoldable pub each : {X : Type 0} → (TableView → Reading X) → List ℕ → ℕ → ℕ → Reading (List X)
 each f b p zero left = Ok ([], left)
 each f b p (suc n) left = lift (table_from b p) >>= λ t. f t left >>= λ x. each f b (p + 4) n x.1 >>= λ xs. Ok (x.0 ∷ xs.0, xs.1)
 
@@ -26,27 +26,27 @@ abbrev pub with_front : {X : Type 0} → List X → Result (List X × Budget) Fa
 with_front front r = r >>= λ xs. Ok (front ++ xs.0, xs.1)
 
 -- the text in field k, with its bytes counted
-unfoldable pub text_read : Table → ℕ → Reading (List ℕ)
+unfoldable pub text_read : TableView → ℕ → Reading (List ℕ)
 text_read t k left = text_at t k >>= λ s. less_text (length s) left >>= λ l. Ok (s, l)
 
 -- a KeyValue table: 0 key, 1 value
-unfoldable pub pair_read : Table → Reading (List ℕ × List ℕ)
+unfoldable pub pair_read : TableView → Reading (List ℕ × List ℕ)
 pair_read t left = text_read t 0 left >>= λ k. text_read t 1 k.1 >>= λ v. Ok ((k.0, v.0), v.1)
 
 -- the KeyValue tables in field k, all counted before the first is read
-unfoldable pub pairs_read : Table → ℕ → Reading (List (List ℕ × List ℕ))
+unfoldable pub pairs_read : TableView → ℕ → Reading (List (List ℕ × List ℕ))
 pairs_read t k left = vector_at t k >>= λ es. less_pairs es.len left >>= each pair_read es.bytes es.at es.len
 
 -- the type of a Field table, with the bytes of its timezone counted
-unfoldable pub type_read : Table → Reading DataType
+unfoldable pub type_read : TableView → Reading DataType
 type_read t left = type_at t >>= λ κ. less_text (kind_text κ) left >>= λ l. Ok (κ, l)
 
 -- the Field tables in field k, all counted before f reads the first
-unfoldable pub fields_read : (Table → Reading Field) → Table → ℕ → Reading (List Field)
+unfoldable pub fields_read : (TableView → Reading Field) → TableView → ℕ → Reading (List Field)
 fields_read f t k left = vector_at t k >>= λ es. less_fields es.len left >>= each f es.bytes es.at es.len
 
 -- the field of a Field table, with at most so many levels
-unfoldable pub field_read : ℕ → Table → Reading Field
+unfoldable pub field_read : ℕ → TableView → Reading Field
 field_read zero t left = Err TooDeep
 field_read (suc depth) t left =
     text_read t 0 left >>= λ name.
@@ -58,12 +58,12 @@ field_read (suc depth) t left =
     Ok (roll-Field (record { name = name.0; nullable = nullable; kind = κ.0; dictionary = dictionary; children = children.0; metadata = pairs.0 }), children.1)
 
 -- goes on where there is no BodyCompression table
-abbrev pub when_plain : {X : Type 0} → Option Table → Result X Fault → Result X Fault
+abbrev pub when_plain : {X : Type 0} → Option TableView → Result X Fault → Result X Fault
 when_plain None r = r
 when_plain (Some t) r = Err Compressed
 
 -- what a RecordBatch table states: 3 compression, 0 length, 1 nodes, 2 buffers
-unfoldable pub batch_read : Table → Result BatchHead Fault
+unfoldable pub batch_read : TableView → Result BatchHead Fault
 batch_read t =
     lift (field t 3 table_from) >>= λ o. when_plain o (
     lift (scalar t 0 8 int64 (pos 0)) >>= λ n.

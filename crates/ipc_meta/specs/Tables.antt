@@ -2,7 +2,7 @@
 use Rattle.std.specs.Prelude.{ℕ, ◌==◌, ◌||◌, Bool, true, nat_lt, ℤ, pos, negsuc, List, [], Option, None, Some, Result, Ok, Err, if◌then◌else◌}
 use Rattle.ipc_scalar.specs.Bytes.{byte, int16, int32, int64}
 use Rattle.ipc_scalar.specs.Flat.{text_of}
-use Rattle.ipc_flat.specs.Views.{Table, Elements, table_from, scalar, field, elements_from}
+use Rattle.ipc_flat.specs.Views.{TableView, Elements, table_from, scalar, field, elements_from}
 use Rattle.ipc_model.specs.Answers.{◌>>=◌}
 use Rattle.ipc_model.specs.declared.fault.Fault.{Fault}
 use Rattle.ipc_model.specs.declared.fault.Fault.TheVariants.{UnsupportedType, BadType, BadIndexType}
@@ -23,20 +23,20 @@ or_else d None = d
 or_else d (Some x) = x
 
 -- the text in field k; an absent one is empty (FlatBuffers binary format, "Strings and Vectors")
-unfoldable pub text_at : Table → ℕ → Result (List ℕ) Fault
+unfoldable pub text_at : TableView → ℕ → Result (List ℕ) Fault
 text_at t k = lift (field t k text_of) >>= λ o. Ok (or_else [] o)
 
 -- the truth value in field k: an absent byte and 0 are false, any other is true (FlatBuffers binary format, "Tables")
-unfoldable pub flag_at : Table → ℕ → Result Bool Fault
+unfoldable pub flag_at : TableView → ℕ → Result Bool Fault
 flag_at t k = lift (scalar t k 1 byte 0) >>= λ n. Ok (nat_lt 0 n)
 
 -- a vector, or an empty one where it is absent
-abbrev pub no_elements : Table → Option Elements → Elements
+abbrev pub no_elements : TableView → Option Elements → Elements
 no_elements t None = record { bytes = t.bytes; at = 0; len = 0 }
 no_elements t (Some es) = es
 
 -- the vector of offsets of tables in field k; an absent one is empty
-unfoldable pub vector_at : Table → ℕ → Result Elements Fault
+unfoldable pub vector_at : TableView → ℕ → Result Elements Fault
 vector_at t k = lift (field t k (elements_from 4)) >>= λ o. Ok (no_elements t o)
 
 -- the width of an integer, which is 8, 16, 32 or 64 bits (Schema.fbs, table Int, bitWidth)
@@ -55,7 +55,7 @@ map_ok f (Ok x) = Ok (f x)
 map_ok f (Err e) = Err e
 
 -- Schema.fbs, table Int: 0 bitWidth, 1 is_signed; another width is the fault e
-abbrev pub int_at : Fault → Table → Result IndexType Fault
+abbrev pub int_at : Fault → TableView → Result IndexType Fault
 int_at e v = lift (scalar v 0 4 int32 (pos 0)) >>= λ w. ok_or e (bits_of w) >>= λ b. flag_at v 1 >>= λ s. Ok (record { bits = b; signed = s })
 
 -- Schema.fbs, table FixedSizeBinary, 0 byteWidth: this many bytes, which is not negative
@@ -74,12 +74,12 @@ unit_of (pos n) = if n == 0 then Some time.Second else (if n == 1 then Some time
 unit_of (negsuc n) = None
 
 -- Schema.fbs, table Timestamp: 0 unit, 1 timezone; an absent timezone is none, a present one may be empty
-abbrev pub timestamp_at : Table → Result DataType Fault
+abbrev pub timestamp_at : TableView → Result DataType Fault
 timestamp_at v = lift (scalar v 0 2 int16 (pos 0)) >>= λ u. ok_or BadType (unit_of u) >>= λ u. lift (field v 1 text_of) >>= λ z. Ok (t.Timestamp u z)
 
 -- Schema.fbs, union Type: Null 1, Int 2, Binary 4, Utf8 5, Bool 6, Date 8 (its unit is MILLISECOND where absent), Timestamp 10, List 12,
 -- Struct_ 13, FixedSizeBinary 15; other codes are not read
-unfoldable pub type_of : ℕ → Table → Result DataType Fault
+unfoldable pub type_of : ℕ → TableView → Result DataType Fault
 type_of code v =
     if code == 1 then Ok t.Null
     else (if code == 2 then (int_at BadType v >>= λ i. Ok (t.Int i.bits i.signed))
@@ -94,12 +94,12 @@ type_of code v =
     else Err (UnsupportedType code))))))))))
 
 -- a field without a table for its type has none
-abbrev pub type_in : ℕ → Option Table → Result DataType Fault
+abbrev pub type_in : ℕ → Option TableView → Result DataType Fault
 type_in code None = Err BadType
 type_in code (Some v) = type_of code v
 
 -- Schema.fbs, table Field: 2 the type's code in union Type
-unfoldable pub code_at : Table → Result ℕ Fault
+unfoldable pub code_at : TableView → Result ℕ Fault
 code_at f = lift (scalar f 2 1 byte 0)
 
 -- Schema.fbs, union Type: the code is that of a type which `type_of` reads
@@ -112,25 +112,25 @@ abbrev pub when_type : {X : Type 0} → ℕ → Result X Fault → Result X Faul
 when_type code r = if is_type_code code then r else Err (UnsupportedType code)
 
 -- Schema.fbs, table Field: 2 the type's code, 3 the type's table, which is looked at where the code is a type's
-unfoldable pub type_at : Table → Result DataType Fault
+unfoldable pub type_at : TableView → Result DataType Fault
 type_at f = code_at f >>= λ code. when_type code (lift (field f 3 table_from) >>= type_in code)
 
 -- Schema.fbs, table DictionaryEncoding, indexType: an Int table; where it is absent, indices are signed and have 32 bits
-abbrev pub index_in : Option Table → Result IndexType Fault
+abbrev pub index_in : Option TableView → Result IndexType Fault
 index_in None = Ok (record { bits = B32; signed = true })
 index_in (Some v) = int_at BadIndexType v
 
 -- Schema.fbs, table DictionaryEncoding: 1 indexType
-abbrev pub index_at : Table → Result IndexType Fault
+abbrev pub index_at : TableView → Result IndexType Fault
 index_at d = lift (field d 1 table_from) >>= index_in
 
 -- Schema.fbs, table DictionaryEncoding: 0 id, 1 indexType, 2 isOrdered
-abbrev pub dictionary_in : Option Table → Result (Option Dictionary) Fault
+abbrev pub dictionary_in : Option TableView → Result (Option Dictionary) Fault
 dictionary_in None = Ok None
 dictionary_in (Some d) =
     lift (scalar d 0 8 int64 (pos 0)) >>= λ id. index_at d >>= λ index. flag_at d 2 >>= λ ordered.
     Ok (Some (record { id = id; index = index; ordered = ordered }))
 
 -- Schema.fbs, table Field: 4 dictionary, absent where the values are not dictionary-encoded
-unfoldable pub dictionary_at : Table → Result (Option Dictionary) Fault
+unfoldable pub dictionary_at : TableView → Result (Option Dictionary) Fault
 dictionary_at f = lift (field f 4 table_from) >>= dictionary_in

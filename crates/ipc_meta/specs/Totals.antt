@@ -1,7 +1,7 @@
 -- How much the tables of a schema state in all (Schema.fbs, tables Schema, Field and KeyValue). What several offsets point to counts at
 -- each of them; what is absent or can't be read counts as nothing.
 use Rattle.std.specs.Prelude.{ℕ, zero, suc, ◌+◌, List, length, Result, Ok, Err}
-use Rattle.ipc_flat.specs.Views.{Table, table_from}
+use Rattle.ipc_flat.specs.Views.{TableView, table_from}
 use Rattle.ipc_model.specs.WellFormed.{kind_text}
 use Rattle.ipc_meta.specs.Tables.{text_at, vector_at, type_at}
 
@@ -11,43 +11,43 @@ or_zero w (Ok x) = w x
 or_zero w (Err e) = 0
 
 -- the sum of w over the n tables to which the offsets from p on point
-unfoldable pub sum_tables : (Table → ℕ) → List ℕ → ℕ → ℕ → ℕ
+unfoldable pub sum_tables : (TableView → ℕ) → List ℕ → ℕ → ℕ → ℕ
 sum_tables w b p zero = 0
 sum_tables w b p (suc n) = or_zero w (table_from b p) + sum_tables w b (p + 4) n
 
 -- how many tables field k of t has
-abbrev pub count_in : Table → ℕ → ℕ
+abbrev pub count_in : TableView → ℕ → ℕ
 count_in t k = or_zero (λ es. es.len) (vector_at t k)
 
 -- the sum of w over the tables in field k of t
-abbrev pub sum_in : (Table → ℕ) → Table → ℕ → ℕ
+abbrev pub sum_in : (TableView → ℕ) → TableView → ℕ → ℕ
 sum_in w t k = or_zero (λ es. sum_tables w es.bytes es.at es.len) (vector_at t k)
 
 -- how many bytes the text in field k has
-abbrev pub text_in : Table → ℕ → ℕ
+abbrev pub text_in : TableView → ℕ → ℕ
 text_in t k = or_zero length (text_at t k)
 
 -- the bytes of a KeyValue table's key and value
-abbrev pub pair_text_in : Table → ℕ
+abbrev pub pair_text_in : TableView → ℕ
 pair_text_in t = text_in t 0 + text_in t 1
 
 -- the bytes of a Field table's own name, timezone, keys and values
-abbrev pub own_text : Table → ℕ
+abbrev pub own_text : TableView → ℕ
 own_text t = text_in t 0 + or_zero kind_text (type_at t) + sum_in pair_text_in t 6
 
 -- the sum of w over a Field table and those below it, with so many levels at most
-unfoldable pub tree : (Table → ℕ) → ℕ → Table → ℕ
+unfoldable pub tree : (TableView → ℕ) → ℕ → TableView → ℕ
 tree w zero t = 0
 tree w (suc depth) t = w t + sum_in (tree w depth) t 5
 
 -- the fields of a Schema table with their descendants, which stand in at most 65 levels
-abbrev pub fields_stated : Table → ℕ
+abbrev pub fields_stated : TableView → ℕ
 fields_stated t = count_in t 1 + sum_in (tree (λ u. count_in u 5) 64) t 1
 
 -- the bytes of the names, timezones, keys and values of a Schema table and of its fields in at most 64 levels
-abbrev pub text_stated : Table → ℕ
+abbrev pub text_stated : TableView → ℕ
 text_stated t = sum_in pair_text_in t 2 + sum_in (tree own_text 64) t 1
 
 -- the pairs of key and value of the same
-abbrev pub pairs_stated : Table → ℕ
+abbrev pub pairs_stated : TableView → ℕ
 pairs_stated t = count_in t 2 + sum_in (tree (λ u. count_in u 6) 64) t 1
