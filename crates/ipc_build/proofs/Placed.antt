@@ -12,7 +12,7 @@ use Rattle.ipc_scalar.specs.Flat.{vtable_of, entry_of, slot_of, points}
 use Rattle.ipc_build.specs.Trees.{Content, Tree, none, field}
 use Rattle.ipc_build.specs.Trees as k
 use Rattle.ipc_build.specs.Layout.{little, padding, prefix_place, members, entry_count, table_place, inline_end, string_end, target_end, targets_end, inline_value, inline_bytes, entries, head_bytes, own_bytes, struct_bytes, target_bytes, targets}
-use Rattle.ipc_build.specs.Lies.{HasField, in_table, in_vector, inline_width, PairsLie, TableStands, TargetLies, TreeLies}
+use Rattle.ipc_build.specs.Encodes.{HasField, in_table, in_vector, inline_width, EncodesPairs, TableStands, EncodesTarget, EncodesTable}
 use Rattle.ipc_build.specs.Ascends.{Role, fields, elements, PairsFit, IsInRange, Below, Writable}
 use Rattle.ipc_build.proofs.Has.{Has, has_at, has_left, has_right, has_num, has_narrow, has_zero, length_little}
 use Rattle.ipc_build.proofs.Points.{slot_found, slot_zero, points_at, table_there, elements_there, string_there, vtable_there}
@@ -219,8 +219,8 @@ length_targets (field m content inner rest) elements p h =
     rw (length-append (target_bytes content inner (targets inner) p) (targets rest q)) (omega (arith, i, e))
 
 module _ (P : ℕ → ℕ → Type 0) (b : List ℕ) (aligned : (w p q : ℕ) → p ≡ q * w → P w p) where
-  pairs_lie : (xs : List (ℤ × ℤ)) (q : ℕ) → PairsFit xs → q % 8 ≡ 0 → Has b q (struct_bytes xs) → PairsLie P b q xs
-  unfolding PairsLie struct_bytes
+  pairs_lie : (xs : List (ℤ × ℤ)) (q : ℕ) → PairsFit xs → q % 8 ≡ 0 → Has b q (struct_bytes xs) → EncodesPairs P b q xs
+  unfolding EncodesPairs struct_bytes
   pairs_lie [] q fine e h = tt
   pairs_lie (x ∷ xs) q fine e h =
       let l = length_little 0 8 (cast_unsigned w64 x.0) in
@@ -234,10 +234,10 @@ module _ (P : ℕ → ℕ → Type 0) (b : List ℕ) (aligned : (w p q : ℕ) �
       )
 
   abbrev InTable : Tree → Type 0
-  InTable f = (t n h p : ℕ) → Writable (fields n) f → Entered b t n h f → Stored b 8 f h p → h % 8 ≡ 0 → TreeLies P b (in_table t) f
+  InTable f = (t n h p : ℕ) → Writable (fields n) f → Entered b t n h f → Stored b 8 f h p → h % 8 ≡ 0 → EncodesTable P b (in_table t) f
 
   abbrev InVector : Tree → Type 0
-  InVector f = (q p : ℕ) → Writable elements f → Stored b 4 f q p → q % 4 ≡ 0 → TreeLies P b (in_vector q) f
+  InVector f = (q p : ℕ) → Writable elements f → Stored b 4 f q p → q % 4 ≡ 0 → EncodesTable P b (in_vector q) f
 
   table_lies : (f : Tree) (p : ℕ) → Writable (fields 0) f → Has b p (own_bytes f p) → Has b (inline_end f p) (targets f (inline_end f p)) → targets_end f (inline_end f p) < 2 ^ 31 → p % 4 ≡ 0 → (vtable_of b (table_place f p) ≡ Ok p) × TableStands P b (table_place f p) f × Entered b (table_place f p) 0 (table_place f p + 4) f × Stored b 8 f (table_place f p + 4) (inline_end f p)
   table_lies f p h head behind small even = (
@@ -283,7 +283,7 @@ module _ (P : ℕ → ℕ → Type 0) (b : List ℕ) (aligned : (w p q : ℕ) �
           (let i = ps.back.inside in let l = length_little 0 4 (table_place f p - p) in omega (arith, i, l)) (let i = ps.back.inside in omega (arith, i)))
 
   -- where the right number stands at h, and the bytes of what it points to at p, this lies there
-  target_lies : (content : Content) (f : Tree) (h p : ℕ) → IsInRange content → Below content (λ s. Writable s f) → num b h (inline_width content) ≡ inline_value content f h p → h + 4 ≤ p → Has b p (target_bytes content f (targets f) p) → target_end content f (targets_end f) p < 2 ^ 31 → p % 4 ≡ 0 → InTable f → InVector f → TargetLies P b content f (λ there. TreeLies P b there f) h
+  target_lies : (content : Content) (f : Tree) (h p : ℕ) → IsInRange content → Below content (λ s. Writable s f) → num b h (inline_width content) ≡ inline_value content f h p → h + 4 ≤ p → Has b p (target_bytes content f (targets f) p) → target_end content f (targets_end f) p < 2 ^ 31 → p % 4 ≡ 0 → InTable f → InVector f → EncodesTarget P b content f (λ there. EncodesTable P b there f) h
   target_lies (k.byte x) f h p fine inner e apart there small even as_table as_vector = e
   target_lies (k.signed w z) f h p fine inner e apart there small even as_table as_vector = ap (cast_signed w) e ∙ to_z-of_z w z fine.0
   target_lies (k.string s) f h p fine inner e apart there small even as_table as_vector =
@@ -348,7 +348,7 @@ module _ (P : ℕ → ℕ → Type 0) (b : List ℕ) (aligned : (w p q : ℕ) �
   at_most_8 (suc j) w e = omega arith
 
   in_table_more : (m : ℕ) (content : Content) (inner rest : Tree) → InTable inner → InVector inner → InTable rest → InTable (field m content inner rest)
-  unfolding TreeLies Writable inline_bytes targets entries entry_count members targets_end
+  unfolding EncodesTable Writable inline_bytes targets entries entry_count members targets_end
   in_table_more m content inner rest inner_table inner_vector rest_table t n h p writable entered stored even = (
     (
       h,
@@ -444,7 +444,7 @@ module _ (P : ℕ → ℕ → Type 0) (b : List ℕ) (aligned : (w p q : ℕ) �
           (slot_found b t entered.vtable m (inline_width content) (h - t) entered.found (let s = entered.size in omega (arith, s, tops)) entry (omega (arith, above)) (let i = own.inside in omega (arith, i, lx, narrow, above)))
 
   in_vector_more : (m : ℕ) (content : Content) (inner rest : Tree) → InTable inner → InVector inner → InVector rest → InVector (field m content inner rest)
-  unfolding TreeLies Writable inline_bytes targets members targets_end
+  unfolding EncodesTable Writable inline_bytes targets members targets_end
   in_vector_more m content inner rest inner_table inner_vector rest_vector h p writable stored even = (
     (
       h,
@@ -507,7 +507,7 @@ module _ (P : ℕ → ℕ → Type 0) (b : List ℕ) (aligned : (w p q : ℕ) �
     pub in_a_vector : InVector f
 
   pub placed : (f : Tree) → Placed f
-  unfolding TreeLies
+  unfolding EncodesTable
   placed none = record { in_a_table = λ t n h p a e s z. tt; in_a_vector = λ q p a s z. tt }
   placed (field m content inner rest) =
       let i = placed inner in

@@ -1,6 +1,6 @@
 pub mod Ascends
 pub mod Layout
-pub mod Lies
+pub mod Encodes
 pub mod Room
 pub mod Trees
 pub mod formers

@@ -3,7 +3,7 @@ ghost use Rattle.std.specs.Prelude.{◌≡◌, ◌≤◌, ◌<◌, ◌+◌, ◌*
 ghost use Rattle.ipc_build.specs.declared.fault.BuildFault.TheVariants.{TooLarge};
 ghost use Rattle.ipc_build.specs.Trees.{view};
 ghost use Rattle.ipc_build.specs.Layout.{as_vector, targets_end, buffer};
-ghost use Rattle.ipc_build.specs.Lies.{Lies, Aligned};
+ghost use Rattle.ipc_build.specs.Encodes.{Encodes, Aligned};
 ghost use Rattle.ipc_build.specs.Ascends.{fields, Ascends, Writable};
 ghost use Rattle.ipc_build.specs.Room.{room, size};
 
@@ -43,7 +43,7 @@ fn write_buffer(out: &mut Vec<u8>, tree: &FlatTree) -> Result<(), AllocError>
 /// where a growth of the bytes was refused.
 pub fn build(alloc: Global, tree: &FlatTree) -> Result<Vec<u8>, BuildFault>
     requires { Ascends (fields 0) (view tree.now) }
-    ensures lies { IfOk result (λ bytes. (rest : List ℕ) → Lies (bytes.items ++ rest) (view tree.now)) }
+    ensures lies { IfOk result (λ bytes. (rest : List ℕ) → Encodes (bytes.items ++ rest) (view tree.now)) }
     ensures aligned { IfOk result (λ bytes. Aligned bytes.items (view tree.now)) }
     ensures size { IfOk result (λ bytes. length bytes.items ≡ size (view tree.now)) }
     ensures room { IfOk result (λ bytes. (length bytes.items + 7) / 8 * 8 ≤ room (view tree.now)) }

@@ -6,7 +6,7 @@ use Rattle.ipc_scalar.specs.Faulty.{◌>>=◌, where_some}
 use Rattle.ipc_scalar.specs.Flat.{slot_of, table_of, elements_of}
 use Rattle.ipc_flat.specs.Views.{TableView, or_default, table_from, scalar, field, elements_from, structs_from}
 use Rattle.ipc_build.specs.Trees.{Tree}
-use Rattle.ipc_build.specs.Lies.{TableStands, TreeLies, in_table}
+use Rattle.ipc_build.specs.Encodes.{TableStands, EncodesTable, in_table}
 
 abbrev pub Any : ℕ → ℕ → Type 0
 Any w p = ⊤
@@ -18,7 +18,7 @@ tab b t = record { bytes = b; at = t }
 -- a table at t has these fields, and no others
 pub record Holds (b : List ℕ) (t : ℕ) (f : Tree) : Type 0 where
   pub stands : TableStands Any b t f
-  pub lies : TreeLies Any b (in_table t) f
+  pub lies : EncodesTable Any b (in_table t) f
 
 pub scalar_there : {X : Type 0} (b : List ℕ) (t k w p : ℕ) (read : List ℕ → ℕ → X) (d : X) → slot_of b t k w ≡ Ok (Some p) → scalar (tab b t) k w read d ≡ Ok (read b p)
 unfolding scalar

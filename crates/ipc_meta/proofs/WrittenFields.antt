@@ -12,7 +12,7 @@ use Rattle.ipc_model.specs.declared.schema.Dictionary.{Dictionary}
 use Rattle.ipc_model.specs.declared.schema.Field.{Field, roll-Field, ind-Field, fold-roll-Field, map-Field}
 use Rattle.ipc_model.specs.declared.schema.Field.TheOpen.{Field-F}
 use Rattle.ipc_build.specs.Trees.{Tree}
-use Rattle.ipc_build.specs.Lies.{HasField, TreeLies}
+use Rattle.ipc_build.specs.Encodes.{HasField, EncodesTable}
 use Rattle.ipc_meta.specs.Lifts.{lift}
 use Rattle.ipc_meta.specs.Tables.{text_at, flag_at, type_at, dictionary_in, dictionary_at}
 use Rattle.ipc_meta.specs.Fields.{VectorAt, PairAt, FieldAt}
@@ -60,7 +60,7 @@ no_dictionary b t h = ap (λ (r : Result (Option TableView) FlatFault). lift r >
 
 parts_there : (b : List ℕ) (t : ℕ) (name : List ℕ) (nullable : Bool) (κ : DataType) (o : Option Dictionary) (cs : List Field) (ps : List (List ℕ × List ℕ)) → HasGoodType κ
     → AllByRecursion (States field_tree FieldAt b) cs → Holds b t (tree_with name nullable κ o cs ps) → PartsAt name nullable κ o cs ps (tab b t)
-unfolding TreeLies HasField
+unfolding EncodesTable HasField
 parts_there b t name nullable κ (Some d) cs ps good each h =
     let text = h.lies.0 in
     let null = h.lies.1.0 in

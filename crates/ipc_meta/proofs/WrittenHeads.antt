@@ -9,7 +9,7 @@ use Rattle.ipc_model.specs.Answers.{◌>>=◌}
 use Rattle.ipc_model.specs.Meaning.{WellFormed}
 use Rattle.ipc_model.specs.declared.schema.Schema.{Schema}
 use Rattle.ipc_build.specs.Trees.{Tree}
-use Rattle.ipc_build.specs.Lies.{HasField, TreeLies, PairsLie, Lies}
+use Rattle.ipc_build.specs.Encodes.{HasField, EncodesTable, EncodesPairs, Encodes}
 use Rattle.ipc_meta.specs.Lifts.{lift}
 use Rattle.ipc_meta.specs.Fields.{SchemaAt, FieldAt}
 use Rattle.ipc_meta.specs.declared.head.BatchHead.{BatchHead}
@@ -21,7 +21,7 @@ use Rattle.ipc_meta.proofs.WrittenParts.{vector_lies, pairs_there, neither, no_p
 use Rattle.ipc_meta.proofs.WrittenFields.{fields_written}
 
 pub schema_there : (b : List ℕ) (t : ℕ) (s : Schema) → WellFormed s → Holds b t (schema_tree s) → SchemaAt (tab b t) s
-unfolding TreeLies HasField
+unfolding EncodesTable HasField
 schema_there b t s w h =
     let columns = h.lies.0 in
     record {
@@ -33,15 +33,15 @@ schema_there b t s w h =
 
 -- ---- batches
 
-pairs_read : (b : List ℕ) (q : ℕ) (xs : List (ℤ × ℤ)) → PairsLie Any b q xs → number_pairs b q (length xs) ≡ xs
-unfolding PairsLie number_pairs
+pairs_read : (b : List ℕ) (q : ℕ) (xs : List (ℤ × ℤ)) → EncodesPairs Any b q xs → number_pairs b q (length xs) ≡ xs
+unfolding EncodesPairs number_pairs
 pairs_read b q [] h = refl
 pairs_read b q (x ∷ xs) h = rw (h.0, h.1, pairs_read b (q + 16) xs h.3) refl
 
 structs : List ℕ → ℕ → ℕ → Structs
 structs b q n = record { bytes = b; at = q; len = n; width = 16 }
 
-numbers_there : (b : List ℕ) (t k p q : ℕ) (xs : List (ℤ × ℤ)) → slot_of b t k 4 ≡ Ok (Some p) → elements_of b p 16 ≡ Ok (q + 4, length xs) → PairsLie Any b (q + 4) xs → numbers_at (tab b t) k ≡ Ok xs
+numbers_there : (b : List ℕ) (t k p q : ℕ) (xs : List (ℤ × ℤ)) → slot_of b t k 4 ≡ Ok (Some p) → elements_of b p 16 ≡ Ok (q + 4, length xs) → EncodesPairs Any b (q + 4) xs → numbers_at (tab b t) k ≡ Ok xs
 unfolding numbers_at structs
 numbers_there b t k p q xs s e lies =
     ap (λ (r : Result (Option Structs) FlatFault). lift r >>= λ o. Ok (pairs_in o))
@@ -49,7 +49,7 @@ numbers_there b t k p q xs s e lies =
     ∙ ap Ok (pairs_read b (q + 4) xs lies)
 
 pub batch_there : (b : List ℕ) (t : ℕ) (h : BatchHead) → Holds b t (batch_tree h) → BatchAt (tab b t) h
-unfolding TreeLies HasField
+unfolding EncodesTable HasField
 batch_there b t h held =
     let length = held.lies.0 in
     let nodes = held.lies.1.0 in
@@ -74,8 +74,8 @@ record Message (b : List ℕ) (code m : ℕ) (header : Tree) : Type 0 where
   held : Holds b u header
   body : scalar (tab b t) 3 8 int64 (pos 0) ≡ Ok (pos m)
 
-message_there : (b : List ℕ) (code m : ℕ) (header : Tree) → Lies b (message_tree code header m) → Message b code m header
-unfolding TreeLies
+message_there : (b : List ℕ) (code m : ℕ) (header : Tree) → Encodes b (message_tree code header m) → Message b code m header
+unfolding EncodesTable
 message_there b code m header h =
     let root = h.0 in
     let t = root.3.0 in
@@ -94,12 +94,12 @@ message_there b code m header h =
       body = scalar_there b t 3 8 body.0 int64 (pos 0) body.1.0 ∙ ap Ok body.3;
     }
 
-pub schema_stated : (b : List ℕ) (s : Schema) → WellFormed s → Lies b (schema_message s) → HeadOf b (head.Schema s) 0
+pub schema_stated : (b : List ℕ) (s : Schema) → WellFormed s → Encodes b (schema_message s) → HeadOf b (head.Schema s) 0
 schema_stated b s w h =
     let m = message_there b 1 0 (schema_tree s) h in
     record { root = tab b m.t; stands = m.stands; version = m.version; body = m.body; fits = omega arith; header = (m.coded, (tab b m.u, m.headed, schema_there b m.u s w m.held)) }
 
-pub batch_stated : (b : List ℕ) (h : BatchHead) (body : ℕ) → body ≤ 2 ^ 40 → Lies b (batch_message h body) → HeadOf b (head.Batch h) body
+pub batch_stated : (b : List ℕ) (h : BatchHead) (body : ℕ) → body ≤ 2 ^ 40 → Encodes b (batch_message h body) → HeadOf b (head.Batch h) body
 batch_stated b h body small lies =
     let m = message_there b 3 body (batch_tree h) lies in
     record { root = tab b m.t; stands = m.stands; version = m.version; body = m.body; fits = small; header = (m.coded, (tab b m.u, m.headed, batch_there b m.u h m.held)) }

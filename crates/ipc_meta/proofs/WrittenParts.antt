@@ -9,7 +9,7 @@ use Rattle.ipc_flat.specs.Views.{TableView, Elements, table_from, elements_from}
 use Rattle.ipc_model.specs.Answers.{◌>>=◌}
 use Rattle.ipc_build.specs.Trees.{Tree, tables_of}
 use Rattle.ipc_build.specs.Layout.{members}
-use Rattle.ipc_build.specs.Lies.{HasField, TreeLies, in_table, in_vector}
+use Rattle.ipc_build.specs.Encodes.{HasField, EncodesTable, in_table, in_vector}
 use Rattle.ipc_meta.specs.Lifts.{lift}
 use Rattle.ipc_meta.specs.Tables.{or_else, no_elements, text_at, flag_at, vector_at}
 use Rattle.ipc_meta.specs.Fields.{TablesAt, VectorAt, PairAt}
@@ -50,8 +50,8 @@ module _ {X : Type 0} (tree : X → Tree) (At : X → TableView → Type 0) wher
   abbrev pub States : List ℕ → X → Type 0
   States b x = (t : ℕ) → Holds b t (tree x) → At x (tab b t)
 
-  pub tables_there : (b : List ℕ) (q n : ℕ) (xs : List X) → n ≡ length xs → AllByRecursion (States b) xs → TreeLies Any b (in_vector q) (tables_of (map tree xs)) → TablesAt At b q n xs
-  unfolding TreeLies
+  pub tables_there : (b : List ℕ) (q n : ℕ) (xs : List X) → n ≡ length xs → AllByRecursion (States b) xs → EncodesTable Any b (in_vector q) (tables_of (map tree xs)) → TablesAt At b q n xs
+  unfolding EncodesTable
   tables_there b q n [] c s h = c
   tables_there b q n (x ∷ xs) c s h =
       let here = h.0 in (
@@ -63,7 +63,7 @@ module _ {X : Type 0} (tree : X → Tree) (At : X → TableView → Type 0) wher
       )
 
 pub pair_there : (b : List ℕ) (p : List ℕ × List ℕ) (t : ℕ) → Holds b t (pair_tree p) → PairAt p (tab b t)
-unfolding TreeLies
+unfolding EncodesTable
 pair_there b p t h =
     let key = h.lies.0 in
     let value = h.lies.1.0 in
@@ -71,7 +71,7 @@ pair_there b p t h =
 
 -- a vector of tables in field k
 pub vector_lies : {X : Type 0} (tree : X → Tree) (At : X → TableView → Type 0) (b : List ℕ) (t k p q : ℕ) (xs : List X) → slot_of b t k 4 ≡ Ok (Some p)
-    → elements_of b p 4 ≡ Ok (q + 4, members (tables_of (map tree xs))) → TreeLies Any b (in_vector (q + 4)) (tables_of (map tree xs))
+    → elements_of b p 4 ≡ Ok (q + 4, members (tables_of (map tree xs))) → EncodesTable Any b (in_vector (q + 4)) (tables_of (map tree xs))
     → AllByRecursion (States tree At b) xs → VectorAt At xs (tab b t) k
 vector_lies tree At b t k p q xs s e lies each =
     let count = members_length tree At xs in (
@@ -85,8 +85,8 @@ all_pairs b [] = tt
 all_pairs b (p ∷ ps) = ((λ t h. pair_there b p t h), all_pairs b ps)
 
 -- the pairs, where they are the last field of a table
-pub pairs_there : (b : List ℕ) (t k : ℕ) (ps : List (List ℕ × List ℕ)) → TreeLies Any b (in_table t) (with_pairs k ps) → (ps ≡ [] → slot_of b t k 4 ≡ Ok None) → VectorAt PairAt ps (tab b t) k
-unfolding TreeLies
+pub pairs_there : (b : List ℕ) (t k : ℕ) (ps : List (List ℕ × List ℕ)) → EncodesTable Any b (in_table t) (with_pairs k ps) → (ps ≡ [] → slot_of b t k 4 ≡ Ok None) → VectorAt PairAt ps (tab b t) k
+unfolding EncodesTable
 pairs_there b t k [] h absent = (record { bytes = b; at = 0; len = 0 }, vector_absent b t k (absent refl), refl)
 pairs_there b t k (p ∷ ps) h absent = let here = h.0 in vector_lies pair_tree PairAt b t k here.0 here.3.0 (p ∷ ps) here.1.0 here.3.1 here.3.3 (all_pairs b (p ∷ ps))
 

@@ -22,7 +22,7 @@ use Rattle.ipc_model.specs.declared.schema.DataType.{DataType}
 use Rattle.ipc_model.specs.declared.schema.DataType.TheVariants as t
 use Rattle.ipc_model.specs.declared.schema.IndexType.{IndexType}
 use Rattle.ipc_model.specs.declared.schema.Dictionary.{Dictionary}
-use Rattle.ipc_build.specs.Lies.{TreeLies, HasField}
+use Rattle.ipc_build.specs.Encodes.{EncodesTable, HasField}
 use Rattle.ipc_meta.specs.Lifts.{lift}
 use Rattle.ipc_meta.specs.Tables.{bits_of, ok_or, int_at, fixed_at, date_at, unit_of, timestamp_at, type_of, type_in, is_type_code, when_type, code_at, type_at, flag_at, index_in, index_at, dictionary_in, dictionary_at}
 use Rattle.ipc_meta.specs.Written.{int_tree, date_code, time_code, type_tree, type_code, dictionary_tree}
@@ -39,7 +39,7 @@ abbrev integer : IntBits → Bool → IndexType
 integer bits signed = record { bits = bits; signed = signed }
 
 int_there : (e : Fault) (b : List ℕ) (u : ℕ) (bits : IntBits) (signed : Bool) → Holds b u (int_tree bits signed) → int_at e (tab b u) ≡ Ok (integer bits signed)
-unfolding TreeLies
+unfolding EncodesTable
 int_there e b u bits signed h =
     let size = h.lies.0 in
     let sign = h.lies.1.0 in
@@ -70,12 +70,12 @@ abbrev timestamp : TimeUnit → Option (List ℕ) → Result DataType Fault
 timestamp unit zone = Ok (t.Timestamp unit zone)
 
 zone_there : (b : List ℕ) (u : ℕ) (unit : TimeUnit) (zone : Option (List ℕ)) → Holds b u (type_tree (t.Timestamp unit zone)) → field (tab b u) 1 text_of ≡ Ok zone
-unfolding TreeLies HasField
+unfolding EncodesTable HasField
 zone_there b u unit None h = field_absent b u 1 text_of (h.stands.absent 1 4 (neither (λ e. omega (arith, e)) (λ z. z)))
 zone_there b u unit (Some s) h = let zone = h.lies.1.0 in field_there b u 1 zone.0 text_of s zone.1.0 zone.3.text
 
 timestamp_there : (b : List ℕ) (u : ℕ) (unit : TimeUnit) (zone : Option (List ℕ)) → Holds b u (type_tree (t.Timestamp unit zone)) → timestamp_at (tab b u) ≡ Ok (t.Timestamp unit zone)
-unfolding TreeLies
+unfolding EncodesTable
 timestamp_there b u unit zone h =
     let place = h.lies.0 in
     ap (λ (r : Result ℤ FlatFault). lift r >>= λ n. ok_or BadType (unit_of n) >>= λ c. lift (field (tab b u) 1 text_of) >>= λ z. timestamp c z) (scalar_there b u 0 2 place.0 int16 (pos 0) place.1.0)
@@ -84,7 +84,7 @@ timestamp_there b u unit zone h =
     ∙ ap (λ (r : Result (Option (List ℕ)) FlatFault). lift r >>= λ z. timestamp unit z) (zone_there b u unit zone h)))
 
 type_table : (b : List ℕ) (u : ℕ) (κ : DataType) → HasGoodType κ → Holds b u (type_tree κ) → type_of (type_code κ) (tab b u) ≡ Ok κ
-unfolding TreeLies type_of
+unfolding EncodesTable type_of
 type_table b u t.Null g h = refl
 type_table b u t.Bool g h = refl
 type_table b u (t.Int bits signed) g h = ap (λ (r : Result IndexType Fault). r >>= λ i. Ok (t.Int i.bits i.signed)) (int_there BadType b u bits signed h)
@@ -130,7 +130,7 @@ index_there b u p v index s table h =
     ∙ int_there BadIndexType b v index.bits index.signed h
 
 encoding_there : (b : List ℕ) (u : ℕ) (d : Dictionary) → Holds b u (dictionary_tree d) → dictionary_in (Some (tab b u)) ≡ Ok (Some d)
-unfolding TreeLies
+unfolding EncodesTable
 encoding_there b u d h =
     let id = h.lies.0 in
     let index = h.lies.1.0 in

@@ -1,7 +1,7 @@
 //! Metadata that is written.
 ghost use Rattle.std.specs.Prelude.{◌≡◌, ◌⊎◌, ◌<◌, ◌≤◌, ◌+◌, ◌*◌, ◌/◌, ◌^◌, ◌++◌, ℕ, List, length, IfOk, IfErr};
 ghost use Rattle.ipc_build.specs.Trees.{Tree, view};
-ghost use Rattle.ipc_build.specs.Lies.{Lies, Aligned};
+ghost use Rattle.ipc_build.specs.Encodes.{Encodes, Aligned};
 ghost use Rattle.ipc_build.specs.Ascends.{Ascends, fields};
 ghost use Rattle.ipc_build.specs.Room.{room, size};
 ghost use Rattle.ipc_model.specs.Meaning.{WellFormed};
@@ -22,7 +22,7 @@ const LONGEST_BODY: u64 = 1 << 40;
 // The bytes of a message's metadata.
 fn built(alloc: Global, tree: &FlatTree) -> Result<Vec<u8>, WriteFault>
     requires { Ascends (fields 0) (view tree.now) }
-    ensures lies { IfOk result (λ b. (rest : List ℕ) → Lies (b.items ++ rest) (view tree.now)) }
+    ensures lies { IfOk result (λ b. (rest : List ℕ) → Encodes (b.items ++ rest) (view tree.now)) }
     ensures aligned { IfOk result (λ b. Aligned b.items (view tree.now)) }
     ensures size { IfOk result (λ b. length b.items ≡ size (view tree.now)) }
     ensures within { IfOk result (λ b. (length b.items + 7) / 8 * 8 ≤ room (view tree.now)) }
@@ -54,7 +54,7 @@ fn built(alloc: Global, tree: &FlatTree) -> Result<Vec<u8>, WriteFault>
 pub fn write_schema(alloc: Global, schema: &Schema) -> Result<Vec<u8>, WriteFault>
     requires { WellFormed schema.now }
     // Exactly these fields are there, whatever follows.
-    ensures lies { IfOk result (λ b. (rest : List ℕ) → Lies (b.items ++ rest) (schema_message schema.now)) }
+    ensures lies { IfOk result (λ b. (rest : List ℕ) → Encodes (b.items ++ rest) (schema_message schema.now)) }
     ensures aligned { IfOk result (λ b. Aligned b.items (schema_message schema.now)) }
     ensures states { IfOk result (λ b. (rest : List ℕ) → HeadOf (b.items ++ rest) (Head.Schema schema.now) 0) }
     // Nothing stands behind them.
@@ -78,7 +78,7 @@ pub fn write_schema(alloc: Global, schema: &Schema) -> Result<Vec<u8>, WriteFaul
 ///   each buffer.
 /// - `OutOfMemory` (W11): `alloc` refused memory.
 pub fn write_batch(alloc: Global, head: &BatchHead, body: u64) -> Result<Vec<u8>, WriteFault>
-    ensures lies { IfOk result (λ b. (rest : List ℕ) → Lies (b.items ++ rest) (batch_message head.now body)) }
+    ensures lies { IfOk result (λ b. (rest : List ℕ) → Encodes (b.items ++ rest) (batch_message head.now body)) }
     ensures aligned { IfOk result (λ b. Aligned b.items (batch_message head.now body)) }
     ensures states { IfOk result (λ b. (rest : List ℕ) → HeadOf (b.items ++ rest) (Head.Batch head.now) body) }
     ensures size { IfOk result (λ b. length b.items ≡ size (batch_message head.now body)) }

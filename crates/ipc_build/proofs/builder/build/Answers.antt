@@ -2,7 +2,7 @@ use Rattle.std.proofs.Common.{◌∙◌, ◌++◌, [], refl, ap, sym, subst, len
 use Rattle.std.proofs.lemmas.List.{append-nil}
 use Rattle.ipc_build.specs.Trees.{view}
 use Rattle.ipc_build.specs.Layout.{buffer}
-use Rattle.ipc_build.specs.Lies.{Lies, Aligned}
+use Rattle.ipc_build.specs.Encodes.{Encodes, Aligned}
 use Rattle.ipc_build.specs.Ascends.{fields}
 use Rattle.ipc_build.proofs.Within.{buffer_fits}
 use Rattle.ipc_build.proofs.Buffers.{buffer_lies, length_buffer}
@@ -35,7 +35,7 @@ returns-in-Ok-clause-lies c rest =
     let f = buffer_fits (view c.args.tree.now) p in
     let r = room_is (view c.args.tree.now) in
     let e = c.in-Ok.ensures ∙ ap (λ l. l ++ buffer (view c.args.tree.now)) c.new-out.ensures.items in
-    subst (λ l. Lies (l ++ rest) (view c.args.tree.now)) (sym e) (buffer_lies (view c.args.tree.now) rest p (omega (arith, o.0, f, r))).0
+    subst (λ l. Encodes (l ++ rest) (view c.args.tree.now)) (sym e) (buffer_lies (view c.args.tree.now) rest p (omega (arith, o.0, f, r))).0
 
 pub returns-in-Ok-clause-aligned : goal.returns-in-Ok-clause-aligned
 returns-in-Ok-clause-aligned c =

@@ -40,9 +40,9 @@ module _ (P : ℕ → ℕ → Type 0) (b : List ℕ) where
   StandsAt (in_vector q) n w p = p ≡ q
 
   -- "Structs": structs of two signed 64-bit numbers, one after another from q on
-  unfoldable pub PairsLie : ℕ → List (ℤ × ℤ) → Type 0
-  PairsLie q [] = ⊤
-  PairsLie q (x ∷ xs) = (int64 b q ≡ x.0) × (int64 b (q + 8) ≡ x.1) × (P 8 q × P 8 (q + 8)) × PairsLie (q + 16) xs
+  unfoldable pub EncodesPairs : ℕ → List (ℤ × ℤ) → Type 0
+  EncodesPairs q [] = ⊤
+  EncodesPairs q (x ∷ xs) = (int64 b q ≡ x.0) × (int64 b (q + 8) ≡ x.1) × (P 8 q × P 8 (q + 8)) × EncodesPairs (q + 16) xs
 
   -- "Tables": a table stands at t, its inline part ends inside the bytes, and each number that none of these fields has is absent there
   pub record TableStands (t : ℕ) (f : Tree) : Type 0 where
@@ -54,7 +54,7 @@ module _ (P : ℕ → ℕ → Type 0) (b : List ℕ) where
     pub absent : (n w : ℕ) → (HasField n f → ⊥) → slot_of b t n w ≡ Ok None
 
   -- "Strings and Vectors": the offset at p points to this string, behind whose length and bytes a zero byte stands
-  pub record StringLies (p : ℕ) (s : List ℕ) : Type 0 where
+  pub record EncodesText (p : ℕ) (s : List ℕ) : Type 0 where
     pub start : ℕ
     pub points_there : points b p ≡ Ok start
     pub holds : P 4 start
@@ -62,24 +62,24 @@ module _ (P : ℕ → ℕ → Type 0) (b : List ℕ) where
     pub closed : (start + 4 + length s < length b) × (byte b (start + 4 + length s) ≡ 0)
 
   -- the scalar at p is this number, or the offset at p points to this; `below` says of a holder that the tree below lies in it
-  abbrev pub TargetLies : Content → Tree → (Holder → Type 0) → ℕ → Type 0
-  TargetLies (k.byte x) f below p = num b p 1 ≡ x
-  TargetLies (k.signed w z) f below p = cast_signed w (num b p (byte_len w)) ≡ z
-  TargetLies (k.string s) f below p = StringLies p s
-  TargetLies (k.pairs xs) f below p = (q : ℕ) × (elements_of b p 16 ≡ Ok (q + 4, length xs)) × P 4 q × PairsLie (q + 4) xs
-  TargetLies k.table f below p = (t : ℕ) × (table_of b p ≡ Ok t) × TableStands t f × below (in_table t)
-  TargetLies k.tables f below p = (q : ℕ) × (elements_of b p 4 ≡ Ok (q + 4, members f)) × P 4 q × below (in_vector (q + 4))
+  abbrev pub EncodesTarget : Content → Tree → (Holder → Type 0) → ℕ → Type 0
+  EncodesTarget (k.byte x) f below p = num b p 1 ≡ x
+  EncodesTarget (k.signed w z) f below p = cast_signed w (num b p (byte_len w)) ≡ z
+  EncodesTarget (k.string s) f below p = EncodesText p s
+  EncodesTarget (k.pairs xs) f below p = (q : ℕ) × (elements_of b p 16 ≡ Ok (q + 4, length xs)) × P 4 q × EncodesPairs (q + 4) xs
+  EncodesTarget k.table f below p = (t : ℕ) × (table_of b p ≡ Ok t) × TableStands t f × below (in_table t)
+  EncodesTarget k.tables f below p = (q : ℕ) × (elements_of b p 4 ≡ Ok (q + 4, members f)) × P 4 q × below (in_vector (q + 4))
 
   -- each field stands in this holder and holds what it is to hold, subtrees included
-  unfoldable pub TreeLies : Holder → Tree → Type 0
-  TreeLies at none = ⊤
-  TreeLies at (field n content inner rest) =
-      ((p : ℕ) × StandsAt at n (inline_width content) p × P (inline_width content) p × TargetLies content inner (λ there. TreeLies there inner) p) × TreeLies (next_in at) rest
+  unfoldable pub EncodesTable : Holder → Tree → Type 0
+  EncodesTable at none = ⊤
+  EncodesTable at (field n content inner rest) =
+      ((p : ℕ) × StandsAt at n (inline_width content) p × P (inline_width content) p × EncodesTarget content inner (λ there. EncodesTable there inner) p) × EncodesTable (next_in at) rest
 
 -- FlatBuffers binary format, "Format Components": the root table, to which the offset in the first four bytes points, is this tree
-abbrev pub Lies : List ℕ → Tree → Type 0
-Lies b f = TreeLies (λ w p. ⊤) b (in_vector 0) (field 0 k.table f none)
+abbrev pub Encodes : List ℕ → Tree → Type 0
+Encodes b f = EncodesTable (λ w p. ⊤) b (in_vector 0) (field 0 k.table f none)
 
 -- the same, and each number stands at a multiple of its width
 abbrev pub Aligned : List ℕ → Tree → Type 0
-Aligned b f = TreeLies (λ w p. (q : ℕ) × (p ≡ q * w)) b (in_vector 0) (field 0 k.table f none)
+Aligned b f = EncodesTable (λ w p. (q : ℕ) × (p ≡ q * w)) b (in_vector 0) (field 0 k.table f none)
