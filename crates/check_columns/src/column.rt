@@ -1,6 +1,6 @@
 //! Columns of each kind.
 ghost use Rattle.std.specs.Prelude.{◌≡◌, ◌≤◌, ◌∷◌, [], length, true, IfOk};
-ghost use Rattle.ipc_model.specs.WellFormed.{entries, max_fields};
+ghost use Rattle.ipc_model.specs.Entries.{entries, max_fields};
 ghost use Rattle.ipc_meta.specs.Open.{are_open, is_open_type};
 
 use ipc_model::items::{Items, Text};

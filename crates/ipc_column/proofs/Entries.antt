@@ -1,6 +1,6 @@
 -- Fields need as many nodes as they are, descendants counted.
 use Rattle.std.proofs.Common.{◌≡◌, refl, ap, ℕ, ◌+◌, List, [], ◌∷◌, map, length, subst, arith, length-append}
-use Rattle.ipc_model.specs.WellFormed.{Entry, Listing, preorder, preorder_step, all_at, entries}
+use Rattle.ipc_model.specs.Entries.{Entry, Listing, preorder, preorder_step, all_at, entries}
 use Rattle.ipc_model.specs.declared.schema.Field.{Field, roll-Field, ind-Field, fold-roll-Field, map-Field}
 use Rattle.ipc_model.specs.declared.schema.Field.TheOpen.{Field-F}
 use Rattle.ipc_column.specs.declared.layout.Layout.{Layout}

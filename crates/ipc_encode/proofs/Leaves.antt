@@ -4,8 +4,8 @@ use Rattle.std.specs.List.{AllByRecursion}
 use Rattle.std.proofs.lemmas.Bool.{and_parts}
 use Rattle.std.proofs.lemmas.List.{length-map}
 use Rattle.ipc_model.specs.Fits.{EachFits, Fits, IsOwn, RowFits}
-use Rattle.ipc_model.specs.Meaning.{IsFine, HasFittingChildren}
-use Rattle.ipc_model.specs.WellFormed.{Entry, Listing, preorder, preorder_step, all_at, entries}
+use Rattle.ipc_model.specs.WellFormed.{IsFieldWellFormed, HasFittingChildren}
+use Rattle.ipc_model.specs.Entries.{Entry, Listing, preorder, preorder_step, all_at, entries}
 use Rattle.ipc_model.specs.declared.schema.DataType.{DataType}
 use Rattle.ipc_model.specs.declared.schema.DataType.TheVariants as t
 use Rattle.ipc_model.specs.declared.schema.Dictionary.{Dictionary}
@@ -62,18 +62,18 @@ all_left P [] ys h = h
 all_left P (x ∷ xs) ys h = all_left P xs ys h.1
 
 -- what the first of the entries says
-first_fine : (f : Field) (rest : List Entry) → AllByRecursion IsFine (preorder f 1 ++ rest) → HasFittingChildren (out-Field f).kind (length (out-Field f).children)
+first_fine : (f : Field) (rest : List Entry) → AllByRecursion IsFieldWellFormed (preorder f 1 ++ rest) → HasFittingChildren (out-Field f).kind (length (out-Field f).children)
 first_fine f rest h =
     let layer = map-Field Field Listing preorder (out-Field f) in
-    let here : AllByRecursion IsFine (preorder_step layer 1 ++ rest) = subst (λ (l : Listing). AllByRecursion IsFine (l 1 ++ rest)) (fold_out-Field Listing preorder_step f) h in
+    let here : AllByRecursion IsFieldWellFormed (preorder_step layer 1 ++ rest) = subst (λ (l : Listing). AllByRecursion IsFieldWellFormed (l 1 ++ rest)) (fold_out-Field Listing preorder_step f) h in
     subst (λ (n : ℕ). HasFittingChildren (out-Field f).kind n) (length-map (out-Field f).children preorder) here.0.fitting_children
 
-pub flats : (fs : List Field) → are_open fs ≡ true → AllByRecursion IsFine (entries fs) → AllByRecursion IsFlat fs
+pub flats : (fs : List Field) → are_open fs ≡ true → AllByRecursion IsFieldWellFormed (entries fs) → AllByRecursion IsFlat fs
 flats [] o h = tt
 flats (f ∷ fs) o h =
     let parts = and_parts (is_open_field f) (are_open fs) o in (
       flat f parts.0 (first_fine f (all_at 1 (map preorder fs)) h),
-      flats fs parts.1 (all_left IsFine (preorder f 1) (all_at 1 (map preorder fs)) h),
+      flats fs parts.1 (all_left IsFieldWellFormed (preorder f 1) (all_at 1 (map preorder fs)) h),
     )
 
 -- ---- values that fit

@@ -8,8 +8,8 @@ use Rattle.std.proofs.lemmas.List.{get_or-append_right}
 use Rattle.std.proofs.Math.ListN.{get_or-append}
 use Rattle.std.proofs.lemmas.List.Elements.{All-from_recursion}
 use Rattle.ipc_model.specs.Fits.{IsOwn, RowFits}
-use Rattle.ipc_model.specs.Meaning.{IsFine}
-use Rattle.ipc_model.specs.WellFormed.{entries}
+use Rattle.ipc_model.specs.WellFormed.{IsFieldWellFormed}
+use Rattle.ipc_model.specs.Entries.{entries}
 use Rattle.ipc_model.specs.declared.schema.DataType.{DataType}
 use Rattle.ipc_model.specs.declared.schema.DataType.TheVariants as t
 use Rattle.ipc_model.specs.declared.schema.DateUnit.TheVariants.{Day, Millisecond}
@@ -283,7 +283,7 @@ abbrev head_of : List Field → List (List Value) → BatchHead
 head_of fields rows = record { length = pos (length rows); nodes = nodes_from 0 fields rows; buffers = ranges_from 0 (buffers_of fields rows) }
 
 -- the parts that rows are written as give the rows
-pub rows_back : (fields : List Field) (rows : List (List Value)) → are_open fields ≡ true → AllByRecursion IsFine (entries fields) → AllByRecursion (RowFits fields) rows → IsWithin fields rows → AllStored 0 fields rows
+pub rows_back : (fields : List Field) (rows : List (List Value)) → are_open fields ≡ true → AllByRecursion IsFieldWellFormed (entries fields) → AllByRecursion (RowFits fields) rows → IsWithin fields rows → AllStored 0 fields rows
     → Rows fields (head_of fields rows) (body_of fields rows) rows
 rows_back fields rows o fine fits within spells =
     let head = head_of fields rows in
@@ -315,7 +315,7 @@ rows_back fields rows o fine fits within spells =
     }
 
 -- the same of any parts that are these lists
-pub rows_of_parts : (fields : List Field) (rows : List (List Value)) (nodes buffers : List (ℤ × ℤ)) (body : List ℕ) → are_open fields ≡ true → AllByRecursion IsFine (entries fields) → AllByRecursion (RowFits fields) rows → IsWithin fields rows
+pub rows_of_parts : (fields : List Field) (rows : List (List Value)) (nodes buffers : List (ℤ × ℤ)) (body : List ℕ) → are_open fields ≡ true → AllByRecursion IsFieldWellFormed (entries fields) → AllByRecursion (RowFits fields) rows → IsWithin fields rows
     → AllStored 0 fields rows → nodes ≡ nodes_from 0 fields rows → buffers ≡ ranges_from 0 (buffers_of fields rows) → body ≡ body_of fields rows
     → Rows fields (record { length = pos (length rows); nodes = nodes; buffers = buffers }) body rows
 rows_of_parts fields rows nodes buffers body o fine fits within spells n r b =

@@ -1,8 +1,8 @@
 ghost use Rattle.std.specs.Prelude.{◌≡◌, ◌≤◌, ◌^◌, true, pos, length, IfOk, IfErr};
 ghost use Rattle.std.specs.List.{AllByRecursion};
 ghost use Rattle.ipc_model.specs.Fits.{RowFits};
-ghost use Rattle.ipc_model.specs.Meaning.{IsFine};
-ghost use Rattle.ipc_model.specs.WellFormed.{entries};
+ghost use Rattle.ipc_model.specs.WellFormed.{IsFieldWellFormed};
+ghost use Rattle.ipc_model.specs.Entries.{entries};
 ghost use Rattle.ipc_meta.specs.Open.{are_open};
 ghost use Rattle.ipc_column.specs.Rows.{Rows};
 ghost use Rattle.ipc_encode.specs.Buffers.{AreLaidOut};
@@ -52,7 +52,7 @@ pub fn encode<I: IndexOf>(
     rows: &[Row],
     _indices: &I,
 ) -> Result<Parts, WriteFault>
-    requires fine { AllByRecursion IsFine (entries fields.now) }
+    requires fine { AllByRecursion IsFieldWellFormed (entries fields.now) }
     requires conform { AllByRecursion (RowFits fields.now) rows.now }
     // The parts give these rows back.
     ensures rows { IfOk result (λ parts. are_open fields.now ≡ true → Rows fields.now (record { length = pos (length rows.now); nodes = parts.nodes; buffers = parts.buffers }) parts.body.items rows.now) }

@@ -1,6 +1,6 @@
 //! Batches of one column.
 ghost use Rattle.std.specs.Prelude.{◌≡◌, ◌≤◌, ◌∷◌, [], length, true, IfOk};
-ghost use Rattle.ipc_model.specs.WellFormed.{entries, max_fields};
+ghost use Rattle.ipc_model.specs.Entries.{entries, max_fields};
 ghost use Rattle.ipc_meta.specs.Open.{are_open, is_open_type};
 
 use ipc_column::{Batch, Cell};

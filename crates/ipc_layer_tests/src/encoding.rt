@@ -2,7 +2,7 @@
 ghost use Rattle.std.specs.Prelude.{◌≡◌, ◌∷◌, [], length, true, IfOk, IsTrue};
 ghost use Rattle.std.specs.List.{AllByRecursion};
 ghost use Rattle.ipc_model.specs.Fits.{RowFits};
-ghost use Rattle.ipc_model.specs.Meaning.{WellFormed};
+ghost use Rattle.ipc_model.specs.WellFormed.{WellFormed};
 
 use ipc_encode::{IndexOf, NoIndices, Parts, encode};
 use ipc_model::fault::WriteFault;

@@ -4,8 +4,8 @@ use Rattle.std.specs.Prelude.{sum_by, Ok}
 use Rattle.std.specs.List.{AllByRecursion}
 use Rattle.std.proofs.lemmas.List.Sums.{sum_by-append, sum_by-cons}
 use Rattle.ipc_flat.specs.Views.{TableView}
-use Rattle.ipc_model.specs.Meaning.{IsFine}
-use Rattle.ipc_model.specs.WellFormed.{Entry, Listing, entry_of, preorder, preorder_step, all_at, entries, pair_text, kind_text}
+use Rattle.ipc_model.specs.WellFormed.{IsFieldWellFormed}
+use Rattle.ipc_model.specs.Entries.{Entry, Listing, entry_of, preorder, preorder_step, all_at, entries, pair_text, kind_text}
 use Rattle.ipc_model.specs.declared.schema.DataType.{DataType}
 use Rattle.ipc_model.specs.declared.schema.Field.{Field, roll-Field, out-Field, ind-Field, fold-roll-Field, fold_out-Field, map-Field}
 use Rattle.ipc_model.specs.declared.schema.Field.TheOpen.{Field-F}
@@ -98,7 +98,7 @@ both_within : (m : ℕ) (xs ys : List Entry) → Within m (xs ++ ys) → Within 
 both_within m [] ys h = (tt, h)
 both_within m (x ∷ xs) ys h = let p = both_within m xs ys h.1 in ((h.0, p.0), p.1)
 
-within_fine : (es : List Entry) → AllByRecursion IsFine es → Within 64 es
+within_fine : (es : List Entry) → AllByRecursion IsFieldWellFormed es → Within 64 es
 within_fine [] h = tt
 within_fine (e ∷ es) h = (h.0.shallow, within_fine es h.1)
 

@@ -9,7 +9,7 @@ use Rattle.ipc_scalar.specs.declared.fault.FlatFault.{FlatFault}
 use Rattle.ipc_flat.specs.Views.{TableView, or_default, table_from, scalar, field}
 use Rattle.ipc_scalar.specs.Faulty.{◌>>=◌ as ◌flat_then◌}
 use Rattle.ipc_model.specs.Answers.{◌>>=◌}
-use Rattle.ipc_model.specs.Meaning.{HasGoodType}
+use Rattle.ipc_model.specs.WellFormed.{HasGoodType}
 use Rattle.ipc_model.specs.declared.fault.Fault.TheVariants.{BadType}
 use Rattle.ipc_model.specs.declared.schema.DataType.{DataType}
 use Rattle.ipc_model.specs.declared.schema.DataType.TheVariants as type

@@ -5,8 +5,8 @@ use Rattle.std.specs.List.{AllByRecursion}
 use Rattle.std.specs.Ordering.{int_eq}
 use Rattle.std.proofs.lemmas.Bool.Decides.{nat_tests, Decides-int_eq, Decides-eqb}
 use Rattle.ipc_flat.specs.Views.{TableView}
-use Rattle.ipc_model.specs.WellFormed.{Entry, entries, max_fields, max_depth, max_text, max_pairs}
-use Rattle.ipc_model.specs.Meaning.{HasGoodType, HasFittingChildren, IsLeaf}
+use Rattle.ipc_model.specs.Entries.{Entry, entries, max_fields, max_depth, max_text, max_pairs}
+use Rattle.ipc_model.specs.WellFormed.{HasGoodType, HasFittingChildren, IsLeaf}
 use Rattle.ipc_model.proofs.FirstFaults.{verdict_from_first}
 use Rattle.ipc_model.specs.FirstFault.{IsFirstFault}
 use Rattle.ipc_model.specs.SchemaFaults.{Before, after, scan, unless_at, fault_at, has_good_type, has_fitting_children, has_leaf_dictionary, is_leaf, is_little_text, same_type, agrees, has_conflict, with_kind, at_start, done, verdict_on}

@@ -9,7 +9,7 @@ use Rattle.ipc_model.specs.declared.fault.Fault.{Fault}
 use Rattle.ipc_model.specs.declared.schema.DataType.{DataType}
 use Rattle.ipc_model.specs.declared.schema.Field.{Field, roll-Field, rec-roll-Field, map-Field}
 use Rattle.ipc_model.specs.declared.schema.Field.TheOpen.{Field-F}
-use Rattle.ipc_model.specs.WellFormed.{kind_text}
+use Rattle.ipc_model.specs.Entries.{kind_text}
 use Rattle.ipc_meta.specs.declared.budget.Budget.{Budget}
 use Rattle.ipc_meta.specs.Budgets.{Reading, less_fields, less_text, less_pairs}
 use Rattle.ipc_meta.specs.Lifts.{lift}

@@ -3,7 +3,7 @@ use Rattle.std.proofs.Common.{◌≡◌, ◌∙◌, refl, sym, ap, subst, ℕ, z
 use Rattle.std.specs.Prelude.{sum_by, Ok}
 use Rattle.std.proofs.lemmas.List.Sums.{sum_by-append, sum_by-cons}
 use Rattle.ipc_flat.specs.Views.{TableView}
-use Rattle.ipc_model.specs.WellFormed.{Entry, Listing, entry_of, preorder, preorder_step, all_at, entries, pair_text, kind_text}
+use Rattle.ipc_model.specs.Entries.{Entry, Listing, entry_of, preorder, preorder_step, all_at, entries, pair_text, kind_text}
 use Rattle.ipc_model.specs.declared.schema.Field.{Field, roll-Field, fold-roll-Field, map-Field}
 use Rattle.ipc_model.specs.declared.schema.Field.TheOpen.{Field-F}
 use Rattle.ipc_meta.specs.declared.budget.Budget.{Budget}

@@ -8,7 +8,7 @@ use Rattle.ipc_model.specs.Answers.{Fails}
 use Rattle.ipc_model.specs.declared.fault.Fault.{Fault}
 use Rattle.ipc_model.specs.declared.fault.Fault.TheVariants.{OutOfMemory}
 use Rattle.ipc_model.specs.declared.schema.Schema.{Schema}
-use Rattle.ipc_model.specs.Meaning.{WellFormed}
+use Rattle.ipc_model.specs.WellFormed.{WellFormed}
 use Rattle.ipc_model.specs.Refusals.{reader_fault}
 use Rattle.ipc_model.specs.declared.check.SchemaFault.{SchemaFault}
 use Rattle.ipc_model.specs.declared.check.SchemaFault.TheVariants as check

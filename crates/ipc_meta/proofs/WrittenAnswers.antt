@@ -1,7 +1,7 @@
 -- What the calls that write metadata answer.
 use Rattle.std.proofs.Common.{◌≡◌, ◌∙◌, ap, subst, ℕ, ◌^◌, ◌<◌, ◌≤◌, List, ◌++◌, inl, inr}
 use Rattle.std.specs.Prelude.{◌⊎◌, Result, Ok, Err, IfOk, IfErr}
-use Rattle.ipc_model.specs.Meaning.{WellFormed}
+use Rattle.ipc_model.specs.WellFormed.{WellFormed}
 use Rattle.ipc_model.specs.declared.fault.WriteFault.{WriteFault}
 use Rattle.ipc_model.specs.declared.fault.WriteFault.TheVariants.{TooLong, OutOfMemory}
 use Rattle.ipc_model.specs.declared.schema.Schema.{Schema}

@@ -5,8 +5,8 @@ use Rattle.std.specs.List.{AllByRecursion}
 use Rattle.ipc_scalar.specs.declared.fault.FlatFault.{FlatFault}
 use Rattle.ipc_flat.specs.Views.{TableView, table_from, field}
 use Rattle.ipc_model.specs.Answers.{◌>>=◌}
-use Rattle.ipc_model.specs.WellFormed.{Entry, Listing, preorder, preorder_step, all_at}
-use Rattle.ipc_model.specs.Meaning.{HasGoodType, IsFine}
+use Rattle.ipc_model.specs.Entries.{Entry, Listing, preorder, preorder_step, all_at}
+use Rattle.ipc_model.specs.WellFormed.{HasGoodType, IsFieldWellFormed}
 use Rattle.ipc_model.specs.declared.schema.DataType.{DataType}
 use Rattle.ipc_model.specs.declared.schema.Dictionary.{Dictionary}
 use Rattle.ipc_model.specs.declared.schema.Field.{Field, roll-Field, ind-Field, fold-roll-Field, map-Field}
@@ -25,7 +25,7 @@ use Rattle.ipc_meta.proofs.WrittenTypes.{type_there, dictionary_there}
 
 -- a field whose type and that of each below it are of a good width is stated where its table is written
 abbrev pub IsWritten : Field → Type 0
-IsWritten f = (d : ℕ) → AllByRecursion IsFine (preorder f d) → (b : List ℕ) → States field_tree FieldAt b f
+IsWritten f = (d : ℕ) → AllByRecursion IsFieldWellFormed (preorder f d) → (b : List ℕ) → States field_tree FieldAt b f
 
 abbrev Shown : Type 0
 Shown = (f : Field) × IsWritten f
@@ -33,11 +33,11 @@ Shown = (f : Field) × IsWritten f
 abbrev fields_of : List Shown → List Field
 fields_of cs = map (λ c. c.0) cs
 
-fine_parts : (xs ys : List Entry) → AllByRecursion IsFine (xs ++ ys) → AllByRecursion IsFine xs × AllByRecursion IsFine ys
+fine_parts : (xs ys : List Entry) → AllByRecursion IsFieldWellFormed (xs ++ ys) → AllByRecursion IsFieldWellFormed xs × AllByRecursion IsFieldWellFormed ys
 fine_parts [] ys h = (tt, h)
 fine_parts (x ∷ xs) ys h = let p = fine_parts xs ys h.1 in ((h.0, p.0), p.1)
 
-children_written : (cs : List Shown) (d : ℕ) → AllByRecursion IsFine (all_at d (map preorder (fields_of cs))) → (b : List ℕ)
+children_written : (cs : List Shown) (d : ℕ) → AllByRecursion IsFieldWellFormed (all_at d (map preorder (fields_of cs))) → (b : List ℕ)
     → AllByRecursion (States field_tree FieldAt b) (fields_of cs)
 children_written [] d fine b = tt
 children_written (c ∷ cs) d fine b =
@@ -92,7 +92,7 @@ parts_there b t name nullable κ None cs ps good each h =
 roll_written : (y : Field-F Shown) → IsWritten (roll-Field (map-Field Shown Field (λ c. c.0) y))
 roll_written y = λ d fine b t h.
     let z : Field-F Field = map-Field Shown Field (λ c. c.0) y in
-    let listed : AllByRecursion IsFine (preorder_step (map-Field Field Listing preorder z) d) = subst (λ (l : Listing). AllByRecursion IsFine (l d)) (fold-roll-Field Listing preorder_step z) fine in
+    let listed : AllByRecursion IsFieldWellFormed (preorder_step (map-Field Field Listing preorder z) d) = subst (λ (l : Listing). AllByRecursion IsFieldWellFormed (l d)) (fold-roll-Field Listing preorder_step z) fine in
     let held : Holds b t (tree_with z.name z.nullable z.kind z.dictionary z.children z.metadata) = subst (λ (f : Tree). Holds b t f) (fold-roll-Field Tree written.field_step z) h in
     let each = children_written y.children (d + 1) listed.1 b in
     subst (λ (F : TableView → Type 0). F (tab b t)) (sym (field_roll z)) (parts_there b t z.name z.nullable z.kind z.dictionary z.children z.metadata listed.0.good_type each held)
@@ -101,7 +101,7 @@ field_written : (f : Field) → IsWritten f
 field_written = ind-Field IsWritten (λ x y is. subst (λ z. IsWritten (roll-Field z)) is (roll_written y))
 
 -- the columns of a schema
-pub fields_written : (fs : List Field) → AllByRecursion IsFine (all_at 1 (map preorder fs)) → (b : List ℕ) → AllByRecursion (States field_tree FieldAt b) fs
+pub fields_written : (fs : List Field) → AllByRecursion IsFieldWellFormed (all_at 1 (map preorder fs)) → (b : List ℕ) → AllByRecursion (States field_tree FieldAt b) fs
 fields_written [] fine b = tt
 fields_written (f ∷ fs) fine b =
     let p = fine_parts (preorder f 1) (all_at 1 (map preorder fs)) fine in

@@ -6,7 +6,7 @@ use Rattle.ipc_scalar.specs.declared.fault.FlatFault.{FlatFault}
 use Rattle.ipc_scalar.specs.Flat.{slot_of, elements_of}
 use Rattle.ipc_flat.specs.Views.{Structs, table_from, scalar, field, structs_from}
 use Rattle.ipc_model.specs.Answers.{◌>>=◌}
-use Rattle.ipc_model.specs.Meaning.{WellFormed}
+use Rattle.ipc_model.specs.WellFormed.{WellFormed}
 use Rattle.ipc_model.specs.declared.schema.Schema.{Schema}
 use Rattle.ipc_build.specs.Trees.{Tree}
 use Rattle.ipc_build.specs.Encodes.{HasField, EncodesTable, EncodesPairs, Encodes}

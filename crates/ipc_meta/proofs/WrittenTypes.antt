@@ -8,7 +8,7 @@ use Rattle.ipc_scalar.specs.declared.fault.FlatFault.{FlatFault}
 use Rattle.ipc_scalar.specs.Flat.{slot_of, table_of, text_of}
 use Rattle.ipc_flat.specs.Views.{TableView, table_from, scalar, field}
 use Rattle.ipc_model.specs.Answers.{◌>>=◌}
-use Rattle.ipc_model.specs.Meaning.{HasGoodType}
+use Rattle.ipc_model.specs.WellFormed.{HasGoodType}
 use Rattle.ipc_model.specs.Ranges.{width}
 use Rattle.ipc_model.specs.declared.fault.Fault.{Fault}
 use Rattle.ipc_model.specs.declared.fault.Fault.TheVariants.{UnsupportedType, BadType, BadIndexType}

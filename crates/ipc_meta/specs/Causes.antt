@@ -7,8 +7,8 @@ use Rattle.ipc_model.specs.declared.fault.Fault.{Fault}
 use Rattle.ipc_model.specs.declared.fault.Fault.TheVariants as f
 use Rattle.ipc_model.specs.declared.schema.DataType.{DataType}
 use Rattle.ipc_model.specs.declared.schema.Dictionary.{Dictionary}
-use Rattle.ipc_model.specs.WellFormed.{max_fields, max_depth, max_text, max_pairs}
-use Rattle.ipc_model.specs.Meaning.{HasFittingChildren, IsLeaf}
+use Rattle.ipc_model.specs.Entries.{max_fields, max_depth, max_text, max_pairs}
+use Rattle.ipc_model.specs.WellFormed.{HasFittingChildren, IsLeaf}
 use Rattle.ipc_meta.specs.Tables.{bits_of, unit_of, flag_at, vector_at, code_at, is_type_code, type_at, dictionary_at}
 use Rattle.ipc_meta.specs.Totals.{fields_stated, text_stated, pairs_stated}
 use Rattle.ipc_meta.specs.Heads.{longest_body}

@@ -3,7 +3,7 @@
 use Rattle.std.specs.Prelude.{◌≡◌, ℕ, ◌+◌, ◌-◌, ◌<◌, pos, List, [], ◌∷◌, Ok}
 use Rattle.ipc_scalar.specs.Bytes.{int16}
 use Rattle.ipc_flat.specs.Views.{TableView, Elements, table_from, scalar}
-use Rattle.ipc_model.specs.Meaning.{WellFormed}
+use Rattle.ipc_model.specs.WellFormed.{WellFormed}
 use Rattle.ipc_model.specs.declared.schema.Field.{Field, rec-Field}
 use Rattle.ipc_model.specs.declared.schema.Field.TheOpen.{Field-F}
 use Rattle.ipc_model.specs.declared.schema.Schema.{Schema}

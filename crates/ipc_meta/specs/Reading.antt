@@ -3,7 +3,7 @@
 use Rattle.std.specs.Prelude.{pos, ℕ, zero, suc, ◌+◌, List, [], ◌∷◌, ◌++◌, length, Option, None, Some, Result, Ok, Err}
 use Rattle.ipc_flat.specs.Views.{TableView, table_from, scalar, field}
 use Rattle.ipc_model.specs.Answers.{◌>>=◌}
-use Rattle.ipc_model.specs.WellFormed.{kind_text}
+use Rattle.ipc_model.specs.Entries.{kind_text}
 use Rattle.ipc_model.specs.declared.fault.Fault.{Fault}
 use Rattle.ipc_model.specs.declared.fault.Fault.TheVariants.{TooDeep, Compressed}
 use Rattle.ipc_scalar.specs.Bytes.{int64}

@@ -2,7 +2,7 @@
 -- each of them; what is absent or can't be read counts as nothing.
 use Rattle.std.specs.Prelude.{ℕ, zero, suc, ◌+◌, List, length, Result, Ok, Err}
 use Rattle.ipc_flat.specs.Views.{TableView, table_from}
-use Rattle.ipc_model.specs.WellFormed.{kind_text}
+use Rattle.ipc_model.specs.Entries.{kind_text}
 use Rattle.ipc_meta.specs.Tables.{text_at, vector_at, type_at}
 
 -- w of a value, and 0 of none

@@ -1,6 +1,6 @@
 ghost use Rattle.std.specs.Prelude.{◌≡◌, ℕ, ℤ, List, IfOk, IfErr, Ok, length};
 ghost use Rattle.ipc_scalar.specs.Bytes.{int64};
-ghost use Rattle.ipc_model.specs.Answers.{Aside, Gives};
+ghost use Rattle.ipc_model.specs.Answers.{UnlessOutOfMemory, AnswersUnlessOutOfMemory};
 ghost use Rattle.ipc_meta.specs.Heads.{numbers_at, DictionaryAt};
 ghost use Rattle.ipc_meta.specs.Reading.{batch_read};
 ghost use Rattle.ipc_meta.specs.Reached.{HasTable, dictionary_batch};
@@ -28,7 +28,7 @@ fn number_pair(bytes: &[u8]) -> (i64, i64)
 // The numbers of all structs in a field; an absent vector has none.
 #[tactic(auto, unfolding(crate::specs::Heads::numbers_at))]
 fn read_numbers(alloc: Global, table: &TableRef<'_>, slot: u16) -> Result<Items<(i64, i64)>, Fault>
-    ensures { Gives (λ ns. ns) result (numbers_at table.now slot) }
+    ensures { AnswersUnlessOutOfMemory (λ ns. ns) result (numbers_at table.now slot) }
 {
     let Some(structs) = lifted(table.structs(slot, 16))? else {
         return Ok(Items::from_vec(Vec::new(alloc)));
@@ -44,7 +44,7 @@ fn read_numbers(alloc: Global, table: &TableRef<'_>, slot: u16) -> Result<Items<
 /// compression is `Compressed`, whatever it holds.
 #[tactic(auto, unfolding(crate::specs::Reading::batch_read))]
 pub(crate) fn read_batch(alloc: Global, table: &TableRef<'_>) -> Result<BatchHead, Fault>
-    ensures { Gives (λ b. b) result (batch_read table.now) }
+    ensures { AnswersUnlessOutOfMemory (λ b. b) result (batch_read table.now) }
 {
     if lifted(table.table(3))?.is_some() {
         return Err(Fault::Compressed);
@@ -66,8 +66,8 @@ pub(crate) fn read_dictionary_batch(
     table: &TableRef<'_>,
 ) -> Result<(i64, BatchHead), Fault>
     ensures found { IfOk result (λ d. DictionaryAt table.now d.0 d.1) }
-    ensures only { (id : ℤ) (batch : BatchHead) → DictionaryAt table.now id batch → Gives (λ y. y) result (Ok (id, batch)) }
-    ensures refused { IfErr result (λ f. (b : List ℕ) → HasTable b dictionary_batch table.now → Aside f (Cause b f)) }
+    ensures only { (id : ℤ) (batch : BatchHead) → DictionaryAt table.now id batch → AnswersUnlessOutOfMemory (λ y. y) result (Ok (id, batch)) }
+    ensures refused { IfErr result (λ f. (b : List ℕ) → HasTable b dictionary_batch table.now → UnlessOutOfMemory f (Cause b f)) }
 {
     let id = lifted(table.scalar_i64(0, 0))?;
     if read_flag(table, 2)? {

@@ -1,5 +1,5 @@
 ghost use Rattle.std.specs.Prelude.{◌≡◌};
-ghost use Rattle.ipc_model.specs.Answers.{Gives};
+ghost use Rattle.ipc_model.specs.Answers.{AnswersUnlessOutOfMemory};
 ghost use Rattle.ipc_meta.specs.Budgets.{less_text, less_pairs, less_fields};
 
 use ipc_model::fault::Fault;
@@ -19,7 +19,7 @@ pub(crate) struct Budget {
 impl Budget {
     /// Counts so many fields; more than are left is `TooManyFields`.
     pub(crate) fn take_fields(&mut self, count: usize) -> Result<(), Fault>
-        ensures { Gives (λ _. self.new) result (less_fields count self.old) }
+        ensures { AnswersUnlessOutOfMemory (λ _. self.new) result (less_fields count self.old) }
     {
         if count as u64 > self.fields {
             return Err(Fault::TooManyFields);
@@ -30,7 +30,7 @@ impl Budget {
 
     /// Counts so many bytes of text; more than are left is `TooMuchText`.
     pub(crate) fn take_text(&mut self, count: usize) -> Result<(), Fault>
-        ensures { Gives (λ _. self.new) result (less_text count self.old) }
+        ensures { AnswersUnlessOutOfMemory (λ _. self.new) result (less_text count self.old) }
     {
         if count as u64 > self.text {
             return Err(Fault::TooMuchText);
@@ -41,7 +41,7 @@ impl Budget {
 
     /// Counts so many pairs; more than are left is `TooMuchText`.
     pub(crate) fn take_pairs(&mut self, count: usize) -> Result<(), Fault>
-        ensures { Gives (λ _. self.new) result (less_pairs count self.old) }
+        ensures { AnswersUnlessOutOfMemory (λ _. self.new) result (less_pairs count self.old) }
     {
         if count as u64 > self.pairs {
             return Err(Fault::TooMuchText);

@@ -1,5 +1,5 @@
 ghost use Rattle.std.specs.Prelude.{◌≡◌};
-ghost use Rattle.ipc_model.specs.Answers.{Gives};
+ghost use Rattle.ipc_model.specs.Answers.{AnswersUnlessOutOfMemory};
 ghost use Rattle.ipc_meta.specs.Reading.{text_read, pair_read, pairs_read, fields_read, field_read};
 
 use crate::budget::Budget;
@@ -19,7 +19,7 @@ fn read_text(
     slot: u16,
     left: &mut Budget,
 ) -> Result<Text, Fault>
-    ensures { Gives (λ s. (s, left.new)) result (text_read table.now slot left.old) }
+    ensures { AnswersUnlessOutOfMemory (λ s. (s, left.new)) result (text_read table.now slot left.old) }
 {
     let text = lifted(table.text(slot))?.unwrap_or("");
     left.take_text(text.len())?;
@@ -29,7 +29,7 @@ fn read_text(
 // A KeyValue table (Schema.fbs): 0 key, 1 value.
 #[tactic(auto, unfolding(crate::specs::Reading::pair_read))]
 fn read_pair(alloc: Global, table: &TableRef<'_>, left: &mut Budget) -> Result<(Text, Text), Fault>
-    ensures { Gives (λ p. (p, left.new)) result (pair_read table.now left.old) }
+    ensures { AnswersUnlessOutOfMemory (λ p. (p, left.new)) result (pair_read table.now left.old) }
 {
     let key = read_text(alloc, table, 0, left)?;
     let value = read_text(alloc, table, 1, left)?;
@@ -45,7 +45,7 @@ pub(crate) fn read_pairs(
     slot: u16,
     left: &mut Budget,
 ) -> Result<Items<(Text, Text)>, Fault>
-    ensures { Gives (λ ps. (ps, left.new)) result (pairs_read table.now slot left.old) }
+    ensures { AnswersUnlessOutOfMemory (λ ps. (ps, left.new)) result (pairs_read table.now slot left.old) }
 {
     let mut pairs = Vec::new(alloc);
     let Some(tables) = lifted(table.tables(slot))? else {
@@ -70,7 +70,7 @@ pub(crate) fn read_fields(
     depth: u32,
     left: &mut Budget,
 ) -> Result<Items<Field>, Fault>
-    ensures { Gives (λ fs. (fs, left.new)) result (fields_read (field_read depth) table.now slot left.old) }
+    ensures { AnswersUnlessOutOfMemory (λ fs. (fs, left.new)) result (fields_read (field_read depth) table.now slot left.old) }
 {
     let mut fields = Vec::new(alloc);
     let Some(tables) = lifted(table.tables(slot))? else {
@@ -94,7 +94,7 @@ fn read_field(
     depth: u32,
     left: &mut Budget,
 ) -> Result<Field, Fault>
-    ensures { Gives (λ f. (f, left.new)) result (field_read depth table.now left.old) }
+    ensures { AnswersUnlessOutOfMemory (λ f. (f, left.new)) result (field_read depth table.now left.old) }
 {
     if depth == 0 {
         return Err(Fault::TooDeep);

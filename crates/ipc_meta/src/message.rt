@@ -1,7 +1,7 @@
 ghost use Rattle.std.specs.Prelude.{◌≡◌, ◌⊎◌, ℕ, List, IfOk, IfErr, OnOk, MatchResult, Ok, pos};
 ghost use Rattle.ipc_scalar.specs.Bytes.{int16};
 ghost use Rattle.ipc_flat.specs.Views.{scalar};
-ghost use Rattle.ipc_model.specs.Answers.{Aside, Gives};
+ghost use Rattle.ipc_model.specs.Answers.{UnlessOutOfMemory, AnswersUnlessOutOfMemory};
 ghost use Rattle.ipc_meta.specs.Fields.{SchemaAt};
 ghost use Rattle.ipc_meta.specs.Heads.{HeaderAt, HeadOf};
 ghost use Rattle.ipc_meta.specs.Open.{IsRead, IsUnread};
@@ -43,8 +43,8 @@ fn check_endianness(table: &TableRef<'_>) -> Result<(), Fault>
 // A Schema table (Schema.fbs): 0 endianness, 1 fields, 2 custom_metadata.
 fn read_schema(alloc: Global, table: &TableRef<'_>) -> Result<Schema, Fault>
     ensures found { IfOk result (λ s. SchemaAt table.now s) }
-    ensures only { (s : Schema) → SchemaAt table.now s → Gives (λ y. y) result (Ok s) }
-    ensures refused { IfErr result (λ f. (b : List ℕ) → HasTable b schema table.now → Aside f (Cause b f)) }
+    ensures only { (s : Schema) → SchemaAt table.now s → AnswersUnlessOutOfMemory (λ y. y) result (Ok s) }
+    ensures refused { IfErr result (λ f. (b : List ℕ) → HasTable b schema table.now → UnlessOutOfMemory f (Cause b f)) }
 {
     check_endianness(table)?;
     let mut left = Budget {
@@ -63,8 +63,8 @@ fn read_schema(alloc: Global, table: &TableRef<'_>) -> Result<Schema, Fault>
 // looked at where the code is none of a stream's.
 fn read_header(alloc: Global, root: &TableRef<'_>) -> Result<Head, Fault>
     ensures found { IfOk result (λ head. HeaderAt root.now head) }
-    ensures only { (head : Head) → HeaderAt root.now head → Gives (λ y. y) result (Ok head) }
-    ensures refused { IfErr result (λ f. (b : List ℕ) → HasTable b message root.now → Aside f (Cause b f)) }
+    ensures only { (head : Head) → HeaderAt root.now head → AnswersUnlessOutOfMemory (λ y. y) result (Ok head) }
+    ensures refused { IfErr result (λ f. (b : List ℕ) → HasTable b message root.now → UnlessOutOfMemory f (Cause b f)) }
 {
     let code = lifted(root.scalar_u8(1, 0))?;
     if code == 0 || code > LAST_HEADER {
@@ -89,7 +89,7 @@ fn read_header(alloc: Global, root: &TableRef<'_>) -> Result<Head, Fault>
 fn read_stated(alloc: Global, metadata: &[u8]) -> Result<(Head, u64), Fault>
     ensures found { IfOk result (λ r. HeadOf metadata.now r.0 r.1) }
     ensures only { (head : Head) (m : ℕ) → HeadOf metadata.now head m → MatchResult result (λ r. (r.0 ≡ head) × (r.1 ≡ m)) (λ f. f ≡ Fault.OutOfMemory) }
-    ensures refused { IfErr result (λ f. Aside f (Cause metadata.now f)) }
+    ensures refused { IfErr result (λ f. UnlessOutOfMemory f (Cause metadata.now f)) }
 {
     let root = lifted(Flat::root(metadata))?;
     if lifted(root.scalar_i16(0, 0))? != VERSION {
@@ -147,7 +147,7 @@ pub fn read_message(alloc: Global, metadata: &[u8]) -> Result<(Head, u64), Fault
     ensures found { IfOk result (λ r. HeadOf metadata.now r.0 r.1) }
     ensures read { IfOk result (λ r. IsRead r.0) }
     ensures only { (head : Head) (m : ℕ) → HeadOf metadata.now head m → IsRead head → MatchResult result (λ r. (r.0 ≡ head) × (r.1 ≡ m)) (λ f. f ≡ Fault.OutOfMemory) }
-    ensures refused { IfErr result (λ f. Aside f (Cause metadata.now f ⊎ IsUnread metadata.now f)) }
+    ensures refused { IfErr result (λ f. UnlessOutOfMemory f (Cause metadata.now f ⊎ IsUnread metadata.now f)) }
 {
     let (head, body) = read_stated(alloc, metadata)?;
     check_read(&head)?;

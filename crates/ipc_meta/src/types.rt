@@ -1,6 +1,6 @@
 ghost use Rattle.std.specs.Prelude.{◌≡◌, ℤ, Ok, option_map, pos};
-ghost use Rattle.ipc_model.specs.Answers.{Gives};
-ghost use Rattle.ipc_model.specs.WellFormed.{kind_text};
+ghost use Rattle.ipc_model.specs.Answers.{AnswersUnlessOutOfMemory};
+ghost use Rattle.ipc_model.specs.Entries.{kind_text};
 ghost use Rattle.ipc_meta.specs.Tables.{bits_of, unit_of, int_at, fixed_at, date_at, timestamp_at, type_of, is_type_code, type_at, code_at, flag_at, index_at, dictionary_in, dictionary_at, map_ok};
 ghost use Rattle.ipc_meta.specs.Reading.{type_read};
 
@@ -83,7 +83,7 @@ fn date_of(unit: i16) -> Result<DataType, Fault>
 
 // A Timestamp table (Schema.fbs): 0 unit, 1 timezone. An absent timezone and an empty one differ.
 fn read_timestamp(alloc: Global, table: &TableRef<'_>) -> Result<DataType, Fault>
-    ensures { Gives (λ κ. κ) result (timestamp_at table.now) }
+    ensures { AnswersUnlessOutOfMemory (λ κ. κ) result (timestamp_at table.now) }
 {
     let unit = lifted(table.scalar_i16(0, 0))?;
     let Some(unit) = unit_of(unit) else {
@@ -99,7 +99,7 @@ fn read_timestamp(alloc: Global, table: &TableRef<'_>) -> Result<DataType, Fault
 // The type with this code and this table (Schema.fbs, union Type).
 #[tactic(auto, unfolding(crate::specs::Tables::type_of))]
 fn type_of(alloc: Global, code: u8, table: &TableRef<'_>) -> Result<DataType, Fault>
-    ensures { Gives (λ κ. κ) result (type_of code table.now) }
+    ensures { AnswersUnlessOutOfMemory (λ κ. κ) result (type_of code table.now) }
 {
     match code {
         1 => Ok(DataType::Null),
@@ -139,7 +139,7 @@ fn is_type_code(code: u8) -> bool
 // `UnsupportedType`, and the table isn't looked at then; a type without a table is `BadType`.
 #[tactic(auto, unfolding(crate::specs::Tables::type_at))]
 fn read_type(alloc: Global, field: &TableRef<'_>) -> Result<DataType, Fault>
-    ensures { Gives (λ κ. κ) result (type_at field.now) }
+    ensures { AnswersUnlessOutOfMemory (λ κ. κ) result (type_at field.now) }
 {
     let code = read_code(field)?;
     if !is_type_code(code) {
@@ -171,7 +171,7 @@ pub(crate) fn read_counted_type(
     field: &TableRef<'_>,
     left: &mut Budget,
 ) -> Result<DataType, Fault>
-    ensures { Gives (λ κ. (κ, left.new)) result (type_read field.now left.old) }
+    ensures { AnswersUnlessOutOfMemory (λ κ. (κ, left.new)) result (type_read field.now left.old) }
 {
     let kind = read_type(alloc, field)?;
     left.take_text(text_len(&kind))?;

@@ -4,7 +4,7 @@ ghost use Rattle.ipc_build.specs.Trees.{Tree, view};
 ghost use Rattle.ipc_build.specs.Encodes.{Encodes, Aligned};
 ghost use Rattle.ipc_build.specs.Ascends.{Ascends, fields};
 ghost use Rattle.ipc_build.specs.Room.{room, size};
-ghost use Rattle.ipc_model.specs.Meaning.{WellFormed};
+ghost use Rattle.ipc_model.specs.WellFormed.{WellFormed};
 ghost use Rattle.ipc_meta.specs.Heads.{HeadOf};
 ghost use Rattle.ipc_meta.specs.Rooms.{head_room, schema_room};
 ghost use Rattle.ipc_meta.specs.Written.{schema_message, batch_message};

@@ -2,8 +2,8 @@
 use Rattle.std.proofs.Common.{◌≡◌, ◌≢◌, ◌∙◌, refl, sym, ap, subst, ℕ, ◌+◌, ◌⊎◌, inl, inr, Bool, true, List, [], ◌∷◌, ◌++◌, map, Option, Some, None}
 use Rattle.std.specs.Prelude.{ℤ}
 use Rattle.std.proofs.lemmas.Bool.{and_parts}
-use Rattle.ipc_model.specs.Meaning.{IsAmong}
-use Rattle.ipc_model.specs.WellFormed.{Entry, Listing, all_at, entries, preorder, preorder_step}
+use Rattle.ipc_model.specs.WellFormed.{IsAmong}
+use Rattle.ipc_model.specs.Entries.{Entry, Listing, all_at, entries, preorder, preorder_step}
 use Rattle.ipc_model.specs.declared.schema.DataType.{DataType}
 use Rattle.ipc_model.specs.declared.schema.Dictionary.{Dictionary}
 use Rattle.ipc_model.specs.declared.schema.Field.{Field, fold-roll-Field, ind-Field, map-Field, roll-Field}

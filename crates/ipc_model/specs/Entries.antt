@@ -1,0 +1,75 @@
+-- A schema as a list: one entry for each field, a field before its children (Arrow Columnar
+-- Format, "Recordbatch message": the pre-order of a schema's fields).
+use Rattle.std.specs.Prelude.{ℕ, ◌+◌, ◌^◌, List, [], ◌∷◌, ◌++◌, map, length, Option, Some, None}
+use Rattle.ipc_model.specs.declared.schema.DataType.{DataType}
+use Rattle.ipc_model.specs.declared.schema.DataType.TheVariants as t
+use Rattle.ipc_model.specs.declared.schema.Dictionary.{Dictionary}
+use Rattle.ipc_model.specs.declared.schema.Field.{Field, fold-Field}
+use Rattle.ipc_model.specs.declared.schema.Field.TheOpen.{Field-F}
+
+-- what the rules ask of a field: how deep it stands (a column at 1), its type and dictionary, and
+-- how many children, bytes of text and pairs of metadata it has
+pub record Entry : Type 0 where
+  pub depth : ℕ
+  pub kind : DataType
+  pub children : ℕ
+  pub dictionary : Option Dictionary
+  pub text : ℕ
+  pub pairs : ℕ
+
+-- ---- the limits of a schema
+
+abbrev pub max_fields : ℕ
+max_fields = 65536
+
+abbrev pub max_depth : ℕ
+max_depth = 64
+
+abbrev pub max_text : ℕ
+max_text = 2 ^ 26
+
+abbrev pub max_pairs : ℕ
+max_pairs = 2 ^ 20
+
+-- ---- the entries
+
+-- how many bytes the keys and values of these pairs have (Schema.fbs, table KeyValue)
+abbrev pub pair_text : List (List ℕ × List ℕ) → ℕ
+pair_text [] = 0
+pair_text (p ∷ ps) = length p.0 + length p.1 + pair_text ps
+
+-- how many bytes the type's own text has: a timestamp's timezone
+abbrev pub kind_text : DataType → ℕ
+kind_text (t.Timestamp unit (Some timezone)) = length timezone
+kind_text (t.Timestamp unit None) = 0
+kind_text t.Null = 0
+kind_text t.Bool = 0
+kind_text (t.Int bits signed) = 0
+kind_text t.Binary = 0
+kind_text t.Utf8 = 0
+kind_text (t.FixedSizeBinary n) = 0
+kind_text (t.Date unit) = 0
+kind_text t.List = 0
+kind_text t.Struct = 0
+
+-- the entry of a field at this depth
+abbrev pub entry_of : {A : Type 0} → Field-F A → ℕ → Entry
+entry_of f d = record { depth = d; kind = f.kind; children = length f.children; dictionary = f.dictionary; text = length f.name + kind_text f.kind + pair_text f.metadata; pairs = length f.metadata }
+
+-- a field and all below it, from the depth at which it stands
+abbrev pub Listing : Type 0
+Listing = ℕ → List Entry
+
+abbrev pub all_at : ℕ → List Listing → List Entry
+all_at d [] = []
+all_at d (l ∷ ls) = l d ++ all_at d ls
+
+abbrev pub preorder_step : Field-F Listing → Listing
+preorder_step f d = entry_of f d ∷ all_at (d + 1) f.children
+
+abbrev pub preorder : Field → Listing
+preorder = fold-Field Listing preorder_step
+
+-- the entries of a schema's columns and of all below them, in pre-order
+abbrev pub entries : List Field → List Entry
+entries fields = all_at 1 (map preorder fields)
