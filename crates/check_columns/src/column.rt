@@ -1,7 +1,7 @@
 //! Columns of each kind.
 ghost use Rattle.std.specs.Prelude.{◌≡◌, ◌≤◌, ◌∷◌, [], length, true, IfOk};
 ghost use Rattle.ipc_model.specs.Entries.{entries, max_fields};
-ghost use Rattle.ipc_meta.specs.Open.{are_open, is_open_type};
+ghost use Rattle.ipc_meta.specs.Supported.{are_supported, is_supported_type};
 
 use ipc_model::items::{Items, Text};
 use ipc_model::schema::{DataType, Field, IntBits};
@@ -37,7 +37,7 @@ impl Kind {
 }
 
 fn data_type(kind: Kind) -> DataType
-    ensures { is_open_type result ≡ true }
+    ensures { is_supported_type result ≡ true }
 {
     match kind {
         Kind::Numbers | Kind::Nulls => DataType::Int {
@@ -50,7 +50,7 @@ fn data_type(kind: Kind) -> DataType
 }
 
 fn field(alloc: Global, kind: Kind) -> Result<Field, AllocError>
-    ensures open { IfOk result (λ f. are_open (f ∷ []) ≡ true) }
+    ensures open { IfOk result (λ f. are_supported (f ∷ []) ≡ true) }
     ensures few { IfOk result (λ f. length (entries (f ∷ [])) ≤ max_fields) }
 {
     Ok(Field {
@@ -65,7 +65,7 @@ fn field(alloc: Global, kind: Kind) -> Result<Field, AllocError>
 
 /// A schema's fields, which are one column.
 pub fn fields(alloc: Global, kind: Kind) -> Result<Rc<Vec<Field>>, AllocError>
-    ensures open { IfOk result (λ all. are_open all.value.items ≡ true) }
+    ensures open { IfOk result (λ all. are_supported all.value.items ≡ true) }
     ensures few { IfOk result (λ all. length (entries all.value.items) ≤ max_fields) }
 {
     let mut all = Vec::new(alloc);

@@ -9,7 +9,7 @@ use Rattle.ipc_model.specs.declared.fault.Fault.TheVariants as fault
 use Rattle.ipc_model.specs.declared.schema.Field.{Field}
 use Rattle.ipc_model.specs.declared.value.Value.{Value}
 use Rattle.ipc_meta.specs.declared.head.BatchHead.{BatchHead}
-use Rattle.ipc_meta.specs.Open.{are_open}
+use Rattle.ipc_meta.specs.Supported.{are_supported}
 use Rattle.ipc_column.specs.declared.cause.Cause.{Cause}
 use Rattle.ipc_column.specs.declared.cause.Cause.TheVariants as cause
 use Rattle.ipc_column.specs.Contents.{Contents}
@@ -28,7 +28,7 @@ rows_values rows fields head body n e i l =
     let size : length rows ≡ n = ap (λ (x : List (List Value)). length x) e ∙ rows_length (columns_of fields head body) n in
     ap (λ (x : List (List Value)). get_or x i []) e ∙ rows_at (columns_of fields head body) n i [] (rw size at l)
 
-pub rows_from : (fields : List Field) (head : BatchHead) (body : List ℕ) (rows : List (List Value)) → are_open fields ≡ true → Passing (shape_of fields) head body rows → Rows fields head body rows
+pub rows_from : (fields : List Field) (head : BatchHead) (body : List ℕ) (rows : List (List Value)) → are_supported fields ≡ true → Passing (shape_of fields) head body rows → Rows fields head body rows
 rows_from fields head body rows o p =
     let lengths = (decides cause.BadNode fields head body).0 (p.sound cause.BadNode) in
     record {
@@ -102,7 +102,7 @@ pub only_rows : (fields : List Field) (head : BatchHead) (body : List ℕ) (r : 
 only_rows fields head body (Ok b) a r rows w = one_list fields head body b.rows rows a w
 only_rows fields head body (Err f) a r rows w = no_rows f fields head body rows r w
 
-pub ok_rows : (fields : List Field) (head : BatchHead) (body : List ℕ) (r : Result Contents Fault) → are_open fields ≡ true
+pub ok_rows : (fields : List Field) (head : BatchHead) (body : List ℕ) (r : Result Contents Fault) → are_supported fields ≡ true
     → IfOk r (λ b. Passing (shape_of fields) head body b.rows) → IfOk r (λ b. Rows fields head body b.rows)
 ok_rows fields head body (Ok b) o h = rows_from fields head body b.rows o h
 ok_rows fields head body (Err f) o h = h

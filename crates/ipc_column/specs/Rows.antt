@@ -6,7 +6,7 @@ use Rattle.ipc_model.specs.declared.fault.Fault.TheVariants as fault
 use Rattle.ipc_model.specs.declared.schema.Field.{Field}
 use Rattle.ipc_model.specs.declared.value.Value.{Value}
 use Rattle.ipc_meta.specs.declared.head.BatchHead.{BatchHead}
-use Rattle.ipc_meta.specs.Open.{are_open}
+use Rattle.ipc_meta.specs.Supported.{are_supported}
 use Rattle.ipc_column.specs.Shapes.{columns_of}
 use Rattle.ipc_column.specs.Values.{row}
 use Rattle.ipc_column.specs.Facts.{HasNodes, HasBuffers, HasLengths, HasRanges, HasBytes, HasNullCounts, HasOrder, HasTexts, IsSlotCount, IsNode}
@@ -15,7 +15,7 @@ use Rattle.ipc_column.specs.Facts.{HasNodes, HasBuffers, HasLengths, HasRanges, 
 -- in row i stand the values of slot i, a column beside the other.
 pub record Rows (fields : List Field) (head : BatchHead) (body : List ℕ) (rows : List (List Value)) : Type 0 where
   -- each field is of a type that is read
-  pub types : are_open fields ≡ true
+  pub types : are_supported fields ≡ true
   -- the head has the nodes and the buffers of the fields, and no others
   pub nodes : HasNodes fields head
   pub buffers : HasBuffers fields head

@@ -2,7 +2,7 @@ ghost use Rattle.std.specs.Prelude.{◌≡◌, ◌≤◌, ◌<◌, length, true,
 ghost use Rattle.std.specs.List.{AllByRecursion};
 ghost use Rattle.ipc_model.specs.declared.value.Value.{Value};
 ghost use Rattle.ipc_model.specs.Entries.{entries, max_fields};
-ghost use Rattle.ipc_meta.specs.Open.{are_open};
+ghost use Rattle.ipc_meta.specs.Supported.{are_supported};
 ghost use Rattle.ipc_column.specs.Facts.{texts_in, slots_in};
 ghost use Rattle.ipc_column.specs.Shapes.{shape_of, nodes_in, columns_of, cut};
 ghost use Rattle.ipc_column.specs.Rows.{Rows, Refuses, IsOneList};
@@ -128,7 +128,7 @@ impl Batch {
         body: Vec<u8>,
         _dictionaries: &BTreeMap<i64, Rc<Batch>>,
     ) -> Result<Batch, Fault>
-        requires read { are_open fields.value.items ≡ true }
+        requires read { are_supported fields.value.items ≡ true }
         requires few { length (entries fields.value.items) ≤ max_fields }
         // What is answered are the rows of the parts.
         ensures rows { IfOk result (λ batch. Rows fields.value.items head body.items batch.rows) }

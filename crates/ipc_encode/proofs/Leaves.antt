@@ -14,7 +14,7 @@ use Rattle.ipc_model.specs.declared.schema.Field.TheFolds.{fold_out-Field}
 use Rattle.ipc_model.specs.declared.value.Value.{Value, out-Value}
 use Rattle.ipc_model.specs.declared.value.Value.TheVariants as v
 use Rattle.ipc_model.proofs.FitsLemmas.{fits_roll}
-use Rattle.ipc_meta.specs.Open.{is_open, is_open_type, is_open_field, open_step, are_open, all_true}
+use Rattle.ipc_meta.specs.Supported.{is_supported, is_supported_type, is_supported_field, supported_step, are_supported, all_true}
 use Rattle.ipc_column.specs.declared.layout.Layout.{Layout}
 use Rattle.ipc_column.specs.Shapes.{Shape, bare, field_shape, field_step, shapes}
 use Rattle.ipc_encode.specs.Buffers.{layout_of}
@@ -23,10 +23,10 @@ use Rattle.ipc_encode.specs.Cells.{cell, cells}
 -- a field without children or dictionary, of a type that is read
 pub record IsFlat (f : Field) : Type 0 where
   pub shape : field_shape f ≡ (layout_of f, bare)
-  pub open_type : is_open_type (out-Field f).kind ≡ true
+  pub open_type : is_supported_type (out-Field f).kind ≡ true
   pub plain : (out-Field f).dictionary ≡ None
 
-no_children : (kind : DataType) (n : ℕ) → is_open_type kind ≡ true → HasFittingChildren kind n → n ≡ 0
+no_children : (kind : DataType) (n : ℕ) → is_supported_type kind ≡ true → HasFittingChildren kind n → n ≡ 0
 no_children t.List n o h = absurd (cc)
 no_children t.Struct n o h = absurd (cc)
 no_children t.Null n o h = h
@@ -38,7 +38,7 @@ no_children (t.FixedSizeBinary width) n o h = h
 no_children (t.Date unit) n o h = h
 no_children (t.Timestamp unit timezone) n o h = h
 
-no_dictionary : (kind : DataType) (d : Option Dictionary) → is_open kind d ≡ true → (is_open_type kind ≡ true) × (d ≡ None)
+no_dictionary : (kind : DataType) (d : Option Dictionary) → is_supported kind d ≡ true → (is_supported_type kind ≡ true) × (d ≡ None)
 no_dictionary kind None h = (h, refl)
 no_dictionary kind (Some d) h = absurd (cc)
 
@@ -46,9 +46,9 @@ no_items : {X : Type 0} (xs : List X) → length xs ≡ 0 → xs ≡ []
 no_items [] h = refl
 no_items (x ∷ xs) h = absurd (omega arith)
 
-flat : (f : Field) → is_open_field f ≡ true → HasFittingChildren (out-Field f).kind (length (out-Field f).children) → IsFlat f
+flat : (f : Field) → is_supported_field f ≡ true → HasFittingChildren (out-Field f).kind (length (out-Field f).children) → IsFlat f
 flat f o h =
-    let parts = and_parts (is_open (out-Field f).kind (out-Field f).dictionary) (all_true (map is_open_field (out-Field f).children)) (sym (fold_out-Field Bool open_step f) ∙ o) in
+    let parts = and_parts (is_supported (out-Field f).kind (out-Field f).dictionary) (all_true (map is_supported_field (out-Field f).children)) (sym (fold_out-Field Bool supported_step f) ∙ o) in
     let plain = no_dictionary (out-Field f).kind (out-Field f).dictionary parts.0 in
     let none = no_items (out-Field f).children (no_children (out-Field f).kind (length (out-Field f).children) plain.0 h) in
     record {
@@ -68,10 +68,10 @@ first_fine f rest h =
     let here : AllByRecursion IsFieldWellFormed (preorder_step layer 1 ++ rest) = subst (λ (l : Listing). AllByRecursion IsFieldWellFormed (l 1 ++ rest)) (fold_out-Field Listing preorder_step f) h in
     subst (λ (n : ℕ). HasFittingChildren (out-Field f).kind n) (length-map (out-Field f).children preorder) here.0.fitting_children
 
-pub flats : (fs : List Field) → are_open fs ≡ true → AllByRecursion IsFieldWellFormed (entries fs) → AllByRecursion IsFlat fs
+pub flats : (fs : List Field) → are_supported fs ≡ true → AllByRecursion IsFieldWellFormed (entries fs) → AllByRecursion IsFlat fs
 flats [] o h = tt
 flats (f ∷ fs) o h =
-    let parts = and_parts (is_open_field f) (are_open fs) o in (
+    let parts = and_parts (is_supported_field f) (are_supported fs) o in (
       flat f parts.0 (first_fine f (all_at 1 (map preorder fs)) h),
       flats fs parts.1 (all_left IsFieldWellFormed (preorder f 1) (all_at 1 (map preorder fs)) h),
     )

@@ -18,7 +18,7 @@ use Rattle.ipc_model.specs.declared.schema.Field.{Field, out-Field}
 use Rattle.ipc_model.specs.declared.value.Value.{Value, out-Value}
 use Rattle.ipc_model.specs.declared.value.Value.TheOpen.{Value-F}
 use Rattle.ipc_model.specs.declared.value.Value.TheVariants as v
-use Rattle.ipc_meta.specs.Open.{is_open_type, are_open}
+use Rattle.ipc_meta.specs.Supported.{is_supported_type, are_supported}
 use Rattle.ipc_meta.specs.declared.head.BatchHead.{BatchHead}
 use Rattle.ipc_column.specs.declared.layout.Layout.{Layout}
 use Rattle.ipc_column.specs.declared.layout.Layout.TheVariants as l
@@ -150,7 +150,7 @@ known (l.FixedBytes width) vs h = all_top vs
 known l.Unread vs h = all_top vs
 
 -- a value of a type's own is held by its layout
-held : (kind : DataType) (nullable : Bool) (n : ℕ) (w : Value-F Value) → is_open_type kind ≡ true → IsOwn kind nullable n w → Known (type_layout kind) w → Holds (type_layout kind) w
+held : (kind : DataType) (nullable : Bool) (n : ℕ) (w : Value-F Value) → is_supported_type kind ≡ true → IsOwn kind nullable n w → Known (type_layout kind) w → Holds (type_layout kind) w
 held t.List nullable n w o h m = absurd (cc)
 held t.Struct nullable n w o h m = absurd (cc)
 held t.Null nullable n Value-F.Null o h m = tt
@@ -283,7 +283,7 @@ abbrev head_of : List Field → List (List Value) → BatchHead
 head_of fields rows = record { length = pos (length rows); nodes = nodes_from 0 fields rows; buffers = ranges_from 0 (buffers_of fields rows) }
 
 -- the parts that rows are written as give the rows
-pub rows_back : (fields : List Field) (rows : List (List Value)) → are_open fields ≡ true → AllByRecursion IsFieldWellFormed (entries fields) → AllByRecursion (RowFits fields) rows → IsWithin fields rows → AllStored 0 fields rows
+pub rows_back : (fields : List Field) (rows : List (List Value)) → are_supported fields ≡ true → AllByRecursion IsFieldWellFormed (entries fields) → AllByRecursion (RowFits fields) rows → IsWithin fields rows → AllStored 0 fields rows
     → Rows fields (head_of fields rows) (body_of fields rows) rows
 rows_back fields rows o fine fits within spells =
     let head = head_of fields rows in
@@ -315,7 +315,7 @@ rows_back fields rows o fine fits within spells =
     }
 
 -- the same of any parts that are these lists
-pub rows_of_parts : (fields : List Field) (rows : List (List Value)) (nodes buffers : List (ℤ × ℤ)) (body : List ℕ) → are_open fields ≡ true → AllByRecursion IsFieldWellFormed (entries fields) → AllByRecursion (RowFits fields) rows → IsWithin fields rows
+pub rows_of_parts : (fields : List Field) (rows : List (List Value)) (nodes buffers : List (ℤ × ℤ)) (body : List ℕ) → are_supported fields ≡ true → AllByRecursion IsFieldWellFormed (entries fields) → AllByRecursion (RowFits fields) rows → IsWithin fields rows
     → AllStored 0 fields rows → nodes ≡ nodes_from 0 fields rows → buffers ≡ ranges_from 0 (buffers_of fields rows) → body ≡ body_of fields rows
     → Rows fields (record { length = pos (length rows); nodes = nodes; buffers = buffers }) body rows
 rows_of_parts fields rows nodes buffers body o fine fits within spells n r b =

@@ -3,7 +3,7 @@ ghost use Rattle.std.specs.List.{AllByRecursion};
 ghost use Rattle.ipc_model.specs.Fits.{RowFits};
 ghost use Rattle.ipc_model.specs.WellFormed.{IsFieldWellFormed};
 ghost use Rattle.ipc_model.specs.Entries.{entries};
-ghost use Rattle.ipc_meta.specs.Open.{are_open};
+ghost use Rattle.ipc_meta.specs.Supported.{are_supported};
 ghost use Rattle.ipc_column.specs.Rows.{Rows};
 ghost use Rattle.ipc_encode.specs.Buffers.{AreLaidOut};
 ghost use Rattle.ipc_encode.specs.Writing.{IsDrafted};
@@ -55,14 +55,14 @@ pub fn encode<I: IndexOf>(
     requires fine { AllByRecursion IsFieldWellFormed (entries fields.now) }
     requires conform { AllByRecursion (RowFits fields.now) rows.now }
     // The parts give these rows back.
-    ensures rows { IfOk result (λ parts. are_open fields.now ≡ true → Rows fields.now (record { length = pos (length rows.now); nodes = parts.nodes; buffers = parts.buffers }) parts.body.items rows.now) }
+    ensures rows { IfOk result (λ parts. are_supported fields.now ≡ true → Rows fields.now (record { length = pos (length rows.now); nodes = parts.nodes; buffers = parts.buffers }) parts.body.items rows.now) }
     // They are one list of nodes, buffers and bytes.
-    ensures laid_out { IfOk result (λ parts. are_open fields.now ≡ true → AreLaidOut fields.now rows.now parts) }
+    ensures laid_out { IfOk result (λ parts. are_supported fields.now ≡ true → AreLaidOut fields.now rows.now parts) }
     // What is written is within the limits.
-    ensures within { IfOk result (λ parts. are_open fields.now ≡ true → IsWithin fields.now rows.now) }
+    ensures within { IfOk result (λ parts. are_supported fields.now ≡ true → IsWithin fields.now rows.now) }
     ensures body { IfOk result (λ parts. length parts.body.items ≤ 2 ^ 40) }
     // A refusal is true of the rows.
-    ensures refused { IfErr result (λ fault. are_open fields.now ≡ true → IsRefused fields.now rows.now fault) }
+    ensures refused { IfErr result (λ fault. are_supported fields.now ≡ true → IsRefused fields.now rows.now fault) }
 {
     let draft = draft_of(alloc, fields, rows)?;
     let Draft {

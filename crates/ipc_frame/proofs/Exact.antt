@@ -8,7 +8,7 @@ use Rattle.ipc_model.specs.declared.fault.Fault.{Fault}
 use Rattle.ipc_model.specs.declared.fault.Fault.TheVariants.{NotContinued, BadMetadataLength, MetadataTooLong}
 use Rattle.ipc_meta.specs.declared.head.Head.{Head}
 use Rattle.ipc_meta.specs.Causes.{Cause}
-use Rattle.ipc_meta.specs.Open.{IsUnread}
+use Rattle.ipc_meta.specs.Supported.{IsUnsupported}
 use Rattle.ipc_meta.specs.Heads.{HeadOf}
 use Rattle.ipc_meta.proofs.Unique.{head_same}
 use Rattle.ipc_meta.proofs.Empty.{no_metadata}
@@ -52,7 +52,7 @@ no_head_longer z c e s = record {
   some = s.some;
   whole = omega (arith, s.whole, length-append z c);
   none = λ head m states read. s.none head m (subst (λ x. HeadOf x head m) (metadata_longer z c s.size s.whole) states) read;
-  cause = subst (λ x. Cause x e ⊎ IsUnread x e) (sym (metadata_longer z c s.size s.whole)) s.cause;
+  cause = subst (λ x. Cause x e ⊎ IsUnsupported x e) (sym (metadata_longer z c s.size s.whole)) s.cause;
 }
 
 -- ---- no more than the bytes wanted

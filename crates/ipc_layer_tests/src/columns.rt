@@ -1,7 +1,7 @@
 //! Batches of one column.
 ghost use Rattle.std.specs.Prelude.{◌≡◌, ◌≤◌, ◌∷◌, [], length, true, IfOk};
 ghost use Rattle.ipc_model.specs.Entries.{entries, max_fields};
-ghost use Rattle.ipc_meta.specs.Open.{are_open, is_open_type};
+ghost use Rattle.ipc_meta.specs.Supported.{are_supported, is_supported_type};
 
 use ipc_column::{Batch, Cell};
 use ipc_meta::BatchHead;
@@ -16,8 +16,8 @@ use std::test::Fail;
 const MOST: i64 = 2_147_483_647;
 
 fn field(alloc: Global, kind: DataType) -> Result<Field, AllocError>
-    requires { is_open_type kind ≡ true }
-    ensures open { IfOk result (λ f. are_open (f ∷ []) ≡ true) }
+    requires { is_supported_type kind ≡ true }
+    ensures open { IfOk result (λ f. are_supported (f ∷ []) ≡ true) }
     ensures few { IfOk result (λ f. length (entries (f ∷ [])) ≤ max_fields) }
 {
     Ok(Field {
@@ -31,8 +31,8 @@ fn field(alloc: Global, kind: DataType) -> Result<Field, AllocError>
 }
 
 fn fields(alloc: Global, kind: DataType) -> Result<Rc<Vec<Field>>, AllocError>
-    requires { is_open_type kind ≡ true }
-    ensures open { IfOk result (λ all. are_open all.value.items ≡ true) }
+    requires { is_supported_type kind ≡ true }
+    ensures open { IfOk result (λ all. are_supported all.value.items ≡ true) }
     ensures few { IfOk result (λ all. length (entries all.value.items) ≤ max_fields) }
 {
     let mut all = Vec::new(alloc);
@@ -48,7 +48,7 @@ fn batch(
     buffers: &[(i64, i64)],
     body: &[u8],
 ) -> Result<Batch, Fault>
-    requires { is_open_type kind ≡ true }
+    requires { is_supported_type kind ≡ true }
 {
     let mut nodes = Vec::new(alloc);
     nodes.push(node).map_err(AllocError::from)?;
@@ -217,7 +217,7 @@ fn bytes_of_one_width(rt: HostRuntime) -> Result<(), Fail> {
 
 // Two slots with these offsets into `xxx` and a letter of two bytes.
 fn two_slots(alloc: Global, kind: DataType, offsets: [u8; 3]) -> Result<Batch, Fault>
-    requires { is_open_type kind ≡ true }
+    requires { is_supported_type kind ≡ true }
 {
     let [first, second, third] = offsets;
     let body = [

@@ -22,4 +22,4 @@ pub mod WrittenHeads
 pub mod WrittenTrees
 pub mod WrittenOrder
 pub mod WrittenAnswers
-pub mod ReadableLemmas
+pub mod SupportedLemmas

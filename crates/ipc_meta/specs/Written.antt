@@ -19,9 +19,9 @@ use Rattle.ipc_model.specs.declared.schema.Schema.{Schema}
 use Rattle.ipc_meta.specs.declared.head.BatchHead.{BatchHead}
 
 -- these fields, and then the rest
-abbrev pub graft : List (ℕ × Slot) → Tree → Tree
-graft [] rest = rest
-graft (x ∷ xs) rest = field x.0 (node x.1).0 (node x.1).1 (graft xs rest)
+abbrev pub fields_then : List (ℕ × Slot) → Tree → Tree
+fields_then [] rest = rest
+fields_then (x ∷ xs) rest = field x.0 (node x.1).0 (node x.1).1 (fields_then xs rest)
 
 -- field k is this byte, and then come the rest
 abbrev pub with_byte : ℕ → ℕ → Tree → Tree

@@ -4,7 +4,7 @@ ghost use Rattle.ipc_flat.specs.Views.{scalar};
 ghost use Rattle.ipc_model.specs.Answers.{UnlessOutOfMemory, AnswersUnlessOutOfMemory};
 ghost use Rattle.ipc_meta.specs.Fields.{SchemaAt};
 ghost use Rattle.ipc_meta.specs.Heads.{HeaderAt, HeadOf};
-ghost use Rattle.ipc_meta.specs.Open.{IsRead, IsUnread};
+ghost use Rattle.ipc_meta.specs.Supported.{IsSupported, IsUnsupported};
 ghost use Rattle.ipc_meta.specs.Reached.{HasTable, message, schema};
 ghost use Rattle.ipc_meta.specs.Causes.{Cause};
 
@@ -13,7 +13,7 @@ use crate::budget::Budget;
 use crate::fields::{read_fields, read_pairs};
 use crate::head::Head;
 use crate::lifted::lifted;
-use crate::readable::check_read;
+use crate::readable::check_supported;
 use ipc_flat::{Flat, TableRef};
 use ipc_model::fault::Fault;
 use ipc_model::schema::Schema;
@@ -111,7 +111,7 @@ fn read_stated(alloc: Global, metadata: &[u8]) -> Result<(Head, u64), Fault>
 ///
 /// `metadata` is the FlatBuffer alone, without the mark and the size before it; padding behind it may
 /// hold anything (Arrow Columnar Format, "Encapsulated message format"). A schema that is answered is
-/// well formed, and columns of each of its fields are read here (`are_open`). An absent vector is empty, an absent
+/// well formed, and columns of each of its fields are read here (`are_supported`). An absent vector is empty, an absent
 /// name, key or value is the empty text, and an absent timezone is none, unlike an empty one.
 /// Memory for texts, fields, nodes and buffers is taken from `alloc`.
 ///
@@ -128,7 +128,7 @@ fn read_stated(alloc: Global, metadata: &[u8]) -> Result<(Head, u64), Fault>
 /// - `BodyTooLong` (F9): the body has more than 2^40 bytes.
 /// - `BigEndian` (F12): the schema's endianness is not Little.
 /// - `UnsupportedType` (F13): a field's type is none of those that are known here, or the metadata
-///   states a schema with a field whose columns are not read here (`are_open`); with the type's code
+///   states a schema with a field whose columns are not read here (`are_supported`); with the type's code
 ///   in union Type (Schema.fbs).
 /// - `BadType` (F14): a field's type has no table, or a width or a unit that no type has.
 /// - `BadChildren` (F15): a list without exactly one child, or children of a type that has none.
@@ -145,11 +145,11 @@ fn read_stated(alloc: Global, metadata: &[u8]) -> Result<(Head, u64), Fault>
 /// - `OutOfMemory` (F37): `alloc` refused memory.
 pub fn read_message(alloc: Global, metadata: &[u8]) -> Result<(Head, u64), Fault>
     ensures found { IfOk result (λ r. HeadOf metadata.now r.0 r.1) }
-    ensures read { IfOk result (λ r. IsRead r.0) }
-    ensures only { (head : Head) (m : ℕ) → HeadOf metadata.now head m → IsRead head → MatchResult result (λ r. (r.0 ≡ head) × (r.1 ≡ m)) (λ f. f ≡ Fault.OutOfMemory) }
-    ensures refused { IfErr result (λ f. UnlessOutOfMemory f (Cause metadata.now f ⊎ IsUnread metadata.now f)) }
+    ensures read { IfOk result (λ r. IsSupported r.0) }
+    ensures only { (head : Head) (m : ℕ) → HeadOf metadata.now head m → IsSupported head → MatchResult result (λ r. (r.0 ≡ head) × (r.1 ≡ m)) (λ f. f ≡ Fault.OutOfMemory) }
+    ensures refused { IfErr result (λ f. UnlessOutOfMemory f (Cause metadata.now f ⊎ IsUnsupported metadata.now f)) }
 {
     let (head, body) = read_stated(alloc, metadata)?;
-    check_read(&head)?;
+    check_supported(&head)?;
     Ok((head, body))
 }

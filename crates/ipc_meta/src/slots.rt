@@ -1,7 +1,7 @@
 //! The fields of tables that are written.
 ghost use Rattle.std.specs.Prelude.{◌≡◌, map, IfOk};
 ghost use Rattle.ipc_build.specs.Trees.{none, string, node, view, fields_view};
-ghost use Rattle.ipc_meta.specs.Written.{graft, pair_tree, with_pairs};
+ghost use Rattle.ipc_meta.specs.Written.{fields_then, pair_tree, with_pairs};
 
 use ipc_build::{FlatTree, Slot};
 use ipc_model::items::{Items, Text};
@@ -51,7 +51,7 @@ pub(crate) fn push_pairs(
     number: u16,
     pairs: &Items<(Text, Text)>,
 ) -> Result<(), AllocError>
-    ensures { IfOk result (λ _. graft slots.new.items none ≡ graft slots.old.items (with_pairs number pairs.now)) }
+    ensures { IfOk result (λ _. fields_then slots.new.items none ≡ fields_then slots.old.items (with_pairs number pairs.now)) }
 {
     if pairs.len() > 0 {
         let trees = pair_trees(alloc, pairs.as_slice())?;

@@ -3,7 +3,7 @@ ghost use Rattle.std.specs.Prelude.{◌≡◌, IfOk, pos};
 ghost use Rattle.ipc_build.specs.Trees.{Tree, fields_view};
 ghost use Rattle.ipc_model.specs.Ranges.{width};
 ghost use Rattle.ipc_model.specs.declared.schema.DataType.TheVariants as t;
-ghost use Rattle.ipc_meta.specs.Written.{graft, int_tree, date_code, time_code, type_tree, type_code, dictionary_tree, with_dictionary};
+ghost use Rattle.ipc_meta.specs.Written.{fields_then, int_tree, date_code, time_code, type_tree, type_code, dictionary_tree, with_dictionary};
 
 use crate::slots::{Slots, table_of, text_slot};
 use ipc_build::Slot;
@@ -120,7 +120,7 @@ pub(crate) fn push_dictionary(
     slots: &mut Slots,
     dictionary: Option<Dictionary>,
 ) -> Result<(), AllocError>
-    ensures { IfOk result (λ _. (rest : Tree) → graft slots.new.items rest ≡ graft slots.old.items (with_dictionary dictionary rest)) }
+    ensures { IfOk result (λ _. (rest : Tree) → fields_then slots.new.items rest ≡ fields_then slots.old.items (with_dictionary dictionary rest)) }
 {
     if let Some(dictionary) = dictionary {
         let encoding = table_of(dictionary_slots(alloc, dictionary)?);

@@ -7,7 +7,7 @@ use Rattle.ipc_model.specs.declared.fault.Fault.{Fault}
 use Rattle.ipc_model.specs.declared.schema.Schema.{Schema}
 use Rattle.ipc_model.specs.declared.value.Value.{Value}
 use Rattle.ipc_meta.specs.declared.head.Head.{Head}
-use Rattle.ipc_meta.specs.Open.{IsRead, are_open}
+use Rattle.ipc_meta.specs.Supported.{IsSupported, are_supported}
 use Rattle.ipc_frame.specs.Frames.{eos, Frame}
 use Rattle.ipc_frame.proofs.OneFrame.{frame_one}
 use Rattle.ipc_column.specs.Contents.{Contents}
@@ -77,7 +77,7 @@ nothing_read σ x left r h =
     let all : h.rest ≡ x = sym (h.joined ∙ ap (λ z. z ++ h.rest) none.0) in
     subst (λ z. Ends σ z left r) all (subst (λ τ. Ends τ h.rest left r) (sym none.1) h.ends)
 
-module _ (σ : State) (x u z b : List ℕ) (e : Event) (m : IsMessage σ x e) (read : IsRead m.head) (joined : x ++ u ≡ z ++ b) where
+module _ (σ : State) (x u z b : List ℕ) (e : Event) (m : IsMessage σ x e) (read : IsSupported m.head) (joined : x ++ u ≡ z ++ b) where
   no_end : (end : End) → Ends σ z (Some b) (Ok end) → ⊥
   no_end Mark h = frame_stop x m.metadata m.body u (z ++ b) m.head m.frame joined (inr (b, ap (λ y. y ++ b) h.0))
   no_end Closed h = frame_stop x m.metadata m.body u (z ++ b) m.head m.frame joined (inl (ap (λ y. y ++ b) h.0 ∙ h.2))
@@ -98,7 +98,7 @@ opens_schema old new x rest s h is o =
     let one : schema s ≡ schema new.schema = same_event None x h.x rest k.0 (schema s) (schema new.schema) (one_message (schema s) o refl) (one_message (schema new.schema) h.run refl) k.2 in
     cc
 
-pub opens_fails : (old new : Option (List ℕ)) (fault : Fault) (x rest : List ℕ) (s : Schema) → are_open s.fields ≡ true → OpensNot old new fault → old ≡ Some (x ++ rest) → OpensStream s x → IsAside fault
+pub opens_fails : (old new : Option (List ℕ)) (fault : Fault) (x rest : List ℕ) (s : Schema) → are_supported s.fields ≡ true → OpensNot old new fault → old ≡ Some (x ++ rest) → OpensStream s x → IsAside fault
 opens_fails old new fault x rest s read h is o =
     let k = known (x ++ rest) h.x old new is h.bytes in
     let reads = subst (λ left. Reads None h.x left [] (Err fault)) k.1 h.reads in
@@ -106,7 +106,7 @@ opens_fails old new fault x rest s read h is o =
     only_aside None x rest h.x k.0 (schema s) m (step_read [] m.step (read, tt)).0 k.2 fault (nothing_read None h.x (Some k.0) (Err fault) reads)
 
 -- the schema, or want of memory or a failure of the source
-pub opens_or : {T E : Type 0} (r : Result T E) (view : T → Reader) (left : E → Option (List ℕ)) (fault : E → Fault) (old : Option (List ℕ)) (x rest : List ℕ) (s : Schema) → are_open s.fields ≡ true
+pub opens_or : {T E : Type 0} (r : Result T E) (view : T → Reader) (left : E → Option (List ℕ)) (fault : E → Fault) (old : Option (List ℕ)) (x rest : List ℕ) (s : Schema) → are_supported s.fields ≡ true
     → IfOk r (λ t. Opens old (view t)) → IfErr r (λ e. OpensNot old (left e) (fault e)) → old ≡ Some (x ++ rest) → OpensStream s x → MatchResult r (λ t. (view t).schema ≡ s) (λ e. IsAside (fault e))
 opens_or (Ok t) view left fault old x rest s read opened refused is o = opens_schema old (view t) x rest s opened is o
 opens_or (Err e) view left fault old x rest s read opened refused is o = opens_fails old (left e) (fault e) x rest s read refused is o
@@ -114,7 +114,7 @@ opens_or (Err e) view left fault old x rest s read opened refused is o = opens_f
 -- ---- a batch
 
 module _ (o : Open) (x u z b : List ℕ) (rows : List (List Value)) (m : IsMessage (Some o) x (batch rows)) (joined : x ++ u ≡ z ++ b) where
-  read : IsRead m.head
+  read : IsSupported m.head
   read = (step_read [] m.step (tt, tt)).0
 
   abbrev RowsOr : Result (Option Contents) Fault → Type 0

@@ -9,7 +9,7 @@ use Rattle.ipc_model.specs.declared.schema.Dictionary.{Dictionary}
 use Rattle.ipc_model.specs.declared.schema.Field.{Field, fold-roll-Field, ind-Field, map-Field, roll-Field}
 use Rattle.ipc_model.specs.declared.schema.Field.TheOpen.{Field-F}
 use Rattle.ipc_model.specs.declared.schema.Schema.{Schema}
-use Rattle.ipc_meta.specs.Open.{all_true, are_open, is_open, is_open_field, open_step}
+use Rattle.ipc_meta.specs.Supported.{all_true, are_supported, is_supported, is_supported_field, supported_step}
 use Rattle.ipc_stream.specs.Readable.{IsReadable}
 use Rattle.ipc_stream.specs.Reasons.{NamesNone}
 
@@ -28,26 +28,26 @@ plain_both : (xs ys : List Entry) → Plain xs → Plain ys → Plain (xs ++ ys)
 plain_both [] ys p q = q
 plain_both (x ∷ xs) ys p q = plain_first x (xs ++ ys) (p x (inl refl)) (plain_both xs ys (λ a among. p a (inr among)) q)
 
-no_dictionary : (kind : DataType) (d : Option Dictionary) → is_open kind d ≡ true → d ≡ None
+no_dictionary : (kind : DataType) (d : Option Dictionary) → is_supported kind d ≡ true → d ≡ None
 no_dictionary kind None h = refl
 no_dictionary kind (Some d) h = absurd (cc)
 
 abbrev IsPlain : Field → Type 0
-IsPlain f = is_open_field f ≡ true → (d : ℕ) → Plain (preorder f d)
+IsPlain f = is_supported_field f ≡ true → (d : ℕ) → Plain (preorder f d)
 
 abbrev Shown : Type 0
 Shown = (f : Field) × IsPlain f
 
-children_plain : (d : ℕ) (cs : List Shown) → all_true (map is_open_field (map (λ c. c.0) cs)) ≡ true → Plain (all_at d (map preorder (map (λ c. c.0) cs)))
+children_plain : (d : ℕ) (cs : List Shown) → all_true (map is_supported_field (map (λ c. c.0) cs)) ≡ true → Plain (all_at d (map preorder (map (λ c. c.0) cs)))
 children_plain d [] h = none_plain
 children_plain d (c ∷ cs) h =
-    let parts = and_parts (is_open_field c.0) (all_true (map is_open_field (map (λ x. x.0) cs))) h in
+    let parts = and_parts (is_supported_field c.0) (all_true (map is_supported_field (map (λ x. x.0) cs))) h in
     plain_both (preorder c.0 d) (all_at d (map preorder (map (λ x. x.0) cs))) (c.1 parts.0 d) (children_plain d cs parts.1)
 
 roll_plain : (x : Field-F Field) (y : Field-F Shown) → map-Field Shown Field (λ c. c.0) y ≡ x → IsPlain (roll-Field x)
 roll_plain x y is = subst (λ z. IsPlain (roll-Field z)) is (λ h d.
     let z = map-Field Shown Field (λ c. c.0) y in
-    let parts = and_parts (is_open z.kind z.dictionary) (all_true (map is_open_field z.children)) (sym (fold-roll-Field Bool open_step z) ∙ h) in
+    let parts = and_parts (is_supported z.kind z.dictionary) (all_true (map is_supported_field z.children)) (sym (fold-roll-Field Bool supported_step z) ∙ h) in
     let layer = map-Field Field Listing preorder z in
     let below = children_plain (d + 1) y.children parts.1 in
     subst (λ (l : Listing). Plain (l d)) (sym (fold-roll-Field Listing preorder_step z)) (plain_first _ _ (no_dictionary z.kind z.dictionary parts.0) below))
@@ -55,10 +55,10 @@ roll_plain x y is = subst (λ z. IsPlain (roll-Field z)) is (λ h d.
 field_plain : (f : Field) → IsPlain f
 field_plain = ind-Field IsPlain roll_plain
 
-fields_plain : (fs : List Field) → are_open fs ≡ true → Plain (entries fs)
+fields_plain : (fs : List Field) → are_supported fs ≡ true → Plain (entries fs)
 fields_plain [] h = none_plain
 fields_plain (f ∷ fs) h =
-    let parts = and_parts (is_open_field f) (are_open fs) h in
+    let parts = and_parts (is_supported_field f) (are_supported fs) h in
     plain_both (preorder f 1) (all_at 1 (map preorder fs)) (field_plain f parts.0 1) (fields_plain fs parts.1)
 
 pub open_names_none : (s : Schema) (id : ℤ) → IsReadable s → NamesNone id s

@@ -6,7 +6,7 @@ use Rattle.ipc_model.specs.declared.fault.Fault.{Fault}
 use Rattle.ipc_model.specs.declared.fault.Fault.TheVariants.{OutOfMemory, Read, Truncated}
 use Rattle.ipc_meta.specs.declared.head.Head.{Head}
 use Rattle.ipc_meta.specs.declared.head.Head.TheVariants as h
-use Rattle.ipc_meta.specs.Open.{IsUnread, TellsUnread}
+use Rattle.ipc_meta.specs.Supported.{IsUnsupported, NamesUnsupported}
 use Rattle.ipc_frame.specs.Frames.{Pending, in_mark, in_size, in_metadata, in_body}
 use Rattle.ipc_frame.specs.Sees.{Refuses, Sees}
 use Rattle.ipc_frame.specs.Decisions.{SeesExactly}
@@ -38,12 +38,12 @@ breaks_frame z left e sees = elim (is_memory e) as (λ b. is_memory e ≡ b → 
   | false ↦ λ h. refused (sees (λ p. other_fault e h p))
 ] refl
 
-not_unread : (head : Head) → TellsUnread head Read → ⊥
+not_unread : (head : Head) → NamesUnsupported head Read → ⊥
 not_unread (h.Schema s) (code, is, unread) = cc
 not_unread (h.Dictionary id b) bad = bad
 not_unread (h.Batch b) bad = bad
 
-no_cause : {metadata : List ℕ} → ⊥ ⊎ IsUnread metadata Read → ⊥
+no_cause : {metadata : List ℕ} → ⊥ ⊎ IsUnsupported metadata Read → ⊥
 no_cause (inl bad) = bad
 no_cause (inr unread) = not_unread unread.0 unread.3
 

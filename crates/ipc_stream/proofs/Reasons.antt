@@ -11,7 +11,7 @@ use Rattle.ipc_model.specs.declared.value.Value.{Value}
 use Rattle.ipc_meta.specs.declared.head.Head.{Head}
 use Rattle.ipc_meta.specs.declared.head.Head.TheVariants as h
 use Rattle.ipc_meta.specs.declared.head.BatchHead.{BatchHead}
-use Rattle.ipc_meta.specs.Open.{IsRead}
+use Rattle.ipc_meta.specs.Supported.{IsSupported}
 use Rattle.ipc_frame.specs.Frames.{Frame, Pending}
 use Rattle.ipc_frame.specs.Sees.{IsFrame, RefusesStart, StatesNoHead}
 use Rattle.ipc_frame.specs.Decisions.{RefusesNow}
@@ -115,12 +115,12 @@ batch_refused o d body e b r =
     none_refused e o.schema.fields d body b.its_rows r (subst (λ z. Rows o.schema.fields z body b.its_rows) (sym same) b.gives)
 
 -- where all schemas that a run tells are of types that are read, so is its first head
-pub step_read : {σ τ : State} {g : Head} {body : List ℕ} {es : List Event} (fs : List Event) → Step σ g body es τ → AllByRecursion IsReadEvent (es ++ fs) → IsRead g × AllByRecursion IsReadEvent fs
+pub step_read : {σ τ : State} {g : Head} {body : List ℕ} {es : List Event} (fs : List Event) → Step σ g body es τ → AllByRecursion IsReadEvent (es ++ fs) → IsSupported g × AllByRecursion IsReadEvent fs
 step_read fs first all = (all.0, all.1)
 step_read fs (came r) all = (tt, all.1)
 
 -- a message x and what follows are the bytes z that were taken and those that are left
-module _ (σ τ : State) (x m body u z b : List ℕ) (g : Head) (es : List Event) (frame : Frame x m g body) (step : Step σ g body es τ) (read : IsRead g) (joined : x ++ u ≡ z ++ b) where
+module _ (σ τ : State) (x m body u z b : List ℕ) (g : Head) (es : List Event) (frame : Frame x m g body) (step : Step σ g body es τ) (read : IsSupported g) (joined : x ++ u ≡ z ++ b) where
   message_early : (e : Fault) → RefusesNow z e → ⊥
   message_early e (inl r) = start_not_frame x m body u g e frame (subst (λ y. RefusesStart y e) (sym joined) (start_longer z b e r.0))
   message_early e (inr r) = no_head_not_frame x m body u g e frame read (subst (λ y. StatesNoHead y e) (sym joined) (no_head_longer z b e r.0))

@@ -8,7 +8,7 @@ use Rattle.ipc_model.specs.declared.table.Table.{Table}
 use Rattle.ipc_meta.specs.declared.head.BatchHead.{BatchHead}
 use Rattle.ipc_meta.specs.declared.head.Head.TheVariants as h
 use Rattle.ipc_frame.specs.Frames.{Pending}
-use Rattle.ipc_frame.specs.Sees.{IsFrame, IsReadFrame}
+use Rattle.ipc_frame.specs.Sees.{IsFrame, IsSupportedFrame}
 use Rattle.ipc_frame.specs.Decisions.{RefusesNow}
 use Rattle.ipc_frame.specs.declared.frame.Frame.{Frame as Framed}
 use Rattle.ipc_frame.specs.declared.frame.Frame.TheVariants as f
@@ -62,7 +62,7 @@ pub data BreaksFrame (z : List ℕ) (left : Option (List ℕ)) (fault : Fault) :
 
 -- a frame, or the end of the source between two frames, or neither
 abbrev pub GivesFrame : List ℕ → Option (List ℕ) → Result (Option Framed) Fault → Type 0
-GivesFrame z left (Ok (Some frame)) = IsFrame z frame × IsReadFrame frame
+GivesFrame z left (Ok (Some frame)) = IsFrame z frame × IsSupportedFrame frame
 GivesFrame z left (Ok None) = (z ≡ []) × IsAtEnd left
 GivesFrame z left (Err fault) = BreaksFrame z left fault
 

@@ -1,7 +1,7 @@
 ghost use Rattle.std.specs.Prelude.{◌≡◌, ◌≤◌, ◌-◌, ◌^◌, ◌<◌, ◌++◌, ℕ, List, Some, IfOk, IfErr, IsSome, MatchResult, true};
 ghost use Rattle.ipc_model.specs.declared.schema.Schema.{Schema};
 ghost use Rattle.ipc_model.specs.declared.value.Value.{Value};
-ghost use Rattle.ipc_meta.specs.Open.{are_open};
+ghost use Rattle.ipc_meta.specs.Supported.{are_supported};
 ghost use Rattle.ipc_stream.specs.declared.end.End.{End};
 ghost use Rattle.ipc_stream.specs.declared.phase.Phase.TheVariants.{Reading};
 ghost use Rattle.ipc_stream.specs.Failures.{StaysOrFails, Tells};
@@ -83,7 +83,7 @@ impl<R: Source> StreamReader<R> {
         ensures fewer { IfOk result (λ s. s.bound < R.bound source) }
         // The message of a schema of types that are read, at the front of the source, is read, whatever follows it, unless memory runs out or
         // the source fails.
-        ensures schema { (x rest : List ℕ) (s : Schema) → are_open s.fields ≡ true → R.remaining source ≡ Some (x ++ rest) → OpensStream s x → MatchResult result (λ reader. reader.schema ≡ s) (λ e. IsAside e.0) }
+        ensures schema { (x rest : List ℕ) (s : Schema) → are_supported s.fields ≡ true → R.remaining source ≡ Some (x ++ rest) → OpensStream s x → MatchResult result (λ reader. reader.schema ≡ s) (λ e. IsAside e.0) }
     {
         open_with(alloc, source, Intake::new(alloc))
     }

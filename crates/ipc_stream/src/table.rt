@@ -1,7 +1,7 @@
 ghost use Rattle.std.specs.Prelude.{◌≡◌, ◌++◌, ◌⊎◌, ℕ, List, [], ◌∷◌, IfErr, IfOk, MatchResult, OnOk, Some, true};
 ghost use Rattle.std.specs.Io.KnownBytes.{Appends, Consumes, IsAtEnd};
 ghost use Rattle.ipc_model.specs.declared.table.Table.{Table};
-ghost use Rattle.ipc_meta.specs.Open.{are_open};
+ghost use Rattle.ipc_meta.specs.Supported.{are_supported};
 ghost use Rattle.ipc_stream.specs.declared.end.End.TheVariants.{Closed, Mark};
 ghost use Rattle.ipc_stream.specs.Failures.{FailsAs};
 ghost use Rattle.ipc_stream.specs.Stream.{Denotes};
@@ -60,9 +60,9 @@ pub fn read_table<R: Source>(alloc: Global, source: &mut R) -> Result<(Table, En
     // What was taken denotes the answer. Where no mark ended it, nothing is left.
     ensures denotes { IfOk result (λ a. (x : List ℕ) × Consumes (R.remaining source.old) (R.remaining source.new) x × Denotes x a.0 a.1 × (a.1 ≡ Closed → IsAtEnd (R.remaining source.new))) }
     // A table of types that are read, with its mark, is answered, whatever follows, unless memory runs out or the source fails.
-    ensures marked { (x rest : List ℕ) (t : Table) → are_open t.schema.fields ≡ true → R.remaining source.old ≡ Some (x ++ rest) → Denotes x t Mark → R.failures source.new ≡ 0 → MatchResult result (λ a. (a.0 ≡ t) × (a.1 ≡ Mark)) (λ fault. fault ≡ Fault.OutOfMemory) }
+    ensures marked { (x rest : List ℕ) (t : Table) → are_supported t.schema.fields ≡ true → R.remaining source.old ≡ Some (x ++ rest) → Denotes x t Mark → R.failures source.new ≡ 0 → MatchResult result (λ a. (a.0 ≡ t) × (a.1 ≡ Mark)) (λ fault. fault ≡ Fault.OutOfMemory) }
     // One without a mark is answered where nothing follows, unless memory runs out or the source fails.
-    ensures closed { (x : List ℕ) (t : Table) → are_open t.schema.fields ≡ true → R.remaining source.old ≡ Some x → Denotes x t Closed → R.failures source.new ≡ 0 → MatchResult result (λ a. (a.0 ≡ t) × (a.1 ≡ Closed)) (λ fault. fault ≡ Fault.OutOfMemory) }
+    ensures closed { (x : List ℕ) (t : Table) → are_supported t.schema.fields ≡ true → R.remaining source.old ≡ Some x → Denotes x t Closed → R.failures source.new ≡ 0 → MatchResult result (λ a. (a.0 ≡ t) × (a.1 ≡ Closed)) (λ fault. fault ≡ Fault.OutOfMemory) }
     // Whatever the answer, what was taken, and why reading ended there.
     ensures exact { TakesTable (R.remaining source.old) (R.remaining source.new) result }
     // F36 is answered exactly where the source failed in this call.

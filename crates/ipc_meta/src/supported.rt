@@ -1,5 +1,5 @@
 ghost use Rattle.std.specs.Prelude.{◌≡◌, true, false, List, ◌∷◌, MatchOption, OnOk, IfErr};
-ghost use Rattle.ipc_meta.specs.Open.{is_open, is_open_field, are_open, IsRead, HasUnread, TellsUnread};
+ghost use Rattle.ipc_meta.specs.Supported.{is_supported, is_supported_field, are_supported, IsSupported, HasUnsupported, NamesUnsupported};
 
 use crate::head::Head;
 use crate::type_slots::type_number;
@@ -7,8 +7,8 @@ use ipc_model::fault::Fault;
 use ipc_model::schema::{DataType, Dictionary, Field};
 
 // Whether columns of this type with this dictionary are read.
-fn is_open(kind: &DataType, dictionary: Option<Dictionary>) -> bool
-    ensures { result ≡ is_open kind.now dictionary }
+fn is_supported(kind: &DataType, dictionary: Option<Dictionary>) -> bool
+    ensures { result ≡ is_supported kind.now dictionary }
 {
     dictionary.is_none()
         && match kind {
@@ -27,22 +27,22 @@ fn is_open(kind: &DataType, dictionary: Option<Dictionary>) -> bool
 // The type's code (Schema.fbs, union Type) of this field, or of the first below it, whose columns are
 // not read.
 #[cycle(unread)]
-fn unread_at(field: &Field) -> Option<u8>
-    ensures { MatchOption result (is_open_field field.now ≡ true) (λ code. (is_open_field field.now ≡ false) × ((behind : List Field) → HasUnread code (field.now ∷ behind))) }
+fn unsupported_at(field: &Field) -> Option<u8>
+    ensures { MatchOption result (is_supported_field field.now ≡ true) (λ code. (is_supported_field field.now ≡ false) × ((behind : List Field) → HasUnsupported code (field.now ∷ behind))) }
 {
-    if !is_open(&field.kind, field.dictionary) {
+    if !is_supported(&field.kind, field.dictionary) {
         return Some(type_number(&field.kind));
     }
-    unread_in(field.children.as_slice())
+    unsupported_in(field.children.as_slice())
 }
 
 // The same of several fields.
 #[cycle(unread)]
-fn unread_in(fields: &[Field]) -> Option<u8>
-    ensures { MatchOption result (are_open fields.now ≡ true) (λ code. (are_open fields.now ≡ false) × HasUnread code fields.now) }
+fn unsupported_in(fields: &[Field]) -> Option<u8>
+    ensures { MatchOption result (are_supported fields.now ≡ true) (λ code. (are_supported fields.now ≡ false) × HasUnsupported code fields.now) }
 {
     for field in fields {
-        if let Some(code) = unread_at(field) {
+        if let Some(code) = unsupported_at(field) {
             return Some(code);
         }
     }
@@ -51,23 +51,23 @@ fn unread_in(fields: &[Field]) -> Option<u8>
 
 /// Whether columns of these fields, their descendants included, are read and written here: neither a list nor a struct, and
 /// without a dictionary (Schema.fbs, union Type and table DictionaryEncoding). It takes no memory.
-pub fn are_open(fields: &[Field]) -> bool
-    ensures { result ≡ are_open fields.now }
+pub fn are_supported(fields: &[Field]) -> bool
+    ensures { result ≡ are_supported fields.now }
 {
-    unread_in(fields).is_none()
+    unsupported_in(fields).is_none()
 }
 
 /// Asks that the columns of a schema are read here. One that isn't is `UnsupportedType`, with its
 /// type's code.
-pub(crate) fn check_read(head: &Head) -> Result<(), Fault>
-    ensures ok { OnOk result (IsRead head.now) }
-    ensures only { IfErr result (λ f. ¬ IsRead head.now) }
-    ensures refused { IfErr result (λ f. TellsUnread head.now f) }
+pub(crate) fn check_supported(head: &Head) -> Result<(), Fault>
+    ensures ok { OnOk result (IsSupported head.now) }
+    ensures only { IfErr result (λ f. ¬ IsSupported head.now) }
+    ensures refused { IfErr result (λ f. NamesUnsupported head.now f) }
 {
     let Head::Schema(schema) = head else {
         return Ok(());
     };
-    match unread_in(schema.fields.as_slice()) {
+    match unsupported_in(schema.fields.as_slice()) {
         None => Ok(()),
         Some(code) => Err(Fault::UnsupportedType(code)),
     }

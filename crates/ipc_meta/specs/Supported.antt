@@ -1,0 +1,73 @@
+-- Which columns are read and written (Schema.fbs, union Type and table DictionaryEncoding). No other definition speaks of this: what
+-- metadata states, it states of all types.
+use Rattle.std.specs.Prelude.{◌≡◌, ℕ, Bool, true, false, ◌&&◌, List, [], ◌∷◌, Option, Some, None, ⊤}
+use Rattle.ipc_model.specs.declared.fault.Fault.{Fault}
+use Rattle.ipc_model.specs.declared.fault.Fault.TheVariants.{UnsupportedType}
+use Rattle.ipc_model.specs.declared.schema.DataType.{DataType}
+use Rattle.ipc_model.specs.declared.schema.DataType.TheVariants as t
+use Rattle.ipc_model.specs.declared.schema.Dictionary.{Dictionary}
+use Rattle.ipc_model.specs.declared.schema.Field.{Field, fold-Field, out-Field}
+use Rattle.ipc_model.specs.declared.schema.Field.TheOpen.{Field-F}
+use Rattle.ipc_meta.specs.declared.head.Head.{Head}
+use Rattle.ipc_meta.specs.declared.head.Head.TheVariants as head
+use Rattle.ipc_meta.specs.Heads.{HeadOf}
+use Rattle.ipc_meta.specs.Written.{type_code}
+
+-- the types whose columns are read
+abbrev pub is_supported_type : DataType → Bool
+is_supported_type t.Null = true
+is_supported_type t.Bool = true
+is_supported_type (t.Int bits signed) = true
+is_supported_type t.Binary = true
+is_supported_type t.Utf8 = true
+is_supported_type (t.FixedSizeBinary width) = true
+is_supported_type (t.Date unit) = true
+is_supported_type (t.Timestamp unit timezone) = true
+is_supported_type t.List = false
+is_supported_type t.Struct = false
+
+-- a field's type with its dictionary: columns without a dictionary are read
+abbrev pub is_supported : DataType → Option Dictionary → Bool
+is_supported kind None = is_supported_type kind
+is_supported kind (Some d) = false
+
+-- all of these hold
+abbrev pub all_true : List Bool → Bool
+all_true [] = true
+all_true (b ∷ bs) = b && all_true bs
+
+-- a field is open, and so are its children
+abbrev pub supported_step : Field-F Bool → Bool
+supported_step f = is_supported f.kind f.dictionary && all_true f.children
+
+-- the field and all its descendants are open
+abbrev pub is_supported_field : Field → Bool
+is_supported_field = fold-Field Bool supported_step
+
+-- the same of several fields
+abbrev pub are_supported : List Field → Bool
+are_supported [] = true
+are_supported (f ∷ fs) = is_supported_field f && are_supported fs
+
+-- the columns of a schema are read; a batch has none of its own
+abbrev pub IsSupported : Head → Type 0
+IsSupported (head.Schema s) = are_supported s.fields ≡ true
+IsSupported (head.Dictionary id batch) = ⊤
+IsSupported (head.Batch batch) = ⊤
+
+-- one of these fields, or of those below them, has a type with this code (Schema.fbs, union Type), and columns of it, with its
+-- dictionary, are not read
+pub data HasUnsupported (code : ℕ) : List Field → Type 0 where
+  here : {f : Field} {fs : List Field} → type_code (out-Field f).kind ≡ code → is_supported (out-Field f).kind (out-Field f).dictionary ≡ false → HasUnsupported code (f ∷ fs)
+  below : {f : Field} {fs : List Field} → HasUnsupported code (out-Field f).children → HasUnsupported code (f ∷ fs)
+  behind : {f : Field} {fs : List Field} → HasUnsupported code fs → HasUnsupported code (f ∷ fs)
+
+-- the fault tells the code of such a field of this head
+abbrev pub NamesUnsupported : Head → Fault → Type 0
+NamesUnsupported (head.Schema s) fault = (code : ℕ) × (fault ≡ UnsupportedType code) × HasUnsupported code s.fields
+NamesUnsupported (head.Dictionary id batch) fault = ⊥
+NamesUnsupported (head.Batch batch) fault = ⊥
+
+-- the metadata states a head, and the fault tells the code of a field in it whose columns are not read
+abbrev pub IsUnsupported : List ℕ → Fault → Type 0
+IsUnsupported metadata fault = (stated : Head) × (m : ℕ) × HeadOf metadata stated m × NamesUnsupported stated fault
