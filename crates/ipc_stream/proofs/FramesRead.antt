@@ -8,7 +8,7 @@ use Rattle.ipc_meta.specs.declared.head.Head.{Head}
 use Rattle.ipc_meta.specs.declared.head.Head.TheVariants as h
 use Rattle.ipc_meta.specs.Supported.{IsUnsupported, NamesUnsupported}
 use Rattle.ipc_frame.specs.Frames.{Pending, in_mark, in_size, in_metadata, in_body}
-use Rattle.ipc_frame.specs.Sees.{Refuses, Sees}
+use Rattle.ipc_frame.specs.Sees.{RefusesMessage, Sees}
 use Rattle.ipc_frame.specs.Decisions.{SeesExactly}
 use Rattle.ipc_frame.specs.declared.frame.Frame.{Frame as Framed}
 use Rattle.ipc_frame.specs.declared.frame.Seen.{Seen}
@@ -49,9 +49,9 @@ no_cause (inr unread) = not_unread unread.0 unread.3
 
 -- what is seen of some bytes is no failure of their source
 pub not_read : (z : List ℕ) (e : Fault) → Sees z (Err e) → e ≢ Read
-not_read z e sees is = read_no_refusal (subst (Refuses z) is (sees (λ p. let q : Read ≡ OutOfMemory = sym is ∙ p in cc)))
+not_read z e sees is = read_no_refusal (subst (RefusesMessage z) is (sees (λ p. let q : Read ≡ OutOfMemory = sym is ∙ p in cc)))
   where
-    read_no_refusal : Refuses z Read → ⊥
+    read_no_refusal : RefusesMessage z Read → ⊥
     read_no_refusal (inl early) = early
     read_no_refusal (inr late) = no_cause late.cause
 
