@@ -5,7 +5,7 @@ use Rattle.ipc_model.specs.declared.schema.Field.{Field, out-Field, fold_out-Fie
 use Rattle.ipc_meta.specs.declared.head.BatchHead.{BatchHead}
 use Rattle.ipc_column.specs.declared.layout.Layout.{Layout}
 use Rattle.ipc_column.specs.declared.layout.Layout.TheVariants as l
-use Rattle.ipc_column.specs.declared.part.Part.{Part}
+use Rattle.ipc_column.specs.declared.part.ColumnRanges.{ColumnRanges}
 use Rattle.ipc_column.specs.Layouts.{own_buffers}
 use Rattle.ipc_column.specs.Columns.{Columns, none, column, beside, bytes_of}
 use Rattle.ipc_column.specs.Views.{columns, column_of, children_of}
@@ -40,7 +40,7 @@ unfolding bytes_of
 empty_bytes body = elim (nat_le 0 (length body)) as (λ v. cond v (take 0 body) [] ≡ []) [ true ↦ refl | false ↦ refl ]
 
 -- one part more
-pub beside_push : (body : List ℕ) (ps : List Part) (p : Part) (ds : Columns) → beside (columns body (ps ++ p ∷ [])) ds ≡ beside (columns body ps) (column (column_of body p) (children_of body p) ds)
+pub beside_push : (body : List ℕ) (ps : List ColumnRanges) (p : ColumnRanges) (ds : Columns) → beside (columns body (ps ++ p ∷ [])) ds ≡ beside (columns body ps) (column (column_of body p) (children_of body p) ds)
 beside_push body [] p ds = refl
 beside_push body (q ∷ ps) p ds = ap (λ (cs : Columns). column (column_of body q) (children_of body q) cs) (beside_push body ps p ds)
 
@@ -59,7 +59,7 @@ unfolding cut
 cut_done fs i h body n b l = rw (drop_all i fs l) refl
 
 -- one part more, and one field less
-pub cut_step : (fs : List Field) (i : ℕ) (f : Field) (h : BatchHead) (body : List ℕ) (ps : List Part) (p : Part) (n b m d : ℕ) (all : Columns) → i < length fs → f ≡ get_or fs i f
+pub cut_step : (fs : List Field) (i : ℕ) (f : Field) (h : BatchHead) (body : List ℕ) (ps : List ColumnRanges) (p : ColumnRanges) (n b m d : ℕ) (all : Columns) → i < length fs → f ≡ get_or fs i f
     → column_of body p ≡ column_at (field_layout f) h body n b → children_of body p ≡ cut (field_children f) h body (n + 1) (b + own_buffers (field_layout f))
     → m ≡ n + 1 + nodes_in (field_children f) → d ≡ b + own_buffers (field_layout f) + buffers_in (field_children f)
     → beside (columns body ps) (cut (shape_of (drop i fs)) h body n b) ≡ all
@@ -69,7 +69,7 @@ cut_step fs i f h body ps p n b m d all l e ec ek em ed before =
 
 own_most : (l : Layout) → own_buffers l ≤ 3
 own_most l.Null = lit≤ tt
-own_most l.Unread = lit≤ tt
+own_most l.Unsupported = lit≤ tt
 own_most _ = lit≤ tt
 
 pub buffers_most : (s : Shape) → buffers_in s ≤ 3 * nodes_in s

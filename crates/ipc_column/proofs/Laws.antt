@@ -16,10 +16,10 @@ use Rattle.ipc_column.specs.Contents.{Contents}
 use Rattle.ipc_column.specs.Columns.{Column, Columns, every, every_top}
 use Rattle.ipc_column.specs.Shapes.{Shape, shape_of, columns_of, cut}
 use Rattle.ipc_column.specs.Values.{row, rows_of}
-use Rattle.ipc_column.specs.Tests.{fits, head_passes, all, is_slot_count, is_node, CountsHold, IsCounted, Holds, Passing, Failing, HeadHolds, passes, all_pass, fault_of}
-use Rattle.ipc_column.specs.Rows.{Rows, Refuses, IsOneList, HasCounts, HasParts}
+use Rattle.ipc_column.specs.Checks.{fits, head_passes, all, is_slot_count, is_node, CountsHold, IsCounted, Holds, Passing, Failing, HeadHolds, passes, all_pass, fault_of}
+use Rattle.ipc_column.specs.Rows.{Rows, RefusesParts, IsOneList, HasCounts, HasParts}
 use Rattle.ipc_column.proofs.Cells.{rows_length, rows_at}
-use Rattle.ipc_column.proofs.Facts.{decides, length_is, of_nodes, of_ranges, of_slot_count, every_top_true}
+use Rattle.ipc_column.proofs.Rules.{decides, length_is, of_nodes, of_ranges, of_slot_count, every_top_true}
 
 -- the rows of columns, by index
 rows_values : (rows : List (List Value)) (fields : List Field) (head : BatchHead) (body : List ℕ) (n : ℕ) → rows ≡ rows_of (columns_of fields head body) n
@@ -69,7 +69,7 @@ has_parts fields head body h =
     }
 
 -- a fault whose test fails is true of the parts
-pub refuses_from : (f : Fault) (fields : List Field) (head : BatchHead) (body : List ℕ) → Failing f (shape_of fields) head body → Refuses f fields head body
+pub refuses_from : (f : Fault) (fields : List Field) (head : BatchHead) (body : List ℕ) → Failing f (shape_of fields) head body → RefusesParts f fields head body
 refuses_from fault.WrongNodeCount fields head body r = not_from_Decides _ (decides cause.WrongNodeCount fields head body) r
 refuses_from fault.WrongBufferCount fields head body r = not_from_Decides _ (decides cause.WrongBufferCount fields head body) r
 refuses_from fault.BadNode fields head body r = (has_counts fields head body r.0, not_from_Decides _ (decides cause.BadNode fields head body) r.1)
@@ -85,7 +85,7 @@ refuses_from fault.OutOfMemory fields head body r = tt
 refuses_from _ fields head body r = absurd r
 
 -- and then there are no rows
-pub no_rows : (f : Fault) (fields : List Field) (head : BatchHead) (body : List ℕ) (rows : List (List Value)) → Refuses f fields head body → Rows fields head body rows → f ≡ fault.OutOfMemory
+pub no_rows : (f : Fault) (fields : List Field) (head : BatchHead) (body : List ℕ) (rows : List (List Value)) → RefusesParts f fields head body → Rows fields head body rows → f ≡ fault.OutOfMemory
 no_rows fault.OutOfMemory fields head body rows r w = refl
 no_rows fault.WrongNodeCount fields head body rows r w = absurd (r w.nodes)
 no_rows fault.WrongBufferCount fields head body rows r w = absurd (r w.buffers)
@@ -97,7 +97,7 @@ no_rows fault.BadOffsets fields head body rows r w = absurd (r.1 w.order)
 no_rows fault.ValueNotUtf8 fields head body rows r w = absurd (r.1.2 w.texts)
 no_rows _ fields head body rows r w = absurd r
 
-pub only_rows : (fields : List Field) (head : BatchHead) (body : List ℕ) (r : Result Contents Fault) → IfOk r (λ b. Rows fields head body b.rows) → IfErr r (λ f. Refuses f fields head body)
+pub only_rows : (fields : List Field) (head : BatchHead) (body : List ℕ) (r : Result Contents Fault) → IfOk r (λ b. Rows fields head body b.rows) → IfErr r (λ f. RefusesParts f fields head body)
     → (rows : List (List Value)) → Rows fields head body rows → MatchResult r (λ b. b.rows ≡ rows) (λ f. f ≡ fault.OutOfMemory)
 only_rows fields head body (Ok b) a r rows w = one_list fields head body b.rows rows a w
 only_rows fields head body (Err f) a r rows w = no_rows f fields head body rows r w
@@ -107,7 +107,7 @@ pub ok_rows : (fields : List Field) (head : BatchHead) (body : List ℕ) (r : Re
 ok_rows fields head body (Ok b) o h = rows_from fields head body b.rows o h
 ok_rows fields head body (Err f) o h = h
 
-pub err_refuses : (fields : List Field) (head : BatchHead) (body : List ℕ) (r : Result Contents Fault) → IfErr r (λ f. Failing f (shape_of fields) head body) → IfErr r (λ f. Refuses f fields head body)
+pub err_refuses : (fields : List Field) (head : BatchHead) (body : List ℕ) (r : Result Contents Fault) → IfErr r (λ f. Failing f (shape_of fields) head body) → IfErr r (λ f. RefusesParts f fields head body)
 err_refuses fields head body (Ok b) h = h
 err_refuses fields head body (Err f) h = refuses_from f fields head body h
 

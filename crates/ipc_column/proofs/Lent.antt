@@ -8,11 +8,11 @@ use Rattle.ipc_model.specs.declared.value.Value.TheVariants.{Int}
 use Rattle.ipc_model.specs.declared.schema.IntBits.TheVariants.{B64}
 use Rattle.ipc_column.specs.declared.layout.Layout.{Layout}
 use Rattle.ipc_column.specs.declared.layout.Layout.TheVariants.{Numbers}
-use Rattle.ipc_column.specs.declared.part.Part.{Part}
+use Rattle.ipc_column.specs.declared.part.ColumnRanges.{ColumnRanges}
 use Rattle.ipc_column.specs.Columns.{Column}
 use Rattle.ipc_column.specs.Layouts.{is_signed_64}
 use Rattle.ipc_column.specs.Lending.{AreNumbers, AreValues, is_lent, lent_of}
-use Rattle.ipc_column.specs.Tests.{Holds, holds_values}
+use Rattle.ipc_column.specs.Checks.{Holds, holds_values}
 use Rattle.ipc_column.specs.Values.{rows_of, value_of}
 use Rattle.ipc_column.specs.Views.{columns, own_column}
 use Rattle.ipc_column.proofs.Cells.{kept_at, part_long, row_cell, rows_at, rows_length}
@@ -32,12 +32,12 @@ no_bytes [] h = refl
 no_bytes (b ∷ bs) h = absurd (omega arith)
 
 -- what is said of a column's place
-pub lent_at : (body : List ℕ) (ps : List Part) (j : ℕ) (p : Part) → j < length ps → p ≡ get_or ps j p → slice_index_or (lent_of (columns body ps)) j false ≡ is_lent (own_column body p)
+pub lent_at : (body : List ℕ) (ps : List ColumnRanges) (j : ℕ) (p : ColumnRanges) → j < length ps → p ≡ get_or ps j p → slice_index_or (lent_of (columns body ps)) j false ≡ is_lent (own_column body p)
 lent_at body [] j p l e = absurd (omega arith)
 lent_at body (q ∷ ps) zero p l e = rw (sym e) (ap is_lent (column_is body p))
 lent_at body (q ∷ ps) (suc j) p l e = lent_at body ps j p (omega arith) e
 
-module _ (body : List ℕ) (ps : List Part) (n j : ℕ) (p : Part) (values : List ℕ) (inside : j < length ps) (is : p ≡ get_or ps j p) (holds : Holds n (columns body ps)) (lent : AreValues body p values) where
+module _ (body : List ℕ) (ps : List ColumnRanges) (n j : ℕ) (p : ColumnRanges) (values : List ℕ) (inside : j < length ps) (is : p ≡ get_or ps j p) (holds : Holds n (columns body ps)) (lent : AreValues body p values) where
   number_at : (i : ℕ) → value_of (own_column body p) i ≡ Int (int64 values (8 * i))
   number_at i = rw (lent.no_bitmap, lent.wide, lent.same) refl
 

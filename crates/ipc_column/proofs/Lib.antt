@@ -2,7 +2,7 @@ pub mod Fields
 pub mod Parts
 pub mod Entries
 pub mod Cells
-pub mod Facts
+pub mod Rules
 pub mod Laws
 pub mod Numbers
 pub mod Below

@@ -11,7 +11,7 @@ use Rattle.ipc_column.specs.declared.layout.Layout.TheVariants as l
 use Rattle.ipc_column.specs.Layouts.{is_texts}
 use Rattle.ipc_column.specs.Columns.{Column}
 use Rattle.ipc_column.specs.Values.{offset, place, between, is_valid}
-use Rattle.ipc_column.specs.Tests.{all_below, rises, climbs, is_text, slot_good, is_good, AreCuts}
+use Rattle.ipc_column.specs.Checks.{all_below, is_ascending_at, are_ascending, is_text, slot_good, is_good, AreCuts}
 use Rattle.ipc_column.proofs.Below.{below_at, below_from}
 
 -- two tests of one fact
@@ -26,17 +26,17 @@ up_one (pos m) (negsuc n) h l = absurd (cc)
 up_one (negsuc m) b h l = absurd (cc)
 
 -- no offset up to n is negative
-pub above : (o : List ℕ) (n i : ℕ) → int_le (pos 0) (offset o 0) ≡ true → all_below (rises o) n ≡ true → i ≤ n → int_le (pos 0) (offset o i) ≡ true
+pub above : (o : List ℕ) (n i : ℕ) → int_le (pos 0) (offset o 0) ≡ true → all_below (is_ascending_at o) n ≡ true → i ≤ n → int_le (pos 0) (offset o i) ≡ true
 above o n zero h a l = h
 above o n (suc i) h a l =
-    let step : int_le (offset o i) (offset o (i + 1)) ≡ true = below_at (rises o) n i a (omega arith) in
+    let step : int_le (offset o i) (offset o (i + 1)) ≡ true = below_at (is_ascending_at o) n i a (omega arith) in
     let up = (up_one (offset o i) (offset o (i + 1)) (above o n i h a (omega arith)) step).0 in
     rw add-one at up
 
-step_up : (o : List ℕ) (n i : ℕ) → int_le (pos 0) (offset o 0) ≡ true → all_below (rises o) n ≡ true → i < n → place o i ≤ place o (i + 1)
-step_up o n i h a l = (up_one (offset o i) (offset o (i + 1)) (above o n i h a (omega arith)) (below_at (rises o) n i a l)).1
+step_up : (o : List ℕ) (n i : ℕ) → int_le (pos 0) (offset o 0) ≡ true → all_below (is_ascending_at o) n ≡ true → i < n → place o i ≤ place o (i + 1)
+step_up o n i h a l = (up_one (offset o i) (offset o (i + 1)) (above o n i h a (omega arith)) (below_at (is_ascending_at o) n i a l)).1
 
-far_up : (o : List ℕ) (n i d : ℕ) → int_le (pos 0) (offset o 0) ≡ true → all_below (rises o) n ≡ true → i + d ≤ n → place o i ≤ place o (i + d)
+far_up : (o : List ℕ) (n i d : ℕ) → int_le (pos 0) (offset o 0) ≡ true → all_below (is_ascending_at o) n ≡ true → i + d ≤ n → place o i ≤ place o (i + d)
 far_up o n i zero h a l = let e : i + 0 ≡ i = omega arith in rw e (omega arith)
 far_up o n i (suc d) h a l =
     let before = far_up o n i d h a (omega arith) in
@@ -51,10 +51,10 @@ pub record Places (o : List ℕ) (n size i j : ℕ) : Type 0 where
   pub last : place o j ≤ place o n
   pub inside : place o n ≤ size
 
-pub places : (o : List ℕ) (n size i j : ℕ) → climbs o n size ≡ true → i ≤ j → j ≤ n → Places o n size i j
+pub places : (o : List ℕ) (n size i j : ℕ) → are_ascending o n size ≡ true → i ≤ j → j ≤ n → Places o n size i j
 places o n size i j h l m =
-    let p = and_parts (int_le (pos 0) (offset o 0)) (all_below (rises o) n && nat_le (place o n) size) h in
-    let q = and_parts (all_below (rises o) n) (nat_le (place o n) size) p.1 in
+    let p = and_parts (int_le (pos 0) (offset o 0)) (all_below (is_ascending_at o) n && nat_le (place o n) size) h in
+    let q = and_parts (all_below (is_ascending_at o) n) (nat_le (place o n) size) p.1 in
     let up : (a b : ℕ) → a ≤ b → b ≤ n → place o a ≤ place o b = λ a b k t.
     let e : a + (b - a) ≡ b = omega arith in
     rw e at (far_up o n a (b - a) p.0 q.0 (omega arith)) in
@@ -78,7 +78,7 @@ cut_text w b l i j p q r u ci cj =
     subst IsUtf8 (e ∙ ap (λ (k : ℕ). take (j - i) (drop k w)) start) (subst (λ (k : ℕ). IsUtf8 (take k (drop (i - b) (take l (drop b w))))) size t)
 
 -- slots of one text that may be cut where they begin are texts
-pub whole_good : (o w v : List ℕ) (n : ℕ) → climbs o n (length w) ≡ true → is_utf8 (slice_range w (place o 0) (place o n)) ≡ true → AreCuts o (slice_range w (place o 0) (place o n)) n
+pub whole_good : (o w v : List ℕ) (n : ℕ) → are_ascending o n (length w) ≡ true → is_utf8 (slice_range w (place o 0) (place o n)) ≡ true → AreCuts o (slice_range w (place o 0) (place o n)) n
     → all_below (slot_good (VariableBytes true) v o w) n ≡ true
 whole_good o w v n h u cuts = below_from (slot_good (VariableBytes true) v o w) n (λ i l. or_true (not (is_valid v i)) _ (is_utf8-from_IsUtf8 _ (spelled i l)))
   where

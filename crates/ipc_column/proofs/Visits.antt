@@ -4,9 +4,9 @@ use Rattle.std.specs.Prelude.{◌^◌, ℤ, pos, negsuc, unsigned_abs}
 use Rattle.std.proofs.lemmas.Bool.{and_parts, ltb-true}
 use Rattle.ipc_meta.specs.declared.head.BatchHead.{BatchHead}
 use Rattle.ipc_column.specs.Columns.{Column}
-use Rattle.ipc_column.specs.Facts.{text_slots, texts_in, count_of, slots_in}
+use Rattle.ipc_column.specs.Rules.{text_slots, texts_in, count_of, slots_in}
 use Rattle.ipc_column.specs.Shapes.{Shape, bare, field, cut, column_at, nodes_in, buffers_in, node_at}
-use Rattle.ipc_column.specs.Tests.{all, is_node, is_slot_count}
+use Rattle.ipc_column.specs.Checks.{all, is_node, is_slot_count}
 use Rattle.ipc_column.specs.Layouts.{is_texts, own_buffers}
 
 all_at : {X : Type 0} (f : X → Bool) (xs : List X) (i : ℕ) (d : X) → all f xs ≡ true → i < length xs → f (get_or xs i d) ≡ true

@@ -20,18 +20,18 @@ type_layout (t.FixedSizeBinary width) = l.FixedBytes width
 type_layout (t.Date Day) = l.Numbers B32 true
 type_layout (t.Date Millisecond) = l.Numbers B64 true
 type_layout (t.Timestamp unit timezone) = l.Numbers B64 true
-type_layout t.List = l.Unread
-type_layout t.Struct = l.Unread
+type_layout t.List = l.Unsupported
+type_layout t.Struct = l.Unsupported
 
 -- the layout of a field's slots
 abbrev pub layout : DataType → Option Dictionary → Layout
 layout kind None = type_layout kind
-layout kind (Some d) = l.Unread
+layout kind (Some d) = l.Unsupported
 
 -- how many buffers a field has without those of its children (Arrow Columnar Format, "Buffer Listing for Each Layout")
 abbrev pub own_buffers : Layout → ℕ
 own_buffers l.Null = 0
-own_buffers l.Unread = 0
+own_buffers l.Unsupported = 0
 own_buffers (l.VariableBytes utf8) = 3
 own_buffers l.Bits = 2
 own_buffers (l.Numbers bits signed) = 2
@@ -44,7 +44,7 @@ has_validity l.Bits = true
 has_validity (l.Numbers bits signed) = true
 has_validity (l.FixedBytes width) = true
 has_validity (l.VariableBytes utf8) = true
-has_validity l.Unread = true
+has_validity l.Unsupported = true
 
 -- each slot holds a text
 abbrev pub is_texts : Layout → Bool
@@ -53,7 +53,7 @@ is_texts l.Null = false
 is_texts l.Bits = false
 is_texts (l.Numbers bits signed) = false
 is_texts (l.FixedBytes width) = false
-is_texts l.Unread = false
+is_texts l.Unsupported = false
 
 -- each slot holds a signed number of 64 bits
 abbrev pub is_signed_64 : Layout → Bool
@@ -63,7 +63,7 @@ is_signed_64 l.Null = false
 is_signed_64 l.Bits = false
 is_signed_64 (l.FixedBytes width) = false
 is_signed_64 (l.VariableBytes utf8) = false
-is_signed_64 l.Unread = false
+is_signed_64 l.Unsupported = false
 
 -- the bytes of a number
 abbrev pub number_bytes : IntBits → ℕ

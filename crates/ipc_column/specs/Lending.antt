@@ -5,7 +5,7 @@ use Rattle.ipc_model.specs.declared.schema.IntBits.TheVariants.{B64}
 use Rattle.ipc_model.specs.declared.value.Value.{Value}
 use Rattle.ipc_model.specs.declared.value.Value.TheVariants.{Int}
 use Rattle.ipc_column.specs.declared.layout.Layout.TheVariants.{Numbers}
-use Rattle.ipc_column.specs.declared.part.Part.{Part}
+use Rattle.ipc_column.specs.declared.part.ColumnRanges.{ColumnRanges}
 use Rattle.ipc_column.specs.Columns.{Column, Columns, none, column}
 use Rattle.ipc_column.specs.Layouts.{is_signed_64}
 use Rattle.ipc_column.specs.Views.{own_column}
@@ -25,7 +25,7 @@ pub record AreNumbers (rows : List (List Value)) (column : ℕ) (values : List �
   pub each : (i : ℕ) → i < length rows → slice_get (slice_index_or rows i []) column ≡ Some (Int (int64 values (8 * i)))
 
 -- the values of a part of signed 64-bit numbers without a bitmap
-pub record AreValues (body : List ℕ) (p : Part) (values : List ℕ) : Type 0 where
+pub record AreValues (body : List ℕ) (p : ColumnRanges) (values : List ℕ) : Type 0 where
   pub wide : (own_column body p).layout ≡ Numbers B64 true
   pub no_bitmap : (own_column body p).validity ≡ []
   pub same : values ≡ (own_column body p).values

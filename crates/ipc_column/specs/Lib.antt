@@ -2,9 +2,9 @@ pub mod Layouts
 pub mod Columns
 pub mod Shapes
 pub mod Values
-pub mod Facts
+pub mod Rules
 pub mod Rows
-pub mod Tests
+pub mod Checks
 pub mod Views
 pub mod Contents
 pub mod Sharing

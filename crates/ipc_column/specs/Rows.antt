@@ -9,7 +9,7 @@ use Rattle.ipc_meta.specs.declared.head.BatchHead.{BatchHead}
 use Rattle.ipc_meta.specs.Supported.{are_supported}
 use Rattle.ipc_column.specs.Shapes.{columns_of}
 use Rattle.ipc_column.specs.Values.{row}
-use Rattle.ipc_column.specs.Facts.{HasNodes, HasBuffers, HasLengths, HasRanges, HasBytes, HasNullCounts, HasOrder, HasTexts, IsSlotCount, IsNode}
+use Rattle.ipc_column.specs.Rules.{HasNodes, HasBuffers, HasLengths, HasRanges, HasBytes, HasNullCounts, HasOrder, HasTexts, IsSlotCount, IsNode}
 
 -- The head and the body are a record batch of the fields (Arrow Columnar Format, "RecordBatch message"), and these are its rows:
 -- in row i stand the values of slot i, a column beside the other.
@@ -47,17 +47,17 @@ pub record HasParts (fields : List Field) (head : BatchHead) (body : List ℕ) :
 -- The cause of the fault is true of the parts. A node or a range is told of only where the head has as many as the fields need, a column only
 -- where all that the head says is in its bounds too, and a text only where all offsets are there and in order.
 -- Want of memory has no cause in them, and no other fault is answered.
-abbrev pub Refuses : Fault → List Field → BatchHead → List ℕ → Type 0
-Refuses fault.WrongNodeCount fields head body = ¬ HasNodes fields head
-Refuses fault.WrongBufferCount fields head body = ¬ HasBuffers fields head
-Refuses fault.BadNode fields head body = HasCounts fields head × ¬ HasLengths fields head body
-Refuses fault.BufferOutOfBody fields head body = HasCounts fields head × ¬ HasRanges head body
-Refuses fault.BufferTooShort fields head body = HasParts fields head body × ¬ HasBytes fields head body
-Refuses fault.BadNullCount fields head body = HasParts fields head body × ¬ HasNullCounts fields head body
-Refuses fault.BadOffsets fields head body = HasParts fields head body × ¬ HasOrder fields head body
-Refuses fault.ValueNotUtf8 fields head body = HasParts fields head body × (HasBytes fields head body × HasOrder fields head body × ¬ HasTexts fields head body)
-Refuses fault.OutOfMemory fields head body = ⊤
-Refuses _ fields head body = ⊥
+abbrev pub RefusesParts : Fault → List Field → BatchHead → List ℕ → Type 0
+RefusesParts fault.WrongNodeCount fields head body = ¬ HasNodes fields head
+RefusesParts fault.WrongBufferCount fields head body = ¬ HasBuffers fields head
+RefusesParts fault.BadNode fields head body = HasCounts fields head × ¬ HasLengths fields head body
+RefusesParts fault.BufferOutOfBody fields head body = HasCounts fields head × ¬ HasRanges head body
+RefusesParts fault.BufferTooShort fields head body = HasParts fields head body × ¬ HasBytes fields head body
+RefusesParts fault.BadNullCount fields head body = HasParts fields head body × ¬ HasNullCounts fields head body
+RefusesParts fault.BadOffsets fields head body = HasParts fields head body × ¬ HasOrder fields head body
+RefusesParts fault.ValueNotUtf8 fields head body = HasParts fields head body × (HasBytes fields head body × HasOrder fields head body × ¬ HasTexts fields head body)
+RefusesParts fault.OutOfMemory fields head body = ⊤
+RefusesParts _ fields head body = ⊥
 
 -- parts give one list of rows at most
 abbrev pub IsOneList : Type 0

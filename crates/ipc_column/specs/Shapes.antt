@@ -52,7 +52,7 @@ buffer_at head body b = let range = slice_index_or head.buffers b (pos 0, pos 0)
 -- the validity bitmap of a field whose first buffer is b
 abbrev pub validity_at : Layout → BatchHead → List ℕ → ℕ → List ℕ
 validity_at l.Null head body b = []
-validity_at l.Unread head body b = []
+validity_at l.Unsupported head body b = []
 validity_at l.Bits head body b = buffer_at head body b
 validity_at (l.Numbers bits signed) head body b = buffer_at head body b
 validity_at (l.FixedBytes width) head body b = buffer_at head body b
@@ -65,12 +65,12 @@ offsets_at l.Null head body b = []
 offsets_at l.Bits head body b = []
 offsets_at (l.Numbers bits signed) head body b = []
 offsets_at (l.FixedBytes width) head body b = []
-offsets_at l.Unread head body b = []
+offsets_at l.Unsupported head body b = []
 
 -- its values
 abbrev pub values_at : Layout → BatchHead → List ℕ → ℕ → List ℕ
 values_at l.Null head body b = []
-values_at l.Unread head body b = []
+values_at l.Unsupported head body b = []
 values_at (l.VariableBytes utf8) head body b = buffer_at head body (b + 2)
 values_at l.Bits head body b = buffer_at head body (b + 1)
 values_at (l.Numbers bits signed) head body b = buffer_at head body (b + 1)

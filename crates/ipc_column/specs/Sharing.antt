@@ -3,7 +3,7 @@ use Rattle.std.specs.Prelude.{length}
 use Rattle.ipc_column.specs.declared.batch.Shared.{Shared}
 use Rattle.ipc_column.specs.Contents.{Contents}
 use Rattle.ipc_column.specs.Lending.{lent_of}
-use Rattle.ipc_column.specs.Tests.{Holds}
+use Rattle.ipc_column.specs.Checks.{Holds}
 use Rattle.ipc_column.specs.Values.{rows_of}
 use Rattle.ipc_column.specs.Views.{columns}
 

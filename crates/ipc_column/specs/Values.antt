@@ -45,7 +45,7 @@ own_value (l.Numbers bits false) offsets values i = v.UInt (num values (number_b
 own_value (l.FixedBytes width) offsets values i = v.Bytes (slice_range values (width * i) (width * i + width))
 own_value (l.VariableBytes true) offsets values i = v.Text (between offsets values i)
 own_value (l.VariableBytes false) offsets values i = v.Bytes (between offsets values i)
-own_value l.Unread offsets values i = v.Null
+own_value l.Unsupported offsets values i = v.Null
 
 -- the value of slot i
 abbrev pub value_of : Column → ℕ → Value

@@ -3,18 +3,18 @@ ghost use Rattle.std.specs.List.{AllByRecursion};
 ghost use Rattle.ipc_model.specs.declared.value.Value.{Value};
 ghost use Rattle.ipc_model.specs.Entries.{entries, max_fields};
 ghost use Rattle.ipc_meta.specs.Supported.{are_supported};
-ghost use Rattle.ipc_column.specs.Facts.{texts_in, slots_in};
+ghost use Rattle.ipc_column.specs.Rules.{texts_in, slots_in};
 ghost use Rattle.ipc_column.specs.Shapes.{shape_of, nodes_in, columns_of, cut};
-ghost use Rattle.ipc_column.specs.Rows.{Rows, Refuses, IsOneList};
+ghost use Rattle.ipc_column.specs.Rows.{Rows, RefusesParts, IsOneList};
 ghost use Rattle.ipc_column.specs.Sharing.{contents_of, HasRows};
-ghost use Rattle.ipc_column.specs.Tests.{Passing, Failing};
+ghost use Rattle.ipc_column.specs.Checks.{Passing, Failing};
 ghost use Rattle.ipc_column.specs.Lending.{AreNumbers, lent_of};
 ghost use Rattle.ipc_column.specs.Values.{cell_value};
 
 use crate::cell::{Cell, cell_in};
-use crate::cut::{Place, cut_fields};
+use crate::assign::{Cursor, assign_buffers};
 use crate::head::check_head;
-use crate::part::Part;
+use crate::part::ColumnRanges;
 use crate::rows::rows_in;
 use crate::sound::check_columns;
 use crate::values::numbers_in;
@@ -40,7 +40,7 @@ pub struct Batch {
 #[derive(Debug, Drop)]
 struct Shared {
     count: usize,
-    parts: Vec<Part>,
+    parts: Vec<ColumnRanges>,
     body: Vec<u8>,
     slot_tests: u64,
 }
@@ -84,7 +84,7 @@ fn read(alloc: Global, fields: &[Field], head: &BatchHead, body: Vec<u8>) -> Res
     ensures failing { IfErr result (λ fault. Failing fault (shape_of fields.now) head.now body.items) }
 {
     check_head(fields, head, body.len())?;
-    let (parts, _) = cut_fields(alloc, fields, head, Place { node: 0, buffer: 0 })?;
+    let (parts, _) = assign_buffers(alloc, fields, head, Cursor { node: 0, buffer: 0 })?;
     let count = head.length.unsigned_abs() as usize;
     let slot_tests = check_columns(&body, &parts, count)?;
     let shared = Shared {
@@ -135,7 +135,7 @@ impl Batch {
         // Where the parts give rows, these are answered, unless memory runs out.
         ensures only { (rows : List (List Value)) → Rows fields.value.items head body.items rows → MatchResult result (λ batch. batch.rows ≡ rows) (λ fault. fault ≡ Fault.OutOfMemory) }
         // A refusal is true of the parts.
-        ensures refused { IfErr result (λ fault. Refuses fault fields.value.items head body.items) }
+        ensures refused { IfErr result (λ fault. RefusesParts fault fields.value.items head body.items) }
         ensures columns { IfOk result (λ batch. batch.columns ≡ length fields.value.items) }
         // Lent as they lie are the columns of signed 64-bit numbers without a validity bitmap.
         ensures lent { IfOk result (λ batch. batch.lent ≡ lent_of (columns_of fields.value.items head body.items)) }

@@ -23,7 +23,7 @@ pub enum Cause {
 
 impl From<Cause> for Fault {
     ghost use Rattle.std.specs.Prelude.{◌≡◌};
-    ghost use Rattle.ipc_column.specs.Tests.{fault_of};
+    ghost use Rattle.ipc_column.specs.Checks.{fault_of};
 
     ghost from_gives = { λ cause fault. fault ≡ fault_of cause };
 

@@ -1,13 +1,13 @@
 ghost use Rattle.std.specs.Prelude.{◌≡◌, ◌+◌, ◌<◌, length, true, slice_get, Some, IfOk};
 ghost use Rattle.ipc_column.specs.declared.cause.Cause.{Cause};
-ghost use Rattle.ipc_column.specs.Tests.{Holds, has_bitmap, holds_values, holds_offsets, in_order, is_text, is_good, passes};
+ghost use Rattle.ipc_column.specs.Checks.{Holds, has_bitmap, holds_values, holds_offsets, in_order, is_text, is_good, passes};
 ghost use Rattle.ipc_column.specs.Values.{cell_value, is_valid, own_value, value_of, row};
 ghost use Rattle.ipc_column.specs.Views.{columns, column_of, span_bytes};
 
 use crate::fixed::{bytes_of, signed_at, unsigned_at};
 use crate::layout::Layout;
 use crate::offsets::bytes_between;
-use crate::part::{Part, Span};
+use crate::ranges::{ColumnRanges, BufferRange};
 use crate::span::bytes_at;
 use crate::texts::text_of;
 use ipc_model::schema::IntBits;
@@ -63,7 +63,7 @@ fn own_cell<'a>(
         return Cell::Int(signed_at(IntBits::B64, values, slot));
     }
     match layout {
-        Layout::Null | Layout::Unread => Cell::Null,
+        Layout::Null | Layout::Unsupported => Cell::Null,
         Layout::Bits => Cell::Bool(bit(values, slot)),
         Layout::Numbers { bits, signed: true } => Cell::Int(signed_at(bits, values, slot)),
         Layout::Numbers {
@@ -82,7 +82,7 @@ fn own_cell<'a>(
 
 // Whether a slot isn't null, where its bitmap is this span. A span of no bytes isn't looked up.
 #[tactic(auto, unfolding(crate::specs::Columns::bytes_of))]
-fn is_valid_in(body: &[u8], validity: Span, slot: usize) -> bool
+fn is_valid_in(body: &[u8], validity: BufferRange, slot: usize) -> bool
     requires { has_bitmap (slot + 1) (length (span_bytes body.now validity)) ≡ true }
     ensures { result ≡ is_valid (span_bytes body.now validity) slot }
 {
@@ -90,7 +90,7 @@ fn is_valid_in(body: &[u8], validity: Span, slot: usize) -> bool
 }
 
 /// What a slot of a part holds.
-pub(crate) fn cell_at<'a>(body: &'a [u8], part: &'a Part, slot: usize) -> Cell<'a>
+pub(crate) fn cell_at<'a>(body: &'a [u8], part: &'a ColumnRanges, slot: usize) -> Cell<'a>
     requires sound { (why : Cause) → passes why (column_of body.now part.now) ≡ true }
     requires slot { slot < (column_of body.now part.now).slots }
     requires good { is_good (column_of body.now part.now) slot ≡ true }
@@ -111,7 +111,7 @@ pub(crate) fn cell_at<'a>(body: &'a [u8], part: &'a Part, slot: usize) -> Cell<'
 /// What stands in a row and a column of parts that give so many rows.
 pub(crate) fn cell_in<'a>(
     body: &'a [u8],
-    parts: &'a [Part],
+    parts: &'a [ColumnRanges],
     rows: usize,
     at: usize,
     column: usize,

@@ -1,9 +1,9 @@
 ghost use Rattle.std.specs.Prelude.{◌≡◌, ◌≤◌, true, IfErr};
-ghost use Rattle.ipc_column.specs.Tests.{Judges, IsCounted, all, is_slot_count, is_node, lies_in, head_passes};
+ghost use Rattle.ipc_column.specs.Checks.{Judges, IsCounted, all, is_slot_count, is_node, lies_in, head_passes};
 ghost use Rattle.ipc_column.specs.Shapes.{shape_of, nodes_in};
 
 use crate::cause::Cause;
-use crate::cut::{Place, count};
+use crate::assign::{Cursor, count};
 use ipc_meta::BatchHead;
 use ipc_model::schema::Field;
 
@@ -55,7 +55,7 @@ pub(crate) fn check_head(fields: &[Field], head: &BatchHead, size: usize) -> Res
     ensures judged { Judges result (λ why. head_passes why (shape_of fields.now) head.now size) }
     ensures counted { IfErr result (λ why. IsCounted why (shape_of fields.now) head.now size) }
 {
-    let wanted = count(fields, Place { node: 0, buffer: 0 });
+    let wanted = count(fields, Cursor { node: 0, buffer: 0 });
     if head.nodes.len() != wanted.node {
         return Err(Cause::WrongNodeCount);
     }

@@ -25,7 +25,7 @@ pub enum Layout {
         utf8: bool,
     },
     /// A type that isn't read yet: `Batch::check` is given no field of it.
-    Unread,
+    Unsupported,
 }
 
 // The layout of a type's slots.
@@ -50,7 +50,7 @@ fn type_layout(kind: &DataType) -> Layout
             bits: IntBits::B64,
             signed: true,
         },
-        DataType::List | DataType::Struct => Layout::Unread,
+        DataType::List | DataType::Struct => Layout::Unsupported,
     }
 }
 
@@ -60,7 +60,7 @@ pub(crate) fn layout_of(kind: &DataType, dictionary: Option<Dictionary>) -> Layo
 {
     match dictionary {
         None => type_layout(kind),
-        Some(_) => Layout::Unread,
+        Some(_) => Layout::Unsupported,
     }
 }
 
@@ -69,7 +69,7 @@ pub(crate) fn own_buffers(layout: Layout) -> usize
     ensures { result ≡ own_buffers layout }
 {
     match layout {
-        Layout::Null | Layout::Unread => 0,
+        Layout::Null | Layout::Unsupported => 0,
         Layout::Bits | Layout::Numbers { .. } | Layout::FixedBytes(_) => 2,
         Layout::VariableBytes { .. } => 3,
     }

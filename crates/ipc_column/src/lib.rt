@@ -6,15 +6,15 @@
 mod batch;
 mod cause;
 mod cell;
-mod cut;
+mod assign;
 mod fixed;
 mod head;
 mod layout;
 mod offsets;
-mod part;
+mod ranges;
 mod rows;
-mod sound;
-mod span;
+mod validate;
+mod range_bytes;
 mod texts;
 mod values;
 

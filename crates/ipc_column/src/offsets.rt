@@ -1,5 +1,5 @@
 ghost use Rattle.std.specs.Prelude.{◌≡◌, ◌≤◌, ◌<◌, ◌+◌, ◌*◌, length, true};
-ghost use Rattle.ipc_column.specs.Tests.{climbs};
+ghost use Rattle.ipc_column.specs.Checks.{are_ascending};
 ghost use Rattle.ipc_column.specs.Values.{offset, place, between};
 
 use ipc_scalar::get_i32;
@@ -24,7 +24,7 @@ pub(crate) fn place_at(offsets: &[u8], i: usize) -> usize
 #[tactic(auto, using(crate::proofs::Below::all_below_more))]
 pub(crate) fn are_in_order(offsets: &[u8], slots: usize, size: usize) -> bool
     requires { 4 * (slots + 1) ≤ length offsets.now }
-    ensures { result ≡ climbs offsets.now slots size }
+    ensures { result ≡ are_ascending offsets.now slots size }
 {
     let first = offset_at(offsets, 0);
     let mut before = first;
@@ -46,7 +46,7 @@ pub(crate) fn bytes_between<'a>(
 ) -> &'a [u8]
     requires slot { slot < slots }
     requires bytes { 4 * (slots + 1) ≤ length offsets.now }
-    requires order { climbs offsets.now slots (length values.now) ≡ true }
+    requires order { are_ascending offsets.now slots (length values.now) ≡ true }
     ensures { result.now ≡ between offsets.now values.now slot }
 {
     let start = place_at(offsets, slot);

@@ -1,10 +1,10 @@
 ghost use Rattle.std.specs.Prelude.{◌≡◌, ◌<◌, IfOk};
-ghost use Rattle.ipc_column.specs.Tests.{Holds};
+ghost use Rattle.ipc_column.specs.Checks.{Holds};
 ghost use Rattle.ipc_column.specs.Values.{cell_value, row, rows_of};
 ghost use Rattle.ipc_column.specs.Views.{columns};
 
 use crate::cell::{Cell, cell_in};
-use crate::part::Part;
+use crate::part::ColumnRanges;
 use ipc_model::items::{Items, Text};
 use ipc_model::table::Row;
 use ipc_model::value::Value;
@@ -28,7 +28,7 @@ fn value_of(alloc: Global, cell: Cell<'_>) -> Result<Value, AllocError>
 fn row_at(
     alloc: Global,
     body: &[u8],
-    parts: &[Part],
+    parts: &[ColumnRanges],
     rows: usize,
     at: usize,
 ) -> Result<Row, AllocError>
@@ -48,7 +48,7 @@ fn row_at(
 pub(crate) fn rows_in(
     alloc: Global,
     body: &[u8],
-    parts: &[Part],
+    parts: &[ColumnRanges],
     rows: usize,
 ) -> Result<Items<Row>, AllocError>
     requires { Holds rows (columns body.now parts.now) }

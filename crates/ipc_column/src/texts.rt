@@ -2,15 +2,15 @@ ghost use Rattle.std.specs.Prelude.{◌≡◌, ◌≤◌, ◌<◌, ◌+◌, ◌*
 ghost use Rattle.std.specs.Str.{is_utf8, IsCharBoundary};
 ghost use Rattle.ipc_column.specs.declared.cause.Cause.{Cause};
 ghost use Rattle.ipc_column.specs.declared.layout.Layout.TheVariants.{VariableBytes};
-ghost use Rattle.ipc_column.specs.Facts.{text_slots};
-ghost use Rattle.ipc_column.specs.Tests.{AreCuts, all_below, has_bitmap, climbs, passes, slot_good, is_good};
+ghost use Rattle.ipc_column.specs.Rules.{text_slots};
+ghost use Rattle.ipc_column.specs.Checks.{AreCuts, all_below, has_bitmap, are_ascending, passes, slot_good, is_good};
 ghost use Rattle.ipc_column.specs.Values.{place};
 ghost use Rattle.ipc_column.specs.Views.{column_of};
 
 use crate::cell::is_valid;
 use crate::layout::is_texts;
 use crate::offsets::{bytes_between, place_at};
-use crate::part::Part;
+use crate::part::ColumnRanges;
 use crate::span::bytes_at;
 
 /// The text of bytes that were found UTF-8.
@@ -38,7 +38,7 @@ fn may_cut(text: &[u8], at: usize) -> bool
 // Whether each slot of one text begins where that may be cut.
 fn are_cuts(offsets: &[u8], text: &[u8], slots: usize) -> bool
     requires bytes { 4 * (slots + 1) ≤ length offsets.now }
-    requires order { climbs offsets.now slots (place offsets.now 0 + length text.now) ≡ true }
+    requires order { are_ascending offsets.now slots (place offsets.now 0 + length text.now) ≡ true }
     ensures { IsTrue result → AreCuts offsets.now text.now slots }
 {
     let first = place_at(offsets, 0);
@@ -53,7 +53,7 @@ fn are_cuts(offsets: &[u8], text: &[u8], slots: usize) -> bool
 // Whether all slots together are one text that may be cut where they begin.
 fn is_whole(offsets: &[u8], values: &[u8], slots: usize) -> bool
     requires bytes { 4 * (slots + 1) ≤ length offsets.now }
-    requires order { climbs offsets.now slots (length values.now) ≡ true }
+    requires order { are_ascending offsets.now slots (length values.now) ≡ true }
     ensures { IsTrue result → (validity : List ℕ) → all_below (slot_good (VariableBytes true) validity offsets.now values.now) slots ≡ true }
 {
     let text = &values[place_at(offsets, 0)..place_at(offsets, slots)];
@@ -72,7 +72,7 @@ fn visit(
     requires slot { slot < slots }
     requires bitmap { has_bitmap slots (length validity.now) ≡ true }
     requires bytes { 4 * (slots + 1) ≤ length offsets.now }
-    requires order { climbs offsets.now slots (length values.now) ≡ true }
+    requires order { are_ascending offsets.now slots (length values.now) ≡ true }
     requires fits { tests.old + 1 < 2 ^ 64 }
     ensures good { result ≡ slot_good (VariableBytes true) validity.now offsets.now values.now slot }
     ensures counted { tests.new ≡ tests.old + 1 }
@@ -85,7 +85,7 @@ fn visit(
 fn visit_slots(validity: &[u8], offsets: &[u8], values: &[u8], slots: usize) -> Option<u64>
     requires bitmap { has_bitmap slots (length validity.now) ≡ true }
     requires bytes { 4 * (slots + 1) ≤ length offsets.now }
-    requires order { climbs offsets.now slots (length values.now) ≡ true }
+    requires order { are_ascending offsets.now slots (length values.now) ≡ true }
     ensures good { is_some result ≡ all_below (slot_good (VariableBytes true) validity.now offsets.now values.now) slots }
     ensures visited { IfSome result (λ tests. tests ≤ slots) }
 {
@@ -103,7 +103,7 @@ fn visit_slots(validity: &[u8], offsets: &[u8], values: &[u8], slots: usize) -> 
 
 /// How many slots of a part were visited to find that each holds what its type asks for, or `None` where one doesn't.
 /// Texts alone ask for something, and their slots are visited where they aren't one text that may be cut between them.
-pub(crate) fn visit_texts(body: &[u8], part: &Part) -> Option<u64>
+pub(crate) fn visit_texts(body: &[u8], part: &ColumnRanges) -> Option<u64>
     requires { (why : Cause) → passes why (column_of body.now part.now) ≡ true }
     ensures good { is_some result ≡ all_below (is_good (column_of body.now part.now)) (column_of body.now part.now).slots }
     ensures visited { IfSome result (λ tests. tests ≤ text_slots (column_of body.now part.now)) }

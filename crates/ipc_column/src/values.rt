@@ -1,17 +1,17 @@
 ghost use Rattle.std.specs.Prelude.{◌≡◌, ◌<◌, length, List, IfSome, is_some, slice_index_or, false};
 ghost use Rattle.ipc_model.specs.declared.value.Value.{Value};
 ghost use Rattle.ipc_column.specs.Lending.{AreNumbers, AreValues, is_lent, lent_of};
-ghost use Rattle.ipc_column.specs.Tests.{Holds};
+ghost use Rattle.ipc_column.specs.Checks.{Holds};
 ghost use Rattle.ipc_column.specs.Values.{rows_of};
 ghost use Rattle.ipc_column.specs.Views.{columns, own_column};
 
 use crate::layout::is_signed_64;
-use crate::part::Part;
+use crate::part::ColumnRanges;
 use crate::span::bytes_at;
 
 // The values of a part of signed 64-bit numbers without a bitmap.
 #[tactic(auto, using(crate::proofs::Lent::wide, crate::proofs::Lent::no_bytes))]
-fn values_of<'a>(body: &'a [u8], part: &Part) -> Option<&'a [u8]>
+fn values_of<'a>(body: &'a [u8], part: &ColumnRanges) -> Option<&'a [u8]>
     ensures lent { is_some result ≡ is_lent (own_column body.now part.now) }
     ensures values { IfSome result (λ values. AreValues body.now part.now values.now) }
 {
@@ -25,7 +25,7 @@ fn values_of<'a>(body: &'a [u8], part: &Part) -> Option<&'a [u8]>
 /// The numbers in a column of parts that give so many rows, exactly where it has signed numbers of 64 bits and no bitmap.
 pub(crate) fn numbers_in<'a>(
     body: &'a [u8],
-    parts: &[Part],
+    parts: &[ColumnRanges],
     rows: usize,
     column: usize,
 ) -> Option<&'a [u8]>

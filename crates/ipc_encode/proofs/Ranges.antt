@@ -5,7 +5,7 @@ use Rattle.std.specs.List.{AllByRecursion}
 use Rattle.std.proofs.Math.Seq.{drop-append_seam, take-append_seam}
 use Rattle.std.proofs.lemmas.Int.{ints}
 use Rattle.ipc_column.specs.Columns.{bytes_of}
-use Rattle.ipc_column.specs.Facts.{LiesIn}
+use Rattle.ipc_column.specs.Rules.{LiesIn}
 use Rattle.ipc_encode.specs.Buffers.{padded, joined, ranges_from}
 
 -- what stands behind a front

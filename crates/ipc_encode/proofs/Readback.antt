@@ -20,7 +20,7 @@ use Rattle.ipc_column.specs.declared.layout.Layout.{Layout}
 use Rattle.ipc_column.specs.declared.layout.Layout.TheVariants as l
 use Rattle.ipc_column.specs.Layouts.{number_bytes, has_validity}
 use Rattle.ipc_column.specs.Columns.{Column}
-use Rattle.ipc_column.specs.Facts.{HoldValues, HoldOffsets, IsLongEnough, HasBits, CountsNulls, HasOffsets, SpellsTexts}
+use Rattle.ipc_column.specs.Rules.{HoldValues, HoldOffsets, IsLongEnough, HasBits, CountsNulls, HasOffsets, SpellsTexts}
 use Rattle.ipc_column.specs.Values.{is_valid, signed_at, offset, place, between, own_value, value_of}
 use Rattle.ipc_encode.specs.declared.pieces.Flag.TheVariants.{Valid, True}
 use Rattle.ipc_encode.specs.declared.pieces.Slot.{Slot}
@@ -39,7 +39,7 @@ validity_bytes vs = piece_bytes (validity (nulls vs)) vs
 
 abbrev pub validity_in : Layout → List Value → List ℕ
 validity_in l.Null vs = []
-validity_in l.Unread vs = []
+validity_in l.Unsupported vs = []
 validity_in _ vs = validity_bytes vs
 
 abbrev pub offsets_in : Layout → List Value → List ℕ
@@ -58,7 +58,7 @@ column_of l vs = record { layout = l; slots = length vs; nulls = nulls vs; valid
 
 -- a value that a layout holds
 abbrev pub Holds : Layout → Value-F Value → Type 0
-Holds l.Unread w = ⊥
+Holds l.Unsupported w = ⊥
 Holds _ Value-F.Null = ⊤
 Holds l.Bits (Value-F.Bool truth) = ⊤
 Holds (l.Numbers bits true) (Value-F.Int z) = IsSignedWithin (width bits) z
@@ -244,7 +244,7 @@ long_enough lay vs h = record { bitmap = bitmap_there lay; values = values_there
 
     bitmap_there : (l : Layout) → 0 < length (validity_in l vs) → (length vs + 7) / 8 ≤ length (validity_in l vs)
     bitmap_there l.Null h = absurd (omega arith)
-    bitmap_there l.Unread h = absurd (omega arith)
+    bitmap_there l.Unsupported h = absurd (omega arith)
     bitmap_there l.Bits h = some h
     bitmap_there (l.Numbers bits signed) h = some h
     bitmap_there (l.FixedBytes width) h = some h
@@ -271,19 +271,19 @@ counts_nulls lay vs h = record { with_bitmap = there lay; without_bitmap = absen
 
     there : (l : Layout) → has_validity l ≡ true → 0 < length (validity_in l vs) → HasBits (column_of l vs) → nulls vs ≡ clear (validity_in l vs) (length vs)
     there l.Null e h b = absurd (omega arith)
-    there l.Unread e h b = absurd (omega arith)
+    there l.Unsupported e h b = absurd (omega arith)
     there l.Bits e h b = some h
     there (l.Numbers bits signed) e h b = some h
     there (l.FixedBytes width) e h b = some h
     there (l.VariableBytes utf8) e h b = some h
 
-    unread : (vs : List Value) → AllHeld l.Unread vs → nulls vs ≡ 0
+    unread : (vs : List Value) → AllHeld l.Unsupported vs → nulls vs ≡ 0
     unread [] h = refl
     unread (v ∷ vs) h = absurd h.0
 
     absent : (l : Layout) → AllHeld l vs → has_validity l ≡ true → length (validity_in l vs) ≡ 0 → nulls vs ≡ 0
     absent l.Null h e z = absurd (cc)
-    absent l.Unread h e z = unread vs h
+    absent l.Unsupported h e z = unread vs h
     absent l.Bits h e z = none z
     absent (l.Numbers bits signed) h e z = none z
     absent (l.FixedBytes width) h e z = none z
@@ -401,7 +401,7 @@ own_is (l.VariableBytes false) vs i (Value-F.Bytes bytes) k all short e h valid 
 own_is (l.VariableBytes true) vs i (Value-F.Text text) k all short e h valid =
     ap (λ (b : List ℕ). v.Text b) (between_is vs i v.Null k short ∙ ap bytes_in e) ∙ (sym (v.rolls-Text text) ∙ back_to (get_or vs i v.Null) (Value-F.Text text) e)
 own_is l.Null vs i _ k all short e h valid = absurd h
-own_is l.Unread vs i _ k all short e h valid = absurd h
+own_is l.Unsupported vs i _ k all short e h valid = absurd h
 own_is l.Bits vs i _ k all short e h valid = absurd h
 own_is (l.Numbers bits true) vs i _ k all short e h valid = absurd h
 own_is (l.Numbers bits false) vs i _ k all short e h valid = absurd h
@@ -425,7 +425,7 @@ null_held value _ e h = absurd h
 
 pub value_is : (l : Layout) (vs : List Value) (i : ℕ) → i < length vs → AllHeld l vs → IsShort l vs → value_of (column_of l vs) i ≡ get_or vs i v.Null
 value_is l.Null vs i k all short = null_held (get_or vs i v.Null) (out-Value (get_or vs i v.Null)) refl (held_at l.Null vs i v.Null all k)
-value_is l.Unread vs i k all short = absurd (held_at l.Unread vs i v.Null all k)
+value_is l.Unsupported vs i k all short = absurd (held_at l.Unsupported vs i v.Null all k)
 value_is l.Bits vs i k all short = slot_is l.Bits vs i k all short refl
 value_is (l.Numbers bits signed) vs i k all short = slot_is (l.Numbers bits signed) vs i k all short refl
 value_is (l.FixedBytes width) vs i k all short = slot_is (l.FixedBytes width) vs i k all short refl

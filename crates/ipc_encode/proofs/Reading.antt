@@ -25,7 +25,7 @@ use Rattle.ipc_column.specs.declared.layout.Layout.TheVariants as l
 use Rattle.ipc_column.specs.Layouts.{layout, type_layout, own_buffers}
 use Rattle.ipc_column.specs.Columns.{Column, Columns, none, column, Each, EachTop}
 use Rattle.ipc_column.specs.Shapes.{Shape, field, shape_of, field_shape, nodes_in, buffers_in, node_at, buffer_at, column_at, cut, columns_of}
-use Rattle.ipc_column.specs.Facts.{IsNode, LiesIn, IsLongEnough, CountsNulls, HasOffsets, SpellsTexts}
+use Rattle.ipc_column.specs.Rules.{IsNode, LiesIn, IsLongEnough, CountsNulls, HasOffsets, SpellsTexts}
 use Rattle.ipc_column.specs.Values.{row}
 use Rattle.ipc_column.specs.Rows.{Rows}
 use Rattle.ipc_encode.specs.declared.pieces.Slot.TheVariants.{Content}
@@ -52,14 +52,14 @@ own_length l.Bits vs = refl
 own_length (l.Numbers bits signed) vs = refl
 own_length (l.FixedBytes width) vs = refl
 own_length (l.VariableBytes utf8) vs = refl
-own_length l.Unread vs = refl
+own_length l.Unsupported vs = refl
 
 abbrev BuffersAt : BatchHead → List ℕ → ℕ → List (List ℕ) → Type 0
 BuffersAt head body n bs = (k : ℕ) → k < length bs → buffer_at head body (n + k) ≡ get_or bs k []
 
 column_back : (l : Layout) (vs : List Value) (head : BatchHead) (body : List ℕ) (n m : ℕ) → node_at head n ≡ (pos (length vs), pos (nulls vs)) → BuffersAt head body m (b.buffers_in (pieces l (nulls vs)) vs) → column_at l head body n m ≡ column_of l vs
 column_back l.Null vs head body n m e h = λ i. record { layout = l.Null; slots = unsigned_abs (e i).0; nulls = unsigned_abs (e i).1; validity = []; offsets = []; values = [] }
-column_back l.Unread vs head body n m e h = λ i. record { layout = l.Unread; slots = unsigned_abs (e i).0; nulls = unsigned_abs (e i).1; validity = []; offsets = []; values = [] }
+column_back l.Unsupported vs head body n m e h = λ i. record { layout = l.Unsupported; slots = unsigned_abs (e i).0; nulls = unsigned_abs (e i).1; validity = []; offsets = []; values = [] }
 column_back l.Bits vs head body n m e h =
     let first = ap (λ (k : ℕ). buffer_at head body k) (let z : m ≡ m + 0 = omega arith in z) ∙ h 0 (omega arith) in
     let second = h 1 (omega arith) in
@@ -147,7 +147,7 @@ known (l.Numbers bits signed) vs h = all_top vs
 known l.Null vs h = all_top vs
 known l.Bits vs h = all_top vs
 known (l.FixedBytes width) vs h = all_top vs
-known l.Unread vs h = all_top vs
+known l.Unsupported vs h = all_top vs
 
 -- a value of a type's own is held by its layout
 held : (kind : DataType) (nullable : Bool) (n : ℕ) (w : Value-F Value) → is_supported_type kind ≡ true → IsOwn kind nullable n w → Known (type_layout kind) w → Holds (type_layout kind) w
@@ -198,7 +198,7 @@ short_is l.Null vs h = tt
 short_is l.Bits vs h = tt
 short_is (l.Numbers bits signed) vs h = tt
 short_is (l.FixedBytes width) vs h = tt
-short_is l.Unread vs h = tt
+short_is l.Unsupported vs h = tt
 
 goods : (fs : List Field) (j : ℕ) (rows : List (List Value)) → AllByRecursion IsFlat fs → FitFrom j fs rows → AllStored j fs rows → ¬ SomeLongData j fs rows → AllGood j fs rows
 goods [] j rows flat fits spells short = tt

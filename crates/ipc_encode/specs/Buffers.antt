@@ -28,7 +28,7 @@ pieces l.Bits count = validity count ∷ p.Flags True ∷ []
 pieces (l.Numbers bits signed) count = validity count ∷ p.Slots (Number bits) ∷ []
 pieces (l.FixedBytes width) count = validity count ∷ p.Slots (Fixed width) ∷ []
 pieces (l.VariableBytes utf8) count = validity count ∷ p.Offsets ∷ p.Slots Content ∷ []
-pieces l.Unread count = []
+pieces l.Unsupported count = []
 
 -- the bytes of a buffer for these values
 abbrev pub piece_bytes : Piece → List Value → List ℕ

@@ -21,7 +21,7 @@ HasLongData l.Null values = ⊥
 HasLongData l.Bits values = ⊥
 HasLongData (l.Numbers bits signed) values = ⊥
 HasLongData (l.FixedBytes width) values = ⊥
-HasLongData l.Unread values = ⊥
+HasLongData l.Unsupported values = ⊥
 
 -- one of the columns from column j on has
 abbrev pub SomeLongData : ℕ → List Field → List (List Value) → Type 0

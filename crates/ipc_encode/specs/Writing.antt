@@ -53,7 +53,7 @@ AreStored l.Null values = ⊤
 AreStored l.Bits values = ⊤
 AreStored (l.Numbers bits signed) values = ⊤
 AreStored (l.FixedBytes width) values = ⊤
-AreStored l.Unread values = ⊤
+AreStored l.Unsupported values = ⊤
 
 -- the same of the columns from column j on
 abbrev pub AllStored : ℕ → List Field → List (List Value) → Type 0

@@ -21,7 +21,7 @@ use Rattle.ipc_frame.specs.declared.frame.Frame.TheVariants as f
 use Rattle.ipc_frame.proofs.OneFrame.{frame_one, no_frame_at_end}
 use Rattle.ipc_frame.proofs.Decided.{start_not_end, start_not_frame, no_head_not_end, no_head_not_frame, pending_not_end, pending_not_frame, start_not_empty}
 use Rattle.ipc_frame.proofs.Exact.{start_longer, no_head_longer}
-use Rattle.ipc_column.specs.Rows.{Rows, Refuses as RefusesRows}
+use Rattle.ipc_column.specs.Rows.{Rows, RefusesParts}
 use Rattle.ipc_column.proofs.Laws.{no_rows as none_refused}
 use Rattle.ipc_stream.specs.Stream.{Open, State, Event, Step, first, came, Run, done, more}
 use Rattle.ipc_stream.specs.Reasons.{Breaks, refused, truncated, aside, Refuses, early, no_schema, second_schema, dictionary, no_rows, IsAside, IsNoSchema}

@@ -12,7 +12,7 @@ use Rattle.ipc_frame.specs.Sees.{IsFrame, IsSupportedFrame}
 use Rattle.ipc_frame.specs.Decisions.{RefusesNow}
 use Rattle.ipc_frame.specs.declared.frame.Frame.{Frame as Framed}
 use Rattle.ipc_frame.specs.declared.frame.Frame.TheVariants as f
-use Rattle.ipc_column.specs.Rows.{Rows, Refuses as RefusesRows}
+use Rattle.ipc_column.specs.Rows.{Rows, RefusesParts}
 use Rattle.ipc_stream.specs.declared.end.End.{End}
 use Rattle.ipc_stream.specs.declared.end.End.TheVariants.{Mark}
 use Rattle.ipc_stream.specs.declared.reading.Next.{Next}

@@ -3,22 +3,22 @@ use Rattle.std.proofs.lemmas.Bool.{and_parts, eqb-true}
 use Rattle.ipc_column.specs.declared.cause.Cause.TheVariants as cause
 use Rattle.ipc_column.specs.Shapes.{shape_of}
 use Rattle.ipc_column.proofs.Fields.{buffers_most}
-use Rattle.ipc_column.specs.Tests.{all, is_node, is_slot_count}
+use Rattle.ipc_column.specs.Checks.{all, is_node, is_slot_count}
 use Rattle.ipc_column.proofs.Visits.{texts_most, slots_most}
 use Rattle.ipc_column.proofs.Laws.{passing, exits, head_failing, columns_failing}
 use Rattle.ipc_column.proofs.batch.read.Goals as goal
 
-pub cut_fields-requires-clause-nodes : goal.cut_fields-requires-clause-nodes
-cut_fields-requires-clause-nodes c = let e = eqb-true _ _ (c.in_ok-check_head.ensures.judged cause.WrongNodeCount) in omega (arith, e)
+pub assign_buffers-requires-clause-nodes : goal.assign_buffers-requires-clause-nodes
+assign_buffers-requires-clause-nodes c = let e = eqb-true _ _ (c.in_ok-check_head.ensures.judged cause.WrongNodeCount) in omega (arith, e)
 
-pub cut_fields-requires-clause-buffers : goal.cut_fields-requires-clause-buffers
-cut_fields-requires-clause-buffers c = let e = eqb-true _ _ (c.in_ok-check_head.ensures.judged cause.WrongBufferCount) in omega (arith, e)
+pub assign_buffers-requires-clause-buffers : goal.assign_buffers-requires-clause-buffers
+assign_buffers-requires-clause-buffers c = let e = eqb-true _ _ (c.in_ok-check_head.ensures.judged cause.WrongBufferCount) in omega (arith, e)
 
-pub cut_fields-requires-clause-few_nodes : goal.cut_fields-requires-clause-few_nodes
-cut_fields-requires-clause-few_nodes c = let e = eqb-true _ _ (c.in_ok-check_head.ensures.judged cause.WrongNodeCount) in omega (arith, e)
+pub assign_buffers-requires-clause-few_nodes : goal.assign_buffers-requires-clause-few_nodes
+assign_buffers-requires-clause-few_nodes c = let e = eqb-true _ _ (c.in_ok-check_head.ensures.judged cause.WrongNodeCount) in omega (arith, e)
 
-pub cut_fields-requires-clause-few_buffers : goal.cut_fields-requires-clause-few_buffers
-cut_fields-requires-clause-few_buffers c =
+pub assign_buffers-requires-clause-few_buffers : goal.assign_buffers-requires-clause-few_buffers
+assign_buffers-requires-clause-few_buffers c =
     let e = eqb-true _ _ (c.in_ok-check_head.ensures.judged cause.WrongBufferCount) in omega (arith, e, buffers_most (shape_of c.args.fields.now))
 
 pub returns-clause-passing : goal.returns-clause-passing

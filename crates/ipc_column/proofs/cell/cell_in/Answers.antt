@@ -1,6 +1,6 @@
 use Rattle.std.proofs.Common.{◌∙◌, sym, ap, Some}
 use Rattle.ipc_model.specs.declared.value.Value.{Value}
-use Rattle.ipc_column.specs.Tests.{is_good}
+use Rattle.ipc_column.specs.Checks.{is_good}
 use Rattle.ipc_column.specs.Views.{column_of}
 use Rattle.ipc_column.proofs.Below.{below_at}
 use Rattle.ipc_column.proofs.Cells.{kept_at, row_cell}

@@ -1,6 +1,6 @@
 use Rattle.std.proofs.Common.{◌≡◌, drop}
 use Rattle.std.specs.Prelude.{◌&&◌}
-use Rattle.ipc_column.specs.Tests.{all, lies_in}
+use Rattle.ipc_column.specs.Checks.{all, lies_in}
 use Rattle.ipc_column.proofs.head.lie_in.Given as goal
 
 abbrev pub invariant-loop-buffer : goal.invariant-loop-buffer

@@ -1,4 +1,4 @@
-use Rattle.ipc_column.specs.Tests.{AreCuts}
+use Rattle.ipc_column.specs.Checks.{AreCuts}
 use Rattle.ipc_column.proofs.texts.are_cuts.Given as goal
 
 abbrev pub invariant-loop-slot : goal.invariant-loop-slot

@@ -1,6 +1,6 @@
 use Rattle.std.proofs.Common.{◌≡◌, true}
 use Rattle.ipc_column.specs.declared.layout.Layout.TheVariants.{VariableBytes}
-use Rattle.ipc_column.specs.Tests.{all_below, slot_good}
+use Rattle.ipc_column.specs.Checks.{all_below, slot_good}
 use Rattle.ipc_column.proofs.texts.visit_slots.Given as goal
 
 abbrev pub invariant-loop-slot : goal.invariant-loop-slot

@@ -3,7 +3,7 @@ use Rattle.std.specs.List.{AllByRecursion}
 use Rattle.ipc_model.specs.declared.value.Value.{Value}
 use Rattle.ipc_column.specs.declared.batch.Shared.{Shared}
 use Rattle.ipc_column.specs.Contents.{Contents}
-use Rattle.ipc_column.specs.declared.part.Part.{Part}
+use Rattle.ipc_column.specs.declared.part.ColumnRanges.{ColumnRanges}
 use Rattle.ipc_column.specs.Views.{columns}
 use Rattle.ipc_column.specs.Values.{row, rows_of}
 use Rattle.ipc_column.proofs.Cells.{row_length}
@@ -15,7 +15,7 @@ all_more P [] x all one = (one, tt)
 all_more P (y ∷ ys) x all one = (all.0, all_more P ys x all.1 one)
 
 -- rows are as wide as there are parts
-wide : (body : List ℕ) (ps : List Part) (n : ℕ) → AllByRecursion (λ r. length r ≡ length ps) (rows_of (columns body ps) n)
+wide : (body : List ℕ) (ps : List ColumnRanges) (n : ℕ) → AllByRecursion (λ r. length r ≡ length ps) (rows_of (columns body ps) n)
 wide body ps zero = tt
 wide body ps (suc n) = all_more (λ r. length r ≡ length ps) (rows_of (columns body ps) n) (row (columns body ps) n) (wide body ps n) (row_length body ps n)
 

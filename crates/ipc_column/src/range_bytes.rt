@@ -1,11 +1,11 @@
 ghost use Rattle.std.specs.Prelude.{◌≡◌};
 ghost use Rattle.ipc_column.specs.Views.{span_bytes};
 
-use crate::part::Span;
+use crate::part::BufferRange;
 
 /// The bytes of a span, or none where it passes the end of the body.
 #[tactic(auto, unfolding(crate::specs::Columns::bytes_of))]
-pub(crate) fn bytes_at(body: &[u8], span: Span) -> &[u8]
+pub(crate) fn bytes_at(body: &[u8], span: BufferRange) -> &[u8]
     ensures { result.now ≡ span_bytes body.now span }
 {
     if span.len <= body.len() && span.start <= body.len() - span.len {

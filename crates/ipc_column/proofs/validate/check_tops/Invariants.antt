@@ -1,8 +1,8 @@
 use Rattle.std.proofs.Common.{◌≡◌, ◌≤◌, ◌+◌, drop, true}
 use Rattle.ipc_column.specs.declared.cause.Cause.{Cause}
 use Rattle.ipc_column.specs.Columns.{every, every_top}
-use Rattle.ipc_column.specs.Facts.{texts_in}
-use Rattle.ipc_column.specs.Tests.{passes, top_passes}
+use Rattle.ipc_column.specs.Rules.{texts_in}
+use Rattle.ipc_column.specs.Checks.{passes, top_passes}
 use Rattle.ipc_column.specs.Views.{columns}
 use Rattle.ipc_column.proofs.sound.check_tops.Given as goal
 

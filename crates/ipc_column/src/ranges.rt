@@ -2,7 +2,7 @@ use crate::layout::Layout;
 
 /// Where the bytes of a buffer lie in the body.
 #[derive(Clone, Copy, Debug, Drop)]
-pub struct Span {
+pub struct BufferRange {
     /// The place of its first byte.
     pub start: usize,
     /// How many bytes it has.
@@ -11,7 +11,7 @@ pub struct Span {
 
 /// A field's node with its buffers, over a body that stands elsewhere.
 #[derive(Debug, Drop)]
-pub struct Part {
+pub struct ColumnRanges {
     /// How the slots lie in the buffers.
     pub layout: Layout,
     /// How many slots there are.
@@ -19,11 +19,11 @@ pub struct Part {
     /// How many of them are null.
     pub nulls: usize,
     /// The validity bitmap.
-    pub validity: Span,
+    pub validity: BufferRange,
     /// The offsets of values whose lengths differ.
-    pub offsets: Span,
+    pub offsets: BufferRange,
     /// The values.
-    pub values: Span,
+    pub values: BufferRange,
     /// The parts of the field's children.
-    pub children: Vec<Part>,
+    pub children: Vec<ColumnRanges>,
 }

@@ -4,27 +4,27 @@ ghost use Rattle.ipc_column.specs.Shapes.{cut, shape_of, field_layout, field_chi
 ghost use Rattle.ipc_column.specs.Views.{columns, column_of, children_of, span_bytes};
 
 use crate::layout::{Layout, layout_of, own_buffers};
-use crate::part::{Part, Span};
+use crate::ranges::{ColumnRanges, BufferRange};
 use ipc_meta::BatchHead;
 use ipc_model::schema::Field;
 use std::alloc::{AllocError, Global};
 
 /// So many nodes and so many buffers.
 #[derive(Clone, Copy, Debug, PartialEq, Eq, Drop)]
-pub(crate) struct Place {
+pub(crate) struct Cursor {
     pub(crate) node: usize,
     pub(crate) buffer: usize,
 }
 
 // What a field needs, children included, beside what others need before it.
 #[cycle(count)]
-fn count_field(field: &Field, before: Place) -> Place
+fn count_field(field: &Field, before: Cursor) -> Cursor
     requires nodes { before.node + (1 + nodes_in (field_children field.now)) < 2 ^ 60 }
     requires buffers { before.buffer + (own_buffers (field_layout field.now) + buffers_in (field_children field.now)) < 2 ^ 60 }
     ensures nodes { result.node ≡ before.node + 1 + nodes_in (field_children field.now) }
     ensures buffers { result.buffer ≡ before.buffer + own_buffers (field_layout field.now) + buffers_in (field_children field.now) }
 {
-    let below = Place {
+    let below = Cursor {
         node: before.node + 1,
         buffer: before.buffer + own_buffers(layout_of(&field.kind, field.dictionary)),
     };
@@ -33,7 +33,7 @@ fn count_field(field: &Field, before: Place) -> Place
 
 /// The nodes and buffers that fields need, beside what others need before them.
 #[cycle(count)]
-pub(crate) fn count(fields: &[Field], before: Place) -> Place
+pub(crate) fn count(fields: &[Field], before: Cursor) -> Cursor
     requires nodes { before.node + nodes_in (shape_of fields.now) < 2 ^ 60 }
     requires buffers { before.buffer + buffers_in (shape_of fields.now) < 2 ^ 60 }
     ensures nodes { result.node ≡ before.node + nodes_in (shape_of fields.now) }
@@ -47,12 +47,12 @@ pub(crate) fn count(fields: &[Field], before: Place) -> Place
 }
 
 // Where the head says that a buffer lies.
-fn span_at(head: &BatchHead, buffer: usize) -> Span
+fn span_at(head: &BatchHead, buffer: usize) -> BufferRange
     requires { buffer < length head.now.buffers }
     ensures { (body : List ℕ) → span_bytes body result ≡ buffer_at head.now body buffer }
 {
     let (start, len) = head.buffers.as_slice()[buffer];
-    Span {
+    BufferRange {
         start: start.unsigned_abs() as usize,
         len: len.unsigned_abs() as usize,
     }
@@ -60,38 +60,38 @@ fn span_at(head: &BatchHead, buffer: usize) -> Span
 
 // The validity bitmap of a field with this first buffer.
 #[tactic(auto, using(crate::proofs::Fields::empty_bytes))]
-fn validity_span(layout: Layout, head: &BatchHead, first: usize) -> Span
+fn validity_span(layout: Layout, head: &BatchHead, first: usize) -> BufferRange
     requires { first + own_buffers layout ≤ length head.now.buffers }
     ensures { (body : List ℕ) → span_bytes body result ≡ validity_at layout head.now body first }
 {
     match layout {
-        Layout::Null | Layout::Unread => Span { start: 0, len: 0 },
+        Layout::Null | Layout::Unsupported => BufferRange { start: 0, len: 0 },
         _ => span_at(head, first),
     }
 }
 
 // The offsets of a field with this first buffer.
 #[tactic(auto, using(crate::proofs::Fields::empty_bytes))]
-fn offsets_span(layout: Layout, head: &BatchHead, first: usize) -> Span
+fn offsets_span(layout: Layout, head: &BatchHead, first: usize) -> BufferRange
     requires buffers { first + own_buffers layout ≤ length head.now.buffers }
     requires few { length head.now.buffers < 2 ^ 60 }
     ensures { (body : List ℕ) → span_bytes body result ≡ offsets_at layout head.now body first }
 {
     match layout {
         Layout::VariableBytes { .. } => span_at(head, first + 1),
-        _ => Span { start: 0, len: 0 },
+        _ => BufferRange { start: 0, len: 0 },
     }
 }
 
 // The values of a field with this first buffer.
 #[tactic(auto, using(crate::proofs::Fields::empty_bytes))]
-fn values_span(layout: Layout, head: &BatchHead, first: usize) -> Span
+fn values_span(layout: Layout, head: &BatchHead, first: usize) -> BufferRange
     requires buffers { first + own_buffers layout ≤ length head.now.buffers }
     requires few { length head.now.buffers < 2 ^ 60 }
     ensures { (body : List ℕ) → span_bytes body result ≡ values_at layout head.now body first }
 {
     match layout {
-        Layout::Null | Layout::Unread => Span { start: 0, len: 0 },
+        Layout::Null | Layout::Unsupported => BufferRange { start: 0, len: 0 },
         Layout::VariableBytes { .. } => span_at(head, first + 2),
         _ => span_at(head, first + 1),
     }
@@ -99,12 +99,12 @@ fn values_span(layout: Layout, head: &BatchHead, first: usize) -> Span
 
 // The part of a field with this node and this first buffer, and the place after it.
 #[cycle(cut)]
-fn cut_field(
+fn assign_field(
     alloc: Global,
     field: &Field,
     head: &BatchHead,
-    at: Place,
-) -> Result<(Part, Place), AllocError>
+    at: Cursor,
+) -> Result<(ColumnRanges, Cursor), AllocError>
     requires nodes { at.node + (1 + nodes_in (field_children field.now)) ≤ length head.now.nodes }
     requires buffers { at.buffer + (own_buffers (field_layout field.now) + buffers_in (field_children field.now)) ≤ length head.now.buffers }
     requires few_nodes { length head.now.nodes < 2 ^ 60 }
@@ -116,12 +116,12 @@ fn cut_field(
 {
     let layout = layout_of(&field.kind, field.dictionary);
     let (slots, nulls) = head.nodes.as_slice()[at.node];
-    let below = Place {
+    let below = Cursor {
         node: at.node + 1,
         buffer: at.buffer + own_buffers(layout),
     };
-    let (children, next) = cut_fields(alloc, field.children.as_slice(), head, below)?;
-    let part = Part {
+    let (children, next) = assign_buffers(alloc, field.children.as_slice(), head, below)?;
+    let part = ColumnRanges {
         layout,
         slots: slots.unsigned_abs() as usize,
         nulls: nulls.unsigned_abs() as usize,
@@ -135,12 +135,12 @@ fn cut_field(
 
 /// The parts of fields whose nodes and buffers begin at a place, and the place after them.
 #[cycle(cut)]
-pub(crate) fn cut_fields(
+pub(crate) fn assign_buffers(
     alloc: Global,
     fields: &[Field],
     head: &BatchHead,
-    at: Place,
-) -> Result<(Vec<Part>, Place), AllocError>
+    at: Cursor,
+) -> Result<(Vec<ColumnRanges>, Cursor), AllocError>
     requires nodes { at.node + nodes_in (shape_of fields.now) ≤ length head.now.nodes }
     requires buffers { at.buffer + buffers_in (shape_of fields.now) ≤ length head.now.buffers }
     requires few_nodes { length head.now.nodes < 2 ^ 60 }
@@ -153,7 +153,7 @@ pub(crate) fn cut_fields(
     let mut parts = Vec::with_capacity(alloc, fields.len())?;
     let mut place = at;
     for field in fields {
-        let (part, next) = cut_field(alloc, field, head, place)?;
+        let (part, next) = assign_field(alloc, field, head, place)?;
         parts.push(part)?;
         place = next;
     }

@@ -2,10 +2,10 @@ use Rattle.std.proofs.Common.{◌≡◌, ◌+◌, ℕ, List, length, drop}
 use Rattle.ipc_column.specs.Columns.{beside}
 use Rattle.ipc_column.specs.Views.{columns}
 use Rattle.ipc_column.specs.Shapes.{shape_of, nodes_in, buffers_in, cut}
-use Rattle.ipc_column.proofs.cut.+cut.Given as goal
+use Rattle.ipc_column.proofs.assign.+cut.Given as goal
 
-abbrev pub invariant-cut_fields-loop-field : goal.invariant-cut_fields-loop-field
-invariant-cut_fields-loop-field l = record {
+abbrev pub invariant-assign_buffers-loop-field : goal.invariant-assign_buffers-loop-field
+invariant-assign_buffers-loop-field l = record {
   parts : (body : List ℕ) → beside (columns body l.parts.items) (cut (shape_of (drop l.field-index l.fields)) l.head body l.place.node l.place.buffer) ≡ cut (shape_of l.fields) l.head body l.fn.at.node l.fn.at.buffer;
   number : length l.parts.items ≡ l.field-index;
   nodes : l.place.node + nodes_in (shape_of (drop l.field-index l.fields)) ≡ l.fn.at.node + nodes_in (shape_of l.fields);

@@ -1,6 +1,6 @@
 use Rattle.std.proofs.Common.{◌≡◌, ◌+◌, drop}
 use Rattle.ipc_column.specs.Shapes.{shape_of, nodes_in, buffers_in}
-use Rattle.ipc_column.proofs.cut.+count.Given as goal
+use Rattle.ipc_column.proofs.assign.+count.Given as goal
 
 abbrev pub invariant-count-loop-field : goal.invariant-count-loop-field
 invariant-count-loop-field l = record {

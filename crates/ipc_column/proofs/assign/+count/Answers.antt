@@ -1,7 +1,7 @@
 use Rattle.std.proofs.Common.{rules, arith}
 use Rattle.ipc_model.specs.declared.schema.Field.TheViews.{the_lemmas}
 use Rattle.ipc_column.proofs.Fields.{nodes_from, buffers_from, nodes_done, buffers_done}
-use Rattle.ipc_column.proofs.cut.+count.Goals as goal
+use Rattle.ipc_column.proofs.assign.+count.Goals as goal
 
 pub count-count_field-place-requires : goal.count-count_field-place-requires
 count-count_field-place-requires t c =

@@ -89,16 +89,16 @@ holds_offsets (l.VariableBytes utf8) n bytes = n == 0 || nat_le (4 * (n + 1)) by
 holds_offsets _ n bytes = true
 
 -- offset i isn't above the next
-abbrev pub rises : List ℕ → ℕ → Bool
-rises offsets i = int_le (offset offsets i) (offset offsets (i + 1))
+abbrev pub is_ascending_at : List ℕ → ℕ → Bool
+is_ascending_at offsets i = int_le (offset offsets i) (offset offsets (i + 1))
 
 -- the offsets of n slots are in order, within so many bytes
-abbrev pub climbs : List ℕ → ℕ → ℕ → Bool
-climbs offsets n size = int_le (pos 0) (offset offsets 0) && (all_below (rises offsets) n && nat_le (place offsets n) size)
+abbrev pub are_ascending : List ℕ → ℕ → ℕ → Bool
+are_ascending offsets n size = int_le (pos 0) (offset offsets 0) && (all_below (is_ascending_at offsets) n && nat_le (place offsets n) size)
 
 -- the same of a column's, where they are there
 abbrev pub in_order : Layout → ℕ → List ℕ → ℕ → Bool
-in_order (l.VariableBytes utf8) n offsets size = n == 0 || (not (nat_le (4 * (n + 1)) (length offsets)) || climbs offsets n size)
+in_order (l.VariableBytes utf8) n offsets size = n == 0 || (not (nat_le (4 * (n + 1)) (length offsets)) || are_ascending offsets n size)
 in_order _ n offsets size = true
 
 -- what slot i holds is UTF-8, where it is a text

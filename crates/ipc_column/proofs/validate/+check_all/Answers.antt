@@ -2,10 +2,10 @@ use Rattle.std.proofs.Common.{◌∙◌, sym, ap, arith}
 use Rattle.std.proofs.lemmas.Result.{err_from_is_err_and}
 use Rattle.std.proofs.lemmas.Bool.{and_left}
 use Rattle.ipc_column.specs.Columns.{every}
-use Rattle.ipc_column.specs.Tests.{passes}
+use Rattle.ipc_column.specs.Checks.{passes}
 use Rattle.ipc_column.specs.Views.{columns, column_of, children_of}
 use Rattle.ipc_column.proofs.Parts.{children_out, every_from, then_judges}
-use Rattle.ipc_column.proofs.sound.+check_all.Goals as goal
+use Rattle.ipc_column.proofs.validate.+check_all.Goals as goal
 
 pub check_tree-returns : goal.check_tree-returns
 check_tree-returns t c =

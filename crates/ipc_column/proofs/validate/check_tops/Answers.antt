@@ -1,7 +1,7 @@
 use Rattle.std.proofs.Common.{◌∙◌, sym, arith}
 use Rattle.std.proofs.lemmas.Result.{err_from_is_err_and}
 use Rattle.std.proofs.lemmas.Bool.{and_left, and_parts}
-use Rattle.ipc_column.specs.Tests.{passes, top_passes}
+use Rattle.ipc_column.specs.Checks.{passes, top_passes}
 use Rattle.ipc_column.proofs.Parts.{every_from, every_top_from, texts_from}
 use Rattle.ipc_column.proofs.sound.check_tops.Goals as goal
 

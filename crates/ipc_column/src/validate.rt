@@ -1,13 +1,13 @@
 ghost use Rattle.std.specs.Prelude.{◌≡◌, ◌≤◌, ◌<◌, ◌*◌, ◌^◌, ◌&&◌, nat_le, length, true, IfOk, IfErr};
-ghost use Rattle.ipc_column.specs.Tests.{Judges, has_bitmap, holds_values, holds_offsets, in_order, nulls_in, passes, top_passes, all_pass};
+ghost use Rattle.ipc_column.specs.Checks.{Judges, has_bitmap, holds_values, holds_offsets, in_order, nulls_in, passes, top_passes, all_pass};
 ghost use Rattle.ipc_column.specs.Columns.{every, every_top};
-ghost use Rattle.ipc_column.specs.Facts.{text_slots, texts_in};
+ghost use Rattle.ipc_column.specs.Rules.{text_slots, texts_in};
 ghost use Rattle.ipc_column.specs.Views.{columns, column_of, children_of};
 
 use crate::cause::Cause;
 use crate::layout::{Layout, has_validity, number_bytes};
 use crate::offsets::are_in_order;
-use crate::part::Part;
+use crate::part::ColumnRanges;
 use crate::span::bytes_at;
 use crate::texts::visit_texts;
 use ipc_scalar::count_clear;
@@ -30,7 +30,7 @@ fn holds_values(layout: Layout, slots: usize, bytes: usize) -> bool
     ensures { result ≡ holds_values layout slots bytes }
 {
     match layout {
-        Layout::Null | Layout::VariableBytes { .. } | Layout::Unread => true,
+        Layout::Null | Layout::VariableBytes { .. } | Layout::Unsupported => true,
         Layout::Bits => slots.div_ceil(8) <= bytes,
         Layout::Numbers { bits, .. } => holds_width(number_bytes(bits), slots, bytes),
         Layout::FixedBytes(width) => holds_width(width as usize, slots, bytes),
@@ -70,7 +70,7 @@ fn nulls_in(validity: &[u8], slots: usize) -> usize
 }
 
 // Whether a part's buffers have the bytes that its slots need, its null count is right and its offsets are in order.
-fn check_part(body: &[u8], part: &Part) -> Result<(), Cause>
+fn check_part(body: &[u8], part: &ColumnRanges) -> Result<(), Cause>
     ensures { Judges result (λ why. passes why (column_of body.now part.now)) }
 {
     let validity = bytes_at(body, part.validity);
@@ -93,7 +93,7 @@ fn check_part(body: &[u8], part: &Part) -> Result<(), Cause>
 
 // The same of each part, children included.
 #[cycle(check_all)]
-fn check_all(body: &[u8], parts: &[Part]) -> Result<(), Cause>
+fn check_all(body: &[u8], parts: &[ColumnRanges]) -> Result<(), Cause>
     ensures { Judges result (λ why. every (passes why) (columns body.now parts.now)) }
 {
     for part in parts {
@@ -103,7 +103,7 @@ fn check_all(body: &[u8], parts: &[Part]) -> Result<(), Cause>
 }
 
 #[cycle(check_all)]
-fn check_tree(body: &[u8], part: &Part) -> Result<(), Cause>
+fn check_tree(body: &[u8], part: &ColumnRanges) -> Result<(), Cause>
     ensures { Judges result (λ why. passes why (column_of body.now part.now) && every (passes why) (children_of body.now part.now)) }
 {
     check_part(body, part)?;
@@ -111,7 +111,7 @@ fn check_tree(body: &[u8], part: &Part) -> Result<(), Cause>
 }
 
 // Whether a part has a slot for each row, and its texts are UTF-8; how many slots were visited to find that.
-fn check_top(body: &[u8], part: &Part, rows: usize) -> Result<u64, Cause>
+fn check_top(body: &[u8], part: &ColumnRanges, rows: usize) -> Result<u64, Cause>
     requires { (why : Cause) → passes why (column_of body.now part.now) ≡ true }
     ensures judged { Judges result (λ why. top_passes why rows (column_of body.now part.now)) }
     ensures visited { IfOk result (λ tests. tests ≤ text_slots (column_of body.now part.now)) }
@@ -126,7 +126,7 @@ fn check_top(body: &[u8], part: &Part, rows: usize) -> Result<u64, Cause>
 }
 
 // The same of each part.
-fn check_tops(body: &[u8], parts: &[Part], rows: usize) -> Result<u64, Cause>
+fn check_tops(body: &[u8], parts: &[ColumnRanges], rows: usize) -> Result<u64, Cause>
     requires sound { (why : Cause) → every (passes why) (columns body.now parts.now) ≡ true }
     requires few { texts_in (columns body.now parts.now) < 2 ^ 64 }
     ensures judged { Judges result (λ why. every_top (top_passes why rows) (columns body.now parts.now)) }
@@ -140,7 +140,7 @@ fn check_tops(body: &[u8], parts: &[Part], rows: usize) -> Result<u64, Cause>
 }
 
 /// Whether the parts, which are the columns of a batch, give so many rows; how many slots were visited to find that.
-pub(crate) fn check_columns(body: &[u8], parts: &[Part], rows: usize) -> Result<u64, Cause>
+pub(crate) fn check_columns(body: &[u8], parts: &[ColumnRanges], rows: usize) -> Result<u64, Cause>
     requires { texts_in (columns body.now parts.now) < 2 ^ 64 }
     ensures judged { Judges result (λ why. all_pass why rows (columns body.now parts.now)) }
     ensures texts_last { IfErr result (λ why. why ≡ Cause.ValueNotUtf8 → (other : Cause) → every (passes other) (columns body.now parts.now) ≡ true) }

@@ -54,7 +54,7 @@ HoldValues (l.Numbers bits signed) n bytes = number_bytes bits * n ≤ bytes
 HoldValues (l.FixedBytes width) n bytes = width * n ≤ bytes
 HoldValues l.Null n bytes = ⊤
 HoldValues (l.VariableBytes utf8) n bytes = ⊤
-HoldValues l.Unread n bytes = ⊤
+HoldValues l.Unsupported n bytes = ⊤
 
 -- so many bytes hold the offsets of n slots, one more than there are slots, or none for no slots (Arrow Columnar Format, "Variable-size Binary Layout")
 abbrev pub HoldOffsets : Layout → ℕ → ℕ → Type 0
@@ -63,7 +63,7 @@ HoldOffsets l.Null n bytes = ⊤
 HoldOffsets l.Bits n bytes = ⊤
 HoldOffsets (l.Numbers bits signed) n bytes = ⊤
 HoldOffsets (l.FixedBytes width) n bytes = ⊤
-HoldOffsets l.Unread n bytes = ⊤
+HoldOffsets l.Unsupported n bytes = ⊤
 
 -- a bit for each slot (Arrow Columnar Format, "Validity bitmaps")
 abbrev pub HasBits : Column → Type 0
@@ -102,7 +102,7 @@ HasOffsets l.Null n offsets size = ⊤
 HasOffsets l.Bits n offsets size = ⊤
 HasOffsets (l.Numbers bits signed) n offsets size = ⊤
 HasOffsets (l.FixedBytes width) n offsets size = ⊤
-HasOffsets l.Unread n offsets size = ⊤
+HasOffsets l.Unsupported n offsets size = ⊤
 
 -- each column has them, within its values
 abbrev pub HasOrder : List Field → BatchHead → List ℕ → Type 0
@@ -116,7 +116,7 @@ IsText l.Null offsets values i = ⊤
 IsText l.Bits offsets values i = ⊤
 IsText (l.Numbers bits signed) offsets values i = ⊤
 IsText (l.FixedBytes width) offsets values i = ⊤
-IsText l.Unread offsets values i = ⊤
+IsText l.Unsupported offsets values i = ⊤
 
 -- each valid slot of a column's
 abbrev pub SpellsTexts : Column → Type 0

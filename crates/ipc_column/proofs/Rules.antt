@@ -16,8 +16,8 @@ use Rattle.ipc_column.specs.declared.cause.Cause.{Cause}
 use Rattle.ipc_column.specs.declared.cause.Cause.TheVariants as cause
 use Rattle.ipc_column.specs.Columns.{Column, Columns, none, column, Each, EachTop, every, every_top}
 use Rattle.ipc_column.specs.Shapes.{shape_of, columns_of}
-use Rattle.ipc_column.specs.Facts.{HasNodes, HasBuffers, HasLengths, HasRanges, HasBytes, HasNullCounts, HasOrder, HasTexts, IsSlotCount, IsNode, LiesIn, HoldValues, HoldOffsets, IsLongEnough, CountsNulls, AreOffsets, HasOffsets, IsText, SpellsTexts}
-use Rattle.ipc_column.specs.Tests.{is_slot_count, is_node, lies_in, all, all_below, holds_values, holds_offsets, rises, climbs, in_order, is_text, is_good, passes, top_passes, fits}
+use Rattle.ipc_column.specs.Rules.{HasNodes, HasBuffers, HasLengths, HasRanges, HasBytes, HasNullCounts, HasOrder, HasTexts, IsSlotCount, IsNode, LiesIn, HoldValues, HoldOffsets, IsLongEnough, CountsNulls, AreOffsets, HasOffsets, IsText, SpellsTexts}
+use Rattle.ipc_column.specs.Checks.{is_slot_count, is_node, lies_in, all, all_below, holds_values, holds_offsets, is_ascending_at, are_ascending, in_order, is_text, is_good, passes, top_passes, fits}
 use Rattle.ipc_column.specs.Values.{offset, place, is_valid}
 use Rattle.ipc_column.proofs.Below.{decides_below}
 use Rattle.ipc_column.proofs.Slices.{above}
@@ -116,31 +116,31 @@ of_null_count c =
     (of_when (has_validity c.layout) _ (λ e. e, λ e. e) (of_nulls c.nulls (length c.validity) _ _))
 
 -- offsets in order
-of_climbs : (o : List ℕ) (n size : ℕ) → Decides (climbs o n size) (AreOffsets o n size)
-of_climbs o n size = (
+of_ascending : (o : List ℕ) (n size : ℕ) → Decides (are_ascending o n size) (AreOffsets o n size)
+of_ascending o n size = (
   λ e.
-      let p = and_parts (int_le (pos 0) (offset o 0)) (all_below (rises o) n && nat_le (place o n) size) e in
-      let q = and_parts (all_below (rises o) n) (nat_le (place o n) size) p.1 in
+      let p = and_parts (int_le (pos 0) (offset o 0)) (all_below (is_ascending_at o) n && nat_le (place o n) size) e in
+      let q = and_parts (all_below (is_ascending_at o) n) (nat_le (place o n) size) p.1 in
       record {
         from = (of_le (pos 0) (offset o 0)).0 p.0;
-        order = (of_rises o n).0 q.0;
+        order = (of_ascending_at o n).0 q.0;
         to = (of_last (offset o n) size (above o n n p.0 q.0 (omega arith))).0 q.1;
       },
   λ h.
       let from = (of_le (pos 0) (offset o 0)).1 h.from in
-      let order = (of_rises o n).1 h.order in
+      let order = (of_ascending_at o n).1 h.order in
       and_from _ _ from (and_from _ _ order ((of_last (offset o n) size (above o n n from order (omega arith))).1 h.to)),
 )
   where
-    of_rises : (o : List ℕ) (n : ℕ) → Decides (all_below (rises o) n) ((i : ℕ) → i < n → offset o i ≤ℤ offset o (i + 1))
-    of_rises o n = decides_below (rises o) (λ i. offset o i ≤ℤ offset o (i + 1)) (λ i. of_le (offset o i) (offset o (i + 1))) n
+    of_ascending_at : (o : List ℕ) (n : ℕ) → Decides (all_below (is_ascending_at o) n) ((i : ℕ) → i < n → offset o i ≤ℤ offset o (i + 1))
+    of_ascending_at o n = decides_below (is_ascending_at o) (λ i. offset o i ≤ℤ offset o (i + 1)) (λ i. of_le (offset o i) (offset o (i + 1))) n
 
     of_last : (z : ℤ) (size : ℕ) → int_le (pos 0) z ≡ true → Decides (nat_le (unsigned_abs z) size) (z ≤ℤ pos size)
     of_last (pos m) size h = of_le (pos m) (pos size)
     of_last (negsuc m) size h = absurd (cc)
 
 of_order : (l : Layout) (n : ℕ) (o : List ℕ) (size : ℕ) → Decides (in_order l n o size) (HasOffsets l n o size)
-of_order (l.VariableBytes utf8) n o size = of_some n _ (of_when _ _ (of_bound (4 * (n + 1)) (length o)) (of_climbs o n size))
+of_order (l.VariableBytes utf8) n o size = of_some n _ (of_when _ _ (of_bound (4 * (n + 1)) (length o)) (of_ascending o n size))
 of_order _ n o size = (λ e. tt, λ h. refl)
 
 -- texts

@@ -3,16 +3,16 @@ use Rattle.ipc_model.specs.declared.schema.Field.TheViews.{the_lemmas}
 use Rattle.ipc_column.specs.Views.{columns}
 use Rattle.ipc_column.specs.Columns.{Columns, beside}
 use Rattle.ipc_column.proofs.Fields.{nodes_from, buffers_from, nodes_done, buffers_done, cut_step, cut_done, beside_none}
-use Rattle.ipc_column.proofs.cut.+cut.Goals as goal
+use Rattle.ipc_column.proofs.assign.+cut.Goals as goal
 
-pub cut_fields-cut_field-requires : goal.cut_fields-cut_field-requires
-cut_fields-cut_field-requires t c =
+pub assign_buffers-assign_field-requires : goal.assign_buffers-assign_field-requires
+assign_buffers-assign_field-requires t c =
     let n = nodes_from c.args.fields.now c.loop-field.field-index c.field-item.result (omega arith) c.field-item.is in
     let b = buffers_from c.args.fields.now c.loop-field.field-index c.field-item.result (omega arith) c.field-item.is in
     (search (rules, the_lemmas), (omega (arith, n), (omega (arith, b), (c.requires.few_nodes, c.requires.few_buffers))))
 
-pub cut_fields-loop-field-preserved : goal.cut_fields-loop-field-preserved
-cut_fields-loop-field-preserved t c =
+pub assign_buffers-loop-field-preserved : goal.assign_buffers-loop-field-preserved
+assign_buffers-loop-field-preserved t c =
     let n = nodes_from c.args.fields.now c.loop-field.field-index c.field-item.result (omega arith) c.field-item.is in
     let b = buffers_from c.args.fields.now c.loop-field.field-index c.field-item.result (omega arith) c.field-item.is in
     record {
@@ -23,18 +23,18 @@ cut_fields-loop-field-preserved t c =
       buffers = omega (arith, b, c.in_ok-part.ensures.buffer);
     }
 
-pub cut_fields-returns-clause-parts : goal.cut_fields-returns-clause-parts
-cut_fields-returns-clause-parts t c = λ body.
+pub assign_buffers-returns-clause-parts : goal.assign_buffers-returns-clause-parts
+assign_buffers-returns-clause-parts t c = λ body.
     sym (beside_none (columns body c.loop-field.parts.items)) ∙
     (ap (λ (ds : Columns). beside (columns body c.loop-field.parts.items) ds) (sym (cut_done c.args.fields.now c.loop-field.field-index c.args.head.now body c.loop-field.place.node c.loop-field.place.buffer (omega arith)))
     ∙ c.loop-field.invariant.parts body)
 
-pub cut_fields-returns-clause-node : goal.cut_fields-returns-clause-node
-cut_fields-returns-clause-node t c =
+pub assign_buffers-returns-clause-node : goal.assign_buffers-returns-clause-node
+assign_buffers-returns-clause-node t c =
     let n = nodes_done c.args.fields.now c.loop-field.field-index (omega arith) in
     omega (arith, n)
 
-pub cut_fields-returns-clause-buffer : goal.cut_fields-returns-clause-buffer
-cut_fields-returns-clause-buffer t c =
+pub assign_buffers-returns-clause-buffer : goal.assign_buffers-returns-clause-buffer
+assign_buffers-returns-clause-buffer t c =
     let b = buffers_done c.args.fields.now c.loop-field.field-index (omega arith) in
     omega (arith, b)

@@ -2,9 +2,9 @@ use Rattle.std.proofs.Common.{◌∙◌, sym}
 use Rattle.std.proofs.lemmas.Bool.{false≢true}
 use Rattle.std.proofs.lemmas.Result.{err_from_is_err_and}
 use Rattle.ipc_column.specs.Columns.{every, every_top}
-use Rattle.ipc_column.specs.Tests.{passes, top_passes}
+use Rattle.ipc_column.specs.Checks.{passes, top_passes}
 use Rattle.ipc_column.specs.Views.{columns}
-use Rattle.ipc_column.proofs.Facts.{every_true}
+use Rattle.ipc_column.proofs.Rules.{every_true}
 use Rattle.ipc_column.proofs.Parts.{then_judges}
 use Rattle.ipc_column.proofs.sound.check_columns.Goals as goal
 
