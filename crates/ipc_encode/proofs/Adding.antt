@@ -7,7 +7,7 @@ use Rattle.ipc_model.specs.declared.value.Value.{Value}
 use Rattle.ipc_encode.specs.declared.pieces.Piece.{Piece}
 use Rattle.ipc_encode.specs.declared.draft.Draft.{Draft}
 use Rattle.ipc_encode.specs.Cells.{cells, nulls}
-use Rattle.ipc_encode.specs.Buffers.{column_buffers, layout_of, padded, joined, nodes_from, ranges_from, buffers_from, buffers_of, body_of}
+use Rattle.ipc_encode.specs.Buffers.{column_buffers, layout_of, padded_buffer, joined, nodes_from, ranges_from, buffers_from, buffers_of, body_of}
 use Rattle.ipc_encode.specs.Writing.{Adds}
 use Rattle.ipc_encode.specs.Limits.{HasLongData, SomeLongData}
 use Rattle.ipc_encode.specs.Writing.{Shows, AreStored, AllStored}
@@ -16,14 +16,14 @@ use Rattle.ipc_encode.specs.Writing.{Shows, AreStored, AllStored}
 
 pub joined_append : (xs ys : List (List ℕ)) → joined (xs ++ ys) ≡ joined xs ++ joined ys
 joined_append [] ys = refl
-joined_append (x ∷ xs) ys = ap (λ (bs : List ℕ). padded x ++ bs) (joined_append xs ys) ∙ sym (append_assoc (padded x) (joined xs) (joined ys))
+joined_append (x ∷ xs) ys = ap (λ (bs : List ℕ). padded_buffer x ++ bs) (joined_append xs ys) ∙ sym (append_assoc (padded_buffer x) (joined xs) (joined ys))
 
 pub ranges_append : (xs ys : List (List ℕ)) (start : ℕ) → ranges_from start (xs ++ ys) ≡ ranges_from start xs ++ ranges_from (start + length (joined xs)) ys
 ranges_append [] ys start = ap (λ (n : ℕ). ranges_from n ys) (omega arith)
 ranges_append (x ∷ xs) ys start =
-    let size = length-append (padded x) (joined xs) in
-    let e : start + length (padded x) + length (joined xs) ≡ start + length (padded x ++ joined xs) = omega (arith, size) in
-    ap (λ (rs : List (ℤ × ℤ)). (pos start, pos (length x)) ∷ rs) (ranges_append xs ys (start + length (padded x)) ∙ ap (λ (n : ℕ). ranges_from (start + length (padded x)) xs ++ ranges_from n ys) e)
+    let size = length-append (padded_buffer x) (joined xs) in
+    let e : start + length (padded_buffer x) + length (joined xs) ≡ start + length (padded_buffer x ++ joined xs) = omega (arith, size) in
+    ap (λ (rs : List (ℤ × ℤ)). (pos start, pos (length x)) ∷ rs) (ranges_append xs ys (start + length (padded_buffer x)) ∙ ap (λ (n : ℕ). ranges_from (start + length (padded_buffer x)) xs ++ ranges_from n ys) e)
 
 -- what is added beside what is left
 pub adds_body : (d e : Draft) (xs ys : List (List ℕ)) (whole : List ℕ) → Adds d e xs → d.body.items ++ joined (xs ++ ys) ≡ whole → e.body.items ++ joined ys ≡ whole

@@ -6,7 +6,7 @@ use Rattle.std.proofs.Math.Seq.{drop-append_seam, take-append_seam}
 use Rattle.std.proofs.lemmas.Int.{ints}
 use Rattle.ipc_column.specs.Columns.{bytes_of}
 use Rattle.ipc_column.specs.Rules.{LiesIn}
-use Rattle.ipc_encode.specs.Buffers.{padded, joined, ranges_from}
+use Rattle.ipc_encode.specs.Buffers.{padded_buffer, joined, ranges_from}
 
 -- what stands behind a front
 pub cut_behind : (front b more : List ℕ) → take (length front + length b - length front) (drop (length front) (front ++ (b ++ more))) ≡ b
@@ -22,7 +22,7 @@ bytes_behind front b more =
 
 pub ranges_length : (bs : List (List ℕ)) (start : ℕ) → length (ranges_from start bs) ≡ length bs
 ranges_length [] start = refl
-ranges_length (b ∷ bs) start = ap (λ (k : ℕ). suc k) (ranges_length bs (start + length (padded b)))
+ranges_length (b ∷ bs) start = ap (λ (k : ℕ). suc k) (ranges_length bs (start + length (padded_buffer b)))
 
 abbrev range_bytes : List ℕ → ℤ × ℤ → List ℕ
 range_bytes body range = bytes_of body (unsigned_abs range.0) (unsigned_abs range.1)
@@ -34,16 +34,16 @@ buffer_back (b ∷ bs) front zero l =
     let zeros = replicate {A = ℕ} ((8 - length b % 8) % 8) 0 in
     ap (λ (xs : List ℕ). bytes_of (front ++ xs) (length front) (length b)) (append_assoc b zeros (joined bs)) ∙ bytes_behind front b (zeros ++ joined bs)
 buffer_back (b ∷ bs) front (suc k) l =
-    ap (λ (xs : List ℕ). range_bytes xs (get_or (ranges_from (length front + length (padded b)) bs) k (pos 0, pos 0))) (sym (append_assoc front (padded b) (joined bs)))
-    ∙ (ap (λ (n : ℕ). range_bytes ((front ++ padded b) ++ joined bs) (get_or (ranges_from n bs) k (pos 0, pos 0))) (sym (length-append front (padded b)))
-    ∙ buffer_back bs (front ++ padded b) k (omega arith))
+    ap (λ (xs : List ℕ). range_bytes xs (get_or (ranges_from (length front + length (padded_buffer b)) bs) k (pos 0, pos 0))) (sym (append_assoc front (padded_buffer b) (joined bs)))
+    ∙ (ap (λ (n : ℕ). range_bytes ((front ++ padded_buffer b) ++ joined bs) (get_or (ranges_from n bs) k (pos 0, pos 0))) (sym (length-append front (padded_buffer b)))
+    ∙ buffer_back bs (front ++ padded_buffer b) k (omega arith))
 
 pub ranges_inside : (bs : List (List ℕ)) (start size : ℕ) → start + length (joined bs) ≤ size → AllByRecursion (LiesIn size) (ranges_from start bs)
 ranges_inside [] start size h = tt
 ranges_inside (b ∷ bs) start size h =
-    let whole = length-append (padded b) (joined bs) in
+    let whole = length-append (padded_buffer b) (joined bs) in
     let own = length-append b (replicate {A = ℕ} ((8 - length b % 8) % 8) 0) in
     let within : start + length b ≤ size = omega (arith, h, whole, own) in (
       record { offset = omega (arith, ints); bytes = omega (arith, ints); within = λ some. omega (arith, ints, within) },
-      ranges_inside bs (start + length (padded b)) size (omega (arith, h, whole)),
+      ranges_inside bs (start + length (padded_buffer b)) size (omega (arith, h, whole)),
     )

@@ -23,8 +23,8 @@ use Rattle.ipc_column.specs.Columns.{Column}
 use Rattle.ipc_column.specs.Rules.{HoldValues, HoldOffsets, IsLongEnough, HasBits, CountsNulls, HasOffsets, SpellsTexts}
 use Rattle.ipc_column.specs.Values.{is_valid, signed_at, offset, place, between, own_value, value_of}
 use Rattle.ipc_encode.specs.declared.pieces.Flag.TheVariants.{Valid, True}
-use Rattle.ipc_encode.specs.declared.pieces.Slot.{Slot}
-use Rattle.ipc_encode.specs.declared.pieces.Slot.TheVariants.{Number, Fixed, Content}
+use Rattle.ipc_encode.specs.declared.pieces.ValueSlot.{ValueSlot}
+use Rattle.ipc_encode.specs.declared.pieces.ValueSlot.TheVariants.{Number, Fixed, Content}
 use Rattle.ipc_encode.specs.declared.pieces.Piece.TheVariants as p
 use Rattle.ipc_encode.specs.Bitmaps.{bitmap}
 use Rattle.ipc_encode.specs.Cells.{is_null, is_true, is_set, flags, nulls, number_bits, bits_in, bytes_in, content, fixed, fixed_in, slot_bytes, slots, ends, offsets}
@@ -113,7 +113,7 @@ valid_is vs i d k =
 
 -- ---- slots
 
-pub slots_split : (which : Slot) (vs : List Value) (i : ℕ) (d : Value) → i < length vs → slots which vs ≡ slots which (take i vs) ++ (slot_bytes which (get_or vs i d) ++ slots which (drop (suc i) vs))
+pub slots_split : (which : ValueSlot) (vs : List Value) (i : ℕ) (d : Value) → i < length vs → slots which vs ≡ slots which (take i vs) ++ (slot_bytes which (get_or vs i d) ++ slots which (drop (suc i) vs))
 slots_split which [] i d k = absurd (omega arith)
 slots_split which (v ∷ vs) zero d k = refl
 slots_split which (v ∷ vs) (suc i) d k =
@@ -121,16 +121,16 @@ slots_split which (v ∷ vs) (suc i) d k =
     ∙ sym (append_assoc (slot_bytes which v) (slots which (take i vs)) (slot_bytes which (get_or vs i d) ++ slots which (drop (suc i) vs)))
 
 -- each slot has w bytes
-abbrev Wide : Slot → ℕ → List Value → Type 0
+abbrev Wide : ValueSlot → ℕ → List Value → Type 0
 Wide which w vs = AllByRecursion (λ v. length (slot_bytes which v) ≡ w) vs
 
-wide_length : (which : Slot) (w : ℕ) (vs : List Value) → Wide which w vs → length (slots which vs) ≡ w * length vs
+wide_length : (which : ValueSlot) (w : ℕ) (vs : List Value) → Wide which w vs → length (slots which vs) ≡ w * length vs
 wide_length which w [] h = omega arith
 wide_length which w (v ∷ vs) h =
     let e : w * suc (length vs) ≡ w + w * length vs = omega arith in
     omega (arith, e, h.0, wide_length which w vs h.1, length-append (slot_bytes which v) (slots which vs))
 
-wide_front : (which : Slot) (w : ℕ) (vs : List Value) (i : ℕ) → Wide which w vs → i ≤ length vs → length (slots which (take i vs)) ≡ w * i
+wide_front : (which : ValueSlot) (w : ℕ) (vs : List Value) (i : ℕ) → Wide which w vs → i ≤ length vs → length (slots which (take i vs)) ≡ w * i
 wide_front which w vs zero h k = omega arith
 wide_front which w [] (suc i) h k = absurd (omega arith)
 wide_front which w (v ∷ vs) (suc i) h k =

@@ -28,7 +28,7 @@ use Rattle.ipc_column.specs.Shapes.{Shape, field, shape_of, field_shape, nodes_i
 use Rattle.ipc_column.specs.Rules.{IsNode, LiesIn, IsLongEnough, CountsNulls, HasOffsets, SpellsTexts}
 use Rattle.ipc_column.specs.Values.{row}
 use Rattle.ipc_column.specs.Rows.{Rows}
-use Rattle.ipc_encode.specs.declared.pieces.Slot.TheVariants.{Content}
+use Rattle.ipc_encode.specs.declared.pieces.ValueSlot.TheVariants.{Content}
 use Rattle.ipc_encode.specs.Cells.{cell, cells, nulls, slots, SpellsOut}
 use Rattle.ipc_encode.specs.Buffers as b
 use Rattle.ipc_encode.specs.Buffers.{layout_of, pieces, column_buffers, nodes_from, ranges_from, buffers_from, buffers_of, body_of, joined}

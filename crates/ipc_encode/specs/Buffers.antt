@@ -7,7 +7,7 @@ use Rattle.ipc_column.specs.declared.layout.Layout.TheVariants as l
 use Rattle.ipc_column.specs.Layouts.{layout}
 use Rattle.ipc_encode.specs.declared.batch.Parts.{Parts}
 use Rattle.ipc_encode.specs.declared.pieces.Flag.TheVariants.{Valid, True}
-use Rattle.ipc_encode.specs.declared.pieces.Slot.TheVariants.{Number, Fixed, Content}
+use Rattle.ipc_encode.specs.declared.pieces.ValueSlot.TheVariants.{Number, Fixed, Content}
 use Rattle.ipc_encode.specs.declared.pieces.Piece.{Piece}
 use Rattle.ipc_encode.specs.declared.pieces.Piece.TheVariants as p
 use Rattle.ipc_encode.specs.Bitmaps.{bitmap}
@@ -56,18 +56,18 @@ buffers_from j [] rows = []
 buffers_from j (f ∷ fs) rows = column_buffers f (cells j rows) ++ buffers_from (j + 1) fs rows
 
 -- a buffer, and zero bytes up to a multiple of 8 (Arrow Columnar Format, "Buffer Alignment and Padding")
-abbrev pub padded : List ℕ → List ℕ
-padded b = b ++ replicate ((8 - length b % 8) % 8) 0
+abbrev pub padded_buffer : List ℕ → List ℕ
+padded_buffer b = b ++ replicate ((8 - length b % 8) % 8) 0
 
--- buffers one after another, each of them padded
+-- buffers one after another, each of them padded_buffer
 abbrev pub joined : List (List ℕ) → List ℕ
 joined [] = []
-joined (b ∷ bs) = padded b ++ joined bs
+joined (b ∷ bs) = padded_buffer b ++ joined bs
 
 -- where each of them begins, the first at a start, and how long it is without its padding (Schema.fbs, Buffer)
 abbrev pub ranges_from : ℕ → List (List ℕ) → List (ℤ × ℤ)
 ranges_from start [] = []
-ranges_from start (b ∷ bs) = (pos start, pos (length b)) ∷ ranges_from (start + length (padded b)) bs
+ranges_from start (b ∷ bs) = (pos start, pos (length b)) ∷ ranges_from (start + length (padded_buffer b)) bs
 
 -- the buffers of the fields' columns, and the body that they make
 abbrev pub buffers_of : List Field → List (List Value) → List (List ℕ)

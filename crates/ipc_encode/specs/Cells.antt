@@ -8,8 +8,8 @@ use Rattle.ipc_model.specs.declared.value.Value.TheVariants as v
 use Rattle.ipc_column.specs.Layouts.{number_bytes}
 use Rattle.ipc_encode.specs.declared.pieces.Flag.{Flag}
 use Rattle.ipc_encode.specs.declared.pieces.Flag.TheVariants as flag
-use Rattle.ipc_encode.specs.declared.pieces.Slot.{Slot}
-use Rattle.ipc_encode.specs.declared.pieces.Slot.TheVariants as slot
+use Rattle.ipc_encode.specs.declared.pieces.ValueSlot.{ValueSlot}
+use Rattle.ipc_encode.specs.declared.pieces.ValueSlot.TheVariants as slot
 
 -- the value that a row has in column j
 abbrev pub cell : ℕ → List Value → Value
@@ -70,13 +70,13 @@ abbrev pub fixed : ℕ → Value → List ℕ
 fixed width value = fixed_in width (out-Value value)
 
 -- a number's low bytes, the lowest first (Arrow Columnar Format, "Byte Order"), the bytes of one width, or those of any length
-abbrev pub slot_bytes : Slot → Value → List ℕ
+abbrev pub slot_bytes : ValueSlot → Value → List ℕ
 slot_bytes (slot.Number bits) value = bytes_low_first 0 (number_bytes bits) (number_bits value)
 slot_bytes (slot.Fixed width) value = fixed width value
 slot_bytes slot.Content value = content value
 
 -- the slots of values, one after another
-abbrev pub slots : Slot → List Value → List ℕ
+abbrev pub slots : ValueSlot → List Value → List ℕ
 slots which [] = []
 slots which (value ∷ values) = slot_bytes which value ++ slots which values
 
@@ -94,5 +94,5 @@ SpellsOut (Value-F.Text text) = IsUtf8 text
 SpellsOut _ = ⊤
 
 -- a text is UTF-8 (Schema.fbs, Utf8)
-abbrev pub IsSpelled : Value → Type 0
-IsSpelled value = SpellsOut (out-Value value)
+abbrev pub HasUtf8 : Value → Type 0
+HasUtf8 value = SpellsOut (out-Value value)

@@ -6,7 +6,7 @@ use Rattle.ipc_model.specs.declared.schema.Field.{Field}
 use Rattle.ipc_model.specs.declared.value.Value.{Value}
 use Rattle.ipc_column.specs.declared.layout.Layout.{Layout}
 use Rattle.ipc_column.specs.declared.layout.Layout.TheVariants as l
-use Rattle.ipc_encode.specs.declared.pieces.Slot.TheVariants.{Content}
+use Rattle.ipc_encode.specs.declared.pieces.ValueSlot.TheVariants.{Content}
 use Rattle.ipc_encode.specs.Cells.{cells, slots}
 use Rattle.ipc_encode.specs.Buffers.{layout_of, body_of}
 

@@ -10,8 +10,8 @@ use Rattle.ipc_column.specs.declared.layout.Layout.TheVariants as l
 use Rattle.ipc_encode.specs.declared.draft.Draft.{Draft}
 use Rattle.ipc_encode.specs.declared.pieces.Piece.{Piece}
 use Rattle.ipc_encode.specs.declared.pieces.Piece.TheVariants as p
-use Rattle.ipc_encode.specs.declared.pieces.Slot.TheVariants.{Content}
-use Rattle.ipc_encode.specs.Cells.{cells, slots, IsSpelled}
+use Rattle.ipc_encode.specs.declared.pieces.ValueSlot.TheVariants.{Content}
+use Rattle.ipc_encode.specs.Cells.{cells, slots, HasUtf8}
 use Rattle.ipc_encode.specs.Buffers.{layout_of, joined, nodes_from, ranges_from, buffers_of, body_of}
 use Rattle.ipc_encode.specs.Limits.{HasLongData}
 
@@ -25,7 +25,7 @@ HasLong _ values = ⊥
 -- what is known of values whose buffer was written
 abbrev pub Shows : Piece → List Value → Type 0
 Shows p.Offsets values = length (slots Content values) ≤ 2 ^ 31 - 1
-Shows (p.Slots Content) values = AllByRecursion IsSpelled values
+Shows (p.Slots Content) values = AllByRecursion HasUtf8 values
 Shows _ values = ⊤
 
 -- why a buffer isn't written that would make a body so long
@@ -48,7 +48,7 @@ AreRefusedAt pieces values size _ = ⊥
 
 -- the texts of a column are UTF-8
 abbrev pub AreStored : Layout → List Value → Type 0
-AreStored (l.VariableBytes utf8) values = AllByRecursion IsSpelled values
+AreStored (l.VariableBytes utf8) values = AllByRecursion HasUtf8 values
 AreStored l.Null values = ⊤
 AreStored l.Bits values = ⊤
 AreStored (l.Numbers bits signed) values = ⊤

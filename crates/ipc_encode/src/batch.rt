@@ -29,7 +29,7 @@ pub struct Parts {
     /// For each buffer in pre-order at which byte of the body it begins, and how many bytes it has without its padding
     /// (Schema.fbs, struct Buffer).
     pub buffers: Items<(i64, i64)>,
-    /// The bytes of the buffers, each padded with zeros to a multiple of 8 bytes.
+    /// The bytes of the buffers, each padded_buffer with zeros to a multiple of 8 bytes.
     pub body: Vec<u8>,
 }
 
@@ -39,7 +39,7 @@ pub struct Parts {
 /// structs are written, without a dictionary; nothing is said of the parts where there is another. The indices aren't looked at,
 /// since no field that is written can name a dictionary yet.
 ///
-/// Buffers stand in the order of the fields, each padded with zeros to a multiple of 8 bytes; a buffer's length is without its
+/// Buffers stand in the order of the fields, each padded_buffer with zeros to a multiple of 8 bytes; a buffer's length is without its
 /// padding. There is a validity bitmap only where a value is null. A null slot is zeros, false or an empty range, and offsets
 /// begin at 0.
 ///

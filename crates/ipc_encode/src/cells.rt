@@ -1,6 +1,6 @@
 ghost use Rattle.std.specs.Prelude.{◌≡◌, ◌≤◌, length, slice_index_or};
 ghost use Rattle.std.specs.Str.{IsUtf8};
-ghost use Rattle.ipc_encode.specs.Cells.{cells, is_set, nulls, number_bits, content, IsSpelled};
+ghost use Rattle.ipc_encode.specs.Cells.{cells, is_set, nulls, number_bits, content, HasUtf8};
 
 use crate::pieces::Flag;
 use ipc_model::table::Row;
@@ -37,7 +37,7 @@ pub(crate) fn number_bits(value: &Value) -> u64
 /// The bytes of a binary value or a text.
 pub(crate) fn content(value: &Value) -> &[u8]
     ensures bytes { result.now ≡ content value.now }
-    ensures text { IsSpelled value.now }
+    ensures text { HasUtf8 value.now }
 {
     match value {
         Value::Bytes(bytes) => bytes.as_slice(),

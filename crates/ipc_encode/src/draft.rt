@@ -21,7 +21,7 @@ pub(crate) struct Draft {
     pub(crate) nodes: Vec<(i64, i64)>,
     /// The ranges of their buffers.
     pub(crate) buffers: Vec<(i64, i64)>,
-    /// The bytes of their buffers, padded.
+    /// The bytes of their buffers, padded_buffer.
     pub(crate) body: Vec<u8>,
 }
 

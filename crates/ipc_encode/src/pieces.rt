@@ -15,7 +15,7 @@ pub enum Flag {
 
 /// What a value gives to its column's buffer of values.
 #[derive(Clone, Copy, Debug, PartialEq, Eq, Drop)]
-pub enum Slot {
+pub enum ValueSlot {
     /// Its number, of this width.
     Number(IntBits),
     /// So many bytes.
@@ -32,7 +32,7 @@ pub enum Piece {
     /// A bit for each value.
     Flags(Flag),
     /// A slot for each value.
-    Slots(Slot),
+    Slots(ValueSlot),
     /// Where the slots of different lengths begin and end.
     Offsets,
 }
@@ -66,15 +66,15 @@ pub(crate) fn pieces_of(
             return Ok(vec![in alloc;
                 validity(nulls),
                 Piece::Offsets,
-                Piece::Slots(Slot::Content),
+                Piece::Slots(ValueSlot::Content),
             ]?);
         }
         DataType::Bool => Piece::Flags(Flag::True),
-        DataType::Int { bits, .. } => Piece::Slots(Slot::Number(*bits)),
-        DataType::FixedSizeBinary(width) => Piece::Slots(Slot::Fixed(*width)),
-        DataType::Date(DateUnit::Day) => Piece::Slots(Slot::Number(IntBits::B32)),
+        DataType::Int { bits, .. } => Piece::Slots(ValueSlot::Number(*bits)),
+        DataType::FixedSizeBinary(width) => Piece::Slots(ValueSlot::Fixed(*width)),
+        DataType::Date(DateUnit::Day) => Piece::Slots(ValueSlot::Number(IntBits::B32)),
         DataType::Date(DateUnit::Millisecond) | DataType::Timestamp { .. } => {
-            Piece::Slots(Slot::Number(IntBits::B64))
+            Piece::Slots(ValueSlot::Number(IntBits::B64))
         }
     };
     Ok(vec![in alloc; validity(nulls), values]?)

@@ -6,7 +6,7 @@ ghost use Rattle.ipc_encode.specs.Cells.{cells, flags, slot_bytes, slots, offset
 ghost use Rattle.ipc_encode.specs.Writing.{IsRefusedAt, Shows};
 
 use crate::cells::{content, count_nulls, is_set, number_bits, value_at};
-use crate::pieces::{Flag, Piece, Slot};
+use crate::pieces::{Flag, Piece, ValueSlot};
 use ipc_model::fault::WriteFault;
 use ipc_model::schema::IntBits;
 use ipc_model::table::Row;
@@ -52,7 +52,7 @@ fn write_flags(
 
 // Appends the low bytes of a value's number.
 fn write_number(body: &mut Vec<u8>, value: &Value, bits: IntBits) -> Result<(), AllocError>
-    ensures { OnOk result (body.new.items ≡ body.old.items ++ slot_bytes (Slot.Number bits) value.now) }
+    ensures { OnOk result (body.new.items ≡ body.old.items ++ slot_bytes (ValueSlot.Number bits) value.now) }
 {
     let bytes = number_bits(value).to_le_bytes();
     match bits {
@@ -66,7 +66,7 @@ fn write_number(body: &mut Vec<u8>, value: &Value, bits: IntBits) -> Result<(), 
 // Appends the bytes of a binary value, or so many zeros.
 fn write_fixed(body: &mut Vec<u8>, value: &Value, width: u32) -> Result<(), AllocError>
     requires { length body.old.items ≤ 2 ^ 40 }
-    ensures { OnOk result (body.new.items ≡ body.old.items ++ slot_bytes (Slot.Fixed width) value.now) }
+    ensures { OnOk result (body.new.items ≡ body.old.items ++ slot_bytes (ValueSlot.Fixed width) value.now) }
 {
     match value {
         Value::Bytes(bytes) => body.extend_from_slice(bytes.as_slice()),
@@ -75,15 +75,15 @@ fn write_fixed(body: &mut Vec<u8>, value: &Value, width: u32) -> Result<(), Allo
 }
 
 // Appends what a value gives to the buffer of values.
-fn write_slot(body: &mut Vec<u8>, value: &Value, slot: Slot) -> Result<(), AllocError>
+fn write_slot(body: &mut Vec<u8>, value: &Value, slot: ValueSlot) -> Result<(), AllocError>
     requires { length body.old.items ≤ 2 ^ 40 }
     ensures ok { OnOk result (body.new.items ≡ body.old.items ++ slot_bytes slot value.now) }
     ensures shows { OnOk result (Shows (Piece.Slots slot) (value.now ∷ [])) }
 {
     match slot {
-        Slot::Number(bits) => write_number(body, value, bits),
-        Slot::Fixed(width) => write_fixed(body, value, width),
-        Slot::Content => body.extend_from_slice(content(value)),
+        ValueSlot::Number(bits) => write_number(body, value, bits),
+        ValueSlot::Fixed(width) => write_fixed(body, value, width),
+        ValueSlot::Content => body.extend_from_slice(content(value)),
     }
 }
 
@@ -92,7 +92,7 @@ fn write_slots(
     body: &mut Vec<u8>,
     rows: &[Row],
     column: usize,
-    slot: Slot,
+    slot: ValueSlot,
 ) -> Result<(), WriteFault>
     ensures ok { OnOk result (body.new.items ≡ body.old.items ++ slots slot (cells column rows.now)) }
     ensures shows { OnOk result (Shows (Piece.Slots slot) (cells column rows.now)) }

@@ -1,6 +1,6 @@
 use Rattle.std.proofs.Common.{◌≡◌, ◌≤◌, ◌++◌, ◌+◌, ◌-◌, ◌^◌, length, drop}
 use Rattle.ipc_model.specs.declared.value.Value.TheVariants.{Null}
-use Rattle.ipc_encode.specs.declared.pieces.Slot.TheVariants.{Content}
+use Rattle.ipc_encode.specs.declared.pieces.ValueSlot.TheVariants.{Content}
 use Rattle.ipc_encode.specs.Cells.{cells, slots, ends, offsets}
 use Rattle.ipc_encode.proofs.slots.write_offsets.Given as goal
 
