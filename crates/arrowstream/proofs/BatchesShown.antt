@@ -19,7 +19,7 @@ use Rattle.ipc_column.specs.Layouts.{layout, number_bytes}
 use Rattle.ipc_column.specs.Shapes.{Shape, bare, field, shapes, field_shape, field_step, shape_of, cut, column_at, nodes_in, buffers_in, columns_of}
 use Rattle.ipc_column.specs.Values.{is_valid, own_value, value_of, signed_at, row}
 use Rattle.ipc_column.specs.Rows.{Rows}
-use Rattle.ipc_stream.specs.Stream.{State, Event, Open, schema, batch, Step, first, came, Run, done, more}
+use Rattle.ipc_stream.specs.Stream.{State, Event, InForce, schema, batch, Step, first, came, Run, done, more}
 use Rattle.arrowstream.specs.Columns.{AreShownColumns, IsShownColumn}
 use Rattle.arrowstream.specs.Rows.{AreShownRows, IsShown}
 use Rattle.arrowstream.proofs.Shown.{null_shown, int_shown}
@@ -56,22 +56,22 @@ abbrev pub IsShownEvent : Event → Type 0
 IsShownEvent (schema s) = ⊤
 IsShownEvent (batch rows) = AreShownRows rows
 
-step_shown : (σ τ : State) (h : Head) (body : List ℕ) (es : List Event) (o : Open) → AreShownColumns o.schema.fields → σ ≡ Some o → Step σ h body es τ → AllByRecursion IsShownEvent es × (τ ≡ Some o)
+step_shown : (σ τ : State) (h : Head) (body : List ℕ) (es : List Event) (o : InForce) → AreShownColumns o.schema.fields → σ ≡ Some o → Step σ h body es τ → AllByRecursion IsShownEvent es × (τ ≡ Some o)
 step_shown σ τ h body es o all is first = absurd (cc)
 step_shown σ τ h body es o all is (came {o = p} {b = b} {body = c} {rows = rows} r) =
     let same : p ≡ o = cc in
-    ((rows_shown o.schema.fields b c rows all (subst (λ (q : Open). Rows q.schema.fields b c rows) same r), tt), is)
+    ((rows_shown o.schema.fields b c rows all (subst (λ (q : InForce). Rows q.schema.fields b c rows) same r), tt), is)
 
 append_shown : (es fs : List Event) → AllByRecursion IsShownEvent es → AllByRecursion IsShownEvent fs → AllByRecursion IsShownEvent (es ++ fs)
 append_shown [] fs a b = b
 append_shown (e ∷ es) fs a b = (a.0, append_shown es fs a.1 b)
 
-run_shown : (σ τ : State) (x : List ℕ) (es : List Event) (o : Open) → AreShownColumns o.schema.fields → σ ≡ Some o → Run σ x es τ → AllByRecursion IsShownEvent es
+run_shown : (σ τ : State) (x : List ℕ) (es : List Event) (o : InForce) → AreShownColumns o.schema.fields → σ ≡ Some o → Run σ x es τ → AllByRecursion IsShownEvent es
 run_shown σ τ x es o all is done = tt
 run_shown σ τ x es o all is (more {σ = a} {τ = b} {υ = c} {x = u} {metadata = m} {body = d} {y = v} {h = h} {es = ds} {fs = gs} frame step rest) =
     let s = step_shown a b h d ds o all is step in
     append_shown ds gs s.0 (run_shown b c v gs o all s.1 rest)
 
 -- what a run of one batch says of its rows
-pub batch_shown : (o : Open) (x : List ℕ) (rows : List (List Value)) → AreShownColumns o.schema.fields → Run (Some o) x (batch rows ∷ []) (Some o) → AreShownRows rows
+pub batch_shown : (o : InForce) (x : List ℕ) (rows : List (List Value)) → AreShownColumns o.schema.fields → Run (Some o) x (batch rows ∷ []) (Some o) → AreShownRows rows
 batch_shown o x rows all run = (run_shown (Some o) (Some o) x (batch rows ∷ []) o all refl run).0

@@ -11,9 +11,9 @@ use Rattle.ipc_stream.specs.declared.end.End.{End}
 use Rattle.ipc_stream.specs.declared.phase.Phase.{Phase}
 use Rattle.ipc_stream.specs.declared.phase.Phase.TheVariants.{Reading, Ended, Refused}
 use Rattle.ipc_stream.specs.Failures.{FailsAs, Tells}
-use Rattle.ipc_stream.specs.Reader.{Reader, open_of, NextGives, NextTakes}
+use Rattle.ipc_stream.specs.Reader.{Reader, in_force_of, NextAnswer, NextCall}
 use Rattle.ipc_stream.specs.Reasons.{Reads}
-use Rattle.ipc_stream.specs.Stream.{State, Event, Open, batch, Run, done, more}
+use Rattle.ipc_stream.specs.Stream.{State, Event, InForce, batch, Run, done, more}
 use Rattle.arrowstream.specs.declared.rows.PrintFault.{PrintFault}
 use Rattle.arrowstream.specs.declared.rows.PrintFault.TheVariants.{Write, OutOfMemory}
 use Rattle.arrowstream.specs.Columns.{AreShownColumns}
@@ -49,7 +49,7 @@ pub record Batches (old now : Reader) (before after : Output) : Type 0 where
   pub x : List ℕ
   pub batches : List (List (List Value))
   pub bytes : Consumes old.remaining now.remaining x
-  pub run : Run (Some (open_of old)) x (map batch batches) (Some (open_of old))
+  pub run : Run (Some (in_force_of old)) x (map batch batches) (Some (in_force_of old))
   pub reading : now.phase ≡ Reading
   pub same : now.schema ≡ old.schema
   pub counts : now.failures ≡ old.failures
@@ -70,21 +70,21 @@ batches_none r o reading = record {
 }
 
 -- what a call that gave a batch says, where the reader was reading
-gave : (o : Open) (p q : Phase) (x : List ℕ) (left : Option (List ℕ)) (found : Contents) → p ≡ Reading → NextGives o p x left (Ok (Some found)) q → (q ≡ Reading) × Run (Some o) x (batch found.rows ∷ []) (Some o)
+gave : (o : InForce) (p q : Phase) (x : List ℕ) (left : Option (List ℕ)) (found : Contents) → p ≡ Reading → NextAnswer o p x left (Ok (Some found)) q → (q ≡ Reading) × Run (Some o) x (batch found.rows ∷ []) (Some o)
 gave o Reading Reading x left found is h = (refl, h)
 gave o Reading (Ended e) x left found is h = absurd h
 gave o Reading Refused x left found is h = absurd h
 gave o (Ended e) q x left found is h = absurd (cc)
 gave o Refused q x left found is h = absurd (cc)
 
-ended : (o : Open) (p q : Phase) (x : List ℕ) (left : Option (List ℕ)) → p ≡ Reading → NextGives o p x left (Ok None) q → (e : End) × Reads (Some o) x left [] (Ok e)
+ended : (o : InForce) (p q : Phase) (x : List ℕ) (left : Option (List ℕ)) → p ≡ Reading → NextAnswer o p x left (Ok None) q → (e : End) × Reads (Some o) x left [] (Ok e)
 ended o Reading Reading x left is h = absurd h
 ended o Reading (Ended e) x left is h = (e, h)
 ended o Reading Refused x left is h = absurd h
 ended o (Ended e) q x left is h = absurd (cc)
 ended o Refused q x left is h = absurd (cc)
 
-broke : (o : Open) (p q : Phase) (x : List ℕ) (left : Option (List ℕ)) (f : Fault) → p ≡ Reading → NextGives o p x left (Err f) q → Reads (Some o) x left [] (Err f)
+broke : (o : InForce) (p q : Phase) (x : List ℕ) (left : Option (List ℕ)) (f : Fault) → p ≡ Reading → NextAnswer o p x left (Err f) q → Reads (Some o) x left [] (Err f)
 broke o Reading Reading x left f is h = absurd h
 broke o Reading (Ended e) x left f is h = absurd h
 broke o Reading Refused x left f is h = h
@@ -92,24 +92,24 @@ broke o (Ended e) q x left f is h = absurd (cc)
 broke o Refused q x left f is h = absurd (cc)
 
 module _ (old now new : Reader) (before after : Output) (b : Batches old now before after) where
-  same_open : open_of now ≡ open_of old
+  same_open : in_force_of now ≡ in_force_of old
   same_open = ap (λ s. record { schema = s }) b.same
 
   -- the batch that came
-  found_run : (found : Contents) → (t : NextTakes now new (Ok (Some found))) → (new.phase ≡ Reading) × Run (Some (open_of old)) t.x (batch found.rows ∷ []) (Some (open_of old))
+  found_run : (found : Contents) → (t : NextCall now new (Ok (Some found))) → (new.phase ≡ Reading) × Run (Some (in_force_of old)) t.x (batch found.rows ∷ []) (Some (in_force_of old))
   found_run found t =
-      let h = gave (open_of now) now.phase new.phase t.x new.remaining found b.reading t.gives in
-      (h.0, subst (λ (o : Open). Run (Some o) t.x (batch found.rows ∷ []) (Some o)) same_open h.1)
+      let h = gave (in_force_of now) now.phase new.phase t.x new.remaining found b.reading t.gives in
+      (h.0, subst (λ (o : InForce). Run (Some o) t.x (batch found.rows ∷ []) (Some o)) same_open h.1)
 
-  pub found_shown : (found : Contents) → NextTakes now new (Ok (Some found)) → AreShownColumns old.schema.fields → AreShownRows found.rows
-  found_shown found t columns = batch_shown (open_of old) t.x found.rows columns (found_run found t).1
+  pub found_shown : (found : Contents) → NextCall now new (Ok (Some found)) → AreShownColumns old.schema.fields → AreShownRows found.rows
+  found_shown found t columns = batch_shown (in_force_of old) t.x found.rows columns (found_run found t).1
 
-  more_run : (found : Contents) (t : NextTakes now new (Ok (Some found))) → Run (Some (open_of old)) (b.x ++ t.x) (map batch (b.batches ++ found.rows ∷ [])) (Some (open_of old))
+  more_run : (found : Contents) (t : NextCall now new (Ok (Some found))) → Run (Some (in_force_of old)) (b.x ++ t.x) (map batch (b.batches ++ found.rows ∷ [])) (Some (in_force_of old))
   more_run found t =
-      subst (λ es. Run (Some (open_of old)) (b.x ++ t.x) es (Some (open_of old))) (sym (map-append batch b.batches (found.rows ∷ [])))
+      subst (λ es. Run (Some (in_force_of old)) (b.x ++ t.x) es (Some (in_force_of old))) (sym (map-append batch b.batches (found.rows ∷ [])))
       (run_then _ _ _ b.x t.x (map batch b.batches) (batch found.rows ∷ []) b.run (found_run found t).1)
 
-  pub batches_more : (found : Contents) (next : Output) → NextTakes now new (Ok (Some found)) → new.failures ≡ now.failures → AreShownColumns old.schema.fields → Puts after next (lines found.rows) → Batches old new before next
+  pub batches_more : (found : Contents) (next : Output) → NextCall now new (Ok (Some found)) → new.failures ≡ now.failures → AreShownColumns old.schema.fields → Puts after next (lines found.rows) → Batches old new before next
   batches_more found next t works columns puts = record {
     x = b.x ++ t.x;
     batches = b.batches ++ found.rows ∷ [];
@@ -123,7 +123,7 @@ module _ (old now new : Reader) (before after : Output) (b : Batches old now bef
   }
 
   -- the rows of the batch that came weren't all printed
-  pub batches_cut : (found : Contents) (w : Option (List ℕ)) (n : ℕ) (e : PrintFault) → NextTakes now new (Ok (Some found)) → new.failures ≡ now.failures → PutsNot after w n (lines found.rows) e → PrintsPart old new before w n e
+  pub batches_cut : (found : Contents) (w : Option (List ℕ)) (n : ℕ) (e : PrintFault) → NextCall now new (Ok (Some found)) → new.failures ≡ now.failures → PutsNot after w n (lines found.rows) e → PrintsPart old new before w n e
   batches_cut found w n e t works q = record {
     x = b.x ++ t.x;
     batches = b.batches ++ found.rows ∷ [];
@@ -131,18 +131,18 @@ module _ (old now new : Reader) (before after : Output) (b : Batches old now bef
     rest = [];
     whole = b.x ++ t.x;
     joined = sym (append-nil (b.x ++ t.x));
-    state = Some (open_of old);
+    state = Some (in_force_of old);
     run = more_run found t;
     puts = not_at before w n _ _ e (batch_lines_more b.batches found.rows) (puts_not_then before after w n (batch_lines b.batches) (lines found.rows) e b.puts q);
     works = λ other z. works ∙ (b.counts ∙ z);
   }
 
-  behind : (y : List ℕ) (r : Result End Fault) → Reads (Some (open_of now)) y new.remaining [] r → Reads (Some (open_of old)) (b.x ++ y) new.remaining (map batch b.batches) r
+  behind : (y : List ℕ) (r : Result End Fault) → Reads (Some (in_force_of now)) y new.remaining [] r → Reads (Some (in_force_of old)) (b.x ++ y) new.remaining (map batch b.batches) r
   behind y r h =
-      subst (λ es. Reads (Some (open_of old)) (b.x ++ y) new.remaining es r) (append-nil (map batch b.batches))
-      (reads_after _ _ b.x y new.remaining (map batch b.batches) [] r b.run (subst (λ (o : Open). Reads (Some o) y new.remaining [] r) same_open h))
+      subst (λ es. Reads (Some (in_force_of old)) (b.x ++ y) new.remaining es r) (append-nil (map batch b.batches))
+      (reads_after _ _ b.x y new.remaining (map batch b.batches) [] r b.run (subst (λ (o : InForce). Reads (Some o) y new.remaining [] r) same_open h))
 
-  printed : (y : List ℕ) (r : Result End Fault) → Consumes now.remaining new.remaining y → Reads (Some (open_of now)) y new.remaining [] r → PrintsRows old new before after r
+  printed : (y : List ℕ) (r : Result End Fault) → Consumes now.remaining new.remaining y → Reads (Some (in_force_of now)) y new.remaining [] r → PrintsRows old new before after r
   printed y r bytes h = record {
     x = b.x ++ y;
     batches = b.batches;
@@ -152,14 +152,14 @@ module _ (old now new : Reader) (before after : Output) (b : Batches old now bef
     puts = b.puts;
   }
 
-  pub batches_end : NextTakes now new (Ok None) → new.failures ≡ now.failures → PrintsAs old new before after (Ok None)
+  pub batches_end : NextCall now new (Ok None) → new.failures ≡ now.failures → PrintsAs old new before after (Ok None)
   batches_end t works =
-      let h = ended (open_of now) now.phase new.phase t.x new.remaining b.reading t.gives in
+      let h = ended (in_force_of now) now.phase new.phase t.x new.remaining b.reading t.gives in
       (h.0, printed t.x (Ok h.0) t.bytes h.1, λ z. works ∙ (b.counts ∙ z))
 
-  pub batches_break : (f : Fault) → NextTakes now new (Err f) → Tells now.failures new.failures f → PrintsAs old new before after (Ok (Some f))
+  pub batches_break : (f : Fault) → NextCall now new (Err f) → Tells now.failures new.failures f → PrintsAs old new before after (Ok (Some f))
   batches_break f t tells = (
-    printed t.x (Err f) t.bytes (broke (open_of now) now.phase new.phase t.x new.remaining f b.reading t.gives),
+    printed t.x (Err f) t.bytes (broke (in_force_of now) now.phase new.phase t.x new.remaining f b.reading t.gives),
     record { failed = tells.failed; stayed = λ other. tells.stayed other ∙ b.counts },
   )
 
@@ -172,7 +172,7 @@ part_none r o = record {
   rest = [];
   whole = [];
   joined = refl;
-  state = Some (open_of r);
+  state = Some (in_force_of r);
   run = done;
   puts = puts_never o [];
   works = λ other z. z;

@@ -9,8 +9,8 @@ use Rattle.ipc_model.specs.declared.table.Table.{Table}
 use Rattle.ipc_model.specs.declared.value.Value.{Value}
 use Rattle.ipc_stream.specs.declared.end.End.{End}
 use Rattle.ipc_stream.specs.declared.end.End.TheVariants.{Mark, Closed}
-use Rattle.ipc_stream.specs.Reader.{Reader, open_of, Opens, OpensNot}
-use Rattle.ipc_stream.specs.Reasons.{Reads, Ends, IsAside}
+use Rattle.ipc_stream.specs.Reader.{Reader, in_force_of, Opens, OpenFails}
+use Rattle.ipc_stream.specs.Reasons.{Reads, Ends, IsOutside}
 use Rattle.ipc_stream.specs.Stream.{State, Event, schema, batch, Run, Denotes, events_of}
 use Rattle.arrowstream.specs.declared.rows.PrintFault.{PrintFault}
 use Rattle.arrowstream.specs.declared.rows.PrintFault.TheVariants as p
@@ -52,7 +52,7 @@ module _ (old : Option (List ℕ)) (s t : Reader) (o : Opens old s) (w0 w1 : Opt
     all_bytes = Consumes-trans old s.remaining t.remaining o.x r.x o.bytes r.bytes
 
     all_reads : Reads None (o.x ++ r.x) t.remaining (events_of table) a
-    all_reads = reads_after None (Some (open_of s)) o.x r.x t.remaining (schema s.schema ∷ []) (map batch r.batches) a o.run r.reads
+    all_reads = reads_after None (Some (in_force_of s)) o.x r.x t.remaining (schema s.schema ∷ []) (map batch r.batches) a o.run r.reads
 
     text : Appends w0 w1 (batch_lines r.batches)
     text = grows_appends w0 w1 (batch_lines r.batches) r.puts.bytes
@@ -74,13 +74,13 @@ module _ (old : Option (List ℕ)) (s t : Reader) (o : Opens old s) (w0 w1 : Opt
   shows_rows (Err (stop.Stream fault n)) (inl other) =
       let taken : Consumes old t.remaining o.x = subst (λ (z : Reader). Consumes old z.remaining o.x) (sym other.same) o.bytes in
       let silent : Keeps w0 w1 = subst (λ (z : Output). Keeps w0 z.written) (sym other.silent) (Keeps-refl w0) in
-      not_shown o.x s.schema (Some (open_of s)) other.code taken o.run other.other other.told silent
+      not_shown o.x s.schema (Some (in_force_of s)) other.code taken o.run other.other other.told silent
   shows_rows (Err (stop.Stream fault n)) (inr r) =
       broken (o.x ++ r.x) (record { schema = s.schema; batches = r.batches }) (all_bytes (Err fault) r) (all_reads (Err fault) r) r.cells (text (Err fault) r)
   shows_rows (Err (stop.Print fault)) r =
       some (o.x ++ r.whole) r.rest r.puts.behind (record { schema = s.schema; batches = r.batches }) r.state
       (subst (λ (z : List ℕ). Consumes old t.remaining z) (ap (λ (z : List ℕ). o.x ++ z) r.joined ∙ sym (append_assoc o.x r.whole r.rest)) (Consumes-trans old s.remaining t.remaining o.x r.x o.bytes r.bytes))
-      (run_then None (Some (open_of s)) r.state o.x r.whole (schema s.schema ∷ []) (map batch r.batches) o.run r.run)
+      (run_then None (Some (in_force_of s)) r.state o.x r.whole (schema s.schema ∷ []) (map batch r.batches) o.run r.run)
       r.puts.bytes
 
 -- the same with the source that came back
@@ -88,7 +88,7 @@ pub shows_all : (old new : Option (List ℕ)) (s t : Reader) (w0 w1 : Option (Li
 shows_all old new s t w0 w1 n0 n1 r o is h = subst (λ (z : Option (List ℕ)). Shows old z w0 w1 r) (sym is) (shows_rows old s t o w0 w1 n0 n1 r h)
 
 -- no schema was read
-pub shows_none : (old new w : Option (List ℕ)) (fault : Fault) → OpensNot old new fault → Breaks old new w w fault
+pub shows_none : (old new w : Option (List ℕ)) (fault : Fault) → OpenFails old new fault → Breaks old new w w fault
 shows_none old new w fault o = unopened o.x o.bytes o.reads (Keeps-refl w)
 
 -- why a stream isn't read to its end, as what was printed
@@ -111,13 +111,13 @@ part_of old new w0 w1 (Err (stop.Stream fault n)) h = broken_part old new w0 w1 
 part_of old new w0 w1 (Err (stop.Print fault)) h = h
 
 -- the status 1 is told of no device and not of memory
-refusal : (fault : Fault) (n : ℕ) → stop_status (stop.Stream fault n) ≡ 1 → IsAside fault → ⊥
+refusal : (fault : Fault) (n : ℕ) → stop_status (stop.Stream fault n) ≡ 1 → IsOutside fault → ⊥
 refusal f.OutOfMemory n is aside = absurd (omega (arith, is))
 refusal f.Read n is aside = absurd (omega (arith, is))
 refusal fault n is (inl e) = absurd (cc)
 refusal fault n is (inr e) = absurd (cc)
 
-pub refused_of : (old new w0 w1 : Option (List ℕ)) (r : Result ⊤ Stop) → exit_status r ≡ 1 → Shows old new w0 w1 r → (fault : Fault) × (IsAside fault → ⊥) × Breaks old new w0 w1 fault
+pub refused_of : (old new w0 w1 : Option (List ℕ)) (r : Result ⊤ Stop) → exit_status r ≡ 1 → Shows old new w0 w1 r → (fault : Fault) × (IsOutside fault → ⊥) × Breaks old new w0 w1 fault
 refused_of old new w0 w1 (Ok done) is h = absurd (omega (arith, is))
 refused_of old new w0 w1 (Err (stop.Stream fault n)) is h = (fault, refusal fault n is, h)
 refused_of old new w0 w1 (Err (stop.Print p.OutOfMemory)) is h = absurd (omega (arith, is))

@@ -12,7 +12,7 @@ use Rattle.ipc_stream.specs.declared.end.End.TheVariants.{Closed}
 use Rattle.ipc_stream.specs.Stream.{State, schema, batch, Run, events_of, Denotes}
 use Rattle.ipc_stream.specs.Failures.{Tells}
 use Rattle.ipc_stream.specs.Reasons.{Reads}
-use Rattle.ipc_stream.specs.Reader.{Reader, open_of}
+use Rattle.ipc_stream.specs.Reader.{Reader, in_force_of}
 use Rattle.arrowstream.specs.declared.rows.PrintFault.{PrintFault}
 use Rattle.arrowstream.specs.declared.rows.PrintFault.TheVariants as p
 use Rattle.arrowstream.specs.declared.run.Stop.{Stop}
@@ -73,7 +73,7 @@ pub record PrintsRows (old new : Reader) (before after : Output) (answer : Resul
   pub x : List ℕ
   pub batches : List (List (List Value))
   pub bytes : Consumes old.remaining new.remaining x
-  pub reads : Reads (Some (open_of old)) x new.remaining (map batch batches) answer
+  pub reads : Reads (Some (in_force_of old)) x new.remaining (map batch batches) answer
   pub cells : AllByRecursion AreShownRows batches
   pub puts : Puts before after (batch_lines batches)
 
@@ -86,7 +86,7 @@ pub record PrintsPart (old new : Reader) (before : Output) (written : Option (Li
   pub whole : List ℕ
   pub joined : x ≡ whole ++ rest
   pub state : State
-  pub run : Run (Some (open_of old)) whole (map batch batches) state
+  pub run : Run (Some (in_force_of old)) whole (map batch batches) state
   pub puts : PutsNot before written failures (batch_lines batches) fault
   pub works : fault ≢ p.Write → old.failures ≡ 0 → new.failures ≡ 0
 

@@ -1,7 +1,7 @@
 //! The job `show`: a stream's rows are printed as they come.
 ghost use Rattle.std.specs.Prelude.{◌≡◌, ◌≢◌, ◌⊎◌, [], Some, IfErr, IfOk, OnOk};
 ghost use Rattle.ipc_stream.specs.declared.phase.Phase.TheVariants.{Reading};
-ghost use Rattle.ipc_stream.specs.Reasons.{IsAside};
+ghost use Rattle.ipc_stream.specs.Reasons.{IsOutside};
 ghost use Rattle.arrowstream.specs.Columns.{AreShownColumns};
 ghost use Rattle.arrowstream.specs.Output.{output};
 ghost use Rattle.arrowstream.specs.Show.{Breaks, PrintsAs, Shows, ShowsPart, ShowsRows, ShowsTable, TellsDevices, exit_status, stop_status};
@@ -141,7 +141,7 @@ pub fn run<R: Source, W: Sink, E: Write>(
     // Then the sink holds nothing back.
     ensures handed_on { result.0 ≡ 0 → W.held_back sink.new ≡ Some [] }
     // At 1 the stream is refused, and exactly the rows of the batches before were printed.
-    ensures refused { result.0 ≡ 1 → (fault : Fault) × ¬ IsAside fault × Breaks (R.remaining source) (R.remaining result.1) (W.written sink.old) (W.written sink.new) fault }
+    ensures refused { result.0 ≡ 1 → (fault : Fault) × ¬ IsOutside fault × Breaks (R.remaining source) (R.remaining result.1) (W.written sink.old) (W.written sink.new) fault }
     // 3 comes exactly where a device failed.
     ensures devices { TellsDevices (R.failures source) (R.failures result.1) (W.failures sink.old) (W.failures sink.new) result.0 }
     // 4 is left for memory; there is no other status.

@@ -15,9 +15,9 @@ use Rattle.ipc_stream.specs.declared.end.End.{End}
 use Rattle.ipc_stream.specs.declared.end.End.TheVariants.{Mark, Closed}
 use Rattle.ipc_stream.specs.declared.phase.Phase.{Phase}
 use Rattle.ipc_stream.specs.declared.phase.Phase.TheVariants as phase
-use Rattle.ipc_stream.specs.Reader.{BeginsEnd, GivesRows, NextGives, NextTakes, Opens, OpensNot, Reader, open_of}
-use Rattle.ipc_stream.specs.Reasons.{Ends, IsAside, Reads}
-use Rattle.ipc_stream.specs.Stream.{Event, Open, Run, State, Step, batch, came, done, first, more, schema}
+use Rattle.ipc_stream.specs.Reader.{BeginsEnd, GivesRows, NextAnswer, NextCall, Opens, OpenFails, Reader, in_force_of}
+use Rattle.ipc_stream.specs.Reasons.{Ends, IsOutside, Reads}
+use Rattle.ipc_stream.specs.Stream.{Event, InForce, Run, State, Step, batch, came, done, first, more, schema}
 use Rattle.ipc_stream.specs.Writing.{AddsRows, OpensStream}
 use Rattle.ipc_stream.proofs.OneReading.{IsStop, at_eos, frame_stop, step_one}
 use Rattle.ipc_stream.proofs.Reasons.{message_breaks, step_read, stop_breaks}
@@ -82,7 +82,7 @@ module _ (σ : State) (x u z b : List ℕ) (e : Event) (m : IsMessage σ x e) (r
   no_end Mark h = frame_stop x m.metadata m.body u (z ++ b) m.head m.frame joined (inr (b, ap (λ y. y ++ b) h.0))
   no_end Closed h = frame_stop x m.metadata m.body u (z ++ b) m.head m.frame joined (inl (ap (λ y. y ++ b) h.0 ∙ h.2))
 
-  only_aside : (fault : Fault) → Ends σ z (Some b) (Err fault) → IsAside fault
+  only_aside : (fault : Fault) → Ends σ z (Some b) (Err fault) → IsOutside fault
   only_aside fault h = message_breaks σ m.next x m.metadata m.body u z b m.head (e ∷ []) m.frame m.step read joined fault h
 
 -- the bytes that are left where they are known
@@ -98,7 +98,7 @@ opens_schema old new x rest s h is o =
     let one : schema s ≡ schema new.schema = same_event None x h.x rest k.0 (schema s) (schema new.schema) (one_message (schema s) o refl) (one_message (schema new.schema) h.run refl) k.2 in
     cc
 
-pub opens_fails : (old new : Option (List ℕ)) (fault : Fault) (x rest : List ℕ) (s : Schema) → are_supported s.fields ≡ true → OpensNot old new fault → old ≡ Some (x ++ rest) → OpensStream s x → IsAside fault
+pub opens_fails : (old new : Option (List ℕ)) (fault : Fault) (x rest : List ℕ) (s : Schema) → are_supported s.fields ≡ true → OpenFails old new fault → old ≡ Some (x ++ rest) → OpensStream s x → IsOutside fault
 opens_fails old new fault x rest s read h is o =
     let k = known (x ++ rest) h.x old new is h.bytes in
     let reads = subst (λ left. Reads None h.x left [] (Err fault)) k.1 h.reads in
@@ -107,20 +107,20 @@ opens_fails old new fault x rest s read h is o =
 
 -- the schema, or want of memory or a failure of the source
 pub opens_or : {T E : Type 0} (r : Result T E) (view : T → Reader) (left : E → Option (List ℕ)) (fault : E → Fault) (old : Option (List ℕ)) (x rest : List ℕ) (s : Schema) → are_supported s.fields ≡ true
-    → IfOk r (λ t. Opens old (view t)) → IfErr r (λ e. OpensNot old (left e) (fault e)) → old ≡ Some (x ++ rest) → OpensStream s x → MatchResult r (λ t. (view t).schema ≡ s) (λ e. IsAside (fault e))
+    → IfOk r (λ t. Opens old (view t)) → IfErr r (λ e. OpenFails old (left e) (fault e)) → old ≡ Some (x ++ rest) → OpensStream s x → MatchResult r (λ t. (view t).schema ≡ s) (λ e. IsOutside (fault e))
 opens_or (Ok t) view left fault old x rest s read opened refused is o = opens_schema old (view t) x rest s opened is o
 opens_or (Err e) view left fault old x rest s read opened refused is o = opens_fails old (left e) (fault e) x rest s read refused is o
 
 -- ---- a batch
 
-module _ (o : Open) (x u z b : List ℕ) (rows : List (List Value)) (m : IsMessage (Some o) x (batch rows)) (joined : x ++ u ≡ z ++ b) where
+module _ (o : InForce) (x u z b : List ℕ) (rows : List (List Value)) (m : IsMessage (Some o) x (batch rows)) (joined : x ++ u ≡ z ++ b) where
   read : IsSupported m.head
   read = (step_read [] m.step (tt, tt)).0
 
   abbrev RowsOr : Result (Option Contents) Fault → Type 0
-  RowsOr r = MatchResult r (λ found. GivesRows found rows) IsAside
+  RowsOr r = MatchResult r (λ found. GivesRows found rows) IsOutside
 
-  gives_batch : (r : Result (Option Contents) Fault) (p : Phase) → NextGives o phase.Reading z (Some b) r p → RowsOr r
+  gives_batch : (r : Result (Option Contents) Fault) (p : Phase) → NextAnswer o phase.Reading z (Some b) r p → RowsOr r
   gives_batch (Ok (Some found)) phase.Reading h =
       let one : batch rows ≡ batch found.rows = same_event (Some o) x z u b (batch rows) (batch found.rows) m (one_message (batch found.rows) h refl) joined in
       let same : found.rows ≡ rows = cc in same
@@ -133,11 +133,11 @@ module _ (o : Open) (x u z b : List ℕ) (rows : List (List Value)) (m : IsMessa
   gives_batch (Err fault) (phase.Ended end) h = absurd h
   gives_batch (Err fault) phase.Refused h = only_aside (Some o) x u z b (batch rows) m read joined fault (nothing_read (Some o) z (Some b) (Err fault) h)
 
-pub next_batch : (old new : Reader) (r : Result (Option Contents) Fault) (x rest : List ℕ) (rows : List (List Value)) → NextTakes old new r → old.phase ≡ phase.Reading → old.remaining ≡ Some (x ++ rest) → AddsRows old.schema rows x → MatchResult r (λ found. GivesRows found rows) IsAside
+pub next_batch : (old new : Reader) (r : Result (Option Contents) Fault) (x rest : List ℕ) (rows : List (List Value)) → NextCall old new r → old.phase ≡ phase.Reading → old.remaining ≡ Some (x ++ rest) → AddsRows old.schema rows x → MatchResult r (λ found. GivesRows found rows) IsOutside
 next_batch old new r x rest rows h reading is adds =
     let k = known (x ++ rest) h.x old.remaining new.remaining is h.bytes in
-    let gives = subst (λ left. NextGives (open_of old) phase.Reading h.x left r new.phase) k.1 (subst (λ p. NextGives (open_of old) p h.x new.remaining r new.phase) reading h.gives) in
-    gives_batch (open_of old) x rest h.x k.0 rows (one_message (batch rows) adds refl) k.2 r new.phase gives
+    let gives = subst (λ left. NextAnswer (in_force_of old) phase.Reading h.x left r new.phase) k.1 (subst (λ p. NextAnswer (in_force_of old) p h.x new.remaining r new.phase) reading h.gives) in
+    gives_batch (in_force_of old) x rest h.x k.0 rows (one_message (batch rows) adds refl) k.2 r new.phase gives
 
 -- ---- an end
 
@@ -154,8 +154,8 @@ same_end σ z b Mark Closed h e =
 same_end σ z b Closed Mark h e =
     let none : eos ++ b ≡ [] = sym (ap (λ y. y ++ b) e.0) ∙ h in absurd (cc)
 
-module _ (o : Open) (z b : List ℕ) (end : End) (begins : BeginsEnd end (z ++ b)) where
-  gives_end : (r : Result (Option Contents) Fault) (p : Phase) → NextGives o phase.Reading z (Some b) r p → MatchResult r (λ found. p ≡ phase.Ended end) IsAside
+module _ (o : InForce) (z b : List ℕ) (end : End) (begins : BeginsEnd end (z ++ b)) where
+  gives_end : (r : Result (Option Contents) Fault) (p : Phase) → NextAnswer o phase.Reading z (Some b) r p → MatchResult r (λ found. p ≡ phase.Ended end) IsOutside
   gives_end (Ok (Some found)) phase.Reading h =
       let m = one_message (batch found.rows) h refl in
       absurd (frame_stop z m.metadata m.body b (z ++ b) m.head m.frame refl (stop_at end (z ++ b) begins))
@@ -168,8 +168,8 @@ module _ (o : Open) (z b : List ℕ) (end : End) (begins : BeginsEnd end (z ++ b
   gives_end (Err fault) (phase.Ended other) h = absurd h
   gives_end (Err fault) phase.Refused h = stop_breaks (Some o) z b fault (λ e. absurd (cc)) (stop_at end (z ++ b) begins) (nothing_read (Some o) z (Some b) (Err fault) h)
 
-pub next_end : (old new : Reader) (r : Result (Option Contents) Fault) (z : List ℕ) (end : End) → NextTakes old new r → old.phase ≡ phase.Reading → old.remaining ≡ Some z → BeginsEnd end z → MatchResult r (λ found. new.phase ≡ phase.Ended end) IsAside
+pub next_end : (old new : Reader) (r : Result (Option Contents) Fault) (z : List ℕ) (end : End) → NextCall old new r → old.phase ≡ phase.Reading → old.remaining ≡ Some z → BeginsEnd end z → MatchResult r (λ found. new.phase ≡ phase.Ended end) IsOutside
 next_end old new r z end h reading is begins =
     let k = known z h.x old.remaining new.remaining is h.bytes in
-    let gives = subst (λ left. NextGives (open_of old) phase.Reading h.x left r new.phase) k.1 (subst (λ p. NextGives (open_of old) p h.x new.remaining r new.phase) reading h.gives) in
-    gives_end (open_of old) h.x k.0 end (subst (BeginsEnd end) k.2 begins) r new.phase gives
+    let gives = subst (λ left. NextAnswer (in_force_of old) phase.Reading h.x left r new.phase) k.1 (subst (λ p. NextAnswer (in_force_of old) p h.x new.remaining r new.phase) reading h.gives) in
+    gives_end (in_force_of old) h.x k.0 end (subst (BeginsEnd end) k.2 begins) r new.phase gives

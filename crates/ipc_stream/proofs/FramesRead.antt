@@ -14,7 +14,7 @@ use Rattle.ipc_frame.specs.declared.frame.Frame.{Frame as Framed}
 use Rattle.ipc_frame.specs.declared.frame.Seen.{Seen}
 use Rattle.ipc_frame.specs.declared.frame.Seen.TheVariants.{Whole, Short}
 use Rattle.ipc_frame.proofs.Exact.{seen_exactly, pending_none}
-use Rattle.ipc_stream.specs.Reasons.{IsAside, Wanted}
+use Rattle.ipc_stream.specs.Reasons.{IsOutside, Wanted}
 use Rattle.ipc_stream.specs.Taken.{Takes, Fills, Loses, BreaksFrame, refused, truncated, aside, TakesFrame}
 use Rattle.ipc_stream.proofs.Intakes.{takes_none, takes_then}
 
@@ -76,7 +76,7 @@ pub pends_none : (a : Option (List ℕ)) (b f n : ℕ) (kept : List ℕ) → n �
 pends_none a b f n kept fits none = subst (λ z. Pends a a b b f f n n z 4) (sym none) (record { undecided = pending_none; some = omega arith; takes = takes_none a n fits; fewer = omega arith; same = refl })
 
 -- bytes were lost on the way to the next decision
-pub frame_lost : (old now new : Option (List ℕ)) (b0 b1 f0 f1 n0 n1 n2 : ℕ) (kept : List ℕ) (wanted : ℕ) (e : Fault) → Pends old now b0 b1 f0 f1 n0 n1 kept wanted → Loses now new n1 n2 wanted → IsAside e → TakesFrame old new n0 n2 (Err e)
+pub frame_lost : (old now new : Option (List ℕ)) (b0 b1 f0 f1 n0 n1 n2 : ℕ) (kept : List ℕ) (wanted : ℕ) (e : Fault) → Pends old now b0 b1 f0 f1 n0 n1 kept wanted → Loses now new n1 n2 wanted → IsOutside e → TakesFrame old new n0 n2 (Err e)
 frame_lost old now new b0 b1 f0 f1 n0 n1 n2 kept wanted e p l why = record {
   z = kept ++ l.lost;
   takes = takes_then old now new n0 n1 n2 kept l.lost p.takes l.takes;

@@ -23,8 +23,8 @@ use Rattle.ipc_frame.proofs.Decided.{start_not_end, start_not_frame, no_head_not
 use Rattle.ipc_frame.proofs.Exact.{start_longer, no_head_longer}
 use Rattle.ipc_column.specs.Rows.{Rows, RefusesParts}
 use Rattle.ipc_column.proofs.Laws.{no_rows as none_refused}
-use Rattle.ipc_stream.specs.Stream.{Open, State, Event, Step, first, came, Run, done, more}
-use Rattle.ipc_stream.specs.Reasons.{Breaks, refused, truncated, aside, Refuses, early, no_schema, second_schema, dictionary, no_rows, IsAside, IsNoSchema}
+use Rattle.ipc_stream.specs.Stream.{InForce, State, Event, Step, first, came, Run, done, more}
+use Rattle.ipc_stream.specs.Reasons.{Breaks, refused, truncated, aside, Refuses, early, no_schema, second_schema, dictionary, no_rows, IsOutside, IsNoSchema}
 use Rattle.ipc_stream.specs.Readable.{IsReadEvent}
 use Rattle.ipc_stream.proofs.OneReading.{IsStop, frame_stop, step_one}
 
@@ -78,7 +78,7 @@ stop_refused σ z b e o s (second_schema p t m body q is frame) = stop_frame z b
 stop_refused σ z b e o s (dictionary p id d m body q is none frame) = stop_frame z b s m body (h.Dictionary id d) frame
 stop_refused σ z b e o s (no_rows p d m body is frame refuses) = stop_frame z b s m body (h.Batch d) frame
 
-pub stop_breaks : (σ : State) (z b : List ℕ) (e : Fault) → σ ≢ None → IsStop (z ++ b) → Breaks σ z (Some b) e → IsAside e
+pub stop_breaks : (σ : State) (z b : List ℕ) (e : Fault) → σ ≢ None → IsStop (z ++ b) → Breaks σ z (Some b) e → IsOutside e
 stop_breaks σ z b e o s (refused r) = absurd (stop_refused σ z b e o s r)
 stop_breaks σ z b e o s (truncated k is p short none) =
     absurd (stop_pending σ z k o (subst IsStop (ap (λ x. z ++ x) none ∙ append-nil z) s) p short)
@@ -91,25 +91,25 @@ schema_step (first {s = s}) e = (s, refl)
 schema_step (came r) e = absurd (cc)
 
 -- a batch that takes a step gives rows
-pub record StepsByRows (o : Open) (g : Head) (body : List ℕ) : Type 0 where
+pub record StepsByRows (o : InForce) (g : Head) (body : List ℕ) : Type 0 where
   pub batch_head : BatchHead
   pub is_batch : g ≡ h.Batch batch_head
   pub its_rows : List (List Value)
   pub gives : Rows o.schema.fields batch_head body its_rows
 
-batch_step : {σ τ : State} {g : Head} {body : List ℕ} {es : List Event} (o : Open) → Step σ g body es τ → σ ≡ Some o → StepsByRows o g body
+batch_step : {σ τ : State} {g : Head} {body : List ℕ} {es : List Event} (o : InForce) → Step σ g body es τ → σ ≡ Some o → StepsByRows o g body
 batch_step o first e = absurd (cc)
 batch_step o (came {o = p} {b = b} {body = body} {rows = rows} r) e =
     let same : p ≡ o = cc in
-    record { batch_head = b; is_batch = refl; its_rows = rows; gives = subst (λ (q : Open). Rows q.schema.fields b body rows) same r }
+    record { batch_head = b; is_batch = refl; its_rows = rows; gives = subst (λ (q : InForce). Rows q.schema.fields b body rows) same r }
 
-no_schema_batch : (o : Open) (s : Schema) (body : List ℕ) → StepsByRows o (h.Schema s) body → ⊥
+no_schema_batch : (o : InForce) (s : Schema) (body : List ℕ) → StepsByRows o (h.Schema s) body → ⊥
 no_schema_batch o s body b = let bad : h.Schema s ≡ h.Batch b.batch_head = b.is_batch in cc
 
-no_dictionary_batch : (o : Open) (id : ℤ) (d : BatchHead) (body : List ℕ) → StepsByRows o (h.Dictionary id d) body → ⊥
+no_dictionary_batch : (o : InForce) (id : ℤ) (d : BatchHead) (body : List ℕ) → StepsByRows o (h.Dictionary id d) body → ⊥
 no_dictionary_batch o id d body b = let bad : h.Dictionary id d ≡ h.Batch b.batch_head = b.is_batch in cc
 
-batch_refused : (o : Open) (d : BatchHead) (body : List ℕ) (e : Fault) → StepsByRows o (h.Batch d) body → RefusesRows e o.schema.fields d body → e ≡ OutOfMemory
+batch_refused : (o : InForce) (d : BatchHead) (body : List ℕ) (e : Fault) → StepsByRows o (h.Batch d) body → RefusesRows e o.schema.fields d body → e ≡ OutOfMemory
 batch_refused o d body e b r =
     let same : d ≡ b.batch_head = (let eq : h.Batch d ≡ h.Batch b.batch_head = b.is_batch in cc) in
     none_refused e o.schema.fields d body b.its_rows r (subst (λ z. Rows o.schema.fields z body b.its_rows) (sym same) b.gives)
@@ -134,7 +134,7 @@ module _ (σ τ : State) (x m body u z b : List ℕ) (g : Head) (es : List Event
       let s = schema_step step none in
       subst (λ q. IsNoSchema (f.Message meta q body')) (sym (same_frame k meta.items body'.items is).same_head ∙ s.1) other
 
-  message_batch : (k : Head) (l other : List ℕ) (o : Open) → σ ≡ Some o → Frame z l k other → StepsByRows o k other
+  message_batch : (k : Head) (l other : List ℕ) (o : InForce) → σ ≡ Some o → Frame z l k other → StepsByRows o k other
   message_batch k l other o some q =
       let same = same_frame k l other q in
       subst (λ y. StepsByRows o y other) same.same_head (subst (λ y. StepsByRows o g y) same.same_body (batch_step o step some))
@@ -151,13 +151,13 @@ module _ (σ τ : State) (x m body u z b : List ℕ) (g : Head) (es : List Event
       let all : x ++ u ≡ z = joined ∙ (ap (λ y. z ++ y) none ∙ append-nil z) in
       pending_not_frame x m body u g k frame (subst (λ y. Pending y k) (sym all) p)
 
-  pub message_breaks : (e : Fault) → Breaks σ z (Some b) e → IsAside e
+  pub message_breaks : (e : Fault) → Breaks σ z (Some b) e → IsOutside e
   message_breaks e (refused r) = inr (message_refused e r)
   message_breaks e (truncated k is p short none) = absurd (message_pending k none p)
   message_breaks e (aside why wanted) = why
 
 -- two readings of the same bytes: one to where a run may stop, the other to where it breaks off
-pub run_breaks : {σ τ υ : State} {x y : List ℕ} {es fs : List Event} (a z b : List ℕ) (e : Fault) → AllByRecursion IsReadEvent es → Run σ x es τ → Run σ y fs υ → τ ≢ None → IsStop a → Breaks υ z (Some b) e → x ++ a ≡ y ++ (z ++ b) → IsAside e
+pub run_breaks : {σ τ υ : State} {x y : List ℕ} {es fs : List Event} (a z b : List ℕ) (e : Fault) → AllByRecursion IsReadEvent es → Run σ x es τ → Run σ y fs υ → τ ≢ None → IsStop a → Breaks υ z (Some b) e → x ++ a ≡ y ++ (z ++ b) → IsOutside e
 run_breaks {σ = σ} a z b e all done done o s r eq = stop_breaks σ z b e o (subst IsStop eq s) r
 run_breaks a z b e all done (more {x = x} {metadata = m} {body = body} {y = y} {h = g} frame step rest) o s r eq = absurd (frame_stop x m body (y ++ (z ++ b)) a g frame (sym (append_assoc x y (z ++ b)) ∙ sym eq) s)
 run_breaks {σ = σ} a z b e all (more {τ = τ} {x = x} {metadata = m} {body = body} {y = y} {h = g} {es = es} {fs = gs} frame step rest) done o s r eq =

@@ -18,9 +18,9 @@ use Rattle.ipc_stream.specs.declared.end.End.TheVariants.{Mark}
 use Rattle.ipc_stream.specs.declared.reading.Next.{Next}
 use Rattle.ipc_stream.specs.declared.reading.Next.TheVariants as next
 use Rattle.ipc_stream.specs.declared.scope.Scope.{Scope}
-use Rattle.ipc_stream.specs.Stream.{Open, Event, schema, batch, Run, events_of}
+use Rattle.ipc_stream.specs.Stream.{InForce, Event, schema, batch, Run, events_of}
 use Rattle.ipc_stream.specs.Readable.{IsReadable}
-use Rattle.ipc_stream.specs.Reasons.{IsAside, IsNoSchema, NamesNone, Wanted, Reads}
+use Rattle.ipc_stream.specs.Reasons.{IsOutside, IsNoSchema, NamesNone, Wanted, Reads}
 
 -- a count that stops at 2^64 - 1
 abbrev pub count_up : ℕ → ℕ → ℕ
@@ -58,7 +58,7 @@ pub record Loses (old new : Option (List ℕ)) (count_old count_new wanted : ℕ
 pub data BreaksFrame (z : List ℕ) (left : Option (List ℕ)) (fault : Fault) : Type 0 where
   refused : RefusesNow z fault → BreaksFrame z left fault
   truncated : (k : ℕ) → fault ≡ Truncated → Pending z k → z ≢ [] → IsAtEnd left → BreaksFrame z left fault
-  aside : IsAside fault → BreaksFrame z left fault
+  aside : IsOutside fault → BreaksFrame z left fault
 
 -- a frame, or the end of the source between two frames, or neither
 abbrev pub GivesFrame : List ℕ → Option (List ℕ) → Result (Option Framed) Fault → Type 0
@@ -114,15 +114,15 @@ BringsNext s frame (Err fault) = RefusesNext s frame fault
 BringsNext s frame next = ⊥
 
 -- the next batch, or how the stream ends, or neither
-abbrev pub GivesNext : Open → List ℕ → Option (List ℕ) → Result Next Fault → Type 0
-GivesNext o x left (Ok (next.Batch found)) = Run (Some o) x (batch found.rows ∷ []) (Some o)
-GivesNext o x left (Ok (next.Ended end)) = Reads (Some o) x left [] (Ok end)
-GivesNext o x left (Err fault) = Reads (Some o) x left [] (Err fault)
+abbrev pub ReadAnswer : InForce → List ℕ → Option (List ℕ) → Result Next Fault → Type 0
+ReadAnswer o x left (Ok (next.Batch found)) = Run (Some o) x (batch found.rows ∷ []) (Some o)
+ReadAnswer o x left (Ok (next.Ended end)) = Reads (Some o) x left [] (Ok end)
+ReadAnswer o x left (Err fault) = Reads (Some o) x left [] (Err fault)
 
-pub record TakesNext (old new : Option (List ℕ)) (count_old count_new : ℕ) (o : Open) (r : Result Next Fault) : Type 0 where
+pub record ReadsNext (old new : Option (List ℕ)) (count_old count_new : ℕ) (o : InForce) (r : Result Next Fault) : Type 0 where
   pub x : List ℕ
   pub takes : Takes old new count_old count_new x
-  pub gives : GivesNext o x new r
+  pub gives : ReadAnswer o x new r
 
 abbrev pub IsBatch : Next → Type 0
 IsBatch (next.Batch found) = ⊤

@@ -1,7 +1,7 @@
 ghost use Rattle.std.specs.Prelude.{◌≡◌, ◌<◌, ◌≤◌, ◌+◌, ◌-◌, ◌^◌, length, take, IfOk, IfErr, OnOk, OnErr, vec_len};
 ghost use Rattle.std.specs.Io.KnownBytes.{Keeps};
 ghost use Rattle.ipc_stream.specs.Failures.{FailsAs};
-ghost use Rattle.ipc_stream.specs.Reasons.{IsAside};
+ghost use Rattle.ipc_stream.specs.Reasons.{IsOutside};
 ghost use Rattle.ipc_stream.specs.Taken.{Behind, Fills, Loses};
 
 use crate::source::Source;
@@ -78,7 +78,7 @@ fn read_piece<R: Source>(source: &mut R, intake: &mut Intake, wanted: usize) -> 
     ensures filled { IfOk result (λ k. Fills (R.remaining source.old) (R.remaining source.new) intake.old.taken intake.new.taken (take intake.old.filled intake.old.buffer.items) (take intake.new.filled intake.new.buffer.items) wanted k) }
     ensures fewer { IfOk result (λ k. (R.bound source.new + k) ≤ R.bound source.old) }
     ensures lost { OnErr result (Loses (R.remaining source.old) (R.remaining source.new) intake.old.taken intake.new.taken wanted) }
-    ensures only { IfErr result IsAside }
+    ensures only { IfErr result IsOutside }
     ensures failures { FailsAs (R.failures source.old) (R.failures source.new) result }
 {
     grow(intake, wanted)?;
@@ -95,7 +95,7 @@ pub fn fill<R: Source>(source: &mut R, intake: &mut Intake, wanted: usize) -> Re
     ensures filled { IfOk result (λ k. Fills (R.remaining source.old) (R.remaining source.new) intake.old.taken intake.new.taken (take intake.old.filled intake.old.buffer.items) (take intake.new.filled intake.new.buffer.items) wanted k) }
     ensures fewer { IfOk result (λ k. (R.bound source.new + k) ≤ R.bound source.old) }
     ensures lost { OnErr result (Loses (R.remaining source.old) (R.remaining source.new) intake.old.taken intake.new.taken wanted) }
-    ensures only { IfErr result IsAside }
+    ensures only { IfErr result IsOutside }
     ensures failures { FailsAs (R.failures source.old) (R.failures source.new) result }
 {
     let mut came = 0;

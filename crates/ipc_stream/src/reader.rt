@@ -5,8 +5,8 @@ ghost use Rattle.ipc_meta.specs.Supported.{are_supported};
 ghost use Rattle.ipc_stream.specs.declared.end.End.{End};
 ghost use Rattle.ipc_stream.specs.declared.phase.Phase.TheVariants.{Reading};
 ghost use Rattle.ipc_stream.specs.Failures.{StaysOrFails, Tells};
-ghost use Rattle.ipc_stream.specs.Reader.{BeginsEnd, GivesRows, NextTakes, Opens, OpensNot, end_of};
-ghost use Rattle.ipc_stream.specs.Reasons.{IsAside};
+ghost use Rattle.ipc_stream.specs.Reader.{BeginsEnd, GivesRows, NextCall, Opens, OpenFails, end_of};
+ghost use Rattle.ipc_stream.specs.Reasons.{IsOutside};
 ghost use Rattle.ipc_stream.specs.Writing.{AddsRows, OpensStream};
 
 use crate::end::End;
@@ -54,7 +54,7 @@ fn open_with<R: Source>(
 ) -> Result<StreamReader<R>, (Fault, R)>
     requires { intake.taken ≡ 0 }
     ensures opened { IfOk result (λ s. Opens (R.remaining source) s) }
-    ensures refused { IfErr result (λ e. OpensNot (R.remaining source) (R.remaining e.1) e.0) }
+    ensures refused { IfErr result (λ e. OpenFails (R.remaining source) (R.remaining e.1) e.0) }
     ensures failures { MatchResult result (λ s. (R.failures source ≡ 0) × (s.failures ≡ 0)) (λ e. Tells (R.failures source) (R.failures e.1) e.0) }
     ensures fewer { IfOk result (λ s. s.bound < R.bound source) }
 {
@@ -78,12 +78,12 @@ impl<R: Source> StreamReader<R> {
     /// before is told as F36 at its first use.
     pub fn open(alloc: Global, source: R) -> Result<StreamReader<R>, (Fault, R)>
         ensures opened { IfOk result (λ s. Opens (R.remaining source) s) }
-        ensures refused { IfErr result (λ e. OpensNot (R.remaining source) (R.remaining e.1) e.0) }
+        ensures refused { IfErr result (λ e. OpenFails (R.remaining source) (R.remaining e.1) e.0) }
         ensures failures { MatchResult result (λ s. (R.failures source ≡ 0) × (s.failures ≡ 0)) (λ e. Tells (R.failures source) (R.failures e.1) e.0) }
         ensures fewer { IfOk result (λ s. s.bound < R.bound source) }
         // The message of a schema of types that are read, at the front of the source, is read, whatever follows it, unless memory runs out or
         // the source fails.
-        ensures schema { (x rest : List ℕ) (s : Schema) → are_supported s.fields ≡ true → R.remaining source ≡ Some (x ++ rest) → OpensStream s x → MatchResult result (λ reader. reader.schema ≡ s) (λ e. IsAside e.0) }
+        ensures schema { (x rest : List ℕ) (s : Schema) → are_supported s.fields ≡ true → R.remaining source ≡ Some (x ++ rest) → OpensStream s x → MatchResult result (λ reader. reader.schema ≡ s) (λ e. IsOutside e.0) }
     {
         open_with(alloc, source, Intake::new(alloc))
     }
@@ -97,7 +97,7 @@ impl<R: Source> StreamReader<R> {
 
     // Reads on, which `next` says in more words.
     fn advance(&mut self) -> Result<Option<Batch>, Fault>
-        ensures next { NextTakes self.old self.new result }
+        ensures next { NextCall self.old self.new result }
         ensures fewer { IfOk result (λ batch. IsSome batch → self.new.bound < self.old.bound) }
         ensures failures { StaysOrFails self.old.failures self.new.failures result }
         ensures rose { IfErr result (λ fault. fault ≡ Fault.Read → self.old.failures ≡ 0) }
@@ -130,15 +130,15 @@ impl<R: Source> StreamReader<R> {
     /// The next batch, or none at the end of the stream and from then on. After a refusal every call answers F35 and takes
     /// nothing.
     pub fn next(&mut self) -> Result<Option<Batch>, Fault>
-        ensures next { NextTakes self.old self.new result }
+        ensures next { NextCall self.old self.new result }
         ensures fewer { IfOk result (λ batch. IsSome batch → self.new.bound < self.old.bound) }
         ensures failures { StaysOrFails self.old.failures self.new.failures result }
         // F36 is answered only where the source had not failed before.
         ensures rose { IfErr result (λ fault. fault ≡ Fault.Read → self.old.failures ≡ 0) }
         // A batch's message at the front of the source is read, whatever follows it, unless memory runs out or the source fails.
-        ensures batch { (x rest : List ℕ) (rows : List (List Value)) → self.old.phase ≡ Phase.Reading → self.old.remaining ≡ Some (x ++ rest) → AddsRows self.old.schema rows x → MatchResult result (λ batch. GivesRows batch rows) IsAside }
+        ensures batch { (x rest : List ℕ) (rows : List (List Value)) → self.old.phase ≡ Phase.Reading → self.old.remaining ≡ Some (x ++ rest) → AddsRows self.old.schema rows x → MatchResult result (λ batch. GivesRows batch rows) IsOutside }
         // So is an end, by the mark or where nothing is left.
-        ensures ended { (z : List ℕ) (end : End) → self.old.phase ≡ Phase.Reading → self.old.remaining ≡ Some z → BeginsEnd end z → MatchResult result (λ batch. self.new.phase ≡ Phase.Ended end) IsAside }
+        ensures ended { (z : List ℕ) (end : End) → self.old.phase ≡ Phase.Reading → self.old.remaining ≡ Some z → BeginsEnd end z → MatchResult result (λ batch. self.new.phase ≡ Phase.Ended end) IsOutside }
     {
         self.advance()
     }

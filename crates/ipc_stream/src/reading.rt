@@ -2,7 +2,7 @@ ghost use Rattle.std.specs.Prelude.{◌≡◌, ◌<◌, IfOk, IsSome};
 ghost use Rattle.ipc_stream.specs.Failures.{FailsAs};
 ghost use Rattle.ipc_stream.specs.Readable.{IsReadable};
 ghost use Rattle.ipc_stream.specs.Reasons.{NamesNone};
-ghost use Rattle.ipc_stream.specs.Taken.{BringsNext, BringsSchema, IsBatch, TakesFrame, TakesNext, TakesSchema, TakesScope};
+ghost use Rattle.ipc_stream.specs.Taken.{BringsNext, BringsSchema, IsBatch, TakesFrame, ReadsNext, TakesSchema, TakesScope};
 
 use crate::end::End;
 use crate::intake::{Intake, fill};
@@ -128,7 +128,7 @@ pub fn read_next<R: Source>(
     intake: &mut Intake,
     scope: &Scope,
 ) -> Result<Next, Fault>
-    ensures next { TakesNext (R.remaining source.old) (R.remaining source.new) intake.old.taken intake.new.taken (record { schema = scope.now.schema }) result }
+    ensures next { ReadsNext (R.remaining source.old) (R.remaining source.new) intake.old.taken intake.new.taken (record { schema = scope.now.schema }) result }
     ensures fewer { IfOk result (λ next. IsBatch next → R.bound source.new < R.bound source.old) }
     ensures failures { FailsAs (R.failures source.old) (R.failures source.new) result }
 {

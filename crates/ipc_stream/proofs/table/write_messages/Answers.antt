@@ -2,7 +2,7 @@ use Rattle.std.proofs.Common.{◌∙◌, ap, subst, arith, get_or, length, List}
 use Rattle.std.proofs.lemmas.Result.{err_from_is_err_and}
 use Rattle.ipc_model.specs.declared.schema.Schema.{Schema}
 use Rattle.ipc_model.specs.declared.value.Value.{Value}
-use Rattle.ipc_stream.specs.Writing.{Sent, Unsent, AddsRows, AcceptsRows, RefusesRows}
+use Rattle.ipc_stream.specs.Writing.{Sent, NotSentWhole, AddsRows, AcceptsRows, RefusesRows}
 use Rattle.ipc_stream.proofs.TablesWritten.{opened, batch_out, start_breaks, batch_breaks, end_denotes, all_accepted, end_broken}
 use Rattle.ipc_stream.proofs.table.write_messages.Goals as goal
 
@@ -30,11 +30,11 @@ returns-in_err-send_batch-clause-broken g c =
     let i = c.loop-rows.rows-index in
     let is = c.rows-item.is ∙ ap (λ xs. get_or xs i c.rows-item.result) c.as_slice-rows-items.ensures in
     let fault = c.in_err-send_batch.field-0.0 in
-    let unsent = subst (λ (s : Schema). Unsent (AddsRows s c.as_slice.result.now) (g.W.Sink.written c.loop-rows.sink) (g.W.Sink.written c.send_batch.new.sink) (g.W.Sink.failures c.loop-rows.sink) (g.W.Sink.failures c.send_batch.new.sink) fault) c.in_ok-schema.ensures.copied c.in_err-send_batch.ensures.sends in
+    let unsent = subst (λ (s : Schema). NotSentWhole (AddsRows s c.as_slice.result.now) (g.W.Sink.written c.loop-rows.sink) (g.W.Sink.written c.send_batch.new.sink) (g.W.Sink.failures c.loop-rows.sink) (g.W.Sink.failures c.send_batch.new.sink) fault) c.in_ok-schema.ensures.copied c.in_err-send_batch.ensures.sends in
     let refused = subst (λ (s : Schema). RefusesRows s c.as_slice.result.now fault) c.in_ok-schema.ensures.copied c.in_err-send_batch.ensures.judged in
     rw (p.1, p.2) (batch_breaks c.args.table.now _ _ _ _ _ _ i c.loop-rows.invariant c.rows-item.result (omega (arith, ap length c.as_slice-rows-items.ensures)) is fault
     (subst (λ (rows : List (List Value)). RefusesRows c.args.table.now.schema rows fault) c.as_slice.ensures refused)
-    (subst (λ (rows : List (List Value)). Unsent (AddsRows c.args.table.now.schema rows) (g.W.Sink.written c.loop-rows.sink) (g.W.Sink.written c.send_batch.new.sink) (g.W.Sink.failures c.loop-rows.sink) (g.W.Sink.failures c.send_batch.new.sink) fault) c.as_slice.ensures unsent))
+    (subst (λ (rows : List (List Value)). NotSentWhole (AddsRows c.args.table.now.schema rows) (g.W.Sink.written c.loop-rows.sink) (g.W.Sink.written c.send_batch.new.sink) (g.W.Sink.failures c.loop-rows.sink) (g.W.Sink.failures c.send_batch.new.sink) fault) c.as_slice.ensures unsent))
 
 pub returns-clause-denotes : goal.returns-clause-denotes
 returns-clause-denotes g c = end_denotes c.args.table.now _ _ _ _ _ _ c.loop-rows.rows-index c.loop-rows.invariant (omega (arith, ap length c.as_slice-rows-items.ensures)) c.send_end.result c.send_end.ensures.sends
