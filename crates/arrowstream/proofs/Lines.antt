@@ -7,7 +7,7 @@ use Rattle.ipc_model.specs.declared.value.Value.{Value}
 use Rattle.ipc_model.specs.declared.value.Value.TheVariants.{Int}
 use Rattle.arrowstream.specs.declared.rows.PrintFault.{PrintFault}
 use Rattle.arrowstream.specs.Columns.{number_in, row_in}
-use Rattle.arrowstream.specs.Output.{Output, output, Puts, PutsNot, PrintsAt}
+use Rattle.arrowstream.specs.Output.{Output, output, Puts, PutFails, PrintsAt}
 use Rattle.arrowstream.specs.Rows.{cell_text, comma, opened, line, lines}
 use Rattle.arrowstream.proofs.Puts.{puts_then, puts_not_then, puts_not_front}
 use Rattle.arrowstream.proofs.Texts.{cell_more, row_rest, row_whole, lines_more, lines_rest, lines_whole}
@@ -16,19 +16,19 @@ use Rattle.arrowstream.proofs.Lanes.{RowPut, number_text}
 pub put_at : (a b : Output) (t u : List ℕ) → t ≡ u → Puts a b t → Puts a b u
 put_at a b t u is p = subst (Puts a b) is p
 
-pub not_at : (a : Output) (w : Option (List ℕ)) (n : ℕ) (t u : List ℕ) (e : PrintFault) → t ≡ u → PutsNot a w n t e → PutsNot a w n u e
-not_at a w n t u e is p = subst (λ (x : List ℕ). PutsNot a w n x e) is p
+pub not_at : (a : Output) (w : Option (List ℕ)) (n : ℕ) (t u : List ℕ) (e : PrintFault) → t ≡ u → PutFails a w n t e → PutFails a w n u e
+not_at a w n t u e is p = subst (λ (x : List ℕ). PutFails a w n x e) is p
 
 module _ (row : List Value) where
   -- not even the bracket
-  pub row_unopened : (a : Output) (w : Option (List ℕ)) (n : ℕ) (e : PrintFault) → PutsNot a w n (opened []) e → PutsNot a w n (line row) e
+  pub row_unopened : (a : Output) (w : Option (List ℕ)) (n : ℕ) (e : PrintFault) → PutFails a w n (opened []) e → PutFails a w n (line row) e
   row_unopened a w n e q = puts_not_front a w n (opened []) (row_rest row 0).0 (line row) e (row_rest row 0).1 q
 
   -- one cell more
   pub row_next : (a b d : Output) (c : ℕ) (v : Value) → c < length row → slice_get row c ≡ Some v → Puts a b (opened (take c row)) → Puts b d (comma c ++ cell_text v) → Puts a d (opened (take (c + 1) row))
   row_next a b d c v inside at p q = put_at a d _ _ (cell_more row c v inside at) (puts_then a b d (opened (take c row)) (comma c ++ cell_text v) p q)
 
-  pub row_cut : (a b : Output) (w : Option (List ℕ)) (n c : ℕ) (v : Value) (e : PrintFault) → c < length row → slice_get row c ≡ Some v → Puts a b (opened (take c row)) → PutsNot b w n (comma c ++ cell_text v) e → PutsNot a w n (line row) e
+  pub row_cut : (a b : Output) (w : Option (List ℕ)) (n c : ℕ) (v : Value) (e : PrintFault) → c < length row → slice_get row c ≡ Some v → Puts a b (opened (take c row)) → PutFails b w n (comma c ++ cell_text v) e → PutFails a w n (line row) e
   row_cut a b w n c v e inside at p q =
       let rest = row_rest row (c + 1) in
       puts_not_front a w n (opened (take (c + 1) row)) rest.0 (line row) e rest.1
@@ -44,7 +44,7 @@ module _ (rows : List (List Value)) where
   pub rows_next : (a b d : Output) (i : ℕ) → i < length rows → Puts a b (lines (take i rows)) → Puts b d (line (slice_index_or rows i [])) → Puts a d (lines (take (i + 1) rows))
   rows_next a b d i inside p q = put_at a d _ _ (lines_more rows i inside) (puts_then a b d (lines (take i rows)) (line (slice_index_or rows i [])) p q)
 
-  pub rows_cut : (a b : Output) (w : Option (List ℕ)) (n i : ℕ) (e : PrintFault) → i < length rows → Puts a b (lines (take i rows)) → PutsNot b w n (line (slice_index_or rows i [])) e → PutsNot a w n (lines rows) e
+  pub rows_cut : (a b : Output) (w : Option (List ℕ)) (n i : ℕ) (e : PrintFault) → i < length rows → Puts a b (lines (take i rows)) → PutFails b w n (line (slice_index_or rows i [])) e → PutFails a w n (lines rows) e
   rows_cut a b w n i e inside p q =
       puts_not_front a w n (lines (take (i + 1) rows)) (lines (drop (i + 1) rows)) (lines rows) e (lines_rest rows (i + 1))
       (not_at a w n _ _ e (lines_more rows i inside) (puts_not_then a b w n (lines (take i rows)) (line (slice_index_or rows i [])) e p q))
@@ -61,7 +61,7 @@ module _ {X : Type 0} (numbers : X → List (List ℕ)) (columns : List X) (row 
   numbers_begin a b p = record { text = []; puts = p; first = λ is. (refl, refl); later = λ some. absurd (omega (arith, some)) }
 
   pub numbers_cut : (a b : Output) (w : Option (List ℕ)) (n before i : ℕ) (x d : X) (z : ℤ) (e : PrintFault) (put : RowPut numbers columns row a b before i) → i < length columns → x ≡ get_or columns i d
-      → number_in (slice_index_or (numbers x) row []) ≡ Int z → PutsNot b w n (before ∷ signed_decimal z) e → PutsNot a w n (line whole) e
+      → number_in (slice_index_or (numbers x) row []) ≡ Int z → PutFails b w n (before ∷ signed_decimal z) e → PutFails a w n (line whole) e
   numbers_cut a b w n before i x d z e put inside is value q =
       let rest = row_rest whole (i + 1) in
       puts_not_front a w n (opened (take (i + 1) whole)) rest.0 (line whole) e rest.1

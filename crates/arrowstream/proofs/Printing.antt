@@ -17,7 +17,7 @@ use Rattle.ipc_stream.specs.Stream.{State, Event, InForce, batch, Run, done, mor
 use Rattle.arrowstream.specs.declared.rows.PrintFault.{PrintFault}
 use Rattle.arrowstream.specs.declared.rows.PrintFault.TheVariants.{Write, OutOfMemory}
 use Rattle.arrowstream.specs.Columns.{AreShownColumns}
-use Rattle.arrowstream.specs.Output.{Output, output, Puts, PutsNot}
+use Rattle.arrowstream.specs.Output.{Output, output, Puts, PutFails}
 use Rattle.arrowstream.specs.Rows.{AreShownRows, lines, batch_lines}
 use Rattle.arrowstream.specs.Show.{PrintsRows, PrintsPart, PrintsAs}
 use Rattle.arrowstream.proofs.Puts.{puts_then, puts_not_then, puts_none, puts_never}
@@ -123,7 +123,7 @@ module _ (old now new : Reader) (before after : Output) (b : Batches old now bef
   }
 
   -- the rows of the batch that came weren't all printed
-  pub batches_cut : (found : Contents) (w : Option (List ℕ)) (n : ℕ) (e : PrintFault) → NextCall now new (Ok (Some found)) → new.failures ≡ now.failures → PutsNot after w n (lines found.rows) e → PrintsPart old new before w n e
+  pub batches_cut : (found : Contents) (w : Option (List ℕ)) (n : ℕ) (e : PrintFault) → NextCall now new (Ok (Some found)) → new.failures ≡ now.failures → PutFails after w n (lines found.rows) e → PrintsPart old new before w n e
   batches_cut found w n e t works q = record {
     x = b.x ++ t.x;
     batches = b.batches ++ found.rows ∷ [];
@@ -194,7 +194,7 @@ module _ (old new : Reader) (before mid : Output) where
   flushed None after p q = (p.0, rows_flushed (Ok p.0) after p.1 q, p.2)
   flushed (Some f) after p q = (rows_flushed (Err f) after p.0 q, p.1)
 
-  rows_unflushed : (r : Result End Fault) (w : Option (List ℕ)) (n : ℕ) → PrintsRows old new before mid r → PutsNot mid w n [] Write → PrintsPart old new before w n Write
+  rows_unflushed : (r : Result End Fault) (w : Option (List ℕ)) (n : ℕ) → PrintsRows old new before mid r → PutFails mid w n [] Write → PrintsPart old new before w n Write
   rows_unflushed r w n p q = record {
     x = p.x;
     batches = p.batches;
@@ -209,6 +209,6 @@ module _ (old new : Reader) (before mid : Output) where
   }
 
   -- what was kept did not
-  pub unflushed : (fault : Option Fault) (w : Option (List ℕ)) (n : ℕ) → PrintsAs old new before mid (Ok fault) → PutsNot mid w n [] Write → PrintsPart old new before w n Write
+  pub unflushed : (fault : Option Fault) (w : Option (List ℕ)) (n : ℕ) → PrintsAs old new before mid (Ok fault) → PutFails mid w n [] Write → PrintsPart old new before w n Write
   unflushed None w n p q = rows_unflushed (Ok p.0) w n p.1 q
   unflushed (Some f) w n p q = rows_unflushed (Err f) w n p.0 q

@@ -5,7 +5,7 @@ use Rattle.std.proofs.Math.Seq.{take-add}
 use Rattle.std.proofs.lemmas.List.{take_rest, drop_all}
 use Rattle.arrowstream.specs.declared.rows.PrintFault.{PrintFault}
 use Rattle.arrowstream.specs.declared.rows.PrintFault.TheVariants.{Write, OutOfMemory}
-use Rattle.arrowstream.specs.Output.{Output, output, Grows, Puts, PutsNot}
+use Rattle.arrowstream.specs.Output.{Output, output, Grows, Puts, PutFails}
 
 grows_none : (w : Option (List ℕ)) (kept : List ℕ) → Grows w kept w kept []
 grows_none None kept = tt
@@ -42,7 +42,7 @@ pub puts_behind : (a b c : Output) (t : List ℕ) → Puts a b [] → Puts b c t
 puts_behind a b c t p q = puts_then a b c [] t p q
 
 -- a text was put, and a second one was not
-pub puts_not_then : (a b : Output) (w : Option (List ℕ)) (n : ℕ) (t u : List ℕ) (e : PrintFault) → Puts a b t → PutsNot b w n u e → PutsNot a w n (t ++ u) e
+pub puts_not_then : (a b : Output) (w : Option (List ℕ)) (n : ℕ) (t u : List ℕ) (e : PrintFault) → Puts a b t → PutFails b w n u e → PutFails a w n (t ++ u) e
 puts_not_then a b w n t u e p q = record {
   behind = q.behind;
   bytes = grows_then a.written b.written w a.kept b.kept q.behind t u p.bytes q.bytes;
@@ -51,7 +51,7 @@ puts_not_then a b w n t u e p q = record {
 }
 
 -- what was not put wasn't put with more behind it
-pub puts_not_more : (a : Output) (w : Option (List ℕ)) (n : ℕ) (t u : List ℕ) (e : PrintFault) → PutsNot a w n t e → PutsNot a w n (t ++ u) e
+pub puts_not_more : (a : Output) (w : Option (List ℕ)) (n : ℕ) (t u : List ℕ) (e : PrintFault) → PutFails a w n t e → PutFails a w n (t ++ u) e
 puts_not_more a w n t u e q = record {
   behind = q.behind ++ u;
   bytes = grows_more a.written w a.kept q.behind t u q.bytes;
@@ -59,15 +59,15 @@ puts_not_more a w n t u e q = record {
   works = q.works;
 }
 
-pub puts_not_front : (a : Output) (w : Option (List ℕ)) (n : ℕ) (t u whole : List ℕ) (e : PrintFault) → whole ≡ t ++ u → PutsNot a w n t e → PutsNot a w n whole e
-puts_not_front a w n t u whole e is q = subst (λ (x : List ℕ). PutsNot a w n x e) (sym is) (puts_not_more a w n t u e q)
+pub puts_not_front : (a : Output) (w : Option (List ℕ)) (n : ℕ) (t u whole : List ℕ) (e : PrintFault) → whole ≡ t ++ u → PutFails a w n t e → PutFails a w n whole e
+puts_not_front a w n t u whole e is q = subst (λ (x : List ℕ). PutFails a w n x e) (sym is) (puts_not_more a w n t u e q)
 
 -- a text that is kept
 pub puts_kept : (w : Option (List ℕ)) (n : ℕ) (k0 k1 t : List ℕ) → k1 ≡ k0 ++ t → Puts (output w n k0) (output w n k1) t
 puts_kept w n k0 k1 t e = record { bytes = grows_kept w k0 k1 t e; works = λ z. z }
 
 -- memory ran out before any of it was put
-pub puts_never : (o : Output) (t : List ℕ) → PutsNot o o.written o.failures t OutOfMemory
+pub puts_never : (o : Output) (t : List ℕ) → PutFails o o.written o.failures t OutOfMemory
 puts_never o t = record {
   behind = o.kept ++ t;
   bytes = subst (λ (x : List ℕ). Grows o.written o.kept o.written (o.kept ++ t) x) refl (grows_more o.written o.written o.kept o.kept [] t (grows_none o.written o.kept));
@@ -115,7 +115,7 @@ grows_same (Some xs) (Some ys) None k0 k1 t p q = absurd q
 grows_same (Some xs) (Some ys) (Some zs) k0 k1 t p q = ap (λ (l : List ℕ). l ++ k1) q ∙ p
 
 -- the sink failed behind the first of the bytes
-pub sent_cut : (old now new : Option (List ℕ)) (f0 f1 f2 : ℕ) (bytes : List ℕ) (sent : ℕ) → SentSome old now f0 f1 bytes sent → Keeps now new → f2 ≡ 1 → PutsNot (output old f0 bytes) new f2 [] Write
+pub sent_cut : (old now new : Option (List ℕ)) (f0 f1 f2 : ℕ) (bytes : List ℕ) (sent : ℕ) → SentSome old now f0 f1 bytes sent → Keeps now new → f2 ≡ 1 → PutFails (output old f0 bytes) new f2 [] Write
 sent_cut old now new f0 f1 f2 bytes sent i kept failed = record {
   behind = drop sent bytes;
   bytes = grows_same old now new bytes (drop sent bytes) [] (grows_sent old now bytes sent i.appended) kept;
@@ -131,7 +131,7 @@ sent_all old now f0 f1 bytes sent i all = record {
 }
 
 -- the sink failed at the flush
-pub flush_cut : (a : Output) (now new : Option (List ℕ)) (n m : ℕ) → Puts a (output now n []) [] → Keeps now new → m ≡ 1 → PutsNot a new m [] Write
+pub flush_cut : (a : Output) (now new : Option (List ℕ)) (n m : ℕ) → Puts a (output now n []) [] → Keeps now new → m ≡ 1 → PutFails a new m [] Write
 flush_cut a now new n m p kept failed = record {
   behind = [];
   bytes = grows_same a.written now new a.kept [] [] p.bytes kept;

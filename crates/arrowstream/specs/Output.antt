@@ -21,7 +21,7 @@ pub record Puts (old new : Output) (text : List ℕ) : Type 0 where
   pub works : old.failures ≡ 0 → new.failures ≡ 0
 
 -- the text was not put: a beginning of what was kept and of the text went out; the sink failed in this call, or memory ran out
-pub record PutsNot (old : Output) (written : Option (List ℕ)) (failures : ℕ) (text : List ℕ) (fault : PrintFault) : Type 0 where
+pub record PutFails (old : Output) (written : Option (List ℕ)) (failures : ℕ) (text : List ℕ) (fault : PrintFault) : Type 0 where
   pub behind : List ℕ
   pub bytes : Grows old.written old.kept written behind text
   pub failed : fault ≡ Write → failures ≡ 1
@@ -33,9 +33,9 @@ output written failures kept = record { written = written; failures = failures; 
 -- an answer of a call that puts this text: at Ok, this is kept behind it
 abbrev pub PrintsAs : {T : Type 0} → Output → Option (List ℕ) → ℕ → List ℕ → List ℕ → Result T PrintFault → Type 0
 PrintsAs old written failures kept text (Ok x) = Puts old (output written failures kept) text
-PrintsAs old written failures kept text (Err fault) = PutsNot old written failures text fault
+PrintsAs old written failures kept text (Err fault) = PutFails old written failures text fault
 
 -- the same, where at Ok the kept text ends at the place that is answered
 abbrev pub PrintsAt : Output → Option (List ℕ) → ℕ → List ℕ → List ℕ → Result ℕ PrintFault → Type 0
 PrintsAt old written failures kept text (Ok end) = Puts old (output written failures (take end kept)) text
-PrintsAt old written failures kept text (Err fault) = PutsNot old written failures text fault
+PrintsAt old written failures kept text (Err fault) = PutFails old written failures text fault

@@ -18,7 +18,7 @@ use Rattle.arrowstream.specs.declared.rows.PrintFault.TheVariants as p
 use Rattle.arrowstream.specs.declared.run.Stop.{Stop}
 use Rattle.arrowstream.specs.declared.run.Stop.TheVariants as stop
 use Rattle.arrowstream.specs.Columns.{AreShownColumns, IsNotShown}
-use Rattle.arrowstream.specs.Output.{Output, Grows, Puts, PutsNot}
+use Rattle.arrowstream.specs.Output.{Output, Grows, Puts, PutFails}
 use Rattle.arrowstream.specs.Rows.{AreShownRows, batch_lines}
 
 -- The bytes that were taken denote a table and its end, each value is one that is shown, and exactly the rows were printed, a line
@@ -87,7 +87,7 @@ pub record PrintsPart (old new : Reader) (before : Output) (written : Option (Li
   pub joined : x ≡ whole ++ rest
   pub state : State
   pub run : Run (Some (in_force_of old)) whole (map batch batches) state
-  pub puts : PutsNot before written failures (batch_lines batches) fault
+  pub puts : PutFails before written failures (batch_lines batches) fault
   pub works : fault ≢ p.Write → old.failures ≡ 0 → new.failures ≡ 0
 
 -- a column isn't shown, and nothing was taken and printed
