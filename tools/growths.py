@@ -1,8 +1,8 @@
 #!/usr/bin/env python3
 """Refuses each growth of memory of a built program in turn, and looks at what it answers then.
 
-    ci/growths.py program PROGRAM INPUT [WORD..]    a run of the program with these words and this standard input
-    ci/growths.py tests TESTS BEGINNING             each test of a built test program whose name begins so
+    tools/growths.py program PROGRAM INPUT [WORD..]    a run of the program with these words and this standard input
+    tools/growths.py tests TESTS BEGINNING             each test of a built test program whose name begins so
 
 Each growth is refused once alone and once with all later ones. Two answers are right: the refusal, or that of the run in which no
 growth is refused. The refusal of a program is the status 4 and `out of memory` on standard error, after a beginning of the whole
@@ -26,7 +26,7 @@ class Answer(NamedTuple):
 
 
 class Runner:
-    """Runs a command on an input under ci/refuse.c."""
+    """Runs a command on an input under tools/refuse.c."""
 
     def __init__(self, room):
         self.library, self.count = f"{room}/refuse.so", f"{room}/count"
