@@ -334,7 +334,7 @@ impl Model for Lines {
 }
 
 impl Lines {
-    /// With no row. Want of memory is answered where the text finds no room.
+    /// With no row. Out of memory is answered where the text finds no room.
     pub fn new(alloc: Global) -> Result<Lines, AllocError>
         ensures { IfOk result (λ lines. lines ≡ []) }
     {

@@ -43,7 +43,7 @@ fn print_rows<R: Source, W: Sink>(
     }
 }
 
-// Prints the rows of a stream behind its schema. Those before a fault go out before it is told.
+// Prints the rows of a stream behind its schema. Those before a fault go out before it is returned.
 fn print_stream<R: Source, W: Sink>(
     alloc: Global,
     stream: &mut StreamReader<R>,

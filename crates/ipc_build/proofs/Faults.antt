@@ -1,4 +1,4 @@
--- A value is no fault, and want of memory is no tree that is too large.
+-- A value is no fault, and out of memory is no tree that is too large.
 use Rattle.std.proofs.Common.{◌≡◌, subst, sym, ◌∙◌}
 use Rattle.std.specs.Prelude.{Result, Ok, Err, ⊤}
 use Rattle.ipc_build.specs.declared.fault.BuildFault.{BuildFault}

@@ -44,9 +44,9 @@ pub record HasParts (fields : List Field) (head : BatchHead) (body : List ℕ) :
   pub bounds : All IsNode head.nodes
   pub ranges : HasRanges head body
 
--- The cause of the fault is true of the parts. A node or a range is told of only where the head has as many as the fields need, a column only
+-- The cause of the fault is true of the parts. A node or a range is returned only where the head has as many as the fields need, a column only
 -- where all that the head says is in its bounds too, and a text only where all offsets are there and in order.
--- Want of memory has no cause in them, and no other fault is answered.
+-- Out of memory has no cause in them, and no other fault is answered.
 abbrev pub RefusesParts : Fault → List Field → BatchHead → List ℕ → Type 0
 RefusesParts fault.WrongNodeCount fields head body = ¬ HasNodes fields head
 RefusesParts fault.WrongBufferCount fields head body = ¬ HasBuffers fields head

@@ -37,7 +37,7 @@ pub record IsWithin (fields : List Field) (rows : List (List Value)) : Type 0 wh
   pub few : ¬ IsTooMany rows
   pub short : ¬ IsTooLong fields rows
 
--- why rows aren't written: W6 and W8 with their cause, or want of memory
+-- why rows aren't written: W6 and W8 with their cause, or out of memory
 abbrev pub IsRefused : List Field → List (List Value) → WriteFault → Type 0
 IsRefused fields rows fault.TooLong = IsTooLong fields rows
 IsRefused fields rows fault.TooManyRows = IsTooMany rows

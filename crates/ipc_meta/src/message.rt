@@ -117,7 +117,7 @@ fn read_stated(alloc: Global, metadata: &[u8]) -> Result<(Head, u64), Fault>
 ///
 /// # Errors
 ///
-/// Each is true of the metadata. Where several causes stand in it, one of them is told.
+/// Each is true of the metadata. Where several causes stand in it, one of them is returned.
 ///
 /// - `BadFlat` (F5): an offset, a vtable or a range that is looked at is ill-formed (FlatBuffers
 ///   binary format). What stands behind the code of another header or type isn't looked at.

@@ -41,7 +41,7 @@ chain type children fields depth text conflict nested n =
     else (if not nested then Some (f.NestedDictionary n)
     else None))))))
 
--- a fault has the number, its test fails, and none that is told before it does
+-- a fault has the number, its test fails, and none that is returned before it does
 record Told (test : SchemaFault → Bool) (n : ℕ) (x : SchemaFault) : Type 0 where
   number : number_of x ≡ n
   fails : test x ≡ false

@@ -29,7 +29,7 @@ Breaks s earlier e f.OutOfMemory = ⊥
 abbrev pub BreaksAt : Schema → ℕ → SchemaFault → Type 0
 BreaksAt s k fault = (e : Entry) × ((slice_get (entries s.fields) k ≡ Some e) × Breaks s (take k (entries s.fields)) e fault)
 
--- which of one entry's faults is told before another
+-- which of one entry's faults is returned before another
 abbrev pub rank : SchemaFault → ℕ
 rank (f.BadType number) = 1
 rank (f.BadChildren number) = 2

@@ -105,7 +105,7 @@ opens_fails old new fault x rest s read h is o =
     let m = one_message (schema s) o refl in
     only_aside None x rest h.x k.0 (schema s) m (step_read [] m.step (read, tt)).0 k.2 fault (nothing_read None h.x (Some k.0) (Err fault) reads)
 
--- the schema, or want of memory or a failure of the source
+-- the schema, or out of memory or a failure of the source
 pub opens_or : {T E : Type 0} (r : Result T E) (view : T → Reader) (left : E → Option (List ℕ)) (fault : E → Fault) (old : Option (List ℕ)) (x rest : List ℕ) (s : Schema) → are_supported s.fields ≡ true
     → IfOk r (λ t. Opens old (view t)) → IfErr r (λ e. OpenFails old (left e) (fault e)) → old ≡ Some (x ++ rest) → OpensStream s x → MatchResult r (λ t. (view t).schema ≡ s) (λ e. IsOutside (fault e))
 opens_or (Ok t) view left fault old x rest s read opened refused is o = opens_schema old (view t) x rest s opened is o

@@ -18,7 +18,7 @@ use Rattle.ipc_stream.specs.Reasons.{IsOutside, Wanted}
 use Rattle.ipc_stream.specs.Taken.{Takes, Fills, Loses, BreaksFrame, refused, truncated, aside, TakesFrame}
 use Rattle.ipc_stream.proofs.Intakes.{takes_none, takes_then}
 
--- want of memory, and any other fault
+-- out of memory, and any other fault
 is_memory : Fault → Bool
 is_memory OutOfMemory = true
 is_memory _ = false

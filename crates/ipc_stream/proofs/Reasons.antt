@@ -1,4 +1,4 @@
--- Where a stream denotes a table, reading it breaks off only for want of memory or for a failure of the source.
+-- Where a stream denotes a table, reading it breaks off only because memory ran out or for a failure of the source.
 use Rattle.std.proofs.Common.{◌≡◌, ◌≢◌, ◌∙◌, refl, sym, ap, subst, ℕ, ◌⊎◌, inl, inr, List, [], ◌++◌, length, append_assoc, arith, Some, None}
 use Rattle.std.specs.Io.KnownBytes.{IsAtEnd}
 use Rattle.std.specs.Prelude.{ℤ}
@@ -25,7 +25,7 @@ use Rattle.ipc_column.specs.Rows.{Rows, RefusesParts}
 use Rattle.ipc_column.proofs.Laws.{no_rows as none_refused}
 use Rattle.ipc_stream.specs.Stream.{InForce, State, Event, Step, first, came, Run, done, more}
 use Rattle.ipc_stream.specs.Reasons.{Breaks, refused, truncated, aside, Refuses, early, no_schema, second_schema, dictionary, no_rows, IsOutside, IsNoSchema}
-use Rattle.ipc_stream.specs.Readable.{IsReadEvent}
+use Rattle.ipc_stream.specs.Readable.{IsSupportedEvent}
 use Rattle.ipc_stream.proofs.OneReading.{IsStop, frame_stop, step_one}
 
 -- ---- a state after a step has a schema
@@ -115,7 +115,7 @@ batch_refused o d body e b r =
     none_refused e o.schema.fields d body b.its_rows r (subst (λ z. Rows o.schema.fields z body b.its_rows) (sym same) b.gives)
 
 -- where all schemas that a run tells are of types that are read, so is its first head
-pub step_read : {σ τ : State} {g : Head} {body : List ℕ} {es : List Event} (fs : List Event) → Step σ g body es τ → AllByRecursion IsReadEvent (es ++ fs) → IsSupported g × AllByRecursion IsReadEvent fs
+pub step_read : {σ τ : State} {g : Head} {body : List ℕ} {es : List Event} (fs : List Event) → Step σ g body es τ → AllByRecursion IsSupportedEvent (es ++ fs) → IsSupported g × AllByRecursion IsSupportedEvent fs
 step_read fs first all = (all.0, all.1)
 step_read fs (came r) all = (tt, all.1)
 
@@ -157,7 +157,7 @@ module _ (σ τ : State) (x m body u z b : List ℕ) (g : Head) (es : List Event
   message_breaks e (aside why wanted) = why
 
 -- two readings of the same bytes: one to where a run may stop, the other to where it breaks off
-pub run_breaks : {σ τ υ : State} {x y : List ℕ} {es fs : List Event} (a z b : List ℕ) (e : Fault) → AllByRecursion IsReadEvent es → Run σ x es τ → Run σ y fs υ → τ ≢ None → IsStop a → Breaks υ z (Some b) e → x ++ a ≡ y ++ (z ++ b) → IsOutside e
+pub run_breaks : {σ τ υ : State} {x y : List ℕ} {es fs : List Event} (a z b : List ℕ) (e : Fault) → AllByRecursion IsSupportedEvent es → Run σ x es τ → Run σ y fs υ → τ ≢ None → IsStop a → Breaks υ z (Some b) e → x ++ a ≡ y ++ (z ++ b) → IsOutside e
 run_breaks {σ = σ} a z b e all done done o s r eq = stop_breaks σ z b e o (subst IsStop eq s) r
 run_breaks a z b e all done (more {x = x} {metadata = m} {body = body} {y = y} {h = g} frame step rest) o s r eq = absurd (frame_stop x m body (y ++ (z ++ b)) a g frame (sym (append_assoc x y (z ++ b)) ∙ sym eq) s)
 run_breaks {σ = σ} a z b e all (more {τ = τ} {x = x} {metadata = m} {body = body} {y = y} {h = g} {es = es} {fs = gs} frame step rest) done o s r eq =

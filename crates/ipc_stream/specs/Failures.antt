@@ -12,7 +12,7 @@ abbrev pub count_or : Bool → ℕ → ℕ
 count_or true below = 1
 count_or false below = below
 
--- no bytes where the flag is set, else they aren't told
+-- no bytes where the flag is set, else they aren't known
 abbrev pub none_if : Bool → Option (List ℕ)
 none_if true = Some []
 none_if false = None

@@ -75,7 +75,7 @@ fn open_with<R: Source>(
 
 impl<R: Source> StreamReader<R> {
     /// Reads the first message, which is the schema's. At a refusal the source comes back with the fault. A source that failed
-    /// before is told as F36 at its first use.
+    /// before is returned as F36 at its first use.
     pub fn open(alloc: Global, source: R) -> Result<StreamReader<R>, (Fault, R)>
         ensures opened { IfOk result (λ s. Opens (R.remaining source) s) }
         ensures refused { IfErr result (λ e. OpenFails (R.remaining source) (R.remaining e.1) e.0) }

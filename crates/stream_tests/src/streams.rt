@@ -233,7 +233,7 @@ fn stays_refused(rt: HostRuntime) -> Result<(), Fail> {
     Ok(())
 }
 
-// The end is told once it is reached, and again.
+// The end is returned once it is reached, and again.
 #[test]
 fn stays_ended(rt: HostRuntime) -> Result<(), Fail> {
     let alloc = rt.alloc();

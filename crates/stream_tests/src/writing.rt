@@ -22,7 +22,7 @@ fn table_of(alloc: Global, bytes: &[u8]) -> Result<Table, Fault> {
     Ok(table)
 }
 
-// The stream of a table. A memory that can't grow tells W9, which is want of memory.
+// The stream of a table. A memory that can't grow tells W9, which is out of memory.
 fn written(alloc: Global, table: &Table) -> Result<Vec<u8>, WriteFault> {
     let mut sink = empty(alloc);
     match write_table(alloc, &mut sink, table) {
