@@ -8,7 +8,7 @@ use Rattle.ipc_model.specs.declared.value.Value.TheVariants.{Int}
 use Rattle.ipc_model.specs.declared.schema.IntBits.TheVariants.{B64}
 use Rattle.ipc_column.specs.declared.layout.Layout.{Layout}
 use Rattle.ipc_column.specs.declared.layout.Layout.TheVariants.{Numbers}
-use Rattle.ipc_column.specs.declared.part.ColumnRanges.{ColumnRanges}
+use Rattle.ipc_column.specs.declared.ranges.ColumnRanges.{ColumnRanges}
 use Rattle.ipc_column.specs.Columns.{Column}
 use Rattle.ipc_column.specs.Layouts.{is_signed_64}
 use Rattle.ipc_column.specs.Lending.{AreNumbers, AreValues, is_lent, lent_of}

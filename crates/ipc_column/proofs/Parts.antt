@@ -2,9 +2,9 @@
 use Rattle.std.proofs.Common.{◌≡◌, refl, ap, ℕ, ◌+◌, ◌<◌, Bool, true, false, List, length, drop, get_or, add-one, drop-cons, Result, Ok, Err}
 use Rattle.std.specs.Prelude.{◌&&◌}
 use Rattle.std.proofs.lemmas.Bool.{and_from, and_right}
-use Rattle.ipc_column.specs.declared.part.ColumnRanges.{ColumnRanges}
-use Rattle.ipc_column.specs.declared.part.ColumnRanges.TheViews.{out-ColumnRanges}
-use Rattle.ipc_column.specs.declared.part.ColumnRanges.TheFolds.{fold_out-ColumnRanges}
+use Rattle.ipc_column.specs.declared.ranges.ColumnRanges.{ColumnRanges}
+use Rattle.ipc_column.specs.declared.ranges.ColumnRanges.TheViews.{out-ColumnRanges}
+use Rattle.ipc_column.specs.declared.ranges.ColumnRanges.TheFolds.{fold_out-ColumnRanges}
 use Rattle.ipc_column.specs.declared.cause.Cause.{Cause}
 use Rattle.ipc_column.specs.Columns.{Column, Columns, column, every, every_top}
 use Rattle.ipc_column.specs.Rules.{text_slots, texts_in}

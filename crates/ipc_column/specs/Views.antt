@@ -1,10 +1,10 @@
 -- Parts over a body, as columns.
 use Rattle.std.specs.Prelude.{ℕ, List, map}
-use Rattle.ipc_column.specs.declared.part.ColumnRanges.{ColumnRanges}
-use Rattle.ipc_column.specs.declared.part.BufferRange.{BufferRange}
-use Rattle.ipc_column.specs.declared.part.ColumnRanges.TheOpen.{ColumnRanges-F}
-use Rattle.ipc_column.specs.declared.part.ColumnRanges.TheFolds.{fold-ColumnRanges}
-use Rattle.ipc_column.specs.declared.part.ColumnRanges.TheViews.{out-ColumnRanges}
+use Rattle.ipc_column.specs.declared.ranges.ColumnRanges.{ColumnRanges}
+use Rattle.ipc_column.specs.declared.ranges.BufferRange.{BufferRange}
+use Rattle.ipc_column.specs.declared.ranges.ColumnRanges.TheOpen.{ColumnRanges-F}
+use Rattle.ipc_column.specs.declared.ranges.ColumnRanges.TheFolds.{fold-ColumnRanges}
+use Rattle.ipc_column.specs.declared.ranges.ColumnRanges.TheViews.{out-ColumnRanges}
 use Rattle.ipc_column.specs.Columns.{Column, Columns, forest, bytes_of}
 
 -- the bytes of a span

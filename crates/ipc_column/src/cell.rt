@@ -8,7 +8,7 @@ use crate::fixed::{bytes_of, signed_at, unsigned_at};
 use crate::layout::Layout;
 use crate::offsets::bytes_between;
 use crate::ranges::{ColumnRanges, BufferRange};
-use crate::span::bytes_at;
+use crate::range_bytes::bytes_at;
 use crate::texts::text_of;
 use ipc_model::schema::IntBits;
 use ipc_scalar::bit;

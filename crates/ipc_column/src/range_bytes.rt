@@ -1,7 +1,7 @@
 ghost use Rattle.std.specs.Prelude.{◌≡◌};
 ghost use Rattle.ipc_column.specs.Views.{span_bytes};
 
-use crate::part::BufferRange;
+use crate::ranges::BufferRange;
 
 /// The bytes of a span, or none where it passes the end of the body.
 #[tactic(auto, unfolding(crate::specs::Columns::bytes_of))]

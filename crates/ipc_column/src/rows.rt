@@ -4,7 +4,7 @@ ghost use Rattle.ipc_column.specs.Values.{cell_value, row, rows_of};
 ghost use Rattle.ipc_column.specs.Views.{columns};
 
 use crate::cell::{Cell, cell_in};
-use crate::part::ColumnRanges;
+use crate::ranges::ColumnRanges;
 use ipc_model::items::{Items, Text};
 use ipc_model::table::Row;
 use ipc_model::value::Value;

@@ -22,5 +22,5 @@ mod write;
 pub use head::{BatchHead, Head};
 pub use laws::{one_head_per_metadata, room_by_counts};
 pub use message::read_message;
-pub use readable::are_supported;
+pub use supported::are_supported;
 pub use write::{write_batch, write_schema};

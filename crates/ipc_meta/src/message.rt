@@ -13,7 +13,7 @@ use crate::budget::Budget;
 use crate::fields::{read_fields, read_pairs};
 use crate::head::Head;
 use crate::lifted::lifted;
-use crate::readable::check_supported;
+use crate::supported::check_supported;
 use ipc_flat::{Flat, TableRef};
 use ipc_model::fault::Fault;
 use ipc_model::schema::Schema;

@@ -6,7 +6,7 @@ use Rattle.ipc_column.specs.Checks.{passes, top_passes}
 use Rattle.ipc_column.specs.Views.{columns}
 use Rattle.ipc_column.proofs.Rules.{every_true}
 use Rattle.ipc_column.proofs.Parts.{then_judges}
-use Rattle.ipc_column.proofs.sound.check_columns.Goals as goal
+use Rattle.ipc_column.proofs.validate.check_columns.Goals as goal
 
 pub returns-clause-judged : goal.returns-clause-judged
 returns-clause-judged c =

@@ -3,7 +3,7 @@ use Rattle.std.proofs.lemmas.Result.{err_from_is_err_and}
 use Rattle.std.proofs.lemmas.Bool.{and_left, and_parts}
 use Rattle.ipc_column.specs.Checks.{passes, top_passes}
 use Rattle.ipc_column.proofs.Parts.{every_from, every_top_from, texts_from}
-use Rattle.ipc_column.proofs.sound.check_tops.Goals as goal
+use Rattle.ipc_column.proofs.validate.check_tops.Goals as goal
 
 pub check_top-requires : goal.check_top-requires
 check_top-requires c = λ why.

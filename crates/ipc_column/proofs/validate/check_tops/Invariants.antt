@@ -4,7 +4,7 @@ use Rattle.ipc_column.specs.Columns.{every, every_top}
 use Rattle.ipc_column.specs.Rules.{texts_in}
 use Rattle.ipc_column.specs.Checks.{passes, top_passes}
 use Rattle.ipc_column.specs.Views.{columns}
-use Rattle.ipc_column.proofs.sound.check_tops.Given as goal
+use Rattle.ipc_column.proofs.validate.check_tops.Given as goal
 
 abbrev pub invariant-loop-part : goal.invariant-loop-part
 invariant-loop-part l = record {

@@ -3,7 +3,7 @@ use Rattle.std.specs.List.{AllByRecursion}
 use Rattle.ipc_model.specs.declared.value.Value.{Value}
 use Rattle.ipc_column.specs.declared.batch.Shared.{Shared}
 use Rattle.ipc_column.specs.Contents.{Contents}
-use Rattle.ipc_column.specs.declared.part.ColumnRanges.{ColumnRanges}
+use Rattle.ipc_column.specs.declared.ranges.ColumnRanges.{ColumnRanges}
 use Rattle.ipc_column.specs.Views.{columns}
 use Rattle.ipc_column.specs.Values.{row, rows_of}
 use Rattle.ipc_column.proofs.Cells.{row_length}
