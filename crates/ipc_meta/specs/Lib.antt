@@ -1,4 +1,4 @@
-pub mod Open
+pub mod Supported
 pub mod Lifts
 pub mod Budgets
 pub mod Tables
