@@ -27,6 +27,7 @@ pub record PutFails (old : Output) (written : Option (List ℕ)) (failures : ℕ
   pub failed : fault ≡ Write → failures ≡ 1
   pub works : fault ≢ Write → old.failures ≡ 0 → failures ≡ 0
 
+-- a sink's content and failures with the kept text, as one
 abbrev pub output : Option (List ℕ) → ℕ → List ℕ → Output
 output written failures kept = record { written = written; failures = failures; kept = kept }
 

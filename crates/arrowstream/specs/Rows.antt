@@ -5,6 +5,7 @@ use Rattle.std.specs.Fmt.{signed_decimal}
 use Rattle.ipc_model.specs.declared.value.Value.{Value, out-Value}
 use Rattle.ipc_model.specs.declared.value.Value.TheOpen.{Value-F}
 
+-- a value that is shown: null or a signed number
 abbrev pub IsShownIn : Value-F Value → Type 0
 IsShownIn Value-F.Null = ⊤
 IsShownIn (Value-F.Bool truth) = ⊥
@@ -19,6 +20,7 @@ IsShownIn (Value-F.Struct values) = ⊥
 abbrev pub IsShown : Value → Type 0
 IsShown value = IsShownIn (out-Value value)
 
+-- the text of a value that is shown
 abbrev pub text_in : Value-F Value → List ℕ
 text_in Value-F.Null = codes "null"
 text_in (Value-F.Int number) = signed_decimal number

@@ -1,4 +1,4 @@
--- What a caller keeps of a tree, and what its types keep.
+-- What a caller keeps of a tree, and what its types keep (FlatBuffers binary format, "Tables").
 use Rattle.std.specs.Prelude.{ℕ, ℤ, ◌+◌, ◌*◌, ◌≤◌, ◌<◌, ◌≡◌, true, List, [], ◌∷◌, ⊤}
 use Rattle.std.specs.Int.{w64, byte_len}
 use Rattle.std.specs.Int.RustNames.{FitsSigned}
@@ -23,6 +23,7 @@ Ascends s none = ⊤
 Ascends (fields n) (field m content inner rest) = (n ≤ m) × (m < 16) × Below content (λ s. Ascends s inner) × Ascends (fields (m + 1)) rest
 Ascends elements (field m content inner rest) = (content ≡ k.table) × Ascends (fields 0) inner × Ascends elements rest
 
+-- each number of these structs fits 64 bits, signed
 abbrev pub PairsFit : List (ℤ × ℤ) → Type 0
 PairsFit [] = ⊤
 PairsFit (x ∷ xs) = FitsSigned w64 x.0 × FitsSigned w64 x.1 × PairsFit xs

@@ -1,4 +1,4 @@
--- When a tree lies in bytes b, in the words by which b is read. P is asked of the width and the place of every number there:
+-- When a tree lies in bytes b, in the words by which b is read (FlatBuffers binary format, "Tables", "Strings and Vectors", "Structs"). P is asked of the width and the place of every number there:
 -- scalars, offsets, counts, a vtable's entries.
 use Rattle.std.specs.Prelude.{ℤ, ℕ, ◌+◌, ◌*◌, ◌<◌, ◌≤◌, ◌≡◌, ◌⊎◌, List, [], ◌∷◌, length, Some, None, Ok, ⊤}
 use Rattle.std.specs.Int.{byte_len, cast_signed}
@@ -18,6 +18,7 @@ pub data Holder : Type 0 where
   in_table : ℕ → Holder
   in_vector : ℕ → Holder
 
+-- where the next field stands: in the same table, or at the offset behind this one
 abbrev pub next_in : Holder → Holder
 next_in (in_table t) = in_table t
 next_in (in_vector q) = in_vector (q + 4)

@@ -9,6 +9,7 @@ use Rattle.ipc_build.specs.Trees as k
 abbrev pub little : ℕ → ℕ → List ℕ
 little w x = bytes_low_first 0 w x
 
+-- so many zero bytes
 abbrev pub padding : ℕ → List ℕ
 padding n = replicate n 0
 
@@ -80,6 +81,7 @@ head_bytes f p =
 unfoldable pub own_bytes : Tree → ℕ → List ℕ
 own_bytes f p = head_bytes f p ++ inline_bytes 8 f (table_place f p + 4) (inline_end f p)
 
+-- "Structs": two signed 64-bit numbers each, one struct after another
 unfoldable pub struct_bytes : List (ℤ × ℤ) → List ℕ
 struct_bytes [] = []
 struct_bytes (x ∷ xs) = little 8 (cast_unsigned w64 x.0) ++ (little 8 (cast_unsigned w64 x.1) ++ struct_bytes xs)

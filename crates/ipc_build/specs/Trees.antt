@@ -1,4 +1,4 @@
--- Trees of tables as values, whatever memory they take in the program.
+-- Trees of tables as values, whatever memory they take in the program (FlatBuffers binary format, "Tables").
 use Rattle.std.specs.Prelude.{ℕ, ℤ, if◌then◌else◌, List, [], ◌∷◌}
 use Rattle.std.specs.Int.{Width, w16, w32, w64}
 use Rattle.ipc_build.specs.declared.tree.FlatTree.{FlatTree, fold-FlatTree}
@@ -26,14 +26,17 @@ pub data Tree : Type 0 where
 abbrev pub Node : Type 0
 Node = Content × Tree
 
+-- fields by their numbers, as a tree
 abbrev pub fields_of : List (ℕ × Node) → Tree
 fields_of [] = none
 fields_of (x ∷ xs) = field x.0 x.1.0 x.1.1 (fields_of xs)
 
+-- the elements of a vector of tables, as a tree
 abbrev pub tables_of : List Tree → Tree
 tables_of [] = none
 tables_of (t ∷ ts) = field 0 table t (tables_of ts)
 
+-- what a `Slot` holds and the tree below it, where the trees inside it are given
 abbrev pub slot_step : Slot-F Node Tree → Node
 slot_step (Slot-F.U8 x) = (byte x, none)
 slot_step (Slot-F.Bool x) = (byte (if x then 1 else 0), none)
@@ -45,6 +48,7 @@ slot_step (Slot-F.Table t) = (table, t)
 slot_step (Slot-F.Tables ts) = (tables, tables_of ts)
 slot_step (Slot-F.Pairs xs) = (pairs xs, none)
 
+-- the fields of a `FlatTree`, where what stands in them is given
 abbrev pub tree_step : FlatTree-F Node Tree → Tree
 tree_step t = fields_of t.slots
 
@@ -61,6 +65,7 @@ abbrev pub fields_view : List (ℕ × Slot) → Tree
 fields_view [] = none
 fields_view (x ∷ xs) = field x.0 (node x.1).0 (node x.1).1 (fields_view xs)
 
+-- the elements of a vector of tables, as the program has them, as a tree
 abbrev pub tables_view : List FlatTree → Tree
 tables_view [] = none
 tables_view (t ∷ ts) = field 0 table (view t) (tables_view ts)

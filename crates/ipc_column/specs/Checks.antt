@@ -1,4 +1,4 @@
--- The same facts as tests that compute, by the cause that is answered where one fails.
+-- The same facts as tests that compute, by the cause that is answered where one fails (Arrow Columnar Format, "Physical Memory Layout").
 use Rattle.std.specs.Prelude.{◌≡◌, ⊤, ℕ, zero, suc, ◌+◌, ◌-◌, ◌*◌, ◌/◌, ◌^◌, ◌<◌, Bool, true, false, ◌&&◌, ◌||◌, not, ◌==◌, nat_le, ℤ, pos, int_le, int_lt, unsigned_abs, List, [], ◌∷◌, length, if◌then◌else◌, Result, Ok, Err}
 use Rattle.std.specs.Str.{is_utf8, IsCharBoundary}
 use Rattle.ipc_scalar.specs.Bytes.{clear}

@@ -1,4 +1,4 @@
--- Columns as byte lists.
+-- Columns as byte lists (Arrow Columnar Format, "Physical Memory Layout").
 use Rattle.std.specs.Prelude.{ℕ, ◌+◌, Bool, ◌&&◌, true, List, [], ◌∷◌, length, nat_le, slice_range, if◌then◌else◌, ⊤}
 use Rattle.ipc_column.specs.declared.layout.Layout.{Layout}
 

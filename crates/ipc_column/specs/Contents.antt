@@ -1,4 +1,4 @@
--- What contracts see of a batch.
+-- What contracts see of a batch (Arrow Columnar Format, "RecordBatch message").
 use Rattle.std.specs.Prelude.{ℕ, Bool, List}
 use Rattle.ipc_model.specs.declared.value.Value.{Value}
 

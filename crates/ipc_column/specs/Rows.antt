@@ -1,4 +1,4 @@
--- When the parts of a record batch give rows, and what a refusal says of them.
+-- When the parts of a record batch give rows, and what a refusal says of them (Arrow Columnar Format, "RecordBatch message").
 use Rattle.std.specs.Prelude.{◌≡◌, ℕ, ◌<◌, true, pos, List, [], length, slice_index_or, ⊤}
 use Rattle.std.specs.List.{All}
 use Rattle.ipc_model.specs.declared.fault.Fault.{Fault}

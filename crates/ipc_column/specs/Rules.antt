@@ -1,4 +1,4 @@
--- What the standard asks of a record batch's parts.
+-- What the standard asks of a record batch's parts (Arrow Columnar Format, "Physical Memory Layout").
 use Rattle.std.specs.Prelude.{◌≡◌, ℕ, ◌+◌, ◌*◌, ◌/◌, ◌^◌, ◌<◌, ◌≤◌, ℤ, pos, ◌+ℤ◌, ◌≤ℤ◌, ◌<ℤ◌, negsuc, true, List, [], ◌∷◌, length, if◌then◌else◌, ⊤}
 use Rattle.std.specs.List.{All}
 use Rattle.std.specs.Str.{IsUtf8}

@@ -102,5 +102,6 @@ columns_of fields head body = cut (shape_of fields) head body 0 0
 abbrev pub field_layout : Field → Layout
 field_layout f = (field_shape f).0
 
+-- the shapes of a field's children
 abbrev pub field_children : Field → Shape
 field_children f = (field_shape f).1

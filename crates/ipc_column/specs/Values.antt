@@ -1,4 +1,4 @@
--- The values of slots, and the rows of columns.
+-- The values of slots, and the rows of columns (Arrow Columnar Format, "Physical Memory Layout").
 use Rattle.std.specs.Prelude.{ℕ, zero, suc, ◌+◌, ◌*◌, ℤ, unsigned_abs, Bool, true, false, ◌==◌, slice_range, List, [], ◌∷◌, ◌++◌, length, if◌then◌else◌}
 use Rattle.std.specs.Int.{w8, cast_signed}
 use Rattle.ipc_scalar.specs.Bytes.{bit, num, byte, int16, int32, int64}

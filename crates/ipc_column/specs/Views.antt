@@ -1,4 +1,4 @@
--- Parts over a body, as columns.
+-- Parts over a body, as columns (Arrow Columnar Format, "RecordBatch message").
 use Rattle.std.specs.Prelude.{ℕ, List, map}
 use Rattle.ipc_column.specs.declared.ranges.ColumnRanges.{ColumnRanges}
 use Rattle.ipc_column.specs.declared.ranges.BufferRange.{BufferRange}
@@ -27,6 +27,7 @@ columns body ps = forest (map (view body) ps)
 abbrev pub column_of : List ℕ → ColumnRanges → Column
 column_of body p = (view body p).0
 
+-- the columns below these ranges, over the body
 abbrev pub children_of : List ℕ → ColumnRanges → Columns
 children_of body p = (view body p).1
 

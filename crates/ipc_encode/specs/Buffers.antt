@@ -42,6 +42,7 @@ abbrev pub buffers_in : List Piece → List Value → List (List ℕ)
 buffers_in [] values = []
 buffers_in (piece ∷ more) values = piece_bytes piece values ∷ buffers_in more values
 
+-- the buffers of a field's column with these values, each without padding
 abbrev pub column_buffers : Field → List Value → List (List ℕ)
 column_buffers f values = buffers_in (pieces (layout_of f) (nulls values)) values
 
@@ -73,6 +74,7 @@ ranges_from start (b ∷ bs) = (pos start, pos (length b)) ∷ ranges_from (star
 abbrev pub buffers_of : List Field → List (List Value) → List (List ℕ)
 buffers_of fields rows = buffers_from 0 fields rows
 
+-- the body of these rows (Arrow Columnar Format, "RecordBatch message"): all buffers, each padded
 abbrev pub body_of : List Field → List (List Value) → List ℕ
 body_of fields rows = joined (buffers_of fields rows)
 

@@ -1,4 +1,4 @@
--- The values of a column, and what each gives to the column's buffers.
+-- The values of a column, and what each gives to the column's buffers (Arrow Columnar Format, "Physical Memory Layout").
 use Rattle.std.specs.Prelude.{ℕ, ◌+◌, Bool, true, false, not, List, [], ◌∷◌, ◌++◌, length, replicate, slice_index_or, if◌then◌else◌, ⊤}
 use Rattle.std.specs.Str.{IsUtf8}
 use Rattle.std.specs.Int.{w64, cast_unsigned, bytes_low_first}
@@ -20,10 +20,12 @@ abbrev pub cells : ℕ → List (List Value) → List Value
 cells j [] = []
 cells j (row ∷ rows) = cell j row ∷ cells j rows
 
+-- the value is null
 abbrev pub is_null : Value-F Value → Bool
 is_null Value-F.Null = true
 is_null _ = false
 
+-- the value is true
 abbrev pub is_true : Value-F Value → Bool
 is_true (Value-F.Bool truth) = truth
 is_true _ = false
@@ -43,16 +45,20 @@ abbrev pub nulls : List Value → ℕ
 nulls [] = 0
 nulls (value ∷ values) = (if is_set flag.Valid value then 0 else 1) + nulls values
 
+-- the bits of a number, in two's complement, as an unsigned number; 0 for a value that is no
+-- number
 abbrev pub bits_in : Value-F Value → ℕ
 bits_in (Value-F.Int number) = cast_unsigned w64 number
 bits_in (Value-F.UInt number) = number
 bits_in _ = 0
 
+-- the bytes of a text or of binary; none for another value
 abbrev pub bytes_in : Value-F Value → List ℕ
 bytes_in (Value-F.Bytes bytes) = bytes
 bytes_in (Value-F.Text text) = text
 bytes_in _ = []
 
+-- the bytes of a fixed width; zeros for a null value
 abbrev pub fixed_in : ℕ → Value-F Value → List ℕ
 fixed_in width (Value-F.Bytes bytes) = bytes
 fixed_in width _ = replicate width 0
@@ -89,6 +95,7 @@ ends start (value ∷ values) = bytes_low_first 0 4 (start + length (content val
 abbrev pub offsets : List Value → List ℕ
 offsets values = bytes_low_first 0 4 0 ++ ends 0 values
 
+-- a text is UTF-8; other values aren't asked
 abbrev pub SpellsOut : Value-F Value → Type 0
 SpellsOut (Value-F.Text text) = IsUtf8 text
 SpellsOut _ = ⊤

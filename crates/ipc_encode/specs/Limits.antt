@@ -1,4 +1,4 @@
--- When rows are too many or too long for one batch.
+-- When rows are too many or too long for one batch (Arrow Columnar Format, "Array lengths").
 use Rattle.std.specs.Prelude.{ℕ, ◌+◌, ◌-◌, ◌^◌, ◌<◌, List, [], ◌∷◌, length, ◌⊎◌, ⊤}
 use Rattle.ipc_model.specs.declared.fault.WriteFault.{WriteFault}
 use Rattle.ipc_model.specs.declared.fault.WriteFault.TheVariants as fault

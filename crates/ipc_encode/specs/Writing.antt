@@ -1,4 +1,4 @@
--- What writing says of one buffer, of a column, and of a draft.
+-- What writing says of one buffer, of a column, and of a draft (Arrow Columnar Format, "Physical Memory Layout").
 use Rattle.std.specs.Prelude.{◌≡◌, ℕ, ◌+◌, ◌-◌, ◌^◌, ◌<◌, ◌≤◌, List, [], ◌∷◌, ◌++◌, length, ◌⊎◌, ⊤}
 use Rattle.std.specs.List.{AllByRecursion}
 use Rattle.ipc_model.specs.declared.fault.WriteFault.{WriteFault}
@@ -39,6 +39,8 @@ abbrev pub SomeLong : List Piece → List Value → Type 0
 SomeLong [] values = ⊥
 SomeLong (piece ∷ more) values = HasLong piece values ⊎ SomeLong more values
 
+-- why the buffers of a column aren't written: a value's data or the body is too long, or memory
+-- ran out
 abbrev pub AreRefusedAt : List Piece → List Value → ℕ → WriteFault → Type 0
 AreRefusedAt pieces values size fault.TooLong = SomeLong pieces values ⊎ (2 ^ 40 < size)
 AreRefusedAt pieces values size fault.OutOfMemory = ⊤

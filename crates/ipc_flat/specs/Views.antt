@@ -1,4 +1,4 @@
--- What contracts see of a reader's values, and what its accessors answer of them.
+-- What contracts see of a reader's values, and what its accessors answer of them (FlatBuffers binary format, "Tables").
 use Rattle.std.specs.Prelude.{ℕ, ◌≡◌, ◌+◌, ◌≤◌, length, List, Option, None, Some, Result, Ok, Err}
 use Rattle.ipc_scalar.specs.Bytes.{num}
 use Rattle.ipc_scalar.specs.declared.fault.FlatFault.{FlatFault}

@@ -1,4 +1,4 @@
--- What the first eight bytes say.
+-- What the first eight bytes say (Arrow Columnar Format, "Encapsulated message format").
 use Rattle.std.specs.Prelude.{◌≡◌, ℕ, ◌<◌, ◌≤◌, List, length, take, Result, Ok, Err}
 use Rattle.ipc_model.specs.declared.fault.Fault.{Fault}
 use Rattle.ipc_frame.specs.Frames.{eos, Begins, Pending}
@@ -6,6 +6,8 @@ use Rattle.ipc_frame.specs.Sees.{RefusesStart}
 use Rattle.ipc_frame.specs.declared.next.Start.{Start}
 use Rattle.ipc_frame.specs.declared.next.Start.TheVariants.{Short, End, Metadata}
 
+-- what the first eight bytes say (Arrow Columnar Format, "Encapsulated message format"):
+-- undecided, the end mark, metadata of this size, or a refusal
 abbrev pub Starts : List ℕ → Result Start Fault → Type 0
 Starts z (Ok (Short k)) = Pending z k
 Starts z (Ok End) = (8 ≤ length z) × (take 8 z ≡ eos)

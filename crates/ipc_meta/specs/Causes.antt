@@ -1,4 +1,4 @@
--- Why metadata is refused: what is true of it for each fault that is returned.
+-- Why metadata is refused: what is true of it for each fault that is returned (Message.fbs, Schema.fbs).
 use Rattle.std.specs.Prelude.{◌≡◌, ◌≢◌, ℕ, ◌<◌, ◌⊎◌, ℤ, true, false, pos, int_lt, List, None, Some, Result, Ok}
 use Rattle.ipc_scalar.specs.declared.fault.FlatFault.{FlatFault}
 use Rattle.ipc_scalar.specs.Bytes.{byte, int16, int32, int64}

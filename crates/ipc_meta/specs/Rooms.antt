@@ -1,4 +1,4 @@
--- How many bytes the metadata of a message may need: the room of the tree that is written, a bound of this project.
+-- How many bytes the metadata of a message may need: the room of the tree that is written, a bound of this project (FlatBuffers binary format).
 use Rattle.std.specs.Prelude.{ℕ, ℤ, pos, List, replicate}
 use Rattle.ipc_build.specs.Room.{room}
 use Rattle.ipc_model.specs.declared.schema.Schema.{Schema}

@@ -122,6 +122,7 @@ field_step f =
     with_text 0 f.name (with_byte 1 (flag f.nullable) (with_byte 2 (type_code f.kind) (with_table 3 (type_tree f.kind)
     (with_dictionary f.dictionary (with_tables 5 f.children (with_pairs 6 f.metadata))))))
 
+-- the table of a field, children included (Schema.fbs, table Field)
 abbrev pub field_tree : Field → Tree
 field_tree = fold-Field Tree field_step
 

@@ -1,5 +1,5 @@
 -- A schema as a list: one entry for each field, a field before its children (Arrow Columnar
--- Format, "Recordbatch message": the pre-order of a schema's fields).
+-- Format, "RecordBatch message": the pre-order of a schema's fields).
 use Rattle.std.specs.Prelude.{ℕ, ◌+◌, ◌^◌, List, [], ◌∷◌, ◌++◌, map, length, Option, Some, None}
 use Rattle.ipc_model.specs.declared.schema.DataType.{DataType}
 use Rattle.ipc_model.specs.declared.schema.DataType.TheVariants as t
@@ -60,13 +60,17 @@ entry_of f d = record { depth = d; kind = f.kind; children = length f.children; 
 abbrev pub Listing : Type 0
 Listing = ℕ → List Entry
 
+-- the entries of several fields that stand at one depth, one field after another
 abbrev pub all_at : ℕ → List Listing → List Entry
 all_at d [] = []
 all_at d (l ∷ ls) = l d ++ all_at d ls
 
+-- a field's own entry, and behind it those of its children, one deeper
 abbrev pub preorder_step : Field-F Listing → Listing
 preorder_step f d = entry_of f d ∷ all_at (d + 1) f.children
 
+-- the entries of a field and of all below it, in pre-order (Arrow Columnar Format, "Recordbatch
+-- message")
 abbrev pub preorder : Field → Listing
 preorder = fold-Field Listing preorder_step
 

@@ -1,4 +1,4 @@
--- Where a schema is first not well formed: an entry that breaks a rule, and none before it that breaks one.
+-- Where a schema is first not well formed: an entry that breaks a rule, and none before it that breaks one (Schema.fbs, tables Schema and Field).
 use Rattle.std.specs.Prelude.{◌≡◌, ℕ, ◌+◌, ◌<◌, ◌≤◌, List, [], ◌∷◌, ◌++◌, length, take, sum_by, slice_get, Some, IsSome, ◌⊎◌}
 use Rattle.ipc_model.specs.WellFormed.{HasGoodType, HasFittingChildren, IsLeaf, IsAmong, HaveOneType}
 use Rattle.ipc_model.specs.Entries.{Entry, entries, max_depth, max_fields, max_pairs, max_text, pair_text}

@@ -1,4 +1,4 @@
--- What a reader takes from its source, and what it answers.
+-- What a reader takes from its source, and what it answers (Arrow Columnar Format, "IPC Streaming Format").
 use Rattle.std.specs.Prelude.{◌≡◌, ◌≢◌, ℕ, ◌+◌, ◌-◌, ◌^◌, ◌≤◌, min, List, [], ◌∷◌, ◌++◌, length, take, drop, Option, ⊤, Some, None, Result, Ok, Err}
 use Rattle.std.specs.Io.KnownBytes.{Consumes, IsAtEnd}
 use Rattle.ipc_model.specs.declared.fault.Fault.{Fault}
@@ -66,6 +66,7 @@ GivesFrame z left (Ok (Some frame)) = IsFrame z frame × IsSupportedFrame frame
 GivesFrame z left (Ok None) = (z ≡ []) × IsAtEnd left
 GivesFrame z left (Err fault) = BreaksFrame z left fault
 
+-- what was taken from the source to find a frame, and what was found
 pub record TakesFrame (old new : Option (List ℕ)) (count_old count_new : ℕ) (r : Result (Option Framed) Fault) : Type 0 where
   pub z : List ℕ
   pub takes : Takes old new count_old count_new z
@@ -83,6 +84,7 @@ abbrev pub GivesSchema : List ℕ → Option (List ℕ) → Result Schema Fault 
 GivesSchema x left (Ok s) = Run None x (schema s ∷ []) (Some (record { schema = s })) × IsReadable s
 GivesSchema x left (Err fault) = Reads None x left [] (Err fault)
 
+-- what was taken from the source to find the schema, and what was found
 pub record TakesSchema (old new : Option (List ℕ)) (count_old count_new : ℕ) (r : Result Schema Fault) : Type 0 where
   pub x : List ℕ
   pub takes : Takes old new count_old count_new x
@@ -94,6 +96,7 @@ abbrev pub GivesScope : List ℕ → Option (List ℕ) → Result Scope Fault �
 GivesScope x left (Ok scope) = Run None x (schema scope.schema ∷ []) (Some (record { schema = scope.schema }))
 GivesScope x left (Err fault) = Reads None x left [] (Err fault)
 
+-- what was taken from the source to find the schema with what follows from it, and what was found
 pub record TakesScope (old new : Option (List ℕ)) (count_old count_new : ℕ) (r : Result Scope Fault) : Type 0 where
   pub x : List ℕ
   pub takes : Takes old new count_old count_new x
@@ -119,11 +122,13 @@ ReadAnswer o x left (Ok (next.Batch found)) = Run (Some o) x (batch found.rows �
 ReadAnswer o x left (Ok (next.Ended end)) = Reads (Some o) x left [] (Ok end)
 ReadAnswer o x left (Err fault) = Reads (Some o) x left [] (Err fault)
 
+-- what was taken from the source for the next event behind the schema, and what was found
 pub record ReadsNext (old new : Option (List ℕ)) (count_old count_new : ℕ) (o : InForce) (r : Result Next Fault) : Type 0 where
   pub x : List ℕ
   pub takes : Takes old new count_old count_new x
   pub gives : ReadAnswer o x new r
 
+-- the event is a batch
 abbrev pub IsBatch : Next → Type 0
 IsBatch (next.Batch found) = ⊤
 IsBatch (next.Ended end) = ⊥
