@@ -109,7 +109,7 @@ no_schema_batch o s body b = let bad : h.Schema s ≡ h.Batch b.batch_head = b.i
 no_dictionary_batch : (o : InForce) (id : ℤ) (d : BatchHead) (body : List ℕ) → StepsByRows o (h.Dictionary id d) body → ⊥
 no_dictionary_batch o id d body b = let bad : h.Dictionary id d ≡ h.Batch b.batch_head = b.is_batch in cc
 
-batch_refused : (o : InForce) (d : BatchHead) (body : List ℕ) (e : Fault) → StepsByRows o (h.Batch d) body → RefusesRows e o.schema.fields d body → e ≡ OutOfMemory
+batch_refused : (o : InForce) (d : BatchHead) (body : List ℕ) (e : Fault) → StepsByRows o (h.Batch d) body → RefusesParts e o.schema.fields d body → e ≡ OutOfMemory
 batch_refused o d body e b r =
     let same : d ≡ b.batch_head = (let eq : h.Batch d ≡ h.Batch b.batch_head = b.is_batch in cc) in
     none_refused e o.schema.fields d body b.its_rows r (subst (λ z. Rows o.schema.fields z body b.its_rows) (sym same) b.gives)

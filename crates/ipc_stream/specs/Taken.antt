@@ -107,7 +107,7 @@ abbrev pub RefusesNext : Schema → Framed → Fault → Type 0
 RefusesNext s f.End fault = ⊥
 RefusesNext s (f.Message meta (h.Schema t) body) fault = fault ≡ SecondSchema
 RefusesNext s (f.Message meta (h.Dictionary id b) body) fault = (fault ≡ UnknownDictionary) × NamesNone id s
-RefusesNext s (f.Message meta (h.Batch b) body) fault = RefusesRows fault s.fields b body.items
+RefusesNext s (f.Message meta (h.Batch b) body) fault = RefusesParts fault s.fields b body.items
 
 -- a message with the rows of this batch, or the end mark, or neither
 abbrev pub BringsNext : Schema → Framed → Result Next Fault → Type 0
