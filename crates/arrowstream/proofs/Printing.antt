@@ -19,7 +19,7 @@ use Rattle.arrowstream.specs.declared.rows.PrintFault.TheVariants.{Write, OutOfM
 use Rattle.arrowstream.specs.Columns.{AreShownColumns}
 use Rattle.arrowstream.specs.Output.{Output, output, Puts, PutFails}
 use Rattle.arrowstream.specs.Rows.{AreShownRows, lines, batch_lines}
-use Rattle.arrowstream.specs.Show.{PrintsRows, PrintsPart, PrintsAs}
+use Rattle.arrowstream.specs.Show.{PrintsRows, PrintsPart, PrintsBatches}
 use Rattle.arrowstream.proofs.Puts.{puts_then, puts_not_then, puts_none, puts_never}
 use Rattle.arrowstream.proofs.Shown.{all_more}
 use Rattle.arrowstream.proofs.Lines.{put_at, not_at}
@@ -152,12 +152,12 @@ module _ (old now new : Reader) (before after : Output) (b : Batches old now bef
     puts = b.puts;
   }
 
-  pub batches_end : NextCall now new (Ok None) → new.failures ≡ now.failures → PrintsAs old new before after (Ok None)
+  pub batches_end : NextCall now new (Ok None) → new.failures ≡ now.failures → PrintsBatches old new before after (Ok None)
   batches_end t works =
       let h = ended (in_force_of now) now.phase new.phase t.x new.remaining b.reading t.gives in
       (h.0, printed t.x (Ok h.0) t.bytes h.1, λ z. works ∙ (b.counts ∙ z))
 
-  pub batches_break : (f : Fault) → NextCall now new (Err f) → Tells now.failures new.failures f → PrintsAs old new before after (Ok (Some f))
+  pub batches_break : (f : Fault) → NextCall now new (Err f) → Tells now.failures new.failures f → PrintsBatches old new before after (Ok (Some f))
   batches_break f t tells = (
     printed t.x (Err f) t.bytes (broke (in_force_of now) now.phase new.phase t.x new.remaining f b.reading t.gives),
     record { failed = tells.failed; stayed = λ other. tells.stayed other ∙ b.counts },
@@ -190,7 +190,7 @@ module _ (old new : Reader) (before mid : Output) where
   }
 
   -- what was kept went out too
-  pub flushed : (fault : Option Fault) (after : Output) → PrintsAs old new before mid (Ok fault) → Puts mid after [] → PrintsAs old new before after (Ok fault)
+  pub flushed : (fault : Option Fault) (after : Output) → PrintsBatches old new before mid (Ok fault) → Puts mid after [] → PrintsBatches old new before after (Ok fault)
   flushed None after p q = (p.0, rows_flushed (Ok p.0) after p.1 q, p.2)
   flushed (Some f) after p q = (rows_flushed (Err f) after p.0 q, p.1)
 
@@ -209,6 +209,6 @@ module _ (old new : Reader) (before mid : Output) where
   }
 
   -- what was kept did not
-  pub unflushed : (fault : Option Fault) (w : Option (List ℕ)) (n : ℕ) → PrintsAs old new before mid (Ok fault) → PutFails mid w n [] Write → PrintsPart old new before w n Write
+  pub unflushed : (fault : Option Fault) (w : Option (List ℕ)) (n : ℕ) → PrintsBatches old new before mid (Ok fault) → PutFails mid w n [] Write → PrintsPart old new before w n Write
   unflushed None w n p q = rows_unflushed (Ok p.0) w n p.1 q
   unflushed (Some f) w n p q = rows_unflushed (Err f) w n p.0 q

@@ -99,10 +99,10 @@ pub record HasOtherColumn (old new : Reader) (before after : Output) (fault : Fa
   pub silent : after ≡ before
 
 -- what an answer says of the rows
-abbrev pub PrintsAs : Reader → Reader → Output → Output → Result (Option Fault) PrintFault → Type 0
-PrintsAs old new before after (Ok None) = (end : End) × PrintsRows old new before after (Ok end) × (old.failures ≡ 0 → new.failures ≡ 0)
-PrintsAs old new before after (Ok (Some fault)) = PrintsRows old new before after (Err fault) × Tells old.failures new.failures fault
-PrintsAs old new before after (Err fault) = PrintsPart old new before after.written after.failures fault
+abbrev pub PrintsBatches : Reader → Reader → Output → Output → Result (Option Fault) PrintFault → Type 0
+PrintsBatches old new before after (Ok None) = (end : End) × PrintsRows old new before after (Ok end) × (old.failures ≡ 0 → new.failures ≡ 0)
+PrintsBatches old new before after (Ok (Some fault)) = PrintsRows old new before after (Err fault) × Tells old.failures new.failures fault
+PrintsBatches old new before after (Err fault) = PrintsPart old new before after.written after.failures fault
 
 -- what an answer says of a stream whose schema was read
 abbrev pub ShowsRows : Reader → Reader → Output → Output → Result ⊤ Stop → Type 0

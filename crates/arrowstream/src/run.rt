@@ -4,7 +4,7 @@ ghost use Rattle.ipc_stream.specs.declared.phase.Phase.TheVariants.{Reading};
 ghost use Rattle.ipc_stream.specs.Reasons.{IsOutside};
 ghost use Rattle.arrowstream.specs.Columns.{AreShownColumns};
 ghost use Rattle.arrowstream.specs.Output.{output};
-ghost use Rattle.arrowstream.specs.Show.{Breaks, PrintsAs, Shows, ShowsPart, ShowsRows, ShowsTable, TellsDevices, exit_status, stop_status};
+ghost use Rattle.arrowstream.specs.Show.{Breaks, PrintsBatches, Shows, ShowsPart, ShowsRows, ShowsTable, TellsDevices, exit_status, stop_status};
 
 use crate::rows::{Lines, PrintFault};
 use crate::types::first_not_shown;
@@ -32,7 +32,7 @@ fn print_rows<R: Source, W: Sink>(
     requires reading { stream.old.phase ≡ Reading }
     requires columns { AreShownColumns stream.old.schema.fields }
     ensures schema { stream.new.schema ≡ stream.old.schema }
-    ensures prints { PrintsAs stream.old stream.new (output (W.written sink.old) (W.failures sink.old) lines.old) (output (W.written sink.new) (W.failures sink.new) lines.new) result }
+    ensures prints { PrintsBatches stream.old stream.new (output (W.written sink.old) (W.failures sink.old) lines.old) (output (W.written sink.new) (W.failures sink.new) lines.new) result }
 {
     loop {
         match stream.next() {
@@ -53,7 +53,7 @@ fn print_stream<R: Source, W: Sink>(
     requires columns { AreShownColumns stream.old.schema.fields }
     ensures works { IfOk result (λ fault. W.failures sink.new ≡ 0) }
     ensures handed_on { IfOk result (λ fault. W.held_back sink.new ≡ Some []) }
-    ensures prints { PrintsAs stream.old stream.new (output (W.written sink.old) (W.failures sink.old) []) (output (W.written sink.new) (W.failures sink.new) []) result }
+    ensures prints { PrintsBatches stream.old stream.new (output (W.written sink.old) (W.failures sink.old) []) (output (W.written sink.new) (W.failures sink.new) []) result }
 {
     let mut lines = Lines::new(alloc)?;
     let fault = print_rows(alloc, stream, &mut lines, sink)?;
