@@ -8,7 +8,7 @@ ghost use Rattle.arrowstream.specs.Show.{Breaks, PrintsAs, Shows, ShowsPart, Sho
 
 use crate::rows::{Lines, PrintFault};
 use crate::types::first_not_shown;
-use ipc_model::fault::Fault;
+use ipc_model::Fault;
 use ipc_stream::{Sink, Source, StreamReader};
 use std::alloc::Global;
 use std::io::Write;

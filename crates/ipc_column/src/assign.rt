@@ -6,7 +6,7 @@ ghost use Rattle.ipc_column.specs.Views.{columns, column_of, children_of, span_b
 use crate::layout::{Layout, layout_of, own_buffers};
 use crate::ranges::{ColumnRanges, BufferRange};
 use ipc_meta::BatchHead;
-use ipc_model::schema::Field;
+use ipc_model::Field;
 use std::alloc::{AllocError, Global};
 
 /// So many nodes and so many buffers.

@@ -10,7 +10,7 @@ use crate::offsets::bytes_between;
 use crate::ranges::{ColumnRanges, BufferRange};
 use crate::range_bytes::bytes_at;
 use crate::texts::text_of;
-use ipc_model::schema::IntBits;
+use ipc_model::IntBits;
 use ipc_scalar::bit;
 
 /// What a slot of a column holds, lent by its batch.

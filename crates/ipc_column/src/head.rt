@@ -5,7 +5,7 @@ ghost use Rattle.ipc_column.specs.Shapes.{shape_of, nodes_in};
 use crate::cause::Cause;
 use crate::assign::{Cursor, count};
 use ipc_meta::BatchHead;
-use ipc_model::schema::Field;
+use ipc_model::Field;
 
 fn is_slot_count(count: i64) -> bool
     ensures { result ≡ is_slot_count count }

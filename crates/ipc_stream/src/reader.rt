@@ -16,8 +16,7 @@ use crate::reading::{Next, read_next, read_scope};
 use crate::scope::Scope;
 use crate::source::Source;
 use ipc_column::Batch;
-use ipc_model::fault::Fault;
-use ipc_model::schema::Schema;
+use ipc_model::{Fault, Schema};
 use std::alloc::Global;
 use std::marker::Model;
 

@@ -2,11 +2,8 @@
 //! to standard output, with so many batches of so many rows. The writer is measured by it.
 #![tactic(auto)]
 
-use ipc_model::fault::WriteFault;
+use ipc_model::{DataType, Field, IntBits, Row, Schema, Value, WriteFault};
 use ipc_model::items::{Items, Text};
-use ipc_model::schema::{DataType, Field, IntBits, Schema};
-use ipc_model::table::Row;
-use ipc_model::value::Value;
 use ipc_stream::{Device, StreamWriter};
 use std::alloc::{AllocError, Global};
 use std::env::Args;

@@ -2,11 +2,8 @@
 //! their metadata can be tried on it.
 #![tactic(auto)]
 
-use ipc_model::fault::WriteFault;
+use ipc_model::{DataType, DateUnit, Field, IntBits, Row, Schema, TimeUnit, Value, WriteFault};
 use ipc_model::items::{Items, Text};
-use ipc_model::schema::{DataType, DateUnit, Field, IntBits, Schema, TimeUnit};
-use ipc_model::table::Row;
-use ipc_model::value::Value;
 use ipc_stream::{Device, StreamWriter};
 use std::alloc::{AllocError, Global};
 use std::env::Args;
