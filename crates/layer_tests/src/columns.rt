@@ -5,8 +5,8 @@ ghost use Rattle.ipc_meta.specs.Supported.{are_supported, is_supported_type};
 
 use ipc_column::{Batch, Cell};
 use ipc_meta::BatchHead;
-use ipc_model::{DataType, DateUnit, Fault, Field, IntBits, TimeUnit};
 use ipc_model::items::{Items, Text};
+use ipc_model::{DataType, DateUnit, Fault, Field, IntBits, TimeUnit};
 use std::alloc::{AllocError, Global};
 use std::collections::BTreeMap;
 use std::rc::Rc;
