@@ -4,6 +4,8 @@ use Rattle.std.specs.Io.KnownBytes.{Appends, Consumes, IsAtEnd, Keeps}
 use Rattle.std.specs.List.{AllByRecursion}
 use Rattle.ipc_model.specs.declared.fault.Fault.{Fault}
 use Rattle.ipc_model.specs.declared.fault.Fault.TheVariants as f
+use Rattle.ipc_model.specs.declared.fault.WriteFault.TheVariants as w
+use Rattle.ipc_model.specs.Numbering.{fault_status, write_fault_status}
 use Rattle.ipc_model.specs.declared.schema.Schema.{Schema}
 use Rattle.ipc_model.specs.declared.table.Table.{Table}
 use Rattle.ipc_model.specs.declared.value.Value.{Value}
@@ -50,11 +52,9 @@ pub data ShowsPart (old new written_old written_new : Option (List ℕ)) : Type 
 
 -- the exit status of a job that stopped: memory ran out, a device failed, or the stream is refused
 abbrev pub stop_status : Stop → ℕ
-stop_status (stop.Stream f.OutOfMemory message) = 4
-stop_status (stop.Stream f.Read message) = 3
-stop_status (stop.Stream fault message) = 1
-stop_status (stop.Print p.OutOfMemory) = 4
-stop_status (stop.Print p.Write) = 3
+stop_status (stop.Stream fault message) = fault_status fault
+stop_status (stop.Print p.OutOfMemory) = write_fault_status w.OutOfMemory
+stop_status (stop.Print p.Write) = write_fault_status w.Write
 
 -- the exit status of a job
 abbrev pub exit_status : {T : Type 0} → Result T Stop → ℕ

@@ -8,7 +8,7 @@ ghost use Rattle.arrowstream.specs.Show.{Breaks, PrintsBatches, Shows, ShowsPart
 
 use crate::rows::{Lines, PrintFault};
 use crate::types::first_not_shown;
-use ipc_model::fault::Fault;
+use ipc_model::{Fault, WriteFault};
 use ipc_stream::{Sink, Source, StreamReader};
 use std::alloc::Global;
 use std::io::Write;
@@ -103,23 +103,23 @@ fn status_of(stop: Stop) -> u8
     ensures { result ≡ stop_status stop }
 {
     match stop {
-        Stop::Stream(Fault::OutOfMemory, _) | Stop::Print(PrintFault::OutOfMemory) => 4,
-        Stop::Stream(Fault::Read, _) | Stop::Print(PrintFault::Write) => 3,
-        Stop::Stream(_, _) => 1,
+        Stop::Stream(fault, _) => fault.exit_status(),
+        Stop::Print(PrintFault::Write) => WriteFault::Write.exit_status(),
+        Stop::Print(PrintFault::OutOfMemory) => WriteFault::OutOfMemory.exit_status(),
     }
 }
 
 // Tells why a job stopped, as one line.
 fn tell<E: Write>(stop: Stop, messages: &mut E) {
     match stop {
-        Stop::Stream(Fault::OutOfMemory, _) | Stop::Print(PrintFault::OutOfMemory) => {
-            let _ = messages.write_all(b"out of memory\n");
+        Stop::Stream(fault, message) => {
+            let _ = writeln!(messages, "{}", fault.at_message(message));
         }
         Stop::Print(PrintFault::Write) => {
-            let _ = messages.write_all(b"W9 Write\n");
+            let _ = writeln!(messages, "{}", WriteFault::Write);
         }
-        Stop::Stream(fault, message) => {
-            let _ = writeln!(messages, "{fault} at message {message}");
+        Stop::Print(PrintFault::OutOfMemory) => {
+            let _ = messages.write_all(b"out of memory\n");
         }
     }
 }

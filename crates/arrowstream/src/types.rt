@@ -2,7 +2,7 @@
 ghost use Rattle.std.specs.Prelude.{◌≡◌, ◌↔◌, IsTrue, MatchOption, true};
 ghost use Rattle.arrowstream.specs.Columns.{AreShownColumns, IsNotShown, IsShownColumn, type_code};
 
-use ipc_model::schema::{DataType, Field, IntBits, Schema};
+use ipc_model::{DataType, Field, IntBits, Schema};
 
 // The code of a type in union Type (Schema.fbs).
 fn code_of(kind: &DataType) -> u8

@@ -1,10 +1,8 @@
 //! The record batch of some rows, as a stream carries it.
 use ipc_frame::{Frame, Seen, next_frame};
 use ipc_meta::{BatchHead, Head};
-use ipc_model::fault::Fault;
 use ipc_model::items::Items;
-use ipc_model::schema::{Field, Schema};
-use ipc_model::table::{Row, Table};
+use ipc_model::{Fault, Field, Row, Schema, Table};
 use ipc_stream::{Memory, write_table};
 use std::alloc::{AllocError, Global};
 

@@ -4,9 +4,7 @@ ghost use Rattle.ipc_model.specs.Entries.{entries, max_fields};
 ghost use Rattle.ipc_meta.specs.Supported.{are_supported, is_supported_type};
 
 use ipc_model::items::{Items, Text};
-use ipc_model::schema::{DataType, Field, IntBits};
-use ipc_model::table::Row;
-use ipc_model::value::Value;
+use ipc_model::{DataType, Field, IntBits, Row, Value};
 use std::alloc::{AllocError, Global};
 use std::rc::Rc;
 

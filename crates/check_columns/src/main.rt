@@ -10,7 +10,7 @@ use batch::batch_of;
 use column::{Kind, fields, rows};
 use ipc_column::Batch;
 use ipc_meta::BatchHead;
-use ipc_model::fault::Fault;
+use ipc_model::Fault;
 use std::alloc::Global;
 use std::collections::BTreeMap;
 use std::env::Args;

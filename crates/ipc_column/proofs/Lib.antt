@@ -3,6 +3,7 @@ pub mod Parts
 pub mod Entries
 pub mod Cells
 pub mod Rules
+pub mod SameCells
 pub mod Laws
 pub mod Numbers
 pub mod Below

@@ -4,9 +4,9 @@ ghost use Rattle.ipc_column.specs.Shapes.{cut, shape_of, field_layout, field_chi
 ghost use Rattle.ipc_column.specs.Views.{columns, column_of, children_of, span_bytes};
 
 use crate::layout::{Layout, layout_of, own_buffers};
-use crate::ranges::{ColumnRanges, BufferRange};
+use crate::ranges::{BufferRange, ColumnRanges};
 use ipc_meta::BatchHead;
-use ipc_model::schema::Field;
+use ipc_model::Field;
 use std::alloc::{AllocError, Global};
 
 /// So many nodes and so many buffers.

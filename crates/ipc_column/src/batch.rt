@@ -11,18 +11,16 @@ ghost use Rattle.ipc_column.specs.Checks.{Passing, Failing};
 ghost use Rattle.ipc_column.specs.Lending.{AreNumbers, lent_of};
 ghost use Rattle.ipc_column.specs.Values.{cell_value};
 
-use crate::cell::{Cell, cell_in};
 use crate::assign::{Cursor, assign_buffers};
+use crate::cell::{Cell, cell_in};
 use crate::head::check_head;
 use crate::ranges::ColumnRanges;
 use crate::rows::rows_in;
 use crate::validate::check_columns;
 use crate::values::numbers_in;
 use ipc_meta::BatchHead;
-use ipc_model::fault::Fault;
 use ipc_model::items::Items;
-use ipc_model::schema::Field;
-use ipc_model::table::Row;
+use ipc_model::{Fault, Field, Row};
 use std::alloc::{AllocError, Global};
 use std::collections::BTreeMap;
 use std::marker::Model;
@@ -178,6 +176,9 @@ impl Batch {
     }
 
     /// What stands in a row and a column, lent. The caller gives a row below `rows` and a column below `columns`.
+    ///
+    /// The column's field says what it means. Signed integers, dates and timestamps are `Int`, in the field's unit from 1970-01-01 on;
+    /// unsigned integers are `UInt`; binary and fixed-size binary are `Bytes`.
     pub fn cell(&self, row: usize, column: usize) -> Cell<'_>
         requires row { row < length self.now.rows }
         requires column { column < self.now.columns }

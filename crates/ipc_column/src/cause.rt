@@ -1,4 +1,4 @@
-use ipc_model::fault::Fault;
+use ipc_model::Fault;
 
 /// Why the parts of a batch give no rows.
 #[derive(Clone, Copy, Debug, PartialEq, Eq, Drop)]

@@ -1,4 +1,4 @@
-ghost use Rattle.std.specs.Prelude.{◌≡◌, ◌+◌, ◌<◌, length, true, slice_get, Some, IfOk};
+ghost use Rattle.std.specs.Prelude.{◌≡◌, ◌+◌, ◌<◌, ◌↔◌, length, true, slice_get, Some, IfOk, IsTrue};
 ghost use Rattle.ipc_column.specs.declared.cause.Cause.{Cause};
 ghost use Rattle.ipc_column.specs.Checks.{Holds, has_bitmap, holds_values, holds_offsets, in_order, is_text, is_good, passes};
 ghost use Rattle.ipc_column.specs.Values.{cell_value, is_valid, own_value, value_of, row};
@@ -7,14 +7,14 @@ ghost use Rattle.ipc_column.specs.Views.{columns, column_of, span_bytes};
 use crate::fixed::{bytes_of, signed_at, unsigned_at};
 use crate::layout::Layout;
 use crate::offsets::bytes_between;
-use crate::ranges::{ColumnRanges, BufferRange};
 use crate::range_bytes::bytes_at;
+use crate::ranges::{BufferRange, ColumnRanges};
 use crate::texts::text_of;
-use ipc_model::schema::IntBits;
+use ipc_model::IntBits;
 use ipc_scalar::bit;
 
 /// What a slot of a column holds, lent by its batch.
-#[derive(Clone, Copy, Debug, Drop)]
+#[derive(Clone, Copy, Debug, PartialEq, Eq, Drop)]
 pub enum Cell<'a> {
     /// The slot is null.
     Null,
@@ -28,6 +28,15 @@ pub enum Cell<'a> {
     Bytes(&'a [u8]),
     /// Bytes of the body that are UTF-8.
     Text(&'a str),
+}
+
+impl Cell<'_> {
+    /// Whether the two show one value: what `==` answers, with a contract that says so. Which batch lends them doesn't matter.
+    pub fn is_same(&self, other: &Cell<'_>) -> bool
+        ensures { IsTrue result ↔ (cell_value self.now ≡ cell_value other.now) }
+    {
+        *self == *other
+    }
 }
 
 /// Whether a slot isn't null.

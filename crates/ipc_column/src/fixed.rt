@@ -3,7 +3,7 @@ ghost use Rattle.ipc_scalar.specs.Bytes.{num};
 ghost use Rattle.ipc_column.specs.Layouts.{number_bytes};
 ghost use Rattle.ipc_column.specs.Values.{signed_at};
 
-use ipc_model::schema::IntBits;
+use ipc_model::IntBits;
 use ipc_scalar::{get_i32, get_i64, get_u16, get_u32};
 
 /// The signed number in a slot.

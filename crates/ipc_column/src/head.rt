@@ -2,10 +2,10 @@ ghost use Rattle.std.specs.Prelude.{◌≡◌, ◌≤◌, true, IfErr};
 ghost use Rattle.ipc_column.specs.Checks.{Judges, IsCounted, all, is_slot_count, is_node, lies_in, head_passes};
 ghost use Rattle.ipc_column.specs.Shapes.{shape_of, nodes_in};
 
-use crate::cause::Cause;
 use crate::assign::{Cursor, count};
+use crate::cause::Cause;
 use ipc_meta::BatchHead;
-use ipc_model::schema::Field;
+use ipc_model::Field;
 
 fn is_slot_count(count: i64) -> bool
     ensures { result ≡ is_slot_count count }

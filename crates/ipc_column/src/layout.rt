@@ -1,7 +1,7 @@
 ghost use Rattle.std.specs.Prelude.{◌≡◌};
 ghost use Rattle.ipc_column.specs.Layouts.{type_layout, layout, own_buffers, number_bytes, has_validity, is_texts, is_signed_64};
 
-use ipc_model::schema::{DataType, DateUnit, Dictionary, IntBits};
+use ipc_model::{DataType, DateUnit, Dictionary, IntBits};
 
 /// How the slots of a field lie in its buffers (Arrow Columnar Format, "Physical Memory Layout").
 #[derive(Clone, Copy, Debug, PartialEq, Eq, Drop)]

@@ -6,8 +6,7 @@ ghost use Rattle.ipc_column.specs.Views.{columns};
 use crate::cell::{Cell, cell_in};
 use crate::ranges::ColumnRanges;
 use ipc_model::items::{Items, Text};
-use ipc_model::table::Row;
-use ipc_model::value::Value;
+use ipc_model::{Row, Value};
 use std::alloc::{AllocError, Global};
 
 // The value that a cell shows.

@@ -6,8 +6,8 @@ ghost use Rattle.ipc_column.specs.Values.{rows_of};
 ghost use Rattle.ipc_column.specs.Views.{columns, own_column};
 
 use crate::layout::is_signed_64;
-use crate::ranges::ColumnRanges;
 use crate::range_bytes::bytes_at;
+use crate::ranges::ColumnRanges;
 
 // The values of a part of signed 64-bit numbers without a bitmap.
 #[tactic(auto, using(crate::proofs::Lent::wide, crate::proofs::Lent::no_bytes))]

@@ -3,8 +3,7 @@ ghost use Rattle.std.specs.Str.{IsUtf8};
 ghost use Rattle.ipc_encode.specs.Cells.{cells, is_set, nulls, number_bits, content, HasUtf8};
 
 use crate::pieces::Flag;
-use ipc_model::table::Row;
-use ipc_model::value::Value;
+use ipc_model::{Row, Value};
 
 /// The value of a row in a column, or `other` where the row has no such column.
 pub(crate) fn value_at<'a>(row: &'a Row, column: usize, other: &'a Value) -> &'a Value

@@ -9,9 +9,7 @@ ghost use Rattle.ipc_encode.specs.Writing.{Shows, IsRefusedAt, AreRefusedAt, IsC
 use crate::cells::count_nulls;
 use crate::pieces::{Piece, pieces_of};
 use crate::slots::{MAX_BODY, write_piece};
-use ipc_model::fault::WriteFault;
-use ipc_model::schema::Field;
-use ipc_model::table::Row;
+use ipc_model::{Field, Row, WriteFault};
 use std::alloc::{AllocError, Global};
 
 /// A record batch as far as it is written.

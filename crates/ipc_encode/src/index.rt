@@ -1,7 +1,7 @@
 ghost use Rattle.std.specs.Prelude.{◌≡◌, ℤ, ℕ, Option, None};
 ghost use Rattle.ipc_model.specs.declared.value.Value.{Value};
 
-use ipc_model::value::Value;
+use ipc_model::Value;
 
 /// The numbers under which the values of dictionaries are known (Arrow Columnar Format, "Dictionary-encoded Layout").
 pub trait IndexOf {

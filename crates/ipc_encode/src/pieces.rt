@@ -1,7 +1,7 @@
 ghost use Rattle.std.specs.Prelude.{◌≡◌, IfOk};
 ghost use Rattle.ipc_encode.specs.Buffers.{validity, pieces, layout_of};
 
-use ipc_model::schema::{DataType, DateUnit, Field, IntBits};
+use ipc_model::{DataType, DateUnit, Field, IntBits};
 use std::alloc::{AllocError, Global};
 
 /// A bit of a value that is packed with those of others.

@@ -7,10 +7,7 @@ ghost use Rattle.ipc_encode.specs.Writing.{IsRefusedAt, Shows};
 
 use crate::cells::{content, count_nulls, is_set, number_bits, value_at};
 use crate::pieces::{Flag, Piece, ValueSlot};
-use ipc_model::fault::WriteFault;
-use ipc_model::schema::IntBits;
-use ipc_model::table::Row;
-use ipc_model::value::Value;
+use ipc_model::{IntBits, Row, Value, WriteFault};
 use std::alloc::AllocError;
 
 /// The most bytes of a body.

@@ -5,7 +5,7 @@ ghost use Rattle.ipc_frame.specs.Frames.{Begins};
 
 use crate::frame::{Frame, Seen};
 use ipc_meta::read_message;
-use ipc_model::fault::Fault;
+use ipc_model::Fault;
 use ipc_scalar::get_i32;
 use std::alloc::Global;
 

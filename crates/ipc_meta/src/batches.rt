@@ -10,7 +10,7 @@ use crate::head::BatchHead;
 use crate::lifted::lifted;
 use crate::types::read_flag;
 use ipc_flat::TableRef;
-use ipc_model::fault::Fault;
+use ipc_model::Fault;
 use ipc_model::items::Items;
 use ipc_scalar::get_i64;
 use std::alloc::Global;

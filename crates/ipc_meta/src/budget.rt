@@ -2,7 +2,7 @@ ghost use Rattle.std.specs.Prelude.{◌≡◌};
 ghost use Rattle.ipc_model.specs.Answers.{AnswersUnlessOutOfMemory};
 ghost use Rattle.ipc_meta.specs.Budgets.{less_text, less_pairs, less_fields};
 
-use ipc_model::fault::Fault;
+use ipc_model::Fault;
 
 /// How much a schema may still have while it is read. What several offsets point to counts at each
 /// of them, so that a small message can't denote a large schema.

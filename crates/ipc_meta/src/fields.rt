@@ -6,9 +6,8 @@ use crate::budget::Budget;
 use crate::lifted::lifted;
 use crate::types::{read_counted_type, read_dictionary, read_flag};
 use ipc_flat::TableRef;
-use ipc_model::fault::Fault;
+use ipc_model::{Fault, Field};
 use ipc_model::items::{Items, Text};
-use ipc_model::schema::Field;
 use std::alloc::Global;
 
 // The text in a field, copied and counted; an absent text is empty.

@@ -2,7 +2,7 @@ ghost use Rattle.std.specs.Prelude.{◌≡◌};
 ghost use Rattle.ipc_meta.specs.Lifts.{fault_of, lift};
 
 use ipc_flat::FlatFault;
-use ipc_model::fault::Fault;
+use ipc_model::Fault;
 
 // The message's fault of ill-formed FlatBuffers.
 fn fault_of(fault: FlatFault) -> Fault

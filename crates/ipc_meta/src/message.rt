@@ -15,8 +15,7 @@ use crate::head::Head;
 use crate::lifted::lifted;
 use crate::supported::check_supported;
 use ipc_flat::{Flat, TableRef};
-use ipc_model::fault::Fault;
-use ipc_model::schema::Schema;
+use ipc_model::{Fault, Schema};
 use std::alloc::Global;
 
 // Schema.fbs, enum MetadataVersion: V5.

@@ -3,8 +3,7 @@ ghost use Rattle.ipc_meta.specs.Supported.{is_supported, is_supported_field, are
 
 use crate::head::Head;
 use crate::type_slots::type_number;
-use ipc_model::fault::Fault;
-use ipc_model::schema::{DataType, Dictionary, Field};
+use ipc_model::{DataType, Dictionary, Fault, Field};
 
 // Whether columns of this type with this dictionary are read.
 fn is_supported(kind: &DataType, dictionary: Option<Dictionary>) -> bool

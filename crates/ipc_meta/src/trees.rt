@@ -9,7 +9,7 @@ use crate::slots::{push_pairs, table_of, text_slot};
 use crate::type_slots::{push_dictionary, type_number, type_slots};
 use ipc_build::{FlatTree, Slot};
 use ipc_model::items::Items;
-use ipc_model::schema::{Field, Schema};
+use ipc_model::{Field, Schema};
 use std::alloc::{AllocError, Global};
 
 // Schema.fbs, enum MetadataVersion: V5.

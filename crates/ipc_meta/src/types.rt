@@ -7,9 +7,8 @@ ghost use Rattle.ipc_meta.specs.Reading.{type_read};
 use crate::budget::Budget;
 use crate::lifted::lifted;
 use ipc_flat::TableRef;
-use ipc_model::fault::Fault;
+use ipc_model::{DataType, DateUnit, Dictionary, Fault, IndexType, IntBits, TimeUnit};
 use ipc_model::items::Text;
-use ipc_model::schema::{DataType, DateUnit, Dictionary, IndexType, IntBits, TimeUnit};
 use std::alloc::Global;
 
 // The width of an integer (Schema.fbs, table Int, bitWidth).

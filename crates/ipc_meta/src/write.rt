@@ -12,8 +12,7 @@ ghost use Rattle.ipc_meta.specs.Written.{schema_message, batch_message};
 use crate::head::{BatchHead, Head};
 use crate::trees::{batch_tree, message_tree, schema_tree};
 use ipc_build::{BuildFault, FlatTree, build};
-use ipc_model::fault::WriteFault;
-use ipc_model::schema::Schema;
+use ipc_model::{Schema, WriteFault};
 use std::alloc::Global;
 
 // The most bytes that a body may have, a limit of this project.

@@ -6,5 +6,6 @@ pub mod Taken
 pub mod Reader
 pub mod Laws
 pub mod Writing
+pub mod Texts
 pub mod Writer
 pub mod RoundTrip

@@ -5,7 +5,7 @@ ghost use Rattle.ipc_stream.specs.Reasons.{IsOutside};
 ghost use Rattle.ipc_stream.specs.Taken.{Behind, Fills, Loses};
 
 use crate::source::Source;
-use ipc_model::fault::Fault;
+use ipc_model::Fault;
 use std::alloc::{AllocError, Global};
 
 // By how many bytes the buffer grows at most where it is full.

@@ -16,8 +16,7 @@ use crate::reading::{Next, read_next, read_scope};
 use crate::scope::Scope;
 use crate::source::Source;
 use ipc_column::Batch;
-use ipc_model::fault::Fault;
-use ipc_model::schema::Schema;
+use ipc_model::{Fault, Field, Schema};
 use std::alloc::Global;
 use std::marker::Model;
 
@@ -93,6 +92,14 @@ impl<R: Source> StreamReader<R> {
         ensures { result.now ≡ self.now.schema }
     {
         &self.scope.schema
+    }
+
+    /// The columns of the stream: the field with a number says what the cells of a batch's column with this number mean. Of an `Int` its
+    /// type says whether it is a number, a date or a timestamp, and in which unit.
+    pub fn fields(&self) -> &[Field]
+        ensures { result.now ≡ self.now.schema.fields }
+    {
+        self.scope.schema.fields.as_slice()
     }
 
     // Reads on, which `next` says in more words.

@@ -11,8 +11,7 @@ use crate::source::Source;
 use ipc_column::Batch;
 use ipc_frame::{Frame, Seen, next_frame};
 use ipc_meta::Head;
-use ipc_model::fault::Fault;
-use ipc_model::schema::Schema;
+use ipc_model::{Fault, Schema};
 use std::alloc::Global;
 
 // What comes behind the schema.

@@ -1,10 +1,25 @@
-ghost use Rattle.std.specs.Prelude.{ℕ, List, Option, ◌≤◌, ◌+◌, length, IfOk};
+ghost use Rattle.std.specs.Prelude.{ℕ, List, Option, Some, ◌≤◌, ◌+◌, length, IfOk};
 ghost use Rattle.std.specs.Io.KnownBytes.{ReadConsumes};
 ghost use Rattle.ipc_stream.specs.Failures.{Counts};
+ghost use Rattle.ipc_stream.specs.Texts.{failed_text};
+
+use std::error::Error;
+use std::fmt;
 
 /// A call of a device failed. Each later call of it fails too.
 #[derive(Clone, Copy, Debug, PartialEq, Eq)]
 pub struct Failed;
+
+/// `the device failed`.
+impl fmt::Display for Failed {
+    ghost output = { λ failed. Some (failed_text failed) };
+
+    fn fmt<W: fmt::Write>(&self, f: &mut fmt::Formatter<W>) -> fmt::Result {
+        f.write_str("the device failed")
+    }
+}
+
+impl Error for Failed {}
 
 /// What gives the bytes of a stream, in pieces of its own choice.
 pub trait Source {

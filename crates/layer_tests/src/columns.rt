@@ -5,9 +5,8 @@ ghost use Rattle.ipc_meta.specs.Supported.{are_supported, is_supported_type};
 
 use ipc_column::{Batch, Cell};
 use ipc_meta::BatchHead;
-use ipc_model::fault::Fault;
 use ipc_model::items::{Items, Text};
-use ipc_model::schema::{DataType, DateUnit, Field, IntBits, TimeUnit};
+use ipc_model::{DataType, DateUnit, Fault, Field, IntBits, TimeUnit};
 use std::alloc::{AllocError, Global};
 use std::collections::BTreeMap;
 use std::rc::Rc;

@@ -5,12 +5,10 @@ ghost use Rattle.ipc_model.specs.Fits.{RowFits};
 ghost use Rattle.ipc_model.specs.WellFormed.{WellFormed};
 
 use ipc_encode::{IndexOf, NoIndices, Parts, encode};
-use ipc_model::fault::WriteFault;
 use ipc_model::items::{Items, Text};
-use ipc_model::rows::conforms;
-use ipc_model::schema::{DataType, DateUnit, Field, IntBits, Schema, TimeUnit};
-use ipc_model::table::Row;
-use ipc_model::value::Value;
+use ipc_model::{
+    DataType, DateUnit, Field, IntBits, Row, Schema, TimeUnit, Value, WriteFault, conforms,
+};
 use std::alloc::{AllocError, Global};
 use std::test::Fail;
 

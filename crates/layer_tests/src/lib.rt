@@ -11,3 +11,5 @@ mod flat;
 mod model;
 #[cfg(test)]
 mod trees;
+#[cfg(test)]
+mod words;

@@ -2,11 +2,8 @@
 //! their metadata can be tried on it.
 #![tactic(auto)]
 
-use ipc_model::fault::WriteFault;
 use ipc_model::items::{Items, Text};
-use ipc_model::schema::{DataType, DateUnit, Field, IntBits, Schema, TimeUnit};
-use ipc_model::table::Row;
-use ipc_model::value::Value;
+use ipc_model::{DataType, DateUnit, Field, IntBits, Row, Schema, TimeUnit, Value, WriteFault};
 use ipc_stream::{Device, StreamWriter};
 use std::alloc::{AllocError, Global};
 use std::env::Args;
@@ -138,15 +135,12 @@ fn write<W: Write + Drop>(alloc: Global, writer: W) -> Result<(), WriteFault> {
     let first = [full.clone()?];
     let second = [nulls.clone()?];
     let third = [full, nulls];
-    let mut stream = StreamWriter::start(alloc, Device::new(writer), &schema).map_err(|(
-        fault,
-        _,
-    )| fault)?;
+    let mut stream = StreamWriter::start(alloc, Device::new(writer), &schema)?;
     stream.write_batch(&[])?;
     stream.write_batch(&first)?;
     stream.write_batch(&second)?;
     stream.write_batch(&third)?;
-    let _device = stream.finish().map_err(|(fault, _)| fault)?;
+    let _device = stream.finish()?;
     Ok(())
 }
 

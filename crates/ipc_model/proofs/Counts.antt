@@ -1,0 +1,51 @@
+-- In a well formed schema there are no more than 65,536 fields, and so no more among one field's children.
+use Rattle.std.proofs.Common.{◌≡◌, refl, ℕ, zero, suc, ◌+◌, ◌<◌, ◌≤◌, List, [], ◌∷◌, length, map, get_or, ap, subst, length-append, arith}
+use Rattle.ipc_model.specs.RowFaults.{field_count, count_step, total}
+use Rattle.ipc_model.specs.Entries.{Listing, preorder, preorder_step, all_at, entries}
+use Rattle.ipc_model.specs.WellFormed.{WellFormed}
+use Rattle.ipc_model.specs.declared.schema.Field.{Field, roll-Field, out-Field, fold_out-Field, ind-Field, fold-roll-Field, map-Field}
+use Rattle.ipc_model.specs.declared.schema.Field.TheOpen.{Field-F}
+use Rattle.ipc_model.specs.declared.schema.Schema.{Schema}
+
+pub count_out : (f : Field) → field_count f ≡ total (map field_count (out-Field f).children) + 1
+count_out = fold_out-Field ℕ count_step
+
+-- a field among others counts no more than all together
+pub count_at : (fs : List Field) (i : ℕ) (f : Field) → i < length fs → f ≡ get_or fs i f → field_count f ≤ total (map field_count fs)
+count_at [] i f lt is = absurd (omega arith)
+count_at (g ∷ gs) zero f lt is = let e : field_count f ≡ field_count g = ap field_count is in omega arith
+count_at (g ∷ gs) (suc i) f lt is = let e : field_count f ≤ total (map field_count gs) = count_at gs i f (omega arith) is in omega arith
+
+-- and there are no more fields than are counted
+pub length_counts : (fs : List Field) → length fs ≤ total (map field_count fs)
+length_counts [] = omega arith
+length_counts (f ∷ fs) = omega (arith, count_out f, length_counts fs)
+
+abbrev IsCounted : Field → Type 0
+IsCounted f = (d : ℕ) → length (preorder f d) ≡ field_count f
+
+abbrev Shown : Type 0
+Shown = (f : Field) × IsCounted f
+
+abbrev fields_of : List Shown → List Field
+fields_of cs = map (λ c. c.0) cs
+
+all_counted : (cs : List Shown) (d : ℕ) → length (all_at d (map preorder (fields_of cs))) ≡ total (map field_count (fields_of cs))
+all_counted [] d = refl
+all_counted (c ∷ cs) d = omega (arith, length-append (preorder c.0 d) (all_at d (map preorder (fields_of cs))), c.1 d, all_counted cs d)
+
+counted_layer : (y : Field-F Shown) → IsCounted (roll-Field (map-Field Shown Field (λ c. c.0) y))
+counted_layer y = λ d.
+    let z : Field-F Field = map-Field Shown Field (λ c. c.0) y in
+    let g : preorder (roll-Field z) d ≡ preorder_step (map-Field Field Listing preorder z) d = ap (λ (l : Listing). l d) (fold-roll-Field Listing preorder_step z) in
+    omega (arith, ap length g, fold-roll-Field ℕ count_step z, all_counted y.children (d + 1))
+
+pub counted : (f : Field) → IsCounted f
+counted = ind-Field IsCounted (λ x y is. subst (λ z. IsCounted (roll-Field z)) is (counted_layer y))
+
+columns : (fs : List Field) → length (entries fs) ≡ total (map field_count fs)
+columns [] = refl
+columns (f ∷ fs) = omega (arith, length-append (preorder f 1) (all_at 1 (map preorder fs)), counted f 1, columns fs)
+
+pub at_most_65536 : (s : Schema) → WellFormed s → total (map field_count s.fields) ≤ 65536
+at_most_65536 s w = omega (arith, columns s.fields, w.few_fields)

@@ -1,0 +1,10 @@
+-- What is printed of bytes that denote nothing.
+use Rattle.std.specs.Prelude.{ℕ, List, codes}
+use Rattle.ipc_scalar.specs.declared.fault.FlatFault.{FlatFault}
+use Rattle.ipc_scalar.specs.declared.fault.FlatFault.TheVariants as f
+
+abbrev pub flat_fault_text : FlatFault → List ℕ
+flat_fault_text f.OffsetZero = codes "offset 0"
+flat_fault_text f.OutOfBounds = codes "out of bounds"
+flat_fault_text f.BadVtable = codes "bad vtable"
+flat_fault_text f.NotUtf8 = codes "text is not UTF-8"

@@ -1,0 +1,13 @@
+-- What is printed of a device that failed, and of a table that didn't come back.
+use Rattle.std.specs.Prelude.{ℕ, List, ◌++◌, codes}
+use Rattle.ipc_model.specs.Texts.{fault_text, write_fault_text}
+use Rattle.ipc_stream.specs.declared.round_trip.RoundTripFault.{RoundTripFault}
+use Rattle.ipc_stream.specs.declared.round_trip.RoundTripFault.TheVariants.{Write, Read}
+use Rattle.ipc_stream.specs.declared.source.Failed.{Failed}
+
+abbrev pub failed_text : Failed → List ℕ
+failed_text failed = codes "the device failed"
+
+abbrev pub round_trip_text : RoundTripFault → List ℕ
+round_trip_text (Write fault) = codes "not written: " ++ write_fault_text fault
+round_trip_text (Read fault) = codes "not read: " ++ fault_text fault

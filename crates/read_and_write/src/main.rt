@@ -1,0 +1,79 @@
+//! The program `read_and_write`: it writes two batches into memory as a stream, reads them back and prints each cell. It is
+//! the example of README.md.
+#![tactic(auto)]
+
+use ipc_stream::{
+    Cell, DataType, DateUnit, Fault, Field, IntBits, Memory, Row, Schema, StreamReader,
+    StreamWriter, Value, WriteFault,
+};
+use std::alloc::{AllocError, Global};
+use std::process::ExitCode;
+
+// Two batches of a row, as a stream in memory.
+fn write(alloc: Global) -> Result<Memory, WriteFault> {
+    let number = DataType::Int {
+        bits: IntBits::B64,
+        signed: true,
+    };
+    let schema = Schema::new(vec![in alloc;
+        Field::new(alloc, "number", number)?,
+        Field::new(alloc, "name", DataType::Utf8)?.nullable(),
+        Field::new(alloc, "day", DataType::Date(DateUnit::Day))?,
+    ]?);
+    let first = vec![in alloc; Value::Int(1), Value::text(alloc, "one")?, Value::Int(0)]?;
+    let second = vec![in alloc; Value::Int(-2), Value::Null, Value::Int(19_000)]?;
+    let mut stream = StreamWriter::start(alloc, Memory::new(Vec::new(alloc)), &schema)?;
+    stream.write_batch(&[Row::from(first)])?;
+    stream.write_batch(&[Row::from(second)])?;
+    Ok(stream.finish()?)
+}
+
+// The cells of a stream, a line for each row.
+fn read(alloc: Global, source: Memory) -> Result<String, Fault> {
+    let mut text = String::new(alloc);
+    let mut stream = StreamReader::open(alloc, source)?;
+    while let Some(batch) = stream.next()? {
+        for row in 0..batch.rows() {
+            for (column, field) in stream.fields().iter().enumerate().take(batch.columns()) {
+                let cell = spell(alloc, &field.kind, batch.cell(row, column))?;
+                text.push_str(cell.as_str())?;
+            }
+            text.push('\n')?;
+        }
+    }
+    Ok(text)
+}
+
+// A cell of a column of this type.
+fn spell(alloc: Global, kind: &DataType, cell: Cell<'_>) -> Result<String, AllocError> {
+    match (kind, cell) {
+        (_, Cell::Null) => String::from_str(alloc, "null "),
+        (DataType::Date(DateUnit::Day), Cell::Int(day)) => {
+            format!(in alloc; "day {day} after 1970-01-01 ")
+        }
+        (_, Cell::Int(number)) => format!(in alloc; "{number} "),
+        (_, Cell::Text(text)) => format!(in alloc; "{text} "),
+        _ => String::from_str(alloc, "? "),
+    }
+}
+
+fn main(rt: HostRuntime) -> ExitCode {
+    let alloc = rt.alloc();
+    let stream = match write(alloc) {
+        Ok(stream) => stream,
+        Err(fault) => {
+            let _ = eprintln!(rt; "{fault}");
+            return ExitCode::from(fault.exit_status());
+        }
+    };
+    match read(alloc, stream) {
+        Ok(text) => {
+            let _ = print!(rt; "{text}");
+            ExitCode::from(0)
+        }
+        Err(fault) => {
+            let _ = eprintln!(rt; "{fault}");
+            ExitCode::from(fault.exit_status())
+        }
+    }
+}
