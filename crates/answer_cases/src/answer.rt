@@ -1,7 +1,5 @@
 //! What is read in a stream.
-use ipc_model::fault::Fault;
-use ipc_model::items::Items;
-use ipc_model::table::{Row, Table};
+use ipc_model::{Fault, Items, Row, Table};
 use ipc_stream::{End, Limited, Memory, Source, StreamReader};
 use std::alloc::{AllocError, Global};
 

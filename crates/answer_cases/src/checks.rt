@@ -1,6 +1,6 @@
 //! What is looked at in the answer to a stream.
 use crate::answer::Answer;
-use ipc_model::table::Table;
+use ipc_model::Table;
 use ipc_stream::{Memory, RoundTripFault, read_table, write_and_read_back};
 use std::alloc::{AllocError, Global};
 

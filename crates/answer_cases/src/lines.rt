@@ -2,8 +2,7 @@
 use crate::answer::Answer;
 use crate::checks::{PIECES, Report, RoundTrip};
 use crate::values::{write_dictionary, write_pairs, write_text, write_type, write_value};
-use ipc_model::schema::{Field, Schema};
-use ipc_model::table::{Row, Table};
+use ipc_model::{Field, Row, Schema, Table};
 use ipc_stream::{End, RoundTripFault};
 use std::fmt;
 

@@ -1,7 +1,5 @@
 //! Types and values in a line.
-use ipc_model::items::{Items, Text};
-use ipc_model::schema::{DataType, DateUnit, Dictionary, IntBits, TimeUnit};
-use ipc_model::value::Value;
+use ipc_model::{DataType, DateUnit, Dictionary, IntBits, Items, Text, TimeUnit, Value};
 use std::fmt;
 
 /// A text between quotes, escaped as `str::escape_default` does: what isn't printable ASCII stands
