@@ -1,10 +1,8 @@
 //! Writers of std as sinks, and values out of their type's range, through every call that writes rows.
 
-use crate::vectors::NUMBERS_64;
-use ipc_model::{
-    DataType, DateUnit, Field, IntBits, Items, Row, Schema, Table, Text, Value, WriteFault,
-};
-use ipc_stream::{Device, Memory, StreamWriter, read_table, write_table};
+use crate::tables::{empty, numbers, row, schema_of, written};
+use ipc_model::{DataType, DateUnit, IntBits, Items, Table, Value, WriteFault};
+use ipc_stream::{Device, StreamWriter, write_table};
 use std::alloc::{AllocError, Global};
 use std::io;
 use std::io::Write;
@@ -54,21 +52,11 @@ impl Write for Narrow {
     }
 }
 
-// The table of a stream of numbers, and the stream as this library writes it.
-fn numbers(alloc: Global) -> Result<(Table, Vec<u8>), Fail> {
-    let (table, _) = read_table(
-        alloc,
-        &mut Memory::new(Vec::from_slice(alloc, &NUMBERS_64)?),
-    )?;
-    let mut sink = Memory::new(Vec::new(alloc));
-    write_table(alloc, &mut sink, &table)?;
-    Ok((table, sink.into_bytes()))
-}
-
 #[test]
 fn writes_to_a_writer_that_takes_three_bytes(rt: HostRuntime) -> Result<(), Fail> {
     let alloc = rt.alloc();
-    let (table, whole) = numbers(alloc)?;
+    let table = numbers(alloc)?;
+    let whole = written(alloc, &table)?;
     let mut sink = Device::new(Narrow::new(alloc, u32::MAX, true));
     write_table(alloc, &mut sink, &table)?;
     assert_eq!(rt; sink.into_inner().bytes.as_slice(), whole.as_slice());
@@ -79,7 +67,8 @@ fn writes_to_a_writer_that_takes_three_bytes(rt: HostRuntime) -> Result<(), Fail
 #[test]
 fn tells_a_writer_that_fails(rt: HostRuntime) -> Result<(), Fail> {
     let alloc = rt.alloc();
-    let (table, whole) = numbers(alloc)?;
+    let table = numbers(alloc)?;
+    let whole = written(alloc, &table)?;
     let mut sink = Device::new(Narrow::new(alloc, 5, true));
     for _ in 0..2 {
         assert_eq!(rt;
@@ -96,7 +85,8 @@ fn tells_a_writer_that_fails(rt: HostRuntime) -> Result<(), Fail> {
 #[test]
 fn tells_a_writer_whose_flush_fails(rt: HostRuntime) -> Result<(), Fail> {
     let alloc = rt.alloc();
-    let (table, whole) = numbers(alloc)?;
+    let table = numbers(alloc)?;
+    let whole = written(alloc, &table)?;
     let mut sink = Device::new(Narrow::new(alloc, u32::MAX, false));
     assert_eq!(rt;
         write_table(alloc, &mut sink, &table).err(),
@@ -112,26 +102,6 @@ fn tells_a_writer_whose_flush_fails(rt: HostRuntime) -> Result<(), Fail> {
     assert_eq!(rt; fault, WriteFault::Write);
     assert_eq!(rt; sink.into_inner().bytes.as_slice(), whole.as_slice());
     Ok(())
-}
-
-// A schema with one required column of a type.
-fn schema_of(alloc: Global, kind: DataType) -> Result<Schema, AllocError> {
-    let field = Field {
-        name: Text::from_string(String::from_str(alloc, "a")?),
-        nullable: false,
-        kind,
-        dictionary: None,
-        children: Items::from_vec(Vec::new(alloc)),
-        metadata: Items::from_vec(Vec::new(alloc)),
-    };
-    Ok(Schema {
-        fields: Items::from_vec(vec![in alloc; field]?),
-        metadata: Items::from_vec(Vec::new(alloc)),
-    })
-}
-
-fn row(alloc: Global, value: Value) -> Result<Row, AllocError> {
-    Ok(Items::from_vec(vec![in alloc; value]?))
 }
 
 // A type, a value in its range and one out of it.
@@ -159,15 +129,16 @@ fn tells_values_out_of_range(rt: HostRuntime) -> Result<(), Fail> {
     for (kind, fits, wide) in ranges(alloc)? {
         let schema = schema_of(alloc, kind)?;
         let rows = vec![in alloc; row(alloc, fits)?, row(alloc, wide)?]?;
-        let mut writer = StreamWriter::start(alloc, Memory::new(Vec::new(alloc)), &schema).map_err(
-            |(fault, _)| fault,
-        )?;
+        let mut writer = StreamWriter::start(alloc, empty(alloc), &schema).map_err(|(
+            fault,
+            _,
+        )| fault)?;
         let fault = writer.write_batch(&rows).err().ok_or("a refusal")?;
         assert_eq!(rt; format!(in alloc; "{fault}")?.as_str(), REFUSED);
         let sent = writer.into_inner().into_bytes();
         let batches = Items::from_vec(vec![in alloc; Items::from_vec(rows)]?);
         let table = Table { schema, batches };
-        let mut sink = Memory::new(Vec::new(alloc));
+        let mut sink = empty(alloc);
         let fault = write_table(alloc, &mut sink, &table)
             .err()
             .ok_or("a refusal")?;

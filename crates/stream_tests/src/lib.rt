@@ -1,4 +1,5 @@
-//! Tests of whole streams, given byte for byte.
+//! Tests of streams that need Rust: devices that fail, limits of calls, refusals of the writer, and
+//! what comes after a refusal. What the library answers to streams stands in `cases/`.
 #![tactic(auto)]
 
 #[cfg(test)]
@@ -6,6 +7,6 @@ mod devices;
 #[cfg(test)]
 mod streams;
 #[cfg(test)]
-mod vectors;
+mod tables;
 #[cfg(test)]
 mod writing;

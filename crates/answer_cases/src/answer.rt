@@ -1,0 +1,66 @@
+//! What is read in a stream.
+use ipc_model::{Fault, Items, Row, Table};
+use ipc_stream::{End, Limited, Memory, Source, StreamReader};
+use std::alloc::{AllocError, Global};
+
+/// What a reader answers to a stream.
+#[derive(PartialEq, Eq, Drop)]
+pub struct Answer {
+    /// The schema and the batches that were read: none where the schema is refused.
+    pub table: Option<Table>,
+    /// How the stream ends: none where it is refused.
+    pub end: Option<End>,
+    /// Why it is refused, and the number of the message at which it is.
+    pub refusal: Option<(Fault, u64)>,
+    /// How many bytes the reader says that it took: none where the schema is refused.
+    pub taken: Option<u64>,
+    /// How many bytes the source has left.
+    pub left: usize,
+}
+
+// Reads the batches up to the end.
+fn read_batches<R: Source>(
+    alloc: Global,
+    reader: &mut StreamReader<R>,
+    batches: &mut Vec<Items<Row>>,
+) -> Result<(), Fault> {
+    while let Some(batch) = reader.next()? {
+        batches.push(batch.to_rows(alloc)?)?;
+    }
+    Ok(())
+}
+
+// What is read behind the schema.
+fn read_on(alloc: Global, reader: StreamReader<Limited<Memory>>) -> Result<Answer, AllocError> {
+    let mut reader = reader;
+    let schema = reader.schema().clone()?;
+    let mut batches = Vec::new(alloc);
+    let result = read_batches(alloc, &mut reader, &mut batches);
+    let batches = Items::from_vec(batches);
+    let messages = reader.messages();
+    Ok(Answer {
+        table: Some(Table { schema, batches }),
+        end: reader.end(),
+        refusal: result.err().map(|fault| (fault, messages)),
+        taken: Some(reader.taken()),
+        left: reader.into_inner().into_inner().unread().len(),
+    })
+}
+
+impl Answer {
+    /// What is read where the source gives at most `step` bytes in a call, and at least one.
+    pub fn of(alloc: Global, bytes: &[u8], step: usize) -> Result<Answer, AllocError> {
+        let memory = Memory::new(Vec::from_slice(alloc, bytes)?);
+        let source = Limited::new(memory, step.max(1), u64::MAX);
+        match StreamReader::open(alloc, source) {
+            Ok(reader) => read_on(alloc, reader),
+            Err((fault, source)) => Ok(Answer {
+                table: None,
+                end: None,
+                refusal: Some((fault, 0)),
+                taken: None,
+                left: source.into_inner().unread().len(),
+            }),
+        }
+    }
+}

@@ -1,0 +1,93 @@
+//! What is looked at in the answer to a stream.
+use crate::answer::Answer;
+use ipc_model::Table;
+use ipc_stream::{Memory, RoundTripFault, read_table, write_and_read_back};
+use std::alloc::{AllocError, Global};
+
+/// The sizes of the pieces in which a stream is read again.
+pub const PIECES: [usize; 5] = [1, 2, 3, 7, 64];
+
+/// How the rows of a stream come back when they are written.
+#[derive(Drop)]
+pub enum RoundTrip {
+    /// Schema, batches and end are the same, and what stood behind the mark was left.
+    Same,
+    /// Something differs.
+    Differs,
+    /// They aren't written, or what was written isn't read.
+    Refused(RoundTripFault),
+}
+
+/// What is said of a stream.
+#[derive(Drop)]
+pub struct Report {
+    /// How many bytes it has.
+    pub length: usize,
+    /// What is read in it.
+    pub answer: Answer,
+    /// The first size of pieces in which something else is read, with that.
+    pub in_pieces: Option<(usize, Answer)>,
+    /// Whether `read_table` answers the same.
+    pub same_table: bool,
+    /// How its rows come back: none where it is refused.
+    pub round_trip: Option<RoundTrip>,
+}
+
+// What is read in pieces of the first size for which that differs.
+fn in_pieces(
+    alloc: Global,
+    bytes: &[u8],
+    whole: &Answer,
+) -> Result<Option<(usize, Answer)>, AllocError> {
+    for step in PIECES {
+        let answer = Answer::of(alloc, bytes, step)?;
+        if answer != *whole {
+            return Ok(Some((step, answer)));
+        }
+    }
+    Ok(None)
+}
+
+// Whether `read_table` answers the same as a reader did, and takes the same bytes.
+fn is_same_table(alloc: Global, bytes: &[u8], answer: &Answer) -> Result<bool, AllocError> {
+    let mut source = Memory::new(Vec::from_slice(alloc, bytes)?);
+    let same = match read_table(alloc, &mut source) {
+        Ok((table, end)) => answer.end == Some(end) && answer.table == Some(table),
+        Err(fault) => matches!(answer.refusal, Some((other, _)) if other == fault),
+    };
+    Ok(same && source.unread().len() == answer.left)
+}
+
+// Bytes that stand behind what is written.
+const BEHIND: &[u8] = b"behind";
+
+fn round_trip(alloc: Global, table: &Table) -> RoundTrip {
+    match write_and_read_back(alloc, table, BEHIND) {
+        Ok((back, _end, source)) => {
+            if back == *table && source.unread() == BEHIND {
+                RoundTrip::Same
+            } else {
+                RoundTrip::Differs
+            }
+        }
+        Err(fault) => RoundTrip::Refused(fault),
+    }
+}
+
+impl Report {
+    /// What is said of the stream at the front of some bytes.
+    pub fn of(alloc: Global, bytes: &[u8]) -> Result<Report, AllocError> {
+        let answer = Answer::of(alloc, bytes, usize::MAX)?;
+        let round_trip = match (&answer.table, answer.end) {
+            (Some(table), Some(_)) => Some(round_trip(alloc, table)),
+            _ => None,
+        };
+        Ok(Report {
+            length: bytes.len(),
+            in_pieces: in_pieces(alloc, bytes, &answer)?,
+            same_table: is_same_table(alloc, bytes, &answer)?,
+            answer,
+            round_trip,
+        })
+    }
+}

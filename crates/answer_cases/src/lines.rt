@@ -1,0 +1,152 @@
+//! The lines that say what is read in a stream.
+use crate::answer::Answer;
+use crate::checks::{PIECES, Report, RoundTrip};
+use crate::values::{write_dictionary, write_pairs, write_text, write_type, write_value};
+use ipc_model::{Field, Row, Schema, Table};
+use ipc_stream::{End, RoundTripFault};
+use std::fmt;
+
+// A field and those below it, each behind two blanks more than its parent.
+#[cycle(write_field)]
+fn write_field<W: fmt::Write>(
+    field: &Field,
+    depth: usize,
+    f: &mut fmt::Formatter<W>,
+) -> fmt::Result {
+    for _ in 0..depth {
+        f.write_str("  ")?;
+    }
+    f.write_str("field ")?;
+    write_text(f, field.name.as_str())?;
+    f.write_str(" ")?;
+    write_type(f, &field.kind)?;
+    if field.nullable {
+        f.write_str(" nullable")?;
+    }
+    if let Some(dictionary) = field.dictionary {
+        write_dictionary(f, dictionary)?;
+    }
+    write_pairs(f, field.metadata.as_slice())?;
+    f.write_str("\n")?;
+    write_fields(field.children.as_slice(), depth.saturating_add(1), f)
+}
+
+#[cycle(write_field)]
+fn write_fields<W: fmt::Write>(
+    fields: &[Field],
+    depth: usize,
+    f: &mut fmt::Formatter<W>,
+) -> fmt::Result {
+    for field in fields {
+        write_field(field, depth, f)?;
+    }
+    Ok(())
+}
+
+fn write_schema<W: fmt::Write>(f: &mut fmt::Formatter<W>, schema: &Schema) -> fmt::Result {
+    f.write_str("schema")?;
+    write_pairs(f, schema.metadata.as_slice())?;
+    f.write_str("\n")?;
+    write_fields(schema.fields.as_slice(), 0, f)
+}
+
+fn write_row<W: fmt::Write>(f: &mut fmt::Formatter<W>, row: &Row) -> fmt::Result {
+    f.write_str("row")?;
+    for value in row.as_slice() {
+        f.write_str(" ")?;
+        write_value(value, f)?;
+    }
+    f.write_str("\n")
+}
+
+fn write_rows<W: fmt::Write>(f: &mut fmt::Formatter<W>, rows: &[Row]) -> fmt::Result {
+    for row in rows {
+        write_row(f, row)?;
+    }
+    Ok(())
+}
+
+fn write_table<W: fmt::Write>(f: &mut fmt::Formatter<W>, table: &Table) -> fmt::Result {
+    write_schema(f, &table.schema)?;
+    for rows in table.batches.as_slice() {
+        let count = rows.len();
+        writeln!(f, "batch {count}")?;
+        write_rows(f, rows.as_slice())?;
+    }
+    Ok(())
+}
+
+fn write_ending<W: fmt::Write>(f: &mut fmt::Formatter<W>, answer: &Answer) -> fmt::Result {
+    if let Some(end) = answer.end {
+        f.write_str(match end {
+            End::Mark => "end mark\n",
+            End::Closed => "end closed\n",
+        })?;
+    }
+    if let Some((fault, message)) = answer.refusal {
+        writeln!(f, "refused {fault} at message {message}")?;
+    }
+    Ok(())
+}
+
+impl fmt::Display for Answer {
+    fn fmt<W: fmt::Write>(&self, f: &mut fmt::Formatter<W>) -> fmt::Result {
+        if let Some(table) = &self.table {
+            write_table(f, table)?;
+        }
+        write_ending(f, self)
+    }
+}
+
+// How many bytes were taken. What the reader says of it has to agree with what the source has left.
+fn write_taken<W: fmt::Write>(
+    f: &mut fmt::Formatter<W>,
+    answer: &Answer,
+    length: usize,
+) -> fmt::Result {
+    let taken = length.saturating_sub(answer.left);
+    writeln!(f, "taken {taken} of {length}")?;
+    match answer.taken {
+        Some(count) if count != taken as u64 => writeln!(f, "miscounted {count}"),
+        _ => Ok(()),
+    }
+}
+
+fn write_round_trip<W: fmt::Write>(f: &mut fmt::Formatter<W>, trip: &RoundTrip) -> fmt::Result {
+    match trip {
+        RoundTrip::Same => f.write_str("written same\n"),
+        RoundTrip::Differs => f.write_str("written other\n"),
+        RoundTrip::Refused(RoundTripFault::Write(fault)) => writeln!(f, "written {fault}"),
+        RoundTrip::Refused(RoundTripFault::Read(fault)) => writeln!(f, "written and then {fault}"),
+    }
+}
+
+// The sizes of the pieces that made no difference, or the answer in pieces of a size that did.
+fn write_pieces<W: fmt::Write>(
+    f: &mut fmt::Formatter<W>,
+    in_pieces: &Option<(usize, Answer)>,
+) -> fmt::Result {
+    if let Some((step, answer)) = in_pieces {
+        return write!(f, "in pieces of {step} other\n{answer}");
+    }
+    f.write_str("in pieces of")?;
+    for step in PIECES {
+        write!(f, " {step}")?;
+    }
+    f.write_str(" same\n")
+}
+
+impl fmt::Display for Report {
+    fn fmt<W: fmt::Write>(&self, f: &mut fmt::Formatter<W>) -> fmt::Result {
+        write!(f, "{}", self.answer)?;
+        write_taken(f, &self.answer, self.length)?;
+        write_pieces(f, &self.in_pieces)?;
+        if !self.same_table {
+            f.write_str("read_table other\n")?;
+        }
+        match &self.round_trip {
+            Some(trip) => write_round_trip(f, trip),
+            None => Ok(()),
+        }
+    }
+}

@@ -1,0 +1,27 @@
+//! The program `answer_cases`: each line of standard input is a stream in hexadecimal digits, and
+//! each is answered by some lines and an empty one. They say what the library reads in it, whether
+//! it reads the same when the bytes come in small pieces, and whether the rows come back when they
+//! are written. `cases/README.md` says how the lines look.
+#![tactic(auto)]
+
+mod answer;
+mod checks;
+mod lines;
+mod values;
+
+use anyhow::{Context, Result};
+use checks::Report;
+use std::io;
+use std::io::{BufRead, BufReader, BufWriter, Write};
+
+fn main(rt: HostRuntime) -> Result<()> {
+    let alloc = rt.alloc();
+    let mut output = BufWriter::new(alloc, io::writer(&rt))?;
+    for line in BufReader::new(alloc, rt.reader())?.lines(alloc) {
+        let bytes = hex::decode(alloc, line?.as_str()).context("a line that isn't hexadecimal")?;
+        let report = Report::of(alloc, &bytes)?;
+        writeln!(output, "{report}")?;
+    }
+    output.flush()?;
+    Ok(())
+}

@@ -1,0 +1,75 @@
+//! Tables that the tests write and read back.
+
+use ipc_model::{
+    DataType, Fault, Field, IntBits, Items, Row, Schema, Table, Text, Value, WriteFault,
+};
+use ipc_stream::{Memory, read_table, write_table};
+use std::alloc::{AllocError, Global};
+
+pub fn empty(alloc: Global) -> Memory {
+    Memory::new(Vec::new(alloc))
+}
+
+/// A schema with one required column of a type.
+pub fn schema_of(alloc: Global, kind: DataType) -> Result<Schema, AllocError> {
+    let field = Field {
+        name: Text::from_string(String::from_str(alloc, "a")?),
+        nullable: false,
+        kind,
+        dictionary: None,
+        children: Items::from_vec(Vec::new(alloc)),
+        metadata: Items::from_vec(Vec::new(alloc)),
+    };
+    Ok(Schema {
+        fields: Items::from_vec(vec![in alloc; field]?),
+        metadata: Items::from_vec(Vec::new(alloc)),
+    })
+}
+
+/// The same of signed numbers of so many bits.
+pub fn schema_of_numbers(alloc: Global, bits: IntBits) -> Result<Schema, AllocError> {
+    schema_of(alloc, DataType::Int { bits, signed: true })
+}
+
+pub fn row(alloc: Global, value: Value) -> Result<Row, AllocError> {
+    Ok(Items::from_vec(vec![in alloc; value]?))
+}
+
+/// One batch with the numbers 1, -2 and the greatest of 64 bits.
+pub fn numbers(alloc: Global) -> Result<Table, AllocError> {
+    let mut rows = Vec::new(alloc);
+    for number in [1, -2, i64::MAX] {
+        rows.push(row(alloc, Value::Int(number))?)?;
+    }
+    Ok(Table {
+        schema: schema_of_numbers(alloc, IntBits::B64)?,
+        batches: Items::from_vec(vec![in alloc; Items::from_vec(rows)]?),
+    })
+}
+
+/// A table without columns and batches.
+pub fn no_fields(alloc: Global) -> Table {
+    Table {
+        schema: Schema {
+            fields: Items::from_vec(Vec::new(alloc)),
+            metadata: Items::from_vec(Vec::new(alloc)),
+        },
+        batches: Items::from_vec(Vec::new(alloc)),
+    }
+}
+
+/// The table of a stream.
+pub fn table_of(alloc: Global, bytes: &[u8]) -> Result<Table, Fault> {
+    let (table, _) = read_table(alloc, &mut Memory::new(Vec::from_slice(alloc, bytes)?))?;
+    Ok(table)
+}
+
+/// The stream of a table. A memory fails only where it can't grow: then memory ran out.
+pub fn written(alloc: Global, table: &Table) -> Result<Vec<u8>, WriteFault> {
+    let mut sink = empty(alloc);
+    match write_table(alloc, &mut sink, table) {
+        Ok(()) => Ok(sink.into_bytes()),
+        Err(WriteFault::Write) => Err(WriteFault::OutOfMemory),
+        Err(fault) => Err(fault),
+    }
+}
