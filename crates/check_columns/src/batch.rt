@@ -1,8 +1,8 @@
 //! The record batch of some rows, as a stream carries it.
 use ipc_frame::{Frame, Seen, next_frame};
 use ipc_meta::{BatchHead, Head};
+use ipc_model::Items;
 use ipc_model::fault::Fault;
-use ipc_model::items::Items;
 use ipc_model::schema::{Field, Schema};
 use ipc_model::table::{Row, Table};
 use ipc_stream::{Memory, write_table};
@@ -15,7 +15,7 @@ fn table_of(alloc: Global, fields: &[Field], rows: Items<Row>) -> Result<Table, 
     Ok(Table {
         schema: Schema {
             fields: Items::from_vec(Vec::from_clones(alloc, fields)?),
-            metadata: Items::from_vec(Vec::new(alloc)),
+            metadata: Items::new(alloc),
         },
         batches: Items::from_vec(batches),
     })

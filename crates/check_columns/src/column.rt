@@ -3,10 +3,10 @@ ghost use Rattle.std.specs.Prelude.{◌≡◌, ◌≤◌, ◌∷◌, [], length,
 ghost use Rattle.ipc_model.specs.Entries.{entries, max_fields};
 ghost use Rattle.ipc_meta.specs.Supported.{are_supported, is_supported_type};
 
-use ipc_model::items::{Items, Text};
 use ipc_model::schema::{DataType, Field, IntBits};
 use ipc_model::table::Row;
 use ipc_model::value::Value;
+use ipc_model::{Items, Text};
 use std::alloc::{AllocError, Global};
 use std::rc::Rc;
 
@@ -54,12 +54,12 @@ fn field(alloc: Global, kind: Kind) -> Result<Field, AllocError>
     ensures few { IfOk result (λ f. length (entries (f ∷ [])) ≤ max_fields) }
 {
     Ok(Field {
-        name: Text::from_string(String::from_str(alloc, "a")?),
+        name: Text::copied(alloc, "a")?,
         nullable: kind == Kind::Nulls,
         kind: data_type(kind),
         dictionary: None,
-        children: Items::from_vec(Vec::new(alloc)),
-        metadata: Items::from_vec(Vec::new(alloc)),
+        children: Items::new(alloc),
+        metadata: Items::new(alloc),
     })
 }
 

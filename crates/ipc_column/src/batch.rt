@@ -11,16 +11,16 @@ ghost use Rattle.ipc_column.specs.Checks.{Passing, Failing};
 ghost use Rattle.ipc_column.specs.Lending.{AreNumbers, lent_of};
 ghost use Rattle.ipc_column.specs.Values.{cell_value};
 
-use crate::cell::{Cell, cell_in};
 use crate::assign::{Cursor, assign_buffers};
+use crate::cell::{Cell, cell_in};
 use crate::head::check_head;
 use crate::ranges::ColumnRanges;
 use crate::rows::rows_in;
 use crate::validate::check_columns;
 use crate::values::numbers_in;
 use ipc_meta::BatchHead;
+use ipc_model::Items;
 use ipc_model::fault::Fault;
-use ipc_model::items::Items;
 use ipc_model::schema::Field;
 use ipc_model::table::Row;
 use std::alloc::{AllocError, Global};

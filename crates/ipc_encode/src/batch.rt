@@ -12,8 +12,8 @@ ghost use Rattle.ipc_encode.specs.Writing.{AllStored};
 
 use crate::draft::{Draft, add_column};
 use crate::index::IndexOf;
+use ipc_model::Items;
 use ipc_model::fault::WriteFault;
-use ipc_model::items::Items;
 use ipc_model::schema::Field;
 use ipc_model::table::Row;
 use std::alloc::Global;

@@ -1,4 +1,4 @@
-use ipc_model::items::Items;
+use ipc_model::Items;
 use ipc_model::schema::Schema;
 
 /// What the metadata states of a record batch (Message.fbs, table RecordBatch). The numbers are as

@@ -8,7 +8,7 @@ use crate::head::BatchHead;
 use crate::slots::{push_pairs, table_of, text_slot};
 use crate::type_slots::{push_dictionary, type_number, type_slots};
 use ipc_build::{FlatTree, Slot};
-use ipc_model::items::Items;
+use ipc_model::Items;
 use ipc_model::schema::{Field, Schema};
 use std::alloc::{AllocError, Global};
 
@@ -31,7 +31,7 @@ fn field_table(
         (3, Slot::Table(table_of(type_slots(alloc, &field.kind)?))),
     ]?;
     push_dictionary(alloc, &mut slots, field.dictionary)?;
-    slots.push((5, Slot::Tables(ipc_build::Items::from(children))))?;
+    slots.push((5, Slot::Tables(Items::from_vec(children))))?;
     push_pairs(alloc, &mut slots, 6, &field.metadata)?;
     Ok(table_of(slots))
 }
@@ -60,7 +60,7 @@ pub(crate) fn schema_tree(alloc: Global, schema: &Schema) -> Result<FlatTree, Al
     ensures { IfOk result (λ t. view t ≡ schema_tree schema.now) }
 {
     let fields = field_trees(alloc, &schema.fields)?;
-    let mut slots = vec![in alloc; (1, Slot::Tables(ipc_build::Items::from(fields)))]?;
+    let mut slots = vec![in alloc; (1, Slot::Tables(Items::from_vec(fields)))]?;
     push_pairs(alloc, &mut slots, 2, &schema.metadata)?;
     Ok(table_of(slots))
 }
@@ -69,12 +69,12 @@ pub(crate) fn schema_tree(alloc: Global, schema: &Schema) -> Result<FlatTree, Al
 pub(crate) fn batch_tree(alloc: Global, head: &BatchHead) -> Result<FlatTree, AllocError>
     ensures { IfOk result (λ t. view t ≡ batch_tree head.now) }
 {
-    let nodes = Vec::from_slice(alloc, head.nodes.as_slice())?;
-    let buffers = Vec::from_slice(alloc, head.buffers.as_slice())?;
+    let nodes = Items::copied(alloc, &head.nodes)?;
+    let buffers = Items::copied(alloc, &head.buffers)?;
     let slots = vec![in alloc;
         (0, Slot::I64(head.length)),
-        (1, Slot::Pairs(ipc_build::Items::from(nodes))),
-        (2, Slot::Pairs(ipc_build::Items::from(buffers))),
+        (1, Slot::Pairs(nodes)),
+        (2, Slot::Pairs(buffers)),
     ]?;
     Ok(table_of(slots))
 }

@@ -7,7 +7,7 @@ ghost use Rattle.ipc_meta.specs.Written.{fields_then, int_tree, date_code, time_
 
 use crate::slots::{Slots, table_of, text_slot};
 use ipc_build::Slot;
-use ipc_model::items::Text;
+use ipc_model::Text;
 use ipc_model::schema::{DataType, DateUnit, Dictionary, IntBits, TimeUnit};
 use std::alloc::{AllocError, Global};
 

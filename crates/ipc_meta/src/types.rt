@@ -7,8 +7,8 @@ ghost use Rattle.ipc_meta.specs.Reading.{type_read};
 use crate::budget::Budget;
 use crate::lifted::lifted;
 use ipc_flat::TableRef;
+use ipc_model::Text;
 use ipc_model::fault::Fault;
-use ipc_model::items::Text;
 use ipc_model::schema::{DataType, DateUnit, Dictionary, IndexType, IntBits, TimeUnit};
 use std::alloc::Global;
 
@@ -91,7 +91,7 @@ fn read_timestamp(alloc: Global, table: &TableRef<'_>) -> Result<DataType, Fault
     };
     let timezone = match lifted(table.text(1))? {
         None => None,
-        Some(zone) => Some(Text::from_string(String::from_str(alloc, zone)?)),
+        Some(zone) => Some(Text::copied(alloc, zone)?),
     };
     Ok(DataType::Timestamp { unit, timezone })
 }

@@ -340,7 +340,7 @@ start_so_far s = record { fields = refl; text = omega arith; pairs = omega arith
 none_yet : (s : Schema) → AreClean s 0
 none_yet s j l = absurd (omega arith)
 
-done_err : (r : Result Before SchemaFault) (x : SchemaFault) → done r ≡ Err x → r ≡ Err x
+pub done_err : (r : Result Before SchemaFault) (x : SchemaFault) → done r ≡ Err x → r ≡ Err x
 done_err (Ok b) x h = cc
 done_err (Err e) x h = let same : e ≡ x = cc in ap Err same
 

@@ -16,8 +16,8 @@ use crate::sending::{send_batch, send_end, send_schema};
 use crate::sink::Sink;
 use crate::source::Source;
 use ipc_column::Batch;
+use ipc_model::Items;
 use ipc_model::fault::{Fault, WriteFault};
-use ipc_model::items::Items;
 use ipc_model::table::{Row, Table};
 use std::alloc::Global;
 

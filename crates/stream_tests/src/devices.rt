@@ -117,16 +117,16 @@ fn tells_a_writer_whose_flush_fails(rt: HostRuntime) -> Result<(), Fail> {
 // A schema with one required column of a type.
 fn schema_of(alloc: Global, kind: DataType) -> Result<Schema, AllocError> {
     let field = Field {
-        name: Text::from_string(String::from_str(alloc, "a")?),
+        name: Text::copied(alloc, "a")?,
         nullable: false,
         kind,
         dictionary: None,
-        children: Items::from_vec(Vec::new(alloc)),
-        metadata: Items::from_vec(Vec::new(alloc)),
+        children: Items::new(alloc),
+        metadata: Items::new(alloc),
     };
     Ok(Schema {
         fields: Items::from_vec(vec![in alloc; field]?),
-        metadata: Items::from_vec(Vec::new(alloc)),
+        metadata: Items::new(alloc),
     })
 }
 

@@ -36,16 +36,16 @@ fn written(alloc: Global, table: &Table) -> Result<Vec<u8>, WriteFault> {
 fn numbers(alloc: Global, bits: IntBits) -> Result<Schema, AllocError> {
     let mut fields = Vec::new(alloc);
     fields.push(Field {
-        name: Text::from_string(String::from_str(alloc, "a")?),
+        name: Text::copied(alloc, "a")?,
         nullable: false,
         kind: DataType::Int { bits, signed: true },
         dictionary: None,
-        children: Items::from_vec(Vec::new(alloc)),
-        metadata: Items::from_vec(Vec::new(alloc)),
+        children: Items::new(alloc),
+        metadata: Items::new(alloc),
     })?;
     Ok(Schema {
         fields: Items::from_vec(fields),
-        metadata: Items::from_vec(Vec::new(alloc)),
+        metadata: Items::new(alloc),
     })
 }
 
@@ -59,7 +59,7 @@ fn row(alloc: Global, value: Value) -> Result<Row, AllocError> {
 fn empty_batches(alloc: Global, count: usize) -> Result<Items<Items<Row>>, AllocError> {
     let mut batches = Vec::new(alloc);
     for _ in 0..count {
-        batches.push(Items::from_vec(Vec::new(alloc)))?;
+        batches.push(Items::new(alloc))?;
     }
     Ok(Items::from_vec(batches))
 }
@@ -123,12 +123,12 @@ fn field(alloc: Global, kind: DataType) -> Result<Field, AllocError> {
 
 fn field_above(alloc: Global, kind: DataType, children: Vec<Field>) -> Result<Field, AllocError> {
     Ok(Field {
-        name: Text::from_string(String::from_str(alloc, "a")?),
+        name: Text::copied(alloc, "a")?,
         nullable: true,
         kind,
         dictionary: None,
         children: Items::from_vec(children),
-        metadata: Items::from_vec(Vec::new(alloc)),
+        metadata: Items::new(alloc),
     })
 }
 
@@ -145,9 +145,9 @@ fn timestamp(alloc: Global, unit: TimeUnit, zoned: bool) -> DataType {
 // A value of each flat type.
 fn values(alloc: Global) -> Result<Vec<(DataType, Value)>, AllocError> {
     let int = |bits, signed| DataType::Int { bits, signed };
-    let empty = Value::Bytes(Items::from_vec(Vec::new(alloc)));
-    let bytes = Value::Bytes(Items::from_vec(Vec::from_slice(alloc, &[0, 255])?));
-    let text = Value::Text(Text::from_string(String::from_str(alloc, "é\0")?));
+    let empty = Value::Bytes(Items::new(alloc));
+    let bytes = Value::Bytes(Items::copied(alloc, &[0, 255])?);
+    let text = Value::Text(Text::copied(alloc, "é\0")?);
     Ok(vec![in alloc;
         (DataType::Null, Value::Null),
         (DataType::Bool, Value::Bool(true)),
@@ -193,7 +193,7 @@ fn every_type(alloc: Global) -> Result<Table, AllocError> {
     Ok(Table {
         schema: Schema {
             fields: Items::from_vec(fields),
-            metadata: Items::from_vec(Vec::new(alloc)),
+            metadata: Items::new(alloc),
         },
         batches: Items::from_vec(batches),
     })
@@ -218,9 +218,9 @@ fn timezones_come_back(rt: HostRuntime) -> Result<(), Fail> {
         let fields = vec![in alloc; field(alloc, timestamp(alloc, TimeUnit::Second, zoned))?]?;
         let schema = Schema {
             fields: Items::from_vec(fields),
-            metadata: Items::from_vec(Vec::new(alloc)),
+            metadata: Items::new(alloc),
         };
-        let batches = Items::from_vec(Vec::new(alloc));
+        let batches = Items::new(alloc);
         let table = Table { schema, batches };
         let back = table_of(alloc, &written(alloc, &table)?)?;
         assert!(rt; back.is_same(&table));
@@ -350,7 +350,7 @@ fn start_refused(alloc: Global, field: Field) -> Result<(WriteFault, usize), Fai
     fields.push(field)?;
     let schema = Schema {
         fields: Items::from_vec(fields),
-        metadata: Items::from_vec(Vec::new(alloc)),
+        metadata: Items::new(alloc),
     };
     let (fault, sink) = StreamWriter::start(alloc, empty(alloc), &schema)
         .err()

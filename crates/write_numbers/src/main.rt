@@ -3,10 +3,10 @@
 #![tactic(auto)]
 
 use ipc_model::fault::WriteFault;
-use ipc_model::items::{Items, Text};
 use ipc_model::schema::{DataType, Field, IntBits, Schema};
 use ipc_model::table::Row;
 use ipc_model::value::Value;
+use ipc_model::{Items, Text};
 use ipc_stream::{Device, StreamWriter};
 use std::alloc::{AllocError, Global};
 use std::env::Args;
@@ -32,15 +32,15 @@ fn sizes(words: Args) -> Option<(u32, u32)> {
 
 fn field(alloc: Global, name: &str) -> Result<Field, AllocError> {
     Ok(Field {
-        name: Text::from_string(String::from_str(alloc, name)?),
+        name: Text::copied(alloc, name)?,
         nullable: false,
         kind: DataType::Int {
             bits: IntBits::B64,
             signed: true,
         },
         dictionary: None,
-        children: Items::from_vec(Vec::new(alloc)),
-        metadata: Items::from_vec(Vec::new(alloc)),
+        children: Items::new(alloc),
+        metadata: Items::new(alloc),
     })
 }
 
@@ -51,7 +51,7 @@ fn schema(alloc: Global) -> Result<Schema, AllocError> {
     }
     Ok(Schema {
         fields: Items::from_vec(fields),
-        metadata: Items::from_vec(Vec::new(alloc)),
+        metadata: Items::new(alloc),
     })
 }
 

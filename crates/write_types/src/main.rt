@@ -3,10 +3,10 @@
 #![tactic(auto)]
 
 use ipc_model::fault::WriteFault;
-use ipc_model::items::{Items, Text};
 use ipc_model::schema::{DataType, DateUnit, Field, IntBits, Schema, TimeUnit};
 use ipc_model::table::Row;
 use ipc_model::value::Value;
+use ipc_model::{Items, Text};
 use ipc_stream::{Device, StreamWriter};
 use std::alloc::{AllocError, Global};
 use std::env::Args;
@@ -27,11 +27,11 @@ fn asks_for_all(words: Args) -> bool {
 }
 
 fn text(alloc: Global, bytes: &str) -> Result<Text, AllocError> {
-    Ok(Text::from_string(String::from_str(alloc, bytes)?))
+    Text::copied(alloc, bytes)
 }
 
 fn bytes(alloc: Global, bytes: &[u8]) -> Result<Value, AllocError> {
-    Ok(Value::Bytes(Items::from_vec(Vec::from_slice(alloc, bytes)?)))
+    Ok(Value::Bytes(Items::copied(alloc, bytes)?))
 }
 
 // Pairs of key and value: none, one, or one whose parts are empty and one that isn't ASCII.
@@ -51,7 +51,7 @@ fn field(alloc: Global, name: &str, kind: DataType, count: usize) -> Result<Fiel
         nullable: true,
         kind,
         dictionary: None,
-        children: Items::from_vec(Vec::new(alloc)),
+        children: Items::new(alloc),
         metadata: pairs(alloc, count)?,
     })
 }

@@ -14,10 +14,10 @@ use Rattle.std.specs.formers.vec.Vec as vec
 use Rattle.std.specs.declared.alloc.Global.{Global}
 use Rattle.std.specs.contracts.alloc.Global as heap
 use Rattle.std.specs.contracts.impls.GlobalAllocator.TheImpl.{ghosts}
-use Rattle.ipc_build.specs.declared.items.Items.TheInside.{Inside}
-use Rattle.ipc_build.specs.declared.items.Items.TheView.{view, invariant}
-use Rattle.ipc_build.specs.contracts.items.Items as C
-use Rattle.ipc_build.specs.contracts.items.Items.TheInside as I
+use Rattle.ipc_items.specs.declared.items.Items.TheInside.{Inside}
+use Rattle.ipc_items.specs.declared.items.Items.TheView.{view, invariant}
+use Rattle.ipc_items.specs.contracts.items.Items as C
+use Rattle.ipc_items.specs.contracts.items.Items.TheInside as I
 
 abbrev pub the_former : Former {0} → Former {0}
 the_former g = list g
