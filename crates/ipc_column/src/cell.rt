@@ -5,11 +5,11 @@ ghost use Rattle.ipc_column.specs.Values.{cell_value, is_valid, own_value, value
 ghost use Rattle.ipc_column.specs.Views.{columns, column_of, span_bytes};
 
 use crate::fixed::{bytes_of, signed_at, unsigned_at};
-use crate::layout::Layout;
 use crate::offsets::bytes_between;
 use crate::ranges::{ColumnRanges, BufferRange};
 use crate::range_bytes::bytes_at;
 use crate::texts::text_of;
+use ipc_model::layout::Layout;
 use ipc_model::schema::IntBits;
 use ipc_scalar::bit;
 

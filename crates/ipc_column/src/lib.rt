@@ -9,7 +9,6 @@ mod cell;
 mod assign;
 mod fixed;
 mod head;
-mod layout;
 mod offsets;
 mod ranges;
 mod rows;

@@ -5,7 +5,8 @@ use Rattle.std.specs.List.{AllByRecursion}
 use Rattle.std.specs.Ordering.{int_eq}
 use Rattle.std.proofs.lemmas.Bool.Decides.{nat_tests, Decides-int_eq, Decides-eqb}
 use Rattle.ipc_flat.specs.Views.{TableView}
-use Rattle.ipc_model.specs.Entries.{Entry, entries, max_fields, max_depth, max_text, max_pairs}
+use Rattle.ipc_model.specs.Entries.{Entry, entries}
+use Rattle.ipc_model.specs.Limits.{max_fields, max_depth, max_text, max_pairs}
 use Rattle.ipc_model.specs.WellFormed.{HasGoodType, HasFittingChildren, IsLeaf}
 use Rattle.ipc_model.proofs.FirstFaults.{done_err, verdict_from_first}
 use Rattle.ipc_model.specs.FirstFault.{IsFirstFault}

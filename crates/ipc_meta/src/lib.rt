@@ -17,6 +17,7 @@ mod slots;
 mod trees;
 mod type_slots;
 mod types;
+mod version;
 mod write;
 
 pub use head::{BatchHead, Head};

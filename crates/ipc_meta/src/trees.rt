@@ -1,19 +1,18 @@
 //! The tables of schemas, batches and messages that are written.
 ghost use Rattle.std.specs.Prelude.{◌≡◌, ◌≤◌, ◌^◌, map, IfOk};
 ghost use Rattle.ipc_build.specs.Trees.{view};
+ghost use Rattle.ipc_model.specs.Limits.{max_body};
 ghost use Rattle.ipc_model.specs.declared.schema.Field.{out-Field};
 ghost use Rattle.ipc_meta.specs.Written.{field_tree, schema_tree, batch_tree, message_tree};
 
 use crate::head::BatchHead;
 use crate::slots::{push_pairs, table_of, text_slot};
-use crate::type_slots::{push_dictionary, type_number, type_slots};
+use crate::type_slots::{push_dictionary, type_slots};
+use crate::version::VERSION;
 use ipc_build::{FlatTree, Slot};
 use ipc_model::Items;
 use ipc_model::schema::{Field, Schema};
 use std::alloc::{AllocError, Global};
-
-// Schema.fbs, enum MetadataVersion: V5.
-const VERSION: i16 = 4;
 
 // Schema.fbs, table Field, with the tables of its children.
 fn field_table(
@@ -27,7 +26,7 @@ fn field_table(
     let mut slots = vec![in alloc;
         (0, text_slot(&field.name)?),
         (1, Slot::Bool(field.nullable)),
-        (2, Slot::U8(type_number(&field.kind))),
+        (2, Slot::U8(field.kind.code())),
         (3, Slot::Table(table_of(type_slots(alloc, &field.kind)?))),
     ]?;
     push_dictionary(alloc, &mut slots, field.dictionary)?;
@@ -86,7 +85,7 @@ pub(crate) fn message_tree(
     header: FlatTree,
     body: u64,
 ) -> Result<FlatTree, AllocError>
-    requires { body ≤ 2 ^ 40 }
+    requires { body ≤ max_body }
     ensures { IfOk result (λ t. view t ≡ message_tree code (view header) body) }
 {
     let slots = vec![in alloc;

@@ -1,6 +1,7 @@
 //! Batches of one column.
 ghost use Rattle.std.specs.Prelude.{◌≡◌, ◌≤◌, ◌∷◌, [], length, true, IfOk};
-ghost use Rattle.ipc_model.specs.Entries.{entries, max_fields};
+ghost use Rattle.ipc_model.specs.Entries.{entries};
+ghost use Rattle.ipc_model.specs.Limits.{max_fields};
 ghost use Rattle.ipc_meta.specs.Supported.{are_supported, is_supported_type};
 
 use ipc_column::{Batch, Cell};

@@ -6,8 +6,8 @@ use Rattle.ipc_model.specs.declared.schema.DateUnit.TheVariants.{Day, Millisecon
 use Rattle.ipc_model.specs.declared.schema.DataType.{DataType}
 use Rattle.ipc_model.specs.declared.schema.DataType.TheVariants as t
 use Rattle.ipc_model.specs.declared.schema.Dictionary.{Dictionary}
-use Rattle.ipc_column.specs.declared.layout.Layout.{Layout}
-use Rattle.ipc_column.specs.declared.layout.Layout.TheVariants as l
+use Rattle.ipc_model.specs.declared.layout.Layout.{Layout}
+use Rattle.ipc_model.specs.declared.layout.Layout.TheVariants as l
 
 -- the layout of a type's slots: a date in days is a signed number of 32 bits, one in milliseconds and a timestamp of 64 (Schema.fbs, Date, Timestamp)
 abbrev pub type_layout : DataType → Layout
