@@ -3,7 +3,7 @@ ghost use Rattle.ipc_model.specs.Layouts.{own_buffers};
 ghost use Rattle.ipc_column.specs.Shapes.{cut, shape_of, field_layout, field_children, nodes_in, buffers_in, column_at, buffer_at, validity_at, offsets_at, values_at};
 ghost use Rattle.ipc_column.specs.Views.{columns, column_of, children_of, span_bytes};
 
-use crate::ranges::{ColumnRanges, BufferRange};
+use crate::ranges::{BufferRange, ColumnRanges};
 use ipc_meta::BatchHead;
 use ipc_model::layout::{Layout, layout_of};
 use ipc_model::schema::Field;

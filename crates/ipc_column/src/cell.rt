@@ -6,8 +6,8 @@ ghost use Rattle.ipc_column.specs.Views.{columns, column_of, span_bytes};
 
 use crate::fixed::{bytes_of, signed_at, unsigned_at};
 use crate::offsets::bytes_between;
-use crate::ranges::{ColumnRanges, BufferRange};
 use crate::range_bytes::bytes_at;
+use crate::ranges::{BufferRange, ColumnRanges};
 use crate::texts::text_of;
 use ipc_model::layout::Layout;
 use ipc_model::schema::IntBits;

@@ -3,8 +3,8 @@ ghost use Rattle.ipc_model.specs.Limits.{max_fields};
 ghost use Rattle.ipc_column.specs.Checks.{Judges, IsCounted, all, is_slot_count, is_node, lies_in, head_passes};
 ghost use Rattle.ipc_column.specs.Shapes.{shape_of, nodes_in};
 
-use crate::cause::Cause;
 use crate::assign::{Cursor, count};
+use crate::cause::Cause;
 use ipc_meta::BatchHead;
 use ipc_model::limits::MAX_ROWS;
 use ipc_model::schema::Field;

@@ -3,18 +3,18 @@
 //! A batch is accepted exactly where its fields, its metadata and its body give rows, memory aside.
 #![tactic(auto)]
 
+mod assign;
 mod batch;
 mod cause;
 mod cell;
-mod assign;
 mod fixed;
 mod head;
 mod offsets;
+mod range_bytes;
 mod ranges;
 mod rows;
-mod validate;
-mod range_bytes;
 mod texts;
+mod validate;
 mod values;
 
 pub use batch::{Batch, one_list_of_rows};

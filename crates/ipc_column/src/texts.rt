@@ -9,8 +9,8 @@ ghost use Rattle.ipc_column.specs.Views.{column_of};
 
 use crate::cell::is_valid;
 use crate::offsets::{bytes_between, place_at};
-use crate::ranges::ColumnRanges;
 use crate::range_bytes::bytes_at;
+use crate::ranges::ColumnRanges;
 
 /// The text of bytes that were found UTF-8.
 pub(crate) fn text_of(bytes: &[u8]) -> &str

@@ -6,8 +6,8 @@ ghost use Rattle.ipc_column.specs.Views.{columns, column_of, children_of};
 
 use crate::cause::Cause;
 use crate::offsets::are_in_order;
-use crate::ranges::ColumnRanges;
 use crate::range_bytes::bytes_at;
+use crate::ranges::ColumnRanges;
 use crate::texts::visit_texts;
 use ipc_model::layout::Layout;
 use ipc_scalar::count_clear;

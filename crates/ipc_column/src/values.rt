@@ -5,8 +5,8 @@ ghost use Rattle.ipc_column.specs.Checks.{Holds};
 ghost use Rattle.ipc_column.specs.Values.{rows_of};
 ghost use Rattle.ipc_column.specs.Views.{columns, own_column};
 
-use crate::ranges::ColumnRanges;
 use crate::range_bytes::bytes_at;
+use crate::ranges::ColumnRanges;
 
 // The values of a part of signed 64-bit numbers without a bitmap.
 #[tactic(auto, using(crate::proofs::Lent::wide, crate::proofs::Lent::no_bytes))]

@@ -13,11 +13,10 @@ ghost use Rattle.ipc_encode.specs.Writing.{AllStored};
 
 use crate::draft::{Draft, add_column};
 use crate::index::IndexOf;
-use ipc_model::Items;
 use ipc_model::fault::WriteFault;
-use ipc_model::limits;
 use ipc_model::schema::Field;
 use ipc_model::table::Row;
+use ipc_model::{Items, limits};
 use std::alloc::Global;
 
 // The most rows of a batch.

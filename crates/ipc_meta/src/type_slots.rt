@@ -34,7 +34,10 @@ fn time_number(unit: TimeUnit) -> i16
 fn int_slots(alloc: Global, bits: IntBits, signed: bool) -> Result<Slots, AllocError>
     ensures { IfOk result (λ slots. fields_view slots.items ≡ int_tree bits signed) }
 {
-    Ok(vec![in alloc; (0, Slot::I32(i32::from(bits.width()))), (1, Slot::Bool(signed))]?)
+    Ok(vec![in alloc;
+        (0, Slot::I32(i32::from(bits.width()))),
+        (1, Slot::Bool(signed)),
+    ]?)
 }
 
 // Schema.fbs, table Timestamp.

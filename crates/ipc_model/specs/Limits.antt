@@ -1,4 +1,5 @@
--- How much one stream, schema or batch may hold. Where no section of the standard is named, a limit is this project's.
+-- How much one stream, schema or batch may hold. Where no section of the standard is named, a
+-- limit is this project's.
 use Rattle.std.specs.Prelude.{ℕ, ◌-◌, ◌^◌}
 
 -- the most bytes of a message's metadata, its padding included
@@ -13,7 +14,8 @@ max_body = 2 ^ 40
 abbrev pub max_rows : ℕ
 max_rows = 2 ^ 31 - 1
 
--- the most bytes that offsets of 32 bits reach (Arrow Columnar Format, "Variable-size Binary Layout")
+-- the most bytes that offsets of 32 bits reach (Arrow Columnar Format, "Variable-size Binary
+-- Layout")
 abbrev pub max_data : ℕ
 max_data = 2 ^ 31 - 1
 

@@ -1,6 +1,7 @@
 //! The table of types: how the slots of each lie in buffers, and how wide numbers are.
 ghost use Rattle.std.specs.Prelude.{◌≡◌};
-ghost use Rattle.ipc_model.specs.Layouts.{type_layout, layout, own_buffers, number_bytes, has_validity, is_texts, is_signed_64};
+ghost use Rattle.ipc_model.specs.Layouts.{type_layout, layout, own_buffers, has_validity};
+ghost use Rattle.ipc_model.specs.Layouts.{is_signed_64, is_texts, number_bytes};
 ghost use Rattle.ipc_model.specs.Ranges.{width};
 
 use crate::schema::{DataType, DateUnit, Dictionary, IntBits};
@@ -21,7 +22,8 @@ pub enum Layout {
     },
     /// A validity bitmap, and so many bytes for each slot ("Fixed-size Primitive Layout").
     FixedBytes(u32),
-    /// A validity bitmap, offsets of 32 bits, and the bytes between them ("Variable-size Binary Layout").
+    /// A validity bitmap, offsets of 32 bits, and the bytes between them ("Variable-size Binary
+    /// Layout").
     VariableBytes {
         /// Whether the bytes of a slot are UTF-8.
         utf8: bool,
@@ -56,8 +58,8 @@ fn type_layout(kind: &DataType) -> Layout
     }
 }
 
-/// The layout of the slots of a field of this type with this dictionary: `Unsupported` where there is
-/// one, and for lists and structs.
+/// The layout of the slots of a field of this type with this dictionary: `Unsupported` where there
+/// is one, and for lists and structs.
 pub fn layout_of(kind: &DataType, dictionary: Option<Dictionary>) -> Layout
     ensures { result ≡ layout kind.now dictionary }
 {
@@ -68,8 +70,8 @@ pub fn layout_of(kind: &DataType, dictionary: Option<Dictionary>) -> Layout
 }
 
 impl Layout {
-    /// How many buffers a field of this layout has without those of its children (Arrow Columnar Format,
-    /// "Buffer Listing for Each Layout"): from 0 to 3.
+    /// How many buffers a field of this layout has without those of its children (Arrow Columnar
+    /// Format, "Buffer Listing for Each Layout"): from 0 to 3.
     pub fn own_buffers(self) -> usize
         ensures { result ≡ own_buffers self }
     {

@@ -1,5 +1,5 @@
-//! How much one stream, schema or batch may hold. The standard bounds rows and the data of a column by
-//! its lengths and offsets of 32 bits; the other limits are this project's.
+//! How much one stream, schema or batch may hold. The standard bounds rows and the data of a column
+//! by its lengths and offsets of 32 bits; the other limits are this project's.
 
 /// The most bytes of a message's metadata, its padding included.
 pub const MAX_METADATA: u64 = 1 << 24;
@@ -7,7 +7,8 @@ pub const MAX_METADATA: u64 = 1 << 24;
 /// The most bytes of a message's body.
 pub const MAX_BODY: u64 = 1 << 40;
 
-/// The most rows of a batch, and the most slots of a column (Arrow Columnar Format, "Array lengths").
+/// The most rows of a batch, and the most slots of a column (Arrow Columnar Format, "Array
+/// lengths").
 pub const MAX_ROWS: u64 = 0x7fff_ffff;
 
 /// The most bytes of data of a column whose offsets have 32 bits (Arrow Columnar Format,
