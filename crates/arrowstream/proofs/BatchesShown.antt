@@ -12,10 +12,10 @@ use Rattle.ipc_model.specs.declared.value.Value.{Value}
 use Rattle.ipc_model.specs.declared.value.Value.TheVariants as v
 use Rattle.ipc_meta.specs.declared.head.BatchHead.{BatchHead}
 use Rattle.ipc_meta.specs.declared.head.Head.{Head}
-use Rattle.ipc_column.specs.declared.layout.Layout.{Layout}
-use Rattle.ipc_column.specs.declared.layout.Layout.TheVariants.{Numbers}
+use Rattle.ipc_model.specs.declared.layout.Layout.{Layout}
+use Rattle.ipc_model.specs.declared.layout.Layout.TheVariants.{Numbers}
 use Rattle.ipc_column.specs.Columns.{Column, Columns, none, column}
-use Rattle.ipc_column.specs.Layouts.{layout, number_bytes}
+use Rattle.ipc_model.specs.Layouts.{layout, number_bytes}
 use Rattle.ipc_column.specs.Shapes.{Shape, bare, field, shapes, field_shape, field_step, shape_of, cut, column_at, nodes_in, buffers_in, columns_of}
 use Rattle.ipc_column.specs.Values.{is_valid, own_value, value_of, signed_at, row}
 use Rattle.ipc_column.specs.Rows.{Rows}

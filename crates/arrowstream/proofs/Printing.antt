@@ -14,6 +14,7 @@ use Rattle.ipc_stream.specs.Failures.{FailsAs, Tells}
 use Rattle.ipc_stream.specs.Reader.{Reader, in_force_of, NextAnswer, NextCall}
 use Rattle.ipc_stream.specs.Reasons.{Reads}
 use Rattle.ipc_stream.specs.Stream.{State, Event, InForce, batch, Run, done, more}
+use Rattle.ipc_stream.proofs.Runs.{run_then, reads_after}
 use Rattle.arrowstream.specs.declared.rows.PrintFault.{PrintFault}
 use Rattle.arrowstream.specs.declared.rows.PrintFault.TheVariants.{Write, OutOfMemory}
 use Rattle.arrowstream.specs.Columns.{AreShownColumns}
@@ -25,24 +26,6 @@ use Rattle.arrowstream.proofs.Shown.{all_more}
 use Rattle.arrowstream.proofs.Lines.{put_at, not_at}
 use Rattle.arrowstream.proofs.Texts.{batch_lines_more}
 use Rattle.arrowstream.proofs.BatchesShown.{batch_shown}
-
--- messages and then others
-pub run_then : (σ τ υ : State) (x y : List ℕ) (es fs : List Event) → Run σ x es τ → Run τ y fs υ → Run σ (x ++ y) (es ++ fs) υ
-run_then σ τ υ x y es fs done r = r
-run_then σ τ υ x y es fs (more {σ = a} {τ = b} {υ = c} {x = u} {y = v} {es = ds} {fs = gs} frame step rest) r =
-    subst (λ z. Run σ z ((ds ++ gs) ++ fs) υ) (sym (append_assoc u v y))
-    (subst (λ hs. Run σ (u ++ (v ++ y)) hs υ) (sym (append_assoc ds gs fs)) (more frame step (run_then b c υ v y gs fs rest r)))
-
--- messages, and then reading ends
-pub reads_after : (σ τ : State) (x y : List ℕ) (left : Option (List ℕ)) (es fs : List Event) (r : Result End Fault) → Run σ x es τ → Reads τ y left fs r → Reads σ (x ++ y) left (es ++ fs) r
-reads_after σ τ x y left es fs r run reads = record {
-  state = reads.state;
-  whole = x ++ reads.whole;
-  rest = reads.rest;
-  joined = ap (λ z. x ++ z) reads.joined ∙ sym (append_assoc x reads.whole reads.rest);
-  run = run_then σ τ reads.state x reads.whole es fs run reads.run;
-  ends = reads.ends;
-}
 
 -- these batches were read behind the schema, and printed
 pub record Batches (old now : Reader) (before after : Output) : Type 0 where

@@ -1,8 +1,8 @@
 -- Text that was put, part by part.
-use Rattle.std.proofs.Common.{◌≡◌, ◌∙◌, refl, sym, ap, subst, ℕ, ◌+◌, ◌-◌, ◌≤◌, List, [], ◌++◌, length, take, drop, Option, Some, None, append_assoc, append-nil, take-append-drop, length-drop, arith}
+use Rattle.std.proofs.Common.{◌≡◌, ◌∙◌, refl, sym, ap, subst, ℕ, ◌≤◌, List, [], ◌++◌, length, take, drop, Option, Some, None, append_assoc, append-nil, take-append-drop}
 use Rattle.std.specs.Io.KnownBytes.{Appends, Keeps}
-use Rattle.std.proofs.Math.Seq.{take-add}
-use Rattle.std.proofs.lemmas.List.{take_rest, drop_all}
+use Rattle.std.proofs.lemmas.List.{drop_all}
+use Rattle.ipc_stream.proofs.SentBytes.{SentSome}
 use Rattle.arrowstream.specs.declared.rows.PrintFault.{PrintFault}
 use Rattle.arrowstream.specs.declared.rows.PrintFault.TheVariants.{Write, OutOfMemory}
 use Rattle.arrowstream.specs.Output.{Output, output, Grows, Puts, PutFails}
@@ -77,30 +77,6 @@ puts_never o t = record {
 
 -- ---- sending
 
--- the first of the bytes went out
-pub record SentSome (old now : Option (List ℕ)) (failures_old failures_now : ℕ) (bytes : List ℕ) (sent : ℕ) : Type 0 where
-  pub inside : sent ≤ length bytes
-  pub appended : Appends old now (take sent bytes)
-  pub works : failures_old ≡ 0 → failures_now ≡ 0
-
-pub sent_more : (old now new : Option (List ℕ)) (f0 f1 f2 : ℕ) (bytes : List ℕ) (sent k : ℕ) → SentSome old now f0 f1 bytes sent → k ≤ length (take (length bytes - sent) (drop sent bytes))
-    → Appends now new (take k (take (length bytes - sent) (drop sent bytes))) → (f1 ≡ 0) × (f2 ≡ 0) → SentSome old new f0 f2 bytes (sent + k)
-sent_more old now new f0 f1 f2 bytes sent k i few more counts =
-    let rest = take_rest bytes sent in
-    let fits : k ≤ length (drop sent bytes) = subst (λ (z : List ℕ). k ≤ length z) rest few in
-    let appended = subst (λ (z : List ℕ). Appends now new (take k z)) rest more in
-    record {
-      inside = omega (arith, fits, length-drop sent bytes, i.inside);
-      appended = subst (λ (z : List ℕ). Appends old new z) (sym (take-add sent k bytes)) (appends_then old now new (take sent bytes) (take k (drop sent bytes)) i.appended appended);
-      works = λ z. counts.1;
-    }
-  where
-    appends_then : (a b c : Option (List ℕ)) (t u : List ℕ) → Appends a b t → Appends b c u → Appends a c (t ++ u)
-    appends_then None b c t u p q = tt
-    appends_then (Some xs) None c t u p q = absurd p
-    appends_then (Some xs) (Some ys) None t u p q = absurd q
-    appends_then (Some xs) (Some ys) (Some zs) t u p q = q ∙ (ap (λ (l : List ℕ). l ++ u) p ∙ append_assoc xs t u)
-
 grows_sent : (a b : Option (List ℕ)) (bytes : List ℕ) (sent : ℕ) → Appends a b (take sent bytes) → Grows a bytes b (drop sent bytes) []
 grows_sent None b bytes sent p = tt
 grows_sent (Some xs) None bytes sent p = absurd p
@@ -127,7 +103,7 @@ sent_cut old now new f0 f1 f2 bytes sent i kept failed = record {
 pub sent_all : (old now : Option (List ℕ)) (f0 f1 : ℕ) (bytes : List ℕ) (sent : ℕ) → SentSome old now f0 f1 bytes sent → length bytes ≤ sent → Puts (output old f0 bytes) (output now f1 []) []
 sent_all old now f0 f1 bytes sent i all = record {
   bytes = subst (λ (k : List ℕ). Grows old bytes now k []) (drop_all sent bytes all) (grows_sent old now bytes sent i.appended);
-  works = i.works;
+  works = λ z. i.same ∙ z;
 }
 
 -- the sink failed at the flush

@@ -19,7 +19,7 @@ use Rattle.arrowstream.specs.declared.run.Stop.TheVariants as stop
 use Rattle.arrowstream.specs.Output.{Output, output, Grows}
 use Rattle.arrowstream.specs.Rows.{batch_lines}
 use Rattle.arrowstream.specs.Show.{ShowsTable, Breaks, not_shown, unopened, broken, ShowsPart, nothing, some, ShowsRows, Shows, PrintsRows, PrintsPart, HasOtherColumn, exit_status, stop_status}
-use Rattle.arrowstream.proofs.Printing.{run_then, reads_after}
+use Rattle.ipc_stream.proofs.Runs.{run_then, reads_after}
 
 -- where nothing is kept, the sink holds all of the text
 grows_appends : (a b : Option (List ℕ)) (t : List ℕ) → Grows a [] b [] t → Appends a b t

@@ -2,7 +2,7 @@
 use Rattle.std.specs.Prelude.{◌≡◌, ℕ, ◌<◌, ◌≤◌, true, List, [], length, map, take, Some, None, slice_get, slice_index_or}
 use Rattle.std.specs.List.{AllByRecursion}
 use Rattle.std.specs.Int.{w64, cast_signed, from_le_bytes}
-use Rattle.ipc_model.specs.declared.schema.DataType.{DataType}
+use Rattle.ipc_model.specs.TypeCodes.{type_code}
 use Rattle.ipc_model.specs.declared.schema.DataType.TheVariants as t
 use Rattle.ipc_model.specs.declared.schema.IntBits.TheVariants.{B64}
 use Rattle.ipc_model.specs.declared.schema.Field.{Field, out-Field}
@@ -17,19 +17,6 @@ pub record IsShownColumn (f : Field) : Type 0 where
 -- each column is one
 abbrev pub AreShownColumns : List Field → Type 0
 AreShownColumns fields = AllByRecursion IsShownColumn fields
-
--- the code of a type (Schema.fbs, union Type)
-abbrev pub type_code : DataType → ℕ
-type_code t.Null = 1
-type_code (t.Int bits signed) = 2
-type_code t.Binary = 4
-type_code t.Utf8 = 5
-type_code t.Bool = 6
-type_code (t.Date unit) = 8
-type_code (t.Timestamp unit timezone) = 10
-type_code t.List = 12
-type_code t.Struct = 13
-type_code (t.FixedSizeBinary width) = 15
 
 -- some column is none of these, the first such of this code, and the fault says so
 pub record IsNotShown (fields : List Field) (code : ℕ) : Type 0 where

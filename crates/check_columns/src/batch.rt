@@ -1,8 +1,7 @@
 //! The record batch of some rows, as a stream carries it.
 use ipc_frame::{Frame, Seen, next_frame};
 use ipc_meta::{BatchHead, Head};
-use ipc_model::items::Items;
-use ipc_model::{Fault, Field, Row, Schema, Table};
+use ipc_model::{Fault, Field, Items, Row, Schema, Table};
 use ipc_stream::{Memory, write_table};
 use std::alloc::{AllocError, Global};
 
@@ -13,7 +12,7 @@ fn table_of(alloc: Global, fields: &[Field], rows: Items<Row>) -> Result<Table, 
     Ok(Table {
         schema: Schema {
             fields: Items::from_vec(Vec::from_clones(alloc, fields)?),
-            metadata: Items::from_vec(Vec::new(alloc)),
+            metadata: Items::new(alloc),
         },
         batches: Items::from_vec(batches),
     })

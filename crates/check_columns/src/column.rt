@@ -1,10 +1,10 @@
 //! Columns of each kind.
 ghost use Rattle.std.specs.Prelude.{◌≡◌, ◌≤◌, ◌∷◌, [], length, true, IfOk};
-ghost use Rattle.ipc_model.specs.Entries.{entries, max_fields};
+ghost use Rattle.ipc_model.specs.Entries.{entries};
+ghost use Rattle.ipc_model.specs.Limits.{max_fields};
 ghost use Rattle.ipc_meta.specs.Supported.{are_supported, is_supported_type};
 
-use ipc_model::items::{Items, Text};
-use ipc_model::{DataType, Field, IntBits, Row, Value};
+use ipc_model::{DataType, Field, IntBits, Items, Row, Text, Value};
 use std::alloc::{AllocError, Global};
 use std::rc::Rc;
 
@@ -52,12 +52,12 @@ fn field(alloc: Global, kind: Kind) -> Result<Field, AllocError>
     ensures few { IfOk result (λ f. length (entries (f ∷ [])) ≤ max_fields) }
 {
     Ok(Field {
-        name: Text::from_string(String::from_str(alloc, "a")?),
+        name: Text::copied(alloc, "a")?,
         nullable: kind == Kind::Nulls,
         kind: data_type(kind),
         dictionary: None,
-        children: Items::from_vec(Vec::new(alloc)),
-        metadata: Items::from_vec(Vec::new(alloc)),
+        children: Items::new(alloc),
+        metadata: Items::new(alloc),
     })
 }
 

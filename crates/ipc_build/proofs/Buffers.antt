@@ -12,7 +12,7 @@ one_member : (f : Tree) → members (as_vector f) ≡ 1
 unfolding members
 one_member f = refl
 
-writable_vector : (f : Tree) → Writable (fields 0) f → Writable elements (as_vector f)
+pub writable_vector : (f : Tree) → Writable (fields 0) f → Writable elements (as_vector f)
 unfolding Writable
 writable_vector f h = (refl, h, tt)
 

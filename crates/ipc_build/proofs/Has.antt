@@ -37,10 +37,6 @@ little_parts i (suc v) w x =
     let f : i + suc v ≡ suc i + v = omega arith in
     rw (e, f) (ap (λ (l : List ℕ). byte_at i x ∷ l) (little_parts (suc i) v w x))
 
-pub length_little : (i w x : ℕ) → length (bytes_low_first i w x) ≡ w
-length_little i zero x = refl
-length_little i (suc w) x = ap suc (length_little (suc i) w x)
-
 -- a narrower number at the front of more bytes
 pub has_narrow : (b : List ℕ) (p c w x : ℕ) → w ≤ c → x < 256 ^ w → Has b p (little c x) → num b p w ≡ x
 has_narrow b p c w x h fits e =

@@ -9,7 +9,7 @@ use Rattle.ipc_build.specs.Trees.{node, view, fields_view, tables_view}
 use Rattle.ipc_build.specs.Trees as k
 use Rattle.ipc_build.specs.Layout.{little, inline_value, inline_bytes, target_end, targets_end, target_bytes, targets, own_bytes, inline_end, table_place}
 use Rattle.ipc_build.specs.Ascends.{fields, elements, Writable}
-use Rattle.ipc_build.proofs.Has.{length_little}
+use Rattle.ipc_scalar.proofs.Places.{length_low_bytes}
 use Rattle.ipc_build.proofs.Placed.{target_length, length_targets}
 use Rattle.ipc_build.proofs.Steps.{ends_step, inline_more, inline_done, targets_more, targets_done, table_ends_more, tables_more, tables_done}
 use Rattle.ipc_build.proofs.Pieces.{field_below, table_each, offsets_more, offsets_done}
@@ -79,7 +79,7 @@ module _ (xs : List (ℕ × Slot)) (i : ℕ) (x : ℕ × Slot) (e : x ≡ get_or
       tail = target_bytes (node x.1).0 (node x.1).1 (targets (node x.1).1) (length out)
 
       one : Patched 8 here (length old) out (little 8 v) tail new
-      one = patched 8 here (length old) out (little 8 v) tail put new (length_little 0 8 v) (omega (arith, inv.place, h)) inv.behind g (f ∙ ap (λ (n : ℕ). put ++ target_bytes (node x.1).0 (node x.1).1 (targets (node x.1).1) n) pe)
+      one = patched 8 here (length old) out (little 8 v) tail put new (length_low_bytes 0 8 v) (omega (arith, inv.place, h)) inv.behind g (f ∙ ap (λ (n : ℕ). put ++ target_bytes (node x.1).0 (node x.1).1 (targets (node x.1).1) n) pe)
 
       next : length new ≡ target_end (node x.1).0 (node x.1).1 (targets_end (node x.1).1) (length out)
       next = one.len ∙ target_length (node x.1).0 (node x.1).1 (field_below xs i x e h writable) (λ s q w. length_targets (node x.1).1 s q w) (length out)
@@ -114,7 +114,7 @@ module _ (xs : List FlatTree) (i : ℕ) (x : FlatTree) (e : x ≡ get_or xs i x)
       tail = own_bytes (view x) (length out) ++ targets (view x) (inline_end (view x) (length out))
 
       one : Patched 4 here (length old) out (little 4 v) tail new
-      one = patched 4 here (length old) out (little 4 v) tail put new (length_little 0 4 v) (omega (arith, inv.place, h)) inv.behind g (f ∙ ap (λ (n : ℕ). put ++ (own_bytes (view x) n ++ targets (view x) (inline_end (view x) n))) pe)
+      one = patched 4 here (length old) out (little 4 v) tail put new (length_low_bytes 0 4 v) (omega (arith, inv.place, h)) inv.behind g (f ∙ ap (λ (n : ℕ). put ++ (own_bytes (view x) n ++ targets (view x) (inline_end (view x) n))) pe)
 
       next : length new ≡ targets_end (view x) (inline_end (view x) (length out))
       next = one.len ∙ target_length k.table (view x) (table_each xs i x e h writable) (λ s q w. length_targets (view x) s q w) (length out)

@@ -12,7 +12,7 @@ use Rattle.ipc_build.specs.Trees as k
 use Rattle.ipc_build.specs.Layout.{little, padding, entry_count, members, inline_bytes, entries, targets_end, inline_end, table_place, head_bytes, own_bytes, target_bytes, targets, struct_bytes, prefix_place, as_vector, buffer}
 use Rattle.ipc_build.specs.Ascends.{fields, elements, Below, Writable}
 use Rattle.ipc_build.proofs.Placed.{length_head, entry_count_small, members_below}
-use Rattle.ipc_build.proofs.Has.{length_little}
+use Rattle.ipc_scalar.proofs.Places.{length_low_bytes}
 use Rattle.ipc_build.proofs.Nodes.{tables_is, pairs_is}
 use Rattle.ipc_build.proofs.Views.{front, members_fields}
 use Rattle.ipc_build.proofs.Steps.{more}
@@ -125,7 +125,7 @@ places_end f p n a b c h pe ne e g =
 pub vector_places : (p n m : ℕ) (a b c : List ℕ) → p ≡ length a → m ≡ 4 * n → b ≡ a ++ little 4 n → c ≡ b ++ padding m → length c ≡ p + 4 + 4 * n
 vector_places p n m a b c pe me e g =
     let l = length-append a (little 4 n) in
-    let t = length_little 0 4 n in
+    let t = length_low_bytes 0 4 n in
     let k = length-append b (padding m) in
     let z = length-replicate {A = ℕ} m 0 in
     let lb = ap length e in
@@ -148,7 +148,7 @@ table_joined f p at n a b c d h pe ae ne e g i =
 -- a vector of tables, from its count, the places of its offsets, and what is put into them with all behind
 pub vector_joined : (f : Tree) (p n m : ℕ) (a b c d : List ℕ) → p ≡ length a → m ≡ 4 * n → b ≡ a ++ little 4 n → c ≡ b ++ padding m → d ≡ take (p + 4) c ++ (inline_bytes 4 f (p + 4) (length c) ++ targets f (length c)) → d ≡ a ++ (little 4 n ++ (inline_bytes 4 f (p + 4) (p + 4 + 4 * n) ++ targets f (p + 4 + 4 * n)))
 vector_joined f p n m a b c d pe me e g i =
-    let lb : length b ≡ p + 4 = let l = length-append a (little 4 n) in let t = length_little 0 4 n in ap length e ∙ omega (arith, l, t, pe) in
+    let lb : length b ≡ p + 4 = let l = length-append a (little 4 n) in let t = length_low_bytes 0 4 n in ap length e ∙ omega (arith, l, t, pe) in
     let front : take (p + 4) c ≡ a ++ little 4 n = rw g (take_at b (padding m) (p + 4) lb) ∙ e in
     let end = vector_places p n m a b c pe me e g in
     i ∙ (ap (λ (l : List ℕ). l ++ (inline_bytes 4 f (p + 4) (length c) ++ targets f (length c))) front

@@ -14,7 +14,8 @@ use Rattle.ipc_build.specs.Trees as k
 use Rattle.ipc_build.specs.Layout.{little, padding, prefix_place, members, entry_count, table_place, inline_end, string_end, target_end, targets_end, inline_value, inline_bytes, entries, head_bytes, own_bytes, struct_bytes, target_bytes, targets}
 use Rattle.ipc_build.specs.Encodes.{HasField, in_table, in_vector, inline_width, EncodesPairs, TableStands, EncodesTarget, EncodesTable}
 use Rattle.ipc_build.specs.Ascends.{Role, fields, elements, PairsFit, IsInRange, Below, Writable}
-use Rattle.ipc_build.proofs.Has.{Has, has_at, has_left, has_right, has_num, has_narrow, has_zero, length_little}
+use Rattle.ipc_build.proofs.Has.{Has, has_at, has_left, has_right, has_num, has_narrow, has_zero}
+use Rattle.ipc_scalar.proofs.Places.{length_low_bytes}
 use Rattle.ipc_build.proofs.Points.{slot_found, slot_zero, points_at, table_there, elements_there, string_there, vtable_there}
 use Rattle.ipc_build.proofs.Upward.{Up, ends_up, target_ends_up}
 
@@ -24,7 +25,7 @@ length_inline w none h p = omega arith
 length_inline w (field n content inner rest) h p =
     let q = target_end content inner (targets_end inner) p in
     let e = length_inline w rest (h + w) q in
-    length-append (little w (inline_value content inner h p)) (inline_bytes w rest (h + w) q) ∙ (rw (length_little 0 w (inline_value content inner h p), e) (omega arith))
+    length-append (little w (inline_value content inner h p)) (inline_bytes w rest (h + w) q) ∙ (rw (length_low_bytes 0 w (inline_value content inner h p), e) (omega arith))
 
 pub entry_count_up : (f : Tree) (n : ℕ) → Writable (fields n) f → n ≤ entry_count n f
 unfolding entry_count Writable
@@ -49,7 +50,7 @@ length_entries (field m content inner rest) n d h =
     let u = entry_count_up rest (m + 1) h.4 in
     let z = length-replicate {A = ℕ} (2 * (m - n)) 0 in
     length-append (padding (2 * (m - n))) (little 2 d ++ entries (m + 1) (d + 8) rest)
-    ∙ rw (length-append (little 2 d) (entries (m + 1) (d + 8) rest), length_little 0 2 d) (omega (arith, e, u, z, h.0))
+    ∙ rw (length-append (little 2 d) (entries (m + 1) (d + 8) rest), length_low_bytes 0 2 d) (omega (arith, e, u, z, h.0))
 
 -- fields from h on, each in c bytes, and what they point to from p on
 pub record Stored (b : List ℕ) (c : ℕ) (f : Tree) (h p : ℕ) : Type 0 where
@@ -83,7 +84,7 @@ zero_entry b (field m content inner rest) v k d n h e no_such low high =
     others =
         let one = has_right b _ (padding (2 * (m - k))) _ e in
         let two = has_right b _ (little 2 d) _ one in
-        has_at b _ (v + (4 + 2 * (m + 1))) _ (let z = length-replicate {A = ℕ} (2 * (m - k)) 0 in let y = length_little 0 2 d in omega (arith, z, y, h.0)) two
+        has_at b _ (v + (4 + 2 * (m + 1))) _ (let z = length-replicate {A = ℕ} (2 * (m - k)) 0 in let y = length_low_bytes 0 2 d in omega (arith, z, y, h.0)) two
 
     by : (m + 1 ≤ n → Has b (v + (4 + 2 * (m + 1))) (entries (m + 1) (d + 8) rest) → num b (v + (4 + 2 * n)) 2 ≡ 0) → (n ≡ m) ⊎ ((n < m) ⊎ (m < n)) → num b (v + (4 + 2 * n)) 2 ≡ 0
     by go (inl same) = absurd (no_such (inl same))
@@ -115,11 +116,11 @@ record Parts (b : List ℕ) (f : Tree) (p : ℕ) : Type 0 where
 pub length_head : (f : Tree) (p : ℕ) → Writable (fields 0) f → length (head_bytes f p) ≡ table_place f p + 4 - p
 unfolding head_bytes
 length_head f p h =
-    let a = length_little 0 2 (4 + 2 * entry_count 0 f) in
-    let c = length_little 0 2 (4 + 8 * members f) in
+    let a = length_low_bytes 0 2 (4 + 2 * entry_count 0 f) in
+    let c = length_low_bytes 0 2 (4 + 8 * members f) in
     let d = length_entries f 0 4 h in
     let z = length-replicate {A = ℕ} (table_place f p - (p + 4 + 2 * entry_count 0 f)) 0 in
-    let t = length_little 0 4 (table_place f p - p) in
+    let t = length_low_bytes 0 4 (table_place f p - p) in
     simp (length-append) (omega (arith, a, c, d, z, t))
 
 length_own : (f : Tree) (p : ℕ) → Writable (fields 0) f → length (own_bytes f p) ≡ inline_end f p - p
@@ -135,8 +136,8 @@ parts b f p h e =
     let l = length_head f p h in
     let inline = inline_bytes 8 f (table_place f p + 4) (inline_end f p) in
     let head = has_left b p (head_bytes f p) inline e in
-    let a = length_little 0 2 (4 + 2 * entry_count 0 f) in
-    let c = length_little 0 2 (4 + 8 * members f) in
+    let a = length_low_bytes 0 2 (4 + 2 * entry_count 0 f) in
+    let c = length_low_bytes 0 2 (4 + 8 * members f) in
     let d = length_entries f 0 4 h in
     let z = length-replicate {A = ℕ} (table_place f p - (p + 4 + 2 * entry_count 0 f)) 0 in
     let one = has_right b _ (little 2 (4 + 2 * entry_count 0 f)) _ head in
@@ -172,8 +173,8 @@ length_pairs : (xs : List (ℤ × ℤ)) → length (struct_bytes xs) ≡ 16 * le
 unfolding struct_bytes
 length_pairs [] = refl
 length_pairs (x ∷ xs) =
-    let l = length_little 0 8 (cast_unsigned w64 x.0) in
-    let m = length_little 0 8 (cast_unsigned w64 x.1) in
+    let l = length_low_bytes 0 8 (cast_unsigned w64 x.0) in
+    let m = length_low_bytes 0 8 (cast_unsigned w64 x.1) in
     let e = length_pairs xs in
     simp (length-append) (omega (arith, l, m, e))
 
@@ -185,11 +186,11 @@ pub target_length : (content : Content) (f : Tree) → Below content (λ s. Writ
 target_length (k.byte x) f h below p = omega arith
 target_length (k.signed w z) f h below p = omega arith
 target_length (k.string s) f h below p =
-    let l = length_little 0 4 (length s) in
+    let l = length_low_bytes 0 4 (length s) in
     let z = length-replicate {A = ℕ} (string_end s p - (p + 5 + length s)) 0 in
     simp (length-append) (omega (arith, l, z))
 target_length (k.pairs xs) f h below p =
-    let l = length_little 0 4 (length xs) in
+    let l = length_low_bytes 0 4 (length xs) in
     let z = length-replicate {A = ℕ} (prefix_place p - p) 0 in
     let m = length_pairs xs in
     simp (length-append) (omega (arith, l, z, m))
@@ -199,7 +200,7 @@ target_length k.table f h below p =
     rw (length-append (own_bytes f p) (targets f (inline_end f p))) (omega (arith, l, e))
 target_length k.tables f h below p =
     let q = p + 4 + 4 * members f in
-    let l = length_little 0 4 (members f) in
+    let l = length_low_bytes 0 4 (members f) in
     let m = length_inline 4 f (p + 4) q in
     let e = below elements q h in
     simp (length-append) (omega (arith, l, m, e))
@@ -223,8 +224,8 @@ module _ (P : ℕ → ℕ → Type 0) (b : List ℕ) (aligned : (w p q : ℕ) �
   unfolding EncodesPairs struct_bytes
   pairs_lie [] q fine e h = tt
   pairs_lie (x ∷ xs) q fine e h =
-      let l = length_little 0 8 (cast_unsigned w64 x.0) in
-      let m = length_little 0 8 (cast_unsigned w64 x.1) in
+      let l = length_low_bytes 0 8 (cast_unsigned w64 x.0) in
+      let m = length_low_bytes 0 8 (cast_unsigned w64 x.1) in
       let one = has_right b q (little 8 (cast_unsigned w64 x.0)) _ h in
       let two = has_right b _ (little 8 (cast_unsigned w64 x.1)) _ one in (
         ap (cast_signed w64) (has_num b q 8 (cast_unsigned w64 x.0) (signed_below w64 x.0 fine.0) (has_left b q (little 8 (cast_unsigned w64 x.0)) _ h)) ∙ to_z-of_z w64 x.0 fine.0,
@@ -280,14 +281,14 @@ module _ (P : ℕ → ℕ → Type 0) (b : List ℕ) (aligned : (w p q : ℕ) �
       found : vtable_of b (table_place f p) ≡ Ok p
       found = subst (λ (x : ℕ). vtable_of b (table_place f p) ≡ Ok x) behind_it
           (vtable_there b (table_place f p) (table_place f p - p) (4 + 2 * entry_count 0 f) back (omega (arith, up, small)) (omega arith) (subst (λ (x : ℕ). num b x 2 ≡ 4 + 2 * entry_count 0 f) (sym behind_it) size) (omega arith) (omega arith)
-          (let i = ps.back.inside in let l = length_little 0 4 (table_place f p - p) in omega (arith, i, l)) (let i = ps.back.inside in omega (arith, i)))
+          (let i = ps.back.inside in let l = length_low_bytes 0 4 (table_place f p - p) in omega (arith, i, l)) (let i = ps.back.inside in omega (arith, i)))
 
   -- where the right number stands at h, and the bytes of what it points to at p, this lies there
   target_lies : (content : Content) (f : Tree) (h p : ℕ) → IsInRange content → Below content (λ s. Writable s f) → num b h (inline_width content) ≡ inline_value content f h p → h + 4 ≤ p → Has b p (target_bytes content f (targets f) p) → target_end content f (targets_end f) p < 2 ^ 31 → p % 4 ≡ 0 → InTable f → InVector f → EncodesTarget P b content f (λ there. EncodesTable P b there f) h
   target_lies (k.byte x) f h p fine inner e apart there small even as_table as_vector = e
   target_lies (k.signed w z) f h p fine inner e apart there small even as_table as_vector = ap (cast_signed w) e ∙ to_z-of_z w z fine.0
   target_lies (k.string s) f h p fine inner e apart there small even as_table as_vector =
-      let l = length_little 0 4 (length s) in
+      let l = length_low_bytes 0 4 (length s) in
       let head = has_left b p (little 4 (length s)) _ there in
       let tail = has_at b _ (p + 4) _ (omega (arith, l)) (has_right b p (little 4 (length s)) _ there) in
       let own = has_left b (p + 4) s _ tail in
@@ -299,7 +300,7 @@ module _ (P : ℕ → ℕ → Type 0) (b : List ℕ) (aligned : (w p q : ℕ) �
       record { start = p; points_there = points_p; holds = aligned 4 p (p / 4) (omega arith); text = string_there b s h (p + 4) (elements_there b h p (length s) 1 points_p n (omega arith) (omega arith)) own fine; closed = (omega (arith, j), has_num b _ 1 0 (omega arith) zero_byte) }
   target_lies (k.pairs xs) f h p fine inner e apart there small even as_table as_vector =
       let q = prefix_place p in
-      let l = length_little 0 4 (length xs) in
+      let l = length_low_bytes 0 4 (length xs) in
       let z = length-replicate {A = ℕ} (q - p) 0 in
       let one = has_at b _ q _ (omega (arith, z)) (has_right b p (padding (q - p)) _ there) in
       let head = has_left b q (little 4 (length xs)) _ one in
@@ -318,7 +319,7 @@ module _ (P : ℕ → ℕ → Type 0) (b : List ℕ) (aligned : (w p q : ℕ) �
       let points_t : points b h ≡ Ok (table_place f p) = subst (λ (x : ℕ). points b h ≡ Ok x) (omega arith) (points_at b h (table_place f p - h) e (omega arith) (omega arith) (omega arith)) in
       (table_place f p, table_there b h (table_place f p) p points_t t.0, t.1, as_table (table_place f p) 0 (table_place f p + 4) (inline_end f p) inner t.2 t.3 (omega arith))
   target_lies k.tables f h p fine inner e apart there small even as_table as_vector =
-      let l = length_little 0 4 (members f) in
+      let l = length_low_bytes 0 4 (members f) in
       let q = p + 4 + 4 * members f in
       let u = (ends_up f q).more in
       let head = has_left b p (little 4 (members f)) _ there in
@@ -422,7 +423,7 @@ module _ (P : ℕ → ℕ → Type 0) (b : List ℕ) (aligned : (w p q : ℕ) �
       own = has_left b h (little 8 x) _ front
 
       lx : length (little 8 x) ≡ 8
-      lx = length_little 0 8 x
+      lx = length_low_bytes 0 8 x
 
       there : Has b (entered.vtable + (4 + 2 * n)) (padding (2 * (m - n)) ++ (little 2 (h - t) ++ entries (m + 1) (h - t + 8) rest))
       there = entered.there
@@ -431,7 +432,7 @@ module _ (P : ℕ → ℕ → Type 0) (b : List ℕ) (aligned : (w p q : ℕ) �
       here = let z = length-replicate {A = ℕ} (2 * (m - n)) 0 in has_at b _ _ _ (omega (arith, z, writable.0)) (has_right b _ (padding (2 * (m - n))) _ there)
 
       next : Has b (entered.vtable + (4 + 2 * (m + 1))) (entries (m + 1) (h - t + 8) rest)
-      next = let l = length_little 0 2 (h - t) in has_at b _ _ _ (omega (arith, l)) (has_right b _ (little 2 (h - t)) _ here)
+      next = let l = length_low_bytes 0 2 (h - t) in has_at b _ _ _ (omega (arith, l)) (has_right b _ (little 2 (h - t)) _ here)
 
       entry : num b (entered.vtable + (4 + 2 * m)) 2 ≡ h - t
       entry = has_num b _ 2 (h - t) (omega (arith, near, writable.0, writable.1)) (has_left b _ (little 2 (h - t)) _ here)
@@ -500,7 +501,7 @@ module _ (P : ℕ → ℕ → Type 0) (b : List ℕ) (aligned : (w p q : ℕ) �
       own = has_left b h (little 4 x) _ front
 
       lx : length (little 4 x) ≡ 4
-      lx = length_little 0 4 x
+      lx = length_low_bytes 0 4 x
 
   pub record Placed (f : Tree) : Type 0 where
     pub in_a_table : InTable f

@@ -17,7 +17,7 @@ use Rattle.ipc_build.specs.Trees.{Content, Tree, Node, none, field, node, view, 
 use Rattle.ipc_build.specs.Trees as k
 use Rattle.ipc_build.specs.Layout.{entry_count}
 use Rattle.ipc_build.specs.Ascends.{Role, fields, elements, IsInRange, Below, Writable, Ascends, InRange}
-use Rattle.ipc_build.specs.Room.{Counts, target_room, targets_room, room}
+use Rattle.ipc_build.specs.Room.{Counts, max_room, target_room, targets_room, room}
 use Rattle.ipc_build.proofs.Nodes.{text_is, tables_is, pairs_is}
 use Rattle.ipc_build.proofs.Views.{front, members_tables}
 
@@ -67,20 +67,20 @@ writable (field m content inner rest) (fields n) g a = (a.0, a.1, g.0, below_wri
 writable (field m content inner rest) elements g a = (a.0, writable inner (fields 0) g.1 a.1, writable rest elements g.2 a.2)
 
 pub counts_at : (n m : ℕ) (F G : Type 0) (o : Option ℕ) → n ≡ m → (F → G) → Counts n F o → Counts m G o
-counts_at n m F G None e f h = subst (λ (x : ℕ). 2 ^ 24 < x) e h
+counts_at n m F G None e f h = subst (λ (x : ℕ). max_room < x) e h
 counts_at n m F G (Some s) e f h = (h.0 ∙ e, h.1, f h.2)
 
 pub counts_plain : (n m : ℕ) (G : Type 0) (o : Option ℕ) → n ≡ m → G → Counts n ⊤ o → Counts m G o
-counts_plain n m G None e g h = subst (λ (x : ℕ). 2 ^ 24 < x) e h
+counts_plain n m G None e g h = subst (λ (x : ℕ). max_room < x) e h
 counts_plain n m G (Some s) e g h = (h.0 ∙ e, h.1, g)
 
 abbrev pub Counted : ℕ → Option ℕ → Node → Type 0
 Counted taken o x = Counts (taken + target_room x.0 x.1 (targets_room x.1)) (IsInRange x.0 × InRange x.1) o
 
-pub byte_counted : (s : Slot) (x taken : ℕ) → node s ≡ (k.byte x, none) → x < 256 → taken ≤ 2 ^ 24 → Counted taken (Some taken) (node s)
+pub byte_counted : (s : Slot) (x taken : ℕ) → node s ≡ (k.byte x, none) → x < 256 → taken ≤ max_room → Counted taken (Some taken) (node s)
 byte_counted s x taken e fits small = subst (Counted taken (Some taken)) (sym e) (omega arith, small, (fits, range_none))
 
-pub signed_counted : (s : Slot) (w : Width) (z : ℤ) (taken : ℕ) → node s ≡ (k.signed w z, none) → FitsSigned w z → ((j : ℕ) × (j * byte_len w ≡ 8)) → taken ≤ 2 ^ 24 → Counted taken (Some taken) (node s)
+pub signed_counted : (s : Slot) (w : Width) (z : ℤ) (taken : ℕ) → node s ≡ (k.signed w z, none) → FitsSigned w z → ((j : ℕ) × (j * byte_len w ≡ 8)) → taken ≤ max_room → Counted taken (Some taken) (node s)
 signed_counted s w z taken e fits divides small = subst (Counted taken (Some taken)) (sym e) (omega arith, small, ((fits, divides), range_none))
 
 pub string_counted : (s : Slot) (t u : List ℕ) (taken : ℕ) (o : Option ℕ) → s ≡ v.Text t → u ≡ t → IsUtf8 u → Counts (taken + (8 + 1 * length u)) ⊤ o → Counted taken o (node s)
@@ -118,10 +118,10 @@ abbrev Yes : Bool → Type 0
 Yes true = ⊤
 Yes false = ⊥
 
-pub over_limit : (n : ℕ) (F : Type 0) (o : Option ℕ) → Counts n F o → is_some o ≡ false → 2 ^ 24 < n
+pub over_limit : (n : ℕ) (F : Type 0) (o : Option ℕ) → Counts n F o → is_some o ≡ false → max_room < n
 over_limit n F None h e = h
 over_limit n F (Some s) h e = absurd (subst Yes e tt)
 
-pub within_limit : (n : ℕ) (F : Type 0) (o : Option ℕ) → Counts n F o → is_some o ≡ true → (n ≤ 2 ^ 24) × F
+pub within_limit : (n : ℕ) (F : Type 0) (o : Option ℕ) → Counts n F o → is_some o ≡ true → (n ≤ max_room) × F
 within_limit n F None h e = absurd (subst Yes (sym e) tt)
 within_limit n F (Some s) h e = (omega (arith, h.0, h.1), h.2)

@@ -6,6 +6,7 @@ use Rattle.ipc_build.specs.Layout.{members, entry_count, as_vector, targets_end,
 use Rattle.ipc_build.specs.Ascends.{Role, fields, elements, Below, Writable}
 use Rattle.ipc_build.specs.Room.{target_room, targets_room, room}
 use Rattle.ipc_build.proofs.Upward.{target_ends_up}
+use Rattle.ipc_build.proofs.Buffers.{writable_vector}
 use Rattle.ipc_build.proofs.Placed.{element_range, members_below}
 
 target_within : (content : Content) (f : Tree) (p : ℕ) → Below content (λ s. Writable s f) → ((s : Role) (q : ℕ) → Writable s f → q % 4 ≡ 0 → targets_end f q ≤ q + targets_room f) → p % 4 ≡ 0 → target_end content f (targets_end f) p ≤ p + target_room content f (targets_room f)
@@ -32,10 +33,6 @@ within (field m content inner rest) elements p h even =
     let i = target_within content inner p (element_range content inner h.0 h.1).1 (λ s q. within inner s q) even in
     let e = within rest elements (target_end content inner (targets_end inner) p) h.2 ((target_ends_up content inner p).even even) in
     omega (arith, i, e)
-
-writable_vector : (f : Tree) → Writable (fields 0) f → Writable elements (as_vector f)
-unfolding Writable
-writable_vector f h = (refl, h, tt)
 
 pub buffer_fits : (f : Tree) → Writable (fields 0) f → (targets_end (as_vector f) 4 + 7) / 8 * 8 ≤ room f
 buffer_fits f h = let e = within (as_vector f) elements 4 (writable_vector f h) refl in omega (arith, e)

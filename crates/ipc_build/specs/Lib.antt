@@ -3,4 +3,3 @@ pub mod Layout
 pub mod Encodes
 pub mod Room
 pub mod Trees
-pub mod formers

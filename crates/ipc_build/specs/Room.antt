@@ -4,6 +4,10 @@ use Rattle.ipc_build.specs.Trees.{Content, Tree, none, field}
 use Rattle.ipc_build.specs.Trees as k
 use Rattle.ipc_build.specs.Layout.{members, entry_count, as_vector, targets_end}
 
+-- the most room that a tree may have
+abbrev pub max_room : ℕ
+max_room = 2 ^ 24
+
 -- 8 and its bytes for a string, 12 and 16 for each struct of a vector, 24 and 10 for each vtable entry of a table, 12 and 4 for
 -- each element of a vector of tables; `below` is the room of the tree below
 abbrev pub target_room : Content → Tree → ℕ → ℕ
@@ -28,6 +32,6 @@ room f = 16 + targets_room (as_vector f)
 abbrev pub size : Tree → ℕ
 size f = targets_end (as_vector f) 4
 
--- how room is counted: the sum n, of which P holds, or nothing where n passes 2^24
+-- how room is counted: the sum n, of which P holds, or nothing where n passes the most
 abbrev pub Counts : ℕ → Type 0 → Option ℕ → Type 0
-Counts n P sum = MatchOption sum (2 ^ 24 < n) (λ x. (x ≡ n) × (x ≤ 2 ^ 24) × P)
+Counts n P sum = MatchOption sum (max_room < n) (λ x. (x ≡ n) × (x ≤ max_room) × P)

@@ -5,7 +5,7 @@ ghost use Rattle.ipc_build.specs.Trees.{view};
 ghost use Rattle.ipc_build.specs.Layout.{as_vector, targets_end, buffer};
 ghost use Rattle.ipc_build.specs.Encodes.{Encodes, Aligned};
 ghost use Rattle.ipc_build.specs.Ascends.{fields, Ascends, Writable};
-ghost use Rattle.ipc_build.specs.Room.{room, size};
+ghost use Rattle.ipc_build.specs.Room.{max_room, room, size};
 
 use crate::fault::BuildFault;
 use crate::places::table_place;
@@ -47,7 +47,7 @@ pub fn build(alloc: Global, tree: &FlatTree) -> Result<Vec<u8>, BuildFault>
     ensures aligned { IfOk result (λ bytes. Aligned bytes.items (view tree.now)) }
     ensures size { IfOk result (λ bytes. length bytes.items ≡ size (view tree.now)) }
     ensures room { IfOk result (λ bytes. (length bytes.items + 7) / 8 * 8 ≤ room (view tree.now)) }
-    ensures too_large { IsErrOf result TooLarge ↔ (2 ^ 24 < room (view tree.now)) }
+    ensures too_large { IsErrOf result TooLarge ↔ (max_room < room (view tree.now)) }
 {
     if table_room(tree, 16).is_none() {
         return Err(BuildFault::TooLarge);

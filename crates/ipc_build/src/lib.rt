@@ -13,7 +13,6 @@
 mod builder;
 mod fault;
 mod inline;
-mod items;
 mod places;
 mod room;
 mod scalars;
@@ -22,5 +21,4 @@ mod tree;
 
 pub use builder::build;
 pub use fault::BuildFault;
-pub use items::{Items, Text};
 pub use tree::{FlatTree, Slot};

@@ -3,28 +3,28 @@ ghost use Rattle.std.specs.Prelude.{◌≡◌, ◌≤◌, ◌<◌, ◌+◌, ◌*
 ghost use Rattle.ipc_build.specs.Trees.{node, view, fields_view, tables_view};
 ghost use Rattle.ipc_build.specs.Layout.{entry_count};
 ghost use Rattle.ipc_build.specs.Ascends.{IsInRange, InRange, PairsFit};
-ghost use Rattle.ipc_build.specs.Room.{Counts, target_room, targets_room};
+ghost use Rattle.ipc_build.specs.Room.{Counts, max_room, target_room, targets_room};
 
 use crate::places::entry_count;
 use crate::tree::{FlatTree, Slot};
 
 // The most bytes that a tree may have room for.
-const LIMIT: usize = 16_777_216;
+const MAX_ROOM: usize = 1 << 24;
 
 // What is taken with `fixed` bytes and `count` times `width` bytes more, where that stays within the
 // limit.
 fn add(taken: usize, fixed: usize, width: usize, count: usize) -> Option<usize>
-    requires taken { taken ≤ 2 ^ 24 }
-    requires fixed { fixed ≤ 2 ^ 24 }
+    requires taken { taken ≤ max_room }
+    requires fixed { fixed ≤ max_room }
     requires width { width ≤ 2 ^ 10 }
     requires some { 1 ≤ width }
     ensures { Counts (taken + (fixed + width * count)) ⊤ result }
 {
-    if count > LIMIT {
+    if count > MAX_ROOM {
         return None;
     }
     let sum = taken + (fixed + width * count);
-    if sum > LIMIT {
+    if sum > MAX_ROOM {
         return None;
     }
     Some(sum)
@@ -33,7 +33,7 @@ fn add(taken: usize, fixed: usize, width: usize, count: usize) -> Option<usize>
 // What is taken with a vector of pairs, where that stays within the limit. The loop reads the numbers,
 // since a number that was read is known to be in the range of its type.
 fn pairs_room(pairs: &[(i64, i64)], taken: usize) -> Option<usize>
-    requires { taken ≤ 2 ^ 24 }
+    requires { taken ≤ max_room }
     ensures { Counts (taken + (12 + 16 * length pairs.now)) (PairsFit pairs.now) result }
 {
     for &(_first, _second) in pairs {}
@@ -44,7 +44,7 @@ fn pairs_room(pairs: &[(i64, i64)], taken: usize) -> Option<usize>
 // beside its place in the table; its arm reads it, and so its range is known.
 #[cycle(targets_room)]
 fn target_room(slot: &Slot, taken: usize) -> Option<usize>
-    requires { taken ≤ 2 ^ 24 }
+    requires { taken ≤ max_room }
     ensures { Counts (taken + target_room (node slot.now).0 (node slot.now).1 (targets_room (node slot.now).1)) (IsInRange (node slot.now).0 × InRange (node slot.now).1) result }
 {
     match *slot {
@@ -63,7 +63,7 @@ fn target_room(slot: &Slot, taken: usize) -> Option<usize>
 // What is taken with a table and all below it, where that stays within the limit.
 #[cycle(targets_room)]
 pub(crate) fn table_room(tree: &FlatTree, taken: usize) -> Option<usize>
-    requires { taken ≤ 2 ^ 24 }
+    requires { taken ≤ max_room }
     ensures { Counts (taken + (24 + 10 * entry_count 0 (view tree.now) + targets_room (view tree.now))) (InRange (view tree.now)) result }
 {
     let slots = tree.slots.as_slice();
@@ -74,7 +74,7 @@ pub(crate) fn table_room(tree: &FlatTree, taken: usize) -> Option<usize>
 // What is taken with all that the fields of a table point to, where that stays within the limit.
 #[cycle(targets_room)]
 fn targets_room(slots: &[(u16, Slot)], taken: usize) -> Option<usize>
-    requires { taken ≤ 2 ^ 24 }
+    requires { taken ≤ max_room }
     ensures { Counts (taken + targets_room (fields_view slots.now)) (InRange (fields_view slots.now)) result }
 {
     let mut sum = taken;
@@ -87,7 +87,7 @@ fn targets_room(slots: &[(u16, Slot)], taken: usize) -> Option<usize>
 // What is taken with a vector of tables, where that stays within the limit.
 #[cycle(targets_room)]
 fn vector_room(trees: &[FlatTree], taken: usize) -> Option<usize>
-    requires { taken ≤ 2 ^ 24 }
+    requires { taken ≤ max_room }
     ensures { Counts (taken + (12 + 4 * length trees.now + targets_room (tables_view trees.now))) (InRange (tables_view trees.now)) result }
 {
     let taken = add(taken, 12, 4, trees.len())?;
@@ -97,7 +97,7 @@ fn vector_room(trees: &[FlatTree], taken: usize) -> Option<usize>
 // What is taken with the tables of a vector, where that stays within the limit.
 #[cycle(targets_room)]
 fn elements_room(trees: &[FlatTree], taken: usize) -> Option<usize>
-    requires { taken ≤ 2 ^ 24 }
+    requires { taken ≤ max_room }
     ensures { Counts (taken + targets_room (tables_view trees.now)) (InRange (tables_view trees.now)) result }
 {
     let mut sum = taken;

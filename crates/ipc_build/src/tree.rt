@@ -1,5 +1,5 @@
 //! The values that are written.
-use crate::items::{Items, Text};
+use ipc_items::{Items, Text};
 
 /// A table ("Tables"): what stands in its fields. A field without a slot is absent.
 ///

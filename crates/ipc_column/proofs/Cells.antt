@@ -15,9 +15,9 @@ use Rattle.ipc_column.specs.Values.{row, rows_of, value_of}
 use Rattle.ipc_column.specs.Views.{columns, column_of, own_column}
 use Rattle.std.proofs.Math.ListN.{get_or-append}
 use Rattle.std.proofs.Math.Seq.{get_or-append_seam}
-use Rattle.ipc_column.specs.declared.layout.Layout.{Layout}
-use Rattle.ipc_column.specs.declared.layout.Layout.TheVariants as l
-use Rattle.ipc_column.specs.Layouts.{is_texts}
+use Rattle.ipc_model.specs.declared.layout.Layout.{Layout}
+use Rattle.ipc_model.specs.declared.layout.Layout.TheVariants as l
+use Rattle.ipc_model.specs.Layouts.{is_texts}
 use Rattle.ipc_column.proofs.Rules.{of_bound, of_some, of_when}
 use Rattle.ipc_column.proofs.Parts.{column_is}
 

@@ -3,7 +3,7 @@ use Rattle.std.proofs.Common.{◌≡◌, refl, ap, ℕ, ◌+◌, List, [], ◌�
 use Rattle.ipc_model.specs.Entries.{Entry, Listing, preorder, preorder_step, all_at, entries}
 use Rattle.ipc_model.specs.declared.schema.Field.{Field, roll-Field, ind-Field, fold-roll-Field, map-Field}
 use Rattle.ipc_model.specs.declared.schema.Field.TheOpen.{Field-F}
-use Rattle.ipc_column.specs.declared.layout.Layout.{Layout}
+use Rattle.ipc_model.specs.declared.layout.Layout.{Layout}
 use Rattle.ipc_column.specs.Shapes.{Shape, shape_of, field_step, field_children, nodes_in}
 
 abbrev IsCounted : Field → Type 0

@@ -3,10 +3,10 @@ use Rattle.std.proofs.Common.{◌≡◌, ◌∙◌, refl, ap, ℕ, ◌+◌, ◌<
 use Rattle.std.proofs.lemmas.List.{drop_all}
 use Rattle.ipc_model.specs.declared.schema.Field.{Field, out-Field, fold_out-Field}
 use Rattle.ipc_meta.specs.declared.head.BatchHead.{BatchHead}
-use Rattle.ipc_column.specs.declared.layout.Layout.{Layout}
-use Rattle.ipc_column.specs.declared.layout.Layout.TheVariants as l
+use Rattle.ipc_model.specs.declared.layout.Layout.{Layout}
+use Rattle.ipc_model.specs.declared.layout.Layout.TheVariants as l
 use Rattle.ipc_column.specs.declared.ranges.ColumnRanges.{ColumnRanges}
-use Rattle.ipc_column.specs.Layouts.{own_buffers}
+use Rattle.ipc_model.specs.Layouts.{own_buffers}
 use Rattle.ipc_column.specs.Columns.{Columns, none, column, beside, bytes_of}
 use Rattle.ipc_column.specs.Views.{columns, column_of, children_of}
 use Rattle.ipc_column.specs.Shapes.{Shape, bare, field, shape_of, field_step, field_layout, field_children, nodes_in, buffers_in, cut, column_at}

@@ -6,11 +6,11 @@ use Rattle.ipc_scalar.specs.Bytes.{int64}
 use Rattle.ipc_model.specs.declared.value.Value.{Value}
 use Rattle.ipc_model.specs.declared.value.Value.TheVariants.{Int}
 use Rattle.ipc_model.specs.declared.schema.IntBits.TheVariants.{B64}
-use Rattle.ipc_column.specs.declared.layout.Layout.{Layout}
-use Rattle.ipc_column.specs.declared.layout.Layout.TheVariants.{Numbers}
+use Rattle.ipc_model.specs.declared.layout.Layout.{Layout}
+use Rattle.ipc_model.specs.declared.layout.Layout.TheVariants.{Numbers}
 use Rattle.ipc_column.specs.declared.ranges.ColumnRanges.{ColumnRanges}
 use Rattle.ipc_column.specs.Columns.{Column}
-use Rattle.ipc_column.specs.Layouts.{is_signed_64}
+use Rattle.ipc_model.specs.Layouts.{is_signed_64}
 use Rattle.ipc_column.specs.Lending.{AreNumbers, AreValues, is_lent, lent_of}
 use Rattle.ipc_column.specs.Checks.{Holds, holds_values}
 use Rattle.ipc_column.specs.Values.{rows_of, value_of}

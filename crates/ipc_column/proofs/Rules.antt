@@ -9,14 +9,15 @@ use Rattle.std.proofs.lemmas.Int.{ints}
 use Rattle.std.proofs.lemmas.Str.{IsUtf8-from_is_utf8, is_utf8-from_IsUtf8}
 use Rattle.ipc_model.specs.declared.schema.Field.{Field}
 use Rattle.ipc_meta.specs.declared.head.BatchHead.{BatchHead}
-use Rattle.ipc_column.specs.declared.layout.Layout.{Layout}
-use Rattle.ipc_column.specs.declared.layout.Layout.TheVariants as l
-use Rattle.ipc_column.specs.Layouts.{number_bytes, has_validity}
+use Rattle.ipc_model.specs.declared.layout.Layout.{Layout}
+use Rattle.ipc_model.specs.declared.layout.Layout.TheVariants as l
+use Rattle.ipc_model.specs.Layouts.{number_bytes, has_validity}
 use Rattle.ipc_column.specs.declared.cause.Cause.{Cause}
 use Rattle.ipc_column.specs.declared.cause.Cause.TheVariants as cause
 use Rattle.ipc_column.specs.Columns.{Column, Columns, none, column, Each, EachTop, every, every_top}
 use Rattle.ipc_column.specs.Shapes.{shape_of, columns_of}
 use Rattle.ipc_column.specs.Rules.{HasNodes, HasBuffers, HasLengths, HasRanges, HasBytes, HasNullCounts, HasOrder, HasTexts, IsSlotCount, IsNode, LiesIn, HoldValues, HoldOffsets, IsLongEnough, CountsNulls, AreOffsets, HasOffsets, IsText, SpellsTexts}
+use Rattle.ipc_model.specs.Limits.{max_rows}
 use Rattle.ipc_column.specs.Checks.{is_slot_count, is_node, lies_in, all, all_below, holds_values, holds_offsets, is_ascending_at, are_ascending, in_order, is_text, is_good, passes, top_passes, fits}
 use Rattle.ipc_column.specs.Values.{offset, place, is_valid}
 use Rattle.ipc_column.proofs.Below.{decides_below}
@@ -31,12 +32,9 @@ of_test false = (λ e. absurd (cc), λ t. absurd t)
 of_le : (a b : ℤ) → Decides (int_le a b) (a ≤ℤ b)
 of_le a b = Decides-like (int_le a b) (λ t. record { le = t }) (λ h. h.le) (of_test (int_le a b))
 
-of_lt : (a b : ℤ) → Decides (int_lt a b) (a <ℤ b)
-of_lt a b = Decides-like (int_lt a b) (λ t. record { lt = t }) (λ h. h.lt) (of_test (int_lt a b))
-
 pub of_slot_count : (z : ℤ) → Decides (is_slot_count z) (IsSlotCount z)
 of_slot_count z =
-    Decides-like (is_slot_count z) (λ p. record { from = p.0; to = p.1 }) (λ h. (h.from, h.to)) (Decides-and _ _ (of_le (pos 0) z) (of_lt z (pos (2 ^ 31))))
+    Decides-like (is_slot_count z) (λ p. record { from = p.0; to = p.1 }) (λ h. (h.from, h.to)) (Decides-and _ _ (of_le (pos 0) z) (of_le z (pos max_rows)))
 
 of_node : (n : ℤ × ℤ) → Decides (is_node n) (IsNode n)
 of_node n =

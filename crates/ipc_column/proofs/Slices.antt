@@ -5,10 +5,10 @@ use Rattle.std.specs.Str.{is_utf8, IsUtf8, IsCharBoundary}
 use Rattle.std.proofs.lemmas.Str.{IsUtf8-from_is_utf8, is_utf8-from_IsUtf8, IsUtf8-between, IsCharBoundary-end}
 use Rattle.std.proofs.lemmas.List.{drop-take, take-take, drop-drop, length-take-le}
 use Rattle.std.proofs.lemmas.Bool.{and_parts, leb-true, cases_order}
-use Rattle.ipc_column.specs.declared.layout.Layout.{Layout}
-use Rattle.ipc_column.specs.declared.layout.Layout.TheVariants.{VariableBytes}
-use Rattle.ipc_column.specs.declared.layout.Layout.TheVariants as l
-use Rattle.ipc_column.specs.Layouts.{is_texts}
+use Rattle.ipc_model.specs.declared.layout.Layout.{Layout}
+use Rattle.ipc_model.specs.declared.layout.Layout.TheVariants.{VariableBytes}
+use Rattle.ipc_model.specs.declared.layout.Layout.TheVariants as l
+use Rattle.ipc_model.specs.Layouts.{is_texts}
 use Rattle.ipc_column.specs.Columns.{Column}
 use Rattle.ipc_column.specs.Values.{offset, place, between, is_valid}
 use Rattle.ipc_column.specs.Checks.{all_below, is_ascending_at, are_ascending, is_text, slot_good, is_good, AreCuts}

@@ -1,13 +1,14 @@
 -- No more slots are visited than the nodes have.
 use Rattle.std.proofs.Common.{◌≡◌, refl, ℕ, zero, suc, ◌+◌, ◌*◌, ◌<◌, ◌≤◌, Bool, true, false, cond, List, [], ◌∷◌, length, drop, get_or, arith, add-one, drop-cons}
 use Rattle.std.specs.Prelude.{◌^◌, ℤ, pos, negsuc, unsigned_abs}
-use Rattle.std.proofs.lemmas.Bool.{and_parts, ltb-true}
+use Rattle.std.proofs.lemmas.Bool.{and_parts, leb-true}
 use Rattle.ipc_meta.specs.declared.head.BatchHead.{BatchHead}
 use Rattle.ipc_column.specs.Columns.{Column}
 use Rattle.ipc_column.specs.Rules.{text_slots, texts_in, count_of, slots_in}
 use Rattle.ipc_column.specs.Shapes.{Shape, bare, field, cut, column_at, nodes_in, buffers_in, node_at}
 use Rattle.ipc_column.specs.Checks.{all, is_node, is_slot_count}
-use Rattle.ipc_column.specs.Layouts.{is_texts, own_buffers}
+use Rattle.ipc_model.specs.Limits.{max_rows}
+use Rattle.ipc_model.specs.Layouts.{is_texts, own_buffers}
 
 all_at : {X : Type 0} (f : X → Bool) (xs : List X) (i : ℕ) (d : X) → all f xs ≡ true → i < length xs → f (get_or xs i d) ≡ true
 all_at f [] i d h l = absurd (omega arith)
@@ -19,7 +20,7 @@ count_is (pos n) h = refl
 count_is (negsuc n) h = absurd (cc)
 
 count-lt : (z : ℤ) → is_slot_count z ≡ true → count_of z < 2 ^ 31
-count-lt (pos n) h = ltb-true n (2 ^ 31) (and_parts _ _ h).1
+count-lt (pos n) h = let most = leb-true n max_rows (and_parts _ _ h).1 in omega (arith, most)
 count-lt (negsuc n) h = absurd (cc)
 
 -- the slots of nodes from one on

@@ -5,15 +5,16 @@ use Rattle.ipc_scalar.specs.Bytes.{clear}
 use Rattle.ipc_model.specs.declared.fault.Fault.{Fault}
 use Rattle.ipc_model.specs.declared.fault.Fault.TheVariants as fault
 use Rattle.ipc_meta.specs.declared.head.BatchHead.{BatchHead}
-use Rattle.ipc_column.specs.declared.layout.Layout.{Layout}
-use Rattle.ipc_column.specs.declared.layout.Layout.TheVariants as l
-use Rattle.ipc_column.specs.Layouts.{number_bytes, has_validity}
+use Rattle.ipc_model.specs.declared.layout.Layout.{Layout}
+use Rattle.ipc_model.specs.declared.layout.Layout.TheVariants as l
+use Rattle.ipc_model.specs.Layouts.{number_bytes, has_validity}
 use Rattle.ipc_column.specs.declared.cause.Cause.{Cause}
 use Rattle.ipc_column.specs.declared.cause.Cause.TheVariants as cause
 use Rattle.ipc_column.specs.Columns.{Column, Columns, every, every_top}
 use Rattle.ipc_column.specs.Shapes.{Shape, nodes_in, buffers_in, cut}
 use Rattle.ipc_column.specs.Values.{rows_of, offset, place, between, is_valid}
 use Rattle.ipc_model.specs.declared.value.Value.{Value}
+use Rattle.ipc_model.specs.Limits.{max_rows}
 
 -- the fault that a cause is answered as
 abbrev pub fault_of : Cause → Fault
@@ -41,9 +42,9 @@ abbrev pub all_below : (ℕ → Bool) → ℕ → Bool
 all_below f zero = true
 all_below f (suc n) = all_below f n && f n
 
--- from 0 to 2^31 - 1
+-- from 0 to the most slots
 abbrev pub is_slot_count : ℤ → Bool
-is_slot_count count = int_le (pos 0) count && int_lt count (pos (2 ^ 31))
+is_slot_count count = int_le (pos 0) count && int_le count (pos max_rows)
 
 -- a length and a null count
 abbrev pub is_node : ℤ × ℤ → Bool

@@ -1,6 +1,6 @@
 -- Columns as byte lists (Arrow Columnar Format, "Physical Memory Layout").
 use Rattle.std.specs.Prelude.{ℕ, ◌+◌, Bool, ◌&&◌, true, List, [], ◌∷◌, length, nat_le, slice_range, if◌then◌else◌, ⊤}
-use Rattle.ipc_column.specs.declared.layout.Layout.{Layout}
+use Rattle.ipc_model.specs.declared.layout.Layout.{Layout}
 
 -- a field's node (Message.fbs, FieldNode) with the bytes of its buffers
 pub record Column : Type 0 where

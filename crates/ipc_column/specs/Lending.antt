@@ -4,10 +4,10 @@ use Rattle.ipc_scalar.specs.Bytes.{int64}
 use Rattle.ipc_model.specs.declared.schema.IntBits.TheVariants.{B64}
 use Rattle.ipc_model.specs.declared.value.Value.{Value}
 use Rattle.ipc_model.specs.declared.value.Value.TheVariants.{Int}
-use Rattle.ipc_column.specs.declared.layout.Layout.TheVariants.{Numbers}
+use Rattle.ipc_model.specs.declared.layout.Layout.TheVariants.{Numbers}
 use Rattle.ipc_column.specs.declared.ranges.ColumnRanges.{ColumnRanges}
 use Rattle.ipc_column.specs.Columns.{Column, Columns, none, column}
-use Rattle.ipc_column.specs.Layouts.{is_signed_64}
+use Rattle.ipc_model.specs.Layouts.{is_signed_64}
 use Rattle.ipc_column.specs.Views.{own_column}
 
 -- a column of signed 64-bit numbers without a validity bitmap is lent as it lies

@@ -1,4 +1,3 @@
-pub mod Layouts
 pub mod Columns
 pub mod Shapes
 pub mod Values

@@ -5,12 +5,13 @@ use Rattle.std.specs.Str.{IsUtf8}
 use Rattle.ipc_scalar.specs.Bytes.{clear}
 use Rattle.ipc_model.specs.declared.schema.Field.{Field}
 use Rattle.ipc_meta.specs.declared.head.BatchHead.{BatchHead}
-use Rattle.ipc_column.specs.declared.layout.Layout.{Layout}
-use Rattle.ipc_column.specs.declared.layout.Layout.TheVariants as l
-use Rattle.ipc_column.specs.Layouts.{number_bytes, has_validity, is_texts}
+use Rattle.ipc_model.specs.declared.layout.Layout.{Layout}
+use Rattle.ipc_model.specs.declared.layout.Layout.TheVariants as l
+use Rattle.ipc_model.specs.Layouts.{number_bytes, has_validity, is_texts}
 use Rattle.ipc_column.specs.Columns.{Column, Columns, none, column, Each, EachTop}
 use Rattle.ipc_column.specs.Values.{offset, between, is_valid}
 use Rattle.ipc_column.specs.Shapes.{shape_of, nodes_in, buffers_in, columns_of}
+use Rattle.ipc_model.specs.Limits.{max_rows}
 
 -- a node for each field (Message.fbs, RecordBatch, "nodes")
 abbrev pub HasNodes : List Field → BatchHead → Type 0
@@ -20,10 +21,10 @@ HasNodes fields head = length head.nodes ≡ nodes_in (shape_of fields)
 abbrev pub HasBuffers : List Field → BatchHead → Type 0
 HasBuffers fields head = length head.buffers ≡ buffers_in (shape_of fields)
 
--- from 0 to 2^31 - 1 (Arrow Columnar Format, "Array lengths")
+-- from 0 to the most slots (Arrow Columnar Format, "Array lengths")
 pub record IsSlotCount (count : ℤ) : Type 0 where
   pub from : pos 0 ≤ℤ count
-  pub to : count <ℤ pos (2 ^ 31)
+  pub to : count ≤ℤ pos max_rows
 
 -- a length, and a null count that is at most the length (Message.fbs, FieldNode)
 pub record IsNode (node : ℤ × ℤ) : Type 0 where

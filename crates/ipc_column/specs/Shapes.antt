@@ -4,9 +4,9 @@ use Rattle.std.specs.Prelude.{ℕ, ◌+◌, ℤ, pos, unsigned_abs, List, [], �
 use Rattle.ipc_model.specs.declared.schema.Field.{Field, fold-Field}
 use Rattle.ipc_model.specs.declared.schema.Field.TheOpen.{Field-F}
 use Rattle.ipc_meta.specs.declared.head.BatchHead.{BatchHead}
-use Rattle.ipc_column.specs.declared.layout.Layout.{Layout}
-use Rattle.ipc_column.specs.declared.layout.Layout.TheVariants as l
-use Rattle.ipc_column.specs.Layouts.{layout, own_buffers}
+use Rattle.ipc_model.specs.declared.layout.Layout.{Layout}
+use Rattle.ipc_model.specs.declared.layout.Layout.TheVariants as l
+use Rattle.ipc_model.specs.Layouts.{layout, own_buffers}
 use Rattle.ipc_column.specs.Columns.{Column, Columns, none, column, bytes_of}
 
 -- fields side by side: a field, its children, and the fields after it

@@ -6,9 +6,9 @@ use Rattle.ipc_model.specs.declared.schema.IntBits.{IntBits}
 use Rattle.ipc_model.specs.declared.schema.IntBits.TheVariants.{B8, B16, B32, B64}
 use Rattle.ipc_model.specs.declared.value.Value.{Value}
 use Rattle.ipc_model.specs.declared.value.Value.TheVariants as v
-use Rattle.ipc_column.specs.declared.layout.Layout.{Layout}
-use Rattle.ipc_column.specs.declared.layout.Layout.TheVariants as l
-use Rattle.ipc_column.specs.Layouts.{number_bytes}
+use Rattle.ipc_model.specs.declared.layout.Layout.{Layout}
+use Rattle.ipc_model.specs.declared.layout.Layout.TheVariants as l
+use Rattle.ipc_model.specs.Layouts.{number_bytes}
 use Rattle.ipc_column.specs.declared.cell.Cell.{Cell}
 use Rattle.ipc_column.specs.declared.cell.Cell.TheVariants as cell
 use Rattle.ipc_column.specs.Columns.{Column, Columns, none, column}

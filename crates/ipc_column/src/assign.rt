@@ -1,12 +1,11 @@
 ghost use Rattle.std.specs.Prelude.{◌≡◌, ◌≤◌, ◌<◌, ◌+◌, ◌^◌, ℕ, List, length, IfOk};
-ghost use Rattle.ipc_column.specs.Layouts.{own_buffers};
+ghost use Rattle.ipc_model.specs.Layouts.{own_buffers};
 ghost use Rattle.ipc_column.specs.Shapes.{cut, shape_of, field_layout, field_children, nodes_in, buffers_in, column_at, buffer_at, validity_at, offsets_at, values_at};
 ghost use Rattle.ipc_column.specs.Views.{columns, column_of, children_of, span_bytes};
 
-use crate::layout::{Layout, layout_of, own_buffers};
 use crate::ranges::{BufferRange, ColumnRanges};
 use ipc_meta::BatchHead;
-use ipc_model::Field;
+use ipc_model::{Field, Layout, layout_of};
 use std::alloc::{AllocError, Global};
 
 /// So many nodes and so many buffers.
@@ -26,7 +25,7 @@ fn count_field(field: &Field, before: Cursor) -> Cursor
 {
     let below = Cursor {
         node: before.node + 1,
-        buffer: before.buffer + own_buffers(layout_of(&field.kind, field.dictionary)),
+        buffer: before.buffer + layout_of(&field.kind, field.dictionary).own_buffers(),
     };
     count(field.children.as_slice(), below)
 }
@@ -118,7 +117,7 @@ fn assign_field(
     let (slots, nulls) = head.nodes.as_slice()[at.node];
     let below = Cursor {
         node: at.node + 1,
-        buffer: at.buffer + own_buffers(layout),
+        buffer: at.buffer + layout.own_buffers(),
     };
     let (children, next) = assign_buffers(alloc, field.children.as_slice(), head, below)?;
     let part = ColumnRanges {

@@ -1,7 +1,8 @@
 ghost use Rattle.std.specs.Prelude.{◌≡◌, ◌≤◌, ◌<◌, length, true, false, List, [], IfOk, IfErr, IfSome, is_some, MatchResult, Some, slice_get, slice_index_or};
 ghost use Rattle.std.specs.List.{AllByRecursion};
 ghost use Rattle.ipc_model.specs.declared.value.Value.{Value};
-ghost use Rattle.ipc_model.specs.Entries.{entries, max_fields};
+ghost use Rattle.ipc_model.specs.Entries.{entries};
+ghost use Rattle.ipc_model.specs.Limits.{max_fields};
 ghost use Rattle.ipc_meta.specs.Supported.{are_supported};
 ghost use Rattle.ipc_column.specs.Rules.{texts_in, slots_in};
 ghost use Rattle.ipc_column.specs.Shapes.{shape_of, nodes_in, columns_of, cut};
@@ -19,8 +20,7 @@ use crate::rows::rows_in;
 use crate::validate::check_columns;
 use crate::values::numbers_in;
 use ipc_meta::BatchHead;
-use ipc_model::items::Items;
-use ipc_model::{Fault, Field, Row};
+use ipc_model::{Fault, Field, Items, Row};
 use std::alloc::{AllocError, Global};
 use std::collections::BTreeMap;
 use std::marker::Model;
@@ -72,7 +72,7 @@ fn share(alloc: Global, shared: Shared) -> Result<Batch, AllocError>
 
 // The rows of fields, as far as the head and the body give them.
 fn read(alloc: Global, fields: &[Field], head: &BatchHead, body: Vec<u8>) -> Result<Batch, Fault>
-    requires { nodes_in (shape_of fields.now) ≤ 65536 }
+    requires { nodes_in (shape_of fields.now) ≤ max_fields }
     ensures passing { IfOk result (λ batch. Passing (shape_of fields.now) head.now body.items batch.rows) }
     ensures columns { IfOk result (λ batch. batch.columns ≡ length fields.now) }
     ensures lent { IfOk result (λ batch. batch.lent ≡ lent_of (cut (shape_of fields.now) head.now body.items 0 0)) }

@@ -5,12 +5,11 @@ ghost use Rattle.ipc_column.specs.Values.{cell_value, is_valid, own_value, value
 ghost use Rattle.ipc_column.specs.Views.{columns, column_of, span_bytes};
 
 use crate::fixed::{bytes_of, signed_at, unsigned_at};
-use crate::layout::Layout;
 use crate::offsets::bytes_between;
 use crate::range_bytes::bytes_at;
 use crate::ranges::{BufferRange, ColumnRanges};
 use crate::texts::text_of;
-use ipc_model::IntBits;
+use ipc_model::{IntBits, Layout};
 use ipc_scalar::bit;
 
 /// What a slot of a column holds, lent by its batch.

@@ -1,6 +1,6 @@
 ghost use Rattle.std.specs.Prelude.{◌≡◌, ◌≤◌, ◌+◌, ◌*◌, length, slice_range};
 ghost use Rattle.ipc_scalar.specs.Bytes.{num};
-ghost use Rattle.ipc_column.specs.Layouts.{number_bytes};
+ghost use Rattle.ipc_model.specs.Layouts.{number_bytes};
 ghost use Rattle.ipc_column.specs.Values.{signed_at};
 
 use ipc_model::IntBits;

@@ -1,16 +1,21 @@
 ghost use Rattle.std.specs.Prelude.{◌≡◌, ◌≤◌, true, IfErr};
+ghost use Rattle.ipc_model.specs.Limits.{max_fields};
 ghost use Rattle.ipc_column.specs.Checks.{Judges, IsCounted, all, is_slot_count, is_node, lies_in, head_passes};
 ghost use Rattle.ipc_column.specs.Shapes.{shape_of, nodes_in};
 
 use crate::assign::{Cursor, count};
 use crate::cause::Cause;
 use ipc_meta::BatchHead;
+use ipc_model::limits::MAX_ROWS;
 use ipc_model::Field;
+
+// The most slots, a signed number as their count is stated.
+const MAX_SLOTS: i64 = MAX_ROWS as i64;
 
 fn is_slot_count(count: i64) -> bool
     ensures { result ≡ is_slot_count count }
 {
-    0 <= count && count < 2_147_483_648
+    0 <= count && count <= MAX_SLOTS
 }
 
 fn is_node(node: (i64, i64)) -> bool
@@ -51,7 +56,7 @@ fn lie_in(size: usize, buffers: &[(i64, i64)]) -> bool
 /// Whether the head has the nodes and buffers that the fields need, with lengths in their bounds and ranges within `size` bytes.
 #[tactic(auto, using(crate::proofs::Fields::buffers_most))]
 pub(crate) fn check_head(fields: &[Field], head: &BatchHead, size: usize) -> Result<(), Cause>
-    requires { nodes_in (shape_of fields.now) ≤ 65536 }
+    requires { nodes_in (shape_of fields.now) ≤ max_fields }
     ensures judged { Judges result (λ why. head_passes why (shape_of fields.now) head.now size) }
     ensures counted { IfErr result (λ why. IsCounted why (shape_of fields.now) head.now size) }
 {

@@ -9,7 +9,6 @@ mod cause;
 mod cell;
 mod fixed;
 mod head;
-mod layout;
 mod offsets;
 mod range_bytes;
 mod ranges;

@@ -1,4 +1,4 @@
-use crate::layout::Layout;
+use ipc_model::Layout;
 
 /// Where the bytes of a buffer lie in the body.
 #[derive(Clone, Copy, Debug, Drop)]

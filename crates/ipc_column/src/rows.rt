@@ -5,8 +5,7 @@ ghost use Rattle.ipc_column.specs.Views.{columns};
 
 use crate::cell::{Cell, cell_in};
 use crate::ranges::ColumnRanges;
-use ipc_model::items::{Items, Text};
-use ipc_model::{Row, Value};
+use ipc_model::{Items, Row, Text, Value};
 use std::alloc::{AllocError, Global};
 
 // The value that a cell shows.
@@ -18,8 +17,8 @@ fn value_of(alloc: Global, cell: Cell<'_>) -> Result<Value, AllocError>
         Cell::Bool(truth) => Ok(Value::Bool(truth)),
         Cell::Int(number) => Ok(Value::Int(number)),
         Cell::UInt(number) => Ok(Value::UInt(number)),
-        Cell::Bytes(bytes) => Ok(Value::Bytes(Items::from_vec(Vec::from_slice(alloc, bytes)?))),
-        Cell::Text(text) => Ok(Value::Text(Text::from_string(String::from_str(alloc, text)?))),
+        Cell::Bytes(bytes) => Ok(Value::Bytes(Items::copied(alloc, bytes)?)),
+        Cell::Text(text) => Ok(Value::Text(Text::copied(alloc, text)?)),
     }
 }
 

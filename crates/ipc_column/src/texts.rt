@@ -1,14 +1,13 @@
 ghost use Rattle.std.specs.Prelude.{◌≡◌, ◌≤◌, ◌<◌, ◌+◌, ◌*◌, ◌^◌, ℕ, List, length, true, is_some, IsTrue, IfSome, IsUtf8};
 ghost use Rattle.std.specs.Str.{is_utf8, IsCharBoundary};
 ghost use Rattle.ipc_column.specs.declared.cause.Cause.{Cause};
-ghost use Rattle.ipc_column.specs.declared.layout.Layout.TheVariants.{VariableBytes};
+ghost use Rattle.ipc_model.specs.declared.layout.Layout.TheVariants.{VariableBytes};
 ghost use Rattle.ipc_column.specs.Rules.{text_slots};
 ghost use Rattle.ipc_column.specs.Checks.{AreCuts, all_below, has_bitmap, are_ascending, passes, slot_good, is_good};
 ghost use Rattle.ipc_column.specs.Values.{place};
 ghost use Rattle.ipc_column.specs.Views.{column_of};
 
 use crate::cell::is_valid;
-use crate::layout::is_texts;
 use crate::offsets::{bytes_between, place_at};
 use crate::range_bytes::bytes_at;
 use crate::ranges::ColumnRanges;
@@ -111,7 +110,7 @@ pub(crate) fn visit_texts(body: &[u8], part: &ColumnRanges) -> Option<u64>
     if part.slots == 0 {
         return Some(0);
     }
-    if !is_texts(part.layout) {
+    if !part.layout.is_texts() {
         return Some(0);
     }
     visit_slots(

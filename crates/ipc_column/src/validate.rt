@@ -5,11 +5,11 @@ ghost use Rattle.ipc_column.specs.Rules.{text_slots, texts_in};
 ghost use Rattle.ipc_column.specs.Views.{columns, column_of, children_of};
 
 use crate::cause::Cause;
-use crate::layout::{Layout, has_validity, number_bytes};
 use crate::offsets::are_in_order;
 use crate::range_bytes::bytes_at;
 use crate::ranges::ColumnRanges;
 use crate::texts::visit_texts;
+use ipc_model::Layout;
 use ipc_scalar::count_clear;
 
 fn has_bitmap(slots: usize, bytes: usize) -> bool
@@ -32,7 +32,7 @@ fn holds_values(layout: Layout, slots: usize, bytes: usize) -> bool
     match layout {
         Layout::Null | Layout::VariableBytes { .. } | Layout::Unsupported => true,
         Layout::Bits => slots.div_ceil(8) <= bytes,
-        Layout::Numbers { bits, .. } => holds_width(number_bytes(bits), slots, bytes),
+        Layout::Numbers { bits, .. } => holds_width(bits.bytes(), slots, bytes),
         Layout::FixedBytes(width) => holds_width(width as usize, slots, bytes),
     }
 }
@@ -82,7 +82,7 @@ fn check_part(body: &[u8], part: &ColumnRanges) -> Result<(), Cause>
     {
         return Err(Cause::BufferTooShort);
     }
-    if has_validity(part.layout) && part.nulls != nulls_in(validity, part.slots) {
+    if part.layout.has_validity() && part.nulls != nulls_in(validity, part.slots) {
         return Err(Cause::BadNullCount);
     }
     if !in_order(part.layout, part.slots, offsets, values.len()) {

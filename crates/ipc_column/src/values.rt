@@ -5,7 +5,6 @@ ghost use Rattle.ipc_column.specs.Checks.{Holds};
 ghost use Rattle.ipc_column.specs.Values.{rows_of};
 ghost use Rattle.ipc_column.specs.Views.{columns, own_column};
 
-use crate::layout::is_signed_64;
 use crate::range_bytes::bytes_at;
 use crate::ranges::ColumnRanges;
 
@@ -15,7 +14,7 @@ fn values_of<'a>(body: &'a [u8], part: &ColumnRanges) -> Option<&'a [u8]>
     ensures lent { is_some result ≡ is_lent (own_column body.now part.now) }
     ensures values { IfSome result (λ values. AreValues body.now part.now values.now) }
 {
-    if is_signed_64(part.layout) && bytes_at(body, part.validity).is_empty() {
+    if part.layout.is_signed_64() && bytes_at(body, part.validity).is_empty() {
         Some(bytes_at(body, part.values))
     } else {
         None

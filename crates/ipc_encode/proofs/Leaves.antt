@@ -15,7 +15,7 @@ use Rattle.ipc_model.specs.declared.value.Value.{Value, out-Value}
 use Rattle.ipc_model.specs.declared.value.Value.TheVariants as v
 use Rattle.ipc_model.proofs.FitsLemmas.{fits_roll}
 use Rattle.ipc_meta.specs.Supported.{is_supported, is_supported_type, is_supported_field, supported_step, are_supported, all_true}
-use Rattle.ipc_column.specs.declared.layout.Layout.{Layout}
+use Rattle.ipc_model.specs.declared.layout.Layout.{Layout}
 use Rattle.ipc_column.specs.Shapes.{Shape, bare, field_shape, field_step, shapes}
 use Rattle.ipc_encode.specs.Buffers.{layout_of}
 use Rattle.ipc_encode.specs.Cells.{cell, cells}

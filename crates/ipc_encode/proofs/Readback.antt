@@ -9,16 +9,16 @@ use Rattle.std.proofs.lemmas.Bool.{eqb-true, ne_eqb}
 use Rattle.std.proofs.lemmas.Int.{ints, to_z-of_z, to_z_pos}
 use Rattle.std.proofs.lemmas.List.{length-replicate}
 use Rattle.ipc_scalar.specs.Bytes.{num, clear}
-use Rattle.ipc_scalar.proofs.Places.{num_low}
+use Rattle.ipc_scalar.proofs.Places.{length_low_bytes, num_low}
 use Rattle.ipc_model.specs.Ranges.{width, IsSignedWithin, IsUnsignedWithin}
 use Rattle.ipc_model.specs.declared.schema.IntBits.{IntBits}
 use Rattle.ipc_model.specs.declared.schema.IntBits.TheVariants.{B8, B16, B32, B64}
 use Rattle.ipc_model.specs.declared.value.Value.{Value, out-Value, roll-Value, roll-out-Value}
 use Rattle.ipc_model.specs.declared.value.Value.TheOpen.{Value-F}
 use Rattle.ipc_model.specs.declared.value.Value.TheVariants as v
-use Rattle.ipc_column.specs.declared.layout.Layout.{Layout}
-use Rattle.ipc_column.specs.declared.layout.Layout.TheVariants as l
-use Rattle.ipc_column.specs.Layouts.{number_bytes, has_validity}
+use Rattle.ipc_model.specs.declared.layout.Layout.{Layout}
+use Rattle.ipc_model.specs.declared.layout.Layout.TheVariants as l
+use Rattle.ipc_model.specs.Layouts.{number_bytes, has_validity}
 use Rattle.ipc_column.specs.Columns.{Column}
 use Rattle.ipc_column.specs.Rules.{HoldValues, HoldOffsets, IsLongEnough, HasBits, CountsNulls, HasOffsets, SpellsTexts}
 use Rattle.ipc_column.specs.Values.{is_valid, signed_at, offset, place, between, own_value, value_of}
@@ -137,13 +137,9 @@ wide_front which w (v ∷ vs) (suc i) h k =
     let e : w * suc i ≡ w + w * i = omega arith in
     omega (arith, e, h.0, wide_front which w vs i h.1 (omega arith), length-append (slot_bytes which v) (slots which (take i vs)))
 
-low_bytes : (i w x : ℕ) → length (bytes_low_first i w x) ≡ w
-low_bytes i zero x = refl
-low_bytes i (suc w) x = ap (λ (n : ℕ). suc n) (low_bytes (suc i) w x)
-
 numbers_wide : (bits : IntBits) (vs : List Value) → Wide (Number bits) (number_bytes bits) vs
 numbers_wide bits [] = tt
-numbers_wide bits (v ∷ vs) = (low_bytes 0 (number_bytes bits) (number_bits v), numbers_wide bits vs)
+numbers_wide bits (v ∷ vs) = (length_low_bytes 0 (number_bytes bits) (number_bits v), numbers_wide bits vs)
 
 fixed_length : (width : ℕ) (v : Value) (w : Value-F Value) → out-Value v ≡ w → Holds (l.FixedBytes width) w → length (fixed width v) ≡ width
 fixed_length width v Value-F.Null e h = rw e (length-replicate width 0)

@@ -20,9 +20,9 @@ use Rattle.ipc_model.specs.declared.value.Value.TheOpen.{Value-F}
 use Rattle.ipc_model.specs.declared.value.Value.TheVariants as v
 use Rattle.ipc_meta.specs.Supported.{is_supported_type, are_supported}
 use Rattle.ipc_meta.specs.declared.head.BatchHead.{BatchHead}
-use Rattle.ipc_column.specs.declared.layout.Layout.{Layout}
-use Rattle.ipc_column.specs.declared.layout.Layout.TheVariants as l
-use Rattle.ipc_column.specs.Layouts.{layout, type_layout, own_buffers}
+use Rattle.ipc_model.specs.declared.layout.Layout.{Layout}
+use Rattle.ipc_model.specs.declared.layout.Layout.TheVariants as l
+use Rattle.ipc_model.specs.Layouts.{layout, type_layout, own_buffers}
 use Rattle.ipc_column.specs.Columns.{Column, Columns, none, column, Each, EachTop}
 use Rattle.ipc_column.specs.Shapes.{Shape, field, shape_of, field_shape, nodes_in, buffers_in, node_at, buffer_at, column_at, cut, columns_of}
 use Rattle.ipc_column.specs.Rules.{IsNode, LiesIn, IsLongEnough, CountsNulls, HasOffsets, SpellsTexts}

@@ -2,9 +2,9 @@
 use Rattle.std.specs.Prelude.{◌≡◌, ℕ, ◌+◌, ◌-◌, ◌%◌, ◌==◌, ℤ, pos, List, [], ◌∷◌, ◌++◌, length, replicate, if◌then◌else◌}
 use Rattle.ipc_model.specs.declared.schema.Field.{Field, out-Field}
 use Rattle.ipc_model.specs.declared.value.Value.{Value}
-use Rattle.ipc_column.specs.declared.layout.Layout.{Layout}
-use Rattle.ipc_column.specs.declared.layout.Layout.TheVariants as l
-use Rattle.ipc_column.specs.Layouts.{layout}
+use Rattle.ipc_model.specs.declared.layout.Layout.{Layout}
+use Rattle.ipc_model.specs.declared.layout.Layout.TheVariants as l
+use Rattle.ipc_model.specs.Layouts.{layout}
 use Rattle.ipc_encode.specs.declared.batch.Parts.{Parts}
 use Rattle.ipc_encode.specs.declared.pieces.Flag.TheVariants.{Valid, True}
 use Rattle.ipc_encode.specs.declared.pieces.ValueSlot.TheVariants.{Number, Fixed, Content}

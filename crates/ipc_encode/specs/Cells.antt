@@ -5,7 +5,7 @@ use Rattle.std.specs.Int.{w64, cast_unsigned, bytes_low_first}
 use Rattle.ipc_model.specs.declared.value.Value.{Value, out-Value}
 use Rattle.ipc_model.specs.declared.value.Value.TheOpen.{Value-F}
 use Rattle.ipc_model.specs.declared.value.Value.TheVariants as v
-use Rattle.ipc_column.specs.Layouts.{number_bytes}
+use Rattle.ipc_model.specs.Layouts.{number_bytes}
 use Rattle.ipc_encode.specs.declared.pieces.Flag.{Flag}
 use Rattle.ipc_encode.specs.declared.pieces.Flag.TheVariants as flag
 use Rattle.ipc_encode.specs.declared.pieces.ValueSlot.{ValueSlot}

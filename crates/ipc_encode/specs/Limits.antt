@@ -4,19 +4,20 @@ use Rattle.ipc_model.specs.declared.fault.WriteFault.{WriteFault}
 use Rattle.ipc_model.specs.declared.fault.WriteFault.TheVariants as fault
 use Rattle.ipc_model.specs.declared.schema.Field.{Field}
 use Rattle.ipc_model.specs.declared.value.Value.{Value}
-use Rattle.ipc_column.specs.declared.layout.Layout.{Layout}
-use Rattle.ipc_column.specs.declared.layout.Layout.TheVariants as l
+use Rattle.ipc_model.specs.declared.layout.Layout.{Layout}
+use Rattle.ipc_model.specs.declared.layout.Layout.TheVariants as l
 use Rattle.ipc_encode.specs.declared.pieces.ValueSlot.TheVariants.{Content}
 use Rattle.ipc_encode.specs.Cells.{cells, slots}
 use Rattle.ipc_encode.specs.Buffers.{layout_of, body_of}
+use Rattle.ipc_model.specs.Limits.{max_body, max_data, max_rows}
 
 -- more rows than a length of 32 bits counts (Arrow Columnar Format, "Array lengths")
 abbrev pub IsTooMany : List (List Value) → Type 0
-IsTooMany rows = 2 ^ 31 - 1 < length rows
+IsTooMany rows = max_rows < length rows
 
 -- more bytes than an offset of 32 bits counts (Arrow Columnar Format, "Variable-size Binary Layout")
 abbrev pub HasLongData : Layout → List Value → Type 0
-HasLongData (l.VariableBytes utf8) values = 2 ^ 31 - 1 < length (slots Content values)
+HasLongData (l.VariableBytes utf8) values = max_data < length (slots Content values)
 HasLongData l.Null values = ⊥
 HasLongData l.Bits values = ⊥
 HasLongData (l.Numbers bits signed) values = ⊥
@@ -28,9 +29,9 @@ abbrev pub SomeLongData : ℕ → List Field → List (List Value) → Type 0
 SomeLongData j [] rows = ⊥
 SomeLongData j (f ∷ fs) rows = HasLongData (layout_of f) (cells j rows) ⊎ SomeLongData (j + 1) fs rows
 
--- a binary or UTF-8 column has more than 2^31 - 1 bytes of data, or the body would have more than 2^40
+-- a binary or UTF-8 column has more data than its offsets reach, or the body would be too long
 abbrev pub IsTooLong : List Field → List (List Value) → Type 0
-IsTooLong fields rows = SomeLongData 0 fields rows ⊎ (2 ^ 40 < length (body_of fields rows))
+IsTooLong fields rows = SomeLongData 0 fields rows ⊎ (max_body < length (body_of fields rows))
 
 -- the rows are within the limits
 pub record IsWithin (fields : List Field) (rows : List (List Value)) : Type 0 where

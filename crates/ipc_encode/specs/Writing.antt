@@ -5,8 +5,8 @@ use Rattle.ipc_model.specs.declared.fault.WriteFault.{WriteFault}
 use Rattle.ipc_model.specs.declared.fault.WriteFault.TheVariants as fault
 use Rattle.ipc_model.specs.declared.schema.Field.{Field}
 use Rattle.ipc_model.specs.declared.value.Value.{Value}
-use Rattle.ipc_column.specs.declared.layout.Layout.{Layout}
-use Rattle.ipc_column.specs.declared.layout.Layout.TheVariants as l
+use Rattle.ipc_model.specs.declared.layout.Layout.{Layout}
+use Rattle.ipc_model.specs.declared.layout.Layout.TheVariants as l
 use Rattle.ipc_encode.specs.declared.draft.Draft.{Draft}
 use Rattle.ipc_encode.specs.declared.pieces.Piece.{Piece}
 use Rattle.ipc_encode.specs.declared.pieces.Piece.TheVariants as p
@@ -14,23 +14,24 @@ use Rattle.ipc_encode.specs.declared.pieces.ValueSlot.TheVariants.{Content}
 use Rattle.ipc_encode.specs.Cells.{cells, slots, HasUtf8}
 use Rattle.ipc_encode.specs.Buffers.{layout_of, joined, nodes_from, ranges_from, buffers_of, body_of}
 use Rattle.ipc_encode.specs.Limits.{HasLongData}
+use Rattle.ipc_model.specs.Limits.{max_body, max_data}
 
 -- ---- of one buffer
 
 -- the data is more than offsets reach
 abbrev pub HasLong : Piece → List Value → Type 0
-HasLong p.Offsets values = 2 ^ 31 - 1 < length (slots Content values)
+HasLong p.Offsets values = max_data < length (slots Content values)
 HasLong _ values = ⊥
 
 -- what is known of values whose buffer was written
 abbrev pub Shows : Piece → List Value → Type 0
-Shows p.Offsets values = length (slots Content values) ≤ 2 ^ 31 - 1
+Shows p.Offsets values = length (slots Content values) ≤ max_data
 Shows (p.Slots Content) values = AllByRecursion HasUtf8 values
 Shows _ values = ⊤
 
 -- why a buffer isn't written that would make a body so long
 abbrev pub IsRefusedAt : Piece → List Value → ℕ → WriteFault → Type 0
-IsRefusedAt piece values size fault.TooLong = HasLong piece values ⊎ (2 ^ 40 < size)
+IsRefusedAt piece values size fault.TooLong = HasLong piece values ⊎ (max_body < size)
 IsRefusedAt piece values size fault.OutOfMemory = ⊤
 IsRefusedAt piece values size _ = ⊥
 
@@ -42,7 +43,7 @@ SomeLong (piece ∷ more) values = HasLong piece values ⊎ SomeLong more values
 -- why the buffers of a column aren't written: a value's data or the body is too long, or memory
 -- ran out
 abbrev pub AreRefusedAt : List Piece → List Value → ℕ → WriteFault → Type 0
-AreRefusedAt pieces values size fault.TooLong = SomeLong pieces values ⊎ (2 ^ 40 < size)
+AreRefusedAt pieces values size fault.TooLong = SomeLong pieces values ⊎ (max_body < size)
 AreRefusedAt pieces values size fault.OutOfMemory = ⊤
 AreRefusedAt pieces values size _ = ⊥
 
@@ -64,7 +65,7 @@ AllStored j (f ∷ fs) rows = AreStored (layout_of f) (cells j rows) × AllStore
 
 -- why a column isn't written that would make a body so long
 abbrev pub IsColumnRefusedAt : Field → List Value → ℕ → WriteFault → Type 0
-IsColumnRefusedAt f values size fault.TooLong = HasLongData (layout_of f) values ⊎ (2 ^ 40 < size)
+IsColumnRefusedAt f values size fault.TooLong = HasLongData (layout_of f) values ⊎ (max_body < size)
 IsColumnRefusedAt f values size fault.OutOfMemory = ⊤
 IsColumnRefusedAt f values size _ = ⊥
 

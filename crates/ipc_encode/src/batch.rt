@@ -5,6 +5,7 @@ ghost use Rattle.ipc_model.specs.WellFormed.{IsFieldWellFormed};
 ghost use Rattle.ipc_model.specs.Entries.{entries};
 ghost use Rattle.ipc_meta.specs.Supported.{are_supported};
 ghost use Rattle.ipc_column.specs.Rows.{Rows};
+ghost use Rattle.ipc_model.specs.Limits.{max_body};
 ghost use Rattle.ipc_encode.specs.Buffers.{AreLaidOut};
 ghost use Rattle.ipc_encode.specs.Writing.{IsDrafted};
 ghost use Rattle.ipc_encode.specs.Limits.{IsWithin, IsRefused};
@@ -12,12 +13,11 @@ ghost use Rattle.ipc_encode.specs.Writing.{AllStored};
 
 use crate::draft::{Draft, add_column};
 use crate::index::IndexOf;
-use ipc_model::{Field, Row, WriteFault};
-use ipc_model::items::Items;
+use ipc_model::{Field, Items, Row, WriteFault, limits};
 use std::alloc::Global;
 
 // The most rows of a batch.
-const MAX_ROWS: usize = 0x7fff_ffff;
+const MAX_ROWS: usize = limits::MAX_ROWS as usize;
 
 /// What rows are written as (Message.fbs, RecordBatch).
 #[derive(Debug, Drop)]
@@ -58,7 +58,7 @@ pub fn encode<I: IndexOf>(
     ensures laid_out { IfOk result (λ parts. are_supported fields.now ≡ true → AreLaidOut fields.now rows.now parts) }
     // What is written is within the limits.
     ensures within { IfOk result (λ parts. are_supported fields.now ≡ true → IsWithin fields.now rows.now) }
-    ensures body { IfOk result (λ parts. length parts.body.items ≤ 2 ^ 40) }
+    ensures body { IfOk result (λ parts. length parts.body.items ≤ max_body) }
     // A refusal is true of the rows.
     ensures refused { IfErr result (λ fault. are_supported fields.now ≡ true → IsRefused fields.now rows.now fault) }
 {
@@ -80,7 +80,7 @@ fn draft_of(alloc: Global, fields: &[Field], rows: &[Row]) -> Result<Draft, Writ
     ensures laid_out { IfOk result (λ draft. IsDrafted fields.now rows.now draft) }
     ensures within { IfOk result (λ draft. IsWithin fields.now rows.now) }
     ensures stored { IfOk result (λ draft. AllStored 0 fields.now rows.now) }
-    ensures body { IfOk result (λ draft. length draft.body.items ≤ 2 ^ 40) }
+    ensures body { IfOk result (λ draft. length draft.body.items ≤ max_body) }
     ensures refused { IfErr result (IsRefused fields.now rows.now) }
 {
     if rows.len() > MAX_ROWS {

@@ -1,5 +1,6 @@
 ghost use Rattle.std.specs.Prelude.{◌≡◌, ◌≤◌, ◌<◌, ◌+◌, ◌-◌, ◌%◌, ◌^◌, ◌++◌, ℕ, pos, [], ◌∷◌, length, replicate, OnOk, IfErr};
 ghost use Rattle.std.specs.List.{AllByRecursion};
+ghost use Rattle.ipc_model.specs.Limits.{max_body, max_rows};
 ghost use Rattle.ipc_encode.specs.Buffers.{buffers_in, column_buffers, joined, layout_of, piece_bytes};
 ghost use Rattle.ipc_encode.specs.Cells.{cells, nulls};
 ghost use Rattle.ipc_encode.specs.Writing.{Adds};
@@ -37,12 +38,12 @@ fn add_buffer(
     column: usize,
     piece: Piece,
 ) -> Result<(), WriteFault>
-    requires few { length rows.now < 2 ^ 31 }
-    requires body { length draft.old.body.items ≤ 2 ^ 40 }
+    requires few { length rows.now ≤ max_rows }
+    requires body { length draft.old.body.items ≤ max_body }
     ensures nodes { OnOk result (draft.new.nodes.items ≡ draft.old.nodes.items) }
     ensures adds { OnOk result (Adds draft.old draft.new (piece_bytes piece (cells column rows.now) ∷ [])) }
     ensures shows { OnOk result (Shows piece (cells column rows.now)) }
-    ensures body { OnOk result (length draft.new.body.items ≤ 2 ^ 40) }
+    ensures body { OnOk result (length draft.new.body.items ≤ max_body) }
     ensures err { IfErr result (IsRefusedAt piece (cells column rows.now) (length (draft.old.body.items ++ joined (piece_bytes piece (cells column rows.now) ∷ [])))) }
 {
     let start = draft.body.len();
@@ -63,12 +64,12 @@ fn add_buffers(
     column: usize,
     pieces: &[Piece],
 ) -> Result<(), WriteFault>
-    requires few { length rows.now < 2 ^ 31 }
-    requires body { length draft.old.body.items ≤ 2 ^ 40 }
+    requires few { length rows.now ≤ max_rows }
+    requires body { length draft.old.body.items ≤ max_body }
     ensures nodes { OnOk result (draft.new.nodes.items ≡ draft.old.nodes.items) }
     ensures adds { OnOk result (Adds draft.old draft.new (buffers_in pieces.now (cells column rows.now))) }
     ensures shows { OnOk result (AllByRecursion (λ piece. Shows piece (cells column rows.now)) pieces.now) }
-    ensures body { OnOk result (length draft.new.body.items ≤ 2 ^ 40) }
+    ensures body { OnOk result (length draft.new.body.items ≤ max_body) }
     ensures err { IfErr result (AreRefusedAt pieces.now (cells column rows.now) (length (draft.old.body.items ++ joined (buffers_in pieces.now (cells column rows.now))))) }
 {
     for piece in pieces {
@@ -87,13 +88,13 @@ pub(crate) fn add_column(
     rows: &[Row],
     column: usize,
 ) -> Result<(), WriteFault>
-    requires few { length rows.now < 2 ^ 31 }
-    requires body { length draft.old.body.items ≤ 2 ^ 40 }
+    requires few { length rows.now ≤ max_rows }
+    requires body { length draft.old.body.items ≤ max_body }
     ensures nodes { OnOk result (draft.new.nodes.items ≡ draft.old.nodes.items ++ (pos (length rows.now), pos (nulls (cells column rows.now))) ∷ []) }
     ensures adds { OnOk result (Adds draft.old draft.new (column_buffers field.now (cells column rows.now))) }
     ensures short { OnOk result (¬ HasLongData (layout_of field.now) (cells column rows.now)) }
     ensures stored { OnOk result (AreStored (layout_of field.now) (cells column rows.now)) }
-    ensures body { OnOk result (length draft.new.body.items ≤ 2 ^ 40) }
+    ensures body { OnOk result (length draft.new.body.items ≤ max_body) }
     ensures err { IfErr result (IsColumnRefusedAt field.now (cells column rows.now) (length (draft.old.body.items ++ joined (column_buffers field.now (cells column rows.now))))) }
 {
     let nulls = count_nulls(rows, column);

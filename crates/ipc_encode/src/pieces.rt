@@ -1,7 +1,7 @@
 ghost use Rattle.std.specs.Prelude.{◌≡◌, IfOk};
 ghost use Rattle.ipc_encode.specs.Buffers.{validity, pieces, layout_of};
 
-use ipc_model::{DataType, DateUnit, Field, IntBits};
+use ipc_model::{Field, IntBits, Layout, layout_of};
 use std::alloc::{AllocError, Global};
 
 /// A bit of a value that is packed with those of others.
@@ -57,25 +57,18 @@ pub(crate) fn pieces_of(
 ) -> Result<Vec<Piece>, AllocError>
     ensures { IfOk result (λ list. list.items ≡ pieces (layout_of field.now) nulls) }
 {
-    if field.dictionary.is_some() {
-        return Ok(Vec::new(alloc));
-    }
-    let values = match &field.kind {
-        DataType::Null | DataType::List | DataType::Struct => return Ok(Vec::new(alloc)),
-        DataType::Binary | DataType::Utf8 => {
+    let values = match layout_of(&field.kind, field.dictionary) {
+        Layout::Null | Layout::Unsupported => return Ok(Vec::new(alloc)),
+        Layout::VariableBytes { .. } => {
             return Ok(vec![in alloc;
                 validity(nulls),
                 Piece::Offsets,
                 Piece::Slots(ValueSlot::Content),
             ]?);
         }
-        DataType::Bool => Piece::Flags(Flag::True),
-        DataType::Int { bits, .. } => Piece::Slots(ValueSlot::Number(*bits)),
-        DataType::FixedSizeBinary(width) => Piece::Slots(ValueSlot::Fixed(*width)),
-        DataType::Date(DateUnit::Day) => Piece::Slots(ValueSlot::Number(IntBits::B32)),
-        DataType::Date(DateUnit::Millisecond) | DataType::Timestamp { .. } => {
-            Piece::Slots(ValueSlot::Number(IntBits::B64))
-        }
+        Layout::Bits => Piece::Flags(Flag::True),
+        Layout::Numbers { bits, .. } => Piece::Slots(ValueSlot::Number(bits)),
+        Layout::FixedBytes(width) => Piece::Slots(ValueSlot::Fixed(width)),
     };
     Ok(vec![in alloc; validity(nulls), values]?)
 }

@@ -1,5 +1,6 @@
 ghost use Rattle.std.specs.Prelude.{◌≡◌, ◌≤◌, ◌<◌, ◌+◌, ◌-◌, ◌^◌, ◌++◌, [], ◌∷◌, length, OnOk, IfErr};
 ghost use Rattle.std.specs.List.{AllByRecursion};
+ghost use Rattle.ipc_model.specs.Limits.{max_body, max_rows};
 ghost use Rattle.ipc_encode.specs.Bitmaps.{flags_number, bitmap};
 ghost use Rattle.ipc_encode.specs.Buffers.{piece_bytes};
 ghost use Rattle.ipc_encode.specs.Cells.{cells, flags, slot_bytes, slots, offsets};
@@ -7,14 +8,14 @@ ghost use Rattle.ipc_encode.specs.Writing.{IsRefusedAt, Shows};
 
 use crate::cells::{content, count_nulls, is_set, number_bits, value_at};
 use crate::pieces::{Flag, Piece, ValueSlot};
-use ipc_model::{IntBits, Row, Value, WriteFault};
+use ipc_model::{IntBits, Row, Value, WriteFault, limits};
 use std::alloc::AllocError;
 
 /// The most bytes of a body.
-pub(crate) const MAX_BODY: usize = 1 << 40;
+pub(crate) const MAX_BODY: usize = limits::MAX_BODY as usize;
 
 // The most bytes that offsets of 32 bits reach.
-const MAX_DATA: usize = 0x7fff_ffff;
+const MAX_DATA: usize = limits::MAX_DATA as usize;
 
 // The flags of at most eight values in a byte, the first of them lowest.
 fn packed(rows: &[Row], column: usize, flag: Flag) -> u8
@@ -37,7 +38,7 @@ fn write_flags(
     column: usize,
     flag: Flag,
 ) -> Result<(), AllocError>
-    requires { length rows.now < 2 ^ 31 }
+    requires { length rows.now ≤ max_rows }
     ensures { OnOk result (body.new.items ≡ body.old.items ++ bitmap (flags flag (cells column rows.now))) }
 {
     for k in 0..rows.len().div_ceil(8) {
@@ -62,7 +63,7 @@ fn write_number(body: &mut Vec<u8>, value: &Value, bits: IntBits) -> Result<(), 
 
 // Appends the bytes of a binary value, or so many zeros.
 fn write_fixed(body: &mut Vec<u8>, value: &Value, width: u32) -> Result<(), AllocError>
-    requires { length body.old.items ≤ 2 ^ 40 }
+    requires { length body.old.items ≤ max_body }
     ensures { OnOk result (body.new.items ≡ body.old.items ++ slot_bytes (ValueSlot.Fixed width) value.now) }
 {
     match value {
@@ -73,7 +74,7 @@ fn write_fixed(body: &mut Vec<u8>, value: &Value, width: u32) -> Result<(), Allo
 
 // Appends what a value gives to the buffer of values.
 fn write_slot(body: &mut Vec<u8>, value: &Value, slot: ValueSlot) -> Result<(), AllocError>
-    requires { length body.old.items ≤ 2 ^ 40 }
+    requires { length body.old.items ≤ max_body }
     ensures ok { OnOk result (body.new.items ≡ body.old.items ++ slot_bytes slot value.now) }
     ensures shows { OnOk result (Shows (Piece.Slots slot) (value.now ∷ [])) }
 {
@@ -134,7 +135,7 @@ pub(crate) fn write_piece(
     column: usize,
     piece: Piece,
 ) -> Result<(), WriteFault>
-    requires { length rows.now < 2 ^ 31 }
+    requires { length rows.now ≤ max_rows }
     ensures ok { OnOk result (body.new.items ≡ body.old.items ++ piece_bytes piece (cells column rows.now)) }
     ensures shows { OnOk result (Shows piece (cells column rows.now)) }
     ensures err { IfErr result (IsRefusedAt piece (cells column rows.now) (length body.old.items + length (piece_bytes piece (cells column rows.now)))) }

@@ -12,7 +12,8 @@ use Rattle.ipc_meta.specs.Supported.{IsUnsupported}
 use Rattle.ipc_meta.specs.Heads.{HeadOf}
 use Rattle.ipc_meta.proofs.Unique.{head_same}
 use Rattle.ipc_meta.proofs.Empty.{no_metadata}
-use Rattle.ipc_frame.specs.Frames.{mark, eos, Frame, Begins, Pending, in_mark, in_size, in_metadata, in_body, longest_metadata}
+use Rattle.ipc_frame.specs.Frames.{mark, eos, Frame, Begins, Pending, in_mark, in_size, in_metadata, in_body}
+use Rattle.ipc_model.specs.Limits.{max_metadata}
 use Rattle.ipc_frame.specs.Sees.{Sees, RefusesStart, StatesNoHead}
 use Rattle.ipc_frame.specs.Decisions.{start_decision, RefusesNow, SeesExactly}
 use Rattle.ipc_frame.specs.declared.frame.Frame.TheVariants as f
@@ -42,7 +43,7 @@ metadata_longer z c n whole =
 pub start_longer : (z c : List ℕ) (e : Fault) → RefusesStart z e → RefusesStart (z ++ c) e
 start_longer z c NotContinued r = (omega (arith, r.0, length-append z c), λ m. r.1 (sym (take-append-le 4 z c r.0) ∙ m))
 start_longer z c BadMetadataLength r = (omega (arith, r.0, length-append z c), mark_longer z c (omega (arith, r.0)) r.1, subst (λ x. int_lt x (pos 0) ≡ true) (sym (front_number z c r.0)) r.2)
-start_longer z c MetadataTooLong r = (omega (arith, r.0, length-append z c), mark_longer z c (omega (arith, r.0)) r.1, subst (λ x. int_lt (pos longest_metadata) x ≡ true) (sym (front_number z c r.0)) r.2)
+start_longer z c MetadataTooLong r = (omega (arith, r.0, length-append z c), mark_longer z c (omega (arith, r.0)) r.1, subst (λ x. int_lt (pos max_metadata) x ≡ true) (sym (front_number z c r.0)) r.2)
 start_longer z c _ r = absurd r
 
 pub no_head_longer : (z c : List ℕ) (e : Fault) → StatesNoHead z e → StatesNoHead (z ++ c) e
@@ -102,8 +103,8 @@ module _ (z c : List ℕ) (k : ℕ) (few : length c ≤ k) where
   not_negative : (j : ℕ) → Begins z j → int_lt (int32 (z ++ c) 4) (pos 0) ≡ true → ⊥
   not_negative j b r = let bad : int_lt (pos j) (pos 0) ≡ true = subst (λ x. int_lt x (pos 0) ≡ true) (begins_longer z c j b).sized r in grind (arith, nat_tests)
 
-  not_longer : (j : ℕ) → Begins z j → int_lt (pos longest_metadata) (int32 (z ++ c) 4) ≡ true → ⊥
-  not_longer j b r = let bad : int_lt (pos longest_metadata) (pos j) ≡ true = subst (λ x. int_lt (pos longest_metadata) x ≡ true) (begins_longer z c j b).sized r in let fits = b.fits in grind (arith, nat_tests)
+  not_longer : (j : ℕ) → Begins z j → int_lt (pos max_metadata) (int32 (z ++ c) 4) ≡ true → ⊥
+  not_longer j b r = let bad : int_lt (pos max_metadata) (pos j) ≡ true = subst (λ x. int_lt (pos max_metadata) x ≡ true) (begins_longer z c j b).sized r in let fits = b.fits in grind (arith, nat_tests)
 
   start_exact : Pending z k → (e : Fault) → RefusesStart (z ++ c) e → length (z ++ c) ≡ start_decision e
   start_exact (in_mark some e) NotContinued r = omega (arith, long, r.0)

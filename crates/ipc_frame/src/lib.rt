@@ -7,5 +7,5 @@ mod next;
 mod write;
 
 pub use frame::{Frame, Seen};
-pub use next::next_frame;
+pub use next::{END, next_frame};
 pub use write::frame_into;

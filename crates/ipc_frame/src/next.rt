@@ -5,15 +5,19 @@ ghost use Rattle.ipc_frame.specs.Frames.{Begins};
 
 use crate::frame::{Frame, Seen};
 use ipc_meta::read_message;
+use ipc_model::limits::MAX_METADATA;
 use ipc_model::Fault;
 use ipc_scalar::get_i32;
 use std::alloc::Global;
 
+// The continuation mark, with which each message begins (Arrow Columnar Format, "Encapsulated message format").
 pub(crate) const MARK: [u8; 4] = [255; 4];
 
-const END: [u8; 8] = [255, 255, 255, 255, 0, 0, 0, 0];
+/// The end of a stream: the continuation mark and a size of 0 (Arrow Columnar Format, "IPC Streaming Format").
+pub const END: [u8; 8] = [255, 255, 255, 255, 0, 0, 0, 0];
 
-const LONGEST_METADATA: i32 = 1 << 24;
+// How many bytes metadata may have, a signed number as its size is stated.
+const LONGEST_METADATA: i32 = MAX_METADATA as i32;
 
 // What the first eight bytes say.
 enum Start {

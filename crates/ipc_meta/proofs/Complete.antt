@@ -10,6 +10,7 @@ use Rattle.ipc_model.specs.declared.schema.DataType.{DataType}
 use Rattle.ipc_model.specs.declared.schema.Field.{Field, roll-Field, out-Field, ind-Field, fold-roll-Field, fold_out-Field, map-Field}
 use Rattle.ipc_model.specs.declared.schema.Field.TheOpen.{Field-F}
 use Rattle.ipc_model.specs.declared.schema.Schema.{Schema}
+use Rattle.ipc_model.proofs.Depths.{AreShallow, both_shallow, well_formed_shallow}
 use Rattle.ipc_meta.specs.declared.budget.Budget.{Budget}
 use Rattle.ipc_meta.specs.declared.head.BatchHead.{BatchHead}
 use Rattle.ipc_meta.specs.Budgets.{less_fields, less_text, less_pairs}
@@ -17,6 +18,7 @@ use Rattle.ipc_meta.specs.Tables.{text_at, type_at}
 use Rattle.ipc_meta.specs.Fields.{TablesAt, VectorAt, PairAt, FieldAt, SchemaAt}
 use Rattle.ipc_meta.specs.Heads.{BatchAt}
 use Rattle.ipc_meta.specs.Reading.{batch_read, each, text_read, pair_read, pairs_read, type_read, fields_read, field_read}
+use Rattle.ipc_meta.proofs.Entries.{tables_are}
 use Rattle.ipc_meta.proofs.Sound.{field_roll}
 
 -- so many fields, bytes of text and pairs
@@ -63,18 +65,11 @@ each_pair s (x ∷ ps) p n a b c m h e =
     let size : n ≡ suc (n - 1) = (let l = h.1 in omega arith) in
     rw (size, h.2, pair_complete h.0 x a b c (pair_text ps + m) h.3 (omega arith), each_pair s ps (p + 4) (n - 1) a (pair_text ps + m) c m h.4 refl) refl
 
-tables_many : {X : Type 0} (At : X → TableView → Type 0) (s : List ℕ) (xs : List X) (p n : ℕ) → TablesAt At s p n xs → n ≡ length xs
-tables_many At s [] p n h = h
-tables_many At s (x ∷ xs) p n h =
-    let rest = tables_many At s xs (p + 4) (n - 1) h.4 in
-    let l = h.1 in
-    omega arith
-
 pub pairs_complete : (t : TableView) (k : ℕ) (ps : List (List ℕ × List ℕ)) (a b c m q : ℕ) → VectorAt PairAt ps t k → pair_text ps + m ≡ b → length ps + q ≡ c
     → pairs_read t k (budget a b c) ≡ Ok (ps, budget a m q)
 unfolding pairs_read
 pairs_complete t k ps a b c m q h e f =
-    let many = tables_many PairAt h.0.bytes ps h.0.at h.0.len h.2 in
+    let many = tables_are PairAt h.0.bytes ps h.0.at h.0.len h.2 in
     rw (h.1, less_pairs_is h.0.len a b c q (omega arith), each_pair h.0.bytes ps h.0.at h.0.len a b q m h.2 e) refl
 
 -- ---- the type
@@ -90,17 +85,6 @@ text_of es = sum_by (λ e. e.text) es
 
 abbrev pairs_of : List Entry → ℕ
 pairs_of es = sum_by (λ e. e.pairs) es
-
-abbrev Within : ℕ → List Entry → Type 0
-Within m es = AllByRecursion (λ e. e.depth ≤ m) es
-
-both_within : (m : ℕ) (xs ys : List Entry) → Within m (xs ++ ys) → Within m xs × Within m ys
-both_within m [] ys h = (tt, h)
-both_within m (x ∷ xs) ys h = let p = both_within m xs ys h.1 in ((h.0, p.0), p.1)
-
-within_fine : (es : List Entry) → AllByRecursion IsFieldWellFormed es → Within 64 es
-within_fine [] h = tt
-within_fine (e ∷ es) h = (h.0.shallow, within_fine es h.1)
 
 some_entry : (f : Field) (d : ℕ) → 0 < length (preorder f d)
 some_entry f d =
@@ -118,7 +102,7 @@ abbrev Counted : List Entry → ℕ → ℕ → ℕ → ℕ → ℕ → ℕ → 
 Counted es n a b c r m q = (length es + r ≡ a + n) × (text_of es + m ≡ b) × (pairs_of es + q ≡ c)
 
 abbrev IsReadBack : Field → Type 0
-IsReadBack f = (n d : ℕ) (t : TableView) (a b c r m q : ℕ) → FieldAt f t → n + d ≡ 65 → Within 64 (preorder f d) → Counted (preorder f d) 1 a b c r m q
+IsReadBack f = (n d : ℕ) (t : TableView) (a b c r m q : ℕ) → FieldAt f t → n + d ≡ 65 → AreShallow 64 (preorder f d) → Counted (preorder f d) 1 a b c r m q
     → field_read n t (budget a b c) ≡ Ok (f, budget r m q)
 
 abbrev Shown : Type 0
@@ -127,7 +111,7 @@ Shown = (f : Field) × IsReadBack f
 abbrev fields_of : List Shown → List Field
 fields_of cs = map (λ c. c.0) cs
 
-each_field : (s : List ℕ) (cs : List Shown) (n d p k a b c r m q : ℕ) → TablesAt FieldAt s p k (fields_of cs) → n + d ≡ 65 → Within 64 (all_at d (map preorder (fields_of cs)))
+each_field : (s : List ℕ) (cs : List Shown) (n d p k a b c r m q : ℕ) → TablesAt FieldAt s p k (fields_of cs) → n + d ≡ 65 → AreShallow 64 (all_at d (map preorder (fields_of cs)))
     → Counted (all_at d (map preorder (fields_of cs))) k a b c r m q → each (field_read n) s p k (budget a b c) ≡ Ok (fields_of cs, budget r m q)
 unfolding each
 each_field s [] n d p k a b c r m q h deep w e =
@@ -143,8 +127,8 @@ each_field s (f ∷ cs) n d p k a b c r m q h deep w e =
     let text = sum_by-append (λ e. e.text) here there in
     let pairs = sum_by-append (λ e. e.pairs) here there in
     let several = many_entries (fields_of cs) d in
-    let many = tables_many FieldAt s (fields_of cs) (p + 4) (k - 1) h.4 in
-    let deeper = both_within 64 here there w in
+    let many = tables_are FieldAt s (fields_of cs) (p + 4) (k - 1) h.4 in
+    let deeper = both_shallow 64 here there w in
     let e0 = e.0 in
     let e1 = e.1 in
     let e2 = e.2 in
@@ -153,11 +137,11 @@ each_field s (f ∷ cs) n d p k a b c r m q h deep w e =
     let others = each_field s cs n d (p + 4) (k - 1) (a + 1 - length here) (text_of there + m) (pairs_of there + q) r m q h.4 deep deeper.1 (omega arith, refl, refl) in
     rw (size, h.2, first, others) refl
 
-children_complete : (t : TableView) (k : ℕ) (cs : List Shown) (n d a b c r m q : ℕ) → VectorAt FieldAt (fields_of cs) t k → n + d ≡ 65 → Within 64 (all_at d (map preorder (fields_of cs)))
+children_complete : (t : TableView) (k : ℕ) (cs : List Shown) (n d a b c r m q : ℕ) → VectorAt FieldAt (fields_of cs) t k → n + d ≡ 65 → AreShallow 64 (all_at d (map preorder (fields_of cs)))
     → Counted (all_at d (map preorder (fields_of cs))) 0 a b c r m q → fields_read (field_read n) t k (budget a b c) ≡ Ok (fields_of cs, budget r m q)
 unfolding fields_read
 children_complete t k cs n d a b c r m q h deep w e =
-    let many = tables_many FieldAt h.0.bytes (fields_of cs) h.0.at h.0.len h.2 in
+    let many = tables_are FieldAt h.0.bytes (fields_of cs) h.0.at h.0.len h.2 in
     let several = many_entries (fields_of cs) d in
     let e0 = e.0 in
     rw (h.1, less_fields_is h.0.len a b c (a - h.0.len) (omega arith), each_field h.0.bytes cs n d h.0.at h.0.len (a - h.0.len) b c r m q h.2 deep w (omega arith, e.1, e.2)) refl
@@ -166,14 +150,14 @@ roll_read : (y : Field-F Shown) → IsReadBack (roll-Field (map-Field Shown Fiel
 unfolding field_read
 roll_read y zero d t a b c r m q h deep w e =
     let z : Field-F Field = map-Field Shown Field (λ c. c.0) y in
-    let g : Within 64 (preorder_step (map-Field Field Listing preorder z) d) = subst (λ (l : Listing). Within 64 (l d)) (fold-roll-Field Listing preorder_step z) w in
+    let g : AreShallow 64 (preorder_step (map-Field Field Listing preorder z) d) = subst (λ (l : Listing). AreShallow 64 (l d)) (fold-roll-Field Listing preorder_step z) w in
     let shallow = g.0 in
     absurd (omega arith)
 roll_read y (suc n) d t a b c r m q h deep w e =
     let z : Field-F Field = map-Field Shown Field (λ c. c.0) y in
     let rolled = fold-roll-Field Listing preorder_step z in
     let below = all_at (d + 1) (map preorder (fields_of y.children)) in
-    let g : Within 64 (preorder_step (map-Field Field Listing preorder z) d) = subst (λ (l : Listing). Within 64 (l d)) rolled w in
+    let g : AreShallow 64 (preorder_step (map-Field Field Listing preorder z) d) = subst (λ (l : Listing). AreShallow 64 (l d)) rolled w in
     let counted : Counted (entry_of (map-Field Field Listing preorder z) d ∷ below) 1 a b c r m q = subst (λ (l : Listing). Counted (l d) 1 a b c r m q) rolled e in
     let here = subst (λ (F : TableView → Type 0). F t) (field_roll z) h in
     let e0 = counted.0 in
@@ -196,10 +180,10 @@ shown_are : (fs : List Field) → fields_of (map (λ f. (f, field_complete f)) f
 shown_are [] = refl
 shown_are (f ∷ fs) = ap (λ gs. f ∷ gs) (shown_are fs)
 
-pub columns_complete : (t : TableView) (k : ℕ) (fs : List Field) (n d a b c r m q : ℕ) → VectorAt FieldAt fs t k → n + d ≡ 65 → Within 64 (all_at d (map preorder fs))
+pub columns_complete : (t : TableView) (k : ℕ) (fs : List Field) (n d a b c r m q : ℕ) → VectorAt FieldAt fs t k → n + d ≡ 65 → AreShallow 64 (all_at d (map preorder fs))
     → Counted (all_at d (map preorder fs)) 0 a b c r m q → fields_read (field_read n) t k (budget a b c) ≡ Ok (fs, budget r m q)
 columns_complete t k fs n d a b c r m q =
-    subst (λ gs. VectorAt FieldAt gs t k → n + d ≡ 65 → Within 64 (all_at d (map preorder gs)) → Counted (all_at d (map preorder gs)) 0 a b c r m q → fields_read (field_read n) t k (budget a b c) ≡ Ok (gs, budget r m q))
+    subst (λ gs. VectorAt FieldAt gs t k → n + d ≡ 65 → AreShallow 64 (all_at d (map preorder gs)) → Counted (all_at d (map preorder gs)) 0 a b c r m q → fields_read (field_read n) t k (budget a b c) ≡ Ok (gs, budget r m q))
     (shown_are fs) (children_complete t k (map (λ f. (f, field_complete f)) fs) n d a b c r m q)
 
 -- ---- schemas and batches
@@ -223,7 +207,7 @@ schema_complete t s h =
       after = budget (65536 - length es) (67108864 - pair_text s.metadata - text_of es) (1048576 - length s.metadata - pairs_of es);
       pairs = pairs_complete t 2 s.metadata 65536 67108864 1048576 (67108864 - pair_text s.metadata) (1048576 - length s.metadata) h.pairs (omega arith) (omega arith);
       fields = columns_complete t 1 s.fields 64 1 65536 (67108864 - pair_text s.metadata) (1048576 - length s.metadata) (65536 - length es) (67108864 - pair_text s.metadata - text_of es) (1048576 - length s.metadata - pairs_of es)
-          h.fields (omega arith) (within_fine es w.each) (omega arith, omega arith, omega arith);
+          h.fields (omega arith) (well_formed_shallow es w.each) (omega arith, omega arith, omega arith);
     }
 
 pub batch_complete : (t : TableView) (batch : BatchHead) → BatchAt t batch → batch_read t ≡ Ok batch

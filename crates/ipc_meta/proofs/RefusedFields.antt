@@ -4,7 +4,8 @@ use Rattle.std.specs.Prelude.{length, nat_le, Ok, Err}
 use Rattle.std.proofs.lemmas.Bool.Decides.{nat_tests}
 use Rattle.ipc_scalar.specs.Flat.{text_of}
 use Rattle.ipc_flat.specs.Views.{TableView, Elements, table_from, field}
-use Rattle.ipc_model.specs.Entries.{kind_text, max_fields, max_text, max_pairs}
+use Rattle.ipc_model.specs.Entries.{kind_text}
+use Rattle.ipc_model.specs.Limits.{max_fields, max_text, max_pairs}
 use Rattle.ipc_model.specs.declared.fault.Fault.{Fault}
 use Rattle.ipc_model.specs.declared.fault.Fault.TheVariants as f
 use Rattle.ipc_model.specs.declared.schema.Field.{Field}

@@ -5,9 +5,10 @@ use Rattle.std.specs.List.{AllByRecursion}
 use Rattle.std.specs.Ordering.{int_eq}
 use Rattle.std.proofs.lemmas.Bool.Decides.{nat_tests, Decides-int_eq, Decides-eqb}
 use Rattle.ipc_flat.specs.Views.{TableView}
-use Rattle.ipc_model.specs.Entries.{Entry, entries, max_fields, max_depth, max_text, max_pairs}
+use Rattle.ipc_model.specs.Entries.{Entry, entries}
+use Rattle.ipc_model.specs.Limits.{max_fields, max_depth, max_text, max_pairs}
 use Rattle.ipc_model.specs.WellFormed.{HasGoodType, HasFittingChildren, IsLeaf}
-use Rattle.ipc_model.proofs.FirstFaults.{verdict_from_first}
+use Rattle.ipc_model.proofs.FirstFaults.{done_err, verdict_from_first}
 use Rattle.ipc_model.specs.FirstFault.{IsFirstFault}
 use Rattle.ipc_model.specs.SchemaFaults.{Before, after, scan, unless_at, fault_at, has_good_type, has_fitting_children, has_leaf_dictionary, is_leaf, is_little_text, same_type, agrees, has_conflict, with_kind, at_start, done, verdict_on}
 use Rattle.ipc_model.specs.Refusals.{reader_fault}
@@ -154,10 +155,6 @@ scan_refused b s (e ∷ es) a x hs h all w k =
     go : (o : Option SchemaFault) → fault_at a e ≡ o → (scan (after a e) es ≡ Err x → Cause b (reader_fault x)) → unless_at o (scan (after a e) es) ≡ Err x → Cause b (reader_fault x)
     go None is later k = later k
     go (Some y) is later k = let same : y ≡ x = cc in subst (λ y. Cause b (reader_fault y)) same (entry_refused b s a e y hs h.0 all here is)
-
-done_err : (r : Result Before SchemaFault) (x : SchemaFault) → done r ≡ Err x → r ≡ Err x
-done_err (Ok a) x h = absurd (cc)
-done_err (Err e) x h = let same : e ≡ x = cc in ap Err same
 
 schema_refused : (b : List ℕ) (t : TableView) (s : Schema) (x : SchemaFault) → HasTable b schema t → VectorAt FieldAt s.fields t 1 → Totals t s.fields s.metadata → verdict_on s ≡ Err x → Cause b (reader_fault x)
 schema_refused b t s x has h totals k =

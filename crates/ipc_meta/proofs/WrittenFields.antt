@@ -16,7 +16,8 @@ use Rattle.ipc_build.specs.Encodes.{HasField, EncodesTable}
 use Rattle.ipc_meta.specs.Lifts.{lift}
 use Rattle.ipc_meta.specs.Tables.{text_at, flag_at, type_at, dictionary_in, dictionary_at}
 use Rattle.ipc_meta.specs.Fields.{VectorAt, PairAt, FieldAt}
-use Rattle.ipc_meta.specs.Written.{flag, with_text, with_byte, with_table, with_tables, with_pairs, with_dictionary, type_code, type_tree, field_tree}
+use Rattle.ipc_meta.specs.Written.{flag, with_text, with_byte, with_table, with_tables, with_pairs, with_dictionary, type_tree, field_tree}
+use Rattle.ipc_model.specs.TypeCodes.{type_code}
 use Rattle.ipc_meta.specs.Written as written
 use Rattle.ipc_meta.proofs.Sound.{field_roll}
 use Rattle.ipc_meta.proofs.Standing.{tab, Holds, field_absent}

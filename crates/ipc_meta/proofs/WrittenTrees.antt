@@ -12,7 +12,8 @@ use Rattle.ipc_build.proofs.Nodes.{view_is, bool_is, u8_is, table_is, tables_is}
 use Rattle.ipc_model.specs.declared.schema.Dictionary.{Dictionary}
 use Rattle.ipc_model.specs.declared.schema.Field.{Field, out-Field, fold_out-Field}
 use Rattle.ipc_model.specs.declared.schema.Schema.{Schema}
-use Rattle.ipc_meta.specs.Written.{fields_then, pair_tree, with_pairs, dictionary_tree, with_dictionary, flag, with_text, with_byte, with_table, with_tables, type_code, type_tree, field_step, field_tree, schema_tree}
+use Rattle.ipc_meta.specs.Written.{fields_then, pair_tree, with_pairs, dictionary_tree, with_dictionary, flag, with_text, with_byte, with_table, with_tables, type_tree, field_step, field_tree, schema_tree}
+use Rattle.ipc_model.specs.TypeCodes.{type_code}
 
 pub tree_is : (t : FlatTree) (xs : List (ℕ × Slot)) → t.slots ≡ xs → view t ≡ fields_view xs
 tree_is t xs e = view_is t ∙ ap fields_view e

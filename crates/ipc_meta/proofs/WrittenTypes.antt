@@ -25,7 +25,8 @@ use Rattle.ipc_model.specs.declared.schema.Dictionary.{Dictionary}
 use Rattle.ipc_build.specs.Encodes.{EncodesTable, HasField}
 use Rattle.ipc_meta.specs.Lifts.{lift}
 use Rattle.ipc_meta.specs.Tables.{bits_of, ok_or, int_at, fixed_at, date_at, unit_of, timestamp_at, type_of, type_in, is_type_code, when_type, code_at, type_at, flag_at, index_in, index_at, dictionary_in, dictionary_at}
-use Rattle.ipc_meta.specs.Written.{int_tree, date_code, time_code, type_tree, type_code, dictionary_tree}
+use Rattle.ipc_meta.specs.Written.{int_tree, date_code, time_code, type_tree, dictionary_tree}
+use Rattle.ipc_model.specs.TypeCodes.{type_code}
 use Rattle.ipc_meta.proofs.Standing.{tab, Holds, scalar_there, field_there, field_absent, table_there}
 use Rattle.ipc_meta.proofs.WrittenParts.{flag_there, neither}
 

@@ -7,12 +7,13 @@ use Rattle.ipc_model.specs.declared.fault.Fault.{Fault}
 use Rattle.ipc_model.specs.declared.fault.Fault.TheVariants as f
 use Rattle.ipc_model.specs.declared.schema.DataType.{DataType}
 use Rattle.ipc_model.specs.declared.schema.Dictionary.{Dictionary}
-use Rattle.ipc_model.specs.Entries.{max_fields, max_depth, max_text, max_pairs}
+use Rattle.ipc_model.specs.Limits.{max_fields, max_depth, max_text, max_pairs}
 use Rattle.ipc_model.specs.WellFormed.{HasFittingChildren, IsLeaf}
 use Rattle.ipc_meta.specs.Tables.{bits_of, unit_of, flag_at, vector_at, code_at, is_type_code, type_at, dictionary_at}
 use Rattle.ipc_meta.specs.Totals.{fields_stated, text_stated, pairs_stated}
-use Rattle.ipc_meta.specs.Heads.{longest_body}
+use Rattle.ipc_model.specs.Limits.{max_body}
 use Rattle.ipc_meta.specs.Reached.{Kind, HasTable, IsDeep, HasIllFormed, HasOtherText, message, schema, column, type_value, index_type, dictionary_batch, record_batch}
+use Rattle.ipc_meta.specs.Version.{v5}
 
 -- the metadata has a table of this kind of which P holds
 abbrev pub Has : List ℕ → Kind → (TableView → Type 0) → Type 0
@@ -52,10 +53,10 @@ Encodes b id κ = Has b column (λ t. (type_at t ≡ Ok κ) × ((d : Dictionary)
 -- what each fault says of the metadata
 abbrev pub Cause : List ℕ → Fault → Type 0
 Cause b f.BadFlat = HasIllFormed b
-Cause b f.BadVersion = Has b message (λ t. Is (scalar t 0 2 int16 (pos 0)) (λ v. v ≢ pos 4))
+Cause b f.BadVersion = Has b message (λ t. Is (scalar t 0 2 int16 (pos 0)) (λ v. v ≢ v5))
 Cause b f.BadHeader = HasNoHeader b
 Cause b f.BadBodyLength = Has b message (λ t. Is (scalar t 3 8 int64 (pos 0)) (λ n. int_lt n (pos 0) ≡ true))
-Cause b f.BodyTooLong = Has b message (λ t. Is (scalar t 3 8 int64 (pos 0)) (λ n. int_lt (pos longest_body) n ≡ true))
+Cause b f.BodyTooLong = Has b message (λ t. Is (scalar t 3 8 int64 (pos 0)) (λ n. int_lt (pos max_body) n ≡ true))
 Cause b f.BigEndian = Has b schema (λ t. Is (scalar t 0 2 int16 (pos 0)) (λ e. e ≢ pos 0))
 Cause b (f.UnsupportedType code) = Has b column (λ t. (code_at t ≡ Ok code) × (is_type_code code ≡ false))
 Cause b f.BadType = HasBadType b

@@ -10,6 +10,8 @@ use Rattle.ipc_meta.specs.declared.head.Head.TheVariants as head
 use Rattle.ipc_meta.specs.Lifts.{lift}
 use Rattle.ipc_meta.specs.Tables.{flag_at}
 use Rattle.ipc_meta.specs.Fields.{SchemaAt}
+use Rattle.ipc_meta.specs.Version.{v5}
+use Rattle.ipc_model.specs.Limits.{max_body}
 
 -- the numbers of the n structs from p on, each of two signed 64-bit numbers (FlatBuffers binary format, "Structs")
 unfoldable pub number_pairs : List ℕ → ℕ → ℕ → List (ℤ × ℤ)
@@ -48,16 +50,12 @@ HeaderAt root (head.Schema s) = IsHeader root 1 (λ t. SchemaAt t s)
 HeaderAt root (head.Dictionary id batch) = IsHeader root 2 (λ t. DictionaryAt t id batch)
 HeaderAt root (head.Batch batch) = IsHeader root 3 (λ t. BatchAt t batch)
 
--- the most bytes that a body may have, a limit of this project
-abbrev pub longest_body : ℕ
-longest_body = 2 ^ 40
-
 -- Message.fbs, table Message: the metadata's root table states this head and a body of m bytes: 0 version (Schema.fbs, enum
--- MetadataVersion, V5 is 4), 3 bodyLength
+-- MetadataVersion), 3 bodyLength
 pub record HeadOf (metadata : List ℕ) (head : Head) (m : ℕ) : Type 0 where
   pub root : TableView
   pub stands : table_from metadata 0 ≡ Ok root
-  pub version : scalar root 0 2 int16 (pos 0) ≡ Ok (pos 4)
+  pub version : scalar root 0 2 int16 (pos 0) ≡ Ok v5
   pub body : scalar root 3 8 int64 (pos 0) ≡ Ok (pos m)
-  pub fits : m ≤ longest_body
+  pub fits : m ≤ max_body
   pub header : HeaderAt root head

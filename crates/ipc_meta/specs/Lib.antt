@@ -11,3 +11,4 @@ pub mod Laws
 pub mod Reached
 pub mod Totals
 pub mod Causes
+pub mod Version

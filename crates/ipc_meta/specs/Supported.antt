@@ -11,7 +11,7 @@ use Rattle.ipc_model.specs.declared.schema.Field.TheOpen.{Field-F}
 use Rattle.ipc_meta.specs.declared.head.Head.{Head}
 use Rattle.ipc_meta.specs.declared.head.Head.TheVariants as head
 use Rattle.ipc_meta.specs.Heads.{HeadOf}
-use Rattle.ipc_meta.specs.Written.{type_code}
+use Rattle.ipc_model.specs.TypeCodes.{type_code}
 
 -- the types whose columns are read
 abbrev pub is_supported_type : DataType → Bool

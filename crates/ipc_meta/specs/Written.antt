@@ -5,6 +5,7 @@ use Rattle.std.specs.Int.{Width, w16, w32, w64, cast_signed}
 use Rattle.ipc_build.specs.declared.tree.Slot.{Slot}
 use Rattle.ipc_build.specs.Trees.{Tree, none, field, byte, signed, string, pairs, table, tables, node, tables_of}
 use Rattle.ipc_model.specs.Ranges.{width}
+use Rattle.ipc_model.specs.TypeCodes.{type_code}
 use Rattle.ipc_model.specs.declared.schema.IntBits.{IntBits}
 use Rattle.ipc_model.specs.declared.schema.DateUnit.{DateUnit}
 use Rattle.ipc_model.specs.declared.schema.DateUnit.TheVariants as date
@@ -17,6 +18,7 @@ use Rattle.ipc_model.specs.declared.schema.Field.{Field, fold-Field}
 use Rattle.ipc_model.specs.declared.schema.Field.TheOpen.{Field-F}
 use Rattle.ipc_model.specs.declared.schema.Schema.{Schema}
 use Rattle.ipc_meta.specs.declared.head.BatchHead.{BatchHead}
+use Rattle.ipc_meta.specs.Version.{v5}
 
 -- these fields, and then the rest
 abbrev pub fields_then : List (ℕ × Slot) → Tree → Tree
@@ -94,19 +96,6 @@ type_tree t.Utf8 = none
 type_tree t.List = none
 type_tree t.Struct = none
 
--- Schema.fbs, union Type: the code of a type
-abbrev pub type_code : DataType → ℕ
-type_code t.Null = 1
-type_code (t.Int bits sign) = 2
-type_code t.Binary = 4
-type_code t.Utf8 = 5
-type_code t.Bool = 6
-type_code (t.Date unit) = 8
-type_code (t.Timestamp unit timezone) = 10
-type_code t.List = 12
-type_code t.Struct = 13
-type_code (t.FixedSizeBinary n) = 15
-
 -- Schema.fbs, table DictionaryEncoding: 0 id, 1 indexType, 2 isOrdered
 abbrev pub dictionary_tree : Dictionary → Tree
 dictionary_tree d = with_signed 0 w64 d.id (with_table 1 (int_tree d.index.bits d.index.signed) (with_byte 2 (flag d.ordered) none))
@@ -134,9 +123,9 @@ schema_tree s = with_tables 1 (map field_tree s.fields) (with_pairs 2 s.metadata
 abbrev pub batch_tree : BatchHead → Tree
 batch_tree b = with_signed 0 w64 b.length (with_numbers 1 b.nodes (with_numbers 2 b.buffers none))
 
--- Message.fbs, table Message: 0 version (V5 is 4), 1 and 2 header, 3 bodyLength
+-- Message.fbs, table Message: 0 version, 1 and 2 header, 3 bodyLength
 abbrev pub message_tree : ℕ → Tree → ℕ → Tree
-message_tree code header m = with_signed 0 w16 (pos 4) (with_byte 1 code (with_table 2 header (with_signed 3 w64 (pos m) none)))
+message_tree code header m = with_signed 0 w16 v5 (with_byte 1 code (with_table 2 header (with_signed 3 w64 (pos m) none)))
 
 -- Message.fbs, union MessageHeader: Schema is 1; its message has no body
 abbrev pub schema_message : Schema → Tree

@@ -10,8 +10,7 @@ use crate::head::BatchHead;
 use crate::lifted::lifted;
 use crate::types::read_flag;
 use ipc_flat::TableRef;
-use ipc_model::Fault;
-use ipc_model::items::Items;
+use ipc_model::{Fault, Items};
 use ipc_scalar::get_i64;
 use std::alloc::Global;
 
@@ -31,7 +30,7 @@ fn read_numbers(alloc: Global, table: &TableRef<'_>, slot: u16) -> Result<Items<
     ensures { AnswersUnlessOutOfMemory (λ ns. ns) result (numbers_at table.now slot) }
 {
     let Some(structs) = lifted(table.structs(slot, 16))? else {
-        return Ok(Items::from_vec(Vec::new(alloc)));
+        return Ok(Items::new(alloc));
     };
     let mut numbers = Vec::with_capacity(alloc, structs.len())?;
     for i in 0..structs.len() {

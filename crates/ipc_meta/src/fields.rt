@@ -6,8 +6,7 @@ use crate::budget::Budget;
 use crate::lifted::lifted;
 use crate::types::{read_counted_type, read_dictionary, read_flag};
 use ipc_flat::TableRef;
-use ipc_model::{Fault, Field};
-use ipc_model::items::{Items, Text};
+use ipc_model::{Fault, Field, Items, Text};
 use std::alloc::Global;
 
 // The text in a field, copied and counted; an absent text is empty.
@@ -22,7 +21,7 @@ fn read_text(
 {
     let text = lifted(table.text(slot))?.unwrap_or("");
     left.take_text(text.len())?;
-    Ok(Text::from_string(String::from_str(alloc, text)?))
+    Ok(Text::copied(alloc, text)?)
 }
 
 // A KeyValue table (Schema.fbs): 0 key, 1 value.

@@ -1,5 +1,4 @@
-use ipc_model::items::Items;
-use ipc_model::Schema;
+use ipc_model::{Items, Schema};
 
 /// What the metadata states of a record batch (Message.fbs, table RecordBatch). The numbers are as
 /// they were written: they may be negative, and nothing is said yet of how they fit the schema or

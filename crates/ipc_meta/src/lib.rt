@@ -12,11 +12,12 @@ pub mod head;
 mod laws;
 mod lifted;
 mod message;
-mod supported;
 mod slots;
+mod supported;
 mod trees;
 mod type_slots;
 mod types;
+mod version;
 mod write;
 
 pub use head::{BatchHead, Head};

@@ -14,18 +14,17 @@ use crate::fields::{read_fields, read_pairs};
 use crate::head::Head;
 use crate::lifted::lifted;
 use crate::supported::check_supported;
+use crate::version::VERSION;
 use ipc_flat::{Flat, TableRef};
+use ipc_model::limits::{MAX_BODY, MAX_DEPTH, MAX_FIELDS, MAX_PAIRS, MAX_TEXT};
 use ipc_model::{Fault, Schema};
 use std::alloc::Global;
-
-// Schema.fbs, enum MetadataVersion: V5.
-const VERSION: i16 = 4;
 
 // Message.fbs, union MessageHeader: the last of the headers that a stream has, RecordBatch. The first is 1.
 const LAST_HEADER: u8 = 3;
 
-// How many bytes a body may have, a limit of this project.
-const LONGEST_BODY: i64 = 1 << 40;
+// How many bytes a body may have, a signed number as its length is stated.
+const LONGEST_BODY: i64 = MAX_BODY as i64;
 
 // A Schema table (Schema.fbs) states that numbers begin with their lowest byte: 0 endianness.
 fn check_endianness(table: &TableRef<'_>) -> Result<(), Fault>
@@ -47,12 +46,12 @@ fn read_schema(alloc: Global, table: &TableRef<'_>) -> Result<Schema, Fault>
 {
     check_endianness(table)?;
     let mut left = Budget {
-        fields: 65_536,
-        text: 1 << 26,
-        pairs: 1 << 20,
+        fields: MAX_FIELDS,
+        text: MAX_TEXT,
+        pairs: MAX_PAIRS,
     };
     let metadata = read_pairs(alloc, table, 2, &mut left)?;
-    let fields = read_fields(alloc, table, 1, 64, &mut left)?;
+    let fields = read_fields(alloc, table, 1, MAX_DEPTH, &mut left)?;
     let schema = Schema { fields, metadata };
     schema.check(alloc)?;
     Ok(schema)

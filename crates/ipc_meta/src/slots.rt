@@ -4,7 +4,7 @@ ghost use Rattle.ipc_build.specs.Trees.{none, string, node, view, fields_view};
 ghost use Rattle.ipc_meta.specs.Written.{fields_then, pair_tree, with_pairs};
 
 use ipc_build::{FlatTree, Slot};
-use ipc_model::items::{Items, Text};
+use ipc_model::{Items, Text};
 use std::alloc::{AllocError, Global};
 
 /// The fields of a table by their numbers.
@@ -15,7 +15,7 @@ pub(crate) fn table_of(slots: Slots) -> FlatTree
     ensures { view result ≡ fields_view slots.items }
 {
     FlatTree {
-        slots: ipc_build::Items::from(slots),
+        slots: Items::from_vec(slots),
     }
 }
 
@@ -23,7 +23,7 @@ pub(crate) fn table_of(slots: Slots) -> FlatTree
 pub(crate) fn text_slot(text: &Text) -> Result<Slot, AllocError>
     ensures { IfOk result (λ s. node s ≡ (string text.now, none)) }
 {
-    Ok(Slot::Text(ipc_build::Text::from(text.clone()?.into_string())))
+    Ok(Slot::Text(text.clone()?))
 }
 
 // Schema.fbs, table KeyValue.
@@ -55,7 +55,7 @@ pub(crate) fn push_pairs(
 {
     if pairs.len() > 0 {
         let trees = pair_trees(alloc, pairs.as_slice())?;
-        slots.push((number, Slot::Tables(ipc_build::Items::from(trees))))?;
+        slots.push((number, Slot::Tables(Items::from_vec(trees))))?;
     }
     Ok(())
 }

@@ -2,7 +2,6 @@ ghost use Rattle.std.specs.Prelude.{◌≡◌, true, false, List, ◌∷◌, Mat
 ghost use Rattle.ipc_meta.specs.Supported.{is_supported, is_supported_field, are_supported, IsSupported, HasUnsupported, NamesUnsupported};
 
 use crate::head::Head;
-use crate::type_slots::type_number;
 use ipc_model::{DataType, Dictionary, Fault, Field};
 
 // Whether columns of this type with this dictionary are read.
@@ -30,7 +29,7 @@ fn unsupported_at(field: &Field) -> Option<u8>
     ensures { MatchOption result (is_supported_field field.now ≡ true) (λ code. (is_supported_field field.now ≡ false) × ((behind : List Field) → HasUnsupported code (field.now ∷ behind))) }
 {
     if !is_supported(&field.kind, field.dictionary) {
-        return Some(type_number(&field.kind));
+        return Some(field.kind.code());
     }
     unsupported_in(field.children.as_slice())
 }

@@ -1,19 +1,17 @@
 //! The tables of schemas, batches and messages that are written.
 ghost use Rattle.std.specs.Prelude.{◌≡◌, ◌≤◌, ◌^◌, map, IfOk};
 ghost use Rattle.ipc_build.specs.Trees.{view};
+ghost use Rattle.ipc_model.specs.Limits.{max_body};
 ghost use Rattle.ipc_model.specs.declared.schema.Field.{out-Field};
 ghost use Rattle.ipc_meta.specs.Written.{field_tree, schema_tree, batch_tree, message_tree};
 
 use crate::head::BatchHead;
 use crate::slots::{push_pairs, table_of, text_slot};
-use crate::type_slots::{push_dictionary, type_number, type_slots};
+use crate::type_slots::{push_dictionary, type_slots};
+use crate::version::VERSION;
 use ipc_build::{FlatTree, Slot};
-use ipc_model::items::Items;
-use ipc_model::{Field, Schema};
+use ipc_model::{Field, Items, Schema};
 use std::alloc::{AllocError, Global};
-
-// Schema.fbs, enum MetadataVersion: V5.
-const VERSION: i16 = 4;
 
 // Schema.fbs, table Field, with the tables of its children.
 fn field_table(
@@ -27,11 +25,11 @@ fn field_table(
     let mut slots = vec![in alloc;
         (0, text_slot(&field.name)?),
         (1, Slot::Bool(field.nullable)),
-        (2, Slot::U8(type_number(&field.kind))),
+        (2, Slot::U8(field.kind.code())),
         (3, Slot::Table(table_of(type_slots(alloc, &field.kind)?))),
     ]?;
     push_dictionary(alloc, &mut slots, field.dictionary)?;
-    slots.push((5, Slot::Tables(ipc_build::Items::from(children))))?;
+    slots.push((5, Slot::Tables(Items::from_vec(children))))?;
     push_pairs(alloc, &mut slots, 6, &field.metadata)?;
     Ok(table_of(slots))
 }
@@ -60,7 +58,7 @@ pub(crate) fn schema_tree(alloc: Global, schema: &Schema) -> Result<FlatTree, Al
     ensures { IfOk result (λ t. view t ≡ schema_tree schema.now) }
 {
     let fields = field_trees(alloc, &schema.fields)?;
-    let mut slots = vec![in alloc; (1, Slot::Tables(ipc_build::Items::from(fields)))]?;
+    let mut slots = vec![in alloc; (1, Slot::Tables(Items::from_vec(fields)))]?;
     push_pairs(alloc, &mut slots, 2, &schema.metadata)?;
     Ok(table_of(slots))
 }
@@ -69,12 +67,12 @@ pub(crate) fn schema_tree(alloc: Global, schema: &Schema) -> Result<FlatTree, Al
 pub(crate) fn batch_tree(alloc: Global, head: &BatchHead) -> Result<FlatTree, AllocError>
     ensures { IfOk result (λ t. view t ≡ batch_tree head.now) }
 {
-    let nodes = Vec::from_slice(alloc, head.nodes.as_slice())?;
-    let buffers = Vec::from_slice(alloc, head.buffers.as_slice())?;
+    let nodes = Items::copied(alloc, &head.nodes)?;
+    let buffers = Items::copied(alloc, &head.buffers)?;
     let slots = vec![in alloc;
         (0, Slot::I64(head.length)),
-        (1, Slot::Pairs(ipc_build::Items::from(nodes))),
-        (2, Slot::Pairs(ipc_build::Items::from(buffers))),
+        (1, Slot::Pairs(nodes)),
+        (2, Slot::Pairs(buffers)),
     ]?;
     Ok(table_of(slots))
 }
@@ -86,7 +84,7 @@ pub(crate) fn message_tree(
     header: FlatTree,
     body: u64,
 ) -> Result<FlatTree, AllocError>
-    requires { body ≤ 2 ^ 40 }
+    requires { body ≤ max_body }
     ensures { IfOk result (λ t. view t ≡ message_tree code (view header) body) }
 {
     let slots = vec![in alloc;

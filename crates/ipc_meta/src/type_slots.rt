@@ -1,26 +1,13 @@
 //! The tables of types and dictionaries that are written.
 ghost use Rattle.std.specs.Prelude.{◌≡◌, IfOk, pos};
 ghost use Rattle.ipc_build.specs.Trees.{Tree, fields_view};
-ghost use Rattle.ipc_model.specs.Ranges.{width};
 ghost use Rattle.ipc_model.specs.declared.schema.DataType.TheVariants as t;
-ghost use Rattle.ipc_meta.specs.Written.{fields_then, int_tree, date_code, time_code, type_tree, type_code, dictionary_tree, with_dictionary};
+ghost use Rattle.ipc_meta.specs.Written.{fields_then, int_tree, date_code, time_code, type_tree, dictionary_tree, with_dictionary};
 
 use crate::slots::{Slots, table_of, text_slot};
 use ipc_build::Slot;
-use ipc_model::items::Text;
-use ipc_model::{DataType, DateUnit, Dictionary, IntBits, TimeUnit};
+use ipc_model::{DataType, DateUnit, Dictionary, IntBits, Text, TimeUnit};
 use std::alloc::{AllocError, Global};
-
-fn bits_number(bits: IntBits) -> i32
-    ensures { result ≡ pos (width bits) }
-{
-    match bits {
-        IntBits::B8 => 8,
-        IntBits::B16 => 16,
-        IntBits::B32 => 32,
-        IntBits::B64 => 64,
-    }
-}
 
 fn date_number(unit: DateUnit) -> i16
     ensures { result ≡ date_code unit }
@@ -42,29 +29,14 @@ fn time_number(unit: TimeUnit) -> i16
     }
 }
 
-/// The code of a type in union Type (Schema.fbs).
-pub(crate) fn type_number(kind: &DataType) -> u8
-    ensures { result ≡ type_code kind.now }
-{
-    match kind {
-        DataType::Null => 1,
-        DataType::Int { .. } => 2,
-        DataType::Binary => 4,
-        DataType::Utf8 => 5,
-        DataType::Bool => 6,
-        DataType::Date(_) => 8,
-        DataType::Timestamp { .. } => 10,
-        DataType::List => 12,
-        DataType::Struct => 13,
-        DataType::FixedSizeBinary(_) => 15,
-    }
-}
-
 // Schema.fbs, table Int.
 fn int_slots(alloc: Global, bits: IntBits, signed: bool) -> Result<Slots, AllocError>
     ensures { IfOk result (λ slots. fields_view slots.items ≡ int_tree bits signed) }
 {
-    Ok(vec![in alloc; (0, Slot::I32(bits_number(bits))), (1, Slot::Bool(signed))]?)
+    Ok(vec![in alloc;
+        (0, Slot::I32(i32::from(bits.width()))),
+        (1, Slot::Bool(signed)),
+    ]?)
 }
 
 // Schema.fbs, table Timestamp.

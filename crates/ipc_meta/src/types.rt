@@ -7,8 +7,7 @@ ghost use Rattle.ipc_meta.specs.Reading.{type_read};
 use crate::budget::Budget;
 use crate::lifted::lifted;
 use ipc_flat::TableRef;
-use ipc_model::{DataType, DateUnit, Dictionary, Fault, IndexType, IntBits, TimeUnit};
-use ipc_model::items::Text;
+use ipc_model::{DataType, DateUnit, Dictionary, Fault, IndexType, IntBits, Text, TimeUnit};
 use std::alloc::Global;
 
 // The width of an integer (Schema.fbs, table Int, bitWidth).
@@ -90,7 +89,7 @@ fn read_timestamp(alloc: Global, table: &TableRef<'_>) -> Result<DataType, Fault
     };
     let timezone = match lifted(table.text(1))? {
         None => None,
-        Some(zone) => Some(Text::from_string(String::from_str(alloc, zone)?)),
+        Some(zone) => Some(Text::copied(alloc, zone)?),
     };
     Ok(DataType::Timestamp { unit, timezone })
 }

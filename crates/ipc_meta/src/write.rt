@@ -5,6 +5,7 @@ ghost use Rattle.ipc_build.specs.Encodes.{Encodes, Aligned};
 ghost use Rattle.ipc_build.specs.Ascends.{Ascends, fields};
 ghost use Rattle.ipc_build.specs.Room.{room, size};
 ghost use Rattle.ipc_model.specs.WellFormed.{WellFormed};
+ghost use Rattle.ipc_model.specs.Limits.{max_body, max_metadata};
 ghost use Rattle.ipc_meta.specs.Heads.{HeadOf};
 ghost use Rattle.ipc_meta.specs.Rooms.{head_room, schema_room};
 ghost use Rattle.ipc_meta.specs.Written.{schema_message, batch_message};
@@ -12,11 +13,9 @@ ghost use Rattle.ipc_meta.specs.Written.{schema_message, batch_message};
 use crate::head::{BatchHead, Head};
 use crate::trees::{batch_tree, message_tree, schema_tree};
 use ipc_build::{BuildFault, FlatTree, build};
+use ipc_model::limits::MAX_BODY;
 use ipc_model::{Schema, WriteFault};
 use std::alloc::Global;
-
-// The most bytes that a body may have, a limit of this project.
-const LONGEST_BODY: u64 = 1 << 40;
 
 // The bytes of a message's metadata.
 fn built(alloc: Global, tree: &FlatTree) -> Result<Vec<u8>, WriteFault>
@@ -25,8 +24,8 @@ fn built(alloc: Global, tree: &FlatTree) -> Result<Vec<u8>, WriteFault>
     ensures aligned { IfOk result (λ b. Aligned b.items (view tree.now)) }
     ensures size { IfOk result (λ b. length b.items ≡ size (view tree.now)) }
     ensures within { IfOk result (λ b. (length b.items + 7) / 8 * 8 ≤ room (view tree.now)) }
-    ensures room { IfOk result (λ b. room (view tree.now) ≤ 2 ^ 24) }
-    ensures refused { IfErr result (λ f. (f ≡ WriteFault.OutOfMemory) ⊎ ((f ≡ WriteFault.TooLong) × (2 ^ 24 < room (view tree.now)))) }
+    ensures room { IfOk result (λ b. room (view tree.now) ≤ max_metadata) }
+    ensures refused { IfErr result (λ f. (f ≡ WriteFault.OutOfMemory) ⊎ ((f ≡ WriteFault.TooLong) × (max_metadata < room (view tree.now)))) }
 {
     match build(alloc, tree) {
         Ok(bytes) => Ok(bytes),
@@ -59,9 +58,9 @@ pub fn write_schema(alloc: Global, schema: &Schema) -> Result<Vec<u8>, WriteFaul
     // Nothing stands behind them.
     ensures size { IfOk result (λ b. length b.items ≡ size (schema_message schema.now)) }
     ensures within { IfOk result (λ b. (length b.items + 7) / 8 * 8 ≤ schema_room schema.now) }
-    ensures short { IfOk result (λ b. (length b.items + 7) / 8 * 8 ≤ 2 ^ 24) }
-    ensures room { IfOk result (λ b. schema_room schema.now ≤ 2 ^ 24) }
-    ensures refused { IfErr result (λ f. (f ≡ WriteFault.OutOfMemory) ⊎ ((f ≡ WriteFault.TooLong) × (2 ^ 24 < schema_room schema.now))) }
+    ensures short { IfOk result (λ b. (length b.items + 7) / 8 * 8 ≤ max_metadata) }
+    ensures room { IfOk result (λ b. schema_room schema.now ≤ max_metadata) }
+    ensures refused { IfErr result (λ f. (f ≡ WriteFault.OutOfMemory) ⊎ ((f ≡ WriteFault.TooLong) × (max_metadata < schema_room schema.now))) }
 {
     let header = schema_tree(alloc, schema)?;
     let message = message_tree(alloc, 1, header, 0)?;
@@ -82,11 +81,11 @@ pub fn write_batch(alloc: Global, head: &BatchHead, body: u64) -> Result<Vec<u8>
     ensures states { IfOk result (λ b. (rest : List ℕ) → HeadOf (b.items ++ rest) (Head.Batch head.now) body) }
     ensures size { IfOk result (λ b. length b.items ≡ size (batch_message head.now body)) }
     ensures within { IfOk result (λ b. (length b.items + 7) / 8 * 8 ≤ head_room head.now body) }
-    ensures short { IfOk result (λ b. (length b.items + 7) / 8 * 8 ≤ 2 ^ 24) }
-    ensures room { IfOk result (λ b. (head_room head.now body ≤ 2 ^ 24) × (body ≤ 2 ^ 40)) }
-    ensures refused { IfErr result (λ f. (f ≡ WriteFault.OutOfMemory) ⊎ ((f ≡ WriteFault.TooLong) × ((2 ^ 24 < head_room head.now body) ⊎ (2 ^ 40 < body)))) }
+    ensures short { IfOk result (λ b. (length b.items + 7) / 8 * 8 ≤ max_metadata) }
+    ensures room { IfOk result (λ b. (head_room head.now body ≤ max_metadata) × (body ≤ max_body)) }
+    ensures refused { IfErr result (λ f. (f ≡ WriteFault.OutOfMemory) ⊎ ((f ≡ WriteFault.TooLong) × ((max_metadata < head_room head.now body) ⊎ (max_body < body)))) }
 {
-    if body > LONGEST_BODY {
+    if body > MAX_BODY {
         return Err(WriteFault::TooLong);
     }
     let header = batch_tree(alloc, head)?;

@@ -8,7 +8,8 @@ use Rattle.std.proofs.lemmas.Option.{slice_get_past}
 use Rattle.ipc_model.specs.FirstFault.{HasMuchText, HasConflict, Breaks, BreaksAt, rank, number_of, IsFirstAt, IsFirstFault}
 use Rattle.ipc_model.specs.WellFormed.{IsAmong}
 use Rattle.ipc_model.specs.SchemaFaults.{Before, after, scan, unless_at, fault_at, has_good_type, has_fitting_children, has_leaf_dictionary, is_little_text, has_conflict, agrees, same_type, at_start, done, verdict_on}
-use Rattle.ipc_model.specs.Entries.{Entry, entries, max_depth, max_fields, max_pairs, max_text, pair_text}
+use Rattle.ipc_model.specs.Entries.{Entry, entries, pair_text}
+use Rattle.ipc_model.specs.Limits.{max_depth, max_fields, max_pairs, max_text}
 use Rattle.ipc_model.proofs.Meanings.{Clear, clear_of, holds, good_both, fitting_both, leaf_both, agree_is, after_it, at_it, before_it}
 use Rattle.ipc_model.proofs.SameTypes.{same_itself}
 use Rattle.ipc_model.specs.declared.check.SchemaFault.{SchemaFault}
@@ -340,7 +341,7 @@ start_so_far s = record { fields = refl; text = omega arith; pairs = omega arith
 none_yet : (s : Schema) → AreClean s 0
 none_yet s j l = absurd (omega arith)
 
-done_err : (r : Result Before SchemaFault) (x : SchemaFault) → done r ≡ Err x → r ≡ Err x
+pub done_err : (r : Result Before SchemaFault) (x : SchemaFault) → done r ≡ Err x → r ≡ Err x
 done_err (Ok b) x h = cc
 done_err (Err e) x h = let same : e ≡ x = cc in ap Err same
 

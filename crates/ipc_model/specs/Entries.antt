@@ -17,20 +17,6 @@ pub record Entry : Type 0 where
   pub text : ℕ
   pub pairs : ℕ
 
--- ---- the limits of a schema
-
-abbrev pub max_fields : ℕ
-max_fields = 65536
-
-abbrev pub max_depth : ℕ
-max_depth = 64
-
-abbrev pub max_text : ℕ
-max_text = 2 ^ 26
-
-abbrev pub max_pairs : ℕ
-max_pairs = 2 ^ 20
-
 -- ---- the entries
 
 -- how many bytes the keys and values of these pairs have (Schema.fbs, table KeyValue)

@@ -4,5 +4,7 @@ use Rattle.ipc_model.specs.declared.schema.DataType.{DataType}
 use Rattle.ipc_model.specs.declared.schema.Field.{Field}
 use Rattle.ipc_model.specs.declared.schema.Field.TheOpen.{Field-F}
 
+-- a required field of this name and type, without a dictionary, children and pairs (Schema.fbs,
+-- table Field)
 abbrev pub plain_field : List ℕ → DataType → Field-F Field
 plain_field name kind = record { name = name; nullable = false; kind = kind; dictionary = None; children = []; metadata = [] }

@@ -1,7 +1,8 @@
 -- Where a schema is first not well formed: an entry that breaks a rule, and none before it that breaks one (Schema.fbs, tables Schema and Field).
 use Rattle.std.specs.Prelude.{◌≡◌, ℕ, ◌+◌, ◌<◌, ◌≤◌, List, [], ◌∷◌, ◌++◌, length, take, sum_by, slice_get, Some, IsSome, ◌⊎◌}
 use Rattle.ipc_model.specs.WellFormed.{HasGoodType, HasFittingChildren, IsLeaf, IsAmong, HaveOneType}
-use Rattle.ipc_model.specs.Entries.{Entry, entries, max_depth, max_fields, max_pairs, max_text, pair_text}
+use Rattle.ipc_model.specs.Entries.{Entry, entries, pair_text}
+use Rattle.ipc_model.specs.Limits.{max_depth, max_fields, max_pairs, max_text}
 use Rattle.ipc_model.specs.declared.check.SchemaFault.{SchemaFault}
 use Rattle.ipc_model.specs.declared.check.SchemaFault.TheVariants as f
 use Rattle.ipc_model.specs.declared.schema.Schema.{Schema}

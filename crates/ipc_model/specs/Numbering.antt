@@ -47,6 +47,7 @@ fault_number f.Failed = 35
 fault_number f.Read = 36
 fault_number f.OutOfMemory = 37
 
+-- the name behind the number
 abbrev pub fault_name : Fault → List ℕ
 fault_name f.NotContinued = codes "NotContinued"
 fault_name f.BadMetadataLength = codes "BadMetadataLength"
@@ -99,6 +100,7 @@ cause_number c.WrongKind = 3
 cause_number c.OutOfRange = 4
 cause_number c.NullNotAllowed = 5
 
+-- the name behind the number of a row that does not fit
 abbrev pub cause_name : RowCause → List ℕ
 cause_name c.RowWidth = codes "RowWidth"
 cause_name c.WrongKind = codes "WrongKind"
@@ -116,6 +118,7 @@ write_fault_number w.Write = 9
 write_fault_number w.Failed = 10
 write_fault_number w.OutOfMemory = 11
 
+-- the name behind the number
 abbrev pub write_fault_name : WriteFault → List ℕ
 write_fault_name (w.Row row fault) = cause_name fault.cause
 write_fault_name w.BadSchema = codes "BadSchema"

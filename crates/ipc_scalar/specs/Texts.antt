@@ -3,6 +3,7 @@ use Rattle.std.specs.Prelude.{ℕ, List, codes}
 use Rattle.ipc_scalar.specs.declared.fault.FlatFault.{FlatFault}
 use Rattle.ipc_scalar.specs.declared.fault.FlatFault.TheVariants as f
 
+-- what is printed of each fault of the bytes
 abbrev pub flat_fault_text : FlatFault → List ℕ
 flat_fault_text f.OffsetZero = codes "offset 0"
 flat_fault_text f.OutOfBounds = codes "out of bounds"

@@ -5,9 +5,11 @@ use Rattle.ipc_stream.specs.declared.round_trip.RoundTripFault.{RoundTripFault}
 use Rattle.ipc_stream.specs.declared.round_trip.RoundTripFault.TheVariants.{Write, Read}
 use Rattle.ipc_stream.specs.declared.source.Failed.{Failed}
 
+-- a failed call of a source or a sink
 abbrev pub failed_text : Failed → List ℕ
 failed_text failed = codes "the device failed"
 
+-- a table that was not written or not read back
 abbrev pub round_trip_text : RoundTripFault → List ℕ
 round_trip_text (Write fault) = codes "not written: " ++ write_fault_text fault
 round_trip_text (Read fault) = codes "not read: " ++ fault_text fault

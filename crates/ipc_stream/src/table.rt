@@ -16,8 +16,7 @@ use crate::sending::{send_batch, send_end, send_schema};
 use crate::sink::Sink;
 use crate::source::Source;
 use ipc_column::Batch;
-use ipc_model::items::Items;
-use ipc_model::{Fault, Row, Table, WriteFault};
+use ipc_model::{Fault, Items, Row, Table, WriteFault};
 use std::alloc::Global;
 
 // Puts the rows of a batch behind those of the batches before.

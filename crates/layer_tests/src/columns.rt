@@ -1,13 +1,13 @@
 //! Batches of one column: the cells that they lend, batches too long for rows of their own, and how
 //! many slots are tested. What is read and refused in batches stands in `cases/`.
 ghost use Rattle.std.specs.Prelude.{◌≡◌, ◌≤◌, ◌∷◌, [], length, true, IfOk};
-ghost use Rattle.ipc_model.specs.Entries.{entries, max_fields};
+ghost use Rattle.ipc_model.specs.Entries.{entries};
+ghost use Rattle.ipc_model.specs.Limits.{max_fields};
 ghost use Rattle.ipc_meta.specs.Supported.{are_supported, is_supported_type};
 
 use ipc_column::{Batch, Cell};
 use ipc_meta::BatchHead;
-use ipc_model::items::{Items, Text};
-use ipc_model::{DataType, Fault, Field, IntBits};
+use ipc_model::{DataType, Fault, Field, IntBits, Items, Text};
 use std::alloc::{AllocError, Global};
 use std::collections::BTreeMap;
 use std::rc::Rc;
@@ -21,12 +21,12 @@ fn field(alloc: Global, kind: DataType) -> Result<Field, AllocError>
     ensures few { IfOk result (λ f. length (entries (f ∷ [])) ≤ max_fields) }
 {
     Ok(Field {
-        name: Text::from_string(String::from_str(alloc, "a")?),
+        name: Text::copied(alloc, "a")?,
         nullable: true,
         kind,
         dictionary: None,
-        children: Items::from_vec(Vec::new(alloc)),
-        metadata: Items::from_vec(Vec::new(alloc)),
+        children: Items::new(alloc),
+        metadata: Items::new(alloc),
     })
 }
 
@@ -55,7 +55,7 @@ fn batch(
     let head = BatchHead {
         length: node.0,
         nodes: Items::from_vec(nodes),
-        buffers: Items::from_vec(Vec::from_slice(alloc, buffers)?),
+        buffers: Items::copied(alloc, buffers)?,
     };
     let body = Vec::from_slice(alloc, body)?;
     Batch::check(

@@ -5,27 +5,27 @@ ghost use Rattle.ipc_model.specs.Fits.{RowFits};
 ghost use Rattle.ipc_model.specs.WellFormed.{WellFormed};
 
 use ipc_encode::{IndexOf, NoIndices, Parts, encode};
-use ipc_model::items::{Items, Text};
 use ipc_model::{
-    DataType, DateUnit, Field, IntBits, Row, Schema, TimeUnit, Value, WriteFault, conforms,
+    DataType, DateUnit, Field, IntBits, Items, Row, Schema, Text, TimeUnit, Value, WriteFault,
+    conforms,
 };
 use std::alloc::{AllocError, Global};
 use std::test::Fail;
 
 fn schema_of(alloc: Global, kind: DataType, nullable: bool) -> Result<Schema, AllocError> {
     let field = Field {
-        name: Text::from_string(String::from_str(alloc, "a")?),
+        name: Text::copied(alloc, "a")?,
         nullable,
         kind,
         dictionary: None,
-        children: Items::from_vec(Vec::new(alloc)),
-        metadata: Items::from_vec(Vec::new(alloc)),
+        children: Items::new(alloc),
+        metadata: Items::new(alloc),
     };
     let mut fields = Vec::new(alloc);
     fields.push(field)?;
     Ok(Schema {
         fields: Items::from_vec(fields),
-        metadata: Items::from_vec(Vec::new(alloc)),
+        metadata: Items::new(alloc),
     })
 }
 
@@ -80,11 +80,11 @@ fn is_written(
 }
 
 fn bytes(alloc: Global, bytes: &[u8]) -> Result<Value, AllocError> {
-    Ok(Value::Bytes(Items::from_vec(Vec::from_slice(alloc, bytes)?)))
+    Ok(Value::Bytes(Items::copied(alloc, bytes)?))
 }
 
 fn text(alloc: Global, text: &str) -> Result<Value, AllocError> {
-    Ok(Value::Text(Text::from_string(String::from_str(alloc, text)?)))
+    Ok(Value::Text(Text::copied(alloc, text)?))
 }
 
 fn int(bits: IntBits, signed: bool) -> DataType {

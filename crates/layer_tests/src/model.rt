@@ -8,7 +8,7 @@ use std::alloc::{AllocError, Global};
 use std::test::Fail;
 
 fn text(alloc: Global, words: &str) -> Result<Text, AllocError> {
-    Ok(Text::from_string(String::from_str(alloc, words)?))
+    Text::copied(alloc, words)
 }
 
 fn field(alloc: Global, name: &str, nullable: bool, kind: DataType) -> Result<Field, AllocError> {
@@ -17,8 +17,8 @@ fn field(alloc: Global, name: &str, nullable: bool, kind: DataType) -> Result<Fi
         nullable,
         kind,
         dictionary: None,
-        children: Items::from_vec(Vec::new(alloc)),
-        metadata: Items::from_vec(Vec::new(alloc)),
+        children: Items::new(alloc),
+        metadata: Items::new(alloc),
     })
 }
 
@@ -55,7 +55,7 @@ fn schema(alloc: Global) -> Result<Schema, AllocError> {
     pair.children = items(alloc, date, name)?;
     Ok(Schema {
         fields: items(alloc, number, pair)?,
-        metadata: Items::from_vec(Vec::new(alloc)),
+        metadata: Items::new(alloc),
     })
 }
 
@@ -118,7 +118,7 @@ fn refused_alone(
     fields.push(field(alloc, "alone", true, kind)?)?;
     let schema = Schema {
         fields: Items::from_vec(fields),
-        metadata: Items::from_vec(Vec::new(alloc)),
+        metadata: Items::new(alloc),
     };
     schema.check(alloc)?;
     match conforms(&schema, &[value]) {

@@ -4,8 +4,9 @@ ghost use Rattle.std.specs.List.{All};
 ghost use Rattle.ipc_build.specs.Trees.{view};
 ghost use Rattle.ipc_build.specs.Ascends.{fields, Ascends};
 
-use ipc_build::{BuildFault, FlatTree, Items, Slot, Text, build};
+use ipc_build::{BuildFault, FlatTree, Slot, build};
 use ipc_flat::Flat;
+use ipc_model::{Items, Text};
 use std::alloc::{AllocError, Global};
 use std::test::Fail;
 

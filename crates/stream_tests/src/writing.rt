@@ -160,7 +160,7 @@ fn start_refused(alloc: Global, field: Field) -> Result<(WriteFault, usize), Fai
     fields.push(field)?;
     let schema = Schema {
         fields: Items::from_vec(fields),
-        metadata: Items::from_vec(Vec::new(alloc)),
+        metadata: Items::new(alloc),
     };
     let (fault, sink) = StreamWriter::start(alloc, empty(alloc), &schema)
         .err()

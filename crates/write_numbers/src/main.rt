@@ -2,8 +2,7 @@
 //! to standard output, with so many batches of so many rows. The writer is measured by it.
 #![tactic(auto)]
 
-use ipc_model::items::{Items, Text};
-use ipc_model::{DataType, Field, IntBits, Row, Schema, Value, WriteFault};
+use ipc_model::{DataType, Field, IntBits, Items, Row, Schema, Text, Value, WriteFault};
 use ipc_stream::{Device, StreamWriter};
 use std::alloc::{AllocError, Global};
 use std::env::Args;
@@ -29,15 +28,15 @@ fn sizes(words: Args) -> Option<(u32, u32)> {
 
 fn field(alloc: Global, name: &str) -> Result<Field, AllocError> {
     Ok(Field {
-        name: Text::from_string(String::from_str(alloc, name)?),
+        name: Text::copied(alloc, name)?,
         nullable: false,
         kind: DataType::Int {
             bits: IntBits::B64,
             signed: true,
         },
         dictionary: None,
-        children: Items::from_vec(Vec::new(alloc)),
-        metadata: Items::from_vec(Vec::new(alloc)),
+        children: Items::new(alloc),
+        metadata: Items::new(alloc),
     })
 }
 
@@ -48,7 +47,7 @@ fn schema(alloc: Global) -> Result<Schema, AllocError> {
     }
     Ok(Schema {
         fields: Items::from_vec(fields),
-        metadata: Items::from_vec(Vec::new(alloc)),
+        metadata: Items::new(alloc),
     })
 }
 

@@ -2,8 +2,9 @@
 //! their metadata can be tried on it.
 #![tactic(auto)]
 
-use ipc_model::items::{Items, Text};
-use ipc_model::{DataType, DateUnit, Field, IntBits, Row, Schema, TimeUnit, Value, WriteFault};
+use ipc_model::{
+    DataType, DateUnit, Field, IntBits, Items, Row, Schema, Text, TimeUnit, Value, WriteFault,
+};
 use ipc_stream::{Device, StreamWriter};
 use std::alloc::{AllocError, Global};
 use std::env::Args;
@@ -24,11 +25,11 @@ fn asks_for_all(words: Args) -> bool {
 }
 
 fn text(alloc: Global, bytes: &str) -> Result<Text, AllocError> {
-    Ok(Text::from_string(String::from_str(alloc, bytes)?))
+    Text::copied(alloc, bytes)
 }
 
 fn bytes(alloc: Global, bytes: &[u8]) -> Result<Value, AllocError> {
-    Ok(Value::Bytes(Items::from_vec(Vec::from_slice(alloc, bytes)?)))
+    Ok(Value::Bytes(Items::copied(alloc, bytes)?))
 }
 
 // Pairs of key and value: none, one, or one whose parts are empty and one that isn't ASCII.
@@ -48,7 +49,7 @@ fn field(alloc: Global, name: &str, kind: DataType, count: usize) -> Result<Fiel
         nullable: true,
         kind,
         dictionary: None,
-        children: Items::from_vec(Vec::new(alloc)),
+        children: Items::new(alloc),
         metadata: pairs(alloc, count)?,
     })
 }

@@ -1,4 +1,5 @@
-use Rattle.arrowstream.proofs.Puts.{sent_more, sent_cut}
+use Rattle.ipc_stream.proofs.SentBytes.{sent_more}
+use Rattle.arrowstream.proofs.Puts.{sent_cut}
 use Rattle.arrowstream.proofs.rows.send.Goals as goal
 
 pub loop-sent-preserved : goal.loop-sent-preserved

@@ -1,5 +1,5 @@
 use Rattle.std.proofs.Common.{◌-◌, length}
-use Rattle.arrowstream.proofs.Puts.{SentSome}
+use Rattle.ipc_stream.proofs.SentBytes.{SentSome}
 use Rattle.arrowstream.proofs.rows.send.Given as goal
 
 -- the first bytes went out

@@ -1,5 +1,5 @@
 use Rattle.std.proofs.Common.{◌≡◌, true}
-use Rattle.ipc_column.specs.declared.layout.Layout.TheVariants.{VariableBytes}
+use Rattle.ipc_model.specs.declared.layout.Layout.TheVariants.{VariableBytes}
 use Rattle.ipc_column.specs.Checks.{all_below, slot_good}
 use Rattle.ipc_column.proofs.texts.visit_slots.Given as goal
 

@@ -1,6 +1,6 @@
 use Rattle.std.proofs.Common.{◌∙◌, sym, ap, arith}
 use Rattle.ipc_column.specs.Columns.{Column}
-use Rattle.ipc_column.specs.Layouts.{is_texts}
+use Rattle.ipc_model.specs.Layouts.{is_texts}
 use Rattle.ipc_column.specs.Views.{column_of}
 use Rattle.ipc_column.proofs.Parts.{column_is}
 use Rattle.ipc_column.proofs.Slices.{other_good}

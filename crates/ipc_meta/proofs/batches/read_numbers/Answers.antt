@@ -22,4 +22,4 @@ loop-i-preserved c = record {
 pub returns : goal.returns
 returns c =
     let all = sym c.loop-i.invariant.read ∙ (pairs_done c.in-Some.structs.bytes c.in-Some.structs.at c.loop-i.i c.in-Some.structs.len c.loop-i.numbers.items (omega arith) ∙ append-nil c.loop-i.numbers.items) in
-    rw c.from_vec-2.ensures (numbers_are _ _ _ (ap lift (sym c.structs.ensures) ∙ (sym c.in_ok-structs.ensures ∙ ap Ok c.in-Some.is)) ∙ ap Ok all)
+    rw c.from_vec.ensures (numbers_are _ _ _ (ap lift (sym c.structs.ensures) ∙ (sym c.in_ok-structs.ensures ∙ ap Ok c.in-Some.is)) ∙ ap Ok all)

@@ -1,6 +1,6 @@
 use Rattle.std.proofs.Common.{◌≡◌, ◌∙◌, sym, ap, subst, true, pos, rules, FitsSigned, to_z, of_z}
 use Rattle.std.specs.Prelude.{int_lt}
-use Rattle.ipc_meta.specs.Heads.{longest_body}
+use Rattle.ipc_model.specs.Limits.{max_body}
 use Rattle.std.proofs.lemmas.Result.{err_from_is_err_and}
 use Rattle.std.proofs.lemmas.Int.{to_z-of_z}
 use Rattle.std.specs.Int.{w16, w64}
@@ -45,8 +45,8 @@ pub returns-then-body-gt-LONGEST_BODY-clause-refused : goal.returns-then-body-gt
 returns-then-body-gt-LONGEST_BODY-clause-refused c = λ ne.
     let root = of_root (lift_ok _ _ (ap lift (sym c.root.ensures) ∙ sym c.in_ok-root.ensures)) in
     let fits : FitsSigned w64 c.in_ok-body.body = search rules in
-    let above : int_lt (pos longest_body) (to_z w64 (of_z w64 c.in_ok-body.body)) ≡ true = c.if-body-gt-LONGEST_BODY.true in
-    (_, root, (c.in_ok-body.body, lift_ok _ _ (ap lift (sym c.scalar_i64.ensures) ∙ sym c.in_ok-body.ensures), subst (λ n. int_lt (pos longest_body) n ≡ true) (to_z-of_z w64 c.in_ok-body.body fits) above))
+    let above : int_lt (pos max_body) (to_z w64 (of_z w64 c.in_ok-body.body)) ≡ true = c.if-body-gt-LONGEST_BODY.true in
+    (_, root, (c.in_ok-body.body, lift_ok _ _ (ap lift (sym c.scalar_i64.ensures) ∙ sym c.in_ok-body.ensures), subst (λ n. int_lt (pos max_body) n ≡ true) (to_z-of_z w64 c.in_ok-body.body fits) above))
 
 pub returns-in_err-head-clause-refused : goal.returns-in_err-head-clause-refused
 returns-in_err-head-clause-refused c =

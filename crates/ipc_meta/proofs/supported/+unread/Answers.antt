@@ -6,7 +6,7 @@ use Rattle.ipc_meta.proofs.supported.+unread.Goals as goal
 pub unsupported_at-returns-then-not-is_supported : goal.unsupported_at-returns-then-not-is_supported
 unsupported_at-returns-then-not-is_supported t c =
     let closed = sym (c.if-not-is_supported.ensures) in
-    (closed_itself c.args.field.now closed, λ fs. here (sym c.type_number.ensures) closed)
+    (closed_itself c.args.field.now closed, λ fs. here (sym c.code.ensures) closed)
 
 pub unsupported_at-returns : goal.unsupported_at-returns
 unsupported_at-returns t c = by_children c.args.field.now _ _ (sym (c.if-not-is_supported.ensures)) c.as_slice.ensures c.unsupported_in.ensures

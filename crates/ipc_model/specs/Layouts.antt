@@ -1,0 +1,73 @@
+-- How the slots of a field lie in its buffers (Arrow Columnar Format, "Physical Memory Layout").
+use Rattle.std.specs.Prelude.{ℕ, Bool, true, false, Option, Some, None}
+use Rattle.ipc_model.specs.declared.schema.IntBits.{IntBits}
+use Rattle.ipc_model.specs.declared.schema.IntBits.TheVariants.{B8, B16, B32, B64}
+use Rattle.ipc_model.specs.declared.schema.DateUnit.TheVariants.{Day, Millisecond}
+use Rattle.ipc_model.specs.declared.schema.DataType.{DataType}
+use Rattle.ipc_model.specs.declared.schema.DataType.TheVariants as t
+use Rattle.ipc_model.specs.declared.schema.Dictionary.{Dictionary}
+use Rattle.ipc_model.specs.declared.layout.Layout.{Layout}
+use Rattle.ipc_model.specs.declared.layout.Layout.TheVariants as l
+
+-- the layout of a type's slots: a date in days is a signed number of 32 bits, one in milliseconds and a timestamp of 64 (Schema.fbs, Date, Timestamp)
+abbrev pub type_layout : DataType → Layout
+type_layout t.Null = l.Null
+type_layout t.Bool = l.Bits
+type_layout (t.Int bits signed) = l.Numbers bits signed
+type_layout t.Binary = l.VariableBytes false
+type_layout t.Utf8 = l.VariableBytes true
+type_layout (t.FixedSizeBinary width) = l.FixedBytes width
+type_layout (t.Date Day) = l.Numbers B32 true
+type_layout (t.Date Millisecond) = l.Numbers B64 true
+type_layout (t.Timestamp unit timezone) = l.Numbers B64 true
+type_layout t.List = l.Unsupported
+type_layout t.Struct = l.Unsupported
+
+-- the layout of a field's slots
+abbrev pub layout : DataType → Option Dictionary → Layout
+layout kind None = type_layout kind
+layout kind (Some d) = l.Unsupported
+
+-- how many buffers a field has without those of its children (Arrow Columnar Format, "Buffer Listing for Each Layout")
+abbrev pub own_buffers : Layout → ℕ
+own_buffers l.Null = 0
+own_buffers l.Unsupported = 0
+own_buffers (l.VariableBytes utf8) = 3
+own_buffers l.Bits = 2
+own_buffers (l.Numbers bits signed) = 2
+own_buffers (l.FixedBytes width) = 2
+
+-- a null count is that of a validity bitmap; a column of the null layout has none (Arrow Columnar Format, "Null Layout")
+abbrev pub has_validity : Layout → Bool
+has_validity l.Null = false
+has_validity l.Bits = true
+has_validity (l.Numbers bits signed) = true
+has_validity (l.FixedBytes width) = true
+has_validity (l.VariableBytes utf8) = true
+has_validity l.Unsupported = true
+
+-- each slot holds a text
+abbrev pub is_texts : Layout → Bool
+is_texts (l.VariableBytes utf8) = utf8
+is_texts l.Null = false
+is_texts l.Bits = false
+is_texts (l.Numbers bits signed) = false
+is_texts (l.FixedBytes width) = false
+is_texts l.Unsupported = false
+
+-- each slot holds a signed number of 64 bits
+abbrev pub is_signed_64 : Layout → Bool
+is_signed_64 (l.Numbers B64 true) = true
+is_signed_64 (l.Numbers bits signed) = false
+is_signed_64 l.Null = false
+is_signed_64 l.Bits = false
+is_signed_64 (l.FixedBytes width) = false
+is_signed_64 (l.VariableBytes utf8) = false
+is_signed_64 l.Unsupported = false
+
+-- the bytes of a number
+abbrev pub number_bytes : IntBits → ℕ
+number_bytes B8 = 1
+number_bytes B16 = 2
+number_bytes B32 = 4
+number_bytes B64 = 8

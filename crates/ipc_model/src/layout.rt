@@ -1,0 +1,143 @@
+//! The table of types: how the slots of each lie in buffers, and how wide numbers are.
+ghost use Rattle.std.specs.Prelude.{◌≡◌};
+ghost use Rattle.ipc_model.specs.Layouts.{type_layout, layout, own_buffers, has_validity};
+ghost use Rattle.ipc_model.specs.Layouts.{is_signed_64, is_texts, number_bytes};
+ghost use Rattle.ipc_model.specs.Ranges.{width};
+
+use crate::schema::{DataType, DateUnit, Dictionary, IntBits};
+
+/// How the slots of a field lie in its buffers (Arrow Columnar Format, "Physical Memory Layout").
+#[derive(Clone, Copy, Debug, PartialEq, Eq, Drop)]
+pub enum Layout {
+    /// No buffers: each slot is null ("Null Layout").
+    Null,
+    /// A validity bitmap, and a bit for each slot ("Fixed-size Primitive Layout").
+    Bits,
+    /// A validity bitmap, and numbers of one width ("Fixed-size Primitive Layout").
+    Numbers {
+        /// How many bits a number has.
+        bits: IntBits,
+        /// Whether it is stored in two's complement.
+        signed: bool,
+    },
+    /// A validity bitmap, and so many bytes for each slot ("Fixed-size Primitive Layout").
+    FixedBytes(u32),
+    /// A validity bitmap, offsets of 32 bits, and the bytes between them ("Variable-size Binary
+    /// Layout").
+    VariableBytes {
+        /// Whether the bytes of a slot are UTF-8.
+        utf8: bool,
+    },
+    /// A type whose columns are neither read nor written yet.
+    Unsupported,
+}
+
+// The layout of a type's slots.
+fn type_layout(kind: &DataType) -> Layout
+    ensures { result ≡ type_layout kind.now }
+{
+    match kind {
+        DataType::Null => Layout::Null,
+        DataType::Bool => Layout::Bits,
+        DataType::Int { bits, signed } => Layout::Numbers {
+            bits: *bits,
+            signed: *signed,
+        },
+        DataType::Binary => Layout::VariableBytes { utf8: false },
+        DataType::Utf8 => Layout::VariableBytes { utf8: true },
+        DataType::FixedSizeBinary(width) => Layout::FixedBytes(*width),
+        DataType::Date(DateUnit::Day) => Layout::Numbers {
+            bits: IntBits::B32,
+            signed: true,
+        },
+        DataType::Date(DateUnit::Millisecond) | DataType::Timestamp { .. } => Layout::Numbers {
+            bits: IntBits::B64,
+            signed: true,
+        },
+        DataType::List | DataType::Struct => Layout::Unsupported,
+    }
+}
+
+/// The layout of the slots of a field of this type with this dictionary: `Unsupported` where there
+/// is one, and for lists and structs.
+pub fn layout_of(kind: &DataType, dictionary: Option<Dictionary>) -> Layout
+    ensures { result ≡ layout kind.now dictionary }
+{
+    match dictionary {
+        None => type_layout(kind),
+        Some(_) => Layout::Unsupported,
+    }
+}
+
+impl Layout {
+    /// How many buffers a field of this layout has without those of its children (Arrow Columnar
+    /// Format, "Buffer Listing for Each Layout"): from 0 to 3.
+    pub fn own_buffers(self) -> usize
+        ensures { result ≡ own_buffers self }
+    {
+        match self {
+            Layout::Null | Layout::Unsupported => 0,
+            Layout::Bits | Layout::Numbers { .. } | Layout::FixedBytes(_) => 2,
+            Layout::VariableBytes { .. } => 3,
+        }
+    }
+
+    /// Whether a null count is that of a validity bitmap, as it is but for the null layout.
+    pub fn has_validity(self) -> bool
+        ensures { result ≡ has_validity self }
+    {
+        match self {
+            Layout::Null => false,
+            _ => true,
+        }
+    }
+
+    /// Whether each slot holds a text in UTF-8.
+    pub fn is_texts(self) -> bool
+        ensures { result ≡ is_texts self }
+    {
+        match self {
+            Layout::VariableBytes { utf8 } => utf8,
+            _ => false,
+        }
+    }
+
+    /// Whether each slot holds a signed number of 64 bits.
+    pub fn is_signed_64(self) -> bool
+        ensures { result ≡ is_signed_64 self }
+    {
+        match self {
+            Layout::Numbers {
+                bits: IntBits::B64,
+                signed,
+            } => signed,
+            _ => false,
+        }
+    }
+}
+
+impl IntBits {
+    /// How many bits a number has: 8, 16, 32 or 64 (Schema.fbs, table Int, `bitWidth`).
+    pub fn width(self) -> u8
+        ensures { result ≡ width self }
+    {
+        match self {
+            IntBits::B8 => 8,
+            IntBits::B16 => 16,
+            IntBits::B32 => 32,
+            IntBits::B64 => 64,
+        }
+    }
+
+    /// How many bytes a number has: 1, 2, 4 or 8.
+    pub fn bytes(self) -> usize
+        ensures { result ≡ number_bytes self }
+    {
+        match self {
+            IntBits::B8 => 1,
+            IntBits::B16 => 2,
+            IntBits::B32 => 4,
+            IntBits::B64 => 8,
+        }
+    }
+}
