@@ -1,5 +1,6 @@
 -- A column of signed 64-bit numbers gives numbers and nulls.
-use Rattle.std.proofs.Common.{◌≡◌, ◌∙◌, refl, sym, ap, subst, ℕ, zero, suc, ◌+◌, ◌*◌, ◌<◌, List, [], ◌∷◌, ◌++◌, length, map, Bool, true, false, Option, Some, None, arith}
+use Rattle.std.proofs.Common.{◌≡◌, ◌∙◌, refl, sym, ap, subst, ℕ, zero, suc, ◌+◌, ◌*◌, ◌<◌, List, [], ◌∷◌, ◌++◌, length, map, Bool, true}
+use Rattle.std.proofs.Common.{false, Option, Some, None, arith}
 use Rattle.std.specs.Prelude.{slice_index_or, if◌then◌else◌, ⊤}
 use Rattle.std.specs.List.{AllByRecursion}
 use Rattle.ipc_model.specs.declared.schema.Field.{Field, out-Field, fold_out-Field}
@@ -16,7 +17,8 @@ use Rattle.ipc_model.specs.declared.layout.Layout.{Layout}
 use Rattle.ipc_model.specs.declared.layout.Layout.TheVariants.{Numbers}
 use Rattle.ipc_column.specs.Columns.{Column, Columns, none, column}
 use Rattle.ipc_model.specs.Layouts.{layout, number_bytes}
-use Rattle.ipc_column.specs.Shapes.{Shape, bare, field, shapes, field_shape, field_step, shape_of, cut, column_at, nodes_in, buffers_in, columns_of}
+use Rattle.ipc_column.specs.Shapes.{Shape, bare, field, shapes, field_shape, field_step, shape_of, cut, column_at, nodes_in, buffers_in}
+use Rattle.ipc_column.specs.Shapes.{columns_of}
 use Rattle.ipc_column.specs.Values.{is_valid, own_value, value_of, signed_at, row}
 use Rattle.ipc_column.specs.Rows.{Rows}
 use Rattle.ipc_stream.specs.Stream.{State, Event, InForce, schema, batch, Step, first, came, Run, done, more}
@@ -28,16 +30,20 @@ use Rattle.arrowstream.proofs.Shown.{null_shown, int_shown}
 shape_is : (f : Field) → IsShownColumn f → (field_shape f).0 ≡ Numbers B64 true
 shape_is f shown =
     ap (λ (v : Layout × Shape). v.0) (fold_out-Field (Layout × Shape) field_step f)
-    ∙ (ap (λ (k : DataType). layout k (out-Field f).dictionary) shown.kind ∙ ap (λ (d : Option Dictionary). layout (t.Int B64 true) d) shown.plain)
+    ∙ (ap (λ (k : DataType). layout k (out-Field f).dictionary) shown.kind
+    ∙ ap (λ (d : Option Dictionary). layout (t.Int B64 true) d) shown.plain)
 
 -- the values of such a column
 column_shown : (c : Column) (i : ℕ) → c.layout ≡ Numbers B64 true → IsShown (value_of c i)
-column_shown c i is = elim (is_valid c.validity i) as (λ (b : Bool). IsShown (if b then own_value c.layout c.offsets c.values i else v.Null)) [
-  | true ↦ subst (λ (l : Layout). IsShown (own_value l c.offsets c.values i)) (sym is) (int_shown (signed_at B64 c.values (number_bytes B64 * i)))
-  | false ↦ null_shown
-]
+column_shown c i is = elim (is_valid c.validity i) as
+    (λ (b : Bool). IsShown (if b then own_value c.layout c.offsets c.values i else v.Null)) [
+      | true ↦ subst (λ (l : Layout). IsShown (own_value l c.offsets c.values i)) (sym is)
+          (int_shown (signed_at B64 c.values (number_bytes B64 * i)))
+      | false ↦ null_shown
+    ]
 
-row_shown : (fs : List Field) (h : BatchHead) (body : List ℕ) (n b i : ℕ) → AreShownColumns fs → AllByRecursion IsShown (row (cut (shapes (map field_shape fs)) h body n b) i)
+row_shown : (fs : List Field) (h : BatchHead) (body : List ℕ) (n b i : ℕ) → AreShownColumns fs
+    → AllByRecursion IsShown (row (cut (shapes (map field_shape fs)) h body n b) i)
 unfolding cut
 row_shown [] h body n b i all = tt
 row_shown (f ∷ fs) h body n b i all =
@@ -47,31 +53,38 @@ by_index : {X : Type 0} (P : X → Type 0) (xs : List X) (d : X) → ((i : ℕ) 
 by_index P [] d all = tt
 by_index P (x ∷ xs) d all = (all 0 (omega arith), by_index P xs d (λ i h. all (suc i) (omega (arith, h))))
 
-rows_shown : (fs : List Field) (h : BatchHead) (body : List ℕ) (rows : List (List Value)) → AreShownColumns fs → Rows fs h body rows → AreShownRows rows
+rows_shown : (fs : List Field) (h : BatchHead) (body : List ℕ) (rows : List (List Value)) → AreShownColumns fs → Rows fs h body rows
+    → AreShownRows rows
 rows_shown fs h body rows all r =
-    by_index (AllByRecursion IsShown) rows [] (λ i inside. subst (AllByRecursion IsShown) (sym (r.values i inside)) (row_shown fs h body 0 0 i all))
+    by_index (AllByRecursion IsShown) rows []
+    (λ i inside. subst (AllByRecursion IsShown) (sym (r.values i inside)) (row_shown fs h body 0 0 i all))
 
 -- what an event says
 abbrev pub IsShownEvent : Event → Type 0
 IsShownEvent (schema s) = ⊤
 IsShownEvent (batch rows) = AreShownRows rows
 
-step_shown : (σ τ : State) (h : Head) (body : List ℕ) (es : List Event) (o : InForce) → AreShownColumns o.schema.fields → σ ≡ Some o → Step σ h body es τ → AllByRecursion IsShownEvent es × (τ ≡ Some o)
+step_shown : (σ τ : State) (h : Head) (body : List ℕ) (es : List Event) (o : InForce) → AreShownColumns o.schema.fields → σ ≡ Some o
+    → Step σ h body es τ → AllByRecursion IsShownEvent es × (τ ≡ Some o)
 step_shown σ τ h body es o all is first = absurd (cc)
 step_shown σ τ h body es o all is (came {o = p} {b = b} {body = c} {rows = rows} r) =
     let same : p ≡ o = cc in
     ((rows_shown o.schema.fields b c rows all (subst (λ (q : InForce). Rows q.schema.fields b c rows) same r), tt), is)
 
-append_shown : (es fs : List Event) → AllByRecursion IsShownEvent es → AllByRecursion IsShownEvent fs → AllByRecursion IsShownEvent (es ++ fs)
+append_shown : (es fs : List Event) → AllByRecursion IsShownEvent es → AllByRecursion IsShownEvent fs
+    → AllByRecursion IsShownEvent (es ++ fs)
 append_shown [] fs a b = b
 append_shown (e ∷ es) fs a b = (a.0, append_shown es fs a.1 b)
 
-run_shown : (σ τ : State) (x : List ℕ) (es : List Event) (o : InForce) → AreShownColumns o.schema.fields → σ ≡ Some o → Run σ x es τ → AllByRecursion IsShownEvent es
+run_shown : (σ τ : State) (x : List ℕ) (es : List Event) (o : InForce) → AreShownColumns o.schema.fields → σ ≡ Some o → Run σ x es τ
+    → AllByRecursion IsShownEvent es
 run_shown σ τ x es o all is done = tt
-run_shown σ τ x es o all is (more {σ = a} {τ = b} {υ = c} {x = u} {metadata = m} {body = d} {y = v} {h = h} {es = ds} {fs = gs} frame step rest) =
+run_shown σ τ x es o all is (more {σ = a} {τ = b} {υ = c} {x = u} {metadata = m} {body = d} {y = v} {h = h} {es = ds}
+    {fs = gs} frame step rest) =
     let s = step_shown a b h d ds o all is step in
     append_shown ds gs s.0 (run_shown b c v gs o all s.1 rest)
 
 -- what a run of one batch says of its rows
-pub batch_shown : (o : InForce) (x : List ℕ) (rows : List (List Value)) → AreShownColumns o.schema.fields → Run (Some o) x (batch rows ∷ []) (Some o) → AreShownRows rows
+pub batch_shown : (o : InForce) (x : List ℕ) (rows : List (List Value)) → AreShownColumns o.schema.fields
+    → Run (Some o) x (batch rows ∷ []) (Some o) → AreShownRows rows
 batch_shown o x rows all run = (run_shown (Some o) (Some o) x (batch rows ∷ []) o all refl run).0

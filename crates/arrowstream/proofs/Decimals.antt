@@ -1,5 +1,6 @@
 -- Decimal digits: a number's text is that of its front and then its last digits.
-use Rattle.std.proofs.Common.{◌≡◌, ℕ, zero, suc, ◌+◌, ◌-◌, ◌*◌, ◌/◌, ◌%◌, ◌^◌, ◌<◌, ◌≤◌, List, [], ◌∷◌, ◌++◌, length, drop, refl, sym, ap, ◌∙◌, arith, length-append, append_assoc, inl, inr, get_or}
+use Rattle.std.proofs.Common.{◌≡◌, ℕ, zero, suc, ◌+◌, ◌-◌, ◌*◌, ◌/◌, ◌%◌, ◌^◌, ◌<◌, ◌≤◌, List, [], ◌∷◌, ◌++◌, length, drop, refl, sym, ap}
+use Rattle.std.proofs.Common.{◌∙◌, arith, length-append, append_assoc, inl, inr, get_or}
 use Rattle.std.proofs.Math.Nat.{div-div-eq-div-mul, div-le_self}
 use Rattle.std.proofs.Math.Seq.{drop-append_seam}
 use Rattle.std.proofs.lemmas.Bool.{cases_lt}
@@ -40,7 +41,8 @@ decimal_split (suc k) n h s =
 padded_one : (k n : ℕ) → n < 10 → drop (suc (suc k) - length (decimal n)) (last_digits (suc k) (n / 10) ++ (48 + n % 10) ∷ []) ≡ decimal n
 padded_one k n h =
     let digit = decimal_digit n h in
-    let count : suc (suc k) - length (decimal n) ≡ length (last_digits (suc k) (n / 10)) = omega (arith, ap length digit, length-last (suc k) (n / 10)) in
+    let count : suc (suc k) - length (decimal n) ≡ length (last_digits (suc k) (n / 10)) =
+    omega (arith, ap length digit, length-last (suc k) (n / 10)) in
     let last : n % 10 ≡ n = omega (arith, h) in
     ap (λ (c : ℕ). drop c (last_digits (suc k) (n / 10) ++ (48 + n % 10) ∷ [])) count
     ∙ (drop-append_seam (last_digits (suc k) (n / 10)) ((48 + n % 10) ∷ [])
@@ -51,7 +53,8 @@ padded_more : (k n : ℕ) → 10 ≤ n → n < 10 ^ suc (suc k) → n < 2 ^ 64
     → drop (suc (suc k) - length (decimal n)) (last_digits (suc k) (n / 10) ++ (48 + n % 10) ∷ []) ≡ decimal n
 padded_more k n ten h s ih =
     let step = decimal_step n ten s in
-    let longer : length (decimal n) ≡ length (decimal (n / 10)) + 1 = ap length step ∙ length-append (decimal (n / 10)) ((48 + n % 10) ∷ []) in
+    let longer : length (decimal n) ≡ length (decimal (n / 10)) + 1 =
+    ap length step ∙ length-append (decimal (n / 10)) ((48 + n % 10) ∷ []) in
     let count : suc (suc k) - length (decimal n) ≡ suc k - length (decimal (n / 10)) = omega (arith, longer) in
     let fits : suc k - length (decimal (n / 10)) ≤ length (last_digits (suc k) (n / 10)) = omega (arith, length-last (suc k) (n / 10)) in
     ap (λ (c : ℕ). drop c (last_digits (suc k) (n / 10) ++ (48 + n % 10) ∷ [])) count
@@ -72,10 +75,12 @@ decimal_padded (suc k) n h s =
     ]
 
 -- eight bytes, the lowest first
-sum_of : (a b c d e f g h r : ℕ) → r ≡ (a + b * 256) + (c + d * 256) * 65536 + (e + f * 256) * 4294967296 + (g + h * 256) * 281474976710656 → r ≡ from_le_bytes w64 (a ∷ b ∷ c ∷ d ∷ e ∷ f ∷ g ∷ h ∷ [])
+sum_of : (a b c d e f g h r : ℕ) → r ≡ (a + b * 256) + (c + d * 256) * 65536 + (e + f * 256) * 4294967296 + (g + h * 256) * 281474976710656
+    → r ≡ from_le_bytes w64 (a ∷ b ∷ c ∷ d ∷ e ∷ f ∷ g ∷ h ∷ [])
 sum_of a b c d e f g h r s = omega (arith, s)
 
-small_bytes : (a b c d e f g h : ℕ) → a < 58 → b < 58 → c < 58 → d < 58 → e < 58 → f < 58 → g < 58 → h < 58 → (i : ℕ) → get_or (a ∷ b ∷ c ∷ d ∷ e ∷ f ∷ g ∷ h ∷ []) i 0 < 256
+small_bytes : (a b c d e f g h : ℕ) → a < 58 → b < 58 → c < 58 → d < 58 → e < 58 → f < 58 → g < 58 → h < 58 → (i : ℕ)
+    → get_or (a ∷ b ∷ c ∷ d ∷ e ∷ f ∷ g ∷ h ∷ []) i 0 < 256
 small_bytes a b c d e f g h ha hb hc hd he hf hg hh zero = omega (arith, ha)
 small_bytes a b c d e f g h ha hb hc hd he hf hg hh (suc zero) = omega (arith, hb)
 small_bytes a b c d e f g h ha hb hc hd he hf hg hh (suc (suc zero)) = omega (arith, hc)
@@ -90,7 +95,8 @@ bytes_of : (a b c d e f g h r : ℕ) → a < 58 → b < 58 → c < 58 → d < 58
     → r ≡ (a + b * 256) + (c + d * 256) * 65536 + (e + f * 256) * 4294967296 + (g + h * 256) * 281474976710656
     → to_le_bytes w64 r ≡ a ∷ b ∷ c ∷ d ∷ e ∷ f ∷ g ∷ h ∷ []
 bytes_of a b c d e f g h r ha hb hc hd he hf hg hh s =
-    le_bytes_8 (a ∷ b ∷ c ∷ d ∷ e ∷ f ∷ g ∷ h ∷ []) r refl (small_bytes a b c d e f g h ha hb hc hd he hf hg hh) (sum_of a b c d e f g h r s)
+    le_bytes_8 (a ∷ b ∷ c ∷ d ∷ e ∷ f ∷ g ∷ h ∷ []) r refl (small_bytes a b c d e f g h ha hb hc hd he hf hg hh)
+    (sum_of a b c d e f g h r s)
 
 longer : (k n : ℕ) → 10 ^ k ≤ n → n < 2 ^ 64 → suc k ≤ length (decimal n)
 longer k n h s =
@@ -124,4 +130,5 @@ last_eight n =
 
 -- a number of more than eight digits: its front, and then the eight last ones
 pub behind_eight : (n m : ℕ) → 100000000 ≤ n → n < 2 ^ 64 → m ≡ n % 100000000 → decimal (n / 100000000) ++ last_digits 8 m ≡ decimal n
-behind_eight n m h s e = ap (λ (x : ℕ). decimal (n / 100000000) ++ last_digits 8 x) e ∙ (ap (λ (x : List ℕ). decimal (n / 100000000) ++ x) (last_eight n) ∙ sym (decimal_split 8 n h s))
+behind_eight n m h s e = ap (λ (x : ℕ). decimal (n / 100000000) ++ last_digits 8 x) e
+    ∙ (ap (λ (x : List ℕ). decimal (n / 100000000) ++ x) (last_eight n) ∙ sym (decimal_split 8 n h s))

@@ -1,5 +1,6 @@
 -- The front of a text behind a write.
-use Rattle.std.proofs.Common.{◌≡◌, ℕ, ◌+◌, ◌-◌, ◌*◌, ◌/◌, ◌%◌, ◌^◌, ◌<◌, ◌≤◌, List, ◌++◌, length, take, drop, ap, ◌∙◌, refl, arith, append_assoc}
+use Rattle.std.proofs.Common.{◌≡◌, ℕ, ◌+◌, ◌-◌, ◌*◌, ◌/◌, ◌%◌, ◌^◌, ◌<◌, ◌≤◌, List, ◌++◌, length, take, drop, ap, ◌∙◌, refl, arith}
+use Rattle.std.proofs.Common.{append_assoc}
 use Rattle.std.proofs.Math.Seq.{take-append-add}
 use Rattle.std.proofs.lemmas.List.{length-take-le, take-append-le}
 use Rattle.std.specs.Fmt.{decimal}
@@ -9,7 +10,8 @@ use Rattle.arrowstream.proofs.Decimals.{decimal_padded, behind_eight}
 use Rattle.arrowstream.proofs.Shifts.{shifted}
 
 -- up to inside the part that was written
-pub front_of : (s bytes rest : List ℕ) (at j : ℕ) → at ≤ length s → j ≤ length bytes → take (at + j) (take at s ++ bytes ++ rest) ≡ take at s ++ take j bytes
+pub front_of : (s bytes rest : List ℕ) (at j : ℕ) → at ≤ length s → j ≤ length bytes
+    → take (at + j) (take at s ++ bytes ++ rest) ≡ take at s ++ take j bytes
 front_of s bytes rest at j inside short =
     let count : at + j ≡ length (take at s) + j = omega (arith, length-take-le at s inside) in
     ap (take (at + j)) (append_assoc (take at s) bytes rest)

@@ -1,5 +1,6 @@
 -- Columns whose numbers are lent, and the rows that they make.
-use Rattle.std.proofs.Common.{◌≡◌, ◌∙◌, refl, sym, ap, subst, ℕ, zero, suc, ◌+◌, ◌*◌, ◌/◌, ◌<◌, ◌≤◌, List, [], ◌∷◌, ◌++◌, length, map, take, drop, get_or, Some, append_assoc, arith}
+use Rattle.std.proofs.Common.{◌≡◌, ◌∙◌, refl, sym, ap, subst, ℕ, zero, suc, ◌+◌, ◌*◌, ◌/◌, ◌<◌, ◌≤◌, List, [], ◌∷◌, ◌++◌, length, map, take}
+use Rattle.std.proofs.Common.{drop, get_or, Some, append_assoc, arith}
 use Rattle.std.specs.Prelude.{ℤ, codes, slice_get, slice_index_or}
 use Rattle.std.specs.Fmt.{signed_decimal}
 use Rattle.std.specs.Int.{w64, cast_signed, from_le_bytes}
@@ -39,10 +40,12 @@ chunk_number xs p =
     let f = at 4 (omega arith) ∙ ap (λ (n : ℕ). get_or xs n 0) (let e : p + 4 ≡ suc (suc (suc (suc p))) = omega arith in e) in
     let g = at 5 (omega arith) ∙ ap (λ (n : ℕ). get_or xs n 0) (let e : p + 5 ≡ suc (suc (suc (suc (suc p)))) = omega arith in e) in
     let h = at 6 (omega arith) ∙ ap (λ (n : ℕ). get_or xs n 0) (let e : p + 6 ≡ suc (suc (suc (suc (suc (suc p))))) = omega arith in e) in
-    let i = at 7 (omega arith) ∙ ap (λ (n : ℕ). get_or xs n 0) (let e : p + 7 ≡ suc (suc (suc (suc (suc (suc (suc p)))))) = omega arith in e) in
+    let i = at 7 (omega arith) ∙ ap (λ (n : ℕ). get_or xs n 0)
+    (let e : p + 7 ≡ suc (suc (suc (suc (suc (suc (suc p)))))) = omega arith in e) in
     omega (arith, a, b, c, d, f, g, h, i)
 
-pub number_at : (xs numbers : List ℕ) (all : List (List ℕ)) (i : ℕ) → all ≡ first_chunks 8 (length xs / 8) xs → i < length xs / 8 → number_in (slice_index_or all i []) ≡ Int (int64 xs (8 * i))
+pub number_at : (xs numbers : List ℕ) (all : List (List ℕ)) (i : ℕ) → all ≡ first_chunks 8 (length xs / 8) xs → i < length xs / 8
+    → number_in (slice_index_or all i []) ≡ Int (int64 xs (8 * i))
 number_at xs numbers all i is inside =
     ap (λ (c : List (List ℕ)). number_in (get_or c i [])) is
     ∙ (ap number_in (chunk_at (length xs / 8) i xs [] inside) ∙ ap (λ (n : ℕ). Int (cast_signed w64 n)) (chunk_number xs (8 * i)))
@@ -57,22 +60,27 @@ module _ {X : Type 0} (numbers : X → List (List ℕ)) where
   pub lent_none : (columns : List X) (rows : List (List Value)) → columns ≡ [] → LentSome columns rows 0
   lent_none columns rows none = subst (λ (c : List X). LentSome c rows 0) (sym none) (record { size = refl; long = tt; same = λ i h. refl })
 
-  pub lent_more : (columns more : List X) (x : X) (rows : List (List Value)) (count : ℕ) (values : List ℕ) → LentSome columns rows count → AreNumbers rows count values
-      → numbers x ≡ first_chunks 8 (length values / 8) values → length (numbers x) ≡ length values / 8 → more ≡ columns ++ x ∷ [] → LentSome more rows (count + 1)
-  lent_more columns more x rows count values lent are chunks size is = subst (λ (c : List X). LentSome c rows (count + 1)) (sym is) (record {
-    size = omega (arith, lent.size, length-append columns (x ∷ []));
-    long = all_more (λ c. length rows ≤ length (numbers c)) columns x lent.long (omega (arith, are.long, size));
-    same = λ i h.
-        let row = slice_index_or rows i [] in
-        let at = are.each i h in
-        let wide : count < length row = got_inside row count (Int (int64 values (8 * i))) at in
-        let last : number_in (slice_index_or (numbers x) i []) ≡ get_or row count (Int (int64 values (8 * i))) = number_at values [] (numbers x) i chunks (omega (arith, are.long, h)) ∙ sym (get_or_from_slice_get row count _ _ at) in
-        map-append (λ c. number_in (slice_index_or (numbers c) i [])) columns (x ∷ [])
-        ∙ (ap (λ (vs : List Value). vs ++ number_in (slice_index_or (numbers x) i []) ∷ []) (lent.same i h)
-        ∙ (ap (λ (w : Value). take count row ++ w ∷ []) last ∙ sym (take_more row count _ wide)));
-  })
+  pub lent_more : (columns more : List X) (x : X) (rows : List (List Value)) (count : ℕ) (values : List ℕ) → LentSome columns rows count
+      → AreNumbers rows count values
+      → numbers x ≡ first_chunks 8 (length values / 8) values → length (numbers x) ≡ length values / 8 → more ≡ columns ++ x ∷ []
+      → LentSome more rows (count + 1)
+  lent_more columns more x rows count values lent are chunks size is =
+      subst (λ (c : List X). LentSome c rows (count + 1)) (sym is) (record {
+        size = omega (arith, lent.size, length-append columns (x ∷ []));
+        long = all_more (λ c. length rows ≤ length (numbers c)) columns x lent.long (omega (arith, are.long, size));
+        same = λ i h.
+            let row = slice_index_or rows i [] in
+            let at = are.each i h in
+            let wide : count < length row = got_inside row count (Int (int64 values (8 * i))) at in
+            let last : number_in (slice_index_or (numbers x) i []) ≡ get_or row count (Int (int64 values (8 * i))) =
+            number_at values [] (numbers x) i chunks (omega (arith, are.long, h)) ∙ sym (get_or_from_slice_get row count _ _ at) in
+            map-append (λ c. number_in (slice_index_or (numbers c) i [])) columns (x ∷ [])
+            ∙ (ap (λ (vs : List Value). vs ++ number_in (slice_index_or (numbers x) i []) ∷ []) (lent.same i h)
+            ∙ (ap (λ (w : Value). take count row ++ w ∷ []) last ∙ sym (take_more row count _ wide)));
+      })
 
-  pub lent_all : (columns : List X) (rows : List (List Value)) (count : ℕ) → LentSome columns rows count → AllByRecursion (λ row. length row ≡ count) rows → 0 < length columns → AreLent numbers columns rows
+  pub lent_all : (columns : List X) (rows : List (List Value)) (count : ℕ) → LentSome columns rows count
+      → AllByRecursion (λ row. length row ≡ count) rows → 0 < length columns → AreLent numbers columns rows
   lent_all columns rows count lent wide some = record {
     some = some;
     long = lent.long;
@@ -81,7 +89,8 @@ module _ {X : Type 0} (numbers : X → List (List ℕ)) where
         lent.same i h ∙ take_all count (slice_index_or rows i []) (omega (arith, size));
   }
 
-  got_map : (columns : List X) (row i : ℕ) (x d : X) → i < length columns → x ≡ get_or columns i d → slice_get (row_in numbers columns row) i ≡ Some (number_in (slice_index_or (numbers x) row []))
+  got_map : (columns : List X) (row i : ℕ) (x d : X) → i < length columns → x ≡ get_or columns i d
+      → slice_get (row_in numbers columns row) i ≡ Some (number_in (slice_index_or (numbers x) row []))
   got_map [] row i x d inside is = absurd (omega (arith, inside))
   got_map (y ∷ ys) row zero x d inside is = ap (λ (c : X). Some (number_in (slice_index_or (numbers c) row []))) (sym is)
   got_map (y ∷ ys) row (suc i) x d inside is = got_map ys row i x d (omega (arith, inside)) is
@@ -93,7 +102,8 @@ module _ {X : Type 0} (numbers : X → List (List ℕ)) where
     pub first : i ≡ 0 → (text ≡ []) × (before ≡ 91)
     pub later : 0 < i → (text ≡ opened (take i (row_in numbers columns row))) × (before ≡ 44)
 
-  front : (columns : List X) (row : ℕ) (old now : Output) (before i : ℕ) (put : RowPut columns row old now before i) (t : List ℕ) → put.text ++ (before ∷ t) ≡ opened (take i (row_in numbers columns row)) ++ (comma i ++ t)
+  front : (columns : List X) (row : ℕ) (old now : Output) (before i : ℕ) (put : RowPut columns row old now before i) (t : List ℕ)
+      → put.text ++ (before ∷ t) ≡ opened (take i (row_in numbers columns row)) ++ (comma i ++ t)
   front columns row old now before zero put t =
       let h = put.first refl in
       ap (λ (x : List ℕ). x ++ (before ∷ t)) h.0 ∙ ap (λ (n : ℕ). n ∷ t) h.1
@@ -102,16 +112,22 @@ module _ {X : Type 0} (numbers : X → List (List ℕ)) where
       ap (λ (x : List ℕ). x ++ (before ∷ t)) h.0 ∙ ap (λ (n : ℕ). opened (take (suc i) (row_in numbers columns row)) ++ (n ∷ t)) h.1
 
   -- the text of one number more
-  pub number_text : (columns : List X) (row : ℕ) (old now : Output) (before i : ℕ) (x d : X) (z : ℤ) (put : RowPut columns row old now before i) → i < length columns → x ≡ get_or columns i d
-      → number_in (slice_index_or (numbers x) row []) ≡ Int z → put.text ++ (before ∷ signed_decimal z) ≡ opened (take (i + 1) (row_in numbers columns row))
+  pub number_text : (columns : List X) (row : ℕ) (old now : Output) (before i : ℕ) (x d : X) (z : ℤ)
+      (put : RowPut columns row old now before i) → i < length columns → x ≡ get_or columns i d
+      → number_in (slice_index_or (numbers x) row []) ≡ Int z
+      → put.text ++ (before ∷ signed_decimal z) ≡ opened (take (i + 1) (row_in numbers columns row))
   number_text columns row old now before i x d z put inside is value =
       let at = got_map columns row i x d inside is ∙ ap (λ (w : Value). Some w) value in
-      let wide : i < length (row_in numbers columns row) = omega (arith, inside, length-map columns (λ c. number_in (slice_index_or (numbers c) row []))) in
+      let wide : i < length (row_in numbers columns row) =
+      omega (arith, inside, length-map columns (λ c. number_in (slice_index_or (numbers c) row []))) in
       front columns row old now before i put (signed_decimal z)
-      ∙ (ap (λ (x : List ℕ). opened (take i (row_in numbers columns row)) ++ (comma i ++ x)) (sym (int_text z)) ∙ cell_more (row_in numbers columns row) i (Int z) wide at)
+      ∙ (ap (λ (x : List ℕ). opened (take i (row_in numbers columns row)) ++ (comma i ++ x)) (sym (int_text z))
+      ∙ cell_more (row_in numbers columns row) i (Int z) wide at)
 
-  pub number_more : (columns : List X) (row : ℕ) (old now new : Output) (before i : ℕ) (x d : X) (z : ℤ) → RowPut columns row old now before i → i < length columns → x ≡ get_or columns i d
-      → number_in (slice_index_or (numbers x) row []) ≡ Int z → Puts now new (before ∷ signed_decimal z) → RowPut columns row old new 44 (i + 1)
+  pub number_more : (columns : List X) (row : ℕ) (old now new : Output) (before i : ℕ) (x d : X) (z : ℤ)
+      → RowPut columns row old now before i → i < length columns → x ≡ get_or columns i d
+      → number_in (slice_index_or (numbers x) row []) ≡ Int z → Puts now new (before ∷ signed_decimal z)
+      → RowPut columns row old new 44 (i + 1)
   number_more columns row old now new before i x d z put inside is value more = record {
     text = put.text ++ (before ∷ signed_decimal z);
     puts = puts_then old now new put.text (before ∷ signed_decimal z) put.puts more;

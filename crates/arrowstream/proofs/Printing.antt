@@ -1,5 +1,6 @@
 -- Batches that are read and printed.
-use Rattle.std.proofs.Common.{◌≡◌, ◌≢◌, ◌∙◌, refl, sym, ap, subst, ℕ, zero, suc, inl, inr, List, [], ◌∷◌, ◌++◌, map, Option, Some, None, Result, Ok, Err, append_assoc, append-nil, arith}
+use Rattle.std.proofs.Common.{◌≡◌, ◌≢◌, ◌∙◌, refl, sym, ap, subst, ℕ, zero, suc, inl, inr, List, [], ◌∷◌, ◌++◌, map, Option, Some, None}
+use Rattle.std.proofs.Common.{Result, Ok, Err, append_assoc, append-nil, arith}
 use Rattle.std.specs.Io.KnownBytes.{Appends, Consumes, IsAtEnd, Keeps}
 use Rattle.std.specs.List.{AllByRecursion}
 use Rattle.std.proofs.KnownBytes.{Consumes-nil, Consumes-trans}
@@ -53,21 +54,24 @@ batches_none r o reading = record {
 }
 
 -- what a call that gave a batch says, where the reader was reading
-gave : (o : InForce) (p q : Phase) (x : List ℕ) (left : Option (List ℕ)) (found : Contents) → p ≡ Reading → NextAnswer o p x left (Ok (Some found)) q → (q ≡ Reading) × Run (Some o) x (batch found.rows ∷ []) (Some o)
+gave : (o : InForce) (p q : Phase) (x : List ℕ) (left : Option (List ℕ)) (found : Contents) → p ≡ Reading
+    → NextAnswer o p x left (Ok (Some found)) q → (q ≡ Reading) × Run (Some o) x (batch found.rows ∷ []) (Some o)
 gave o Reading Reading x left found is h = (refl, h)
 gave o Reading (Ended e) x left found is h = absurd h
 gave o Reading Refused x left found is h = absurd h
 gave o (Ended e) q x left found is h = absurd (cc)
 gave o Refused q x left found is h = absurd (cc)
 
-ended : (o : InForce) (p q : Phase) (x : List ℕ) (left : Option (List ℕ)) → p ≡ Reading → NextAnswer o p x left (Ok None) q → (e : End) × Reads (Some o) x left [] (Ok e)
+ended : (o : InForce) (p q : Phase) (x : List ℕ) (left : Option (List ℕ)) → p ≡ Reading → NextAnswer o p x left (Ok None) q
+    → (e : End) × Reads (Some o) x left [] (Ok e)
 ended o Reading Reading x left is h = absurd h
 ended o Reading (Ended e) x left is h = (e, h)
 ended o Reading Refused x left is h = absurd h
 ended o (Ended e) q x left is h = absurd (cc)
 ended o Refused q x left is h = absurd (cc)
 
-broke : (o : InForce) (p q : Phase) (x : List ℕ) (left : Option (List ℕ)) (f : Fault) → p ≡ Reading → NextAnswer o p x left (Err f) q → Reads (Some o) x left [] (Err f)
+broke : (o : InForce) (p q : Phase) (x : List ℕ) (left : Option (List ℕ)) (f : Fault) → p ≡ Reading → NextAnswer o p x left (Err f) q
+    → Reads (Some o) x left [] (Err f)
 broke o Reading Reading x left f is h = absurd h
 broke o Reading (Ended e) x left f is h = absurd h
 broke o Reading Refused x left f is h = h
@@ -79,7 +83,8 @@ module _ (old now new : Reader) (before after : Output) (b : Batches old now bef
   same_open = ap (λ s. record { schema = s }) b.same
 
   -- the batch that came
-  found_run : (found : Contents) → (t : NextCall now new (Ok (Some found))) → (new.phase ≡ Reading) × Run (Some (in_force_of old)) t.x (batch found.rows ∷ []) (Some (in_force_of old))
+  found_run : (found : Contents) → (t : NextCall now new (Ok (Some found)))
+      → (new.phase ≡ Reading) × Run (Some (in_force_of old)) t.x (batch found.rows ∷ []) (Some (in_force_of old))
   found_run found t =
       let h = gave (in_force_of now) now.phase new.phase t.x new.remaining found b.reading t.gives in
       (h.0, subst (λ (o : InForce). Run (Some o) t.x (batch found.rows ∷ []) (Some o)) same_open h.1)
@@ -87,12 +92,15 @@ module _ (old now new : Reader) (before after : Output) (b : Batches old now bef
   pub found_shown : (found : Contents) → NextCall now new (Ok (Some found)) → AreShownColumns old.schema.fields → AreShownRows found.rows
   found_shown found t columns = batch_shown (in_force_of old) t.x found.rows columns (found_run found t).1
 
-  more_run : (found : Contents) (t : NextCall now new (Ok (Some found))) → Run (Some (in_force_of old)) (b.x ++ t.x) (map batch (b.batches ++ found.rows ∷ [])) (Some (in_force_of old))
+  more_run : (found : Contents) (t : NextCall now new (Ok (Some found)))
+      → Run (Some (in_force_of old)) (b.x ++ t.x) (map batch (b.batches ++ found.rows ∷ [])) (Some (in_force_of old))
   more_run found t =
-      subst (λ es. Run (Some (in_force_of old)) (b.x ++ t.x) es (Some (in_force_of old))) (sym (map-append batch b.batches (found.rows ∷ [])))
+      subst (λ es. Run (Some (in_force_of old)) (b.x ++ t.x) es (Some (in_force_of old)))
+      (sym (map-append batch b.batches (found.rows ∷ [])))
       (run_then _ _ _ b.x t.x (map batch b.batches) (batch found.rows ∷ []) b.run (found_run found t).1)
 
-  pub batches_more : (found : Contents) (next : Output) → NextCall now new (Ok (Some found)) → new.failures ≡ now.failures → AreShownColumns old.schema.fields → Puts after next (lines found.rows) → Batches old new before next
+  pub batches_more : (found : Contents) (next : Output) → NextCall now new (Ok (Some found)) → new.failures ≡ now.failures
+      → AreShownColumns old.schema.fields → Puts after next (lines found.rows) → Batches old new before next
   batches_more found next t works columns puts = record {
     x = b.x ++ t.x;
     batches = b.batches ++ found.rows ∷ [];
@@ -102,11 +110,13 @@ module _ (old now new : Reader) (before after : Output) (b : Batches old now bef
     same = t.same_schema ∙ b.same;
     counts = works ∙ b.counts;
     cells = all_more AreShownRows b.batches found.rows b.cells (found_shown found t columns);
-    puts = put_at before next _ _ (batch_lines_more b.batches found.rows) (puts_then before after next (batch_lines b.batches) (lines found.rows) b.puts puts);
+    puts = put_at before next _ _ (batch_lines_more b.batches found.rows)
+        (puts_then before after next (batch_lines b.batches) (lines found.rows) b.puts puts);
   }
 
   -- the rows of the batch that came weren't all printed
-  pub batches_cut : (found : Contents) (w : Option (List ℕ)) (n : ℕ) (e : PrintFault) → NextCall now new (Ok (Some found)) → new.failures ≡ now.failures → PutFails after w n (lines found.rows) e → PrintsPart old new before w n e
+  pub batches_cut : (found : Contents) (w : Option (List ℕ)) (n : ℕ) (e : PrintFault) → NextCall now new (Ok (Some found))
+      → new.failures ≡ now.failures → PutFails after w n (lines found.rows) e → PrintsPart old new before w n e
   batches_cut found w n e t works q = record {
     x = b.x ++ t.x;
     batches = b.batches ++ found.rows ∷ [];
@@ -116,16 +126,20 @@ module _ (old now new : Reader) (before after : Output) (b : Batches old now bef
     joined = sym (append-nil (b.x ++ t.x));
     state = Some (in_force_of old);
     run = more_run found t;
-    puts = not_at before w n _ _ e (batch_lines_more b.batches found.rows) (puts_not_then before after w n (batch_lines b.batches) (lines found.rows) e b.puts q);
+    puts = not_at before w n _ _ e (batch_lines_more b.batches found.rows)
+        (puts_not_then before after w n (batch_lines b.batches) (lines found.rows) e b.puts q);
     works = λ other z. works ∙ (b.counts ∙ z);
   }
 
-  behind : (y : List ℕ) (r : Result End Fault) → Reads (Some (in_force_of now)) y new.remaining [] r → Reads (Some (in_force_of old)) (b.x ++ y) new.remaining (map batch b.batches) r
+  behind : (y : List ℕ) (r : Result End Fault) → Reads (Some (in_force_of now)) y new.remaining [] r
+      → Reads (Some (in_force_of old)) (b.x ++ y) new.remaining (map batch b.batches) r
   behind y r h =
       subst (λ es. Reads (Some (in_force_of old)) (b.x ++ y) new.remaining es r) (append-nil (map batch b.batches))
-      (reads_after _ _ b.x y new.remaining (map batch b.batches) [] r b.run (subst (λ (o : InForce). Reads (Some o) y new.remaining [] r) same_open h))
+      (reads_after _ _ b.x y new.remaining (map batch b.batches) [] r b.run
+      (subst (λ (o : InForce). Reads (Some o) y new.remaining [] r) same_open h))
 
-  printed : (y : List ℕ) (r : Result End Fault) → Consumes now.remaining new.remaining y → Reads (Some (in_force_of now)) y new.remaining [] r → PrintsRows old new before after r
+  printed : (y : List ℕ) (r : Result End Fault) → Consumes now.remaining new.remaining y
+      → Reads (Some (in_force_of now)) y new.remaining [] r → PrintsRows old new before after r
   printed y r bytes h = record {
     x = b.x ++ y;
     batches = b.batches;
@@ -140,7 +154,8 @@ module _ (old now new : Reader) (before after : Output) (b : Batches old now bef
       let h = ended (in_force_of now) now.phase new.phase t.x new.remaining b.reading t.gives in
       (h.0, printed t.x (Ok h.0) t.bytes h.1, λ z. works ∙ (b.counts ∙ z))
 
-  pub batches_break : (f : Fault) → NextCall now new (Err f) → Tells now.failures new.failures f → PrintsBatches old new before after (Ok (Some f))
+  pub batches_break : (f : Fault) → NextCall now new (Err f) → Tells now.failures new.failures f
+      → PrintsBatches old new before after (Ok (Some f))
   batches_break f t tells = (
     printed t.x (Err f) t.bytes (broke (in_force_of now) now.phase new.phase t.x new.remaining f b.reading t.gives),
     record { failed = tells.failed; stayed = λ other. tells.stayed other ∙ b.counts },
@@ -162,7 +177,8 @@ part_none r o = record {
 }
 
 module _ (old new : Reader) (before mid : Output) where
-  rows_flushed : (r : Result End Fault) (after : Output) → PrintsRows old new before mid r → Puts mid after [] → PrintsRows old new before after r
+  rows_flushed : (r : Result End Fault) (after : Output) → PrintsRows old new before mid r → Puts mid after []
+      → PrintsRows old new before after r
   rows_flushed r after p q = record {
     x = p.x;
     batches = p.batches;
@@ -173,11 +189,13 @@ module _ (old new : Reader) (before mid : Output) where
   }
 
   -- what was kept went out too
-  pub flushed : (fault : Option Fault) (after : Output) → PrintsBatches old new before mid (Ok fault) → Puts mid after [] → PrintsBatches old new before after (Ok fault)
+  pub flushed : (fault : Option Fault) (after : Output) → PrintsBatches old new before mid (Ok fault) → Puts mid after []
+      → PrintsBatches old new before after (Ok fault)
   flushed None after p q = (p.0, rows_flushed (Ok p.0) after p.1 q, p.2)
   flushed (Some f) after p q = (rows_flushed (Err f) after p.0 q, p.1)
 
-  rows_unflushed : (r : Result End Fault) (w : Option (List ℕ)) (n : ℕ) → PrintsRows old new before mid r → PutFails mid w n [] Write → PrintsPart old new before w n Write
+  rows_unflushed : (r : Result End Fault) (w : Option (List ℕ)) (n : ℕ) → PrintsRows old new before mid r → PutFails mid w n [] Write
+      → PrintsPart old new before w n Write
   rows_unflushed r w n p q = record {
     x = p.x;
     batches = p.batches;
@@ -187,11 +205,13 @@ module _ (old new : Reader) (before mid : Output) where
     joined = p.reads.joined;
     state = p.reads.state;
     run = p.reads.run;
-    puts = not_at before w n _ _ Write (append-nil (batch_lines p.batches)) (puts_not_then before mid w n (batch_lines p.batches) [] Write p.puts q);
+    puts = not_at before w n _ _ Write (append-nil (batch_lines p.batches))
+        (puts_not_then before mid w n (batch_lines p.batches) [] Write p.puts q);
     works = λ other. absurd (other refl);
   }
 
   -- what was kept did not
-  pub unflushed : (fault : Option Fault) (w : Option (List ℕ)) (n : ℕ) → PrintsBatches old new before mid (Ok fault) → PutFails mid w n [] Write → PrintsPart old new before w n Write
+  pub unflushed : (fault : Option Fault) (w : Option (List ℕ)) (n : ℕ) → PrintsBatches old new before mid (Ok fault)
+      → PutFails mid w n [] Write → PrintsPart old new before w n Write
   unflushed None w n p q = rows_unflushed (Ok p.0) w n p.1 q
   unflushed (Some f) w n p q = rows_unflushed (Err f) w n p.0 q

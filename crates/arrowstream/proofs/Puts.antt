@@ -1,5 +1,6 @@
 -- Text that was put, part by part.
-use Rattle.std.proofs.Common.{◌≡◌, ◌∙◌, refl, sym, ap, subst, ℕ, ◌≤◌, List, [], ◌++◌, length, take, drop, Option, Some, None, append_assoc, append-nil, take-append-drop}
+use Rattle.std.proofs.Common.{◌≡◌, ◌∙◌, refl, sym, ap, subst, ℕ, ◌≤◌, List, [], ◌++◌, length, take, drop, Option, Some, None, append_assoc}
+use Rattle.std.proofs.Common.{append-nil, take-append-drop}
 use Rattle.std.specs.Io.KnownBytes.{Appends, Keeps}
 use Rattle.std.proofs.lemmas.List.{drop_all}
 use Rattle.ipc_stream.proofs.SentBytes.{SentSome}
@@ -42,7 +43,8 @@ pub puts_behind : (a b c : Output) (t : List ℕ) → Puts a b [] → Puts b c t
 puts_behind a b c t p q = puts_then a b c [] t p q
 
 -- a text was put, and a second one was not
-pub puts_not_then : (a b : Output) (w : Option (List ℕ)) (n : ℕ) (t u : List ℕ) (e : PrintFault) → Puts a b t → PutFails b w n u e → PutFails a w n (t ++ u) e
+pub puts_not_then : (a b : Output) (w : Option (List ℕ)) (n : ℕ) (t u : List ℕ) (e : PrintFault) → Puts a b t → PutFails b w n u e
+    → PutFails a w n (t ++ u) e
 puts_not_then a b w n t u e p q = record {
   behind = q.behind;
   bytes = grows_then a.written b.written w a.kept b.kept q.behind t u p.bytes q.bytes;
@@ -51,7 +53,8 @@ puts_not_then a b w n t u e p q = record {
 }
 
 -- what was not put wasn't put with more behind it
-pub puts_not_more : (a : Output) (w : Option (List ℕ)) (n : ℕ) (t u : List ℕ) (e : PrintFault) → PutFails a w n t e → PutFails a w n (t ++ u) e
+pub puts_not_more : (a : Output) (w : Option (List ℕ)) (n : ℕ) (t u : List ℕ) (e : PrintFault) → PutFails a w n t e
+    → PutFails a w n (t ++ u) e
 puts_not_more a w n t u e q = record {
   behind = q.behind ++ u;
   bytes = grows_more a.written w a.kept q.behind t u q.bytes;
@@ -59,7 +62,8 @@ puts_not_more a w n t u e q = record {
   works = q.works;
 }
 
-pub puts_not_front : (a : Output) (w : Option (List ℕ)) (n : ℕ) (t u whole : List ℕ) (e : PrintFault) → whole ≡ t ++ u → PutFails a w n t e → PutFails a w n whole e
+pub puts_not_front : (a : Output) (w : Option (List ℕ)) (n : ℕ) (t u whole : List ℕ) (e : PrintFault) → whole ≡ t ++ u → PutFails a w n t e
+    → PutFails a w n whole e
 puts_not_front a w n t u whole e is q = subst (λ (x : List ℕ). PutFails a w n x e) (sym is) (puts_not_more a w n t u e q)
 
 -- a text that is kept
@@ -70,7 +74,8 @@ puts_kept w n k0 k1 t e = record { bytes = grows_kept w k0 k1 t e; works = λ z.
 pub puts_never : (o : Output) (t : List ℕ) → PutFails o o.written o.failures t OutOfMemory
 puts_never o t = record {
   behind = o.kept ++ t;
-  bytes = subst (λ (x : List ℕ). Grows o.written o.kept o.written (o.kept ++ t) x) refl (grows_more o.written o.written o.kept o.kept [] t (grows_none o.written o.kept));
+  bytes = subst (λ (x : List ℕ). Grows o.written o.kept o.written (o.kept ++ t) x) refl
+      (grows_more o.written o.written o.kept o.kept [] t (grows_none o.written o.kept));
   failed = λ is. absurd (cc);
   works = λ other z. z;
 }
@@ -82,7 +87,8 @@ grows_sent None b bytes sent p = tt
 grows_sent (Some xs) None bytes sent p = absurd p
 grows_sent (Some xs) (Some ys) bytes sent p =
     ap (λ (l : List ℕ). l ++ drop sent bytes) p
-    ∙ (append_assoc xs (take sent bytes) (drop sent bytes) ∙ (ap (λ (l : List ℕ). xs ++ l) (take-append-drop sent bytes) ∙ sym (append-nil (xs ++ bytes))))
+    ∙ (append_assoc xs (take sent bytes) (drop sent bytes)
+    ∙ (ap (λ (l : List ℕ). xs ++ l) (take-append-drop sent bytes) ∙ sym (append-nil (xs ++ bytes))))
 
 grows_same : (a b c : Option (List ℕ)) (k0 k1 t : List ℕ) → Grows a k0 b k1 t → Keeps b c → Grows a k0 c k1 t
 grows_same None b c k0 k1 t p q = tt
@@ -91,7 +97,8 @@ grows_same (Some xs) (Some ys) None k0 k1 t p q = absurd q
 grows_same (Some xs) (Some ys) (Some zs) k0 k1 t p q = ap (λ (l : List ℕ). l ++ k1) q ∙ p
 
 -- the sink failed behind the first of the bytes
-pub sent_cut : (old now new : Option (List ℕ)) (f0 f1 f2 : ℕ) (bytes : List ℕ) (sent : ℕ) → SentSome old now f0 f1 bytes sent → Keeps now new → f2 ≡ 1 → PutFails (output old f0 bytes) new f2 [] Write
+pub sent_cut : (old now new : Option (List ℕ)) (f0 f1 f2 : ℕ) (bytes : List ℕ) (sent : ℕ) → SentSome old now f0 f1 bytes sent
+    → Keeps now new → f2 ≡ 1 → PutFails (output old f0 bytes) new f2 [] Write
 sent_cut old now new f0 f1 f2 bytes sent i kept failed = record {
   behind = drop sent bytes;
   bytes = grows_same old now new bytes (drop sent bytes) [] (grows_sent old now bytes sent i.appended) kept;
@@ -100,14 +107,16 @@ sent_cut old now new f0 f1 f2 bytes sent i kept failed = record {
 }
 
 -- all of the bytes went out
-pub sent_all : (old now : Option (List ℕ)) (f0 f1 : ℕ) (bytes : List ℕ) (sent : ℕ) → SentSome old now f0 f1 bytes sent → length bytes ≤ sent → Puts (output old f0 bytes) (output now f1 []) []
+pub sent_all : (old now : Option (List ℕ)) (f0 f1 : ℕ) (bytes : List ℕ) (sent : ℕ) → SentSome old now f0 f1 bytes sent → length bytes ≤ sent
+    → Puts (output old f0 bytes) (output now f1 []) []
 sent_all old now f0 f1 bytes sent i all = record {
   bytes = subst (λ (k : List ℕ). Grows old bytes now k []) (drop_all sent bytes all) (grows_sent old now bytes sent i.appended);
   works = λ z. i.same ∙ z;
 }
 
 -- the sink failed at the flush
-pub flush_cut : (a : Output) (now new : Option (List ℕ)) (n m : ℕ) → Puts a (output now n []) [] → Keeps now new → m ≡ 1 → PutFails a new m [] Write
+pub flush_cut : (a : Output) (now new : Option (List ℕ)) (n m : ℕ) → Puts a (output now n []) [] → Keeps now new → m ≡ 1
+    → PutFails a new m [] Write
 flush_cut a now new n m p kept failed = record {
   behind = [];
   bytes = grows_same a.written now new a.kept [] [] p.bytes kept;
@@ -115,7 +124,8 @@ flush_cut a now new n m p kept failed = record {
   works = λ other. absurd (other refl);
 }
 
-pub flush_done : (a : Output) (now new : Option (List ℕ)) (n m : ℕ) → Puts a (output now n []) [] → Keeps now new → m ≡ 0 → Puts a (output new m []) []
+pub flush_done : (a : Output) (now new : Option (List ℕ)) (n m : ℕ) → Puts a (output now n []) [] → Keeps now new → m ≡ 0
+    → Puts a (output new m []) []
 flush_done a now new n m p kept works = record {
   bytes = grows_same a.written now new a.kept [] [] p.bytes kept;
   works = λ z. works;

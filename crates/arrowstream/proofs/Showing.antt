@@ -1,5 +1,6 @@
 -- A whole stream, from its schema on.
-use Rattle.std.proofs.Common.{◌≡◌, ◌≢◌, ◌∙◌, refl, sym, ap, subst, ℕ, ◌⊎◌, inl, inr, List, [], ◌∷◌, ◌++◌, map, Option, Some, None, Result, Ok, Err, append_assoc, append-nil, arith}
+use Rattle.std.proofs.Common.{◌≡◌, ◌≢◌, ◌∙◌, refl, sym, ap, subst, ℕ, ◌⊎◌, inl, inr, List, [], ◌∷◌, ◌++◌, map, Option, Some, None, Result}
+use Rattle.std.proofs.Common.{Ok, Err, append_assoc, append-nil, arith}
 use Rattle.std.specs.Prelude.{⊤}
 use Rattle.std.specs.Io.KnownBytes.{Appends, Consumes, IsAtEnd, Keeps}
 use Rattle.std.proofs.KnownBytes.{Consumes-nil, Consumes-trans, Keeps-refl}
@@ -18,7 +19,8 @@ use Rattle.arrowstream.specs.declared.run.Stop.{Stop}
 use Rattle.arrowstream.specs.declared.run.Stop.TheVariants as stop
 use Rattle.arrowstream.specs.Output.{Output, output, Grows}
 use Rattle.arrowstream.specs.Rows.{batch_lines}
-use Rattle.arrowstream.specs.Show.{ShowsTable, Breaks, not_shown, unopened, broken, ShowsPart, nothing, some, ShowsRows, Shows, PrintsRows, PrintsPart, HasOtherColumn, exit_status, stop_status}
+use Rattle.arrowstream.specs.Show.{ShowsTable, Breaks, not_shown, unopened, broken, ShowsPart, nothing, some, ShowsRows, Shows, PrintsRows}
+use Rattle.arrowstream.specs.Show.{PrintsPart, HasOtherColumn, exit_status, stop_status}
 use Rattle.ipc_stream.proofs.Runs.{run_then, reads_after}
 
 -- where nothing is kept, the sink holds all of the text
@@ -33,7 +35,8 @@ appends_grows (Some xs) None t g = absurd g
 appends_grows (Some xs) (Some ys) t g = append-nil ys ∙ (g ∙ ap (λ (l : List ℕ). l ++ t) (sym (append-nil xs)))
 
 -- whole messages and how reading ended, as what they denote
-denotes : (x whole rest : List ℕ) (t : Table) (σ : State) (left : Option (List ℕ)) (end : End) → x ≡ whole ++ rest → Run None whole (events_of t) σ → Ends σ rest left (Ok end) → Denotes x t end
+denotes : (x whole rest : List ℕ) (t : Table) (σ : State) (left : Option (List ℕ)) (end : End) → x ≡ whole ++ rest
+    → Run None whole (events_of t) σ → Ends σ rest left (Ok end) → Denotes x t end
 denotes x whole rest t σ left Mark joined run e = (whole, joined ∙ ap (λ (z : List ℕ). whole ++ z) e.0, (σ, run))
 denotes x whole rest t σ left Closed joined run e =
     let all : x ≡ whole = joined ∙ (ap (λ (z : List ℕ). whole ++ z) e.0 ∙ append-nil whole) in
@@ -65,7 +68,8 @@ module _ (old : Option (List ℕ)) (s t : Reader) (o : Opens old s) (w0 w1 : Opt
         table = record { schema = s.schema; batches = r.batches };
         end = end;
         bytes = all_bytes (Ok end) r;
-        denotes = denotes (o.x ++ r.x) reads.whole reads.rest (record { schema = s.schema; batches = r.batches }) reads.state t.remaining end reads.joined reads.run reads.ends;
+        denotes = denotes (o.x ++ r.x) reads.whole reads.rest
+            (record { schema = s.schema; batches = r.batches }) reads.state t.remaining end reads.joined reads.run reads.ends;
         closed = at_end reads.state reads.rest t.remaining end reads.ends;
         columns = columns;
         cells = r.cells;
@@ -76,16 +80,20 @@ module _ (old : Option (List ℕ)) (s t : Reader) (o : Opens old s) (w0 w1 : Opt
       let silent : Keeps w0 w1 = subst (λ (z : Output). Keeps w0 z.written) (sym other.silent) (Keeps-refl w0) in
       not_shown o.x s.schema (Some (in_force_of s)) other.code taken o.run other.other other.told silent
   shows_rows (Err (stop.Stream fault n)) (inr r) =
-      broken (o.x ++ r.x) (record { schema = s.schema; batches = r.batches }) (all_bytes (Err fault) r) (all_reads (Err fault) r) r.cells (text (Err fault) r)
+      broken (o.x ++ r.x) (record { schema = s.schema; batches = r.batches }) (all_bytes (Err fault) r) (all_reads (Err fault) r) r.cells
+      (text (Err fault) r)
   shows_rows (Err (stop.Print fault)) r =
       some (o.x ++ r.whole) r.rest r.puts.behind (record { schema = s.schema; batches = r.batches }) r.state
-      (subst (λ (z : List ℕ). Consumes old t.remaining z) (ap (λ (z : List ℕ). o.x ++ z) r.joined ∙ sym (append_assoc o.x r.whole r.rest)) (Consumes-trans old s.remaining t.remaining o.x r.x o.bytes r.bytes))
+      (subst (λ (z : List ℕ). Consumes old t.remaining z) (ap (λ (z : List ℕ). o.x ++ z) r.joined ∙ sym (append_assoc o.x r.whole r.rest))
+      (Consumes-trans old s.remaining t.remaining o.x r.x o.bytes r.bytes))
       (run_then None (Some (in_force_of s)) r.state o.x r.whole (schema s.schema ∷ []) (map batch r.batches) o.run r.run)
       r.puts.bytes
 
 -- the same with the source that came back
-pub shows_all : (old new : Option (List ℕ)) (s t : Reader) (w0 w1 : Option (List ℕ)) (n0 n1 : ℕ) (r : Result ⊤ Stop) → Opens old s → new ≡ t.remaining → ShowsRows s t (output w0 n0 []) (output w1 n1 []) r → Shows old new w0 w1 r
-shows_all old new s t w0 w1 n0 n1 r o is h = subst (λ (z : Option (List ℕ)). Shows old z w0 w1 r) (sym is) (shows_rows old s t o w0 w1 n0 n1 r h)
+pub shows_all : (old new : Option (List ℕ)) (s t : Reader) (w0 w1 : Option (List ℕ)) (n0 n1 : ℕ) (r : Result ⊤ Stop) → Opens old s
+    → new ≡ t.remaining → ShowsRows s t (output w0 n0 []) (output w1 n1 []) r → Shows old new w0 w1 r
+shows_all old new s t w0 w1 n0 n1 r o is h =
+    subst (λ (z : Option (List ℕ)). Shows old z w0 w1 r) (sym is) (shows_rows old s t o w0 w1 n0 n1 r h)
 
 -- no schema was read
 pub shows_none : (old new w : Option (List ℕ)) (fault : Fault) → OpenFails old new fault → Breaks old new w w fault
@@ -96,14 +104,17 @@ broken_part : (old new w0 w1 : Option (List ℕ)) (fault : Fault) → Breaks old
 broken_part old new w0 w1 fault (unopened x bytes reads kept) = nothing x bytes kept
 broken_part old new w0 w1 fault (not_shown x s σ code bytes run other told kept) = nothing x bytes kept
 broken_part old new w0 w1 fault (broken x t bytes reads cells text) =
-    some reads.whole reads.rest [] t reads.state (subst (λ (z : List ℕ). Consumes old new z) reads.joined bytes) reads.run (appends_grows w0 w1 (batch_lines t.batches) text)
+    some reads.whole reads.rest [] t reads.state (subst (λ (z : List ℕ). Consumes old new z) reads.joined bytes) reads.run
+    (appends_grows w0 w1 (batch_lines t.batches) text)
 
 table_part : (old new w0 w1 : Option (List ℕ)) → ShowsTable old new w0 w1 → ShowsPart old new w0 w1
 table_part old new w0 w1 s = by_end s.end s.denotes
   where
     by_end : (end : End) → Denotes s.x s.table end → ShowsPart old new w0 w1
-    by_end Mark d = some d.0 _ [] s.table d.2.0 (subst (λ (z : List ℕ). Consumes old new z) d.1 s.bytes) d.2.1 (appends_grows w0 w1 (batch_lines s.table.batches) s.text)
-    by_end Closed d = some s.x [] [] s.table d.0 (subst (λ (z : List ℕ). Consumes old new z) (sym (append-nil s.x)) s.bytes) d.1 (appends_grows w0 w1 (batch_lines s.table.batches) s.text)
+    by_end Mark d = some d.0 _ [] s.table d.2.0 (subst (λ (z : List ℕ). Consumes old new z) d.1 s.bytes) d.2.1
+        (appends_grows w0 w1 (batch_lines s.table.batches) s.text)
+    by_end Closed d = some s.x [] [] s.table d.0 (subst (λ (z : List ℕ). Consumes old new z) (sym (append-nil s.x)) s.bytes) d.1
+        (appends_grows w0 w1 (batch_lines s.table.batches) s.text)
 
 pub part_of : (old new w0 w1 : Option (List ℕ)) (r : Result ⊤ Stop) → Shows old new w0 w1 r → ShowsPart old new w0 w1
 part_of old new w0 w1 (Ok done) h = table_part old new w0 w1 h
@@ -117,7 +128,8 @@ refusal f.Read n is aside = absurd (omega (arith, is))
 refusal fault n is (inl e) = absurd (cc)
 refusal fault n is (inr e) = absurd (cc)
 
-pub refused_of : (old new w0 w1 : Option (List ℕ)) (r : Result ⊤ Stop) → exit_status r ≡ 1 → Shows old new w0 w1 r → (fault : Fault) × (IsOutside fault → ⊥) × Breaks old new w0 w1 fault
+pub refused_of : (old new w0 w1 : Option (List ℕ)) (r : Result ⊤ Stop) → exit_status r ≡ 1 → Shows old new w0 w1 r
+    → (fault : Fault) × (IsOutside fault → ⊥) × Breaks old new w0 w1 fault
 refused_of old new w0 w1 (Ok done) is h = absurd (omega (arith, is))
 refused_of old new w0 w1 (Err (stop.Stream fault n)) is h = (fault, refusal fault n is, h)
 refused_of old new w0 w1 (Err (stop.Print p.OutOfMemory)) is h = absurd (omega (arith, is))

@@ -53,8 +53,12 @@ int_shown z = subst IsShownIn (sym (out_int z)) tt
 -- a cell that is shown and no number is null
 pub other_null : (c : Cell) → ((z : ℤ) → c ≡ cell.Int z → ⊥) → IsShown (cell_value c) → cell_text (cell_value c) ≡ codes "null"
 other_null cell.Null other shown = null_text
-other_null (cell.Bool truth) other shown = absurd (subst IsShownIn (ap out-Value (sym (v.rolls-Bool truth)) ∙ out-roll-Value (Value-F.Bool truth)) shown)
+other_null (cell.Bool truth) other shown =
+    absurd (subst IsShownIn (ap out-Value (sym (v.rolls-Bool truth)) ∙ out-roll-Value (Value-F.Bool truth)) shown)
 other_null (cell.Int number) other shown = absurd (other number refl)
-other_null (cell.UInt number) other shown = absurd (subst IsShownIn (ap out-Value (sym (v.rolls-UInt number)) ∙ out-roll-Value (Value-F.UInt number)) shown)
-other_null (cell.Bytes bytes) other shown = absurd (subst IsShownIn (ap out-Value (sym (v.rolls-Bytes bytes.now)) ∙ out-roll-Value (Value-F.Bytes bytes.now)) shown)
-other_null (cell.Text text) other shown = absurd (subst IsShownIn (ap out-Value (sym (v.rolls-Text text.now)) ∙ out-roll-Value (Value-F.Text text.now)) shown)
+other_null (cell.UInt number) other shown =
+    absurd (subst IsShownIn (ap out-Value (sym (v.rolls-UInt number)) ∙ out-roll-Value (Value-F.UInt number)) shown)
+other_null (cell.Bytes bytes) other shown =
+    absurd (subst IsShownIn (ap out-Value (sym (v.rolls-Bytes bytes.now)) ∙ out-roll-Value (Value-F.Bytes bytes.now)) shown)
+other_null (cell.Text text) other shown =
+    absurd (subst IsShownIn (ap out-Value (sym (v.rolls-Text text.now)) ∙ out-roll-Value (Value-F.Text text.now)) shown)

@@ -1,5 +1,6 @@
 -- Rows as text, value by value.
-use Rattle.std.proofs.Common.{◌≡◌, ◌∙◌, refl, sym, ap, subst, ℕ, zero, suc, ◌+◌, ◌<◌, ◌≤◌, List, [], ◌∷◌, ◌++◌, length, take, drop, Some, append_assoc, append-nil, take-append-drop, arith}
+use Rattle.std.proofs.Common.{◌≡◌, ◌∙◌, refl, sym, ap, subst, ℕ, zero, suc, ◌+◌, ◌<◌, ◌≤◌, List, [], ◌∷◌, ◌++◌, length, take, drop, Some}
+use Rattle.std.proofs.Common.{append_assoc, append-nil, take-append-drop, arith}
 use Rattle.std.specs.Prelude.{slice_get, slice_index_or, codes}
 use Rattle.std.proofs.lemmas.List.{take_more, take_all, length-take-le}
 use Rattle.std.proofs.lemmas.Option.{get_or_from_slice_get}
@@ -24,13 +25,18 @@ opened_more (w ∷ ws) v =
 opened_front : (vs ws : List Value) → (u : List ℕ) × (opened (vs ++ ws) ≡ opened vs ++ u)
 opened_front [] [] = ([], refl)
 opened_front [] (w ∷ ws) = (cell_text w ++ behind_commas ws, append_assoc (codes "[") (cell_text w) (behind_commas ws))
-opened_front (v ∷ vs) ws =
-    (behind_commas ws, ap (λ (x : List ℕ). codes "[" ++ cell_text v ++ x) (behind_append vs ws) ∙ sym (append_assoc (codes "[" ++ cell_text v) (behind_commas vs) (behind_commas ws)))
+opened_front (v ∷ vs) ws = (
+  behind_commas ws,
+  ap (λ (x : List ℕ). codes "[" ++ cell_text v ++ x) (behind_append vs ws)
+      ∙ sym (append_assoc (codes "[" ++ cell_text v) (behind_commas vs) (behind_commas ws)),
+)
 
-pub cell_more : (row : List Value) (c : ℕ) (v : Value) → c < length row → slice_get row c ≡ Some v → opened (take c row) ++ (comma c ++ cell_text v) ≡ opened (take (c + 1) row)
+pub cell_more : (row : List Value) (c : ℕ) (v : Value) → c < length row → slice_get row c ≡ Some v
+    → opened (take c row) ++ (comma c ++ cell_text v) ≡ opened (take (c + 1) row)
 cell_more row c v inside at =
     let size : length (take c row) ≡ c = length-take-le c row (omega (arith, inside)) in
-    let last : take c row ++ v ∷ [] ≡ take (c + 1) row = ap (λ (w : Value). take c row ++ w ∷ []) (sym (get_or_from_slice_get row c v v at)) ∙ sym (take_more row c v inside) in
+    let last : take c row ++ v ∷ [] ≡ take (c + 1) row =
+    ap (λ (w : Value). take c row ++ w ∷ []) (sym (get_or_from_slice_get row c v v at)) ∙ sym (take_more row c v inside) in
     ap (λ (n : ℕ). opened (take c row) ++ (comma n ++ cell_text v)) (sym size) ∙ (opened_more (take c row) v ∙ ap opened last)
 
 -- what stands in a row behind its first values
@@ -45,9 +51,11 @@ row_whole row c size = ap (λ (x : List Value). opened x ++ (93 ∷ 10 ∷ [])) 
 
 lines_append : (rows more : List (List Value)) → lines (rows ++ more) ≡ lines rows ++ lines more
 lines_append [] more = refl
-lines_append (row ∷ rows) more = ap (λ (x : List ℕ). line row ++ x) (lines_append rows more) ∙ sym (append_assoc (line row) (lines rows) (lines more))
+lines_append (row ∷ rows) more = ap (λ (x : List ℕ). line row ++ x) (lines_append rows more)
+    ∙ sym (append_assoc (line row) (lines rows) (lines more))
 
-pub lines_more : (rows : List (List Value)) (i : ℕ) → i < length rows → lines (take i rows) ++ line (slice_index_or rows i []) ≡ lines (take (i + 1) rows)
+pub lines_more : (rows : List (List Value)) (i : ℕ) → i < length rows
+    → lines (take i rows) ++ line (slice_index_or rows i []) ≡ lines (take (i + 1) rows)
 lines_more rows i inside =
     ap (λ (x : List ℕ). lines (take i rows) ++ x) (sym (append-nil (line (slice_index_or rows i []))))
     ∙ (sym (lines_append (take i rows) (slice_index_or rows i [] ∷ [])) ∙ ap lines (sym (take_more rows i [] inside)))
@@ -58,6 +66,8 @@ lines_rest rows i = ap lines (sym (take-append-drop i rows)) ∙ lines_append (t
 pub lines_whole : (rows : List (List Value)) (n : ℕ) → n ≡ length rows → lines (take n rows) ≡ lines rows
 lines_whole rows n size = ap lines (take_all n rows (omega (arith, size)))
 
-pub batch_lines_more : (batches : List (List (List Value))) (rows : List (List Value)) → batch_lines batches ++ lines rows ≡ batch_lines (batches ++ rows ∷ [])
+pub batch_lines_more : (batches : List (List (List Value))) (rows : List (List Value))
+    → batch_lines batches ++ lines rows ≡ batch_lines (batches ++ rows ∷ [])
 batch_lines_more [] rows = sym (append-nil (lines rows))
-batch_lines_more (b ∷ bs) rows = append_assoc (lines b) (batch_lines bs) (lines rows) ∙ ap (λ (x : List ℕ). lines b ++ x) (batch_lines_more bs rows)
+batch_lines_more (b ∷ bs) rows = append_assoc (lines b) (batch_lines bs) (lines rows)
+    ∙ ap (λ (x : List ℕ). lines b ++ x) (batch_lines_more bs rows)

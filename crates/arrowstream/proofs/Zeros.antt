@@ -94,35 +94,44 @@ front_6 n x s e low high =
 front_5 : (n x : ℕ) → x < 2 ^ 64 → to_le_bytes w64 x ≡ last_digits 8 n → 100 ≤ n → n < 1000 → count 64 (marked x) / 8 ≡ 5
 front_5 n x s e low high =
     let is = digits_are n x s e in
-    first_byte 5 16 (marked x) ((n / 100 % 10) + (n / 10 % 10) * 256 + (n % 10 + 1) * 65536) (omega (arith, is, low, high)) (omega (arith, low, high))
+    first_byte 5 16 (marked x) ((n / 100 % 10) + (n / 10 % 10) * 256 + (n % 10 + 1) * 65536) (omega (arith, is, low, high))
+    (omega (arith, low, high))
 
 front_4 : (n x : ℕ) → x < 2 ^ 64 → to_le_bytes w64 x ≡ last_digits 8 n → 1000 ≤ n → n < 10000 → count 64 (marked x) / 8 ≡ 4
 front_4 n x s e low high =
     let is = digits_are n x s e in
-    first_byte 4 24 (marked x) ((n / 1000 % 10) + (n / 100 % 10) * 256 + (n / 10 % 10) * 65536 + (n % 10 + 1) * 16777216) (omega (arith, is, low, high)) (omega (arith, low, high))
+    first_byte 4 24 (marked x) ((n / 1000 % 10) + (n / 100 % 10) * 256 + (n / 10 % 10) * 65536 + (n % 10 + 1) * 16777216)
+    (omega (arith, is, low, high)) (omega (arith, low, high))
 
 front_3 : (n x : ℕ) → x < 2 ^ 64 → to_le_bytes w64 x ≡ last_digits 8 n → 10000 ≤ n → n < 100000 → count 64 (marked x) / 8 ≡ 3
 front_3 n x s e low high =
     let is = digits_are n x s e in
-    first_byte 3 32 (marked x) ((n / 10000 % 10) + (n / 1000 % 10) * 256 + (n / 100 % 10) * 65536 + (n / 10 % 10) * 16777216 + (n % 10 + 1) * 4294967296) (omega (arith, is, low, high)) (omega (arith, low, high))
+    first_byte 3 32 (marked x) ((n / 10000 % 10) + (n / 1000 % 10) * 256 + (n / 100 % 10) * 65536 + (n / 10 % 10) * 16777216
+    + (n % 10 + 1) * 4294967296) (omega (arith, is, low, high)) (omega (arith, low, high))
 
 front_2 : (n x : ℕ) → x < 2 ^ 64 → to_le_bytes w64 x ≡ last_digits 8 n → 100000 ≤ n → n < 1000000 → count 64 (marked x) / 8 ≡ 2
 front_2 n x s e low high =
     let is = digits_are n x s e in
-    first_byte 2 40 (marked x) ((n / 100000 % 10) + (n / 10000 % 10) * 256 + (n / 1000 % 10) * 65536 + (n / 100 % 10) * 16777216 + (n / 10 % 10) * 4294967296 + (n % 10 + 1) * 1099511627776) (omega (arith, is, low, high)) (omega (arith, low, high))
+    first_byte 2 40 (marked x) ((n / 100000 % 10) + (n / 10000 % 10) * 256 + (n / 1000 % 10) * 65536 + (n / 100 % 10) * 16777216
+    + (n / 10 % 10) * 4294967296 + (n % 10 + 1) * 1099511627776) (omega (arith, is, low, high)) (omega (arith, low, high))
 
 front_1 : (n x : ℕ) → x < 2 ^ 64 → to_le_bytes w64 x ≡ last_digits 8 n → 1000000 ≤ n → n < 10000000 → count 64 (marked x) / 8 ≡ 1
 front_1 n x s e low high =
     let is = digits_are n x s e in
-    first_byte 1 48 (marked x) ((n / 1000000 % 10) + (n / 100000 % 10) * 256 + (n / 10000 % 10) * 65536 + (n / 1000 % 10) * 16777216 + (n / 100 % 10) * 4294967296 + (n / 10 % 10) * 1099511627776 + (n % 10 + 1) * 281474976710656) (omega (arith, is, low, high)) (omega (arith, low, high))
+    first_byte 1 48 (marked x) ((n / 1000000 % 10) + (n / 100000 % 10) * 256 + (n / 10000 % 10) * 65536 + (n / 1000 % 10) * 16777216
+    + (n / 100 % 10) * 4294967296 + (n / 10 % 10) * 1099511627776 + (n % 10 + 1) * 281474976710656) (omega (arith, is, low, high))
+    (omega (arith, low, high))
 
 front_0 : (n x : ℕ) → x < 2 ^ 64 → to_le_bytes w64 x ≡ last_digits 8 n → 10000000 ≤ n → n < 100000000 → count 64 (marked x) / 8 ≡ 0
 front_0 n x s e low high =
     let is = digits_are n x s e in
-    first_byte 0 56 (marked x) ((n / 10000000 % 10) + (n / 1000000 % 10) * 256 + (n / 100000 % 10) * 65536 + (n / 10000 % 10) * 16777216 + (n / 1000 % 10) * 4294967296 + (n / 100 % 10) * 1099511627776 + (n / 10 % 10) * 281474976710656 + (n % 10 + 1) * 72057594037927936) (omega (arith, is, low, high)) (omega (arith, low, high))
+    first_byte 0 56 (marked x) ((n / 10000000 % 10) + (n / 1000000 % 10) * 256 + (n / 100000 % 10) * 65536 + (n / 10000 % 10) * 16777216
+    + (n / 1000 % 10) * 4294967296 + (n / 100 % 10) * 1099511627776 + (n / 10 % 10) * 281474976710656
+    + (n % 10 + 1) * 72057594037927936) (omega (arith, is, low, high)) (omega (arith, low, high))
 
 -- as many zeros as there are clear bytes
-pub zeros_are : (n x : ℕ) → x < 2 ^ 64 → n < 100000000 → to_le_bytes w64 x ≡ last_digits 8 n → trailing_zeros w64 (marked x) / 8 + length (decimal n) ≡ 8
+pub zeros_are : (n x : ℕ) → x < 2 ^ 64 → n < 100000000 → to_le_bytes w64 x ≡ last_digits 8 n
+    → trailing_zeros w64 (marked x) / 8 + length (decimal n) ≡ 8
 zeros_are n x s top e = elim (cases_lt n 10) [
   | inl a ↦ omega (arith, front_7 n x s e (omega arith) a, seven n a)
   | inr a ↦ elim (cases_lt n 100) [

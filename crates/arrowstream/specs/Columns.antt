@@ -1,5 +1,6 @@
 -- The columns that `show` prints.
-use Rattle.std.specs.Prelude.{◌≡◌, ℕ, ◌<◌, ◌≤◌, true, List, [], length, map, take, Some, None, slice_get, slice_index_or}
+use Rattle.std.specs.Prelude.{◌≡◌, ℕ, ◌<◌, ◌≤◌, true, List, [], length, map, take, Some, None}
+use Rattle.std.specs.Prelude.{slice_get, slice_index_or}
 use Rattle.std.specs.List.{AllByRecursion}
 use Rattle.std.specs.Int.{w64, cast_signed, from_le_bytes}
 use Rattle.ipc_model.specs.TypeCodes.{type_code}
@@ -27,7 +28,8 @@ pub record IsNotShown (fields : List Field) (code : ℕ) : Type 0 where
   pub other : ¬ IsShownColumn column
   pub first : AreShownColumns (take place fields)
 
--- the number in eight bytes, the lowest first, in two's complement (Arrow Columnar Format, "Byte Order")
+-- the number in eight bytes, the lowest first, in two's complement (Arrow Columnar Format, "Byte
+-- Order")
 abbrev pub number_in : List ℕ → Value
 number_in bytes = Int (cast_signed w64 (from_le_bytes w64 bytes))
 

@@ -26,7 +26,8 @@ text_in Value-F.Null = codes "null"
 text_in (Value-F.Int number) = signed_decimal number
 text_in _ = []
 
--- `null`, or the digits of a number behind a minus sign where it is below 0 (RFC 8259, sections 3 and 6); no other value is shown
+-- `null`, or the digits of a number behind a minus sign where it is below 0 (RFC 8259, sections 3
+-- and 6); no other value is shown
 abbrev pub cell_text : Value → List ℕ
 cell_text value = text_in (out-Value value)
 

@@ -1,5 +1,6 @@
 -- What `run` reads and prints.
-use Rattle.std.specs.Prelude.{◌≡◌, ◌≢◌, ◌⊎◌, ℕ, List, [], ◌∷◌, ◌++◌, map, Option, Some, None, Result, Ok, Err, ⊤}
+use Rattle.std.specs.Prelude.{◌≡◌, ◌≢◌, ◌⊎◌, ℕ, List, [], ◌∷◌, ◌++◌, map, Option, Some, None}
+use Rattle.std.specs.Prelude.{Result, Ok, Err, ⊤}
 use Rattle.std.specs.Io.KnownBytes.{Appends, Consumes, IsAtEnd, Keeps}
 use Rattle.std.specs.List.{AllByRecursion}
 use Rattle.ipc_model.specs.declared.fault.Fault.{Fault}
@@ -23,8 +24,8 @@ use Rattle.arrowstream.specs.Columns.{AreShownColumns, IsNotShown}
 use Rattle.arrowstream.specs.Output.{Output, Grows, Puts, PutFails}
 use Rattle.arrowstream.specs.Rows.{AreShownRows, batch_lines}
 
--- The bytes that were taken denote a table and its end, each value is one that is shown, and exactly the rows were printed, a line
--- for each.
+-- The bytes that were taken denote a table and its end, each value is one that is shown, and
+-- exactly the rows were printed, a line for each.
 pub record ShowsTable (old new written_old written_new : Option (List ℕ)) : Type 0 where
   pub x : List ℕ
   pub table : Table
@@ -39,16 +40,25 @@ pub record ShowsTable (old new written_old written_new : Option (List ℕ)) : Ty
 -- Why a stream isn't read to its end, and what was printed before.
 pub data Breaks (old new written_old written_new : Option (List ℕ)) (fault : Fault) : Type 0 where
   -- no schema is read
-  unopened : (x : List ℕ) → Consumes old new x → Reads None x new [] (Err fault) → Keeps written_old written_new → Breaks old new written_old written_new fault
+  unopened : (x : List ℕ) → Consumes old new x → Reads None x new [] (Err fault)
+      → Keeps written_old written_new → Breaks old new written_old written_new fault
   -- a column of the schema is none that is shown
-  not_shown : (x : List ℕ) (s : Schema) (σ : State) (code : ℕ) → Consumes old new x → Run None x (schema s ∷ []) σ → IsNotShown s.fields code → fault ≡ f.UnsupportedType code → Keeps written_old written_new → Breaks old new written_old written_new fault
+  not_shown : (x : List ℕ) (s : Schema) (σ : State) (code : ℕ) → Consumes old new x
+      → Run None x (schema s ∷ []) σ → IsNotShown s.fields code → fault ≡ f.UnsupportedType code
+      → Keeps written_old written_new → Breaks old new written_old written_new fault
   -- reading breaks off behind a schema and batches, whose rows were printed
-  broken : (x : List ℕ) (table : Table) → Consumes old new x → Reads None x new (events_of table) (Err fault) → AllByRecursion AreShownRows table.batches → Appends written_old written_new (batch_lines table.batches) → Breaks old new written_old written_new fault
+  broken : (x : List ℕ) (table : Table) → Consumes old new x
+      → Reads None x new (events_of table) (Err fault) → AllByRecursion AreShownRows table.batches
+      → Appends written_old written_new (batch_lines table.batches)
+      → Breaks old new written_old written_new fault
 
 -- Whatever the answer: a beginning of the rows of the batches that were read was printed.
 pub data ShowsPart (old new written_old written_new : Option (List ℕ)) : Type 0 where
-  nothing : (x : List ℕ) → Consumes old new x → Keeps written_old written_new → ShowsPart old new written_old written_new
-  some : (x rest behind : List ℕ) (table : Table) (σ : State) → Consumes old new (x ++ rest) → Run None x (events_of table) σ → Grows written_old [] written_new behind (batch_lines table.batches) → ShowsPart old new written_old written_new
+  nothing : (x : List ℕ) → Consumes old new x → Keeps written_old written_new
+      → ShowsPart old new written_old written_new
+  some : (x rest behind : List ℕ) (table : Table) (σ : State) → Consumes old new (x ++ rest)
+      → Run None x (events_of table) σ → Grows written_old [] written_new behind
+      (batch_lines table.batches) → ShowsPart old new written_old written_new
 
 -- the exit status of a job that stopped: memory ran out, a device failed, or the stream is refused
 abbrev pub stop_status : Stop → ℕ
@@ -61,7 +71,8 @@ abbrev pub exit_status : {T : Type 0} → Result T Stop → ℕ
 exit_status (Ok done) = 0
 exit_status (Err why) = stop_status why
 
--- the status is 3 exactly where the source or the sink failed in the call; the numbers count their failures before it and behind it
+-- the status is 3 exactly where the source or the sink failed in the call; the numbers count their
+-- failures before it and behind it
 pub record TellsDevices (source_old source_new sink_old sink_new status : ℕ) : Type 0 where
   pub failed : status ≡ 3 → (source_new ≡ 1) ⊎ (sink_new ≡ 1)
   pub works : status ≢ 3 → source_old ≡ 0 → sink_old ≡ 0 → (source_new ≡ 0) × (sink_new ≡ 0)
@@ -69,7 +80,8 @@ pub record TellsDevices (source_old source_new sink_old sink_new status : ℕ) :
 -- ---- the steps in between
 
 -- what was read behind the schema, how that ended, and that the rows were put
-pub record PrintsRows (old new : Reader) (before after : Output) (answer : Result End Fault) : Type 0 where
+pub record PrintsRows (old new : Reader) (before after : Output)
+    (answer : Result End Fault) : Type 0 where
   pub x : List ℕ
   pub batches : List (List (List Value))
   pub bytes : Consumes old.remaining new.remaining x
@@ -78,7 +90,8 @@ pub record PrintsRows (old new : Reader) (before after : Output) (answer : Resul
   pub puts : Puts before after (batch_lines batches)
 
 -- rows that were read behind the schema, of which a beginning was put
-pub record PrintsPart (old new : Reader) (before : Output) (written : Option (List ℕ)) (failures : ℕ) (fault : PrintFault) : Type 0 where
+pub record PrintsPart (old new : Reader) (before : Output) (written : Option (List ℕ))
+    (failures : ℕ) (fault : PrintFault) : Type 0 where
   pub x : List ℕ
   pub batches : List (List (List Value))
   pub bytes : Consumes old.remaining new.remaining x
@@ -99,19 +112,29 @@ pub record HasOtherColumn (old new : Reader) (before after : Output) (fault : Fa
   pub silent : after ≡ before
 
 -- what an answer says of the rows
-abbrev pub PrintsBatches : Reader → Reader → Output → Output → Result (Option Fault) PrintFault → Type 0
-PrintsBatches old new before after (Ok None) = (end : End) × PrintsRows old new before after (Ok end) × (old.failures ≡ 0 → new.failures ≡ 0)
-PrintsBatches old new before after (Ok (Some fault)) = PrintsRows old new before after (Err fault) × Tells old.failures new.failures fault
-PrintsBatches old new before after (Err fault) = PrintsPart old new before after.written after.failures fault
+abbrev pub PrintsBatches : Reader → Reader → Output → Output → Result (Option Fault) PrintFault
+    → Type 0
+PrintsBatches old new before after (Ok None) =
+    (end : End) × PrintsRows old new before after (Ok end) × (old.failures ≡ 0 → new.failures ≡ 0)
+PrintsBatches old new before after (Ok (Some fault)) =
+    PrintsRows old new before after (Err fault) × Tells old.failures new.failures fault
+PrintsBatches old new before after (Err fault) =
+    PrintsPart old new before after.written after.failures fault
 
 -- what an answer says of a stream whose schema was read
 abbrev pub ShowsRows : Reader → Reader → Output → Output → Result ⊤ Stop → Type 0
-ShowsRows old new before after (Ok done) = AreShownColumns old.schema.fields × ((end : End) × PrintsRows old new before after (Ok end))
-ShowsRows old new before after (Err (stop.Stream fault message)) = HasOtherColumn old new before after fault ⊎ PrintsRows old new before after (Err fault)
-ShowsRows old new before after (Err (stop.Print fault)) = PrintsPart old new before after.written after.failures fault
+ShowsRows old new before after (Ok done) =
+    AreShownColumns old.schema.fields × ((end : End) × PrintsRows old new before after (Ok end))
+ShowsRows old new before after (Err (stop.Stream fault message)) =
+    HasOtherColumn old new before after fault ⊎ PrintsRows old new before after (Err fault)
+ShowsRows old new before after (Err (stop.Print fault)) =
+    PrintsPart old new before after.written after.failures fault
 
 -- what an answer says of the whole stream
-abbrev pub Shows : Option (List ℕ) → Option (List ℕ) → Option (List ℕ) → Option (List ℕ) → Result ⊤ Stop → Type 0
+abbrev pub Shows : Option (List ℕ) → Option (List ℕ) → Option (List ℕ) → Option (List ℕ)
+    → Result ⊤ Stop → Type 0
 Shows old new written_old written_new (Ok done) = ShowsTable old new written_old written_new
-Shows old new written_old written_new (Err (stop.Stream fault message)) = Breaks old new written_old written_new fault
-Shows old new written_old written_new (Err (stop.Print fault)) = ShowsPart old new written_old written_new
+Shows old new written_old written_new (Err (stop.Stream fault message)) =
+    Breaks old new written_old written_new fault
+Shows old new written_old written_new (Err (stop.Print fault)) =
+    ShowsPart old new written_old written_new

@@ -1,9 +1,11 @@
 //! Numbers in decimal, eight digits at a time.
 //!
-//! The digits of a number below 10^8 come from a table of pairs and stand side by side in the eight bytes of one `u64`;
-//! a shift drops the zeros in front. No branch depends on how many of the eight are shown, and nothing is copied, where a
-//! loop over pairs of digits spends most of the time that rows take.
-ghost use Rattle.std.specs.Prelude.{◌≡◌, ◌≤◌, ◌<◌, ◌+◌, ◌*◌, ◌++◌, ◌/◌, ◌%◌, length, take, drop, slice_index};
+//! The digits of a number below 10^8 come from a table of pairs and stand side by side in the eight
+//! bytes of one `u64`; a shift drops the zeros in front. No branch depends on how many of the eight
+//! are shown, and nothing is copied, where a loop over pairs of digits spends most of the time that
+//! rows take.
+ghost use Rattle.std.specs.Prelude.{◌≡◌, ◌≤◌, ◌<◌, ◌+◌, ◌*◌, ◌++◌, ◌/◌, ◌%◌, length, take, drop};
+ghost use Rattle.std.specs.Prelude.{slice_index};
 ghost use Rattle.std.specs.Fmt.{decimal, signed_decimal};
 ghost use Rattle.std.specs.Int.{w64, to_le_bytes};
 ghost use Rattle.arrowstream.specs.Digits.{last_digits};
@@ -51,11 +53,12 @@ fn eight_digits(number: u32) -> u64
     pair(high / 100) + (pair(high % 100) << 16) + (pair(low / 100) << 32) + (pair(low % 100) << 48)
 }
 
-// The digit 0 in each of eight bytes, less one in the last, so that the last digit counts as shown in any case.
+// The digit 0 in each of eight bytes, less one in the last, so that the last digit counts as shown
+// in any case.
 const UNSHOWN: u64 = 0x2f30_3030_3030_3030;
 
-// The eight digits of a number below 10^8, the first in the lowest byte, and how many zeros stand in front: no bit is set in
-// their bytes once the digit 0 is taken from each.
+// The eight digits of a number below 10^8, the first in the lowest byte, and how many zeros stand
+// in front: no bit is set in their bytes once the digit 0 is taken from each.
 #[inline(always)]
 fn digits_and_zeros(number: u32) -> (u64, usize)
     requires { number < 100000000 }
@@ -101,7 +104,8 @@ fn put_first(text: &mut [u8], at: usize, number: u32) -> usize
     at + (8 - zeros)
 }
 
-/// Writes a number in decimal from `at` on, and returns where it ends. What stands behind the end may change too, up to
+/// Writes a number in decimal from `at` on, and returns where it ends. What stands behind the end
+/// may change too, up to
 /// `at + 24`.
 #[inline(always)]
 pub fn put_u64(text: &mut [u8], at: usize, number: u64) -> usize

@@ -1,4 +1,5 @@
-//! The command `arrowstream`: `arrowstream show < STREAM` prints each row of an Arrow IPC stream as a JSON array.
+//! The command `arrowstream`: `arrowstream show < STREAM` prints each row of an Arrow IPC stream as
+//! a JSON array.
 #![tactic(auto)]
 
 mod digits;

@@ -1,11 +1,13 @@
 //! Rows as text: each a JSON array on a line of its own.
-ghost use Rattle.std.specs.Prelude.{◌≡◌, ◌≤◌, ◌<◌, ◌+◌, ◌++◌, ◌∷◌, [], length, take, vec_len, slice_index_or, IfErr, IfOk, IfSome, MatchResult, Some, OnOk};
+ghost use Rattle.std.specs.Prelude.{◌≡◌, ◌≤◌, ◌<◌, ◌+◌, ◌++◌, ◌∷◌, [], length, take, vec_len};
+ghost use Rattle.std.specs.Prelude.{slice_index_or, IfErr, IfOk, IfSome, MatchResult, Some, OnOk};
 ghost use Rattle.std.specs.Fmt.{signed_decimal};
 ghost use Rattle.std.specs.Int.{cast_signed, from_le_bytes, w64};
 ghost use Rattle.ipc_column.specs.Values.{cell_value};
 ghost use Rattle.arrowstream.specs.Columns.{AreLent, row_in, AreLong};
 ghost use Rattle.arrowstream.specs.Output.{PrintsAs, PrintsAt, output};
-ghost use Rattle.arrowstream.specs.Rows.{AreShownRows, IsShown, cell_text, closed, comma, line, lines};
+ghost use Rattle.arrowstream.specs.Rows.{AreShownRows, IsShown, cell_text, closed, comma, line};
+ghost use Rattle.arrowstream.specs.Rows.{lines};
 
 use crate::digits::put_i64;
 use ipc_column::{Batch, Cell};
@@ -43,7 +45,8 @@ impl From<AllocError> for PrintFault {
 #[cold]
 #[inline(never)]
 fn send<W: Sink>(sink: &mut W, text: &[u8]) -> Result<(), PrintFault>
-    ensures puts { PrintsAs (output (W.written sink.old) (W.failures sink.old) text.now) (W.written sink.new) (W.failures sink.new) [] [] result }
+    ensures puts { PrintsAs (output (W.written sink.old) (W.failures sink.old) text.now)
+        (W.written sink.new) (W.failures sink.new) [] [] result }
     ensures only { IfErr result (λ fault. fault ≡ PrintFault.Write) }
 {
     let mut sent = 0;
@@ -56,13 +59,15 @@ fn send<W: Sink>(sink: &mut W, text: &[u8]) -> Result<(), PrintFault>
     Ok(())
 }
 
-// Sends the text before `at` on its way where little room is left, and returns the place for what comes next.
+// Sends the text before `at` on its way where little room is left, and returns the place for what
+// comes next.
 #[inline(always)]
 fn make_room<W: Sink>(sink: &mut W, text: &[u8], at: usize) -> Result<usize, PrintFault>
     requires at { at ≤ length text.now }
     requires room { 32 ≤ length text.now }
     ensures room { IfOk result (λ place. place + 32 ≤ length text.now) }
-    ensures puts { PrintsAt (output (W.written sink.old) (W.failures sink.old) (take at text.now)) (W.written sink.new) (W.failures sink.new) text.now [] result }
+    ensures puts { PrintsAt (output (W.written sink.old) (W.failures sink.old) (take at text.now))
+        (W.written sink.new) (W.failures sink.new) text.now [] result }
 {
     if text.len() - at < ROOM {
         send(sink, &text[..at])?;
@@ -120,7 +125,8 @@ fn print_word<W: Sink>(
     requires room { 32 ≤ length text.old }
     requires word { length word.now ≤ 32 }
     ensures inside { IfOk result (λ end. end ≤ length text.new) }
-    ensures puts { PrintsAt (output (W.written sink.old) (W.failures sink.old) (take start text.old)) (W.written sink.new) (W.failures sink.new) text.new word.now result }
+    ensures puts { PrintsAt (output (W.written sink.old) (W.failures sink.old)
+        (take start text.old)) (W.written sink.new) (W.failures sink.new) text.new word.now result }
 {
     let at = make_room(sink, text, start)?;
     Ok(put_word(text, at, word))
@@ -132,7 +138,8 @@ fn close_row<W: Sink>(sink: &mut W, text: &mut [u8], start: usize) -> Result<usi
     requires start { start ≤ length text.old }
     requires room { 32 ≤ length text.old }
     ensures inside { IfOk result (λ end. end ≤ length text.new) }
-    ensures puts { PrintsAt (output (W.written sink.old) (W.failures sink.old) (take start text.old)) (W.written sink.new) (W.failures sink.new) text.new closed result }
+    ensures puts { PrintsAt (output (W.written sink.old) (W.failures sink.old)
+        (take start text.old)) (W.written sink.new) (W.failures sink.new) text.new closed result }
 {
     print_word(sink, text, start, b"]\n")
 }
@@ -150,7 +157,9 @@ fn print_cell<W: Sink>(
     requires room { 32 ≤ length text.old }
     requires shown { IsShown (cell_value cell) }
     ensures inside { IfOk result (λ end. end ≤ length text.new) }
-    ensures puts { PrintsAt (output (W.written sink.old) (W.failures sink.old) (take start text.old)) (W.written sink.new) (W.failures sink.new) text.new (comma column ++ cell_text (cell_value cell.entry)) result }
+    ensures puts { PrintsAt (output (W.written sink.old) (W.failures sink.old)
+        (take start text.old)) (W.written sink.new) (W.failures sink.new) text.new
+        (comma column ++ cell_text (cell_value cell.entry)) result }
 {
     let at = make_room(sink, text, start)?;
     let at = put_comma(text, at, column);
@@ -171,7 +180,9 @@ fn print_row<W: Sink>(
     requires start { start ≤ length text.old }
     requires room { 32 ≤ length text.old }
     ensures inside { IfOk result (λ end. end ≤ length text.new) }
-    ensures puts { PrintsAt (output (W.written sink.old) (W.failures sink.old) (take start text.old)) (W.written sink.new) (W.failures sink.new) text.new (line (slice_index_or batch.now.rows row [])) result }
+    ensures puts { PrintsAt (output (W.written sink.old) (W.failures sink.old)
+        (take start text.old)) (W.written sink.new) (W.failures sink.new) text.new
+        (line (slice_index_or batch.now.rows row [])) result }
 {
     let mut at = print_word(sink, text, start, b"[")?;
     for column in 0..batch.columns() {
@@ -192,7 +203,9 @@ fn print_cells<W: Sink>(
     requires start { start ≤ length text.old }
     requires room { 32 ≤ length text.old }
     ensures inside { IfOk result (λ end. end ≤ length text.new) }
-    ensures puts { PrintsAt (output (W.written sink.old) (W.failures sink.old) (take start text.old)) (W.written sink.new) (W.failures sink.new) text.new (lines batch.now.rows) result }
+    ensures puts { PrintsAt (output (W.written sink.old) (W.failures sink.old)
+        (take start text.old)) (W.written sink.new) (W.failures sink.new) text.new
+        (lines batch.now.rows) result }
 {
     let mut at = start;
     for row in 0..batch.rows() {
@@ -203,7 +216,8 @@ fn print_cells<W: Sink>(
 
 // The numbers of each column, where there is a column and each lends its numbers.
 fn numbers_of<'a>(alloc: Global, batch: &'a Batch) -> Result<Option<Vec<&'a [[u8; 8]]>>, AllocError>
-    ensures { IfOk result (λ lent. IfSome lent (λ columns. AreLent (λ c. c.now) columns.items batch.now.rows)) }
+    ensures { IfOk result (λ lent. IfSome lent
+        (λ columns. AreLent (λ c. c.now) columns.items batch.now.rows)) }
 {
     let mut columns = Vec::with_capacity(alloc, batch.columns())?;
     for column in 0..batch.columns() {
@@ -230,7 +244,9 @@ fn print_number<W: Sink>(
     requires start { start ≤ length text.old }
     requires room { 32 ≤ length text.old }
     ensures inside { IfOk result (λ end. end ≤ length text.new) }
-    ensures puts { PrintsAt (output (W.written sink.old) (W.failures sink.old) (take start text.old)) (W.written sink.new) (W.failures sink.new) text.new (before ∷ signed_decimal number) result }
+    ensures puts { PrintsAt (output (W.written sink.old) (W.failures sink.old)
+        (take start text.old)) (W.written sink.new) (W.failures sink.new) text.new
+        (before ∷ signed_decimal number) result }
 {
     let at = make_room(sink, text, start)?;
     let at = put_word(text, at, &[before]);
@@ -260,7 +276,9 @@ fn print_number_row<W: Sink>(
     requires start { start ≤ length text.old }
     requires room { 32 ≤ length text.old }
     ensures inside { IfOk result (λ end. end ≤ length text.new) }
-    ensures puts { PrintsAt (output (W.written sink.old) (W.failures sink.old) (take start text.old)) (W.written sink.new) (W.failures sink.new) text.new (line (row_in (λ c. c.now) columns.now row)) result }
+    ensures puts { PrintsAt (output (W.written sink.old) (W.failures sink.old)
+        (take start text.old)) (W.written sink.new) (W.failures sink.new) text.new
+        (line (row_in (λ c. c.now) columns.now row)) result }
 {
     let mut at = start;
     let mut before = b'[';
@@ -271,7 +289,8 @@ fn print_number_row<W: Sink>(
     close_row(sink, text, at)
 }
 
-// Prints the rows of a batch, given its columns' numbers, from `start` on, and returns where the last one ends.
+// Prints the rows of a batch, given its columns' numbers, from `start` on, and returns where the
+// last one ends.
 #[inline(never)]
 fn print_numbers<W: Sink>(
     sink: &mut W,
@@ -284,7 +303,9 @@ fn print_numbers<W: Sink>(
     requires start { start ≤ length text.old }
     requires room { 32 ≤ length text.old }
     ensures inside { IfOk result (λ end. end ≤ length text.new) }
-    ensures puts { PrintsAt (output (W.written sink.old) (W.failures sink.old) (take start text.old)) (W.written sink.new) (W.failures sink.new) text.new (lines batch.now.rows) result }
+    ensures puts { PrintsAt (output (W.written sink.old) (W.failures sink.old)
+        (take start text.old)) (W.written sink.new) (W.failures sink.new) text.new
+        (lines batch.now.rows) result }
 {
     let mut at = start;
     for row in 0..batch.rows() {
@@ -305,7 +326,9 @@ fn print_batch<W: Sink>(
     requires start { start ≤ length text.old }
     requires room { 32 ≤ length text.old }
     ensures inside { IfOk result (λ end. end ≤ length text.new) }
-    ensures puts { PrintsAt (output (W.written sink.old) (W.failures sink.old) (take start text.old)) (W.written sink.new) (W.failures sink.new) text.new (lines batch.now.rows) result }
+    ensures puts { PrintsAt (output (W.written sink.old) (W.failures sink.old)
+        (take start text.old)) (W.written sink.new) (W.failures sink.new) text.new
+        (lines batch.now.rows) result }
 {
     match numbers_of(alloc, batch)? {
         Some(columns) => print_numbers(sink, text, start, &columns, batch),
@@ -346,8 +369,9 @@ impl Lines {
 
     /// Adds each row of a batch as a JSON array on a line of its own. Full text goes to the sink.
     ///
-    /// The caller knows that each value is null or a signed number. `Write` is answered where the sink failed, and `OutOfMemory` where a list of columns found no
-    /// room; then a beginning of the rows went out, and what was kept is lost.
+    /// The caller knows that each value is null or a signed number. `Write` is answered where the
+    /// sink failed, and `OutOfMemory` where a list of columns found no room; then a beginning of
+    /// the rows went out, and what was kept is lost.
     pub fn print<W: Sink>(
         &mut self,
         alloc: Global,
@@ -355,18 +379,22 @@ impl Lines {
         batch: &Batch,
     ) -> Result<(), PrintFault>
         requires { AreShownRows batch.now.rows }
-        ensures { PrintsAs (output (W.written sink.old) (W.failures sink.old) self.old) (W.written sink.new) (W.failures sink.new) self.new (lines batch.now.rows) result }
+        ensures { PrintsAs (output (W.written sink.old) (W.failures sink.old) self.old)
+            (W.written sink.new) (W.failures sink.new) self.new (lines batch.now.rows) result }
     {
         self.at = print_batch(alloc, sink, &mut self.text, self.at, batch)?;
         Ok(())
     }
 
-    /// Sends what is kept, and flushes the sink. `Write` is answered where it failed, and nothing else; then what was kept is lost.
+    /// Sends what is kept, and flushes the sink. `Write` is answered where it failed, and nothing
+    /// else; then what was kept is lost.
     pub fn flush<W: Sink>(&mut self, sink: &mut W) -> Result<(), PrintFault>
-        ensures works { MatchResult result (λ _. W.failures sink.new ≡ 0) (λ fault. fault ≡ PrintFault.Write) }
+        ensures works { MatchResult result (λ _. W.failures sink.new ≡ 0)
+            (λ fault. fault ≡ PrintFault.Write) }
         // Nothing is held back.
         ensures handed_on { OnOk result (W.held_back sink.new ≡ Some []) }
-        ensures puts { PrintsAs (output (W.written sink.old) (W.failures sink.old) self.old) (W.written sink.new) (W.failures sink.new) [] [] result }
+        ensures puts { PrintsAs (output (W.written sink.old) (W.failures sink.old) self.old)
+            (W.written sink.new) (W.failures sink.new) [] [] result }
     {
         send(sink, &self.text[..self.at])?;
         self.at = 0;

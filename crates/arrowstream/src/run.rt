@@ -4,7 +4,8 @@ ghost use Rattle.ipc_stream.specs.declared.phase.Phase.TheVariants.{Reading};
 ghost use Rattle.ipc_stream.specs.Reasons.{IsOutside};
 ghost use Rattle.arrowstream.specs.Columns.{AreShownColumns};
 ghost use Rattle.arrowstream.specs.Output.{output};
-ghost use Rattle.arrowstream.specs.Show.{Breaks, PrintsBatches, Shows, ShowsPart, ShowsRows, ShowsTable, TellsDevices, exit_status, stop_status};
+ghost use Rattle.arrowstream.specs.Show.{Breaks, PrintsBatches, Shows, ShowsPart, ShowsRows};
+ghost use Rattle.arrowstream.specs.Show.{ShowsTable, TellsDevices, exit_status, stop_status};
 
 use crate::rows::{Lines, PrintFault};
 use crate::types::first_not_shown;
@@ -22,7 +23,8 @@ enum Stop {
     Print(PrintFault),
 }
 
-// Prints the rows of a stream, and returns the fault at which reading broke off, if it did. The columns are those that are shown.
+// Prints the rows of a stream, and returns the fault at which reading broke off, if it did. The
+// columns are those that are shown.
 fn print_rows<R: Source, W: Sink>(
     alloc: Global,
     stream: &mut StreamReader<R>,
@@ -32,7 +34,9 @@ fn print_rows<R: Source, W: Sink>(
     requires reading { stream.old.phase ≡ Reading }
     requires columns { AreShownColumns stream.old.schema.fields }
     ensures schema { stream.new.schema ≡ stream.old.schema }
-    ensures prints { PrintsBatches stream.old stream.new (output (W.written sink.old) (W.failures sink.old) lines.old) (output (W.written sink.new) (W.failures sink.new) lines.new) result }
+    ensures prints { PrintsBatches stream.old stream.new
+        (output (W.written sink.old) (W.failures sink.old) lines.old)
+        (output (W.written sink.new) (W.failures sink.new) lines.new) result }
 {
     loop {
         match stream.next() {
@@ -53,7 +57,9 @@ fn print_stream<R: Source, W: Sink>(
     requires columns { AreShownColumns stream.old.schema.fields }
     ensures works { IfOk result (λ fault. W.failures sink.new ≡ 0) }
     ensures handed_on { IfOk result (λ fault. W.held_back sink.new ≡ Some []) }
-    ensures prints { PrintsBatches stream.old stream.new (output (W.written sink.old) (W.failures sink.old) []) (output (W.written sink.new) (W.failures sink.new) []) result }
+    ensures prints { PrintsBatches stream.old stream.new
+        (output (W.written sink.old) (W.failures sink.old) [])
+        (output (W.written sink.new) (W.failures sink.new) []) result }
 {
     let mut lines = Lines::new(alloc)?;
     let fault = print_rows(alloc, stream, &mut lines, sink)?;
@@ -69,8 +75,11 @@ fn show_rows<R: Source, W: Sink>(
 ) -> Result<(), Stop>
     requires { stream.old.phase ≡ Reading }
     ensures handed_on { OnOk result (W.held_back sink.new ≡ Some []) }
-    ensures shows { ShowsRows stream.old stream.new (output (W.written sink.old) (W.failures sink.old) []) (output (W.written sink.new) (W.failures sink.new) []) result }
-    ensures devices { TellsDevices stream.old.failures stream.new.failures (W.failures sink.old) (W.failures sink.new) (exit_status result) }
+    ensures shows { ShowsRows stream.old stream.new
+        (output (W.written sink.old) (W.failures sink.old) [])
+        (output (W.written sink.new) (W.failures sink.new) []) result }
+    ensures devices { TellsDevices stream.old.failures stream.new.failures (W.failures sink.old)
+        (W.failures sink.new) (exit_status result) }
 {
     if let Some(code) = first_not_shown(stream.schema()) {
         return Err(Stop::Stream(Fault::UnsupportedType(code), 0));
@@ -85,8 +94,10 @@ fn show_rows<R: Source, W: Sink>(
 // Prints a stream, and gives its source back.
 fn show<R: Source, W: Sink>(alloc: Global, source: R, sink: &mut W) -> (Result<(), Stop>, R)
     ensures handed_on { OnOk result.0 (W.held_back sink.new ≡ Some []) }
-    ensures shows { Shows (R.remaining source) (R.remaining result.1) (W.written sink.old) (W.written sink.new) result.0 }
-    ensures devices { TellsDevices (R.failures source) (R.failures result.1) (W.failures sink.old) (W.failures sink.new) (exit_status result.0) }
+    ensures shows { Shows (R.remaining source) (R.remaining result.1) (W.written sink.old)
+        (W.written sink.new) result.0 }
+    ensures devices { TellsDevices (R.failures source) (R.failures result.1) (W.failures sink.old)
+        (W.failures sink.new) (exit_status result.0) }
 {
     match StreamReader::open(alloc, source) {
         Ok(stream) => {
@@ -124,30 +135,38 @@ fn tell<E: Write>(stop: Stop, messages: &mut E) {
     }
 }
 
-/// Reads a stream from `source` batch by batch and prints its rows to `sink`; on a refusal prints the fault's line to
-/// `messages`. Rows that were printed before it stand, and no byte behind an end-of-stream mark is read.
+/// Reads a stream from `source` batch by batch and prints its rows to `sink`; on a refusal prints
+/// the fault's line to
+/// `messages`. Rows that were printed before it stand, and no byte behind an end-of-stream mark is
+/// read.
 ///
-/// The answer is the exit status, and the source again: 0 where the stream was read to its end and all was printed, 1 where it is
-/// refused, or has a column that isn't shown, 3 where the source or the sink failed, 4 where memory ran out. A failing `messages`
-/// changes nothing.
+/// The answer is the exit status, and the source again: 0 where the stream was read to its end and
+/// all was printed, 1 where it is refused, or has a column that isn't shown, 3 where the source or
+/// the sink failed, 4 where memory ran out. A failing `messages` changes nothing.
 pub fn run<R: Source, W: Sink, E: Write>(
     alloc: Global,
     source: R,
     sink: &mut W,
     messages: &mut E,
 ) -> (u8, R)
-    // At 0 the bytes that were taken denote a table with its end, and exactly its rows were printed.
-    ensures done { result.0 ≡ 0 → ShowsTable (R.remaining source) (R.remaining result.1) (W.written sink.old) (W.written sink.new) }
+    // At 0 the bytes that were taken denote a table with its end, and exactly its rows were
+    // printed.
+    ensures done { result.0 ≡ 0 → ShowsTable (R.remaining source) (R.remaining result.1)
+        (W.written sink.old) (W.written sink.new) }
     // Then the sink holds nothing back.
     ensures handed_on { result.0 ≡ 0 → W.held_back sink.new ≡ Some [] }
     // At 1 the stream is refused, and exactly the rows of the batches before were printed.
-    ensures refused { result.0 ≡ 1 → (fault : Fault) × ¬ IsOutside fault × Breaks (R.remaining source) (R.remaining result.1) (W.written sink.old) (W.written sink.new) fault }
+    ensures refused { result.0 ≡ 1 → (fault : Fault) × ¬ IsOutside fault
+        × Breaks (R.remaining source) (R.remaining result.1) (W.written sink.old)
+        (W.written sink.new) fault }
     // 3 comes exactly where a device failed.
-    ensures devices { TellsDevices (R.failures source) (R.failures result.1) (W.failures sink.old) (W.failures sink.new) result.0 }
+    ensures devices { TellsDevices (R.failures source) (R.failures result.1) (W.failures sink.old)
+        (W.failures sink.new) result.0 }
     // 4 is left for memory; there is no other status.
     ensures one { (result.0 ≡ 0) ⊎ (result.0 ≡ 1) ⊎ (result.0 ≡ 3) ⊎ (result.0 ≡ 4) }
     // Whatever the status, a beginning of the rows of what was read was printed.
-    ensures part { ShowsPart (R.remaining source) (R.remaining result.1) (W.written sink.old) (W.written sink.new) }
+    ensures part { ShowsPart (R.remaining source) (R.remaining result.1) (W.written sink.old)
+        (W.written sink.new) }
 {
     match show(alloc, source, sink) {
         (Ok(()), source) => (0, source),

@@ -26,7 +26,8 @@ fn is_shown(field: &Field) -> bool
 
 /// The type code of the first column that `show` doesn't print, if there is one.
 pub fn first_not_shown(schema: &Schema) -> Option<u8>
-    ensures { MatchOption result (AreShownColumns schema.now.fields) (λ code. IsNotShown schema.now.fields code) }
+    ensures { MatchOption result (AreShownColumns schema.now.fields)
+        (λ code. IsNotShown schema.now.fields code) }
 {
     for field in schema.fields.as_slice() {
         if !is_shown(field) {

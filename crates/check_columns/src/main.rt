@@ -1,6 +1,8 @@
-//! The program `check_columns`: `check_columns KIND ROWS TIMES` checks a record batch of one column and so many rows so many
-//! times. The kinds are `numbers` (required 64-bit integers), `nulls` (nullable ones, each third null), `bytes` (binary) and
-//! `texts` (UTF-8). `Batch::check` is measured by it: each time takes a copy of the batch's body too.
+//! The program `check_columns`: `check_columns KIND ROWS TIMES` checks a record batch of one column
+//! and so many rows so many times. The kinds are `numbers` (required 64-bit integers), `nulls`
+//! (nullable ones, each third null), `bytes` (binary) and
+//! `texts` (UTF-8). `Batch::check` is measured by it: each time takes a copy of the batch's body
+//! too.
 #![tactic(auto)]
 
 mod batch;

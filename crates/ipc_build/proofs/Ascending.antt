@@ -63,4 +63,17 @@ pub pairs_ascend : (xs : List (ℤ × ℤ)) → SlotAscends (v.Pairs xs)
 pairs_ascend xs = slot_ascends _ _ (pairs_is xs) tt
 
 -- all of these, for a tactic's list
-pub ruleset ascending = (tree_ascends, u8_ascends, bool_ascends, i16_ascends, i32_ascends, i64_ascends, text_ascends, table_ascends, tables_ascend, pairs_ascend, All-nil, All-push)
+pub ruleset ascending = (
+  tree_ascends,
+  u8_ascends,
+  bool_ascends,
+  i16_ascends,
+  i32_ascends,
+  i64_ascends,
+  text_ascends,
+  table_ascends,
+  tables_ascend,
+  pairs_ascend,
+  All-nil,
+  All-push,
+)

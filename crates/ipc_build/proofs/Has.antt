@@ -1,5 +1,6 @@
 -- Bytes that stand at a place of others.
-use Rattle.std.proofs.Common.{◌≡◌, ℕ, zero, suc, ◌+◌, ◌-◌, ◌^◌, ◌≤◌, ◌<◌, List, ◌∷◌, ◌++◌, length, drop, refl, zero-add, add-zero, ap, sym, ◌∙◌, subst, arith, append_assoc}
+use Rattle.std.proofs.Common.{◌≡◌, ℕ, zero, suc, ◌+◌, ◌-◌, ◌^◌, ◌≤◌, ◌<◌, List, ◌∷◌, ◌++◌, length, drop, refl, zero-add, add-zero, ap, sym}
+use Rattle.std.proofs.Common.{◌∙◌, subst, arith, append_assoc}
 use Rattle.std.specs.Prelude.{slice_range}
 use Rattle.std.proofs.lemmas.List.{drop-drop, length-append, length-replicate}
 use Rattle.std.proofs.Math.Seq.{drop-append_seam, take-append_seam}
@@ -41,12 +42,14 @@ little_parts i (suc v) w x =
 pub has_narrow : (b : List ℕ) (p c w x : ℕ) → w ≤ c → x < 256 ^ w → Has b p (little c x) → num b p w ≡ x
 has_narrow b p c w x h fits e =
     let wide : c ≡ w + (c - w) = omega arith in
-    has_num b p w x fits (has_left b p (little w x) (bytes_low_first (0 + w) (c - w) x) (subst (λ (l : List ℕ). Has b p l) (ap (λ (n : ℕ). little n x) wide ∙ little_parts 0 w (c - w) x) e))
+    has_num b p w x fits (has_left b p (little w x) (bytes_low_first (0 + w) (c - w) x)
+    (subst (λ (l : List ℕ). Has b p l) (ap (λ (n : ℕ). little n x) wide ∙ little_parts 0 w (c - w) x) e))
 
 padding_split : (i n : ℕ) → i ≤ n → padding n ≡ padding i ++ padding (n - i)
 padding_split zero n h = ap padding (omega arith)
 padding_split (suc i) zero h = absurd (omega arith)
-padding_split (suc i) (suc n) h = let e : suc n - suc i ≡ n - i = omega arith in rw e (ap (λ (l : List ℕ). 0 ∷ l) (padding_split i n (omega arith)))
+padding_split (suc i) (suc n) h = let e : suc n - suc i ≡ n - i =
+    omega arith in rw e (ap (λ (l : List ℕ). 0 ∷ l) (padding_split i n (omega arith)))
 
 pub has_zero : (b : List ℕ) (p n i : ℕ) → i + 2 ≤ n → Has b p (padding n) → num b (p + i) 2 ≡ 0
 has_zero b p n i h e =

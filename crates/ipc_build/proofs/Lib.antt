@@ -5,6 +5,7 @@ pub mod Has
 pub mod Nodes
 pub mod Patches
 pub mod Pieces
+pub mod Lengths
 pub mod Placed
 pub mod Points
 pub mod RoomSteps

@@ -10,7 +10,8 @@ use Rattle.ipc_build.specs.declared.tree.Slot.TheVariants as v
 use Rattle.ipc_build.specs.Trees.{Node, Tree, none, field, fields_of, slot_step, tree_step, node, view, fields_view, tables_view}
 use Rattle.ipc_build.specs.Trees as k
 
-fields_row : (xs : List (ℕ × Slot)) → fields_of (map-FlatTree Slot FlatTree Node Tree node view (record { slots = xs })).slots ≡ fields_view xs
+fields_row : (xs : List (ℕ × Slot))
+    → fields_of (map-FlatTree Slot FlatTree Node Tree node view (record { slots = xs })).slots ≡ fields_view xs
 fields_row [] = refl
 fields_row (x ∷ xs) = ap (field x.0 (node x.1).0 (node x.1).1) (fields_row xs)
 

@@ -1,5 +1,6 @@
 -- What is written of a table and of a vector, piece by piece, and how its fields ascend.
-use Rattle.std.proofs.Common.{◌≡◌, ℕ, zero, suc, ◌+◌, ◌-◌, ◌*◌, ◌≤◌, ◌<◌, List, [], ◌∷◌, ◌++◌, length, take, drop, get_or, refl, ap, sym, ◌∙◌, subst, append_assoc, arith}
+use Rattle.std.proofs.Common.{◌≡◌, ℕ, zero, suc, ◌+◌, ◌-◌, ◌*◌, ◌≤◌, ◌<◌, List, [], ◌∷◌, ◌++◌, length, take, drop, get_or, refl, ap, sym}
+use Rattle.std.proofs.Common.{◌∙◌, subst, append_assoc, arith}
 use Rattle.std.proofs.lemmas.List.{append-nil, length-append, length-replicate, take_at}
 use Rattle.std.proofs.Math.ListN.{drop_of_length-le}
 use Rattle.std.specs.Prelude.{ℤ}
@@ -9,35 +10,42 @@ use Rattle.ipc_build.specs.declared.tree.Slot.TheVariants as v
 use Rattle.ipc_build.specs.declared.tree.FlatTree.{FlatTree}
 use Rattle.ipc_build.specs.Trees.{Tree, Node, none, field, node, view, fields_view, tables_view, slot_step, tree_step}
 use Rattle.ipc_build.specs.Trees as k
-use Rattle.ipc_build.specs.Layout.{little, padding, entry_count, members, inline_bytes, entries, targets_end, inline_end, table_place, head_bytes, own_bytes, target_bytes, targets, struct_bytes, prefix_place, as_vector, buffer}
+use Rattle.ipc_build.specs.Layout.{little, padding, entry_count, members, inline_bytes, entries, targets_end, inline_end, table_place}
+use Rattle.ipc_build.specs.Layout.{head_bytes, own_bytes, target_bytes, targets, struct_bytes, prefix_place, as_vector, buffer}
 use Rattle.ipc_build.specs.Ascends.{fields, elements, Below, Writable}
-use Rattle.ipc_build.proofs.Placed.{length_head, entry_count_small, members_below}
+use Rattle.ipc_build.proofs.Lengths.{length_head, entry_count_small, members_below}
 use Rattle.ipc_scalar.proofs.Places.{length_low_bytes}
 use Rattle.ipc_build.proofs.Nodes.{tables_is, pairs_is}
 use Rattle.ipc_build.proofs.Views.{front, members_fields}
 use Rattle.ipc_build.proofs.Steps.{more}
 
-fields_below : (xs : List (ℕ × Slot)) (i n : ℕ) (d : ℕ × Slot) → i < length xs → Writable (fields n) (fields_view xs) → Below (node (get_or xs i d).1).0 (λ s. Writable s (node (get_or xs i d).1).1)
+fields_below : (xs : List (ℕ × Slot)) (i n : ℕ) (d : ℕ × Slot) → i < length xs → Writable (fields n) (fields_view xs)
+    → Below (node (get_or xs i d).1).0 (λ s. Writable s (node (get_or xs i d).1).1)
 unfolding Writable
 fields_below [] i n d h p = absurd (omega arith)
 fields_below (x ∷ xs) zero n d h p = p.3
 fields_below (x ∷ xs) (suc i) n d h p = fields_below xs i (x.0 + 1) d (omega arith) p.4
 
-pub field_below : (xs : List (ℕ × Slot)) (i : ℕ) (x : ℕ × Slot) → x ≡ get_or xs i x → i < length xs → Writable (fields 0) (fields_view xs) → Below (node x.1).0 (λ s. Writable s (node x.1).1)
+pub field_below : (xs : List (ℕ × Slot)) (i : ℕ) (x : ℕ × Slot) → x ≡ get_or xs i x → i < length xs → Writable (fields 0) (fields_view xs)
+    → Below (node x.1).0 (λ s. Writable s (node x.1).1)
 field_below xs i x e h p = subst (λ (y : ℕ × Slot). Below (node y.1).0 (λ s. Writable s (node y.1).1)) (sym e) (fields_below xs i 0 x h p)
 
-tables_each : (xs : List FlatTree) (i : ℕ) (d : FlatTree) → i < length xs → Writable elements (tables_view xs) → Writable (fields 0) (view (get_or xs i d))
+tables_each : (xs : List FlatTree) (i : ℕ) (d : FlatTree) → i < length xs → Writable elements (tables_view xs)
+    → Writable (fields 0) (view (get_or xs i d))
 unfolding Writable
 tables_each [] i d h p = absurd (omega arith)
 tables_each (x ∷ xs) zero d h p = p.1
 tables_each (x ∷ xs) (suc i) d h p = tables_each xs i d (omega arith) p.2
 
-pub table_each : (xs : List FlatTree) (i : ℕ) (x : FlatTree) → x ≡ get_or xs i x → i < length xs → Writable elements (tables_view xs) → Writable (fields 0) (view x)
+pub table_each : (xs : List FlatTree) (i : ℕ) (x : FlatTree) → x ≡ get_or xs i x → i < length xs → Writable elements (tables_view xs)
+    → Writable (fields 0) (view x)
 table_each xs i x e h p = subst (λ (y : FlatTree). Writable (fields 0) (view y)) (sym e) (tables_each xs i x h p)
 
-pub elements_below : (s : Slot) (ts us : List FlatTree) → s ≡ v.Tables ts → us ≡ ts → Below (node s).0 (λ q. Writable q (node s).1) → Writable elements (tables_view us)
+pub elements_below : (s : Slot) (ts us : List FlatTree) → s ≡ v.Tables ts → us ≡ ts → Below (node s).0 (λ q. Writable q (node s).1)
+    → Writable elements (tables_view us)
 elements_below s ts us e f h =
-    let i : node s ≡ (k.tables, tables_view us) = ap node e ∙ (tables_is ts ∙ ap (λ (xs : List FlatTree). (k.tables, tables_view xs)) (sym f)) in
+    let i : node s ≡ (k.tables, tables_view us) =
+    ap node e ∙ (tables_is ts ∙ ap (λ (xs : List FlatTree). (k.tables, tables_view xs)) (sym f)) in
     subst (λ (x : Node). Below x.0 (λ q. Writable q x.1)) i h
 
 pub few : (xs : List (ℕ × Slot)) → Writable (fields 0) (fields_view xs) → (length xs ≤ 16) × (entry_count 0 (fields_view xs) ≤ 16)
@@ -47,61 +55,82 @@ few xs p =
     let l = members_fields xs in
     (omega (arith, m, t, l), t)
 
-pub pairs_bytes : (s : Slot) (xs ys : List (ℤ × ℤ)) (p : ℕ) → s ≡ v.Pairs xs → ys ≡ xs → target_bytes (node s).0 (node s).1 (targets (node s).1) p ≡ padding (prefix_place p - p) ++ (little 4 (length ys) ++ struct_bytes ys)
+pub pairs_bytes : (s : Slot) (xs ys : List (ℤ × ℤ)) (p : ℕ) → s ≡ v.Pairs xs → ys ≡ xs
+    → target_bytes (node s).0 (node s).1 (targets (node s).1) p ≡ padding (prefix_place p - p) ++ (little 4 (length ys) ++ struct_bytes ys)
 pairs_bytes s xs ys p e f =
     let i : node s ≡ (k.pairs ys, none) = ap node e ∙ (pairs_is xs ∙ ap (λ (zs : List (ℤ × ℤ)). (k.pairs zs, none)) (sym f)) in
     ap (λ (x : Node). target_bytes x.0 x.1 (targets x.1) p) i
 
 module _ (xs : List (ℕ × Slot)) (i : ℕ) (x : ℕ × Slot) (e : x ≡ get_or xs i x) (h : i < length xs) where
-  pub ordered : (n : ℕ) → Writable (fields n) (fields_view (drop i xs)) → (n ≤ x.0) × (x.0 < 16) × Writable (fields (x.0 + 1)) (fields_view (drop (i + 1) xs))
+  pub ordered : (n : ℕ) → Writable (fields n) (fields_view (drop i xs))
+      → (n ≤ x.0) × (x.0 < 16) × Writable (fields (x.0 + 1)) (fields_view (drop (i + 1) xs))
   unfolding Writable
   ordered n p =
-      let q : Writable (fields n) (fields_view (x ∷ drop (i + 1) xs)) = subst (λ (ys : List (ℕ × Slot)). Writable (fields n) (fields_view ys)) (front xs i x e h) p in
+      let q : Writable (fields n) (fields_view (x ∷ drop (i + 1) xs)) =
+      subst (λ (ys : List (ℕ × Slot)). Writable (fields n) (fields_view ys)) (front xs i x e h) p in
       (q.0, q.1, q.4)
 
-  pub entries_more : (out padded now base : List ℕ) (n d : ℕ) → padded ≡ out ++ padding (2 * (x.0 - n)) → now ≡ padded ++ little 2 d → out ++ entries n d (fields_view (drop i xs)) ≡ base → now ++ entries (x.0 + 1) (d + 8) (fields_view (drop (i + 1) xs)) ≡ base
+  pub entries_more : (out padded now base : List ℕ) (n d : ℕ) → padded ≡ out ++ padding (2 * (x.0 - n)) → now ≡ padded ++ little 2 d
+      → out ++ entries n d (fields_view (drop i xs)) ≡ base → now ++ entries (x.0 + 1) (d + 8) (fields_view (drop (i + 1) xs)) ≡ base
   unfolding entries
   entries_more out padded now base n d f g inv =
       let rest = entries (x.0 + 1) (d + 8) (fields_view (drop (i + 1) xs)) in
-      let step : entries n d (fields_view (drop i xs)) ≡ padding (2 * (x.0 - n)) ++ (little 2 d ++ rest) = ap (λ (ys : List (ℕ × Slot)). entries n d (fields_view ys)) (front xs i x e h) in
-      more padded now (little 2 d) rest (little 2 d ++ rest) base g refl (more out padded (padding (2 * (x.0 - n))) (little 2 d ++ rest) (entries n d (fields_view (drop i xs))) base f step inv)
+      let step : entries n d (fields_view (drop i xs)) ≡ padding (2 * (x.0 - n)) ++ (little 2 d ++ rest) =
+      ap (λ (ys : List (ℕ × Slot)). entries n d (fields_view ys)) (front xs i x e h) in
+      more padded now (little 2 d) rest (little 2 d ++ rest) base g refl
+      (more out padded (padding (2 * (x.0 - n))) (little 2 d ++ rest) (entries n d (fields_view (drop i xs))) base f step inv)
 
-pub entries_done : (xs : List (ℕ × Slot)) (i n d : ℕ) (out base : List ℕ) → length xs ≤ i → out ++ entries n d (fields_view (drop i xs)) ≡ base → out ≡ base
+pub entries_done : (xs : List (ℕ × Slot)) (i n d : ℕ) (out base : List ℕ) → length xs ≤ i
+    → out ++ entries n d (fields_view (drop i xs)) ≡ base → out ≡ base
 unfolding entries
-entries_done xs i n d out base h inv = sym (append-nil out) ∙ (ap (λ (ys : List (ℕ × Slot)). out ++ entries n d (fields_view ys)) (sym (drop_of_length-le xs h)) ∙ inv)
+entries_done xs i n d out base h inv = sym (append-nil out)
+    ∙ (ap (λ (ys : List (ℕ × Slot)). out ++ entries n d (fields_view ys)) (sym (drop_of_length-le xs h)) ∙ inv)
 
 module _ (xs : List FlatTree) (i : ℕ) (x : FlatTree) (e : x ≡ get_or xs i x) (h : i < length xs) where
-  pub offsets_more : (out now base : List ℕ) (a p q y : ℕ) → q ≡ targets_end (view x) (inline_end (view x) p) → y ≡ table_place (view x) p - a → now ≡ out ++ little 4 y → out ++ inline_bytes 4 (tables_view (drop i xs)) a p ≡ base → now ++ inline_bytes 4 (tables_view (drop (i + 1) xs)) (a + 4) q ≡ base
+  pub offsets_more : (out now base : List ℕ) (a p q y : ℕ) → q ≡ targets_end (view x) (inline_end (view x) p)
+      → y ≡ table_place (view x) p - a → now ≡ out ++ little 4 y → out ++ inline_bytes 4 (tables_view (drop i xs)) a p ≡ base
+      → now ++ inline_bytes 4 (tables_view (drop (i + 1) xs)) (a + 4) q ≡ base
   unfolding inline_bytes
   offsets_more out now base a p q y f g w inv =
       let rest = tables_view (drop (i + 1) xs) in
-      let step : inline_bytes 4 (tables_view (drop i xs)) a p ≡ little 4 (table_place (view x) p - a) ++ inline_bytes 4 rest (a + 4) (targets_end (view x) (inline_end (view x) p)) = ap (λ (ys : List FlatTree). inline_bytes 4 (tables_view ys) a p) (front xs i x e h) in
-      more out now (little 4 (table_place (view x) p - a)) (inline_bytes 4 rest (a + 4) q) (inline_bytes 4 (tables_view (drop i xs)) a p) base (w ∙ ap (λ (n : ℕ). out ++ little 4 n) g) (step ∙ ap (λ (n : ℕ). little 4 (table_place (view x) p - a) ++ inline_bytes 4 rest (a + 4) n) (sym f)) inv
+      let step : inline_bytes 4 (tables_view (drop i xs)) a p
+      ≡ little 4 (table_place (view x) p - a) ++ inline_bytes 4 rest (a + 4) (targets_end (view x) (inline_end (view x) p)) =
+      ap (λ (ys : List FlatTree). inline_bytes 4 (tables_view ys) a p) (front xs i x e h) in
+      more out now (little 4 (table_place (view x) p - a)) (inline_bytes 4 rest (a + 4) q)
+      (inline_bytes 4 (tables_view (drop i xs)) a p) base (w ∙ ap (λ (n : ℕ). out ++ little 4 n) g)
+      (step ∙ ap (λ (n : ℕ). little 4 (table_place (view x) p - a) ++ inline_bytes 4 rest (a + 4) n) (sym f)) inv
 
-pub offsets_done : (xs : List FlatTree) (i a p : ℕ) (out base : List ℕ) → length xs ≤ i → out ++ inline_bytes 4 (tables_view (drop i xs)) a p ≡ base → out ≡ base
+pub offsets_done : (xs : List FlatTree) (i a p : ℕ) (out base : List ℕ) → length xs ≤ i
+    → out ++ inline_bytes 4 (tables_view (drop i xs)) a p ≡ base → out ≡ base
 unfolding inline_bytes
-offsets_done xs i a p out base h inv = sym (append-nil out) ∙ (ap (λ (ys : List FlatTree). out ++ inline_bytes 4 (tables_view ys) a p) (sym (drop_of_length-le xs h)) ∙ inv)
+offsets_done xs i a p out base h inv = sym (append-nil out)
+    ∙ (ap (λ (ys : List FlatTree). out ++ inline_bytes 4 (tables_view ys) a p) (sym (drop_of_length-le xs h)) ∙ inv)
 
 module _ (xs : List (ℤ × ℤ)) (i : ℕ) (x : ℤ × ℤ) (e : x ≡ get_or xs i x) (h : i < length xs) where
-  pub pairs_more : (out now base : List ℕ) → now ≡ (out ++ little 8 (cast_unsigned w64 x.0)) ++ little 8 (cast_unsigned w64 x.1) → out ++ struct_bytes (drop i xs) ≡ base → now ++ struct_bytes (drop (i + 1) xs) ≡ base
+  pub pairs_more : (out now base : List ℕ) → now ≡ (out ++ little 8 (cast_unsigned w64 x.0)) ++ little 8 (cast_unsigned w64 x.1)
+      → out ++ struct_bytes (drop i xs) ≡ base → now ++ struct_bytes (drop (i + 1) xs) ≡ base
   unfolding struct_bytes
   pairs_more out now base f inv =
       let rest = struct_bytes (drop (i + 1) xs) in
       let one = little 8 (cast_unsigned w64 x.0) in
       let two = little 8 (cast_unsigned w64 x.1) in
       let step : struct_bytes (drop i xs) ≡ one ++ (two ++ rest) = ap (λ (ys : List (ℤ × ℤ)). struct_bytes ys) (front xs i x e h) in
-      more out now (one ++ two) rest (struct_bytes (drop i xs)) base (f ∙ append_assoc out one two) (step ∙ sym (append_assoc one two rest)) inv
+      more out now (one ++ two) rest (struct_bytes (drop i xs)) base (f ∙ append_assoc out one two)
+      (step ∙ sym (append_assoc one two rest)) inv
 
 pub pairs_done : (xs : List (ℤ × ℤ)) (i : ℕ) (out base : List ℕ) → length xs ≤ i → out ++ struct_bytes (drop i xs) ≡ base → out ≡ base
 unfolding struct_bytes
-pairs_done xs i out base h inv = sym (append-nil out) ∙ (ap (λ (ys : List (ℤ × ℤ)). out ++ struct_bytes ys) (sym (drop_of_length-le xs h)) ∙ inv)
+pairs_done xs i out base h inv = sym (append-nil out)
+    ∙ (ap (λ (ys : List (ℤ × ℤ)). out ++ struct_bytes ys) (sym (drop_of_length-le xs h)) ∙ inv)
 
 -- one piece behind another
 pub joined : (a b c x y : List ℕ) → b ≡ a ++ x → c ≡ b ++ y → c ≡ a ++ (x ++ y)
 joined a b c x y e f = f ∙ (ap (λ (l : List ℕ). l ++ y) e ∙ append_assoc a x y)
 
-pub head_joined : (f : Tree) (p size table : ℕ) (a b c d g i : List ℕ) → size ≡ 4 + 2 * entry_count 0 f → table ≡ table_place f p → (places : ℕ) → places ≡ 8 * members f →
-    b ≡ a ++ little 2 size → c ≡ b ++ little 2 (4 + places) → d ≡ c ++ entries 0 4 f → g ≡ d ++ padding (table - (p + size)) → i ≡ g ++ little 4 (table - p) → i ≡ a ++ head_bytes f p
+pub head_joined : (f : Tree) (p size table : ℕ) (a b c d g i : List ℕ) → size ≡ 4 + 2 * entry_count 0 f → table ≡ table_place f p
+    → (places : ℕ) → places ≡ 8 * members f →
+    b ≡ a ++ little 2 size → c ≡ b ++ little 2 (4 + places) → d ≡ c ++ entries 0 4 f → g ≡ d ++ padding (table - (p + size))
+    → i ≡ g ++ little 4 (table - p) → i ≡ a ++ head_bytes f p
 unfolding head_bytes
 head_joined f p size table a b c d g i es et l el u w x y z =
     joined a b i (little 2 (4 + 2 * entry_count 0 f)) _ (u ∙ ap (λ (n : ℕ). a ++ little 2 n) es)
@@ -111,7 +140,8 @@ head_joined f p size table a b c d g i es et l el u w x y z =
     (z ∙ ap (λ (n : ℕ). g ++ little 4 (n - p)) et))))
 
 -- where the places of a table's fields end
-pub places_end : (f : Tree) (p n : ℕ) (a b c : List ℕ) → Writable (fields 0) f → p ≡ length a → n ≡ 8 * members f → b ≡ a ++ head_bytes f p → c ≡ b ++ padding n → length c ≡ inline_end f p
+pub places_end : (f : Tree) (p n : ℕ) (a b c : List ℕ) → Writable (fields 0) f → p ≡ length a → n ≡ 8 * members f → b ≡ a ++ head_bytes f p
+    → c ≡ b ++ padding n → length c ≡ inline_end f p
 places_end f p n a b c h pe ne e g =
     let l = length-append a (head_bytes f p) in
     let m = length_head f p h in
@@ -122,7 +152,8 @@ places_end f p n a b c h pe ne e g =
     omega (arith, l, m, k, z, lb, lc, pe, ne)
 
 -- where the places of a vector's offsets end
-pub vector_places : (p n m : ℕ) (a b c : List ℕ) → p ≡ length a → m ≡ 4 * n → b ≡ a ++ little 4 n → c ≡ b ++ padding m → length c ≡ p + 4 + 4 * n
+pub vector_places : (p n m : ℕ) (a b c : List ℕ) → p ≡ length a → m ≡ 4 * n → b ≡ a ++ little 4 n → c ≡ b ++ padding m
+    → length c ≡ p + 4 + 4 * n
 vector_places p n m a b c pe me e g =
     let l = length-append a (little 4 n) in
     let t = length_low_bytes 0 4 n in
@@ -133,22 +164,29 @@ vector_places p n m a b c pe me e g =
     omega (arith, l, t, k, z, lb, lc, pe, me)
 
 -- a table, from its head, the places of its fields, and what is put into them with all behind
-pub table_joined : (f : Tree) (p at n : ℕ) (a b c d : List ℕ) → Writable (fields 0) f → p ≡ length a → at ≡ length b → n ≡ 8 * members f → b ≡ a ++ head_bytes f p → c ≡ b ++ padding n → d ≡ take at c ++ (inline_bytes 8 f at (length c) ++ targets f (length c)) → d ≡ a ++ (own_bytes f p ++ targets f (inline_end f p))
+pub table_joined : (f : Tree) (p at n : ℕ) (a b c d : List ℕ) → Writable (fields 0) f → p ≡ length a → at ≡ length b → n ≡ 8 * members f
+    → b ≡ a ++ head_bytes f p → c ≡ b ++ padding n → d ≡ take at c ++ (inline_bytes 8 f at (length c) ++ targets f (length c))
+    → d ≡ a ++ (own_bytes f p ++ targets f (inline_end f p))
 unfolding own_bytes
 table_joined f p at n a b c d h pe ae ne e g i =
     let front : take at c ≡ a ++ head_bytes f p = rw g (take_at b (padding n) at (sym ae)) ∙ e in
-    let lb : length b ≡ table_place f p + 4 = let l = length-append a (head_bytes f p) in let m = length_head f p h in ap length e ∙ omega (arith, l, m, pe) in
+    let lb : length b ≡ table_place f p + 4 = let l = length-append a (head_bytes f p) in let m =
+    length_head f p h in ap length e ∙ omega (arith, l, m, pe) in
     let here : at ≡ table_place f p + 4 = ae ∙ lb in
     let end = places_end f p n a b c h pe ne e g in
     i ∙ (ap (λ (l : List ℕ). l ++ (inline_bytes 8 f at (length c) ++ targets f (length c))) front
     ∙ (ap (λ (m : ℕ). (a ++ head_bytes f p) ++ (inline_bytes 8 f m (length c) ++ targets f (length c))) here
     ∙ (ap (λ (m : ℕ). (a ++ head_bytes f p) ++ (inline_bytes 8 f (table_place f p + 4) m ++ targets f m)) end
-    ∙ (append_assoc a (head_bytes f p) _ ∙ ap (λ (l : List ℕ). a ++ l) (sym (append_assoc (head_bytes f p) (inline_bytes 8 f (table_place f p + 4) (inline_end f p)) (targets f (inline_end f p))))))))
+    ∙ (append_assoc a (head_bytes f p) _ ∙ ap (λ (l : List ℕ). a ++ l)
+    (sym (append_assoc (head_bytes f p) (inline_bytes 8 f (table_place f p + 4) (inline_end f p)) (targets f (inline_end f p))))))))
 
 -- a vector of tables, from its count, the places of its offsets, and what is put into them with all behind
-pub vector_joined : (f : Tree) (p n m : ℕ) (a b c d : List ℕ) → p ≡ length a → m ≡ 4 * n → b ≡ a ++ little 4 n → c ≡ b ++ padding m → d ≡ take (p + 4) c ++ (inline_bytes 4 f (p + 4) (length c) ++ targets f (length c)) → d ≡ a ++ (little 4 n ++ (inline_bytes 4 f (p + 4) (p + 4 + 4 * n) ++ targets f (p + 4 + 4 * n)))
+pub vector_joined : (f : Tree) (p n m : ℕ) (a b c d : List ℕ) → p ≡ length a → m ≡ 4 * n → b ≡ a ++ little 4 n → c ≡ b ++ padding m
+    → d ≡ take (p + 4) c ++ (inline_bytes 4 f (p + 4) (length c) ++ targets f (length c))
+    → d ≡ a ++ (little 4 n ++ (inline_bytes 4 f (p + 4) (p + 4 + 4 * n) ++ targets f (p + 4 + 4 * n)))
 vector_joined f p n m a b c d pe me e g i =
-    let lb : length b ≡ p + 4 = let l = length-append a (little 4 n) in let t = length_low_bytes 0 4 n in ap length e ∙ omega (arith, l, t, pe) in
+    let lb : length b ≡ p + 4 = let l = length-append a (little 4 n) in let t =
+    length_low_bytes 0 4 n in ap length e ∙ omega (arith, l, t, pe) in
     let front : take (p + 4) c ≡ a ++ little 4 n = rw g (take_at b (padding m) (p + 4) lb) ∙ e in
     let end = vector_places p n m a b c pe me e g in
     i ∙ (ap (λ (l : List ℕ). l ++ (inline_bytes 4 f (p + 4) (length c) ++ targets f (length c))) front
@@ -159,8 +197,10 @@ pub vector_ends : (f : Tree) → targets_end (as_vector f) 4 ≡ targets_end f (
 unfolding targets_end
 vector_ends f = refl
 
-pub buffer_joined : (f : Tree) (t : ℕ) (a b c : List ℕ) → t ≡ table_place f 4 → b ≡ a ++ little 4 t → c ≡ b ++ (own_bytes f 4 ++ targets f (inline_end f 4)) → c ≡ a ++ buffer f
+pub buffer_joined : (f : Tree) (t : ℕ) (a b c : List ℕ) → t ≡ table_place f 4 → b ≡ a ++ little 4 t
+    → c ≡ b ++ (own_bytes f 4 ++ targets f (inline_end f 4)) → c ≡ a ++ buffer f
 unfolding inline_bytes targets
 buffer_joined f t a b c e g h =
-    joined a b c (little 4 (table_place f 4 - 0)) (own_bytes f 4 ++ targets f (inline_end f 4)) (g ∙ ap (λ (n : ℕ). a ++ little 4 n) (omega (arith, e))) h
+    joined a b c (little 4 (table_place f 4 - 0)) (own_bytes f 4 ++ targets f (inline_end f 4))
+    (g ∙ ap (λ (n : ℕ). a ++ little 4 n) (omega (arith, e))) h
     ∙ (ap (λ (l : List ℕ). a ++ (little 4 (table_place f 4 - 0) ++ l)) (sym (append-nil (own_bytes f 4 ++ targets f (inline_end f 4)))))

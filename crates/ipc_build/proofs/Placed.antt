@@ -1,5 +1,6 @@
 -- What is laid out lies there: one induction over the tree, for tables and for vectors at once.
-use Rattle.std.proofs.Common.{◌≡◌, ◌⊎◌, inl, inr, ℕ, zero, suc, ◌+◌, ◌-◌, ◌*◌, ◌/◌, ◌%◌, ◌^◌, ◌≤◌, ◌<◌, Bool, true, false, nat_le, List, [], ◌∷◌, ◌++◌, length, Ok, Some, mul_assoc, refl, ap, sym, ◌∙◌, subst, arith}
+use Rattle.std.proofs.Common.{◌≡◌, ◌⊎◌, inl, inr, ℕ, zero, suc, ◌+◌, ◌-◌, ◌*◌, ◌/◌, ◌%◌, ◌^◌, ◌≤◌, ◌<◌, Bool, true, false, nat_le, List, []}
+use Rattle.std.proofs.Common.{◌∷◌, ◌++◌, length, Ok, Some, mul_assoc, refl, ap, sym, ◌∙◌, subst, arith}
 use Rattle.std.proofs.lemmas.Bool.{cases_order, leb-true}
 use Rattle.std.proofs.lemmas.List.{length-append, length-replicate}
 use Rattle.std.specs.Prelude.{ℤ}
@@ -11,213 +12,18 @@ use Rattle.ipc_scalar.specs.Bytes.{num}
 use Rattle.ipc_scalar.specs.Flat.{vtable_of, entry_of, slot_of, points}
 use Rattle.ipc_build.specs.Trees.{Content, Tree, none, field}
 use Rattle.ipc_build.specs.Trees as k
-use Rattle.ipc_build.specs.Layout.{little, padding, prefix_place, members, entry_count, table_place, inline_end, string_end, target_end, targets_end, inline_value, inline_bytes, entries, head_bytes, own_bytes, struct_bytes, target_bytes, targets}
+use Rattle.ipc_build.specs.Layout.{little, padding, prefix_place, members, entry_count, table_place, inline_end, string_end, target_end}
+use Rattle.ipc_build.specs.Layout.{targets_end, inline_value, inline_bytes, entries, head_bytes, own_bytes, struct_bytes, target_bytes}
+use Rattle.ipc_build.specs.Layout.{targets}
 use Rattle.ipc_build.specs.Encodes.{HasField, in_table, in_vector, inline_width, EncodesPairs, TableStands, EncodesTarget, EncodesTable}
 use Rattle.ipc_build.specs.Ascends.{Role, fields, elements, PairsFit, IsInRange, Below, Writable}
 use Rattle.ipc_build.proofs.Has.{Has, has_at, has_left, has_right, has_num, has_narrow, has_zero}
 use Rattle.ipc_scalar.proofs.Places.{length_low_bytes}
 use Rattle.ipc_build.proofs.Points.{slot_found, slot_zero, points_at, table_there, elements_there, string_there, vtable_there}
 use Rattle.ipc_build.proofs.Upward.{Up, ends_up, target_ends_up}
-
-pub length_inline : (w : ℕ) (f : Tree) (h p : ℕ) → length (inline_bytes w f h p) ≡ w * members f
-unfolding inline_bytes members
-length_inline w none h p = omega arith
-length_inline w (field n content inner rest) h p =
-    let q = target_end content inner (targets_end inner) p in
-    let e = length_inline w rest (h + w) q in
-    length-append (little w (inline_value content inner h p)) (inline_bytes w rest (h + w) q) ∙ (rw (length_low_bytes 0 w (inline_value content inner h p), e) (omega arith))
-
-pub entry_count_up : (f : Tree) (n : ℕ) → Writable (fields n) f → n ≤ entry_count n f
-unfolding entry_count Writable
-entry_count_up none n h = omega arith
-entry_count_up (field m content inner rest) n h = let i = entry_count_up rest (m + 1) h.4 in omega (arith, i, h.0)
-
-pub members_below : (f : Tree) (n : ℕ) → Writable (fields n) f → n + members f ≤ entry_count n f
-unfolding members entry_count Writable
-members_below none n h = omega arith
-members_below (field m content inner rest) n h = let e = members_below rest (m + 1) h.4 in omega (arith, e, h.0)
-
-pub entry_count_small : (f : Tree) (n : ℕ) → n ≤ 16 → Writable (fields n) f → entry_count n f ≤ 16
-unfolding entry_count Writable
-entry_count_small none n s h = s
-entry_count_small (field m content inner rest) n s h = entry_count_small rest (m + 1) (omega (arith, h.1)) h.4
-
-pub length_entries : (f : Tree) (n d : ℕ) → Writable (fields n) f → length (entries n d f) ≡ 2 * (entry_count n f - n)
-unfolding entry_count Writable entries
-length_entries none n d h = omega arith
-length_entries (field m content inner rest) n d h =
-    let e = length_entries rest (m + 1) (d + 8) h.4 in
-    let u = entry_count_up rest (m + 1) h.4 in
-    let z = length-replicate {A = ℕ} (2 * (m - n)) 0 in
-    length-append (padding (2 * (m - n))) (little 2 d ++ entries (m + 1) (d + 8) rest)
-    ∙ rw (length-append (little 2 d) (entries (m + 1) (d + 8) rest), length_low_bytes 0 2 d) (omega (arith, e, u, z, h.0))
-
--- fields from h on, each in c bytes, and what they point to from p on
-pub record Stored (b : List ℕ) (c : ℕ) (f : Tree) (h p : ℕ) : Type 0 where
-  pub front : Has b h (inline_bytes c f h p)
-  pub behind : Has b p (targets f p)
-  pub apart : h + c * members f ≤ p
-  pub small : targets_end f p < 2 ^ 31
-  pub even : p % 4 ≡ 0
-
--- the vtable of the table at t has the entries of these fields, whose first is number n or above and stands at h
-pub record Entered (b : List ℕ) (t n h : ℕ) (f : Tree) : Type 0 where
-  pub vtable : ℕ
-  pub found : vtable_of b t ≡ Ok vtable
-  pub size : num b vtable 2 ≡ 4 + 2 * entry_count n f
-  pub ends : t + num b (vtable + 2) 2 ≡ h + 8 * members f
-  pub there : Has b (vtable + (4 + 2 * n)) (entries n (h - t) f)
-  pub above : t + 4 ≤ h
-  pub near : h ≤ t + 4 + 8 * n
-
--- the entry of a number that no field has is 0
-zero_entry : (b : List ℕ) (f : Tree) (v k d n : ℕ) → Writable (fields k) f → Has b (v + (4 + 2 * k)) (entries k d f) → (HasField n f → ⊥) → k ≤ n → n < entry_count k f → num b (v + (4 + 2 * n)) 2 ≡ 0
-unfolding entry_count Writable entries HasField
-zero_entry b none v k d n h e no_such low high = absurd (omega (arith, low, high))
-zero_entry b (field m content inner rest) v k d n h e no_such low high =
-    by (λ o f. zero_entry b rest v (m + 1) (d + 8) n h.4 f (λ i. no_such (inr i)) o high) (cases_order n m)
-  where
-    gap : Has b (v + (4 + 2 * k)) (padding (2 * (m - k)))
-    gap = has_left b _ (padding (2 * (m - k))) _ e
-
-    others : Has b (v + (4 + 2 * (m + 1))) (entries (m + 1) (d + 8) rest)
-    others =
-        let one = has_right b _ (padding (2 * (m - k))) _ e in
-        let two = has_right b _ (little 2 d) _ one in
-        has_at b _ (v + (4 + 2 * (m + 1))) _ (let z = length-replicate {A = ℕ} (2 * (m - k)) 0 in let y = length_low_bytes 0 2 d in omega (arith, z, y, h.0)) two
-
-    by : (m + 1 ≤ n → Has b (v + (4 + 2 * (m + 1))) (entries (m + 1) (d + 8) rest) → num b (v + (4 + 2 * n)) 2 ≡ 0) → (n ≡ m) ⊎ ((n < m) ⊎ (m < n)) → num b (v + (4 + 2 * n)) 2 ≡ 0
-    by go (inl same) = absurd (no_such (inl same))
-    by go (inr (inl below)) = subst (λ (x : ℕ). num b x 2 ≡ 0) (omega arith) (has_zero b (v + (4 + 2 * k)) (2 * (m - k)) (2 * (n - k)) (omega arith) gap)
-    by go (inr (inr over)) = go (omega arith) others
-
-absent_entry : (b : List ℕ) (f : Tree) (v n : ℕ) → Writable (fields 0) f → num b v 2 ≡ 4 + 2 * entry_count 0 f → Has b (v + 4) (entries 0 4 f) → (HasField n f → ⊥) → entry_of b v n ≡ 0
-absent_entry b f v n h size e no_such =
-    by (nat_le (6 + 2 * n) (num b v 2)) refl
-  where
-    by : (t : Bool) → nat_le (6 + 2 * n) (num b v 2) ≡ t → entry_of b v n ≡ 0
-    by false is = rw is refl
-    by true is = let big = leb-true (6 + 2 * n) (num b v 2) is in rw is (zero_entry b f v 0 4 n h e no_such (omega arith) (omega (arith, big, size)))
-
--- a multiple of 8 is one of each width that divides 8
-multiple : (h j w : ℕ) → h % 8 ≡ 0 → j * w ≡ 8 → h ≡ (h / 8 * j) * w
-multiple h j w e f =
-    let eighths : h ≡ h / 8 * 8 = omega arith in
-    eighths ∙ (ap (λ (x : ℕ). h / 8 * x) (sym f) ∙ sym (mul_assoc (h / 8) j w))
-
--- where the parts of a vtable at p and its table stand
-record Parts (b : List ℕ) (f : Tree) (p : ℕ) : Type 0 where
-  pub size : Has b p (little 2 (4 + 2 * entry_count 0 f))
-  pub inline_size : Has b (p + 2) (little 2 (4 + 8 * members f))
-  pub entered : Has b (p + 4) (entries 0 4 f)
-  pub back : Has b (table_place f p) (little 4 (table_place f p - p))
-  pub front : Has b (table_place f p + 4) (inline_bytes 8 f (table_place f p + 4) (inline_end f p))
-
-pub length_head : (f : Tree) (p : ℕ) → Writable (fields 0) f → length (head_bytes f p) ≡ table_place f p + 4 - p
-unfolding head_bytes
-length_head f p h =
-    let a = length_low_bytes 0 2 (4 + 2 * entry_count 0 f) in
-    let c = length_low_bytes 0 2 (4 + 8 * members f) in
-    let d = length_entries f 0 4 h in
-    let z = length-replicate {A = ℕ} (table_place f p - (p + 4 + 2 * entry_count 0 f)) 0 in
-    let t = length_low_bytes 0 4 (table_place f p - p) in
-    simp (length-append) (omega (arith, a, c, d, z, t))
-
-length_own : (f : Tree) (p : ℕ) → Writable (fields 0) f → length (own_bytes f p) ≡ inline_end f p - p
-unfolding own_bytes
-length_own f p h =
-    let l = length_head f p h in
-    let g = length_inline 8 f (table_place f p + 4) (inline_end f p) in
-    length-append (head_bytes f p) (inline_bytes 8 f (table_place f p + 4) (inline_end f p)) ∙ omega (arith, l, g)
-
-parts : (b : List ℕ) (f : Tree) (p : ℕ) → Writable (fields 0) f → Has b p (own_bytes f p) → Parts b f p
-unfolding own_bytes head_bytes
-parts b f p h e =
-    let l = length_head f p h in
-    let inline = inline_bytes 8 f (table_place f p + 4) (inline_end f p) in
-    let head = has_left b p (head_bytes f p) inline e in
-    let a = length_low_bytes 0 2 (4 + 2 * entry_count 0 f) in
-    let c = length_low_bytes 0 2 (4 + 8 * members f) in
-    let d = length_entries f 0 4 h in
-    let z = length-replicate {A = ℕ} (table_place f p - (p + 4 + 2 * entry_count 0 f)) 0 in
-    let one = has_right b _ (little 2 (4 + 2 * entry_count 0 f)) _ head in
-    let two = has_right b _ (little 2 (4 + 8 * members f)) _ one in
-    let three = has_right b _ (entries 0 4 f) _ two in
-    let four = has_right b _ (padding (table_place f p - (p + 4 + 2 * entry_count 0 f))) _ three in
-    record {
-      size = has_left b _ (little 2 (4 + 2 * entry_count 0 f)) _ head;
-      inline_size = has_at b _ (p + 2) _ (omega (arith, a)) (has_left b _ (little 2 (4 + 8 * members f)) _ one);
-      entered = has_at b _ (p + 4) _ (omega (arith, a, c)) (has_left b _ (entries 0 4 f) _ two);
-      back = has_at b _ (table_place f p) _ (omega (arith, a, c, d, z)) four;
-      front = has_at b _ (table_place f p + 4) _ (omega (arith, l)) (has_right b p (head_bytes f p) inline e);
-    }
-
--- a signed number that fits its width is, as the number of its bytes, below that power of 256
-signed_below : (w : Width) (z : ℤ) → FitsSigned w z → cast_unsigned w z < 256 ^ byte_len w
-signed_below w8 z f = (Fits-of_z f).fits
-signed_below w16 z f = (Fits-of_z f).fits
-signed_below w32 z f = (Fits-of_z f).fits
-signed_below w64 z f = (Fits-of_z f).fits
-signed_below w128 z f = (Fits-of_z f).fits
-
--- what stands in a field fits its width
-value_fits : (content : Content) (f : Tree) (h p : ℕ) → IsInRange content → target_end content f (targets_end f) p < 2 ^ 31 → inline_value content f h p < 256 ^ inline_width content
-value_fits (k.byte x) f h p fine small = fine
-value_fits (k.signed w z) f h p fine small = signed_below w z fine.0
-value_fits (k.string s) f h p fine small = omega arith
-value_fits (k.pairs xs) f h p fine small = omega arith
-value_fits k.table f h p fine small = let u = (ends_up f (inline_end f p)).more in omega (arith, u)
-value_fits k.tables f h p fine small = let u = (ends_up f (p + 4 + 4 * members f)).more in omega (arith, u)
-
-length_pairs : (xs : List (ℤ × ℤ)) → length (struct_bytes xs) ≡ 16 * length xs
-unfolding struct_bytes
-length_pairs [] = refl
-length_pairs (x ∷ xs) =
-    let l = length_low_bytes 0 8 (cast_unsigned w64 x.0) in
-    let m = length_low_bytes 0 8 (cast_unsigned w64 x.1) in
-    let e = length_pairs xs in
-    simp (length-append) (omega (arith, l, m, e))
-
--- the element of a vector is a table, which is in its range and writable below
-pub element_range : (content : Content) (f : Tree) → content ≡ k.table → Writable (fields 0) f → IsInRange content × Below content (λ s. Writable s f)
-element_range content f e h = subst (λ (x : Content). IsInRange x × Below x (λ s. Writable s f)) (sym e) (tt, h)
-
-pub target_length : (content : Content) (f : Tree) → Below content (λ s. Writable s f) → ((s : Role) (p : ℕ) → Writable s f → p + length (targets f p) ≡ targets_end f p) → (p : ℕ) → p + length (target_bytes content f (targets f) p) ≡ target_end content f (targets_end f) p
-target_length (k.byte x) f h below p = omega arith
-target_length (k.signed w z) f h below p = omega arith
-target_length (k.string s) f h below p =
-    let l = length_low_bytes 0 4 (length s) in
-    let z = length-replicate {A = ℕ} (string_end s p - (p + 5 + length s)) 0 in
-    simp (length-append) (omega (arith, l, z))
-target_length (k.pairs xs) f h below p =
-    let l = length_low_bytes 0 4 (length xs) in
-    let z = length-replicate {A = ℕ} (prefix_place p - p) 0 in
-    let m = length_pairs xs in
-    simp (length-append) (omega (arith, l, z, m))
-target_length k.table f h below p =
-    let l = length_own f p h in
-    let e = below (fields 0) (inline_end f p) h in
-    rw (length-append (own_bytes f p) (targets f (inline_end f p))) (omega (arith, l, e))
-target_length k.tables f h below p =
-    let q = p + 4 + 4 * members f in
-    let l = length_low_bytes 0 4 (members f) in
-    let m = length_inline 4 f (p + 4) q in
-    let e = below elements q h in
-    simp (length-append) (omega (arith, l, m, e))
-
-pub length_targets : (f : Tree) (s : Role) (p : ℕ) → Writable s f → p + length (targets f p) ≡ targets_end f p
-unfolding targets targets_end Writable
-length_targets none s p h = omega arith
-length_targets (field m content inner rest) (fields n) p h =
-    let q = target_end content inner (targets_end inner) p in
-    let i = target_length content inner h.3 (λ s p. length_targets inner s p) p in
-    let e = length_targets rest (fields (m + 1)) q h.4 in
-    rw (length-append (target_bytes content inner (targets inner) p) (targets rest q)) (omega (arith, i, e))
-length_targets (field m content inner rest) elements p h =
-    let q = target_end content inner (targets_end inner) p in
-    let i = target_length content inner (element_range content inner h.0 h.1).1 (λ s p. length_targets inner s p) p in
-    let e = length_targets rest elements q h.2 in
-    rw (length-append (target_bytes content inner (targets inner) p) (targets rest q)) (omega (arith, i, e))
+use Rattle.ipc_build.proofs.Lengths.{length_inline, entry_count_up, members_below, entry_count_small, Stored, Entered, absent_entry}
+use Rattle.ipc_build.proofs.Lengths.{multiple, Parts, length_own, parts, signed_below, value_fits, length_pairs, element_range}
+use Rattle.ipc_build.proofs.Lengths.{target_length, length_targets}
 
 module _ (P : ℕ → ℕ → Type 0) (b : List ℕ) (aligned : (w p q : ℕ) → p ≡ q * w → P w p) where
   pairs_lie : (xs : List (ℤ × ℤ)) (q : ℕ) → PairsFit xs → q % 8 ≡ 0 → Has b q (struct_bytes xs) → EncodesPairs P b q xs
@@ -228,8 +34,10 @@ module _ (P : ℕ → ℕ → Type 0) (b : List ℕ) (aligned : (w p q : ℕ) �
       let m = length_low_bytes 0 8 (cast_unsigned w64 x.1) in
       let one = has_right b q (little 8 (cast_unsigned w64 x.0)) _ h in
       let two = has_right b _ (little 8 (cast_unsigned w64 x.1)) _ one in (
-        ap (cast_signed w64) (has_num b q 8 (cast_unsigned w64 x.0) (signed_below w64 x.0 fine.0) (has_left b q (little 8 (cast_unsigned w64 x.0)) _ h)) ∙ to_z-of_z w64 x.0 fine.0,
-        ap (cast_signed w64) (has_num b (q + 8) 8 (cast_unsigned w64 x.1) (signed_below w64 x.1 fine.1) (has_at b _ (q + 8) _ (omega (arith, l)) (has_left b _ (little 8 (cast_unsigned w64 x.1)) _ one))) ∙ to_z-of_z w64 x.1 fine.1,
+        ap (cast_signed w64) (has_num b q 8 (cast_unsigned w64 x.0) (signed_below w64 x.0 fine.0)
+            (has_left b q (little 8 (cast_unsigned w64 x.0)) _ h)) ∙ to_z-of_z w64 x.0 fine.0,
+        ap (cast_signed w64) (has_num b (q + 8) 8 (cast_unsigned w64 x.1) (signed_below w64 x.1 fine.1)
+            (has_at b _ (q + 8) _ (omega (arith, l)) (has_left b _ (little 8 (cast_unsigned w64 x.1)) _ one))) ∙ to_z-of_z w64 x.1 fine.1,
         (aligned 8 q (q / 8) (omega arith), aligned 8 (q + 8) (q / 8 + 1) (omega arith)),
         pairs_lie xs (q + 16) fine.2 (omega arith) (has_at b _ (q + 16) _ (omega (arith, l, m)) two),
       )
@@ -240,11 +48,30 @@ module _ (P : ℕ → ℕ → Type 0) (b : List ℕ) (aligned : (w p q : ℕ) �
   abbrev InVector : Tree → Type 0
   InVector f = (q p : ℕ) → Writable elements f → Stored b 4 f q p → q % 4 ≡ 0 → EncodesTable P b (in_vector q) f
 
-  table_lies : (f : Tree) (p : ℕ) → Writable (fields 0) f → Has b p (own_bytes f p) → Has b (inline_end f p) (targets f (inline_end f p)) → targets_end f (inline_end f p) < 2 ^ 31 → p % 4 ≡ 0 → (vtable_of b (table_place f p) ≡ Ok p) × TableStands P b (table_place f p) f × Entered b (table_place f p) 0 (table_place f p + 4) f × Stored b 8 f (table_place f p + 4) (inline_end f p)
+  table_lies : (f : Tree) (p : ℕ) → Writable (fields 0) f → Has b p (own_bytes f p) → Has b (inline_end f p) (targets f (inline_end f p))
+      → targets_end f (inline_end f p) < 2 ^ 31 → p % 4 ≡ 0
+      → (vtable_of b (table_place f p) ≡ Ok p) × TableStands P b (table_place f p) f × Entered b (table_place f p) 0 (table_place f p + 4) f
+      × Stored b 8 f (table_place f p + 4) (inline_end f p)
   table_lies f p h head behind small even = (
     found,
-    record { vtable = p; found = found; holds = aligned 4 _ ((p + 4 + 2 * entry_count 0 f + 3) / 8 * 2 + 1) (omega arith); inside = omega (arith, inline_size, front_inside, front_length); entries = λ i j. aligned 2 _ (p / 2 + i) (omega arith); absent = λ n w no_such. slot_zero b _ p n w found (absent_entry b f p n h size ps.entered no_such) },
-    record { vtable = p; found = found; size = size; ends = omega (arith, inline_size); there = subst (λ (d : ℕ). Has b (p + 4) (entries 0 d f)) (omega arith) ps.entered; above = omega arith; near = omega arith },
+    record {
+      vtable = p;
+      found = found;
+      holds = aligned 4 _ ((p + 4 + 2 * entry_count 0 f + 3) / 8 * 2 + 1) (omega arith);
+      inside = omega (arith, inline_size, front_inside, front_length);
+      entries = λ i j. aligned 2 _ (p / 2 + i) (omega arith);
+      absent =
+          λ n w no_such. slot_zero b _ p n w found (absent_entry b f p n h size ps.entered no_such);
+    },
+    record {
+      vtable = p;
+      found = found;
+      size = size;
+      ends = omega (arith, inline_size);
+      there = subst (λ (d : ℕ). Has b (p + 4) (entries 0 d f)) (omega arith) ps.entered;
+      above = omega arith;
+      near = omega arith;
+    },
     record { front = ps.front; behind = behind; apart = omega arith; small = small; even = omega arith },
   )
     where
@@ -280,11 +107,16 @@ module _ (P : ℕ → ℕ → Type 0) (b : List ℕ) (aligned : (w p q : ℕ) �
 
       found : vtable_of b (table_place f p) ≡ Ok p
       found = subst (λ (x : ℕ). vtable_of b (table_place f p) ≡ Ok x) behind_it
-          (vtable_there b (table_place f p) (table_place f p - p) (4 + 2 * entry_count 0 f) back (omega (arith, up, small)) (omega arith) (subst (λ (x : ℕ). num b x 2 ≡ 4 + 2 * entry_count 0 f) (sym behind_it) size) (omega arith) (omega arith)
-          (let i = ps.back.inside in let l = length_low_bytes 0 4 (table_place f p - p) in omega (arith, i, l)) (let i = ps.back.inside in omega (arith, i)))
+          (vtable_there b (table_place f p) (table_place f p - p) (4 + 2 * entry_count 0 f) back (omega (arith, up, small)) (omega arith)
+          (subst (λ (x : ℕ). num b x 2 ≡ 4 + 2 * entry_count 0 f) (sym behind_it) size) (omega arith) (omega arith)
+          (let i = ps.back.inside in let l = length_low_bytes 0 4 (table_place f p - p) in omega (arith, i, l))
+          (let i = ps.back.inside in omega (arith, i)))
 
   -- where the right number stands at h, and the bytes of what it points to at p, this lies there
-  target_lies : (content : Content) (f : Tree) (h p : ℕ) → IsInRange content → Below content (λ s. Writable s f) → num b h (inline_width content) ≡ inline_value content f h p → h + 4 ≤ p → Has b p (target_bytes content f (targets f) p) → target_end content f (targets_end f) p < 2 ^ 31 → p % 4 ≡ 0 → InTable f → InVector f → EncodesTarget P b content f (λ there. EncodesTable P b there f) h
+  target_lies : (content : Content) (f : Tree) (h p : ℕ) → IsInRange content → Below content (λ s. Writable s f)
+      → num b h (inline_width content) ≡ inline_value content f h p → h + 4 ≤ p → Has b p (target_bytes content f (targets f) p)
+      → target_end content f (targets_end f) p < 2 ^ 31 → p % 4 ≡ 0 → InTable f → InVector f
+      → EncodesTarget P b content f (λ there. EncodesTable P b there f) h
   target_lies (k.byte x) f h p fine inner e apart there small even as_table as_vector = e
   target_lies (k.signed w z) f h p fine inner e apart there small even as_table as_vector = ap (cast_signed w) e ∙ to_z-of_z w z fine.0
   target_lies (k.string s) f h p fine inner e apart there small even as_table as_vector =
@@ -295,9 +127,17 @@ module _ (P : ℕ → ℕ → Type 0) (b : List ℕ) (aligned : (w p q : ℕ) �
       let zero_byte = has_left b (p + 4 + length s) (padding 1) _ (has_right b (p + 4) s _ tail) in
       let i = own.inside in
       let j : p + 4 + length s + 1 ≤ length b = zero_byte.inside in
-      let points_p : points b h ≡ Ok p = subst (λ (x : ℕ). points b h ≡ Ok x) (omega arith) (points_at b h (p - h) e (omega arith) (omega arith) (omega arith)) in
+      let points_p : points b h ≡ Ok p = subst (λ (x : ℕ). points b h ≡ Ok x) (omega arith)
+      (points_at b h (p - h) e (omega arith) (omega arith) (omega arith)) in
       let n = has_num b p 4 (length s) (omega arith) head in
-      record { start = p; points_there = points_p; holds = aligned 4 p (p / 4) (omega arith); text = string_there b s h (p + 4) (elements_there b h p (length s) 1 points_p n (omega arith) (omega arith)) own fine; closed = (omega (arith, j), has_num b _ 1 0 (omega arith) zero_byte) }
+      record {
+        start = p;
+        points_there = points_p;
+        holds = aligned 4 p (p / 4) (omega arith);
+        text = string_there b s h (p + 4) (elements_there b h p (length s) 1 points_p n (omega arith) (omega arith)) own fine;
+        closed =
+            (omega (arith, j), has_num b _ 1 0 (omega arith) zero_byte);
+      }
   target_lies (k.pairs xs) f h p fine inner e apart there small even as_table as_vector =
       let q = prefix_place p in
       let l = length_low_bytes 0 4 (length xs) in
@@ -307,8 +147,13 @@ module _ (P : ℕ → ℕ → Type 0) (b : List ℕ) (aligned : (w p q : ℕ) �
       let own = has_at b _ (q + 4) _ (omega (arith, l)) (has_right b q (little 4 (length xs)) _ one) in
       let i = own.inside in
       let m = length_pairs xs in
-      let points_q : points b h ≡ Ok q = subst (λ (x : ℕ). points b h ≡ Ok x) (omega arith) (points_at b h (q - h) e (omega arith) (omega arith) (omega arith)) in
-      (q, elements_there b h q (length xs) 16 points_q (has_num b q 4 (length xs) (omega arith) head) (omega arith) (omega arith), aligned 4 q ((p + 3) / 8 * 2 + 1) (omega arith), pairs_lie xs (q + 4) fine (omega arith) own)
+      let points_q : points b h ≡ Ok q = subst (λ (x : ℕ). points b h ≡ Ok x) (omega arith)
+      (points_at b h (q - h) e (omega arith) (omega arith) (omega arith)) in (
+        q,
+        elements_there b h q (length xs) 16 points_q (has_num b q 4 (length xs) (omega arith) head) (omega arith) (omega arith),
+        aligned 4 q ((p + 3) / 8 * 2 + 1) (omega arith),
+        pairs_lie xs (q + 4) fine (omega arith) own,
+      )
   target_lies k.table f h p fine inner e apart there small even as_table as_vector =
       let l = length_own f p inner in
       let u = (ends_up f (inline_end f p)).more in
@@ -316,8 +161,14 @@ module _ (P : ℕ → ℕ → Type 0) (b : List ℕ) (aligned : (w p q : ℕ) �
       let rest = has_at b _ (inline_end f p) _ (omega (arith, l)) (has_right b p (own_bytes f p) _ there) in
       let t = table_lies f p inner head rest small even in
       let i = rest.inside in
-      let points_t : points b h ≡ Ok (table_place f p) = subst (λ (x : ℕ). points b h ≡ Ok x) (omega arith) (points_at b h (table_place f p - h) e (omega arith) (omega arith) (omega arith)) in
-      (table_place f p, table_there b h (table_place f p) p points_t t.0, t.1, as_table (table_place f p) 0 (table_place f p + 4) (inline_end f p) inner t.2 t.3 (omega arith))
+      let points_t : points b h ≡ Ok (table_place f p) =
+      subst (λ (x : ℕ). points b h ≡ Ok x) (omega arith)
+      (points_at b h (table_place f p - h) e (omega arith) (omega arith) (omega arith)) in (
+        table_place f p,
+        table_there b h (table_place f p) p points_t t.0,
+        t.1,
+        as_table (table_place f p) 0 (table_place f p + 4) (inline_end f p) inner t.2 t.3 (omega arith),
+      )
   target_lies k.tables f h p fine inner e apart there small even as_table as_vector =
       let l = length_low_bytes 0 4 (members f) in
       let q = p + 4 + 4 * members f in
@@ -328,11 +179,13 @@ module _ (P : ℕ → ℕ → Type 0) (b : List ℕ) (aligned : (w p q : ℕ) �
       let front = has_left b (p + 4) (inline_bytes 4 f (p + 4) q) _ tail in
       let behind = has_at b _ q _ (omega (arith, m)) (has_right b (p + 4) (inline_bytes 4 f (p + 4) q) _ tail) in
       let i = behind.inside in
-      let points_p : points b h ≡ Ok p = subst (λ (x : ℕ). points b h ≡ Ok x) (omega arith) (points_at b h (p - h) e (omega arith) (omega arith) (omega arith)) in (
+      let points_p : points b h ≡ Ok p = subst (λ (x : ℕ). points b h ≡ Ok x) (omega arith)
+      (points_at b h (p - h) e (omega arith) (omega arith) (omega arith)) in (
         p,
         elements_there b h p (members f) 4 points_p (has_num b p 4 (members f) (omega (arith, u, small)) head) (omega arith) (omega arith),
         aligned 4 p (p / 4) (omega arith),
-        as_vector (p + 4) q inner (record { front = front; behind = behind; apart = omega arith; small = small; even = omega arith }) (omega arith),
+        as_vector (p + 4) q inner (record { front = front; behind = behind; apart = omega arith; small = small; even = omega arith })
+            (omega arith),
       )
 
   -- a width divides 8
@@ -348,14 +201,17 @@ module _ (P : ℕ → ℕ → Type 0) (b : List ℕ) (aligned : (w p q : ℕ) �
   at_most_8 zero w e = absurd (omega arith)
   at_most_8 (suc j) w e = omega arith
 
-  in_table_more : (m : ℕ) (content : Content) (inner rest : Tree) → InTable inner → InVector inner → InTable rest → InTable (field m content inner rest)
+  in_table_more : (m : ℕ) (content : Content) (inner rest : Tree) → InTable inner → InVector inner → InTable rest
+      → InTable (field m content inner rest)
   unfolding EncodesTable Writable inline_bytes targets entries entry_count members targets_end
   in_table_more m content inner rest inner_table inner_vector rest_table t n h p writable entered stored even = (
     (
       h,
       (found_h, (entered.vtable, entered.found, omega (arith, ends, narrow))),
       aligned (inline_width content) h (h / 8 * wide.0) (multiple h wide.0 (inline_width content) even wide.1),
-      target_lies content inner h p writable.2 writable.3 (has_narrow b h 8 (inline_width content) x narrow fits own) (omega (arith, apart)) (has_left b p (target_bytes content inner (targets inner) p) _ behind) (omega (arith, up, small)) stored.even inner_table inner_vector,
+      target_lies content inner h p writable.2 writable.3 (has_narrow b h 8 (inline_width content) x narrow fits own) (omega (arith, apart))
+          (has_left b p (target_bytes content inner (targets inner) p) _ behind)
+          (omega (arith, up, small)) stored.even inner_table inner_vector,
     ),
     rest_table t (m + 1) (h + 8) q writable.4
         (record {
@@ -369,7 +225,8 @@ module _ (P : ℕ → ℕ → Type 0) (b : List ℕ) (aligned : (w p q : ℕ) �
         })
         (record {
           front = has_at b _ (h + 8) _ (omega (arith, lx)) (has_right b h (little 8 x) _ front);
-          behind = has_at b _ q _ (target_length content inner writable.3 (λ s r. length_targets inner s r) p) (has_right b p (target_bytes content inner (targets inner) p) _ behind);
+          behind = has_at b _ q _ (target_length content inner writable.3 (λ s r. length_targets inner s r) p)
+              (has_right b p (target_bytes content inner (targets inner) p) _ behind);
           apart = omega (arith, apart, more.more);
           small = small;
           even = more.even stored.even;
@@ -429,7 +286,8 @@ module _ (P : ℕ → ℕ → Type 0) (b : List ℕ) (aligned : (w p q : ℕ) �
       there = entered.there
 
       here : Has b (entered.vtable + (4 + 2 * m)) (little 2 (h - t) ++ entries (m + 1) (h - t + 8) rest)
-      here = let z = length-replicate {A = ℕ} (2 * (m - n)) 0 in has_at b _ _ _ (omega (arith, z, writable.0)) (has_right b _ (padding (2 * (m - n))) _ there)
+      here = let z = length-replicate {A = ℕ} (2 * (m - n)) 0 in has_at b _ _ _ (omega (arith, z, writable.0))
+          (has_right b _ (padding (2 * (m - n))) _ there)
 
       next : Has b (entered.vtable + (4 + 2 * (m + 1))) (entries (m + 1) (h - t + 8) rest)
       next = let l = length_low_bytes 0 2 (h - t) in has_at b _ _ _ (omega (arith, l)) (has_right b _ (little 2 (h - t)) _ here)
@@ -442,21 +300,28 @@ module _ (P : ℕ → ℕ → Type 0) (b : List ℕ) (aligned : (w p q : ℕ) �
 
       found_h : slot_of b t m (inline_width content) ≡ Ok (Some h)
       found_h = subst (λ (z : ℕ). slot_of b t m (inline_width content) ≡ Ok (Some z)) (omega (arith, above))
-          (slot_found b t entered.vtable m (inline_width content) (h - t) entered.found (let s = entered.size in omega (arith, s, tops)) entry (omega (arith, above)) (let i = own.inside in omega (arith, i, lx, narrow, above)))
+          (slot_found b t entered.vtable m (inline_width content) (h - t) entered.found
+          (let s = entered.size in omega (arith, s, tops)) entry (omega (arith, above))
+          (let i = own.inside in omega (arith, i, lx, narrow, above)))
 
-  in_vector_more : (m : ℕ) (content : Content) (inner rest : Tree) → InTable inner → InVector inner → InVector rest → InVector (field m content inner rest)
+  in_vector_more : (m : ℕ) (content : Content) (inner rest : Tree) → InTable inner → InVector inner → InVector rest
+      → InVector (field m content inner rest)
   unfolding EncodesTable Writable inline_bytes targets members targets_end
   in_vector_more m content inner rest inner_table inner_vector rest_vector h p writable stored even = (
     (
       h,
       refl,
       subst (λ (w : ℕ). P w h) (sym four) (aligned 4 h (h / 4) (omega arith)),
-      target_lies content inner h p fine.0 fine.1 (subst (λ (w : ℕ). num b h w ≡ x) (sym four) (has_num b h 4 x (subst (λ (w : ℕ). x < 256 ^ w) four fits) own)) (omega (arith, apart)) (has_left b p (target_bytes content inner (targets inner) p) _ behind) (omega (arith, up, small)) stored.even inner_table inner_vector,
+      target_lies content inner h p fine.0 fine.1
+          (subst (λ (w : ℕ). num b h w ≡ x) (sym four) (has_num b h 4 x (subst (λ (w : ℕ). x < 256 ^ w) four fits) own))
+          (omega (arith, apart)) (has_left b p (target_bytes content inner (targets inner) p) _ behind)
+          (omega (arith, up, small)) stored.even inner_table inner_vector,
     ),
     rest_vector (h + 4) q writable.2
         (record {
           front = has_at b _ (h + 4) _ (omega (arith, lx)) (has_right b h (little 4 x) _ front);
-          behind = has_at b _ q _ (target_length content inner fine.1 (λ s r. length_targets inner s r) p) (has_right b p (target_bytes content inner (targets inner) p) _ behind);
+          behind = has_at b _ q _ (target_length content inner fine.1 (λ s r. length_targets inner s r) p)
+              (has_right b p (target_bytes content inner (targets inner) p) _ behind);
           apart = omega (arith, apart, more.more);
           small = small;
           even = more.even stored.even;
@@ -513,4 +378,7 @@ module _ (P : ℕ → ℕ → Type 0) (b : List ℕ) (aligned : (w p q : ℕ) �
   placed (field m content inner rest) =
       let i = placed inner in
       let r = placed rest in
-      record { in_a_table = in_table_more m content inner rest i.in_a_table i.in_a_vector r.in_a_table; in_a_vector = in_vector_more m content inner rest i.in_a_table i.in_a_vector r.in_a_vector }
+      record {
+        in_a_table = in_table_more m content inner rest i.in_a_table i.in_a_vector r.in_a_table;
+        in_a_vector = in_vector_more m content inner rest i.in_a_table i.in_a_vector r.in_a_vector;
+      }

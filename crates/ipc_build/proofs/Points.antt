@@ -1,5 +1,6 @@
 -- What reading finds where the right bytes stand.
-use Rattle.std.proofs.Common.{◌≡◌, ℕ, zero, suc, ◌+◌, ◌-◌, ◌*◌, ◌%◌, ◌^◌, ◌≤◌, ◌<◌, true, false, ◌==◌, List, length, Some, None, Ok, le-leb, refl, arith, pos}
+use Rattle.std.proofs.Common.{◌≡◌, ℕ, zero, suc, ◌+◌, ◌-◌, ◌*◌, ◌%◌, ◌^◌, ◌≤◌, ◌<◌, true, false, ◌==◌, List, length, Some, None, Ok, le-leb}
+use Rattle.std.proofs.Common.{refl, arith, pos}
 use Rattle.std.specs.Int.{w32, cast_signed}
 use Rattle.std.specs.Str.{is_utf8}
 use Rattle.std.proofs.Math.Dec.{eqb-suc-zero}
@@ -11,9 +12,11 @@ positive : (d : ℕ) → 0 < d → (d == 0) ≡ false
 positive zero h = absurd (omega arith)
 positive (suc d) h = eqb-suc-zero d
 
-pub slot_found : (b : List ℕ) (t v n w d : ℕ) → vtable_of b t ≡ Ok v → 6 + 2 * n ≤ num b v 2 → num b (v + (4 + 2 * n)) 2 ≡ d → 0 < d → t + d + w ≤ length b → slot_of b t n w ≡ Ok (Some (t + d))
+pub slot_found : (b : List ℕ) (t v n w d : ℕ) → vtable_of b t ≡ Ok v → 6 + 2 * n ≤ num b v 2 → num b (v + (4 + 2 * n)) 2 ≡ d → 0 < d
+    → t + d + w ≤ length b → slot_of b t n w ≡ Ok (Some (t + d))
 unfolding slot_of
-slot_found b t v n w d hv big hd some inside = rw (hv, le-leb (6 + 2 * n) (num b v 2) big, hd, positive d some, le-leb (t + d + w) (length b) inside) refl
+slot_found b t v n w d hv big hd some inside =
+    rw (hv, le-leb (6 + 2 * n) (num b v 2) big, hd, positive d some, le-leb (t + d + w) (length b) inside) refl
 
 pub slot_zero : (b : List ℕ) (t v n w : ℕ) → vtable_of b t ≡ Ok v → entry_of b v n ≡ 0 → slot_of b t n w ≡ Ok None
 unfolding slot_of
@@ -27,7 +30,8 @@ pub table_there : (b : List ℕ) (h t v : ℕ) → points b h ≡ Ok t → vtabl
 unfolding table_of
 table_there b h t v e f = rw (e, f) refl
 
-pub elements_there : (b : List ℕ) (h q n w : ℕ) → points b h ≡ Ok q → num b q 4 ≡ n → q + 4 ≤ length b → q + 4 + n * w ≤ length b → elements_of b h w ≡ Ok (q + 4, n)
+pub elements_there : (b : List ℕ) (h q n w : ℕ) → points b h ≡ Ok q → num b q 4 ≡ n → q + 4 ≤ length b → q + 4 + n * w ≤ length b
+    → elements_of b h w ≡ Ok (q + 4, n)
 unfolding elements_of
 elements_there b h q n w e f inside all = rw (e, le-leb (q + 4) (length b) inside, f, le-leb (q + 4 + n * w) (length b) all) refl
 
@@ -38,7 +42,18 @@ string_there b s h q e f u = rw (e, has_slice b q s f, u) refl
 signed_small : (s : ℕ) → s < 2 ^ 31 → cast_signed w32 s ≡ pos s
 signed_small s h = let small : suc s ≤ 2147483648 = omega arith in rw (le-leb (suc s) 2147483648 small) refl
 
-pub vtable_there : (b : List ℕ) (t s size : ℕ) → num b t 4 ≡ s → s < 2 ^ 31 → s ≤ t → num b (t - s) 2 ≡ size → 4 ≤ size → size % 2 ≡ 0 → t + 4 ≤ length b → (t - s) + size ≤ length b → vtable_of b t ≡ Ok (t - s)
+pub vtable_there : (b : List ℕ) (t s size : ℕ) → num b t 4 ≡ s → s < 2 ^ 31 → s ≤ t → num b (t - s) 2 ≡ size → 4 ≤ size → size % 2 ≡ 0
+    → t + 4 ≤ length b → (t - s) + size ≤ length b → vtable_of b t ≡ Ok (t - s)
 unfolding vtable_of
 vtable_there b t s size e small back f four even inside all =
-    rw (le-leb (t + 4) (length b) inside, e, signed_small s small, le-leb s t back, le-leb (t - s + 2) (length b) (omega arith), f, le-leb 4 size four, even, le-leb (t - s + size) (length b) all) refl
+    rw (
+      le-leb (t + 4) (length b) inside,
+      e,
+      signed_small s small,
+      le-leb s t back,
+      le-leb (t - s + 2) (length b) (omega arith),
+      f,
+      le-leb 4 size four,
+      even,
+      le-leb (t - s + size) (length b) all,
+    ) refl

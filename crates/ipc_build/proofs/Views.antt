@@ -5,7 +5,8 @@ use Rattle.ipc_build.specs.declared.tree.Slot.{Slot}
 use Rattle.ipc_build.specs.declared.tree.Slot.TheVariants as v
 use Rattle.ipc_build.specs.Trees.{Tree, Node, none, field, fields_of, tables_of, slot_step, tree_step, node, view, fields_view, tables_view}
 use Rattle.ipc_build.specs.Trees as k
-use Rattle.ipc_build.specs.Layout.{members, targets_end, target_end, prefix_place, inline_end, weight, little, inline_bytes, targets, target_bytes}
+use Rattle.ipc_build.specs.Layout.{members, targets_end, target_end, prefix_place, inline_end, weight, little, inline_bytes, targets}
+use Rattle.ipc_build.specs.Layout.{target_bytes}
 use Rattle.ipc_build.proofs.Nodes.{tables_is, pairs_is}
 use Rattle.ipc_build.proofs.Upward.{ends_up}
 use Rattle.std.proofs.Common.{◌<◌, ◌≤◌, ◌*◌, drop, get_or, suc, add-one, drop-cons, zero, ◌++◌}
@@ -21,44 +22,57 @@ unfolding members
 members_tables [] = refl
 members_tables (x ∷ xs) = let e = members_tables xs in omega (arith, e)
 
-pub tables_need : (s : Slot) (ts us : List FlatTree) (p : ℕ) → s ≡ v.Tables ts → us ≡ ts → target_end (node s).0 (node s).1 (targets_end (node s).1) p ≡ targets_end (tables_view us) (p + 4 + 4 * length us)
+pub tables_need : (s : Slot) (ts us : List FlatTree) (p : ℕ) → s ≡ v.Tables ts → us ≡ ts
+    → target_end (node s).0 (node s).1 (targets_end (node s).1) p ≡ targets_end (tables_view us) (p + 4 + 4 * length us)
 tables_need s ts us p e f =
-    let i : node s ≡ (k.tables, tables_view us) = ap node e ∙ (tables_is ts ∙ ap (λ (xs : List FlatTree). (k.tables, tables_view xs)) (sym f)) in
-    ap (λ (x : Node). target_end x.0 x.1 (targets_end x.1) p) i ∙ ap (λ (n : ℕ). targets_end (tables_view us) (p + 4 + 4 * n)) (members_tables us)
+    let i : node s ≡ (k.tables, tables_view us) =
+    ap node e ∙ (tables_is ts ∙ ap (λ (xs : List FlatTree). (k.tables, tables_view xs)) (sym f)) in
+    ap (λ (x : Node). target_end x.0 x.1 (targets_end x.1) p) i
+    ∙ ap (λ (n : ℕ). targets_end (tables_view us) (p + 4 + 4 * n)) (members_tables us)
 
 pub front : {X : Type 0} (xs : List X) (i : ℕ) (x : X) → x ≡ get_or xs i x → i < length xs → drop i xs ≡ x ∷ drop (i + 1) xs
 front xs i x e h = rw (add-one) (drop-cons xs i x h ∙ ap (λ y. y ∷ drop (suc i) xs) (sym e))
 
-pub fields_bound : (xs : List (ℕ × Slot)) (i : ℕ) (x : ℕ × Slot) (p n : ℕ) → x ≡ get_or xs i x → i < length xs → targets_end (fields_view (drop i xs)) p ≡ n → target_end (node x.1).0 (node x.1).1 (targets_end (node x.1).1) p ≤ n
+pub fields_bound : (xs : List (ℕ × Slot)) (i : ℕ) (x : ℕ × Slot) (p n : ℕ) → x ≡ get_or xs i x → i < length xs
+    → targets_end (fields_view (drop i xs)) p ≡ n → target_end (node x.1).0 (node x.1).1 (targets_end (node x.1).1) p ≤ n
 unfolding targets_end
 fields_bound xs i x p n e h f =
     let u = (ends_up (fields_view (drop (i + 1) xs)) (target_end (node x.1).0 (node x.1).1 (targets_end (node x.1).1) p)).more in
-    let g : targets_end (fields_view (drop i xs)) p ≡ targets_end (fields_view (drop (i + 1) xs)) (target_end (node x.1).0 (node x.1).1 (targets_end (node x.1).1) p) = ap (λ (ys : List (ℕ × Slot)). targets_end (fields_view ys) p) (front xs i x e h) in
+    let g : targets_end (fields_view (drop i xs)) p
+    ≡ targets_end (fields_view (drop (i + 1) xs)) (target_end (node x.1).0 (node x.1).1 (targets_end (node x.1).1) p) =
+    ap (λ (ys : List (ℕ × Slot)). targets_end (fields_view ys) p) (front xs i x e h) in
     omega (arith, u, g, f)
 
-pub tables_bound : (xs : List FlatTree) (i : ℕ) (x : FlatTree) (p n : ℕ) → x ≡ get_or xs i x → i < length xs → targets_end (tables_view (drop i xs)) p ≡ n → targets_end (view x) (inline_end (view x) p) ≤ n
+pub tables_bound : (xs : List FlatTree) (i : ℕ) (x : FlatTree) (p n : ℕ) → x ≡ get_or xs i x → i < length xs
+    → targets_end (tables_view (drop i xs)) p ≡ n → targets_end (view x) (inline_end (view x) p) ≤ n
 unfolding targets_end
 tables_bound xs i x p n e h f =
     let u = (ends_up (tables_view (drop (i + 1) xs)) (targets_end (view x) (inline_end (view x) p))).more in
-    let g : targets_end (tables_view (drop i xs)) p ≡ targets_end (tables_view (drop (i + 1) xs)) (targets_end (view x) (inline_end (view x) p)) = ap (λ (ys : List FlatTree). targets_end (tables_view ys) p) (front xs i x e h) in
+    let g : targets_end (tables_view (drop i xs)) p
+    ≡ targets_end (tables_view (drop (i + 1) xs)) (targets_end (view x) (inline_end (view x) p)) =
+    ap (λ (ys : List FlatTree). targets_end (tables_view ys) p) (front xs i x e h) in
     omega (arith, u, g, f)
 
-pub fields_weight : (xs : List (ℕ × Slot)) (i : ℕ) (d : ℕ × Slot) → i < length xs → weight (node (get_or xs i d).1).1 + 3 ≤ weight (fields_view xs)
+pub fields_weight : (xs : List (ℕ × Slot)) (i : ℕ) (d : ℕ × Slot) → i < length xs
+    → weight (node (get_or xs i d).1).1 + 3 ≤ weight (fields_view xs)
 unfolding weight
 fields_weight [] i d h = absurd (omega arith)
 fields_weight (x ∷ xs) zero d h = omega arith
 fields_weight (x ∷ xs) (suc i) d h = let e = fields_weight xs i d (omega arith) in omega (arith, e)
 
-pub tables_weight : (xs : List FlatTree) (i : ℕ) (d : FlatTree) → i < length xs → weight (view (get_or xs i d)) + 3 ≤ weight (tables_view xs)
+pub tables_weight : (xs : List FlatTree) (i : ℕ) (d : FlatTree) → i < length xs
+    → weight (view (get_or xs i d)) + 3 ≤ weight (tables_view xs)
 unfolding weight
 tables_weight [] i d h = absurd (omega arith)
 tables_weight (x ∷ xs) zero d h = omega arith
 tables_weight (x ∷ xs) (suc i) d h = let e = tables_weight xs i d (omega arith) in omega (arith, e)
 
 pub tables_below : (s : Slot) (ts us : List FlatTree) → s ≡ v.Tables ts → us ≡ ts → weight (node s).1 ≡ weight (tables_view us)
-tables_below s ts us e f = ap (λ (x : Slot). weight (node x).1) e ∙ (ap (λ (x : Node). weight x.1) (tables_is ts) ∙ ap (λ (xs : List FlatTree). weight (tables_view xs)) (sym f))
+tables_below s ts us e f = ap (λ (x : Slot). weight (node x).1) e
+    ∙ (ap (λ (x : Node). weight x.1) (tables_is ts) ∙ ap (λ (xs : List FlatTree). weight (tables_view xs)) (sym f))
 
-pub pairs_need : (s : Slot) (xs ys : List (ℤ × ℤ)) (p : ℕ) → s ≡ v.Pairs xs → ys ≡ xs → target_end (node s).0 (node s).1 (targets_end (node s).1) p ≡ prefix_place p + 4 + 16 * length ys
+pub pairs_need : (s : Slot) (xs ys : List (ℤ × ℤ)) (p : ℕ) → s ≡ v.Pairs xs → ys ≡ xs
+    → target_end (node s).0 (node s).1 (targets_end (node s).1) p ≡ prefix_place p + 4 + 16 * length ys
 pairs_need s xs ys p e f =
     let i : node s ≡ (k.pairs xs, none) = ap node e ∙ pairs_is xs in
     ap (λ (x : Node). target_end x.0 x.1 (targets_end x.1) p) i ∙ ap (λ (n : ℕ). prefix_place p + 4 + 16 * n) (ap length (sym f))
@@ -66,10 +80,16 @@ pairs_need s xs ys p e f =
 pub vector_up : (xs : List FlatTree) (p n : ℕ) → targets_end (tables_view xs) p < n → p < n
 vector_up xs p n h = let u = (ends_up (tables_view xs) p).more in omega (arith, u, h)
 
-pub tables_bytes : (s : Slot) (ts us : List FlatTree) (p : ℕ) → s ≡ v.Tables ts → us ≡ ts → target_bytes (node s).0 (node s).1 (targets (node s).1) p ≡ little 4 (length us) ++ (inline_bytes 4 (tables_view us) (p + 4) (p + 4 + 4 * length us) ++ targets (tables_view us) (p + 4 + 4 * length us))
+pub tables_bytes : (s : Slot) (ts us : List FlatTree) (p : ℕ) → s ≡ v.Tables ts → us ≡ ts
+    → target_bytes (node s).0 (node s).1 (targets (node s).1) p
+    ≡ little 4 (length us) ++ (inline_bytes 4 (tables_view us) (p + 4) (p + 4 + 4 * length us)
+    ++ targets (tables_view us) (p + 4 + 4 * length us))
 tables_bytes s ts us p e f =
-    let i : node s ≡ (k.tables, tables_view us) = ap node e ∙ (tables_is ts ∙ ap (λ (xs : List FlatTree). (k.tables, tables_view xs)) (sym f)) in
-    ap (λ (x : Node). target_bytes x.0 x.1 (targets x.1) p) i ∙ ap (λ (n : ℕ). little 4 n ++ (inline_bytes 4 (tables_view us) (p + 4) (p + 4 + 4 * n) ++ targets (tables_view us) (p + 4 + 4 * n))) (members_tables us)
+    let i : node s ≡ (k.tables, tables_view us) =
+    ap node e ∙ (tables_is ts ∙ ap (λ (xs : List FlatTree). (k.tables, tables_view xs)) (sym f)) in
+    ap (λ (x : Node). target_bytes x.0 x.1 (targets x.1) p) i
+    ∙ ap (λ (n : ℕ). little 4 n ++ (inline_bytes 4 (tables_view us) (p + 4) (p + 4 + 4 * n)
+    ++ targets (tables_view us) (p + 4 + 4 * n))) (members_tables us)
 
 -- an element that is there is the same for every default
 pub same_or : {X : Type 0} (xs : List X) (i : ℕ) (d e : X) → i < length xs → get_or xs i d ≡ get_or xs i e

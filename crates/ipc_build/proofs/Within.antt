@@ -7,9 +7,11 @@ use Rattle.ipc_build.specs.Ascends.{Role, fields, elements, Below, Writable}
 use Rattle.ipc_build.specs.Room.{target_room, targets_room, room}
 use Rattle.ipc_build.proofs.Upward.{target_ends_up}
 use Rattle.ipc_build.proofs.Buffers.{writable_vector}
-use Rattle.ipc_build.proofs.Placed.{element_range, members_below}
+use Rattle.ipc_build.proofs.Lengths.{element_range, members_below}
 
-target_within : (content : Content) (f : Tree) (p : ℕ) → Below content (λ s. Writable s f) → ((s : Role) (q : ℕ) → Writable s f → q % 4 ≡ 0 → targets_end f q ≤ q + targets_room f) → p % 4 ≡ 0 → target_end content f (targets_end f) p ≤ p + target_room content f (targets_room f)
+target_within : (content : Content) (f : Tree) (p : ℕ) → Below content (λ s. Writable s f)
+    → ((s : Role) (q : ℕ) → Writable s f → q % 4 ≡ 0 → targets_end f q ≤ q + targets_room f) → p % 4 ≡ 0
+    → target_end content f (targets_end f) p ≤ p + target_room content f (targets_room f)
 target_within (k.byte x) f p h below even = omega arith
 target_within (k.signed w z) f p h below even = omega arith
 target_within (k.string s) f p h below even = omega arith
@@ -27,7 +29,8 @@ unfolding targets_end Writable targets_room
 within none s p h even = omega arith
 within (field m content inner rest) (fields n) p h even =
     let i = target_within content inner p h.3 (λ s q. within inner s q) even in
-    let e = within rest (fields (m + 1)) (target_end content inner (targets_end inner) p) h.4 ((target_ends_up content inner p).even even) in
+    let e = within rest (fields (m + 1)) (target_end content inner (targets_end inner) p) h.4
+    ((target_ends_up content inner p).even even) in
     omega (arith, i, e)
 within (field m content inner rest) elements p h even =
     let i = target_within content inner p (element_range content inner h.0 h.1).1 (λ s q. within inner s q) even in

@@ -6,7 +6,8 @@ use Rattle.std.specs.Str.{is_utf8}
 use Rattle.ipc_build.specs.Trees.{Content, Tree, none, field}
 use Rattle.ipc_build.specs.Trees as k
 
--- what a list of fields is: those of a table from some number on, or the elements of a vector of tables
+-- what a list of fields is: those of a table from some number on, or the elements of a vector of
+-- tables
 pub data Role : Type 0 where
   fields : ℕ → Role
   elements : Role
@@ -17,11 +18,14 @@ Below k.table says = says (fields 0)
 Below k.tables says = says elements
 Below _ says = ⊤
 
--- in each table the fields' numbers ascend, none is below the first that is allowed, and all are below 16
+-- in each table the fields' numbers ascend, none is below the first that is allowed, and all are
+-- below 16
 unfoldable pub Ascends : Role → Tree → Type 0
 Ascends s none = ⊤
-Ascends (fields n) (field m content inner rest) = (n ≤ m) × (m < 16) × Below content (λ s. Ascends s inner) × Ascends (fields (m + 1)) rest
-Ascends elements (field m content inner rest) = (content ≡ k.table) × Ascends (fields 0) inner × Ascends elements rest
+Ascends (fields n) (field m content inner rest) =
+    (n ≤ m) × (m < 16) × Below content (λ s. Ascends s inner) × Ascends (fields (m + 1)) rest
+Ascends elements (field m content inner rest) =
+    (content ≡ k.table) × Ascends (fields 0) inner × Ascends elements rest
 
 -- each number of these structs fits 64 bits, signed
 abbrev pub PairsFit : List (ℤ × ℤ) → Type 0
@@ -44,5 +48,8 @@ InRange (field m content inner rest) = IsInRange content × InRange inner × InR
 -- both at once, which is all that the layout asks for
 unfoldable pub Writable : Role → Tree → Type 0
 Writable s none = ⊤
-Writable (fields n) (field m content inner rest) = (n ≤ m) × (m < 16) × IsInRange content × Below content (λ s. Writable s inner) × Writable (fields (m + 1)) rest
-Writable elements (field m content inner rest) = (content ≡ k.table) × Writable (fields 0) inner × Writable elements rest
+Writable (fields n) (field m content inner rest) =
+    (n ≤ m) × (m < 16) × IsInRange content × Below content (λ s. Writable s inner)
+    × Writable (fields (m + 1)) rest
+Writable elements (field m content inner rest) =
+    (content ≡ k.table) × Writable (fields 0) inner × Writable elements rest

@@ -1,6 +1,8 @@
--- When a tree lies in bytes b, in the words by which b is read (FlatBuffers binary format, "Tables", "Strings and Vectors", "Structs"). P is asked of the width and the place of every number there:
--- scalars, offsets, counts, a vtable's entries.
-use Rattle.std.specs.Prelude.{ℤ, ℕ, ◌+◌, ◌*◌, ◌<◌, ◌≤◌, ◌≡◌, ◌⊎◌, List, [], ◌∷◌, length, Some, None, Ok, ⊤}
+-- When a tree lies in bytes b, in the words by which b is read (FlatBuffers binary format,
+-- "Tables", "Strings and Vectors", "Structs"). P is asked of the width and the place of every
+-- number there: scalars, offsets, counts, a vtable's entries.
+use Rattle.std.specs.Prelude.{ℤ, ℕ, ◌+◌, ◌*◌, ◌<◌, ◌≤◌, ◌≡◌, ◌⊎◌, List, [], ◌∷◌, length, Some, None}
+use Rattle.std.specs.Prelude.{Ok, ⊤}
 use Rattle.std.specs.Int.{byte_len, cast_signed}
 use Rattle.ipc_scalar.specs.Bytes.{num, byte, int64}
 use Rattle.ipc_scalar.specs.Flat.{vtable_of, slot_of, points, table_of, elements_of, text_of}
@@ -13,7 +15,8 @@ unfoldable pub HasField : ℕ → Tree → Type 0
 HasField n none = ⊥
 HasField n (field m content inner rest) = (n ≡ m) ⊎ HasField n rest
 
--- what fields stand in: the table at a place, or the rest of a vector of tables, whose next offset is at a place
+-- what fields stand in: the table at a place, or the rest of a vector of tables, whose next offset
+-- is at a place
 pub data Holder : Type 0 where
   in_table : ℕ → Holder
   in_vector : ℕ → Holder
@@ -29,23 +32,27 @@ inline_width (k.byte x) = 1
 inline_width (k.signed w z) = byte_len w
 inline_width _ = 4
 
--- "Tables": the second number of the vtable at v is the size of the table's inline part, and so the one at t ends there
+-- "Tables": the second number of the vtable at v is the size of the table's inline part, and so the
+-- one at t ends there
 abbrev pub inline_end_of : List ℕ → ℕ → ℕ → ℕ
 inline_end_of b v t = t + num b (v + 2) 2
 
 module _ (P : ℕ → ℕ → Type 0) (b : List ℕ) where
-  -- "Tables", "Strings and Vectors": field n, of w bytes, is at p and ends within the table's inline part; or the next offset of a vector
-  -- is at p
+  -- "Tables", "Strings and Vectors": field n, of w bytes, is at p and ends within the table's
+  -- inline part; or the next offset of a vector is at p
   abbrev pub StandsAt : Holder → ℕ → ℕ → ℕ → Type 0
-  StandsAt (in_table t) n w p = (slot_of b t n w ≡ Ok (Some p)) × ((v : ℕ) × (vtable_of b t ≡ Ok v) × (p + w ≤ inline_end_of b v t))
+  StandsAt (in_table t) n w p = (slot_of b t n w ≡ Ok (Some p))
+      × ((v : ℕ) × (vtable_of b t ≡ Ok v) × (p + w ≤ inline_end_of b v t))
   StandsAt (in_vector q) n w p = p ≡ q
 
   -- "Structs": structs of two signed 64-bit numbers, one after another from q on
   unfoldable pub EncodesPairs : ℕ → List (ℤ × ℤ) → Type 0
   EncodesPairs q [] = ⊤
-  EncodesPairs q (x ∷ xs) = (int64 b q ≡ x.0) × (int64 b (q + 8) ≡ x.1) × (P 8 q × P 8 (q + 8)) × EncodesPairs (q + 16) xs
+  EncodesPairs q (x ∷ xs) = (int64 b q ≡ x.0) × (int64 b (q + 8) ≡ x.1) × (P 8 q × P 8 (q + 8))
+      × EncodesPairs (q + 16) xs
 
-  -- "Tables": a table stands at t, its inline part ends inside the bytes, and each number that none of these fields has is absent there
+  -- "Tables": a table stands at t, its inline part ends inside the bytes, and each number that none
+  -- of these fields has is absent there
   pub record TableStands (t : ℕ) (f : Tree) : Type 0 where
     pub vtable : ℕ
     pub found : vtable_of b t ≡ Ok vtable
@@ -54,7 +61,8 @@ module _ (P : ℕ → ℕ → Type 0) (b : List ℕ) where
     pub entries : (i : ℕ) → 2 * i < num b vtable 2 → P 2 (vtable + 2 * i)
     pub absent : (n w : ℕ) → (HasField n f → ⊥) → slot_of b t n w ≡ Ok None
 
-  -- "Strings and Vectors": the offset at p points to this string, behind whose length and bytes a zero byte stands
+  -- "Strings and Vectors": the offset at p points to this string, behind whose length and bytes a
+  -- zero byte stands
   pub record EncodesText (p : ℕ) (s : List ℕ) : Type 0 where
     pub start : ℕ
     pub points_there : points b p ≡ Ok start
@@ -62,22 +70,29 @@ module _ (P : ℕ → ℕ → Type 0) (b : List ℕ) where
     pub text : text_of b p ≡ Ok s
     pub closed : (start + 4 + length s < length b) × (byte b (start + 4 + length s) ≡ 0)
 
-  -- the scalar at p is this number, or the offset at p points to this; `below` says of a holder that the tree below lies in it
+  -- the scalar at p is this number, or the offset at p points to this; `below` says of a holder
+  -- that the tree below lies in it
   abbrev pub EncodesTarget : Content → Tree → (Holder → Type 0) → ℕ → Type 0
   EncodesTarget (k.byte x) f below p = num b p 1 ≡ x
   EncodesTarget (k.signed w z) f below p = cast_signed w (num b p (byte_len w)) ≡ z
   EncodesTarget (k.string s) f below p = EncodesText p s
-  EncodesTarget (k.pairs xs) f below p = (q : ℕ) × (elements_of b p 16 ≡ Ok (q + 4, length xs)) × P 4 q × EncodesPairs (q + 4) xs
-  EncodesTarget k.table f below p = (t : ℕ) × (table_of b p ≡ Ok t) × TableStands t f × below (in_table t)
-  EncodesTarget k.tables f below p = (q : ℕ) × (elements_of b p 4 ≡ Ok (q + 4, members f)) × P 4 q × below (in_vector (q + 4))
+  EncodesTarget (k.pairs xs) f below p =
+      (q : ℕ) × (elements_of b p 16 ≡ Ok (q + 4, length xs)) × P 4 q × EncodesPairs (q + 4) xs
+  EncodesTarget k.table f below p =
+      (t : ℕ) × (table_of b p ≡ Ok t) × TableStands t f × below (in_table t)
+  EncodesTarget k.tables f below p =
+      (q : ℕ) × (elements_of b p 4 ≡ Ok (q + 4, members f)) × P 4 q × below (in_vector (q + 4))
 
   -- each field stands in this holder and holds what it is to hold, subtrees included
   unfoldable pub EncodesTable : Holder → Tree → Type 0
   EncodesTable at none = ⊤
   EncodesTable at (field n content inner rest) =
-      ((p : ℕ) × StandsAt at n (inline_width content) p × P (inline_width content) p × EncodesTarget content inner (λ there. EncodesTable there inner) p) × EncodesTable (next_in at) rest
+      ((p : ℕ) × StandsAt at n (inline_width content) p × P (inline_width content) p
+      × EncodesTarget content inner (λ there. EncodesTable there inner) p)
+      × EncodesTable (next_in at) rest
 
--- FlatBuffers binary format, "Format Components": the root table, to which the offset in the first four bytes points, is this tree
+-- FlatBuffers binary format, "Format Components": the root table, to which the offset in the first
+-- four bytes points, is this tree
 abbrev pub Encodes : List ℕ → Tree → Type 0
 Encodes b f = EncodesTable (λ w p. ⊤) b (in_vector 0) (field 0 k.table f none)
 

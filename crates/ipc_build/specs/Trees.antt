@@ -1,13 +1,15 @@
--- Trees of tables as values, whatever memory they take in the program (FlatBuffers binary format, "Tables").
+-- Trees of tables as values, whatever memory they take in the program (FlatBuffers binary format,
+-- "Tables").
 use Rattle.std.specs.Prelude.{ℕ, ℤ, if◌then◌else◌, List, [], ◌∷◌}
 use Rattle.std.specs.Int.{Width, w16, w32, w64}
 use Rattle.ipc_build.specs.declared.tree.FlatTree.{FlatTree, fold-FlatTree}
 use Rattle.ipc_build.specs.declared.tree.Slot.{Slot, fold-Slot}
 use Rattle.ipc_build.specs.declared.tree.Slot.TheOpen.{Slot-F, FlatTree-F}
 
--- FlatBuffers binary format, "Tables", "Strings and Vectors": what a field holds. A scalar is a byte, or a signed number of
--- some width; a string has its bytes; `pairs` is a vector of structs of two signed 64-bit numbers. The fields of a table and the
--- elements of a vector of tables stand beside these two, in a `Tree`
+-- FlatBuffers binary format, "Tables", "Strings and Vectors": what a field holds. A scalar is a
+-- byte, or a signed number of some width; a string has its bytes; `pairs` is a vector of structs of
+-- two signed 64-bit numbers. The fields of a table and the elements of a vector of tables stand
+-- beside these two, in a `Tree`
 pub data Content : Type 0 where
   byte : ℕ → Content
   signed : Width → ℤ → Content
@@ -16,8 +18,9 @@ pub data Content : Type 0 where
   table : Content
   tables : Content
 
--- The fields of a table in order: for each its number, what it holds, the tree below it, and the fields behind it. The tables
--- of a vector are such a list too: each a field that holds a table, with the number 0
+-- The fields of a table in order: for each its number, what it holds, the tree below it, and the
+-- fields behind it. The tables of a vector are such a list too: each a field that holds a table,
+-- with the number 0
 pub data Tree : Type 0 where
   none : Tree
   field : ℕ → Content → Tree → Tree → Tree

@@ -1,5 +1,6 @@
 //! Writing a whole tree.
-ghost use Rattle.std.specs.Prelude.{◌≡◌, ◌≤◌, ◌<◌, ◌+◌, ◌*◌, ◌/◌, ◌^◌, ◌↔◌, ◌++◌, ℕ, List, length, IfOk, IsErrOf};
+ghost use Rattle.std.specs.Prelude.{◌≡◌, ◌≤◌, ◌<◌, ◌+◌, ◌*◌, ◌/◌, ◌^◌, ◌↔◌, ◌++◌, ℕ, List, length};
+ghost use Rattle.std.specs.Prelude.{IfOk, IsErrOf};
 ghost use Rattle.ipc_build.specs.declared.fault.BuildFault.TheVariants.{TooLarge};
 ghost use Rattle.ipc_build.specs.Trees.{view};
 ghost use Rattle.ipc_build.specs.Layout.{as_vector, targets_end, buffer};
@@ -30,11 +31,11 @@ fn write_buffer(out: &mut Vec<u8>, tree: &FlatTree) -> Result<(), AllocError>
 /// The bytes of a buffer whose root table is `tree`, in the FlatBuffers binary format.
 ///
 /// The tree lies in them, also where other bytes stand behind them, as padding does; every scalar,
-/// offset, count and vtable entry stands at a multiple of its width from their first byte. They begin
-/// with the root offset and carry neither a file identifier nor their own size. Padded to a multiple
-/// of 8 they are at most `room` bytes, which is 16, 24 and 10 for each vtable entry for a table, 8 and
-/// its bytes for a text, 12 and 4 for each table for a vector of tables, and 12 and 16 for each pair
-/// for a vector of pairs.
+/// offset, count and vtable entry stands at a multiple of its width from their first byte. They
+/// begin with the root offset and carry neither a file identifier nor their own size. Padded to a
+/// multiple of 8 they are at most `room` bytes, which is 16, 24 and 10 for each vtable entry for a
+/// table, 8 and its bytes for a text, 12 and 4 for each table for a vector of tables, and 12 and 16
+/// for each pair for a vector of pairs.
 ///
 /// The slots' numbers ascend in each table and are below 16, and tables nest at most 255 deep. Each
 /// slot is visited a few times, so the time it takes grows with the slots and the bytes alone.
@@ -43,7 +44,8 @@ fn write_buffer(out: &mut Vec<u8>, tree: &FlatTree) -> Result<(), AllocError>
 /// where a growth of the bytes was refused.
 pub fn build(alloc: Global, tree: &FlatTree) -> Result<Vec<u8>, BuildFault>
     requires { Ascends (fields 0) (view tree.now) }
-    ensures lies { IfOk result (λ bytes. (rest : List ℕ) → Encodes (bytes.items ++ rest) (view tree.now)) }
+    ensures lies { IfOk result
+        (λ bytes. (rest : List ℕ) → Encodes (bytes.items ++ rest) (view tree.now)) }
     ensures aligned { IfOk result (λ bytes. Aligned bytes.items (view tree.now)) }
     ensures size { IfOk result (λ bytes. length bytes.items ≡ size (view tree.now)) }
     ensures room { IfOk result (λ bytes. (length bytes.items + 7) / 8 * 8 ≤ room (view tree.now)) }

@@ -2,12 +2,12 @@
 //!
 //! `build` takes a `FlatTree`, the root table, and gives one buffer in which it lies: the bytes are
 //! read back, by the definitions by which they are read, as exactly the fields, texts and subtrees
-//! that were handed in, and every other field is absent. Each scalar, offset, count and vtable entry
-//! stands at a multiple of its width from the start of the buffer.
+//! that were handed in, and every other field is absent. Each scalar, offset, count and vtable
+//! entry stands at a multiple of its width from the start of the buffer.
 //!
-//! The caller keeps two things: in each table the slots' numbers ascend and are below 16, and tables
-//! nest at most 255 deep, since calls nest as deep as the tables do. Numbers and texts need no such
-//! care, as any value of their types is written.
+//! The caller keeps two things: in each table the slots' numbers ascend and are below 16, and
+//! tables nest at most 255 deep, since calls nest as deep as the tables do. Numbers and texts need
+//! no such care, as any value of their types is written.
 #![tactic(auto)]
 
 mod builder;

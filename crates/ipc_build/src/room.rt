@@ -11,8 +11,8 @@ use crate::tree::{FlatTree, Slot};
 // The most bytes that a tree may have room for.
 const MAX_ROOM: usize = 1 << 24;
 
-// What is taken with `fixed` bytes and `count` times `width` bytes more, where that stays within the
-// limit.
+// What is taken with `fixed` bytes and `count` times `width` bytes more, where that stays within
+// the limit.
 fn add(taken: usize, fixed: usize, width: usize, count: usize) -> Option<usize>
     requires taken { taken ≤ max_room }
     requires fixed { fixed ≤ max_room }
@@ -30,8 +30,8 @@ fn add(taken: usize, fixed: usize, width: usize, count: usize) -> Option<usize>
     Some(sum)
 }
 
-// What is taken with a vector of pairs, where that stays within the limit. The loop reads the numbers,
-// since a number that was read is known to be in the range of its type.
+// What is taken with a vector of pairs, where that stays within the limit. The loop reads the
+// numbers, since a number that was read is known to be in the range of its type.
 fn pairs_room(pairs: &[(i64, i64)], taken: usize) -> Option<usize>
     requires { taken ≤ max_room }
     ensures { Counts (taken + (12 + 16 * length pairs.now)) (PairsFit pairs.now) result }
@@ -40,12 +40,14 @@ fn pairs_room(pairs: &[(i64, i64)], taken: usize) -> Option<usize>
     add(taken, 12, 16, pairs.len())
 }
 
-// What is taken with what a field points to, where that stays within the limit. A scalar takes nothing
-// beside its place in the table; its arm reads it, and so its range is known.
+// What is taken with what a field points to, where that stays within the limit. A scalar takes
+// nothing beside its place in the table; its arm reads it, and so its range is known.
 #[cycle(targets_room)]
 fn target_room(slot: &Slot, taken: usize) -> Option<usize>
     requires { taken ≤ max_room }
-    ensures { Counts (taken + target_room (node slot.now).0 (node slot.now).1 (targets_room (node slot.now).1)) (IsInRange (node slot.now).0 × InRange (node slot.now).1) result }
+    ensures { Counts (taken + target_room (node slot.now).0 (node slot.now).1
+        (targets_room (node slot.now).1))
+        (IsInRange (node slot.now).0 × InRange (node slot.now).1) result }
 {
     match *slot {
         Slot::U8(_number) => Some(taken),
@@ -64,7 +66,8 @@ fn target_room(slot: &Slot, taken: usize) -> Option<usize>
 #[cycle(targets_room)]
 pub(crate) fn table_room(tree: &FlatTree, taken: usize) -> Option<usize>
     requires { taken ≤ max_room }
-    ensures { Counts (taken + (24 + 10 * entry_count 0 (view tree.now) + targets_room (view tree.now))) (InRange (view tree.now)) result }
+    ensures { Counts (taken + (24 + 10 * entry_count 0 (view tree.now)
+        + targets_room (view tree.now))) (InRange (view tree.now)) result }
 {
     let slots = tree.slots.as_slice();
     let taken = add(taken, 24, 10, entry_count(slots))?;
@@ -75,7 +78,8 @@ pub(crate) fn table_room(tree: &FlatTree, taken: usize) -> Option<usize>
 #[cycle(targets_room)]
 fn targets_room(slots: &[(u16, Slot)], taken: usize) -> Option<usize>
     requires { taken ≤ max_room }
-    ensures { Counts (taken + targets_room (fields_view slots.now)) (InRange (fields_view slots.now)) result }
+    ensures { Counts (taken + targets_room (fields_view slots.now))
+        (InRange (fields_view slots.now)) result }
 {
     let mut sum = taken;
     for (_, slot) in slots {
@@ -88,7 +92,8 @@ fn targets_room(slots: &[(u16, Slot)], taken: usize) -> Option<usize>
 #[cycle(targets_room)]
 fn vector_room(trees: &[FlatTree], taken: usize) -> Option<usize>
     requires { taken ≤ max_room }
-    ensures { Counts (taken + (12 + 4 * length trees.now + targets_room (tables_view trees.now))) (InRange (tables_view trees.now)) result }
+    ensures { Counts (taken + (12 + 4 * length trees.now + targets_room (tables_view trees.now)))
+        (InRange (tables_view trees.now)) result }
 {
     let taken = add(taken, 12, 4, trees.len())?;
     elements_room(trees, taken)
@@ -98,7 +103,8 @@ fn vector_room(trees: &[FlatTree], taken: usize) -> Option<usize>
 #[cycle(targets_room)]
 fn elements_room(trees: &[FlatTree], taken: usize) -> Option<usize>
     requires { taken ≤ max_room }
-    ensures { Counts (taken + targets_room (tables_view trees.now)) (InRange (tables_view trees.now)) result }
+    ensures { Counts (taken + targets_room (tables_view trees.now))
+        (InRange (tables_view trees.now)) result }
 {
     let mut sum = taken;
     for tree in trees {

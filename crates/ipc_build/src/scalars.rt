@@ -44,7 +44,8 @@ fn put(bytes: &mut [u8], at: usize, value: &[u8])
 // Writes a number over the bytes from `at` on.
 pub(crate) fn put_u32(out: &mut Vec<u8>, at: usize, x: u32)
     requires { at + 4 ≤ length out.old.items }
-    ensures bytes { out.new.items ≡ take at out.old.items ++ little 4 x ++ drop (at + 4) out.old.items }
+    ensures bytes { out.new.items
+        ≡ take at out.old.items ++ little 4 x ++ drop (at + 4) out.old.items }
     ensures len { length out.new.items ≡ length out.old.items }
 {
     put(out.as_mut_slice(), at, &x.to_le_bytes());
@@ -53,7 +54,8 @@ pub(crate) fn put_u32(out: &mut Vec<u8>, at: usize, x: u32)
 // Writes a number over the bytes from `at` on.
 pub(crate) fn put_u64(out: &mut Vec<u8>, at: usize, x: u64)
     requires { at + 8 ≤ length out.old.items }
-    ensures bytes { out.new.items ≡ take at out.old.items ++ little 8 x ++ drop (at + 8) out.old.items }
+    ensures bytes { out.new.items
+        ≡ take at out.old.items ++ little 8 x ++ drop (at + 8) out.old.items }
     ensures len { length out.new.items ≡ length out.old.items }
 {
     put(out.as_mut_slice(), at, &x.to_le_bytes());

@@ -1,5 +1,6 @@
 -- What stands in a row and a column.
-use Rattle.std.proofs.Common.{◌≡◌, ◌∙◌, refl, sym, ap, subst, ℕ, zero, suc, ◌+◌, ◌*◌, ◌<◌, ◌≤◌, Bool, true, List, [], ◌∷◌, ◌++◌, length, get_or, take, arith, add-one, Some, length-append, inl, inr}
+use Rattle.std.proofs.Common.{◌≡◌, ◌∙◌, refl, sym, ap, subst, ℕ, zero, suc, ◌+◌, ◌*◌, ◌<◌, ◌≤◌, Bool, true, List, [], ◌∷◌, ◌++◌, length}
+use Rattle.std.proofs.Common.{get_or, take, arith, add-one, Some, length-append, inl, inr}
 use Rattle.std.specs.Prelude.{◌&&◌, slice_get, slice_index_or}
 use Rattle.std.proofs.lemmas.Bool.{false≢true, and_parts, cases_order, eqb-true}
 use Rattle.std.proofs.lemmas.List.{take_more}
@@ -10,7 +11,8 @@ use Rattle.ipc_column.specs.declared.ranges.ColumnRanges.TheViews.{out-ColumnRan
 use Rattle.ipc_column.specs.declared.cause.Cause.{Cause}
 use Rattle.ipc_column.specs.declared.cause.Cause.TheVariants as cause
 use Rattle.ipc_column.specs.Columns.{Column, Columns, every, every_top}
-use Rattle.ipc_column.specs.Checks.{passes, top_passes, has_bitmap, holds_values, holds_offsets, are_ascending, in_order, is_good, all_below, Holds}
+use Rattle.ipc_column.specs.Checks.{passes, top_passes, has_bitmap, holds_values, holds_offsets, are_ascending, in_order, is_good}
+use Rattle.ipc_column.specs.Checks.{all_below, Holds}
 use Rattle.ipc_column.specs.Values.{row, rows_of, value_of}
 use Rattle.ipc_column.specs.Views.{columns, column_of, own_column}
 use Rattle.std.proofs.Math.ListN.{get_or-append}
@@ -33,7 +35,8 @@ pub record Long (c : Column) : Type 0 where
 
 long : (c : Column) → ((why : Cause) → passes why c ≡ true) → Long c
 long c h =
-    let p = and_parts (has_bitmap c.slots (length c.validity)) (holds_values c.layout c.slots (length c.values) && holds_offsets c.layout c.slots (length c.offsets)) (h cause.BufferTooShort) in
+    let p = and_parts (has_bitmap c.slots (length c.validity))
+    (holds_values c.layout c.slots (length c.values) && holds_offsets c.layout c.slots (length c.offsets)) (h cause.BufferTooShort) in
     let q = and_parts (holds_values c.layout c.slots (length c.values)) (holds_offsets c.layout c.slots (length c.offsets)) p.1 in
     record { bitmap = p.0; values = q.0; offsets = q.1; order = h cause.BadOffsets }
 
@@ -49,8 +52,10 @@ text_bytes : (l : Layout) (n bytes : ℕ) → holds_offsets l n bytes ≡ true �
 text_bytes (l.VariableBytes true) n bytes h t p = (of_some n _ (of_bound (4 * (n + 1)) bytes)).0 h p
 text_bytes _ n bytes h t p = absurd (false≢true t)
 
-text_order : (l : Layout) (n : ℕ) (o : List ℕ) (size : ℕ) → in_order l n o size ≡ true → is_texts l ≡ true → 0 < n → 4 * (n + 1) ≤ length o → are_ascending o n size ≡ true
-text_order (l.VariableBytes true) n o size h t p b = (of_some n _ (of_when _ _ (of_bound (4 * (n + 1)) (length o)) (λ e. e, λ e. e))).0 h p b
+text_order : (l : Layout) (n : ℕ) (o : List ℕ) (size : ℕ) → in_order l n o size ≡ true → is_texts l ≡ true → 0 < n → 4 * (n + 1) ≤ length o
+    → are_ascending o n size ≡ true
+text_order (l.VariableBytes true) n o size h t p b =
+    (of_some n _ (of_when _ _ (of_bound (4 * (n + 1)) (length o)) (λ e. e, λ e. e))).0 h p b
 text_order _ n o size h t p b = absurd (false≢true t)
 
 text_parts : (c : Column) → Long c → is_texts c.layout ≡ true → 0 < c.slots → TextParts c
@@ -58,18 +63,21 @@ text_parts c long t p =
     let bytes = text_bytes c.layout c.slots (length c.offsets) long.offsets t p in
     record { bytes = bytes; order = text_order c.layout c.slots c.offsets (length c.values) long.order t p bytes }
 
-pub part_texts : (body : List ℕ) (p : ColumnRanges) → ((why : Cause) → passes why (column_of body p) ≡ true) → is_texts (out-ColumnRanges p).layout ≡ true → 0 < (out-ColumnRanges p).slots → TextParts (own_column body p)
+pub part_texts : (body : List ℕ) (p : ColumnRanges) → ((why : Cause) → passes why (column_of body p) ≡ true)
+    → is_texts (out-ColumnRanges p).layout ≡ true → 0 < (out-ColumnRanges p).slots → TextParts (own_column body p)
 part_texts body p h t n = text_parts (own_column body p) (part_long body p h) t n
 
 pub part_slot : (body : List ℕ) (p : ColumnRanges) (i : ℕ) → i < (column_of body p).slots → i < (out-ColumnRanges p).slots
 part_slot body p i h = subst (λ (c : Column). i < c.slots) (column_is body p) h
 
-every_at : (test : Column → Bool) (body : List ℕ) (ps : List ColumnRanges) (j : ℕ) (p : ColumnRanges) → j < length ps → p ≡ get_or ps j p → every test (columns body ps) ≡ true → test (column_of body p) ≡ true
+every_at : (test : Column → Bool) (body : List ℕ) (ps : List ColumnRanges) (j : ℕ) (p : ColumnRanges) → j < length ps → p ≡ get_or ps j p
+    → every test (columns body ps) ≡ true → test (column_of body p) ≡ true
 every_at test body [] j p l e h = absurd (omega arith)
 every_at test body (q ∷ ps) zero p l e h = rw e (and_parts _ _ h).0
 every_at test body (q ∷ ps) (suc j) p l e h = every_at test body ps j p (omega arith) e (and_parts _ _ (and_parts _ _ h).1).1
 
-every_top_at : (test : Column → Bool) (body : List ℕ) (ps : List ColumnRanges) (j : ℕ) (p : ColumnRanges) → j < length ps → p ≡ get_or ps j p → every_top test (columns body ps) ≡ true → test (column_of body p) ≡ true
+every_top_at : (test : Column → Bool) (body : List ℕ) (ps : List ColumnRanges) (j : ℕ) (p : ColumnRanges) → j < length ps
+    → p ≡ get_or ps j p → every_top test (columns body ps) ≡ true → test (column_of body p) ≡ true
 every_top_at test body [] j p l e h = absurd (omega arith)
 every_top_at test body (q ∷ ps) zero p l e h = rw e (and_parts _ _ h).0
 every_top_at test body (q ∷ ps) (suc j) p l e h = every_top_at test body ps j p (omega arith) e (and_parts _ _ h).1
@@ -80,26 +88,35 @@ pub record Kept (n : ℕ) (body : List ℕ) (p : ColumnRanges) : Type 0 where
   pub slots : (column_of body p).slots ≡ n
   pub good : all_below (is_good (column_of body p)) (column_of body p).slots ≡ true
 
-pub kept_at : (n : ℕ) (body : List ℕ) (ps : List ColumnRanges) (j : ℕ) (p : ColumnRanges) → j < length ps → p ≡ get_or ps j p → Holds n (columns body ps) → Kept n body p
+pub kept_at : (n : ℕ) (body : List ℕ) (ps : List ColumnRanges) (j : ℕ) (p : ColumnRanges) → j < length ps → p ≡ get_or ps j p
+    → Holds n (columns body ps) → Kept n body p
 kept_at n body ps j p l e h = record {
-  sound = λ why. every_at (passes why) body ps j p l e (and_parts (every (passes why) (columns body ps)) (every_top (top_passes why n) (columns body ps)) (h why)).0;
-  slots = eqb-true _ _ (every_top_at (top_passes cause.BadNode n) body ps j p l e (and_parts (every (passes cause.BadNode) (columns body ps)) (every_top (top_passes cause.BadNode n) (columns body ps)) (h cause.BadNode)).1);
-  good = every_top_at (top_passes cause.ValueNotUtf8 n) body ps j p l e (and_parts (every (passes cause.ValueNotUtf8) (columns body ps)) (every_top (top_passes cause.ValueNotUtf8 n) (columns body ps)) (h cause.ValueNotUtf8)).1;
+  sound = λ why. every_at (passes why) body ps j p l e
+      (and_parts (every (passes why) (columns body ps)) (every_top (top_passes why n) (columns body ps)) (h why)).0;
+  slots = eqb-true _ _ (every_top_at (top_passes cause.BadNode n) body ps j p l e
+      (and_parts (every (passes cause.BadNode) (columns body ps)) (every_top (top_passes cause.BadNode n) (columns body ps))
+      (h cause.BadNode)).1);
+  good = every_top_at (top_passes cause.ValueNotUtf8 n) body ps j p l e
+      (and_parts (every (passes cause.ValueNotUtf8) (columns body ps)) (every_top (top_passes cause.ValueNotUtf8 n) (columns body ps))
+      (h cause.ValueNotUtf8)).1;
 }
 
 pub row_length : (body : List ℕ) (ps : List ColumnRanges) (i : ℕ) → length (row (columns body ps) i) ≡ length ps
 row_length body [] i = refl
 row_length body (p ∷ ps) i = ap (λ (n : ℕ). suc n) (row_length body ps i)
 
-pub row_cell : (body : List ℕ) (ps : List ColumnRanges) (i j : ℕ) (p : ColumnRanges) → j < length ps → p ≡ get_or ps j p → slice_get (row (columns body ps) i) j ≡ Some (value_of (column_of body p) i)
+pub row_cell : (body : List ℕ) (ps : List ColumnRanges) (i j : ℕ) (p : ColumnRanges) → j < length ps → p ≡ get_or ps j p
+    → slice_get (row (columns body ps) i) j ≡ Some (value_of (column_of body p) i)
 row_cell body [] i j p l e = absurd (omega arith)
 row_cell body (q ∷ ps) i zero p l e = rw e refl
 row_cell body (q ∷ ps) i (suc j) p l e = row_cell body ps i j p (omega arith) e
 
 -- one cell more of a row
-pub row_more : (values done more : List Value) (j : ℕ) (v : Value) → j < length values → slice_get values j ≡ Some v → done ≡ take j values → more ≡ done ++ v ∷ [] → more ≡ take (j + 1) values
+pub row_more : (values done more : List Value) (j : ℕ) (v : Value) → j < length values → slice_get values j ≡ Some v → done ≡ take j values
+    → more ≡ done ++ v ∷ [] → more ≡ take (j + 1) values
 row_more values done more j v l e d m =
-    m ∙ (ap (λ (vs : List Value). vs ++ v ∷ []) d ∙ (ap (λ (w : Value). take j values ++ w ∷ []) (sym (get_or_from_slice_get values j v v e)) ∙ sym (take_more values j v l)))
+    m ∙ (ap (λ (vs : List Value). vs ++ v ∷ []) d
+    ∙ (ap (λ (w : Value). take j values ++ w ∷ []) (sym (get_or_from_slice_get values j v v e)) ∙ sym (take_more values j v l)))
 
 pub rows_more : (cs : Columns) (n : ℕ) → rows_of cs (n + 1) ≡ rows_of cs n ++ row cs n ∷ []
 rows_more cs n = rw add-one refl
@@ -113,7 +130,8 @@ rows_at cs zero i d l = absurd (omega arith)
 rows_at cs (suc n) i d l =
     let size = rows_length cs n in
     elim (cases_order i n) as (λ _. get_or (rows_of cs n ++ (row cs n ∷ [])) i d ≡ row cs i) [
-      | inl e ↦ ap (λ (k : ℕ). get_or (rows_of cs n ++ (row cs n ∷ [])) k d) (e ∙ sym size) ∙ (get_or-append_seam (rows_of cs n) (row cs n) [] d ∙ ap (row cs) (sym e))
+      | inl e ↦ ap (λ (k : ℕ). get_or (rows_of cs n ++ (row cs n ∷ [])) k d) (e ∙ sym size)
+          ∙ (get_or-append_seam (rows_of cs n) (row cs n) [] d ∙ ap (row cs) (sym e))
       | inr r ↦ elim r as (λ _. get_or (rows_of cs n ++ (row cs n ∷ [])) i d ≡ row cs i) [
         | inl m ↦ get_or-append (rows_of cs n) (row cs n ∷ []) d i (omega (arith, size)) ∙ rows_at cs n i d m
         | inr m ↦ absurd (omega arith)

@@ -24,8 +24,10 @@ all_counted (c ∷ cs) d =
 counted_step : (y : Field-F Counted) → IsCounted (roll-Field (map-Field Counted Field (λ c. c.0) y))
 counted_step y = λ d.
     let z : Field-F Field = map-Field Counted Field (λ c. c.0) y in
-    let list : preorder (roll-Field z) d ≡ preorder_step (map-Field Field Listing preorder z) d = subst (λ (l : Listing). preorder (roll-Field z) d ≡ l d) (fold-roll-Field Listing preorder_step z) refl in
-    let shape : field_children (roll-Field z) ≡ shape_of z.children = ap (λ (s : Layout × Shape). s.1) (fold-roll-Field (Layout × Shape) field_step z) in
+    let list : preorder (roll-Field z) d ≡ preorder_step (map-Field Field Listing preorder z) d =
+    subst (λ (l : Listing). preorder (roll-Field z) d ≡ l d) (fold-roll-Field Listing preorder_step z) refl in
+    let shape : field_children (roll-Field z) ≡ shape_of z.children =
+    ap (λ (s : Layout × Shape). s.1) (fold-roll-Field (Layout × Shape) field_step z) in
     omega (arith, ap nodes_in shape, ap (λ (l : List Entry). length l) list, all_counted y.children (d + 1))
 
 counted : (f : Field) → IsCounted f

@@ -1,5 +1,6 @@
 -- Fields as shapes, and columns side by side.
-use Rattle.std.proofs.Common.{◌≡◌, ◌∙◌, refl, ap, ℕ, ◌+◌, ◌<◌, ◌≤◌, List, [], ◌∷◌, ◌++◌, length, drop, get_or, take, cond, true, false, nat_le, add-one, drop-cons, arith, ◌*◌, lit≤}
+use Rattle.std.proofs.Common.{◌≡◌, ◌∙◌, refl, ap, ℕ, ◌+◌, ◌<◌, ◌≤◌, List, [], ◌∷◌, ◌++◌, length, drop, get_or, take, cond, true, false}
+use Rattle.std.proofs.Common.{nat_le, add-one, drop-cons, arith, ◌*◌, lit≤}
 use Rattle.std.proofs.lemmas.List.{drop_all}
 use Rattle.ipc_model.specs.declared.schema.Field.{Field, out-Field, fold_out-Field}
 use Rattle.ipc_meta.specs.declared.head.BatchHead.{BatchHead}
@@ -9,20 +10,25 @@ use Rattle.ipc_column.specs.declared.ranges.ColumnRanges.{ColumnRanges}
 use Rattle.ipc_model.specs.Layouts.{own_buffers}
 use Rattle.ipc_column.specs.Columns.{Columns, none, column, beside, bytes_of}
 use Rattle.ipc_column.specs.Views.{columns, column_of, children_of}
-use Rattle.ipc_column.specs.Shapes.{Shape, bare, field, shape_of, field_step, field_layout, field_children, nodes_in, buffers_in, cut, column_at}
+use Rattle.ipc_column.specs.Shapes.{Shape, bare, field, shape_of, field_step, field_layout, field_children, nodes_in, buffers_in, cut}
+use Rattle.ipc_column.specs.Shapes.{column_at}
 
 pub children_out : (f : Field) → field_children f ≡ shape_of (out-Field f).children
 children_out f = ap (λ (v : Layout × Shape). v.1) (fold_out-Field (Layout × Shape) field_step f)
 
 -- the fields from one on
-pub shape_from : (fs : List Field) (i : ℕ) (f : Field) → i < length fs → f ≡ get_or fs i f → shape_of (drop i fs) ≡ field (field_layout f) (field_children f) (shape_of (drop (i + 1) fs))
+pub shape_from : (fs : List Field) (i : ℕ) (f : Field) → i < length fs → f ≡ get_or fs i f
+    → shape_of (drop i fs) ≡ field (field_layout f) (field_children f) (shape_of (drop (i + 1) fs))
 shape_from fs i f h e = rw (drop-cons fs i f) (rw (← e, add-one) refl)
 
-pub nodes_from : (fs : List Field) (i : ℕ) (f : Field) → i < length fs → f ≡ get_or fs i f → nodes_in (shape_of (drop i fs)) ≡ 1 + nodes_in (field_children f) + nodes_in (shape_of (drop (i + 1) fs))
+pub nodes_from : (fs : List Field) (i : ℕ) (f : Field) → i < length fs → f ≡ get_or fs i f
+    → nodes_in (shape_of (drop i fs)) ≡ 1 + nodes_in (field_children f) + nodes_in (shape_of (drop (i + 1) fs))
 unfolding nodes_in
 nodes_from fs i f h e = rw (shape_from fs i f h e) refl
 
-pub buffers_from : (fs : List Field) (i : ℕ) (f : Field) → i < length fs → f ≡ get_or fs i f → buffers_in (shape_of (drop i fs)) ≡ own_buffers (field_layout f) + buffers_in (field_children f) + buffers_in (shape_of (drop (i + 1) fs))
+pub buffers_from : (fs : List Field) (i : ℕ) (f : Field) → i < length fs → f ≡ get_or fs i f
+    → buffers_in (shape_of (drop i fs))
+    ≡ own_buffers (field_layout f) + buffers_in (field_children f) + buffers_in (shape_of (drop (i + 1) fs))
 unfolding buffers_in
 buffers_from fs i f h e = rw (shape_from fs i f h e) refl
 
@@ -40,7 +46,8 @@ unfolding bytes_of
 empty_bytes body = elim (nat_le 0 (length body)) as (λ v. cond v (take 0 body) [] ≡ []) [ true ↦ refl | false ↦ refl ]
 
 -- one part more
-pub beside_push : (body : List ℕ) (ps : List ColumnRanges) (p : ColumnRanges) (ds : Columns) → beside (columns body (ps ++ p ∷ [])) ds ≡ beside (columns body ps) (column (column_of body p) (children_of body p) ds)
+pub beside_push : (body : List ℕ) (ps : List ColumnRanges) (p : ColumnRanges) (ds : Columns)
+    → beside (columns body (ps ++ p ∷ [])) ds ≡ beside (columns body ps) (column (column_of body p) (children_of body p) ds)
 beside_push body [] p ds = refl
 beside_push body (q ∷ ps) p ds = ap (λ (cs : Columns). column (column_of body q) (children_of body q) cs) (beside_push body ps p ds)
 
@@ -49,18 +56,23 @@ beside_none none = refl
 beside_none (column c children rest) = ap (λ (ds : Columns). column c children ds) (beside_none rest)
 
 pub cut_from : (fs : List Field) (i : ℕ) (f : Field) (h : BatchHead) (body : List ℕ) (n b : ℕ) → i < length fs → f ≡ get_or fs i f
-    → cut (shape_of (drop i fs)) h body n b ≡ column (column_at (field_layout f) h body n b) (cut (field_children f) h body (n + 1) (b + own_buffers (field_layout f)))
-    (cut (shape_of (drop (i + 1) fs)) h body (n + 1 + nodes_in (field_children f)) (b + own_buffers (field_layout f) + buffers_in (field_children f)))
+    → cut (shape_of (drop i fs)) h body n b ≡ column (column_at (field_layout f) h body n b)
+    (cut (field_children f) h body (n + 1) (b + own_buffers (field_layout f)))
+    (cut (shape_of (drop (i + 1) fs)) h body (n + 1 + nodes_in (field_children f))
+    (b + own_buffers (field_layout f) + buffers_in (field_children f)))
 unfolding cut
 cut_from fs i f h body n b l e = rw (shape_from fs i f l e) refl
 
-pub cut_done : (fs : List Field) (i : ℕ) (h : BatchHead) (body : List ℕ) (n b : ℕ) → length fs ≤ i → cut (shape_of (drop i fs)) h body n b ≡ none
+pub cut_done : (fs : List Field) (i : ℕ) (h : BatchHead) (body : List ℕ) (n b : ℕ) → length fs ≤ i
+    → cut (shape_of (drop i fs)) h body n b ≡ none
 unfolding cut
 cut_done fs i h body n b l = rw (drop_all i fs l) refl
 
 -- one part more, and one field less
-pub cut_step : (fs : List Field) (i : ℕ) (f : Field) (h : BatchHead) (body : List ℕ) (ps : List ColumnRanges) (p : ColumnRanges) (n b m d : ℕ) (all : Columns) → i < length fs → f ≡ get_or fs i f
-    → column_of body p ≡ column_at (field_layout f) h body n b → children_of body p ≡ cut (field_children f) h body (n + 1) (b + own_buffers (field_layout f))
+pub cut_step : (fs : List Field) (i : ℕ) (f : Field) (h : BatchHead) (body : List ℕ) (ps : List ColumnRanges) (p : ColumnRanges)
+    (n b m d : ℕ) (all : Columns) → i < length fs → f ≡ get_or fs i f
+    → column_of body p ≡ column_at (field_layout f) h body n b
+    → children_of body p ≡ cut (field_children f) h body (n + 1) (b + own_buffers (field_layout f))
     → m ≡ n + 1 + nodes_in (field_children f) → d ≡ b + own_buffers (field_layout f) + buffers_in (field_children f)
     → beside (columns body ps) (cut (shape_of (drop i fs)) h body n b) ≡ all
     → beside (columns body (ps ++ p ∷ [])) (cut (shape_of (drop (i + 1) fs)) h body m d) ≡ all

@@ -1,5 +1,6 @@
 -- Numbers that are lent are those of the rows.
-use Rattle.std.proofs.Common.{◌≡◌, ◌∙◌, refl, sym, ap, subst, ℕ, zero, suc, ◌*◌, ◌<◌, true, false, List, [], ◌∷◌, length, get_or, arith, Option, None, Some}
+use Rattle.std.proofs.Common.{◌≡◌, ◌∙◌, refl, sym, ap, subst, ℕ, zero, suc, ◌*◌, ◌<◌, true, false, List, [], ◌∷◌, length, get_or, arith}
+use Rattle.std.proofs.Common.{Option, None, Some}
 use Rattle.std.specs.Prelude.{slice_get, slice_index_or, IfSome}
 use Rattle.std.proofs.lemmas.Bool.{false≢true, leb-true}
 use Rattle.ipc_scalar.specs.Bytes.{int64}
@@ -32,12 +33,14 @@ no_bytes [] h = refl
 no_bytes (b ∷ bs) h = absurd (omega arith)
 
 -- what is said of a column's place
-pub lent_at : (body : List ℕ) (ps : List ColumnRanges) (j : ℕ) (p : ColumnRanges) → j < length ps → p ≡ get_or ps j p → slice_index_or (lent_of (columns body ps)) j false ≡ is_lent (own_column body p)
+pub lent_at : (body : List ℕ) (ps : List ColumnRanges) (j : ℕ) (p : ColumnRanges) → j < length ps → p ≡ get_or ps j p
+    → slice_index_or (lent_of (columns body ps)) j false ≡ is_lent (own_column body p)
 lent_at body [] j p l e = absurd (omega arith)
 lent_at body (q ∷ ps) zero p l e = rw (sym e) (ap is_lent (column_is body p))
 lent_at body (q ∷ ps) (suc j) p l e = lent_at body ps j p (omega arith) e
 
-module _ (body : List ℕ) (ps : List ColumnRanges) (n j : ℕ) (p : ColumnRanges) (values : List ℕ) (inside : j < length ps) (is : p ≡ get_or ps j p) (holds : Holds n (columns body ps)) (lent : AreValues body p values) where
+module _ (body : List ℕ) (ps : List ColumnRanges) (n j : ℕ) (p : ColumnRanges) (values : List ℕ) (inside : j < length ps)
+    (is : p ≡ get_or ps j p) (holds : Holds n (columns body ps)) (lent : AreValues body p values) where
   number_at : (i : ℕ) → value_of (own_column body p) i ≡ Int (int64 values (8 * i))
   number_at i = rw (lent.no_bitmap, lent.wide, lent.same) refl
 
@@ -46,11 +49,13 @@ module _ (body : List ℕ) (ps : List ColumnRanges) (n j : ℕ) (p : ColumnRange
       let kept = kept_at n body ps j p inside is holds in
       let size : (own_column body p).slots ≡ n = sym (ap (λ (c : Column). c.slots) (column_is body p)) ∙ kept.slots in
       let fits : holds_values (Numbers B64 true) (own_column body p).slots (length (own_column body p).values) ≡ true =
-      subst (λ (l : Layout). holds_values l (own_column body p).slots (length (own_column body p).values) ≡ true) lent.wide (part_long body p kept.sound).values in
+      subst (λ (l : Layout). holds_values l (own_column body p).slots (length (own_column body p).values) ≡ true) lent.wide
+      (part_long body p kept.sound).values in
       record {
         long = omega (arith, leb-true _ _ fits, size, rows_length (columns body ps) n, ap length lent.same);
         each = λ i l.
             let at : i < n = omega (arith, rows_length (columns body ps) n) in
             ap (λ (r : List Value). slice_get r j) (rows_at (columns body ps) n i [] at)
-            ∙ (row_cell body ps i j p inside is ∙ ap (λ (v : Value). Some v) (ap (λ (c : Column). value_of c i) (column_is body p) ∙ number_at i));
+            ∙ (row_cell body ps i j p inside is
+            ∙ ap (λ (v : Value). Some v) (ap (λ (c : Column). value_of c i) (column_is body p) ∙ number_at i));
       }

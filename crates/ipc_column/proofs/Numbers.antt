@@ -1,5 +1,6 @@
 -- Slots of a fixed width, and the numbers in them.
-use Rattle.std.proofs.Common.{◌≡◌, ◌∙◌, refl, sym, ℕ, suc, ◌+◌, ◌*◌, ◌/◌, ◌^◌, ◌<◌, ◌≤◌, true, List, length, get_or, arith, le-leb, inl, inr}
+use Rattle.std.proofs.Common.{◌≡◌, ◌∙◌, refl, sym, ℕ, suc, ◌+◌, ◌*◌, ◌/◌, ◌^◌, ◌<◌, ◌≤◌, true, List, length, get_or, arith, le-leb, inl}
+use Rattle.std.proofs.Common.{inr}
 use Rattle.std.specs.Prelude.{nat_le, unwrap_or}
 use Rattle.std.specs.Int.{w64, cast_signed, cast_unsigned}
 use Rattle.std.proofs.Math.Nat.{le-div_iff_mul-le, mul-le-mul_left}
@@ -22,7 +23,8 @@ holds_by_quotient w n bytes h =
     past m =
         elim (cases_lt bytes (w * n)) as (λ _. bytes < w * n) [
           | inl l ↦ l
-          | inr l ↦ let q : n ≤ bytes / w = (le-div_iff_mul-le {k = w} {x = n} {y = bytes} h).1 (let g : n * w ≤ bytes = omega (arith, l) in g) in absurd (omega (arith, q, m))
+          | inr l ↦ let q : n ≤ bytes / w = (le-div_iff_mul-le {k = w} {x = n} {y = bytes} h).1
+              (let g : n * w ≤ bytes = omega (arith, l) in g) in absurd (omega (arith, q, m))
         ]
 
 -- slot i of n that fit

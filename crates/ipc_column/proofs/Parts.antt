@@ -1,5 +1,6 @@
 -- Parts as columns, and calls that judge one after another.
-use Rattle.std.proofs.Common.{◌≡◌, refl, ap, ℕ, ◌+◌, ◌<◌, Bool, true, false, List, length, drop, get_or, add-one, drop-cons, Result, Ok, Err}
+use Rattle.std.proofs.Common.{◌≡◌, refl, ap, ℕ, ◌+◌, ◌<◌, Bool, true, false, List, length, drop, get_or, add-one, drop-cons, Result, Ok}
+use Rattle.std.proofs.Common.{Err}
 use Rattle.std.specs.Prelude.{◌&&◌}
 use Rattle.std.proofs.lemmas.Bool.{and_from, and_right}
 use Rattle.ipc_column.specs.declared.ranges.ColumnRanges.{ColumnRanges}
@@ -18,18 +19,23 @@ pub column_is : (body : List ℕ) (p : ColumnRanges) → column_of body p ≡ ow
 column_is body p = ap (λ (v : Column × Columns). v.0) (fold_out-ColumnRanges (Column × Columns) (part_step body) p)
 
 -- the columns from one part on
-pub columns_from : (body : List ℕ) (ps : List ColumnRanges) (i : ℕ) (p : ColumnRanges) → i < length ps → p ≡ get_or ps i p → columns body (drop i ps) ≡ column (column_of body p) (children_of body p) (columns body (drop (i + 1) ps))
+pub columns_from : (body : List ℕ) (ps : List ColumnRanges) (i : ℕ) (p : ColumnRanges) → i < length ps → p ≡ get_or ps i p
+    → columns body (drop i ps) ≡ column (column_of body p) (children_of body p) (columns body (drop (i + 1) ps))
 columns_from body ps i p h e = rw (drop-cons ps i p) (rw (← e, add-one) refl)
 
 regroup : (a b c : Bool) → (a && (b && c)) ≡ ((a && b) && c)
 regroup true b c = refl
 regroup false b c = refl
 
-pub every_from : (test : Column → Bool) (body : List ℕ) (ps : List ColumnRanges) (i : ℕ) (p : ColumnRanges) → i < length ps → p ≡ get_or ps i p
-    → every test (columns body (drop i ps)) ≡ ((test (column_of body p) && every test (children_of body p)) && every test (columns body (drop (i + 1) ps)))
-every_from test body ps i p h e = rw (columns_from body ps i p h e) (regroup (test (column_of body p)) (every test (children_of body p)) (every test (columns body (drop (i + 1) ps))))
+pub every_from : (test : Column → Bool) (body : List ℕ) (ps : List ColumnRanges) (i : ℕ) (p : ColumnRanges) → i < length ps
+    → p ≡ get_or ps i p
+    → every test (columns body (drop i ps))
+    ≡ ((test (column_of body p) && every test (children_of body p)) && every test (columns body (drop (i + 1) ps)))
+every_from test body ps i p h e = rw (columns_from body ps i p h e)
+    (regroup (test (column_of body p)) (every test (children_of body p)) (every test (columns body (drop (i + 1) ps))))
 
-pub every_top_from : (test : Column → Bool) (body : List ℕ) (ps : List ColumnRanges) (i : ℕ) (p : ColumnRanges) → i < length ps → p ≡ get_or ps i p
+pub every_top_from : (test : Column → Bool) (body : List ℕ) (ps : List ColumnRanges) (i : ℕ) (p : ColumnRanges) → i < length ps
+    → p ≡ get_or ps i p
     → every_top test (columns body (drop i ps)) ≡ (test (column_of body p) && every_top test (columns body (drop (i + 1) ps)))
 every_top_from test body ps i p h e = rw (columns_from body ps i p h e) refl
 
@@ -38,6 +44,7 @@ pub texts_from : (body : List ℕ) (ps : List ColumnRanges) (i : ℕ) (p : Colum
 texts_from body ps i p h e = rw (columns_from body ps i p h e) refl
 
 -- a family whose first part holds is judged by its second
-pub then_judges : {X : Type 0} (s t : Cause → Bool) (r : Result X Cause) → ((c : Cause) → s c ≡ true) → Judges r t → Judges r (λ c. s c && t c)
+pub then_judges : {X : Type 0} (s t : Cause → Bool) (r : Result X Cause) → ((c : Cause) → s c ≡ true) → Judges r t
+    → Judges r (λ c. s c && t c)
 then_judges s t (Ok x) h j = λ c. and_from (s c) (t c) (h c) (j c)
 then_judges s t (Err d) h j = and_right (s d) (t d) j

@@ -1,5 +1,6 @@
 -- Each test says what the standard asks.
-use Rattle.std.proofs.Common.{◌≡◌, refl, ap, ℕ, zero, suc, ◌+◌, ◌*◌, ◌/◌, ◌<◌, ◌≤◌, Bool, true, false, cond, not, List, length, arith, le-leb}
+use Rattle.std.proofs.Common.{◌≡◌, refl, ap, ℕ, zero, suc, ◌+◌, ◌*◌, ◌/◌, ◌<◌, ◌≤◌, Bool, true, false, cond, not, List, length, arith}
+use Rattle.std.proofs.Common.{le-leb}
 use Rattle.std.specs.Prelude.{◌&&◌, ◌||◌, ◌==◌, nat_le, ◌^◌, ℤ, ◌+ℤ◌, pos, negsuc, int_le, int_lt, ◌≤ℤ◌, ◌<ℤ◌, unsigned_abs, T}
 use Rattle.std.specs.Bool.{Decides}
 use Rattle.std.specs.List.{All}
@@ -16,9 +17,12 @@ use Rattle.ipc_column.specs.declared.cause.Cause.{Cause}
 use Rattle.ipc_column.specs.declared.cause.Cause.TheVariants as cause
 use Rattle.ipc_column.specs.Columns.{Column, Columns, none, column, Each, EachTop, every, every_top}
 use Rattle.ipc_column.specs.Shapes.{shape_of, columns_of}
-use Rattle.ipc_column.specs.Rules.{HasNodes, HasBuffers, HasLengths, HasRanges, HasBytes, HasNullCounts, HasOrder, HasTexts, IsSlotCount, IsNode, LiesIn, HoldValues, HoldOffsets, IsLongEnough, CountsNulls, AreOffsets, HasOffsets, IsText, SpellsTexts}
+use Rattle.ipc_column.specs.Rules.{HasNodes, HasBuffers, HasLengths, HasRanges, HasBytes, HasNullCounts, HasOrder, HasTexts, IsSlotCount}
+use Rattle.ipc_column.specs.Rules.{IsNode, LiesIn, HoldValues, HoldOffsets, IsLongEnough, CountsNulls, AreOffsets, HasOffsets, IsText}
+use Rattle.ipc_column.specs.Rules.{SpellsTexts}
 use Rattle.ipc_model.specs.Limits.{max_rows}
-use Rattle.ipc_column.specs.Checks.{is_slot_count, is_node, lies_in, all, all_below, holds_values, holds_offsets, is_ascending_at, are_ascending, in_order, is_text, is_good, passes, top_passes, fits}
+use Rattle.ipc_column.specs.Checks.{is_slot_count, is_node, lies_in, all, all_below, holds_values, holds_offsets, is_ascending_at}
+use Rattle.ipc_column.specs.Checks.{are_ascending, in_order, is_text, is_good, passes, top_passes, fits}
 use Rattle.ipc_column.specs.Values.{offset, place, is_valid}
 use Rattle.ipc_column.proofs.Below.{decides_below}
 use Rattle.ipc_column.proofs.Slices.{above}
@@ -34,11 +38,13 @@ of_le a b = Decides-like (int_le a b) (λ t. record { le = t }) (λ h. h.le) (of
 
 pub of_slot_count : (z : ℤ) → Decides (is_slot_count z) (IsSlotCount z)
 of_slot_count z =
-    Decides-like (is_slot_count z) (λ p. record { from = p.0; to = p.1 }) (λ h. (h.from, h.to)) (Decides-and _ _ (of_le (pos 0) z) (of_le z (pos max_rows)))
+    Decides-like (is_slot_count z) (λ p. record { from = p.0; to = p.1 }) (λ h. (h.from, h.to))
+    (Decides-and _ _ (of_le (pos 0) z) (of_le z (pos max_rows)))
 
 of_node : (n : ℤ × ℤ) → Decides (is_node n) (IsNode n)
 of_node n =
-    Decides-like (is_node n) (λ p. record { slots = p.0; nulls_from = p.1.0; nulls_to = p.1.1 }) (λ h. (h.slots, (h.nulls_from, h.nulls_to)))
+    Decides-like (is_node n) (λ p. record { slots = p.0; nulls_from = p.1.0; nulls_to = p.1.1 })
+    (λ h. (h.slots, (h.nulls_from, h.nulls_to)))
     (Decides-and _ _ (of_slot_count n.0) (Decides-and _ _ (of_le (pos 0) n.1) (of_le n.1 n.0)))
 
 pub of_bound : (least most : ℕ) → Decides (nat_le least most) (least ≤ most)
@@ -49,7 +55,8 @@ of_least : (n least most : ℕ) → Decides (n == 0 || nat_le least most) (0 < n
 of_least n least most = (λ e l. grind (arith, nat_tests), λ h. grind (arith, nat_tests))
 
 -- the end of a range
-of_end : (size : ℕ) (a b : ℤ) → pos 0 ≤ℤ a → pos 0 ≤ℤ b → Decides (unsigned_abs b == 0 || nat_le (unsigned_abs a + unsigned_abs b) size) (pos 0 <ℤ b → (a +ℤ b) ≤ℤ pos size)
+of_end : (size : ℕ) (a b : ℤ) → pos 0 ≤ℤ a → pos 0 ≤ℤ b
+    → Decides (unsigned_abs b == 0 || nat_le (unsigned_abs a + unsigned_abs b) size) (pos 0 <ℤ b → (a +ℤ b) ≤ℤ pos size)
 of_end size (pos m) (pos n) h k =
     Decides-like _
     (λ f l. let g : m + n ≤ size = f (omega (arith, ints, l)) in omega (arith, ints, g))
@@ -66,7 +73,8 @@ of_range size r = (
       let a = (of_le (pos 0) r.0).0 p.0 in
       let b = (of_le (pos 0) r.1).0 q.0 in
       record { offset = a; bytes = b; within = (of_end size r.0 r.1 a b).0 q.1 },
-  λ h. and_from _ _ ((of_le (pos 0) r.0).1 h.offset) (and_from _ _ ((of_le (pos 0) r.1).1 h.bytes) ((of_end size r.0 r.1 h.offset h.bytes).1 h.within)),
+  λ h. and_from _ _ ((of_le (pos 0) r.0).1 h.offset)
+      (and_from _ _ ((of_le (pos 0) r.1).1 h.bytes) ((of_end size r.0 r.1 h.offset h.bytes).1 h.within)),
 )
 
 pub of_nodes : (nodes : List (ℤ × ℤ)) → Decides (all is_node nodes) (All IsNode nodes)
@@ -93,24 +101,31 @@ of_offsets_bytes _ n bytes = (λ e. tt, λ h. refl)
 
 of_bytes : (c : Column) → Decides (passes cause.BufferTooShort c) (IsLongEnough c)
 of_bytes c =
-    Decides-like (passes cause.BufferTooShort c) (λ p. record { bitmap = p.0; values = p.1.0; offsets = p.1.1 }) (λ h. (h.bitmap, (h.values, h.offsets)))
-    (Decides-and _ _ (of_least (length c.validity) _ (length c.validity)) (Decides-and _ _ (of_values c.layout c.slots (length c.values)) (of_offsets_bytes c.layout c.slots (length c.offsets))))
+    Decides-like (passes cause.BufferTooShort c) (λ p. record { bitmap = p.0; values = p.1.0; offsets = p.1.1 })
+    (λ h. (h.bitmap, (h.values, h.offsets)))
+    (Decides-and _ _ (of_least (length c.validity) _ (length c.validity))
+    (Decides-and _ _ (of_values c.layout c.slots (length c.values)) (of_offsets_bytes c.layout c.slots (length c.offsets))))
 
 -- one test where another holds
 pub of_when : {P Q : Type 0} (x y : Bool) → Decides x P → Decides y Q → Decides (not x || y) (P → Q)
 of_when true y p q = (λ e h. q.0 e, λ f. q.1 (f (p.0 refl)))
 of_when false y p q = (λ e h. let z : false ≡ true = p.1 h in absurd (cc), λ f. refl)
 
-of_nulls : (nulls bytes least clear : ℕ) → Decides (not (bytes == 0 || nat_le least bytes) || (nulls == cond (bytes == 0) 0 clear)) ((0 < bytes → least ≤ bytes → nulls ≡ clear) × (bytes ≡ 0 → nulls ≡ 0))
-of_nulls nulls zero least clear = Decides-like (nulls == 0) (λ e. (λ l m. absurd (omega arith), λ z. e)) (λ h. h.1 refl) (Decides-eqb nulls 0)
+of_nulls : (nulls bytes least clear : ℕ)
+    → Decides (not (bytes == 0 || nat_le least bytes) || (nulls == cond (bytes == 0) 0 clear))
+    ((0 < bytes → least ≤ bytes → nulls ≡ clear) × (bytes ≡ 0 → nulls ≡ 0))
+of_nulls nulls zero least clear = Decides-like (nulls == 0) (λ e. (λ l m. absurd (omega arith), λ z. e)) (λ h. h.1 refl)
+    (Decides-eqb nulls 0)
 of_nulls nulls (suc bytes) least clear =
     let some : (suc bytes == 0) ≡ false = ne_eqb (suc bytes) 0 (omega arith) in
     Decides-at _ (not (nat_le least (suc bytes)) || (nulls == clear)) (rw some refl)
-    (Decides-like _ (λ f. (λ l m. f m, λ z. absurd (omega arith))) (λ h. h.0 (omega arith)) (of_when _ _ (of_bound least (suc bytes)) (Decides-eqb nulls clear)))
+    (Decides-like _ (λ f. (λ l m. f m, λ z. absurd (omega arith))) (λ h. h.0 (omega arith))
+    (of_when _ _ (of_bound least (suc bytes)) (Decides-eqb nulls clear)))
 
 of_null_count : (c : Column) → Decides (passes cause.BadNullCount c) (CountsNulls c)
 of_null_count c =
-    Decides-like (passes cause.BadNullCount c) (λ f. record { with_bitmap = λ v. (f v).0; without_bitmap = λ v. (f v).1 }) (λ h v. (h.with_bitmap v, h.without_bitmap v))
+    Decides-like (passes cause.BadNullCount c) (λ f. record { with_bitmap = λ v. (f v).0; without_bitmap = λ v. (f v).1 })
+    (λ h v. (h.with_bitmap v, h.without_bitmap v))
     (of_when (has_validity c.layout) _ (λ e. e, λ e. e) (of_nulls c.nulls (length c.validity) _ _))
 
 -- offsets in order
@@ -131,7 +146,8 @@ of_ascending o n size = (
 )
   where
     of_ascending_at : (o : List ℕ) (n : ℕ) → Decides (all_below (is_ascending_at o) n) ((i : ℕ) → i < n → offset o i ≤ℤ offset o (i + 1))
-    of_ascending_at o n = decides_below (is_ascending_at o) (λ i. offset o i ≤ℤ offset o (i + 1)) (λ i. of_le (offset o i) (offset o (i + 1))) n
+    of_ascending_at o n = decides_below (is_ascending_at o) (λ i. offset o i ≤ℤ offset o (i + 1))
+        (λ i. of_le (offset o i) (offset o (i + 1))) n
 
     of_last : (z : ℤ) (size : ℕ) → int_le (pos 0) z ≡ true → Decides (nat_le (unsigned_abs z) size) (z ≤ℤ pos size)
     of_last (pos m) size h = of_le (pos m) (pos size)
@@ -151,11 +167,13 @@ of_texts c =
     decides_below (is_good c) (λ i. is_valid c.validity i ≡ true → IsText c.layout c.offsets c.values i)
     (λ i. of_when (is_valid c.validity i) _ (λ e. e, λ e. e) (of_text c.layout c.offsets c.values i)) c.slots
 
-of_each : (test : Column → Bool) (P : Column → Type 0) → ((c : Column) → Decides (test c) (P c)) → (cs : Columns) → Decides (every test cs) (Each P cs)
+of_each : (test : Column → Bool) (P : Column → Type 0) → ((c : Column) → Decides (test c) (P c)) → (cs : Columns)
+    → Decides (every test cs) (Each P cs)
 of_each test P d none = (λ e. tt, λ h. refl)
 of_each test P d (column c children rest) = Decides-and _ _ (d c) (Decides-and _ _ (of_each test P d children) (of_each test P d rest))
 
-of_each_top : (test : Column → Bool) (P : Column → Type 0) → ((c : Column) → Decides (test c) (P c)) → (cs : Columns) → Decides (every_top test cs) (EachTop P cs)
+of_each_top : (test : Column → Bool) (P : Column → Type 0) → ((c : Column) → Decides (test c) (P c)) → (cs : Columns)
+    → Decides (every_top test cs) (EachTop P cs)
 of_each_top test P d none = (λ e. tt, λ h. refl)
 of_each_top test P d (column c children rest) = Decides-and _ _ (d c) (of_each_top test P d rest)
 
@@ -184,16 +202,23 @@ Asked cause.BadNullCount fields head body = HasNullCounts fields head body
 Asked cause.BadOffsets fields head body = HasOrder fields head body
 Asked cause.ValueNotUtf8 fields head body = HasTexts fields head body
 
-of_head : (test : Bool) (P : Type 0) (cs : Columns) → Decides test P → Decides (test && (every (λ c. true) cs && every_top (λ c. true) cs)) P
-of_head test P cs d = Decides-like _ (λ p. p.0) (λ h. (h, (every_true cs, every_top_true cs))) (Decides-and _ _ d (Decides-and _ _ (λ e. e, λ e. e) (λ e. e, λ e. e)))
+of_head : (test : Bool) (P : Type 0) (cs : Columns) → Decides test P
+    → Decides (test && (every (λ c. true) cs && every_top (λ c. true) cs)) P
+of_head test P cs d = Decides-like _ (λ p. p.0) (λ h. (h, (every_true cs, every_top_true cs)))
+    (Decides-and _ _ d (Decides-and _ _ (λ e. e, λ e. e) (λ e. e, λ e. e)))
 
-of_columns : (test : Column → Bool) (P : Column → Type 0) (cs : Columns) → ((c : Column) → Decides (test c) (P c)) → Decides (true && (every test cs && every_top (λ c. true) cs)) (Each P cs)
-of_columns test P cs d = Decides-like _ (λ p. p.1.0) (λ h. (refl, (h, every_top_true cs))) (Decides-and _ _ (λ e. e, λ e. e) (Decides-and _ _ (of_each test P d cs) (λ e. e, λ e. e)))
+of_columns : (test : Column → Bool) (P : Column → Type 0) (cs : Columns) → ((c : Column) → Decides (test c) (P c))
+    → Decides (true && (every test cs && every_top (λ c. true) cs)) (Each P cs)
+of_columns test P cs d = Decides-like _ (λ p. p.1.0) (λ h. (refl, (h, every_top_true cs)))
+    (Decides-and _ _ (λ e. e, λ e. e) (Decides-and _ _ (of_each test P d cs) (λ e. e, λ e. e)))
 
-of_tops : (test : Column → Bool) (P : Column → Type 0) (cs : Columns) → ((c : Column) → Decides (test c) (P c)) → Decides (true && (every (λ c. true) cs && every_top test cs)) (EachTop P cs)
-of_tops test P cs d = Decides-like _ (λ p. p.1.1) (λ h. (refl, (every_true cs, h))) (Decides-and _ _ (λ e. e, λ e. e) (Decides-and _ _ (λ e. e, λ e. e) (of_each_top test P d cs)))
+of_tops : (test : Column → Bool) (P : Column → Type 0) (cs : Columns) → ((c : Column) → Decides (test c) (P c))
+    → Decides (true && (every (λ c. true) cs && every_top test cs)) (EachTop P cs)
+of_tops test P cs d = Decides-like _ (λ p. p.1.1) (λ h. (refl, (every_true cs, h)))
+    (Decides-and _ _ (λ e. e, λ e. e) (Decides-and _ _ (λ e. e, λ e. e) (of_each_top test P d cs)))
 
-of_lengths : (fields : List Field) (head : BatchHead) (body : List ℕ) → Decides (fits (shape_of fields) head body cause.BadNode) (HasLengths fields head body)
+of_lengths : (fields : List Field) (head : BatchHead) (body : List ℕ)
+    → Decides (fits (shape_of fields) head body cause.BadNode) (HasLengths fields head body)
 of_lengths fields head body =
     let cs = columns_of fields head body in
     let n = unsigned_abs head.length in
@@ -204,24 +229,32 @@ of_lengths fields head body =
           let q = and_parts (is_slot_count head.length) (all is_node head.nodes) p.0 in
           let r = and_parts (every (λ c. true) cs) (every_top top cs) p.1 in
           let batch = (of_slot_count head.length).0 q.0 in
-          record { batch = batch; nodes = nodes.0 q.1; columns = (of_each_top top (λ c. pos c.slots ≡ head.length) (λ c. of_slots head.length batch.from c.slots) cs).0 r.1 },
+          record {
+            batch = batch;
+            nodes = nodes.0 q.1;
+            columns = (of_each_top top (λ c. pos c.slots ≡ head.length) (λ c. of_slots head.length batch.from c.slots) cs).0 r.1;
+          },
       λ h.
           and_from (is_slot_count head.length && all is_node head.nodes) (every (λ c. true) cs && every_top top cs)
           (and_from _ _ ((of_slot_count head.length).1 h.batch) (nodes.1 h.nodes))
-          (and_from _ _ (every_true cs) ((of_each_top top (λ c. pos c.slots ≡ head.length) (λ c. of_slots head.length h.batch.from c.slots) cs).1 h.columns)),
+          (and_from _ _ (every_true cs) ((of_each_top top (λ c. pos c.slots ≡ head.length)
+          (λ c. of_slots head.length h.batch.from c.slots) cs).1 h.columns)),
     )
 
 pub of_ranges : (head : BatchHead) (body : List ℕ) → Decides (all (lies_in (length body)) head.buffers) (HasRanges head body)
-of_ranges head body = Decides-by_and (lies_in (length body)) (LiesIn (length body)) (all (lies_in (length body))) (of_range (length body)) refl (λ _ _. refl) head.buffers
+of_ranges head body = Decides-by_and (lies_in (length body)) (LiesIn (length body)) (all (lies_in (length body)))
+    (of_range (length body)) refl (λ _ _. refl) head.buffers
 
-pub decides : (why : Cause) (fields : List Field) (head : BatchHead) (body : List ℕ) → Decides (fits (shape_of fields) head body why) (Asked why fields head body)
+pub decides : (why : Cause) (fields : List Field) (head : BatchHead) (body : List ℕ)
+    → Decides (fits (shape_of fields) head body why) (Asked why fields head body)
 decides cause.WrongNodeCount fields head body = of_head _ _ (columns_of fields head body) (Decides-eqb _ _)
 decides cause.WrongBufferCount fields head body = of_head _ _ (columns_of fields head body) (Decides-eqb _ _)
 decides cause.BadNode fields head body = of_lengths fields head body
 decides cause.BufferOutOfBody fields head body = of_head _ _ (columns_of fields head body) (of_ranges head body)
 decides cause.BufferTooShort fields head body = of_columns _ _ (columns_of fields head body) of_bytes
 decides cause.BadNullCount fields head body = of_columns _ _ (columns_of fields head body) of_null_count
-decides cause.BadOffsets fields head body = of_columns _ _ (columns_of fields head body) (λ c. of_order c.layout c.slots c.offsets (length c.values))
+decides cause.BadOffsets fields head body =
+    of_columns _ _ (columns_of fields head body) (λ c. of_order c.layout c.slots c.offsets (length c.values))
 decides cause.ValueNotUtf8 fields head body = of_tops _ _ (columns_of fields head body) of_texts
 
 -- a length that isn't negative is its absolute value

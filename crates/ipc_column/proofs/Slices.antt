@@ -1,5 +1,6 @@
 -- Where the bytes of slots lie, and when they are texts.
-use Rattle.std.proofs.Common.{◌≡◌, ◌∙◌, refl, sym, ap, ℕ, zero, suc, ◌+◌, ◌-◌, ◌<◌, ◌≤◌, Bool, true, false, List, length, take, drop, add-one, arith, ◌↔◌, subst, inl, inr, length-drop}
+use Rattle.std.proofs.Common.{◌≡◌, ◌∙◌, refl, sym, ap, ℕ, zero, suc, ◌+◌, ◌-◌, ◌<◌, ◌≤◌, Bool, true, false, List, length, take, drop}
+use Rattle.std.proofs.Common.{add-one, arith, ◌↔◌, subst, inl, inr, length-drop}
 use Rattle.std.specs.Prelude.{◌&&◌, ◌||◌, not, ℤ, pos, negsuc, int_le, nat_le, unsigned_abs, slice_range, IsTrue}
 use Rattle.std.specs.Str.{is_utf8, IsUtf8, IsCharBoundary}
 use Rattle.std.proofs.lemmas.Str.{IsUtf8-from_is_utf8, is_utf8-from_IsUtf8, IsUtf8-between, IsCharBoundary-end}
@@ -17,7 +18,8 @@ use Rattle.ipc_column.proofs.Below.{below_at, below_from}
 -- two tests of one fact
 pub utf8_tests : (bs : List ℕ) (b : Bool) → (IsTrue b ↔ IsUtf8 bs) → b ≡ is_utf8 bs
 utf8_tests bs true h = sym (is_utf8-from_IsUtf8 bs (h.0 refl))
-utf8_tests bs false h = elim (is_utf8 bs) as (λ v. is_utf8 bs ≡ v → false ≡ v) [ true ↦ λ e. h.1 (IsUtf8-from_is_utf8 bs e) | false ↦ λ e. refl ] refl
+utf8_tests bs false h = elim (is_utf8 bs) as (λ v. is_utf8 bs ≡ v → false ≡ v)
+    [ true ↦ λ e. h.1 (IsUtf8-from_is_utf8 bs e) | false ↦ λ e. refl ] refl
 
 -- a number that isn't below one that isn't negative
 up_one : (a b : ℤ) → int_le (pos 0) a ≡ true → int_le a b ≡ true → (int_le (pos 0) b ≡ true) × (unsigned_abs a ≤ unsigned_abs b)
@@ -26,17 +28,20 @@ up_one (pos m) (negsuc n) h l = absurd (cc)
 up_one (negsuc m) b h l = absurd (cc)
 
 -- no offset up to n is negative
-pub above : (o : List ℕ) (n i : ℕ) → int_le (pos 0) (offset o 0) ≡ true → all_below (is_ascending_at o) n ≡ true → i ≤ n → int_le (pos 0) (offset o i) ≡ true
+pub above : (o : List ℕ) (n i : ℕ) → int_le (pos 0) (offset o 0) ≡ true → all_below (is_ascending_at o) n ≡ true → i ≤ n
+    → int_le (pos 0) (offset o i) ≡ true
 above o n zero h a l = h
 above o n (suc i) h a l =
     let step : int_le (offset o i) (offset o (i + 1)) ≡ true = below_at (is_ascending_at o) n i a (omega arith) in
     let up = (up_one (offset o i) (offset o (i + 1)) (above o n i h a (omega arith)) step).0 in
     rw add-one at up
 
-step_up : (o : List ℕ) (n i : ℕ) → int_le (pos 0) (offset o 0) ≡ true → all_below (is_ascending_at o) n ≡ true → i < n → place o i ≤ place o (i + 1)
+step_up : (o : List ℕ) (n i : ℕ) → int_le (pos 0) (offset o 0) ≡ true → all_below (is_ascending_at o) n ≡ true → i < n
+    → place o i ≤ place o (i + 1)
 step_up o n i h a l = (up_one (offset o i) (offset o (i + 1)) (above o n i h a (omega arith)) (below_at (is_ascending_at o) n i a l)).1
 
-far_up : (o : List ℕ) (n i d : ℕ) → int_le (pos 0) (offset o 0) ≡ true → all_below (is_ascending_at o) n ≡ true → i + d ≤ n → place o i ≤ place o (i + d)
+far_up : (o : List ℕ) (n i d : ℕ) → int_le (pos 0) (offset o 0) ≡ true → all_below (is_ascending_at o) n ≡ true → i + d ≤ n
+    → place o i ≤ place o (i + d)
 far_up o n i zero h a l = let e : i + 0 ≡ i = omega arith in rw e (omega arith)
 far_up o n i (suc d) h a l =
     let before = far_up o n i d h a (omega arith) in
@@ -58,29 +63,39 @@ places o n size i j h l m =
     let up : (a b : ℕ) → a ≤ b → b ≤ n → place o a ≤ place o b = λ a b k t.
     let e : a + (b - a) ≡ b = omega arith in
     rw e at (far_up o n a (b - a) p.0 q.0 (omega arith)) in
-    record { first = up 0 i (omega arith) (omega arith); order = up i j l m; last = up j n m (omega arith); inside = leb-true (place o n) size q.1 }
+    record {
+      first = up 0 i (omega arith) (omega arith);
+      order = up i j l m;
+      last = up j n m (omega arith);
+      inside = leb-true (place o n) size q.1;
+    }
 
 -- a cut of a cut
 cut_cut : (w : List ℕ) (b l a m : ℕ) → a + m ≤ l → take m (drop a (take l (drop b w))) ≡ take m (drop (b + a) w)
 cut_cut w b l a m h =
     let e : l ≡ a + (l - a) = omega arith in
     ap (λ (k : ℕ). take m (drop a (take k (drop b w)))) e
-    ∙ (ap (λ (z : List ℕ). take m z) (drop-take a (l - a) (drop b w)) ∙ (take-take m (l - a) (drop a (drop b w)) (omega arith) ∙ ap (λ (z : List ℕ). take m z) (drop-drop a b w)))
+    ∙ (ap (λ (z : List ℕ). take m z) (drop-take a (l - a) (drop b w))
+    ∙ (take-take m (l - a) (drop a (drop b w)) (omega arith) ∙ ap (λ (z : List ℕ). take m z) (drop-drop a b w)))
 
 -- a cut of a text
-cut_text : (w : List ℕ) (b l i j : ℕ) → b ≤ i → i ≤ j → j ≤ b + l → IsUtf8 (take l (drop b w)) → IsCharBoundary (take l (drop b w)) (i - b) → IsCharBoundary (take l (drop b w)) (j - b)
+cut_text : (w : List ℕ) (b l i j : ℕ) → b ≤ i → i ≤ j → j ≤ b + l → IsUtf8 (take l (drop b w)) → IsCharBoundary (take l (drop b w)) (i - b)
+    → IsCharBoundary (take l (drop b w)) (j - b)
     → IsUtf8 (take (j - i) (drop i w))
 cut_text w b l i j p q r u ci cj =
     let size : j - b - (i - b) ≡ j - i = omega arith in
     let start : b + (i - b) ≡ i = omega arith in
     let e = cut_cut w b l (i - b) (j - i) (omega arith) in
     let t = IsUtf8-between (take l (drop b w)) (i - b) (j - b) u (omega arith) ci cj in
-    subst IsUtf8 (e ∙ ap (λ (k : ℕ). take (j - i) (drop k w)) start) (subst (λ (k : ℕ). IsUtf8 (take k (drop (i - b) (take l (drop b w))))) size t)
+    subst IsUtf8 (e ∙ ap (λ (k : ℕ). take (j - i) (drop k w)) start)
+    (subst (λ (k : ℕ). IsUtf8 (take k (drop (i - b) (take l (drop b w))))) size t)
 
 -- slots of one text that may be cut where they begin are texts
-pub whole_good : (o w v : List ℕ) (n : ℕ) → are_ascending o n (length w) ≡ true → is_utf8 (slice_range w (place o 0) (place o n)) ≡ true → AreCuts o (slice_range w (place o 0) (place o n)) n
+pub whole_good : (o w v : List ℕ) (n : ℕ) → are_ascending o n (length w) ≡ true → is_utf8 (slice_range w (place o 0) (place o n)) ≡ true
+    → AreCuts o (slice_range w (place o 0) (place o n)) n
     → all_below (slot_good (VariableBytes true) v o w) n ≡ true
-whole_good o w v n h u cuts = below_from (slot_good (VariableBytes true) v o w) n (λ i l. or_true (not (is_valid v i)) _ (is_utf8-from_IsUtf8 _ (spelled i l)))
+whole_good o w v n h u cuts = below_from (slot_good (VariableBytes true) v o w) n
+    (λ i l. or_true (not (is_valid v i)) _ (is_utf8-from_IsUtf8 _ (spelled i l)))
   where
     or_true : (a b : Bool) → b ≡ true → (a || b) ≡ true
     or_true true b e = refl
@@ -88,24 +103,30 @@ whole_good o w v n h u cuts = below_from (slot_good (VariableBytes true) v o w) 
 
     end : place o 0 ≤ place o n → place o n ≤ length w → IsCharBoundary (slice_range w (place o 0) (place o n)) (place o n - place o 0)
     end p q =
-        let size : length (slice_range w (place o 0) (place o n)) ≡ place o n - place o 0 = length-take-le (place o n - place o 0) (drop (place o 0) w) (omega (arith, length-drop (place o 0) w)) in
-        subst (λ (k : ℕ). IsCharBoundary (slice_range w (place o 0) (place o n)) k) size (IsCharBoundary-end (slice_range w (place o 0) (place o n)))
+        let size : length (slice_range w (place o 0) (place o n)) ≡ place o n - place o 0 =
+        length-take-le (place o n - place o 0) (drop (place o 0) w) (omega (arith, length-drop (place o 0) w)) in
+        subst (λ (k : ℕ). IsCharBoundary (slice_range w (place o 0) (place o n)) k) size
+        (IsCharBoundary-end (slice_range w (place o 0) (place o n)))
 
     cut_at : (j : ℕ) → j ≤ n → IsCharBoundary (slice_range w (place o 0) (place o n)) (place o j - place o 0)
     cut_at j m =
         elim (cases_order j n) as (λ _. IsCharBoundary (slice_range w (place o 0) (place o n)) (place o j - place o 0)) [
-          | inl e ↦ let p = places o n (length w) 0 n h (omega arith) (omega arith) in subst (λ (k : ℕ). IsCharBoundary (slice_range w (place o 0) (place o n)) (place o k - place o 0)) (sym e) (end p.order p.inside)
-          | inr r ↦ elim r as (λ _. IsCharBoundary (slice_range w (place o 0) (place o n)) (place o j - place o 0)) [ inl k ↦ cuts j k | inr k ↦ absurd (omega arith) ]
+          | inl e ↦ let p = places o n (length w) 0 n h (omega arith) (omega arith) in subst
+              (λ (k : ℕ). IsCharBoundary (slice_range w (place o 0) (place o n)) (place o k - place o 0)) (sym e) (end p.order p.inside)
+          | inr r ↦ elim r as (λ _. IsCharBoundary (slice_range w (place o 0) (place o n)) (place o j - place o 0))
+              [ inl k ↦ cuts j k | inr k ↦ absurd (omega arith) ]
         ]
 
     spelled : (i : ℕ) → i < n → IsUtf8 (between o w i)
     spelled i l =
         let p = places o n (length w) i (i + 1) h (omega arith) (omega arith) in
-        cut_text w (place o 0) (place o n - place o 0) (place o i) (place o (i + 1)) p.first p.order (omega arith) (IsUtf8-from_is_utf8 _ u) (cut_at i (omega arith)) (cut_at (i + 1) (omega arith))
+        cut_text w (place o 0) (place o n - place o 0) (place o i) (place o (i + 1)) p.first p.order (omega arith) (IsUtf8-from_is_utf8 _ u)
+        (cut_at i (omega arith)) (cut_at (i + 1) (omega arith))
 
 -- what holds no text asks for nothing
 pub other_good : (c : Column) → is_texts c.layout ≡ false → all_below (is_good c) c.slots ≡ true
-other_good c h = below_from (is_good c) c.slots (λ i l. ap (λ (b : Bool). not (is_valid c.validity i) || b) (other c.layout h i) ∙ or_at (not (is_valid c.validity i)))
+other_good c h = below_from (is_good c) c.slots
+    (λ i l. ap (λ (b : Bool). not (is_valid c.validity i) || b) (other c.layout h i) ∙ or_at (not (is_valid c.validity i)))
   where
     or_at : (a : Bool) → (a || true) ≡ true
     or_at true = refl

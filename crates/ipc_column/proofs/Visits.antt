@@ -1,5 +1,6 @@
 -- No more slots are visited than the nodes have.
-use Rattle.std.proofs.Common.{◌≡◌, refl, ℕ, zero, suc, ◌+◌, ◌*◌, ◌<◌, ◌≤◌, Bool, true, false, cond, List, [], ◌∷◌, length, drop, get_or, arith, add-one, drop-cons}
+use Rattle.std.proofs.Common.{◌≡◌, refl, ℕ, zero, suc, ◌+◌, ◌*◌, ◌<◌, ◌≤◌, Bool, true, false, cond, List, [], ◌∷◌, length, drop, get_or}
+use Rattle.std.proofs.Common.{arith, add-one, drop-cons}
 use Rattle.std.specs.Prelude.{◌^◌, ℤ, pos, negsuc, unsigned_abs}
 use Rattle.std.proofs.lemmas.Bool.{and_parts, leb-true}
 use Rattle.ipc_meta.specs.declared.head.BatchHead.{BatchHead}
@@ -24,7 +25,8 @@ count-lt (pos n) h = let most = leb-true n max_rows (and_parts _ _ h).1 in omega
 count-lt (negsuc n) h = absurd (cc)
 
 -- the slots of nodes from one on
-slots_from : (nodes : List (ℤ × ℤ)) (n : ℕ) → n < length nodes → slots_in (drop n nodes) ≡ count_of (get_or nodes n (pos 0, pos 0)).0 + slots_in (drop (n + 1) nodes)
+slots_from : (nodes : List (ℤ × ℤ)) (n : ℕ) → n < length nodes
+    → slots_in (drop n nodes) ≡ count_of (get_or nodes n (pos 0, pos 0)).0 + slots_in (drop (n + 1) nodes)
 slots_from nodes n l = rw (drop-cons nodes n (pos 0, pos 0), add-one) refl
 
 slots_less : (nodes : List (ℤ × ℤ)) (n d : ℕ) → n + d ≤ length nodes → slots_in (drop (n + d) nodes) ≤ slots_in (drop n nodes)
@@ -53,7 +55,8 @@ texts_cut (field layout children rest) head body n b h l =
     rw end (omega (arith, here, own, count, below, after))
 
 -- the slots of the nodes
-pub texts_most : (s : Shape) (head : BatchHead) (body : List ℕ) → all is_node head.nodes ≡ true → nodes_in s ≤ length head.nodes → texts_in (cut s head body 0 0) ≤ slots_in head.nodes
+pub texts_most : (s : Shape) (head : BatchHead) (body : List ℕ) → all is_node head.nodes ≡ true → nodes_in s ≤ length head.nodes
+    → texts_in (cut s head body 0 0) ≤ slots_in head.nodes
 texts_most s head body h l = omega (arith, texts_cut s head body 0 0 h (omega arith))
 
 pub slots_most : (nodes : List (ℤ × ℤ)) → all is_node nodes ≡ true → slots_in nodes ≤ 2 ^ 31 * length nodes

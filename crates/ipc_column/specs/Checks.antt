@@ -1,5 +1,8 @@
--- The same facts as tests that compute, by the cause that is answered where one fails (Arrow Columnar Format, "Physical Memory Layout").
-use Rattle.std.specs.Prelude.{◌≡◌, ⊤, ℕ, zero, suc, ◌+◌, ◌-◌, ◌*◌, ◌/◌, ◌^◌, ◌<◌, Bool, true, false, ◌&&◌, ◌||◌, not, ◌==◌, nat_le, ℤ, pos, int_le, int_lt, unsigned_abs, List, [], ◌∷◌, length, if◌then◌else◌, Result, Ok, Err}
+-- The same facts as tests that compute, by the cause that is answered where one fails (Arrow
+-- Columnar Format, "Physical Memory Layout").
+use Rattle.std.specs.Prelude.{◌≡◌, ⊤, ℕ, zero, suc, ◌+◌, ◌-◌, ◌*◌, ◌/◌, ◌^◌, ◌<◌, Bool, true, false}
+use Rattle.std.specs.Prelude.{◌&&◌, ◌||◌, not, ◌==◌, nat_le, ℤ, pos, int_le, int_lt, unsigned_abs}
+use Rattle.std.specs.Prelude.{List, [], ◌∷◌, length, if◌then◌else◌, Result, Ok, Err}
 use Rattle.std.specs.Str.{is_utf8, IsCharBoundary}
 use Rattle.ipc_scalar.specs.Bytes.{clear}
 use Rattle.ipc_model.specs.declared.fault.Fault.{Fault}
@@ -52,7 +55,9 @@ is_node node = is_slot_count node.0 && (int_le (pos 0) node.1 && int_le node.1 n
 
 -- an offset and a length, within so many bytes
 abbrev pub lies_in : ℕ → ℤ × ℤ → Bool
-lies_in size range = int_le (pos 0) range.0 && (int_le (pos 0) range.1 && (unsigned_abs range.1 == 0 || nat_le (unsigned_abs range.0 + unsigned_abs range.1) size))
+lies_in size range = int_le (pos 0) range.0
+    && (int_le (pos 0) range.1 &&
+    (unsigned_abs range.1 == 0 || nat_le (unsigned_abs range.0 + unsigned_abs range.1) size))
 
 -- the tests of a head
 abbrev pub head_passes : Cause → Shape → BatchHead → ℕ → Bool
@@ -95,11 +100,13 @@ is_ascending_at offsets i = int_le (offset offsets i) (offset offsets (i + 1))
 
 -- the offsets of n slots are in order, within so many bytes
 abbrev pub are_ascending : List ℕ → ℕ → ℕ → Bool
-are_ascending offsets n size = int_le (pos 0) (offset offsets 0) && (all_below (is_ascending_at offsets) n && nat_le (place offsets n) size)
+are_ascending offsets n size = int_le (pos 0) (offset offsets 0)
+    && (all_below (is_ascending_at offsets) n && nat_le (place offsets n) size)
 
 -- the same of a column's, where they are there
 abbrev pub in_order : Layout → ℕ → List ℕ → ℕ → Bool
-in_order (l.VariableBytes utf8) n offsets size = n == 0 || (not (nat_le (4 * (n + 1)) (length offsets)) || are_ascending offsets n size)
+in_order (l.VariableBytes utf8) n offsets size =
+    n == 0 || (not (nat_le (4 * (n + 1)) (length offsets)) || are_ascending offsets n size)
 in_order _ n offsets size = true
 
 -- what slot i holds is UTF-8, where it is a text
@@ -113,7 +120,8 @@ AreCuts offsets text n = (i : ℕ) → i < n → IsCharBoundary text (place offs
 
 -- slot i is null, or holds what its type asks for
 abbrev pub slot_good : Layout → List ℕ → List ℕ → List ℕ → ℕ → Bool
-slot_good layout validity offsets values i = not (is_valid validity i) || is_text layout offsets values i
+slot_good layout validity offsets values i =
+    not (is_valid validity i) || is_text layout offsets values i
 
 -- the same of a column's slots
 abbrev pub is_good : Column → ℕ → Bool
@@ -125,8 +133,11 @@ nulls_in validity n = if length validity == 0 then 0 else clear validity n
 
 -- the tests of a column
 abbrev pub passes : Cause → Column → Bool
-passes cause.BufferTooShort c = has_bitmap c.slots (length c.validity) && (holds_values c.layout c.slots (length c.values) && holds_offsets c.layout c.slots (length c.offsets))
-passes cause.BadNullCount c = not (has_validity c.layout) || (not (has_bitmap c.slots (length c.validity)) || (c.nulls == nulls_in c.validity c.slots))
+passes cause.BufferTooShort c = has_bitmap c.slots (length c.validity)
+    && (holds_values c.layout c.slots (length c.values)
+    && holds_offsets c.layout c.slots (length c.offsets))
+passes cause.BadNullCount c = not (has_validity c.layout)
+    || (not (has_bitmap c.slots (length c.validity)) || (c.nulls == nulls_in c.validity c.slots))
 passes cause.BadOffsets c = in_order c.layout c.slots c.offsets (length c.values)
 passes _ c = true
 
@@ -142,14 +153,16 @@ all_pass why n cs = every (passes why) cs && every_top (top_passes why n) cs
 
 -- the tests of the parts
 abbrev pub fits : Shape → BatchHead → List ℕ → Cause → Bool
-fits shape head body why = head_passes why shape head (length body) && all_pass why (unsigned_abs head.length) (cut shape head body 0 0)
+fits shape head body why = head_passes why shape head (length body)
+    && all_pass why (unsigned_abs head.length) (cut shape head body 0 0)
 
 -- n rows of the columns have values
 abbrev pub Holds : ℕ → Columns → Type 0
 Holds n cs = (why : Cause) → all_pass why n cs ≡ true
 
 -- every test of the parts holds, and these are the rows of their columns
-pub record Passing (shape : Shape) (head : BatchHead) (body : List ℕ) (rows : List (List Value)) : Type 0 where
+pub record Passing (shape : Shape) (head : BatchHead) (body : List ℕ)
+    (rows : List (List Value)) : Type 0 where
   pub sound : (why : Cause) → fits shape head body why ≡ true
   pub values : rows ≡ rows_of (cut shape head body 0 0) (unsigned_abs head.length)
 
@@ -161,11 +174,19 @@ HeadHolds shape head body = (why : Cause) → head_passes why shape head (length
 abbrev pub Failing : Fault → Shape → BatchHead → List ℕ → Type 0
 Failing fault.WrongNodeCount shape head body = fits shape head body cause.WrongNodeCount ≡ false
 Failing fault.WrongBufferCount shape head body = fits shape head body cause.WrongBufferCount ≡ false
-Failing fault.BadNode shape head body = CountsHold shape head (length body) × (fits shape head body cause.BadNode ≡ false)
-Failing fault.BufferOutOfBody shape head body = CountsHold shape head (length body) × (fits shape head body cause.BufferOutOfBody ≡ false)
-Failing fault.BufferTooShort shape head body = HeadHolds shape head body × (fits shape head body cause.BufferTooShort ≡ false)
-Failing fault.BadNullCount shape head body = HeadHolds shape head body × (fits shape head body cause.BadNullCount ≡ false)
-Failing fault.BadOffsets shape head body = HeadHolds shape head body × (fits shape head body cause.BadOffsets ≡ false)
-Failing fault.ValueNotUtf8 shape head body = HeadHolds shape head body × ((fits shape head body cause.BufferTooShort ≡ true) × (fits shape head body cause.BadOffsets ≡ true) × (fits shape head body cause.ValueNotUtf8 ≡ false))
+Failing fault.BadNode shape head body =
+    CountsHold shape head (length body) × (fits shape head body cause.BadNode ≡ false)
+Failing fault.BufferOutOfBody shape head body =
+    CountsHold shape head (length body) × (fits shape head body cause.BufferOutOfBody ≡ false)
+Failing fault.BufferTooShort shape head body =
+    HeadHolds shape head body × (fits shape head body cause.BufferTooShort ≡ false)
+Failing fault.BadNullCount shape head body =
+    HeadHolds shape head body × (fits shape head body cause.BadNullCount ≡ false)
+Failing fault.BadOffsets shape head body =
+    HeadHolds shape head body × (fits shape head body cause.BadOffsets ≡ false)
+Failing fault.ValueNotUtf8 shape head body =
+    HeadHolds shape head body × ((fits shape head body cause.BufferTooShort ≡ true)
+    × (fits shape head body cause.BadOffsets ≡ true)
+    × (fits shape head body cause.ValueNotUtf8 ≡ false))
 Failing fault.OutOfMemory shape head body = ⊤
 Failing _ shape head body = ⊥

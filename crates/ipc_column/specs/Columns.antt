@@ -1,5 +1,6 @@
 -- Columns as byte lists (Arrow Columnar Format, "Physical Memory Layout").
-use Rattle.std.specs.Prelude.{ℕ, ◌+◌, Bool, ◌&&◌, true, List, [], ◌∷◌, length, nat_le, slice_range, if◌then◌else◌, ⊤}
+use Rattle.std.specs.Prelude.{ℕ, ◌+◌, Bool, ◌&&◌, true, List, [], ◌∷◌, length, nat_le, slice_range}
+use Rattle.std.specs.Prelude.{if◌then◌else◌, ⊤}
 use Rattle.ipc_model.specs.declared.layout.Layout.{Layout}
 
 -- a field's node (Message.fbs, FieldNode) with the bytes of its buffers
@@ -48,4 +49,5 @@ forest (c ∷ cs) = column c.0 c.1 (forest cs)
 
 -- so many bytes of the body from a place on, or none where they pass its end
 unfoldable pub bytes_of : List ℕ → ℕ → ℕ → List ℕ
-bytes_of body start len = if nat_le (start + len) (length body) then slice_range body start (start + len) else []
+bytes_of body start len = if nat_le (start + len) (length body) then slice_range body start
+    (start + len) else []

@@ -1,5 +1,7 @@
--- Columns whose numbers are lent as they lie (Arrow Columnar Format, "Fixed-size Primitive Layout").
-use Rattle.std.specs.Prelude.{◌≡◌, ℕ, ◌*◌, ◌<◌, ◌≤◌, Bool, ◌&&◌, ◌==◌, true, List, [], ◌∷◌, length, Some, slice_get, slice_index_or}
+-- Columns whose numbers are lent as they lie (Arrow Columnar Format, "Fixed-size Primitive
+-- Layout").
+use Rattle.std.specs.Prelude.{◌≡◌, ℕ, ◌*◌, ◌<◌, ◌≤◌, Bool, ◌&&◌, ◌==◌, true, List, [], ◌∷◌, length}
+use Rattle.std.specs.Prelude.{Some, slice_get, slice_index_or}
 use Rattle.ipc_scalar.specs.Bytes.{int64}
 use Rattle.ipc_model.specs.declared.schema.IntBits.TheVariants.{B64}
 use Rattle.ipc_model.specs.declared.value.Value.{Value}
@@ -22,7 +24,8 @@ lent_of (column c children rest) = is_lent c ∷ lent_of rest
 -- row i has the signed number at byte 8 * i in this column
 pub record AreNumbers (rows : List (List Value)) (column : ℕ) (values : List ℕ) : Type 0 where
   pub long : 8 * length rows ≤ length values
-  pub each : (i : ℕ) → i < length rows → slice_get (slice_index_or rows i []) column ≡ Some (Int (int64 values (8 * i)))
+  pub each : (i : ℕ) → i < length rows
+      → slice_get (slice_index_or rows i []) column ≡ Some (Int (int64 values (8 * i)))
 
 -- the values of a part of signed 64-bit numbers without a bitmap
 pub record AreValues (body : List ℕ) (p : ColumnRanges) (values : List ℕ) : Type 0 where

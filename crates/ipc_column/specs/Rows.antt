@@ -1,4 +1,5 @@
--- When the parts of a record batch give rows, and what a refusal says of them (Arrow Columnar Format, "RecordBatch message").
+-- When the parts of a record batch give rows, and what a refusal says of them (Arrow Columnar
+-- Format, "RecordBatch message").
 use Rattle.std.specs.Prelude.{◌≡◌, ℕ, ◌<◌, true, pos, List, [], length, slice_index_or, ⊤}
 use Rattle.std.specs.List.{All}
 use Rattle.ipc_model.specs.declared.fault.Fault.{Fault}
@@ -9,11 +10,14 @@ use Rattle.ipc_meta.specs.declared.head.BatchHead.{BatchHead}
 use Rattle.ipc_meta.specs.Supported.{are_supported}
 use Rattle.ipc_column.specs.Shapes.{columns_of}
 use Rattle.ipc_column.specs.Values.{row}
-use Rattle.ipc_column.specs.Rules.{HasNodes, HasBuffers, HasLengths, HasRanges, HasBytes, HasNullCounts, HasOrder, HasTexts, IsSlotCount, IsNode}
+use Rattle.ipc_column.specs.Rules.{HasNodes, HasBuffers, HasLengths, HasRanges, HasBytes}
+use Rattle.ipc_column.specs.Rules.{HasNullCounts, HasOrder, HasTexts, IsSlotCount, IsNode}
 
--- The head and the body are a record batch of the fields (Arrow Columnar Format, "RecordBatch message"), and these are its rows:
--- in row i stand the values of slot i, a column beside the other.
-pub record Rows (fields : List Field) (head : BatchHead) (body : List ℕ) (rows : List (List Value)) : Type 0 where
+-- The head and the body are a record batch of the fields (Arrow Columnar Format, "RecordBatch
+-- message"), and these are its rows: in row i stand the values of slot i, a column beside the
+-- other.
+pub record Rows (fields : List Field) (head : BatchHead) (body : List ℕ)
+    (rows : List (List Value)) : Type 0 where
   -- each field is of a type that is read
   pub types : are_supported fields ≡ true
   -- the head has the nodes and the buffers of the fields, and no others
@@ -30,35 +34,45 @@ pub record Rows (fields : List Field) (head : BatchHead) (body : List ℕ) (rows
   pub texts : HasTexts fields head body
   -- there are as many rows as the head says, and each has its values
   pub count : head.length ≡ pos (length rows)
-  pub values : (i : ℕ) → i < length rows → slice_index_or rows i [] ≡ row (columns_of fields head body) i
+  pub values : (i : ℕ) → i < length rows
+      → slice_index_or rows i [] ≡ row (columns_of fields head body) i
 
 -- each field finds its node and its buffers
 pub record HasCounts (fields : List Field) (head : BatchHead) : Type 0 where
   pub nodes : HasNodes fields head
   pub buffers : HasBuffers fields head
 
--- and what the head says is in its bounds: the lengths, the null counts, and the ranges, which lie in the body
+-- and what the head says is in its bounds: the lengths, the null counts, and the ranges, which lie
+-- in the body
 pub record HasParts (fields : List Field) (head : BatchHead) (body : List ℕ) : Type 0 where
   pub counts : HasCounts fields head
   pub batch : IsSlotCount head.length
   pub bounds : All IsNode head.nodes
   pub ranges : HasRanges head body
 
--- The cause of the fault is true of the parts. A node or a range is returned only where the head has as many as the fields need, a column only
--- where all that the head says is in its bounds too, and a text only where all offsets are there and in order.
--- Out of memory has no cause in them, and no other fault is answered.
+-- The cause of the fault is true of the parts. A node or a range is returned only where the head
+-- has as many as the fields need, a column only where all that the head says is in its bounds too,
+-- and a text only where all offsets are there and in order. Out of memory has no cause in them, and
+-- no other fault is answered.
 abbrev pub RefusesParts : Fault → List Field → BatchHead → List ℕ → Type 0
 RefusesParts fault.WrongNodeCount fields head body = ¬ HasNodes fields head
 RefusesParts fault.WrongBufferCount fields head body = ¬ HasBuffers fields head
 RefusesParts fault.BadNode fields head body = HasCounts fields head × ¬ HasLengths fields head body
 RefusesParts fault.BufferOutOfBody fields head body = HasCounts fields head × ¬ HasRanges head body
-RefusesParts fault.BufferTooShort fields head body = HasParts fields head body × ¬ HasBytes fields head body
-RefusesParts fault.BadNullCount fields head body = HasParts fields head body × ¬ HasNullCounts fields head body
-RefusesParts fault.BadOffsets fields head body = HasParts fields head body × ¬ HasOrder fields head body
-RefusesParts fault.ValueNotUtf8 fields head body = HasParts fields head body × (HasBytes fields head body × HasOrder fields head body × ¬ HasTexts fields head body)
+RefusesParts fault.BufferTooShort fields head body =
+    HasParts fields head body × ¬ HasBytes fields head body
+RefusesParts fault.BadNullCount fields head body =
+    HasParts fields head body × ¬ HasNullCounts fields head body
+RefusesParts fault.BadOffsets fields head body =
+    HasParts fields head body × ¬ HasOrder fields head body
+RefusesParts fault.ValueNotUtf8 fields head body =
+    HasParts fields head body × (HasBytes fields head body × HasOrder fields head body
+    × ¬ HasTexts fields head body)
 RefusesParts fault.OutOfMemory fields head body = ⊤
 RefusesParts _ fields head body = ⊥
 
 -- parts give one list of rows at most
 abbrev pub IsOneList : Type 0
-IsOneList = (fields : List Field) (head : BatchHead) (body : List ℕ) (rows others : List (List Value)) → Rows fields head body rows → Rows fields head body others → rows ≡ others
+IsOneList = (fields : List Field) (head : BatchHead) (body : List ℕ)
+    (rows others : List (List Value)) → Rows fields head body rows → Rows fields head body others
+    → rows ≡ others

@@ -1,5 +1,7 @@
--- What the standard asks of a record batch's parts (Arrow Columnar Format, "Physical Memory Layout").
-use Rattle.std.specs.Prelude.{◌≡◌, ℕ, ◌+◌, ◌*◌, ◌/◌, ◌^◌, ◌<◌, ◌≤◌, ℤ, pos, ◌+ℤ◌, ◌≤ℤ◌, ◌<ℤ◌, negsuc, true, List, [], ◌∷◌, length, if◌then◌else◌, ⊤}
+-- What the standard asks of a record batch's parts (Arrow Columnar Format, "Physical Memory
+-- Layout").
+use Rattle.std.specs.Prelude.{◌≡◌, ℕ, ◌+◌, ◌*◌, ◌/◌, ◌^◌, ◌<◌, ◌≤◌, ℤ, pos, ◌+ℤ◌, ◌≤ℤ◌, ◌<ℤ◌}
+use Rattle.std.specs.Prelude.{negsuc, true, List, [], ◌∷◌, length, if◌then◌else◌, ⊤}
 use Rattle.std.specs.List.{All}
 use Rattle.std.specs.Str.{IsUtf8}
 use Rattle.ipc_scalar.specs.Bytes.{clear}
@@ -32,13 +34,15 @@ pub record IsNode (node : ℤ × ℤ) : Type 0 where
   pub nulls_from : pos 0 ≤ℤ node.1
   pub nulls_to : node.1 ≤ℤ node.0
 
--- the batch's length and those of its nodes; the columns are as long as the batch (Message.fbs, RecordBatch, "length")
+-- the batch's length and those of its nodes; the columns are as long as the batch (Message.fbs,
+-- RecordBatch, "length")
 pub record HasLengths (fields : List Field) (head : BatchHead) (body : List ℕ) : Type 0 where
   pub batch : IsSlotCount head.length
   pub nodes : All IsNode head.nodes
   pub columns : EachTop (λ c. pos c.slots ≡ head.length) (columns_of fields head body)
 
--- a range that begins at 0 or above and that, unless it is empty, ends within so many bytes (Schema.fbs, Buffer)
+-- a range that begins at 0 or above and that, unless it is empty, ends within so many bytes
+-- (Schema.fbs, Buffer)
 pub record LiesIn (size : ℕ) (range : ℤ × ℤ) : Type 0 where
   pub offset : pos 0 ≤ℤ range.0
   pub bytes : pos 0 ≤ℤ range.1
@@ -57,7 +61,8 @@ HoldValues l.Null n bytes = ⊤
 HoldValues (l.VariableBytes utf8) n bytes = ⊤
 HoldValues l.Unsupported n bytes = ⊤
 
--- so many bytes hold the offsets of n slots, one more than there are slots, or none for no slots (Arrow Columnar Format, "Variable-size Binary Layout")
+-- so many bytes hold the offsets of n slots, one more than there are slots, or none for no slots
+-- (Arrow Columnar Format, "Variable-size Binary Layout")
 abbrev pub HoldOffsets : Layout → ℕ → ℕ → Type 0
 HoldOffsets (l.VariableBytes utf8) n bytes = 0 < n → 4 * (n + 1) ≤ bytes
 HoldOffsets l.Null n bytes = ⊤
@@ -70,7 +75,8 @@ HoldOffsets l.Unsupported n bytes = ⊤
 abbrev pub HasBits : Column → Type 0
 HasBits c = (c.slots + 7) / 8 ≤ length c.validity
 
--- the buffers have the bytes that the slots need: a bit for each slot in a bitmap that is there, the values, and the offsets
+-- the buffers have the bytes that the slots need: a bit for each slot in a bitmap that is there,
+-- the values, and the offsets
 pub record IsLongEnough (c : Column) : Type 0 where
   pub bitmap : 0 < length c.validity → HasBits c
   pub values : HoldValues c.layout c.slots (length c.values)
@@ -80,17 +86,19 @@ pub record IsLongEnough (c : Column) : Type 0 where
 abbrev pub HasBytes : List Field → BatchHead → List ℕ → Type 0
 HasBytes fields head body = Each IsLongEnough (columns_of fields head body)
 
--- the null count is that of a bitmap's clear bits, and 0 without a bitmap (Arrow Columnar Format, "Null count");
--- a column of the null layout may have any
+-- the null count is that of a bitmap's clear bits, and 0 without a bitmap (Arrow Columnar Format,
+-- "Null count"); a column of the null layout may have any
 pub record CountsNulls (c : Column) : Type 0 where
-  pub with_bitmap : has_validity c.layout ≡ true → 0 < length c.validity → HasBits c → c.nulls ≡ clear c.validity c.slots
+  pub with_bitmap : has_validity c.layout ≡ true → 0 < length c.validity → HasBits c
+      → c.nulls ≡ clear c.validity c.slots
   pub without_bitmap : has_validity c.layout ≡ true → length c.validity ≡ 0 → c.nulls ≡ 0
 
 -- each column counts its nulls
 abbrev pub HasNullCounts : List Field → BatchHead → List ℕ → Type 0
 HasNullCounts fields head body = Each CountsNulls (columns_of fields head body)
 
--- the offsets of n slots begin at 0 or above, don't decrease and end within so many bytes (Arrow Columnar Format, "Variable-size Binary Layout")
+-- the offsets of n slots begin at 0 or above, don't decrease and end within so many bytes (Arrow
+-- Columnar Format, "Variable-size Binary Layout")
 pub record AreOffsets (offsets : List ℕ) (n size : ℕ) : Type 0 where
   pub from : pos 0 ≤ℤ offset offsets 0
   pub order : (i : ℕ) → i < n → offset offsets i ≤ℤ offset offsets (i + 1)
@@ -98,7 +106,8 @@ pub record AreOffsets (offsets : List ℕ) (n size : ℕ) : Type 0 where
 
 -- the offsets that a column's slots need, where they are there
 abbrev pub HasOffsets : Layout → ℕ → List ℕ → ℕ → Type 0
-HasOffsets (l.VariableBytes utf8) n offsets size = 0 < n → 4 * (n + 1) ≤ length offsets → AreOffsets offsets n size
+HasOffsets (l.VariableBytes utf8) n offsets size = 0 < n → 4 * (n + 1) ≤ length offsets
+    → AreOffsets offsets n size
 HasOffsets l.Null n offsets size = ⊤
 HasOffsets l.Bits n offsets size = ⊤
 HasOffsets (l.Numbers bits signed) n offsets size = ⊤
@@ -107,7 +116,8 @@ HasOffsets l.Unsupported n offsets size = ⊤
 
 -- each column has them, within its values
 abbrev pub HasOrder : List Field → BatchHead → List ℕ → Type 0
-HasOrder fields head body = Each (λ c. HasOffsets c.layout c.slots c.offsets (length c.values)) (columns_of fields head body)
+HasOrder fields head body = Each (λ c. HasOffsets c.layout c.slots c.offsets (length c.values))
+    (columns_of fields head body)
 
 -- what slot i holds is UTF-8, where it is a text (Schema.fbs, Utf8)
 abbrev pub IsText : Layout → List ℕ → List ℕ → ℕ → Type 0
@@ -121,9 +131,11 @@ IsText l.Unsupported offsets values i = ⊤
 
 -- each valid slot of a column's
 abbrev pub SpellsTexts : Column → Type 0
-SpellsTexts c = (i : ℕ) → i < c.slots → is_valid c.validity i ≡ true → IsText c.layout c.offsets c.values i
+SpellsTexts c = (i : ℕ) → i < c.slots → is_valid c.validity i ≡ true
+    → IsText c.layout c.offsets c.values i
 
--- each column, whose slots are the rows', spells its texts; what stands at a null slot isn't looked at
+-- each column, whose slots are the rows', spells its texts; what stands at a null slot isn't looked
+-- at
 abbrev pub HasTexts : List Field → BatchHead → List ℕ → Type 0
 HasTexts fields head body = EachTop SpellsTexts (columns_of fields head body)
 

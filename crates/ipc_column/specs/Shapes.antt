@@ -1,5 +1,5 @@
--- The nodes and buffers that fields need, in pre-order (Arrow Columnar Format, "RecordBatch message"),
--- and the columns that they cut out of a body.
+-- The nodes and buffers that fields need, in pre-order (Arrow Columnar Format, "RecordBatch
+-- message"), and the columns that they cut out of a body.
 use Rattle.std.specs.Prelude.{ℕ, ◌+◌, ℤ, pos, unsigned_abs, List, [], ◌∷◌, map, slice_index_or}
 use Rattle.ipc_model.specs.declared.schema.Field.{Field, fold-Field}
 use Rattle.ipc_model.specs.declared.schema.Field.TheOpen.{Field-F}
@@ -47,7 +47,9 @@ node_at head n = slice_index_or head.nodes n (pos 0, pos 0)
 
 -- the bytes of buffer b: an offset and a length (Schema.fbs, Buffer)
 abbrev pub buffer_at : BatchHead → List ℕ → ℕ → List ℕ
-buffer_at head body b = let range = slice_index_or head.buffers b (pos 0, pos 0) in bytes_of body (unsigned_abs range.0) (unsigned_abs range.1)
+buffer_at head body b = let range =
+    slice_index_or head.buffers b (pos 0, pos 0) in bytes_of body (unsigned_abs range.0)
+    (unsigned_abs range.1)
 
 -- the validity bitmap of a field whose first buffer is b
 abbrev pub validity_at : Layout → BatchHead → List ℕ → ℕ → List ℕ
@@ -87,7 +89,8 @@ column_at l head body n b = record {
   values = values_at l head body b;
 }
 
--- a field's own node and buffers come first, then those of its children, then those of the fields after it
+-- a field's own node and buffers come first, then those of its children, then those of the fields
+-- after it
 unfoldable pub cut : Shape → BatchHead → List ℕ → ℕ → ℕ → Columns
 cut bare head body n b = none
 cut (field l children rest) head body n b =

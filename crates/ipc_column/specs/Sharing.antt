@@ -9,7 +9,14 @@ use Rattle.ipc_column.specs.Views.{columns}
 
 -- the rows of its columns, and its numbers
 abbrev pub contents_of : Shared → Contents
-contents_of s = record { rows = rows_of (columns s.body.items s.parts.items) s.count; columns = length s.parts.items; lent = lent_of (columns s.body.items s.parts.items); body_len = length s.body.items; tests = s.slot_tests }
+contents_of s = record {
+  rows = rows_of (columns s.body.items s.parts.items) s.count;
+  columns = length s.parts.items;
+  lent = lent_of (columns s.body.items s.parts.items);
+  body_len =
+      length s.body.items;
+  tests = s.slot_tests;
+}
 
 -- its columns have so many rows
 abbrev pub HasRows : Shared → Type 0

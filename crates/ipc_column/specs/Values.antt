@@ -1,5 +1,6 @@
 -- The values of slots, and the rows of columns (Arrow Columnar Format, "Physical Memory Layout").
-use Rattle.std.specs.Prelude.{ℕ, zero, suc, ◌+◌, ◌*◌, ℤ, unsigned_abs, Bool, true, false, ◌==◌, slice_range, List, [], ◌∷◌, ◌++◌, length, if◌then◌else◌}
+use Rattle.std.specs.Prelude.{ℕ, zero, suc, ◌+◌, ◌*◌, ℤ, unsigned_abs, Bool, true, false, ◌==◌}
+use Rattle.std.specs.Prelude.{slice_range, List, [], ◌∷◌, ◌++◌, length, if◌then◌else◌}
 use Rattle.std.specs.Int.{w8, cast_signed}
 use Rattle.ipc_scalar.specs.Bytes.{bit, num, byte, int16, int32, int64}
 use Rattle.ipc_model.specs.declared.schema.IntBits.{IntBits}
@@ -13,7 +14,8 @@ use Rattle.ipc_column.specs.declared.cell.Cell.{Cell}
 use Rattle.ipc_column.specs.declared.cell.Cell.TheVariants as cell
 use Rattle.ipc_column.specs.Columns.{Column, Columns, none, column}
 
--- a slot is valid where its bit is set, or where there is no bitmap (Arrow Columnar Format, "Validity bitmaps")
+-- a slot is valid where its bit is set, or where there is no bitmap (Arrow Columnar Format,
+-- "Validity bitmaps")
 abbrev pub is_valid : List ℕ → ℕ → Bool
 is_valid validity i = if length validity == 0 then true else bit validity i
 
@@ -36,13 +38,17 @@ place offsets i = unsigned_abs (offset offsets i)
 abbrev pub between : List ℕ → List ℕ → ℕ → List ℕ
 between offsets values i = slice_range values (place offsets i) (place offsets (i + 1))
 
--- what a valid slot holds (Arrow Columnar Format, "Null Layout", "Fixed-size Primitive Layout", "Variable-size Binary Layout")
+-- what a valid slot holds (Arrow Columnar Format, "Null Layout", "Fixed-size Primitive Layout",
+-- "Variable-size Binary Layout")
 abbrev pub own_value : Layout → List ℕ → List ℕ → ℕ → Value
 own_value l.Null offsets values i = v.Null
 own_value l.Bits offsets values i = v.Bool (bit values i)
-own_value (l.Numbers bits true) offsets values i = v.Int (signed_at bits values (number_bytes bits * i))
-own_value (l.Numbers bits false) offsets values i = v.UInt (num values (number_bytes bits * i) (number_bytes bits))
-own_value (l.FixedBytes width) offsets values i = v.Bytes (slice_range values (width * i) (width * i + width))
+own_value (l.Numbers bits true) offsets values i =
+    v.Int (signed_at bits values (number_bytes bits * i))
+own_value (l.Numbers bits false) offsets values i =
+    v.UInt (num values (number_bytes bits * i) (number_bytes bits))
+own_value (l.FixedBytes width) offsets values i =
+    v.Bytes (slice_range values (width * i) (width * i + width))
 own_value (l.VariableBytes true) offsets values i = v.Text (between offsets values i)
 own_value (l.VariableBytes false) offsets values i = v.Bytes (between offsets values i)
 own_value l.Unsupported offsets values i = v.Null

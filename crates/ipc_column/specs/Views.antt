@@ -13,7 +13,18 @@ span_bytes body s = bytes_of body s.start s.len
 
 -- one part, with its children's columns in their place
 abbrev pub part_step : List ℕ → ColumnRanges-F (Column × Columns) → Column × Columns
-part_step body p = (record { layout = p.layout; slots = p.slots; nulls = p.nulls; validity = span_bytes body p.validity; offsets = span_bytes body p.offsets; values = span_bytes body p.values }, forest p.children.items)
+part_step body p = (
+  record {
+    layout = p.layout;
+    slots = p.slots;
+    nulls = p.nulls;
+    validity = span_bytes body p.validity;
+    offsets = span_bytes body p.offsets;
+    values =
+        span_bytes body p.values;
+  },
+  forest p.children.items,
+)
 
 -- a part's column, and those of its children
 abbrev pub view : List ℕ → ColumnRanges → Column × Columns
@@ -33,4 +44,14 @@ children_of body p = (view body p).1
 
 -- a part's column, by its fields
 abbrev pub own_column : List ℕ → ColumnRanges → Column
-own_column body p = record { layout = (out-ColumnRanges p).layout; slots = (out-ColumnRanges p).slots; nulls = (out-ColumnRanges p).nulls; validity = span_bytes body (out-ColumnRanges p).validity; offsets = span_bytes body (out-ColumnRanges p).offsets; values = span_bytes body (out-ColumnRanges p).values }
+own_column body p = record {
+  layout = (out-ColumnRanges p).layout;
+  slots = (out-ColumnRanges p).slots;
+  nulls = (out-ColumnRanges p).nulls;
+  validity =
+      span_bytes body (out-ColumnRanges p).validity;
+  offsets =
+      span_bytes body (out-ColumnRanges p).offsets;
+  values =
+      span_bytes body (out-ColumnRanges p).values;
+}

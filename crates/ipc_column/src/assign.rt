@@ -1,6 +1,8 @@
 ghost use Rattle.std.specs.Prelude.{◌≡◌, ◌≤◌, ◌<◌, ◌+◌, ◌^◌, ℕ, List, length, IfOk};
 ghost use Rattle.ipc_model.specs.Layouts.{own_buffers};
-ghost use Rattle.ipc_column.specs.Shapes.{cut, shape_of, field_layout, field_children, nodes_in, buffers_in, column_at, buffer_at, validity_at, offsets_at, values_at};
+ghost use Rattle.ipc_column.specs.Shapes.{cut, shape_of, field_layout, field_children, nodes_in};
+ghost use Rattle.ipc_column.specs.Shapes.{buffers_in, column_at, buffer_at, validity_at};
+ghost use Rattle.ipc_column.specs.Shapes.{offsets_at, values_at};
 ghost use Rattle.ipc_column.specs.Views.{columns, column_of, children_of, span_bytes};
 
 use crate::ranges::{BufferRange, ColumnRanges};
@@ -19,9 +21,11 @@ pub(crate) struct Cursor {
 #[cycle(count)]
 fn count_field(field: &Field, before: Cursor) -> Cursor
     requires nodes { before.node + (1 + nodes_in (field_children field.now)) < 2 ^ 60 }
-    requires buffers { before.buffer + (own_buffers (field_layout field.now) + buffers_in (field_children field.now)) < 2 ^ 60 }
+    requires buffers { before.buffer
+        + (own_buffers (field_layout field.now) + buffers_in (field_children field.now)) < 2 ^ 60 }
     ensures nodes { result.node ≡ before.node + 1 + nodes_in (field_children field.now) }
-    ensures buffers { result.buffer ≡ before.buffer + own_buffers (field_layout field.now) + buffers_in (field_children field.now) }
+    ensures buffers { result.buffer ≡ before.buffer + own_buffers (field_layout field.now)
+        + buffers_in (field_children field.now) }
 {
     let below = Cursor {
         node: before.node + 1,
@@ -105,13 +109,19 @@ fn assign_field(
     at: Cursor,
 ) -> Result<(ColumnRanges, Cursor), AllocError>
     requires nodes { at.node + (1 + nodes_in (field_children field.now)) ≤ length head.now.nodes }
-    requires buffers { at.buffer + (own_buffers (field_layout field.now) + buffers_in (field_children field.now)) ≤ length head.now.buffers }
+    requires buffers { at.buffer + (own_buffers (field_layout field.now)
+        + buffers_in (field_children field.now)) ≤ length head.now.buffers }
     requires few_nodes { length head.now.nodes < 2 ^ 60 }
     requires few_buffers { length head.now.buffers < 2 ^ 60 }
-    ensures column { IfOk result (λ r. (body : List ℕ) → column_of body r.0 ≡ column_at (field_layout field.now) head.now body at.node at.buffer) }
-    ensures children { IfOk result (λ r. (body : List ℕ) → children_of body r.0 ≡ cut (field_children field.now) head.now body (at.node + 1) (at.buffer + own_buffers (field_layout field.now))) }
+    ensures column { IfOk result (λ r. (body : List ℕ)
+        → column_of body r.0 ≡ column_at (field_layout field.now) head.now body at.node at.buffer) }
+    ensures children { IfOk result (λ r. (body : List ℕ)
+        → children_of body r.0 ≡ cut (field_children field.now) head.now body (at.node + 1)
+        (at.buffer + own_buffers (field_layout field.now))) }
     ensures node { IfOk result (λ r. r.1.node ≡ at.node + 1 + nodes_in (field_children field.now)) }
-    ensures buffer { IfOk result (λ r. r.1.buffer ≡ at.buffer + own_buffers (field_layout field.now) + buffers_in (field_children field.now)) }
+    ensures buffer { IfOk result (λ r. r.1.buffer
+        ≡ at.buffer + own_buffers (field_layout field.now)
+        + buffers_in (field_children field.now)) }
 {
     let layout = layout_of(&field.kind, field.dictionary);
     let (slots, nulls) = head.nodes.as_slice()[at.node];
@@ -144,7 +154,8 @@ pub(crate) fn assign_buffers(
     requires buffers { at.buffer + buffers_in (shape_of fields.now) ≤ length head.now.buffers }
     requires few_nodes { length head.now.nodes < 2 ^ 60 }
     requires few_buffers { length head.now.buffers < 2 ^ 60 }
-    ensures parts { IfOk result (λ r. (body : List ℕ) → columns body r.0.items ≡ cut (shape_of fields.now) head.now body at.node at.buffer) }
+    ensures parts { IfOk result (λ r. (body : List ℕ)
+        → columns body r.0.items ≡ cut (shape_of fields.now) head.now body at.node at.buffer) }
     ensures number { IfOk result (λ r. length r.0.items ≡ length fields.now) }
     ensures node { IfOk result (λ r. r.1.node ≡ at.node + nodes_in (shape_of fields.now)) }
     ensures buffer { IfOk result (λ r. r.1.buffer ≡ at.buffer + buffers_in (shape_of fields.now)) }

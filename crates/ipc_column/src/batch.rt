@@ -1,4 +1,5 @@
-ghost use Rattle.std.specs.Prelude.{◌≡◌, ◌≤◌, ◌<◌, length, true, false, List, [], IfOk, IfErr, IfSome, is_some, MatchResult, Some, slice_get, slice_index_or};
+ghost use Rattle.std.specs.Prelude.{◌≡◌, ◌≤◌, ◌<◌, length, true, false, List, [], IfOk, IfErr};
+ghost use Rattle.std.specs.Prelude.{IfSome, is_some, MatchResult, Some, slice_get, slice_index_or};
 ghost use Rattle.std.specs.List.{AllByRecursion};
 ghost use Rattle.ipc_model.specs.declared.value.Value.{Value};
 ghost use Rattle.ipc_model.specs.Entries.{entries};
@@ -73,13 +74,17 @@ fn share(alloc: Global, shared: Shared) -> Result<Batch, AllocError>
 // The rows of fields, as far as the head and the body give them.
 fn read(alloc: Global, fields: &[Field], head: &BatchHead, body: Vec<u8>) -> Result<Batch, Fault>
     requires { nodes_in (shape_of fields.now) ≤ max_fields }
-    ensures passing { IfOk result (λ batch. Passing (shape_of fields.now) head.now body.items batch.rows) }
+    ensures passing { IfOk result
+        (λ batch. Passing (shape_of fields.now) head.now body.items batch.rows) }
     ensures columns { IfOk result (λ batch. batch.columns ≡ length fields.now) }
-    ensures lent { IfOk result (λ batch. batch.lent ≡ lent_of (cut (shape_of fields.now) head.now body.items 0 0)) }
+    ensures lent { IfOk result (λ batch. batch.lent
+        ≡ lent_of (cut (shape_of fields.now) head.now body.items 0 0)) }
     ensures body { IfOk result (λ batch. batch.body_len ≡ length body.items) }
-    ensures texts { IfOk result (λ batch. batch.tests ≤ texts_in (cut (shape_of fields.now) head.now body.items 0 0)) }
+    ensures texts { IfOk result (λ batch. batch.tests
+        ≤ texts_in (cut (shape_of fields.now) head.now body.items 0 0)) }
     ensures slots { IfOk result (λ batch. batch.tests ≤ slots_in head.now.nodes) }
-    ensures failing { IfErr result (λ fault. Failing fault (shape_of fields.now) head.now body.items) }
+    ensures failing { IfErr result
+        (λ fault. Failing fault (shape_of fields.now) head.now body.items) }
 {
     check_head(fields, head, body.len())?;
     let (parts, _) = assign_buffers(alloc, fields, head, Cursor { node: 0, buffer: 0 })?;
@@ -99,7 +104,8 @@ impl Clone for Batch {
 
     ghost is_clone = { λ batch copy. copy ≡ batch };
 
-    /// The same batch over the same body. It takes no memory, and is refused only where the count of clones is full.
+    /// The same batch over the same body. It takes no memory, and is refused only where the count
+    /// of clones is full.
     fn clone(&self) -> Result<Batch, AllocError> {
         Ok(Batch {
             shared: self.shared.clone()?,
@@ -110,15 +116,17 @@ impl Clone for Batch {
 impl Batch {
     /// The rows that a batch's metadata and body give for the fields of its schema.
     ///
-    /// The caller has the fields from a schema that passes its check, and each is of a type that is read so far: any
-    /// but lists and structs, without a dictionary. The dictionaries are those in force, by their ids. They aren't looked
-    /// at, since no field that is read can name one yet.
+    /// The caller has the fields from a schema that passes its check, and each is of a type that is
+    /// read so far: any but lists and structs, without a dictionary. The dictionaries are those in
+    /// force, by their ids. They aren't looked at, since no field that is read can name one yet.
     ///
-    /// Refused with F26 `WrongNodeCount`, F27 `WrongBufferCount`, F28 `BadNode`, F29 `BufferOutOfBody`, F30 `BufferTooShort`,
-    /// F31 `BadNullCount`, F32 `BadOffsets` or F33 `ValueNotUtf8` only where that is true of the parts, and then they give no
-    /// rows: F28 and F29 where there are as many nodes and buffers as the fields need, F30 to F33 where also the lengths, the null
-    /// counts and the ranges of the metadata are in their bounds; with `OutOfMemory` where the list of columns or the block that clones share finds no room (Message.fbs,
-    /// RecordBatch; Arrow Columnar Format, "RecordBatch message").
+    /// Refused with F26 `WrongNodeCount`, F27 `WrongBufferCount`, F28 `BadNode`, F29
+    /// `BufferOutOfBody`, F30 `BufferTooShort`, F31 `BadNullCount`, F32 `BadOffsets` or F33
+    /// `ValueNotUtf8` only where that is true of the parts, and then they give no rows: F28 and F29
+    /// where there are as many nodes and buffers as the fields need, F30 to F33 where also the
+    /// lengths, the null counts and the ranges of the metadata are in their bounds; with
+    /// `OutOfMemory` where the list of columns or the block that clones share finds no room
+    /// (Message.fbs, RecordBatch; Arrow Columnar Format, "RecordBatch message").
     pub fn check(
         alloc: Global,
         fields: Rc<Vec<Field>>,
@@ -131,15 +139,19 @@ impl Batch {
         // What is answered are the rows of the parts.
         ensures rows { IfOk result (λ batch. Rows fields.value.items head body.items batch.rows) }
         // Where the parts give rows, these are answered, unless memory runs out.
-        ensures only { (rows : List (List Value)) → Rows fields.value.items head body.items rows → MatchResult result (λ batch. batch.rows ≡ rows) (λ fault. fault ≡ Fault.OutOfMemory) }
+        ensures only { (rows : List (List Value)) → Rows fields.value.items head body.items rows
+            → MatchResult result (λ batch. batch.rows ≡ rows) (λ fault. fault ≡ Fault.OutOfMemory) }
         // A refusal is true of the parts.
-        ensures refused { IfErr result (λ fault. RefusesParts fault fields.value.items head body.items) }
+        ensures refused { IfErr result
+            (λ fault. RefusesParts fault fields.value.items head body.items) }
         ensures columns { IfOk result (λ batch. batch.columns ≡ length fields.value.items) }
         // Lent as they lie are the columns of signed 64-bit numbers without a validity bitmap.
-        ensures lent { IfOk result (λ batch. batch.lent ≡ lent_of (columns_of fields.value.items head body.items)) }
+        ensures lent { IfOk result (λ batch. batch.lent
+            ≡ lent_of (columns_of fields.value.items head body.items)) }
         ensures body { IfOk result (λ batch. batch.body_len ≡ length body.items) }
         // No slot is visited but those of texts, and each of them once at most.
-        ensures texts { IfOk result (λ batch. batch.tests ≤ texts_in (columns_of fields.value.items head body.items)) }
+        ensures texts { IfOk result
+            (λ batch. batch.tests ≤ texts_in (columns_of fields.value.items head body.items)) }
         ensures tests { IfOk result (λ batch. batch.tests ≤ slots_in head.nodes) }
     {
         read(alloc, fields.as_slice(), &head, body)
@@ -175,22 +187,26 @@ impl Batch {
         self.shared.slot_tests
     }
 
-    /// What stands in a row and a column, lent. The caller gives a row below `rows` and a column below `columns`.
+    /// What stands in a row and a column, lent. The caller gives a row below `rows` and a column
+    /// below `columns`.
     ///
-    /// The column's field says what it means. Signed integers, dates and timestamps are `Int`, in the field's unit from 1970-01-01 on;
-    /// unsigned integers are `UInt`; binary and fixed-size binary are `Bytes`.
+    /// The column's field says what it means. Signed integers, dates and timestamps are `Int`, in
+    /// the field's unit from 1970-01-01 on; unsigned integers are `UInt`; binary and fixed-size
+    /// binary are `Bytes`.
     pub fn cell(&self, row: usize, column: usize) -> Cell<'_>
         requires row { row < length self.now.rows }
         requires column { column < self.now.columns }
-        ensures { slice_get (slice_index_or self.now.rows row []) column ≡ Some (cell_value result) }
+        ensures { slice_get (slice_index_or self.now.rows row []) column
+            ≡ Some (cell_value result) }
     {
         let shared = self.shared.as_ref();
         cell_in(&shared.body, &shared.parts, shared.count, row, column)
     }
 
-    /// The values of a column of signed 64-bit integers that has no validity bitmap, lent as they lie in the body: eight bytes for each row, the lowest
-    /// first (Arrow Columnar Format, "Fixed-size Primitive Layout"). Dates in milliseconds and timestamps are such integers too. None for every other
-    /// column: it is read by `cell`. The caller gives a column below
+    /// The values of a column of signed 64-bit integers that has no validity bitmap, lent as they
+    /// lie in the body: eight bytes for each row, the lowest first (Arrow Columnar Format,
+    /// "Fixed-size Primitive Layout"). Dates in milliseconds and timestamps are such integers too.
+    /// None for every other column: it is read by `cell`. The caller gives a column below
     /// `columns`.
     pub fn numbers(&self, column: usize) -> Option<&[u8]>
         requires { column < self.now.columns }

@@ -7,7 +7,8 @@ pub enum Cause {
     WrongNodeCount,
     /// F27: not as many buffers as the fields need.
     WrongBufferCount,
-    /// F28: a length or a null count out of its bounds, or a column that isn't as long as the batch.
+    /// F28: a length or a null count out of its bounds, or a column that isn't as long as the
+    /// batch.
     BadNode,
     /// F29: a buffer that doesn't lie in the body.
     BufferOutOfBody,

@@ -1,6 +1,8 @@
-ghost use Rattle.std.specs.Prelude.{◌≡◌, ◌+◌, ◌<◌, ◌↔◌, length, true, slice_get, Some, IfOk, IsTrue};
+ghost use Rattle.std.specs.Prelude.{◌≡◌, ◌+◌, ◌<◌, ◌↔◌, length, true, slice_get, Some, IfOk};
+ghost use Rattle.std.specs.Prelude.{IsTrue};
 ghost use Rattle.ipc_column.specs.declared.cause.Cause.{Cause};
-ghost use Rattle.ipc_column.specs.Checks.{Holds, has_bitmap, holds_values, holds_offsets, in_order, is_text, is_good, passes};
+ghost use Rattle.ipc_column.specs.Checks.{Holds, has_bitmap, holds_values, holds_offsets, in_order};
+ghost use Rattle.ipc_column.specs.Checks.{is_text, is_good, passes};
 ghost use Rattle.ipc_column.specs.Values.{cell_value, is_valid, own_value, value_of, row};
 ghost use Rattle.ipc_column.specs.Views.{columns, column_of, span_bytes};
 
@@ -30,7 +32,8 @@ pub enum Cell<'a> {
 }
 
 impl Cell<'_> {
-    /// Whether the two show one value: what `==` answers, with a contract that says so. Which batch lends them doesn't matter.
+    /// Whether the two show one value: what `==` answers, with a contract that says so. Which batch
+    /// lends them doesn't matter.
     pub fn is_same(&self, other: &Cell<'_>) -> bool
         ensures { IsTrue result ↔ (cell_value self.now ≡ cell_value other.now) }
     {

@@ -1,13 +1,14 @@
 ghost use Rattle.std.specs.Prelude.{◌≡◌, ◌≤◌, true, IfErr};
 ghost use Rattle.ipc_model.specs.Limits.{max_fields};
-ghost use Rattle.ipc_column.specs.Checks.{Judges, IsCounted, all, is_slot_count, is_node, lies_in, head_passes};
+ghost use Rattle.ipc_column.specs.Checks.{Judges, IsCounted, all, is_slot_count, is_node, lies_in};
+ghost use Rattle.ipc_column.specs.Checks.{head_passes};
 ghost use Rattle.ipc_column.specs.Shapes.{shape_of, nodes_in};
 
 use crate::assign::{Cursor, count};
 use crate::cause::Cause;
 use ipc_meta::BatchHead;
-use ipc_model::limits::MAX_ROWS;
 use ipc_model::Field;
+use ipc_model::limits::MAX_ROWS;
 
 // The most slots, a signed number as their count is stated.
 const MAX_SLOTS: i64 = MAX_ROWS as i64;
@@ -53,7 +54,8 @@ fn lie_in(size: usize, buffers: &[(i64, i64)]) -> bool
     good
 }
 
-/// Whether the head has the nodes and buffers that the fields need, with lengths in their bounds and ranges within `size` bytes.
+/// Whether the head has the nodes and buffers that the fields need, with lengths in their bounds
+/// and ranges within `size` bytes.
 #[tactic(auto, using(crate::proofs::Fields::buffers_most))]
 pub(crate) fn check_head(fields: &[Field], head: &BatchHead, size: usize) -> Result<(), Cause>
     requires { nodes_in (shape_of fields.now) ≤ max_fields }

@@ -1,4 +1,5 @@
-//! Record batches read in place: columns over one body, whose cells are lent (Arrow Columnar Format).
+//! Record batches read in place: columns over one body, whose cells are lent (Arrow Columnar
+//! Format).
 //!
 //! A batch is accepted exactly where its fields, its metadata and its body give rows, memory aside.
 #![tactic(auto)]

@@ -20,7 +20,8 @@ pub(crate) fn place_at(offsets: &[u8], i: usize) -> usize
     offset_at(offsets, i).unsigned_abs() as usize
 }
 
-/// Whether the offsets of so many slots begin at 0 or above, don't decrease and end within so many bytes.
+/// Whether the offsets of so many slots begin at 0 or above, don't decrease and end within so many
+/// bytes.
 #[tactic(auto, using(crate::proofs::Below::all_below_more))]
 pub(crate) fn are_in_order(offsets: &[u8], slots: usize, size: usize) -> bool
     requires { 4 * (slots + 1) ≤ length offsets.now }

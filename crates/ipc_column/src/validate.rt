@@ -1,5 +1,7 @@
-ghost use Rattle.std.specs.Prelude.{◌≡◌, ◌≤◌, ◌<◌, ◌*◌, ◌^◌, ◌&&◌, nat_le, length, true, IfOk, IfErr};
-ghost use Rattle.ipc_column.specs.Checks.{Judges, has_bitmap, holds_values, holds_offsets, in_order, nulls_in, passes, top_passes, all_pass};
+ghost use Rattle.std.specs.Prelude.{◌≡◌, ◌≤◌, ◌<◌, ◌*◌, ◌^◌, ◌&&◌, nat_le, length, true, IfOk};
+ghost use Rattle.std.specs.Prelude.{IfErr};
+ghost use Rattle.ipc_column.specs.Checks.{Judges, has_bitmap, holds_values, holds_offsets};
+ghost use Rattle.ipc_column.specs.Checks.{in_order, nulls_in, passes, top_passes, all_pass};
 ghost use Rattle.ipc_column.specs.Columns.{every, every_top};
 ghost use Rattle.ipc_column.specs.Rules.{text_slots, texts_in};
 ghost use Rattle.ipc_column.specs.Views.{columns, column_of, children_of};
@@ -69,7 +71,8 @@ fn nulls_in(validity: &[u8], slots: usize) -> usize
     }
 }
 
-// Whether a part's buffers have the bytes that its slots need, its null count is right and its offsets are in order.
+// Whether a part's buffers have the bytes that its slots need, its null count is right and its
+// offsets are in order.
 fn check_part(body: &[u8], part: &ColumnRanges) -> Result<(), Cause>
     ensures { Judges result (λ why. passes why (column_of body.now part.now)) }
 {
@@ -104,13 +107,15 @@ fn check_all(body: &[u8], parts: &[ColumnRanges]) -> Result<(), Cause>
 
 #[cycle(check_all)]
 fn check_tree(body: &[u8], part: &ColumnRanges) -> Result<(), Cause>
-    ensures { Judges result (λ why. passes why (column_of body.now part.now) && every (passes why) (children_of body.now part.now)) }
+    ensures { Judges result (λ why. passes why (column_of body.now part.now)
+        && every (passes why) (children_of body.now part.now)) }
 {
     check_part(body, part)?;
     check_all(body, &part.children)
 }
 
-// Whether a part has a slot for each row, and its texts are UTF-8; how many slots were visited to find that.
+// Whether a part has a slot for each row, and its texts are UTF-8; how many slots were visited to
+// find that.
 fn check_top(body: &[u8], part: &ColumnRanges, rows: usize) -> Result<u64, Cause>
     requires { (why : Cause) → passes why (column_of body.now part.now) ≡ true }
     ensures judged { Judges result (λ why. top_passes why rows (column_of body.now part.now)) }
@@ -129,7 +134,8 @@ fn check_top(body: &[u8], part: &ColumnRanges, rows: usize) -> Result<u64, Cause
 fn check_tops(body: &[u8], parts: &[ColumnRanges], rows: usize) -> Result<u64, Cause>
     requires sound { (why : Cause) → every (passes why) (columns body.now parts.now) ≡ true }
     requires few { texts_in (columns body.now parts.now) < 2 ^ 64 }
-    ensures judged { Judges result (λ why. every_top (top_passes why rows) (columns body.now parts.now)) }
+    ensures judged { Judges result
+        (λ why. every_top (top_passes why rows) (columns body.now parts.now)) }
     ensures visited { IfOk result (λ tests. tests ≤ texts_in (columns body.now parts.now)) }
 {
     let mut tests = 0;
@@ -139,11 +145,13 @@ fn check_tops(body: &[u8], parts: &[ColumnRanges], rows: usize) -> Result<u64, C
     Ok(tests)
 }
 
-/// Whether the parts, which are the columns of a batch, give so many rows; how many slots were visited to find that.
+/// Whether the parts, which are the columns of a batch, give so many rows; how many slots were
+/// visited to find that.
 pub(crate) fn check_columns(body: &[u8], parts: &[ColumnRanges], rows: usize) -> Result<u64, Cause>
     requires { texts_in (columns body.now parts.now) < 2 ^ 64 }
     ensures judged { Judges result (λ why. all_pass why rows (columns body.now parts.now)) }
-    ensures texts_last { IfErr result (λ why. why ≡ Cause.ValueNotUtf8 → (other : Cause) → every (passes other) (columns body.now parts.now) ≡ true) }
+    ensures texts_last { IfErr result (λ why. why ≡ Cause.ValueNotUtf8 → (other : Cause)
+        → every (passes other) (columns body.now parts.now) ≡ true) }
     ensures visited { IfOk result (λ tests. tests ≤ texts_in (columns body.now parts.now)) }
 {
     check_all(body, parts)?;

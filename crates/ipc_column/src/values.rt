@@ -21,7 +21,8 @@ fn values_of<'a>(body: &'a [u8], part: &ColumnRanges) -> Option<&'a [u8]>
     }
 }
 
-/// The numbers in a column of parts that give so many rows, exactly where it has signed numbers of 64 bits and no bitmap.
+/// The numbers in a column of parts that give so many rows, exactly where it has signed numbers of
+/// 64 bits and no bitmap.
 pub(crate) fn numbers_in<'a>(
     body: &'a [u8],
     parts: &[ColumnRanges],
@@ -30,8 +31,10 @@ pub(crate) fn numbers_in<'a>(
 ) -> Option<&'a [u8]>
     requires holds { Holds rows (columns body.now parts.now) }
     requires column { column < length parts.now }
-    ensures lent { is_some result ≡ slice_index_or (lent_of (columns body.now parts.now)) column false }
-    ensures numbers { IfSome result (λ values. AreNumbers (rows_of (columns body.now parts.now) rows) column values.now) }
+    ensures lent { is_some result
+        ≡ slice_index_or (lent_of (columns body.now parts.now)) column false }
+    ensures numbers { IfSome result
+        (λ values. AreNumbers (rows_of (columns body.now parts.now) rows) column values.now) }
 {
     values_of(body, &parts[column])
 }

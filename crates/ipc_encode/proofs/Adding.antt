@@ -1,5 +1,6 @@
 -- Buffers that are added one after another.
-use Rattle.std.proofs.Common.{◌≡◌, ◌∙◌, refl, sym, ap, subst, ℕ, ◌+◌, ◌<◌, List, [], ◌∷◌, ◌++◌, length, drop, get_or, add-one, drop-cons, append_assoc, length-append, arith, inl, inr}
+use Rattle.std.proofs.Common.{◌≡◌, ◌∙◌, refl, sym, ap, subst, ℕ, ◌+◌, ◌<◌, List, [], ◌∷◌, ◌++◌, length, drop, get_or, add-one, drop-cons}
+use Rattle.std.proofs.Common.{append_assoc, length-append, arith, inl, inr}
 use Rattle.std.specs.Prelude.{ℤ, pos, ◌⊎◌}
 use Rattle.std.specs.List.{AllByRecursion}
 use Rattle.ipc_model.specs.declared.schema.Field.{Field}
@@ -7,7 +8,8 @@ use Rattle.ipc_model.specs.declared.value.Value.{Value}
 use Rattle.ipc_encode.specs.declared.pieces.Piece.{Piece}
 use Rattle.ipc_encode.specs.declared.draft.Draft.{Draft}
 use Rattle.ipc_encode.specs.Cells.{cells, nulls}
-use Rattle.ipc_encode.specs.Buffers.{column_buffers, layout_of, padded_buffer, joined, nodes_from, ranges_from, buffers_from, buffers_of, body_of}
+use Rattle.ipc_encode.specs.Buffers.{column_buffers, layout_of, padded_buffer, joined, nodes_from, ranges_from, buffers_from, buffers_of}
+use Rattle.ipc_encode.specs.Buffers.{body_of}
 use Rattle.ipc_encode.specs.Writing.{Adds}
 use Rattle.ipc_encode.specs.Limits.{HasLongData, SomeLongData}
 use Rattle.ipc_encode.specs.Writing.{Shows, AreStored, AllStored}
@@ -16,23 +18,33 @@ use Rattle.ipc_encode.specs.Writing.{Shows, AreStored, AllStored}
 
 pub joined_append : (xs ys : List (List ℕ)) → joined (xs ++ ys) ≡ joined xs ++ joined ys
 joined_append [] ys = refl
-joined_append (x ∷ xs) ys = ap (λ (bs : List ℕ). padded_buffer x ++ bs) (joined_append xs ys) ∙ sym (append_assoc (padded_buffer x) (joined xs) (joined ys))
+joined_append (x ∷ xs) ys = ap (λ (bs : List ℕ). padded_buffer x ++ bs) (joined_append xs ys)
+    ∙ sym (append_assoc (padded_buffer x) (joined xs) (joined ys))
 
-pub ranges_append : (xs ys : List (List ℕ)) (start : ℕ) → ranges_from start (xs ++ ys) ≡ ranges_from start xs ++ ranges_from (start + length (joined xs)) ys
+pub ranges_append : (xs ys : List (List ℕ)) (start : ℕ)
+    → ranges_from start (xs ++ ys) ≡ ranges_from start xs ++ ranges_from (start + length (joined xs)) ys
 ranges_append [] ys start = ap (λ (n : ℕ). ranges_from n ys) (omega arith)
 ranges_append (x ∷ xs) ys start =
     let size = length-append (padded_buffer x) (joined xs) in
     let e : start + length (padded_buffer x) + length (joined xs) ≡ start + length (padded_buffer x ++ joined xs) = omega (arith, size) in
-    ap (λ (rs : List (ℤ × ℤ)). (pos start, pos (length x)) ∷ rs) (ranges_append xs ys (start + length (padded_buffer x)) ∙ ap (λ (n : ℕ). ranges_from (start + length (padded_buffer x)) xs ++ ranges_from n ys) e)
+    ap (λ (rs : List (ℤ × ℤ)). (pos start, pos (length x)) ∷ rs)
+    (ranges_append xs ys (start + length (padded_buffer x))
+    ∙ ap (λ (n : ℕ). ranges_from (start + length (padded_buffer x)) xs ++ ranges_from n ys) e)
 
 -- what is added beside what is left
-pub adds_body : (d e : Draft) (xs ys : List (List ℕ)) (whole : List ℕ) → Adds d e xs → d.body.items ++ joined (xs ++ ys) ≡ whole → e.body.items ++ joined ys ≡ whole
+pub adds_body : (d e : Draft) (xs ys : List (List ℕ)) (whole : List ℕ) → Adds d e xs → d.body.items ++ joined (xs ++ ys) ≡ whole
+    → e.body.items ++ joined ys ≡ whole
 adds_body d e xs ys whole a before =
-    ap (λ (bs : List ℕ). bs ++ joined ys) a.body ∙ (append_assoc d.body.items (joined xs) (joined ys) ∙ (ap (λ (bs : List ℕ). d.body.items ++ bs) (sym (joined_append xs ys)) ∙ before))
+    ap (λ (bs : List ℕ). bs ++ joined ys) a.body
+    ∙ (append_assoc d.body.items (joined xs) (joined ys)
+    ∙ (ap (λ (bs : List ℕ). d.body.items ++ bs) (sym (joined_append xs ys)) ∙ before))
 
-pub adds_ranges : (d e : Draft) (xs ys : List (List ℕ)) (whole : List (ℤ × ℤ)) → Adds d e xs → d.buffers.items ++ ranges_from (length d.body.items) (xs ++ ys) ≡ whole → e.buffers.items ++ ranges_from (length e.body.items) ys ≡ whole
+pub adds_ranges : (d e : Draft) (xs ys : List (List ℕ)) (whole : List (ℤ × ℤ)) → Adds d e xs
+    → d.buffers.items ++ ranges_from (length d.body.items) (xs ++ ys) ≡ whole
+    → e.buffers.items ++ ranges_from (length e.body.items) ys ≡ whole
 adds_ranges d e xs ys whole a before =
-    let size : length e.body.items ≡ length d.body.items + length (joined xs) = ap (λ (bs : List ℕ). length bs) a.body ∙ length-append d.body.items (joined xs) in
+    let size : length e.body.items ≡ length d.body.items + length (joined xs) =
+    ap (λ (bs : List ℕ). length bs) a.body ∙ length-append d.body.items (joined xs) in
     ap (λ (n : ℕ). e.buffers.items ++ ranges_from n ys) size
     ∙ (ap (λ (rs : List (ℤ × ℤ)). rs ++ ranges_from (length d.body.items + length (joined xs)) ys) a.buffers
     ∙ (append_assoc d.buffers.items (ranges_from (length d.body.items) xs) (ranges_from (length d.body.items + length (joined xs)) ys)
@@ -50,7 +62,8 @@ fields_from fs i f l e = rw (drop-cons fs i f, add-one) (rw (← e) refl)
 -- the columns before column i are in the draft
 pub record ColumnsSoFar (fields : List Field) (rows : List (List Value)) (i : ℕ) (draft : Draft) : Type 0 where
   pub nodes : draft.nodes.items ++ nodes_from i (drop i fields) rows ≡ nodes_from 0 fields rows
-  pub ranged : draft.buffers.items ++ ranges_from (length draft.body.items) (buffers_from i (drop i fields) rows) ≡ ranges_from 0 (buffers_of fields rows)
+  pub ranged : draft.buffers.items ++ ranges_from (length draft.body.items) (buffers_from i (drop i fields) rows)
+      ≡ ranges_from 0 (buffers_of fields rows)
   pub bytes : draft.body.items ++ joined (buffers_from i (drop i fields) rows) ≡ body_of fields rows
   pub spells : AllStored i (drop i fields) rows → AllStored 0 fields rows
   pub long : SomeLongData i (drop i fields) rows → SomeLongData 0 fields rows
@@ -64,15 +77,18 @@ pub record AddsColumn (f : Field) (rows : List (List Value)) (i : ℕ) (d e : Dr
   pub short : ¬ HasLongData (layout_of f) (cells i rows)
 
 -- one column more
-pub columns_step : (fields : List Field) (rows : List (List Value)) (i : ℕ) (f : Field) (d e : Draft) → i < length fields → f ≡ get_or fields i f → AddsColumn f rows i d e → ColumnsSoFar fields rows i d → ColumnsSoFar fields rows (i + 1) e
+pub columns_step : (fields : List Field) (rows : List (List Value)) (i : ℕ) (f : Field) (d e : Draft) → i < length fields
+    → f ≡ get_or fields i f → AddsColumn f rows i d e → ColumnsSoFar fields rows i d → ColumnsSoFar fields rows (i + 1) e
 columns_step fields rows i f d e l g a before =
     let from = fields_from fields i f l g in
     let others = nodes_from (i + 1) (drop (i + 1) fields) rows in
     record {
-      nodes = ap (λ (ns : List (ℤ × ℤ)). ns ++ others) a.nodes ∙ (append_assoc d.nodes.items ((pos (length rows), pos (nulls (cells i rows))) ∷ []) others
+      nodes = ap (λ (ns : List (ℤ × ℤ)). ns ++ others) a.nodes
+          ∙ (append_assoc d.nodes.items ((pos (length rows), pos (nulls (cells i rows))) ∷ []) others
           ∙ (ap (λ (fs : List Field). d.nodes.items ++ nodes_from i fs rows) (sym from) ∙ before.nodes));
       ranged = adds_ranges d e (column_buffers f (cells i rows)) (buffers_from (i + 1) (drop (i + 1) fields) rows) _ a.adds
-          (ap (λ (fs : List Field). d.buffers.items ++ ranges_from (length d.body.items) (buffers_from i fs rows)) (sym from) ∙ before.ranged);
+          (ap (λ (fs : List Field). d.buffers.items ++ ranges_from (length d.body.items) (buffers_from i fs rows)) (sym from)
+          ∙ before.ranged);
       bytes = adds_body d e (column_buffers f (cells i rows)) (buffers_from (i + 1) (drop (i + 1) fields) rows) _ a.adds
           (ap (λ (fs : List Field). d.body.items ++ joined (buffers_from i fs rows)) (sym from) ∙ before.bytes);
       spells = λ more. before.spells (subst (λ (fs : List Field). AllStored i fs rows) (sym from) (a.spells, more));
@@ -80,6 +96,7 @@ columns_step fields rows i f d e l g a before =
       short = λ some. later (subst (λ (fs : List Field). SomeLongData i fs rows) from (before.short some));
     }
   where
-    later : HasLongData (layout_of f) (cells i rows) ⊎ SomeLongData (i + 1) (drop (i + 1) fields) rows → SomeLongData (i + 1) (drop (i + 1) fields) rows
+    later : HasLongData (layout_of f) (cells i rows) ⊎ SomeLongData (i + 1) (drop (i + 1) fields) rows
+        → SomeLongData (i + 1) (drop (i + 1) fields) rows
     later (inl x) = absurd (a.short x)
     later (inr x) = x

@@ -1,5 +1,6 @@
 -- The bits of packed flags.
-use Rattle.std.proofs.Common.{◌≡◌, ◌∙◌, refl, ap, ℕ, zero, suc, ◌+◌, ◌*◌, ◌/◌, ◌%◌, ◌<◌, ◌≤◌, Bool, true, false, cond, List, [], ◌∷◌, length, take, drop, get_or, drop-cons, drop-drop, get_or-take, get_or-drop, arith}
+use Rattle.std.proofs.Common.{◌≡◌, ◌∙◌, refl, ap, ℕ, zero, suc, ◌+◌, ◌*◌, ◌/◌, ◌%◌, ◌<◌, ◌≤◌, Bool, true, false, cond, List, [], ◌∷◌}
+use Rattle.std.proofs.Common.{length, take, drop, get_or, drop-cons, drop-drop, get_or-take, get_or-drop, arith}
 use Rattle.std.specs.Prelude.{◌==◌}
 use Rattle.std.specs.Int.{bit_at}
 use Rattle.std.proofs.lemmas.Nat.Bits.{bit_at-zero, bit_at_lowest, bit_at-suc}
@@ -32,7 +33,8 @@ byte_is zero k fs l = absurd (omega arith)
 byte_is (suc n) zero fs l = refl
 byte_is (suc n) (suc k) fs l =
     let e : 8 + 8 * k ≡ 8 * suc k = omega arith in
-    byte_is n k (drop 8 fs) (omega arith) ∙ ap (λ (d : List Bool). flags_number (take 8 d)) (drop-drop (8 * k) 8 fs ∙ ap (λ (m : ℕ). drop m fs) e)
+    byte_is n k (drop 8 fs) (omega arith)
+    ∙ ap (λ (d : List Bool). flags_number (take 8 d)) (drop-drop (8 * k) 8 fs ∙ ap (λ (m : ℕ). drop m fs) e)
 
 truth : (b : Bool) → (cond b 1 0 == 1) ≡ b
 truth true = refl
@@ -46,25 +48,29 @@ bit_is fs i l =
     let own = number_bit (take 8 (drop (8 * (i / 8)) fs)) (i % 8) in
     let small : i % 8 < 8 = omega arith in
     let place : 8 * (i / 8) + i % 8 ≡ i = omega arith in
-    let flag = get_or-take 8 (drop (8 * (i / 8)) fs) (i % 8) false small ∙ (get_or-drop (8 * (i / 8)) fs (i % 8) false ∙ ap (λ (k : ℕ). get_or fs k false) place) in
+    let flag = get_or-take 8 (drop (8 * (i / 8)) fs) (i % 8) false small
+    ∙ (get_or-drop (8 * (i / 8)) fs (i % 8) false ∙ ap (λ (k : ℕ). get_or fs k false) place) in
     rw (byte, own, flag) (truth (get_or fs i false))
 
 pub flags_length : (which : Flag) (vs : List Value) → length (flags which vs) ≡ length vs
 flags_length which [] = refl
 flags_length which (v ∷ vs) = ap (λ (k : ℕ). suc k) (flags_length which vs)
 
-pub flag_at : (which : Flag) (vs : List Value) (i : ℕ) (d : Value) → i < length vs → get_or (flags which vs) i false ≡ is_set which (get_or vs i d)
+pub flag_at : (which : Flag) (vs : List Value) (i : ℕ) (d : Value) → i < length vs
+    → get_or (flags which vs) i false ≡ is_set which (get_or vs i d)
 flag_at which [] i d l = absurd (omega arith)
 flag_at which (v ∷ vs) zero d l = refl
 flag_at which (v ∷ vs) (suc i) d l = flag_at which vs i d (omega arith)
 
 -- the bit of a value is its flag
-pub bit_of : (which : Flag) (vs : List Value) (i : ℕ) (d : Value) → i < length vs → bit (bitmap (flags which vs)) i ≡ is_set which (get_or vs i d)
+pub bit_of : (which : Flag) (vs : List Value) (i : ℕ) (d : Value) → i < length vs
+    → bit (bitmap (flags which vs)) i ≡ is_set which (get_or vs i d)
 bit_of which vs i d l =
     let size = flags_length which vs in
     bit_is (flags which vs) i (omega (arith, size)) ∙ flag_at which vs i d l
 
-nulls_from : (vs : List Value) (i : ℕ) (d : Value) → i < length vs → nulls (drop i vs) ≡ cond (is_set Valid (get_or vs i d)) 0 1 + nulls (drop (suc i) vs)
+nulls_from : (vs : List Value) (i : ℕ) (d : Value) → i < length vs
+    → nulls (drop i vs) ≡ cond (is_set Valid (get_or vs i d)) 0 1 + nulls (drop (suc i) vs)
 nulls_from vs i d l = rw (drop-cons vs i d) refl
 
 -- the clear bits so far and the nulls that are left
@@ -74,8 +80,10 @@ clear_so_far vs zero d l = omega arith
 clear_so_far vs (suc k) d l =
     let before = clear_so_far vs k d (omega arith) in
     let here = nulls_from vs k d (omega arith) in
-    let step : clear (bitmap (flags Valid vs)) (suc k) ≡ clear (bitmap (flags Valid vs)) k + cond (bit (bitmap (flags Valid vs)) k) 0 1 = refl in
-    let same : cond {A = ℕ} (bit (bitmap (flags Valid vs)) k) 0 1 ≡ cond {A = ℕ} (is_set Valid (get_or vs k d)) 0 1 = ap (λ (b : Bool). cond {A = ℕ} b 0 1) (bit_of Valid vs k d (omega arith)) in
+    let step : clear (bitmap (flags Valid vs)) (suc k) ≡ clear (bitmap (flags Valid vs)) k + cond (bit (bitmap (flags Valid vs)) k) 0 1 =
+    refl in
+    let same : cond {A = ℕ} (bit (bitmap (flags Valid vs)) k) 0 1 ≡ cond {A = ℕ} (is_set Valid (get_or vs k d)) 0 1 =
+    ap (λ (b : Bool). cond {A = ℕ} b 0 1) (bit_of Valid vs k d (omega arith)) in
     omega (arith, before, here, step, same)
 
 drop_rest : (vs : List Value) → nulls (drop (length vs) vs) ≡ 0

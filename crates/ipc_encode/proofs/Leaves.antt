@@ -1,5 +1,6 @@
 -- Fields without children, and the values that fit them.
-use Rattle.std.proofs.Common.{◌≡◌, ◌∙◌, refl, sym, ap, subst, ℕ, ◌+◌, ◌<◌, Bool, true, List, [], ◌∷◌, ◌++◌, map, length, drop, add-one, drop-cons, arith, Option, Some, None}
+use Rattle.std.proofs.Common.{◌≡◌, ◌∙◌, refl, sym, ap, subst, ℕ, ◌+◌, ◌<◌, Bool, true, List, [], ◌∷◌, ◌++◌, map, length, drop, add-one}
+use Rattle.std.proofs.Common.{drop-cons, arith, Option, Some, None}
 use Rattle.std.specs.List.{AllByRecursion}
 use Rattle.std.proofs.lemmas.Bool.{and_parts}
 use Rattle.std.proofs.lemmas.List.{length-map}
@@ -48,7 +49,8 @@ no_items (x ∷ xs) h = absurd (omega arith)
 
 flat : (f : Field) → is_supported_field f ≡ true → HasFittingChildren (out-Field f).kind (length (out-Field f).children) → IsFlat f
 flat f o h =
-    let parts = and_parts (is_supported (out-Field f).kind (out-Field f).dictionary) (all_true (map is_supported_field (out-Field f).children)) (sym (fold_out-Field Bool supported_step f) ∙ o) in
+    let parts = and_parts (is_supported (out-Field f).kind (out-Field f).dictionary)
+    (all_true (map is_supported_field (out-Field f).children)) (sym (fold_out-Field Bool supported_step f) ∙ o) in
     let plain = no_dictionary (out-Field f).kind (out-Field f).dictionary parts.0 in
     let none = no_items (out-Field f).children (no_children (out-Field f).kind (length (out-Field f).children) plain.0 h) in
     record {
@@ -62,10 +64,12 @@ all_left P [] ys h = h
 all_left P (x ∷ xs) ys h = all_left P xs ys h.1
 
 -- what the first of the entries says
-first_fine : (f : Field) (rest : List Entry) → AllByRecursion IsFieldWellFormed (preorder f 1 ++ rest) → HasFittingChildren (out-Field f).kind (length (out-Field f).children)
+first_fine : (f : Field) (rest : List Entry) → AllByRecursion IsFieldWellFormed (preorder f 1 ++ rest)
+    → HasFittingChildren (out-Field f).kind (length (out-Field f).children)
 first_fine f rest h =
     let layer = map-Field Field Listing preorder (out-Field f) in
-    let here : AllByRecursion IsFieldWellFormed (preorder_step layer 1 ++ rest) = subst (λ (l : Listing). AllByRecursion IsFieldWellFormed (l 1 ++ rest)) (fold_out-Field Listing preorder_step f) h in
+    let here : AllByRecursion IsFieldWellFormed (preorder_step layer 1 ++ rest) =
+    subst (λ (l : Listing). AllByRecursion IsFieldWellFormed (l 1 ++ rest)) (fold_out-Field Listing preorder_step f) h in
     subst (λ (n : ℕ). HasFittingChildren (out-Field f).kind n) (length-map (out-Field f).children preorder) here.0.fitting_children
 
 pub flats : (fs : List Field) → are_supported fs ≡ true → AllByRecursion IsFieldWellFormed (entries fs) → AllByRecursion IsFlat fs
@@ -95,14 +99,16 @@ pub fit_start : (fs : List Field) (rows : List (List Value)) → AllByRecursion 
 fit_start fs [] h = tt
 fit_start fs (row ∷ rows) h = ((omega (arith, h.0.0), h.0.1), fit_start fs rows h.1)
 
-here_fits : (f : Field) (fs : List Field) (j : ℕ) (row : List Value) → length row ≡ j + length (f ∷ fs) → EachFits Fits (f ∷ fs) (drop j row) → Fits f (cell j row) × EachFits Fits fs (drop (j + 1) row)
+here_fits : (f : Field) (fs : List Field) (j : ℕ) (row : List Value) → length row ≡ j + length (f ∷ fs)
+    → EachFits Fits (f ∷ fs) (drop j row) → Fits f (cell j row) × EachFits Fits fs (drop (j + 1) row)
 here_fits f fs j row e h =
     let inside : j < length row = omega (arith, e) in
     let from : drop j row ≡ cell j row ∷ drop (j + 1) row = rw (drop-cons row j v.Null inside, add-one) refl in
     subst (λ (vs : List Value). EachFits Fits (f ∷ fs) vs) from h
 
 -- column j fits its field, and the others theirs
-pub fit_step : (f : Field) (fs : List Field) (j : ℕ) (rows : List (List Value)) → FitFrom j (f ∷ fs) rows → AllByRecursion (IsOf f) (cells j rows) × FitFrom (j + 1) fs rows
+pub fit_step : (f : Field) (fs : List Field) (j : ℕ) (rows : List (List Value)) → FitFrom j (f ∷ fs) rows
+    → AllByRecursion (IsOf f) (cells j rows) × FitFrom (j + 1) fs rows
 fit_step f fs j [] h = (tt, tt)
 fit_step f fs j (row ∷ rows) h =
     let here = here_fits f fs j row h.0.0 h.0.1 in

@@ -3,5 +3,7 @@ pub mod Steps
 pub mod Adding
 pub mod Leaves
 pub mod Ranges
+pub mod ReadbackParts
 pub mod Readback
+pub mod HeldValues
 pub mod Reading

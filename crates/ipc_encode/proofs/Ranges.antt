@@ -1,5 +1,6 @@
 -- Buffers found again in the body.
-use Rattle.std.proofs.Common.{◌≡◌, ◌∙◌, refl, sym, ap, ℕ, zero, suc, ◌+◌, ◌-◌, ◌%◌, ◌<◌, ◌≤◌, List, [], ◌∷◌, ◌++◌, length, take, drop, get_or, append_assoc, length-append, replicate, arith, le-leb}
+use Rattle.std.proofs.Common.{◌≡◌, ◌∙◌, refl, sym, ap, ℕ, zero, suc, ◌+◌, ◌-◌, ◌%◌, ◌<◌, ◌≤◌, List, [], ◌∷◌, ◌++◌, length, take, drop}
+use Rattle.std.proofs.Common.{get_or, append_assoc, length-append, replicate, arith, le-leb}
 use Rattle.std.specs.Prelude.{ℤ, pos, unsigned_abs}
 use Rattle.std.specs.List.{AllByRecursion}
 use Rattle.std.proofs.Math.Seq.{drop-append_seam, take-append_seam}
@@ -17,7 +18,8 @@ cut_behind front b more =
 bytes_behind : (front b more : List ℕ) → bytes_of (front ++ (b ++ more)) (length front) (length b) ≡ b
 unfolding bytes_of
 bytes_behind front b more =
-    let inside : length front + length b ≤ length (front ++ (b ++ more)) = omega (arith, length-append front (b ++ more), length-append b more) in
+    let inside : length front + length b ≤ length (front ++ (b ++ more)) =
+    omega (arith, length-append front (b ++ more), length-append b more) in
     rw (le-leb (length front + length b) (length (front ++ (b ++ more))) inside) (cut_behind front b more)
 
 pub ranges_length : (bs : List (List ℕ)) (start : ℕ) → length (ranges_from start bs) ≡ length bs
@@ -28,17 +30,22 @@ abbrev range_bytes : List ℕ → ℤ × ℤ → List ℕ
 range_bytes body range = bytes_of body (unsigned_abs range.0) (unsigned_abs range.1)
 
 -- buffer k of those behind a front
-pub buffer_back : (bs : List (List ℕ)) (front : List ℕ) (k : ℕ) → k < length bs → range_bytes (front ++ joined bs) (get_or (ranges_from (length front) bs) k (pos 0, pos 0)) ≡ get_or bs k []
+pub buffer_back : (bs : List (List ℕ)) (front : List ℕ) (k : ℕ) → k < length bs
+    → range_bytes (front ++ joined bs) (get_or (ranges_from (length front) bs) k (pos 0, pos 0)) ≡ get_or bs k []
 buffer_back [] front k l = absurd (omega arith)
 buffer_back (b ∷ bs) front zero l =
     let zeros = replicate {A = ℕ} ((8 - length b % 8) % 8) 0 in
-    ap (λ (xs : List ℕ). bytes_of (front ++ xs) (length front) (length b)) (append_assoc b zeros (joined bs)) ∙ bytes_behind front b (zeros ++ joined bs)
+    ap (λ (xs : List ℕ). bytes_of (front ++ xs) (length front) (length b)) (append_assoc b zeros (joined bs))
+    ∙ bytes_behind front b (zeros ++ joined bs)
 buffer_back (b ∷ bs) front (suc k) l =
-    ap (λ (xs : List ℕ). range_bytes xs (get_or (ranges_from (length front + length (padded_buffer b)) bs) k (pos 0, pos 0))) (sym (append_assoc front (padded_buffer b) (joined bs)))
-    ∙ (ap (λ (n : ℕ). range_bytes ((front ++ padded_buffer b) ++ joined bs) (get_or (ranges_from n bs) k (pos 0, pos 0))) (sym (length-append front (padded_buffer b)))
+    ap (λ (xs : List ℕ). range_bytes xs (get_or (ranges_from (length front + length (padded_buffer b)) bs) k (pos 0, pos 0)))
+    (sym (append_assoc front (padded_buffer b) (joined bs)))
+    ∙ (ap (λ (n : ℕ). range_bytes ((front ++ padded_buffer b) ++ joined bs) (get_or (ranges_from n bs) k (pos 0, pos 0)))
+    (sym (length-append front (padded_buffer b)))
     ∙ buffer_back bs (front ++ padded_buffer b) k (omega arith))
 
-pub ranges_inside : (bs : List (List ℕ)) (start size : ℕ) → start + length (joined bs) ≤ size → AllByRecursion (LiesIn size) (ranges_from start bs)
+pub ranges_inside : (bs : List (List ℕ)) (start size : ℕ) → start + length (joined bs) ≤ size
+    → AllByRecursion (LiesIn size) (ranges_from start bs)
 ranges_inside [] start size h = tt
 ranges_inside (b ∷ bs) start size h =
     let whole = length-append (padded_buffer b) (joined bs) in

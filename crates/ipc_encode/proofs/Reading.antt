@@ -1,5 +1,6 @@
 -- The parts of rows give the rows back.
-use Rattle.std.proofs.Common.{◌≡◌, ◌∙◌, refl, sym, ap, subst, ℕ, zero, suc, ◌+◌, ◌-◌, ◌^◌, ◌<◌, ◌≤◌, Bool, true, false, List, [], ◌∷◌, ◌++◌, length, drop, get_or, add-one, drop-cons, length-append, arith, Option, inl, inr}
+use Rattle.std.proofs.Common.{◌≡◌, ◌∙◌, refl, sym, ap, subst, ℕ, zero, suc, ◌+◌, ◌-◌, ◌^◌, ◌<◌, ◌≤◌, Bool, true, false, List, [], ◌∷◌, ◌++◌}
+use Rattle.std.proofs.Common.{length, drop, get_or, add-one, drop-cons, length-append, arith, Option, inl, inr}
 use Rattle.std.specs.Prelude.{ℤ, pos, unsigned_abs, ⊤}
 use Rattle.std.specs.List.{AllByRecursion}
 use Rattle.std.proofs.lemmas.Bool.{cases_lt}
@@ -24,7 +25,8 @@ use Rattle.ipc_model.specs.declared.layout.Layout.{Layout}
 use Rattle.ipc_model.specs.declared.layout.Layout.TheVariants as l
 use Rattle.ipc_model.specs.Layouts.{layout, type_layout, own_buffers}
 use Rattle.ipc_column.specs.Columns.{Column, Columns, none, column, Each, EachTop}
-use Rattle.ipc_column.specs.Shapes.{Shape, field, shape_of, field_shape, nodes_in, buffers_in, node_at, buffer_at, column_at, cut, columns_of}
+use Rattle.ipc_column.specs.Shapes.{Shape, field, shape_of, field_shape, nodes_in, buffers_in, node_at, buffer_at, column_at, cut}
+use Rattle.ipc_column.specs.Shapes.{columns_of}
 use Rattle.ipc_column.specs.Rules.{IsNode, LiesIn, IsLongEnough, CountsNulls, HasOffsets, SpellsTexts}
 use Rattle.ipc_column.specs.Values.{row}
 use Rattle.ipc_column.specs.Rows.{Rows}
@@ -37,151 +39,10 @@ use Rattle.ipc_encode.specs.Writing.{AreStored, AllStored}
 use Rattle.ipc_encode.proofs.Leaves.{IsFlat, IsOf, FitFrom, flats, fit_start, fit_step}
 use Rattle.ipc_encode.proofs.Ranges.{buffer_back, ranges_length, ranges_inside}
 use Rattle.ipc_encode.proofs.Steps.{cells_length}
-use Rattle.ipc_encode.proofs.Readback.{column_of, Holds, AllHeld, IsShort, nulls_most, long_enough, counts_nulls, in_order, spells_texts, value_is}
-
--- ---- the columns of the parts
-
--- the columns of the fields from column j on, as they are written
-abbrev written : ℕ → List Field → List (List Value) → Columns
-written j [] rows = none
-written j (f ∷ fs) rows = column (column_of (layout_of f) (cells j rows)) none (written (j + 1) fs rows)
-
-own_length : (l : Layout) (vs : List Value) → length (b.buffers_in (pieces l (nulls vs)) vs) ≡ own_buffers l
-own_length l.Null vs = refl
-own_length l.Bits vs = refl
-own_length (l.Numbers bits signed) vs = refl
-own_length (l.FixedBytes width) vs = refl
-own_length (l.VariableBytes utf8) vs = refl
-own_length l.Unsupported vs = refl
-
-abbrev BuffersAt : BatchHead → List ℕ → ℕ → List (List ℕ) → Type 0
-BuffersAt head body n bs = (k : ℕ) → k < length bs → buffer_at head body (n + k) ≡ get_or bs k []
-
-column_back : (l : Layout) (vs : List Value) (head : BatchHead) (body : List ℕ) (n m : ℕ) → node_at head n ≡ (pos (length vs), pos (nulls vs)) → BuffersAt head body m (b.buffers_in (pieces l (nulls vs)) vs) → column_at l head body n m ≡ column_of l vs
-column_back l.Null vs head body n m e h = λ i. record { layout = l.Null; slots = unsigned_abs (e i).0; nulls = unsigned_abs (e i).1; validity = []; offsets = []; values = [] }
-column_back l.Unsupported vs head body n m e h = λ i. record { layout = l.Unsupported; slots = unsigned_abs (e i).0; nulls = unsigned_abs (e i).1; validity = []; offsets = []; values = [] }
-column_back l.Bits vs head body n m e h =
-    let first = ap (λ (k : ℕ). buffer_at head body k) (let z : m ≡ m + 0 = omega arith in z) ∙ h 0 (omega arith) in
-    let second = h 1 (omega arith) in
-    λ i. record { layout = l.Bits; slots = unsigned_abs (e i).0; nulls = unsigned_abs (e i).1; validity = first i; offsets = []; values = second i }
-column_back (l.Numbers bits signed) vs head body n m e h =
-    let first = ap (λ (k : ℕ). buffer_at head body k) (let z : m ≡ m + 0 = omega arith in z) ∙ h 0 (omega arith) in
-    let second = h 1 (omega arith) in
-    λ i. record { layout = l.Numbers bits signed; slots = unsigned_abs (e i).0; nulls = unsigned_abs (e i).1; validity = first i; offsets = []; values = second i }
-column_back (l.FixedBytes width) vs head body n m e h =
-    let first = ap (λ (k : ℕ). buffer_at head body k) (let z : m ≡ m + 0 = omega arith in z) ∙ h 0 (omega arith) in
-    let second = h 1 (omega arith) in
-    λ i. record { layout = l.FixedBytes width; slots = unsigned_abs (e i).0; nulls = unsigned_abs (e i).1; validity = first i; offsets = []; values = second i }
-column_back (l.VariableBytes utf8) vs head body n m e h =
-    let first = ap (λ (k : ℕ). buffer_at head body k) (let z : m ≡ m + 0 = omega arith in z) ∙ h 0 (omega arith) in
-    let second = h 1 (omega arith) in
-    let third = h 2 (omega arith) in
-    λ i. record { layout = l.VariableBytes utf8; slots = unsigned_abs (e i).0; nulls = unsigned_abs (e i).1; validity = first i; offsets = second i; values = third i }
-
-abbrev NodesAt : BatchHead → ℕ → List (ℤ × ℤ) → Type 0
-NodesAt head n ns = (k : ℕ) → k < length ns → node_at head (n + k) ≡ get_or ns k (pos 0, pos 0)
-
-nodes_length : (fs : List Field) (j : ℕ) (rows : List (List Value)) → length (nodes_from j fs rows) ≡ length fs
-nodes_length [] j rows = refl
-nodes_length (f ∷ fs) j rows = ap (λ (k : ℕ). suc k) (nodes_length fs (j + 1) rows)
-
-cut_back : (fs : List Field) (j : ℕ) (rows : List (List Value)) (head : BatchHead) (body : List ℕ) (n m : ℕ) → AllByRecursion IsFlat fs → NodesAt head n (nodes_from j fs rows) → BuffersAt head body m (buffers_from j fs rows)
-    → cut (shape_of fs) head body n m ≡ written j fs rows
-unfolding cut nodes_in buffers_in
-cut_back [] j rows head body n m flat ns bs = refl
-cut_back (f ∷ fs) j rows head body n m flat ns bs =
-    let l = layout_of f in
-    let vs = cells j rows in
-    let own = b.buffers_in (pieces l (nulls vs)) vs in
-    let rest = buffers_from (j + 1) fs rows in
-    let size = cells_length j rows in
-    let node : node_at head n ≡ (pos (length vs), pos (nulls vs)) =
-    ap (λ (k : ℕ). node_at head k) (let z : n ≡ n + 0 = omega arith in z) ∙ (ns 0 (omega arith) ∙ ap (λ (k : ℕ). (pos k, pos (nulls vs))) (sym size)) in
-    let first : BuffersAt head body m own = λ k h. bs k (omega (arith, h, length_both own rest)) ∙ get_or-append own rest [] k h in
-    let later_nodes : NodesAt head (n + 1 + 0) (nodes_from (j + 1) fs rows) = λ k h.
-    ap (λ (q : ℕ). node_at head q) (let z : n + 1 + 0 + k ≡ n + suc k = omega arith in z) ∙ ns (suc k) (omega (arith, h)) in
-    let width = own_length l vs in
-    let later_buffers : BuffersAt head body (m + own_buffers l + 0) rest = λ k h.
-    ap (λ (q : ℕ). buffer_at head body q) (let z : m + own_buffers l + 0 + k ≡ m + (own_buffers l + k) = omega arith in z)
-    ∙ (bs (own_buffers l + k) (omega (arith, h, width, length_both own rest)) ∙ (get_or-append_right own rest (own_buffers l) (own_buffers l + k) [] width (omega arith)
-    ∙ ap (λ (q : ℕ). get_or rest q []) (let z : own_buffers l + k - own_buffers l ≡ k = omega arith in z))) in
-    let own_column = column_back l vs head body n m node first in
-    let others = cut_back fs (j + 1) rows head body (n + 1 + 0) (m + own_buffers l + 0) flat.1 later_nodes later_buffers in
-    ap (λ (s : Layout × Shape). cut (field s.0 s.1 (shape_of fs)) head body n m) flat.0.shape ∙ (λ i. column (own_column i) none (others i))
-  where
-    length_both : (xs ys : List (List ℕ)) → length (xs ++ ys) ≡ length xs + length ys
-    length_both [] ys = omega arith
-    length_both (x ∷ xs) ys = let h = length_both xs ys in omega (arith, h)
-
--- ---- the columns' values
-
--- what is known of a column
-pub record IsGood (f : Field) (vs : List Value) : Type 0 where
-  pub held : AllHeld (layout_of f) vs
-  pub short : IsShort (layout_of f) vs
-
-abbrev AllGood : ℕ → List Field → List (List Value) → Type 0
-AllGood j [] rows = ⊤
-AllGood j (f ∷ fs) rows = IsGood f (cells j rows) × AllGood (j + 1) fs rows
-
-all_both : {X : Type 0} (P Q R : X → Type 0) → ((x : X) → P x → Q x → R x) → (xs : List X) → AllByRecursion P xs → AllByRecursion Q xs → AllByRecursion R xs
-all_both P Q R f [] p q = tt
-all_both P Q R f (x ∷ xs) p q = (f x p.0 q.0, all_both P Q R f xs p.1 q.1)
-
-all_one : {X : Type 0} (P R : X → Type 0) → ((x : X) → P x → R x) → (xs : List X) → AllByRecursion P xs → AllByRecursion R xs
-all_one P R f [] p = tt
-all_one P R f (x ∷ xs) p = (f x p.0, all_one P R f xs p.1)
-
-all_top : {X : Type 0} (xs : List X) → AllByRecursion (λ x. ⊤) xs
-all_top [] = tt
-all_top (x ∷ xs) = (tt, all_top xs)
-
--- what is known of a value beyond its fitting
-abbrev Known : Layout → Value-F Value → Type 0
-Known (l.VariableBytes utf8) w = SpellsOut w
-Known _ w = ⊤
-
-known : (l : Layout) (vs : List Value) → AreStored l vs → AllByRecursion (λ v. Known l (out-Value v)) vs
-known (l.VariableBytes utf8) vs h = h
-known (l.Numbers bits signed) vs h = all_top vs
-known l.Null vs h = all_top vs
-known l.Bits vs h = all_top vs
-known (l.FixedBytes width) vs h = all_top vs
-known l.Unsupported vs h = all_top vs
-
--- a value of a type's own is held by its layout
-held : (kind : DataType) (nullable : Bool) (n : ℕ) (w : Value-F Value) → is_supported_type kind ≡ true → IsOwn kind nullable n w → Known (type_layout kind) w → Holds (type_layout kind) w
-held t.List nullable n w o h m = absurd (cc)
-held t.Struct nullable n w o h m = absurd (cc)
-held t.Null nullable n Value-F.Null o h m = tt
-held t.Null nullable n _ o h m = absurd h
-held t.Bool nullable n Value-F.Null o h m = tt
-held t.Bool nullable n (Value-F.Bool truth) o h m = tt
-held t.Bool nullable n _ o h m = absurd h
-held (t.Int bits true) nullable n Value-F.Null o h m = tt
-held (t.Int bits true) nullable n (Value-F.Int z) o h m = h
-held (t.Int bits true) nullable n _ o h m = absurd h
-held (t.Int bits false) nullable n Value-F.Null o h m = tt
-held (t.Int bits false) nullable n (Value-F.UInt k) o h m = h
-held (t.Int bits false) nullable n _ o h m = absurd h
-held t.Binary nullable n Value-F.Null o h m = tt
-held t.Binary nullable n (Value-F.Bytes bytes) o h m = tt
-held t.Binary nullable n _ o h m = absurd h
-held t.Utf8 nullable n Value-F.Null o h m = tt
-held t.Utf8 nullable n (Value-F.Text text) o h m = m
-held t.Utf8 nullable n _ o h m = absurd h
-held (t.FixedSizeBinary width) nullable n Value-F.Null o h m = tt
-held (t.FixedSizeBinary width) nullable n (Value-F.Bytes bytes) o h m = h
-held (t.FixedSizeBinary width) nullable n _ o h m = absurd h
-held (t.Date Day) nullable n Value-F.Null o h m = tt
-held (t.Date Day) nullable n (Value-F.Int z) o h m = h
-held (t.Date Day) nullable n _ o h m = absurd h
-held (t.Date Millisecond) nullable n Value-F.Null o h m = tt
-held (t.Date Millisecond) nullable n (Value-F.Int z) o h m = h.0
-held (t.Date Millisecond) nullable n _ o h m = absurd h
-held (t.Timestamp unit timezone) nullable n Value-F.Null o h m = tt
-held (t.Timestamp unit timezone) nullable n (Value-F.Int z) o h m = h
-held (t.Timestamp unit timezone) nullable n _ o h m = absurd h
+use Rattle.ipc_encode.proofs.Readback.{value_is}
+use Rattle.ipc_encode.proofs.ReadbackParts.{column_of, Holds, AllHeld, IsShort, nulls_most, long_enough, counts_nulls, in_order}
+use Rattle.ipc_encode.proofs.ReadbackParts.{spells_texts}
+use Rattle.ipc_encode.proofs.HeldValues.{written, own_length, nodes_length, cut_back, AllGood, all_both, Known, known, held}
 
 all_held : (f : Field) (vs : List Value) → IsFlat f → AllByRecursion (IsOf f) vs → AreStored (layout_of f) vs → AllHeld (layout_of f) vs
 all_held f vs flat fits spells =
@@ -193,29 +54,36 @@ all_held f vs flat fits spells =
     (λ v own m. held kind (out-Field f).nullable (length (out-Field f).children) (out-Value v) flat.open_type own m) vs fits more)
 
 short_is : (l : Layout) (vs : List Value) → ¬ HasLongData l vs → IsShort l vs
-short_is (l.VariableBytes utf8) vs h = elim (cases_lt (2 ^ 31 - 1) (length (slots Content vs))) as (λ _. length (slots Content vs) ≤ 2 ^ 31 - 1) [ inl x ↦ absurd (h x) | inr g ↦ g ]
+short_is (l.VariableBytes utf8) vs h = elim (cases_lt (2 ^ 31 - 1) (length (slots Content vs))) as
+    (λ _. length (slots Content vs) ≤ 2 ^ 31 - 1) [ inl x ↦ absurd (h x) | inr g ↦ g ]
 short_is l.Null vs h = tt
 short_is l.Bits vs h = tt
 short_is (l.Numbers bits signed) vs h = tt
 short_is (l.FixedBytes width) vs h = tt
 short_is l.Unsupported vs h = tt
 
-goods : (fs : List Field) (j : ℕ) (rows : List (List Value)) → AllByRecursion IsFlat fs → FitFrom j fs rows → AllStored j fs rows → ¬ SomeLongData j fs rows → AllGood j fs rows
+goods : (fs : List Field) (j : ℕ) (rows : List (List Value)) → AllByRecursion IsFlat fs → FitFrom j fs rows → AllStored j fs rows
+    → ¬ SomeLongData j fs rows → AllGood j fs rows
 goods [] j rows flat fits spells short = tt
 goods (f ∷ fs) j rows flat fits spells short =
     let step = fit_step f fs j rows fits in (
-      record { held = all_held f (cells j rows) flat.0 step.0 spells.0; short = short_is (layout_of f) (cells j rows) (λ x. short (inl x)) },
+      record {
+        held = all_held f (cells j rows) flat.0 step.0 spells.0;
+        short = short_is (layout_of f) (cells j rows) (λ x. short (inl x));
+      },
       goods fs (j + 1) rows flat.1 step.1 spells.1 (λ x. short (inr x)),
     )
 
 abbrev OfGood : (Column → Type 0) → Type 0
 OfGood P = (l : Layout) (vs : List Value) → AllHeld l vs → IsShort l vs → P (column_of l vs)
 
-each_written : (P : Column → Type 0) → OfGood P → (fs : List Field) (j : ℕ) (rows : List (List Value)) → AllGood j fs rows → Each P (written j fs rows)
+each_written : (P : Column → Type 0) → OfGood P → (fs : List Field) (j : ℕ) (rows : List (List Value)) → AllGood j fs rows
+    → Each P (written j fs rows)
 each_written P p [] j rows g = tt
 each_written P p (f ∷ fs) j rows g = (p (layout_of f) (cells j rows) g.0.held g.0.short, (tt, each_written P p fs (j + 1) rows g.1))
 
-each_top : (P : Column → Type 0) → OfGood P → (fs : List Field) (j : ℕ) (rows : List (List Value)) → AllGood j fs rows → EachTop P (written j fs rows)
+each_top : (P : Column → Type 0) → OfGood P → (fs : List Field) (j : ℕ) (rows : List (List Value)) → AllGood j fs rows
+    → EachTop P (written j fs rows)
 each_top P p [] j rows g = tt
 each_top P p (f ∷ fs) j rows g = (p (layout_of f) (cells j rows) g.0.held g.0.short, each_top P p fs (j + 1) rows g.1)
 
@@ -230,12 +98,14 @@ cell_at j [] i k = absurd (omega arith)
 cell_at j (row ∷ rows) zero k = refl
 cell_at j (row ∷ rows) (suc i) k = cell_at j rows i (omega arith)
 
-width_at : (n : ℕ) (fs : List Field) (rows : List (List Value)) (i : ℕ) → AllByRecursion (RowFits fs) rows → i < length rows → length (get_or rows i []) ≡ length fs
+width_at : (n : ℕ) (fs : List Field) (rows : List (List Value)) (i : ℕ) → AllByRecursion (RowFits fs) rows → i < length rows
+    → length (get_or rows i []) ≡ length fs
 width_at n fs [] i h k = absurd (omega arith)
 width_at n fs (row ∷ rows) zero h k = h.0.0
 width_at n fs (row ∷ rows) (suc i) h k = width_at n fs rows i h.1 (omega arith)
 
-row_back : (fs : List Field) (j : ℕ) (rows : List (List Value)) (i : ℕ) → AllGood j fs rows → i < length rows → length (get_or rows i []) ≡ j + length fs → row (written j fs rows) i ≡ drop j (get_or rows i [])
+row_back : (fs : List Field) (j : ℕ) (rows : List (List Value)) (i : ℕ) → AllGood j fs rows → i < length rows
+    → length (get_or rows i []) ≡ j + length fs → row (written j fs rows) i ≡ drop j (get_or rows i [])
 row_back [] j rows i g k e = sym (drop_past (get_or rows i []) j (omega (arith, e)))
   where
     drop_past : (xs : List Value) (j : ℕ) → length xs ≤ j → drop j xs ≡ []
@@ -248,7 +118,8 @@ row_back (f ∷ fs) j rows i g k e =
     let inside : j < length (get_or rows i []) = omega (arith, e) in
     let here = value_is (layout_of f) (cells j rows) i (omega (arith, k, size)) g.0.held g.0.short ∙ cell_at j rows i k in
     let rest = row_back fs (j + 1) rows i g.1 k (omega (arith, e)) in
-    let from : drop j (get_or rows i []) ≡ cell j (get_or rows i []) ∷ drop (j + 1) (get_or rows i []) = rw (drop-cons (get_or rows i []) j v.Null inside, add-one) refl in
+    let from : drop j (get_or rows i []) ≡ cell j (get_or rows i []) ∷ drop (j + 1) (get_or rows i []) =
+    rw (drop-cons (get_or rows i []) j v.Null inside, add-one) refl in
     (λ q. here q ∷ rest q) ∙ sym from
 
 nodes_count : (fs : List Field) → AllByRecursion IsFlat fs → nodes_in (shape_of fs) ≡ length fs
@@ -259,7 +130,8 @@ nodes_count (f ∷ fs) flat =
     let none : nodes_in (field_shape f).1 ≡ 0 = ap (λ (s : Layout × Shape). nodes_in s.1) flat.0.shape in
     omega (arith, rest, none)
 
-buffers_count : (fs : List Field) (j : ℕ) (rows : List (List Value)) → AllByRecursion IsFlat fs → buffers_in (shape_of fs) ≡ length (buffers_from j fs rows)
+buffers_count : (fs : List Field) (j : ℕ) (rows : List (List Value)) → AllByRecursion IsFlat fs
+    → buffers_in (shape_of fs) ≡ length (buffers_from j fs rows)
 unfolding buffers_in
 buffers_count [] j rows flat = refl
 buffers_count (f ∷ fs) j rows flat =
@@ -275,21 +147,32 @@ are_nodes (f ∷ fs) j rows few =
     let most = nulls_most (cells j rows) in
     let size = cells_length j rows in
     let inside : nulls (cells j rows) ≤ length rows = omega (arith, most, size) in (
-      record { slots = record { from = omega (arith, ints); to = omega (arith, ints, few) }; nulls_from = omega (arith, ints); nulls_to = omega (arith, ints, inside) },
+      record {
+        slots = record { from = omega (arith, ints); to = omega (arith, ints, few) };
+        nulls_from = omega (arith, ints);
+        nulls_to = omega (arith, ints, inside);
+      },
       are_nodes fs (j + 1) rows few,
     )
 
 abbrev head_of : List Field → List (List Value) → BatchHead
-head_of fields rows = record { length = pos (length rows); nodes = nodes_from 0 fields rows; buffers = ranges_from 0 (buffers_of fields rows) }
+head_of fields rows = record {
+  length = pos (length rows);
+  nodes = nodes_from 0 fields rows;
+  buffers = ranges_from 0 (buffers_of fields rows);
+}
 
 -- the parts that rows are written as give the rows
-pub rows_back : (fields : List Field) (rows : List (List Value)) → are_supported fields ≡ true → AllByRecursion IsFieldWellFormed (entries fields) → AllByRecursion (RowFits fields) rows → IsWithin fields rows → AllStored 0 fields rows
+pub rows_back : (fields : List Field) (rows : List (List Value)) → are_supported fields ≡ true
+    → AllByRecursion IsFieldWellFormed (entries fields) → AllByRecursion (RowFits fields) rows → IsWithin fields rows
+    → AllStored 0 fields rows
     → Rows fields (head_of fields rows) (body_of fields rows) rows
 rows_back fields rows o fine fits within spells =
     let head = head_of fields rows in
     let body = body_of fields rows in
     let flat = flats fields o fine in
-    let few : length rows < 2 ^ 31 = elim (cases_lt (2 ^ 31 - 1) (length rows)) as (λ _. length rows < 2 ^ 31) [ inl x ↦ absurd (within.few x) | inr g ↦ omega (arith, g) ] in
+    let few : length rows < 2 ^ 31 = elim (cases_lt (2 ^ 31 - 1) (length rows)) as (λ _. length rows < 2 ^ 31)
+    [ inl x ↦ absurd (within.few x) | inr g ↦ omega (arith, g) ] in
     let good = goods fields 0 rows flat (fit_start fields rows fits) spells (λ x. within.short (inl x)) in
     let e : columns_of fields head body ≡ written 0 fields rows =
     cut_back fields 0 rows head body 0 0 flat
@@ -304,21 +187,31 @@ rows_back fields rows o fine fits within spells =
         nodes = All-from_recursion IsNode (nodes_from 0 fields rows) (are_nodes fields 0 rows few);
         columns = subst (λ (cs : Columns). EachTop (λ c. pos c.slots ≡ pos (length rows)) cs) (sym e) (slots_top fields 0 rows);
       };
-      ranges = All-from_recursion (LiesIn (length body)) (ranges_from 0 (buffers_of fields rows)) (ranges_inside (buffers_of fields rows) 0 (length body) (omega arith));
-      bytes = subst (λ (cs : Columns). Each IsLongEnough cs) (sym e) (each_written IsLongEnough (λ l vs h s. long_enough l vs h) fields 0 rows good);
-      null_counts = subst (λ (cs : Columns). Each CountsNulls cs) (sym e) (each_written CountsNulls (λ l vs h s. counts_nulls l vs h) fields 0 rows good);
+      ranges = All-from_recursion (LiesIn (length body)) (ranges_from 0 (buffers_of fields rows))
+          (ranges_inside (buffers_of fields rows) 0 (length body) (omega arith));
+      bytes = subst (λ (cs : Columns). Each IsLongEnough cs) (sym e)
+          (each_written IsLongEnough (λ l vs h s. long_enough l vs h) fields 0 rows good);
+      null_counts = subst (λ (cs : Columns). Each CountsNulls cs) (sym e)
+          (each_written CountsNulls (λ l vs h s. counts_nulls l vs h) fields 0 rows good);
       order = subst (λ (cs : Columns). Each (λ c. HasOffsets c.layout c.slots c.offsets (length c.values)) cs) (sym e)
           (each_written (λ c. HasOffsets c.layout c.slots c.offsets (length c.values)) (λ l vs h s. in_order l vs s) fields 0 rows good);
-      texts = subst (λ (cs : Columns). EachTop SpellsTexts cs) (sym e) (each_top SpellsTexts (λ l vs h s. spells_texts l vs h s) fields 0 rows good);
+      texts = subst (λ (cs : Columns). EachTop SpellsTexts cs) (sym e)
+          (each_top SpellsTexts (λ l vs h s. spells_texts l vs h s) fields 0 rows good);
       count = refl;
-      values = λ i k. sym (ap (λ (cs : Columns). row cs i) e ∙ row_back fields 0 rows i good k (width_at 0 fields rows i fits k ∙ (let z : length fields ≡ 0 + length fields = omega arith in z)));
+      values = λ i k. sym (ap (λ (cs : Columns). row cs i) e
+          ∙ row_back fields 0 rows i good k
+          (width_at 0 fields rows i fits k ∙ (let z : length fields ≡ 0 + length fields = omega arith in z)));
     }
 
 -- the same of any parts that are these lists
-pub rows_of_parts : (fields : List Field) (rows : List (List Value)) (nodes buffers : List (ℤ × ℤ)) (body : List ℕ) → are_supported fields ≡ true → AllByRecursion IsFieldWellFormed (entries fields) → AllByRecursion (RowFits fields) rows → IsWithin fields rows
-    → AllStored 0 fields rows → nodes ≡ nodes_from 0 fields rows → buffers ≡ ranges_from 0 (buffers_of fields rows) → body ≡ body_of fields rows
+pub rows_of_parts : (fields : List Field) (rows : List (List Value)) (nodes buffers : List (ℤ × ℤ)) (body : List ℕ)
+    → are_supported fields ≡ true → AllByRecursion IsFieldWellFormed (entries fields) → AllByRecursion (RowFits fields) rows
+    → IsWithin fields rows
+    → AllStored 0 fields rows → nodes ≡ nodes_from 0 fields rows → buffers ≡ ranges_from 0 (buffers_of fields rows)
+    → body ≡ body_of fields rows
     → Rows fields (record { length = pos (length rows); nodes = nodes; buffers = buffers }) body rows
 rows_of_parts fields rows nodes buffers body o fine fits within spells n r b =
     subst (λ (bytes : List ℕ). Rows fields (record { length = pos (length rows); nodes = nodes; buffers = buffers }) bytes rows) (sym b)
-    (subst (λ (head : BatchHead). Rows fields head (body_of fields rows) rows) (λ i. record { length = pos (length rows); nodes = (sym n) i; buffers = (sym r) i })
+    (subst (λ (head : BatchHead). Rows fields head (body_of fields rows) rows)
+    (λ i. record { length = pos (length rows); nodes = (sym n) i; buffers = (sym r) i })
     (rows_back fields rows o fine fits within spells))

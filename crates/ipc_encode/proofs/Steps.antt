@@ -1,5 +1,7 @@
 -- What is done so far beside what is left of the rows.
-use Rattle.std.proofs.Common.{◌≡◌, ◌∙◌, refl, sym, ap, ℕ, zero, suc, ◌+◌, ◌-◌, ◌*◌, ◌/◌, ◌^◌, ◌<◌, ◌≤◌, Bool, true, false, cond, List, [], ◌∷◌, ◌++◌, length, take, drop, take_all, get_or, add-one, drop-cons, drop-drop, append_assoc, length-append, length-drop, arith, inl, inr}
+use Rattle.std.proofs.Common.{◌≡◌, ◌∙◌, refl, sym, ap, ℕ, zero, suc, ◌+◌, ◌-◌, ◌*◌, ◌/◌, ◌^◌, ◌<◌, ◌≤◌, Bool, true, false, cond, List, []}
+use Rattle.std.proofs.Common.{◌∷◌, ◌++◌, length, take, drop, take_all, get_or, add-one, drop-cons, drop-drop, append_assoc, length-append}
+use Rattle.std.proofs.Common.{length-drop, arith, inl, inr}
 use Rattle.std.specs.Prelude.{slice_range, min}
 use Rattle.std.proofs.lemmas.Bool.{cases_lt}
 use Rattle.std.proofs.Math.Pow.{pow_mono}
@@ -15,7 +17,8 @@ pub cells_length : (j : ℕ) (rows : List (List Value)) → length (cells j rows
 cells_length j [] = refl
 cells_length j (row ∷ rows) = ap (λ (k : ℕ). suc k) (cells_length j rows)
 
-pub cells_from : (j : ℕ) (rows : List (List Value)) (i : ℕ) (row : List Value) → i < length rows → row ≡ get_or rows i row → cells j (drop i rows) ≡ cell j row ∷ cells j (drop (i + 1) rows)
+pub cells_from : (j : ℕ) (rows : List (List Value)) (i : ℕ) (row : List Value) → i < length rows → row ≡ get_or rows i row
+    → cells j (drop i rows) ≡ cell j row ∷ cells j (drop (i + 1) rows)
 cells_from j rows i row l e = rw (drop-cons rows i row) (rw (← e, add-one) refl)
 
 cells_take : (j n : ℕ) (rows : List (List Value)) → cells j (take n rows) ≡ take n (cells j rows)
@@ -41,7 +44,8 @@ flags_drop which (suc n) (v ∷ vs) = flags_drop which n vs
 -- ---- flags
 
 -- one flag more in front
-pub packed_step : (which : Flag) (j : ℕ) (rows : List (List Value)) (i byte : ℕ) (row : List Value) → i < length rows → row ≡ get_or rows (length rows - 1 - i) row
+pub packed_step : (which : Flag) (j : ℕ) (rows : List (List Value)) (i byte : ℕ) (row : List Value) → i < length rows
+    → row ≡ get_or rows (length rows - 1 - i) row
     → byte ≡ flags_number (flags which (cells j (drop (length rows - i) rows)))
     → cond (is_set which (cell j row)) 1 0 + 2 * byte ≡ flags_number (flags which (cells j (drop (length rows - (i + 1)) rows)))
 packed_step which j rows i byte row l e before =
@@ -53,35 +57,44 @@ packed_step which j rows i byte row l e before =
 flags_number-lt : (fs : List Bool) (n : ℕ) → length fs ≤ n → flags_number fs < 2 ^ n
 flags_number-lt [] n h = let g = pow_mono {i = 0} {j = n} (omega arith) in omega (arith, g)
 flags_number-lt (f ∷ fs) zero h = absurd (omega arith)
-flags_number-lt (true ∷ fs) (suc n) h = let g = flags_number-lt fs n (omega arith) in let e : 2 ^ suc n ≡ 2 * 2 ^ n = omega arith in rw e (omega (arith, g))
-flags_number-lt (false ∷ fs) (suc n) h = let g = flags_number-lt fs n (omega arith) in let e : 2 ^ suc n ≡ 2 * 2 ^ n = omega arith in rw e (omega (arith, g))
+flags_number-lt (true ∷ fs) (suc n) h = let g = flags_number-lt fs n (omega arith) in let e : 2 ^ suc n ≡ 2 * 2 ^ n =
+    omega arith in rw e (omega (arith, g))
+flags_number-lt (false ∷ fs) (suc n) h = let g = flags_number-lt fs n (omega arith) in let e : 2 ^ suc n ≡ 2 * 2 ^ n =
+    omega arith in rw e (omega (arith, g))
 
 -- what is packed of fewer than eight flags leaves room for one more
-pub packed_small : (which : Flag) (j : ℕ) (rows : List (List Value)) (i byte : ℕ) → length rows ≤ 8 → i < length rows → byte ≡ flags_number (flags which (cells j (drop (length rows - i) rows))) → byte < 128
+pub packed_small : (which : Flag) (j : ℕ) (rows : List (List Value)) (i byte : ℕ) → length rows ≤ 8 → i < length rows
+    → byte ≡ flags_number (flags which (cells j (drop (length rows - i) rows))) → byte < 128
 packed_small which j rows i byte few l e =
     let size = flags_length which (cells j (drop (length rows - i) rows)) in
     let same = cells_length j (drop (length rows - i) rows) in
-    rw e (flags_number-lt (flags which (cells j (drop (length rows - i) rows))) 7 (omega (arith, size, same, length-drop (length rows - i) rows)))
+    rw e (flags_number-lt (flags which (cells j (drop (length rows - i) rows))) 7
+    (omega (arith, size, same, length-drop (length rows - i) rows)))
 
 -- a take that passes the end
 take_past : {X : Type 0} (xs : List X) (n m : ℕ) → length xs ≤ n → length xs ≤ m → take n xs ≡ take m xs
 take_past xs n m h k = take_all n xs h ∙ sym (take_all m xs k)
 
-take_eight : (rows : List (List Value)) (k : ℕ) → take (min (length rows) (8 * k + 8) - 8 * k) (drop (8 * k) rows) ≡ take 8 (drop (8 * k) rows)
+take_eight : (rows : List (List Value)) (k : ℕ)
+    → take (min (length rows) (8 * k + 8) - 8 * k) (drop (8 * k) rows) ≡ take 8 (drop (8 * k) rows)
 take_eight rows k =
-    elim (cases_lt (length rows) (8 * k + 8)) as (λ _. take (min (length rows) (8 * k + 8) - 8 * k) (drop (8 * k) rows) ≡ take 8 (drop (8 * k) rows)) [
-      | inl l ↦ take_past (drop (8 * k) rows) (min (length rows) (8 * k + 8) - 8 * k) 8 (omega (arith, length-drop (8 * k) rows)) (omega (arith, length-drop (8 * k) rows))
+    elim (cases_lt (length rows) (8 * k + 8)) as
+    (λ _. take (min (length rows) (8 * k + 8) - 8 * k) (drop (8 * k) rows) ≡ take 8 (drop (8 * k) rows)) [
+      | inl l ↦ take_past (drop (8 * k) rows) (min (length rows) (8 * k + 8) - 8 * k) 8 (omega (arith, length-drop (8 * k) rows))
+          (omega (arith, length-drop (8 * k) rows))
       | inr g ↦ let e : min (length rows) (8 * k + 8) - 8 * k ≡ 8 = omega arith in ap (λ (n : ℕ). take n (drop (8 * k) rows)) e
     ]
 
-pub flags_start : (which : Flag) (j : ℕ) (rows : List (List Value)) → flags_bytes ((length rows + 7) / 8 - 0) (flags which (cells j rows)) ≡ bitmap (flags which (cells j rows))
+pub flags_start : (which : Flag) (j : ℕ) (rows : List (List Value))
+    → flags_bytes ((length rows + 7) / 8 - 0) (flags which (cells j rows)) ≡ bitmap (flags which (cells j rows))
 flags_start which j rows =
     let size = flags_length which (cells j rows) in
     let same = cells_length j rows in
     ap (λ (n : ℕ). flags_bytes n (flags which (cells j rows))) (omega (arith, size, same))
 
 -- one byte of flags more
-pub flags_step : (which : Flag) (j : ℕ) (rows group : List (List Value)) (k end byte : ℕ) (old body new whole : List ℕ) → k < (length rows + 7) / 8 → end ≡ min (length rows) (8 * k + 8) → group ≡ slice_range rows (8 * k) end
+pub flags_step : (which : Flag) (j : ℕ) (rows group : List (List Value)) (k end byte : ℕ) (old body new whole : List ℕ)
+    → k < (length rows + 7) / 8 → end ≡ min (length rows) (8 * k + 8) → group ≡ slice_range rows (8 * k) end
     → byte ≡ flags_number (flags which (cells j group)) → new ≡ body ++ byte ∷ []
     → body ++ flags_bytes ((length rows + 7) / 8 - k) (flags which (cells j (drop (8 * k) rows))) ≡ whole
     → new ++ flags_bytes ((length rows + 7) / 8 - (k + 1)) (flags which (cells j (drop (8 * (k + 1)) rows))) ≡ whole
@@ -93,9 +106,12 @@ flags_step which j rows group k end byte old body new whole l e g b n before =
     ∙ (ap (λ (rs : List (List Value)). flags which (cells j rs)) (sym (drop-drop 8 (8 * k) rows))
     ∙ (ap (flags which) (cells_drop j 8 (drop (8 * k) rows)) ∙ flags_drop which 8 (cells j (drop (8 * k) rows)))) in
     let here : byte ≡ flags_number (take 8 fs) =
-    b ∙ (ap (λ (rs : List (List Value)). flags_number (flags which (cells j rs))) (g ∙ (ap (λ (m : ℕ). take (m - 8 * k) (drop (8 * k) rows)) e ∙ take_eight rows k))
-    ∙ (ap (λ (vs : List Value). flags_number (flags which vs)) (cells_take j 8 (drop (8 * k) rows)) ∙ ap flags_number (flags_take which 8 (cells j (drop (8 * k) rows))))) in
-    let split : flags_bytes ((length rows + 7) / 8 - k) fs ≡ byte ∷ flags_bytes ((length rows + 7) / 8 - (k + 1)) (flags which (cells j (drop (8 * (k + 1)) rows))) =
+    b ∙ (ap (λ (rs : List (List Value)). flags_number (flags which (cells j rs)))
+    (g ∙ (ap (λ (m : ℕ). take (m - 8 * k) (drop (8 * k) rows)) e ∙ take_eight rows k))
+    ∙ (ap (λ (vs : List Value). flags_number (flags which vs)) (cells_take j 8 (drop (8 * k) rows))
+    ∙ ap flags_number (flags_take which 8 (cells j (drop (8 * k) rows))))) in
+    let split : flags_bytes ((length rows + 7) / 8 - k) fs
+    ≡ byte ∷ flags_bytes ((length rows + 7) / 8 - (k + 1)) (flags which (cells j (drop (8 * (k + 1)) rows))) =
     rw (left, here, next) refl in
     ap (λ (xs : List ℕ). xs ++ flags_bytes ((length rows + 7) / 8 - (k + 1)) (flags which (cells j (drop (8 * (k + 1)) rows)))) n
     ∙ (append_assoc body (byte ∷ []) (flags_bytes ((length rows + 7) / 8 - (k + 1)) (flags which (cells j (drop (8 * (k + 1)) rows))))
@@ -104,7 +120,8 @@ flags_step which j rows group k end byte old body new whole l e g b n before =
 -- ---- slots
 
 -- a front past a limit
-pub past_limit : (limit : ℕ) (front rest old more : List ℕ) → front ++ rest ≡ old ++ more → limit < length front → limit < length old + length more
+pub past_limit : (limit : ℕ) (front rest old more : List ℕ) → front ++ rest ≡ old ++ more → limit < length front
+    → limit < length old + length more
 past_limit limit front rest old more e h =
     let size = ap (λ (bs : List ℕ). length bs) e in
     omega (arith, size, h, length-append front rest, length-append old more)

@@ -1,5 +1,6 @@
 -- Bits packed into bytes (Arrow Columnar Format, "Validity bitmaps").
-use Rattle.std.specs.Prelude.{ℕ, zero, suc, ◌+◌, ◌*◌, ◌/◌, Bool, List, [], ◌∷◌, length, take, drop, if◌then◌else◌}
+use Rattle.std.specs.Prelude.{ℕ, zero, suc, ◌+◌, ◌*◌, ◌/◌, Bool, List, [], ◌∷◌, length, take, drop}
+use Rattle.std.specs.Prelude.{if◌then◌else◌}
 
 -- the number whose bits are these flags, the least significant first
 abbrev pub flags_number : List Bool → ℕ

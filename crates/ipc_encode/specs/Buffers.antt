@@ -1,5 +1,7 @@
--- The nodes, the buffers and the body that rows are written as (Arrow Columnar Format, "RecordBatch message").
-use Rattle.std.specs.Prelude.{◌≡◌, ℕ, ◌+◌, ◌-◌, ◌%◌, ◌==◌, ℤ, pos, List, [], ◌∷◌, ◌++◌, length, replicate, if◌then◌else◌}
+-- The nodes, the buffers and the body that rows are written as (Arrow Columnar Format, "RecordBatch
+-- message").
+use Rattle.std.specs.Prelude.{◌≡◌, ℕ, ◌+◌, ◌-◌, ◌%◌, ◌==◌, ℤ, pos, List, [], ◌∷◌, ◌++◌, length}
+use Rattle.std.specs.Prelude.{replicate, if◌then◌else◌}
 use Rattle.ipc_model.specs.declared.schema.Field.{Field, out-Field}
 use Rattle.ipc_model.specs.declared.value.Value.{Value}
 use Rattle.ipc_model.specs.declared.layout.Layout.{Layout}
@@ -17,11 +19,13 @@ use Rattle.ipc_encode.specs.Cells.{cells, flags, nulls, slots, offsets}
 abbrev pub layout_of : Field → Layout
 layout_of f = layout (out-Field f).kind (out-Field f).dictionary
 
--- the validity bitmap of values of which so many are null (Arrow Columnar Format, "Validity bitmaps")
+-- the validity bitmap of values of which so many are null (Arrow Columnar Format, "Validity
+-- bitmaps")
 abbrev pub validity : ℕ → Piece
 validity count = if count == 0 then p.Absent else p.Flags Valid
 
--- what the buffers of a column hold, in their order (Arrow Columnar Format, "Buffer Listing for Each Layout")
+-- what the buffers of a column hold, in their order (Arrow Columnar Format, "Buffer Listing for
+-- Each Layout")
 abbrev pub pieces : Layout → ℕ → List Piece
 pieces l.Null count = []
 pieces l.Bits count = validity count ∷ p.Flags True ∷ []
@@ -46,17 +50,20 @@ buffers_in (piece ∷ more) values = piece_bytes piece values ∷ buffers_in mor
 abbrev pub column_buffers : Field → List Value → List (List ℕ)
 column_buffers f values = buffers_in (pieces (layout_of f) (nulls values)) values
 
--- a length and a null count for each field, whose columns begin with column j (Message.fbs, FieldNode)
+-- a length and a null count for each field, whose columns begin with column j (Message.fbs,
+-- FieldNode)
 abbrev pub nodes_from : ℕ → List Field → List (List Value) → List (ℤ × ℤ)
 nodes_from j [] rows = []
-nodes_from j (f ∷ fs) rows = (pos (length rows), pos (nulls (cells j rows))) ∷ nodes_from (j + 1) fs rows
+nodes_from j (f ∷ fs) rows =
+    (pos (length rows), pos (nulls (cells j rows))) ∷ nodes_from (j + 1) fs rows
 
 -- the buffers of the fields, whose columns begin with column j
 abbrev pub buffers_from : ℕ → List Field → List (List Value) → List (List ℕ)
 buffers_from j [] rows = []
 buffers_from j (f ∷ fs) rows = column_buffers f (cells j rows) ++ buffers_from (j + 1) fs rows
 
--- a buffer, and zero bytes up to a multiple of 8 (Arrow Columnar Format, "Buffer Alignment and Padding")
+-- a buffer, and zero bytes up to a multiple of 8 (Arrow Columnar Format, "Buffer Alignment and
+-- Padding")
 abbrev pub padded_buffer : List ℕ → List ℕ
 padded_buffer b = b ++ replicate ((8 - length b % 8) % 8) 0
 
@@ -65,10 +72,12 @@ abbrev pub joined : List (List ℕ) → List ℕ
 joined [] = []
 joined (b ∷ bs) = padded_buffer b ++ joined bs
 
--- where each of them begins, the first at a start, and how long it is without its padding (Schema.fbs, Buffer)
+-- where each of them begins, the first at a start, and how long it is without its padding
+-- (Schema.fbs, Buffer)
 abbrev pub ranges_from : ℕ → List (List ℕ) → List (ℤ × ℤ)
 ranges_from start [] = []
-ranges_from start (b ∷ bs) = (pos start, pos (length b)) ∷ ranges_from (start + length (padded_buffer b)) bs
+ranges_from start (b ∷ bs) =
+    (pos start, pos (length b)) ∷ ranges_from (start + length (padded_buffer b)) bs
 
 -- the buffers of the fields' columns, and the body that they make
 abbrev pub buffers_of : List Field → List (List Value) → List (List ℕ)
@@ -79,7 +88,8 @@ abbrev pub body_of : List Field → List (List Value) → List ℕ
 body_of fields rows = joined (buffers_of fields rows)
 
 -- The parts are these lists, so that equal rows are written as equal bytes.
-pub record AreLaidOut (fields : List Field) (rows : List (List Value)) (parts : Parts) : Type 0 where
+pub record AreLaidOut (fields : List Field) (rows : List (List Value))
+    (parts : Parts) : Type 0 where
   pub nodes : parts.nodes ≡ nodes_from 0 fields rows
   pub buffers : parts.buffers ≡ ranges_from 0 (buffers_of fields rows)
   pub body : parts.body.items ≡ body_of fields rows

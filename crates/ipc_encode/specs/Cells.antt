@@ -1,5 +1,7 @@
--- The values of a column, and what each gives to the column's buffers (Arrow Columnar Format, "Physical Memory Layout").
-use Rattle.std.specs.Prelude.{ℕ, ◌+◌, Bool, true, false, not, List, [], ◌∷◌, ◌++◌, length, replicate, slice_index_or, if◌then◌else◌, ⊤}
+-- The values of a column, and what each gives to the column's buffers (Arrow Columnar Format,
+-- "Physical Memory Layout").
+use Rattle.std.specs.Prelude.{ℕ, ◌+◌, Bool, true, false, not, List, [], ◌∷◌, ◌++◌, length}
+use Rattle.std.specs.Prelude.{replicate, slice_index_or, if◌then◌else◌, ⊤}
 use Rattle.std.specs.Str.{IsUtf8}
 use Rattle.std.specs.Int.{w64, cast_unsigned, bytes_low_first}
 use Rattle.ipc_model.specs.declared.value.Value.{Value, out-Value}
@@ -75,7 +77,8 @@ content value = bytes_in (out-Value value)
 abbrev pub fixed : ℕ → Value → List ℕ
 fixed width value = fixed_in width (out-Value value)
 
--- a number's low bytes, the lowest first (Arrow Columnar Format, "Byte Order"), the bytes of one width, or those of any length
+-- a number's low bytes, the lowest first (Arrow Columnar Format, "Byte Order"), the bytes of one
+-- width, or those of any length
 abbrev pub slot_bytes : ValueSlot → Value → List ℕ
 slot_bytes (slot.Number bits) value = bytes_low_first 0 (number_bytes bits) (number_bits value)
 slot_bytes (slot.Fixed width) value = fixed width value
@@ -89,7 +92,8 @@ slots which (value ∷ values) = slot_bytes which value ++ slots which values
 -- where the slots of values end, the first of them beginning at a start: numbers of 32 bits
 abbrev pub ends : ℕ → List Value → List ℕ
 ends start [] = []
-ends start (value ∷ values) = bytes_low_first 0 4 (start + length (content value)) ++ ends (start + length (content value)) values
+ends start (value ∷ values) = bytes_low_first 0 4 (start + length (content value))
+    ++ ends (start + length (content value)) values
 
 -- 0, and where each slot ends (Arrow Columnar Format, "Variable-size Binary Layout")
 abbrev pub offsets : List Value → List ℕ

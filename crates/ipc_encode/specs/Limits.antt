@@ -15,7 +15,8 @@ use Rattle.ipc_model.specs.Limits.{max_body, max_data, max_rows}
 abbrev pub IsTooMany : List (List Value) → Type 0
 IsTooMany rows = max_rows < length rows
 
--- more bytes than an offset of 32 bits counts (Arrow Columnar Format, "Variable-size Binary Layout")
+-- more bytes than an offset of 32 bits counts (Arrow Columnar Format, "Variable-size Binary
+-- Layout")
 abbrev pub HasLongData : Layout → List Value → Type 0
 HasLongData (l.VariableBytes utf8) values = max_data < length (slots Content values)
 HasLongData l.Null values = ⊥
@@ -27,7 +28,8 @@ HasLongData l.Unsupported values = ⊥
 -- one of the columns from column j on has
 abbrev pub SomeLongData : ℕ → List Field → List (List Value) → Type 0
 SomeLongData j [] rows = ⊥
-SomeLongData j (f ∷ fs) rows = HasLongData (layout_of f) (cells j rows) ⊎ SomeLongData (j + 1) fs rows
+SomeLongData j (f ∷ fs) rows =
+    HasLongData (layout_of f) (cells j rows) ⊎ SomeLongData (j + 1) fs rows
 
 -- a binary or UTF-8 column has more data than its offsets reach, or the body would be too long
 abbrev pub IsTooLong : List Field → List (List Value) → Type 0

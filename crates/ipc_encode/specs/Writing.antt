@@ -1,4 +1,5 @@
--- What writing says of one buffer, of a column, and of a draft (Arrow Columnar Format, "Physical Memory Layout").
+-- What writing says of one buffer, of a column, and of a draft (Arrow Columnar Format, "Physical
+-- Memory Layout").
 use Rattle.std.specs.Prelude.{◌≡◌, ℕ, ◌+◌, ◌-◌, ◌^◌, ◌<◌, ◌≤◌, List, [], ◌∷◌, ◌++◌, length, ◌⊎◌, ⊤}
 use Rattle.std.specs.List.{AllByRecursion}
 use Rattle.ipc_model.specs.declared.fault.WriteFault.{WriteFault}
@@ -12,7 +13,8 @@ use Rattle.ipc_encode.specs.declared.pieces.Piece.{Piece}
 use Rattle.ipc_encode.specs.declared.pieces.Piece.TheVariants as p
 use Rattle.ipc_encode.specs.declared.pieces.ValueSlot.TheVariants.{Content}
 use Rattle.ipc_encode.specs.Cells.{cells, slots, HasUtf8}
-use Rattle.ipc_encode.specs.Buffers.{layout_of, joined, nodes_from, ranges_from, buffers_of, body_of}
+use Rattle.ipc_encode.specs.Buffers.{layout_of, joined, nodes_from, ranges_from, buffers_of}
+use Rattle.ipc_encode.specs.Buffers.{body_of}
 use Rattle.ipc_encode.specs.Limits.{HasLongData}
 use Rattle.ipc_model.specs.Limits.{max_body, max_data}
 

@@ -22,28 +22,31 @@ const MAX_ROWS: usize = limits::MAX_ROWS as usize;
 /// What rows are written as (Message.fbs, RecordBatch).
 #[derive(Debug, Drop)]
 pub struct Parts {
-    /// For each field in pre-order how many slots it has, and how many of them are null (struct FieldNode).
+    /// For each field in pre-order how many slots it has, and how many of them are null (struct
+    /// FieldNode).
     pub nodes: Items<(i64, i64)>,
-    /// For each buffer in pre-order at which byte of the body it begins, and how many bytes it has without its padding
-    /// (Schema.fbs, struct Buffer).
+    /// For each buffer in pre-order at which byte of the body it begins, and how many bytes it has
+    /// without its padding (Schema.fbs, struct Buffer).
     pub buffers: Items<(i64, i64)>,
     /// The bytes of the buffers, each padded_buffer with zeros to a multiple of 8 bytes.
     pub body: Vec<u8>,
 }
 
-/// The parts of the record batch that has these rows (Message.fbs, RecordBatch; Arrow Columnar Format, "RecordBatch message").
+/// The parts of the record batch that has these rows (Message.fbs, RecordBatch; Arrow Columnar
+/// Format, "RecordBatch message").
 ///
-/// The caller has the fields from a schema that passes its check, and rows that fit them. Fields of any type but lists and
-/// structs are written, without a dictionary; nothing is said of the parts where there is another. The indices aren't looked at,
-/// since no field that is written can name a dictionary yet.
+/// The caller has the fields from a schema that passes its check, and rows that fit them. Fields of
+/// any type but lists and structs are written, without a dictionary; nothing is said of the parts
+/// where there is another. The indices aren't looked at, since no field that is written can name a
+/// dictionary yet.
 ///
-/// Buffers stand in the order of the fields, each padded_buffer with zeros to a multiple of 8 bytes; a buffer's length is without its
-/// padding. There is a validity bitmap only where a value is null. A null slot is zeros, false or an empty range, and offsets
-/// begin at 0.
+/// Buffers stand in the order of the fields, each padded_buffer with zeros to a multiple of 8
+/// bytes; a buffer's length is without its padding. There is a validity bitmap only where a value
+/// is null. A null slot is zeros, false or an empty range, and offsets begin at 0.
 ///
-/// Refused with W8 `TooManyRows` where there are more than 2^31 - 1 rows; with W6 `TooLong` where a binary or UTF-8 column has
-/// more than 2^31 - 1 bytes of data, or the body would have more than 2^40 bytes; with W11 `OutOfMemory` where a list can't
-/// grow.
+/// Refused with W8 `TooManyRows` where there are more than 2^31 - 1 rows; with W6 `TooLong` where a
+/// binary or UTF-8 column has more than 2^31 - 1 bytes of data, or the body would have more than
+/// 2^40 bytes; with W11 `OutOfMemory` where a list can't grow.
 pub fn encode<I: IndexOf>(
     alloc: Global,
     fields: &[Field],
@@ -53,14 +56,22 @@ pub fn encode<I: IndexOf>(
     requires fine { AllByRecursion IsFieldWellFormed (entries fields.now) }
     requires conform { AllByRecursion (RowFits fields.now) rows.now }
     // The parts give these rows back.
-    ensures rows { IfOk result (λ parts. are_supported fields.now ≡ true → Rows fields.now (record { length = pos (length rows.now); nodes = parts.nodes; buffers = parts.buffers }) parts.body.items rows.now) }
+    ensures rows { IfOk result (λ parts. are_supported fields.now ≡ true
+        → Rows fields.now (record {
+          length = pos (length rows.now);
+          nodes = parts.nodes;
+          buffers = parts.buffers;
+        }) parts.body.items rows.now) }
     // They are one list of nodes, buffers and bytes.
-    ensures laid_out { IfOk result (λ parts. are_supported fields.now ≡ true → AreLaidOut fields.now rows.now parts) }
+    ensures laid_out { IfOk result
+        (λ parts. are_supported fields.now ≡ true → AreLaidOut fields.now rows.now parts) }
     // What is written is within the limits.
-    ensures within { IfOk result (λ parts. are_supported fields.now ≡ true → IsWithin fields.now rows.now) }
+    ensures within { IfOk result
+        (λ parts. are_supported fields.now ≡ true → IsWithin fields.now rows.now) }
     ensures body { IfOk result (λ parts. length parts.body.items ≤ max_body) }
     // A refusal is true of the rows.
-    ensures refused { IfErr result (λ fault. are_supported fields.now ≡ true → IsRefused fields.now rows.now fault) }
+    ensures refused { IfErr result
+        (λ fault. are_supported fields.now ≡ true → IsRefused fields.now rows.now fault) }
 {
     let draft = draft_of(alloc, fields, rows)?;
     let Draft {

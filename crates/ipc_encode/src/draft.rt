@@ -1,11 +1,14 @@
-ghost use Rattle.std.specs.Prelude.{◌≡◌, ◌≤◌, ◌<◌, ◌+◌, ◌-◌, ◌%◌, ◌^◌, ◌++◌, ℕ, pos, [], ◌∷◌, length, replicate, OnOk, IfErr};
+ghost use Rattle.std.specs.Prelude.{◌≡◌, ◌≤◌, ◌<◌, ◌+◌, ◌-◌, ◌%◌, ◌^◌, ◌++◌, ℕ, pos, [], ◌∷◌};
+ghost use Rattle.std.specs.Prelude.{length, replicate, OnOk, IfErr};
 ghost use Rattle.std.specs.List.{AllByRecursion};
 ghost use Rattle.ipc_model.specs.Limits.{max_body, max_rows};
-ghost use Rattle.ipc_encode.specs.Buffers.{buffers_in, column_buffers, joined, layout_of, piece_bytes};
+ghost use Rattle.ipc_encode.specs.Buffers.{buffers_in, column_buffers, joined, layout_of};
+ghost use Rattle.ipc_encode.specs.Buffers.{piece_bytes};
 ghost use Rattle.ipc_encode.specs.Cells.{cells, nulls};
 ghost use Rattle.ipc_encode.specs.Writing.{Adds};
 ghost use Rattle.ipc_encode.specs.Limits.{HasLongData};
-ghost use Rattle.ipc_encode.specs.Writing.{Shows, IsRefusedAt, AreRefusedAt, IsColumnRefusedAt, AreStored};
+ghost use Rattle.ipc_encode.specs.Writing.{Shows, IsRefusedAt, AreRefusedAt, IsColumnRefusedAt};
+ghost use Rattle.ipc_encode.specs.Writing.{AreStored};
 
 use crate::cells::count_nulls;
 use crate::pieces::{Piece, pieces_of};
@@ -41,10 +44,13 @@ fn add_buffer(
     requires few { length rows.now ≤ max_rows }
     requires body { length draft.old.body.items ≤ max_body }
     ensures nodes { OnOk result (draft.new.nodes.items ≡ draft.old.nodes.items) }
-    ensures adds { OnOk result (Adds draft.old draft.new (piece_bytes piece (cells column rows.now) ∷ [])) }
+    ensures adds { OnOk result
+        (Adds draft.old draft.new (piece_bytes piece (cells column rows.now) ∷ [])) }
     ensures shows { OnOk result (Shows piece (cells column rows.now)) }
     ensures body { OnOk result (length draft.new.body.items ≤ max_body) }
-    ensures err { IfErr result (IsRefusedAt piece (cells column rows.now) (length (draft.old.body.items ++ joined (piece_bytes piece (cells column rows.now) ∷ [])))) }
+    ensures err { IfErr result (IsRefusedAt piece (cells column rows.now)
+        (length (draft.old.body.items
+        ++ joined (piece_bytes piece (cells column rows.now) ∷ [])))) }
 {
     let start = draft.body.len();
     write_piece(&mut draft.body, rows, column, piece)?;
@@ -67,10 +73,13 @@ fn add_buffers(
     requires few { length rows.now ≤ max_rows }
     requires body { length draft.old.body.items ≤ max_body }
     ensures nodes { OnOk result (draft.new.nodes.items ≡ draft.old.nodes.items) }
-    ensures adds { OnOk result (Adds draft.old draft.new (buffers_in pieces.now (cells column rows.now))) }
-    ensures shows { OnOk result (AllByRecursion (λ piece. Shows piece (cells column rows.now)) pieces.now) }
+    ensures adds { OnOk result
+        (Adds draft.old draft.new (buffers_in pieces.now (cells column rows.now))) }
+    ensures shows { OnOk result
+        (AllByRecursion (λ piece. Shows piece (cells column rows.now)) pieces.now) }
     ensures body { OnOk result (length draft.new.body.items ≤ max_body) }
-    ensures err { IfErr result (AreRefusedAt pieces.now (cells column rows.now) (length (draft.old.body.items ++ joined (buffers_in pieces.now (cells column rows.now))))) }
+    ensures err { IfErr result (AreRefusedAt pieces.now (cells column rows.now)
+        (length (draft.old.body.items ++ joined (buffers_in pieces.now (cells column rows.now))))) }
 {
     for piece in pieces {
         add_buffer(draft, rows, column, *piece)?;
@@ -80,8 +89,8 @@ fn add_buffers(
 
 /// Adds the node and the buffers of a column.
 ///
-/// Refused with `TooLong` where offsets don't reach the end of the column's data or the body would have more than 2^40 bytes,
-/// and with `OutOfMemory`.
+/// Refused with `TooLong` where offsets don't reach the end of the column's data or the body would
+/// have more than 2^40 bytes, and with `OutOfMemory`.
 pub(crate) fn add_column(
     draft: &mut Draft,
     field: &Field,
@@ -90,12 +99,17 @@ pub(crate) fn add_column(
 ) -> Result<(), WriteFault>
     requires few { length rows.now ≤ max_rows }
     requires body { length draft.old.body.items ≤ max_body }
-    ensures nodes { OnOk result (draft.new.nodes.items ≡ draft.old.nodes.items ++ (pos (length rows.now), pos (nulls (cells column rows.now))) ∷ []) }
-    ensures adds { OnOk result (Adds draft.old draft.new (column_buffers field.now (cells column rows.now))) }
+    ensures nodes { OnOk result (draft.new.nodes.items
+        ≡ draft.old.nodes.items ++ (pos (length rows.now), pos (nulls (cells column rows.now)))
+        ∷ []) }
+    ensures adds { OnOk result
+        (Adds draft.old draft.new (column_buffers field.now (cells column rows.now))) }
     ensures short { OnOk result (¬ HasLongData (layout_of field.now) (cells column rows.now)) }
     ensures stored { OnOk result (AreStored (layout_of field.now) (cells column rows.now)) }
     ensures body { OnOk result (length draft.new.body.items ≤ max_body) }
-    ensures err { IfErr result (IsColumnRefusedAt field.now (cells column rows.now) (length (draft.old.body.items ++ joined (column_buffers field.now (cells column rows.now))))) }
+    ensures err { IfErr result (IsColumnRefusedAt field.now (cells column rows.now)
+        (length (draft.old.body.items
+        ++ joined (column_buffers field.now (cells column rows.now))))) }
 {
     let nulls = count_nulls(rows, column);
     draft.nodes.push((rows.len() as i64, nulls as i64))?;

@@ -3,12 +3,14 @@ ghost use Rattle.ipc_model.specs.declared.value.Value.{Value};
 
 use ipc_model::Value;
 
-/// The numbers under which the values of dictionaries are known (Arrow Columnar Format, "Dictionary-encoded Layout").
+/// The numbers under which the values of dictionaries are known (Arrow Columnar Format,
+/// "Dictionary-encoded Layout").
 pub trait IndexOf {
     /// The index of each value that is known, by the dictionary's id and the value.
     ghost index: { Self → ℤ → Value → Option ℕ };
 
-    /// Looks up the index of a value in the dictionary with this id. None where it is not known there. It takes no memory.
+    /// Looks up the index of a value in the dictionary with this id. None where it is not known
+    /// there. It takes no memory.
     fn index_of(&self, id: i64, value: &Value) -> Option<u64>
         ensures { result ≡ index self.now id value.now };
 }

@@ -1,4 +1,5 @@
-//! The rows of a record batch written: its nodes, its buffers and its body (Arrow Columnar Format, "RecordBatch message").
+//! The rows of a record batch written: its nodes, its buffers and its body (Arrow Columnar Format,
+//! "RecordBatch message").
 #![tactic(auto)]
 
 mod batch;

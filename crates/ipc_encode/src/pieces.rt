@@ -48,8 +48,8 @@ fn validity(nulls: usize) -> Piece
     }
 }
 
-/// What the buffers of a field's column hold, in their order, where so many values are null. No buffers for a type
-/// that isn't written yet.
+/// What the buffers of a field's column hold, in their order, where so many values are null. No
+/// buffers for a type that isn't written yet.
 pub(crate) fn pieces_of(
     alloc: Global,
     field: &Field,

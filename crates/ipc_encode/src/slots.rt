@@ -1,4 +1,5 @@
-ghost use Rattle.std.specs.Prelude.{◌≡◌, ◌≤◌, ◌<◌, ◌+◌, ◌-◌, ◌^◌, ◌++◌, [], ◌∷◌, length, OnOk, IfErr};
+ghost use Rattle.std.specs.Prelude.{◌≡◌, ◌≤◌, ◌<◌, ◌+◌, ◌-◌, ◌^◌, ◌++◌, [], ◌∷◌, length, OnOk};
+ghost use Rattle.std.specs.Prelude.{IfErr};
 ghost use Rattle.std.specs.List.{AllByRecursion};
 ghost use Rattle.ipc_model.specs.Limits.{max_body, max_rows};
 ghost use Rattle.ipc_encode.specs.Bitmaps.{flags_number, bitmap};
@@ -39,7 +40,8 @@ fn write_flags(
     flag: Flag,
 ) -> Result<(), AllocError>
     requires { length rows.now ≤ max_rows }
-    ensures { OnOk result (body.new.items ≡ body.old.items ++ bitmap (flags flag (cells column rows.now))) }
+    ensures { OnOk result (body.new.items
+        ≡ body.old.items ++ bitmap (flags flag (cells column rows.now))) }
 {
     for k in 0..rows.len().div_ceil(8) {
         let end = rows.len().min(8 * k + 8);
@@ -50,7 +52,8 @@ fn write_flags(
 
 // Appends the low bytes of a value's number.
 fn write_number(body: &mut Vec<u8>, value: &Value, bits: IntBits) -> Result<(), AllocError>
-    ensures { OnOk result (body.new.items ≡ body.old.items ++ slot_bytes (ValueSlot.Number bits) value.now) }
+    ensures { OnOk result (body.new.items
+        ≡ body.old.items ++ slot_bytes (ValueSlot.Number bits) value.now) }
 {
     let bytes = number_bits(value).to_le_bytes();
     match bits {
@@ -64,7 +67,8 @@ fn write_number(body: &mut Vec<u8>, value: &Value, bits: IntBits) -> Result<(), 
 // Appends the bytes of a binary value, or so many zeros.
 fn write_fixed(body: &mut Vec<u8>, value: &Value, width: u32) -> Result<(), AllocError>
     requires { length body.old.items ≤ max_body }
-    ensures { OnOk result (body.new.items ≡ body.old.items ++ slot_bytes (ValueSlot.Fixed width) value.now) }
+    ensures { OnOk result (body.new.items
+        ≡ body.old.items ++ slot_bytes (ValueSlot.Fixed width) value.now) }
 {
     match value {
         Value::Bytes(bytes) => body.extend_from_slice(bytes.as_slice()),
@@ -92,9 +96,11 @@ fn write_slots(
     column: usize,
     slot: ValueSlot,
 ) -> Result<(), WriteFault>
-    ensures ok { OnOk result (body.new.items ≡ body.old.items ++ slots slot (cells column rows.now)) }
+    ensures ok { OnOk result
+        (body.new.items ≡ body.old.items ++ slots slot (cells column rows.now)) }
     ensures shows { OnOk result (Shows (Piece.Slots slot) (cells column rows.now)) }
-    ensures err { IfErr result (IsRefusedAt (Piece.Slots slot) (cells column rows.now) (length body.old.items + length (slots slot (cells column rows.now)))) }
+    ensures err { IfErr result (IsRefusedAt (Piece.Slots slot) (cells column rows.now)
+        (length body.old.items + length (slots slot (cells column rows.now)))) }
 {
     let null = Value::Null;
     for row in rows {
@@ -128,7 +134,8 @@ fn write_offsets(body: &mut Vec<u8>, rows: &[Row], column: usize) -> Result<(), 
 
 /// Appends what a buffer of a column holds, without padding.
 ///
-/// Refused with `TooLong` where offsets don't reach the end of the data or the body is too long, and with `OutOfMemory`.
+/// Refused with `TooLong` where offsets don't reach the end of the data or the body is too long,
+/// and with `OutOfMemory`.
 pub(crate) fn write_piece(
     body: &mut Vec<u8>,
     rows: &[Row],
@@ -136,9 +143,11 @@ pub(crate) fn write_piece(
     piece: Piece,
 ) -> Result<(), WriteFault>
     requires { length rows.now ≤ max_rows }
-    ensures ok { OnOk result (body.new.items ≡ body.old.items ++ piece_bytes piece (cells column rows.now)) }
+    ensures ok { OnOk result (body.new.items
+        ≡ body.old.items ++ piece_bytes piece (cells column rows.now)) }
     ensures shows { OnOk result (Shows piece (cells column rows.now)) }
-    ensures err { IfErr result (IsRefusedAt piece (cells column rows.now) (length body.old.items + length (piece_bytes piece (cells column rows.now)))) }
+    ensures err { IfErr result (IsRefusedAt piece (cells column rows.now)
+        (length body.old.items + length (piece_bytes piece (cells column rows.now)))) }
 {
     match piece {
         Piece::Absent => Ok(()),

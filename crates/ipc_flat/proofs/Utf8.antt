@@ -6,4 +6,5 @@ pub is_text : (bs : List ℕ) → IsUtf8 bs → is_utf8 bs ≡ true
 is_text bs h = is_utf8-from_IsUtf8 bs h
 
 pub is_no_text : (bs : List ℕ) → (IsUtf8 bs → ⊥) → is_utf8 bs ≡ false
-is_no_text bs h = elim (is_utf8 bs) as (λ v. is_utf8 bs ≡ v → v ≡ false) [ true ↦ λ e. absurd (h (IsUtf8-from_is_utf8 bs e)) | false ↦ λ e. refl ] refl
+is_no_text bs h = elim (is_utf8 bs) as (λ v. is_utf8 bs ≡ v → v ≡ false)
+    [ true ↦ λ e. absurd (h (IsUtf8-from_is_utf8 bs e)) | false ↦ λ e. refl ] refl

@@ -1,4 +1,5 @@
--- What contracts see of a reader's values, and what its accessors answer of them (FlatBuffers binary format, "Tables").
+-- What contracts see of a reader's values, and what its accessors answer of them (FlatBuffers
+-- binary format, "Tables").
 use Rattle.std.specs.Prelude.{ℕ, ◌≡◌, ◌+◌, ◌≤◌, length, List, Option, None, Some, Result, Ok, Err}
 use Rattle.ipc_scalar.specs.Bytes.{num}
 use Rattle.ipc_scalar.specs.declared.fault.FlatFault.{FlatFault}
@@ -16,7 +17,8 @@ pub record Elements : Type 0 where
   pub at : ℕ
   pub len : ℕ
 
--- a vector of structs: the bytes, the place of the first, how many there are, and the width of each in bytes
+-- a vector of structs: the bytes, the place of the first, how many there are, and the width of each
+-- in bytes
 pub record Structs : Type 0 where
   pub bytes : List ℕ
   pub at : ℕ
@@ -36,21 +38,26 @@ abbrev pub or_default : {X : Type 0} → (ℕ → X) → X → Option ℕ → X
 or_default read x None = x
 or_default read x (Some p) = read p
 
--- "Tables": the number of w bytes in field k, as `read` reads it at a place, or the default x where the field is absent
+-- "Tables": the number of w bytes in field k, as `read` reads it at a place, or the default x where
+-- the field is absent
 unfoldable pub scalar : {X : Type 0} → TableView → ℕ → ℕ → (List ℕ → ℕ → X) → X → Result X FlatFault
 scalar t k w read x = slot_of t.bytes t.at k w >>= λ o. Ok (or_default (read t.bytes) x o)
 
--- "Tables": what f says of the place of field k, which holds an offset of four bytes; an absent field stays absent
-unfoldable pub field : {X : Type 0} → TableView → ℕ → (List ℕ → ℕ → Result X FlatFault) → Result (Option X) FlatFault
+-- "Tables": what f says of the place of field k, which holds an offset of four bytes; an absent
+-- field stays absent
+unfoldable pub field : {X : Type 0} → TableView → ℕ → (List ℕ → ℕ → Result X FlatFault)
+    → Result (Option X) FlatFault
 field t k f = slot_of t.bytes t.at k 4 >>= where_some (f t.bytes)
 
 -- "Strings and Vectors": the vector of offsets to which the offset at p points
 unfoldable pub elements_from : ℕ → List ℕ → ℕ → Result Elements FlatFault
-elements_from width b p = elements_of b p width >>= λ e. Ok (record { bytes = b; at = e.0; len = e.1 })
+elements_from width b p =
+    elements_of b p width >>= λ e. Ok (record { bytes = b; at = e.0; len = e.1 })
 
 -- "Structs": the vector of structs, each of one width, to which the offset at p points
 unfoldable pub structs_from : ℕ → List ℕ → ℕ → Result Structs FlatFault
-structs_from width b p = elements_of b p width >>= λ e. Ok (record { bytes = b; at = e.0; len = e.1; width = width })
+structs_from width b p = elements_of b p width
+    >>= λ e. Ok (record { bytes = b; at = e.0; len = e.1; width = width })
 
 -- the answer is what a call returned, its value seen by `view`
 abbrev pub IsAnswer : {X Y : Type 0} → (X → Y) → Result X FlatFault → Result Y FlatFault → Type 0

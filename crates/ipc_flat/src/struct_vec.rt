@@ -6,8 +6,8 @@ use ipc_scalar::FlatFault;
 use std::marker::Model;
 
 /// A vector of structs of borrowed bytes: each of one width, one after another ("Structs", "Strings
-/// and Vectors"). Contracts see it as `Structs`: the bytes, the first struct's place, how many there
-/// are and their width in bytes.
+/// and Vectors"). Contracts see it as `Structs`: the bytes, the first struct's place, how many
+/// there are and their width in bytes.
 #[derive(Drop)]
 pub struct StructVec<'a> {
     bytes: &'a [u8],
@@ -53,7 +53,8 @@ impl<'a> StructVec<'a> {
     /// `len()`.
     pub fn at(&self, i: usize) -> &'a [u8]
         requires { i < self.now.len }
-        ensures bytes { result.now ≡ slice_range self.now.bytes (self.now.at + i * self.now.width) (self.now.at + (i + 1) * self.now.width) }
+        ensures bytes { result.now ≡ slice_range self.now.bytes (self.now.at + i * self.now.width)
+            (self.now.at + (i + 1) * self.now.width) }
         ensures len { length result.now ≡ self.now.width }
     {
         let start = self.at + i * self.width;

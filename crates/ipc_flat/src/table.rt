@@ -1,7 +1,9 @@
-ghost use Rattle.std.specs.Prelude.{◌≡◌, ◌≤◌, ◌<◌, ◌+◌, ◌^◌, length, Option, Result, IfOk, IfSome, option_map};
+ghost use Rattle.std.specs.Prelude.{◌≡◌, ◌≤◌, ◌<◌, ◌+◌, ◌^◌, length, Option, Result, IfOk, IfSome};
+ghost use Rattle.std.specs.Prelude.{option_map};
 ghost use Rattle.ipc_scalar.specs.Bytes.{byte, int16, int32, int64};
 ghost use Rattle.ipc_scalar.specs.Flat.{back_of, slot_of, text_of};
-ghost use Rattle.ipc_flat.specs.Views.{IsAnswer, table_at, table_from, scalar, field, elements_from, structs_from};
+ghost use Rattle.ipc_flat.specs.Views.{IsAnswer, table_at, table_from, scalar, field};
+ghost use Rattle.ipc_flat.specs.Views.{elements_from, structs_from};
 
 use crate::offset::{target, text_at};
 use crate::struct_vec::StructVec;
@@ -9,11 +11,11 @@ use crate::table_vec::TableVec;
 use ipc_scalar::{FlatFault, get_i32, get_i64, get_u16};
 use std::marker::Model;
 
-/// A table of borrowed bytes, whose vtable was found ("Tables"). Contracts see it as a `TableView`: the
-/// bytes and its place in them.
+/// A table of borrowed bytes, whose vtable was found ("Tables"). Contracts see it as a `TableView`:
+/// the bytes and its place in them.
 ///
-/// A `slot` is a field's number, from 0. A field is absent where the vtable ends before its entry or
-/// the entry is 0. Where it is present and its inline bytes (the number's own, or the four of an
+/// A `slot` is a field's number, from 0. A field is absent where the vtable ends before its entry
+/// or the entry is 0. Where it is present and its inline bytes (the number's own, or the four of an
 /// offset) pass the end, every accessor answers `OutOfBounds`.
 #[derive(Drop)]
 pub struct TableRef<'a> {
@@ -163,10 +165,11 @@ impl<'a> TableRef<'a> {
     }
 
     /// The vector of tables to which a field's offset points, or `None` where the field is absent
-    /// ("Strings and Vectors"). Its elements are offsets, each of which is judged once it is asked for.
+    /// ("Strings and Vectors"). Its elements are offsets, each of which is judged once it is asked
+    /// for.
     ///
-    /// `OffsetZero` where the offset is 0; `OutOfBounds` where its target, the count or the elements,
-    /// four bytes each, pass the end.
+    /// `OffsetZero` where the offset is 0; `OutOfBounds` where its target, the count or the
+    /// elements, four bytes each, pass the end.
     #[tactic(auto, unfolding(crate::specs::Views::field))]
     pub fn tables(&self, slot: u16) -> Result<Option<TableVec<'a>>, FlatFault>
         ensures { result ≡ field self.now slot (elements_from 4) }
@@ -177,8 +180,9 @@ impl<'a> TableRef<'a> {
         }
     }
 
-    /// The vector of structs, of `width` bytes each, to which a field's offset points, or `None` where
-    /// the field is absent ("Structs", "Strings and Vectors"). Structs lie inline, one after another.
+    /// The vector of structs, of `width` bytes each, to which a field's offset points, or `None`
+    /// where the field is absent ("Structs", "Strings and Vectors"). Structs lie inline, one after
+    /// another.
     ///
     /// `OffsetZero` where the offset is 0; `OutOfBounds` where its target, the count or the structs
     /// pass the end.

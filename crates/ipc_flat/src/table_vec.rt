@@ -7,8 +7,8 @@ use ipc_scalar::FlatFault;
 use std::marker::Model;
 
 /// A vector of tables of borrowed bytes: offsets of four bytes, one after another ("Strings and
-/// Vectors"). Contracts see it as `Elements`: the bytes, the first offset's place and how many there
-/// are.
+/// Vectors"). Contracts see it as `Elements`: the bytes, the first offset's place and how many
+/// there are.
 #[derive(Drop)]
 pub struct TableVec<'a> {
     bytes: &'a [u8],

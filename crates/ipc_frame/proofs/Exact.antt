@@ -1,5 +1,6 @@
 -- What no more bytes than were wanted can show.
-use Rattle.std.proofs.Common.{◌≡◌, ◌∙◌, refl, sym, ap, subst, ℕ, ◌+◌, ◌-◌, ◌≤◌, ◌⊎◌, inl, inr, List, [], ◌++◌, length, take, drop, Result, Ok, Err, length-append, length-take, length-drop, arith}
+use Rattle.std.proofs.Common.{◌≡◌, ◌∙◌, refl, sym, ap, subst, ℕ, ◌+◌, ◌-◌, ◌≤◌, ◌⊎◌, inl, inr, List, [], ◌++◌, length, take, drop, Result}
+use Rattle.std.proofs.Common.{Ok, Err, length-append, length-take, length-drop, arith}
 use Rattle.std.specs.Prelude.{slice_range, pos, true, int_lt}
 use Rattle.std.proofs.lemmas.List.{take_all, take-append-le, drop-append-le, take-append-drop}
 use Rattle.std.proofs.lemmas.Bool.Decides.{nat_tests}
@@ -42,8 +43,16 @@ metadata_longer z c n whole =
 
 pub start_longer : (z c : List ℕ) (e : Fault) → RefusesStart z e → RefusesStart (z ++ c) e
 start_longer z c NotContinued r = (omega (arith, r.0, length-append z c), λ m. r.1 (sym (take-append-le 4 z c r.0) ∙ m))
-start_longer z c BadMetadataLength r = (omega (arith, r.0, length-append z c), mark_longer z c (omega (arith, r.0)) r.1, subst (λ x. int_lt x (pos 0) ≡ true) (sym (front_number z c r.0)) r.2)
-start_longer z c MetadataTooLong r = (omega (arith, r.0, length-append z c), mark_longer z c (omega (arith, r.0)) r.1, subst (λ x. int_lt (pos max_metadata) x ≡ true) (sym (front_number z c r.0)) r.2)
+start_longer z c BadMetadataLength r = (
+  omega (arith, r.0, length-append z c),
+  mark_longer z c (omega (arith, r.0)) r.1,
+  subst (λ x. int_lt x (pos 0) ≡ true) (sym (front_number z c r.0)) r.2,
+)
+start_longer z c MetadataTooLong r = (
+  omega (arith, r.0, length-append z c),
+  mark_longer z c (omega (arith, r.0)) r.1,
+  subst (λ x. int_lt (pos max_metadata) x ≡ true) (sym (front_number z c r.0)) r.2,
+)
 start_longer z c _ r = absurd r
 
 pub no_head_longer : (z c : List ℕ) (e : Fault) → StatesNoHead z e → StatesNoHead (z ++ c) e
@@ -69,19 +78,29 @@ module _ (z c : List ℕ) (k : ℕ) (few : length c ≤ k) where
   long = omega (arith, few, length-append z c)
 
   frame_size : (n : ℕ) (m body : List ℕ) (g : Head) → Frame (take n (z ++ c)) m g body → 8 + length m + length body ≤ n
-  frame_size n m body g f = omega (arith, f.begun, ap length f.carried, length-drop 8 (take n (z ++ c)), length-append m body, length-take n (z ++ c))
+  frame_size n m body g f = omega (
+    arith,
+    f.begun,
+    ap length f.carried,
+    length-drop 8 (take n (z ++ c)),
+    length-append m body,
+    length-take n (z ++ c),
+  )
 
   frame_sized : (n j : ℕ) (m body : List ℕ) (g : Head) → Frame (take n (z ++ c)) m g body → Begins z j → j ≡ length m
-  frame_sized n j m body g f b = frame_begins (take n (z ++ c)) m body (drop n (z ++ c)) g j f (subst (λ x. Begins x j) (sym (front_of n (z ++ c))) (begins_longer z c j b))
+  frame_sized n j m body g f b = frame_begins (take n (z ++ c)) m body (drop n (z ++ c)) g j f
+      (subst (λ x. Begins x j) (sym (front_of n (z ++ c))) (begins_longer z c j b))
 
-  frame_stated : (n j q : ℕ) (m body : List ℕ) (g h : Head) → Frame (take n (z ++ c)) m g body → Begins z j → 8 + j ≤ length z → HeadOf (slice_range z 8 (8 + j)) h q → q ≡ length body
+  frame_stated : (n j q : ℕ) (m body : List ℕ) (g h : Head) → Frame (take n (z ++ c)) m g body → Begins z j → 8 + j ≤ length z
+      → HeadOf (slice_range z 8 (8 + j)) h q → q ≡ length body
   frame_stated n j q m body g h f b whole states =
       let same = frame_metadata (take n (z ++ c)) m body (drop n (z ++ c)) g j f (frame_sized n j m body g f b) in
       let here : slice_range (z ++ c) 8 (8 + j) ≡ m = ap (λ x. slice_range x 8 (8 + j)) (sym (front_of n (z ++ c))) ∙ same in
       let all : HeadOf m h q = subst (λ x. HeadOf x h q) (sym (metadata_longer z c j whole) ∙ here) states in
       (head_same m h g q (length body) all f.states).1
 
-  frame_exact : Pending z k → (n : ℕ) (m body : List ℕ) (g : Head) → n ≤ length (z ++ c) → Frame (take n (z ++ c)) m g body → n ≡ length (z ++ c)
+  frame_exact : Pending z k → (n : ℕ) (m body : List ℕ) (g : Head) → n ≤ length (z ++ c) → Frame (take n (z ++ c)) m g body
+      → n ≡ length (z ++ c)
   frame_exact (in_mark some e) n m body g fits f = omega (arith, long, frame_size n m body g f)
   frame_exact (in_size some e l w) n m body g fits f = omega (arith, long, frame_size n m body g f)
   frame_exact (in_metadata {n = j} some e b) n m body g fits f = omega (arith, long, frame_size n m body g f, frame_sized n j m body g f b)
@@ -101,10 +120,12 @@ module _ (z c : List ℕ) (k : ℕ) (few : length c ≤ k) where
       absurd (no_metadata h q (subst (λ i. HeadOf (take (8 + i - 8) (drop 8 z)) h q) (end_sized n j is b) states))
 
   not_negative : (j : ℕ) → Begins z j → int_lt (int32 (z ++ c) 4) (pos 0) ≡ true → ⊥
-  not_negative j b r = let bad : int_lt (pos j) (pos 0) ≡ true = subst (λ x. int_lt x (pos 0) ≡ true) (begins_longer z c j b).sized r in grind (arith, nat_tests)
+  not_negative j b r = let bad : int_lt (pos j) (pos 0) ≡ true =
+      subst (λ x. int_lt x (pos 0) ≡ true) (begins_longer z c j b).sized r in grind (arith, nat_tests)
 
   not_longer : (j : ℕ) → Begins z j → int_lt (pos max_metadata) (int32 (z ++ c) 4) ≡ true → ⊥
-  not_longer j b r = let bad : int_lt (pos max_metadata) (pos j) ≡ true = subst (λ x. int_lt (pos max_metadata) x ≡ true) (begins_longer z c j b).sized r in let fits = b.fits in grind (arith, nat_tests)
+  not_longer j b r = let bad : int_lt (pos max_metadata) (pos j) ≡ true =
+      subst (λ x. int_lt (pos max_metadata) x ≡ true) (begins_longer z c j b).sized r in let fits = b.fits in grind (arith, nat_tests)
 
   start_exact : Pending z k → (e : Fault) → RefusesStart (z ++ c) e → length (z ++ c) ≡ start_decision e
   start_exact (in_mark some e) NotContinued r = omega (arith, long, r.0)
@@ -124,7 +145,8 @@ module _ (z c : List ℕ) (k : ℕ) (few : length c ≤ k) where
   no_head_exact : (fault : Fault) → Pending z k → (s : StatesNoHead (z ++ c) fault) → length (z ++ c) ≡ 8 + s.size
   no_head_exact fault (in_mark some e) s = omega (arith, long, s.whole, s.some)
   no_head_exact fault (in_size some e l w) s = omega (arith, long, s.whole, s.some)
-  no_head_exact fault (in_metadata {n = j} some e b) s = omega (arith, long, s.whole, begins_one (z ++ c) j s.size (begins_longer z c j b) s.begins)
+  no_head_exact fault (in_metadata {n = j} some e b) s =
+      omega (arith, long, s.whole, begins_one (z ++ c) j s.size (begins_longer z c j b) s.begins)
   no_head_exact fault (in_body {n = j} {m = q} {head = h} some e b whole states read) s =
       let same = begins_one (z ++ c) j s.size (begins_longer z c j b) s.begins in
       let here : HeadOf (slice_range (z ++ c) 8 (8 + j)) h q = subst (λ x. HeadOf x h q) (sym (metadata_longer z c j whole)) states in

@@ -1,4 +1,5 @@
-//! Encapsulated messages: the mark, the size of the metadata, the metadata and the body (Arrow Columnar Format, "Encapsulated message format").
+//! Encapsulated messages: the mark, the size of the metadata, the metadata and the body (Arrow
+//! Columnar Format, "Encapsulated message format").
 #![tactic(auto)]
 
 mod frame;

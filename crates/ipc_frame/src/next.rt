@@ -5,15 +5,17 @@ ghost use Rattle.ipc_frame.specs.Frames.{Begins};
 
 use crate::frame::{Frame, Seen};
 use ipc_meta::read_message;
-use ipc_model::limits::MAX_METADATA;
 use ipc_model::Fault;
+use ipc_model::limits::MAX_METADATA;
 use ipc_scalar::get_i32;
 use std::alloc::Global;
 
-// The continuation mark, with which each message begins (Arrow Columnar Format, "Encapsulated message format").
+// The continuation mark, with which each message begins (Arrow Columnar Format, "Encapsulated
+// message format").
 pub(crate) const MARK: [u8; 4] = [255; 4];
 
-/// The end of a stream: the continuation mark and a size of 0 (Arrow Columnar Format, "IPC Streaming Format").
+/// The end of a stream: the continuation mark and a size of 0 (Arrow Columnar Format, "IPC
+/// Streaming Format").
 pub const END: [u8; 8] = [255, 255, 255, 255, 0, 0, 0, 0];
 
 // How many bytes metadata may have, a signed number as its size is stated.
@@ -82,11 +84,12 @@ fn read_body(alloc: Global, bytes: &[u8], size: usize) -> Result<Seen, Fault>
 
 /// The frame at the front of some bytes (Arrow Columnar Format, "Encapsulated message format").
 ///
-/// `Seen::Whole` gives a message or the end-of-stream mark and how many bytes it has; `Seen::Short` says how many bytes are
-/// still needed before the next decision: at 4 bytes, at 8, at the whole metadata, at the whole body. Refused are first
-/// bytes other than the mark (F1), a size below 0 (F2) or above 2^24 (F3), metadata that states no head whose types are read (F5 to
-/// F9 and F12 to F24, each for its cause in the metadata, as `ipc_meta::read_message` tells them), and F37 where a copy finds no
-/// room.
+/// `Seen::Whole` gives a message or the end-of-stream mark and how many bytes it has; `Seen::Short`
+/// says how many bytes are still needed before the next decision: at 4 bytes, at 8, at the whole
+/// metadata, at the whole body. Refused are first bytes other than the mark (F1), a size below 0
+/// (F2) or above 2^24 (F3), metadata that states no head whose types are read (F5 to F9 and F12 to
+/// F24, each for its cause in the metadata, as `ipc_meta::read_message` tells them), and F37 where
+/// a copy finds no room.
 pub fn next_frame(alloc: Global, bytes: &[u8]) -> Result<Seen, Fault>
     ensures { Sees bytes.now result }
 {

@@ -44,14 +44,16 @@ module _ (b : List ℕ) (s : TableView) where
   abbrev fields_of : List Shown → List Field
   fields_of cs = map (λ c. c.0) cs
 
-  each_told : (z : List ℕ) (cs : List Shown) (d p n : ℕ) → TablesAt FieldAt z p n (fields_of cs) → ((i : ℕ) (u : TableView) → i < n → table_from z (p + i * 4) ≡ Ok u → HasTable b column u × IsDeep s d u)
+  each_told : (z : List ℕ) (cs : List Shown) (d p n : ℕ) → TablesAt FieldAt z p n (fields_of cs)
+      → ((i : ℕ) (u : TableView) → i < n → table_from z (p + i * 4) ≡ Ok u → HasTable b column u × IsDeep s d u)
       → AllByRecursion (Told b s) (all_at d (map preorder (fields_of cs)))
   each_told z [] d p n h reach = tt
   each_told z (c ∷ cs) d p n h reach =
       let first : p + 0 * 4 ≡ p = omega arith in
       both_told (Told b s) (preorder c.0 d) (all_at d (map preorder (fields_of cs)))
       (let there = reach 0 h.0 h.1 (rw first h.2) in c.1 h.0 d there.0 there.1 h.3)
-      (each_told z cs d (p + 4) (n - 1) h.4 (λ i u l at. let next : p + suc i * 4 ≡ p + 4 + i * 4 = omega arith in reach (suc i) u (omega arith) (rw next at)))
+      (each_told z cs d (p + 4) (n - 1) h.4 (λ i u l at. let next : p + suc i * 4
+      ≡ p + 4 + i * 4 = omega arith in reach (suc i) u (omega arith) (rw next at)))
 
   roll_told : (y : Field-F Shown) → IsTold (roll-Field (map-Field Shown Field (λ c. c.0) y))
   roll_told y t d has deep h =
@@ -66,22 +68,28 @@ module _ (b : List ℕ) (s : TableView) where
         dictionary = here.3;
         elements = here.5.0;
         vector = here.5.1;
-        many = tables_are FieldAt here.5.0.bytes (fields_of y.children) here.5.0.at here.5.0.len here.5.2 ∙ sym (length-map (fields_of y.children) preorder);
+        many = tables_are FieldAt here.5.0.bytes (fields_of y.children) here.5.0.at here.5.0.len here.5.2
+            ∙ sym (length-map (fields_of y.children) preorder);
       } in
-      let below = each_told here.5.0.bytes y.children (d + 1) here.5.0.at here.5.0.len here.5.2 (λ i u l at. (of_child has (here.5.0, i, here.5.1, l, at), one_deeper deep (here.5.0, i, here.5.1, l, at))) in
+      let below = each_told here.5.0.bytes y.children (d + 1) here.5.0.at here.5.0.len here.5.2
+      (λ i u l at. (of_child has (here.5.0, i, here.5.1, l, at), one_deeper deep (here.5.0, i, here.5.1, l, at))) in
       subst (λ (l : Listing). AllByRecursion (Told b s) (l d)) (sym rolled) (entry, below)
 
   pub field_told : (f : Field) → IsTold f
   field_told = ind-Field IsTold (λ x y is. subst (λ z. IsTold (roll-Field z)) is (roll_told y))
 
-  columns_told : (z : List ℕ) (fs : List Field) (d p n : ℕ) → TablesAt FieldAt z p n fs → ((i : ℕ) (u : TableView) → i < n → table_from z (p + i * 4) ≡ Ok u → HasTable b column u × IsDeep s d u)
+  columns_told : (z : List ℕ) (fs : List Field) (d p n : ℕ) → TablesAt FieldAt z p n fs
+      → ((i : ℕ) (u : TableView) → i < n → table_from z (p + i * 4) ≡ Ok u → HasTable b column u × IsDeep s d u)
       → AllByRecursion (Told b s) (all_at d (map preorder fs))
   columns_told z [] d p n h reach = tt
   columns_told z (f ∷ fs) d p n h reach =
       let first : p + 0 * 4 ≡ p = omega arith in
       both_told (Told b s) (preorder f d) (all_at d (map preorder fs))
       (let there = reach 0 h.0 h.1 (rw first h.2) in field_told f h.0 d there.0 there.1 h.3)
-      (columns_told z fs d (p + 4) (n - 1) h.4 (λ i u l at. let next : p + suc i * 4 ≡ p + 4 + i * 4 = omega arith in reach (suc i) u (omega arith) (rw next at)))
+      (columns_told z fs d (p + 4) (n - 1) h.4
+      (λ i u l at. let next : p + suc i * 4 ≡ p + 4 + i * 4 = omega arith in reach (suc i) u (omega arith) (rw next at)))
 
-  pub entries_told : (fs : List Field) → HasTable b schema s → VectorAt FieldAt fs s 1 → AllByRecursion (Told b s) (all_at 1 (map preorder fs))
-  entries_told fs has h = columns_told h.0.bytes fs 1 h.0.at h.0.len h.2 (λ i u l at. (of_column has (h.0, i, h.1, l, at), at_top (h.0, i, h.1, l, at)))
+  pub entries_told : (fs : List Field) → HasTable b schema s → VectorAt FieldAt fs s 1
+      → AllByRecursion (Told b s) (all_at 1 (map preorder fs))
+  entries_told fs has h = columns_told h.0.bytes fs 1 h.0.at h.0.len h.2
+      (λ i u l at. (of_column has (h.0, i, h.1, l, at), at_top (h.0, i, h.1, l, at)))

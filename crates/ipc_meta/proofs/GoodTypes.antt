@@ -23,7 +23,8 @@ signed_small : (m n : ℕ) → cast_signed w32 m ≡ pos n → n ≤ 2 ^ 31 - 1
 signed_small m n h = go (nat_lt m (2 ^ 31)) refl
   where
     go : (c : Bool) → nat_lt m (2 ^ 31) ≡ c → n ≤ 2 ^ 31 - 1
-    go true is = let small : m < 2 ^ 31 = grind (arith, nat_tests) in let same : pos m ≡ pos n = rw is at h in let e : m ≡ n = cc in omega (arith, small, e)
+    go true is = let small : m < 2 ^ 31 = grind (arith, nat_tests) in let same : pos m ≡ pos n = rw is at h in let e : m ≡ n =
+        cc in omega (arith, small, e)
     go false is = let bad : negsuc (2 ^ 32 - suc m) ≡ pos n = rw is at h in absurd (cc)
 
 stated_small : (b : List ℕ) (o : Option ℕ) (n : ℕ) → or_default (int32 b) (pos 0) o ≡ pos n → n ≤ 2 ^ 31 - 1
@@ -36,7 +37,8 @@ fixed_good t κ h =
     let w = bind_ok (lift (scalar t 0 4 int32 (pos 0))) _ κ h in
     go w.0 (lift_ok (scalar t 0 4 int32 (pos 0)) w.0 w.1) w.2
   where
-    stated : (r : Result (Option ℕ) FlatFault) (n : ℕ) → (r flat_then (λ o. Ok (or_default (int32 t.bytes) (pos 0) o))) ≡ Ok (pos n) → n ≤ 2 ^ 31 - 1
+    stated : (r : Result (Option ℕ) FlatFault) (n : ℕ) → (r flat_then (λ o. Ok (or_default (int32 t.bytes) (pos 0) o))) ≡ Ok (pos n)
+        → n ≤ 2 ^ 31 - 1
     stated (Ok o) n e = stated_small t.bytes o n (cc)
     stated (Err d) n e = absurd (cc)
 
@@ -65,7 +67,8 @@ type_good : (code : ℕ) (t : TableView) (κ : DataType) → type_of code t ≡ 
 unfolding type_of
 type_good code t κ h =
     choose (code == 1) _ _ _ h (λ i h. other_good κ type.Null tt (cc)) (λ n1 h.
-    choose (code == 2) _ _ _ h (λ i h. let w = bind_ok (int_at BadType t) _ κ h in other_good κ (type.Int w.0.bits w.0.signed) tt (cc)) (λ n2 h.
+    choose (code == 2) _ _ _ h (λ i h. let w = bind_ok (int_at BadType t) _ κ h in other_good κ (type.Int w.0.bits w.0.signed) tt (cc))
+    (λ n2 h.
     choose (code == 4) _ _ _ h (λ i h. other_good κ type.Binary tt (cc)) (λ n4 h.
     choose (code == 5) _ _ _ h (λ i h. other_good κ type.Utf8 tt (cc)) (λ n5 h.
     choose (code == 6) _ _ _ h (λ i h. other_good κ type.Bool tt (cc)) (λ n6 h.
@@ -79,7 +82,8 @@ pub good_type : (t : TableView) (κ : DataType) → type_at t ≡ Ok κ → HasG
 unfolding type_at
 good_type t κ h =
     let code = bind_ok (code_at t) _ κ h in
-    choose (is_type_code code.0) _ _ _ code.2 (λ known h. let o = bind_ok (lift (field t 3 table_from)) _ κ h in go code.0 o.0 o.2) (λ other h. absurd (cc))
+    choose (is_type_code code.0) _ _ _ code.2 (λ known h. let o = bind_ok (lift (field t 3 table_from)) _ κ h in go code.0 o.0 o.2)
+    (λ other h. absurd (cc))
   where
     go : (code : ℕ) (o : Option TableView) → type_in code o ≡ Ok κ → HasGoodType κ
     go code None h = absurd (cc)

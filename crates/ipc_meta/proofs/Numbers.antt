@@ -1,5 +1,6 @@
 -- Numbers in a part of the bytes, and structs one after another.
-use Rattle.std.proofs.Common.{subst, ◌≡◌, ◌∙◌, refl, sym, ap, ℕ, zero, suc, ◌+◌, ◌*◌, ◌-◌, ◌<◌, ◌≤◌, List, [], ◌∷◌, ◌++◌, take, drop, get_or, append_assoc, Option, None, Some, Result, Ok, Err, arith}
+use Rattle.std.proofs.Common.{subst, ◌≡◌, ◌∙◌, refl, sym, ap, ℕ, zero, suc, ◌+◌, ◌*◌, ◌-◌, ◌<◌, ◌≤◌, List, [], ◌∷◌, ◌++◌, take, drop}
+use Rattle.std.proofs.Common.{get_or, append_assoc, Option, None, Some, Result, Ok, Err, arith}
 use Rattle.ipc_scalar.specs.declared.fault.FlatFault.{FlatFault}
 use Rattle.ipc_scalar.specs.Faulty.{◌>>=◌, where_some}
 use Rattle.ipc_scalar.specs.Flat.{slot_of, elements_of}
@@ -28,23 +29,29 @@ part_int64 b p q k h = ap (cast_signed w64) (part_num 8 k p (q - p) b (omega ari
 
 -- one struct more
 pub pairs_more : (b : List ℕ) (p i n : ℕ) (front : List (ℤ × ℤ)) → i < n
-    → front ++ number_pairs b (p + i * 16) (n - i) ≡ (front ++ (int64 b (p + i * 16), int64 b (p + i * 16 + 8)) ∷ []) ++ number_pairs b (p + (i + 1) * 16) (n - (i + 1))
+    → front ++ number_pairs b (p + i * 16) (n - i)
+    ≡ (front ++ (int64 b (p + i * 16), int64 b (p + i * 16 + 8)) ∷ []) ++ number_pairs b (p + (i + 1) * 16) (n - (i + 1))
 unfolding number_pairs
 pairs_more b p i n front h =
     let count : n - i ≡ suc (n - (i + 1)) = omega arith in
     let place : p + i * 16 + 16 ≡ p + (i + 1) * 16 = omega arith in
-    rw (count, place) (sym (append_assoc front ((int64 b (p + i * 16), int64 b (p + i * 16 + 8)) ∷ []) (number_pairs b (p + (i + 1) * 16) (n - (i + 1)))))
+    rw (count, place) (sym (append_assoc front ((int64 b (p + i * 16), int64 b (p + i * 16 + 8)) ∷ [])
+    (number_pairs b (p + (i + 1) * 16) (n - (i + 1)))))
 
 pub pairs_done : (b : List ℕ) (p i n : ℕ) (front : List (ℤ × ℤ)) → n ≤ i → front ++ number_pairs b (p + i * 16) (n - i) ≡ front ++ []
 unfolding number_pairs
 pairs_done b p i n front h = let count : n - i ≡ 0 = omega arith in rw count refl
 
 -- one struct more, read of its own bytes
-pub pairs_next : (b bytes : List ℕ) (p i n w : ℕ) (front : List (ℤ × ℤ)) → i < n → w ≡ 16 → bytes ≡ slice_range b (p + i * w) (p + (i + 1) * w)
-    → (front ++ (int64 bytes 0, int64 bytes 8) ∷ []) ++ number_pairs b (p + (i + 1) * 16) (n - (i + 1)) ≡ front ++ number_pairs b (p + i * 16) (n - i)
+pub pairs_next : (b bytes : List ℕ) (p i n w : ℕ) (front : List (ℤ × ℤ)) → i < n → w ≡ 16
+    → bytes ≡ slice_range b (p + i * w) (p + (i + 1) * w)
+    → (front ++ (int64 bytes 0, int64 bytes 8) ∷ []) ++ number_pairs b (p + (i + 1) * 16) (n - (i + 1))
+    ≡ front ++ number_pairs b (p + i * 16) (n - i)
 pairs_next b bytes p i n w front h wide is =
-    let at : bytes ≡ slice_range b (p + i * 16) (p + (i + 1) * 16) = subst (λ z. bytes ≡ slice_range b (p + i * z) (p + (i + 1) * z)) wide is in
-    let first : int64 bytes 0 ≡ int64 b (p + i * 16) = rw at (part_int64 b (p + i * 16) (p + (i + 1) * 16) 0 (omega arith) ∙ ap (int64 b) (omega arith)) in
+    let at : bytes ≡ slice_range b (p + i * 16) (p + (i + 1) * 16) =
+    subst (λ z. bytes ≡ slice_range b (p + i * z) (p + (i + 1) * z)) wide is in
+    let first : int64 bytes 0 ≡ int64 b (p + i * 16) =
+    rw at (part_int64 b (p + i * 16) (p + (i + 1) * 16) 0 (omega arith) ∙ ap (int64 b) (omega arith)) in
     let second : int64 bytes 8 ≡ int64 b (p + i * 16 + 8) = rw at (part_int64 b (p + i * 16) (p + (i + 1) * 16) 8 (omega arith)) in
     rw (first, second) (sym (pairs_more b p i n front h))
 
@@ -59,7 +66,8 @@ structs_width w t k s h =
     let f = lift_ok (slot_of t.bytes t.at k 4 >>= where_some (structs_from w t.bytes)) (Some s) h in
     go (slot_of t.bytes t.at k 4) f
   where
-    inner : (r : Result (ℕ × ℕ) FlatFault) → ((r >>= λ e. Ok (record { bytes = t.bytes; at = e.0; len = e.1; width = w })) >>= λ y. Ok (Some y)) ≡ Ok (Some s) → s.width ≡ w
+    inner : (r : Result (ℕ × ℕ) FlatFault) → ((r >>= λ e. Ok (record { bytes = t.bytes; at = e.0; len = e.1; width = w }))
+        >>= λ y. Ok (Some y)) ≡ Ok (Some s) → s.width ≡ w
     inner (Ok e) i = ap (width_or w) (sym i)
     inner (Err e) i = absurd (cc)
 
@@ -68,6 +76,7 @@ structs_width w t k s h =
     go (Ok (Some p)) i = inner (elements_of t.bytes p w) i
     go (Err e) i = absurd (cc)
 
-pub numbers_are : (t : TableView) (k : ℕ) (s : Structs) → lift (field t k (structs_from 16)) ≡ Ok (Some s) → numbers_at t k ≡ Ok (number_pairs s.bytes s.at s.len)
+pub numbers_are : (t : TableView) (k : ℕ) (s : Structs) → lift (field t k (structs_from 16)) ≡ Ok (Some s)
+    → numbers_at t k ≡ Ok (number_pairs s.bytes s.at s.len)
 unfolding numbers_at
 numbers_are t k s h = rw h refl

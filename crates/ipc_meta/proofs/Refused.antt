@@ -15,13 +15,15 @@ use Rattle.ipc_meta.specs.declared.head.BatchHead.{BatchHead}
 use Rattle.ipc_meta.specs.Tables.{flag_at, vector_at}
 use Rattle.ipc_meta.specs.Heads.{numbers_at}
 use Rattle.ipc_meta.specs.Reading.{batch_read, when_plain}
-use Rattle.ipc_meta.specs.Reached.{Kind, record_batch, number, table, text, tables, structs, LooksAt, compression, length, nodes, buffers, HasTable, IsIllFormed, HasIllFormed, at_field, HasOtherText, at_text}
+use Rattle.ipc_meta.specs.Reached.{Kind, record_batch, number, table, text, tables, structs, LooksAt, compression, length, nodes, buffers}
+use Rattle.ipc_meta.specs.Reached.{HasTable, IsIllFormed, HasIllFormed, at_field, HasOtherText, at_text}
 use Rattle.ipc_meta.specs.Causes.{Cause}
 use Rattle.ipc_meta.proofs.Texts.{no_slot, no_table_in, no_tables_in, no_structs_in}
 use Rattle.ipc_meta.proofs.Sound.{lift_ok}
 
 -- a step fails, or the next one does
-pub step : {A B P : Type 0} (r : Result A Fault) (next : A → Result B Fault) (e : Fault) → (r >>= next) ≡ Err e → (r ≡ Err e → P) → ((x : A) → r ≡ Ok x → next x ≡ Err e → P) → P
+pub step : {A B P : Type 0} (r : Result A Fault) (next : A → Result B Fault) (e : Fault) → (r >>= next) ≡ Err e → (r ≡ Err e → P)
+    → ((x : A) → r ≡ Ok x → next x ≡ Err e → P) → P
 step (Ok x) next e h here there = there x refl h
 step (Err d) next e h here there = let same : d ≡ e = cc in here (ap Err same)
 
@@ -31,7 +33,8 @@ choose true x y z h this other = this refl h
 choose false x y z h this other = other refl h
 
 -- a FlatBuffer's fault is that of a text, or that something is ill-formed
-pub illegible : {A : Type 0} (b : List ℕ) (r : Result A FlatFault) (e : Fault) → lift r ≡ Err e → (r ≡ Err flat.NotUtf8 → HasOtherText b) → (IsIllFormed r → HasIllFormed b) → Cause b e
+pub illegible : {A : Type 0} (b : List ℕ) (r : Result A FlatFault) (e : Fault) → lift r ≡ Err e → (r ≡ Err flat.NotUtf8 → HasOtherText b)
+    → (IsIllFormed r → HasIllFormed b) → Cause b e
 illegible b (Ok x) e h other ill = absurd (cc)
 illegible b (Err flat.NotUtf8) e h other ill = let same : f.NameNotUtf8 ≡ e = cc in subst (Cause b) same (other refl)
 illegible b (Err flat.OffsetZero) e h other ill = let same : f.BadFlat ≡ e = cc in subst (Cause b) same (ill refl)
@@ -39,44 +42,58 @@ illegible b (Err flat.OutOfBounds) e h other ill = let same : f.BadFlat ≡ e = 
 illegible b (Err flat.BadVtable) e h other ill = let same : f.BadFlat ≡ e = cc in subst (Cause b) same (ill refl)
 
 -- the first step of a reading fails where its last one can't
-before_last : {A B : Type 0} (r : Result A FlatFault) (last : A → B) (e : Fault) → lift (r flat_then (λ x. Ok (last x))) ≡ Err e → lift r ≡ Err e
+before_last : {A B : Type 0} (r : Result A FlatFault) (last : A → B) (e : Fault) → lift (r flat_then (λ x. Ok (last x))) ≡ Err e
+    → lift r ≡ Err e
 before_last (Ok x) last e h = absurd (cc)
 before_last (Err d) last e h = let same : fault_of d ≡ e = cc in ap Err same
 
 -- a number that can't be read has no place
-pub bad_number : {X : Type 0} (b : List ℕ) (kind : Kind) (t : TableView) (k w : ℕ) (read : List ℕ → ℕ → X) (x : X) (e : Fault) → HasTable b kind t → LooksAt kind k (number w) → lift (scalar t k w read x) ≡ Err e → Cause b e
+pub bad_number : {X : Type 0} (b : List ℕ) (kind : Kind) (t : TableView) (k w : ℕ) (read : List ℕ → ℕ → X) (x : X) (e : Fault)
+    → HasTable b kind t → LooksAt kind k (number w) → lift (scalar t k w read x) ≡ Err e → Cause b e
 unfolding scalar
 bad_number b kind t k w read x e has look h =
     let none = before_last (slot_of t.bytes t.at k w) (or_default (read t.bytes) x) e h in
     illegible b (slot_of t.bytes t.at k w) e none (λ i. absurd (no_slot t.bytes t.at k w i)) (at_field has look)
 
-pub bad_flag : (b : List ℕ) (kind : Kind) (t : TableView) (k : ℕ) (e : Fault) → HasTable b kind t → LooksAt kind k (number 1) → flag_at t k ≡ Err e → Cause b e
+pub bad_flag : (b : List ℕ) (kind : Kind) (t : TableView) (k : ℕ) (e : Fault) → HasTable b kind t → LooksAt kind k (number 1)
+    → flag_at t k ≡ Err e → Cause b e
 unfolding flag_at
-bad_flag b kind t k e has look h = step (lift (scalar t k 1 byte 0)) _ e h (bad_number b kind t k 1 byte 0 e has look) (λ n is bad. absurd (cc))
+bad_flag b kind t k e has look h = step (lift (scalar t k 1 byte 0)) _ e h (bad_number b kind t k 1 byte 0 e has look)
+    (λ n is bad. absurd (cc))
 
-pub bad_table : (b : List ℕ) (kind : Kind) (t : TableView) (k : ℕ) (e : Fault) → HasTable b kind t → LooksAt kind k table → lift (field t k table_from) ≡ Err e → Cause b e
+pub bad_table : (b : List ℕ) (kind : Kind) (t : TableView) (k : ℕ) (e : Fault) → HasTable b kind t → LooksAt kind k table
+    → lift (field t k table_from) ≡ Err e → Cause b e
 bad_table b kind t k e has look h = illegible b (field t k table_from) e h (λ i. absurd (no_table_in t k i)) (at_field has look)
 
 -- the value of a union
-pub bad_value : (b : List ℕ) (t : TableView) (k : ℕ) (e : Fault) → (IsIllFormed (field t k table_from) → HasIllFormed b) → lift (field t k table_from) ≡ Err e → Cause b e
+pub bad_value : (b : List ℕ) (t : TableView) (k : ℕ) (e : Fault) → (IsIllFormed (field t k table_from) → HasIllFormed b)
+    → lift (field t k table_from) ≡ Err e → Cause b e
 bad_value b t k e ill h = illegible b (field t k table_from) e h (λ i. absurd (no_table_in t k i)) ill
 
-pub bad_text : (b : List ℕ) (kind : Kind) (t : TableView) (k : ℕ) (e : Fault) → HasTable b kind t → LooksAt kind k text → lift (field t k text_of) ≡ Err e → Cause b e
+pub bad_text : (b : List ℕ) (kind : Kind) (t : TableView) (k : ℕ) (e : Fault) → HasTable b kind t → LooksAt kind k text
+    → lift (field t k text_of) ≡ Err e → Cause b e
 bad_text b kind t k e has look h = illegible b (field t k text_of) e h (at_text has look) (at_field has look)
 
-bad_structs : (b : List ℕ) (kind : Kind) (t : TableView) (k : ℕ) (e : Fault) → HasTable b kind t → LooksAt kind k structs → numbers_at t k ≡ Err e → Cause b e
+bad_structs : (b : List ℕ) (kind : Kind) (t : TableView) (k : ℕ) (e : Fault) → HasTable b kind t → LooksAt kind k structs
+    → numbers_at t k ≡ Err e → Cause b e
 unfolding numbers_at
-bad_structs b kind t k e has look h = step (lift (field t k (structs_from 16))) _ e h (λ none. illegible b (field t k (structs_from 16)) e none (λ i. absurd (no_structs_in t k i)) (at_field has look)) (λ o is bad. absurd (cc))
+bad_structs b kind t k e has look h = step (lift (field t k (structs_from 16))) _ e h
+    (λ none. illegible b (field t k (structs_from 16)) e none (λ i. absurd (no_structs_in t k i)) (at_field has look))
+    (λ o is bad. absurd (cc))
 
-pub bad_vector : (b : List ℕ) (kind : Kind) (t : TableView) (k : ℕ) (e : Fault) → HasTable b kind t → LooksAt kind k tables → vector_at t k ≡ Err e → Cause b e
+pub bad_vector : (b : List ℕ) (kind : Kind) (t : TableView) (k : ℕ) (e : Fault) → HasTable b kind t → LooksAt kind k tables
+    → vector_at t k ≡ Err e → Cause b e
 unfolding vector_at
-bad_vector b kind t k e has look h = step (lift (field t k (elements_from 4))) _ e h (λ none. illegible b (field t k (elements_from 4)) e none (λ i. absurd (no_tables_in t k i)) (λ ill. at_field has look (inl ill))) (λ o is bad. absurd (cc))
+bad_vector b kind t k e has look h = step (lift (field t k (elements_from 4))) _ e h
+    (λ none. illegible b (field t k (elements_from 4)) e none (λ i. absurd (no_tables_in t k i)) (λ ill. at_field has look (inl ill)))
+    (λ o is bad. absurd (cc))
 
 -- ---- batches
 
 -- what a batch without compression states
 abbrev plain_batch : TableView → Result BatchHead Fault
-plain_batch t = lift (scalar t 0 8 int64 (pos 0)) >>= λ n. numbers_at t 1 >>= λ ns. numbers_at t 2 >>= λ bs. Ok (record { length = n; nodes = ns; buffers = bs })
+plain_batch t = lift (scalar t 0 8 int64 (pos 0)) >>= λ n. numbers_at t 1 >>= λ ns. numbers_at t 2
+    >>= λ bs. Ok (record { length = n; nodes = ns; buffers = bs })
 
 pub batch_refused : (b : List ℕ) (t : TableView) (e : Fault) → HasTable b record_batch t → batch_read t ≡ Err e → Cause b e
 unfolding batch_read

@@ -1,5 +1,6 @@
 -- Where a schema that was read is not well formed, the fault's cause is true of the metadata.
-use Rattle.std.proofs.Common.{◌≡◌, ◌∙◌, refl, sym, ap, subst, ℕ, ◌+◌, ◌^◌, Bool, true, false, not, ◌||◌, List, [], ◌∷◌, ◌⊎◌, inl, inr, ⊎_elim, ◌≤◌, ◌<◌, ◌&&◌, length, arith}
+use Rattle.std.proofs.Common.{◌≡◌, ◌∙◌, refl, sym, ap, subst, ℕ, ◌+◌, ◌^◌, Bool, true, false, not, ◌||◌, List, [], ◌∷◌, ◌⊎◌, inl, inr}
+use Rattle.std.proofs.Common.{⊎_elim, ◌≤◌, ◌<◌, ◌&&◌, length, arith}
 use Rattle.std.specs.Prelude.{sum_by, ℤ, ◌-◌, nat_le, Option, None, Some, is_some, Result, Ok, Err}
 use Rattle.std.specs.List.{AllByRecursion}
 use Rattle.std.specs.Ordering.{int_eq}
@@ -10,7 +11,8 @@ use Rattle.ipc_model.specs.Limits.{max_fields, max_depth, max_text, max_pairs}
 use Rattle.ipc_model.specs.WellFormed.{HasGoodType, HasFittingChildren, IsLeaf}
 use Rattle.ipc_model.proofs.FirstFaults.{done_err, verdict_from_first}
 use Rattle.ipc_model.specs.FirstFault.{IsFirstFault}
-use Rattle.ipc_model.specs.SchemaFaults.{Before, after, scan, unless_at, fault_at, has_good_type, has_fitting_children, has_leaf_dictionary, is_leaf, is_little_text, same_type, agrees, has_conflict, with_kind, at_start, done, verdict_on}
+use Rattle.ipc_model.specs.SchemaFaults.{Before, after, scan, unless_at, fault_at, has_good_type, has_fitting_children, has_leaf_dictionary}
+use Rattle.ipc_model.specs.SchemaFaults.{is_leaf, is_little_text, same_type, agrees, has_conflict, with_kind, at_start, done, verdict_on}
 use Rattle.ipc_model.specs.Refusals.{reader_fault}
 use Rattle.ipc_model.specs.declared.check.SchemaFault.{SchemaFault}
 use Rattle.ipc_model.specs.declared.check.SchemaFault.TheVariants as check
@@ -59,32 +61,45 @@ AreEncoded b kinds = (id : ℤ) (κ : DataType) → kinds id ≡ Some κ → Enc
 encoded : (b : List ℕ) (s : TableView) (e : Entry) (d : Dictionary) → Told b s e → e.dictionary ≡ Some d → Encodes b d.id e.kind
 encoded b s e d h is = (h.table, h.has, (h.kind, (d, h.dictionary ∙ ap Ok is, refl)))
 
-encoded_after : (b : List ℕ) (s : TableView) (kinds : ℤ → Option DataType) (e : Entry) → Told b s e → AreEncoded b kinds → AreEncoded b (with_kind kinds e.dictionary e.kind)
+encoded_after : (b : List ℕ) (s : TableView) (kinds : ℤ → Option DataType) (e : Entry) → Told b s e → AreEncoded b kinds
+    → AreEncoded b (with_kind kinds e.dictionary e.kind)
 encoded_after b s kinds e h all = go e.dictionary refl
   where
     go : (o : Option Dictionary) → e.dictionary ≡ o → AreEncoded b (with_kind kinds o e.kind)
     go None is id κ k = all id κ k
     go (Some d) is id κ k =
         choose (int_eq d.id id) _ _ _ k
-        (λ same k. let type : e.kind ≡ κ = cc in let one : d.id ≡ id = (Decides-int_eq d.id id).0 same in subst (λ n. Encodes b n κ) one (subst (Encodes b d.id) type (encoded b s e d h is)))
+        (λ same k. let type : e.kind ≡ κ = cc in let one : d.id
+        ≡ id = (Decides-int_eq d.id id).0 same in subst (λ n. Encodes b n κ) one (subst (Encodes b d.id) type (encoded b s e d h is)))
         (λ other k. all id κ k)
 
-conflict : (b : List ℕ) (s : TableView) (kinds : ℤ → Option DataType) (e : Entry) → Told b s e → AreEncoded b kinds → has_conflict kinds e.dictionary e.kind ≡ true → Cause b (reader_fault (check.DictionaryConflict 0))
+conflict : (b : List ℕ) (s : TableView) (kinds : ℤ → Option DataType) (e : Entry) → Told b s e → AreEncoded b kinds
+    → has_conflict kinds e.dictionary e.kind ≡ true → Cause b (reader_fault (check.DictionaryConflict 0))
 conflict b s kinds e h all = go e.dictionary refl
   where
-    go : (o : Option Dictionary) → e.dictionary ≡ o → has_conflict kinds o e.kind ≡ true → Cause b (reader_fault (check.DictionaryConflict 0))
+    go : (o : Option Dictionary) → e.dictionary ≡ o → has_conflict kinds o e.kind ≡ true
+        → Cause b (reader_fault (check.DictionaryConflict 0))
     go None is k = cc
     go (Some d) is k = earlier (kinds d.id) refl (is_false _ k)
       where
         earlier : (o : Option DataType) → kinds d.id ≡ o → agrees o e.kind ≡ false → Cause b (reader_fault (check.DictionaryConflict 0))
         earlier None at k = cc
-        earlier (Some first) at k =
-            (d.id, first, e.kind, all d.id first at, encoded b s e d h is, λ same. let one : same_type first first ≡ false = subst (λ κ. same_type first κ ≡ false) (sym same) k in let two = same_itself first in cc)
+        earlier (Some first) at k = (
+          d.id,
+          first,
+          e.kind,
+          all d.id first at,
+          encoded b s e d h is,
+          λ same. let one : same_type first first ≡ false = subst (λ κ. same_type first κ ≡ false) (sym same) k in let two =
+              same_itself first in cc,
+        )
 
-nested : (b : List ℕ) (s : TableView) (e : Entry) → Told b s e → has_leaf_dictionary e ≡ false → Cause b (reader_fault (check.NestedDictionary 0))
+nested : (b : List ℕ) (s : TableView) (e : Entry) → Told b s e → has_leaf_dictionary e ≡ false
+    → Cause b (reader_fault (check.NestedDictionary 0))
 nested b s e h = go e.dictionary refl
   where
-    go : (o : Option Dictionary) → e.dictionary ≡ o → not (is_some o) || is_leaf e.kind ≡ false → Cause b (reader_fault (check.NestedDictionary 0))
+    go : (o : Option Dictionary) → e.dictionary ≡ o → not (is_some o) || is_leaf e.kind ≡ false
+        → Cause b (reader_fault (check.NestedDictionary 0))
     go None is k = cc
     go (Some d) is k = (d.id, e.kind, encoded b s e d h is, leaf_test e.kind k)
 
@@ -109,10 +124,17 @@ too_much a h = go (nat_le a.text max_text) refl h
     go true is h = inr (grind (arith, nat_tests))
     go false is h = inl (grind (arith, nat_tests))
 
-text_refused : (b : List ℕ) (s : TableView) (a : Before) → HasTable b schema s → Within s a [] → is_little_text a ≡ false → Cause b (reader_fault (check.TooMuchText 0))
-text_refused b s a hs w h = (s, hs, ⊎_elim (λ m. inl (let t = w.text in omega (arith, m, t))) (λ m. inr (let p = w.pairs in omega (arith, m, p))) (too_much a h))
+text_refused : (b : List ℕ) (s : TableView) (a : Before) → HasTable b schema s → Within s a [] → is_little_text a ≡ false
+    → Cause b (reader_fault (check.TooMuchText 0))
+text_refused b s a hs w h = (
+  s,
+  hs,
+  ⊎_elim (λ m. inl (let t = w.text in omega (arith, m, t)))
+      (λ m. inr (let p = w.pairs in omega (arith, m, p))) (too_much a h),
+)
 
-entry_refused : (b : List ℕ) (s : TableView) (a : Before) (e : Entry) (x : SchemaFault) → HasTable b schema s → Told b s e → AreEncoded b a.kinds → Within s (after a e) [] → fault_at a e ≡ Some x → Cause b (reader_fault x)
+entry_refused : (b : List ℕ) (s : TableView) (a : Before) (e : Entry) (x : SchemaFault) → HasTable b schema s → Told b s e
+    → AreEncoded b a.kinds → Within s (after a e) [] → fault_at a e ≡ Some x → Cause b (reader_fault x)
 entry_refused b s a e x hs h all w k =
     choose (not (has_good_type e.kind)) _ _ _ k
     (λ i k. absurd (good_test e.kind (is_false _ i) (good_type h.table e.kind h.kind))) (λ i k.
@@ -136,12 +158,14 @@ entry_refused b s a e x hs h all w k =
     choose (has_conflict a.kinds e.dictionary e.kind) _ _ _ k
     (λ i k. let same : check.DictionaryConflict (a.fields + 1) ≡ x = cc in told same (conflict b s a.kinds e h all i)) (λ i k.
     choose (not (has_leaf_dictionary e)) _ _ _ k
-    (λ i k. let same : check.NestedDictionary (a.fields + 1) ≡ x = cc in told same (nested b s e h (is_false _ i))) (λ i k. absurd (cc))))))))
+    (λ i k. let same : check.NestedDictionary (a.fields + 1) ≡ x = cc in told same (nested b s e h (is_false _ i)))
+    (λ i k. absurd (cc))))))))
   where
     told : {y : SchemaFault} → y ≡ x → Cause b (reader_fault y) → Cause b (reader_fault x)
     told same cause = subst (λ y. Cause b (reader_fault y)) same cause
 
-scan_refused : (b : List ℕ) (s : TableView) (es : List Entry) (a : Before) (x : SchemaFault) → HasTable b schema s → AllByRecursion (Told b s) es → AreEncoded b a.kinds → Within s a es → scan a es ≡ Err x → Cause b (reader_fault x)
+scan_refused : (b : List ℕ) (s : TableView) (es : List Entry) (a : Before) (x : SchemaFault) → HasTable b schema s
+    → AllByRecursion (Told b s) es → AreEncoded b a.kinds → Within s a es → scan a es ≡ Err x → Cause b (reader_fault x)
 scan_refused b s [] a x hs h all w k = absurd (cc)
 scan_refused b s (e ∷ es) a x hs h all w k =
     go (fault_at a e) refl (λ k. scan_refused b s es (after a e) x hs h.1 (encoded_after b s a.kinds e h.0 all) next k) k
@@ -150,13 +174,20 @@ scan_refused b s (e ∷ es) a x hs h all w k =
     next = within_after s a e es w
 
     here : Within s (after a e) []
-    here = record { fields = let n = next.fields in omega arith; text = let n = next.text in omega arith; pairs = let n = next.pairs in omega arith }
+    here = record {
+      fields = let n = next.fields in omega arith;
+      text = let n = next.text in omega arith;
+      pairs = let n = next.pairs in omega arith;
+    }
 
-    go : (o : Option SchemaFault) → fault_at a e ≡ o → (scan (after a e) es ≡ Err x → Cause b (reader_fault x)) → unless_at o (scan (after a e) es) ≡ Err x → Cause b (reader_fault x)
+    go : (o : Option SchemaFault) → fault_at a e ≡ o → (scan (after a e) es ≡ Err x → Cause b (reader_fault x))
+        → unless_at o (scan (after a e) es) ≡ Err x → Cause b (reader_fault x)
     go None is later k = later k
-    go (Some y) is later k = let same : y ≡ x = cc in subst (λ y. Cause b (reader_fault y)) same (entry_refused b s a e y hs h.0 all here is)
+    go (Some y) is later k = let same : y ≡ x =
+        cc in subst (λ y. Cause b (reader_fault y)) same (entry_refused b s a e y hs h.0 all here is)
 
-schema_refused : (b : List ℕ) (t : TableView) (s : Schema) (x : SchemaFault) → HasTable b schema t → VectorAt FieldAt s.fields t 1 → Totals t s.fields s.metadata → verdict_on s ≡ Err x → Cause b (reader_fault x)
+schema_refused : (b : List ℕ) (t : TableView) (s : Schema) (x : SchemaFault) → HasTable b schema t → VectorAt FieldAt s.fields t 1
+    → Totals t s.fields s.metadata → verdict_on s ≡ Err x → Cause b (reader_fault x)
 schema_refused b t s x has h totals k =
     let own = at_start s.metadata in
     let text = totals.text in
@@ -165,11 +196,14 @@ schema_refused b t s x has h totals k =
     (λ i k. scan_refused b t (entries s.fields) own x has (entries_told b t s.fields has h) (λ id κ bad. absurd (cc))
     (record { fields = omega (arith, totals.fields); text = omega (arith, text); pairs = omega (arith, pairs) }) (done_err _ x k))
     (λ i k. let same : check.TooMuchText 0 ≡ x = cc in
-    subst (λ y. Cause b (reader_fault y)) same (text_refused b t own has (record { fields = omega arith; text = omega (arith, text); pairs = omega (arith, pairs) }) i))
+    subst (λ y. Cause b (reader_fault y)) same
+    (text_refused b t own has (record { fields = omega arith; text = omega (arith, text); pairs = omega (arith, pairs) }) i))
 
 -- the check's refusal, as the call that reads tells it
-pub check_refused : (b : List ℕ) (t : TableView) (s : Schema) (x : SchemaFault) (l m n : Budget) → HasTable b schema t → pairs_read t 2 l ≡ Ok (s.metadata, m) → fields_read (field_read 64) t 1 m ≡ Ok (s.fields, n)
+pub check_refused : (b : List ℕ) (t : TableView) (s : Schema) (x : SchemaFault) (l m n : Budget) → HasTable b schema t
+    → pairs_read t 2 l ≡ Ok (s.metadata, m) → fields_read (field_read 64) t 1 m ≡ Ok (s.fields, n)
     → (x ≡ check.OutOfMemory) ⊎ IsFirstFault s x → (reader_fault x ≡ reader_fault check.OutOfMemory → ⊥) → Cause b (reader_fault x)
 check_refused b t s x l m n has p q k ne =
     ⊎_elim (λ is. absurd (ne (ap reader_fault is)))
-    (λ first. schema_refused b t s x has (fields_sound (field_read 64) (field_sound 64) t 1 m n s.fields q) (schema_totals t l m n s.fields s.metadata p q) (verdict_from_first s x first)) k
+    (λ first. schema_refused b t s x has (fields_sound (field_read 64) (field_sound 64) t 1 m n s.fields q)
+    (schema_totals t l m n s.fields s.metadata p q) (verdict_from_first s x first)) k

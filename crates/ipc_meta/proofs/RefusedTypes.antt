@@ -8,9 +8,11 @@ use Rattle.ipc_flat.specs.Views.{TableView, table_from, scalar, field}
 use Rattle.ipc_model.specs.declared.fault.Fault.{Fault}
 use Rattle.ipc_model.specs.declared.fault.Fault.TheVariants as f
 use Rattle.ipc_meta.specs.Lifts.{lift}
-use Rattle.ipc_meta.specs.Tables.{flag_at, bits_of, ok_or, unit_of, int_at, date_at, fixed_at, timestamp_at, type_of, type_in, is_type_code, code_at, type_at, index_in, index_at, dictionary_in, dictionary_at}
+use Rattle.ipc_meta.specs.Tables.{flag_at, bits_of, ok_or, unit_of, int_at, date_at, fixed_at, timestamp_at, type_of, type_in, is_type_code}
+use Rattle.ipc_meta.specs.Tables.{code_at, type_at, index_in, index_at, dictionary_in, dictionary_at}
 use Rattle.ipc_meta.specs.Reached as r
-use Rattle.ipc_meta.specs.Reached.{Kind, schema, column, type_value, dictionary_encoding, index_type, number, tables, LooksAt, HasTable, Element}
+use Rattle.ipc_meta.specs.Reached.{Kind, schema, column, type_value, dictionary_encoding, index_type, number, tables, LooksAt, HasTable}
+use Rattle.ipc_meta.specs.Reached.{Element}
 use Rattle.ipc_meta.specs.Causes.{Cause, IsNoType, other_width, other_date_unit, other_time_unit, negative_width, no_table, no_type}
 use Rattle.ipc_meta.proofs.Sound.{lift_ok}
 use Rattle.ipc_meta.proofs.Refused.{step, choose, bad_number, bad_flag, bad_table, bad_value, bad_text}
@@ -19,51 +21,63 @@ ok_or_err : {X : Type 0} (d e : Fault) (o : Option X) → ok_or d o ≡ Err e �
 ok_or_err d e None h = (refl, cc)
 ok_or_err d e (Some x) h = absurd (cc)
 
-int_refused : (b : List ℕ) (kind : Kind) (t : TableView) (d e : Fault) → HasTable b kind t → LooksAt kind 0 (number 4) → LooksAt kind 1 (number 1) → int_at d t ≡ Err e
+int_refused : (b : List ℕ) (kind : Kind) (t : TableView) (d e : Fault) → HasTable b kind t → LooksAt kind 0 (number 4)
+    → LooksAt kind 1 (number 1) → int_at d t ≡ Err e
     → ((w : ℤ) → scalar t 0 4 int32 (pos 0) ≡ Ok w → bits_of w ≡ None → d ≡ e → Cause b e) → Cause b e
 int_refused b kind t d e has width signed h other =
     step (lift (scalar t 0 4 int32 (pos 0))) _ e h (bad_number b kind t 0 4 int32 (pos 0) e has width) (λ w i h.
-    step (ok_or d (bits_of w)) _ e h (λ h. let none = ok_or_err d e (bits_of w) h in other w (lift_ok (scalar t 0 4 int32 (pos 0)) w i) none.0 none.1) (λ x j h.
+    step (ok_or d (bits_of w)) _ e h (λ h. let none = ok_or_err d e (bits_of w) h in other w
+    (lift_ok (scalar t 0 4 int32 (pos 0)) w i) none.0 none.1) (λ x j h.
     step (flag_at t 1) _ e h (bad_flag b kind t 1 e has signed) (λ g k h. absurd (cc))))
 
 not_pos : (n k : ℕ) → (n == k) ≡ false → pos n ≡ pos k → ⊥
 not_pos n k h e = let same : n ≡ k = cc in let is : (n == k) ≡ true = eq-eqb n k same in cc
 
 date_refused : (z : ℤ) (e : Fault) → date_at z ≡ Err e → (f.BadType ≡ e) × ((z ≡ pos 0 → ⊥) × (z ≡ pos 1 → ⊥))
-date_refused (pos n) e h = choose (n == 0) _ _ _ h (λ i h. absurd (cc)) (λ i h. choose (n == 1) _ _ _ h (λ j h. absurd (cc)) (λ j h. (cc, (not_pos n 0 i, not_pos n 1 j))))
+date_refused (pos n) e h = choose (n == 0) _ _ _ h (λ i h. absurd (cc))
+    (λ i h. choose (n == 1) _ _ _ h (λ j h. absurd (cc)) (λ j h. (cc, (not_pos n 0 i, not_pos n 1 j))))
 date_refused (negsuc n) e h = (cc, (λ i. cc, λ i. cc))
 
 fixed_refused : (z : ℤ) (e : Fault) → fixed_at z ≡ Err e → (f.BadType ≡ e) × (int_lt z (pos 0) ≡ true)
 fixed_refused (pos n) e h = absurd (cc)
 fixed_refused (negsuc n) e h = (cc, refl)
 
-timestamp_refused : (b : List ℕ) (t : TableView) (e : Fault) → HasTable b (type_value 10) t → timestamp_at t ≡ Err e → (f.BadType ≡ e → IsNoType 10 t → Cause b e) → Cause b e
+timestamp_refused : (b : List ℕ) (t : TableView) (e : Fault) → HasTable b (type_value 10) t → timestamp_at t ≡ Err e
+    → (f.BadType ≡ e → IsNoType 10 t → Cause b e) → Cause b e
 timestamp_refused b t e has h bad =
     step (lift (scalar t 0 2 int16 (pos 0))) _ e h (bad_number b (type_value 10) t 0 2 int16 (pos 0) e has r.time_unit) (λ w i h.
-    step (ok_or f.BadType (unit_of w)) _ e h (λ h. let p = ok_or_err f.BadType e (unit_of w) h in bad p.1 (other_time_unit (w, lift_ok (scalar t 0 2 int16 (pos 0)) w i, p.0))) (λ x j h.
+    step (ok_or f.BadType (unit_of w)) _ e h
+    (λ h. let p = ok_or_err f.BadType e (unit_of w) h in bad p.1 (other_time_unit (w, lift_ok (scalar t 0 2 int16 (pos 0)) w i, p.0)))
+    (λ x j h.
     step (lift (field t 1 text_of)) _ e h (bad_text b (type_value 10) t 1 e has r.timezone) (λ g k h. absurd (cc))))
 
 -- one code that a type has
-type_code_is : (code : ℕ) → is_type_code code ≡ true → (code == 1) ≡ false → (code == 2) ≡ false → (code == 4) ≡ false → (code == 5) ≡ false → (code == 6) ≡ false → (code == 8) ≡ false
+type_code_is : (code : ℕ) → is_type_code code ≡ true → (code == 1) ≡ false → (code == 2) ≡ false → (code == 4) ≡ false → (code == 5) ≡ false
+    → (code == 6) ≡ false → (code == 8) ≡ false
     → (code == 10) ≡ false → (code == 12) ≡ false → (code == 13) ≡ false → (code == 15) ≡ false → ⊥
 unfolding is_type_code
 type_code_is code h n1 n2 n4 n5 n6 n8 n10 n12 n13 n15 =
     let none : false ≡ true = rw (n1, n2, n4, n5, n6, n8, n10, n12, n13, n15) at h in cc
 
-type_of_refused : (b : List ℕ) (code : ℕ) (t : TableView) (e : Fault) → is_type_code code ≡ true → HasTable b (type_value code) t → type_of code t ≡ Err e → Cause b e
+type_of_refused : (b : List ℕ) (code : ℕ) (t : TableView) (e : Fault) → is_type_code code ≡ true → HasTable b (type_value code) t
+    → type_of code t ≡ Err e → Cause b e
 unfolding type_of
 type_of_refused b code t e known has h =
     choose (code == 1) _ _ _ h (λ i h. absurd (cc)) (λ n1 h.
-    choose (code == 2) _ _ _ h (λ i h. step (int_at f.BadType t) _ e h (λ h. int_refused b (type_value 2) t f.BadType e (at 2 i) r.bit_width r.is_signed h (λ w j none same. bad 2 i same (other_width (w, j, none)))) (λ x j h. absurd (cc))) (λ n2 h.
+    choose (code == 2) _ _ _ h (λ i h. step (int_at f.BadType t) _ e h
+    (λ h. int_refused b (type_value 2) t f.BadType e (at 2 i) r.bit_width r.is_signed h
+    (λ w j none same. bad 2 i same (other_width (w, j, none)))) (λ x j h. absurd (cc))) (λ n2 h.
     choose (code == 4) _ _ _ h (λ i h. absurd (cc)) (λ n4 h.
     choose (code == 5) _ _ _ h (λ i h. absurd (cc)) (λ n5 h.
     choose (code == 6) _ _ _ h (λ i h. absurd (cc)) (λ n6 h.
-    choose (code == 8) _ _ _ h (λ i h. step (lift (scalar t 0 2 int16 (pos 1))) _ e h (bad_number b (type_value 8) t 0 2 int16 (pos 1) e (at 8 i) r.date_unit)
+    choose (code == 8) _ _ _ h (λ i h. step (lift (scalar t 0 2 int16 (pos 1))) _ e h
+    (bad_number b (type_value 8) t 0 2 int16 (pos 1) e (at 8 i) r.date_unit)
     (λ z j h. let p = date_refused z e h in bad 8 i p.0 (other_date_unit (z, lift_ok (scalar t 0 2 int16 (pos 1)) z j, p.1)))) (λ n8 h.
     choose (code == 10) _ _ _ h (λ i h. timestamp_refused b t e (at 10 i) h (bad 10 i)) (λ n10 h.
     choose (code == 12) _ _ _ h (λ i h. absurd (cc)) (λ n12 h.
     choose (code == 13) _ _ _ h (λ i h. absurd (cc)) (λ n13 h.
-    choose (code == 15) _ _ _ h (λ i h. step (lift (scalar t 0 4 int32 (pos 0))) _ e h (bad_number b (type_value 15) t 0 4 int32 (pos 0) e (at 15 i) r.byte_width)
+    choose (code == 15) _ _ _ h (λ i h. step (lift (scalar t 0 4 int32 (pos 0))) _ e h
+    (bad_number b (type_value 15) t 0 4 int32 (pos 0) e (at 15 i) r.byte_width)
     (λ z j h. let p = fixed_refused z e h in bad 15 i p.0 (negative_width (z, lift_ok (scalar t 0 4 int32 (pos 0)) z j, p.1))))
     (λ n15 h. absurd (type_code_is code known n1 n2 n4 n5 n6 n8 n10 n12 n13 n15)))))))))))
   where
@@ -82,10 +96,12 @@ unfolding type_at
 type_refused b t e has h =
     step (code_at t) _ e h (bad_code b t e has) (λ code c i.
     choose (is_type_code code) _ _ _ i (λ known i.
-    step (lift (field t 3 table_from)) _ e i (bad_value b t 3 e (r.at_type has c known)) (λ o j k. in_table code o known c (lift_ok (field t 3 table_from) o j) k))
+    step (lift (field t 3 table_from)) _ e i (bad_value b t 3 e (r.at_type has c known))
+    (λ o j k. in_table code o known c (lift_ok (field t 3 table_from) o j) k))
     (λ other i. let same : f.UnsupportedType code ≡ e = cc in subst (Cause b) same (t, has, (c, other))))
   where
-    in_table : (code : ℕ) (o : Option TableView) → is_type_code code ≡ true → code_at t ≡ Ok code → field t 3 table_from ≡ Ok o → type_in code o ≡ Err e → Cause b e
+    in_table : (code : ℕ) (o : Option TableView) → is_type_code code ≡ true → code_at t ≡ Ok code → field t 3 table_from ≡ Ok o
+        → type_in code o ≡ Err e → Cause b e
     in_table code None known c i h = let same : f.BadType ≡ e = cc in subst (Cause b) same (no_table (t, has, (c, known, i)))
     in_table code (Some v) known c i h = type_of_refused b code v e known (r.of_type has c i) h
 
@@ -98,7 +114,8 @@ index_refused b t e has h = step (lift (field t 1 table_from)) _ e h (bad_table 
     go None i h = absurd (cc)
     go (Some v) i h =
         let it : HasTable b index_type v = r.of_index has (lift_ok (field t 1 table_from) (Some v) i) in
-        int_refused b index_type v f.BadIndexType e it r.index_bit_width r.index_is_signed h (λ w j none same. subst (Cause b) same (v, it, (w, j, none)))
+        int_refused b index_type v f.BadIndexType e it r.index_bit_width r.index_is_signed h
+        (λ w j none same. subst (Cause b) same (v, it, (w, j, none)))
 
 pub dictionary_refused : (b : List ℕ) (t : TableView) (e : Fault) → HasTable b column t → dictionary_at t ≡ Err e → Cause b e
 unfolding dictionary_at
@@ -108,6 +125,7 @@ dictionary_refused b t e has h = step (lift (field t 4 table_from)) _ e h (bad_t
     go None i h = absurd (cc)
     go (Some d) i h =
         let it : HasTable b dictionary_encoding d = r.of_encoding has (lift_ok (field t 4 table_from) (Some d) i) in
-        step (lift (scalar d 0 8 int64 (pos 0))) _ e h (bad_number b dictionary_encoding d 0 8 int64 (pos 0) e it r.dictionary_id) (λ id j h.
+        step (lift (scalar d 0 8 int64 (pos 0))) _ e h (bad_number b dictionary_encoding d 0 8 int64 (pos 0) e it r.dictionary_id)
+        (λ id j h.
         step (index_at d) _ e h (index_refused b d e it) (λ x k h.
         step (flag_at d 2) _ e h (bad_flag b dictionary_encoding d 2 e it r.is_ordered) (λ g l h. absurd (cc))))

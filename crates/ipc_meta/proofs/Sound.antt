@@ -41,7 +41,8 @@ left_parts {X} x y l m h =
 abbrev pub Sound : {X : Type 0} → (TableView → Reading X) → (X → TableView → Type 0) → Type 0
 Sound {X} f At = (t : TableView) (left after : Budget) (x : X) → f t left ≡ Ok (x, after) → At x t
 
-pub each_sound : {X : Type 0} (f : TableView → Reading X) (At : X → TableView → Type 0) → Sound f At → (b : List ℕ) (n p : ℕ) (left after : Budget) (xs : List X) → each f b p n left ≡ Ok (xs, after) → TablesAt At b p n xs
+pub each_sound : {X : Type 0} (f : TableView → Reading X) (At : X → TableView → Type 0) → Sound f At
+    → (b : List ℕ) (n p : ℕ) (left after : Budget) (xs : List X) → each f b p n left ≡ Ok (xs, after) → TablesAt At b p n xs
 unfolding each
 each_sound f At s b zero p left after xs h =
     let e = left_parts [] xs left after h in
@@ -74,7 +75,8 @@ pair_sound t left after p h =
     let e = left_parts (k.0.0, v.0.0) p v.0.1 after v.2 in
     subst (λ q. PairAt q t) e.0 (text_sound t 0 left k.0.1 k.0.0 k.1, text_sound t 1 k.0.1 v.0.1 v.0.0 v.1)
 
-pub pairs_sound : (t : TableView) (k : ℕ) (left after : Budget) (ps : List (List ℕ × List ℕ)) → pairs_read t k left ≡ Ok (ps, after) → VectorAt PairAt ps t k
+pub pairs_sound : (t : TableView) (k : ℕ) (left after : Budget) (ps : List (List ℕ × List ℕ)) → pairs_read t k left ≡ Ok (ps, after)
+    → VectorAt PairAt ps t k
 unfolding pairs_read
 pairs_sound t k left after ps h =
     let v = bind_ok (vector_at t k) _ _ h in
@@ -96,9 +98,11 @@ type_sound t left after κ h =
 module _ {X Y : Type 0} (v : X → Y) (k : Y → TableView → Type 0) where
   tables_map : (b : List ℕ) (p n : ℕ) (xs : List X) → TablesAt (λ x. k (v x)) b p n xs ≡ TablesAt k b p n (map v xs)
   tables_map b p n [] = refl
-  tables_map b p n (x ∷ xs) = ap (λ (T : Type 0). (t : TableView) × (0 < n) × (table_from b p ≡ Ok t) × k (v x) t × T) (tables_map b (p + 4) (n - 1) xs)
+  tables_map b p n (x ∷ xs) = ap (λ (T : Type 0). (t : TableView) × (0 < n) × (table_from b p ≡ Ok t) × k (v x) t × T)
+      (tables_map b (p + 4) (n - 1) xs)
 
-natural : (X : Type 0) (v : X → Field) (k : Field → TableView → Type 0) (x : Field-F X) → field_step X v (λ p. k (v p)) x ≡ field_step Field (λ y. y) k (map-Field X Field v x)
+natural : (X : Type 0) (v : X → Field) (k : Field → TableView → Type 0) (x : Field-F X)
+    → field_step X v (λ p. k (v p)) x ≡ field_step Field (λ y. y) k (map-Field X Field v x)
 natural X v k x = λ i t.
     (text_at t 0 ≡ Ok x.name) × (flag_at t 1 ≡ Ok x.nullable) × (type_at t ≡ Ok x.kind) × (dictionary_at t ≡ Ok x.dictionary)
     × VectorAt PairAt x.metadata t 6 × ((es : Elements) × (vector_at t 5 ≡ Ok es) × tables_map v k es.bytes es.at es.len x.children i)
@@ -106,7 +110,8 @@ natural X v k x = λ i t.
 pub field_roll : (x : Field-F Field) → FieldAt (roll-Field x) ≡ field_step Field (λ y. y) FieldAt x
 field_roll x = rec-roll-Field (TableView → Type 0) field_step natural x
 
-pub fields_sound : (f : TableView → Reading Field) → Sound f FieldAt → (t : TableView) (k : ℕ) (left after : Budget) (fs : List Field) → fields_read f t k left ≡ Ok (fs, after) → VectorAt FieldAt fs t k
+pub fields_sound : (f : TableView → Reading Field) → Sound f FieldAt → (t : TableView) (k : ℕ) (left after : Budget) (fs : List Field)
+    → fields_read f t k left ≡ Ok (fs, after) → VectorAt FieldAt fs t k
 unfolding fields_read
 fields_sound f s t k left after fs h =
     let v = bind_ok (vector_at t k) _ _ h in
@@ -123,7 +128,14 @@ field_sound (suc d) t left after x h =
     let o = bind_ok (dictionary_at t) _ _ κ.2 in
     let pairs = bind_ok (pairs_read t 6 κ.0.1) _ _ o.2 in
     let children = bind_ok (fields_read (field_read d) t 5 pairs.0.1) _ _ pairs.2 in
-    let y : Field-F Field = record { name = name.0.0; nullable = nullable.0; kind = κ.0.0; dictionary = o.0; children = children.0.0; metadata = pairs.0.0 } in
+    let y : Field-F Field = record {
+      name = name.0.0;
+      nullable = nullable.0;
+      kind = κ.0.0;
+      dictionary = o.0;
+      children = children.0.0;
+      metadata = pairs.0.0;
+    } in
     let e = left_parts (roll-Field y) x children.0.1 after children.2 in
     let here : field_step Field (λ z. z) FieldAt y t = (
       text_sound t 0 left name.0.1 name.0.0 name.1,
@@ -151,7 +163,8 @@ pub batch_sound : (t : TableView) (batch : BatchHead) → batch_read t ≡ Ok ba
 unfolding batch_read
 batch_sound t batch h =
     let o = bind_ok (lift (field t 3 table_from)) _ _ h in
-    let plain = plain_ok o.0 (lift (scalar t 0 8 int64 (pos 0)) >>= λ n. numbers_at t 1 >>= λ nodes. numbers_at t 2 >>= λ buffers. Ok (record { length = n; nodes = nodes; buffers = buffers })) batch o.2 in
+    let plain = plain_ok o.0 (lift (scalar t 0 8 int64 (pos 0)) >>= λ n. numbers_at t 1 >>= λ nodes. numbers_at t 2
+    >>= λ buffers. Ok (record { length = n; nodes = nodes; buffers = buffers })) batch o.2 in
     let n = bind_ok (lift (scalar t 0 8 int64 (pos 0))) _ _ plain.1 in
     let nodes = bind_ok (numbers_at t 1) _ _ n.2 in
     let buffers = bind_ok (numbers_at t 2) _ _ nodes.2 in

@@ -47,9 +47,14 @@ less_fields_spent n left after h =
 
 -- one after another
 joined : (l m n : Budget) (a b c x y z : ℕ) → Spent l m a b c → Spent m n x y z → Spent l n (a + x) (b + y) (c + z)
-joined l m n a b c x y z h k = record { fields = omega (arith, h.fields, k.fields); text = omega (arith, h.text, k.text); pairs = omega (arith, h.pairs, k.pairs) }
+joined l m n a b c x y z h k = record {
+  fields = omega (arith, h.fields, k.fields);
+  text = omega (arith, h.text, k.text);
+  pairs = omega (arith, h.pairs, k.pairs);
+}
 
-pub text_spent : (t : TableView) (k : ℕ) (left : Budget) (x : List ℕ × Budget) → text_read t k left ≡ Ok x → Spent left x.1 0 (text_in t k) 0
+pub text_spent : (t : TableView) (k : ℕ) (left : Budget) (x : List ℕ × Budget) → text_read t k left ≡ Ok x
+    → Spent left x.1 0 (text_in t k) 0
 unfolding text_read
 text_spent t k left x h =
     let a = bind_ok (text_at t k) _ x h in
@@ -58,18 +63,24 @@ text_spent t k left x h =
     let size : text_in t k ≡ length a.0 = ap (or_zero length) a.1 in
     subst (λ m. Spent left m 0 (text_in t k) 0) e.1 (rw size (less_text_spent (length a.0) left l.0 l.1))
 
-pub pair_spent : (t : TableView) (left : Budget) (x : (List ℕ × List ℕ) × Budget) → pair_read t left ≡ Ok x → Spent left x.1 0 (pair_text_in t) 0
+pub pair_spent : (t : TableView) (left : Budget) (x : (List ℕ × List ℕ) × Budget) → pair_read t left ≡ Ok x
+    → Spent left x.1 0 (pair_text_in t) 0
 unfolding pair_read
 pair_spent t left x h =
     let k = bind_ok (text_read t 0 left) _ x h in
     let v = bind_ok (text_read t 1 k.0.1) _ x k.2 in
     let e = left_parts (k.0.0, v.0.0) x.0 v.0.1 x.1 v.2 in
-    subst (λ m. Spent left m 0 (pair_text_in t) 0) e.1 (joined left k.0.1 v.0.1 0 (text_in t 0) 0 0 (text_in t 1) 0 (text_spent t 0 left k.0 k.1) (text_spent t 1 k.0.1 v.0 v.1))
+    subst (λ m. Spent left m 0 (pair_text_in t) 0) e.1
+    (joined left k.0.1 v.0.1 0 (text_in t 0) 0 0 (text_in t 1) 0 (text_spent t 0 left k.0 k.1) (text_spent t 1 k.0.1 v.0 v.1))
 
-pub each_spent : {X : Type 0} (g : TableView → Reading X) (wa wb wc : TableView → ℕ) → ((t : TableView) (left : Budget) (x : X × Budget) → g t left ≡ Ok x → Spent left x.1 (wa t) (wb t) (wc t))
-    → (z : List ℕ) (n p : ℕ) (left : Budget) (x : List X × Budget) → each g z p n left ≡ Ok x → Spent left x.1 (sum_tables wa z p n) (sum_tables wb z p n) (sum_tables wc z p n)
+pub each_spent : {X : Type 0} (g : TableView → Reading X) (wa wb wc : TableView → ℕ)
+    → ((t : TableView) (left : Budget) (x : X × Budget) → g t left ≡ Ok x → Spent left x.1 (wa t) (wb t) (wc t))
+    → (z : List ℕ) (n p : ℕ) (left : Budget) (x : List X × Budget) → each g z p n left ≡ Ok x
+    → Spent left x.1 (sum_tables wa z p n) (sum_tables wb z p n) (sum_tables wc z p n)
 unfolding each sum_tables
-each_spent g wa wb wc s z zero p left x h = let e = left_parts [] x.0 left x.1 h in subst (λ m. Spent left m 0 0 0) e.1 (record { fields = omega arith; text = omega arith; pairs = omega arith })
+each_spent g wa wb wc s z zero p left x h = let e =
+    left_parts [] x.0 left x.1 h in subst (λ m. Spent left m 0 0 0) e.1
+    (record { fields = omega arith; text = omega arith; pairs = omega arith })
 each_spent g wa wb wc s z (suc n) p left x h =
     let a = bind_ok (lift (table_from z p)) _ x h in
     let c = bind_ok (g a.0 left) _ x a.2 in
@@ -77,24 +88,29 @@ each_spent g wa wb wc s z (suc n) p left x h =
     let e = left_parts (c.0.0 ∷ r.0.0) x.0 r.0.1 x.1 r.2 in
     let there = each_spent g wa wb wc s z n (p + 4) c.0.1 r.0 r.1 in
     rw (lift_ok (table_from z p) a.0 a.1)
-    (subst (λ m. Spent left m (wa a.0 + sum_tables wa z (p + 4) n) (wb a.0 + sum_tables wb z (p + 4) n) (wc a.0 + sum_tables wc z (p + 4) n)) e.1
-    (joined left c.0.1 r.0.1 (wa a.0) (wb a.0) (wc a.0) (sum_tables wa z (p + 4) n) (sum_tables wb z (p + 4) n) (sum_tables wc z (p + 4) n) (s a.0 left c.0 c.1) there))
+    (subst (λ m. Spent left m (wa a.0 + sum_tables wa z (p + 4) n) (wb a.0 + sum_tables wb z (p + 4) n)
+    (wc a.0 + sum_tables wc z (p + 4) n)) e.1
+    (joined left c.0.1 r.0.1 (wa a.0) (wb a.0) (wc a.0) (sum_tables wa z (p + 4) n) (sum_tables wb z (p + 4) n) (sum_tables wc z (p + 4) n)
+    (s a.0 left c.0 c.1) there))
 
 pub sum_none : (z : List ℕ) (n p : ℕ) → sum_tables (λ u. 0) z p n ≡ 0
 unfolding sum_tables
 sum_none z zero p = refl
 sum_none z (suc n) p = go (table_from z p) (sum_none z n (p + 4))
   where
-    go : {E : Type 0} (r : Result TableView E) → sum_tables (λ u. 0) z (p + 4) n ≡ 0 → or_zero (λ u. 0) r + sum_tables (λ u. 0) z (p + 4) n ≡ 0
+    go : {E : Type 0} (r : Result TableView E) → sum_tables (λ u. 0) z (p + 4) n ≡ 0
+        → or_zero (λ u. 0) r + sum_tables (λ u. 0) z (p + 4) n ≡ 0
     go (Ok u) h = omega (arith, h)
     go (Err e) h = omega (arith, h)
 
-pub pairs_spent : (t : TableView) (k : ℕ) (left : Budget) (x : List (List ℕ × List ℕ) × Budget) → pairs_read t k left ≡ Ok x → Spent left x.1 0 (sum_in pair_text_in t k) (count_in t k)
+pub pairs_spent : (t : TableView) (k : ℕ) (left : Budget) (x : List (List ℕ × List ℕ) × Budget) → pairs_read t k left ≡ Ok x
+    → Spent left x.1 0 (sum_in pair_text_in t k) (count_in t k)
 unfolding pairs_read
 pairs_spent t k left x h =
     let v = bind_ok (vector_at t k) _ x h in
     let l = bind_ok (less_pairs v.0.len left) _ x v.2 in
-    let sum : sum_in pair_text_in t k ≡ sum_tables pair_text_in v.0.bytes v.0.at v.0.len = ap (or_zero (λ es. sum_tables pair_text_in es.bytes es.at es.len)) v.1 in
+    let sum : sum_in pair_text_in t k ≡ sum_tables pair_text_in v.0.bytes v.0.at v.0.len =
+    ap (or_zero (λ es. sum_tables pair_text_in es.bytes es.at es.len)) v.1 in
     let many : count_in t k ≡ v.0.len = ap (or_zero (λ es. es.len)) v.1 in
     let first = less_pairs_spent v.0.len left l.0 l.1 in
     let rest = each_spent pair_read (λ u. 0) pair_text_in (λ u. 0) pair_spent v.0.bytes v.0.len v.0.at l.0 x l.2 in
@@ -105,7 +121,8 @@ pairs_spent t k left x h =
       pairs = omega (arith, first.pairs, rest.pairs, none, many);
     }
 
-pub type_spent : (t : TableView) (left : Budget) (x : DataType × Budget) → type_read t left ≡ Ok x → Spent left x.1 0 (or_zero kind_text (type_at t)) 0
+pub type_spent : (t : TableView) (left : Budget) (x : DataType × Budget) → type_read t left ≡ Ok x
+    → Spent left x.1 0 (or_zero kind_text (type_at t)) 0
 unfolding type_read
 type_spent t left x h =
     let a = bind_ok (type_at t) _ x h in
@@ -114,8 +131,10 @@ type_spent t left x h =
     let size : or_zero kind_text (type_at t) ≡ kind_text a.0 = ap (or_zero kind_text) a.1 in
     subst (λ m. Spent left m 0 (or_zero kind_text (type_at t)) 0) e.1 (rw size (less_text_spent (kind_text a.0) left l.0 l.1))
 
-pub fields_spent : (g : TableView → Reading Field) (wa wb wc : TableView → ℕ) → ((t : TableView) (left : Budget) (x : Field × Budget) → g t left ≡ Ok x → Spent left x.1 (wa t) (wb t) (wc t))
-    → (t : TableView) (k : ℕ) (left : Budget) (x : List Field × Budget) → fields_read g t k left ≡ Ok x → Spent left x.1 (count_in t k + sum_in wa t k) (sum_in wb t k) (sum_in wc t k)
+pub fields_spent : (g : TableView → Reading Field) (wa wb wc : TableView → ℕ)
+    → ((t : TableView) (left : Budget) (x : Field × Budget) → g t left ≡ Ok x → Spent left x.1 (wa t) (wb t) (wc t))
+    → (t : TableView) (k : ℕ) (left : Budget) (x : List Field × Budget) → fields_read g t k left ≡ Ok x
+    → Spent left x.1 (count_in t k + sum_in wa t k) (sum_in wb t k) (sum_in wc t k)
 unfolding fields_read
 fields_spent g wa wb wc s t k left x h =
     let v = bind_ok (vector_at t k) _ x h in
@@ -139,7 +158,8 @@ children_in u = count_in u 5
 abbrev pub pairs_in : TableView → ℕ
 pairs_in u = count_in u 6
 
-pub field_spent : (d : ℕ) (t : TableView) (left : Budget) (x : Field × Budget) → field_read d t left ≡ Ok x → Spent left x.1 (tree children_in d t) (tree own_text d t) (tree pairs_in d t)
+pub field_spent : (d : ℕ) (t : TableView) (left : Budget) (x : Field × Budget) → field_read d t left ≡ Ok x
+    → Spent left x.1 (tree children_in d t) (tree own_text d t) (tree pairs_in d t)
 unfolding field_read tree
 field_spent zero t left x h = absurd (cc)
 field_spent (suc d) t left x h =
@@ -154,7 +174,8 @@ field_spent (suc d) t left x h =
     let b = type_spent t name.0.1 κ.0 κ.1 in
     let c = pairs_spent t 6 κ.0.1 ps.0 ps.1 in
     let f = fields_spent (field_read d) (tree children_in d) (tree own_text d) (tree pairs_in d) (field_spent d) t 5 ps.0.1 cs.0 cs.1 in
-    subst (λ m. Spent left m (children_in t + sum_in (tree children_in d) t 5) (own_text t + sum_in (tree own_text d) t 5) (pairs_in t + sum_in (tree pairs_in d) t 5)) e.1
+    subst (λ m. Spent left m (children_in t + sum_in (tree children_in d) t 5) (own_text t + sum_in (tree own_text d) t 5)
+    (pairs_in t + sum_in (tree pairs_in d) t 5)) e.1
     (record {
       fields = omega (arith, a.fields, b.fields, c.fields, f.fields);
       text = omega (arith, a.text, b.text, c.text, f.text);

@@ -12,7 +12,8 @@ use Rattle.ipc_flat.specs.Views.{TableView, table_from, field, elements_from, st
 abbrev pub NoText : {X : Type 0} → Result X FlatFault → Type 0
 NoText r = r ≡ Err NotUtf8 → ⊥
 
-both : {A B : Type 0} (r : Result A FlatFault) (next : A → Result B FlatFault) → NoText r → ((x : A) → NoText (next x)) → NoText (r >>= next)
+both : {A B : Type 0} (r : Result A FlatFault) (next : A → Result B FlatFault) → NoText r → ((x : A) → NoText (next x))
+    → NoText (r >>= next)
 both (Ok x) next here there h = there x h
 both (Err e) next here there h = let same : e ≡ NotUtf8 = cc in here (ap Err same)
 
@@ -22,7 +23,8 @@ tested false e x other h = let same : e ≡ NotUtf8 = cc in other same
 
 no_vtable : (b : List ℕ) (t : ℕ) → NoText (vtable_of b t)
 unfolding vtable_of
-no_vtable b t = both (ok_if (nat_le (t + 4) (length b)) OutOfBounds (back_of t (int32 b t))) (vtable_behind b) (tested _ OutOfBounds _ (λ h. cc)) go
+no_vtable b t = both (ok_if (nat_le (t + 4) (length b)) OutOfBounds (back_of t (int32 b t))) (vtable_behind b)
+    (tested _ OutOfBounds _ (λ h. cc)) go
   where
     go : (o : Option ℕ) → NoText (vtable_behind b o)
     go None h = cc
@@ -52,7 +54,8 @@ no_points b p = both (ok_if (nat_le (p + 4) (length b)) OutOfBounds (num b p 4))
 
 pub no_table_from : (b : List ℕ) (p : ℕ) → NoText (table_from b p)
 unfolding table_from table_of
-no_table_from b p = both (points b p >>= λ t. vtable_of b t >>= λ v. Ok t) _ (both (points b p) _ (no_points b p) (λ t. both (vtable_of b t) _ (no_vtable b t) (λ v h. cc))) (λ t h. cc)
+no_table_from b p = both (points b p >>= λ t. vtable_of b t >>= λ v. Ok t) _
+    (both (points b p) _ (no_points b p) (λ t. both (vtable_of b t) _ (no_vtable b t) (λ v h. cc))) (λ t h. cc)
 
 no_elements : (b : List ℕ) (p width : ℕ) → NoText (elements_of b p width)
 unfolding elements_of
@@ -69,7 +72,8 @@ no_structs_from : (width : ℕ) (b : List ℕ) (p : ℕ) → NoText (structs_fro
 unfolding structs_from
 no_structs_from width b p = both (elements_of b p width) _ (no_elements b p width) (λ e h. cc)
 
-no_field : {X : Type 0} (t : TableView) (k : ℕ) (f : List ℕ → ℕ → Result X FlatFault) → ((p : ℕ) → NoText (f t.bytes p)) → NoText (field t k f)
+no_field : {X : Type 0} (t : TableView) (k : ℕ) (f : List ℕ → ℕ → Result X FlatFault) → ((p : ℕ) → NoText (f t.bytes p))
+    → NoText (field t k f)
 unfolding field
 no_field t k f other = both (slot_of t.bytes t.at k 4) _ (no_slot t.bytes t.at k 4) go
   where

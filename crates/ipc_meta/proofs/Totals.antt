@@ -11,7 +11,8 @@ use Rattle.ipc_meta.specs.Budgets.{less_fields}
 use Rattle.ipc_meta.specs.Tables.{flag_at, vector_at, type_at, dictionary_at}
 use Rattle.ipc_meta.specs.Fields.{TablesAt, VectorAt, PairAt}
 use Rattle.ipc_meta.specs.Reading.{text_read, pairs_read, type_read, fields_read, field_read}
-use Rattle.ipc_meta.specs.Totals.{or_zero, sum_tables, count_in, sum_in, text_in, pair_text_in, own_text, tree, fields_stated, text_stated, pairs_stated}
+use Rattle.ipc_meta.specs.Totals.{or_zero, sum_tables, count_in, sum_in, text_in, pair_text_in, own_text, tree, fields_stated, text_stated}
+use Rattle.ipc_meta.specs.Totals.{pairs_stated}
 use Rattle.ipc_meta.proofs.Sound.{Sound, bind_ok, left_parts, each_sound, text_sound, type_sound, pairs_sound}
 use Rattle.ipc_meta.proofs.Entries.{tables_are}
 use Rattle.ipc_meta.proofs.Spent.{children_in, pairs_in}
@@ -38,10 +39,13 @@ pair_count t k ps h = ap (or_zero (λ es. es.len)) h.1 ∙ tables_are PairAt h.0
 
 -- a field with its descendants has what the table states, within so many levels
 abbrev SumsAre : ℕ → Field → TableView → Type 0
-SumsAre n f u = (d : ℕ) → (length (preorder f d) ≡ 1 + tree children_in n u) × (text_of (preorder f d) ≡ tree own_text n u) × (pairs_of (preorder f d) ≡ tree pairs_in n u)
+SumsAre n f u = (d : ℕ) → (length (preorder f d) ≡ 1 + tree children_in n u) × (text_of (preorder f d) ≡ tree own_text n u)
+    × (pairs_of (preorder f d) ≡ tree pairs_in n u)
 
 each_sums : (n : ℕ) (z : List ℕ) (fs : List Field) (p k : ℕ) → TablesAt (SumsAre n) z p k fs → (d : ℕ)
-    → (length (all_at d (map preorder fs)) ≡ length fs + sum_tables (tree children_in n) z p k) × (text_of (all_at d (map preorder fs)) ≡ sum_tables (tree own_text n) z p k) × (pairs_of (all_at d (map preorder fs)) ≡ sum_tables (tree pairs_in n) z p k)
+    → (length (all_at d (map preorder fs)) ≡ length fs + sum_tables (tree children_in n) z p k)
+    × (text_of (all_at d (map preorder fs)) ≡ sum_tables (tree own_text n) z p k)
+    × (pairs_of (all_at d (map preorder fs)) ≡ sum_tables (tree pairs_in n) z p k)
 unfolding sum_tables
 each_sums n z [] p k h d = rw h (refl, refl, refl)
 each_sums n z (f ∷ fs) p k h d =
@@ -55,17 +59,23 @@ each_sums n z (f ∷ fs) p k h d =
 
 -- the same of the fields of a vector
 vector_sums : (n : ℕ) (t : TableView) (k : ℕ) (fs : List Field) → VectorAt (SumsAre n) fs t k → (d : ℕ)
-    → (length (all_at d (map preorder fs)) ≡ count_in t k + sum_in (tree children_in n) t k) × (text_of (all_at d (map preorder fs)) ≡ sum_in (tree own_text n) t k) × (pairs_of (all_at d (map preorder fs)) ≡ sum_in (tree pairs_in n) t k)
+    → (length (all_at d (map preorder fs)) ≡ count_in t k + sum_in (tree children_in n) t k)
+    × (text_of (all_at d (map preorder fs)) ≡ sum_in (tree own_text n) t k)
+    × (pairs_of (all_at d (map preorder fs)) ≡ sum_in (tree pairs_in n) t k)
 vector_sums n t k fs h d =
     let many = tables_are (SumsAre n) h.0.bytes fs h.0.at h.0.len h.2 in
     let sums = each_sums n h.0.bytes fs h.0.at h.0.len h.2 d in
     let number : count_in t k ≡ h.0.len = ap (or_zero (λ es. es.len)) h.1 in
-    let sum_a : sum_in (tree children_in n) t k ≡ sum_tables (tree children_in n) h.0.bytes h.0.at h.0.len = ap (or_zero (λ es. sum_tables (tree children_in n) es.bytes es.at es.len)) h.1 in
-    let sum_b : sum_in (tree own_text n) t k ≡ sum_tables (tree own_text n) h.0.bytes h.0.at h.0.len = ap (or_zero (λ es. sum_tables (tree own_text n) es.bytes es.at es.len)) h.1 in
-    let sum_c : sum_in (tree pairs_in n) t k ≡ sum_tables (tree pairs_in n) h.0.bytes h.0.at h.0.len = ap (or_zero (λ es. sum_tables (tree pairs_in n) es.bytes es.at es.len)) h.1 in
+    let sum_a : sum_in (tree children_in n) t k ≡ sum_tables (tree children_in n) h.0.bytes h.0.at h.0.len =
+    ap (or_zero (λ es. sum_tables (tree children_in n) es.bytes es.at es.len)) h.1 in
+    let sum_b : sum_in (tree own_text n) t k ≡ sum_tables (tree own_text n) h.0.bytes h.0.at h.0.len =
+    ap (or_zero (λ es. sum_tables (tree own_text n) es.bytes es.at es.len)) h.1 in
+    let sum_c : sum_in (tree pairs_in n) t k ≡ sum_tables (tree pairs_in n) h.0.bytes h.0.at h.0.len =
+    ap (or_zero (λ es. sum_tables (tree pairs_in n) es.bytes es.at es.len)) h.1 in
     (omega (arith, sums.0, many, number, sum_a), sums.1 ∙ sym sum_b, sums.2 ∙ sym sum_c)
 
-fields_sums : (n : ℕ) → Sound (field_read n) (SumsAre n) → (t : TableView) (k : ℕ) (left after : Budget) (fs : List Field) → fields_read (field_read n) t k left ≡ Ok (fs, after) → VectorAt (SumsAre n) fs t k
+fields_sums : (n : ℕ) → Sound (field_read n) (SumsAre n) → (t : TableView) (k : ℕ) (left after : Budget) (fs : List Field)
+    → fields_read (field_read n) t k left ≡ Ok (fs, after) → VectorAt (SumsAre n) fs t k
 unfolding fields_read
 fields_sums n s t k left after fs h =
     let v = bind_ok (vector_at t k) _ _ h in
@@ -79,8 +89,11 @@ text_sum : (a b c x y z u v : ℕ) → a ≡ x → b ≡ y → c ≡ z → u ≡
 text_sum a b c x y z u v h k l m = omega arith
 
 -- a field's own entry before those of its children
-rolled_sums : (n : ℕ) (y : Field-F Field) (t : TableView) → text_in t 0 ≡ length y.name → or_zero kind_text (type_at t) ≡ kind_text y.kind → sum_in pair_text_in t 6 ≡ pair_text y.metadata → count_in t 6 ≡ length y.metadata
-    → ((d : ℕ) → (length (all_at d (map preorder y.children)) ≡ count_in t 5 + sum_in (tree children_in n) t 5) × (text_of (all_at d (map preorder y.children)) ≡ sum_in (tree own_text n) t 5) × (pairs_of (all_at d (map preorder y.children)) ≡ sum_in (tree pairs_in n) t 5))
+rolled_sums : (n : ℕ) (y : Field-F Field) (t : TableView) → text_in t 0 ≡ length y.name → or_zero kind_text (type_at t) ≡ kind_text y.kind
+    → sum_in pair_text_in t 6 ≡ pair_text y.metadata → count_in t 6 ≡ length y.metadata
+    → ((d : ℕ) → (length (all_at d (map preorder y.children)) ≡ count_in t 5 + sum_in (tree children_in n) t 5)
+    × (text_of (all_at d (map preorder y.children)) ≡ sum_in (tree own_text n) t 5)
+    × (pairs_of (all_at d (map preorder y.children)) ≡ sum_in (tree pairs_in n) t 5))
     → SumsAre (suc n) (roll-Field y) t
 unfolding tree
 rolled_sums n y t title zone words number children d =
@@ -89,11 +102,14 @@ rolled_sums n y t title zone words number children d =
     let head = entry_of (map-Field Field Listing preorder y) d in
     let below = all_at (d + 1) (map preorder y.children) in
     let text : text_of (head ∷ below) ≡ own_text t + sum_in (tree own_text n) t 5
-    = sum_by-cons (λ (e : Entry). e.text) head below ∙ text_sum (text_in t 0) (or_zero kind_text (type_at t)) (sum_in pair_text_in t 6) _ _ _ _ _ title zone words sums.1 in
+    = sum_by-cons (λ (e : Entry). e.text) head below
+    ∙ text_sum (text_in t 0) (or_zero kind_text (type_at t)) (sum_in pair_text_in t 6) _ _ _ _ _ title zone words sums.1 in
     let pairs : pairs_of (head ∷ below) ≡ pairs_in t + sum_in (tree pairs_in n) t 5
     = sum_by-cons (λ (e : Entry). e.pairs) head below ∙ (ap (λ k. k + pairs_of below) (sym number) ∙ ap (λ k. pairs_in t + k) sums.2) in
     let count : length (head ∷ below) ≡ 1 + (children_in t + sum_in (tree children_in n) t 5) = one_more (length below) _ sums.0 in
-    subst (λ (l : Listing). (length (l d) ≡ 1 + (children_in t + sum_in (tree children_in n) t 5)) × (text_of (l d) ≡ own_text t + sum_in (tree own_text n) t 5) × (pairs_of (l d) ≡ pairs_in t + sum_in (tree pairs_in n) t 5)) (sym rolled)
+    subst (λ (l : Listing). (length (l d) ≡ 1 + (children_in t + sum_in (tree children_in n) t 5))
+    × (text_of (l d) ≡ own_text t + sum_in (tree own_text n) t 5) × (pairs_of (l d) ≡ pairs_in t + sum_in (tree pairs_in n) t 5))
+    (sym rolled)
     (count, text, pairs)
 
 field_sums : (n : ℕ) → Sound (field_read n) (SumsAre n)
@@ -106,13 +122,21 @@ field_sums (suc n) t left after x h =
     let o = bind_ok (dictionary_at t) _ _ κ.2 in
     let ps = bind_ok (pairs_read t 6 κ.0.1) _ _ o.2 in
     let cs = bind_ok (fields_read (field_read n) t 5 ps.0.1) _ _ ps.2 in
-    let y : Field-F Field = record { name = name.0.0; nullable = nullable.0; kind = κ.0.0; dictionary = o.0; children = cs.0.0; metadata = ps.0.0 } in
+    let y : Field-F Field = record {
+      name = name.0.0;
+      nullable = nullable.0;
+      kind = κ.0.0;
+      dictionary = o.0;
+      children = cs.0.0;
+      metadata = ps.0.0;
+    } in
     let e = left_parts (roll-Field y) x cs.0.1 after cs.2 in
     let title : text_in t 0 ≡ length name.0.0 = ap (or_zero length) (text_sound t 0 left name.0.1 name.0.0 name.1) in
     let zone : or_zero kind_text (type_at t) ≡ kind_text κ.0.0 = ap (or_zero kind_text) (type_sound t name.0.1 κ.0.1 κ.0.0 κ.1) in
     let pairs = pairs_sound t 6 κ.0.1 ps.0.1 ps.0.0 ps.1 in
     let children = fields_sums n (field_sums n) t 5 ps.0.1 cs.0.1 cs.0.0 cs.1 in
-    subst (λ f. SumsAre (suc n) f t) e.0 (rolled_sums n y t title zone (pair_total t 6 ps.0.0 pairs) (pair_count t 6 ps.0.0 pairs) (vector_sums n t 5 cs.0.0 children))
+    subst (λ f. SumsAre (suc n) f t) e.0 (rolled_sums n y t title zone (pair_total t 6 ps.0.0 pairs) (pair_count t 6 ps.0.0 pairs)
+    (vector_sums n t 5 cs.0.0 children))
 
 -- a schema that was read has what its table states
 pub record Totals (t : TableView) (fs : List Field) (own : List (List ℕ × List ℕ)) : Type 0 where
@@ -120,7 +144,8 @@ pub record Totals (t : TableView) (fs : List Field) (own : List (List ℕ × Lis
   pub text : pair_text own + text_of (entries fs) ≡ text_stated t
   pub pairs : length own + pairs_of (entries fs) ≡ pairs_stated t
 
-pub schema_totals : (t : TableView) (left mid after : Budget) (fs : List Field) (own : List (List ℕ × List ℕ)) → pairs_read t 2 left ≡ Ok (own, mid) → fields_read (field_read 64) t 1 mid ≡ Ok (fs, after) → Totals t fs own
+pub schema_totals : (t : TableView) (left mid after : Budget) (fs : List Field) (own : List (List ℕ × List ℕ))
+    → pairs_read t 2 left ≡ Ok (own, mid) → fields_read (field_read 64) t 1 mid ≡ Ok (fs, after) → Totals t fs own
 schema_totals t left mid after fs own p h =
     let ps = pairs_sound t 2 left mid own p in
     let sums = vector_sums 64 t 1 fs (fields_sums 64 (field_sums 64) t 1 mid after fs h) 1 in

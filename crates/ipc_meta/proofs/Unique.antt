@@ -58,8 +58,10 @@ batch_one t a b h k = ok_same (batch_read t) a b (batch_complete t a h) (batch_c
 
 pub dictionary_same : (t : TableView) (i j : ℤ) (a b : BatchHead) → DictionaryAt t i a → DictionaryAt t j b → (i ≡ j) × (a ≡ b)
 dictionary_same t i j a b h k =
-    let tables = table_same (field t 1 table_from) h.values.0 k.values.0 h.values.1 k.values.1 in
-    (ok_same (scalar t 0 8 int64 (pos 0)) i j h.named k.named, batch_one k.values.0 a b (subst (λ u. BatchAt u a) tables h.values.2) k.values.2)
+    let tables = table_same (field t 1 table_from) h.values.0 k.values.0 h.values.1 k.values.1 in (
+      ok_same (scalar t 0 8 int64 (pos 0)) i j h.named k.named,
+      batch_one k.values.0 a b (subst (λ u. BatchAt u a) tables h.values.2) k.values.2,
+    )
 
 -- the code of a head
 abbrev pub code_of : Head → ℕ
@@ -73,7 +75,8 @@ Stated t (head.Schema s) = SchemaAt t s
 Stated t (head.Dictionary id batch) = DictionaryAt t id batch
 Stated t (head.Batch batch) = BatchAt t batch
 
-pub header_parts : (root : TableView) (h : Head) → HeaderAt root h → (scalar root 1 1 byte 0 ≡ Ok (code_of h)) × ((t : TableView) × (field root 2 table_from ≡ Ok (Some t)) × Stated t h)
+pub header_parts : (root : TableView) (h : Head) → HeaderAt root h
+    → (scalar root 1 1 byte 0 ≡ Ok (code_of h)) × ((t : TableView) × (field root 2 table_from ≡ Ok (Some t)) × Stated t h)
 header_parts root (head.Schema s) a = a
 header_parts root (head.Dictionary id batch) a = a
 header_parts root (head.Batch batch) a = a
@@ -107,8 +110,10 @@ pos_same m n h = ap nat_of h
 pub head_same : (metadata : List ℕ) (g h : Head) (m n : ℕ) → HeadOf metadata g m → HeadOf metadata h n → (g ≡ h) × (m ≡ n)
 head_same metadata g h m n a b =
     let roots = ok_same (table_from metadata 0) a.root b.root a.stands b.stands in
-    let body : scalar b.root 3 8 int64 (pos 0) ≡ Ok (pos m) = subst (λ r. scalar r 3 8 int64 (pos 0) ≡ Ok (pos m)) roots a.body in
-    (header_same b.root g h (subst (λ r. HeaderAt r g) roots a.header) b.header, pos_same m n (ok_same (scalar b.root 3 8 int64 (pos 0)) (pos m) (pos n) body b.body))
+    let body : scalar b.root 3 8 int64 (pos 0) ≡ Ok (pos m) = subst (λ r. scalar r 3 8 int64 (pos 0) ≡ Ok (pos m)) roots a.body in (
+      header_same b.root g h (subst (λ r. HeaderAt r g) roots a.header) b.header,
+      pos_same m n (ok_same (scalar b.root 3 8 int64 (pos 0)) (pos m) (pos n) body b.body),
+    )
 
 -- ---- where a part is refused that is stated, memory ran out
 
@@ -149,28 +154,34 @@ schema_refused root t e (head.Schema s) c f bad a =
     let tables = table_same (field root 2 table_from) a.1.0 t a.1.1 f in
     refused e (Ok s) s (head.Schema s) refl (bad s (subst (λ u. SchemaAt u s) tables a.1.2))
 
-pub fields_refused : (t : TableView) (s : Schema) (e : Fault) (ps : List (List ℕ × List ℕ)) (l : Budget) → SchemaAt t s → pairs_read t 2 (budget 65536 67108864 1048576) ≡ Ok (ps, l)
+pub fields_refused : (t : TableView) (s : Schema) (e : Fault) (ps : List (List ℕ × List ℕ)) (l : Budget) → SchemaAt t s
+    → pairs_read t 2 (budget 65536 67108864 1048576) ≡ Ok (ps, l)
     → Fails e (fields_read (field_read 64) t 1 l) → Fails e (Ok s)
 fields_refused t s e ps l h p bad =
     let a = schema_complete t s h in
     let same = left_parts s.metadata ps a.mid l (sym a.pairs ∙ p) in
-    refused e (fields_read (field_read 64) t 1 l) (s.fields, a.after) s (subst (λ z. fields_read (field_read 64) t 1 z ≡ Ok (s.fields, a.after)) same.1 a.fields) bad
+    refused e (fields_read (field_read 64) t 1 l) (s.fields, a.after) s
+    (subst (λ z. fields_read (field_read 64) t 1 z ≡ Ok (s.fields, a.after)) same.1 a.fields) bad
 
 abbrev schema_of : List Field → List (List ℕ × List ℕ) → Schema
 schema_of fs ps = record { fields = fs; metadata = ps }
 
-pub check_refused : (t : TableView) (s : Schema) (e : SchemaFault) (fs : List Field) (ps : List (List ℕ × List ℕ)) (l m : Budget) → SchemaAt t s
+pub check_refused : (t : TableView) (s : Schema) (e : SchemaFault) (fs : List Field) (ps : List (List ℕ × List ℕ)) (l m : Budget)
+    → SchemaAt t s
     → pairs_read t 2 (budget 65536 67108864 1048576) ≡ Ok (ps, l) → fields_read (field_read 64) t 1 l ≡ Ok (fs, m)
     → ((e ≡ check.OutOfMemory → ⊥) → WellFormed (schema_of fs ps) → ⊥) → Fails (reader_fault e) (Ok s)
 check_refused t s e fs ps l m h p q bad =
     let a = schema_complete t s h in
     let x = left_parts s.metadata ps a.mid l (sym a.pairs ∙ p) in
-    let read : fields_read (field_read 64) t 1 l ≡ Ok (s.fields, a.after) = subst (λ z. fields_read (field_read 64) t 1 z ≡ Ok (s.fields, a.after)) x.1 a.fields in
+    let read : fields_read (field_read 64) t 1 l ≡ Ok (s.fields, a.after) =
+    subst (λ z. fields_read (field_read 64) t 1 z ≡ Ok (s.fields, a.after)) x.1 a.fields in
     let y = left_parts s.fields fs a.after m (sym read ∙ q) in
     let same : s ≡ schema_of fs ps = λ i. record { fields = y.0 i; metadata = x.0 i } in
     λ ne. absurd (bad (λ is. ne (ap reader_fault is)) (subst WellFormed same h.well_formed))
 
-pub values_refused : (t d : TableView) (id : ℤ) (batch : BatchHead) (e : Fault) → DictionaryAt t id batch → field t 1 table_from ≡ Ok (Some d) → Fails e (batch_read d) → Fails e (pair id batch)
+pub values_refused : (t d : TableView) (id : ℤ) (batch : BatchHead) (e : Fault) → DictionaryAt t id batch
+    → field t 1 table_from ≡ Ok (Some d) → Fails e (batch_read d) → Fails e (pair id batch)
 values_refused t d id batch e h f bad =
     let tables = table_same (field t 1 table_from) h.values.0 d h.values.1 f in
-    λ ne. let none : Ok batch ≡ Err e = sym (batch_complete d batch (subst (λ u. BatchAt u batch) tables h.values.2)) ∙ bad ne in absurd (cc)
+    λ ne. let none : Ok batch ≡ Err e =
+    sym (batch_complete d batch (subst (λ u. BatchAt u batch) tables h.values.2)) ∙ bad ne in absurd (cc)

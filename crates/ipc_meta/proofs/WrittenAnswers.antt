@@ -37,16 +37,19 @@ batch_is b m f g e h = e ∙ ap (λ (x : Tree). message_tree 3 x m) h
 pub lies_as : (b : List ℕ) (f g : Tree) → f ≡ g → ((rest : List ℕ) → Encodes (b ++ rest) f) → (rest : List ℕ) → Encodes (b ++ rest) g
 lies_as b f g e h rest = subst (λ (x : Tree). Encodes (b ++ rest) x) e (h rest)
 
-pub schema_states : (b : List ℕ) (s : Schema) (f : Tree) → WellFormed s → f ≡ schema_message s → ((rest : List ℕ) → Encodes (b ++ rest) f) → (rest : List ℕ) → HeadOf (b ++ rest) (head.Schema s) 0
+pub schema_states : (b : List ℕ) (s : Schema) (f : Tree) → WellFormed s → f ≡ schema_message s → ((rest : List ℕ) → Encodes (b ++ rest) f)
+    → (rest : List ℕ) → HeadOf (b ++ rest) (head.Schema s) 0
 schema_states b s f w e h rest = schema_stated (b ++ rest) s w (lies_as b f (schema_message s) e h rest)
 
 pub schema_room_is : (s : Schema) (f : Tree) → f ≡ schema_message s → room f ≡ schema_room s
 schema_room_is s f e = ap room e ∙ schema_needs s
 
-pub schema_refused : (s : Schema) (f : Tree) (fault : WriteFault) → f ≡ schema_message s → NoRoom f fault → (fault ≡ OutOfMemory) ⊎ ((fault ≡ TooLong) × (2 ^ 24 < schema_room s))
+pub schema_refused : (s : Schema) (f : Tree) (fault : WriteFault) → f ≡ schema_message s → NoRoom f fault
+    → (fault ≡ OutOfMemory) ⊎ ((fault ≡ TooLong) × (2 ^ 24 < schema_room s))
 schema_refused s f fault e h = subst (λ (n : ℕ). (fault ≡ OutOfMemory) ⊎ ((fault ≡ TooLong) × (2 ^ 24 < n))) (schema_room_is s f e) h
 
-pub batch_states : (b : List ℕ) (h : BatchHead) (m : ℕ) (f : Tree) → m ≤ 2 ^ 40 → f ≡ batch_message h m → ((rest : List ℕ) → Encodes (b ++ rest) f) → (rest : List ℕ) → HeadOf (b ++ rest) (head.Batch h) m
+pub batch_states : (b : List ℕ) (h : BatchHead) (m : ℕ) (f : Tree) → m ≤ 2 ^ 40 → f ≡ batch_message h m
+    → ((rest : List ℕ) → Encodes (b ++ rest) f) → (rest : List ℕ) → HeadOf (b ++ rest) (head.Batch h) m
 batch_states b h m f small e lies rest = batch_stated (b ++ rest) h m small (lies_as b f (batch_message h m) e lies rest)
 
 pub batch_room_is : (h : BatchHead) (m : ℕ) (f : Tree) → f ≡ batch_message h m → room f ≡ head_room h m

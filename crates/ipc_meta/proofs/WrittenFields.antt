@@ -34,7 +34,8 @@ Shown = (f : Field) × IsWritten f
 abbrev fields_of : List Shown → List Field
 fields_of cs = map (λ c. c.0) cs
 
-fine_parts : (xs ys : List Entry) → AllByRecursion IsFieldWellFormed (xs ++ ys) → AllByRecursion IsFieldWellFormed xs × AllByRecursion IsFieldWellFormed ys
+fine_parts : (xs ys : List Entry) → AllByRecursion IsFieldWellFormed (xs ++ ys)
+    → AllByRecursion IsFieldWellFormed xs × AllByRecursion IsFieldWellFormed ys
 fine_parts [] ys h = (tt, h)
 fine_parts (x ∷ xs) ys h = let p = fine_parts xs ys h.1 in ((h.0, p.0), p.1)
 
@@ -48,7 +49,8 @@ children_written (c ∷ cs) d fine b =
 -- a Field table by its parts
 abbrev tree_with : List ℕ → Bool → DataType → Option Dictionary → List Field → List (List ℕ × List ℕ) → Tree
 tree_with name nullable κ o cs ps =
-    with_text 0 name (with_byte 1 (flag nullable) (with_byte 2 (type_code κ) (with_table 3 (type_tree κ) (with_dictionary o (with_tables 5 (map field_tree cs) (with_pairs 6 ps))))))
+    with_text 0 name (with_byte 1 (flag nullable)
+    (with_byte 2 (type_code κ) (with_table 3 (type_tree κ) (with_dictionary o (with_tables 5 (map field_tree cs) (with_pairs 6 ps))))))
 
 abbrev PartsAt : List ℕ → Bool → DataType → Option Dictionary → List Field → List (List ℕ × List ℕ) → TableView → Type 0
 PartsAt name nullable κ o cs ps t =
@@ -59,8 +61,10 @@ no_dictionary : (b : List ℕ) (t : ℕ) → field (tab b t) 4 table_from ≡ Ok
 unfolding dictionary_at
 no_dictionary b t h = ap (λ (r : Result (Option TableView) FlatFault). lift r >>= dictionary_in) h
 
-parts_there : (b : List ℕ) (t : ℕ) (name : List ℕ) (nullable : Bool) (κ : DataType) (o : Option Dictionary) (cs : List Field) (ps : List (List ℕ × List ℕ)) → HasGoodType κ
-    → AllByRecursion (States field_tree FieldAt b) cs → Holds b t (tree_with name nullable κ o cs ps) → PartsAt name nullable κ o cs ps (tab b t)
+parts_there : (b : List ℕ) (t : ℕ) (name : List ℕ) (nullable : Bool) (κ : DataType) (o : Option Dictionary) (cs : List Field)
+    (ps : List (List ℕ × List ℕ)) → HasGoodType κ
+    → AllByRecursion (States field_tree FieldAt b) cs → Holds b t (tree_with name nullable κ o cs ps)
+    → PartsAt name nullable κ o cs ps (tab b t)
 unfolding EncodesTable HasField
 parts_there b t name nullable κ (Some d) cs ps good each h =
     let text = h.lies.0 in
@@ -73,7 +77,10 @@ parts_there b t name nullable κ (Some d) cs ps good each h =
       flag_there b t 1 null.0 nullable null.1.0 null.3,
       type_there b t code.0 type.0 type.3.0 κ code.1.0 code.3 type.1.0 type.3.1 good (record { stands = type.3.2; lies = type.3.3 }),
       dictionary_there b t encoding.0 encoding.3.0 d encoding.1.0 encoding.3.1 (record { stands = encoding.3.2; lies = encoding.3.3 }),
-      pairs_there b t 6 ps h.lies.1.1.1.1.1.1 (λ e. h.stands.absent 6 4 (neither (λ z. omega (arith, z)) (neither (λ z. omega (arith, z)) (neither (λ z. omega (arith, z)) (neither (λ z. omega (arith, z)) (neither (λ z. omega (arith, z)) (neither (λ z. omega (arith, z)) (pairs_absent 6 6 ps e)))))))),
+      pairs_there b t 6 ps h.lies.1.1.1.1.1.1 (λ e. h.stands.absent 6 4
+          (neither (λ z. omega (arith, z)) (neither (λ z. omega (arith, z))
+          (neither (λ z. omega (arith, z)) (neither (λ z. omega (arith, z))
+          (neither (λ z. omega (arith, z)) (neither (λ z. omega (arith, z)) (pairs_absent 6 6 ps e)))))))),
       vector_lies field_tree FieldAt b t 5 children.0 children.3.0 cs children.1.0 children.3.1 children.3.3 each,
     )
 parts_there b t name nullable κ None cs ps good each h =
@@ -85,24 +92,33 @@ parts_there b t name nullable κ None cs ps good each h =
       text_there b t 0 text.0 name text.1.0 text.3.text,
       flag_there b t 1 null.0 nullable null.1.0 null.3,
       type_there b t code.0 type.0 type.3.0 κ code.1.0 code.3 type.1.0 type.3.1 good (record { stands = type.3.2; lies = type.3.3 }),
-      no_dictionary b t (field_absent b t 4 table_from (h.stands.absent 4 4 (neither (λ e. omega (arith, e)) (neither (λ e. omega (arith, e)) (neither (λ e. omega (arith, e)) (neither (λ e. omega (arith, e)) (neither (λ e. omega (arith, e)) (no_pairs 4 6 ps (λ e. omega (arith, e)))))))))),
-      pairs_there b t 6 ps h.lies.1.1.1.1.1 (λ e. h.stands.absent 6 4 (neither (λ z. omega (arith, z)) (neither (λ z. omega (arith, z)) (neither (λ z. omega (arith, z)) (neither (λ z. omega (arith, z)) (neither (λ z. omega (arith, z)) (pairs_absent 6 6 ps e))))))),
+      no_dictionary b t (field_absent b t 4 table_from
+          (h.stands.absent 4 4 (neither (λ e. omega (arith, e))
+          (neither (λ e. omega (arith, e)) (neither (λ e. omega (arith, e))
+          (neither (λ e. omega (arith, e)) (neither (λ e. omega (arith, e)) (no_pairs 4 6 ps (λ e. omega (arith, e)))))))))),
+      pairs_there b t 6 ps h.lies.1.1.1.1.1 (λ e. h.stands.absent 6 4
+          (neither (λ z. omega (arith, z)) (neither (λ z. omega (arith, z))
+          (neither (λ z. omega (arith, z)) (neither (λ z. omega (arith, z)) (neither (λ z. omega (arith, z)) (pairs_absent 6 6 ps e))))))),
       vector_lies field_tree FieldAt b t 5 children.0 children.3.0 cs children.1.0 children.3.1 children.3.3 each,
     )
 
 roll_written : (y : Field-F Shown) → IsWritten (roll-Field (map-Field Shown Field (λ c. c.0) y))
 roll_written y = λ d fine b t h.
     let z : Field-F Field = map-Field Shown Field (λ c. c.0) y in
-    let listed : AllByRecursion IsFieldWellFormed (preorder_step (map-Field Field Listing preorder z) d) = subst (λ (l : Listing). AllByRecursion IsFieldWellFormed (l d)) (fold-roll-Field Listing preorder_step z) fine in
-    let held : Holds b t (tree_with z.name z.nullable z.kind z.dictionary z.children z.metadata) = subst (λ (f : Tree). Holds b t f) (fold-roll-Field Tree written.field_step z) h in
+    let listed : AllByRecursion IsFieldWellFormed (preorder_step (map-Field Field Listing preorder z) d) =
+    subst (λ (l : Listing). AllByRecursion IsFieldWellFormed (l d)) (fold-roll-Field Listing preorder_step z) fine in
+    let held : Holds b t (tree_with z.name z.nullable z.kind z.dictionary z.children z.metadata) =
+    subst (λ (f : Tree). Holds b t f) (fold-roll-Field Tree written.field_step z) h in
     let each = children_written y.children (d + 1) listed.1 b in
-    subst (λ (F : TableView → Type 0). F (tab b t)) (sym (field_roll z)) (parts_there b t z.name z.nullable z.kind z.dictionary z.children z.metadata listed.0.good_type each held)
+    subst (λ (F : TableView → Type 0). F (tab b t)) (sym (field_roll z))
+    (parts_there b t z.name z.nullable z.kind z.dictionary z.children z.metadata listed.0.good_type each held)
 
 field_written : (f : Field) → IsWritten f
 field_written = ind-Field IsWritten (λ x y is. subst (λ z. IsWritten (roll-Field z)) is (roll_written y))
 
 -- the columns of a schema
-pub fields_written : (fs : List Field) → AllByRecursion IsFieldWellFormed (all_at 1 (map preorder fs)) → (b : List ℕ) → AllByRecursion (States field_tree FieldAt b) fs
+pub fields_written : (fs : List Field) → AllByRecursion IsFieldWellFormed (all_at 1 (map preorder fs)) → (b : List ℕ)
+    → AllByRecursion (States field_tree FieldAt b) fs
 fields_written [] fine b = tt
 fields_written (f ∷ fs) fine b =
     let p = fine_parts (preorder f 1) (all_at 1 (map preorder fs)) fine in

@@ -25,9 +25,12 @@ unfolding EncodesTable HasField
 schema_there b t s w h =
     let columns = h.lies.0 in
     record {
-      little_endian = scalar_absent b t 0 2 int16 (pos 0) (h.stands.absent 0 2 (neither (λ e. omega (arith, e)) (no_pairs 0 2 s.metadata (λ e. omega (arith, e)))));
-      fields = vector_lies field_tree FieldAt b t 1 columns.0 columns.3.0 s.fields columns.1.0 columns.3.1 columns.3.3 (fields_written s.fields w.each b);
-      pairs = pairs_there b t 2 s.metadata h.lies.1 (λ e. h.stands.absent 2 4 (neither (λ z. omega (arith, z)) (pairs_absent 2 2 s.metadata e)));
+      little_endian = scalar_absent b t 0 2 int16 (pos 0)
+          (h.stands.absent 0 2 (neither (λ e. omega (arith, e)) (no_pairs 0 2 s.metadata (λ e. omega (arith, e)))));
+      fields = vector_lies field_tree FieldAt b t 1 columns.0 columns.3.0 s.fields columns.1.0 columns.3.1 columns.3.3
+          (fields_written s.fields w.each b);
+      pairs = pairs_there b t 2 s.metadata h.lies.1
+          (λ e. h.stands.absent 2 4 (neither (λ z. omega (arith, z)) (pairs_absent 2 2 s.metadata e)));
       well_formed = w;
     }
 
@@ -41,7 +44,8 @@ pairs_read b q (x ∷ xs) h = rw (h.0, h.1, pairs_read b (q + 16) xs h.3) refl
 structs : List ℕ → ℕ → ℕ → Structs
 structs b q n = record { bytes = b; at = q; len = n; width = 16 }
 
-numbers_there : (b : List ℕ) (t k p q : ℕ) (xs : List (ℤ × ℤ)) → slot_of b t k 4 ≡ Ok (Some p) → elements_of b p 16 ≡ Ok (q + 4, length xs) → EncodesPairs Any b (q + 4) xs → numbers_at (tab b t) k ≡ Ok xs
+numbers_there : (b : List ℕ) (t k p q : ℕ) (xs : List (ℤ × ℤ)) → slot_of b t k 4 ≡ Ok (Some p) → elements_of b p 16 ≡ Ok (q + 4, length xs)
+    → EncodesPairs Any b (q + 4) xs → numbers_at (tab b t) k ≡ Ok xs
 unfolding numbers_at structs
 numbers_there b t k p q xs s e lies =
     ap (λ (r : Result (Option Structs) FlatFault). lift r >>= λ o. Ok (pairs_in o))
@@ -58,7 +62,9 @@ batch_there b t h held =
       length = scalar_there b t 0 8 length.0 int64 (pos 0) length.1.0 ∙ ap Ok length.3;
       nodes = numbers_there b t 1 nodes.0 nodes.3.0 h.nodes nodes.1.0 nodes.3.1 nodes.3.3;
       buffers = numbers_there b t 2 buffers.0 buffers.3.0 h.buffers buffers.1.0 buffers.3.1 buffers.3.3;
-      uncompressed = field_absent b t 3 table_from (held.stands.absent 3 4 (neither (λ e. omega (arith, e)) (neither (λ e. omega (arith, e)) (neither (λ e. omega (arith, e)) (λ z. z)))));
+      uncompressed = field_absent b t 3 table_from
+          (held.stands.absent 3 4 (neither (λ e. omega (arith, e))
+          (neither (λ e. omega (arith, e)) (neither (λ e. omega (arith, e)) (λ z. z)))));
     }
 
 -- ---- messages
@@ -97,9 +103,23 @@ message_there b code m header h =
 pub schema_stated : (b : List ℕ) (s : Schema) → WellFormed s → Encodes b (schema_message s) → HeadOf b (head.Schema s) 0
 schema_stated b s w h =
     let m = message_there b 1 0 (schema_tree s) h in
-    record { root = tab b m.t; stands = m.stands; version = m.version; body = m.body; fits = omega arith; header = (m.coded, (tab b m.u, m.headed, schema_there b m.u s w m.held)) }
+    record {
+      root = tab b m.t;
+      stands = m.stands;
+      version = m.version;
+      body = m.body;
+      fits = omega arith;
+      header = (m.coded, (tab b m.u, m.headed, schema_there b m.u s w m.held));
+    }
 
 pub batch_stated : (b : List ℕ) (h : BatchHead) (body : ℕ) → body ≤ 2 ^ 40 → Encodes b (batch_message h body) → HeadOf b (head.Batch h) body
 batch_stated b h body small lies =
     let m = message_there b 3 body (batch_tree h) lies in
-    record { root = tab b m.t; stands = m.stands; version = m.version; body = m.body; fits = small; header = (m.coded, (tab b m.u, m.headed, batch_there b m.u h m.held)) }
+    record {
+      root = tab b m.t;
+      stands = m.stands;
+      version = m.version;
+      body = m.body;
+      fits = small;
+      header = (m.coded, (tab b m.u, m.headed, batch_there b m.u h m.held));
+    }

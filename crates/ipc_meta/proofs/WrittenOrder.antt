@@ -16,12 +16,14 @@ use Rattle.ipc_build.specs.Ascends.{fields, elements, Ascends}
 use Rattle.ipc_build.specs.Room.{room, targets_room}
 use Rattle.ipc_meta.specs.declared.head.BatchHead.{BatchHead}
 use Rattle.ipc_meta.specs.Rooms.{schema_room, head_room, zeros, batch_room}
-use Rattle.ipc_meta.specs.Written.{pair_tree, with_pairs, with_tables, int_tree, type_tree, dictionary_tree, with_dictionary, field_step, field_tree, schema_tree, batch_tree, message_tree, schema_message, batch_message}
+use Rattle.ipc_meta.specs.Written.{pair_tree, with_pairs, with_tables, int_tree, type_tree, dictionary_tree, with_dictionary, field_step}
+use Rattle.ipc_meta.specs.Written.{field_tree, schema_tree, batch_tree, message_tree, schema_message, batch_message}
 
 abbrev InOrder : Tree → Type 0
 InOrder f = Ascends (fields 0) f
 
-elements_in_order : {X : Type 0} (tree : X → Tree) (xs : List X) → AllByRecursion (λ x. InOrder (tree x)) xs → Ascends elements (tables_of (map tree xs))
+elements_in_order : {X : Type 0} (tree : X → Tree) (xs : List X) → AllByRecursion (λ x. InOrder (tree x)) xs
+    → Ascends elements (tables_of (map tree xs))
 unfolding Ascends
 elements_in_order tree [] h = tt
 elements_in_order tree (x ∷ xs) h = (refl, h.0, elements_in_order tree xs h.1)
@@ -59,12 +61,19 @@ type_in_order t.Struct = tt
 
 dictionary_in_order : (d : Dictionary) → InOrder (dictionary_tree d)
 unfolding Ascends
-dictionary_in_order d = (omega arith, omega arith, tt, (omega arith, omega arith, int_in_order d.index.bits d.index.signed, (omega arith, omega arith, tt, tt)))
+dictionary_in_order d = (
+  omega arith,
+  omega arith,
+  tt,
+  (omega arith, omega arith, int_in_order d.index.bits d.index.signed, (omega arith, omega arith, tt, tt)),
+)
 
-with_dictionary_in_order : (o : Option Dictionary) (cs : List Tree) (ps : List (List ℕ × List ℕ)) → Ascends elements (tables_of cs) → Ascends (fields 4) (with_dictionary o (with_tables 5 cs (with_pairs 6 ps)))
+with_dictionary_in_order : (o : Option Dictionary) (cs : List Tree) (ps : List (List ℕ × List ℕ)) → Ascends elements (tables_of cs)
+    → Ascends (fields 4) (with_dictionary o (with_tables 5 cs (with_pairs 6 ps)))
 unfolding Ascends
 with_dictionary_in_order None cs ps h = (omega arith, omega arith, h, with_pairs_in_order 6 6 ps (omega arith) (omega arith))
-with_dictionary_in_order (Some d) cs ps h = (omega arith, omega arith, dictionary_in_order d, (omega arith, omega arith, h, with_pairs_in_order 6 6 ps (omega arith) (omega arith)))
+with_dictionary_in_order (Some d) cs ps h =
+    (omega arith, omega arith, dictionary_in_order d, (omega arith, omega arith, h, with_pairs_in_order 6 6 ps (omega arith) (omega arith)))
 
 abbrev Shown : Type 0
 Shown = (f : Field) × InOrder (field_tree f)
@@ -78,8 +87,27 @@ unfolding Ascends
 field_layer y =
     let z : Field-F Field = map-Field Shown Field (λ c. c.0) y in
     let inner = elements_in_order field_tree z.children (all_in_order y.children) in
-    subst (λ (f : Tree). Ascends (fields 0) f) (sym (fold-roll-Field Tree field_step z))
-    (omega arith, omega arith, tt, (omega arith, omega arith, tt, (omega arith, omega arith, tt, (omega arith, omega arith, type_in_order z.kind, with_dictionary_in_order z.dictionary (map field_tree z.children) z.metadata inner))))
+    subst (λ (f : Tree). Ascends (fields 0) f) (sym (fold-roll-Field Tree field_step z)) (
+      omega arith,
+      omega arith,
+      tt,
+      (
+        omega arith,
+        omega arith,
+        tt,
+        (
+          omega arith,
+          omega arith,
+          tt,
+          (
+            omega arith,
+            omega arith,
+            type_in_order z.kind,
+            with_dictionary_in_order z.dictionary (map field_tree z.children) z.metadata inner,
+          ),
+        ),
+      ),
+    )
 
 field_in_order : (f : Field) → InOrder (field_tree f)
 field_in_order = ind-Field (λ f. InOrder (field_tree f)) (λ x y is. subst (λ z. InOrder (field_tree (roll-Field z))) is (field_layer y))
@@ -90,21 +118,33 @@ fields_in_order (f ∷ fs) = (field_in_order f, fields_in_order fs)
 
 message_in_order : (code m : ℕ) (header : Tree) → InOrder header → InOrder (message_tree code header m)
 unfolding Ascends
-message_in_order code m header h = (omega arith, omega arith, tt, (omega arith, omega arith, tt, (omega arith, omega arith, h, (omega arith, omega arith, tt, tt))))
+message_in_order code m header h = (
+  omega arith,
+  omega arith,
+  tt,
+  (omega arith, omega arith, tt, (omega arith, omega arith, h, (omega arith, omega arith, tt, tt))),
+)
 
 schema_in_order : (s : Schema) → InOrder (schema_tree s)
 unfolding Ascends
-schema_in_order s = (omega arith, omega arith, elements_in_order field_tree s.fields (fields_in_order s.fields), with_pairs_in_order 2 2 s.metadata (omega arith) (omega arith))
+schema_in_order s = (
+  omega arith,
+  omega arith,
+  elements_in_order field_tree s.fields (fields_in_order s.fields),
+  with_pairs_in_order 2 2 s.metadata (omega arith) (omega arith),
+)
 
 batch_in_order : (b : BatchHead) → InOrder (batch_tree b)
 unfolding Ascends
 batch_in_order b = (omega arith, omega arith, tt, (omega arith, omega arith, tt, (omega arith, omega arith, tt, tt)))
 
 pub schema_ascends : (s : Schema) (code m : ℕ) (f g : Tree) → g ≡ message_tree code f m → f ≡ schema_tree s → Ascends (fields 0) g
-schema_ascends s code m f g e h = subst (λ (x : Tree). InOrder x) (sym e) (subst (λ (x : Tree). InOrder (message_tree code x m)) (sym h) (message_in_order code m (schema_tree s) (schema_in_order s)))
+schema_ascends s code m f g e h = subst (λ (x : Tree). InOrder x) (sym e)
+    (subst (λ (x : Tree). InOrder (message_tree code x m)) (sym h) (message_in_order code m (schema_tree s) (schema_in_order s)))
 
 pub batch_ascends : (b : BatchHead) (m : ℕ) (f g : Tree) → g ≡ message_tree 3 f m → f ≡ batch_tree b → Ascends (fields 0) g
-batch_ascends b m f g e h = subst (λ (x : Tree). InOrder x) (sym e) (subst (λ (x : Tree). InOrder (message_tree 3 x m)) (sym h) (message_in_order 3 m (batch_tree b) (batch_in_order b)))
+batch_ascends b m f g e h = subst (λ (x : Tree). InOrder x) (sym e)
+    (subst (λ (x : Tree). InOrder (message_tree 3 x m)) (sym h) (message_in_order 3 m (batch_tree b) (batch_in_order b)))
 
 -- ---- room
 

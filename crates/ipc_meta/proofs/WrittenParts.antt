@@ -18,7 +18,8 @@ use Rattle.ipc_meta.proofs.Standing.{Any, tab, Holds, scalar_there, field_there,
 
 pub text_there : (b : List ℕ) (t k p : ℕ) (s : List ℕ) → slot_of b t k 4 ≡ Ok (Some p) → text_of b p ≡ Ok s → text_at (tab b t) k ≡ Ok s
 unfolding text_at
-text_there b t k p s h g = ap (λ (r : Result (Option (List ℕ)) FlatFault). lift r >>= λ o. Ok (or_else [] o)) (field_there b t k p text_of s h g)
+text_there b t k p s h g = ap (λ (r : Result (Option (List ℕ)) FlatFault). lift r >>= λ o. Ok (or_else [] o))
+    (field_there b t k p text_of s h g)
 
 flag_read : (v : Bool) → nat_lt 0 (flag v) ≡ v
 flag_read true = refl
@@ -30,7 +31,8 @@ flag_there b t k p v h g =
     ap (λ (r : Result ℕ FlatFault). lift r >>= λ n. Ok (nat_lt 0 n)) (scalar_there b t k 1 p byte 0 h)
     ∙ (ap (λ (n : ℕ). Ok (nat_lt 0 n)) g ∙ ap Ok (flag_read v))
 
-pub vector_there : (b : List ℕ) (t k p q n : ℕ) → slot_of b t k 4 ≡ Ok (Some p) → elements_of b p 4 ≡ Ok (q, n) → vector_at (tab b t) k ≡ Ok (record { bytes = b; at = q; len = n })
+pub vector_there : (b : List ℕ) (t k p q n : ℕ) → slot_of b t k 4 ≡ Ok (Some p) → elements_of b p 4 ≡ Ok (q, n)
+    → vector_at (tab b t) k ≡ Ok (record { bytes = b; at = q; len = n })
 unfolding vector_at
 vector_there b t k p q n h g =
     ap (λ (r : Result (Option Elements) FlatFault). lift r >>= λ o. Ok (no_elements (tab b t) o))
@@ -38,7 +40,8 @@ vector_there b t k p q n h g =
 
 pub vector_absent : (b : List ℕ) (t k : ℕ) → slot_of b t k 4 ≡ Ok None → vector_at (tab b t) k ≡ Ok (record { bytes = b; at = 0; len = 0 })
 unfolding vector_at
-vector_absent b t k h = ap (λ (r : Result (Option Elements) FlatFault). lift r >>= λ o. Ok (no_elements (tab b t) o)) (field_absent b t k (elements_from 4) h)
+vector_absent b t k h = ap (λ (r : Result (Option Elements) FlatFault). lift r >>= λ o. Ok (no_elements (tab b t) o))
+    (field_absent b t k (elements_from 4) h)
 
 module _ {X : Type 0} (tree : X → Tree) (At : X → TableView → Type 0) where
   pub members_length : (xs : List X) → members (tables_of (map tree xs)) ≡ length xs
@@ -50,7 +53,8 @@ module _ {X : Type 0} (tree : X → Tree) (At : X → TableView → Type 0) wher
   abbrev pub States : List ℕ → X → Type 0
   States b x = (t : ℕ) → Holds b t (tree x) → At x (tab b t)
 
-  pub tables_there : (b : List ℕ) (q n : ℕ) (xs : List X) → n ≡ length xs → AllByRecursion (States b) xs → EncodesTable Any b (in_vector q) (tables_of (map tree xs)) → TablesAt At b q n xs
+  pub tables_there : (b : List ℕ) (q n : ℕ) (xs : List X) → n ≡ length xs → AllByRecursion (States b) xs
+      → EncodesTable Any b (in_vector q) (tables_of (map tree xs)) → TablesAt At b q n xs
   unfolding EncodesTable
   tables_there b q n [] c s h = c
   tables_there b q n (x ∷ xs) c s h =
@@ -70,7 +74,8 @@ pair_there b p t h =
     (text_there b t 0 key.0 p.0 key.1.0 key.3.text, text_there b t 1 value.0 p.1 value.1.0 value.3.text)
 
 -- a vector of tables in field k
-pub vector_lies : {X : Type 0} (tree : X → Tree) (At : X → TableView → Type 0) (b : List ℕ) (t k p q : ℕ) (xs : List X) → slot_of b t k 4 ≡ Ok (Some p)
+pub vector_lies : {X : Type 0} (tree : X → Tree) (At : X → TableView → Type 0) (b : List ℕ) (t k p q : ℕ) (xs : List X)
+    → slot_of b t k 4 ≡ Ok (Some p)
     → elements_of b p 4 ≡ Ok (q + 4, members (tables_of (map tree xs))) → EncodesTable Any b (in_vector (q + 4)) (tables_of (map tree xs))
     → AllByRecursion (States tree At b) xs → VectorAt At xs (tab b t) k
 vector_lies tree At b t k p q xs s e lies each =
@@ -85,10 +90,12 @@ all_pairs b [] = tt
 all_pairs b (p ∷ ps) = ((λ t h. pair_there b p t h), all_pairs b ps)
 
 -- the pairs, where they are the last field of a table
-pub pairs_there : (b : List ℕ) (t k : ℕ) (ps : List (List ℕ × List ℕ)) → EncodesTable Any b (in_table t) (with_pairs k ps) → (ps ≡ [] → slot_of b t k 4 ≡ Ok None) → VectorAt PairAt ps (tab b t) k
+pub pairs_there : (b : List ℕ) (t k : ℕ) (ps : List (List ℕ × List ℕ)) → EncodesTable Any b (in_table t) (with_pairs k ps)
+    → (ps ≡ [] → slot_of b t k 4 ≡ Ok None) → VectorAt PairAt ps (tab b t) k
 unfolding EncodesTable
 pairs_there b t k [] h absent = (record { bytes = b; at = 0; len = 0 }, vector_absent b t k (absent refl), refl)
-pairs_there b t k (p ∷ ps) h absent = let here = h.0 in vector_lies pair_tree PairAt b t k here.0 here.3.0 (p ∷ ps) here.1.0 here.3.1 here.3.3 (all_pairs b (p ∷ ps))
+pairs_there b t k (p ∷ ps) h absent = let here =
+    h.0 in vector_lies pair_tree PairAt b t k here.0 here.3.0 (p ∷ ps) here.1.0 here.3.1 here.3.3 (all_pairs b (p ∷ ps))
 
 -- ---- fields that are absent
 

@@ -12,7 +12,8 @@ use Rattle.ipc_build.proofs.Nodes.{view_is, bool_is, u8_is, table_is, tables_is}
 use Rattle.ipc_model.specs.declared.schema.Dictionary.{Dictionary}
 use Rattle.ipc_model.specs.declared.schema.Field.{Field, out-Field, fold_out-Field}
 use Rattle.ipc_model.specs.declared.schema.Schema.{Schema}
-use Rattle.ipc_meta.specs.Written.{fields_then, pair_tree, with_pairs, dictionary_tree, with_dictionary, flag, with_text, with_byte, with_table, with_tables, type_tree, field_step, field_tree, schema_tree}
+use Rattle.ipc_meta.specs.Written.{fields_then, pair_tree, with_pairs, dictionary_tree, with_dictionary, flag, with_text, with_byte}
+use Rattle.ipc_meta.specs.Written.{with_table, with_tables, type_tree, field_step, field_tree, schema_tree}
 use Rattle.ipc_model.specs.TypeCodes.{type_code}
 
 pub tree_is : (t : FlatTree) (xs : List (ℕ × Slot)) → t.slots ≡ xs → view t ≡ fields_view xs
@@ -23,10 +24,12 @@ vector_is [] = refl
 vector_is (t ∷ ts) = ap (field 0 table (view t)) (vector_is ts)
 
 -- a vector of tables in a slot
-pub tables_slot : {X : Type 0} (tree : X → Tree) (s : Slot) (ts : List FlatTree) (xs : List X) → s ≡ v.Tables ts → map view ts ≡ map tree xs → node s ≡ (tables, tables_of (map tree xs))
+pub tables_slot : {X : Type 0} (tree : X → Tree) (s : Slot) (ts : List FlatTree) (xs : List X) → s ≡ v.Tables ts → map view ts ≡ map tree xs
+    → node s ≡ (tables, tables_of (map tree xs))
 tables_slot tree s ts xs is e = ap node is ∙ (tables_is ts ∙ ap (λ (l : Tree). (tables, l)) (vector_is ts ∙ ap tables_of e))
 
-pub fields_then_more : (xs : List (ℕ × Slot)) (x : ℕ × Slot) (rest : Tree) → fields_then (xs ++ x ∷ []) rest ≡ fields_then xs (field x.0 (node x.1).0 (node x.1).1 rest)
+pub fields_then_more : (xs : List (ℕ × Slot)) (x : ℕ × Slot) (rest : Tree)
+    → fields_then (xs ++ x ∷ []) rest ≡ fields_then xs (field x.0 (node x.1).0 (node x.1).1 rest)
 fields_then_more [] x rest = refl
 fields_then_more (y ∷ ys) x rest = ap (field y.0 (node y.1).0 (node y.1).1) (fields_then_more ys x rest)
 
@@ -35,18 +38,21 @@ fields_then_none [] = refl
 fields_then_none (x ∷ xs) = ap (field x.0 (node x.1).0 (node x.1).1) (fields_then_none xs)
 
 -- some pairs, as the last field
-pub push_pairs_more : (k : ℕ) (old new : List (ℕ × Slot)) (ts us : List FlatTree) (ps : List (List ℕ × List ℕ)) → new ≡ old ++ (k, v.Tables us) ∷ [] → us ≡ ts → map view ts ≡ map pair_tree ps → 0 < length ps
+pub push_pairs_more : (k : ℕ) (old new : List (ℕ × Slot)) (ts us : List FlatTree) (ps : List (List ℕ × List ℕ))
+    → new ≡ old ++ (k, v.Tables us) ∷ [] → us ≡ ts → map view ts ≡ map pair_tree ps → 0 < length ps
     → fields_then new none ≡ fields_then old (with_pairs k ps)
 push_pairs_more k old new ts us [] n u e some = absurd (omega (arith, some))
 push_pairs_more k old new ts us (p ∷ ps) n u e some =
     ap (λ xs. fields_then xs none) n ∙ (fields_then_more old (k, v.Tables us) none
-    ∙ ap (λ (n : Node). fields_then old (field k n.0 n.1 none)) (tables_slot pair_tree (v.Tables us) us (p ∷ ps) refl (ap (map view) u ∙ e)))
+    ∙ ap (λ (n : Node). fields_then old (field k n.0 n.1 none))
+    (tables_slot pair_tree (v.Tables us) us (p ∷ ps) refl (ap (map view) u ∙ e)))
 
 abbrev kept : ℤ → ℤ
 kept z = cast_signed w64 (cast_unsigned w64 z)
 
 -- one pair more in a copy
-pub copied_more : (xs copies new : List (ℤ × ℤ)) (i : ℕ) → i < length xs → FitsSigned w64 (get_or xs i (pos 0, pos 0)).0 → FitsSigned w64 (get_or xs i (pos 0, pos 0)).1 → copies ≡ take i xs
+pub copied_more : (xs copies new : List (ℤ × ℤ)) (i : ℕ) → i < length xs → FitsSigned w64 (get_or xs i (pos 0, pos 0)).0
+    → FitsSigned w64 (get_or xs i (pos 0, pos 0)).1 → copies ≡ take i xs
     → new ≡ copies ++ (kept (get_or xs i (pos 0, pos 0)).0, kept (get_or xs i (pos 0, pos 0)).1) ∷ [] → new ≡ take (i + 1) xs
 copied_more xs copies new i inside first second before is =
     let x = get_or xs i (pos 0, pos 0) in
@@ -56,7 +62,8 @@ copied_more xs copies new i inside first second before is =
     ∙ (ap (λ (ys : List (ℤ × ℤ)). ys ++ x ∷ []) before ∙ (sym (take-suc xs i (pos 0, pos 0) inside) ∙ ap (λ (n : ℕ). take n xs) next))))
 
 -- a dictionary, where there is one
-pub dictionary_more : (old new : List (ℕ × Slot)) (encoding : FlatTree) (d : Dictionary) (o : Option Dictionary) → new ≡ old ++ (4, v.Table encoding) ∷ [] → view encoding ≡ dictionary_tree d → o ≡ Some d
+pub dictionary_more : (old new : List (ℕ × Slot)) (encoding : FlatTree) (d : Dictionary) (o : Option Dictionary)
+    → new ≡ old ++ (4, v.Table encoding) ∷ [] → view encoding ≡ dictionary_tree d → o ≡ Some d
     → (rest : Tree) → fields_then new rest ≡ fields_then old (with_dictionary o rest)
 dictionary_more old new encoding d o n e is rest =
     ap (λ (xs : List (ℕ × Slot)). fields_then xs rest) n ∙ (fields_then_more old (4, v.Table encoding) rest
@@ -64,14 +71,16 @@ dictionary_more old new encoding d o n e is rest =
     ∙ ap (λ (p : Option Dictionary). fields_then old (with_dictionary p rest)) (sym is)))
 
 -- a vector of tables
-pub vector_more : {X : Type 0} (tree : X → Tree) (k : ℕ) (old new : List (ℕ × Slot)) (ts us : List FlatTree) (xs : List X) → new ≡ old ++ (k, v.Tables us) ∷ [] → us ≡ ts → map view ts ≡ map tree xs
+pub vector_more : {X : Type 0} (tree : X → Tree) (k : ℕ) (old new : List (ℕ × Slot)) (ts us : List FlatTree) (xs : List X)
+    → new ≡ old ++ (k, v.Tables us) ∷ [] → us ≡ ts → map view ts ≡ map tree xs
     → (rest : Tree) → fields_then new rest ≡ fields_then old (field k tables (tables_of (map tree xs)) rest)
 vector_more tree k old new ts us xs n u e rest =
     ap (λ (ys : List (ℕ × Slot)). fields_then ys rest) n ∙ (fields_then_more old (k, v.Tables us) rest
     ∙ ap (λ (y : Node). fields_then old (field k y.0 y.1 rest)) (tables_slot tree (v.Tables us) us xs refl (ap (map view) u ∙ e)))
 
 -- a Field table, from its fields as they come
-pub field_made : (f : Field) (t types : FlatTree) (first second third last : List (ℕ × Slot)) (text : Slot) (code : ℕ) (ts us : List FlatTree)
+pub field_made : (f : Field) (t types : FlatTree) (first second third last : List (ℕ × Slot)) (text : Slot) (code : ℕ)
+    (ts us : List FlatTree)
     → view t ≡ fields_view last → fields_then last none ≡ fields_then third (with_pairs 6 (out-Field f).metadata)
     → third ≡ second ++ (5, v.Tables us) ∷ [] → us ≡ ts → map view ts ≡ map field_tree (out-Field f).children
     → ((rest : Tree) → fields_then second rest ≡ fields_then first (with_dictionary (out-Field f).dictionary rest))
@@ -82,11 +91,14 @@ field_made f t types first second third last text code ts us whole pairs third_i
     let g = out-Field f in
     let rest = with_tables 5 (map field_tree g.children) (with_pairs 6 g.metadata) in
     let behind = with_dictionary g.dictionary rest in
-    whole ∙ (fields_then_none last ∙ (pairs ∙ (vector_more field_tree 5 second third ts us g.children third_is same children (with_pairs 6 g.metadata) ∙ (dictionary rest
+    whole ∙ (fields_then_none last ∙ (pairs ∙
+    (vector_more field_tree 5 second third ts us g.children third_is same children (with_pairs 6 g.metadata) ∙ (dictionary rest
     ∙ (ap (λ (xs : List (ℕ × Slot)). fields_then xs behind) first_is
     ∙ (ap (λ (n : Node). field 0 n.0 n.1 (fields_then ((1, v.Bool g.nullable) ∷ (2, v.U8 code) ∷ (3, v.Table types) ∷ []) behind)) name
-    ∙ (ap (λ (n : Node). with_text 0 g.name (field 1 n.0 n.1 (fields_then ((2, v.U8 code) ∷ (3, v.Table types) ∷ []) behind))) (bool_is g.nullable)
-    ∙ (ap (λ (n : Node). with_text 0 g.name (with_byte 1 (flag g.nullable) (field 2 n.0 n.1 (fields_then ((3, v.Table types) ∷ []) behind)))) (u8_is code)
+    ∙ (ap (λ (n : Node). with_text 0 g.name (field 1 n.0 n.1 (fields_then ((2, v.U8 code) ∷ (3, v.Table types) ∷ []) behind)))
+    (bool_is g.nullable)
+    ∙ (ap (λ (n : Node). with_text 0 g.name
+    (with_byte 1 (flag g.nullable) (field 2 n.0 n.1 (fields_then ((3, v.Table types) ∷ []) behind)))) (u8_is code)
     ∙ (ap (λ (n : Node). with_text 0 g.name (with_byte 1 (flag g.nullable) (with_byte 2 code (field 3 n.0 n.1 behind)))) (table_is types)
     ∙ (ap (λ (c : ℕ). with_text 0 g.name (with_byte 1 (flag g.nullable) (with_byte 2 c (with_table 3 (view types) behind)))) coded
     ∙ (ap (λ (y : Tree). with_text 0 g.name (with_byte 1 (flag g.nullable) (with_byte 2 (type_code g.kind) (with_table 3 y behind)))) typed
@@ -94,6 +106,8 @@ field_made f t types first second third last text code ts us whole pairs third_i
 
 -- a Schema table
 pub schema_made : (s : Schema) (t : FlatTree) (first last : List (ℕ × Slot)) (ts us : List FlatTree)
-    → view t ≡ fields_view last → fields_then last none ≡ fields_then first (with_pairs 2 s.metadata) → first ≡ (1, v.Tables us) ∷ [] → us ≡ ts → map view ts ≡ map field_tree s.fields → view t ≡ schema_tree s
+    → view t ≡ fields_view last → fields_then last none ≡ fields_then first (with_pairs 2 s.metadata) → first ≡ (1, v.Tables us) ∷ []
+    → us ≡ ts → map view ts ≡ map field_tree s.fields → view t ≡ schema_tree s
 schema_made s t first last ts us whole pairs first_is same fields =
-    whole ∙ (fields_then_none last ∙ (pairs ∙ vector_more field_tree 1 [] first ts us s.fields first_is same fields (with_pairs 2 s.metadata)))
+    whole ∙ (fields_then_none last ∙ (pairs
+    ∙ vector_more field_tree 1 [] first ts us s.fields first_is same fields (with_pairs 2 s.metadata)))

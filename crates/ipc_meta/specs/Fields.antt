@@ -1,5 +1,5 @@
--- Which fields and schemas the tables of the metadata state (Schema.fbs, tables Field and Schema): relations between whole values
--- and tables, in no reading order.
+-- Which fields and schemas the tables of the metadata state (Schema.fbs, tables Field and Schema):
+-- relations between whole values and tables, in no reading order.
 use Rattle.std.specs.Prelude.{◌≡◌, ℕ, ◌+◌, ◌-◌, ◌<◌, pos, List, [], ◌∷◌, Ok}
 use Rattle.ipc_scalar.specs.Bytes.{int16}
 use Rattle.ipc_flat.specs.Views.{TableView, Elements, table_from, scalar}
@@ -10,10 +10,12 @@ use Rattle.ipc_model.specs.declared.schema.Schema.{Schema}
 use Rattle.ipc_meta.specs.Tables.{text_at, flag_at, vector_at, type_at, dictionary_at}
 
 module _ {X : Type 0} (At : X → TableView → Type 0) where
-  -- the n offsets from p on point to tables that state these values, in order (FlatBuffers binary format, "Strings and Vectors")
+  -- the n offsets from p on point to tables that state these values, in order (FlatBuffers binary
+  -- format, "Strings and Vectors")
   abbrev pub TablesAt : List ℕ → ℕ → ℕ → List X → Type 0
   TablesAt b p n [] = n ≡ 0
-  TablesAt b p n (x ∷ xs) = (t : TableView) × (0 < n) × (table_from b p ≡ Ok t) × At x t × TablesAt b (p + 4) (n - 1) xs
+  TablesAt b p n (x ∷ xs) = (t : TableView) × (0 < n) × (table_from b p ≡ Ok t) × At x t
+      × TablesAt b (p + 4) (n - 1) xs
 
   -- field k of t holds a vector of tables that state these values; an absent vector states none
   abbrev pub VectorAt : List X → TableView → ℕ → Type 0
@@ -23,17 +25,21 @@ module _ {X : Type 0} (At : X → TableView → Type 0) where
 abbrev pub PairAt : List ℕ × List ℕ → TableView → Type 0
 PairAt p t = (text_at t 0 ≡ Ok p.0) × (text_at t 1 ≡ Ok p.1)
 
--- Schema.fbs, table Field: 0 name, 1 nullable, 2 and 3 type, 4 dictionary, 5 children, 6 custom_metadata
-abbrev pub field_step : (X : Type 0) → (X → Field) → (X → TableView → Type 0) → Field-F X → TableView → Type 0
+-- Schema.fbs, table Field: 0 name, 1 nullable, 2 and 3 type, 4 dictionary, 5 children, 6
+-- custom_metadata
+abbrev pub field_step : (X : Type 0) → (X → Field) → (X → TableView → Type 0) → Field-F X
+    → TableView → Type 0
 field_step X field At f t =
-    (text_at t 0 ≡ Ok f.name) × (flag_at t 1 ≡ Ok f.nullable) × (type_at t ≡ Ok f.kind) × (dictionary_at t ≡ Ok f.dictionary)
+    (text_at t 0 ≡ Ok f.name) × (flag_at t 1 ≡ Ok f.nullable) × (type_at t ≡ Ok f.kind)
+    × (dictionary_at t ≡ Ok f.dictionary)
     × VectorAt PairAt f.metadata t 6 × VectorAt At f.children t 5
 
 -- the Field table t states this field, with all below it
 abbrev pub FieldAt : Field → TableView → Type 0
 FieldAt = rec-Field (TableView → Type 0) field_step
 
--- Schema.fbs, table Schema: 0 endianness (enum Endianness, Little is 0), 1 fields, 2 custom_metadata
+-- Schema.fbs, table Schema: 0 endianness (enum Endianness, Little is 0), 1 fields, 2
+-- custom_metadata
 pub record SchemaAt (t : TableView) (s : Schema) : Type 0 where
   pub little_endian : scalar t 0 2 int16 (pos 0) ≡ Ok (pos 0)
   pub fields : VectorAt FieldAt s.fields t 1

@@ -1,5 +1,7 @@
--- What the metadata of a message states as a whole (Message.fbs, tables Message, RecordBatch and DictionaryBatch).
-use Rattle.std.specs.Prelude.{◌≡◌, ℕ, zero, suc, ◌+◌, ◌^◌, ◌≤◌, false, ℤ, pos, List, [], ◌∷◌, Option, None, Some, Result, Ok}
+-- What the metadata of a message states as a whole (Message.fbs, tables Message, RecordBatch and
+-- DictionaryBatch).
+use Rattle.std.specs.Prelude.{◌≡◌, ℕ, zero, suc, ◌+◌, ◌^◌, ◌≤◌, false, ℤ, pos, List, [], ◌∷◌}
+use Rattle.std.specs.Prelude.{Option, None, Some, Result, Ok}
 use Rattle.ipc_scalar.specs.Bytes.{byte, int16, int64}
 use Rattle.ipc_flat.specs.Views.{TableView, Structs, table_from, scalar, field, structs_from}
 use Rattle.ipc_model.specs.Answers.{◌>>=◌}
@@ -13,7 +15,8 @@ use Rattle.ipc_meta.specs.Fields.{SchemaAt}
 use Rattle.ipc_meta.specs.Version.{v5}
 use Rattle.ipc_model.specs.Limits.{max_body}
 
--- the numbers of the n structs from p on, each of two signed 64-bit numbers (FlatBuffers binary format, "Structs")
+-- the numbers of the n structs from p on, each of two signed 64-bit numbers (FlatBuffers binary
+-- format, "Structs")
 unfoldable pub number_pairs : List ℕ → ℕ → ℕ → List (ℤ × ℤ)
 number_pairs b p zero = []
 number_pairs b p (suc n) = (int64 b p, int64 b (p + 8)) ∷ number_pairs b (p + 16) n
@@ -23,11 +26,13 @@ abbrev pub pairs_in : Option Structs → List (ℤ × ℤ)
 pairs_in None = []
 pairs_in (Some s) = number_pairs s.bytes s.at s.len
 
--- the structs in field k: FieldNode (length, null_count; Message.fbs) or Buffer (offset, length; Schema.fbs), 16 bytes each
+-- the structs in field k: FieldNode (length, null_count; Message.fbs) or Buffer (offset, length;
+-- Schema.fbs), 16 bytes each
 unfoldable pub numbers_at : TableView → ℕ → Result (List (ℤ × ℤ)) Fault
 numbers_at t k = lift (field t k (structs_from 16)) >>= λ o. Ok (pairs_in o)
 
--- Message.fbs, table RecordBatch: 0 length, 1 nodes, 2 buffers, 3 compression (table BodyCompression, absent where nothing is compressed)
+-- Message.fbs, table RecordBatch: 0 length, 1 nodes, 2 buffers, 3 compression (table
+-- BodyCompression, absent where nothing is compressed)
 pub record BatchAt (t : TableView) (batch : BatchHead) : Type 0 where
   pub length : scalar t 0 8 int64 (pos 0) ≡ Ok batch.length
   pub nodes : numbers_at t 1 ≡ Ok batch.nodes
@@ -42,7 +47,8 @@ pub record DictionaryAt (t : TableView) (id : ℤ) (batch : BatchHead) : Type 0 
 
 -- Message.fbs, table Message: 1 the header's code in union MessageHeader, 2 the header's table
 abbrev pub IsHeader : TableView → ℕ → (TableView → Type 0) → Type 0
-IsHeader root code At = (scalar root 1 1 byte 0 ≡ Ok code) × ((t : TableView) × (field root 2 table_from ≡ Ok (Some t)) × At t)
+IsHeader root code At = (scalar root 1 1 byte 0 ≡ Ok code)
+    × ((t : TableView) × (field root 2 table_from ≡ Ok (Some t)) × At t)
 
 -- Message.fbs, union MessageHeader: Schema 1, DictionaryBatch 2, RecordBatch 3
 abbrev pub HeaderAt : TableView → Head → Type 0
@@ -50,8 +56,8 @@ HeaderAt root (head.Schema s) = IsHeader root 1 (λ t. SchemaAt t s)
 HeaderAt root (head.Dictionary id batch) = IsHeader root 2 (λ t. DictionaryAt t id batch)
 HeaderAt root (head.Batch batch) = IsHeader root 3 (λ t. BatchAt t batch)
 
--- Message.fbs, table Message: the metadata's root table states this head and a body of m bytes: 0 version (Schema.fbs, enum
--- MetadataVersion), 3 bodyLength
+-- Message.fbs, table Message: the metadata's root table states this head and a body of m bytes: 0
+-- version (Schema.fbs, enum MetadataVersion), 3 bodyLength
 pub record HeadOf (metadata : List ℕ) (head : Head) (m : ℕ) : Type 0 where
   pub root : TableView
   pub stands : table_from metadata 0 ≡ Ok root

@@ -7,8 +7,10 @@ use Rattle.ipc_meta.specs.Rooms.{head_room, batch_room}
 
 -- the same metadata states one head and one body's length at most
 abbrev pub OneHead : Type 0
-OneHead = (metadata : List ℕ) (g h : Head) (m n : ℕ) → HeadOf metadata g m → HeadOf metadata h n → (g ≡ h) × (m ≡ n)
+OneHead = (metadata : List ℕ) (g h : Head) (m n : ℕ) → HeadOf metadata g m → HeadOf metadata h n
+    → (g ≡ h) × (m ≡ n)
 
 -- the room of a batch's metadata depends on the numbers of its nodes and buffers alone
 abbrev pub RoomByCounts : Type 0
-RoomByCounts = (head : BatchHead) (m : ℕ) → head_room head m ≡ batch_room (length head.nodes) (length head.buffers)
+RoomByCounts = (head : BatchHead) (m : ℕ)
+    → head_room head m ≡ batch_room (length head.nodes) (length head.buffers)

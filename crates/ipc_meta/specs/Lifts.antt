@@ -5,7 +5,8 @@ use Rattle.ipc_scalar.specs.declared.fault.FlatFault.TheVariants as flat
 use Rattle.ipc_model.specs.declared.fault.Fault.{Fault}
 use Rattle.ipc_model.specs.declared.fault.Fault.TheVariants.{BadFlat, NameNotUtf8}
 
--- a text that is not UTF-8 is returned by itself ("Strings and Vectors"); every other fault is ill-formed metadata
+-- a text that is not UTF-8 is returned by itself ("Strings and Vectors"); every other fault is
+-- ill-formed metadata
 abbrev pub fault_of : FlatFault → Fault
 fault_of flat.OffsetZero = BadFlat
 fault_of flat.OutOfBounds = BadFlat

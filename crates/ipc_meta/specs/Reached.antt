@@ -1,8 +1,10 @@
--- Which tables the metadata of a message has (Message.fbs, Schema.fbs), and where what they hold is ill-formed.
+-- Which tables the metadata of a message has (Message.fbs, Schema.fbs), and where what they hold is
+-- ill-formed.
 use Rattle.std.specs.Prelude.{◌≡◌, ℕ, ◌+◌, ◌*◌, ◌<◌, true, List, Some, Result, Ok, Err, ◌⊎◌}
 use Rattle.ipc_scalar.specs.Bytes.{byte}
 use Rattle.ipc_scalar.specs.Flat.{slot_of, text_of}
-use Rattle.ipc_flat.specs.Views.{TableView, Elements, table_from, scalar, field, elements_from, structs_from}
+use Rattle.ipc_flat.specs.Views.{TableView, Elements, table_from, scalar, field, elements_from}
+use Rattle.ipc_flat.specs.Views.{structs_from}
 use Rattle.ipc_scalar.specs.declared.fault.FlatFault.{FlatFault}
 use Rattle.ipc_scalar.specs.declared.fault.FlatFault.TheVariants.{NotUtf8}
 use Rattle.ipc_model.specs.declared.fault.Fault.TheVariants.{BadFlat}
@@ -21,8 +23,8 @@ pub data Kind : Type 0 where
   dictionary_batch : Kind
   record_batch : Kind
 
--- what a field of a table holds: a number of so many bytes, or the offset of a table, a text, a vector of tables or a vector of
--- structs of 16 bytes
+-- what a field of a table holds: a number of so many bytes, or the offset of a table, a text, a
+-- vector of tables or a vector of structs of 16 bytes
 pub data Held : Type 0 where
   number : ℕ → Held
   table : Held
@@ -30,8 +32,9 @@ pub data Held : Type 0 where
   tables : Held
   structs : Held
 
--- the fields that are looked at, each with its number in its table (Message.fbs, Schema.fbs); the values of the unions MessageHeader and
--- Type stand apart, since they are looked at where their codes are known
+-- the fields that are looked at, each with its number in its table (Message.fbs, Schema.fbs); the
+-- values of the unions MessageHeader and Type stand apart, since they are looked at where their
+-- codes are known
 pub data LooksAt : Kind → ℕ → Held → Type 0 where
   version : LooksAt message 0 (number 2)
   header_type : LooksAt message 1 (number 1)
@@ -66,59 +69,79 @@ pub data LooksAt : Kind → ℕ → Held → Type 0 where
   buffers : LooksAt record_batch 2 structs
   compression : LooksAt record_batch 3 table
 
--- u is one of the tables to which the offsets of the vector in field k of t point (FlatBuffers binary format, "Strings and Vectors")
+-- u is one of the tables to which the offsets of the vector in field k of t point (FlatBuffers
+-- binary format, "Strings and Vectors")
 abbrev pub Element : TableView → ℕ → TableView → Type 0
-Element t k u = (es : Elements) × (i : ℕ) × (vector_at t k ≡ Ok es) × (i < es.len) × (table_from es.bytes (es.at + i * 4) ≡ Ok u)
+Element t k u = (es : Elements) × (i : ℕ) × (vector_at t k ≡ Ok es) × (i < es.len)
+    × (table_from es.bytes (es.at + i * 4) ≡ Ok u)
 
 -- Message.fbs, union MessageHeader: Schema 1, DictionaryBatch 2, RecordBatch 3
 abbrev pub IsHeaderCode : ℕ → Type 0
 IsHeaderCode code = (code ≡ 1) ⊎ ((code ≡ 2) ⊎ (code ≡ 3))
 
--- field 2 of a Message table holds the table of a header with this code in union MessageHeader (Message.fbs)
+-- field 2 of a Message table holds the table of a header with this code in union MessageHeader
+-- (Message.fbs)
 abbrev pub Header : TableView → ℕ → TableView → Type 0
 Header t code u = (scalar t 1 1 byte 0 ≡ Ok code) × (field t 2 table_from ≡ Ok (Some u))
 
--- the metadata b has the table t of this kind: the root table is the Message, and each other table is the header, the data, a column, a
--- child, a pair, the type, the dictionary or the index type of one that it has
+-- the metadata b has the table t of this kind: the root table is the Message, and each other table
+-- is the header, the data, a column, a child, a pair, the type, the dictionary or the index type of
+-- one that it has
 pub data HasTable (b : List ℕ) : Kind → TableView → Type 0 where
   of_root : {t : TableView} → table_from b 0 ≡ Ok t → HasTable b message t
   of_schema : {t u : TableView} → HasTable b message t → Header t 1 u → HasTable b schema u
-  of_dictionary : {t u : TableView} → HasTable b message t → Header t 2 u → HasTable b dictionary_batch u
+  of_dictionary : {t u : TableView} → HasTable b message t → Header t 2 u
+      → HasTable b dictionary_batch u
   of_batch : {t u : TableView} → HasTable b message t → Header t 3 u → HasTable b record_batch u
-  of_values : {t u : TableView} → HasTable b dictionary_batch t → field t 1 table_from ≡ Ok (Some u) → HasTable b record_batch u
+  of_values : {t u : TableView} → HasTable b dictionary_batch t → field t 1 table_from ≡ Ok (Some u)
+      → HasTable b record_batch u
   of_column : {t u : TableView} → HasTable b schema t → Element t 1 u → HasTable b column u
   of_child : {t u : TableView} → HasTable b column t → Element t 5 u → HasTable b column u
   of_schema_pair : {t u : TableView} → HasTable b schema t → Element t 2 u → HasTable b key_value u
   of_field_pair : {t u : TableView} → HasTable b column t → Element t 6 u → HasTable b key_value u
-  of_type : {t u : TableView} {code : ℕ} → HasTable b column t → code_at t ≡ Ok code → field t 3 table_from ≡ Ok (Some u) → HasTable b (type_value code) u
-  of_encoding : {t u : TableView} → HasTable b column t → field t 4 table_from ≡ Ok (Some u) → HasTable b dictionary_encoding u
-  of_index : {t u : TableView} → HasTable b dictionary_encoding t → field t 1 table_from ≡ Ok (Some u) → HasTable b index_type u
+  of_type : {t u : TableView} {code : ℕ} → HasTable b column t → code_at t ≡ Ok code
+      → field t 3 table_from ≡ Ok (Some u) → HasTable b (type_value code) u
+  of_encoding : {t u : TableView} → HasTable b column t → field t 4 table_from ≡ Ok (Some u)
+      → HasTable b dictionary_encoding u
+  of_index : {t u : TableView} → HasTable b dictionary_encoding t
+      → field t 1 table_from ≡ Ok (Some u) → HasTable b index_type u
 
--- the Field table u stands so deep in the Schema table t, where a column is 1 deep (Schema.fbs, tables Schema, 1 fields, and Field, 5 children)
+-- the Field table u stands so deep in the Schema table t, where a column is 1 deep (Schema.fbs,
+-- tables Schema, 1 fields, and Field, 5 children)
 pub data IsDeep (t : TableView) : ℕ → TableView → Type 0 where
   at_top : {u : TableView} → Element t 1 u → IsDeep t 1 u
-  one_deeper : {u v : TableView} {depth : ℕ} → IsDeep t depth u → Element u 5 v → IsDeep t (depth + 1) v
+  one_deeper : {u v : TableView} {depth : ℕ} → IsDeep t depth u → Element u 5 v
+      → IsDeep t (depth + 1) v
 
--- an offset, a vtable or a range is ill-formed: the answer is such a fault (FlatBuffers binary format)
+-- an offset, a vtable or a range is ill-formed: the answer is such a fault (FlatBuffers binary
+-- format)
 abbrev pub IsIllFormed : {X : Type 0} → Result X FlatFault → Type 0
 IsIllFormed r = lift r ≡ Err BadFlat
 
--- field k of t holds what is ill-formed, in its own place or behind its offset; of a vector of tables this may be one of its tables
+-- field k of t holds what is ill-formed, in its own place or behind its offset; of a vector of
+-- tables this may be one of its tables
 abbrev pub HoldsIllFormed : TableView → ℕ → Held → Type 0
 HoldsIllFormed t k (number width) = IsIllFormed (slot_of t.bytes t.at k width)
 HoldsIllFormed t k table = IsIllFormed (field t k table_from)
 HoldsIllFormed t k text = IsIllFormed (field t k text_of)
 HoldsIllFormed t k tables =
-    IsIllFormed (field t k (elements_from 4)) ⊎ ((es : Elements) × (i : ℕ) × (vector_at t k ≡ Ok es) × (i < es.len) × IsIllFormed (table_from es.bytes (es.at + i * 4)))
+    IsIllFormed (field t k (elements_from 4))
+    ⊎ ((es : Elements) × (i : ℕ) × (vector_at t k ≡ Ok es) × (i < es.len)
+    × IsIllFormed (table_from es.bytes (es.at + i * 4)))
 HoldsIllFormed t k structs = IsIllFormed (field t k (structs_from 16))
 
--- the root table is ill-formed, or what a field holds that is looked at, or the value of a union whose code is one that is read
+-- the root table is ill-formed, or what a field holds that is looked at, or the value of a union
+-- whose code is one that is read
 pub data HasIllFormed (b : List ℕ) : Type 0 where
   no_root : IsIllFormed (table_from b 0) → HasIllFormed b
-  at_field : {kind : Kind} {held : Held} {t : TableView} {k : ℕ} → HasTable b kind t → LooksAt kind k held → HoldsIllFormed t k held → HasIllFormed b
-  at_header : {t : TableView} {code : ℕ} → HasTable b message t → scalar t 1 1 byte 0 ≡ Ok code → IsHeaderCode code → IsIllFormed (field t 2 table_from) → HasIllFormed b
-  at_type : {t : TableView} {code : ℕ} → HasTable b column t → code_at t ≡ Ok code → is_type_code code ≡ true → IsIllFormed (field t 3 table_from) → HasIllFormed b
+  at_field : {kind : Kind} {held : Held} {t : TableView} {k : ℕ} → HasTable b kind t
+      → LooksAt kind k held → HoldsIllFormed t k held → HasIllFormed b
+  at_header : {t : TableView} {code : ℕ} → HasTable b message t → scalar t 1 1 byte 0 ≡ Ok code
+      → IsHeaderCode code → IsIllFormed (field t 2 table_from) → HasIllFormed b
+  at_type : {t : TableView} {code : ℕ} → HasTable b column t → code_at t ≡ Ok code
+      → is_type_code code ≡ true → IsIllFormed (field t 3 table_from) → HasIllFormed b
 
 -- a text that is looked at is not UTF-8 (FlatBuffers binary format, "Strings and Vectors")
 pub data HasOtherText (b : List ℕ) : Type 0 where
-  at_text : {kind : Kind} {t : TableView} {k : ℕ} → HasTable b kind t → LooksAt kind k text → field t k text_of ≡ Err NotUtf8 → HasOtherText b
+  at_text : {kind : Kind} {t : TableView} {k : ℕ} → HasTable b kind t → LooksAt kind k text
+      → field t k text_of ≡ Err NotUtf8 → HasOtherText b

@@ -1,6 +1,8 @@
--- The fields and batches that tables state (Schema.fbs, Message.fbs) as functions: read in the order of the tables' fields, under a
--- budget, with the fault of what is refused. Laws join them to the relations FieldAt and BatchAt.
-use Rattle.std.specs.Prelude.{pos, ℕ, zero, suc, ◌+◌, List, [], ◌∷◌, ◌++◌, length, Option, None, Some, Result, Ok, Err}
+-- The fields and batches that tables state (Schema.fbs, Message.fbs) as functions: read in the
+-- order of the tables' fields, under a budget, with the fault of what is refused. Laws join them to
+-- the relations FieldAt and BatchAt.
+use Rattle.std.specs.Prelude.{pos, ℕ, zero, suc, ◌+◌, List, [], ◌∷◌, ◌++◌, length, Option, None}
+use Rattle.std.specs.Prelude.{Some, Result, Ok, Err}
 use Rattle.ipc_flat.specs.Views.{TableView, table_from, scalar, field}
 use Rattle.ipc_model.specs.Answers.{◌>>=◌}
 use Rattle.ipc_model.specs.Entries.{kind_text}
@@ -19,10 +21,12 @@ use Rattle.ipc_meta.specs.Tables.{text_at, flag_at, vector_at, type_at, dictiona
 -- what f reads of n tables, to which the offsets from p on point, one after another
 unfoldable pub each : {X : Type 0} → (TableView → Reading X) → List ℕ → ℕ → ℕ → Reading (List X)
 each f b p zero left = Ok ([], left)
-each f b p (suc n) left = lift (table_from b p) >>= λ t. f t left >>= λ x. each f b (p + 4) n x.1 >>= λ xs. Ok (x.0 ∷ xs.0, xs.1)
+each f b p (suc n) left = lift (table_from b p) >>= λ t. f t left >>= λ x. each f b (p + 4) n x.1
+    >>= λ xs. Ok (x.0 ∷ xs.0, xs.1)
 
 -- a list with others before it
-abbrev pub with_front : {X : Type 0} → List X → Result (List X × Budget) Fault → Result (List X × Budget) Fault
+abbrev pub with_front : {X : Type 0} → List X → Result (List X × Budget) Fault
+    → Result (List X × Budget) Fault
 with_front front r = r >>= λ xs. Ok (front ++ xs.0, xs.1)
 
 -- the text in field k, with its bytes counted
@@ -35,7 +39,8 @@ pair_read t left = text_read t 0 left >>= λ k. text_read t 1 k.1 >>= λ v. Ok (
 
 -- the KeyValue tables in field k, all counted before the first is read
 unfoldable pub pairs_read : TableView → ℕ → Reading (List (List ℕ × List ℕ))
-pairs_read t k left = vector_at t k >>= λ es. less_pairs es.len left >>= each pair_read es.bytes es.at es.len
+pairs_read t k left = vector_at t k >>= λ es. less_pairs es.len left
+    >>= each pair_read es.bytes es.at es.len
 
 -- the type of a Field table, with the bytes of its timezone counted
 unfoldable pub type_read : TableView → Reading DataType
@@ -43,7 +48,8 @@ type_read t left = type_at t >>= λ κ. less_text (kind_text κ) left >>= λ l. 
 
 -- the Field tables in field k, all counted before f reads the first
 unfoldable pub fields_read : (TableView → Reading Field) → TableView → ℕ → Reading (List Field)
-fields_read f t k left = vector_at t k >>= λ es. less_fields es.len left >>= each f es.bytes es.at es.len
+fields_read f t k left = vector_at t k >>= λ es. less_fields es.len left
+    >>= each f es.bytes es.at es.len
 
 -- the field of a Field table, with at most so many levels
 unfoldable pub field_read : ℕ → TableView → Reading Field
@@ -55,7 +61,17 @@ field_read (suc depth) t left =
     dictionary_at t >>= λ dictionary.
     pairs_read t 6 κ.1 >>= λ pairs.
     fields_read (field_read depth) t 5 pairs.1 >>= λ children.
-    Ok (roll-Field (record { name = name.0; nullable = nullable; kind = κ.0; dictionary = dictionary; children = children.0; metadata = pairs.0 }), children.1)
+    Ok (
+      roll-Field (record {
+        name = name.0;
+        nullable = nullable;
+        kind = κ.0;
+        dictionary = dictionary;
+        children = children.0;
+        metadata = pairs.0;
+      }),
+      children.1,
+    )
 
 -- goes on where there is no BodyCompression table
 abbrev pub when_plain : {X : Type 0} → Option TableView → Result X Fault → Result X Fault

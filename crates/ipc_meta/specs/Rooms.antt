@@ -1,4 +1,5 @@
--- How many bytes the metadata of a message may need: the room of the tree that is written, a bound of this project (FlatBuffers binary format).
+-- How many bytes the metadata of a message may need: the room of the tree that is written, a bound
+-- of this project (FlatBuffers binary format).
 use Rattle.std.specs.Prelude.{ℕ, ℤ, pos, List, replicate}
 use Rattle.ipc_build.specs.Room.{room}
 use Rattle.ipc_model.specs.declared.schema.Schema.{Schema}
@@ -17,6 +18,8 @@ head_room head m = room (batch_message head m)
 abbrev pub zeros : ℕ → List (ℤ × ℤ)
 zeros n = replicate n (pos 0, pos 0)
 
--- the room of the metadata of a batch with so many nodes and buffers, whatever numbers they hold (`RoomByCounts`)
+-- the room of the metadata of a batch with so many nodes and buffers, whatever numbers they hold
+-- (`RoomByCounts`)
 unfoldable pub batch_room : ℕ → ℕ → ℕ
-batch_room nodes buffers = head_room (record { length = pos 0; nodes = zeros nodes; buffers = zeros buffers }) 0
+batch_room nodes buffers = head_room
+    (record { length = pos 0; nodes = zeros nodes; buffers = zeros buffers }) 0

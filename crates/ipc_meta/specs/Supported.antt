@@ -1,5 +1,5 @@
--- Which columns are read and written (Schema.fbs, union Type and table DictionaryEncoding). No other definition speaks of this: what
--- metadata states, it states of all types.
+-- Which columns are read and written (Schema.fbs, union Type and table DictionaryEncoding). No
+-- other definition speaks of this: what metadata states, it states of all types.
 use Rattle.std.specs.Prelude.{◌≡◌, ℕ, Bool, true, false, ◌&&◌, List, [], ◌∷◌, Option, Some, None, ⊤}
 use Rattle.ipc_model.specs.declared.fault.Fault.{Fault}
 use Rattle.ipc_model.specs.declared.fault.Fault.TheVariants.{UnsupportedType}
@@ -55,19 +55,25 @@ IsSupported (head.Schema s) = are_supported s.fields ≡ true
 IsSupported (head.Dictionary id batch) = ⊤
 IsSupported (head.Batch batch) = ⊤
 
--- one of these fields, or of those below them, has a type with this code (Schema.fbs, union Type), and columns of it, with its
--- dictionary, are not read
+-- one of these fields, or of those below them, has a type with this code (Schema.fbs, union Type),
+-- and columns of it, with its dictionary, are not read
 pub data HasUnsupported (code : ℕ) : List Field → Type 0 where
-  here : {f : Field} {fs : List Field} → type_code (out-Field f).kind ≡ code → is_supported (out-Field f).kind (out-Field f).dictionary ≡ false → HasUnsupported code (f ∷ fs)
-  below : {f : Field} {fs : List Field} → HasUnsupported code (out-Field f).children → HasUnsupported code (f ∷ fs)
+  here : {f : Field} {fs : List Field} → type_code (out-Field f).kind ≡ code
+      → is_supported (out-Field f).kind (out-Field f).dictionary ≡ false
+      → HasUnsupported code (f ∷ fs)
+  below : {f : Field} {fs : List Field} → HasUnsupported code (out-Field f).children
+      → HasUnsupported code (f ∷ fs)
   behind : {f : Field} {fs : List Field} → HasUnsupported code fs → HasUnsupported code (f ∷ fs)
 
 -- the fault tells the code of such a field of this head
 abbrev pub NamesUnsupported : Head → Fault → Type 0
-NamesUnsupported (head.Schema s) fault = (code : ℕ) × (fault ≡ UnsupportedType code) × HasUnsupported code s.fields
+NamesUnsupported (head.Schema s) fault =
+    (code : ℕ) × (fault ≡ UnsupportedType code) × HasUnsupported code s.fields
 NamesUnsupported (head.Dictionary id batch) fault = ⊥
 NamesUnsupported (head.Batch batch) fault = ⊥
 
--- the metadata states a head, and the fault tells the code of a field in it whose columns are not read
+-- the metadata states a head, and the fault tells the code of a field in it whose columns are not
+-- read
 abbrev pub IsUnsupported : List ℕ → Fault → Type 0
-IsUnsupported metadata fault = (stated : Head) × (m : ℕ) × HeadOf metadata stated m × NamesUnsupported stated fault
+IsUnsupported metadata fault =
+    (stated : Head) × (m : ℕ) × HeadOf metadata stated m × NamesUnsupported stated fault

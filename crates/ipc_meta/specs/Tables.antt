@@ -1,5 +1,7 @@
--- What single tables of the metadata state (Schema.fbs), with the default for each field that is absent.
-use Rattle.std.specs.Prelude.{ℕ, ◌==◌, ◌||◌, Bool, true, nat_lt, ℤ, pos, negsuc, List, [], Option, None, Some, Result, Ok, Err, if◌then◌else◌}
+-- What single tables of the metadata state (Schema.fbs), with the default for each field that is
+-- absent.
+use Rattle.std.specs.Prelude.{ℕ, ◌==◌, ◌||◌, Bool, true, nat_lt, ℤ, pos, negsuc, List, [], Option}
+use Rattle.std.specs.Prelude.{None, Some, Result, Ok, Err, if◌then◌else◌}
 use Rattle.ipc_scalar.specs.Bytes.{byte, int16, int32, int64}
 use Rattle.ipc_scalar.specs.Flat.{text_of}
 use Rattle.ipc_flat.specs.Views.{TableView, Elements, table_from, scalar, field, elements_from}
@@ -26,7 +28,8 @@ or_else d (Some x) = x
 unfoldable pub text_at : TableView → ℕ → Result (List ℕ) Fault
 text_at t k = lift (field t k text_of) >>= λ o. Ok (or_else [] o)
 
--- the truth value in field k: an absent byte and 0 are false, any other is true (FlatBuffers binary format, "Tables")
+-- the truth value in field k: an absent byte and 0 are false, any other is true (FlatBuffers binary
+-- format, "Tables")
 unfoldable pub flag_at : TableView → ℕ → Result Bool Fault
 flag_at t k = lift (scalar t k 1 byte 0) >>= λ n. Ok (nat_lt 0 n)
 
@@ -41,7 +44,9 @@ vector_at t k = lift (field t k (elements_from 4)) >>= λ o. Ok (no_elements t o
 
 -- the width of an integer, which is 8, 16, 32 or 64 bits (Schema.fbs, table Int, bitWidth)
 abbrev pub bits_of : ℤ → Option IntBits
-bits_of (pos n) = if n == 8 then Some B8 else (if n == 16 then Some B16 else (if n == 32 then Some B32 else (if n == 64 then Some B64 else None)))
+bits_of (pos n) = if n == 8 then Some B8 else
+    (if n == 16 then Some B16 else
+    (if n == 32 then Some B32 else (if n == 64 then Some B64 else None)))
 bits_of (negsuc n) = None
 
 -- a value, or the fault e where there is none
@@ -56,7 +61,8 @@ map_ok f (Err e) = Err e
 
 -- Schema.fbs, table Int: 0 bitWidth, 1 is_signed; another width is the fault e
 abbrev pub int_at : Fault → TableView → Result IndexType Fault
-int_at e v = lift (scalar v 0 4 int32 (pos 0)) >>= λ w. ok_or e (bits_of w) >>= λ b. flag_at v 1 >>= λ s. Ok (record { bits = b; signed = s })
+int_at e v = lift (scalar v 0 4 int32 (pos 0)) >>= λ w. ok_or e (bits_of w) >>= λ b. flag_at v 1
+    >>= λ s. Ok (record { bits = b; signed = s })
 
 -- Schema.fbs, table FixedSizeBinary, 0 byteWidth: this many bytes, which is not negative
 abbrev pub fixed_at : ℤ → Result DataType Fault
@@ -65,20 +71,25 @@ fixed_at (negsuc n) = Err BadType
 
 -- Schema.fbs, table Date, 0 unit: enum DateUnit, DAY is 0 and MILLISECOND 1
 abbrev pub date_at : ℤ → Result DataType Fault
-date_at (pos n) = if n == 0 then Ok (t.Date date.Day) else (if n == 1 then Ok (t.Date date.Millisecond) else Err BadType)
+date_at (pos n) = if n == 0 then Ok (t.Date date.Day) else
+    (if n == 1 then Ok (t.Date date.Millisecond) else Err BadType)
 date_at (negsuc n) = Err BadType
 
 -- Schema.fbs, enum TimeUnit: SECOND 0, MILLISECOND 1, MICROSECOND 2, NANOSECOND 3
 abbrev pub unit_of : ℤ → Option TimeUnit
-unit_of (pos n) = if n == 0 then Some time.Second else (if n == 1 then Some time.Millisecond else (if n == 2 then Some time.Microsecond else (if n == 3 then Some time.Nanosecond else None)))
+unit_of (pos n) = if n == 0 then Some time.Second else
+    (if n == 1 then Some time.Millisecond else
+    (if n == 2 then Some time.Microsecond else (if n == 3 then Some time.Nanosecond else None)))
 unit_of (negsuc n) = None
 
--- Schema.fbs, table Timestamp: 0 unit, 1 timezone; an absent timezone is none, a present one may be empty
+-- Schema.fbs, table Timestamp: 0 unit, 1 timezone; an absent timezone is none, a present one may be
+-- empty
 abbrev pub timestamp_at : TableView → Result DataType Fault
-timestamp_at v = lift (scalar v 0 2 int16 (pos 0)) >>= λ u. ok_or BadType (unit_of u) >>= λ u. lift (field v 1 text_of) >>= λ z. Ok (t.Timestamp u z)
+timestamp_at v = lift (scalar v 0 2 int16 (pos 0)) >>= λ u. ok_or BadType (unit_of u)
+    >>= λ u. lift (field v 1 text_of) >>= λ z. Ok (t.Timestamp u z)
 
--- Schema.fbs, union Type: Null 1, Int 2, Binary 4, Utf8 5, Bool 6, Date 8 (its unit is MILLISECOND where absent), Timestamp 10, List 12,
--- Struct_ 13, FixedSizeBinary 15; other codes are not read
+-- Schema.fbs, union Type: Null 1, Int 2, Binary 4, Utf8 5, Bool 6, Date 8 (its unit is MILLISECOND
+-- where absent), Timestamp 10, List 12, Struct_ 13, FixedSizeBinary 15; other codes are not read
 unfoldable pub type_of : ℕ → TableView → Result DataType Fault
 type_of code v =
     if code == 1 then Ok t.Null
@@ -105,17 +116,21 @@ code_at f = lift (scalar f 2 1 byte 0)
 -- Schema.fbs, union Type: the code is that of a type which `type_of` reads
 unfoldable pub is_type_code : ℕ → Bool
 is_type_code code =
-    code == 1 || (code == 2 || (code == 4 || (code == 5 || (code == 6 || (code == 8 || (code == 10 || (code == 12 || (code == 13 || code == 15))))))))
+    code == 1 || (code == 2 || (code == 4
+    || (code == 5 || (code == 6
+    || (code == 8 || (code == 10 || (code == 12 || (code == 13 || code == 15))))))))
 
 -- what is read where the code is such a type's
 abbrev pub when_type : {X : Type 0} → ℕ → Result X Fault → Result X Fault
 when_type code r = if is_type_code code then r else Err (UnsupportedType code)
 
--- Schema.fbs, table Field: 2 the type's code, 3 the type's table, which is looked at where the code is a type's
+-- Schema.fbs, table Field: 2 the type's code, 3 the type's table, which is looked at where the code
+-- is a type's
 unfoldable pub type_at : TableView → Result DataType Fault
 type_at f = code_at f >>= λ code. when_type code (lift (field f 3 table_from) >>= type_in code)
 
--- Schema.fbs, table DictionaryEncoding, indexType: an Int table; where it is absent, indices are signed and have 32 bits
+-- Schema.fbs, table DictionaryEncoding, indexType: an Int table; where it is absent, indices are
+-- signed and have 32 bits
 abbrev pub index_in : Option TableView → Result IndexType Fault
 index_in None = Ok (record { bits = B32; signed = true })
 index_in (Some v) = int_at BadIndexType v

@@ -1,5 +1,6 @@
--- How much the tables of a schema state in all (Schema.fbs, tables Schema, Field and KeyValue). What several offsets point to counts at
--- each of them; what is absent or can't be read counts as nothing.
+-- How much the tables of a schema state in all (Schema.fbs, tables Schema, Field and KeyValue).
+-- What several offsets point to counts at each of them; what is absent or can't be read counts as
+-- nothing.
 use Rattle.std.specs.Prelude.{ℕ, zero, suc, ◌+◌, List, length, Result, Ok, Err}
 use Rattle.ipc_flat.specs.Views.{TableView, table_from}
 use Rattle.ipc_model.specs.Entries.{kind_text}
@@ -44,7 +45,8 @@ tree w (suc depth) t = w t + sum_in (tree w depth) t 5
 abbrev pub fields_stated : TableView → ℕ
 fields_stated t = count_in t 1 + sum_in (tree (λ u. count_in u 5) 64) t 1
 
--- the bytes of the names, timezones, keys and values of a Schema table and of its fields in at most 64 levels
+-- the bytes of the names, timezones, keys and values of a Schema table and of its fields in at most
+-- 64 levels
 abbrev pub text_stated : TableView → ℕ
 text_stated t = sum_in pair_text_in t 2 + sum_in (tree own_text 64) t 1
 

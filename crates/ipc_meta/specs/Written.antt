@@ -1,9 +1,11 @@
--- What is written of schemas and batches: in each table the fields that are present, by their numbers, and what they hold. A field that
--- has no place here is absent (Message.fbs, Schema.fbs).
-use Rattle.std.specs.Prelude.{ℕ, ℤ, pos, Bool, if◌then◌else◌, List, [], ◌∷◌, map, Option, None, Some}
+-- What is written of schemas and batches: in each table the fields that are present, by their
+-- numbers, and what they hold. A field that has no place here is absent (Message.fbs, Schema.fbs).
+use Rattle.std.specs.Prelude.{ℕ, ℤ, pos, Bool, if◌then◌else◌, List, [], ◌∷◌, map, Option, None}
+use Rattle.std.specs.Prelude.{Some}
 use Rattle.std.specs.Int.{Width, w16, w32, w64, cast_signed}
 use Rattle.ipc_build.specs.declared.tree.Slot.{Slot}
-use Rattle.ipc_build.specs.Trees.{Tree, none, field, byte, signed, string, pairs, table, tables, node, tables_of}
+use Rattle.ipc_build.specs.Trees.{Tree, none, field, byte, signed, string, pairs, table, tables}
+use Rattle.ipc_build.specs.Trees.{node, tables_of}
 use Rattle.ipc_model.specs.Ranges.{width}
 use Rattle.ipc_model.specs.TypeCodes.{type_code}
 use Rattle.ipc_model.specs.declared.schema.IntBits.{IntBits}
@@ -98,17 +100,20 @@ type_tree t.Struct = none
 
 -- Schema.fbs, table DictionaryEncoding: 0 id, 1 indexType, 2 isOrdered
 abbrev pub dictionary_tree : Dictionary → Tree
-dictionary_tree d = with_signed 0 w64 d.id (with_table 1 (int_tree d.index.bits d.index.signed) (with_byte 2 (flag d.ordered) none))
+dictionary_tree d = with_signed 0 w64 d.id
+    (with_table 1 (int_tree d.index.bits d.index.signed) (with_byte 2 (flag d.ordered) none))
 
 -- Schema.fbs, table Field, 4 dictionary: present where there is one
 abbrev pub with_dictionary : Option Dictionary → Tree → Tree
 with_dictionary None rest = rest
 with_dictionary (Some d) rest = with_table 4 (dictionary_tree d) rest
 
--- Schema.fbs, table Field: 0 name, 1 nullable, 2 and 3 type, 4 dictionary, 5 children, 6 custom_metadata
+-- Schema.fbs, table Field: 0 name, 1 nullable, 2 and 3 type, 4 dictionary, 5 children, 6
+-- custom_metadata
 abbrev pub field_step : Field-F Tree → Tree
 field_step f =
-    with_text 0 f.name (with_byte 1 (flag f.nullable) (with_byte 2 (type_code f.kind) (with_table 3 (type_tree f.kind)
+    with_text 0 f.name (with_byte 1 (flag f.nullable)
+    (with_byte 2 (type_code f.kind) (with_table 3 (type_tree f.kind)
     (with_dictionary f.dictionary (with_tables 5 f.children (with_pairs 6 f.metadata))))))
 
 -- the table of a field, children included (Schema.fbs, table Field)
@@ -125,7 +130,8 @@ batch_tree b = with_signed 0 w64 b.length (with_numbers 1 b.nodes (with_numbers 
 
 -- Message.fbs, table Message: 0 version, 1 and 2 header, 3 bodyLength
 abbrev pub message_tree : ℕ → Tree → ℕ → Tree
-message_tree code header m = with_signed 0 w16 v5 (with_byte 1 code (with_table 2 header (with_signed 3 w64 (pos m) none)))
+message_tree code header m = with_signed 0 w16 v5
+    (with_byte 1 code (with_table 2 header (with_signed 3 w64 (pos m) none)))
 
 -- Message.fbs, union MessageHeader: Schema is 1; its message has no body
 abbrev pub schema_message : Schema → Tree

@@ -65,8 +65,10 @@ pub(crate) fn read_dictionary_batch(
     table: &TableRef<'_>,
 ) -> Result<(i64, BatchHead), Fault>
     ensures found { IfOk result (λ d. DictionaryAt table.now d.0 d.1) }
-    ensures only { (id : ℤ) (batch : BatchHead) → DictionaryAt table.now id batch → AnswersUnlessOutOfMemory (λ y. y) result (Ok (id, batch)) }
-    ensures refused { IfErr result (λ f. (b : List ℕ) → HasTable b dictionary_batch table.now → UnlessOutOfMemory f (Cause b f)) }
+    ensures only { (id : ℤ) (batch : BatchHead) → DictionaryAt table.now id batch
+        → AnswersUnlessOutOfMemory (λ y. y) result (Ok (id, batch)) }
+    ensures refused { IfErr result (λ f. (b : List ℕ) → HasTable b dictionary_batch table.now
+        → UnlessOutOfMemory f (Cause b f)) }
 {
     let id = lifted(table.scalar_i64(0, 0))?;
     if read_flag(table, 2)? {

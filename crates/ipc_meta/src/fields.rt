@@ -17,7 +17,8 @@ fn read_text(
     slot: u16,
     left: &mut Budget,
 ) -> Result<Text, Fault>
-    ensures { AnswersUnlessOutOfMemory (λ s. (s, left.new)) result (text_read table.now slot left.old) }
+    ensures { AnswersUnlessOutOfMemory (λ s. (s, left.new)) result
+        (text_read table.now slot left.old) }
 {
     let text = lifted(table.text(slot))?.unwrap_or("");
     left.take_text(text.len())?;
@@ -43,7 +44,8 @@ pub(crate) fn read_pairs(
     slot: u16,
     left: &mut Budget,
 ) -> Result<Items<(Text, Text)>, Fault>
-    ensures { AnswersUnlessOutOfMemory (λ ps. (ps, left.new)) result (pairs_read table.now slot left.old) }
+    ensures { AnswersUnlessOutOfMemory (λ ps. (ps, left.new)) result
+        (pairs_read table.now slot left.old) }
 {
     let mut pairs = Vec::new(alloc);
     let Some(tables) = lifted(table.tables(slot))? else {
@@ -68,7 +70,8 @@ pub(crate) fn read_fields(
     depth: u32,
     left: &mut Budget,
 ) -> Result<Items<Field>, Fault>
-    ensures { AnswersUnlessOutOfMemory (λ fs. (fs, left.new)) result (fields_read (field_read depth) table.now slot left.old) }
+    ensures { AnswersUnlessOutOfMemory (λ fs. (fs, left.new)) result
+        (fields_read (field_read depth) table.now slot left.old) }
 {
     let mut fields = Vec::new(alloc);
     let Some(tables) = lifted(table.tables(slot))? else {
@@ -82,8 +85,8 @@ pub(crate) fn read_fields(
     Ok(Items::from_vec(fields))
 }
 
-// A Field table (Schema.fbs) and all below it, with at most `depth` levels: 0 name, 1 nullable, 2 and
-// 3 type, 4 dictionary, 5 children, 6 custom_metadata.
+// A Field table (Schema.fbs) and all below it, with at most `depth` levels: 0 name, 1 nullable, 2
+// and 3 type, 4 dictionary, 5 children, 6 custom_metadata.
 #[cycle(fields)]
 #[tactic(auto, unfolding(crate::specs::Reading::field_read))]
 fn read_field(
@@ -92,7 +95,8 @@ fn read_field(
     depth: u32,
     left: &mut Budget,
 ) -> Result<Field, Fault>
-    ensures { AnswersUnlessOutOfMemory (λ f. (f, left.new)) result (field_read depth table.now left.old) }
+    ensures { AnswersUnlessOutOfMemory (λ f. (f, left.new)) result
+        (field_read depth table.now left.old) }
 {
     if depth == 0 {
         return Err(Fault::TooDeep);

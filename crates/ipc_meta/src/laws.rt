@@ -6,8 +6,8 @@ pub fn one_head_per_metadata()
     ensures { OneHead }
 {}
 
-/// The law that the room of a record batch's metadata depends on the numbers of its nodes and buffers
-/// alone. It does nothing when it is called.
+/// The law that the room of a record batch's metadata depends on the numbers of its nodes and
+/// buffers alone. It does nothing when it is called.
 pub fn room_by_counts()
     ensures { RoomByCounts }
 {}

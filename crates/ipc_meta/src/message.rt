@@ -20,7 +20,8 @@ use ipc_model::limits::{MAX_BODY, MAX_DEPTH, MAX_FIELDS, MAX_PAIRS, MAX_TEXT};
 use ipc_model::{Fault, Schema};
 use std::alloc::Global;
 
-// Message.fbs, union MessageHeader: the last of the headers that a stream has, RecordBatch. The first is 1.
+// Message.fbs, union MessageHeader: the last of the headers that a stream has, RecordBatch. The
+// first is 1.
 const LAST_HEADER: u8 = 3;
 
 // How many bytes a body may have, a signed number as its length is stated.
@@ -41,8 +42,10 @@ fn check_endianness(table: &TableRef<'_>) -> Result<(), Fault>
 // A Schema table (Schema.fbs): 0 endianness, 1 fields, 2 custom_metadata.
 fn read_schema(alloc: Global, table: &TableRef<'_>) -> Result<Schema, Fault>
     ensures found { IfOk result (λ s. SchemaAt table.now s) }
-    ensures only { (s : Schema) → SchemaAt table.now s → AnswersUnlessOutOfMemory (λ y. y) result (Ok s) }
-    ensures refused { IfErr result (λ f. (b : List ℕ) → HasTable b schema table.now → UnlessOutOfMemory f (Cause b f)) }
+    ensures only { (s : Schema) → SchemaAt table.now s
+        → AnswersUnlessOutOfMemory (λ y. y) result (Ok s) }
+    ensures refused { IfErr result
+        (λ f. (b : List ℕ) → HasTable b schema table.now → UnlessOutOfMemory f (Cause b f)) }
 {
     check_endianness(table)?;
     let mut left = Budget {
@@ -57,12 +60,14 @@ fn read_schema(alloc: Global, table: &TableRef<'_>) -> Result<Schema, Fault>
     Ok(schema)
 }
 
-// The header of a Message table (Message.fbs): 1 its code in union MessageHeader, 2 its table, which isn't
-// looked at where the code is none of a stream's.
+// The header of a Message table (Message.fbs): 1 its code in union MessageHeader, 2 its table,
+// which isn't looked at where the code is none of a stream's.
 fn read_header(alloc: Global, root: &TableRef<'_>) -> Result<Head, Fault>
     ensures found { IfOk result (λ head. HeaderAt root.now head) }
-    ensures only { (head : Head) → HeaderAt root.now head → AnswersUnlessOutOfMemory (λ y. y) result (Ok head) }
-    ensures refused { IfErr result (λ f. (b : List ℕ) → HasTable b message root.now → UnlessOutOfMemory f (Cause b f)) }
+    ensures only { (head : Head) → HeaderAt root.now head
+        → AnswersUnlessOutOfMemory (λ y. y) result (Ok head) }
+    ensures refused { IfErr result
+        (λ f. (b : List ℕ) → HasTable b message root.now → UnlessOutOfMemory f (Cause b f)) }
 {
     let code = lifted(root.scalar_u8(1, 0))?;
     if code == 0 || code > LAST_HEADER {
@@ -82,11 +87,12 @@ fn read_header(alloc: Global, root: &TableRef<'_>) -> Result<Head, Fault>
     }
 }
 
-// What the root table states (Message.fbs, table Message): the version, the body's length and the header,
-// whether or not columns of its types are read here.
+// What the root table states (Message.fbs, table Message): the version, the body's length and the
+// header, whether or not columns of its types are read here.
 fn read_stated(alloc: Global, metadata: &[u8]) -> Result<(Head, u64), Fault>
     ensures found { IfOk result (λ r. HeadOf metadata.now r.0 r.1) }
-    ensures only { (head : Head) (m : ℕ) → HeadOf metadata.now head m → MatchResult result (λ r. (r.0 ≡ head) × (r.1 ≡ m)) (λ f. f ≡ Fault.OutOfMemory) }
+    ensures only { (head : Head) (m : ℕ) → HeadOf metadata.now head m
+        → MatchResult result (λ r. (r.0 ≡ head) × (r.1 ≡ m)) (λ f. f ≡ Fault.OutOfMemory) }
     ensures refused { IfErr result (λ f. UnlessOutOfMemory f (Cause metadata.now f)) }
 {
     let root = lifted(Flat::root(metadata))?;
@@ -107,11 +113,11 @@ fn read_stated(alloc: Global, metadata: &[u8]) -> Result<(Head, u64), Fault>
 /// Reads the metadata of one message: what its header states, and how many bytes the message's body
 /// has, from 0 to 2^40 (Message.fbs, table Message).
 ///
-/// `metadata` is the FlatBuffer alone, without the mark and the size before it; padding behind it may
-/// hold anything (Arrow Columnar Format, "Encapsulated message format"). A schema that is answered is
-/// well formed, and columns of each of its fields are read here (`are_supported`). An absent vector is empty, an absent
-/// name, key or value is the empty text, and an absent timezone is none, unlike an empty one.
-/// Memory for texts, fields, nodes and buffers is taken from `alloc`.
+/// `metadata` is the FlatBuffer alone, without the mark and the size before it; padding behind it
+/// may hold anything (Arrow Columnar Format, "Encapsulated message format"). A schema that is
+/// answered is well formed, and columns of each of its fields are read here (`are_supported`). An
+/// absent vector is empty, an absent name, key or value is the empty text, and an absent timezone
+/// is none, unlike an empty one. Memory for texts, fields, nodes and buffers is taken from `alloc`.
 ///
 /// # Errors
 ///
@@ -126,7 +132,8 @@ fn read_stated(alloc: Global, metadata: &[u8]) -> Result<(Head, u64), Fault>
 /// - `BodyTooLong` (F9): the body has more than 2^40 bytes.
 /// - `BigEndian` (F12): the schema's endianness is not Little.
 /// - `UnsupportedType` (F13): a field's type is none of those that are known here, or the metadata
-///   states a schema with a field whose columns are not read here (`are_supported`); with the type's code
+/// states a schema with a field whose columns are not read here (`are_supported`); with the type's
+/// code
 ///   in union Type (Schema.fbs).
 /// - `BadType` (F14): a field's type has no table, or a width or a unit that no type has.
 /// - `BadChildren` (F15): a list without exactly one child, or children of a type that has none.
@@ -144,8 +151,10 @@ fn read_stated(alloc: Global, metadata: &[u8]) -> Result<(Head, u64), Fault>
 pub fn read_message(alloc: Global, metadata: &[u8]) -> Result<(Head, u64), Fault>
     ensures found { IfOk result (λ r. HeadOf metadata.now r.0 r.1) }
     ensures read { IfOk result (λ r. IsSupported r.0) }
-    ensures only { (head : Head) (m : ℕ) → HeadOf metadata.now head m → IsSupported head → MatchResult result (λ r. (r.0 ≡ head) × (r.1 ≡ m)) (λ f. f ≡ Fault.OutOfMemory) }
-    ensures refused { IfErr result (λ f. UnlessOutOfMemory f (Cause metadata.now f ⊎ IsUnsupported metadata.now f)) }
+    ensures only { (head : Head) (m : ℕ) → HeadOf metadata.now head m → IsSupported head
+        → MatchResult result (λ r. (r.0 ≡ head) × (r.1 ≡ m)) (λ f. f ≡ Fault.OutOfMemory) }
+    ensures refused { IfErr result
+        (λ f. UnlessOutOfMemory f (Cause metadata.now f ⊎ IsUnsupported metadata.now f)) }
 {
     let (head, body) = read_stated(alloc, metadata)?;
     check_supported(&head)?;

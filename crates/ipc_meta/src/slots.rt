@@ -51,7 +51,8 @@ pub(crate) fn push_pairs(
     number: u16,
     pairs: &Items<(Text, Text)>,
 ) -> Result<(), AllocError>
-    ensures { IfOk result (λ _. fields_then slots.new.items none ≡ fields_then slots.old.items (with_pairs number pairs.now)) }
+    ensures { IfOk result (λ _. fields_then slots.new.items none
+        ≡ fields_then slots.old.items (with_pairs number pairs.now)) }
 {
     if pairs.len() > 0 {
         let trees = pair_trees(alloc, pairs.as_slice())?;

@@ -1,5 +1,6 @@
 ghost use Rattle.std.specs.Prelude.{◌≡◌, true, false, List, ◌∷◌, MatchOption, OnOk, IfErr};
-ghost use Rattle.ipc_meta.specs.Supported.{is_supported, is_supported_field, are_supported, IsSupported, HasUnsupported, NamesUnsupported};
+ghost use Rattle.ipc_meta.specs.Supported.{is_supported, is_supported_field, are_supported};
+ghost use Rattle.ipc_meta.specs.Supported.{IsSupported, HasUnsupported, NamesUnsupported};
 
 use crate::head::Head;
 use ipc_model::{DataType, Dictionary, Fault, Field};
@@ -22,11 +23,13 @@ fn is_supported(kind: &DataType, dictionary: Option<Dictionary>) -> bool
         }
 }
 
-// The type's code (Schema.fbs, union Type) of this field, or of the first below it, whose columns are
-// not read.
+// The type's code (Schema.fbs, union Type) of this field, or of the first below it, whose columns
+// are not read.
 #[cycle(unread)]
 fn unsupported_at(field: &Field) -> Option<u8>
-    ensures { MatchOption result (is_supported_field field.now ≡ true) (λ code. (is_supported_field field.now ≡ false) × ((behind : List Field) → HasUnsupported code (field.now ∷ behind))) }
+    ensures { MatchOption result (is_supported_field field.now ≡ true)
+        (λ code. (is_supported_field field.now ≡ false)
+        × ((behind : List Field) → HasUnsupported code (field.now ∷ behind))) }
 {
     if !is_supported(&field.kind, field.dictionary) {
         return Some(field.kind.code());
@@ -37,7 +40,8 @@ fn unsupported_at(field: &Field) -> Option<u8>
 // The same of several fields.
 #[cycle(unread)]
 fn unsupported_in(fields: &[Field]) -> Option<u8>
-    ensures { MatchOption result (are_supported fields.now ≡ true) (λ code. (are_supported fields.now ≡ false) × HasUnsupported code fields.now) }
+    ensures { MatchOption result (are_supported fields.now ≡ true)
+        (λ code. (are_supported fields.now ≡ false) × HasUnsupported code fields.now) }
 {
     for field in fields {
         if let Some(code) = unsupported_at(field) {
@@ -47,8 +51,9 @@ fn unsupported_in(fields: &[Field]) -> Option<u8>
     None
 }
 
-/// Whether columns of these fields, their descendants included, are read and written here: neither a list nor a struct, and
-/// without a dictionary (Schema.fbs, union Type and table DictionaryEncoding). It takes no memory.
+/// Whether columns of these fields, their descendants included, are read and written here: neither
+/// a list nor a struct, and without a dictionary (Schema.fbs, union Type and table
+/// DictionaryEncoding). It takes no memory.
 pub fn are_supported(fields: &[Field]) -> bool
     ensures { result ≡ are_supported fields.now }
 {

@@ -77,7 +77,8 @@ pub(crate) fn batch_tree(alloc: Global, head: &BatchHead) -> Result<FlatTree, Al
     Ok(table_of(slots))
 }
 
-/// Message.fbs, table Message: the header's code in union MessageHeader with its table, and the length of the body.
+/// Message.fbs, table Message: the header's code in union MessageHeader with its table, and the
+/// length of the body.
 pub(crate) fn message_tree(
     alloc: Global,
     code: u8,

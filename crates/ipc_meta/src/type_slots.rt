@@ -2,7 +2,8 @@
 ghost use Rattle.std.specs.Prelude.{◌≡◌, IfOk, pos};
 ghost use Rattle.ipc_build.specs.Trees.{Tree, fields_view};
 ghost use Rattle.ipc_model.specs.declared.schema.DataType.TheVariants as t;
-ghost use Rattle.ipc_meta.specs.Written.{fields_then, int_tree, date_code, time_code, type_tree, dictionary_tree, with_dictionary};
+ghost use Rattle.ipc_meta.specs.Written.{fields_then, int_tree, date_code, time_code, type_tree};
+ghost use Rattle.ipc_meta.specs.Written.{dictionary_tree, with_dictionary};
 
 use crate::slots::{Slots, table_of, text_slot};
 use ipc_build::Slot;
@@ -45,7 +46,8 @@ fn timestamp_slots(
     unit: TimeUnit,
     timezone: &Option<Text>,
 ) -> Result<Slots, AllocError>
-    ensures { IfOk result (λ slots. fields_view slots.items ≡ type_tree (t.Timestamp unit timezone.now)) }
+    ensures { IfOk result (λ slots. fields_view slots.items
+        ≡ type_tree (t.Timestamp unit timezone.now)) }
 {
     let unit = Slot::I16(time_number(unit));
     match timezone {
@@ -92,7 +94,9 @@ pub(crate) fn push_dictionary(
     slots: &mut Slots,
     dictionary: Option<Dictionary>,
 ) -> Result<(), AllocError>
-    ensures { IfOk result (λ _. (rest : Tree) → fields_then slots.new.items rest ≡ fields_then slots.old.items (with_dictionary dictionary rest)) }
+    ensures { IfOk result (λ _. (rest : Tree)
+        → fields_then slots.new.items rest
+        ≡ fields_then slots.old.items (with_dictionary dictionary rest)) }
 {
     if let Some(dictionary) = dictionary {
         let encoding = table_of(dictionary_slots(alloc, dictionary)?);

@@ -1,7 +1,9 @@
 ghost use Rattle.std.specs.Prelude.{◌≡◌, ℤ, Ok, option_map, pos};
 ghost use Rattle.ipc_model.specs.Answers.{AnswersUnlessOutOfMemory};
 ghost use Rattle.ipc_model.specs.Entries.{kind_text};
-ghost use Rattle.ipc_meta.specs.Tables.{bits_of, unit_of, int_at, fixed_at, date_at, timestamp_at, type_of, is_type_code, type_at, code_at, flag_at, index_at, dictionary_in, dictionary_at, map_ok};
+ghost use Rattle.ipc_meta.specs.Tables.{bits_of, unit_of, int_at, fixed_at, date_at, timestamp_at};
+ghost use Rattle.ipc_meta.specs.Tables.{type_of, is_type_code, type_at, code_at, flag_at, index_at};
+ghost use Rattle.ipc_meta.specs.Tables.{dictionary_in, dictionary_at, map_ok};
 ghost use Rattle.ipc_meta.specs.Reading.{type_read};
 
 use crate::budget::Budget;
@@ -45,8 +47,8 @@ pub(crate) fn read_flag(table: &TableRef<'_>, slot: u16) -> Result<bool, Fault>
     Ok(flag > 0)
 }
 
-// An Int table (Schema.fbs): 0 bitWidth, 1 is_signed. A width that no integer has is the fault that is
-// handed in.
+// An Int table (Schema.fbs): 0 bitWidth, 1 is_signed. A width that no integer has is the fault that
+// is handed in.
 fn read_int(table: &TableRef<'_>, fault: Fault) -> Result<IndexType, Fault>
     ensures { result ≡ int_at fault table.now }
 {
@@ -176,8 +178,8 @@ pub(crate) fn read_counted_type(
     Ok(kind)
 }
 
-// The index type of a DictionaryEncoding table (Schema.fbs): 1 indexType. Where it is absent, indices are
-// signed and have 32 bits.
+// The index type of a DictionaryEncoding table (Schema.fbs): 1 indexType. Where it is absent,
+// indices are signed and have 32 bits.
 fn read_index(encoding: &TableRef<'_>) -> Result<IndexType, Fault>
     ensures { result ≡ index_at encoding.now }
 {

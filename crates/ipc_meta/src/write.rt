@@ -1,5 +1,6 @@
 //! Metadata that is written.
-ghost use Rattle.std.specs.Prelude.{◌≡◌, ◌⊎◌, ◌<◌, ◌≤◌, ◌+◌, ◌*◌, ◌/◌, ◌^◌, ◌++◌, ℕ, List, length, IfOk, IfErr};
+ghost use Rattle.std.specs.Prelude.{◌≡◌, ◌⊎◌, ◌<◌, ◌≤◌, ◌+◌, ◌*◌, ◌/◌, ◌^◌, ◌++◌, ℕ, List, length};
+ghost use Rattle.std.specs.Prelude.{IfOk, IfErr};
 ghost use Rattle.ipc_build.specs.Trees.{Tree, view};
 ghost use Rattle.ipc_build.specs.Encodes.{Encodes, Aligned};
 ghost use Rattle.ipc_build.specs.Ascends.{Ascends, fields};
@@ -25,7 +26,8 @@ fn built(alloc: Global, tree: &FlatTree) -> Result<Vec<u8>, WriteFault>
     ensures size { IfOk result (λ b. length b.items ≡ size (view tree.now)) }
     ensures within { IfOk result (λ b. (length b.items + 7) / 8 * 8 ≤ room (view tree.now)) }
     ensures room { IfOk result (λ b. room (view tree.now) ≤ max_metadata) }
-    ensures refused { IfErr result (λ f. (f ≡ WriteFault.OutOfMemory) ⊎ ((f ≡ WriteFault.TooLong) × (max_metadata < room (view tree.now)))) }
+    ensures refused { IfErr result (λ f. (f ≡ WriteFault.OutOfMemory)
+        ⊎ ((f ≡ WriteFault.TooLong) × (max_metadata < room (view tree.now)))) }
 {
     match build(alloc, tree) {
         Ok(bytes) => Ok(bytes),
@@ -34,56 +36,68 @@ fn built(alloc: Global, tree: &FlatTree) -> Result<Vec<u8>, WriteFault>
     }
 }
 
-/// The metadata of a schema's message (Message.fbs, table Message; Schema.fbs, table Schema), for a schema that is well formed
-/// (`Schema::check`). The message has no body.
+/// The metadata of a schema's message (Message.fbs, table Message; Schema.fbs, table Schema), for a
+/// schema that is well formed (`Schema::check`). The message has no body.
 ///
-/// The bytes are a FlatBuffer, in which each scalar and offset is aligned to its size. Written are the version (V5), the header
-/// with its code, and the body's length; of the schema its fields, and its pairs where there are any; of each field its name,
-/// whether it is nullable, its type with the code, and its children, and a dictionary and pairs where there are any; of each type
-/// all its fields, but a timezone only where there is one. No other field is present. Padding may follow the bytes: padded to a
-/// multiple of 8 they are at most 2^24.
+/// The bytes are a FlatBuffer, in which each scalar and offset is aligned to its size. Written are
+/// the version (V5), the header with its code, and the body's length; of the schema its fields, and
+/// its pairs where there are any; of each field its name, whether it is nullable, its type with the
+/// code, and its children, and a dictionary and pairs where there are any; of each type all its
+/// fields, but a timezone only where there is one. No other field is present. Padding may follow
+/// the bytes: padded to a multiple of 8 they are at most 2^24.
 ///
 /// # Errors
 ///
-/// - `TooLong` (W6): the room of the metadata is above 2^24 bytes. It is 16, and for each table 24 and 10 for each of its vtable's
-///   entries, for each text 8 and its bytes, for each vector of tables 12 and 4 for each of them, and for each vector of pairs of
+/// - `TooLong` (W6): the room of the metadata is above 2^24 bytes. It is 16, and for each table 24
+/// and 10 for each of its vtable's
+/// entries, for each text 8 and its bytes, for each vector of tables 12 and 4 for each of them, and
+/// for each vector of pairs of
 ///   numbers 12 and 16 for each of them.
 /// - `OutOfMemory` (W11): `alloc` refused memory.
 pub fn write_schema(alloc: Global, schema: &Schema) -> Result<Vec<u8>, WriteFault>
     requires { WellFormed schema.now }
     // Exactly these fields are there, whatever follows.
-    ensures lies { IfOk result (λ b. (rest : List ℕ) → Encodes (b.items ++ rest) (schema_message schema.now)) }
+    ensures lies { IfOk result
+        (λ b. (rest : List ℕ) → Encodes (b.items ++ rest) (schema_message schema.now)) }
     ensures aligned { IfOk result (λ b. Aligned b.items (schema_message schema.now)) }
-    ensures states { IfOk result (λ b. (rest : List ℕ) → HeadOf (b.items ++ rest) (Head.Schema schema.now) 0) }
+    ensures states { IfOk result
+        (λ b. (rest : List ℕ) → HeadOf (b.items ++ rest) (Head.Schema schema.now) 0) }
     // Nothing stands behind them.
     ensures size { IfOk result (λ b. length b.items ≡ size (schema_message schema.now)) }
     ensures within { IfOk result (λ b. (length b.items + 7) / 8 * 8 ≤ schema_room schema.now) }
     ensures short { IfOk result (λ b. (length b.items + 7) / 8 * 8 ≤ max_metadata) }
     ensures room { IfOk result (λ b. schema_room schema.now ≤ max_metadata) }
-    ensures refused { IfErr result (λ f. (f ≡ WriteFault.OutOfMemory) ⊎ ((f ≡ WriteFault.TooLong) × (max_metadata < schema_room schema.now))) }
+    ensures refused { IfErr result (λ f. (f ≡ WriteFault.OutOfMemory)
+        ⊎ ((f ≡ WriteFault.TooLong) × (max_metadata < schema_room schema.now))) }
 {
     let header = schema_tree(alloc, schema)?;
     let message = message_tree(alloc, 1, header, 0)?;
     built(alloc, &message)
 }
 
-/// The metadata of a record batch's message with a body of so many bytes (Message.fbs, tables Message and RecordBatch). The
-/// numbers of the head are written as they are. Its layout and its padding are those of `write_schema`'s.
+/// The metadata of a record batch's message with a body of so many bytes (Message.fbs, tables
+/// Message and RecordBatch). The numbers of the head are written as they are. Its layout and its
+/// padding are those of `write_schema`'s.
 ///
 /// # Errors
 ///
-/// - `TooLong` (W6): the body has more than 2^40 bytes, or the room of the metadata is above 2^24: 158, and 16 for each node and
+/// - `TooLong` (W6): the body has more than 2^40 bytes, or the room of the metadata is above 2^24:
+/// 158, and 16 for each node and
 ///   each buffer.
 /// - `OutOfMemory` (W11): `alloc` refused memory.
 pub fn write_batch(alloc: Global, head: &BatchHead, body: u64) -> Result<Vec<u8>, WriteFault>
-    ensures lies { IfOk result (λ b. (rest : List ℕ) → Encodes (b.items ++ rest) (batch_message head.now body)) }
+    ensures lies { IfOk result (λ b. (rest : List ℕ)
+        → Encodes (b.items ++ rest) (batch_message head.now body)) }
     ensures aligned { IfOk result (λ b. Aligned b.items (batch_message head.now body)) }
-    ensures states { IfOk result (λ b. (rest : List ℕ) → HeadOf (b.items ++ rest) (Head.Batch head.now) body) }
+    ensures states { IfOk result
+        (λ b. (rest : List ℕ) → HeadOf (b.items ++ rest) (Head.Batch head.now) body) }
     ensures size { IfOk result (λ b. length b.items ≡ size (batch_message head.now body)) }
     ensures within { IfOk result (λ b. (length b.items + 7) / 8 * 8 ≤ head_room head.now body) }
     ensures short { IfOk result (λ b. (length b.items + 7) / 8 * 8 ≤ max_metadata) }
     ensures room { IfOk result (λ b. (head_room head.now body ≤ max_metadata) × (body ≤ max_body)) }
-    ensures refused { IfErr result (λ f. (f ≡ WriteFault.OutOfMemory) ⊎ ((f ≡ WriteFault.TooLong) × ((max_metadata < head_room head.now body) ⊎ (max_body < body)))) }
+    ensures refused { IfErr result (λ f. (f ≡ WriteFault.OutOfMemory)
+        ⊎ ((f ≡ WriteFault.TooLong)
+        × ((max_metadata < head_room head.now body) ⊎ (max_body < body)))) }
 {
     if body > MAX_BODY {
         return Err(WriteFault::TooLong);

@@ -37,7 +37,8 @@ all_counted (c ∷ cs) d = omega (arith, length-append (preorder c.0 d) (all_at 
 counted_layer : (y : Field-F Shown) → IsCounted (roll-Field (map-Field Shown Field (λ c. c.0) y))
 counted_layer y = λ d.
     let z : Field-F Field = map-Field Shown Field (λ c. c.0) y in
-    let g : preorder (roll-Field z) d ≡ preorder_step (map-Field Field Listing preorder z) d = ap (λ (l : Listing). l d) (fold-roll-Field Listing preorder_step z) in
+    let g : preorder (roll-Field z) d ≡ preorder_step (map-Field Field Listing preorder z) d =
+    ap (λ (l : Listing). l d) (fold-roll-Field Listing preorder_step z) in
     omega (arith, ap length g, fold-roll-Field ℕ count_step z, all_counted y.children (d + 1))
 
 pub counted : (f : Field) → IsCounted f

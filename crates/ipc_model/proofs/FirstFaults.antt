@@ -1,5 +1,6 @@
 -- The scan finds the first fault, and there is one at most.
-use Rattle.std.proofs.Common.{◌≡◌, ◌∙◌, refl, sym, ap, subst, ℕ, zero, suc, ◌+◌, ◌<◌, ◌≤◌, ℤ, Bool, true, false, not, ◌&&◌, ◌⊎◌, ⊎_elim, inl, inr, List, [], ◌∷◌, ◌++◌, length, take, drop, Option, Some, None, Result, Ok, Err, length-append, arith}
+use Rattle.std.proofs.Common.{◌≡◌, ◌∙◌, refl, sym, ap, subst, ℕ, zero, suc, ◌+◌, ◌<◌, ◌≤◌, ℤ, Bool, true, false, not, ◌&&◌, ◌⊎◌, ⊎_elim}
+use Rattle.std.proofs.Common.{inl, inr, List, [], ◌∷◌, ◌++◌, length, take, drop, Option, Some, None, Result, Ok, Err, length-append, arith}
 use Rattle.std.specs.Prelude.{◌↔◌, sum_by, nat_le, slice_get, if◌then◌else◌, IfErr}
 use Rattle.std.proofs.lemmas.Bool.{cases_lt, cases_order, false≢true}
 use Rattle.std.proofs.lemmas.Bool.Decides.{nat_tests}
@@ -7,7 +8,8 @@ use Rattle.std.proofs.lemmas.List.Sums.{sum_by-append, sum_by-cons}
 use Rattle.std.proofs.lemmas.Option.{slice_get_past}
 use Rattle.ipc_model.specs.FirstFault.{HasMuchText, HasConflict, Breaks, BreaksAt, rank, number_of, IsFirstAt, IsFirstFault}
 use Rattle.ipc_model.specs.WellFormed.{IsAmong}
-use Rattle.ipc_model.specs.SchemaFaults.{Before, after, scan, unless_at, fault_at, has_good_type, has_fitting_children, has_leaf_dictionary, is_little_text, has_conflict, agrees, same_type, at_start, done, verdict_on}
+use Rattle.ipc_model.specs.SchemaFaults.{Before, after, scan, unless_at, fault_at, has_good_type, has_fitting_children, has_leaf_dictionary}
+use Rattle.ipc_model.specs.SchemaFaults.{is_little_text, has_conflict, agrees, same_type, at_start, done, verdict_on}
 use Rattle.ipc_model.specs.Entries.{Entry, entries, pair_text}
 use Rattle.ipc_model.specs.Limits.{max_depth, max_fields, max_pairs, max_text}
 use Rattle.ipc_model.proofs.Meanings.{Clear, clear_of, holds, good_both, fitting_both, leaf_both, agree_is, after_it, at_it, before_it}
@@ -17,137 +19,7 @@ use Rattle.ipc_model.specs.declared.check.SchemaFault.TheVariants as f
 use Rattle.ipc_model.specs.declared.schema.DataType.{DataType}
 use Rattle.ipc_model.specs.declared.schema.Dictionary.{Dictionary}
 use Rattle.ipc_model.specs.declared.schema.Schema.{Schema}
-
--- ---- the tests of one entry, in their order
-
--- the test of the rule that a fault is of
-abbrev pick : Bool → Bool → Bool → Bool → Bool → Bool → Bool → SchemaFault → Bool
-pick type children fields depth text conflict nested (f.BadType number) = type
-pick type children fields depth text conflict nested (f.BadChildren number) = children
-pick type children fields depth text conflict nested (f.TooManyFields number) = fields
-pick type children fields depth text conflict nested (f.TooDeep number) = depth
-pick type children fields depth text conflict nested (f.TooMuchText number) = text
-pick type children fields depth text conflict nested (f.DictionaryConflict number) = not conflict
-pick type children fields depth text conflict nested (f.NestedDictionary number) = nested
-pick type children fields depth text conflict nested f.OutOfMemory = true
-
-abbrev chain : Bool → Bool → Bool → Bool → Bool → Bool → Bool → ℕ → Option SchemaFault
-chain type children fields depth text conflict nested n =
-    if not type then Some (f.BadType n)
-    else (if not children then Some (f.BadChildren n)
-    else (if not fields then Some (f.TooManyFields n)
-    else (if not depth then Some (f.TooDeep n)
-    else (if not text then Some (f.TooMuchText n)
-    else (if conflict then Some (f.DictionaryConflict n)
-    else (if not nested then Some (f.NestedDictionary n)
-    else None))))))
-
--- a fault has the number, its test fails, and none that is returned before it does
-record Told (test : SchemaFault → Bool) (n : ℕ) (x : SchemaFault) : Type 0 where
-  number : number_of x ≡ n
-  fails : test x ≡ false
-  least : (y : SchemaFault) → test y ≡ false → rank x ≤ rank y
-
-told_as : (test : SchemaFault → Bool) (n : ℕ) (x y : SchemaFault) → ◌≡◌ {A = Option SchemaFault} (Some x) (Some y) → Told test n x → Told test n y
-told_as test n x y h t = let same : x ≡ y = cc in subst (λ (z : SchemaFault). Told test n z) same t
-
-no : {P : Type 0} → true ≡ false → P
-no h = absurd (false≢true (sym h))
-
-from_1 : (y : SchemaFault) → 1 ≤ rank y
-from_1 (f.BadType m) = omega arith
-from_1 (f.BadChildren m) = omega arith
-from_1 (f.TooManyFields m) = omega arith
-from_1 (f.TooDeep m) = omega arith
-from_1 (f.TooMuchText m) = omega arith
-from_1 (f.DictionaryConflict m) = omega arith
-from_1 (f.NestedDictionary m) = omega arith
-from_1 f.OutOfMemory = omega arith
-
-from_2 : (c d e g h i : Bool) (y : SchemaFault) → pick true c d e g h i y ≡ false → 2 ≤ rank y
-from_2 c d e g h i (f.BadType m) p = no p
-from_2 c d e g h i (f.BadChildren m) p = omega arith
-from_2 c d e g h i (f.TooManyFields m) p = omega arith
-from_2 c d e g h i (f.TooDeep m) p = omega arith
-from_2 c d e g h i (f.TooMuchText m) p = omega arith
-from_2 c d e g h i (f.DictionaryConflict m) p = omega arith
-from_2 c d e g h i (f.NestedDictionary m) p = omega arith
-from_2 c d e g h i f.OutOfMemory p = omega arith
-
-from_3 : (d e g h i : Bool) (y : SchemaFault) → pick true true d e g h i y ≡ false → 3 ≤ rank y
-from_3 d e g h i (f.BadType m) p = no p
-from_3 d e g h i (f.BadChildren m) p = no p
-from_3 d e g h i (f.TooManyFields m) p = omega arith
-from_3 d e g h i (f.TooDeep m) p = omega arith
-from_3 d e g h i (f.TooMuchText m) p = omega arith
-from_3 d e g h i (f.DictionaryConflict m) p = omega arith
-from_3 d e g h i (f.NestedDictionary m) p = omega arith
-from_3 d e g h i f.OutOfMemory p = omega arith
-
-from_4 : (e g h i : Bool) (y : SchemaFault) → pick true true true e g h i y ≡ false → 4 ≤ rank y
-from_4 e g h i (f.BadType m) p = no p
-from_4 e g h i (f.BadChildren m) p = no p
-from_4 e g h i (f.TooManyFields m) p = no p
-from_4 e g h i (f.TooDeep m) p = omega arith
-from_4 e g h i (f.TooMuchText m) p = omega arith
-from_4 e g h i (f.DictionaryConflict m) p = omega arith
-from_4 e g h i (f.NestedDictionary m) p = omega arith
-from_4 e g h i f.OutOfMemory p = omega arith
-
-from_5 : (g h i : Bool) (y : SchemaFault) → pick true true true true g h i y ≡ false → 5 ≤ rank y
-from_5 g h i (f.TooMuchText m) p = omega arith
-from_5 g h i (f.DictionaryConflict m) p = omega arith
-from_5 g h i (f.NestedDictionary m) p = omega arith
-from_5 g h i f.OutOfMemory p = omega arith
-from_5 g h i _ p = no p
-
-from_6 : (h i : Bool) (y : SchemaFault) → pick true true true true true h i y ≡ false → 6 ≤ rank y
-from_6 h i (f.DictionaryConflict m) p = omega arith
-from_6 h i (f.NestedDictionary m) p = omega arith
-from_6 h i f.OutOfMemory p = omega arith
-from_6 h i _ p = no p
-
-from_7 : (i : Bool) (y : SchemaFault) → pick true true true true true false i y ≡ false → 7 ≤ rank y
-from_7 i (f.NestedDictionary m) p = omega arith
-from_7 i f.OutOfMemory p = omega arith
-from_7 i _ p = no p
-
-told : (b c d e g h i : Bool) (n : ℕ) (x : SchemaFault) → chain b c d e g h i n ≡ Some x → Told (pick b c d e g h i) n x
-told false c d e g h i n x q = told_as _ n (f.BadType n) x q (record { number = refl; fails = refl; least = λ y p. from_1 y })
-told true false d e g h i n x q = told_as _ n (f.BadChildren n) x q (record { number = refl; fails = refl; least = λ y p. from_2 false d e g h i y p })
-told true true false e g h i n x q = told_as _ n (f.TooManyFields n) x q (record { number = refl; fails = refl; least = λ y p. from_3 false e g h i y p })
-told true true true false g h i n x q = told_as _ n (f.TooDeep n) x q (record { number = refl; fails = refl; least = λ y p. from_4 false g h i y p })
-told true true true true false h i n x q = told_as _ n (f.TooMuchText n) x q (record { number = refl; fails = refl; least = λ y p. from_5 false h i y p })
-told true true true true true true i n x q = told_as _ n (f.DictionaryConflict n) x q (record { number = refl; fails = refl; least = λ y p. from_6 true i y p })
-told true true true true true false false n x q = told_as _ n (f.NestedDictionary n) x q (record { number = refl; fails = refl; least = λ y p. from_7 false y p })
-told true true true true true false true n x q = cc
-
-none_fails : (b c d e g h i : Bool) (n : ℕ) → chain b c d e g h i n ≡ None → (y : SchemaFault) → pick b c d e g h i y ≡ true
-none_fails false c d e g h i n q y = cc
-none_fails true false d e g h i n q y = cc
-none_fails true true false e g h i n q y = cc
-none_fails true true true false g h i n q y = cc
-none_fails true true true true false h i n q y = cc
-none_fails true true true true true true i n q y = cc
-none_fails true true true true true false false n q y = cc
-none_fails true true true true true false true n q (f.BadType m) = refl
-none_fails true true true true true false true n q (f.BadChildren m) = refl
-none_fails true true true true true false true n q (f.TooManyFields m) = refl
-none_fails true true true true true false true n q (f.TooDeep m) = refl
-none_fails true true true true true false true n q (f.TooMuchText m) = refl
-none_fails true true true true true false true n q (f.DictionaryConflict m) = refl
-none_fails true true true true true false true n q (f.NestedDictionary m) = refl
-none_fails true true true true true false true n q f.OutOfMemory = refl
-
--- the same of an entry
-abbrev test_at : Before → Entry → SchemaFault → Bool
-test_at b e = pick (has_good_type e.kind) (has_fitting_children e.kind e.children) (nat_le (b.fields + 1) max_fields) (nat_le e.depth max_depth) (is_little_text (after b e)) (has_conflict b.kinds e.dictionary e.kind) (has_leaf_dictionary e)
-
-told_at : (b : Before) (e : Entry) (x : SchemaFault) → fault_at b e ≡ Some x → Told (test_at b e) (b.fields + 1) x
-told_at b e x h = told (has_good_type e.kind) (has_fitting_children e.kind e.children) (nat_le (b.fields + 1) max_fields) (nat_le e.depth max_depth) (is_little_text (after b e)) (has_conflict b.kinds e.dictionary e.kind) (has_leaf_dictionary e) (b.fields + 1) x h
-
-clear_at : (b : Before) (e : Entry) → fault_at b e ≡ None → (y : SchemaFault) → test_at b e y ≡ true
-clear_at b e h = none_fails (has_good_type e.kind) (has_fitting_children e.kind e.children) (nat_le (b.fields + 1) max_fields) (nat_le e.depth max_depth) (is_little_text (after b e)) (has_conflict b.kinds e.dictionary e.kind) (has_leaf_dictionary e) (b.fields + 1) h
+use Rattle.ipc_model.proofs.EntryTests.{no, test_at, told_at, clear_at}
 
 -- ---- what the totals say of the entries so far
 
@@ -155,7 +27,8 @@ record SoFar (s : Schema) (earlier : List Entry) (b : Before) : Type 0 where
   fields : b.fields ≡ length earlier
   text : b.text ≡ pair_text s.metadata + sum_by (λ e. e.text) earlier
   pairs : b.pairs ≡ length s.metadata + sum_by (λ e. e.pairs) earlier
-  known : (id : ℤ) (k : DataType) → b.kinds id ≡ Some k → (a : Entry) × (IsAmong a earlier × ((d : Dictionary) × ((a.dictionary ≡ Some d) × ((d.id ≡ id) × (a.kind ≡ k)))))
+  known : (id : ℤ) (k : DataType) → b.kinds id ≡ Some k
+      → (a : Entry) × (IsAmong a earlier × ((d : Dictionary) × ((a.dictionary ≡ Some d) × ((d.id ≡ id) × (a.kind ≡ k)))))
   kept : (a : Entry) → IsAmong a earlier → (d : Dictionary) → a.dictionary ≡ Some d → b.kinds d.id ≡ Some a.kind
 
 among_left : (a : Entry) (xs ys : List Entry) → IsAmong a xs → IsAmong a (xs ++ ys)
@@ -173,17 +46,20 @@ among_both a (x ∷ xs) e h = ⊎_elim (λ here. inl (inl here)) (λ later. ⊎_
 total : (g : Entry → ℕ) (xs : List Entry) (e : Entry) → sum_by g (xs ++ e ∷ []) ≡ sum_by g xs + g e
 total g xs e = sum_by-append g xs (e ∷ []) ∙ (let one = sum_by-cons g e [] in omega (arith, one))
 
-more_so_far : (s : Schema) (earlier : List Entry) (b : Before) (e : Entry) → SoFar s earlier b → Clear b e → SoFar s (earlier ++ e ∷ []) (after b e)
+more_so_far : (s : Schema) (earlier : List Entry) (b : Before) (e : Entry) → SoFar s earlier b → Clear b e
+    → SoFar s (earlier ++ e ∷ []) (after b e)
 more_so_far s earlier b e so clear = record {
   fields = omega (arith, so.fields, length-append earlier (e ∷ []));
   text = omega (arith, so.text, total (λ e. e.text) earlier e);
   pairs = omega (arith, so.pairs, total (λ e. e.pairs) earlier e);
   known = λ id k at. ⊎_elim
-      (λ (p : (g : Dictionary) × (e.dictionary ≡ Some g) × (g.id ≡ id) × (k ≡ e.kind)). (e, (among_last e earlier, (p.0, (p.1, (p.2, sym p.3))))))
+      (λ (p : (g : Dictionary) × (e.dictionary ≡ Some g) × (g.id ≡ id) × (k ≡ e.kind)).
+      (e, (among_last e earlier, (p.0, (p.1, (p.2, sym p.3))))))
       (λ (h : b.kinds id ≡ Some k). let p = so.known id k h in (p.0, (among_left p.0 earlier (e ∷ []) p.1.0, p.1.1)))
       (before_it b.kinds e.dictionary e.kind id k at);
   kept = λ a among d is. ⊎_elim
-      (λ (old : IsAmong a earlier). after_it b.kinds e.dictionary e.kind d.id a.kind (so.kept a old d is) (λ g own same. agree_is b.kinds e.dictionary e.kind g a.kind clear.agree own (ap b.kinds same ∙ so.kept a old d is)))
+      (λ (old : IsAmong a earlier). after_it b.kinds e.dictionary e.kind d.id a.kind (so.kept a old d is)
+      (λ g own same. agree_is b.kinds e.dictionary e.kind g a.kind clear.agree own (ap b.kinds same ∙ so.kept a old d is)))
       (λ (here : e ≡ a). at_it b.kinds e.dictionary e.kind d (ap (λ y. y.dictionary) here ∙ is) ∙ ap (λ y. Some y.kind) here)
       (among_both a earlier e among);
 }
@@ -208,10 +84,15 @@ is_much : (x y : Bool) → (x ≡ false) ⊎ (y ≡ false) → (x && y) ≡ fals
 is_much true y h = ⊎_elim (λ p. no p) (λ q. q) h
 is_much false y h = refl
 
-little_both : (s : Schema) (es : List Entry) (b : Before) → b.text ≡ pair_text s.metadata + sum_by (λ e. e.text) es → b.pairs ≡ length s.metadata + sum_by (λ e. e.pairs) es → (is_little_text b ≡ false) ↔ HasMuchText s es
+little_both : (s : Schema) (es : List Entry) (b : Before) → b.text ≡ pair_text s.metadata + sum_by (λ e. e.text) es
+    → b.pairs ≡ length s.metadata + sum_by (λ e. e.pairs) es → (is_little_text b ≡ false) ↔ HasMuchText s es
 little_both s es b text pairs = (
-  λ h. ⊎_elim (λ p. let q = over_is b.text max_text p in inl (omega (arith, q, text))) (λ p. let q = over_is b.pairs max_pairs p in inr (omega (arith, q, pairs))) (much_is (nat_le b.text max_text) (nat_le b.pairs max_pairs) h),
-  λ h. is_much (nat_le b.text max_text) (nat_le b.pairs max_pairs) (⊎_elim (λ p. inl (is_over b.text max_text (omega (arith, p, text)))) (λ p. inr (is_over b.pairs max_pairs (omega (arith, p, pairs)))) h),
+  λ h. ⊎_elim (λ p. let q = over_is b.text max_text p in inl (omega (arith, q, text)))
+      (λ p. let q = over_is b.pairs max_pairs p in inr (omega (arith, q, pairs)))
+      (much_is (nat_le b.text max_text) (nat_le b.pairs max_pairs) h),
+  λ h. is_much (nat_le b.text max_text) (nat_le b.pairs max_pairs)
+      (⊎_elim (λ p. inl (is_over b.text max_text (omega (arith, p, text))))
+      (λ p. inr (is_over b.pairs max_pairs (omega (arith, p, pairs)))) h),
 )
 
 record Conflict (kinds : ℤ → Option DataType) (o : Option Dictionary) (kind : DataType) : Type 0 where
@@ -221,15 +102,23 @@ record Conflict (kinds : ℤ → Option DataType) (o : Option Dictionary) (kind 
   at : kinds dictionary.id ≡ Some first
   other : ¬ (first ≡ kind)
 
-conflict_is : (kinds : ℤ → Option DataType) (o : Option Dictionary) (kind : DataType) → has_conflict kinds o kind ≡ true → Conflict kinds o kind
+conflict_is : (kinds : ℤ → Option DataType) (o : Option Dictionary) (kind : DataType) → has_conflict kinds o kind ≡ true
+    → Conflict kinds o kind
 conflict_is kinds None kind h = absurd (false≢true h)
 conflict_is kinds (Some d) kind h = by_first (kinds d.id) refl h
   where
     by_first : (first : Option DataType) → kinds d.id ≡ first → not (agrees first kind) ≡ true → Conflict kinds (Some d) kind
     by_first None e h = absurd (false≢true h)
-    by_first (Some k) e h = record { dictionary = d; is = refl; first = k; at = e; other = λ same. let t : same_type k kind ≡ true = rw same (same_itself kind) in absurd (false≢true (rw t at h)) }
+    by_first (Some k) e h = record {
+      dictionary = d;
+      is = refl;
+      first = k;
+      at = e;
+      other = λ same. let t : same_type k kind ≡ true = rw same (same_itself kind) in absurd (false≢true (rw t at h));
+    }
 
-conflict_both : (s : Schema) (earlier : List Entry) (b : Before) (e : Entry) → SoFar s earlier b → (not (has_conflict b.kinds e.dictionary e.kind) ≡ false) ↔ HasConflict earlier e
+conflict_both : (s : Schema) (earlier : List Entry) (b : Before) (e : Entry) → SoFar s earlier b
+    → (not (has_conflict b.kinds e.dictionary e.kind) ≡ false) ↔ HasConflict earlier e
 conflict_both s earlier b e so = (
   λ h.
       let p = conflict_is b.kinds e.dictionary e.kind (holds _ h) in
@@ -240,15 +129,21 @@ conflict_both s earlier b e so = (
   where
     by_test : HasConflict earlier e → (c : Bool) → has_conflict b.kinds e.dictionary e.kind ≡ c → not c ≡ false
     by_test h true is = refl
-    by_test h false is = absurd (h.1.1 (λ d g is_d is_g same. agree_is b.kinds e.dictionary e.kind g h.0.kind is is_g (ap b.kinds (sym same) ∙ so.kept h.0 h.1.0 d is_d)))
+    by_test h false is = absurd (h.1.1 (λ d g is_d is_g same. agree_is b.kinds e.dictionary e.kind g h.0.kind is is_g
+        (ap b.kinds (sym same) ∙ so.kept h.0 h.1.0 d is_d)))
 
-broken_both : (s : Schema) (earlier : List Entry) (b : Before) (e : Entry) → SoFar s earlier b → (y : SchemaFault) → (test_at b e y ≡ false) ↔ Breaks s earlier e y
+broken_both : (s : Schema) (earlier : List Entry) (b : Before) (e : Entry) → SoFar s earlier b → (y : SchemaFault)
+    → (test_at b e y ≡ false) ↔ Breaks s earlier e y
 broken_both s earlier b e so (f.BadType m) = not_both (has_good_type e.kind) (good_both e.kind)
 broken_both s earlier b e so (f.BadChildren m) = not_both (has_fitting_children e.kind e.children) (fitting_both e.kind e.children)
-broken_both s earlier b e so (f.TooManyFields m) = (λ h. let q = over_is (b.fields + 1) max_fields h in omega (arith, q, so.fields), λ h. is_over (b.fields + 1) max_fields (omega (arith, h, so.fields)))
+broken_both s earlier b e so (f.TooManyFields m) = (
+  λ h. let q = over_is (b.fields + 1) max_fields h in omega (arith, q, so.fields),
+  λ h. is_over (b.fields + 1) max_fields (omega (arith, h, so.fields)),
+)
 broken_both s earlier b e so (f.TooDeep m) = (λ h. over_is e.depth max_depth h, λ h. is_over e.depth max_depth h)
 broken_both s earlier b e so (f.TooMuchText m) =
-    little_both s (earlier ++ e ∷ []) (after b e) (omega (arith, so.text, total (λ e. e.text) earlier e)) (omega (arith, so.pairs, total (λ e. e.pairs) earlier e))
+    little_both s (earlier ++ e ∷ []) (after b e) (omega (arith, so.text, total (λ e. e.text) earlier e))
+    (omega (arith, so.pairs, total (λ e. e.pairs) earlier e))
 broken_both s earlier b e so (f.DictionaryConflict m) = conflict_both s earlier b e so
 broken_both s earlier b e so (f.NestedDictionary m) = not_both (has_leaf_dictionary e) (leaf_both e.dictionary e.kind)
 broken_both s earlier b e so f.OutOfMemory = (λ h. no h, λ h. absurd h)
@@ -265,7 +160,8 @@ record HeadAt (all : List Entry) (k : ℕ) (e : Entry) (rest : List Entry) : Typ
 head_at : (all : List Entry) (k : ℕ) (e : Entry) (rest : List Entry) → drop k all ≡ e ∷ rest → HeadAt all k e rest
 head_at [] zero e rest h = cc
 head_at [] (suc k) e rest h = cc
-head_at (x ∷ xs) zero e rest h = let first : x ≡ e = cc in let more : xs ≡ rest = cc in record { here = ap (λ (y : Entry). Some y) first; behind = more; taken = ap (λ (y : Entry). y ∷ []) first; size = refl }
+head_at (x ∷ xs) zero e rest h = let first : x ≡ e = cc in let more : xs ≡ rest =
+    cc in record { here = ap (λ (y : Entry). Some y) first; behind = more; taken = ap (λ (y : Entry). y ∷ []) first; size = refl }
 head_at (x ∷ xs) (suc k) e rest h =
     let p = head_at xs k e rest h in
     record { here = p.here; behind = p.behind; taken = ap (λ (ys : List Entry). x ∷ ys) p.taken; size = ap (λ (n : ℕ). suc n) p.size }
@@ -279,7 +175,8 @@ past_end (x ∷ xs) (suc k) h = let p = past_end xs k h in omega (arith, p)
 abbrev AreClean : Schema → ℕ → Type 0
 AreClean s k = (j : ℕ) → j < k → (y : SchemaFault) → ¬ BreaksAt s j y
 
-module _ (s : Schema) (k : ℕ) (e : Entry) (rest : List Entry) (b : Before) (head : HeadAt (entries s.fields) k e rest) (so : SoFar s (take k (entries s.fields)) b) where
+module _ (s : Schema) (k : ℕ) (e : Entry) (rest : List Entry) (b : Before) (head : HeadAt (entries s.fields) k e rest)
+    (so : SoFar s (take k (entries s.fields)) b) where
   here_breaks : (y : SchemaFault) → BreaksAt s k y → test_at b e y ≡ false
   here_breaks y h =
       let same : h.0 ≡ e = cc (head.here, h.1.0) in
@@ -303,23 +200,29 @@ module _ (s : Schema) (k : ℕ) (e : Entry) (rest : List Entry) (b : Before) (he
       ]
 
   so_here : fault_at b e ≡ None → SoFar s (take (suc k) (entries s.fields)) (after b e)
-  so_here h = subst (λ (xs : List Entry). SoFar s xs (after b e)) (sym head.taken) (more_so_far s (take k (entries s.fields)) b e so (clear_of b e h))
+  so_here h = subst (λ (xs : List Entry). SoFar s xs (after b e)) (sym head.taken)
+      (more_so_far s (take k (entries s.fields)) b e so (clear_of b e h))
 
 -- the first fault of the entries from one on
-first_from : (s : Schema) (k : ℕ) (es : List Entry) (b : Before) → drop k (entries s.fields) ≡ es → SoFar s (take k (entries s.fields)) b → AreClean s k → (x : SchemaFault) → scan b es ≡ Err x → (j : ℕ) × IsFirstAt s j x
+first_from : (s : Schema) (k : ℕ) (es : List Entry) (b : Before) → drop k (entries s.fields) ≡ es → SoFar s (take k (entries s.fields)) b
+    → AreClean s k → (x : SchemaFault) → scan b es ≡ Err x → (j : ℕ) × IsFirstAt s j x
 first_from s k [] b is so clean x h = cc
 first_from s k (e ∷ rest) b is so clean x h =
     let head = head_at (entries s.fields) k e rest is in
-    by_fault (fault_at b e) refl (λ none q. first_from s (suc k) rest (after b e) head.behind (so_here s k e rest b head so none) (clean_here s k e rest b head so clean none) x q) h
+    by_fault (fault_at b e) refl (λ none q. first_from s (suc k) rest (after b e) head.behind (so_here s k e rest b head so none)
+    (clean_here s k e rest b head so clean none) x q) h
   where
-    by_fault : (o : Option SchemaFault) → fault_at b e ≡ o → (fault_at b e ≡ None → scan (after b e) rest ≡ Err x → (j : ℕ) × IsFirstAt s j x) → unless_at o (scan (after b e) rest) ≡ Err x → (j : ℕ) × IsFirstAt s j x
+    by_fault : (o : Option SchemaFault) → fault_at b e ≡ o
+        → (fault_at b e ≡ None → scan (after b e) rest ≡ Err x → (j : ℕ) × IsFirstAt s j x) → unless_at o (scan (after b e) rest) ≡ Err x
+        → (j : ℕ) × IsFirstAt s j x
     by_fault None none later q = later none q
     by_fault (Some y) some later q =
         let same : y ≡ x = cc in
         (k, first_here s k e rest b (head_at (entries s.fields) k e rest is) so x clean (some ∙ ap (λ (z : SchemaFault). Some z) same))
 
 -- no entry breaks a rule where the scan comes to the end
-clean_from : (s : Schema) (k : ℕ) (es : List Entry) (b c : Before) → drop k (entries s.fields) ≡ es → SoFar s (take k (entries s.fields)) b → AreClean s k → scan b es ≡ Ok c → (j : ℕ) (y : SchemaFault) → ¬ BreaksAt s j y
+clean_from : (s : Schema) (k : ℕ) (es : List Entry) (b c : Before) → drop k (entries s.fields) ≡ es → SoFar s (take k (entries s.fields)) b
+    → AreClean s k → scan b es ≡ Ok c → (j : ℕ) (y : SchemaFault) → ¬ BreaksAt s j y
 clean_from s k [] b c is so clean h = λ j y broken.
     elim (cases_lt j (length (entries s.fields))) as (λ _. ⊥) [
       | inl l ↦ (let end = past_end (entries s.fields) k is in clean j (omega (arith, end)) y broken)
@@ -327,9 +230,12 @@ clean_from s k [] b c is so clean h = λ j y broken.
     ]
 clean_from s k (e ∷ rest) b c is so clean h =
     let head = head_at (entries s.fields) k e rest is in
-    by_fault (fault_at b e) refl (λ none q. clean_from s (suc k) rest (after b e) c head.behind (so_here s k e rest b head so none) (clean_here s k e rest b head so clean none) q) h
+    by_fault (fault_at b e) refl (λ none q. clean_from s (suc k) rest (after b e) c head.behind (so_here s k e rest b head so none)
+    (clean_here s k e rest b head so clean none) q) h
   where
-    by_fault : (o : Option SchemaFault) → fault_at b e ≡ o → (fault_at b e ≡ None → scan (after b e) rest ≡ Ok c → (j : ℕ) (y : SchemaFault) → ¬ BreaksAt s j y) → unless_at o (scan (after b e) rest) ≡ Ok c → (j : ℕ) (y : SchemaFault) → ¬ BreaksAt s j y
+    by_fault : (o : Option SchemaFault) → fault_at b e ≡ o
+        → (fault_at b e ≡ None → scan (after b e) rest ≡ Ok c → (j : ℕ) (y : SchemaFault) → ¬ BreaksAt s j y)
+        → unless_at o (scan (after b e) rest) ≡ Ok c → (j : ℕ) (y : SchemaFault) → ¬ BreaksAt s j y
     by_fault None none later q = later none q
     by_fault (Some y) some later q = cc
 
@@ -351,7 +257,8 @@ start_both s = little_both s [] (at_start s.metadata) (omega arith) (omega arith
 pub first_from_verdict : (s : Schema) (x : SchemaFault) → verdict_on s ≡ Err x → IsFirstFault s x
 first_from_verdict s x h = by_start (is_little_text (at_start s.metadata)) refl h
   where
-    by_start : (c : Bool) → is_little_text (at_start s.metadata) ≡ c → (if c then done (scan (at_start s.metadata) (entries s.fields)) else Err (f.TooMuchText 0)) ≡ Err x → IsFirstFault s x
+    by_start : (c : Bool) → is_little_text (at_start s.metadata) ≡ c
+        → (if c then done (scan (at_start s.metadata) (entries s.fields)) else Err (f.TooMuchText 0)) ≡ Err x → IsFirstFault s x
     by_start true is h = inr (
       λ much. absurd (false≢true (sym ((start_both s).1 much) ∙ is)),
       first_from s 0 (entries s.fields) (at_start s.metadata) refl (start_so_far s) (none_yet s) x (done_err _ x h),
@@ -387,19 +294,23 @@ verdict_from_first s x h = by_start (is_little_text (at_start s.metadata)) refl
     by_scan : ¬ HasMuchText s [] → (r : Result Before SchemaFault) → scan (at_start s.metadata) (entries s.fields) ≡ r → done r ≡ Err x
     by_scan little (Ok b) is =
         ⊎_elim (λ (own : HasMuchText s [] × (x ≡ f.TooMuchText 0)). absurd (little own.0))
-        (λ (at : ¬ HasMuchText s [] × ((k : ℕ) × IsFirstAt s k x)). absurd (clean_from s 0 (entries s.fields) (at_start s.metadata) b refl (start_so_far s) (none_yet s) is at.1.0 x at.1.1.broken)) h
+        (λ (at : ¬ HasMuchText s [] × ((k : ℕ) × IsFirstAt s k x)). absurd
+        (clean_from s 0 (entries s.fields) (at_start s.metadata) b refl (start_so_far s) (none_yet s) is at.1.0 x at.1.1.broken)) h
     by_scan little (Err y) is =
         let q = first_from s 0 (entries s.fields) (at_start s.metadata) refl (start_so_far s) (none_yet s) y is in
         ⊎_elim (λ (own : HasMuchText s [] × (x ≡ f.TooMuchText 0)). absurd (little own.0))
         (λ (at : ¬ HasMuchText s [] × ((k : ℕ) × IsFirstAt s k x)). ap Err (one_first s q.0 at.1.0 y x q.1 at.1.1)) h
 
-    by_start : (c : Bool) → is_little_text (at_start s.metadata) ≡ c → (if c then done (scan (at_start s.metadata) (entries s.fields)) else Err (f.TooMuchText 0)) ≡ Err x
-    by_start true is = by_scan (λ much. absurd (false≢true (sym ((start_both s).1 much) ∙ is))) (scan (at_start s.metadata) (entries s.fields)) refl
+    by_start : (c : Bool) → is_little_text (at_start s.metadata) ≡ c
+        → (if c then done (scan (at_start s.metadata) (entries s.fields)) else Err (f.TooMuchText 0)) ≡ Err x
+    by_start true is = by_scan (λ much. absurd (false≢true (sym ((start_both s).1 much) ∙ is)))
+        (scan (at_start s.metadata) (entries s.fields)) refl
     by_start false is =
         ⊎_elim (λ (own : HasMuchText s [] × (x ≡ f.TooMuchText 0)). ap Err (sym own.1))
         (λ (at : ¬ HasMuchText s [] × ((k : ℕ) × IsFirstAt s k x)). absurd (at.0 ((start_both s).0 is))) h
 
 -- what the check tells
-pub tells_first : (s : Schema) (r : Result Unit SchemaFault) → IfErr r (λ e. (e ≡ f.OutOfMemory) ⊎ (verdict_on s ≡ Err e)) → IfErr r (λ e. (e ≡ f.OutOfMemory) ⊎ IsFirstFault s e)
+pub tells_first : (s : Schema) (r : Result Unit SchemaFault) → IfErr r (λ e. (e ≡ f.OutOfMemory) ⊎ (verdict_on s ≡ Err e))
+    → IfErr r (λ e. (e ≡ f.OutOfMemory) ⊎ IsFirstFault s e)
 tells_first s (Ok x) h = h
 tells_first s (Err e) h = ⊎_elim inl (λ is. inr (first_from_verdict s e is)) h

@@ -40,7 +40,15 @@ kind_text t.Struct = 0
 
 -- the entry of a field at this depth
 abbrev pub entry_of : {A : Type 0} → Field-F A → ℕ → Entry
-entry_of f d = record { depth = d; kind = f.kind; children = length f.children; dictionary = f.dictionary; text = length f.name + kind_text f.kind + pair_text f.metadata; pairs = length f.metadata }
+entry_of f d = record {
+  depth = d;
+  kind = f.kind;
+  children = length f.children;
+  dictionary = f.dictionary;
+  text =
+      length f.name + kind_text f.kind + pair_text f.metadata;
+  pairs = length f.metadata;
+}
 
 -- a field and all below it, from the depth at which it stands
 abbrev pub Listing : Type 0

@@ -1,15 +1,20 @@
--- Where a schema is first not well formed: an entry that breaks a rule, and none before it that breaks one (Schema.fbs, tables Schema and Field).
-use Rattle.std.specs.Prelude.{◌≡◌, ℕ, ◌+◌, ◌<◌, ◌≤◌, List, [], ◌∷◌, ◌++◌, length, take, sum_by, slice_get, Some, IsSome, ◌⊎◌}
-use Rattle.ipc_model.specs.WellFormed.{HasGoodType, HasFittingChildren, IsLeaf, IsAmong, HaveOneType}
+-- Where a schema is first not well formed: an entry that breaks a rule, and none before it that
+-- breaks one (Schema.fbs, tables Schema and Field).
+use Rattle.std.specs.Prelude.{◌≡◌, ℕ, ◌+◌, ◌<◌, ◌≤◌, List, [], ◌∷◌, ◌++◌, length, take, sum_by}
+use Rattle.std.specs.Prelude.{slice_get, Some, IsSome, ◌⊎◌}
+use Rattle.ipc_model.specs.WellFormed.{HasGoodType, HasFittingChildren, IsLeaf, IsAmong}
+use Rattle.ipc_model.specs.WellFormed.{HaveOneType}
 use Rattle.ipc_model.specs.Entries.{Entry, entries, pair_text}
 use Rattle.ipc_model.specs.Limits.{max_depth, max_fields, max_pairs, max_text}
 use Rattle.ipc_model.specs.declared.check.SchemaFault.{SchemaFault}
 use Rattle.ipc_model.specs.declared.check.SchemaFault.TheVariants as f
 use Rattle.ipc_model.specs.declared.schema.Schema.{Schema}
 
--- the schema's own pairs and these entries have more text, or more pairs, than all may have together
+-- the schema's own pairs and these entries have more text, or more pairs, than all may have
+-- together
 abbrev pub HasMuchText : Schema → List Entry → Type 0
-HasMuchText s es = (max_text < pair_text s.metadata + sum_by (λ e. e.text) es) ⊎ (max_pairs < length s.metadata + sum_by (λ e. e.pairs) es)
+HasMuchText s es = (max_text < pair_text s.metadata + sum_by (λ e. e.text) es)
+    ⊎ (max_pairs < length s.metadata + sum_by (λ e. e.pairs) es)
 
 -- an earlier entry has the dictionary of this one, and another type
 abbrev pub HasConflict : List Entry → Entry → Type 0
@@ -28,7 +33,8 @@ Breaks s earlier e f.OutOfMemory = ⊥
 
 -- the entry with k before it does
 abbrev pub BreaksAt : Schema → ℕ → SchemaFault → Type 0
-BreaksAt s k fault = (e : Entry) × ((slice_get (entries s.fields) k ≡ Some e) × Breaks s (take k (entries s.fields)) e fault)
+BreaksAt s k fault = (e : Entry)
+    × ((slice_get (entries s.fields) k ≡ Some e) × Breaks s (take k (entries s.fields)) e fault)
 
 -- which of one entry's faults is returned before another
 abbrev pub rank : SchemaFault → ℕ
@@ -52,13 +58,16 @@ number_of (f.DictionaryConflict number) = number
 number_of (f.NestedDictionary number) = number
 number_of f.OutOfMemory = 0
 
--- the fault is one of the entry with k before it, the first of that entry's, and no earlier entry has any
+-- the fault is one of the entry with k before it, the first of that entry's, and no earlier entry
+-- has any
 pub record IsFirstAt (s : Schema) (k : ℕ) (fault : SchemaFault) : Type 0 where
   pub number : number_of fault ≡ k + 1
   pub broken : BreaksAt s k fault
   pub told_first : (other : SchemaFault) → BreaksAt s k other → rank fault ≤ rank other
   pub none_before : (j : ℕ) → j < k → (other : SchemaFault) → ¬ BreaksAt s j other
 
--- the first fault of a schema: of its own pairs, which are counted before its entries and have the number 0, or of an entry
+-- the first fault of a schema: of its own pairs, which are counted before its entries and have the
+-- number 0, or of an entry
 abbrev pub IsFirstFault : Schema → SchemaFault → Type 0
-IsFirstFault s fault = (HasMuchText s [] × (fault ≡ f.TooMuchText 0)) ⊎ (¬ HasMuchText s [] × ((k : ℕ) × IsFirstAt s k fault))
+IsFirstFault s fault = (HasMuchText s [] × (fault ≡ f.TooMuchText 0))
+    ⊎ (¬ HasMuchText s [] × ((k : ℕ) × IsFirstAt s k fault))

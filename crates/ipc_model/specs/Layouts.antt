@@ -9,7 +9,8 @@ use Rattle.ipc_model.specs.declared.schema.Dictionary.{Dictionary}
 use Rattle.ipc_model.specs.declared.layout.Layout.{Layout}
 use Rattle.ipc_model.specs.declared.layout.Layout.TheVariants as l
 
--- the layout of a type's slots: a date in days is a signed number of 32 bits, one in milliseconds and a timestamp of 64 (Schema.fbs, Date, Timestamp)
+-- the layout of a type's slots: a date in days is a signed number of 32 bits, one in milliseconds
+-- and a timestamp of 64 (Schema.fbs, Date, Timestamp)
 abbrev pub type_layout : DataType → Layout
 type_layout t.Null = l.Null
 type_layout t.Bool = l.Bits
@@ -28,7 +29,8 @@ abbrev pub layout : DataType → Option Dictionary → Layout
 layout kind None = type_layout kind
 layout kind (Some d) = l.Unsupported
 
--- how many buffers a field has without those of its children (Arrow Columnar Format, "Buffer Listing for Each Layout")
+-- how many buffers a field has without those of its children (Arrow Columnar Format, "Buffer
+-- Listing for Each Layout")
 abbrev pub own_buffers : Layout → ℕ
 own_buffers l.Null = 0
 own_buffers l.Unsupported = 0
@@ -37,7 +39,8 @@ own_buffers l.Bits = 2
 own_buffers (l.Numbers bits signed) = 2
 own_buffers (l.FixedBytes width) = 2
 
--- a null count is that of a validity bitmap; a column of the null layout has none (Arrow Columnar Format, "Null Layout")
+-- a null count is that of a validity bitmap; a column of the null layout has none (Arrow Columnar
+-- Format, "Null Layout")
 abbrev pub has_validity : Layout → Bool
 has_validity l.Null = false
 has_validity l.Bits = true

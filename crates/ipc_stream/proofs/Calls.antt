@@ -1,5 +1,6 @@
 -- What a call of a reader answers where a message, or an end, is at the front of what its source gives.
-use Rattle.std.proofs.Common.{◌≡◌, ◌≢◌, ◌∙◌, refl, sym, ap, subst, ℕ, inl, inr, List, [], ◌∷◌, ◌++◌, Option, Some, None, Result, Ok, Err, append_assoc}
+use Rattle.std.proofs.Common.{◌≡◌, ◌≢◌, ◌∙◌, refl, sym, ap, subst, ℕ, inl, inr, List, [], ◌∷◌, ◌++◌, Option, Some, None, Result, Ok, Err}
+use Rattle.std.proofs.Common.{append_assoc}
 use Rattle.std.specs.Prelude.{IfErr, IfOk, MatchResult, true}
 use Rattle.std.specs.Io.KnownBytes.{Consumes, IsAtEnd}
 use Rattle.std.proofs.lemmas.List.{append-nil}
@@ -64,7 +65,9 @@ one_message e (more {σ = σ} {τ = τ} {x = x} {metadata = m} {body = body} {y 
 same_event : (σ : State) (x y u v : List ℕ) (d e : Event) → IsMessage σ x d → IsMessage σ y e → x ++ u ≡ y ++ v → d ≡ e
 same_event σ x y u v d e p q joined =
     let same = frame_one x y p.metadata q.metadata p.body q.body u v p.head q.head p.frame q.frame joined in
-    let other : Step σ p.head p.body (e ∷ []) q.next = subst (λ g. Step σ g p.body (e ∷ []) q.next) (sym same.same_head) (subst (λ b. Step σ q.head b (e ∷ []) q.next) (sym same.same_body) q.step) in
+    let other : Step σ p.head p.body (e ∷ []) q.next =
+    subst (λ g. Step σ g p.body (e ∷ []) q.next) (sym same.same_head)
+    (subst (λ b. Step σ q.head b (e ∷ []) q.next) (sym same.same_body) q.step) in
     let one : d ∷ [] ≡ e ∷ [] = (step_one p.step other).0 in
     cc
 
@@ -92,28 +95,36 @@ known y z old (Some b) is h = (b, refl, subst (λ o. Consumes o (Some b) z) is h
 
 -- ---- the schema
 
-pub opens_schema : (old : Option (List ℕ)) (new : Reader) (x rest : List ℕ) (s : Schema) → Opens old new → old ≡ Some (x ++ rest) → OpensStream s x → new.schema ≡ s
+pub opens_schema : (old : Option (List ℕ)) (new : Reader) (x rest : List ℕ) (s : Schema) → Opens old new → old ≡ Some (x ++ rest)
+    → OpensStream s x → new.schema ≡ s
 opens_schema old new x rest s h is o =
     let k = known (x ++ rest) h.x old new.remaining is h.bytes in
-    let one : schema s ≡ schema new.schema = same_event None x h.x rest k.0 (schema s) (schema new.schema) (one_message (schema s) o refl) (one_message (schema new.schema) h.run refl) k.2 in
+    let one : schema s ≡ schema new.schema =
+    same_event None x h.x rest k.0 (schema s) (schema new.schema) (one_message (schema s) o refl)
+    (one_message (schema new.schema) h.run refl) k.2 in
     cc
 
-pub opens_fails : (old new : Option (List ℕ)) (fault : Fault) (x rest : List ℕ) (s : Schema) → are_supported s.fields ≡ true → OpenFails old new fault → old ≡ Some (x ++ rest) → OpensStream s x → IsOutside fault
+pub opens_fails : (old new : Option (List ℕ)) (fault : Fault) (x rest : List ℕ) (s : Schema) → are_supported s.fields ≡ true
+    → OpenFails old new fault → old ≡ Some (x ++ rest) → OpensStream s x → IsOutside fault
 opens_fails old new fault x rest s read h is o =
     let k = known (x ++ rest) h.x old new is h.bytes in
     let reads = subst (λ left. Reads None h.x left [] (Err fault)) k.1 h.reads in
     let m = one_message (schema s) o refl in
-    only_aside None x rest h.x k.0 (schema s) m (step_read [] m.step (read, tt)).0 k.2 fault (nothing_read None h.x (Some k.0) (Err fault) reads)
+    only_aside None x rest h.x k.0 (schema s) m (step_read [] m.step (read, tt)).0 k.2 fault
+    (nothing_read None h.x (Some k.0) (Err fault) reads)
 
 -- the schema, or out of memory or a failure of the source
-pub opens_or : {T E : Type 0} (r : Result T E) (view : T → Reader) (left : E → Option (List ℕ)) (fault : E → Fault) (old : Option (List ℕ)) (x rest : List ℕ) (s : Schema) → are_supported s.fields ≡ true
-    → IfOk r (λ t. Opens old (view t)) → IfErr r (λ e. OpenFails old (left e) (fault e)) → old ≡ Some (x ++ rest) → OpensStream s x → MatchResult r (λ t. (view t).schema ≡ s) (λ e. IsOutside (fault e))
+pub opens_or : {T E : Type 0} (r : Result T E) (view : T → Reader) (left : E → Option (List ℕ)) (fault : E → Fault) (old : Option (List ℕ))
+    (x rest : List ℕ) (s : Schema) → are_supported s.fields ≡ true
+    → IfOk r (λ t. Opens old (view t)) → IfErr r (λ e. OpenFails old (left e) (fault e)) → old ≡ Some (x ++ rest) → OpensStream s x
+    → MatchResult r (λ t. (view t).schema ≡ s) (λ e. IsOutside (fault e))
 opens_or (Ok t) view left fault old x rest s read opened refused is o = opens_schema old (view t) x rest s opened is o
 opens_or (Err e) view left fault old x rest s read opened refused is o = opens_fails old (left e) (fault e) x rest s read refused is o
 
 -- ---- a batch
 
-module _ (o : InForce) (x u z b : List ℕ) (rows : List (List Value)) (m : IsMessage (Some o) x (batch rows)) (joined : x ++ u ≡ z ++ b) where
+module _ (o : InForce) (x u z b : List ℕ) (rows : List (List Value)) (m : IsMessage (Some o) x (batch rows))
+    (joined : x ++ u ≡ z ++ b) where
   read : IsSupported m.head
   read = (step_read [] m.step (tt, tt)).0
 
@@ -122,21 +133,27 @@ module _ (o : InForce) (x u z b : List ℕ) (rows : List (List Value)) (m : IsMe
 
   gives_batch : (r : Result (Option Contents) Fault) (p : Phase) → NextAnswer o phase.Reading z (Some b) r p → RowsOr r
   gives_batch (Ok (Some found)) phase.Reading h =
-      let one : batch rows ≡ batch found.rows = same_event (Some o) x z u b (batch rows) (batch found.rows) m (one_message (batch found.rows) h refl) joined in
+      let one : batch rows ≡ batch found.rows =
+      same_event (Some o) x z u b (batch rows) (batch found.rows) m (one_message (batch found.rows) h refl) joined in
       let same : found.rows ≡ rows = cc in same
   gives_batch (Ok (Some found)) (phase.Ended end) h = absurd h
   gives_batch (Ok (Some found)) phase.Refused h = absurd h
   gives_batch (Ok None) phase.Reading h = absurd h
-  gives_batch (Ok None) (phase.Ended end) h = absurd (no_end (Some o) x u z b (batch rows) m read joined end (nothing_read (Some o) z (Some b) (Ok end) h))
+  gives_batch (Ok None) (phase.Ended end) h =
+      absurd (no_end (Some o) x u z b (batch rows) m read joined end (nothing_read (Some o) z (Some b) (Ok end) h))
   gives_batch (Ok None) phase.Refused h = absurd h
   gives_batch (Err fault) phase.Reading h = absurd h
   gives_batch (Err fault) (phase.Ended end) h = absurd h
-  gives_batch (Err fault) phase.Refused h = only_aside (Some o) x u z b (batch rows) m read joined fault (nothing_read (Some o) z (Some b) (Err fault) h)
+  gives_batch (Err fault) phase.Refused h =
+      only_aside (Some o) x u z b (batch rows) m read joined fault (nothing_read (Some o) z (Some b) (Err fault) h)
 
-pub next_batch : (old new : Reader) (r : Result (Option Contents) Fault) (x rest : List ℕ) (rows : List (List Value)) → NextCall old new r → old.phase ≡ phase.Reading → old.remaining ≡ Some (x ++ rest) → AddsRows old.schema rows x → MatchResult r (λ found. GivesRows found rows) IsOutside
+pub next_batch : (old new : Reader) (r : Result (Option Contents) Fault) (x rest : List ℕ) (rows : List (List Value)) → NextCall old new r
+    → old.phase ≡ phase.Reading → old.remaining ≡ Some (x ++ rest) → AddsRows old.schema rows x
+    → MatchResult r (λ found. GivesRows found rows) IsOutside
 next_batch old new r x rest rows h reading is adds =
     let k = known (x ++ rest) h.x old.remaining new.remaining is h.bytes in
-    let gives = subst (λ left. NextAnswer (in_force_of old) phase.Reading h.x left r new.phase) k.1 (subst (λ p. NextAnswer (in_force_of old) p h.x new.remaining r new.phase) reading h.gives) in
+    let gives = subst (λ left. NextAnswer (in_force_of old) phase.Reading h.x left r new.phase) k.1
+    (subst (λ p. NextAnswer (in_force_of old) p h.x new.remaining r new.phase) reading h.gives) in
     gives_batch (in_force_of old) x rest h.x k.0 rows (one_message (batch rows) adds refl) k.2 r new.phase gives
 
 -- ---- an end
@@ -146,7 +163,8 @@ stop_at Mark z h = inr h
 stop_at Closed z h = inl h
 
 -- an end at the front of some bytes is the one that is read
-same_end : (σ : State) (z b : List ℕ) (end other : End) → BeginsEnd end (z ++ b) → Ends σ z (Some b) (Ok other) → phase.Ended other ≡ phase.Ended end
+same_end : (σ : State) (z b : List ℕ) (end other : End) → BeginsEnd end (z ++ b) → Ends σ z (Some b) (Ok other)
+    → phase.Ended other ≡ phase.Ended end
 same_end σ z b Mark Mark h e = refl
 same_end σ z b Closed Closed h e = refl
 same_end σ z b Mark Closed h e =
@@ -155,7 +173,8 @@ same_end σ z b Closed Mark h e =
     let none : eos ++ b ≡ [] = sym (ap (λ y. y ++ b) e.0) ∙ h in absurd (cc)
 
 module _ (o : InForce) (z b : List ℕ) (end : End) (begins : BeginsEnd end (z ++ b)) where
-  gives_end : (r : Result (Option Contents) Fault) (p : Phase) → NextAnswer o phase.Reading z (Some b) r p → MatchResult r (λ found. p ≡ phase.Ended end) IsOutside
+  gives_end : (r : Result (Option Contents) Fault) (p : Phase) → NextAnswer o phase.Reading z (Some b) r p
+      → MatchResult r (λ found. p ≡ phase.Ended end) IsOutside
   gives_end (Ok (Some found)) phase.Reading h =
       let m = one_message (batch found.rows) h refl in
       absurd (frame_stop z m.metadata m.body b (z ++ b) m.head m.frame refl (stop_at end (z ++ b) begins))
@@ -166,10 +185,13 @@ module _ (o : InForce) (z b : List ℕ) (end : End) (begins : BeginsEnd end (z +
   gives_end (Ok None) phase.Refused h = absurd h
   gives_end (Err fault) phase.Reading h = absurd h
   gives_end (Err fault) (phase.Ended other) h = absurd h
-  gives_end (Err fault) phase.Refused h = stop_breaks (Some o) z b fault (λ e. absurd (cc)) (stop_at end (z ++ b) begins) (nothing_read (Some o) z (Some b) (Err fault) h)
+  gives_end (Err fault) phase.Refused h = stop_breaks (Some o) z b fault (λ e. absurd (cc)) (stop_at end (z ++ b) begins)
+      (nothing_read (Some o) z (Some b) (Err fault) h)
 
-pub next_end : (old new : Reader) (r : Result (Option Contents) Fault) (z : List ℕ) (end : End) → NextCall old new r → old.phase ≡ phase.Reading → old.remaining ≡ Some z → BeginsEnd end z → MatchResult r (λ found. new.phase ≡ phase.Ended end) IsOutside
+pub next_end : (old new : Reader) (r : Result (Option Contents) Fault) (z : List ℕ) (end : End) → NextCall old new r
+    → old.phase ≡ phase.Reading → old.remaining ≡ Some z → BeginsEnd end z → MatchResult r (λ found. new.phase ≡ phase.Ended end) IsOutside
 next_end old new r z end h reading is begins =
     let k = known z h.x old.remaining new.remaining is h.bytes in
-    let gives = subst (λ left. NextAnswer (in_force_of old) phase.Reading h.x left r new.phase) k.1 (subst (λ p. NextAnswer (in_force_of old) p h.x new.remaining r new.phase) reading h.gives) in
+    let gives = subst (λ left. NextAnswer (in_force_of old) phase.Reading h.x left r new.phase) k.1
+    (subst (λ p. NextAnswer (in_force_of old) p h.x new.remaining r new.phase) reading h.gives) in
     gives_end (in_force_of old) h.x k.0 end (subst (BeginsEnd end) k.2 begins) r new.phase gives

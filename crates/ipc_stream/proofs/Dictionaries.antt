@@ -1,5 +1,6 @@
 -- Fields whose columns are read name no dictionary.
-use Rattle.std.proofs.Common.{◌≡◌, ◌≢◌, ◌∙◌, refl, sym, ap, subst, ℕ, ◌+◌, ◌⊎◌, inl, inr, Bool, true, List, [], ◌∷◌, ◌++◌, map, Option, Some, None}
+use Rattle.std.proofs.Common.{◌≡◌, ◌≢◌, ◌∙◌, refl, sym, ap, subst, ℕ, ◌+◌, ◌⊎◌, inl, inr, Bool, true, List, [], ◌∷◌, ◌++◌, map, Option}
+use Rattle.std.proofs.Common.{Some, None}
 use Rattle.std.specs.Prelude.{ℤ}
 use Rattle.std.proofs.lemmas.Bool.{and_parts}
 use Rattle.ipc_model.specs.WellFormed.{IsAmong}
@@ -38,7 +39,8 @@ IsPlain f = is_supported_field f ≡ true → (d : ℕ) → Plain (preorder f d)
 abbrev Shown : Type 0
 Shown = (f : Field) × IsPlain f
 
-children_plain : (d : ℕ) (cs : List Shown) → all_true (map is_supported_field (map (λ c. c.0) cs)) ≡ true → Plain (all_at d (map preorder (map (λ c. c.0) cs)))
+children_plain : (d : ℕ) (cs : List Shown) → all_true (map is_supported_field (map (λ c. c.0) cs)) ≡ true
+    → Plain (all_at d (map preorder (map (λ c. c.0) cs)))
 children_plain d [] h = none_plain
 children_plain d (c ∷ cs) h =
     let parts = and_parts (is_supported_field c.0) (all_true (map is_supported_field (map (λ x. x.0) cs))) h in
@@ -47,10 +49,12 @@ children_plain d (c ∷ cs) h =
 roll_plain : (x : Field-F Field) (y : Field-F Shown) → map-Field Shown Field (λ c. c.0) y ≡ x → IsPlain (roll-Field x)
 roll_plain x y is = subst (λ z. IsPlain (roll-Field z)) is (λ h d.
     let z = map-Field Shown Field (λ c. c.0) y in
-    let parts = and_parts (is_supported z.kind z.dictionary) (all_true (map is_supported_field z.children)) (sym (fold-roll-Field Bool supported_step z) ∙ h) in
+    let parts = and_parts (is_supported z.kind z.dictionary) (all_true (map is_supported_field z.children))
+    (sym (fold-roll-Field Bool supported_step z) ∙ h) in
     let layer = map-Field Field Listing preorder z in
     let below = children_plain (d + 1) y.children parts.1 in
-    subst (λ (l : Listing). Plain (l d)) (sym (fold-roll-Field Listing preorder_step z)) (plain_first _ _ (no_dictionary z.kind z.dictionary parts.0) below))
+    subst (λ (l : Listing). Plain (l d)) (sym (fold-roll-Field Listing preorder_step z))
+    (plain_first _ _ (no_dictionary z.kind z.dictionary parts.0) below))
 
 field_plain : (f : Field) → IsPlain f
 field_plain = ind-Field IsPlain roll_plain

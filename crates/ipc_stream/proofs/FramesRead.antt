@@ -1,5 +1,6 @@
 -- A frame that is read from a source.
-use Rattle.std.proofs.Common.{◌≡◌, ◌≢◌, ◌⊎◌, ◌∙◌, refl, sym, ap, subst, ℕ, ◌+◌, ◌^◌, ◌-◌, ◌<◌, ◌≤◌, inl, inr, List, [], ◌++◌, Option, Some, None, Result, Ok, Err, length, length-append, arith}
+use Rattle.std.proofs.Common.{◌≡◌, ◌≢◌, ◌⊎◌, ◌∙◌, refl, sym, ap, subst, ℕ, ◌+◌, ◌^◌, ◌-◌, ◌<◌, ◌≤◌, inl, inr, List, [], ◌++◌, Option, Some}
+use Rattle.std.proofs.Common.{None, Result, Ok, Err, length, length-append, arith}
 use Rattle.std.specs.Prelude.{Bool, true, false}
 use Rattle.std.proofs.lemmas.List.{append-nil, nil_from_length}
 use Rattle.ipc_model.specs.declared.fault.Fault.{Fault}
@@ -65,7 +66,8 @@ pub wanted_none : Wanted []
 wanted_none = record { front = []; behind = []; wants = 4; joined = refl; undecided = pending_none; few = omega arith }
 
 -- a message's undecided beginning was taken and is kept
-pub record Pends (old now : Option (List ℕ)) (bound_old bound failed_old failed count_old count : ℕ) (kept : List ℕ) (wanted : ℕ) : Type 0 where
+pub record Pends (old now : Option (List ℕ)) (bound_old bound failed_old failed count_old count : ℕ) (kept : List ℕ)
+    (wanted : ℕ) : Type 0 where
   pub undecided : Pending kept wanted
   pub some : 0 < wanted
   pub takes : Takes old now count_old count kept
@@ -73,10 +75,12 @@ pub record Pends (old now : Option (List ℕ)) (bound_old bound failed_old faile
   pub same : failed ≡ failed_old
 
 pub pends_none : (a : Option (List ℕ)) (b f n : ℕ) (kept : List ℕ) → n ≤ 2 ^ 64 - 1 → kept ≡ [] → Pends a a b b f f n n kept 4
-pends_none a b f n kept fits none = subst (λ z. Pends a a b b f f n n z 4) (sym none) (record { undecided = pending_none; some = omega arith; takes = takes_none a n fits; fewer = omega arith; same = refl })
+pends_none a b f n kept fits none = subst (λ z. Pends a a b b f f n n z 4) (sym none)
+    (record { undecided = pending_none; some = omega arith; takes = takes_none a n fits; fewer = omega arith; same = refl })
 
 -- bytes were lost on the way to the next decision
-pub frame_lost : (old now new : Option (List ℕ)) (b0 b1 f0 f1 n0 n1 n2 : ℕ) (kept : List ℕ) (wanted : ℕ) (e : Fault) → Pends old now b0 b1 f0 f1 n0 n1 kept wanted → Loses now new n1 n2 wanted → IsOutside e → TakesFrame old new n0 n2 (Err e)
+pub frame_lost : (old now new : Option (List ℕ)) (b0 b1 f0 f1 n0 n1 n2 : ℕ) (kept : List ℕ) (wanted : ℕ) (e : Fault)
+    → Pends old now b0 b1 f0 f1 n0 n1 kept wanted → Loses now new n1 n2 wanted → IsOutside e → TakesFrame old new n0 n2 (Err e)
 frame_lost old now new b0 b1 f0 f1 n0 n1 n2 kept wanted e p l why = record {
   z = kept ++ l.lost;
   takes = takes_then old now new n0 n1 n2 kept l.lost p.takes l.takes;
@@ -84,7 +88,8 @@ frame_lost old now new b0 b1 f0 f1 n0 n1 n2 kept wanted e p l why = record {
   gives = aside why;
 }
 
-module _ (old now new : Option (List ℕ)) (b0 b1 f0 f1 n0 n1 n2 : ℕ) (kept kept' : List ℕ) (wanted k : ℕ) (p : Pends old now b0 b1 f0 f1 n0 n1 kept wanted) (f : Fills now new n1 n2 kept kept' wanted k) where
+module _ (old now new : Option (List ℕ)) (b0 b1 f0 f1 n0 n1 n2 : ℕ) (kept kept' : List ℕ) (wanted k : ℕ)
+    (p : Pends old now b0 b1 f0 f1 n0 n1 kept wanted) (f : Fills now new n1 n2 kept kept' wanted k) where
   taken_now : Takes old new n0 n2 kept'
   taken_now = subst (Takes old new n0 n2) (sym f.kept) (takes_then old now new n0 n1 n2 kept f.came p.takes f.takes)
 
@@ -95,13 +100,19 @@ module _ (old now new : Option (List ℕ)) (b0 b1 f0 f1 n0 n1 n2 : ℕ) (kept ke
   wanted_now = record { front = kept; behind = f.came; wants = wanted; joined = f.kept; undecided = p.undecided; few = few_now }
 
   seen_now : (r : Result Seen Fault) → Sees kept' r → SeesExactly kept' r
-  seen_now r s = subst (λ z. SeesExactly z r) (sym f.kept) (seen_exactly kept f.came wanted few_now p.undecided r (subst (λ z. Sees z r) f.kept s))
+  seen_now r s = subst (λ z. SeesExactly z r) (sym f.kept)
+      (seen_exactly kept f.came wanted few_now p.undecided r (subst (λ z. Sees z r) f.kept s))
 
   same_kept : k ≡ 0 → kept' ≡ kept
   same_kept none = f.kept ∙ (ap (λ x. kept ++ x) (nil_from_length f.came (f.count ∙ none)) ∙ append-nil kept)
 
   pub frame_read : (frame : Framed) (n : ℕ) → Sees kept' (Ok (Whole frame n)) → TakesFrame old new n0 n2 (Ok (Some frame))
-  frame_read frame n s = record { z = kept'; takes = taken_now; wanted = wanted_now; gives = let seen = seen_now (Ok (Whole frame n)) s in (seen.1, seen.2) }
+  frame_read frame n s = record {
+    z = kept';
+    takes = taken_now;
+    wanted = wanted_now;
+    gives = let seen = seen_now (Ok (Whole frame n)) s in (seen.1, seen.2);
+  }
 
   pub frame_refused : (e : Fault) → Sees kept' (Err e) → TakesFrame old new n0 n2 (Err e)
   frame_refused e s = record { z = kept'; takes = taken_now; wanted = wanted_now; gives = breaks_frame kept' new e (seen_now (Err e) s) }
@@ -114,10 +125,12 @@ module _ (old now new : Option (List ℕ)) (b0 b1 f0 f1 n0 n1 n2 : ℕ) (kept ke
     z = kept';
     takes = taken_now;
     wanted = wanted_now;
-    gives = truncated wanted refl (subst (λ z. Pending z wanted) (sym (same_kept none)) p.undecided) (λ e. some (ap length e)) (f.ended none);
+    gives = truncated wanted refl (subst (λ z. Pending z wanted) (sym (same_kept none)) p.undecided) (λ e. some (ap length e))
+        (f.ended none);
   }
 
-  pub pends_more : (b2 f2 more : ℕ) → b2 + k ≤ b1 → (f1 ≡ 0) × (f2 ≡ 0) → Sees kept' (Ok (Short more)) → Pends old new b0 b2 f0 f2 n0 n2 kept' more
+  pub pends_more : (b2 f2 more : ℕ) → b2 + k ≤ b1 → (f1 ≡ 0) × (f2 ≡ 0) → Sees kept' (Ok (Short more))
+      → Pends old new b0 b2 f0 f2 n0 n2 kept' more
   pends_more b2 f2 more fewer works s = record {
     undecided = s;
     some = pending_some kept' more s;

@@ -1,5 +1,6 @@
 -- How a device counts its failures.
-use Rattle.std.specs.Prelude.{◌≡◌, ◌≢◌, ℕ, Bool, true, false, List, [], Option, Some, None, Result, MatchResult}
+use Rattle.std.specs.Prelude.{◌≡◌, ◌≢◌, ℕ, Bool, true, false, List, [], Option, Some, None, Result}
+use Rattle.std.specs.Prelude.{MatchResult}
 use Rattle.ipc_model.specs.declared.fault.Fault.{Fault}
 use Rattle.ipc_model.specs.declared.fault.Fault.TheVariants.{Read}
 
@@ -17,12 +18,14 @@ abbrev pub none_if : Bool → Option (List ℕ)
 none_if true = Some []
 none_if false = None
 
--- with this fault the count went from `old` to `new`: F36 says that it is 1, any other that it stayed
+-- with this fault the count went from `old` to `new`: F36 says that it is 1, any other that it
+-- stayed
 pub record Tells (old new : ℕ) (fault : Fault) : Type 0 where
   pub failed : fault ≡ Read → new ≡ 1
   pub stayed : fault ≢ Read → new ≡ old
 
--- of a call that asks its source: it succeeds only where no call of the source failed, and F36 is answered exactly where one did
+-- of a call that asks its source: it succeeds only where no call of the source failed, and F36 is
+-- answered exactly where one did
 abbrev pub FailsAs : {T : Type 0} → ℕ → ℕ → Result T Fault → Type 0
 FailsAs old new r = MatchResult r (λ _. (old ≡ 0) × (new ≡ 0)) (λ fault. Tells old new fault)
 

@@ -1,8 +1,11 @@
--- What a reader takes from its source, and what it answers (Arrow Columnar Format, "IPC Streaming Format").
-use Rattle.std.specs.Prelude.{◌≡◌, ◌≢◌, ℕ, ◌+◌, ◌-◌, ◌^◌, ◌≤◌, min, List, [], ◌∷◌, ◌++◌, length, take, drop, Option, ⊤, Some, None, Result, Ok, Err}
+-- What a reader takes from its source, and what it answers (Arrow Columnar Format, "IPC Streaming
+-- Format").
+use Rattle.std.specs.Prelude.{◌≡◌, ◌≢◌, ℕ, ◌+◌, ◌-◌, ◌^◌, ◌≤◌, min, List, [], ◌∷◌, ◌++◌, length}
+use Rattle.std.specs.Prelude.{take, drop, Option, ⊤, Some, None, Result, Ok, Err}
 use Rattle.std.specs.Io.KnownBytes.{Consumes, IsAtEnd}
 use Rattle.ipc_model.specs.declared.fault.Fault.{Fault}
-use Rattle.ipc_model.specs.declared.fault.Fault.TheVariants.{MissingSchema, SecondSchema, Truncated, UnknownDictionary}
+use Rattle.ipc_model.specs.declared.fault.Fault.TheVariants.{MissingSchema, SecondSchema, Truncated}
+use Rattle.ipc_model.specs.declared.fault.Fault.TheVariants.{UnknownDictionary}
 use Rattle.ipc_model.specs.declared.schema.Schema.{Schema}
 use Rattle.ipc_model.specs.declared.table.Table.{Table}
 use Rattle.ipc_meta.specs.declared.head.BatchHead.{BatchHead}
@@ -31,16 +34,20 @@ pub record Takes (old new : Option (List ℕ)) (count_old count_new : ℕ) (x : 
   pub bytes : Consumes old new x
   pub counted : count_new ≡ count_up count_old (length x)
 
--- k bytes came to a buffer behind its first bytes, at most as many as were wanted, and none only at the end
-pub record Behind (old new : Option (List ℕ)) (buffer_old buffer_new : List ℕ) (start wanted k : ℕ) : Type 0 where
+-- k bytes came to a buffer behind its first bytes, at most as many as were wanted, and none only at
+-- the end
+pub record Behind (old new : Option (List ℕ)) (buffer_old buffer_new : List ℕ)
+    (start wanted k : ℕ) : Type 0 where
   pub few : k ≤ wanted
   pub fits : start + k ≤ length buffer_new
   pub before : take start buffer_new ≡ take start buffer_old
   pub bytes : Consumes old new (take k (drop start buffer_new))
   pub ended : k ≡ 0 → IsAtEnd new
 
--- k bytes came behind those that were kept, at most as many as were wanted, and none only at the end
-pub record Fills (old new : Option (List ℕ)) (count_old count_new : ℕ) (kept_old kept_new : List ℕ) (wanted k : ℕ) : Type 0 where
+-- k bytes came behind those that were kept, at most as many as were wanted, and none only at the
+-- end
+pub record Fills (old new : Option (List ℕ)) (count_old count_new : ℕ) (kept_old kept_new : List ℕ)
+    (wanted k : ℕ) : Type 0 where
   pub came : List ℕ
   pub kept : kept_new ≡ kept_old ++ came
   pub count : length came ≡ k
@@ -57,7 +64,8 @@ pub record Loses (old new : Option (List ℕ)) (count_old count_new wanted : ℕ
 -- why no frame is read, whatever the state
 pub data BreaksFrame (z : List ℕ) (left : Option (List ℕ)) (fault : Fault) : Type 0 where
   refused : RefusesNow z fault → BreaksFrame z left fault
-  truncated : (k : ℕ) → fault ≡ Truncated → Pending z k → z ≢ [] → IsAtEnd left → BreaksFrame z left fault
+  truncated : (k : ℕ) → fault ≡ Truncated → Pending z k → z ≢ [] → IsAtEnd left
+      → BreaksFrame z left fault
   aside : IsOutside fault → BreaksFrame z left fault
 
 -- a frame, or the end of the source between two frames, or neither
@@ -67,7 +75,8 @@ GivesFrame z left (Ok None) = (z ≡ []) × IsAtEnd left
 GivesFrame z left (Err fault) = BreaksFrame z left fault
 
 -- what was taken from the source to find a frame, and what was found
-pub record TakesFrame (old new : Option (List ℕ)) (count_old count_new : ℕ) (r : Result (Option Framed) Fault) : Type 0 where
+pub record TakesFrame (old new : Option (List ℕ)) (count_old count_new : ℕ)
+    (r : Result (Option Framed) Fault) : Type 0 where
   pub z : List ℕ
   pub takes : Takes old new count_old count_new z
   pub wanted : Wanted z
@@ -85,7 +94,8 @@ GivesSchema x left (Ok s) = Run None x (schema s ∷ []) (Some (record { schema 
 GivesSchema x left (Err fault) = Reads None x left [] (Err fault)
 
 -- what was taken from the source to find the schema, and what was found
-pub record TakesSchema (old new : Option (List ℕ)) (count_old count_new : ℕ) (r : Result Schema Fault) : Type 0 where
+pub record TakesSchema (old new : Option (List ℕ)) (count_old count_new : ℕ)
+    (r : Result Schema Fault) : Type 0 where
   pub x : List ℕ
   pub takes : Takes old new count_old count_new x
   pub wanted : Wanted x
@@ -93,11 +103,13 @@ pub record TakesSchema (old new : Option (List ℕ)) (count_old count_new : ℕ)
 
 -- the first message is a schema's, which is in force now, or there is none
 abbrev pub GivesScope : List ℕ → Option (List ℕ) → Result Scope Fault → Type 0
-GivesScope x left (Ok scope) = Run None x (schema scope.schema ∷ []) (Some (record { schema = scope.schema }))
+GivesScope x left (Ok scope) =
+    Run None x (schema scope.schema ∷ []) (Some (record { schema = scope.schema }))
 GivesScope x left (Err fault) = Reads None x left [] (Err fault)
 
 -- what was taken from the source to find the schema with what follows from it, and what was found
-pub record TakesScope (old new : Option (List ℕ)) (count_old count_new : ℕ) (r : Result Scope Fault) : Type 0 where
+pub record TakesScope (old new : Option (List ℕ)) (count_old count_new : ℕ)
+    (r : Result Scope Fault) : Type 0 where
   pub x : List ℕ
   pub takes : Takes old new count_old count_new x
   pub gives : GivesScope x new r
@@ -106,12 +118,14 @@ pub record TakesScope (old new : Option (List ℕ)) (count_old count_new : ℕ) 
 abbrev pub RefusesNext : Schema → Framed → Fault → Type 0
 RefusesNext s f.End fault = ⊥
 RefusesNext s (f.Message meta (h.Schema t) body) fault = fault ≡ SecondSchema
-RefusesNext s (f.Message meta (h.Dictionary id b) body) fault = (fault ≡ UnknownDictionary) × NamesNone id s
+RefusesNext s (f.Message meta (h.Dictionary id b) body) fault =
+    (fault ≡ UnknownDictionary) × NamesNone id s
 RefusesNext s (f.Message meta (h.Batch b) body) fault = RefusesParts fault s.fields b body.items
 
 -- a message with the rows of this batch, or the end mark, or neither
 abbrev pub BringsNext : Schema → Framed → Result Next Fault → Type 0
-BringsNext s (f.Message meta head body) (Ok (next.Batch found)) = (b : BatchHead) × (head ≡ h.Batch b) × Rows s.fields b body.items found.rows
+BringsNext s (f.Message meta head body) (Ok (next.Batch found)) =
+    (b : BatchHead) × (head ≡ h.Batch b) × Rows s.fields b body.items found.rows
 BringsNext s f.End (Ok (next.Ended Mark)) = ⊤
 BringsNext s frame (Err fault) = RefusesNext s frame fault
 BringsNext s frame next = ⊥
@@ -123,7 +137,8 @@ ReadAnswer o x left (Ok (next.Ended end)) = Reads (Some o) x left [] (Ok end)
 ReadAnswer o x left (Err fault) = Reads (Some o) x left [] (Err fault)
 
 -- what was taken from the source for the next event behind the schema, and what was found
-pub record ReadsNext (old new : Option (List ℕ)) (count_old count_new : ℕ) (o : InForce) (r : Result Next Fault) : Type 0 where
+pub record ReadsNext (old new : Option (List ℕ)) (count_old count_new : ℕ) (o : InForce)
+    (r : Result Next Fault) : Type 0 where
   pub x : List ℕ
   pub takes : Takes old new count_old count_new x
   pub gives : ReadAnswer o x new r

@@ -1,4 +1,5 @@
-ghost use Rattle.std.specs.Prelude.{◌≡◌, ◌<◌, ◌≤◌, ◌+◌, ◌-◌, ◌^◌, length, take, IfOk, IfErr, OnOk, OnErr, vec_len};
+ghost use Rattle.std.specs.Prelude.{◌≡◌, ◌<◌, ◌≤◌, ◌+◌, ◌-◌, ◌^◌, length, take, IfOk, IfErr, OnOk};
+ghost use Rattle.std.specs.Prelude.{OnErr, vec_len};
 ghost use Rattle.std.specs.Io.KnownBytes.{Keeps};
 ghost use Rattle.ipc_stream.specs.Failures.{FailsAs};
 ghost use Rattle.ipc_stream.specs.Reasons.{IsOutside};
@@ -11,8 +12,8 @@ use std::alloc::{AllocError, Global};
 // By how many bytes the buffer grows at most where it is full.
 const PIECE: usize = 65_536;
 
-// What a reader keeps between its calls: a buffer whose first `filled` bytes are those of the message at hand, and how many
-// bytes were taken so far.
+// What a reader keeps between its calls: a buffer whose first `filled` bytes are those of the
+// message at hand, and how many bytes were taken so far.
 #[derive(Drop)]
 pub struct Intake {
     pub buffer: Vec<u8>,
@@ -35,7 +36,8 @@ impl Intake {
     }
 }
 
-// Asks the source once, for no more than is wanted, and puts what comes behind the first `start` bytes.
+// Asks the source once, for no more than is wanted, and puts what comes behind the first `start`
+// bytes.
 fn read_behind<R: Source>(
     source: &mut R,
     buffer: &mut [u8],
@@ -44,7 +46,8 @@ fn read_behind<R: Source>(
 ) -> Result<usize, Fault>
     requires wants { 0 < wanted }
     requires room { start < length buffer.old }
-    ensures behind { IfOk result (λ k. Behind (R.remaining source.old) (R.remaining source.new) buffer.old buffer.new start wanted k) }
+    ensures behind { IfOk result (λ k. Behind (R.remaining source.old)
+        (R.remaining source.new) buffer.old buffer.new start wanted k) }
     ensures same { length buffer.new ≡ length buffer.old }
     ensures fewer { IfOk result (λ k. (R.bound source.new + k) ≤ R.bound source.old) }
     ensures lost { OnErr result (Keeps (R.remaining source.old) (R.remaining source.new)) }
@@ -62,7 +65,8 @@ fn read_behind<R: Source>(
 fn grow(intake: &mut Intake, wanted: usize) -> Result<(), AllocError>
     requires { 0 < wanted }
     ensures room { OnOk result (intake.new.filled < length intake.new.buffer.items) }
-    ensures kept { take intake.new.filled intake.new.buffer.items ≡ take intake.old.filled intake.old.buffer.items }
+    ensures kept { take intake.new.filled intake.new.buffer.items
+        ≡ take intake.old.filled intake.old.buffer.items }
     ensures filled { intake.new.filled ≡ intake.old.filled }
     ensures taken { intake.new.taken ≡ intake.old.taken }
 {
@@ -75,9 +79,13 @@ fn grow(intake: &mut Intake, wanted: usize) -> Result<(), AllocError>
 // Asks the source once, and keeps what comes behind what is kept.
 fn read_piece<R: Source>(source: &mut R, intake: &mut Intake, wanted: usize) -> Result<usize, Fault>
     requires { 0 < wanted }
-    ensures filled { IfOk result (λ k. Fills (R.remaining source.old) (R.remaining source.new) intake.old.taken intake.new.taken (take intake.old.filled intake.old.buffer.items) (take intake.new.filled intake.new.buffer.items) wanted k) }
+    ensures filled { IfOk result (λ k. Fills (R.remaining source.old)
+        (R.remaining source.new) intake.old.taken intake.new.taken
+        (take intake.old.filled intake.old.buffer.items)
+        (take intake.new.filled intake.new.buffer.items) wanted k) }
     ensures fewer { IfOk result (λ k. (R.bound source.new + k) ≤ R.bound source.old) }
-    ensures lost { OnErr result (Loses (R.remaining source.old) (R.remaining source.new) intake.old.taken intake.new.taken wanted) }
+    ensures lost { OnErr result (Loses (R.remaining source.old)
+        (R.remaining source.new) intake.old.taken intake.new.taken wanted) }
     ensures only { IfErr result IsOutside }
     ensures failures { FailsAs (R.failures source.old) (R.failures source.new) result }
 {
@@ -89,12 +97,17 @@ fn read_piece<R: Source>(source: &mut R, intake: &mut Intake, wanted: usize) -> 
     Ok(count)
 }
 
-// Asks the source until all that is wanted came or nothing more comes, and says how many bytes came: none only at the end.
+// Asks the source until all that is wanted came or nothing more comes, and says how many bytes
+// came: none only at the end.
 pub fn fill<R: Source>(source: &mut R, intake: &mut Intake, wanted: usize) -> Result<usize, Fault>
     requires { 0 < wanted }
-    ensures filled { IfOk result (λ k. Fills (R.remaining source.old) (R.remaining source.new) intake.old.taken intake.new.taken (take intake.old.filled intake.old.buffer.items) (take intake.new.filled intake.new.buffer.items) wanted k) }
+    ensures filled { IfOk result (λ k. Fills (R.remaining source.old)
+        (R.remaining source.new) intake.old.taken intake.new.taken
+        (take intake.old.filled intake.old.buffer.items)
+        (take intake.new.filled intake.new.buffer.items) wanted k) }
     ensures fewer { IfOk result (λ k. (R.bound source.new + k) ≤ R.bound source.old) }
-    ensures lost { OnErr result (Loses (R.remaining source.old) (R.remaining source.new) intake.old.taken intake.new.taken wanted) }
+    ensures lost { OnErr result (Loses (R.remaining source.old)
+        (R.remaining source.new) intake.old.taken intake.new.taken wanted) }
     ensures only { IfErr result IsOutside }
     ensures failures { FailsAs (R.failures source.old) (R.failures source.new) result }
 {

@@ -1,4 +1,5 @@
-ghost use Rattle.std.specs.Prelude.{◌≡◌, ◌≤◌, ◌-◌, ◌^◌, ◌<◌, ◌++◌, ℕ, List, Some, IfOk, IfErr, IsSome, MatchResult, true};
+ghost use Rattle.std.specs.Prelude.{◌≡◌, ◌≤◌, ◌-◌, ◌^◌, ◌<◌, ◌++◌, ℕ, List, Some, IfOk, IfErr};
+ghost use Rattle.std.specs.Prelude.{IsSome, MatchResult, true};
 ghost use Rattle.ipc_model.specs.declared.schema.Schema.{Schema};
 ghost use Rattle.ipc_model.specs.declared.value.Value.{Value};
 ghost use Rattle.ipc_meta.specs.Supported.{are_supported};
@@ -42,7 +43,16 @@ impl<R: Source> Model for StreamReader<R> {
 
     ghost coded = { Prim.hlevel (codes, field.the_row.coded) };
 
-    ghost view = { λ s. record { remaining = R.remaining s.source; failures = R.failures s.source; bound = R.bound s.source; schema = s.scope.schema; phase = s.phase; messages = s.messages; taken = s.intake.taken } };
+    ghost view = { λ s. record {
+      remaining = R.remaining s.source;
+      failures = R.failures s.source;
+      bound = R.bound s.source;
+      schema = s.scope.schema;
+      phase = s.phase;
+      messages =
+          s.messages;
+      taken = s.intake.taken;
+    } };
 }
 
 // A reader that took a schema's message, or the source again with the fault.
@@ -54,7 +64,8 @@ fn open_with<R: Source>(
     requires { intake.taken ≡ 0 }
     ensures opened { IfOk result (λ s. Opens (R.remaining source) s) }
     ensures refused { IfErr result (λ e. OpenFails (R.remaining source) (R.remaining e.1) e.0) }
-    ensures failures { MatchResult result (λ s. (R.failures source ≡ 0) × (s.failures ≡ 0)) (λ e. Tells (R.failures source) (R.failures e.1) e.0) }
+    ensures failures { MatchResult result (λ s. (R.failures source ≡ 0) × (s.failures ≡ 0))
+        (λ e. Tells (R.failures source) (R.failures e.1) e.0) }
     ensures fewer { IfOk result (λ s. s.bound < R.bound source) }
 {
     let mut source = source;
@@ -73,16 +84,19 @@ fn open_with<R: Source>(
 }
 
 impl<R: Source> StreamReader<R> {
-    /// Reads the first message, which is the schema's. At a refusal the source comes back with the fault. A source that failed
-    /// before is returned as F36 at its first use.
+    /// Reads the first message, which is the schema's. At a refusal the source comes back with the
+    /// fault. A source that failed before is returned as F36 at its first use.
     pub fn open(alloc: Global, source: R) -> Result<StreamReader<R>, (Fault, R)>
         ensures opened { IfOk result (λ s. Opens (R.remaining source) s) }
         ensures refused { IfErr result (λ e. OpenFails (R.remaining source) (R.remaining e.1) e.0) }
-        ensures failures { MatchResult result (λ s. (R.failures source ≡ 0) × (s.failures ≡ 0)) (λ e. Tells (R.failures source) (R.failures e.1) e.0) }
+        ensures failures { MatchResult result (λ s. (R.failures source ≡ 0) × (s.failures ≡ 0))
+            (λ e. Tells (R.failures source) (R.failures e.1) e.0) }
         ensures fewer { IfOk result (λ s. s.bound < R.bound source) }
-        // The message of a schema of types that are read, at the front of the source, is read, whatever follows it, unless memory runs out or
-        // the source fails.
-        ensures schema { (x rest : List ℕ) (s : Schema) → are_supported s.fields ≡ true → R.remaining source ≡ Some (x ++ rest) → OpensStream s x → MatchResult result (λ reader. reader.schema ≡ s) (λ e. IsOutside e.0) }
+        // The message of a schema of types that are read, at the front of the source, is read,
+        // whatever follows it, unless memory runs out or the source fails.
+        ensures schema { (x rest : List ℕ) (s : Schema) → are_supported s.fields ≡ true
+            → R.remaining source ≡ Some (x ++ rest) → OpensStream s x
+            → MatchResult result (λ reader. reader.schema ≡ s) (λ e. IsOutside e.0) }
     {
         open_with(alloc, source, Intake::new(alloc))
     }
@@ -94,8 +108,9 @@ impl<R: Source> StreamReader<R> {
         &self.scope.schema
     }
 
-    /// The columns of the stream: the field with a number says what the cells of a batch's column with this number mean. Of an `Int` its
-    /// type says whether it is a number, a date or a timestamp, and in which unit.
+    /// The columns of the stream: the field with a number says what the cells of a batch's column
+    /// with this number mean. Of an `Int` its type says whether it is a number, a date or a
+    /// timestamp, and in which unit.
     pub fn fields(&self) -> &[Field]
         ensures { result.now ≡ self.now.schema.fields }
     {
@@ -134,18 +149,24 @@ impl<R: Source> StreamReader<R> {
         }
     }
 
-    /// The next batch, or none at the end of the stream and from then on. After a refusal every call answers F35 and takes
-    /// nothing.
+    /// The next batch, or none at the end of the stream and from then on. After a refusal every
+    /// call answers F35 and takes nothing.
     pub fn next(&mut self) -> Result<Option<Batch>, Fault>
         ensures next { NextCall self.old self.new result }
         ensures fewer { IfOk result (λ batch. IsSome batch → self.new.bound < self.old.bound) }
         ensures failures { StaysOrFails self.old.failures self.new.failures result }
         // F36 is answered only where the source had not failed before.
         ensures rose { IfErr result (λ fault. fault ≡ Fault.Read → self.old.failures ≡ 0) }
-        // A batch's message at the front of the source is read, whatever follows it, unless memory runs out or the source fails.
-        ensures batch { (x rest : List ℕ) (rows : List (List Value)) → self.old.phase ≡ Phase.Reading → self.old.remaining ≡ Some (x ++ rest) → AddsRows self.old.schema rows x → MatchResult result (λ batch. GivesRows batch rows) IsOutside }
+        // A batch's message at the front of the source is read, whatever follows it, unless memory
+        // runs out or the source fails.
+        ensures batch { (x rest : List ℕ) (rows : List (List Value))
+            → self.old.phase ≡ Phase.Reading → self.old.remaining ≡ Some (x ++ rest)
+            → AddsRows self.old.schema rows x
+            → MatchResult result (λ batch. GivesRows batch rows) IsOutside }
         // So is an end, by the mark or where nothing is left.
-        ensures ended { (z : List ℕ) (end : End) → self.old.phase ≡ Phase.Reading → self.old.remaining ≡ Some z → BeginsEnd end z → MatchResult result (λ batch. self.new.phase ≡ Phase.Ended end) IsOutside }
+        ensures ended { (z : List ℕ) (end : End) → self.old.phase ≡ Phase.Reading
+            → self.old.remaining ≡ Some z → BeginsEnd end z
+            → MatchResult result (λ batch. self.new.phase ≡ Phase.Ended end) IsOutside }
     {
         self.advance()
     }
@@ -160,7 +181,8 @@ impl<R: Source> StreamReader<R> {
         }
     }
 
-    /// How many messages were read, the schema's included; a refused one isn't counted. The count stops at 2^64 - 1.
+    /// How many messages were read, the schema's included; a refused one isn't counted. The count
+    /// stops at 2^64 - 1.
     pub fn messages(&self) -> u64
         ensures { result ≡ self.now.messages }
     {

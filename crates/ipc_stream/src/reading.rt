@@ -2,7 +2,8 @@ ghost use Rattle.std.specs.Prelude.{◌≡◌, ◌<◌, IfOk, IsSome};
 ghost use Rattle.ipc_stream.specs.Failures.{FailsAs};
 ghost use Rattle.ipc_stream.specs.Readable.{IsReadable};
 ghost use Rattle.ipc_stream.specs.Reasons.{NamesNone};
-ghost use Rattle.ipc_stream.specs.Taken.{BringsNext, BringsSchema, IsBatch, TakesFrame, ReadsNext, TakesSchema, TakesScope};
+ghost use Rattle.ipc_stream.specs.Taken.{BringsNext, BringsSchema, IsBatch, TakesFrame, ReadsNext};
+ghost use Rattle.ipc_stream.specs.Taken.{TakesSchema, TakesScope};
 
 use crate::end::End;
 use crate::intake::{Intake, fill};
@@ -29,7 +30,8 @@ fn read_frame<R: Source>(
     source: &mut R,
     intake: &mut Intake,
 ) -> Result<Option<Frame>, Fault>
-    ensures frame { TakesFrame (R.remaining source.old) (R.remaining source.new) intake.old.taken intake.new.taken result }
+    ensures frame { TakesFrame (R.remaining source.old)
+        (R.remaining source.new) intake.old.taken intake.new.taken result }
     ensures fewer { IfOk result (λ frame. IsSome frame → R.bound source.new < R.bound source.old) }
     ensures failures { FailsAs (R.failures source.old) (R.failures source.new) result }
 {
@@ -68,7 +70,8 @@ fn read_schema<R: Source>(
     source: &mut R,
     intake: &mut Intake,
 ) -> Result<Schema, Fault>
-    ensures schema { TakesSchema (R.remaining source.old) (R.remaining source.new) intake.old.taken intake.new.taken result }
+    ensures schema { TakesSchema (R.remaining source.old)
+        (R.remaining source.new) intake.old.taken intake.new.taken result }
     ensures fewer { IfOk result (λ schema. R.bound source.new < R.bound source.old) }
     ensures failures { FailsAs (R.failures source.old) (R.failures source.new) result }
 {
@@ -84,7 +87,8 @@ pub fn read_scope<R: Source>(
     source: &mut R,
     intake: &mut Intake,
 ) -> Result<Scope, Fault>
-    ensures scope { TakesScope (R.remaining source.old) (R.remaining source.new) intake.old.taken intake.new.taken result }
+    ensures scope { TakesScope (R.remaining source.old)
+        (R.remaining source.new) intake.old.taken intake.new.taken result }
     ensures fewer { IfOk result (λ scope. R.bound source.new < R.bound source.old) }
     ensures failures { FailsAs (R.failures source.old) (R.failures source.new) result }
 {
@@ -127,7 +131,9 @@ pub fn read_next<R: Source>(
     intake: &mut Intake,
     scope: &Scope,
 ) -> Result<Next, Fault>
-    ensures next { ReadsNext (R.remaining source.old) (R.remaining source.new) intake.old.taken intake.new.taken (record { schema = scope.now.schema }) result }
+    ensures next { ReadsNext (R.remaining source.old)
+        (R.remaining source.new) intake.old.taken intake.new.taken
+        (record { schema = scope.now.schema }) result }
     ensures fewer { IfOk result (λ next. IsBatch next → R.bound source.new < R.bound source.old) }
     ensures failures { FailsAs (R.failures source.old) (R.failures source.new) result }
 {

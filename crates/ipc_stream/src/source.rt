@@ -32,8 +32,9 @@ pub trait Source {
     /// No more bytes than so many are still to come.
     ghost bound: { Self → ℕ };
 
-    /// Puts the next bytes at the front of `into` and says how many they are: none only where `into` is empty or no byte is
-    /// left. A call that fails takes no byte, and so does each one after it.
+    /// Puts the next bytes at the front of `into` and says how many they are: none only where
+    /// `into` is empty or no byte is left. A call that fails takes no byte, and so does each one
+    /// after it.
     fn read(&mut self, into: &mut [u8]) -> Result<usize, Failed>
         ensures count { IfOk result (λ k. k ≤ length into.new) }
         ensures bytes { ReadConsumes (remaining self.old) (remaining self.new) result into.new }

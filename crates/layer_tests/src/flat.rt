@@ -3,8 +3,8 @@
 use ipc_flat::{Flat, FlatFault};
 use std::test::Fail;
 
-// The metadata of a stream's schema message, as the FlatBuffers library writes it for a schema without
-// fields: the message at 16 with its vtable at 4, the schema at 32 with its vtable at 28.
+// The metadata of a stream's schema message, as the FlatBuffers library writes it for a schema
+// without fields: the message at 16 with its vtable at 4, the schema at 32 with its vtable at 28.
 const SCHEMA_MESSAGE: [u8; 40] = [
     16, 0, 0, 0, 10, 0, 12, 0, 8, 0, 10, 0, 4, 0, 0, 0, 12, 0, 0, 0, 12, 0, 0, 0, 4, 0, 1, 0, 4, 0,
     4, 0, 4, 0, 0, 0, 0, 0, 0, 0,

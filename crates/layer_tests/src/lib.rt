@@ -1,4 +1,5 @@
-//! Tests of the crates below the stream: FlatBuffers in place, rows and schemas, and batches of one column.
+//! Tests of the crates below the stream: FlatBuffers in place, rows and schemas, and batches of one
+//! column.
 #![tactic(auto)]
 
 #[cfg(test)]

@@ -29,8 +29,8 @@ fn items<T: Drop>(alloc: Global, first: T, second: T) -> Result<Items<T>, AllocE
     Ok(Items::from_vec(all))
 }
 
-// A required column of signed numbers of 8 bits, and a nullable one of pairs, each of which has a date in milliseconds and
-// a required text.
+// A required column of signed numbers of 8 bits, and a nullable one of pairs, each of which has a
+// date in milliseconds and a required text.
 fn schema(alloc: Global) -> Result<Schema, AllocError> {
     let mut number = field(
         alloc,
@@ -107,7 +107,8 @@ fn rows_that_do_not_fit(rt: HostRuntime) -> Result<(), Fail> {
     Ok(())
 }
 
-// What the writer says of this value alone in a row with this number, where it doesn't fit a column of this type.
+// What the writer says of this value alone in a row with this number, where it doesn't fit a column
+// of this type.
 fn refused_alone(
     alloc: Global,
     kind: DataType,

@@ -1,5 +1,5 @@
-//! The program `read_and_write`: it writes two batches into memory as a stream, reads them back and prints each cell. It is
-//! the example of README.md.
+//! The program `read_and_write`: it writes two batches into memory as a stream, reads them back and
+//! prints each cell. It is the example of README.md.
 #![tactic(auto)]
 
 use ipc_stream::{

@@ -1,4 +1,5 @@
-//! Writers of std as sinks, and values out of their type's range, through every call that writes rows.
+//! Writers of std as sinks, and values out of their type's range, through every call that writes
+//! rows.
 
 use crate::tables::{empty, numbers, row, schema_of, written};
 use ipc_model::{DataType, DateUnit, IntBits, Items, Table, Value, WriteFault};
@@ -122,7 +123,8 @@ fn ranges(alloc: Global) -> Result<Vec<(DataType, Value, Value)>, AllocError> {
 
 const REFUSED: &str = "W4 OutOfRange at row 1 path 0";
 
-// 256 in a column of unsigned numbers of 8 bits, and a date in milliseconds that is no whole day, each in the second row.
+// 256 in a column of unsigned numbers of 8 bits, and a date in milliseconds that is no whole day,
+// each in the second row.
 #[test]
 fn tells_values_out_of_range(rt: HostRuntime) -> Result<(), Fail> {
     let alloc = rt.alloc();

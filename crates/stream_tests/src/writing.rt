@@ -114,7 +114,8 @@ fn tells_a_flush_that_fails(rt: HostRuntime) -> Result<(), Fail> {
     Ok(())
 }
 
-// A row that doesn't fit is refused with its number and its path, nothing goes out, and the writer writes on.
+// A row that doesn't fit is refused with its number and its path, nothing goes out, and the writer
+// writes on.
 #[test]
 fn writes_on_after_a_refused_row(rt: HostRuntime) -> Result<(), Fail> {
     let alloc = rt.alloc();
@@ -168,7 +169,8 @@ fn start_refused(alloc: Global, field: Field) -> Result<(WriteFault, usize), Fai
     Ok((fault, sink.into_bytes().len()))
 }
 
-// A width that no column has; a list, which is well formed and not written yet; a list without its child.
+// A width that no column has; a list, which is well formed and not written yet; a list without its
+// child.
 #[test]
 fn refuses_schemas(rt: HostRuntime) -> Result<(), Fail> {
     let alloc = rt.alloc();

@@ -1,5 +1,6 @@
-//! The program `write_numbers`: `write_numbers BATCHES ROWS` writes a stream of four required columns of signed 64-bit integers
-//! to standard output, with so many batches of so many rows. The writer is measured by it.
+//! The program `write_numbers`: `write_numbers BATCHES ROWS` writes a stream of four required
+//! columns of signed 64-bit integers to standard output, with so many batches of so many rows. The
+//! writer is measured by it.
 #![tactic(auto)]
 
 use ipc_model::{DataType, Field, IntBits, Items, Row, Schema, Text, Value, WriteFault};

@@ -1,5 +1,5 @@
-//! The program `write_types`: `write_types all` writes a stream with columns of every flat type to standard output. Whatever reads streams or
-//! their metadata can be tried on it.
+//! The program `write_types`: `write_types all` writes a stream with columns of every flat type to
+//! standard output. Whatever reads streams or their metadata can be tried on it.
 #![tactic(auto)]
 
 use ipc_model::{

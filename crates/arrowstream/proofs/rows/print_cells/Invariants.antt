@@ -7,5 +7,6 @@ use Rattle.arrowstream.proofs.rows.print_cells.Given as goal
 abbrev pub invariant-loop-row : goal.invariant-loop-row
 invariant-loop-row g l = record {
   inside : l.at ≤ length l.text;
-  put : Puts (output (g.W.Sink.written l.fn.sink) (g.W.Sink.failures l.fn.sink) (take l.fn.start l.fn.text)) (output (g.W.Sink.written l.sink) (g.W.Sink.failures l.sink) (take l.at l.text)) (lines (take l.row l.batch.rows));
+  put : Puts (output (g.W.Sink.written l.fn.sink) (g.W.Sink.failures l.fn.sink) (take l.fn.start l.fn.text))
+      (output (g.W.Sink.written l.sink) (g.W.Sink.failures l.sink) (take l.at l.text)) (lines (take l.row l.batch.rows));
 }

@@ -15,20 +15,31 @@ no_column = record { ref_ptr = (0, 0); now = [] }
 
 pub number_at-requires : goal.number_at-requires
 number_at-requires g c =
-    omega (arith, all_at (λ b. c.args.row + 1 ≤ length (at b)) c.args.columns.now c.loop-numbers.numbers-index no_column c.loop-numbers-test.true c.requires.long)
+    omega (
+      arith,
+      all_at (λ b. c.args.row + 1 ≤ length (at b)) c.args.columns.now c.loop-numbers.numbers-index no_column
+          c.loop-numbers-test.true c.requires.long,
+    )
 
 pub loop-numbers-preserved : goal.loop-numbers-preserved
 loop-numbers-preserved g c = let fits : FitsSigned w64 c.number_at.result = search rules in record {
   inside = c.in_ok-at.ensures.inside;
-  put = number_more at c.args.columns.now c.args.row _ _ _ _ c.loop-numbers.numbers-index (get_or c.args.columns.now c.loop-numbers.numbers-index no_column) no_column c.number_at.result c.loop-numbers.invariant.put c.loop-numbers-test.true refl (ap Int (sym c.number_at.ensures)) (rw (to_z-of_z w64 c.number_at.result fits) at c.in_ok-at.ensures.puts);
+  put = number_more at c.args.columns.now c.args.row _ _ _ _ c.loop-numbers.numbers-index
+      (get_or c.args.columns.now c.loop-numbers.numbers-index no_column) no_column c.number_at.result c.loop-numbers.invariant.put
+      c.loop-numbers-test.true refl (ap Int (sym c.number_at.ensures))
+      (rw (to_z-of_z w64 c.number_at.result fits) at c.in_ok-at.ensures.puts);
 }
 
 pub returns-in_err-at-clause-puts : goal.returns-in_err-at-clause-puts
 returns-in_err-at-clause-puts g c =
     let p = err_from_is_err_and c.from_residual.result c.from_residual.ensures.1 in
     let fits : FitsSigned w64 c.number_at.result = search rules in
-    rw (p.1, p.2) (numbers_cut at c.args.columns.now c.args.row _ _ _ _ _ c.loop-numbers.numbers-index (get_or c.args.columns.now c.loop-numbers.numbers-index no_column) no_column c.number_at.result _ c.loop-numbers.invariant.put c.loop-numbers-test.true refl (ap Int (sym c.number_at.ensures)) (rw (to_z-of_z w64 c.number_at.result fits) at c.in_err-at.ensures.puts))
+    rw (p.1, p.2) (numbers_cut at c.args.columns.now c.args.row _ _ _ _ _ c.loop-numbers.numbers-index
+    (get_or c.args.columns.now c.loop-numbers.numbers-index no_column) no_column c.number_at.result _ c.loop-numbers.invariant.put
+    c.loop-numbers-test.true refl (ap Int (sym c.number_at.ensures))
+    (rw (to_z-of_z w64 c.number_at.result fits) at c.in_err-at.ensures.puts))
 
 pub returns-clause-puts : goal.returns-clause-puts
 returns-clause-puts g c =
-    numbers_end at c.args.columns.now c.args.row _ _ _ _ _ c.loop-numbers.numbers-index _ c.close_row.result c.loop-numbers.invariant.put (omega arith) (omega arith) c.close_row.ensures.puts
+    numbers_end at c.args.columns.now c.args.row _ _ _ _ _ c.loop-numbers.numbers-index _ c.close_row.result c.loop-numbers.invariant.put
+    (omega arith) (omega arith) c.close_row.ensures.puts

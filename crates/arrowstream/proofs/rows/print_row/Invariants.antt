@@ -8,5 +8,7 @@ use Rattle.arrowstream.proofs.rows.print_row.Given as goal
 abbrev pub invariant-loop-column : goal.invariant-loop-column
 invariant-loop-column g l = record {
   inside : l.at ≤ length l.text;
-  put : Puts (output (g.W.Sink.written l.fn.sink) (g.W.Sink.failures l.fn.sink) (take l.fn.start l.fn.text)) (output (g.W.Sink.written l.sink) (g.W.Sink.failures l.sink) (take l.at l.text)) (opened (take l.column (slice_index_or l.batch.rows l.row [])));
+  put : Puts (output (g.W.Sink.written l.fn.sink) (g.W.Sink.failures l.fn.sink) (take l.fn.start l.fn.text))
+      (output (g.W.Sink.written l.sink) (g.W.Sink.failures l.sink) (take l.at l.text))
+      (opened (take l.column (slice_index_or l.batch.rows l.row [])));
 }

@@ -15,5 +15,6 @@ returns-in-Int-clause-text c =
 pub returns-in_default : goal.returns-in_default
 returns-in_default c = record {
   end = omega (arith, c.put_word.ensures.end);
-  text = c.put_word.ensures.text ∙ ap (λ (t : List ℕ). take c.args.at c.args.text.now ++ t) (sym (other_null c.args.cell c.in_default.not-Int c.requires.shown));
+  text = c.put_word.ensures.text ∙ ap (λ (t : List ℕ). take c.args.at c.args.text.now ++ t)
+      (sym (other_null c.args.cell c.in_default.not-Int c.requires.shown));
 }

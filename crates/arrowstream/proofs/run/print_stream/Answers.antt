@@ -14,6 +14,9 @@ returns-in_err-lines-clause-prints g c =
 pub returns-in_err-flush-clause-prints : goal.returns-in_err-flush-clause-prints
 returns-in_err-flush-clause-prints g c =
     let p = err_from_is_err_and c.from_residual-in_err-flush.result c.from_residual-in_err-flush.ensures.1 in
-    let part = unflushed _ _ _ _ c.in_ok-fault.fault _ _ c.in_ok-fault.ensures.prints (rw c.in_err-flush.ensures.works at c.in_err-flush.ensures.puts) in
+    let part = unflushed _ _ _ _ c.in_ok-fault.fault _ _ c.in_ok-fault.ensures.prints
+    (rw c.in_err-flush.ensures.works at c.in_err-flush.ensures.puts) in
     rw (p.1, p.2, c.in_err-flush.ensures.works)
-    (subst (λ (k : List ℕ). PrintsPart c.args.stream.now c.print_rows.new.stream (output (g.W.Sink.written c.args.sink.now) (g.W.Sink.failures c.args.sink.now) k) (g.W.Sink.written c.flush.new.sink) (g.W.Sink.failures c.flush.new.sink) Write) c.in_ok-lines.ensures part)
+    (subst (λ (k : List ℕ). PrintsPart c.args.stream.now c.print_rows.new.stream
+    (output (g.W.Sink.written c.args.sink.now) (g.W.Sink.failures c.args.sink.now) k) (g.W.Sink.written c.flush.new.sink)
+    (g.W.Sink.failures c.flush.new.sink) Write) c.in_ok-lines.ensures part)

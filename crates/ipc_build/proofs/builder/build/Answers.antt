@@ -43,14 +43,16 @@ returns-in-Ok-clause-aligned c =
     let p = writable (view c.args.tree.now) (fields 0) o.1 c.requires in
     let f = buffer_fits (view c.args.tree.now) p in
     let r = room_is (view c.args.tree.now) in
-    let e = c.in-Ok.ensures ∙ (ap (λ l. l ++ buffer (view c.args.tree.now)) c.new-out.ensures.items ∙ sym (append-nil (buffer (view c.args.tree.now)))) in
+    let e = c.in-Ok.ensures ∙ (ap (λ l. l ++ buffer (view c.args.tree.now)) c.new-out.ensures.items
+    ∙ sym (append-nil (buffer (view c.args.tree.now)))) in
     subst (λ l. Aligned l (view c.args.tree.now)) (sym e) (buffer_lies (view c.args.tree.now) [] p (omega (arith, o.0, f, r))).1
 
 pub returns-in-Ok-clause-size : goal.returns-in-Ok-clause-size
 returns-in-Ok-clause-size c =
     let o = within_limit _ _ c.table_room.result c.table_room.ensures c.if-is_none.ensures in
     let p = writable (view c.args.tree.now) (fields 0) o.1 c.requires in
-    ap length (c.in-Ok.ensures ∙ ap (λ l. l ++ buffer (view c.args.tree.now)) c.new-out.ensures.items) ∙ length_buffer (view c.args.tree.now) p
+    ap length (c.in-Ok.ensures ∙ ap (λ l. l ++ buffer (view c.args.tree.now)) c.new-out.ensures.items)
+    ∙ length_buffer (view c.args.tree.now) p
 
 pub returns-in-Ok-clause-room : goal.returns-in-Ok-clause-room
 returns-in-Ok-clause-room c =

@@ -17,4 +17,5 @@ write_table-requires-clause-small c =
     omega (arith, r, c.requires.small)
 
 pub returns : goal.returns
-returns c = buffer_joined (view c.args.tree.now) c.table_place.result c.args.out.now.items c.push_u32.new.out.items c.write_table.new.out.items c.table_place.ensures c.in_ok-push_u32.ensures c.in_ok-write_table.ensures
+returns c = buffer_joined (view c.args.tree.now) c.table_place.result c.args.out.now.items c.push_u32.new.out.items
+    c.write_table.new.out.items c.table_place.ensures c.in_ok-push_u32.ensures c.in_ok-write_table.ensures

@@ -5,19 +5,23 @@ use Rattle.ipc_build.specs.Ascends.{InRange}
 use Rattle.ipc_build.specs.Room.{targets_room}
 use Rattle.ipc_build.proofs.Nodes.{view_is, u8_is, bool_is, i16_is, i32_is, i64_is}
 use Rattle.ipc_build.proofs.Views.{fields_weight, tables_weight, tables_below}
-use Rattle.ipc_build.proofs.RoomSteps.{counts_at, string_counted, pairs_counted, tables_counted, byte_counted, signed_counted, room_more, range_more, table_room_more, table_range_more, room_done, table_room_done}
+use Rattle.ipc_build.proofs.RoomSteps.{counts_at, string_counted, pairs_counted, tables_counted, byte_counted, signed_counted, room_more}
+use Rattle.ipc_build.proofs.RoomSteps.{range_more, table_room_more, table_range_more, room_done, table_room_done}
 use Rattle.std.proofs.Common.{w16, w32, w64}
 use Rattle.ipc_build.proofs.RoomSteps.{bool_small}
 use Rattle.ipc_build.proofs.room.+targets_room.Goals as goal
 
 pub target_room-returns-in-Text : goal.target_room-returns-in-Text
-target_room-returns-in-Text t c = string_counted c.args.slot.now c.in-Text.text c.as_str.result.now c.args.taken c.add.result c.in-Text.is c.as_str.ensures c.as_str.utf8 c.add.ensures
+target_room-returns-in-Text t c = string_counted c.args.slot.now c.in-Text.text c.as_str.result.now c.args.taken c.add.result c.in-Text.is
+    c.as_str.ensures c.as_str.utf8 c.add.ensures
 
 pub target_room-returns-in-Tables : goal.target_room-returns-in-Tables
-target_room-returns-in-Tables t c = tables_counted c.args.slot.now c.in-Tables.trees c.as_slice.result.now c.args.taken c.vector_room.result c.in-Tables.is c.as_slice.ensures c.vector_room.ensures
+target_room-returns-in-Tables t c = tables_counted c.args.slot.now c.in-Tables.trees c.as_slice.result.now c.args.taken c.vector_room.result
+    c.in-Tables.is c.as_slice.ensures c.vector_room.ensures
 
 pub target_room-returns-in-Pairs : goal.target_room-returns-in-Pairs
-target_room-returns-in-Pairs t c = pairs_counted c.args.slot.now c.in-Pairs.pairs c.as_slice-in-Pairs.result.now c.args.taken c.pairs_room.result c.in-Pairs.is c.as_slice-in-Pairs.ensures c.pairs_room.ensures
+target_room-returns-in-Pairs t c = pairs_counted c.args.slot.now c.in-Pairs.pairs c.as_slice-in-Pairs.result.now c.args.taken
+    c.pairs_room.result c.in-Pairs.is c.as_slice-in-Pairs.ensures c.pairs_room.ensures
 
 pub target_room-vector_room-requires : goal.target_room-vector_room-requires
 target_room-vector_room-requires t c =
@@ -32,7 +36,8 @@ targets_room-target_room-requires t c =
 
 pub table_room-targets_room-requires : goal.table_room-targets_room-requires
 table_room-targets_room-requires t c =
-    let v : view c.args.tree.now ≡ fields_view c.as_slice-slots.result.now = view_is c.args.tree.now ∙ ap fields_view (sym c.as_slice-slots.ensures) in
+    let v : view c.args.tree.now ≡ fields_view c.as_slice-slots.result.now =
+    view_is c.args.tree.now ∙ ap fields_view (sym c.as_slice-slots.ensures) in
     let z = ap weight v in
     (omega (arith, z), c.in_ok-taken.ensures.1)
 
@@ -49,7 +54,8 @@ targets_room-loop-slot-preserved t c =
     record {
       sum = omega (arith, m, s.0, c.loop-slot.invariant.sum);
       small = s.1;
-      fine = range_more c.args.slots.now c.loop-slot.slot-index c.loop-slot-item.result c.loop-slot-item.is c.loop-slot-test.true c.loop-slot.invariant.fine s.2.0 s.2.1;
+      fine = range_more c.args.slots.now c.loop-slot.slot-index c.loop-slot-item.result c.loop-slot-item.is c.loop-slot-test.true
+          c.loop-slot.invariant.fine s.2.0 s.2.1;
     }
 
 pub targets_room-returns : goal.targets_room-returns
@@ -64,7 +70,8 @@ elements_room-loop-tree-preserved t c =
     record {
       sum = omega (arith, m, s.0, c.loop-tree.invariant.sum);
       small = s.1;
-      fine = table_range_more c.args.trees.now c.loop-tree.tree-index c.tree-item.result c.tree-item.is c.loop-tree-test.true c.loop-tree.invariant.fine s.2;
+      fine = table_range_more c.args.trees.now c.loop-tree.tree-index c.tree-item.result c.tree-item.is c.loop-tree-test.true
+          c.loop-tree.invariant.fine s.2;
     }
 
 pub elements_room-returns : goal.elements_room-returns
@@ -74,10 +81,12 @@ elements_room-returns t c =
 
 pub table_room-returns : goal.table_room-returns
 table_room-returns t c =
-    let v : view c.args.tree.now ≡ fields_view c.as_slice-slots.result.now = view_is c.args.tree.now ∙ ap fields_view (sym c.as_slice-slots.ensures) in
+    let v : view c.args.tree.now ≡ fields_view c.as_slice-slots.result.now =
+    view_is c.args.tree.now ∙ ap fields_view (sym c.as_slice-slots.ensures) in
     let r = ap targets_room v in
     let o = ap (entry_count 0) v in
-    counts_at _ _ _ _ c.targets_room.result (omega (arith, r, o, c.entry_count.ensures.value, c.in_ok-taken.ensures.0)) (λ f. subst InRange (sym v) f) c.targets_room.ensures
+    counts_at _ _ _ _ c.targets_room.result (omega (arith, r, o, c.entry_count.ensures.value, c.in_ok-taken.ensures.0))
+    (λ f. subst InRange (sym v) f) c.targets_room.ensures
 
 pub vector_room-returns : goal.vector_room-returns
 vector_room-returns t c = counts_at _ _ _ _ c.elements_room.result (omega (arith, c.in_ok-taken.ensures.0)) (λ f. f) c.elements_room.ensures
@@ -94,7 +103,8 @@ elements_room-returns-in_err-sum t c =
 
 pub table_room-returns-in_err-taken : goal.table_room-returns-in_err-taken
 table_room-returns-in_err-taken t c =
-    let v : view c.args.tree.now ≡ fields_view c.as_slice-slots.result.now = view_is c.args.tree.now ∙ ap fields_view (sym c.as_slice-slots.ensures) in
+    let v : view c.args.tree.now ≡ fields_view c.as_slice-slots.result.now =
+    view_is c.args.tree.now ∙ ap fields_view (sym c.as_slice-slots.ensures) in
     let o = ap (entry_count 0) v in
     rw (c.from_residual.ensures) (omega (arith, o, c.entry_count.ensures.value, c.in_err-taken.ensures))
 
@@ -102,16 +112,21 @@ pub vector_room-returns-in_err-taken : goal.vector_room-returns-in_err-taken
 vector_room-returns-in_err-taken t c = rw (c.from_residual.ensures) (omega (arith, c.in_err-taken.ensures))
 
 pub target_room-returns-in-Bool : goal.target_room-returns-in-Bool
-target_room-returns-in-Bool t c = byte_counted c.args.slot.now _ c.args.taken (ap node c.in-Bool.is ∙ bool_is c.in-Bool.field-0) (bool_small c.in-Bool.field-0) c.requires
+target_room-returns-in-Bool t c = byte_counted c.args.slot.now _ c.args.taken (ap node c.in-Bool.is ∙ bool_is c.in-Bool.field-0)
+    (bool_small c.in-Bool.field-0) c.requires
 
 pub target_room-returns-in-U8 : goal.target_room-returns-in-U8
-target_room-returns-in-U8 t c = byte_counted c.args.slot.now c.in-U8._number c.args.taken (ap node c.in-U8.is ∙ u8_is c.in-U8._number) (search rules) c.requires
+target_room-returns-in-U8 t c = byte_counted c.args.slot.now c.in-U8._number c.args.taken (ap node c.in-U8.is ∙ u8_is c.in-U8._number)
+    (search rules) c.requires
 
 pub target_room-returns-in-I16 : goal.target_room-returns-in-I16
-target_room-returns-in-I16 t c = signed_counted c.args.slot.now w16 c.in-I16._number c.args.taken (ap node c.in-I16.is ∙ i16_is c.in-I16._number) (search rules) (4, refl) c.requires
+target_room-returns-in-I16 t c = signed_counted c.args.slot.now w16 c.in-I16._number c.args.taken
+    (ap node c.in-I16.is ∙ i16_is c.in-I16._number) (search rules) (4, refl) c.requires
 
 pub target_room-returns-in-I32 : goal.target_room-returns-in-I32
-target_room-returns-in-I32 t c = signed_counted c.args.slot.now w32 c.in-I32._number c.args.taken (ap node c.in-I32.is ∙ i32_is c.in-I32._number) (search rules) (2, refl) c.requires
+target_room-returns-in-I32 t c = signed_counted c.args.slot.now w32 c.in-I32._number c.args.taken
+    (ap node c.in-I32.is ∙ i32_is c.in-I32._number) (search rules) (2, refl) c.requires
 
 pub target_room-returns-in-I64 : goal.target_room-returns-in-I64
-target_room-returns-in-I64 t c = signed_counted c.args.slot.now w64 c.in-I64._number c.args.taken (ap node c.in-I64.is ∙ i64_is c.in-I64._number) (search rules) (1, refl) c.requires
+target_room-returns-in-I64 t c = signed_counted c.args.slot.now w64 c.in-I64._number c.args.taken
+    (ap node c.in-I64.is ∙ i64_is c.in-I64._number) (search rules) (1, refl) c.requires

@@ -7,7 +7,9 @@ pub loop-first-preserved : goal.loop-first-preserved
 loop-first-preserved c =
     let pairs = c.args.pairs.now in
     let i = c.loop-first._first-index in
-    pairs_range_more pairs i (get_or pairs i (pos 0, pos 0)) (same_or pairs i _ _ c.loop-first-test.true) c.loop-first-test.true c.loop-first.invariant (search rules) (search rules)
+    pairs_range_more pairs i (get_or pairs i (pos 0, pos 0))
+    (same_or pairs i _ _ c.loop-first-test.true) c.loop-first-test.true c.loop-first.invariant (search rules) (search rules)
 
 pub returns : goal.returns
-returns c = counts_plain _ _ _ c.add.result refl (c.loop-first.invariant (pairs_range_done c.args.pairs.now c.loop-first._first-index (omega arith))) c.add.ensures
+returns c = counts_plain _ _ _ c.add.result refl
+    (c.loop-first.invariant (pairs_range_done c.args.pairs.now c.loop-first._first-index (omega arith))) c.add.ensures

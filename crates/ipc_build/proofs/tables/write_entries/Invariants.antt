@@ -8,5 +8,6 @@ abbrev pub invariant-loop-number : goal.invariant-loop-number
 invariant-loop-number l = record {
   ordered : Writable (fields l.first) (fields_view (drop l.number-index l.slots));
   distance : l.distance ≡ 4 + 8 * l.number-index;
-  written : l.out.items ++ entries l.first l.distance (fields_view (drop l.number-index l.slots)) ≡ l.fn.out.items ++ entries 0 4 (fields_view l.slots);
+  written : l.out.items ++ entries l.first l.distance (fields_view (drop l.number-index l.slots))
+      ≡ l.fn.out.items ++ entries 0 4 (fields_view l.slots);
 }

@@ -24,5 +24,6 @@ returns c =
     let m = members_fields c.args.slots.now in
     let t = c.entry_count.ensures.value in
     head_joined (fields_view c.args.slots.now) c.args.p (4 + 2 * c.entry_count.result) c.prefix_place-table.result _ _ _ _ _ _
-    (ap (λ n. 4 + 2 * n) t) (c.prefix_place-table.ensures ∙ ap prefix_place (omega (arith, t))) (8 * length c.args.slots.now) (omega (arith, m))
+    (ap (λ n. 4 + 2 * n) t) (c.prefix_place-table.ensures ∙ ap prefix_place (omega (arith, t))) (8 * length c.args.slots.now)
+    (omega (arith, m))
     c.in_ok-push_u16.ensures c.in_ok-push_u16-2.ensures c.in_ok-write_entries.ensures c.in_ok-push_padding.ensures c.in_ok-push_u32.ensures

@@ -16,8 +16,11 @@ assign_buffers-loop-field-preserved t c =
     let n = nodes_from c.args.fields.now c.loop-field.field-index c.field-item.result (omega arith) c.field-item.is in
     let b = buffers_from c.args.fields.now c.loop-field.field-index c.field-item.result (omega arith) c.field-item.is in
     record {
-      parts = λ body. rw c.in_ok-push.ensures.items (cut_step c.args.fields.now c.loop-field.field-index c.field-item.result c.args.head.now body c.loop-field.parts.items c.in_ok-part.part _ _ _ _ _ (omega arith) c.field-item.is
-          (c.in_ok-part.ensures.column body) (c.in_ok-part.ensures.children body) c.in_ok-part.ensures.node c.in_ok-part.ensures.buffer (c.loop-field.invariant.parts body));
+      parts = λ body. rw c.in_ok-push.ensures.items
+          (cut_step c.args.fields.now c.loop-field.field-index c.field-item.result c.args.head.now body c.loop-field.parts.items
+          c.in_ok-part.part _ _ _ _ _ (omega arith) c.field-item.is
+          (c.in_ok-part.ensures.column body) (c.in_ok-part.ensures.children body) c.in_ok-part.ensures.node c.in_ok-part.ensures.buffer
+          (c.loop-field.invariant.parts body));
       number = search rules;
       nodes = omega (arith, n, c.in_ok-part.ensures.node);
       buffers = omega (arith, b, c.in_ok-part.ensures.buffer);
@@ -26,7 +29,9 @@ assign_buffers-loop-field-preserved t c =
 pub assign_buffers-returns-clause-parts : goal.assign_buffers-returns-clause-parts
 assign_buffers-returns-clause-parts t c = λ body.
     sym (beside_none (columns body c.loop-field.parts.items)) ∙
-    (ap (λ (ds : Columns). beside (columns body c.loop-field.parts.items) ds) (sym (cut_done c.args.fields.now c.loop-field.field-index c.args.head.now body c.loop-field.place.node c.loop-field.place.buffer (omega arith)))
+    (ap (λ (ds : Columns). beside (columns body c.loop-field.parts.items) ds)
+    (sym (cut_done c.args.fields.now c.loop-field.field-index c.args.head.now body c.loop-field.place.node c.loop-field.place.buffer
+    (omega arith)))
     ∙ c.loop-field.invariant.parts body)
 
 pub assign_buffers-returns-clause-node : goal.assign_buffers-returns-clause-node

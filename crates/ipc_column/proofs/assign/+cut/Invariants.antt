@@ -6,7 +6,9 @@ use Rattle.ipc_column.proofs.assign.+cut.Given as goal
 
 abbrev pub invariant-assign_buffers-loop-field : goal.invariant-assign_buffers-loop-field
 invariant-assign_buffers-loop-field l = record {
-  parts : (body : List ℕ) → beside (columns body l.parts.items) (cut (shape_of (drop l.field-index l.fields)) l.head body l.place.node l.place.buffer) ≡ cut (shape_of l.fields) l.head body l.fn.at.node l.fn.at.buffer;
+  parts : (body : List ℕ) → beside (columns body l.parts.items)
+      (cut (shape_of (drop l.field-index l.fields)) l.head body l.place.node l.place.buffer)
+      ≡ cut (shape_of l.fields) l.head body l.fn.at.node l.fn.at.buffer;
   number : length l.parts.items ≡ l.field-index;
   nodes : l.place.node + nodes_in (shape_of (drop l.field-index l.fields)) ≡ l.fn.at.node + nodes_in (shape_of l.fields);
   buffers : l.place.buffer + buffers_in (shape_of (drop l.field-index l.fields)) ≡ l.fn.at.buffer + buffers_in (shape_of l.fields);

@@ -12,20 +12,25 @@ pub assign_buffers-requires-clause-nodes : goal.assign_buffers-requires-clause-n
 assign_buffers-requires-clause-nodes c = let e = eqb-true _ _ (c.in_ok-check_head.ensures.judged cause.WrongNodeCount) in omega (arith, e)
 
 pub assign_buffers-requires-clause-buffers : goal.assign_buffers-requires-clause-buffers
-assign_buffers-requires-clause-buffers c = let e = eqb-true _ _ (c.in_ok-check_head.ensures.judged cause.WrongBufferCount) in omega (arith, e)
+assign_buffers-requires-clause-buffers c = let e =
+    eqb-true _ _ (c.in_ok-check_head.ensures.judged cause.WrongBufferCount) in omega (arith, e)
 
 pub assign_buffers-requires-clause-few_nodes : goal.assign_buffers-requires-clause-few_nodes
-assign_buffers-requires-clause-few_nodes c = let e = eqb-true _ _ (c.in_ok-check_head.ensures.judged cause.WrongNodeCount) in omega (arith, e)
+assign_buffers-requires-clause-few_nodes c = let e =
+    eqb-true _ _ (c.in_ok-check_head.ensures.judged cause.WrongNodeCount) in omega (arith, e)
 
 pub assign_buffers-requires-clause-few_buffers : goal.assign_buffers-requires-clause-few_buffers
 assign_buffers-requires-clause-few_buffers c =
-    let e = eqb-true _ _ (c.in_ok-check_head.ensures.judged cause.WrongBufferCount) in omega (arith, e, buffers_most (shape_of c.args.fields.now))
+    let e = eqb-true _ _ (c.in_ok-check_head.ensures.judged cause.WrongBufferCount) in omega
+    (arith, e, buffers_most (shape_of c.args.fields.now))
 
 pub returns-clause-passing : goal.returns-clause-passing
 returns-clause-passing c =
     rw c.in_ok-share.ensures
-    (passing (shape_of c.args.fields.now) c.args.head.now c.args.body.items c.unsigned_abs-count.result _ (search rules) (c.in_ok-parts.ensures.parts c.args.body.items)
-    (λ why. rw (c.len.ensures ∙ c.args.body.ok.0) at (c.in_ok-check_head.ensures.judged why)) (λ why. rw (c.deref.ensures.value, c.deref-2.ensures.value) at (c.in_ok-slot_tests.ensures.judged why)))
+    (passing (shape_of c.args.fields.now) c.args.head.now c.args.body.items c.unsigned_abs-count.result _ (search rules)
+    (c.in_ok-parts.ensures.parts c.args.body.items)
+    (λ why. rw (c.len.ensures ∙ c.args.body.ok.0) at (c.in_ok-check_head.ensures.judged why))
+    (λ why. rw (c.deref.ensures.value, c.deref-2.ensures.value) at (c.in_ok-slot_tests.ensures.judged why)))
 
 pub returns-in_err-check_head-clause-failing : goal.returns-in_err-check_head-clause-failing
 returns-in_err-check_head-clause-failing c =
@@ -36,8 +41,11 @@ returns-in_err-check_head-clause-failing c =
 
 pub returns-in_err-slot_tests-clause-failing : goal.returns-in_err-slot_tests-clause-failing
 returns-in_err-slot_tests-clause-failing c =
-    exits c.from_residual-in_err-slot_tests.result _ (shape_of c.args.fields.now) c.args.head.now c.args.body.items c.from_residual-in_err-slot_tests.ensures.1
-    (columns_failing c.in_err-slot_tests.field-0.0 (shape_of c.args.fields.now) c.args.head.now c.args.body.items c.unsigned_abs-count.result _ (search rules) (c.in_ok-parts.ensures.parts c.args.body.items)
+    exits c.from_residual-in_err-slot_tests.result _
+    (shape_of c.args.fields.now) c.args.head.now c.args.body.items c.from_residual-in_err-slot_tests.ensures.1
+    (columns_failing c.in_err-slot_tests.field-0.0
+    (shape_of c.args.fields.now) c.args.head.now c.args.body.items c.unsigned_abs-count.result _ (search rules)
+    (c.in_ok-parts.ensures.parts c.args.body.items)
     (λ why. rw (c.len.ensures ∙ c.args.body.ok.0) at (c.in_ok-check_head.ensures.judged why))
     (rw (c.deref.ensures.value, c.deref-2.ensures.value) at c.in_err-slot_tests.ensures.judged)
     (rw (c.deref.ensures.value, c.deref-2.ensures.value) at c.in_err-slot_tests.ensures.texts_last))
@@ -45,7 +53,9 @@ returns-in_err-slot_tests-clause-failing c =
 pub check_columns-requires : goal.check_columns-requires
 check_columns-requires c =
     let nodes = eqb-true _ _ (c.in_ok-check_head.ensures.judged cause.WrongNodeCount) in
-    let good : all is_node c.args.head.now.nodes ≡ true = (and_parts (is_slot_count c.args.head.now.length) (all is_node c.args.head.now.nodes) (c.in_ok-check_head.ensures.judged cause.BadNode)).1 in
+    let good : all is_node c.args.head.now.nodes ≡ true =
+    (and_parts (is_slot_count c.args.head.now.length) (all is_node c.args.head.now.nodes)
+    (c.in_ok-check_head.ensures.judged cause.BadNode)).1 in
     let most = texts_most (shape_of c.args.fields.now) c.args.head.now c.args.body.items good (omega (arith, nodes)) in
     let few = slots_most c.args.head.now.nodes good in
     rw (c.deref.ensures.value, c.deref-2.ensures.value, c.in_ok-parts.ensures.parts c.args.body.items) (omega (arith, most, few, nodes))
@@ -53,7 +63,10 @@ check_columns-requires c =
 pub returns-clause-slots : goal.returns-clause-slots
 returns-clause-slots c =
     let nodes = eqb-true _ _ (c.in_ok-check_head.ensures.judged cause.WrongNodeCount) in
-    let good : all is_node c.args.head.now.nodes ≡ true = (and_parts (is_slot_count c.args.head.now.length) (all is_node c.args.head.now.nodes) (c.in_ok-check_head.ensures.judged cause.BadNode)).1 in
+    let good : all is_node c.args.head.now.nodes ≡ true =
+    (and_parts (is_slot_count c.args.head.now.length) (all is_node c.args.head.now.nodes)
+    (c.in_ok-check_head.ensures.judged cause.BadNode)).1 in
     let most = texts_most (shape_of c.args.fields.now) c.args.head.now c.args.body.items good (omega (arith, nodes)) in
-    let visited = rw (c.deref.ensures.value, c.deref-2.ensures.value, c.in_ok-parts.ensures.parts c.args.body.items) at c.in_ok-slot_tests.ensures.visited in
+    let visited = rw (c.deref.ensures.value, c.deref-2.ensures.value, c.in_ok-parts.ensures.parts c.args.body.items) at
+    c.in_ok-slot_tests.ensures.visited in
     rw c.in_ok-share.ensures (omega (arith, visited, most))

@@ -3,7 +3,8 @@ use Rattle.ipc_column.proofs.cell.cell_at.Goals as goal
 
 pub is_valid_in-requires : goal.is_valid_in-requires
 is_valid_in-requires c =
-    bitmap_front _ _ _ (part_long c.args.body.now c.args.part.now c.requires.sound).bitmap (part_slot c.args.body.now c.args.part.now c.args.slot c.requires.slot)
+    bitmap_front _ _ _ (part_long c.args.body.now c.args.part.now c.requires.sound).bitmap
+    (part_slot c.args.body.now c.args.part.now c.args.slot c.requires.slot)
 
 pub own_cell-requires-clause-values : goal.own_cell-requires-clause-values
 own_cell-requires-clause-values c = rw c.bytes_at-2.ensures (part_long c.args.body.now c.args.part.now c.requires.sound).values
@@ -12,4 +13,5 @@ pub own_cell-requires-clause-offsets : goal.own_cell-requires-clause-offsets
 own_cell-requires-clause-offsets c = rw c.bytes_at.ensures (part_long c.args.body.now c.args.part.now c.requires.sound).offsets
 
 pub own_cell-requires-clause-order : goal.own_cell-requires-clause-order
-own_cell-requires-clause-order c = rw (c.bytes_at.ensures, c.bytes_at-2.ensures) (part_long c.args.body.now c.args.part.now c.requires.sound).order
+own_cell-requires-clause-order c = rw (c.bytes_at.ensures, c.bytes_at-2.ensures)
+    (part_long c.args.body.now c.args.part.now c.requires.sound).order

@@ -8,17 +8,21 @@ use Rattle.ipc_column.proofs.cell.cell_in.Goals as goal
 
 pub cell_at-requires-clause-sound : goal.cell_at-requires-clause-sound
 cell_at-requires-clause-sound c =
-    (kept_at c.args.rows c.args.body.now c.args.parts.now c.args.column c.index-parts-column.result c.requires.column c.index-parts-column.is c.requires.holds).sound
+    (kept_at c.args.rows c.args.body.now c.args.parts.now c.args.column c.index-parts-column.result c.requires.column
+    c.index-parts-column.is c.requires.holds).sound
 
 pub cell_at-requires-clause-slot : goal.cell_at-requires-clause-slot
 cell_at-requires-clause-slot c =
-    let e = (kept_at c.args.rows c.args.body.now c.args.parts.now c.args.column c.index-parts-column.result c.requires.column c.index-parts-column.is c.requires.holds).slots in
+    let e = (kept_at c.args.rows c.args.body.now c.args.parts.now c.args.column c.index-parts-column.result c.requires.column
+    c.index-parts-column.is c.requires.holds).slots in
     rw e c.requires.row
 
 pub cell_at-requires-clause-good : goal.cell_at-requires-clause-good
 cell_at-requires-clause-good c =
-    let kept = kept_at c.args.rows c.args.body.now c.args.parts.now c.args.column c.index-parts-column.result c.requires.column c.index-parts-column.is c.requires.holds in
-    below_at (is_good (column_of c.args.body.now c.index-parts-column.result)) (column_of c.args.body.now c.index-parts-column.result).slots c.args.at kept.good (rw kept.slots c.requires.row)
+    let kept = kept_at c.args.rows c.args.body.now c.args.parts.now c.args.column c.index-parts-column.result c.requires.column
+    c.index-parts-column.is c.requires.holds in
+    below_at (is_good (column_of c.args.body.now c.index-parts-column.result))
+    (column_of c.args.body.now c.index-parts-column.result).slots c.args.at kept.good (rw kept.slots c.requires.row)
 
 pub returns : goal.returns
 returns c =

@@ -8,4 +8,5 @@ returns-in-B8 c =
     let whole : FitsSigned w64 c.from.result = search rules in
     let small : FitsSigned w8 c.cast_signed.result = search rules in
     rw c.in-B8.is
-    (to_z-of_z w64 c.from.result whole ∙ (c.from.ensures ∙ (to_z-of_z w8 c.cast_signed.result small ∙ (c.cast_signed.ensures ∙ ap (to_z w8) (sym (byte_is c.args.values.now c.args.slot))))))
+    (to_z-of_z w64 c.from.result whole ∙ (c.from.ensures
+    ∙ (to_z-of_z w8 c.cast_signed.result small ∙ (c.cast_signed.ensures ∙ ap (to_z w8) (sym (byte_is c.args.values.now c.args.slot))))))

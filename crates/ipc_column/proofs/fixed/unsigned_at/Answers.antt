@@ -15,5 +15,7 @@ returns-in-B64 c =
     let fits : FitsSigned w64 c.unwrap_or-in-B64.result = search rules in
     let room : 8 * (c.args.slot + 1) ≤ length b = rw c.in-B64.is at c.requires in
     let inside : p + 8 ≤ length b = omega (arith, room) in
-    let read = c.unwrap_or-in-B64.ensures ∙ (ap (λ (o : Option ℤ). unwrap_or o (pos 0)) c.get_i64.ensures ∙ read_or b p 8 (int64 b p) (pos 0) inside) in
-    rw c.in-B64.is (c.cast_unsigned.ensures ∙ (ap (of_z w64) (to_z-of_z w64 c.unwrap_or-in-B64.result fits ∙ read) ∙ eight_bytes b p (λ k. (c.type_inv.values k).fits)))
+    let read = c.unwrap_or-in-B64.ensures
+    ∙ (ap (λ (o : Option ℤ). unwrap_or o (pos 0)) c.get_i64.ensures ∙ read_or b p 8 (int64 b p) (pos 0) inside) in
+    rw c.in-B64.is (c.cast_unsigned.ensures ∙
+    (ap (of_z w64) (to_z-of_z w64 c.unwrap_or-in-B64.result fits ∙ read) ∙ eight_bytes b p (λ k. (c.type_inv.values k).fits)))

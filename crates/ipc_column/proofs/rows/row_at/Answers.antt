@@ -9,10 +9,12 @@ use Rattle.ipc_column.proofs.rows.row_at.Goals as goal
 pub loop-column-preserved : goal.loop-column-preserved
 loop-column-preserved c =
     let size = row_length c.args.body.now c.args.parts.now c.args.at in
-    row_more (row (columns c.args.body.now c.args.parts.now) c.args.at) _ _ c.loop-column.column c.in_ok-value_of.field-0 (omega (arith, size))
+    row_more (row (columns c.args.body.now c.args.parts.now) c.args.at) _ _ c.loop-column.column c.in_ok-value_of.field-0
+    (omega (arith, size))
     (c.cell_in.ensures ∙ ap (λ (v : Value). Some v) (sym c.in_ok-value_of.ensures)) c.loop-column.invariant c.in_ok-push.ensures.items
 
 pub returns : goal.returns
 returns c =
     let size = row_length c.args.body.now c.args.parts.now c.args.at in
-    c.from_vec.ensures ∙ (c.loop-column.invariant ∙ take_all c.loop-column.column (row (columns c.args.body.now c.args.parts.now) c.args.at) (omega (arith, size)))
+    c.from_vec.ensures ∙ (c.loop-column.invariant
+    ∙ take_all c.loop-column.column (row (columns c.args.body.now c.args.parts.now) c.args.at) (omega (arith, size)))

@@ -5,10 +5,12 @@ use Rattle.ipc_column.proofs.texts.are_cuts.Goals as goal
 
 pub overflow_sub-place_at : goal.overflow_sub-place_at
 overflow_sub-place_at c =
-    let p = places c.args.offsets.now c.args.slots (place c.args.offsets.now 0 + length c.args.text.now) c.loop-slot.slot c.args.slots c.requires.order (omega arith) (omega arith) in
+    let p = places c.args.offsets.now c.args.slots
+    (place c.args.offsets.now 0 + length c.args.text.now) c.loop-slot.slot c.args.slots c.requires.order (omega arith) (omega arith) in
     omega arith
 
 pub may_cut-requires : goal.may_cut-requires
 may_cut-requires c =
-    let p = places c.args.offsets.now c.args.slots (place c.args.offsets.now 0 + length c.args.text.now) c.loop-slot.slot c.args.slots c.requires.order (omega arith) (omega arith) in
+    let p = places c.args.offsets.now c.args.slots
+    (place c.args.offsets.now 0 + length c.args.text.now) c.loop-slot.slot c.args.slots c.requires.order (omega arith) (omega arith) in
     omega arith

@@ -14,4 +14,6 @@ slice_bounds-text-start c =
 
 pub returns-then-is_text : goal.returns-then-is_text
 returns-then-is_text c = λ e v.
-    whole_good c.args.offsets.now c.args.values.now v c.args.slots c.requires.order (rw (c.place_at.ensures, c.place_at-2.ensures) at (sym c.is_text.ensures ∙ c.if-is_text.true)) (rw (c.place_at.ensures, c.place_at-2.ensures) at (c.are_cuts.ensures e))
+    whole_good c.args.offsets.now c.args.values.now v c.args.slots c.requires.order
+    (rw (c.place_at.ensures, c.place_at-2.ensures) at (sym c.is_text.ensures ∙ c.if-is_text.true))
+    (rw (c.place_at.ensures, c.place_at-2.ensures) at (c.are_cuts.ensures e))

@@ -12,11 +12,13 @@ visit_slots-requires-clause-bitmap c = rw c.bytes_at.ensures (part_long c.args.b
 
 pub visit_slots-requires-clause-bytes : goal.visit_slots-requires-clause-bytes
 visit_slots-requires-clause-bytes c =
-    rw c.bytes_at-2.ensures (part_texts c.args.body.now c.args.part.now c.requires (sym c.is_texts.ensures ∙ c.if-not-is_texts.false) (omega arith)).bytes
+    rw c.bytes_at-2.ensures (part_texts c.args.body.now c.args.part.now c.requires (sym c.is_texts.ensures ∙ c.if-not-is_texts.false)
+    (omega arith)).bytes
 
 pub visit_slots-requires-clause-order : goal.visit_slots-requires-clause-order
 visit_slots-requires-clause-order c =
-    rw (c.bytes_at-2.ensures, c.bytes_at-3.ensures) (part_texts c.args.body.now c.args.part.now c.requires (sym c.is_texts.ensures ∙ c.if-not-is_texts.false) (omega arith)).order
+    rw (c.bytes_at-2.ensures, c.bytes_at-3.ensures)
+    (part_texts c.args.body.now c.args.part.now c.requires (sym c.is_texts.ensures ∙ c.if-not-is_texts.false) (omega arith)).order
 
 pub returns-then-not-is_texts-clause-good : goal.returns-then-not-is_texts-clause-good
 returns-then-not-is_texts-clause-good c =

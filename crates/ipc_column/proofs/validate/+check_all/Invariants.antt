@@ -6,4 +6,5 @@ use Rattle.ipc_column.specs.Views.{columns}
 use Rattle.ipc_column.proofs.validate.+check_all.Given as goal
 
 abbrev pub invariant-check_all-loop-part : goal.invariant-check_all-loop-part
-invariant-check_all-loop-part l = (why : Cause) → every (passes why) (columns l.body (drop l.part-index l.parts)) ≡ every (passes why) (columns l.body l.parts)
+invariant-check_all-loop-part l = (why : Cause)
+    → every (passes why) (columns l.body (drop l.part-index l.parts)) ≡ every (passes why) (columns l.body l.parts)

@@ -8,7 +8,8 @@ use Rattle.ipc_column.proofs.validate.check_tops.Given as goal
 
 abbrev pub invariant-loop-part : goal.invariant-loop-part
 invariant-loop-part l = record {
-  judged : (why : Cause) → every_top (top_passes why l.rows) (columns l.body (drop l.part-index l.parts)) ≡ every_top (top_passes why l.rows) (columns l.body l.parts);
+  judged : (why : Cause) → every_top (top_passes why l.rows) (columns l.body (drop l.part-index l.parts))
+      ≡ every_top (top_passes why l.rows) (columns l.body l.parts);
   sound : (why : Cause) → every (passes why) (columns l.body (drop l.part-index l.parts)) ≡ true;
   visited : l.tests + texts_in (columns l.body (drop l.part-index l.parts)) ≤ texts_in (columns l.body l.parts);
 }

@@ -17,7 +17,11 @@ returns-in_ok-read_batch-in-Some-clause-found c = record {
   named =
       let fits : FitsSigned w64 c.in_ok-id.id = search rules in
       lift_ok _ _ (ap lift (sym c.scalar_i64.ensures) ∙ sym c.in_ok-id.ensures) ∙ ap Ok (sym (to_z-of_z w64 c.in_ok-id.id fits));
-  values = (c.in-Some.values, lift_ok _ _ (ap lift (sym c.table.ensures) ∙ (sym c.in_ok-lifted.ensures ∙ ap Ok c.in-Some.is)), batch_sound _ _ c.in_ok-read_batch-in-Some.ensures);
+  values = (
+    c.in-Some.values,
+    lift_ok _ _ (ap lift (sym c.table.ensures) ∙ (sym c.in_ok-lifted.ensures ∙ ap Ok c.in-Some.is)),
+    batch_sound _ _ c.in_ok-read_batch-in-Some.ensures,
+  );
   whole = sym c.in_ok-read_flag.ensures ∙ ap Ok c.if-branch.false;
 }
 
@@ -29,12 +33,15 @@ returns-in_ok-read_batch-in-Some-clause-only c = λ id batch h.
 pub returns-in_err-read_batch-in-Some-clause-only : goal.returns-in_err-read_batch-in-Some-clause-only
 returns-in_err-read_batch-in-Some-clause-only c = λ id batch h.
     let p = err_from_is_err_and c.from_residual-in_err-read_batch-in-Some.result c.from_residual-in_err-read_batch-in-Some.ensures.1 in
-    rw (p.1, p.2) (values_refused _ _ id batch _ h (lift_ok _ _ (ap lift (sym c.table.ensures) ∙ (sym c.in_ok-lifted.ensures ∙ ap Ok c.in-Some.is))) c.in_err-read_batch-in-Some.ensures)
+    rw (p.1, p.2) (values_refused _ _ id batch _ h
+    (lift_ok _ _ (ap lift (sym c.table.ensures) ∙ (sym c.in_ok-lifted.ensures ∙ ap Ok c.in-Some.is)))
+    c.in_err-read_batch-in-Some.ensures)
 
 pub returns-in_err-id-clause-refused : goal.returns-in_err-id-clause-refused
 returns-in_err-id-clause-refused c =
     let p = err_from_is_err_and c.from_residual.result c.from_residual.ensures.1 in
-    rw (p.1, p.2) (λ b has ne. bad_number b dictionary_batch _ 0 8 int64 (pos 0) _ has id (ap lift (sym c.scalar_i64.ensures) ∙ sym c.in_err-id.ensures))
+    rw (p.1, p.2) (λ b has ne. bad_number b dictionary_batch _ 0 8 int64 (pos 0) _ has id
+    (ap lift (sym c.scalar_i64.ensures) ∙ sym c.in_err-id.ensures))
 
 pub returns-in_err-read_flag-clause-refused : goal.returns-in_err-read_flag-clause-refused
 returns-in_err-read_flag-clause-refused c =

@@ -49,4 +49,5 @@ pub returns-in_err-check-clause-refused : goal.returns-in_err-check-clause-refus
 returns-in_err-check-clause-refused c =
     let p = err_from_is_err_and c.from_residual-in_err-check.result c.from_residual-in_err-check.ensures.1 in
     rw (p.1, p.2) (λ b has ne.
-    told.check_refused b _ (record { fields = c.in_ok-fields.fields; metadata = c.in_ok-metadata.metadata }) _ _ _ _ has c.in_ok-metadata.ensures c.in_ok-fields.ensures c.in_err-check.ensures.first ne)
+    told.check_refused b _ (record { fields = c.in_ok-fields.fields; metadata = c.in_ok-metadata.metadata }) _ _ _ _ has
+    c.in_ok-metadata.ensures c.in_ok-fields.ensures c.in_err-check.ensures.first ne)

@@ -9,12 +9,16 @@ built-requires c = batch_ascends c.args.head.now c.args.body _ _ c.in_ok-message
 pub returns-clause-states : goal.returns-clause-states
 returns-clause-states c =
     let is = batch_is c.args.head.now c.args.body _ _ c.in_ok-message.ensures c.in_ok-header.ensures in
-    ok_then _ _ c.built.result (λ b lies. batch_states b.items c.args.head.now c.args.body _ c.if-body-gt-MAX_BODY.false is lies) c.built.ensures.lies
+    ok_then _ _ c.built.result (λ b lies. batch_states b.items c.args.head.now c.args.body _ c.if-body-gt-MAX_BODY.false is lies)
+    c.built.ensures.lies
 
 pub returns-clause-room : goal.returns-clause-room
 returns-clause-room c =
     let is = batch_is c.args.head.now c.args.body _ _ c.in_ok-message.ensures c.in_ok-header.ensures in
-    ok_then _ _ c.built.result (λ b h. (subst (λ (n : ℕ). n ≤ 2 ^ 24) (batch_room_is c.args.head.now c.args.body _ is) h, c.if-body-gt-MAX_BODY.false)) c.built.ensures.room
+    ok_then _ _ c.built.result (λ b h. (
+      subst (λ (n : ℕ). n ≤ 2 ^ 24) (batch_room_is c.args.head.now c.args.body _ is) h,
+      c.if-body-gt-MAX_BODY.false,
+    )) c.built.ensures.room
 
 pub returns-clause-refused : goal.returns-clause-refused
 returns-clause-refused c =
@@ -24,4 +28,5 @@ returns-clause-refused c =
 pub returns-clause-within : goal.returns-clause-within
 returns-clause-within c =
     let is = batch_is c.args.head.now c.args.body _ _ c.in_ok-message.ensures c.in_ok-header.ensures in
-    ok_then _ _ c.built.result (λ b h. subst (λ (n : ℕ). (length b.items + 7) / 8 * 8 ≤ n) (batch_room_is c.args.head.now c.args.body _ is) h) c.built.ensures.within
+    ok_then _ _ c.built.result (λ b h. subst (λ (n : ℕ). (length b.items + 7) / 8 * 8 ≤ n)
+    (batch_room_is c.args.head.now c.args.body _ is) h) c.built.ensures.within

@@ -24,4 +24,5 @@ returns-clause-refused c =
 pub returns-clause-within : goal.returns-clause-within
 returns-clause-within c =
     let is = schema_is c.args.schema.now _ _ c.in_ok-message.ensures c.in_ok-header.ensures in
-    ok_then _ _ c.built.result (λ b h. subst (λ (n : ℕ). (length b.items + 7) / 8 * 8 ≤ n) (schema_room_is c.args.schema.now _ is) h) c.built.ensures.within
+    ok_then _ _ c.built.result (λ b h. subst (λ (n : ℕ). (length b.items + 7) / 8 * 8 ≤ n) (schema_room_is c.args.schema.now _ is) h)
+    c.built.ensures.within

@@ -6,4 +6,5 @@ use Rattle.ipc_model.proofs.display.write_numbers.Given as goal
 abbrev pub invariant-loop-number : goal.invariant-loop-number
 invariant-loop-number g l =
     IsPlainFormatter l.fn.f
-    → (done : List ℕ) × HasWritten g.W.Write.write_str_gives l.fn.f done l.f × (done ++ dotted (drop l.number-index l.rest) ≡ path_text l.fn.path)
+    → (done : List ℕ) × HasWritten g.W.Write.write_str_gives l.fn.f done l.f
+    × (done ++ dotted (drop l.number-index l.rest) ≡ path_text l.fn.path)

@@ -4,7 +4,8 @@ use Rattle.ipc_model.proofs.rows.+fits.Given as goal
 
 abbrev pub invariant-each_fits-loop-number : goal.invariant-each_fits-loop-number
 invariant-each_fits-loop-number l =
-    verdict (each_faults l.number (map faults (drop l.number l.fields)) (drop l.number l.values)) ≡ verdict (each_faults 0 (map faults l.fields) l.values)
+    verdict (each_faults l.number (map faults (drop l.number l.fields)) (drop l.number l.values))
+    ≡ verdict (each_faults 0 (map faults l.fields) l.values)
 
 abbrev pub invariant-all_fit-loop-value : goal.invariant-all_fit-loop-value
 invariant-all_fit-loop-value l =

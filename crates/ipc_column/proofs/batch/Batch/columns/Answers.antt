@@ -17,11 +17,13 @@ all_more P (y ∷ ys) x all one = (all.0, all_more P ys x all.1 one)
 -- rows are as wide as there are parts
 wide : (body : List ℕ) (ps : List ColumnRanges) (n : ℕ) → AllByRecursion (λ r. length r ≡ length ps) (rows_of (columns body ps) n)
 wide body ps zero = tt
-wide body ps (suc n) = all_more (λ r. length r ≡ length ps) (rows_of (columns body ps) n) (row (columns body ps) n) (wide body ps n) (row_length body ps n)
+wide body ps (suc n) = all_more (λ r. length r ≡ length ps) (rows_of (columns body ps) n) (row (columns body ps) n) (wide body ps n)
+    (row_length body ps n)
 
 pub returns-clause-rows : goal.returns-clause-rows
 returns-clause-rows c =
-    let parts : length c.self.inside.shared.value.parts.items ≡ c.len.result = ap (λ (s : Shared). length s.parts.items) (sym c.deref.ensures) ∙ (sym c.deref.result.now.parts.ok.0 ∙ sym c.len.ensures) in
+    let parts : length c.self.inside.shared.value.parts.items ≡ c.len.result =
+    ap (λ (s : Shared). length s.parts.items) (sym c.deref.ensures) ∙ (sym c.deref.result.now.parts.ok.0 ∙ sym c.len.ensures) in
     subst (λ (n : ℕ). AllByRecursion (λ r. length r ≡ n) c.args.self.now.rows) parts
     (subst (λ (v : Contents). AllByRecursion (λ r. length r ≡ length c.self.inside.shared.value.parts.items) v.rows) c.self.view_is
     (wide c.self.inside.shared.value.body.items c.self.inside.shared.value.parts.items c.self.inside.shared.value.count))

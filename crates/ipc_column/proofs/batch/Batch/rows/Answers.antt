@@ -7,4 +7,6 @@ use Rattle.ipc_column.proofs.batch.Batch.rows.Goals as goal
 
 pub returns : goal.returns
 returns c =
-    ap (λ (s : Shared). s.count) c.deref.ensures ∙ sym (rows_length (columns c.self.inside.shared.value.body.items c.self.inside.shared.value.parts.items) c.self.inside.shared.value.count) ∙ ap (λ (v : Contents). length v.rows) c.self.view_is
+    ap (λ (s : Shared). s.count) c.deref.ensures
+    ∙ sym (rows_length (columns c.self.inside.shared.value.body.items c.self.inside.shared.value.parts.items)
+    c.self.inside.shared.value.count) ∙ ap (λ (v : Contents). length v.rows) c.self.view_is

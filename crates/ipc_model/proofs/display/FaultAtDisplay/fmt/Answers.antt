@@ -7,6 +7,7 @@ pub returns-in_default : goal.returns-in_default
 returns-in_default g c =
     let line = stop_line_else c.args.self.now.fault c.args.self.now.message c.in_default.not-OutOfMemory in
     record {
-      writes = λ plain ok. subst (λ (text : List ℕ). HasWritten g.W.Write.write_str_gives c.args.f.now text c.write.new.self) (sym line) (c.write.ensures.writes plain ok);
+      writes = λ plain ok. subst (λ (text : List ℕ). HasWritten g.W.Write.write_str_gives c.args.f.now text c.write.new.self) (sym line)
+          (c.write.ensures.writes plain ok);
       styled = tt;
     }
