@@ -7,7 +7,7 @@ use Rattle.ipc_column.specs.declared.ranges.ColumnRanges.TheFolds.{fold-ColumnRa
 use Rattle.ipc_column.specs.declared.ranges.ColumnRanges.TheViews.{out-ColumnRanges}
 use Rattle.ipc_column.specs.Columns.{Column, Columns, forest, bytes_of}
 
--- the bytes of a span
+-- the bytes in the range of a buffer
 abbrev pub span_bytes : List ℕ → BufferRange → List ℕ
 span_bytes body s = bytes_of body s.start s.len
 

@@ -4,6 +4,7 @@
 use Rattle.std.specs.Prelude.{ℕ, zero, suc, ◌+◌, List, length, Result, Ok, Err}
 use Rattle.ipc_flat.specs.Views.{TableView, table_from}
 use Rattle.ipc_model.specs.Entries.{kind_text}
+use Rattle.ipc_model.specs.Limits.{max_depth}
 use Rattle.ipc_meta.specs.Tables.{text_at, vector_at, type_at}
 
 -- w of a value, and 0 of none
@@ -32,24 +33,43 @@ text_in t k = or_zero length (text_at t k)
 abbrev pub pair_text_in : TableView → ℕ
 pair_text_in t = text_in t 0 + text_in t 1
 
+-- where a Schema table has its fields and its pairs (Schema.fbs, table Schema)
+abbrev pub schema_fields : ℕ
+schema_fields = 1
+
+-- the second of these
+abbrev pub schema_pairs : ℕ
+schema_pairs = 2
+
+-- where a Field table has its children and its pairs (Schema.fbs, table Field)
+abbrev pub field_children : ℕ
+field_children = 5
+
+-- the second of these
+abbrev pub field_pairs : ℕ
+field_pairs = 6
+
 -- the bytes of a Field table's own name, timezone, keys and values
 abbrev pub own_text : TableView → ℕ
-own_text t = text_in t 0 + or_zero kind_text (type_at t) + sum_in pair_text_in t 6
+own_text t = text_in t 0 + or_zero kind_text (type_at t) + sum_in pair_text_in t field_pairs
 
 -- the sum of w over a Field table and those below it, with so many levels at most
 unfoldable pub tree : (TableView → ℕ) → ℕ → TableView → ℕ
 tree w zero t = 0
-tree w (suc depth) t = w t + sum_in (tree w depth) t 5
+tree w (suc depth) t = w t + sum_in (tree w depth) t field_children
 
--- the fields of a Schema table with their descendants, which stand in at most 65 levels
+-- the sum of w over the Field tables of a Schema table, as deep as fields may stand
+abbrev pub over_fields : (TableView → ℕ) → TableView → ℕ
+over_fields w t = sum_in (tree w max_depth) t schema_fields
+
+-- the fields of a Schema table with their descendants, which stand in at most one level more
 abbrev pub fields_stated : TableView → ℕ
-fields_stated t = count_in t 1 + sum_in (tree (λ u. count_in u 5) 64) t 1
+fields_stated t = count_in t schema_fields + over_fields (λ u. count_in u field_children) t
 
--- the bytes of the names, timezones, keys and values of a Schema table and of its fields in at most
--- 64 levels
+-- the bytes of the names, timezones, keys and values of a Schema table and of its fields
 abbrev pub text_stated : TableView → ℕ
-text_stated t = sum_in pair_text_in t 2 + sum_in (tree own_text 64) t 1
+text_stated t = sum_in pair_text_in t schema_pairs + over_fields own_text t
 
 -- the pairs of key and value of the same
 abbrev pub pairs_stated : TableView → ℕ
-pairs_stated t = count_in t 2 + sum_in (tree (λ u. count_in u 6) 64) t 1
+pairs_stated t = count_in t schema_pairs + over_fields (λ u. count_in u field_pairs) t
