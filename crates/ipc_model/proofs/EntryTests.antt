@@ -46,9 +46,9 @@ chain type children fields depth text conflict nested n =
 
 -- a fault has the number, its test fails, and none that is returned before it does
 pub record Told (test : SchemaFault → Bool) (n : ℕ) (x : SchemaFault) : Type 0 where
-  number : number_of x ≡ n
-  fails : test x ≡ false
-  least : (y : SchemaFault) → test y ≡ false → rank x ≤ rank y
+  pub number : number_of x ≡ n
+  pub fails : test x ≡ false
+  pub least : (y : SchemaFault) → test y ≡ false → rank x ≤ rank y
 
 pub told_as : (test : SchemaFault → Bool) (n : ℕ) (x y : SchemaFault) → ◌≡◌ {A = Option SchemaFault} (Some x) (Some y) → Told test n x
     → Told test n y
