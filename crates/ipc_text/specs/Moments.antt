@@ -4,6 +4,8 @@ use Rattle.std.specs.Prelude.{ℕ, ◌+◌, ◌*◌, ◌/◌, ◌%◌, ◌^◌, 
 use Rattle.std.specs.Prelude.{unsigned_abs, List, [], ◌∷◌, ◌++◌, Option, Some, None, option_map}
 use Rattle.std.specs.Int.{int_div_euclid, int_rem_euclid}
 use Rattle.std.specs.Ordering.{int_eq}
+use Rattle.ipc_model.specs.declared.schema.DataType.{DataType}
+use Rattle.ipc_model.specs.declared.schema.DataType.TheVariants as t
 use Rattle.ipc_model.specs.declared.schema.DateUnit.{DateUnit}
 use Rattle.ipc_model.specs.declared.schema.DateUnit.TheVariants as d
 use Rattle.ipc_model.specs.declared.schema.TimeUnit.{TimeUnit}
@@ -59,3 +61,16 @@ abbrev pub timestamp_text : TimeUnit → Option (List ℕ) → ℤ → Option (L
 timestamp_text unit zone z =
     option_map (λ day. day ++ 84 ∷ time_of_day unit (unsigned_abs (int_rem_euclid z (pos (per_day unit)))) ++ zone_text zone)
         (day_text (int_div_euclid z (pos (per_day unit))))
+
+-- the text of a value of this type that is a date or a point in time, where it has one
+abbrev pub moment_text : DataType → ℤ → Option (List ℕ)
+moment_text (t.Date unit) z = date_text unit z
+moment_text (t.Timestamp unit zone) z = timestamp_text unit zone z
+moment_text t.Null z = None
+moment_text t.Bool z = None
+moment_text (t.Int bits signed) z = None
+moment_text t.Binary z = None
+moment_text t.Utf8 z = None
+moment_text (t.FixedSizeBinary width) z = None
+moment_text t.List z = None
+moment_text t.Struct z = None

@@ -2,8 +2,12 @@
 #![tactic(auto)]
 
 mod calendar;
+mod fault;
 mod moment;
+mod row;
 mod short_text;
 
+pub use fault::TextFault;
 pub use moment::{date_text, timestamp_text};
+pub use row::{put_bytes, put_int, put_row_json, row_json};
 pub use short_text::ShortText;

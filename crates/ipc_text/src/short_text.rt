@@ -13,12 +13,13 @@ pub struct ShortText {
 
 impl Model for ShortText {
     ghost use Rattle.std.specs.Prelude.{List, ℕ, take, ◌≤◌};
+    ghost use Rattle.std.specs.Str.{IsAscii};
 
     ghost Value = { List ℕ };
 
     ghost view = { λ s. take s.len s.bytes };
 
-    ghost invariant = { λ s. s.len ≤ 32 };
+    ghost invariant = { λ s. (s.len ≤ 32) × IsAscii (take s.len s.bytes) };
 }
 
 impl ShortText {
@@ -32,7 +33,8 @@ impl ShortText {
     }
 
     pub(crate) fn push(&mut self, byte: u8)
-        requires { length self.old < 32 }
+        requires room { length self.old < 32 }
+        requires ascii { byte < 128 }
         ensures { self.new ≡ self.old ++ byte ∷ [] }
     {
         self.bytes[self.len] = byte;
@@ -69,10 +71,11 @@ impl ShortText {
         self.push_two_digits(number % 100);
     }
 
-    /// Its bytes, which are ASCII.
-    pub fn as_bytes(&self) -> &[u8]
+    /// The text, which is ASCII.
+    #[tactic(auto, using(crate::proofs::Ascii::ascii_is_utf8))]
+    pub fn as_str(&self) -> &str
         ensures { result.now ≡ self.now }
     {
-        &self.bytes[..self.len]
+        unsafe { str::from_utf8_unchecked(&self.bytes[..self.len]) }
     }
 }
