@@ -1,3 +1,4 @@
 pub mod Calendar
 pub mod Moments
 pub mod RowJson
+pub mod SchemaJson

@@ -5,9 +5,11 @@ mod calendar;
 mod fault;
 mod moment;
 mod row;
+mod schema;
 mod short_text;
 
 pub use fault::TextFault;
 pub use moment::{date_text, timestamp_text};
 pub use row::{put_bytes, put_int, put_row_json, row_json};
+pub use schema::{pairs_json, schema_json};
 pub use short_text::ShortText;
