@@ -35,13 +35,13 @@ december y = refl
 next_day : (c : Civil) → Stands c → c.day < days_in_month (pos c.year) c.month → Follows c (record { year = c.year; month = c.month; day = c.day + 1 })
 next_day c s lt = record {
   stands = record { year = s.year; first = s.first; last = s.last; day = omega arith; within = omega arith };
-  count = omega (arith, day_count-day (pos c.year) c.month (c.day + 1) c.day (omega arith) s.day)
+  count = omega (arith, day_count-day (pos c.year) c.month (c.day + 1) c.day (omega arith) s.day);
 }
 
 next_month : (c : Civil) → Stands c → days_in_month (pos c.year) c.month ≤ c.day → c.month < 12 → Follows c (record { year = c.year; month = c.month + 1; day = 1 })
 next_month c s le lt = record {
   stands = record { year = s.year; first = omega arith; last = omega arith; day = omega arith; within = omega (arith, days_in_month_bounds (pos c.year) (c.month + 1)) };
-  count = let w = s.within in omega (arith, day_count-next_month (pos c.year) c.month s.first, day_count-day (pos c.year) c.month c.day 1 s.day (omega arith))
+  count = let w = s.within in omega (arith, day_count-next_month (pos c.year) c.month s.first, day_count-day (pos c.year) c.month c.day 1 s.day (omega arith));
 }
 
 next_year : (c : Civil) → Stands c → days_in_month (pos c.year) c.month ≤ c.day → 12 ≤ c.month → Follows c (record { year = c.year + 1; month = 1; day = 1 })
@@ -51,7 +51,7 @@ next_year c s le ge =
     let same : day_count (pos c.year) c.month c.day ≡ day_count (pos c.year) 12 31 = rw (m, d) refl in
     record {
       stands = record { year = omega arith; first = omega arith; last = omega arith; day = omega arith; within = omega (arith, days_in_month_bounds (pos (c.year + 1)) 1) };
-      count = omega (arith, same, day_count-last_of_year (pos c.year), day_count-next_year (pos c.year) (pos (c.year + 1)) (omega (arith, signed_arith)) (omega (arith, signed_arith)))
+      count = omega (arith, same, day_count-last_of_year (pos c.year), day_count-next_year (pos c.year) (pos (c.year + 1)) (omega (arith, signed_arith)) (omega (arith, signed_arith)));
     }
 
 pub tomorrow_follows : (c : Civil) → Stands c → Follows c (tomorrow c)
@@ -89,8 +89,12 @@ below_10000 c s lt = elim (cases_Bool (nat_lt 9999 c.year)) [
 
 date_of : (c : Civil) → Stands c → c.year ≤ 9999 → Date
 date_of c s le = record {
-  year = pos c.year; month = c.month; day = c.day;
-  year_in = omega (arith, signed_arith); month_in = (s.first, s.last); day_in = (s.day, s.within)
+  year = pos c.year;
+  month = c.month;
+  day = c.day;
+  year_in = omega (arith, signed_arith);
+  month_in = (s.first, s.last);
+  day_in = (s.day, s.within);
 }
 
 unsigned_is : (w : ℤ) → pos 0 ≤ℤ w → pos (unsigned_abs w) ≡ w

@@ -60,7 +60,7 @@ zone_text (Some (b ∷ bs)) = 90 ∷ []
 abbrev pub timestamp_text : TimeUnit → Option (List ℕ) → ℤ → Option (List ℕ)
 timestamp_text unit zone z =
     option_map (λ day. day ++ 84 ∷ time_of_day unit (unsigned_abs (int_rem_euclid z (pos (per_day unit)))) ++ zone_text zone)
-        (day_text (int_div_euclid z (pos (per_day unit))))
+    (day_text (int_div_euclid z (pos (per_day unit))))
 
 -- the text of a value of this type that is a date or a point in time, where it has one
 abbrev pub moment_text : DataType → ℤ → Option (List ℕ)

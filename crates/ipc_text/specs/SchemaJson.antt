@@ -85,11 +85,11 @@ pairs_json pairs = array (items_of (map pair_json pairs))
 abbrev pub own_json : {A : Type 0} → Field-F A → Data
 own_json f =
     object (member (codes "children") (number (unsigned (length f.children)))
-        (member (codes "dictionary") (dictionary_json f.dictionary)
-        (member (codes "metadata") (pairs_json f.metadata)
-        (member (codes "name") (string f.name)
-        (member (codes "nullable") (boolean f.nullable)
-        (member (codes "type") (type_json f.kind) no_members))))))
+    (member (codes "dictionary") (dictionary_json f.dictionary)
+    (member (codes "metadata") (pairs_json f.metadata)
+    (member (codes "name") (string f.name)
+    (member (codes "nullable") (boolean f.nullable)
+    (member (codes "type") (type_json f.kind) no_members))))))
 
 -- several lists, one after another
 abbrev pub joined : List (List Data) → List Data
@@ -108,7 +108,7 @@ field_json = fold-Field (List Data) field_step
 abbrev pub schema_json : Schema → Data
 schema_json s =
     object (member (codes "fields") (array (items_of (joined (map field_json s.fields))))
-        (member (codes "metadata") (pairs_json s.metadata) no_members))
+    (member (codes "metadata") (pairs_json s.metadata) no_members))
 
 -- the text of a schema
 abbrev pub schema_text : Schema → List ℕ

@@ -13,3 +13,6 @@ pub use moment::{date_text, timestamp_text};
 pub use row::{put_bytes, put_int, put_row_json, row_json};
 pub use schema::{pairs_json, schema_json};
 pub use short_text::ShortText;
+
+#[cfg(test)]
+mod tests;

@@ -11,8 +11,7 @@ ghost use Rattle.ipc_text.specs.RowJson.{cell_json, int_json, each_json, items_j
 use crate::fault::TextFault;
 use crate::moment::{date_text, timestamp_text};
 use crate::short_text::ShortText;
-use ipc_model::schema::{DataType, Field, Schema};
-use ipc_model::value::Value;
+use ipc_model::{DataType, Field, Schema, Value};
 use json::Writer;
 use std::alloc::{AllocError, Global};
 
@@ -52,12 +51,7 @@ pub fn put_bytes(out: &mut Writer, alloc: Global, bytes: &[u8]) -> Result<(), Al
 }
 
 #[cycle(cell)]
-fn put_cell(
-    out: &mut Writer,
-    alloc: Global,
-    field: &Field,
-    value: &Value,
-) -> Result<(), AllocError>
+fn put_cell(out: &mut Writer, alloc: Global, field: &Field, value: &Value) -> Result<(), AllocError>
     ensures ok { OnOk result (out.new.tokens ≡ out.old.tokens ++ json_tokens (outline (cell_json field.now value.now))) }
     ensures before { out.new.before ≡ out.old.before }
 {

@@ -10,8 +10,7 @@ ghost use Rattle.ipc_text.specs.SchemaJson as spec;
 ghost use Rattle.ipc_text.specs.SchemaJson.{named, type_json, dictionary_json, pair_json, pairs_json, own_json, field_json, joined, schema_text, pairs_text, tokens_of, first_tokens, last_tokens, unit_name, date_unit_name, int_name, text_or_null, items_of};
 
 use crate::fault::TextFault;
-use ipc_model::schema::{DataType, DateUnit, Dictionary, Field, IntBits, Schema, TimeUnit};
-use ipc_model::items::Text;
+use ipc_model::{DataType, DateUnit, Dictionary, Field, IntBits, Schema, Text, TimeUnit};
 use json::Writer;
 use std::alloc::{AllocError, Global};
 
@@ -94,11 +93,7 @@ fn put_text_or_null(out: &mut Writer, text: &Option<Text>) -> Result<(), AllocEr
     }
 }
 
-fn put_timestamp(
-    out: &mut Writer,
-    unit: TimeUnit,
-    zone: &Option<Text>,
-) -> Result<(), AllocError>
+fn put_timestamp(out: &mut Writer, unit: TimeUnit, zone: &Option<Text>) -> Result<(), AllocError>
     ensures ok { OnOk result (out.new.tokens ≡ out.old.tokens ++ json_tokens (outline (named (codes "timestamp") (string (unit_name unit) ∷ text_or_null zone.now ∷ [])))) }
     ensures before { out.new.before ≡ out.old.before }
 {

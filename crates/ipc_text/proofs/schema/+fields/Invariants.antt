@@ -6,5 +6,5 @@ abbrev pub invariant-put_fields-loop-field : goal.invariant-put_fields-loop-fiel
 invariant-put_fields-loop-field l = record {
   tokens : l.out.tokens ++ tokens_of (joined (map field_json (drop l.field-index l.fields)))
       ≡ l.initial.out.tokens ++ tokens_of (joined (map field_json l.fields));
-  before : l.out.before ≡ l.initial.out.before
+  before : l.out.before ≡ l.initial.out.before;
 }

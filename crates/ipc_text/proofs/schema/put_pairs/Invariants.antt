@@ -8,5 +8,5 @@ abbrev pub invariant-loop-pair : goal.invariant-loop-pair
 invariant-loop-pair l = record {
   tokens : l.out.tokens ++ items_tokens (items_outline (items_of (map pair_json (drop l.pair-index l.pairs))))
       ≡ l.initial.out.tokens ++ items_tokens (items_outline (items_of (map pair_json l.pairs)));
-  before : l.out.before ≡ l.initial.out.before
+  before : l.out.before ≡ l.initial.out.before;
 }
