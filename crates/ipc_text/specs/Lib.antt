@@ -2,3 +2,4 @@ pub mod Calendar
 pub mod Moments
 pub mod RowJson
 pub mod SchemaJson
+pub mod RowCsv

@@ -1,6 +1,6 @@
 -- Dates, times of day and points in time as texts (ISO 8601-1, "Local time of day", "Combined date
 -- and time of day representations"). There are no leap seconds.
-use Rattle.std.specs.Prelude.{ℕ, ◌+◌, ◌*◌, ◌/◌, ◌%◌, ◌^◌, Bool, ℤ, pos, int_lt, if◌then◌else◌}
+use Rattle.std.specs.Prelude.{ℕ, ◌+◌, ◌*◌, ◌/◌, ◌%◌, ℤ, pos, if◌then◌else◌}
 use Rattle.std.specs.Prelude.{unsigned_abs, List, [], ◌∷◌, ◌++◌, Option, Some, None, option_map}
 use Rattle.std.specs.Int.{int_div_euclid, int_rem_euclid}
 use Rattle.std.specs.Ordering.{int_eq}

@@ -1,11 +1,11 @@
 -- The JSON text of a schema (RFC 8259), as serde_json prints it: its fields with all below them in
 -- pre-order, and its pairs. Keys ascend.
-use Rattle.std.specs.Prelude.{ℕ, ℤ, pos, negsuc, List, [], ◌∷◌, ◌++◌, map, length, codes, decimal, Bool, true}
+use Rattle.std.specs.Prelude.{ℕ, List, [], ◌∷◌, ◌++◌, map, length, codes, decimal, Bool, true}
 use Rattle.std.specs.Prelude.{false, Option, Some, None}
 use Rattle.json.specs.Token.{Token}
 use Rattle.json.specs.Tree.{json_tokens}
 use Rattle.serde_json.specs.Data.{unsigned, Data, null, boolean, number, string, array, object}
-use Rattle.serde_json.specs.Data.{Items, no_items, item, Members, no_members, member}
+use Rattle.serde_json.specs.Data.{Items, no_items, item, no_members, member}
 use Rattle.serde_json.specs.Written.{compact_text, outline}
 use Rattle.ipc_model.specs.Ranges.{width}
 use Rattle.ipc_model.specs.declared.schema.DataType.{DataType}
@@ -15,7 +15,6 @@ use Rattle.ipc_model.specs.declared.schema.DateUnit.TheVariants as d
 use Rattle.ipc_model.specs.declared.schema.Dictionary.{Dictionary}
 use Rattle.ipc_model.specs.declared.schema.Field.{Field, fold-Field}
 use Rattle.ipc_model.specs.declared.schema.Field.TheOpen.{Field-F}
-use Rattle.ipc_model.specs.declared.schema.IntBits.{IntBits}
 use Rattle.ipc_model.specs.declared.schema.Schema.{Schema}
 use Rattle.ipc_model.specs.declared.schema.TimeUnit.{TimeUnit}
 use Rattle.ipc_model.specs.declared.schema.TimeUnit.TheVariants as u

@@ -16,7 +16,7 @@ use json::Writer;
 use std::alloc::{AllocError, Global};
 
 // The text of a number of this type that is a date or a point in time, where it has one.
-fn moment_text(kind: &DataType, number: i64) -> Option<ShortText>
+pub(crate) fn moment_text(kind: &DataType, number: i64) -> Option<ShortText>
     ensures { result ≡ moment_text kind.now number }
 {
     match kind {

@@ -1,5 +1,7 @@
 //! Texts whose right form is given.
-use crate::{date_text, pairs_json, row_json, schema_json, timestamp_text};
+use crate::{
+    TextFault, csv_header, csv_record, date_text, pairs_json, row_json, schema_json, timestamp_text,
+};
 use ipc_model::{DataType, DateUnit, Field, IntBits, Items, Schema, Text, TimeUnit, Value};
 use std::alloc::{AllocError, Global};
 use std::test::Fail;
@@ -154,5 +156,73 @@ fn rows(rt: HostRuntime) -> Result<(), Fail> {
         text.as_str(),
         "[-7,\"a\\n\\u0001é\",-719163,\"00ab\",\"1969-12-31T23:59:59.999999Z\"]"
     );
+    Ok(())
+}
+
+#[test]
+fn csv_texts(rt: HostRuntime) -> Result<(), Fail> {
+    let alloc = rt.alloc();
+    let int = DataType::Int {
+        bits: IntBits::B32,
+        signed: true,
+    };
+    let schema = Schema {
+        fields: Items::from_vec(vec![in alloc;
+            field(alloc, "id", int)?,
+            field(alloc, "t", DataType::Utf8)?,
+        ]?),
+        metadata: Items::from_vec(Vec::new(alloc)),
+    };
+    assert_eq!(rt;
+        csv_header(alloc, &schema)?.as_slice(),
+        b"id,t\n".as_slice()
+    );
+    let row = vec![in alloc; Value::Int(1), Value::Null]?;
+    assert_eq!(rt;
+        csv_record(alloc, &schema, row.as_slice())?.as_slice(),
+        b"1,\\N\n".as_slice()
+    );
+    let cases = [
+        ("", "2,\n"),
+        ("\\N", "2,\\\\N\n"),
+        ("\\\\x", "2,\\\\\\x\n"),
+        ("a,b\nc", "2,\"a,b\nc\"\n"),
+        ("\"", "2,\"\"\"\"\n"),
+    ];
+    for (given, wanted) in cases {
+        let row = vec![in alloc; Value::Int(2), Value::Text(text(alloc, given)?)]?;
+        let record = csv_record(alloc, &schema, row.as_slice())?;
+        assert_eq!(rt; record.as_slice(), wanted.as_bytes());
+    }
+    Ok(())
+}
+
+fn one_column(alloc: Global, kind: DataType) -> Result<Schema, AllocError> {
+    Ok(Schema {
+        fields: Items::from_vec(vec![in alloc; field(alloc, "a", kind)?]?),
+        metadata: Items::from_vec(Vec::new(alloc)),
+    })
+}
+
+#[test]
+fn csv_refusals(rt: HostRuntime) -> Result<(), Fail> {
+    let alloc = rt.alloc();
+    let texts = one_column(alloc, DataType::Utf8)?;
+    let row = vec![in alloc; Value::Text(text(alloc, "")?)]?;
+    assert_eq!(rt;
+        csv_record(alloc, &texts, row.as_slice())?.as_slice(),
+        b"\"\"\n".as_slice()
+    );
+    let dates = one_column(alloc, DataType::Date(DateUnit::Day))?;
+    let row = vec![in alloc; Value::Int(-719_162)]?;
+    assert_eq!(rt;
+        csv_record(alloc, &dates, row.as_slice())?.as_slice(),
+        b"0001-01-01\n".as_slice()
+    );
+    let row = vec![in alloc; Value::Int(-719_163)]?;
+    let refused = csv_record(alloc, &dates, row.as_slice());
+    assert!(rt; matches!(&refused, Err(TextFault::NoTextForm { column: 0 })));
+    let nested = one_column(alloc, DataType::Struct)?;
+    assert!(rt; matches!(&csv_header(alloc, &nested), Err(TextFault::NotFlat)));
     Ok(())
 }

@@ -1,7 +1,6 @@
-use Rattle.std.proofs.Common.{◌≡◌, ◌∙◌, arith, rules, pos, neg_ℤ, ◌+ℤ◌, ◌≤ℤ◌, ◌<ℤ◌, unsigned_abs, ap, sym, append_assoc, FitsSigned, w16, w64}
+use Rattle.std.proofs.Common.{arith, append_assoc, FitsSigned, w16, w64}
 use Rattle.std.proofs.lemmas.Int.{to_z-of_z}
 use Rattle.jiff_core.proofs.SignedLemmas.{signed_arith}
-use Rattle.ipc_text.specs.Calendar.{civil_on}
 use Rattle.ipc_text.proofs.Days.{same_day, printed}
 use Rattle.ipc_text.proofs.calendar.day_text.Goals as goal
 

@@ -1,8 +1,6 @@
-use Rattle.std.proofs.Common.{◌≡◌, List, [], ℕ, ◌++◌, ◌∙◌, ap, sym, arith, rules}
+use Rattle.std.proofs.Common.{◌≡◌, [], ◌++◌, ◌∙◌, ap, rules}
 use Rattle.json.specs.Print.{print}
 use Rattle.json.specs.Tree.{json_tokens}
-use Rattle.json.specs.Token.{Token}
-use Rattle.serde_json.specs.Data.{Data}
 use Rattle.serde_json.specs.Written.{outline, compact_text}
 use Rattle.serde_json.proofs.Texts.{print-outline}
 use Rattle.ipc_text.specs.RowJson.{row_json}
