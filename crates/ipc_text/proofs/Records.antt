@@ -1,6 +1,7 @@
 -- Records of CSV, field by field.
 use Rattle.std.proofs.Common.{◌≡◌, ◌∙◌, ◌==◌, ◌<◌, ◌≤◌, ◌+◌, ℕ, zero, suc, false, List, [], ◌∷◌, ◌++◌, length, map, drop}
-use Rattle.std.proofs.Common.{drop-cons, get_or, add-one, Option, Some, None, Result, Ok, Err, option_map, refl, sym, ap, arith, append_assoc, append-nil, if◌then◌else◌}
+use Rattle.std.proofs.Common.{drop-cons, get_or, add-one, Option, Some, None}
+use Rattle.std.proofs.Common.{Result, Ok, Err, option_map, refl, sym, ap, arith, append_assoc, append-nil, if◌then◌else◌}
 use Rattle.std.proofs.lemmas.Bool.Decides.{nat_tests}
 use Rattle.std.proofs.lemmas.List.{drop_all}
 use Rattle.std.proofs.Common.{length-append}

@@ -3,3 +3,4 @@ pub mod Moments
 pub mod RowJson
 pub mod SchemaJson
 pub mod RowCsv
+pub mod CsvCells

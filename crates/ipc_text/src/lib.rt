@@ -2,6 +2,7 @@
 #![tactic(auto)]
 
 mod calendar;
+mod csv_cell;
 mod csv_row;
 mod fault;
 mod moment;
@@ -9,6 +10,7 @@ mod row;
 mod schema;
 mod short_text;
 
+pub use csv_cell::{read_bool, read_bytes, read_int, read_text, read_uint};
 pub use csv_row::{
     check_flat, csv_header, csv_record, end_record, push_bool, push_bytes, push_comma, push_field,
     push_int, push_null, push_text, push_uint, push_value,

@@ -1,6 +1,7 @@
 //! Texts whose right form is given.
 use crate::{
-    TextFault, csv_header, csv_record, date_text, pairs_json, row_json, schema_json, timestamp_text,
+    TextFault, csv_header, csv_record, date_text, pairs_json, read_bool, read_bytes, read_int,
+    read_text, read_uint, row_json, schema_json, timestamp_text,
 };
 use ipc_model::{DataType, DateUnit, Field, IntBits, Items, Schema, Text, TimeUnit, Value};
 use std::alloc::{AllocError, Global};
@@ -224,5 +225,27 @@ fn csv_refusals(rt: HostRuntime) -> Result<(), Fail> {
     assert!(rt; matches!(&refused, Err(TextFault::NoTextForm { column: 0 })));
     let nested = one_column(alloc, DataType::Struct)?;
     assert!(rt; matches!(&csv_header(alloc, &nested), Err(TextFault::NotFlat)));
+    Ok(())
+}
+
+#[test]
+fn csv_fields(rt: HostRuntime) -> Result<(), Fail> {
+    let alloc = rt.alloc();
+    assert_eq!(rt; read_int("-9223372036854775808"), Some(i64::MIN));
+    for text in ["+1", "01", "-0", "", " 1", "9223372036854775808"] {
+        assert_eq!(rt; read_int(text), None);
+    }
+    assert_eq!(rt; read_uint("18446744073709551615"), Some(u64::MAX));
+    assert_eq!(rt; read_uint("-1"), None);
+    assert_eq!(rt; read_bool("false"), Some(false));
+    assert_eq!(rt; read_bool("TRUE"), None);
+    assert_eq!(rt; read_text(b"\\\\x"), Some(b"\\x".as_slice()));
+    assert_eq!(rt; read_text(b"\\x"), None);
+    let bytes = read_bytes(alloc, b"00aB")?;
+    assert_eq!(rt;
+        bytes.as_ref().map(|bytes| bytes.as_slice()),
+        Some([0u8, 171].as_slice())
+    );
+    assert!(rt; read_bytes(alloc, b"0")?.is_none());
     Ok(())
 }
