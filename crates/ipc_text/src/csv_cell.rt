@@ -33,12 +33,12 @@ pub fn read_uint(text: &str) -> Option<u64>
     ensures only { IfSome result (λ n. decimal n ≡ text.now) }
     ensures all { (n : ℕ) → n < 2 ^ 64 → decimal n ≡ text.now → result ≡ Some n }
 {
-    let Ok(number) = text.parse::<u64>() else {
+    let Ok(count) = text.parse::<u64>() else {
         return None;
     };
     let mut digits = Buffer::new();
-    if digits.format(number) == text {
-        Some(number)
+    if digits.format(count) == text {
+        Some(count)
     } else {
         None
     }
