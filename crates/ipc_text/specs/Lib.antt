@@ -1,0 +1,6 @@
+pub mod Calendar
+pub mod Moments
+pub mod RowJson
+pub mod SchemaJson
+pub mod RowCsv
+pub mod CsvCells

@@ -1,0 +1,25 @@
+//! Texts of schemas, rows, dates and times.
+#![tactic(auto)]
+
+mod calendar;
+mod csv_cell;
+mod csv_row;
+mod fault;
+mod moment;
+mod row;
+mod schema;
+mod short_text;
+
+pub use csv_cell::{read_bool, read_bytes, read_int, read_text, read_uint};
+pub use csv_row::{
+    check_flat, csv_header, csv_record, end_record, push_bool, push_bytes, push_comma, push_field,
+    push_int, push_null, push_text, push_uint, push_value,
+};
+pub use fault::TextFault;
+pub use moment::{date_text, timestamp_text};
+pub use row::{put_bytes, put_int, put_row_json, row_json};
+pub use schema::{pairs_json, schema_json};
+pub use short_text::ShortText;
+
+#[cfg(test)]
+mod tests;

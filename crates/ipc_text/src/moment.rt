@@ -1,0 +1,110 @@
+//! Dates and points in time.
+ghost use Rattle.std.specs.Prelude.{◌≡◌, ◌<◌, ◌≤◌, ◌+◌, ◌*◌, ◌++◌, option_map, length};
+ghost use Rattle.ipc_text.specs.Moments as spec;
+ghost use Rattle.ipc_text.specs.Moments.{per_second, per_day, clock_text, fraction_text, time_of_day, zone_text};
+
+use crate::calendar::day_text;
+use crate::short_text::ShortText;
+use ipc_model::{DateUnit, TimeUnit};
+
+fn per_second(unit: TimeUnit) -> u64
+    ensures { result ≡ per_second unit }
+{
+    match unit {
+        TimeUnit::Second => 1,
+        TimeUnit::Millisecond => 1_000,
+        TimeUnit::Microsecond => 1_000_000,
+        TimeUnit::Nanosecond => 1_000_000_000,
+    }
+}
+
+// The text of so many seconds after midnight.
+fn push_clock(text: &mut ShortText, seconds: u32)
+    requires small { seconds < 86_400 }
+    requires room { length text.old + 8 ≤ 32 }
+    ensures { text.new ≡ text.old ++ clock_text seconds }
+{
+    text.push_two_digits(seconds / 3_600);
+    text.push(b':');
+    text.push_two_digits(seconds / 60 % 60);
+    text.push(b':');
+    text.push_two_digits(seconds % 60);
+}
+
+// The text of a part of a second.
+fn push_fraction(text: &mut ShortText, unit: TimeUnit, part: u32)
+    requires small { part < per_second unit }
+    requires room { length text.old + 10 ≤ 32 }
+    ensures { text.new ≡ text.old ++ fraction_text unit part }
+{
+    match unit {
+        TimeUnit::Second => {}
+        TimeUnit::Millisecond => {
+            text.push(b'.');
+            text.push_three_digits(part);
+        }
+        TimeUnit::Microsecond => {
+            text.push(b'.');
+            text.push_three_digits(part / 1_000);
+            text.push_three_digits(part % 1_000);
+        }
+        TimeUnit::Nanosecond => {
+            text.push(b'.');
+            text.push_three_digits(part / 1_000_000);
+            text.push_three_digits(part / 1_000 % 1_000);
+            text.push_three_digits(part % 1_000);
+        }
+    }
+}
+
+// The text of so many units after midnight.
+fn push_time_of_day(text: &mut ShortText, unit: TimeUnit, number: u64)
+    requires small { number < per_day unit }
+    requires room { length text.old + 18 ≤ 32 }
+    ensures { text.new ≡ text.old ++ time_of_day unit number }
+{
+    let per_second = per_second(unit);
+    push_clock(text, (number / per_second) as u32);
+    push_fraction(text, unit, (number % per_second) as u32);
+}
+
+/// The text of a date, `YYYY-MM-DD`, of a number of days or of milliseconds after 1970-01-01. None
+/// outside the years 0001 to 9999, and for milliseconds that are no whole days.
+pub fn date_text(unit: DateUnit, number: i64) -> Option<ShortText>
+    ensures { result ≡ spec.date_text unit number }
+{
+    match unit {
+        DateUnit::Day => day_text(number),
+        DateUnit::Millisecond => {
+            if number.rem_euclid(86_400_000) != 0 {
+                return None;
+            }
+            day_text(number.div_euclid(86_400_000))
+        }
+    }
+}
+
+// `Z` for a time zone that is present and not empty.
+fn push_zone(text: &mut ShortText, timezone: Option<&str>)
+    requires { length text.old < 32 }
+    ensures { text.new ≡ text.old ++ zone_text (option_map (λ zone. zone.now) timezone.entry) }
+{
+    match timezone {
+        Some(zone) if !zone.is_empty() => text.push(b'Z'),
+        _ => {}
+    }
+}
+
+/// The text of a point in time, so many units after 1970-01-01T00:00:00: the date, `T`, `hh:mm:ss`,
+/// 0, 3, 6 or 9 digits of a second behind a point by the unit, and `Z` where a time zone is present
+/// and not empty. None outside the years 0001 to 9999.
+pub fn timestamp_text(unit: TimeUnit, timezone: Option<&str>, number: i64) -> Option<ShortText>
+    ensures { result ≡ spec.timestamp_text unit (option_map (λ zone. zone.now) timezone.entry) number }
+{
+    let per_day = (86_400 * per_second(unit)) as i64;
+    let mut text = day_text(number.div_euclid(per_day))?;
+    text.push(b'T');
+    push_time_of_day(&mut text, unit, number.rem_euclid(per_day) as u64);
+    push_zone(&mut text, timezone);
+    Some(text)
+}

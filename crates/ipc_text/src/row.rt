@@ -1,0 +1,158 @@
+//! The JSON text of a row.
+ghost use Rattle.std.specs.Prelude.{◌≡◌, ◌++◌, ◌∷◌, [], map, OnOk, IfOk, IfErr, string_bytes};
+ghost use Rattle.hex.specs.Hex.{encode_lower};
+ghost use Rattle.json.specs.Token.{Token};
+ghost use Rattle.json.specs.Tree.{json_tokens, items_tokens};
+ghost use Rattle.serde_json.specs.Written.{outline, items_outline};
+ghost use Rattle.ipc_text.specs.Moments.{moment_text};
+ghost use Rattle.ipc_text.specs.RowJson as spec;
+ghost use Rattle.ipc_text.specs.RowJson.{cell_json, int_json, each_json, items_json, row_text};
+
+use crate::fault::TextFault;
+use crate::moment::{date_text, timestamp_text};
+use crate::short_text::ShortText;
+use ipc_model::{DataType, Field, Schema, Value};
+use json::Writer;
+use std::alloc::{AllocError, Global};
+
+// The text of a number of this type that is a date or a point in time, where it has one.
+pub(crate) fn moment_text(kind: &DataType, number: i64) -> Option<ShortText>
+    ensures { result ≡ moment_text kind.now number }
+{
+    match kind {
+        DataType::Date(unit) => date_text(*unit, number),
+        DataType::Timestamp { unit, timezone } => match timezone {
+            Some(zone) => timestamp_text(*unit, Some(zone.as_str()), number),
+            None => timestamp_text(*unit, None, number),
+        },
+        _ => None,
+    }
+}
+
+/// Appends a signed number of a field of this type to what a writer of JSON has: a date or a point
+/// in time as its text where it has one, and else the number.
+pub fn put_int(out: &mut Writer, kind: &DataType, number: i64) -> Result<(), AllocError>
+    ensures ok { OnOk result (out.new.tokens ≡ out.old.tokens ++ json_tokens (outline (int_json kind.now number))) }
+    ensures before { out.new.before ≡ out.old.before }
+{
+    match moment_text(kind, number) {
+        Some(text) => out.string(text.as_str()),
+        None => out.i64(number),
+    }
+}
+
+/// Appends bytes as a text of lower-case hexadecimal digits.
+pub fn put_bytes(out: &mut Writer, alloc: Global, bytes: &[u8]) -> Result<(), AllocError>
+    ensures ok { OnOk result (out.new.tokens ≡ out.old.tokens ++ Token.string (encode_lower bytes.now) ∷ []) }
+    ensures before { out.new.before ≡ out.old.before }
+{
+    let text = hex::encode(alloc, bytes)?;
+    out.string(text.as_str())
+}
+
+#[cycle(cell)]
+fn put_cell(out: &mut Writer, alloc: Global, field: &Field, value: &Value) -> Result<(), AllocError>
+    ensures ok { OnOk result (out.new.tokens ≡ out.old.tokens ++ json_tokens (outline (cell_json field.now value.now))) }
+    ensures before { out.new.before ≡ out.old.before }
+{
+    match value {
+        Value::Null => out.null(),
+        Value::Bool(truth) => out.boolean(*truth),
+        Value::Int(number) => put_int(out, &field.kind, *number),
+        Value::UInt(number) => out.u64(*number),
+        Value::Bytes(bytes) => put_bytes(out, alloc, bytes.as_slice()),
+        Value::Text(text) => out.string(text.as_str()),
+        Value::List(values) => {
+            out.begin_array()?;
+            match field.children.as_slice().first() {
+                Some(child) => put_items(out, alloc, child, values.as_slice()),
+                None => out.end_array(),
+            }
+        }
+        Value::Struct(values) => {
+            out.begin_array()?;
+            put_each(out, alloc, field.children.as_slice(), values.as_slice())
+        }
+    }
+}
+
+// The values of a list and the closing bracket.
+#[cycle(cell)]
+fn put_items(
+    out: &mut Writer,
+    alloc: Global,
+    child: &Field,
+    values: &[Value],
+) -> Result<(), AllocError>
+    ensures ok { OnOk result (out.new.tokens ≡ out.old.tokens ++ items_tokens (items_outline (items_json (cell_json child.now) values.now))) }
+    ensures before { out.new.before ≡ out.old.before }
+{
+    for value in values {
+        put_cell(out, alloc, child, value)?;
+    }
+    out.end_array()
+}
+
+// Values beside their fields and the closing bracket.
+#[cycle(cell)]
+fn put_each(
+    out: &mut Writer,
+    alloc: Global,
+    fields: &[Field],
+    values: &[Value],
+) -> Result<(), AllocError>
+    ensures ok { OnOk result (out.new.tokens ≡ out.old.tokens ++ items_tokens (items_outline (each_json (map cell_json fields.now) values.now))) }
+    ensures before { out.new.before ≡ out.old.before }
+{
+    for (number, field) in fields.iter().enumerate() {
+        let Some(value) = values.get(number) else {
+            return out.end_array();
+        };
+        put_cell(out, alloc, field, value)?;
+    }
+    out.end_array()
+}
+
+fn put_row(
+    out: &mut Writer,
+    alloc: Global,
+    fields: &[Field],
+    row: &[Value],
+) -> Result<(), AllocError>
+    ensures ok { OnOk result (out.new.tokens ≡ out.old.tokens ++ json_tokens (outline (spec.row_json fields.now row.now))) }
+    ensures before { out.new.before ≡ out.old.before }
+{
+    out.begin_array()?;
+    put_each(out, alloc, fields, row)
+}
+
+/// Appends a row to what a writer of JSON has.
+///
+/// The row conforms to the schema; that nulls stand in required columns, or that milliseconds of a
+/// date are no whole days, does no harm.
+pub fn put_row_json(
+    out: &mut Writer,
+    alloc: Global,
+    schema: &Schema,
+    row: &[Value],
+) -> Result<(), AllocError>
+    ensures ok { OnOk result (out.new.tokens ≡ out.old.tokens ++ json_tokens (outline (spec.row_json schema.now.fields row.now))) }
+    ensures before { out.new.before ≡ out.old.before }
+{
+    put_row(out, alloc, schema.fields.as_slice(), row)
+}
+
+/// The text of a row: a compact array of its values (RFC 8259).
+///
+/// Numbers are whole numbers, bytes texts of lower-case hexadecimal digits, lists and structs arrays;
+/// a date or a point in time is its text where it has one, and else a whole number. It refuses only
+/// where memory ran out.
+pub fn row_json(alloc: Global, schema: &Schema, row: &[Value]) -> Result<String, TextFault>
+    ensures text { IfOk result (λ text. string_bytes text ≡ row_text schema.now.fields row.now) }
+    ensures refused { IfErr result (λ fault. fault ≡ TextFault.OutOfMemory) }
+{
+    let mut writer = Writer::new(Vec::new(alloc));
+    put_row(&mut writer, alloc, schema.fields.as_slice(), row)?;
+    let bytes = writer.into_inner();
+    Ok(unsafe { String::from_utf8_unchecked(bytes) })
+}

@@ -1,0 +1,81 @@
+ghost use Rattle.std.specs.Prelude.{◌≡◌, ◌++◌, ◌∷◌, [], ◌+◌, ◌<◌, ◌≤◌, length};
+ghost use Rattle.ipc_text.specs.Calendar.{two_digits, four_digits};
+ghost use Rattle.ipc_text.specs.Moments.{three_digits};
+
+use std::marker::Model;
+
+/// A text of at most 32 bytes, which takes no memory. Contracts see its bytes.
+#[derive(Drop)]
+pub struct ShortText {
+    bytes: [u8; 32],
+    len: usize,
+}
+
+impl Model for ShortText {
+    ghost use Rattle.std.specs.Prelude.{List, ℕ, take, ◌≤◌};
+    ghost use Rattle.std.specs.Str.{IsAscii};
+
+    ghost Value = { List ℕ };
+
+    ghost view = { λ s. take s.len s.bytes };
+
+    ghost invariant = { λ s. (s.len ≤ 32) × IsAscii (take s.len s.bytes) };
+}
+
+impl ShortText {
+    pub(crate) fn new() -> ShortText
+        ensures { result ≡ [] }
+    {
+        ShortText {
+            bytes: [0; 32],
+            len: 0,
+        }
+    }
+
+    pub(crate) fn push(&mut self, byte: u8)
+        requires room { length self.old < 32 }
+        requires ascii { byte < 128 }
+        ensures { self.new ≡ self.old ++ byte ∷ [] }
+    {
+        self.bytes[self.len] = byte;
+        self.len += 1;
+    }
+
+    // A number below 100.
+    pub(crate) fn push_two_digits(&mut self, number: u32)
+        requires small { number < 100 }
+        requires room { length self.old + 2 ≤ 32 }
+        ensures { self.new ≡ self.old ++ two_digits number }
+    {
+        self.push(b'0' + (number / 10) as u8);
+        self.push(b'0' + (number % 10) as u8);
+    }
+
+    // A number below 1,000.
+    pub(crate) fn push_three_digits(&mut self, number: u32)
+        requires small { number < 1_000 }
+        requires room { length self.old + 3 ≤ 32 }
+        ensures { self.new ≡ self.old ++ three_digits number }
+    {
+        self.push(b'0' + (number / 100) as u8);
+        self.push_two_digits(number % 100);
+    }
+
+    // A number below 10,000.
+    pub(crate) fn push_four_digits(&mut self, number: u32)
+        requires small { number < 10_000 }
+        requires room { length self.old + 4 ≤ 32 }
+        ensures { self.new ≡ self.old ++ four_digits number }
+    {
+        self.push_two_digits(number / 100);
+        self.push_two_digits(number % 100);
+    }
+
+    /// The text, which is ASCII.
+    #[tactic(auto, using(crate::proofs::Ascii::ascii_is_utf8))]
+    pub fn as_str(&self) -> &str
+        ensures { result.now ≡ self.now }
+    {
+        unsafe { str::from_utf8_unchecked(&self.bytes[..self.len]) }
+    }
+}

@@ -1,0 +1,251 @@
+//! Texts whose right form is given.
+use crate::{
+    TextFault, csv_header, csv_record, date_text, pairs_json, read_bool, read_bytes, read_int,
+    read_text, read_uint, row_json, schema_json, timestamp_text,
+};
+use ipc_model::{DataType, DateUnit, Field, IntBits, Items, Schema, Text, TimeUnit, Value};
+use std::alloc::{AllocError, Global};
+use std::test::Fail;
+
+#[test]
+fn dates(rt: HostRuntime) -> Result<(), Fail> {
+    let cases = [
+        (-719_162, Some("0001-01-01")),
+        (-719_163, None),
+        (-1, Some("1969-12-31")),
+        (0, Some("1970-01-01")),
+        (11_016, Some("2000-02-29")),
+        (11_017, Some("2000-03-01")),
+        (47_540, Some("2100-02-28")),
+        (47_541, Some("2100-03-01")),
+        (2_932_896, Some("9999-12-31")),
+        (2_932_897, None),
+    ];
+    for (day, wanted) in cases {
+        let text = date_text(DateUnit::Day, day);
+        assert_eq!(rt; text.as_ref().map(|text| text.as_str()), wanted);
+        let text = date_text(DateUnit::Millisecond, day * 86_400_000);
+        assert_eq!(rt; text.as_ref().map(|text| text.as_str()), wanted);
+        assert!(rt; date_text(DateUnit::Millisecond, day * 86_400_000 + 1).is_none());
+    }
+    Ok(())
+}
+
+#[test]
+fn points_in_time(rt: HostRuntime) -> Result<(), Fail> {
+    let cases = [
+        (
+            TimeUnit::Second,
+            None,
+            951_782_399,
+            Some("2000-02-28T23:59:59"),
+        ),
+        (
+            TimeUnit::Millisecond,
+            None,
+            0,
+            Some("1970-01-01T00:00:00.000"),
+        ),
+        (
+            TimeUnit::Microsecond,
+            Some("UTC"),
+            -1,
+            Some("1969-12-31T23:59:59.999999Z"),
+        ),
+        (
+            TimeUnit::Microsecond,
+            Some(""),
+            1,
+            Some("1970-01-01T00:00:00.000001"),
+        ),
+        (
+            TimeUnit::Nanosecond,
+            Some("+01:00"),
+            1_000_002_003,
+            Some("1970-01-01T00:00:01.000002003Z"),
+        ),
+        (
+            TimeUnit::Second,
+            None,
+            253_402_300_799,
+            Some("9999-12-31T23:59:59"),
+        ),
+        (TimeUnit::Second, None, 253_402_300_800, None),
+        (TimeUnit::Second, None, i64::MIN, None),
+    ];
+    for (unit, zone, number, wanted) in cases {
+        let text = timestamp_text(unit, zone, number);
+        assert_eq!(rt; text.as_ref().map(|text| text.as_str()), wanted);
+    }
+    Ok(())
+}
+
+fn text(alloc: Global, text: &str) -> Result<Text, AllocError> {
+    Ok(Text::from_string(String::from_str(alloc, text)?))
+}
+
+fn field(alloc: Global, name: &str, kind: DataType) -> Result<Field, AllocError> {
+    Ok(Field {
+        name: text(alloc, name)?,
+        nullable: true,
+        kind,
+        dictionary: None,
+        children: Items::from_vec(Vec::new(alloc)),
+        metadata: Items::from_vec(Vec::new(alloc)),
+    })
+}
+
+fn schema(alloc: Global) -> Result<Schema, AllocError> {
+    let mut fields = Vec::new(alloc);
+    let int = DataType::Int {
+        bits: IntBits::B32,
+        signed: true,
+    };
+    fields.push(field(alloc, "id", int)?)?;
+    fields.push(field(alloc, "\"n\"", DataType::Utf8)?)?;
+    fields.push(field(alloc, "day", DataType::Date(DateUnit::Day))?)?;
+    fields.push(field(alloc, "raw", DataType::FixedSizeBinary(2))?)?;
+    let zoned = DataType::Timestamp {
+        unit: TimeUnit::Microsecond,
+        timezone: Some(text(alloc, "UTC")?),
+    };
+    fields.push(field(alloc, "at", zoned)?)?;
+    let mut metadata = Vec::new(alloc);
+    metadata.push((text(alloc, "k")?, text(alloc, "v")?))?;
+    Ok(Schema {
+        fields: Items::from_vec(fields),
+        metadata: Items::from_vec(metadata),
+    })
+}
+
+#[test]
+fn schemas(rt: HostRuntime) -> Result<(), Fail> {
+    let alloc = rt.alloc();
+    let schema = schema(alloc)?;
+    let one = Schema {
+        fields: Items::from_vec(vec![in alloc; field(alloc, "a", DataType::Null)?]?),
+        metadata: Items::from_vec(Vec::new(alloc)),
+    };
+    let text = schema_json(alloc, &one)?;
+    assert_eq!(rt;
+        text.as_str(),
+        "{\"fields\":[{\"children\":0,\"dictionary\":null,\"metadata\":[],\"name\":\"a\",\"nullable\":true,\"type\":[\"null\"]}],\"metadata\":[]}"
+    );
+    let text = pairs_json(alloc, schema.metadata.as_slice())?;
+    assert_eq!(rt; text.as_str(), "[[\"k\",\"v\"]]");
+    assert!(rt;
+        schema_json(alloc, &schema)?.as_str().ends_with(
+            "\"type\":[\"timestamp\",\"us\",\"UTC\"]}],\"metadata\":[[\"k\",\"v\"]]}"
+        )
+    );
+    Ok(())
+}
+
+#[test]
+fn rows(rt: HostRuntime) -> Result<(), Fail> {
+    let alloc = rt.alloc();
+    let schema = schema(alloc)?;
+    let row = vec![in alloc;
+        Value::Int(-7),
+        Value::Text(text(alloc, "a\n\u{1}é")?),
+        Value::Int(-719_163),
+        Value::Bytes(Items::from_vec(vec![in alloc; 0u8, 171]?)),
+        Value::Int(-1),
+    ]?;
+    let text = row_json(alloc, &schema, row.as_slice())?;
+    assert_eq!(rt;
+        text.as_str(),
+        "[-7,\"a\\n\\u0001é\",-719163,\"00ab\",\"1969-12-31T23:59:59.999999Z\"]"
+    );
+    Ok(())
+}
+
+#[test]
+fn csv_texts(rt: HostRuntime) -> Result<(), Fail> {
+    let alloc = rt.alloc();
+    let int = DataType::Int {
+        bits: IntBits::B32,
+        signed: true,
+    };
+    let schema = Schema {
+        fields: Items::from_vec(vec![in alloc;
+            field(alloc, "id", int)?,
+            field(alloc, "t", DataType::Utf8)?,
+        ]?),
+        metadata: Items::from_vec(Vec::new(alloc)),
+    };
+    assert_eq!(rt;
+        csv_header(alloc, &schema)?.as_slice(),
+        b"id,t\n".as_slice()
+    );
+    let row = vec![in alloc; Value::Int(1), Value::Null]?;
+    assert_eq!(rt;
+        csv_record(alloc, &schema, row.as_slice())?.as_slice(),
+        b"1,\\N\n".as_slice()
+    );
+    let cases = [
+        ("", "2,\n"),
+        ("\\N", "2,\\\\N\n"),
+        ("\\\\x", "2,\\\\\\x\n"),
+        ("a,b\nc", "2,\"a,b\nc\"\n"),
+        ("\"", "2,\"\"\"\"\n"),
+    ];
+    for (given, wanted) in cases {
+        let row = vec![in alloc; Value::Int(2), Value::Text(text(alloc, given)?)]?;
+        let record = csv_record(alloc, &schema, row.as_slice())?;
+        assert_eq!(rt; record.as_slice(), wanted.as_bytes());
+    }
+    Ok(())
+}
+
+fn one_column(alloc: Global, kind: DataType) -> Result<Schema, AllocError> {
+    Ok(Schema {
+        fields: Items::from_vec(vec![in alloc; field(alloc, "a", kind)?]?),
+        metadata: Items::from_vec(Vec::new(alloc)),
+    })
+}
+
+#[test]
+fn csv_refusals(rt: HostRuntime) -> Result<(), Fail> {
+    let alloc = rt.alloc();
+    let texts = one_column(alloc, DataType::Utf8)?;
+    let row = vec![in alloc; Value::Text(text(alloc, "")?)]?;
+    assert_eq!(rt;
+        csv_record(alloc, &texts, row.as_slice())?.as_slice(),
+        b"\"\"\n".as_slice()
+    );
+    let dates = one_column(alloc, DataType::Date(DateUnit::Day))?;
+    let row = vec![in alloc; Value::Int(-719_162)]?;
+    assert_eq!(rt;
+        csv_record(alloc, &dates, row.as_slice())?.as_slice(),
+        b"0001-01-01\n".as_slice()
+    );
+    let row = vec![in alloc; Value::Int(-719_163)]?;
+    let refused = csv_record(alloc, &dates, row.as_slice());
+    assert!(rt; matches!(&refused, Err(TextFault::NoTextForm { column: 0 })));
+    let nested = one_column(alloc, DataType::Struct)?;
+    assert!(rt; matches!(&csv_header(alloc, &nested), Err(TextFault::NotFlat)));
+    Ok(())
+}
+
+#[test]
+fn csv_fields(rt: HostRuntime) -> Result<(), Fail> {
+    let alloc = rt.alloc();
+    assert_eq!(rt; read_int("-9223372036854775808"), Some(i64::MIN));
+    for text in ["+1", "01", "-0", "", " 1", "9223372036854775808"] {
+        assert_eq!(rt; read_int(text), None);
+    }
+    assert_eq!(rt; read_uint("18446744073709551615"), Some(u64::MAX));
+    assert_eq!(rt; read_uint("-1"), None);
+    assert_eq!(rt; read_bool("false"), Some(false));
+    assert_eq!(rt; read_bool("TRUE"), None);
+    assert_eq!(rt; read_text(b"\\\\x"), Some(b"\\x".as_slice()));
+    assert_eq!(rt; read_text(b"\\x"), None);
+    let bytes = read_bytes(alloc, b"00aB")?;
+    assert_eq!(rt;
+        bytes.as_ref().map(|bytes| bytes.as_slice()),
+        Some([0u8, 171].as_slice())
+    );
+    assert!(rt; read_bytes(alloc, b"0")?.is_none());
+    Ok(())
+}
