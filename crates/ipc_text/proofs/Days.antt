@@ -1,12 +1,15 @@
 -- The nth tomorrow of 0001-01-01 has the day number n - 719162.
-use Rattle.std.proofs.Common.{◌≡◌, ◌∙◌, ◌+◌, ◌<◌, ◌≤◌, ℕ, zero, suc, false, ℤ, pos, negsuc, neg_ℤ, ◌+ℤ◌, ◌-ℤ◌, ◌≤ℤ◌, ◌<ℤ◌, unsigned_abs, refl, sym, ap, inl, inr, arith, nat_lt, lit≤, ◌++◌, ◌∷◌, Some}
+use Rattle.std.proofs.Common.{◌≡◌, ◌∙◌, ◌+◌, ◌<◌, ◌≤◌, ℕ, zero, suc, false, ℤ, pos, negsuc, neg_ℤ, ◌+ℤ◌, ◌-ℤ◌, ◌≤ℤ◌, ◌<ℤ◌, unsigned_abs}
+use Rattle.std.proofs.Common.{refl, sym, ap, inl, inr, arith, nat_lt, lit≤, ◌++◌, ◌∷◌, Some}
 use Rattle.std.specs.Prelude.{int_lt}
 use Rattle.std.proofs.lemmas.Bool.{cases_Bool}
 use Rattle.std.proofs.lemmas.Bool.Decides.{nat_tests}
 use Rattle.jiff_core.specs.Calendar.{days_in_month, days_from_civil, day_count}
 use Rattle.jiff_core.specs.Date.{epoch_day}
 use Rattle.jiff_core.specs.declared.civil.date.Date.{Date}
-use Rattle.jiff_core.proofs.CalendarLemmas.{day_count-next_year, day_count-last_of_year, day_count-next_month, day_count-day, day_count-epoch, day_count-later_year, day_count-day_of_year, day_count-end, days_in_month_bounds}
+use Rattle.jiff_core.proofs.CalendarLemmas.{day_count-next_year, day_count-last_of_year, day_count-next_month, day_count-day}
+use Rattle.jiff_core.proofs.CalendarLemmas.{day_count-epoch, day_count-later_year, day_count-day_of_year, day_count-end}
+use Rattle.jiff_core.proofs.CalendarLemmas.{days_in_month_bounds}
 use Rattle.jiff_core.proofs.MarchLemmas.{day_count-early}
 use Rattle.jiff_core.proofs.DateLemmas.{epoch_day_injective}
 use Rattle.jiff_core.proofs.SignedLemmas.{signed_arith}
@@ -32,26 +35,50 @@ first_count = day_count-early (pos 1) 10000 1 1 refl (omega arith) (omega arith)
 december : (y : ℤ) → days_in_month y 12 ≡ 31
 december y = refl
 
-next_day : (c : Civil) → Stands c → c.day < days_in_month (pos c.year) c.month → Follows c (record { year = c.year; month = c.month; day = c.day + 1 })
+next_day : (c : Civil) → Stands c → c.day < days_in_month (pos c.year) c.month
+    → Follows c (record { year = c.year; month = c.month; day = c.day + 1 })
 next_day c s lt = record {
   stands = record { year = s.year; first = s.first; last = s.last; day = omega arith; within = omega arith };
   count = omega (arith, day_count-day (pos c.year) c.month (c.day + 1) c.day (omega arith) s.day);
 }
 
-next_month : (c : Civil) → Stands c → days_in_month (pos c.year) c.month ≤ c.day → c.month < 12 → Follows c (record { year = c.year; month = c.month + 1; day = 1 })
+next_month : (c : Civil) → Stands c → days_in_month (pos c.year) c.month ≤ c.day → c.month < 12
+    → Follows c (record { year = c.year; month = c.month + 1; day = 1 })
 next_month c s le lt = record {
-  stands = record { year = s.year; first = omega arith; last = omega arith; day = omega arith; within = omega (arith, days_in_month_bounds (pos c.year) (c.month + 1)) };
-  count = let w = s.within in omega (arith, day_count-next_month (pos c.year) c.month s.first, day_count-day (pos c.year) c.month c.day 1 s.day (omega arith));
+  stands = record {
+    year = s.year;
+    first = omega arith;
+    last = omega arith;
+    day = omega arith;
+    within = omega (arith, days_in_month_bounds (pos c.year) (c.month + 1));
+  };
+  count = let w = s.within in omega (
+    arith,
+    day_count-next_month (pos c.year) c.month s.first,
+    day_count-day (pos c.year) c.month c.day 1 s.day (omega arith),
+  );
 }
 
-next_year : (c : Civil) → Stands c → days_in_month (pos c.year) c.month ≤ c.day → 12 ≤ c.month → Follows c (record { year = c.year + 1; month = 1; day = 1 })
+next_year : (c : Civil) → Stands c → days_in_month (pos c.year) c.month ≤ c.day → 12 ≤ c.month
+    → Follows c (record { year = c.year + 1; month = 1; day = 1 })
 next_year c s le ge =
     let m : c.month ≡ 12 = let l = s.last in omega arith in
     let d : c.day ≡ 31 = let w = s.within in omega (arith, ap (days_in_month (pos c.year)) m, december (pos c.year)) in
     let same : day_count (pos c.year) c.month c.day ≡ day_count (pos c.year) 12 31 = rw (m, d) refl in
     record {
-      stands = record { year = omega arith; first = omega arith; last = omega arith; day = omega arith; within = omega (arith, days_in_month_bounds (pos (c.year + 1)) 1) };
-      count = omega (arith, same, day_count-last_of_year (pos c.year), day_count-next_year (pos c.year) (pos (c.year + 1)) (omega (arith, signed_arith)) (omega (arith, signed_arith)));
+      stands = record {
+        year = omega arith;
+        first = omega arith;
+        last = omega arith;
+        day = omega arith;
+        within = omega (arith, days_in_month_bounds (pos (c.year + 1)) 1);
+      };
+      count = omega (
+        arith,
+        same,
+        day_count-last_of_year (pos c.year),
+        day_count-next_year (pos c.year) (pos (c.year + 1)) (omega (arith, signed_arith)) (omega (arith, signed_arith)),
+      );
     }
 
 pub tomorrow_follows : (c : Civil) → Stands c → Follows c (tomorrow c)
@@ -69,7 +96,12 @@ pub record Counts (n : ℕ) : Type 0 where
 
 pub civil_counts : (n : ℕ) → Counts n
 unfolding civil_on
-civil_counts zero = record { stands = record { year = lit≤ tt; first = lit≤ tt; last = lit≤ tt; day = lit≤ tt; within = omega (arith, days_in_month_bounds (pos 1) 1) }; count = first_count }
+civil_counts zero = record {
+  stands = record
+      { year = lit≤ tt; first = lit≤ tt; last = lit≤ tt; day = lit≤ tt; within = omega (arith, days_in_month_bounds (pos 1) 1) };
+  count =
+      first_count;
+}
 civil_counts (suc n) =
     let h = civil_counts n in
     let t = tomorrow_follows (civil_on n) h.stands in
@@ -111,7 +143,8 @@ pub record Same (d : Date) (c : Civil) : Type 0 where
 apart : (a b n : ℕ) (z : ℤ) → a ≡ n + 3_652_791 → b ≡ 4_371_953 → pos n ≡ z +ℤ pos 719_162 → pos a -ℤ pos b ≡ z
 apart a b n z e f w = omega (arith, signed_arith)
 
-pub same_day : (d : Date) (z : ℤ) → neg_ℤ (pos 719_162) ≤ℤ z → z <ℤ pos 2_932_897 → epoch_day d ≡ z → Same d (civil_on (unsigned_abs (z +ℤ pos 719_162)))
+pub same_day : (d : Date) (z : ℤ) → neg_ℤ (pos 719_162) ≤ℤ z → z <ℤ pos 2_932_897 → epoch_day d ≡ z
+    → Same d (civil_on (unsigned_abs (z +ℤ pos 719_162)))
 unfolding days_from_civil date_of civil_on
 same_day d z low high e =
     let n = unsigned_abs (z +ℤ pos 719_162) in

@@ -1,5 +1,6 @@
 -- The tokens of a field are those of its members.
-use Rattle.std.proofs.Common.{◌≡◌, ◌∙◌, refl, sym, ap, ℕ, ◌+◌, ◌<◌, length, drop, drop-cons, get_or, map, add-one, List, [], ◌∷◌, ◌++◌, append_assoc}
+use Rattle.std.proofs.Common.{◌≡◌, ◌∙◌, refl, sym, ap, ℕ, ◌+◌, ◌<◌, length, drop, drop-cons, get_or, map, add-one, List, [], ◌∷◌, ◌++◌}
+use Rattle.std.proofs.Common.{append_assoc}
 use Rattle.json.specs.Token.{Token}
 use Rattle.json.specs.Tree.{json_tokens, items_tokens}
 use Rattle.std.specs.Prelude.{codes}
@@ -17,7 +18,8 @@ own_tokens f = simp append_assoc refl
 -- the tokens of two lists of values are those of the first and then those of the second
 pub tokens_of_both : (xs ys : List Data) → tokens_of (xs ++ ys) ≡ tokens_of xs ++ tokens_of ys
 tokens_of_both [] ys = refl
-tokens_of_both (x ∷ xs) ys = ap (λ ts. json_tokens (outline x) ++ ts) (tokens_of_both xs ys) ∙ sym (append_assoc (json_tokens (outline x)) (tokens_of xs) (tokens_of ys))
+tokens_of_both (x ∷ xs) ys = ap (λ ts. json_tokens (outline x) ++ ts) (tokens_of_both xs ys)
+    ∙ sym (append_assoc (json_tokens (outline x)) (tokens_of xs) (tokens_of ys))
 
 -- three tokens, others, and one more, put one after another
 pub three_and_one : (o o1 o2 o3 o4 o5 : List Token) (a b c z : Token) (ms : List Token)
@@ -39,9 +41,11 @@ pub five : (o o1 o2 o3 o4 o5 o6 : List Token) (a b c d e : Token) (ms : List Tok
 five o o1 o2 o3 o4 o5 o6 a b c d e ms p q r s t u = rw (u, t, s, r, q, p) (simp append_assoc refl)
 
 -- the entries of one more field, in front of those of the rest
-pub more_entries : (o before after : List Token) (xs ys : List Data) → o ≡ before ++ tokens_of xs → before ++ tokens_of (xs ++ ys) ≡ after → o ++ tokens_of ys ≡ after
+pub more_entries : (o before after : List Token) (xs ys : List Data) → o ≡ before ++ tokens_of xs → before ++ tokens_of (xs ++ ys) ≡ after
+    → o ++ tokens_of ys ≡ after
 more_entries o before after xs ys e h =
-    ap (λ ts. ts ++ tokens_of ys) e ∙ append_assoc before (tokens_of xs) (tokens_of ys) ∙ ap (λ ts. before ++ ts) (sym (tokens_of_both xs ys)) ∙ h
+    ap (λ ts. ts ++ tokens_of ys) e ∙ append_assoc before (tokens_of xs) (tokens_of ys)
+    ∙ ap (λ ts. before ++ ts) (sym (tokens_of_both xs ys)) ∙ h
 
 -- the entries from a field on: its own and those below it, and then the rest
 pub entries_from : (fs : List Field) (i : ℕ) (f : Field) → i < length fs → f ≡ get_or fs i f
@@ -52,7 +56,8 @@ entries_from fs i f h e = rw (drop-cons fs i f) (rw (← e, add-one) refl)
 pub items_are : (xs : List Data) → items_tokens (items_outline (items_of xs)) ≡ tokens_of xs ++ Token.end_array ∷ []
 items_are [] = refl
 items_are (x ∷ xs) =
-    ap (λ ts. json_tokens (outline x) ++ ts) (items_are xs) ∙ sym (append_assoc (json_tokens (outline x)) (tokens_of xs) (Token.end_array ∷ []))
+    ap (λ ts. json_tokens (outline x) ++ ts) (items_are xs)
+    ∙ sym (append_assoc (json_tokens (outline x)) (tokens_of xs) (Token.end_array ∷ []))
 
 -- the tokens of a schema, put one after another
 pub schema_tokens : (o o1 o2 o3 o4 o5 o6 o7 o8 o9 : List Token) (s : Schema)

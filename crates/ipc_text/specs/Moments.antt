@@ -23,13 +23,15 @@ per_second u.Nanosecond = 1_000_000_000
 abbrev pub three_digits : ℕ → List ℕ
 three_digits n = (48 + n / 100) ∷ two_digits (n % 100)
 
--- the text of a part of a second in its unit: nothing for seconds, else a point and 3, 6 or 9 digits
+-- the text of a part of a second in its unit: nothing for seconds, else a point and 3, 6 or 9
+-- digits
 abbrev pub fraction_text : TimeUnit → ℕ → List ℕ
 fraction_text u.Second n = []
 fraction_text u.Millisecond n = 46 ∷ three_digits n
 fraction_text u.Microsecond n = 46 ∷ three_digits (n / 1_000) ++ three_digits (n % 1_000)
 fraction_text u.Nanosecond n =
-    46 ∷ three_digits (n / 1_000_000) ++ three_digits (n / 1_000 % 1_000) ++ three_digits (n % 1_000)
+    46 ∷ three_digits (n / 1_000_000) ++ three_digits (n / 1_000 % 1_000)
+    ++ three_digits (n % 1_000)
 
 -- the text of so many seconds after midnight: hh:mm:ss
 abbrev pub clock_text : ℕ → List ℕ
@@ -56,10 +58,12 @@ zone_text None = []
 zone_text (Some []) = []
 zone_text (Some (b ∷ bs)) = 90 ∷ []
 
--- the text of a point in time (Schema.fbs, table Timestamp): the day, `T`, the time of day, the zone
+-- the text of a point in time (Schema.fbs, table Timestamp): the day, `T`, the time of day, the
+-- zone
 abbrev pub timestamp_text : TimeUnit → Option (List ℕ) → ℤ → Option (List ℕ)
 timestamp_text unit zone z =
-    option_map (λ day. day ++ 84 ∷ time_of_day unit (unsigned_abs (int_rem_euclid z (pos (per_day unit)))) ++ zone_text zone)
+    option_map (λ day. day ++ 84 ∷ time_of_day unit
+    (unsigned_abs (int_rem_euclid z (pos (per_day unit)))) ++ zone_text zone)
     (day_text (int_div_euclid z (pos (per_day unit))))
 
 -- the text of a value of this type that is a date or a point in time, where it has one

@@ -1,7 +1,8 @@
 -- The JSON text of a row (RFC 8259), as serde_json prints it: an array of the row's values.
 use Rattle.std.specs.Prelude.{ℕ, ℤ, pos, negsuc, List, [], ◌∷◌, map, Option, Some, None}
 use Rattle.hex.specs.Hex.{encode_lower}
-use Rattle.serde_json.specs.Data.{Num, unsigned, negative, Data, null, boolean, number, string, array}
+use Rattle.serde_json.specs.Data.{Num, unsigned, negative, Data, null, boolean, number, string}
+use Rattle.serde_json.specs.Data.{array}
 use Rattle.serde_json.specs.Data.{Items, no_items, item}
 use Rattle.serde_json.specs.Written.{compact_text}
 use Rattle.ipc_model.specs.declared.schema.DataType.{DataType}

@@ -70,7 +70,8 @@ type_json t.Struct = named (codes "struct") []
 abbrev pub dictionary_json : Option Dictionary → Data
 dictionary_json None = null
 dictionary_json (Some d) =
-    array (items_of (number (number_of d.id) ∷ type_json (t.Int d.index.bits d.index.signed) ∷ boolean d.ordered ∷ []))
+    array (items_of (number (number_of d.id) ∷ type_json (t.Int d.index.bits d.index.signed)
+    ∷ boolean d.ordered ∷ []))
 
 -- a pair of metadata (Schema.fbs, table KeyValue): its key and its value
 abbrev pub pair_json : List ℕ × List ℕ → Data

@@ -1,4 +1,5 @@
-ghost use Rattle.std.specs.Prelude.{◌≡◌, ◌++◌, ◌≤◌, ◌+◌, IfSome, IsSome, ◌↔◌, IfOk, List, Some, option_map, length};
+ghost use Rattle.std.specs.Prelude.{◌≡◌, ◌++◌, ◌≤◌, ◌+◌, IfSome, IsSome, ◌↔◌, IfOk, List, Some};
+ghost use Rattle.std.specs.Prelude.{option_map, length};
 ghost use Rattle.ipc_text.specs.Calendar.{day_text};
 
 use crate::short_text::ShortText;

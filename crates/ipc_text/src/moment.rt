@@ -1,7 +1,8 @@
 //! Dates and points in time.
 ghost use Rattle.std.specs.Prelude.{◌≡◌, ◌<◌, ◌≤◌, ◌+◌, ◌*◌, ◌++◌, option_map, length};
 ghost use Rattle.ipc_text.specs.Moments as spec;
-ghost use Rattle.ipc_text.specs.Moments.{per_second, per_day, clock_text, fraction_text, time_of_day, zone_text};
+ghost use Rattle.ipc_text.specs.Moments.{per_second, per_day, clock_text, fraction_text};
+ghost use Rattle.ipc_text.specs.Moments.{time_of_day, zone_text};
 
 use crate::calendar::day_text;
 use crate::short_text::ShortText;
@@ -99,7 +100,8 @@ fn push_zone(text: &mut ShortText, timezone: Option<&str>)
 /// 0, 3, 6 or 9 digits of a second behind a point by the unit, and `Z` where a time zone is present
 /// and not empty. None outside the years 0001 to 9999.
 pub fn timestamp_text(unit: TimeUnit, timezone: Option<&str>, number: i64) -> Option<ShortText>
-    ensures { result ≡ spec.timestamp_text unit (option_map (λ zone. zone.now) timezone.entry) number }
+    ensures { result ≡ spec.timestamp_text unit
+        (option_map (λ zone. zone.now) timezone.entry) number }
 {
     let per_day = (86_400 * per_second(unit)) as i64;
     let mut text = day_text(number.div_euclid(per_day))?;

@@ -32,7 +32,8 @@ pub(crate) fn moment_text(kind: &DataType, number: i64) -> Option<ShortText>
 /// Appends a signed number of a field of this type to what a writer of JSON has: a date or a point
 /// in time as its text where it has one, and else the number.
 pub fn put_int(out: &mut Writer, kind: &DataType, number: i64) -> Result<(), AllocError>
-    ensures ok { OnOk result (out.new.tokens ≡ out.old.tokens ++ json_tokens (outline (int_json kind.now number))) }
+    ensures ok { OnOk result (out.new.tokens
+        ≡ out.old.tokens ++ json_tokens (outline (int_json kind.now number))) }
     ensures before { out.new.before ≡ out.old.before }
 {
     match moment_text(kind, number) {
@@ -43,7 +44,8 @@ pub fn put_int(out: &mut Writer, kind: &DataType, number: i64) -> Result<(), All
 
 /// Appends bytes as a text of lower-case hexadecimal digits.
 pub fn put_bytes(out: &mut Writer, alloc: Global, bytes: &[u8]) -> Result<(), AllocError>
-    ensures ok { OnOk result (out.new.tokens ≡ out.old.tokens ++ Token.string (encode_lower bytes.now) ∷ []) }
+    ensures ok { OnOk result (out.new.tokens
+        ≡ out.old.tokens ++ Token.string (encode_lower bytes.now) ∷ []) }
     ensures before { out.new.before ≡ out.old.before }
 {
     let text = hex::encode(alloc, bytes)?;
@@ -52,7 +54,8 @@ pub fn put_bytes(out: &mut Writer, alloc: Global, bytes: &[u8]) -> Result<(), Al
 
 #[cycle(cell)]
 fn put_cell(out: &mut Writer, alloc: Global, field: &Field, value: &Value) -> Result<(), AllocError>
-    ensures ok { OnOk result (out.new.tokens ≡ out.old.tokens ++ json_tokens (outline (cell_json field.now value.now))) }
+    ensures ok { OnOk result (out.new.tokens
+        ≡ out.old.tokens ++ json_tokens (outline (cell_json field.now value.now))) }
     ensures before { out.new.before ≡ out.old.before }
 {
     match value {
@@ -84,7 +87,9 @@ fn put_items(
     child: &Field,
     values: &[Value],
 ) -> Result<(), AllocError>
-    ensures ok { OnOk result (out.new.tokens ≡ out.old.tokens ++ items_tokens (items_outline (items_json (cell_json child.now) values.now))) }
+    ensures ok { OnOk result (out.new.tokens
+        ≡ out.old.tokens ++ items_tokens
+        (items_outline (items_json (cell_json child.now) values.now))) }
     ensures before { out.new.before ≡ out.old.before }
 {
     for value in values {
@@ -101,7 +106,9 @@ fn put_each(
     fields: &[Field],
     values: &[Value],
 ) -> Result<(), AllocError>
-    ensures ok { OnOk result (out.new.tokens ≡ out.old.tokens ++ items_tokens (items_outline (each_json (map cell_json fields.now) values.now))) }
+    ensures ok { OnOk result (out.new.tokens
+        ≡ out.old.tokens ++ items_tokens
+        (items_outline (each_json (map cell_json fields.now) values.now))) }
     ensures before { out.new.before ≡ out.old.before }
 {
     for (number, field) in fields.iter().enumerate() {
@@ -119,7 +126,8 @@ fn put_row(
     fields: &[Field],
     row: &[Value],
 ) -> Result<(), AllocError>
-    ensures ok { OnOk result (out.new.tokens ≡ out.old.tokens ++ json_tokens (outline (spec.row_json fields.now row.now))) }
+    ensures ok { OnOk result (out.new.tokens
+        ≡ out.old.tokens ++ json_tokens (outline (spec.row_json fields.now row.now))) }
     ensures before { out.new.before ≡ out.old.before }
 {
     out.begin_array()?;
@@ -136,7 +144,8 @@ pub fn put_row_json(
     schema: &Schema,
     row: &[Value],
 ) -> Result<(), AllocError>
-    ensures ok { OnOk result (out.new.tokens ≡ out.old.tokens ++ json_tokens (outline (spec.row_json schema.now.fields row.now))) }
+    ensures ok { OnOk result (out.new.tokens
+        ≡ out.old.tokens ++ json_tokens (outline (spec.row_json schema.now.fields row.now))) }
     ensures before { out.new.before ≡ out.old.before }
 {
     put_row(out, alloc, schema.fields.as_slice(), row)
@@ -144,9 +153,9 @@ pub fn put_row_json(
 
 /// The text of a row: a compact array of its values (RFC 8259).
 ///
-/// Numbers are whole numbers, bytes texts of lower-case hexadecimal digits, lists and structs arrays;
-/// a date or a point in time is its text where it has one, and else a whole number. It refuses only
-/// where memory ran out.
+/// Numbers are whole numbers, bytes texts of lower-case hexadecimal digits, lists and structs
+/// arrays; a date or a point in time is its text where it has one, and else a whole number. It
+/// refuses only where memory ran out.
 pub fn row_json(alloc: Global, schema: &Schema, row: &[Value]) -> Result<String, TextFault>
     ensures text { IfOk result (λ text. string_bytes text ≡ row_text schema.now.fields row.now) }
     ensures refused { IfErr result (λ fault. fault ≡ TextFault.OutOfMemory) }

@@ -1,5 +1,6 @@
 //! The JSON text of a schema.
-ghost use Rattle.std.specs.Prelude.{◌≡◌, ◌++◌, ◌∷◌, [], map, OnOk, IfOk, IfErr, string_bytes, codes};
+ghost use Rattle.std.specs.Prelude.{◌≡◌, ◌++◌, ◌∷◌, [], map, OnOk, IfOk, IfErr, string_bytes};
+ghost use Rattle.std.specs.Prelude.{codes};
 ghost use Rattle.json.specs.Token.{Token};
 ghost use Rattle.json.specs.Tree.{json_tokens, items_tokens};
 ghost use Rattle.serde_json.specs.Data.{string, number, unsigned};
@@ -7,7 +8,11 @@ ghost use Rattle.serde_json.specs.Written.{outline, items_outline};
 ghost use Rattle.ipc_model.specs.Ranges.{width};
 ghost use Rattle.ipc_model.specs.declared.schema.Field.{out-Field};
 ghost use Rattle.ipc_text.specs.SchemaJson as spec;
-ghost use Rattle.ipc_text.specs.SchemaJson.{named, type_json, dictionary_json, pair_json, pairs_json, own_json, field_json, joined, schema_text, pairs_text, tokens_of, first_tokens, last_tokens, unit_name, date_unit_name, int_name, text_or_null, items_of};
+ghost use Rattle.ipc_text.specs.SchemaJson.{named, type_json, dictionary_json, pair_json};
+ghost use Rattle.ipc_text.specs.SchemaJson.{pairs_json, own_json, field_json, joined, schema_text};
+ghost use Rattle.ipc_text.specs.SchemaJson.{pairs_text, tokens_of, first_tokens, last_tokens};
+ghost use Rattle.ipc_text.specs.SchemaJson.{unit_name, date_unit_name, int_name, text_or_null};
+ghost use Rattle.ipc_text.specs.SchemaJson.{items_of};
 
 use crate::fault::TextFault;
 use ipc_model::{DataType, DateUnit, Dictionary, Field, IntBits, Schema, Text, TimeUnit};
@@ -53,7 +58,8 @@ fn int_name(signed: bool) -> &'static str
 
 // A type without members.
 fn put_name(out: &mut Writer, name: &str) -> Result<(), AllocError>
-    ensures ok { OnOk result (out.new.tokens ≡ out.old.tokens ++ json_tokens (outline (named name.now []))) }
+    ensures ok { OnOk result (out.new.tokens
+        ≡ out.old.tokens ++ json_tokens (outline (named name.now []))) }
     ensures before { out.new.before ≡ out.old.before }
 {
     out.begin_array()?;
@@ -63,7 +69,8 @@ fn put_name(out: &mut Writer, name: &str) -> Result<(), AllocError>
 
 // A type with one number.
 fn put_name_and_number(out: &mut Writer, name: &str, size: u64) -> Result<(), AllocError>
-    ensures ok { OnOk result (out.new.tokens ≡ out.old.tokens ++ json_tokens (outline (named name.now (number (unsigned size) ∷ [])))) }
+    ensures ok { OnOk result (out.new.tokens
+        ≡ out.old.tokens ++ json_tokens (outline (named name.now (number (unsigned size) ∷ [])))) }
     ensures before { out.new.before ≡ out.old.before }
 {
     out.begin_array()?;
@@ -74,7 +81,8 @@ fn put_name_and_number(out: &mut Writer, name: &str, size: u64) -> Result<(), Al
 
 // A type with one text.
 fn put_name_and_text(out: &mut Writer, name: &str, text: &str) -> Result<(), AllocError>
-    ensures ok { OnOk result (out.new.tokens ≡ out.old.tokens ++ json_tokens (outline (named name.now (string text.now ∷ [])))) }
+    ensures ok { OnOk result (out.new.tokens
+        ≡ out.old.tokens ++ json_tokens (outline (named name.now (string text.now ∷ [])))) }
     ensures before { out.new.before ≡ out.old.before }
 {
     out.begin_array()?;
@@ -84,7 +92,8 @@ fn put_name_and_text(out: &mut Writer, name: &str, text: &str) -> Result<(), All
 }
 
 fn put_text_or_null(out: &mut Writer, text: &Option<Text>) -> Result<(), AllocError>
-    ensures ok { OnOk result (out.new.tokens ≡ out.old.tokens ++ json_tokens (outline (text_or_null text.now))) }
+    ensures ok { OnOk result (out.new.tokens
+        ≡ out.old.tokens ++ json_tokens (outline (text_or_null text.now))) }
     ensures before { out.new.before ≡ out.old.before }
 {
     match text {
@@ -94,7 +103,10 @@ fn put_text_or_null(out: &mut Writer, text: &Option<Text>) -> Result<(), AllocEr
 }
 
 fn put_timestamp(out: &mut Writer, unit: TimeUnit, zone: &Option<Text>) -> Result<(), AllocError>
-    ensures ok { OnOk result (out.new.tokens ≡ out.old.tokens ++ json_tokens (outline (named (codes "timestamp") (string (unit_name unit) ∷ text_or_null zone.now ∷ [])))) }
+    ensures ok { OnOk result (out.new.tokens
+        ≡ out.old.tokens ++ json_tokens
+        (outline (named (codes "timestamp")
+        (string (unit_name unit) ∷ text_or_null zone.now ∷ [])))) }
     ensures before { out.new.before ≡ out.old.before }
 {
     out.begin_array()?;
@@ -105,7 +117,8 @@ fn put_timestamp(out: &mut Writer, unit: TimeUnit, zone: &Option<Text>) -> Resul
 }
 
 fn put_type(out: &mut Writer, kind: &DataType) -> Result<(), AllocError>
-    ensures ok { OnOk result (out.new.tokens ≡ out.old.tokens ++ json_tokens (outline (type_json kind.now))) }
+    ensures ok { OnOk result (out.new.tokens
+        ≡ out.old.tokens ++ json_tokens (outline (type_json kind.now))) }
     ensures before { out.new.before ≡ out.old.before }
 {
     match kind {
@@ -125,7 +138,8 @@ fn put_type(out: &mut Writer, kind: &DataType) -> Result<(), AllocError>
 }
 
 fn put_dictionary(out: &mut Writer, dictionary: Option<Dictionary>) -> Result<(), AllocError>
-    ensures ok { OnOk result (out.new.tokens ≡ out.old.tokens ++ json_tokens (outline (dictionary_json dictionary))) }
+    ensures ok { OnOk result (out.new.tokens
+        ≡ out.old.tokens ++ json_tokens (outline (dictionary_json dictionary))) }
     ensures before { out.new.before ≡ out.old.before }
 {
     let Some(dictionary) = dictionary else {
@@ -140,7 +154,8 @@ fn put_dictionary(out: &mut Writer, dictionary: Option<Dictionary>) -> Result<()
 }
 
 fn put_pair(out: &mut Writer, pair: &(Text, Text)) -> Result<(), AllocError>
-    ensures ok { OnOk result (out.new.tokens ≡ out.old.tokens ++ json_tokens (outline (pair_json pair.now))) }
+    ensures ok { OnOk result (out.new.tokens
+        ≡ out.old.tokens ++ json_tokens (outline (pair_json pair.now))) }
     ensures before { out.new.before ≡ out.old.before }
 {
     out.begin_array()?;
@@ -151,7 +166,8 @@ fn put_pair(out: &mut Writer, pair: &(Text, Text)) -> Result<(), AllocError>
 
 // Pairs and the closing bracket.
 fn put_pairs(out: &mut Writer, pairs: &[(Text, Text)]) -> Result<(), AllocError>
-    ensures ok { OnOk result (out.new.tokens ≡ out.old.tokens ++ items_tokens (items_outline (items_of (map pair_json pairs.now)))) }
+    ensures ok { OnOk result (out.new.tokens
+        ≡ out.old.tokens ++ items_tokens (items_outline (items_of (map pair_json pairs.now)))) }
     ensures before { out.new.before ≡ out.old.before }
 {
     for pair in pairs {
@@ -161,7 +177,8 @@ fn put_pairs(out: &mut Writer, pairs: &[(Text, Text)]) -> Result<(), AllocError>
 }
 
 fn put_pair_array(out: &mut Writer, pairs: &[(Text, Text)]) -> Result<(), AllocError>
-    ensures ok { OnOk result (out.new.tokens ≡ out.old.tokens ++ json_tokens (outline (pairs_json pairs.now))) }
+    ensures ok { OnOk result (out.new.tokens
+        ≡ out.old.tokens ++ json_tokens (outline (pairs_json pairs.now))) }
     ensures before { out.new.before ≡ out.old.before }
 {
     out.begin_array()?;
@@ -170,7 +187,8 @@ fn put_pair_array(out: &mut Writer, pairs: &[(Text, Text)]) -> Result<(), AllocE
 
 // The keys that stand before the name: of the children's number, the dictionary and the pairs.
 fn put_first_members(out: &mut Writer, field: &Field) -> Result<(), AllocError>
-    ensures ok { OnOk result (out.new.tokens ≡ out.old.tokens ++ first_tokens (out-Field field.now)) }
+    ensures ok { OnOk result
+        (out.new.tokens ≡ out.old.tokens ++ first_tokens (out-Field field.now)) }
     ensures before { out.new.before ≡ out.old.before }
 {
     out.key("children")?;
@@ -184,7 +202,8 @@ fn put_first_members(out: &mut Writer, field: &Field) -> Result<(), AllocError>
 
 // The other keys: of the name, of whether it is nullable, and of the type.
 fn put_last_members(out: &mut Writer, field: &Field) -> Result<(), AllocError>
-    ensures ok { OnOk result (out.new.tokens ≡ out.old.tokens ++ last_tokens (out-Field field.now)) }
+    ensures ok { OnOk result
+        (out.new.tokens ≡ out.old.tokens ++ last_tokens (out-Field field.now)) }
     ensures before { out.new.before ≡ out.old.before }
 {
     out.key("name")?;
@@ -198,7 +217,8 @@ fn put_last_members(out: &mut Writer, field: &Field) -> Result<(), AllocError>
 // The field by itself.
 #[tactic(auto, using(crate::proofs::FieldTokens::own_tokens))]
 fn put_own(out: &mut Writer, field: &Field) -> Result<(), AllocError>
-    ensures ok { OnOk result (out.new.tokens ≡ out.old.tokens ++ json_tokens (outline (own_json (out-Field field.now)))) }
+    ensures ok { OnOk result (out.new.tokens
+        ≡ out.old.tokens ++ json_tokens (outline (own_json (out-Field field.now)))) }
     ensures before { out.new.before ≡ out.old.before }
 {
     out.begin_object()?;
@@ -219,7 +239,8 @@ fn put_field(out: &mut Writer, field: &Field) -> Result<(), AllocError>
 // Fields with all below them, in pre-order.
 #[cycle(fields)]
 fn put_fields(out: &mut Writer, fields: &[Field]) -> Result<(), AllocError>
-    ensures ok { OnOk result (out.new.tokens ≡ out.old.tokens ++ tokens_of (joined (map field_json fields.now))) }
+    ensures ok { OnOk result (out.new.tokens
+        ≡ out.old.tokens ++ tokens_of (joined (map field_json fields.now))) }
     ensures before { out.new.before ≡ out.old.before }
 {
     for field in fields {
@@ -229,7 +250,8 @@ fn put_fields(out: &mut Writer, fields: &[Field]) -> Result<(), AllocError>
 }
 
 fn put_schema(out: &mut Writer, schema: &Schema) -> Result<(), AllocError>
-    ensures ok { OnOk result (out.new.tokens ≡ out.old.tokens ++ json_tokens (outline (spec.schema_json schema.now))) }
+    ensures ok { OnOk result (out.new.tokens
+        ≡ out.old.tokens ++ json_tokens (outline (spec.schema_json schema.now))) }
     ensures before { out.new.before ≡ out.old.before }
 {
     out.begin_object()?;
@@ -246,9 +268,9 @@ fn put_schema(out: &mut Writer, schema: &Schema) -> Result<(), AllocError>
 /// The text of a schema: a compact object with the keys `fields`, all fields with those below them
 /// in pre-order, and `metadata`, the schema's pairs (RFC 8259).
 ///
-/// A field is an object with the keys `children` (how many it has), `dictionary` (null, or its id, the
-/// type of its indices and whether its values are ordered), `metadata`, `name`, `nullable` and `type`.
-/// It refuses only where memory ran out.
+/// A field is an object with the keys `children` (how many it has), `dictionary` (null, or its id,
+/// the type of its indices and whether its values are ordered), `metadata`, `name`, `nullable` and
+/// `type`. It refuses only where memory ran out.
 pub fn schema_json(alloc: Global, schema: &Schema) -> Result<String, TextFault>
     ensures text { IfOk result (λ text. string_bytes text ≡ schema_text schema.now) }
     ensures refused { IfErr result (λ fault. fault ≡ TextFault.OutOfMemory) }
@@ -259,8 +281,8 @@ pub fn schema_json(alloc: Global, schema: &Schema) -> Result<String, TextFault>
     Ok(unsafe { String::from_utf8_unchecked(bytes) })
 }
 
-/// The text of pairs of metadata: a compact array of arrays of a key and a value, in their order. It
-/// refuses only where memory ran out.
+/// The text of pairs of metadata: a compact array of arrays of a key and a value, in their order.
+/// It refuses only where memory ran out.
 pub fn pairs_json(alloc: Global, pairs: &[(Text, Text)]) -> Result<String, TextFault>
     ensures text { IfOk result (λ text. string_bytes text ≡ pairs_text pairs.now) }
     ensures refused { IfErr result (λ fault. fault ≡ TextFault.OutOfMemory) }

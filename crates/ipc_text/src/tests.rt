@@ -127,10 +127,11 @@ fn schemas(rt: HostRuntime) -> Result<(), Fail> {
         metadata: Items::from_vec(Vec::new(alloc)),
     };
     let text = schema_json(alloc, &one)?;
-    assert_eq!(rt;
-        text.as_str(),
-        "{\"fields\":[{\"children\":0,\"dictionary\":null,\"metadata\":[],\"name\":\"a\",\"nullable\":true,\"type\":[\"null\"]}],\"metadata\":[]}"
-    );
+    let front = "{\"fields\":[{\"children\":0,\"dictionary\":null,\"metadata\":[],";
+    let end = "\"name\":\"a\",\"nullable\":true,\"type\":[\"null\"]}],\"metadata\":[]}";
+    assert!(rt; text.as_str().starts_with(front));
+    assert!(rt; text.as_str().ends_with(end));
+    assert_eq!(rt; text.as_str().len(), front.len() + end.len());
     let text = pairs_json(alloc, schema.metadata.as_slice())?;
     assert_eq!(rt; text.as_str(), "[[\"k\",\"v\"]]");
     assert!(rt;

@@ -13,5 +13,16 @@ returns-clause-text c =
     let s = same_day c.in-Ok.date c.args.day (omega (arith, signed_arith)) (omega (arith, signed_arith)) e in
     let f16 : FitsSigned w16 c.in-Ok.date.year = let y = s.year in let four = s.four in omega (arith, signed_arith) in
     let abs = simp to_z-of_z at c.unsigned_abs.ensures.value in
-    rw (c.push_two_digits-2.ensures, c.push-2.ensures, c.push_two_digits.ensures, c.push.ensures, c.push_four_digits.ensures, c.new-text.ensures, c.from-3.ensures, c.from-2.ensures, c.from.ensures, abs)
+    rw (
+      c.push_two_digits-2.ensures,
+      c.push-2.ensures,
+      c.push_two_digits.ensures,
+      c.push.ensures,
+      c.push_four_digits.ensures,
+      c.new-text.ensures,
+      c.from-3.ensures,
+      c.from-2.ensures,
+      c.from.ensures,
+      abs,
+    )
     (simp append_assoc (printed c.in-Ok.date c.args.day low high s))

@@ -9,7 +9,8 @@ use Rattle.ipc_text.proofs.schema.pairs_json.Goals as goal
 pub returns : goal.returns
 returns c =
     let d = pairs_json c.args.pairs.now in
-    let t : c.put_pair_array.new.out.tokens ≡ json_tokens (outline d) = rw c.new-writer.ensures.tokens at c.in_ok-put_pair_array.ensures.ok in
+    let t : c.put_pair_array.new.out.tokens ≡ json_tokens (outline d) =
+    rw c.new-writer.ensures.tokens at c.in_ok-put_pair_array.ensures.ok in
     let none : c.put_pair_array.new.out.before ≡ [] = search rules in
     let e : c.into_inner-bytes.result.items ≡ compact_text d =
     c.into_inner-bytes.ensures.items ∙ ap (λ b. b ++ print c.put_pair_array.new.out.tokens) none ∙ ap print t ∙ print-outline d in
