@@ -96,7 +96,7 @@ NodesAt head n ns = (k : ℕ) → k < length ns → node_at head (n + k) ≡ get
 
 pub nodes_length : (fs : List Field) (j : ℕ) (rows : List (List Value)) → length (nodes_from j fs rows) ≡ length fs
 nodes_length [] j rows = refl
-pub nodes_length (f ∷ fs) j rows = ap (λ (k : ℕ). suc k) (nodes_length fs (j + 1) rows)
+nodes_length (f ∷ fs) j rows = ap (λ (k : ℕ). suc k) (nodes_length fs (j + 1) rows)
 
 pub cut_back : (fs : List Field) (j : ℕ) (rows : List (List Value)) (head : BatchHead) (body : List ℕ) (n m : ℕ) → AllByRecursion IsFlat fs
     → NodesAt head n (nodes_from j fs rows) → BuffersAt head body m (buffers_from j fs rows)
