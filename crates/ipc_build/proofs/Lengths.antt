@@ -29,7 +29,7 @@ length_inline w (field n content inner rest) h p =
     let q = target_end content inner (targets_end inner) p in
     let e = length_inline w rest (h + w) q in
     length-append (little w (inline_value content inner h p)) (inline_bytes w rest (h + w) q)
-        ∙ (rw (length_low_bytes 0 w (inline_value content inner h p), e) (omega arith))
+    ∙ (rw (length_low_bytes 0 w (inline_value content inner h p), e) (omega arith))
 
 pub entry_count_up : (f : Tree) (n : ℕ) → Writable (fields n) f → n ≤ entry_count n f
 unfolding entry_count Writable
@@ -90,7 +90,7 @@ zero_entry b (field m content inner rest) v k d n h e no_such low high =
         let one = has_right b _ (padding (2 * (m - k))) _ e in
         let two = has_right b _ (little 2 d) _ one in
         has_at b _ (v + (4 + 2 * (m + 1))) _ (let z = length-replicate {A = ℕ} (2 * (m - k)) 0 in let y = length_low_bytes 0 2 d in omega
-            (arith, z, y, h.0)) two
+        (arith, z, y, h.0)) two
 
     by : (m + 1 ≤ n → Has b (v + (4 + 2 * (m + 1))) (entries (m + 1) (d + 8) rest) → num b (v + (4 + 2 * n)) 2 ≡ 0)
         → (n ≡ m) ⊎ ((n < m) ⊎ (m < n)) → num b (v + (4 + 2 * n)) 2 ≡ 0

@@ -67,29 +67,59 @@ pub column_back : (l : Layout) (vs : List Value) (head : BatchHead) (body : List
 column_back l.Null vs head body n m e h =
     λ i. record { layout = l.Null; slots = unsigned_abs (e i).0; nulls = unsigned_abs (e i).1; validity = []; offsets = []; values = [] }
 column_back l.Unsupported vs head body n m e h =
-    λ i. record { layout = l.Unsupported; slots = unsigned_abs (e i).0; nulls = unsigned_abs (e i).1; validity = []; offsets = [];
-    values = [] }
+    λ i. record {
+      layout = l.Unsupported;
+      slots = unsigned_abs (e i).0;
+      nulls = unsigned_abs (e i).1;
+      validity = [];
+      offsets = [];
+      values = [];
+    }
 column_back l.Bits vs head body n m e h =
     let first = ap (λ (k : ℕ). buffer_at head body k) (let z : m ≡ m + 0 = omega arith in z) ∙ h 0 (omega arith) in
     let second = h 1 (omega arith) in
-    λ i. record { layout = l.Bits; slots = unsigned_abs (e i).0; nulls = unsigned_abs (e i).1; validity = first i; offsets = [];
-        values = second i }
+    λ i. record {
+      layout = l.Bits;
+      slots = unsigned_abs (e i).0;
+      nulls = unsigned_abs (e i).1;
+      validity = first i;
+      offsets = [];
+      values = second i;
+    }
 column_back (l.Numbers bits signed) vs head body n m e h =
     let first = ap (λ (k : ℕ). buffer_at head body k) (let z : m ≡ m + 0 = omega arith in z) ∙ h 0 (omega arith) in
     let second = h 1 (omega arith) in
-    λ i. record { layout = l.Numbers bits signed; slots = unsigned_abs (e i).0; nulls = unsigned_abs (e i).1; validity = first i;
-        offsets = []; values = second i }
+    λ i. record {
+      layout = l.Numbers bits signed;
+      slots = unsigned_abs (e i).0;
+      nulls = unsigned_abs (e i).1;
+      validity = first i;
+      offsets = [];
+      values = second i;
+    }
 column_back (l.FixedBytes width) vs head body n m e h =
     let first = ap (λ (k : ℕ). buffer_at head body k) (let z : m ≡ m + 0 = omega arith in z) ∙ h 0 (omega arith) in
     let second = h 1 (omega arith) in
-    λ i. record { layout = l.FixedBytes width; slots = unsigned_abs (e i).0; nulls = unsigned_abs (e i).1; validity = first i; offsets = [];
-        values = second i }
+    λ i. record {
+      layout = l.FixedBytes width;
+      slots = unsigned_abs (e i).0;
+      nulls = unsigned_abs (e i).1;
+      validity = first i;
+      offsets = [];
+      values = second i;
+    }
 column_back (l.VariableBytes utf8) vs head body n m e h =
     let first = ap (λ (k : ℕ). buffer_at head body k) (let z : m ≡ m + 0 = omega arith in z) ∙ h 0 (omega arith) in
     let second = h 1 (omega arith) in
     let third = h 2 (omega arith) in
-    λ i. record { layout = l.VariableBytes utf8; slots = unsigned_abs (e i).0; nulls = unsigned_abs (e i).1; validity = first i;
-        offsets = second i; values = third i }
+    λ i. record {
+      layout = l.VariableBytes utf8;
+      slots = unsigned_abs (e i).0;
+      nulls = unsigned_abs (e i).1;
+      validity = first i;
+      offsets = second i;
+      values = third i;
+    }
 
 abbrev pub NodesAt : BatchHead → ℕ → List (ℤ × ℤ) → Type 0
 NodesAt head n ns = (k : ℕ) → k < length ns → node_at head (n + k) ≡ get_or ns k (pos 0, pos 0)
@@ -111,7 +141,7 @@ cut_back (f ∷ fs) j rows head body n m flat ns bs =
     let size = cells_length j rows in
     let node : node_at head n ≡ (pos (length vs), pos (nulls vs)) =
     ap (λ (k : ℕ). node_at head k) (let z : n ≡ n + 0 = omega arith in z)
-        ∙ (ns 0 (omega arith) ∙ ap (λ (k : ℕ). (pos k, pos (nulls vs))) (sym size)) in
+    ∙ (ns 0 (omega arith) ∙ ap (λ (k : ℕ). (pos k, pos (nulls vs))) (sym size)) in
     let first : BuffersAt head body m own = λ k h. bs k (omega (arith, h, length_both own rest)) ∙ get_or-append own rest [] k h in
     let later_nodes : NodesAt head (n + 1 + 0) (nodes_from (j + 1) fs rows) = λ k h.
     ap (λ (q : ℕ). node_at head q) (let z : n + 1 + 0 + k ≡ n + suc k = omega arith in z) ∙ ns (suc k) (omega (arith, h)) in
@@ -119,7 +149,7 @@ cut_back (f ∷ fs) j rows head body n m flat ns bs =
     let later_buffers : BuffersAt head body (m + own_buffers l + 0) rest = λ k h.
     ap (λ (q : ℕ). buffer_at head body q) (let z : m + own_buffers l + 0 + k ≡ m + (own_buffers l + k) = omega arith in z)
     ∙ (bs (own_buffers l + k) (omega (arith, h, width, length_both own rest))
-        ∙ (get_or-append_right own rest (own_buffers l) (own_buffers l + k) [] width (omega arith)
+    ∙ (get_or-append_right own rest (own_buffers l) (own_buffers l + k) [] width (omega arith)
     ∙ ap (λ (q : ℕ). get_or rest q []) (let z : own_buffers l + k - own_buffers l ≡ k = omega arith in z))) in
     let own_column = column_back l vs head body n m node first in
     let others = cut_back fs (j + 1) rows head body (n + 1 + 0) (m + own_buffers l + 0) flat.1 later_nodes later_buffers in

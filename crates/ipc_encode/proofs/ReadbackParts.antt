@@ -56,8 +56,14 @@ values_in (l.VariableBytes utf8) vs = slots Content vs
 values_in _ vs = []
 
 abbrev pub column_of : Layout → List Value → Column
-column_of l vs = record { layout = l; slots = length vs; nulls = nulls vs; validity = validity_in l vs; offsets = offsets_in l vs;
-    values = values_in l vs }
+column_of l vs = record {
+  layout = l;
+  slots = length vs;
+  nulls = nulls vs;
+  validity = validity_in l vs;
+  offsets = offsets_in l vs;
+  values = values_in l vs;
+}
 
 -- a value that a layout holds
 abbrev pub Holds : Layout → Value-F Value → Type 0
@@ -175,7 +181,7 @@ fixed_back width vs i d h k =
     let own = fixed width (get_or vs i d) in
     let start : width * i ≡ length front = sym (wide_front (Fixed width) width vs i (fixed_wide width vs h) (omega arith)) in
     let size : width ≡ length own = sym (fixed_length width (get_or vs i d) (out-Value (get_or vs i d)) refl
-        (held_at (l.FixedBytes width) vs i d h k)) in
+    (held_at (l.FixedBytes width) vs i d h k)) in
     let end : width * i + width ≡ length front + length own = omega (arith, start, size) in
     ap (λ (bs : List ℕ). slice_range bs (width * i) (width * i + width)) (slots_split (Fixed width) vs i d k)
     ∙ (ap (λ (m : ℕ). slice_range (front ++ (own ++ slots (Fixed width) (drop (suc i) vs))) (width * i) m) end
@@ -207,10 +213,10 @@ ends_back (v ∷ vs) front start (suc i) k =
     let size = length-append front own in
     let place : length front + 4 * suc i ≡ length (front ++ own) + 4 * i = omega (arith, size) in
     let sum : next + length (slots Content (take i vs)) ≡ start + length (content v ++ slots Content (take i vs)) =
-        omega (arith, length-append (content v) (slots Content (take i vs))) in
+    omega (arith, length-append (content v) (slots Content (take i vs))) in
     ap (λ (bs : List ℕ). num bs (length front + 4 * suc i) 4) (sym (append_assoc front own (bytes_low_first 0 4 next ++ ends next vs)))
     ∙ (ap (λ (m : ℕ). num ((front ++ own) ++ (bytes_low_first 0 4 next ++ ends next vs)) m 4) place
-        ∙ (later ∙ ap (λ (m : ℕ). m % 2 ^ 32) sum))
+    ∙ (later ∙ ap (λ (m : ℕ). m % 2 ^ 32) sum))
 
 pub front_most : (vs : List Value) (i : ℕ) → length (slots Content (take i vs)) ≤ length (slots Content vs)
 front_most vs zero = omega arith
@@ -225,8 +231,8 @@ offset_is vs i k short =
     let most = front_most vs i in
     let n = length (slots Content (take i vs)) in
     let back : num (offsets vs) (4 * i) 4 ≡ n % 2 ^ 32 =
-        ap (λ (m : ℕ). num (offsets vs) m 4) (let e : 4 * i ≡ 0 + 4 * i = omega arith in e)
-        ∙ (ends_back vs [] 0 i k ∙ ap (λ (m : ℕ). m % 2 ^ 32) (let e : 0 + n ≡ n = omega arith in e)) in
+    ap (λ (m : ℕ). num (offsets vs) m 4) (let e : 4 * i ≡ 0 + 4 * i = omega arith in e)
+    ∙ (ends_back vs [] 0 i k ∙ ap (λ (m : ℕ). m % 2 ^ 32) (let e : 0 + n ≡ n = omega arith in e)) in
     ap (cast_signed w32) (back ∙ mod-eq_of_lt (omega (arith, most, short))) ∙ to_z_pos w32 n (omega (arith, most, short))
 
 pub between_is : (vs : List Value) (i : ℕ) (d : Value) → i < length vs → length (slots Content vs) ≤ 2 ^ 31 - 1
@@ -237,8 +243,8 @@ between_is vs i d k short =
     let more : i + 1 ≡ suc i = omega arith in
     let start : place (offsets vs) i ≡ length front = ap unsigned_abs (offset_is vs i (omega arith) short) in
     let end : place (offsets vs) (i + 1) ≡ length front + length own =
-        ap unsigned_abs (offset_is vs (i + 1) (omega arith) short)
-        ∙ (ap (λ (n : ℕ). length (slots Content (take n vs))) more ∙ front_more vs i d k) in
+    ap unsigned_abs (offset_is vs (i + 1) (omega arith) short)
+    ∙ (ap (λ (n : ℕ). length (slots Content (take n vs))) more ∙ front_more vs i d k) in
     ap (λ (bs : List ℕ). slice_range bs (place (offsets vs) i) (place (offsets vs) (i + 1))) (slots_split Content vs i d k)
     ∙ (ap (λ (m : ℕ). slice_range (front ++ (own ++ slots Content (drop (suc i) vs))) (place (offsets vs) i) m) end
     ∙ (ap (λ (m : ℕ). slice_range (front ++ (own ++ slots Content (drop (suc i) vs))) m (length front + length own)) start
@@ -249,8 +255,12 @@ between_is vs i d k short =
     front_more [] i d k = absurd (omega arith)
     front_more (v ∷ vs) zero d k = let e = length-append (content v) [] in omega (arith, e)
     front_more (v ∷ vs) (suc i) d k =
-        omega (arith, front_more vs i d (omega arith), length-append (content v) (slots Content (take i vs)),
-            length-append (content v) (slots Content (take (suc i) vs)))
+        omega (
+          arith,
+          front_more vs i d (omega arith),
+          length-append (content v) (slots Content (take i vs)),
+          length-append (content v) (slots Content (take (suc i) vs)),
+        )
 
 -- ---- the facts of a column
 
@@ -327,8 +337,12 @@ in_order (l.VariableBytes utf8) vs short = λ some there. record { from = first;
     grows : (vs : List Value) (i : ℕ) → length (slots Content (take i vs)) ≤ length (slots Content (take (suc i) vs))
     grows vs zero = omega arith
     grows [] (suc i) = omega arith
-    grows (v ∷ vs) (suc i) = omega (arith, grows vs i, length-append (content v) (slots Content (take i vs)),
-        length-append (content v) (slots Content (take (suc i) vs)))
+    grows (v ∷ vs) (suc i) = omega (
+      arith,
+      grows vs i,
+      length-append (content v) (slots Content (take i vs)),
+      length-append (content v) (slots Content (take (suc i) vs)),
+    )
 
     next : (i : ℕ) → i < length vs → offset (offsets vs) i ≤ℤ offset (offsets vs) (i + 1)
     next i k =
