@@ -13,6 +13,7 @@ one_member : (f : Tree) → members (as_vector f) ≡ 1
 unfolding members
 one_member f = refl
 
+-- a table that may be written may be written as the one element of a vector
 pub writable_vector : (f : Tree) → Writable (fields 0) f → Writable elements (as_vector f)
 unfolding Writable
 writable_vector f h = (refl, h, tt)
@@ -38,6 +39,7 @@ pub buffer_lies : (f : Tree) (rest : List ℕ) → Writable (fields 0) f → tar
     → Encodes (buffer f ++ rest) f × Aligned (buffer f ++ rest) f
 buffer_lies f rest h small = (tree_lies _ f rest (λ w p q e. tt) h small, tree_lies _ f rest (λ w p q e. (q, e)) h small)
 
+-- a whole buffer is as long as its layout ends
 pub length_buffer : (f : Tree) → Writable (fields 0) f → length (buffer f) ≡ targets_end (as_vector f) 4
 length_buffer f h =
     let c = length_inline 4 (as_vector f) 0 4 in

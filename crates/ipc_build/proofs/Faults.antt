@@ -8,6 +8,7 @@ abbrev IsValue : {T : Type 0} → Result T BuildFault → Type 0
 IsValue (Ok x) = ⊤
 IsValue (Err e) = ⊥
 
+-- a value is no fault
 pub not_an_error : {T : Type 0} {x : T} {e : BuildFault} → Ok x ≡ Err e → ⊥
 not_an_error h = subst IsValue h tt
 
@@ -16,5 +17,6 @@ IsMemory (Ok x) = ⊥
 IsMemory (Err TooLarge) = ⊥
 IsMemory (Err OutOfMemory) = ⊤
 
+-- a result that is out of memory is not one of too large a tree
 pub other_fault : {T : Type 0} {r s : Result T BuildFault} → r ≡ Err OutOfMemory → s ≡ Err TooLarge → r ≡ s → ⊥
 other_fault e f h = subst IsMemory (sym e ∙ (h ∙ f)) tt

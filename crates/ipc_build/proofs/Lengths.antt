@@ -1,27 +1,26 @@
 -- How long the parts of the layout are, and what stands in a vtable.
-use Rattle.std.proofs.Common.{◌≡◌, ◌⊎◌, inl, inr, ℕ, zero, suc, ◌+◌, ◌-◌, ◌*◌, ◌/◌, ◌%◌, ◌^◌, ◌≤◌, ◌<◌, Bool, true, false, nat_le, List, []}
-use Rattle.std.proofs.Common.{◌∷◌, ◌++◌, length, Ok, Some, mul_assoc, refl, ap, sym, ◌∙◌, subst, arith}
+use Rattle.std.proofs.Common.{◌≡◌, ◌⊎◌, inl, inr, ℕ, ◌+◌, ◌-◌, ◌*◌, ◌/◌, ◌%◌, ◌^◌, ◌≤◌, ◌<◌, Bool, true, false, nat_le, List, []}
+use Rattle.std.proofs.Common.{◌∷◌, ◌++◌, length, Ok, mul_assoc, refl, ap, sym, ◌∙◌, subst, arith}
 use Rattle.std.proofs.lemmas.Bool.{cases_order, leb-true}
 use Rattle.std.proofs.lemmas.List.{length-append, length-replicate}
 use Rattle.std.specs.Prelude.{ℤ}
-use Rattle.std.specs.Int.{Width, w8, w16, w32, w64, w128, byte_len, cast_signed, cast_unsigned}
+use Rattle.std.specs.Int.{Width, w8, w16, w32, w64, w128, byte_len, cast_unsigned}
 use Rattle.std.proofs.Common.{FitsSigned}
 use Rattle.std.proofs.Math.Facts.{Fits-of_z}
-use Rattle.std.proofs.lemmas.Int.{to_z-of_z}
 use Rattle.ipc_scalar.specs.Bytes.{num}
-use Rattle.ipc_scalar.specs.Flat.{vtable_of, entry_of, slot_of, points}
+use Rattle.ipc_scalar.specs.Flat.{vtable_of, entry_of}
 use Rattle.ipc_build.specs.Trees.{Content, Tree, none, field}
 use Rattle.ipc_build.specs.Trees as k
 use Rattle.ipc_build.specs.Layout.{little, padding, prefix_place, members, entry_count, table_place, inline_end, string_end, target_end}
 use Rattle.ipc_build.specs.Layout.{targets_end, inline_value, inline_bytes, entries, head_bytes, own_bytes, struct_bytes, target_bytes}
 use Rattle.ipc_build.specs.Layout.{targets}
-use Rattle.ipc_build.specs.Encodes.{HasField, in_table, in_vector, inline_width, EncodesPairs, TableStands, EncodesTarget, EncodesTable}
-use Rattle.ipc_build.specs.Ascends.{Role, fields, elements, PairsFit, IsInRange, Below, Writable}
-use Rattle.ipc_build.proofs.Has.{Has, has_at, has_left, has_right, has_num, has_narrow, has_zero}
+use Rattle.ipc_build.specs.Encodes.{HasField, inline_width}
+use Rattle.ipc_build.specs.Ascends.{Role, fields, elements, IsInRange, Below, Writable}
+use Rattle.ipc_build.proofs.Has.{Has, has_at, has_left, has_right, has_past, has_zero}
 use Rattle.ipc_scalar.proofs.Places.{length_low_bytes}
-use Rattle.ipc_build.proofs.Points.{slot_found, slot_zero, points_at, table_there, elements_there, string_there, vtable_there}
-use Rattle.ipc_build.proofs.Upward.{Up, ends_up, target_ends_up}
+use Rattle.ipc_build.proofs.Upward.{ends_up}
 
+-- so many fields, of w bytes each, take w times as many bytes
 pub length_inline : (w : ℕ) (f : Tree) (h p : ℕ) → length (inline_bytes w f h p) ≡ w * members f
 unfolding inline_bytes members
 length_inline w none h p = omega arith
@@ -31,22 +30,26 @@ length_inline w (field n content inner rest) h p =
     length-append (little w (inline_value content inner h p)) (inline_bytes w rest (h + w) q)
     ∙ (rw (length_low_bytes 0 w (inline_value content inner h p), e) (omega arith))
 
+-- entries that are counted from number n on are no fewer than n
 pub entry_count_up : (f : Tree) (n : ℕ) → Writable (fields n) f → n ≤ entry_count n f
 unfolding entry_count Writable
 entry_count_up none n h = omega arith
 entry_count_up (field m content inner rest) n h = let i = entry_count_up rest (m + 1) h.4 in omega (arith, i, h.0)
 
+-- "Tables": a vtable has an entry for each field of its table, and for each number before the first
 pub members_below : (f : Tree) (n : ℕ) → Writable (fields n) f → n + members f ≤ entry_count n f
 unfolding members entry_count Writable
 members_below none n h = omega arith
 members_below (field m content inner rest) n h = let e = members_below rest (m + 1) h.4 in omega (arith, e, h.0)
 
+-- no vtable has more than 16 entries, since numbers are below 16
 pub entry_count_small : (f : Tree) (n : ℕ) → n ≤ 16 → Writable (fields n) f → entry_count n f ≤ 16
 unfolding entry_count Writable
 entry_count_small none n s h = s
 entry_count_small (field m content inner rest) n s h = entry_count_small rest (m + 1) (omega (arith, h.1)) h.4
 
-pub length_entries : (f : Tree) (n d : ℕ) → Writable (fields n) f → length (entries n d f) ≡ 2 * (entry_count n f - n)
+-- the entries from number n on take 2 bytes each
+length_entries : (f : Tree) (n d : ℕ) → Writable (fields n) f → length (entries n d f) ≡ 2 * (entry_count n f - n)
 unfolding entry_count Writable entries
 length_entries none n d h = omega arith
 length_entries (field m content inner rest) n d h =
@@ -75,7 +78,7 @@ pub record Entered (b : List ℕ) (t n h : ℕ) (f : Tree) : Type 0 where
   pub near : h ≤ t + 4 + 8 * n
 
 -- the entry of a number that no field has is 0
-pub zero_entry : (b : List ℕ) (f : Tree) (v k d n : ℕ) → Writable (fields k) f → Has b (v + (4 + 2 * k)) (entries k d f)
+zero_entry : (b : List ℕ) (f : Tree) (v k d n : ℕ) → Writable (fields k) f → Has b (v + (4 + 2 * k)) (entries k d f)
     → (HasField n f → ⊥) → k ≤ n → n < entry_count k f → num b (v + (4 + 2 * n)) 2 ≡ 0
 unfolding entry_count Writable entries HasField
 zero_entry b none v k d n h e no_such low high = absurd (omega (arith, low, high))
@@ -87,10 +90,8 @@ zero_entry b (field m content inner rest) v k d n h e no_such low high =
 
     others : Has b (v + (4 + 2 * (m + 1))) (entries (m + 1) (d + 8) rest)
     others =
-        let one = has_right b _ (padding (2 * (m - k))) _ e in
-        let two = has_right b _ (little 2 d) _ one in
-        has_at b _ (v + (4 + 2 * (m + 1))) _ (let z = length-replicate {A = ℕ} (2 * (m - k)) 0 in let y = length_low_bytes 0 2 d in omega
-        (arith, z, y, h.0)) two
+        let z = length-replicate {A = ℕ} (2 * (m - k)) 0 in
+        has_at b _ _ _ (omega (arith, z, h.0)) (has_past b _ 2 d _ (has_right b _ (padding (2 * (m - k))) _ e))
 
     by : (m + 1 ≤ n → Has b (v + (4 + 2 * (m + 1))) (entries (m + 1) (d + 8) rest) → num b (v + (4 + 2 * n)) 2 ≡ 0)
         → (n ≡ m) ⊎ ((n < m) ⊎ (m < n)) → num b (v + (4 + 2 * n)) 2 ≡ 0
@@ -99,6 +100,7 @@ zero_entry b (field m content inner rest) v k d n h e no_such low high =
         (has_zero b (v + (4 + 2 * k)) (2 * (m - k)) (2 * (n - k)) (omega arith) gap)
     by go (inr (inr over)) = go (omega arith) others
 
+-- "Tables": a field that the table lacks is absent: its entry in the vtable is 0, or lies behind the vtable's end
 pub absent_entry : (b : List ℕ) (f : Tree) (v n : ℕ) → Writable (fields 0) f → num b v 2 ≡ 4 + 2 * entry_count 0 f
     → Has b (v + 4) (entries 0 4 f) → (HasField n f → ⊥) → entry_of b v n ≡ 0
 absent_entry b f v n h size e no_such =
@@ -123,6 +125,7 @@ pub record Parts (b : List ℕ) (f : Tree) (p : ℕ) : Type 0 where
   pub back : Has b (table_place f p) (little 4 (table_place f p - p))
   pub front : Has b (table_place f p + 4) (inline_bytes 8 f (table_place f p + 4) (inline_end f p))
 
+-- a table's vtable and the distance to it reach from where they begin to 4 bytes into the table
 pub length_head : (f : Tree) (p : ℕ) → Writable (fields 0) f → length (head_bytes f p) ≡ table_place f p + 4 - p
 unfolding head_bytes
 length_head f p h =
@@ -133,6 +136,7 @@ length_head f p h =
     let t = length_low_bytes 0 4 (table_place f p - p) in
     simp (length-append) (omega (arith, a, c, d, z, t))
 
+-- a vtable and its table take the bytes from where the vtable begins to where the table's inline part ends
 pub length_own : (f : Tree) (p : ℕ) → Writable (fields 0) f → length (own_bytes f p) ≡ inline_end f p - p
 unfolding own_bytes
 length_own f p h =
@@ -140,25 +144,24 @@ length_own f p h =
     let g = length_inline 8 f (table_place f p + 4) (inline_end f p) in
     length-append (head_bytes f p) (inline_bytes 8 f (table_place f p + 4) (inline_end f p)) ∙ omega (arith, l, g)
 
+-- where a vtable and its table stand, each part of them stands at its place
 pub parts : (b : List ℕ) (f : Tree) (p : ℕ) → Writable (fields 0) f → Has b p (own_bytes f p) → Parts b f p
 unfolding own_bytes head_bytes
 parts b f p h e =
     let l = length_head f p h in
     let inline = inline_bytes 8 f (table_place f p + 4) (inline_end f p) in
     let head = has_left b p (head_bytes f p) inline e in
-    let a = length_low_bytes 0 2 (4 + 2 * entry_count 0 f) in
-    let c = length_low_bytes 0 2 (4 + 8 * members f) in
     let d = length_entries f 0 4 h in
     let z = length-replicate {A = ℕ} (table_place f p - (p + 4 + 2 * entry_count 0 f)) 0 in
-    let one = has_right b _ (little 2 (4 + 2 * entry_count 0 f)) _ head in
-    let two = has_right b _ (little 2 (4 + 8 * members f)) _ one in
+    let one = has_past b p 2 (4 + 2 * entry_count 0 f) _ head in
+    let two = has_at b _ (p + 4) _ (omega arith) (has_past b (p + 2) 2 (4 + 8 * members f) _ one) in
     let three = has_right b _ (entries 0 4 f) _ two in
     let four = has_right b _ (padding (table_place f p - (p + 4 + 2 * entry_count 0 f))) _ three in
     record {
       size = has_left b _ (little 2 (4 + 2 * entry_count 0 f)) _ head;
-      inline_size = has_at b _ (p + 2) _ (omega (arith, a)) (has_left b _ (little 2 (4 + 8 * members f)) _ one);
-      entered = has_at b _ (p + 4) _ (omega (arith, a, c)) (has_left b _ (entries 0 4 f) _ two);
-      back = has_at b _ (table_place f p) _ (omega (arith, a, c, d, z)) four;
+      inline_size = has_left b _ (little 2 (4 + 8 * members f)) _ one;
+      entered = has_left b _ (entries 0 4 f) _ two;
+      back = has_at b _ (table_place f p) _ (omega (arith, d, z)) four;
       front = has_at b _ (table_place f p + 4) _ (omega (arith, l)) (has_right b p (head_bytes f p) inline e);
     }
 
@@ -180,6 +183,7 @@ value_fits (k.pairs xs) f h p fine small = omega arith
 value_fits k.table f h p fine small = let u = (ends_up f (inline_end f p)).more in omega (arith, u)
 value_fits k.tables f h p fine small = let u = (ends_up f (p + 4 + 4 * members f)).more in omega (arith, u)
 
+-- "Structs": a struct of two 64-bit numbers takes 16 bytes
 pub length_pairs : (xs : List (ℤ × ℤ)) → length (struct_bytes xs) ≡ 16 * length xs
 unfolding struct_bytes
 length_pairs [] = refl
@@ -194,6 +198,7 @@ pub element_range : (content : Content) (f : Tree) → content ≡ k.table → W
     → IsInRange content × Below content (λ s. Writable s f)
 element_range content f e h = subst (λ (x : Content). IsInRange x × Below x (λ s. Writable s f)) (sym e) (tt, h)
 
+-- what a field points to takes the bytes from where it begins to where it ends, if the tree below does
 pub target_length : (content : Content) (f : Tree) → Below content (λ s. Writable s f)
     → ((s : Role) (p : ℕ) → Writable s f → p + length (targets f p) ≡ targets_end f p) → (p : ℕ)
     → p + length (target_bytes content f (targets f) p) ≡ target_end content f (targets_end f) p
@@ -219,6 +224,7 @@ target_length k.tables f h below p =
     let e = below elements q h in
     simp (length-append) (omega (arith, l, m, e))
 
+-- all that fields point to takes the bytes from where it begins to where it ends
 pub length_targets : (f : Tree) (s : Role) (p : ℕ) → Writable s f → p + length (targets f p) ≡ targets_end f p
 unfolding targets targets_end Writable
 length_targets none s p h = omega arith

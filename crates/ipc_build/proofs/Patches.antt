@@ -18,12 +18,13 @@ use Rattle.ipc_build.proofs.Steps.{tables_done}
 use Rattle.ipc_build.proofs.Pieces.{field_below, table_each, offsets_more, offsets_done}
 
 -- w bytes of out are new from here on, and a tail stands behind it
-pub record Patched (w here first : ℕ) (out value tail new : List ℕ) : Type 0 where
-  pub len : length new ≡ length out + length tail
-  pub front : take (here + w) new ≡ take here out ++ value
-  pub behind : drop first new ≡ drop first out ++ tail
+record Patched (w here first : ℕ) (out value tail new : List ℕ) : Type 0 where
+  len : length new ≡ length out + length tail
+  front : take (here + w) new ≡ take here out ++ value
+  behind : drop first new ≡ drop first out ++ tail
 
-pub patched : (w here first : ℕ) (out value tail put new : List ℕ) → length value ≡ w → here + w ≤ first → first ≤ length out
+-- it is so where w bytes were put in the place of others, and a tail behind all
+patched : (w here first : ℕ) (out value tail put new : List ℕ) → length value ≡ w → here + w ≤ first → first ≤ length out
     → put ≡ (take here out ++ value) ++ drop (here + w) out → new ≡ put ++ tail → Patched w here first out value tail new
 patched w here first out value tail put new size low high e f = record {
   len = rw is (len (take here out) (drop (here + w) out) before (length-drop (here + w) out));
@@ -74,6 +75,7 @@ pub record FieldsPut (xs : List (ℕ × Slot)) (i here at : ℕ) (old out : List
       ≡ take at old ++ inline_bytes 8 (fields_view xs) at (length old)
   pub pointed : drop (length old) out ++ targets (fields_view (drop i xs)) (length out) ≡ targets (fields_view xs) (length old)
 
+-- none of a table's fields is in its place when the loop begins
 pub fields_start : (xs : List (ℕ × Slot)) (at : ℕ) (old : List ℕ) → length old ≡ at + 8 * length xs → FieldsPut xs 0 at at old old
 fields_start xs at old e = record {
   place = omega (arith, e);
@@ -84,6 +86,7 @@ fields_start xs at old e = record {
 }
 
 module _ (xs : List (ℕ × Slot)) (i : ℕ) (x : ℕ × Slot) (e : x ≡ get_or xs i x) (h : i < length xs) where
+  -- one more is, when its number was put into its place and what it points to behind all that stands
   pub field_put : (here at p v : ℕ) (old out put new : List ℕ) → Writable (fields 0) (fields_view xs) → p ≡ length out
       → v ≡ inline_value (node x.1).0 (node x.1).1 here p → put ≡ (take here out ++ little 8 v) ++ drop (here + 8) out
       → new ≡ put ++ target_bytes (node x.1).0 (node x.1).1 (targets (node x.1).1) p → FieldsPut xs i here at old out
@@ -109,6 +112,7 @@ module _ (xs : List (ℕ × Slot)) (i : ℕ) (x : ℕ × Slot) (e : x ≡ get_or
       next = one.len ∙ target_length (node x.1).0 (node x.1).1 (field_below xs i x e h writable)
           (λ s q w. length_targets (node x.1).1 s q w) (length out)
 
+-- when all are, the bytes are those of the layout
 pub fields_put : (xs : List (ℕ × Slot)) (i here at : ℕ) (old out : List ℕ) → length xs ≤ i → FieldsPut xs i here at old out
     → out ≡ take at old ++ (inline_bytes 8 (fields_view xs) at (length old) ++ targets (fields_view xs) (length old))
 fields_put xs i here at old out h inv =
@@ -126,6 +130,7 @@ pub record TablesPut (xs : List FlatTree) (i here at : ℕ) (old out : List ℕ)
       ≡ take at old ++ inline_bytes 4 (tables_view xs) at (length old)
   pub pointed : drop (length old) out ++ targets (tables_view (drop i xs)) (length out) ≡ targets (tables_view xs) (length old)
 
+-- none of a vector's offsets is in its place when the loop begins
 pub tables_start : (xs : List FlatTree) (at : ℕ) (old : List ℕ) → length old ≡ at + 4 * length xs → TablesPut xs 0 at at old old
 tables_start xs at old e = record {
   place = omega (arith, e);
@@ -136,6 +141,7 @@ tables_start xs at old e = record {
 }
 
 module _ (xs : List FlatTree) (i : ℕ) (x : FlatTree) (e : x ≡ get_or xs i x) (h : i < length xs) where
+  -- one more is, when its offset was put into its place and its table behind all that stands
   pub table_put : (here at p v : ℕ) (old out put new : List ℕ) → Writable elements (tables_view xs) → p ≡ length out
       → v ≡ table_place (view x) p - here → put ≡ (take here out ++ little 4 v) ++ drop (here + 4) out
       → new ≡ put ++ (own_bytes (view x) p ++ targets (view x) (inline_end (view x) p)) → TablesPut xs i here at old out
@@ -160,6 +166,7 @@ module _ (xs : List FlatTree) (i : ℕ) (x : FlatTree) (e : x ≡ get_or xs i x)
       next : length new ≡ targets_end (view x) (inline_end (view x) (length out))
       next = one.len ∙ target_length k.table (view x) (table_each xs i x e h writable) (λ s q w. length_targets (view x) s q w) (length out)
 
+-- when all are, the bytes are those of the layout
 pub tables_put : (xs : List FlatTree) (i here at : ℕ) (old out : List ℕ) → length xs ≤ i → TablesPut xs i here at old out
     → out ≡ take at old ++ (inline_bytes 4 (tables_view xs) at (length old) ++ targets (tables_view xs) (length old))
 tables_put xs i here at old out h inv =

@@ -26,6 +26,7 @@ fields_below [] i n d h p = absurd (omega arith)
 fields_below (x ∷ xs) zero n d h p = p.3
 fields_below (x ∷ xs) (suc i) n d h p = fields_below xs i (x.0 + 1) d (omega arith) p.4
 
+-- what may be written of a table may be written of what each field points to
 pub field_below : (xs : List (ℕ × Slot)) (i : ℕ) (x : ℕ × Slot) → x ≡ get_or xs i x → i < length xs → Writable (fields 0) (fields_view xs)
     → Below (node x.1).0 (λ s. Writable s (node x.1).1)
 field_below xs i x e h p = subst (λ (y : ℕ × Slot). Below (node y.1).0 (λ s. Writable s (node y.1).1)) (sym e) (fields_below xs i 0 x h p)
@@ -37,10 +38,12 @@ tables_each [] i d h p = absurd (omega arith)
 tables_each (x ∷ xs) zero d h p = p.1
 tables_each (x ∷ xs) (suc i) d h p = tables_each xs i d (omega arith) p.2
 
+-- what may be written of a vector of tables may be written of each table
 pub table_each : (xs : List FlatTree) (i : ℕ) (x : FlatTree) → x ≡ get_or xs i x → i < length xs → Writable elements (tables_view xs)
     → Writable (fields 0) (view x)
 table_each xs i x e h p = subst (λ (y : FlatTree). Writable (fields 0) (view y)) (sym e) (tables_each xs i x h p)
 
+-- the tables that a slot holds may be written where the slot's tree may
 pub elements_below : (s : Slot) (ts us : List FlatTree) → s ≡ v.Tables ts → us ≡ ts → Below (node s).0 (λ q. Writable q (node s).1)
     → Writable elements (tables_view us)
 elements_below s ts us e f h =
@@ -48,6 +51,7 @@ elements_below s ts us e f h =
     ap node e ∙ (tables_is ts ∙ ap (λ (xs : List FlatTree). (k.tables, tables_view xs)) (sym f)) in
     subst (λ (x : Node). Below x.0 (λ q. Writable q x.1)) i h
 
+-- a table that may be written has at most 16 fields, and 16 entries in its vtable
 pub few : (xs : List (ℕ × Slot)) → Writable (fields 0) (fields_view xs) → (length xs ≤ 16) × (entry_count 0 (fields_view xs) ≤ 16)
 few xs p =
     let m = members_below (fields_view xs) 0 p in
@@ -55,6 +59,7 @@ few xs p =
     let l = members_fields xs in
     (omega (arith, m, t, l), t)
 
+-- "Structs": the bytes of a slot that holds a vector of structs: padding, the count, the structs
 pub pairs_bytes : (s : Slot) (xs ys : List (ℤ × ℤ)) (p : ℕ) → s ≡ v.Pairs xs → ys ≡ xs
     → target_bytes (node s).0 (node s).1 (targets (node s).1) p ≡ padding (prefix_place p - p) ++ (little 4 (length ys) ++ struct_bytes ys)
 pairs_bytes s xs ys p e f =
@@ -62,6 +67,7 @@ pairs_bytes s xs ys p e f =
     ap (λ (x : Node). target_bytes x.0 x.1 (targets x.1) p) i
 
 module _ (xs : List (ℕ × Slot)) (i : ℕ) (x : ℕ × Slot) (e : x ≡ get_or xs i x) (h : i < length xs) where
+  -- where fields from i on may be written from number n on, field i has a number from n on and below 16, and the others follow it
   pub ordered : (n : ℕ) → Writable (fields n) (fields_view (drop i xs))
       → (n ≤ x.0) × (x.0 < 16) × Writable (fields (x.0 + 1)) (fields_view (drop (i + 1) xs))
   unfolding Writable
@@ -70,6 +76,7 @@ module _ (xs : List (ℕ × Slot)) (i : ℕ) (x : ℕ × Slot) (e : x ≡ get_or
       subst (λ (ys : List (ℕ × Slot)). Writable (fields n) (fields_view ys)) (front xs i x e h) p in
       (q.0, q.1, q.4)
 
+  -- a loop over a vtable's entries has written one more, when it wrote the zeros of the absent fields before it and then its place
   pub entries_more : (out padded now base : List ℕ) (n d : ℕ) → padded ≡ out ++ padding (2 * (x.0 - n)) → now ≡ padded ++ little 2 d
       → out ++ entries n d (fields_view (drop i xs)) ≡ base → now ++ entries (x.0 + 1) (d + 8) (fields_view (drop (i + 1) xs)) ≡ base
   unfolding entries
@@ -80,6 +87,7 @@ module _ (xs : List (ℕ × Slot)) (i : ℕ) (x : ℕ × Slot) (e : x ≡ get_or
       more padded now (little 2 d) rest (little 2 d ++ rest) base g refl
       (more out padded (padding (2 * (x.0 - n))) (little 2 d ++ rest) (entries n d (fields_view (drop i xs))) base f step inv)
 
+-- when no field is left, all entries are written
 pub entries_done : (xs : List (ℕ × Slot)) (i n d : ℕ) (out base : List ℕ) → length xs ≤ i
     → out ++ entries n d (fields_view (drop i xs)) ≡ base → out ≡ base
 unfolding entries
@@ -87,6 +95,7 @@ entries_done xs i n d out base h inv = sym (append-nil out)
     ∙ (ap (λ (ys : List (ℕ × Slot)). out ++ entries n d (fields_view ys)) (sym (drop_of_length-le xs h)) ∙ inv)
 
 module _ (xs : List FlatTree) (i : ℕ) (x : FlatTree) (e : x ≡ get_or xs i x) (h : i < length xs) where
+  -- a loop over a vector's offsets has written one more, when it wrote the distance to the table
   pub offsets_more : (out now base : List ℕ) (a p q y : ℕ) → q ≡ targets_end (view x) (inline_end (view x) p)
       → y ≡ table_place (view x) p - a → now ≡ out ++ little 4 y → out ++ inline_bytes 4 (tables_view (drop i xs)) a p ≡ base
       → now ++ inline_bytes 4 (tables_view (drop (i + 1) xs)) (a + 4) q ≡ base
@@ -100,6 +109,7 @@ module _ (xs : List FlatTree) (i : ℕ) (x : FlatTree) (e : x ≡ get_or xs i x)
       (inline_bytes 4 (tables_view (drop i xs)) a p) base (w ∙ ap (λ (n : ℕ). out ++ little 4 n) g)
       (step ∙ ap (λ (n : ℕ). little 4 (table_place (view x) p - a) ++ inline_bytes 4 rest (a + 4) n) (sym f)) inv
 
+-- when no table is left, all offsets are written
 pub offsets_done : (xs : List FlatTree) (i a p : ℕ) (out base : List ℕ) → length xs ≤ i
     → out ++ inline_bytes 4 (tables_view (drop i xs)) a p ≡ base → out ≡ base
 unfolding inline_bytes
@@ -107,6 +117,7 @@ offsets_done xs i a p out base h inv = sym (append-nil out)
     ∙ (ap (λ (ys : List FlatTree). out ++ inline_bytes 4 (tables_view ys) a p) (sym (drop_of_length-le xs h)) ∙ inv)
 
 module _ (xs : List (ℤ × ℤ)) (i : ℕ) (x : ℤ × ℤ) (e : x ≡ get_or xs i x) (h : i < length xs) where
+  -- a loop over structs has written one more, when it wrote both its numbers
   pub pairs_more : (out now base : List ℕ) → now ≡ (out ++ little 8 (cast_unsigned w64 x.0)) ++ little 8 (cast_unsigned w64 x.1)
       → out ++ struct_bytes (drop i xs) ≡ base → now ++ struct_bytes (drop (i + 1) xs) ≡ base
   unfolding struct_bytes
@@ -118,15 +129,17 @@ module _ (xs : List (ℤ × ℤ)) (i : ℕ) (x : ℤ × ℤ) (e : x ≡ get_or x
       more out now (one ++ two) rest (struct_bytes (drop i xs)) base (f ∙ append_assoc out one two)
       (step ∙ sym (append_assoc one two rest)) inv
 
+-- when none is left, all structs are written
 pub pairs_done : (xs : List (ℤ × ℤ)) (i : ℕ) (out base : List ℕ) → length xs ≤ i → out ++ struct_bytes (drop i xs) ≡ base → out ≡ base
 unfolding struct_bytes
 pairs_done xs i out base h inv = sym (append-nil out)
     ∙ (ap (λ (ys : List (ℤ × ℤ)). out ++ struct_bytes ys) (sym (drop_of_length-le xs h)) ∙ inv)
 
 -- one piece behind another
-pub joined : (a b c x y : List ℕ) → b ≡ a ++ x → c ≡ b ++ y → c ≡ a ++ (x ++ y)
+joined : (a b c x y : List ℕ) → b ≡ a ++ x → c ≡ b ++ y → c ≡ a ++ (x ++ y)
 joined a b c x y e f = f ∙ (ap (λ (l : List ℕ). l ++ y) e ∙ append_assoc a x y)
 
+-- "Tables": a vtable's size, its table's size, the entries, padding and the distance to the vtable are a table's head
 pub head_joined : (f : Tree) (p size table : ℕ) (a b c d g i : List ℕ) → size ≡ 4 + 2 * entry_count 0 f → table ≡ table_place f p
     → (places : ℕ) → places ≡ 8 * members f →
     b ≡ a ++ little 2 size → c ≡ b ++ little 2 (4 + places) → d ≡ c ++ entries 0 4 f → g ≡ d ++ padding (table - (p + size))
@@ -193,10 +206,12 @@ vector_joined f p n m a b c d pe me e g i =
     ∙ (ap (λ (k : ℕ). (a ++ little 4 n) ++ (inline_bytes 4 f (p + 4) k ++ targets f k)) end
     ∙ append_assoc a (little 4 n) _))
 
+-- the layout of a whole buffer ends where that of its root table does
 pub vector_ends : (f : Tree) → targets_end (as_vector f) 4 ≡ targets_end f (inline_end f 4)
 unfolding targets_end
 vector_ends f = refl
 
+-- the root offset and the root table with all below it are the whole buffer
 pub buffer_joined : (f : Tree) (t : ℕ) (a b c : List ℕ) → t ≡ table_place f 4 → b ≡ a ++ little 4 t
     → c ≡ b ++ (own_bytes f 4 ++ targets f (inline_end f 4)) → c ≡ a ++ buffer f
 unfolding inline_bytes targets

@@ -10,12 +10,14 @@ use Rattle.ipc_build.specs.Layout.{own_bytes}
 use Rattle.ipc_build.proofs.Views.{front}
 
 module _ (xs : List (ℕ × Slot)) (i : ℕ) (x : ℕ × Slot) (e : x ≡ get_or xs i x) (h : i < length xs) where
+  -- where what slot i points to ends at q, what the slots behind it point to begins there and ends where it all did
   pub ends_step : (p q n : ℕ) → q ≡ target_end (node x.1).0 (node x.1).1 (targets_end (node x.1).1) p
       → targets_end (fields_view (drop i xs)) p ≡ n → targets_end (fields_view (drop (i + 1) xs)) q ≡ n
   unfolding targets_end
   ends_step p q n f g = ap (targets_end (fields_view (drop (i + 1) xs))) f
       ∙ (sym (ap (λ (ys : List (ℕ × Slot)). targets_end (fields_view ys) p) (front xs i x e h)) ∙ g)
 
+  -- a loop over a table's fields has written one more, when it wrote its number or its offset in 8 bytes
   pub inline_more : (out now base : List ℕ) (a p q y : ℕ) → q ≡ target_end (node x.1).0 (node x.1).1 (targets_end (node x.1).1) p
       → y ≡ inline_value (node x.1).0 (node x.1).1 a p → now ≡ out ++ little 8 y
       → out ++ inline_bytes 8 (fields_view (drop i xs)) a p ≡ base → now ++ inline_bytes 8 (fields_view (drop (i + 1) xs)) (a + 8) q ≡ base
@@ -32,6 +34,7 @@ module _ (xs : List (ℕ × Slot)) (i : ℕ) (x : ℕ × Slot) (e : x ≡ get_or
       ∙ (ap (λ (n : ℕ). out ++ (little 8 (inline_value (node x.1).0 (node x.1).1 a p) ++ inline_bytes 8 rest (a + 8) n)) f
       ∙ (ap (λ (l : List ℕ). out ++ l) (sym step) ∙ inv))))
 
+-- when no slot is left, all fields are written
 pub inline_done : (xs : List (ℕ × Slot)) (i a p : ℕ) (out base : List ℕ) → length xs ≤ i
     → out ++ inline_bytes 8 (fields_view (drop i xs)) a p ≡ base → out ≡ base
 unfolding inline_bytes
@@ -46,6 +49,7 @@ resized len m n old new e g f =
     ∙ ap (λ (k : ℕ). old ++ padding k) (omega (arith, e, g)))
 
 module _ (xs : List (ℕ × Slot)) (i : ℕ) (x : ℕ × Slot) (e : x ≡ get_or xs i x) (h : i < length xs) where
+  -- a loop over a table's fields has written what one more points to, when that stands behind the rest
   pub targets_more : (out now base : List ℕ) (p q : ℕ) → q ≡ target_end (node x.1).0 (node x.1).1 (targets_end (node x.1).1) p
       → now ≡ out ++ target_bytes (node x.1).0 (node x.1).1 (targets (node x.1).1) p → out ++ targets (fields_view (drop i xs)) p ≡ base
       → now ++ targets (fields_view (drop (i + 1) xs)) q ≡ base
@@ -60,6 +64,7 @@ module _ (xs : List (ℕ × Slot)) (i : ℕ) (x : ℕ × Slot) (e : x ≡ get_or
       ∙ (append_assoc out own (targets rest q)
       ∙ (ap (λ (n : ℕ). out ++ (own ++ targets rest n)) f ∙ (ap (λ (l : List ℕ). out ++ l) (sym step) ∙ inv)))
 
+-- when no slot is left, all that the fields point to is written
 pub targets_done : (xs : List (ℕ × Slot)) (i p : ℕ) (out base : List ℕ) → length xs ≤ i → out ++ targets (fields_view (drop i xs)) p ≡ base
     → out ≡ base
 unfolding targets
@@ -72,12 +77,14 @@ more out now piece rest all base e f g =
     ap (λ (l : List ℕ). l ++ rest) e ∙ (append_assoc out piece rest ∙ (ap (λ (l : List ℕ). out ++ l) (sym f) ∙ g))
 
 module _ (xs : List FlatTree) (i : ℕ) (x : FlatTree) (e : x ≡ get_or xs i x) (h : i < length xs) where
+  -- where table i of a vector ends at q with all below it, the tables behind it begin there and end where they all did
   pub table_ends_more : (p q n : ℕ) → q ≡ targets_end (view x) (inline_end (view x) p) → targets_end (tables_view (drop i xs)) p ≡ n
       → targets_end (tables_view (drop (i + 1) xs)) q ≡ n
   unfolding targets_end
   table_ends_more p q n f g = ap (targets_end (tables_view (drop (i + 1) xs))) f
       ∙ (sym (ap (λ (ys : List FlatTree). targets_end (tables_view ys) p) (front xs i x e h)) ∙ g)
 
+  -- a loop over a vector's tables has written one more, when it wrote its vtable, the table and all below it
   pub tables_more : (out now base : List ℕ) (p q : ℕ) → q ≡ targets_end (view x) (inline_end (view x) p)
       → now ≡ out ++ (own_bytes (view x) p ++ targets (view x) (inline_end (view x) p)) → out ++ targets (tables_view (drop i xs)) p ≡ base
       → now ++ targets (tables_view (drop (i + 1) xs)) q ≡ base
@@ -90,6 +97,7 @@ module _ (xs : List FlatTree) (i : ℕ) (x : FlatTree) (e : x ≡ get_or xs i x)
       more out now own (targets rest q) (targets (tables_view (drop i xs)) p) base w
       (step ∙ ap (λ (n : ℕ). own ++ targets rest n) (sym f)) inv
 
+-- when no table is left, all tables are written
 pub tables_done : (xs : List FlatTree) (i p : ℕ) (out base : List ℕ) → length xs ≤ i → out ++ targets (tables_view (drop i xs)) p ≡ base
     → out ≡ base
 unfolding targets

@@ -17,6 +17,7 @@ target_up (k.pairs xs) f g h p = record { more = omega arith; even = λ e. omega
 target_up k.table f g h p = let u = h (inline_end f p) in record { more = omega (arith, u.more); even = λ e. u.even (omega arith) }
 target_up k.tables f g h p = let u = h (p + 4 + 4 * members f) in record { more = omega (arith, u.more); even = λ e. u.even (omega arith) }
 
+-- what fields point to ends no earlier than it begins, and keeps to multiples of 4
 pub ends_up : (f : Tree) (p : ℕ) → Up p (targets_end f p)
 unfolding targets_end
 ends_up none p = record { more = omega arith; even = λ e. e }
@@ -25,5 +26,6 @@ ends_up (field n content inner rest) p =
     let w = ends_up rest (target_end content inner (targets_end inner) p) in
     record { more = omega (arith, u.more, w.more); even = λ e. w.even (u.even e) }
 
+-- what one field points to ends no earlier than it begins, and keeps to multiples of 4
 pub target_ends_up : (content : Content) (f : Tree) (p : ℕ) → Up p (target_end content f (targets_end f) p)
 target_ends_up content f p = target_up content f (targets_end f) (λ q. ends_up f q) p

@@ -2,7 +2,7 @@
 use Rattle.std.proofs.Common.{◌≡◌, ℕ, ◌+◌, ◌*◌, ◌/◌, ◌%◌, ◌≤◌, refl, arith}
 use Rattle.ipc_build.specs.Trees.{Content, Tree, none, field}
 use Rattle.ipc_build.specs.Trees as k
-use Rattle.ipc_build.specs.Layout.{members, entry_count, as_vector, targets_end, target_end, inline_end}
+use Rattle.ipc_build.specs.Layout.{members, as_vector, targets_end, target_end, inline_end}
 use Rattle.ipc_build.specs.Ascends.{Role, fields, elements, Below, Writable}
 use Rattle.ipc_build.specs.Room.{target_room, targets_room, room}
 use Rattle.ipc_build.proofs.Upward.{target_ends_up}
@@ -24,6 +24,7 @@ target_within k.tables f p h below even =
     let e = below elements (p + 4 + 4 * members f) h (omega arith) in
     omega (arith, e)
 
+-- what fields point to takes at most their room, where it begins at a multiple of 4
 pub within : (f : Tree) (s : Role) (p : ℕ) → Writable s f → p % 4 ≡ 0 → targets_end f p ≤ p + targets_room f
 unfolding targets_end Writable targets_room
 within none s p h even = omega arith
@@ -37,5 +38,6 @@ within (field m content inner rest) elements p h even =
     let e = within rest elements (target_end content inner (targets_end inner) p) h.2 ((target_ends_up content inner p).even even) in
     omega (arith, i, e)
 
+-- a buffer that is padded to a multiple of 8 is at most as long as its tree's room
 pub buffer_fits : (f : Tree) → Writable (fields 0) f → (targets_end (as_vector f) 4 + 7) / 8 * 8 ≤ room f
 buffer_fits f h = let e = within (as_vector f) elements 4 (writable_vector f h) refl in omega (arith, e)

@@ -1,13 +1,9 @@
--- How many bytes a tree may take at most. It is a bound of this project: the binary format has
--- none.
-use Rattle.std.specs.Prelude.{◌≡◌, ℕ, ◌+◌, ◌*◌, ◌^◌, ◌≤◌, ◌<◌, length, Option, MatchOption}
+-- How much room a tree is counted with, and how many bytes it takes. Room is a count of this
+-- project, by which a tree is bounded before it is written: the binary format has none.
+use Rattle.std.specs.Prelude.{◌≡◌, ℕ, ◌+◌, ◌*◌, ◌≤◌, ◌<◌, length, Option, MatchOption}
 use Rattle.ipc_build.specs.Trees.{Content, Tree, none, field}
 use Rattle.ipc_build.specs.Trees as k
 use Rattle.ipc_build.specs.Layout.{members, entry_count, as_vector, targets_end}
-
--- the most room that a tree may have
-abbrev pub max_room : ℕ
-max_room = 2 ^ 24
 
 -- 8 and its bytes for a string, 12 and 16 for each struct of a vector, 24 and 10 for each vtable
 -- entry of a table, 12 and 4 for each element of a vector of tables; `below` is the room of the
@@ -35,6 +31,6 @@ room f = 16 + targets_room (as_vector f)
 abbrev pub size : Tree → ℕ
 size f = targets_end (as_vector f) 4
 
--- how room is counted: the sum n, of which P holds, or nothing where n passes the most
-abbrev pub Counts : ℕ → Type 0 → Option ℕ → Type 0
-Counts n P sum = MatchOption sum (max_room < n) (λ x. (x ≡ n) × (x ≤ max_room) × P)
+-- how room is counted: the sum n, of which P holds, or nothing where n passes the greatest room
+abbrev pub Counts : ℕ → ℕ → Type 0 → Option ℕ → Type 0
+Counts greatest n P sum = MatchOption sum (greatest < n) (λ x. (x ≡ n) × (x ≤ greatest) × P)

@@ -6,11 +6,11 @@ ghost use Rattle.ipc_build.specs.Trees.{view};
 ghost use Rattle.ipc_build.specs.Layout.{as_vector, targets_end, buffer};
 ghost use Rattle.ipc_build.specs.Encodes.{Encodes, Aligned};
 ghost use Rattle.ipc_build.specs.Ascends.{fields, Ascends, Writable};
-ghost use Rattle.ipc_build.specs.Room.{max_room, room, size};
+ghost use Rattle.ipc_build.specs.Room.{room, size};
 
 use crate::fault::BuildFault;
 use crate::places::table_place;
-use crate::room::table_room;
+use crate::room::room;
 use crate::scalars::push_u32;
 use crate::tables::write_table;
 use crate::tree::FlatTree;
@@ -40,18 +40,22 @@ fn write_buffer(out: &mut Vec<u8>, tree: &FlatTree) -> Result<(), AllocError>
 /// The slots' numbers ascend in each table and are below 16, and tables nest at most 255 deep. Each
 /// slot is visited a few times, so the time it takes grows with the slots and the bytes alone.
 ///
-/// `TooLarge` exactly where `room` passes 2^24, and before any memory is taken; `OutOfMemory` only
-/// where a growth of the bytes was refused.
-pub fn build(alloc: Global, tree: &FlatTree) -> Result<Vec<u8>, BuildFault>
-    requires { Ascends (fields 0) (view tree.now) }
+/// `greatest` is the most room that the tree may have. It is below 2^31, as far as the format's
+/// offsets reach, which are signed numbers of 32 bits.
+///
+/// `TooLarge` exactly where `room` passes `greatest`, and before any memory is taken; `OutOfMemory`
+/// only where a growth of the bytes was refused.
+pub fn build(alloc: Global, tree: &FlatTree, greatest: u64) -> Result<Vec<u8>, BuildFault>
+    requires ascends { Ascends (fields 0) (view tree.now) }
+    requires limit { greatest < 2 ^ 31 }
     ensures lies { IfOk result
         (λ bytes. (rest : List ℕ) → Encodes (bytes.items ++ rest) (view tree.now)) }
     ensures aligned { IfOk result (λ bytes. Aligned bytes.items (view tree.now)) }
     ensures size { IfOk result (λ bytes. length bytes.items ≡ size (view tree.now)) }
     ensures room { IfOk result (λ bytes. (length bytes.items + 7) / 8 * 8 ≤ room (view tree.now)) }
-    ensures too_large { IsErrOf result TooLarge ↔ (max_room < room (view tree.now)) }
+    ensures too_large { IsErrOf result TooLarge ↔ (greatest < room (view tree.now)) }
 {
-    if table_room(tree, 16).is_none() {
+    if room(tree, greatest as usize).is_none() {
         return Err(BuildFault::TooLarge);
     }
     let mut out = Vec::new(alloc);

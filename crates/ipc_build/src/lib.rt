@@ -5,9 +5,10 @@
 //! that were handed in, and every other field is absent. Each scalar, offset, count and vtable
 //! entry stands at a multiple of its width from the start of the buffer.
 //!
-//! The caller keeps two things: in each table the slots' numbers ascend and are below 16, and
-//! tables nest at most 255 deep, since calls nest as deep as the tables do. Numbers and texts need
-//! no such care, as any value of their types is written.
+//! The caller keeps three things: in each table the slots' numbers ascend and are below 16; tables
+//! nest at most 255 deep, since calls nest as deep as the tables do; and the greatest room that it
+//! allows is below 2^31, as far as offsets reach. Numbers and texts need no such care, as any value
+//! of their types is written.
 #![tactic(auto)]
 
 mod builder;

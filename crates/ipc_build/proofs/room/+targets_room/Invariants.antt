@@ -1,21 +1,21 @@
-use Rattle.std.proofs.Common.{◌≡◌, ◌≤◌, ◌+◌, ◌^◌, drop}
+use Rattle.std.proofs.Common.{◌≡◌, ◌≤◌, ◌+◌, drop}
 use Rattle.ipc_build.specs.Trees.{node, view, fields_view, tables_view}
 use Rattle.ipc_build.specs.Layout.{weight}
 use Rattle.ipc_build.specs.Ascends.{InRange}
-use Rattle.ipc_build.specs.Room.{max_room, targets_room}
+use Rattle.ipc_build.specs.Room.{targets_room}
 use Rattle.ipc_build.proofs.room.+targets_room.Given as goal
 
 abbrev pub invariant-targets_room-loop-slot : goal.invariant-targets_room-loop-slot
 invariant-targets_room-loop-slot l = record {
   sum : l.sum + targets_room (fields_view (drop l.slot-index l.slots)) ≡ l.taken + targets_room (fields_view l.slots);
-  small : l.sum ≤ max_room;
+  small : l.sum ≤ l.greatest;
   fine : InRange (fields_view (drop l.slot-index l.slots)) → InRange (fields_view l.slots);
 }
 
 abbrev pub invariant-elements_room-loop-tree : goal.invariant-elements_room-loop-tree
 invariant-elements_room-loop-tree l = record {
   sum : l.sum + targets_room (tables_view (drop l.tree-index l.trees)) ≡ l.taken + targets_room (tables_view l.trees);
-  small : l.sum ≤ max_room;
+  small : l.sum ≤ l.greatest;
   fine : InRange (tables_view (drop l.tree-index l.trees)) → InRange (tables_view l.trees);
 }
 

@@ -11,5 +11,5 @@ loop-first-preserved c =
     (same_or pairs i _ _ c.loop-first-test.true) c.loop-first-test.true c.loop-first.invariant (search rules) (search rules)
 
 pub returns : goal.returns
-returns c = counts_plain _ _ _ c.add.result refl
+returns c = counts_plain _ _ _ _ c.add.result refl
     (c.loop-first.invariant (pairs_range_done c.args.pairs.now c.loop-first._first-index (omega arith))) c.add.ensures
