@@ -1,13 +1,14 @@
--- In a well formed schema there are no more than 65,536 fields, and so no more among one field's children.
-use Rattle.std.proofs.Common.{◌≡◌, refl, ℕ, zero, suc, ◌+◌, ◌<◌, ◌≤◌, List, [], ◌∷◌, length, map, get_or, ap, subst, length-append, arith}
+-- A schema has as many fields as entries, and so no more among one field's children.
+use Rattle.std.proofs.Common.{◌≡◌, refl, ℕ, zero, suc, ◌+◌, ◌^◌, ◌<◌, ◌≤◌, List, [], ◌∷◌, length, map, get_or, ap, subst, length-append}
+use Rattle.std.proofs.Common.{arith}
 use Rattle.ipc_model.specs.RowFaults.{field_count, count_step, total}
 use Rattle.ipc_model.specs.Entries.{Listing, preorder, preorder_step, all_at, entries}
-use Rattle.ipc_model.specs.WellFormed.{WellFormed}
+use Rattle.ipc_model.specs.RowFaults.{HasShortPaths}
 use Rattle.ipc_model.specs.declared.schema.Field.{Field, roll-Field, out-Field, fold_out-Field, ind-Field, fold-roll-Field, map-Field}
 use Rattle.ipc_model.specs.declared.schema.Field.TheOpen.{Field-F}
 use Rattle.ipc_model.specs.declared.schema.Schema.{Schema}
 
-pub count_out : (f : Field) → field_count f ≡ total (map field_count (out-Field f).children) + 1
+count_out : (f : Field) → field_count f ≡ total (map field_count (out-Field f).children) + 1
 count_out = fold_out-Field ℕ count_step
 
 -- a field among others counts no more than all together
@@ -41,12 +42,13 @@ counted_layer y = λ d.
     ap (λ (l : Listing). l d) (fold-roll-Field Listing preorder_step z) in
     omega (arith, ap length g, fold-roll-Field ℕ count_step z, all_counted y.children (d + 1))
 
-pub counted : (f : Field) → IsCounted f
+counted : (f : Field) → IsCounted f
 counted = ind-Field IsCounted (λ x y is. subst (λ z. IsCounted (roll-Field z)) is (counted_layer y))
 
 columns : (fs : List Field) → length (entries fs) ≡ total (map field_count fs)
 columns [] = refl
 columns (f ∷ fs) = omega (arith, length-append (preorder f 1) (all_at 1 (map preorder fs)), counted f 1, columns fs)
 
-pub at_most_65536 : (s : Schema) → WellFormed s → total (map field_count s.fields) ≤ 65536
-at_most_65536 s w = omega (arith, columns s.fields, w.few_fields)
+-- the fields of a schema are counted as its entries are
+pub few_counted : (s : Schema) → HasShortPaths s → total (map field_count s.fields) ≤ 2 ^ 32
+few_counted s short = omega (arith, columns s.fields, short.few)

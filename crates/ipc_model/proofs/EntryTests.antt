@@ -11,7 +11,6 @@ use Rattle.ipc_model.specs.WellFormed.{IsAmong}
 use Rattle.ipc_model.specs.SchemaFaults.{Before, after, scan, unless_at, fault_at, has_good_type, has_fitting_children, has_leaf_dictionary}
 use Rattle.ipc_model.specs.SchemaFaults.{is_little_text, has_conflict, agrees, same_type, at_start, done, verdict_on}
 use Rattle.ipc_model.specs.Entries.{Entry, entries, pair_text}
-use Rattle.ipc_model.specs.Limits.{max_depth, max_fields, max_pairs, max_text}
 use Rattle.ipc_model.proofs.Meanings.{Clear, clear_of, holds, good_both, fitting_both, leaf_both, agree_is, after_it, at_it, before_it}
 use Rattle.ipc_model.proofs.SameTypes.{same_itself}
 use Rattle.ipc_model.specs.declared.check.SchemaFault.{SchemaFault}
@@ -19,6 +18,7 @@ use Rattle.ipc_model.specs.declared.check.SchemaFault.TheVariants as f
 use Rattle.ipc_model.specs.declared.schema.DataType.{DataType}
 use Rattle.ipc_model.specs.declared.schema.Dictionary.{Dictionary}
 use Rattle.ipc_model.specs.declared.schema.Schema.{Schema}
+use Rattle.ipc_model.specs.declared.limits.Limits.{Limits}
 
 -- ---- the tests of one entry, in their order
 
@@ -50,14 +50,15 @@ pub record Told (test : SchemaFault → Bool) (n : ℕ) (x : SchemaFault) : Type
   pub fails : test x ≡ false
   pub least : (y : SchemaFault) → test y ≡ false → rank x ≤ rank y
 
-pub told_as : (test : SchemaFault → Bool) (n : ℕ) (x y : SchemaFault) → ◌≡◌ {A = Option SchemaFault} (Some x) (Some y) → Told test n x
+told_as : (test : SchemaFault → Bool) (n : ℕ) (x y : SchemaFault) → ◌≡◌ {A = Option SchemaFault} (Some x) (Some y) → Told test n x
     → Told test n y
 told_as test n x y h t = let same : x ≡ y = cc in subst (λ (z : SchemaFault). Told test n z) same t
 
+-- true is not false
 pub no : {P : Type 0} → true ≡ false → P
 no h = absurd (false≢true (sym h))
 
-pub from_1 : (y : SchemaFault) → 1 ≤ rank y
+from_1 : (y : SchemaFault) → 1 ≤ rank y
 from_1 (f.BadType m) = omega arith
 from_1 (f.BadChildren m) = omega arith
 from_1 (f.TooManyFields m) = omega arith
@@ -67,7 +68,7 @@ from_1 (f.DictionaryConflict m) = omega arith
 from_1 (f.NestedDictionary m) = omega arith
 from_1 f.OutOfMemory = omega arith
 
-pub from_2 : (c d e g h i : Bool) (y : SchemaFault) → pick true c d e g h i y ≡ false → 2 ≤ rank y
+from_2 : (c d e g h i : Bool) (y : SchemaFault) → pick true c d e g h i y ≡ false → 2 ≤ rank y
 from_2 c d e g h i (f.BadType m) p = no p
 from_2 c d e g h i (f.BadChildren m) p = omega arith
 from_2 c d e g h i (f.TooManyFields m) p = omega arith
@@ -77,7 +78,7 @@ from_2 c d e g h i (f.DictionaryConflict m) p = omega arith
 from_2 c d e g h i (f.NestedDictionary m) p = omega arith
 from_2 c d e g h i f.OutOfMemory p = omega arith
 
-pub from_3 : (d e g h i : Bool) (y : SchemaFault) → pick true true d e g h i y ≡ false → 3 ≤ rank y
+from_3 : (d e g h i : Bool) (y : SchemaFault) → pick true true d e g h i y ≡ false → 3 ≤ rank y
 from_3 d e g h i (f.BadType m) p = no p
 from_3 d e g h i (f.BadChildren m) p = no p
 from_3 d e g h i (f.TooManyFields m) p = omega arith
@@ -87,7 +88,7 @@ from_3 d e g h i (f.DictionaryConflict m) p = omega arith
 from_3 d e g h i (f.NestedDictionary m) p = omega arith
 from_3 d e g h i f.OutOfMemory p = omega arith
 
-pub from_4 : (e g h i : Bool) (y : SchemaFault) → pick true true true e g h i y ≡ false → 4 ≤ rank y
+from_4 : (e g h i : Bool) (y : SchemaFault) → pick true true true e g h i y ≡ false → 4 ≤ rank y
 from_4 e g h i (f.BadType m) p = no p
 from_4 e g h i (f.BadChildren m) p = no p
 from_4 e g h i (f.TooManyFields m) p = no p
@@ -97,25 +98,25 @@ from_4 e g h i (f.DictionaryConflict m) p = omega arith
 from_4 e g h i (f.NestedDictionary m) p = omega arith
 from_4 e g h i f.OutOfMemory p = omega arith
 
-pub from_5 : (g h i : Bool) (y : SchemaFault) → pick true true true true g h i y ≡ false → 5 ≤ rank y
+from_5 : (g h i : Bool) (y : SchemaFault) → pick true true true true g h i y ≡ false → 5 ≤ rank y
 from_5 g h i (f.TooMuchText m) p = omega arith
 from_5 g h i (f.DictionaryConflict m) p = omega arith
 from_5 g h i (f.NestedDictionary m) p = omega arith
 from_5 g h i f.OutOfMemory p = omega arith
 from_5 g h i _ p = no p
 
-pub from_6 : (h i : Bool) (y : SchemaFault) → pick true true true true true h i y ≡ false → 6 ≤ rank y
+from_6 : (h i : Bool) (y : SchemaFault) → pick true true true true true h i y ≡ false → 6 ≤ rank y
 from_6 h i (f.DictionaryConflict m) p = omega arith
 from_6 h i (f.NestedDictionary m) p = omega arith
 from_6 h i f.OutOfMemory p = omega arith
 from_6 h i _ p = no p
 
-pub from_7 : (i : Bool) (y : SchemaFault) → pick true true true true true false i y ≡ false → 7 ≤ rank y
+from_7 : (i : Bool) (y : SchemaFault) → pick true true true true true false i y ≡ false → 7 ≤ rank y
 from_7 i (f.NestedDictionary m) p = omega arith
 from_7 i f.OutOfMemory p = omega arith
 from_7 i _ p = no p
 
-pub told : (b c d e g h i : Bool) (n : ℕ) (x : SchemaFault) → chain b c d e g h i n ≡ Some x → Told (pick b c d e g h i) n x
+told : (b c d e g h i : Bool) (n : ℕ) (x : SchemaFault) → chain b c d e g h i n ≡ Some x → Told (pick b c d e g h i) n x
 told false c d e g h i n x q = told_as _ n (f.BadType n) x q (record { number = refl; fails = refl; least = λ y p. from_1 y })
 told true false d e g h i n x q = told_as _ n (f.BadChildren n) x q
     (record { number = refl; fails = refl; least = λ y p. from_2 false d e g h i y p })
@@ -131,7 +132,7 @@ told true true true true true false false n x q =
     told_as _ n (f.NestedDictionary n) x q (record { number = refl; fails = refl; least = λ y p. from_7 false y p })
 told true true true true true false true n x q = cc
 
-pub none_fails : (b c d e g h i : Bool) (n : ℕ) → chain b c d e g h i n ≡ None → (y : SchemaFault) → pick b c d e g h i y ≡ true
+none_fails : (b c d e g h i : Bool) (n : ℕ) → chain b c d e g h i n ≡ None → (y : SchemaFault) → pick b c d e g h i y ≡ true
 none_fails false c d e g h i n q y = cc
 none_fails true false d e g h i n q y = cc
 none_fails true true false e g h i n q y = cc
@@ -149,16 +150,19 @@ none_fails true true true true true false true n q (f.NestedDictionary m) = refl
 none_fails true true true true true false true n q f.OutOfMemory = refl
 
 -- the same of an entry
-abbrev pub test_at : Before → Entry → SchemaFault → Bool
-test_at b e = pick (has_good_type e.kind) (has_fitting_children e.kind e.children) (nat_le (b.fields + 1) max_fields)
-    (nat_le e.depth max_depth) (is_little_text (after b e)) (has_conflict b.kinds e.dictionary e.kind) (has_leaf_dictionary e)
+abbrev pub test_at : Limits → Before → Entry → SchemaFault → Bool
+test_at limits b e = pick (has_good_type e.kind) (has_fitting_children e.kind e.children) (nat_le (b.fields + 1) limits.fields)
+    (nat_le e.depth limits.depth) (is_little_text limits (after b e)) (has_conflict b.kinds e.dictionary e.kind) (has_leaf_dictionary e)
 
-pub told_at : (b : Before) (e : Entry) (x : SchemaFault) → fault_at b e ≡ Some x → Told (test_at b e) (b.fields + 1) x
-told_at b e x h = told (has_good_type e.kind) (has_fitting_children e.kind e.children) (nat_le (b.fields + 1) max_fields)
-    (nat_le e.depth max_depth) (is_little_text (after b e)) (has_conflict b.kinds e.dictionary e.kind) (has_leaf_dictionary e)
+-- the fault told at an entry has the entry's number, counted from 1, and is the first of the faults whose test fails there
+pub told_at : (limits : Limits) (b : Before) (e : Entry) (x : SchemaFault) → fault_at limits b e ≡ Some x
+    → Told (test_at limits b e) (b.fields + 1) x
+told_at limits b e x h = told (has_good_type e.kind) (has_fitting_children e.kind e.children) (nat_le (b.fields + 1) limits.fields)
+    (nat_le e.depth limits.depth) (is_little_text limits (after b e)) (has_conflict b.kinds e.dictionary e.kind) (has_leaf_dictionary e)
     (b.fields + 1) x h
 
-pub clear_at : (b : Before) (e : Entry) → fault_at b e ≡ None → (y : SchemaFault) → test_at b e y ≡ true
-clear_at b e h = none_fails (has_good_type e.kind) (has_fitting_children e.kind e.children) (nat_le (b.fields + 1) max_fields)
-    (nat_le e.depth max_depth) (is_little_text (after b e)) (has_conflict b.kinds e.dictionary e.kind) (has_leaf_dictionary e)
+-- where no fault is told at an entry, it passes the test of every fault
+pub clear_at : (limits : Limits) (b : Before) (e : Entry) → fault_at limits b e ≡ None → (y : SchemaFault) → test_at limits b e y ≡ true
+clear_at limits b e h = none_fails (has_good_type e.kind) (has_fitting_children e.kind e.children) (nat_le (b.fields + 1) limits.fields)
+    (nat_le e.depth limits.depth) (is_little_text limits (after b e)) (has_conflict b.kinds e.dictionary e.kind) (has_leaf_dictionary e)
     (b.fields + 1) h

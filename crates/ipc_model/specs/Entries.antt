@@ -28,6 +28,8 @@ pair_text (p ∷ ps) = length p.0 + length p.1 + pair_text ps
 abbrev pub kind_text : DataType → ℕ
 kind_text (t.Timestamp unit (Some timezone)) = length timezone
 kind_text (t.Timestamp unit None) = 0
+kind_text (t.Time unit) = 0
+kind_text (t.Duration unit) = 0
 kind_text t.Null = 0
 kind_text t.Bool = 0
 kind_text (t.Int bits signed) = 0

@@ -5,36 +5,37 @@ use Rattle.std.specs.Prelude.{slice_get, Some, IsSome, ◌⊎◌}
 use Rattle.ipc_model.specs.WellFormed.{HasGoodType, HasFittingChildren, IsLeaf, IsAmong}
 use Rattle.ipc_model.specs.WellFormed.{HaveOneType}
 use Rattle.ipc_model.specs.Entries.{Entry, entries, pair_text}
-use Rattle.ipc_model.specs.Limits.{max_depth, max_fields, max_pairs, max_text}
 use Rattle.ipc_model.specs.declared.check.SchemaFault.{SchemaFault}
 use Rattle.ipc_model.specs.declared.check.SchemaFault.TheVariants as f
 use Rattle.ipc_model.specs.declared.schema.Schema.{Schema}
+use Rattle.ipc_model.specs.declared.limits.Limits.{Limits}
 
 -- the schema's own pairs and these entries have more text, or more pairs, than all may have
 -- together
-abbrev pub HasMuchText : Schema → List Entry → Type 0
-HasMuchText s es = (max_text < pair_text s.metadata + sum_by (λ e. e.text) es)
-    ⊎ (max_pairs < length s.metadata + sum_by (λ e. e.pairs) es)
+abbrev pub HasMuchText : Limits → Schema → List Entry → Type 0
+HasMuchText limits s es = (limits.text < pair_text s.metadata + sum_by (λ e. e.text) es)
+    ⊎ (limits.pairs < length s.metadata + sum_by (λ e. e.pairs) es)
 
 -- an earlier entry has the dictionary of this one, and another type
 abbrev pub HasConflict : List Entry → Entry → Type 0
 HasConflict earlier e = (a : Entry) × (IsAmong a earlier × ¬ HaveOneType a e)
 
 -- an entry behind these earlier ones breaks the rule that the fault is of
-abbrev pub Breaks : Schema → List Entry → Entry → SchemaFault → Type 0
-Breaks s earlier e (f.BadType number) = ¬ HasGoodType e.kind
-Breaks s earlier e (f.BadChildren number) = ¬ HasFittingChildren e.kind e.children
-Breaks s earlier e (f.TooManyFields number) = max_fields < length earlier + 1
-Breaks s earlier e (f.TooDeep number) = max_depth < e.depth
-Breaks s earlier e (f.TooMuchText number) = HasMuchText s (earlier ++ e ∷ [])
-Breaks s earlier e (f.DictionaryConflict number) = HasConflict earlier e
-Breaks s earlier e (f.NestedDictionary number) = ¬ (IsSome e.dictionary → IsLeaf e.kind)
-Breaks s earlier e f.OutOfMemory = ⊥
+abbrev pub Breaks : Limits → Schema → List Entry → Entry → SchemaFault → Type 0
+Breaks limits s earlier e (f.BadType number) = ¬ HasGoodType e.kind
+Breaks limits s earlier e (f.BadChildren number) = ¬ HasFittingChildren e.kind e.children
+Breaks limits s earlier e (f.TooManyFields number) = limits.fields < length earlier + 1
+Breaks limits s earlier e (f.TooDeep number) = limits.depth < e.depth
+Breaks limits s earlier e (f.TooMuchText number) = HasMuchText limits s (earlier ++ e ∷ [])
+Breaks limits s earlier e (f.DictionaryConflict number) = HasConflict earlier e
+Breaks limits s earlier e (f.NestedDictionary number) = ¬ (IsSome e.dictionary → IsLeaf e.kind)
+Breaks limits s earlier e f.OutOfMemory = ⊥
 
 -- the entry with k before it does
-abbrev pub BreaksAt : Schema → ℕ → SchemaFault → Type 0
-BreaksAt s k fault = (e : Entry)
-    × ((slice_get (entries s.fields) k ≡ Some e) × Breaks s (take k (entries s.fields)) e fault)
+abbrev pub BreaksAt : Limits → Schema → ℕ → SchemaFault → Type 0
+BreaksAt limits s k fault = (e : Entry)
+    × ((slice_get (entries s.fields) k ≡ Some e)
+    × Breaks limits s (take k (entries s.fields)) e fault)
 
 -- which of one entry's faults is returned before another
 abbrev pub rank : SchemaFault → ℕ
@@ -60,14 +61,14 @@ number_of f.OutOfMemory = 0
 
 -- the fault is one of the entry with k before it, the first of that entry's, and no earlier entry
 -- has any
-pub record IsFirstAt (s : Schema) (k : ℕ) (fault : SchemaFault) : Type 0 where
+pub record IsFirstAt (limits : Limits) (s : Schema) (k : ℕ) (fault : SchemaFault) : Type 0 where
   pub number : number_of fault ≡ k + 1
-  pub broken : BreaksAt s k fault
-  pub told_first : (other : SchemaFault) → BreaksAt s k other → rank fault ≤ rank other
-  pub none_before : (j : ℕ) → j < k → (other : SchemaFault) → ¬ BreaksAt s j other
+  pub broken : BreaksAt limits s k fault
+  pub told_first : (other : SchemaFault) → BreaksAt limits s k other → rank fault ≤ rank other
+  pub none_before : (j : ℕ) → j < k → (other : SchemaFault) → ¬ BreaksAt limits s j other
 
 -- the first fault of a schema: of its own pairs, which are counted before its entries and have the
 -- number 0, or of an entry
-abbrev pub IsFirstFault : Schema → SchemaFault → Type 0
-IsFirstFault s fault = (HasMuchText s [] × (fault ≡ f.TooMuchText 0))
-    ⊎ (¬ HasMuchText s [] × ((k : ℕ) × IsFirstAt s k fault))
+abbrev pub IsFirstFault : Limits → Schema → SchemaFault → Type 0
+IsFirstFault limits s fault = (HasMuchText limits s [] × (fault ≡ f.TooMuchText 0))
+    ⊎ (¬ HasMuchText limits s [] × ((k : ℕ) × IsFirstAt limits s k fault))

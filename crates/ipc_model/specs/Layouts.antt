@@ -3,14 +3,25 @@ use Rattle.std.specs.Prelude.{ℕ, Bool, true, false, Option, Some, None}
 use Rattle.ipc_model.specs.declared.schema.IntBits.{IntBits}
 use Rattle.ipc_model.specs.declared.schema.IntBits.TheVariants.{B8, B16, B32, B64}
 use Rattle.ipc_model.specs.declared.schema.DateUnit.TheVariants.{Day, Millisecond}
+use Rattle.ipc_model.specs.declared.schema.TimeUnit.{TimeUnit}
+use Rattle.ipc_model.specs.declared.schema.TimeUnit.TheVariants as u
 use Rattle.ipc_model.specs.declared.schema.DataType.{DataType}
 use Rattle.ipc_model.specs.declared.schema.DataType.TheVariants as t
 use Rattle.ipc_model.specs.declared.schema.Dictionary.{Dictionary}
 use Rattle.ipc_model.specs.declared.layout.Layout.{Layout}
 use Rattle.ipc_model.specs.declared.layout.Layout.TheVariants as l
 
--- the layout of a type's slots: a date in days is a signed number of 32 bits, one in milliseconds
--- and a timestamp of 64 (Schema.fbs, Date, Timestamp)
+-- how many bits a time of day has: 32 in seconds and milliseconds, 64 in microseconds and
+-- nanoseconds (Schema.fbs, table Time)
+abbrev pub time_bits : TimeUnit → IntBits
+time_bits u.Second = B32
+time_bits u.Millisecond = B32
+time_bits u.Microsecond = B64
+time_bits u.Nanosecond = B64
+
+-- the layout of a type's slots: a date in days is a signed number of 32 bits, one in milliseconds,
+-- a timestamp and a duration of 64, and a time of its unit's (Schema.fbs, Date, Time, Timestamp,
+-- Duration)
 abbrev pub type_layout : DataType → Layout
 type_layout t.Null = l.Null
 type_layout t.Bool = l.Bits
@@ -21,6 +32,8 @@ type_layout (t.FixedSizeBinary width) = l.FixedBytes width
 type_layout (t.Date Day) = l.Numbers B32 true
 type_layout (t.Date Millisecond) = l.Numbers B64 true
 type_layout (t.Timestamp unit timezone) = l.Numbers B64 true
+type_layout (t.Time unit) = l.Numbers (time_bits unit) true
+type_layout (t.Duration unit) = l.Numbers B64 true
 type_layout t.List = l.Unsupported
 type_layout t.Struct = l.Unsupported
 

@@ -1,36 +1,52 @@
 -- How much one stream, schema or batch may hold. Where no section of the standard is named, a
 -- limit is this project's.
-use Rattle.std.specs.Prelude.{ℕ, ◌-◌, ◌^◌}
+use Rattle.std.specs.Prelude.{◌≡◌, ℕ, ◌-◌, ◌^◌, ◌≤◌}
+use Rattle.ipc_model.specs.Greatest.{greatest_metadata, greatest_body, greatest_slots}
+use Rattle.ipc_model.specs.Greatest.{greatest_fields, greatest_depth, greatest_text, greatest_pairs}
+use Rattle.ipc_model.specs.declared.limits.Limits.{Limits}
 
--- the most bytes of a message's metadata, its padding included
-abbrev pub max_metadata : ℕ
-max_metadata = 2 ^ 24
-
--- the most bytes of a message's body
-abbrev pub max_body : ℕ
-max_body = 2 ^ 40
-
--- the most rows of a batch, and the most slots of a column (Arrow Columnar Format, "Array lengths")
-abbrev pub max_rows : ℕ
-max_rows = 2 ^ 31 - 1
-
--- the most bytes that offsets of 32 bits reach (Arrow Columnar Format, "Variable-size Binary
--- Layout")
+-- the most bytes that offsets of 32 bits reach, whatever the limits (Arrow Columnar Format,
+-- "Variable-size Binary Layout")
 abbrev pub max_data : ℕ
 max_data = 2 ^ 31 - 1
 
--- the most fields of a schema, their descendants included
-abbrev pub max_fields : ℕ
-max_fields = 65536
+-- the limits that fit what is written in practice
+pub record IsStandard (limits : Limits) : Type 0 where
+  pub metadata : limits.metadata ≡ 2 ^ 24
+  pub body : limits.body ≡ 2 ^ 40
+  pub slots : limits.slots ≡ 2 ^ 31 - 1
+  pub fields : limits.fields ≡ 65536
+  pub depth : limits.depth ≡ 64
+  pub text : limits.text ≡ 2 ^ 26
+  pub pairs : limits.pairs ≡ 2 ^ 20
 
--- the most fields one above another, where a column is 1 deep
-abbrev pub max_depth : ℕ
-max_depth = 64
+-- no value is below the other's: what is within those is within these
+pub record Covers (limits others : Limits) : Type 0 where
+  pub metadata : others.metadata ≤ limits.metadata
+  pub body : others.body ≤ limits.body
+  pub slots : others.slots ≤ limits.slots
+  pub fields : others.fields ≤ limits.fields
+  pub depth : others.depth ≤ limits.depth
+  pub text : others.text ≤ limits.text
+  pub pairs : others.pairs ≤ limits.pairs
 
--- the most bytes of a schema's names, keys, values and timezones together
-abbrev pub max_text : ℕ
-max_text = 2 ^ 26
+-- the limits have these values, in the order in which they are given
+pub record HaveValues (limits : Limits) (metadata body slots fields depth text
+    pairs : ℕ) : Type 0 where
+  pub metadata_is : limits.metadata ≡ metadata
+  pub body_is : limits.body ≡ body
+  pub slots_is : limits.slots ≡ slots
+  pub fields_is : limits.fields ≡ fields
+  pub depth_is : limits.depth ≡ depth
+  pub text_is : limits.text ≡ text
+  pub pairs_is : limits.pairs ≡ pairs
 
--- the most pairs of key and value of a schema and its fields together
-abbrev pub max_pairs : ℕ
-max_pairs = 2 ^ 20
+-- limits may have these values: none is above its greatest
+pub record AreAllowed (metadata body slots fields depth text pairs : ℕ) : Type 0 where
+  pub metadata_fits : metadata ≤ greatest_metadata
+  pub body_fits : body ≤ greatest_body
+  pub slots_fit : slots ≤ greatest_slots
+  pub fields_fit : fields ≤ greatest_fields
+  pub depth_fits : depth ≤ greatest_depth
+  pub text_fits : text ≤ greatest_text
+  pub pairs_fit : pairs ≤ greatest_pairs

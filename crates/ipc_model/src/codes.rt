@@ -5,7 +5,7 @@ ghost use Rattle.ipc_model.specs.TypeCodes.{type_code};
 use crate::schema::DataType;
 
 impl DataType {
-    /// The code of the type in union Type (Schema.fbs), from 1 to 15.
+    /// The code of the type in union Type (Schema.fbs), from 1 to 18.
     pub fn code(&self) -> u8
         ensures { result ≡ type_code self.now }
     {
@@ -16,7 +16,9 @@ impl DataType {
             DataType::Utf8 => 5,
             DataType::Bool => 6,
             DataType::Date(_) => 8,
+            DataType::Time(_) => 9,
             DataType::Timestamp { .. } => 10,
+            DataType::Duration(_) => 18,
             DataType::List => 12,
             DataType::Struct => 13,
             DataType::FixedSizeBinary(_) => 15,

@@ -1,10 +1,10 @@
 //! The table of types: how the slots of each lie in buffers, and how wide numbers are.
 ghost use Rattle.std.specs.Prelude.{◌≡◌};
 ghost use Rattle.ipc_model.specs.Layouts.{type_layout, layout, own_buffers, has_validity};
-ghost use Rattle.ipc_model.specs.Layouts.{is_signed_64, is_texts, number_bytes};
+ghost use Rattle.ipc_model.specs.Layouts.{is_signed_64, is_texts, number_bytes, time_bits};
 ghost use Rattle.ipc_model.specs.Ranges.{width};
 
-use crate::schema::{DataType, DateUnit, Dictionary, IntBits};
+use crate::schema::{DataType, DateUnit, Dictionary, IntBits, TimeUnit};
 
 /// How the slots of a field lie in its buffers (Arrow Columnar Format, "Physical Memory Layout").
 #[derive(Clone, Copy, Debug, PartialEq, Eq, Drop)]
@@ -51,6 +51,14 @@ fn type_layout(kind: &DataType) -> Layout
             signed: true,
         },
         DataType::Date(DateUnit::Millisecond) | DataType::Timestamp { .. } => Layout::Numbers {
+            bits: IntBits::B64,
+            signed: true,
+        },
+        DataType::Time(unit) => Layout::Numbers {
+            bits: unit.time_bits(),
+            signed: true,
+        },
+        DataType::Duration(_) => Layout::Numbers {
             bits: IntBits::B64,
             signed: true,
         },
@@ -112,6 +120,19 @@ impl Layout {
                 signed,
             } => signed,
             _ => false,
+        }
+    }
+}
+
+impl TimeUnit {
+    /// How many bits a time of day in this unit has: 32 for seconds and milliseconds, 64 for
+    /// microseconds and nanoseconds (Schema.fbs, table Time, `bitWidth`).
+    pub fn time_bits(self) -> IntBits
+        ensures { result ≡ time_bits self }
+    {
+        match self {
+            TimeUnit::Second | TimeUnit::Millisecond => IntBits::B32,
+            TimeUnit::Microsecond | TimeUnit::Nanosecond => IntBits::B64,
         }
     }
 }

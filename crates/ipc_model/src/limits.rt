@@ -1,28 +1,124 @@
-//! How much one stream, schema or batch may hold. The standard bounds rows and the data of a column
-//! by its lengths and offsets of 32 bits; the other limits are this project's.
+//! How much one stream, schema or batch may hold.
+ghost use Rattle.std.specs.Prelude.{◌≤◌, ◌^◌, ◌-◌};
+ghost use Rattle.ipc_model.specs.Greatest.{greatest_metadata, greatest_body, greatest_slots};
+ghost use Rattle.ipc_model.specs.Greatest.{greatest_fields, greatest_depth, greatest_text};
+ghost use Rattle.ipc_model.specs.Greatest.{greatest_pairs};
 
-/// The most bytes of a message's metadata, its padding included.
-pub const MAX_METADATA: u64 = 1 << 24;
-
-/// The most bytes of a message's body.
-pub const MAX_BODY: u64 = 1 << 40;
-
-/// The most rows of a batch, and the most slots of a column (Arrow Columnar Format, "Array
-/// lengths").
-pub const MAX_ROWS: u64 = 0x7fff_ffff;
-
-/// The most bytes of data of a column whose offsets have 32 bits (Arrow Columnar Format,
-/// "Variable-size Binary Layout").
+/// The most bytes of data of a column whose offsets have 32 bits, whatever the limits (Arrow
+/// Columnar Format, "Variable-size Binary Layout").
 pub const MAX_DATA: u64 = 0x7fff_ffff;
 
-/// The most fields of a schema, their descendants included.
-pub const MAX_FIELDS: u64 = 65_536;
+// The greatest values of the limits.
+const GREATEST_METADATA: u64 = 1 << 28;
 
-/// The most fields one above another, where a column is 1 deep.
-pub const MAX_DEPTH: u32 = 64;
+const GREATEST_BODY: u64 = 1 << 42;
 
-/// The most bytes of a schema's names, keys, values and timezones together.
-pub const MAX_TEXT: u64 = 1 << 26;
+const GREATEST_SLOTS: u64 = 0x7fff_ffff;
 
-/// The most pairs of key and value of a schema and its fields together.
-pub const MAX_PAIRS: u64 = 1 << 20;
+const GREATEST_FIELDS: u64 = 1 << 20;
+
+const GREATEST_DEPTH: u64 = 64;
+
+const GREATEST_TEXT: u64 = 1 << 30;
+
+const GREATEST_PAIRS: u64 = 1 << 24;
+
+/// How much one stream, schema or batch may hold: what a reader takes from strangers, and what a
+/// writer makes. Each value is at most its greatest, which is part of the type.
+///
+/// `Limits::standard()` has values that fit what is written in practice. The standard bounds slots
+/// and the data of a column by lengths and offsets of 32 bits; the other limits are this project's.
+#[derive(Clone, Copy, Debug, PartialEq, Eq)]
+pub struct Limits {
+    /// The most bytes of a message's metadata, its padding included: at most 2^28.
+    pub metadata: u64,
+    /// The most bytes of a message's body: at most 2^42.
+    pub body: u64,
+    /// The most rows of a batch, and the most slots of a column: at most 2^31 - 1 (Arrow Columnar
+    /// Format, "Array lengths").
+    pub slots: u64,
+    /// The most fields of a schema, their descendants included: at most 2^20.
+    pub fields: u64,
+    /// The most fields one above another, where a column is 1 deep: at most 64.
+    pub depth: u64,
+    /// The most bytes of a schema's names, keys, values and timezones together: at most 2^30.
+    pub text: u64,
+    /// The most pairs of key and value of a schema and its fields together: at most 2^24.
+    pub pairs: u64,
+    pub ghost metadata_fits: { metadata ≤ greatest_metadata },
+    pub ghost body_fits: { body ≤ greatest_body },
+    pub ghost slots_fit: { slots ≤ greatest_slots },
+    pub ghost fields_fit: { fields ≤ greatest_fields },
+    pub ghost depth_fits: { depth ≤ greatest_depth },
+    pub ghost text_fits: { text ≤ greatest_text },
+    pub ghost pairs_fit: { pairs ≤ greatest_pairs },
+}
+
+impl Limits {
+    ghost use Rattle.std.specs.Prelude.{◌↔◌, IsTrue, IsSome, IfSome};
+    ghost use Rattle.ipc_model.specs.Limits.{IsStandard, Covers, HaveValues, AreAllowed};
+
+    /// Limits that fit what is written in practice: metadata of 2^24 bytes, bodies of 2^40, 2^31 -
+    /// 1 slots, 65,536 fields, 64 of them one above another, 2^26 bytes of text and 2^20 pairs.
+    pub fn standard() -> Limits
+        ensures { IsStandard result }
+    {
+        Limits {
+            metadata: 1 << 24,
+            body: 1 << 40,
+            slots: 0x7fff_ffff,
+            fields: 65_536,
+            depth: 64,
+            text: 1 << 26,
+            pairs: 1 << 20,
+        }
+    }
+
+    /// Limits with these values. None exactly where one of them is above its greatest.
+    pub fn new(
+        metadata: u64,
+        body: u64,
+        slots: u64,
+        fields: u64,
+        depth: u64,
+        text: u64,
+        pairs: u64,
+    ) -> Option<Limits>
+        ensures values { IfSome result
+            (λ limits. HaveValues limits metadata body slots fields depth text pairs) }
+        ensures some { IsSome result ↔ AreAllowed metadata body slots fields depth text pairs }
+    {
+        let is_allowed = metadata <= GREATEST_METADATA
+            && body <= GREATEST_BODY
+            && slots <= GREATEST_SLOTS
+            && fields <= GREATEST_FIELDS
+            && depth <= GREATEST_DEPTH
+            && text <= GREATEST_TEXT
+            && pairs <= GREATEST_PAIRS;
+        if !is_allowed {
+            return None;
+        }
+        Some(Limits {
+            metadata,
+            body,
+            slots,
+            fields,
+            depth,
+            text,
+            pairs,
+        })
+    }
+
+    /// Whether no value is below the other's: then what is within the others is within these.
+    pub fn covers(&self, others: &Limits) -> bool
+        ensures { IsTrue result ↔ Covers self.now others.now }
+    {
+        self.metadata >= others.metadata
+            && self.body >= others.body
+            && self.slots >= others.slots
+            && self.fields >= others.fields
+            && self.depth >= others.depth
+            && self.text >= others.text
+            && self.pairs >= others.pairs
+    }
+}
