@@ -11,7 +11,7 @@ use Rattle.ipc_model.specs.declared.schema.DataType.{DataType}
 use Rattle.ipc_model.specs.declared.schema.Field.{Field, roll-Field, out-Field, ind-Field, fold-roll-Field, fold_out-Field, map-Field}
 use Rattle.ipc_model.specs.declared.schema.Field.TheOpen.{Field-F}
 use Rattle.ipc_model.specs.declared.schema.Schema.{Schema}
-use Rattle.ipc_model.proofs.Depths.{AreShallow, both_shallow, well_formed_shallow}
+use Rattle.ipc_model.proofs.Depths.{AreShallow, both_shallow, none_deeper}
 use Rattle.ipc_meta.specs.declared.budget.Budget.{Budget}
 use Rattle.ipc_meta.specs.declared.head.BatchHead.{BatchHead}
 use Rattle.ipc_meta.specs.Budgets.{less_fields, less_text, less_pairs}
@@ -21,6 +21,7 @@ use Rattle.ipc_meta.specs.Heads.{BatchAt}
 use Rattle.ipc_meta.specs.Reading.{batch_read, each, text_read, pair_read, pairs_read, type_read, fields_read, field_read}
 use Rattle.ipc_meta.proofs.Entries.{tables_are}
 use Rattle.ipc_meta.proofs.Sound.{field_roll}
+use Rattle.ipc_model.specs.declared.limits.Limits.{Limits}
 
 -- so many fields, bytes of text and pairs
 abbrev pub budget : ℕ → ℕ → ℕ → Budget
@@ -74,6 +75,7 @@ each_pair s (x ∷ ps) p n a b c m h e =
       each_pair s ps (p + 4) (n - 1) a (pair_text ps + m) c m h.4 refl,
     ) refl
 
+-- pairs that a table states are read where the budget has room for them, and take their text and their number of it
 pub pairs_complete : (t : TableView) (k : ℕ) (ps : List (List ℕ × List ℕ)) (a b c m q : ℕ) → VectorAt PairAt ps t k → pair_text ps + m ≡ b
     → length ps + q ≡ c
     → pairs_read t k (budget a b c) ≡ Ok (ps, budget a m q)
@@ -113,136 +115,149 @@ many_entries (f ∷ fs) d = omega (arith, length-append (preorder f d) (all_at d
 abbrev Counted : List Entry → ℕ → ℕ → ℕ → ℕ → ℕ → ℕ → ℕ → Type 0
 Counted es n a b c r m q = (length es + r ≡ a + n) × (text_of es + m ≡ b) × (pairs_of es + q ≡ c)
 
-abbrev IsReadBack : Field → Type 0
-IsReadBack f = (n d : ℕ) (t : TableView) (a b c r m q : ℕ) → FieldAt f t → n + d ≡ 65 → AreShallow 64 (preorder f d)
-    → Counted (preorder f d) 1 a b c r m q
-    → field_read n t (budget a b c) ≡ Ok (f, budget r m q)
+-- with at most so many levels
+module _ (limit : ℕ) where
+  abbrev IsReadBack : Field → Type 0
+  IsReadBack f = (n d : ℕ) (t : TableView) (a b c r m q : ℕ) → FieldAt f t → n + d ≡ limit + 1 → AreShallow limit (preorder f d)
+      → Counted (preorder f d) 1 a b c r m q
+      → field_read n t (budget a b c) ≡ Ok (f, budget r m q)
 
-abbrev Shown : Type 0
-Shown = (f : Field) × IsReadBack f
+  abbrev Shown : Type 0
+  Shown = (f : Field) × IsReadBack f
 
-abbrev fields_of : List Shown → List Field
-fields_of cs = map (λ c. c.0) cs
+  abbrev fields_of : List Shown → List Field
+  fields_of cs = map (λ c. c.0) cs
 
-each_field : (s : List ℕ) (cs : List Shown) (n d p k a b c r m q : ℕ) → TablesAt FieldAt s p k (fields_of cs) → n + d ≡ 65
-    → AreShallow 64 (all_at d (map preorder (fields_of cs)))
-    → Counted (all_at d (map preorder (fields_of cs))) k a b c r m q
-    → each (field_read n) s p k (budget a b c) ≡ Ok (fields_of cs, budget r m q)
-unfolding each
-each_field s [] n d p k a b c r m q h deep w e =
-    let x : a ≡ r = (let z = e.0 in omega arith) in
-    let y : b ≡ m = (let z = e.1 in omega arith) in
-    let z : c ≡ q = (let z = e.2 in omega arith) in
-    rw (h, x, y, z) refl
-each_field s (f ∷ cs) n d p k a b c r m q h deep w e =
-    let here = preorder f.0 d in
-    let there = all_at d (map preorder (fields_of cs)) in
-    let size : k ≡ suc (k - 1) = (let l = h.1 in omega arith) in
-    let count = length-append here there in
-    let text = sum_by-append (λ e. e.text) here there in
-    let pairs = sum_by-append (λ e. e.pairs) here there in
-    let several = many_entries (fields_of cs) d in
-    let many = tables_are FieldAt s (fields_of cs) (p + 4) (k - 1) h.4 in
-    let deeper = both_shallow 64 here there w in
-    let e0 = e.0 in
-    let e1 = e.1 in
-    let e2 = e.2 in
-    let first : field_read n h.0 (budget a b c) ≡ Ok (f.0, budget (a + 1 - length here) (text_of there + m) (pairs_of there + q))
-    = f.1 n d h.0 a b c (a + 1 - length here) (text_of there + m) (pairs_of there + q) h.3 deep deeper.0
-    (omega arith, omega arith, omega arith) in
-    let others = each_field s cs n d (p + 4) (k - 1) (a + 1 - length here) (text_of there + m) (pairs_of there + q) r m q h.4 deep deeper.1
-    (omega arith, refl, refl) in
-    rw (size, h.2, first, others) refl
+  each_field : (s : List ℕ) (cs : List Shown) (n d p k a b c r m q : ℕ) → TablesAt FieldAt s p k (fields_of cs) → n + d ≡ limit + 1
+      → AreShallow limit (all_at d (map preorder (fields_of cs)))
+      → Counted (all_at d (map preorder (fields_of cs))) k a b c r m q
+      → each (field_read n) s p k (budget a b c) ≡ Ok (fields_of cs, budget r m q)
+  unfolding each
+  each_field s [] n d p k a b c r m q h deep w e =
+      let x : a ≡ r = (let z = e.0 in omega arith) in
+      let y : b ≡ m = (let z = e.1 in omega arith) in
+      let z : c ≡ q = (let z = e.2 in omega arith) in
+      rw (h, x, y, z) refl
+  each_field s (f ∷ cs) n d p k a b c r m q h deep w e =
+      let here = preorder f.0 d in
+      let there = all_at d (map preorder (fields_of cs)) in
+      let size : k ≡ suc (k - 1) = (let l = h.1 in omega arith) in
+      let count = length-append here there in
+      let text = sum_by-append (λ e. e.text) here there in
+      let pairs = sum_by-append (λ e. e.pairs) here there in
+      let several = many_entries (fields_of cs) d in
+      let many = tables_are FieldAt s (fields_of cs) (p + 4) (k - 1) h.4 in
+      let deeper = both_shallow limit here there w in
+      let e0 = e.0 in
+      let e1 = e.1 in
+      let e2 = e.2 in
+      let first : field_read n h.0 (budget a b c) ≡ Ok (f.0, budget (a + 1 - length here) (text_of there + m) (pairs_of there + q))
+      = f.1 n d h.0 a b c (a + 1 - length here) (text_of there + m) (pairs_of there + q) h.3 deep deeper.0
+      (omega arith, omega arith, omega arith) in
+      let others = each_field s cs n d (p + 4) (k - 1) (a + 1 - length here) (text_of there + m) (pairs_of there + q) r m q h.4 deep
+      deeper.1
+      (omega arith, refl, refl) in
+      rw (size, h.2, first, others) refl
 
-children_complete : (t : TableView) (k : ℕ) (cs : List Shown) (n d a b c r m q : ℕ) → VectorAt FieldAt (fields_of cs) t k → n + d ≡ 65
-    → AreShallow 64 (all_at d (map preorder (fields_of cs)))
-    → Counted (all_at d (map preorder (fields_of cs))) 0 a b c r m q
-    → fields_read (field_read n) t k (budget a b c) ≡ Ok (fields_of cs, budget r m q)
-unfolding fields_read
-children_complete t k cs n d a b c r m q h deep w e =
-    let many = tables_are FieldAt h.0.bytes (fields_of cs) h.0.at h.0.len h.2 in
-    let several = many_entries (fields_of cs) d in
-    let e0 = e.0 in
-    rw (
-      h.1,
-      less_fields_is h.0.len a b c (a - h.0.len) (omega arith),
-      each_field h.0.bytes cs n d h.0.at h.0.len (a - h.0.len) b c r m q h.2 deep w (omega arith, e.1, e.2),
-    ) refl
+  children_complete : (t : TableView) (k : ℕ) (cs : List Shown) (n d a b c r m q : ℕ) → VectorAt FieldAt (fields_of cs) t k
+      → n + d ≡ limit + 1
+      → AreShallow limit (all_at d (map preorder (fields_of cs)))
+      → Counted (all_at d (map preorder (fields_of cs))) 0 a b c r m q
+      → fields_read (field_read n) t k (budget a b c) ≡ Ok (fields_of cs, budget r m q)
+  unfolding fields_read
+  children_complete t k cs n d a b c r m q h deep w e =
+      let many = tables_are FieldAt h.0.bytes (fields_of cs) h.0.at h.0.len h.2 in
+      let several = many_entries (fields_of cs) d in
+      let e0 = e.0 in
+      rw (
+        h.1,
+        less_fields_is h.0.len a b c (a - h.0.len) (omega arith),
+        each_field h.0.bytes cs n d h.0.at h.0.len (a - h.0.len) b c r m q h.2 deep w (omega arith, e.1, e.2),
+      ) refl
 
-roll_read : (y : Field-F Shown) → IsReadBack (roll-Field (map-Field Shown Field (λ c. c.0) y))
-unfolding field_read
-roll_read y zero d t a b c r m q h deep w e =
-    let z : Field-F Field = map-Field Shown Field (λ c. c.0) y in
-    let g : AreShallow 64 (preorder_step (map-Field Field Listing preorder z) d) =
-    subst (λ (l : Listing). AreShallow 64 (l d)) (fold-roll-Field Listing preorder_step z) w in
-    let shallow = g.0 in
-    absurd (omega arith)
-roll_read y (suc n) d t a b c r m q h deep w e =
-    let z : Field-F Field = map-Field Shown Field (λ c. c.0) y in
-    let rolled = fold-roll-Field Listing preorder_step z in
-    let below = all_at (d + 1) (map preorder (fields_of y.children)) in
-    let g : AreShallow 64 (preorder_step (map-Field Field Listing preorder z) d) = subst (λ (l : Listing). AreShallow 64 (l d)) rolled w in
-    let counted : Counted (entry_of (map-Field Field Listing preorder z) d ∷ below) 1 a b c r m q =
-    subst (λ (l : Listing). Counted (l d) 1 a b c r m q) rolled e in
-    let here = subst (λ (F : TableView → Type 0). F t) (field_roll z) h in
-    let e0 = counted.0 in
-    let head = entry_of (map-Field Field Listing preorder z) d in
-    let e1 : (length y.name + kind_text y.kind + pair_text y.metadata) + text_of below + m ≡ b =
-    ap (λ k. k + m) (sym (sum_by-cons (λ e. e.text) head below)) ∙ counted.1 in
-    let e2 : length y.metadata + pairs_of below + q ≡ c = ap (λ k. k + q) (sym (sum_by-cons (λ e. e.pairs) head below)) ∙ counted.2 in
-    let name = text_complete t 0 y.name a b c (kind_text y.kind + (pair_text y.metadata + (text_of below + m))) here.0 (omega arith) in
-    let κ = type_complete t y.kind a (kind_text y.kind + (pair_text y.metadata + (text_of below + m))) c
-    (pair_text y.metadata + (text_of below + m)) here.2 refl in
-    let ps = pairs_complete t 6 y.metadata a (pair_text y.metadata + (text_of below + m)) c (text_of below + m)
-    (pairs_of below + q) here.4 refl (omega arith) in
-    let cs = children_complete t 5 y.children n (d + 1) a (text_of below + m) (pairs_of below + q) r m q here.5 (omega arith) g.1
-    (omega arith, refl, refl) in
-    rw (name, here.1, κ, here.3, ps, cs) refl
+  roll_read : (y : Field-F Shown) → IsReadBack (roll-Field (map-Field Shown Field (λ c. c.0) y))
+  unfolding field_read
+  roll_read y zero d t a b c r m q h deep w e =
+      let z : Field-F Field = map-Field Shown Field (λ c. c.0) y in
+      let g : AreShallow limit (preorder_step (map-Field Field Listing preorder z) d) =
+      subst (λ (l : Listing). AreShallow limit (l d)) (fold-roll-Field Listing preorder_step z) w in
+      let shallow = g.0 in
+      absurd (omega arith)
+  roll_read y (suc n) d t a b c r m q h deep w e =
+      let z : Field-F Field = map-Field Shown Field (λ c. c.0) y in
+      let rolled = fold-roll-Field Listing preorder_step z in
+      let below = all_at (d + 1) (map preorder (fields_of y.children)) in
+      let g : AreShallow limit (preorder_step (map-Field Field Listing preorder z) d) =
+      subst (λ (l : Listing). AreShallow limit (l d)) rolled w in
+      let counted : Counted (entry_of (map-Field Field Listing preorder z) d ∷ below) 1 a b c r m q =
+      subst (λ (l : Listing). Counted (l d) 1 a b c r m q) rolled e in
+      let here = subst (λ (F : TableView → Type 0). F t) (field_roll z) h in
+      let e0 = counted.0 in
+      let head = entry_of (map-Field Field Listing preorder z) d in
+      let e1 : (length y.name + kind_text y.kind + pair_text y.metadata) + text_of below + m ≡ b =
+      ap (λ k. k + m) (sym (sum_by-cons (λ e. e.text) head below)) ∙ counted.1 in
+      let e2 : length y.metadata + pairs_of below + q ≡ c = ap (λ k. k + q) (sym (sum_by-cons (λ e. e.pairs) head below)) ∙ counted.2 in
+      let name = text_complete t 0 y.name a b c (kind_text y.kind + (pair_text y.metadata + (text_of below + m))) here.0 (omega arith) in
+      let κ = type_complete t y.kind a (kind_text y.kind + (pair_text y.metadata + (text_of below + m))) c
+      (pair_text y.metadata + (text_of below + m)) here.2 refl in
+      let ps = pairs_complete t 6 y.metadata a (pair_text y.metadata + (text_of below + m)) c (text_of below + m)
+      (pairs_of below + q) here.4 refl (omega arith) in
+      let cs = children_complete t 5 y.children n (d + 1) a (text_of below + m) (pairs_of below + q) r m q here.5 (omega arith) g.1
+      (omega arith, refl, refl) in
+      rw (name, here.1, κ, here.3, ps, cs) refl
 
-pub field_complete : (f : Field) → IsReadBack f
-field_complete = ind-Field IsReadBack (λ x y is. subst (λ z. IsReadBack (roll-Field z)) is (roll_read y))
+  -- each field that a table states is read of it where the budget has room for it and all below it
+  pub field_complete : (f : Field) → IsReadBack f
+  field_complete = ind-Field IsReadBack (λ x y is. subst (λ z. IsReadBack (roll-Field z)) is (roll_read y))
 
-shown : List Field → List Shown
-shown fs = map (λ f. (f, field_complete f)) fs
+  shown : List Field → List Shown
+  shown fs = map (λ f. (f, field_complete f)) fs
 
-shown_are : (fs : List Field) → fields_of (map (λ f. (f, field_complete f)) fs) ≡ fs
-shown_are [] = refl
-shown_are (f ∷ fs) = ap (λ gs. f ∷ gs) (shown_are fs)
+  shown_are : (fs : List Field) → fields_of (map (λ f. (f, field_complete f)) fs) ≡ fs
+  shown_are [] = refl
+  shown_are (f ∷ fs) = ap (λ gs. f ∷ gs) (shown_are fs)
 
-pub columns_complete : (t : TableView) (k : ℕ) (fs : List Field) (n d a b c r m q : ℕ) → VectorAt FieldAt fs t k → n + d ≡ 65
-    → AreShallow 64 (all_at d (map preorder fs))
-    → Counted (all_at d (map preorder fs)) 0 a b c r m q → fields_read (field_read n) t k (budget a b c) ≡ Ok (fs, budget r m q)
-columns_complete t k fs n d a b c r m q =
-    subst (λ gs. VectorAt FieldAt gs t k → n + d ≡ 65 → AreShallow 64 (all_at d (map preorder gs))
-    → Counted (all_at d (map preorder gs)) 0 a b c r m q → fields_read (field_read n) t k (budget a b c) ≡ Ok (gs, budget r m q))
-    (shown_are fs) (children_complete t k (map (λ f. (f, field_complete f)) fs) n d a b c r m q)
+  -- the fields that a vector of tables states are read of it where the budget has room for them and all below them
+  pub columns_complete : (t : TableView) (k : ℕ) (fs : List Field) (n d a b c r m q : ℕ) → VectorAt FieldAt fs t k → n + d ≡ limit + 1
+      → AreShallow limit (all_at d (map preorder fs))
+      → Counted (all_at d (map preorder fs)) 0 a b c r m q → fields_read (field_read n) t k (budget a b c) ≡ Ok (fs, budget r m q)
+  columns_complete t k fs n d a b c r m q =
+      subst (λ gs. VectorAt FieldAt gs t k → n + d ≡ limit + 1 → AreShallow limit (all_at d (map preorder gs))
+      → Counted (all_at d (map preorder gs)) 0 a b c r m q → fields_read (field_read n) t k (budget a b c) ≡ Ok (gs, budget r m q))
+      (shown_are fs) (children_complete t k (map (λ f. (f, field_complete f)) fs) n d a b c r m q)
 
 -- ---- schemas and batches
 
 -- the schema that a table states is read of it, first its pairs and then its columns
-pub record SchemaRead (t : TableView) (s : Schema) : Type 0 where
+pub record SchemaRead (limits : Limits) (t : TableView) (s : Schema) : Type 0 where
   pub mid : Budget
   pub after : Budget
-  pub pairs : pairs_read t 2 (budget 65536 67108864 1048576) ≡ Ok (s.metadata, mid)
-  pub fields : fields_read (field_read 64) t 1 mid ≡ Ok (s.fields, after)
+  pub pairs : pairs_read t 2 (budget limits.fields limits.text limits.pairs) ≡ Ok (s.metadata, mid)
+  pub fields : fields_read (field_read limits.depth) t 1 mid ≡ Ok (s.fields, after)
 
-pub schema_complete : (t : TableView) (s : Schema) → SchemaAt t s → SchemaRead t s
-schema_complete t s h =
+-- a schema that a Schema table states within the limits is read of that table
+pub schema_complete : {limits : Limits} → (t : TableView) (s : Schema) → SchemaAt limits t s → SchemaRead limits t s
+schema_complete {limits} t s h =
     let w = h.well_formed in
     let few = w.few_fields in
     let little = w.little_text in
     let several = w.few_pairs in
     let es = entries s.fields in
     record {
-      mid = budget 65536 (67108864 - pair_text s.metadata) (1048576 - length s.metadata);
-      after = budget (65536 - length es) (67108864 - pair_text s.metadata - text_of es) (1048576 - length s.metadata - pairs_of es);
-      pairs = pairs_complete t 2 s.metadata 65536 67108864 1048576 (67108864 - pair_text s.metadata) (1048576 - length s.metadata) h.pairs
+      mid = budget limits.fields (limits.text - pair_text s.metadata) (limits.pairs - length s.metadata);
+      after = budget (limits.fields - length es) (limits.text - pair_text s.metadata - text_of es) (limits.pairs - length s.metadata -
+          pairs_of es);
+      pairs = pairs_complete t 2 s.metadata limits.fields limits.text limits.pairs (limits.text - pair_text s.metadata) (limits.pairs -
+          length s.metadata) h.pairs
           (omega arith) (omega arith);
-      fields = columns_complete t 1 s.fields 64 1 65536 (67108864 - pair_text s.metadata) (1048576 - length s.metadata) (65536 - length es)
-          (67108864 - pair_text s.metadata - text_of es) (1048576 - length s.metadata - pairs_of es)
-          h.fields (omega arith) (well_formed_shallow es w.each) (omega arith, omega arith, omega arith);
+      fields = columns_complete limits.depth t 1 s.fields limits.depth 1 limits.fields (limits.text - pair_text s.metadata) (limits.pairs -
+          length s.metadata)
+          (limits.fields - length es)
+          (limits.text - pair_text s.metadata - text_of es) (limits.pairs - length s.metadata - pairs_of es)
+          h.fields (omega arith) (none_deeper limits es w.each) (omega arith, omega arith, omega arith);
     }
 
+-- a batch's head that a RecordBatch table states is read of that table
 pub batch_complete : (t : TableView) (batch : BatchHead) → BatchAt t batch → batch_read t ≡ Ok batch
 unfolding batch_read
 batch_complete t batch h = rw (h.uncompressed, h.length, h.nodes, h.buffers) refl

@@ -27,6 +27,7 @@ both_told : (P : Entry → Type 0) (xs ys : List Entry) → AllByRecursion P xs 
 both_told P [] ys h k = k
 both_told P (x ∷ xs) ys h k = (h.0, both_told P xs ys h.1 k)
 
+-- a vector of n tables states n things
 pub tables_are : {X : Type 0} (At : X → TableView → Type 0) (s : List ℕ) (xs : List X) (p n : ℕ) → TablesAt At s p n xs → n ≡ length xs
 tables_are At s [] p n h = h
 tables_are At s (x ∷ xs) p n h =
@@ -75,6 +76,7 @@ module _ (b : List ℕ) (s : TableView) where
       (λ i u l at. (of_child has (here.5.0, i, here.5.1, l, at), one_deeper deep (here.5.0, i, here.5.1, l, at))) in
       subst (λ (l : Listing). AllByRecursion (Told b s) (l d)) (sym rolled) (entry, below)
 
+  -- where a field was read of a Field table, that table and those below it say what its entries do
   pub field_told : (f : Field) → IsTold f
   field_told = ind-Field IsTold (λ x y is. subst (λ z. IsTold (roll-Field z)) is (roll_told y))
 
@@ -89,6 +91,7 @@ module _ (b : List ℕ) (s : TableView) where
       (columns_told z fs d (p + 4) (n - 1) h.4
       (λ i u l at. let next : p + suc i * 4 ≡ p + 4 + i * 4 = omega arith in reach (suc i) u (omega arith) (rw next at)))
 
+  -- each entry of a schema that was read is said by a Field table of the metadata
   pub entries_told : (fs : List Field) → HasTable b schema s → VectorAt FieldAt fs s 1
       → AllByRecursion (Told b s) (all_at 1 (map preorder fs))
   entries_told fs has h = columns_told h.0.bytes fs 1 h.0.at h.0.len h.2

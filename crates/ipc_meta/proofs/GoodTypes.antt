@@ -8,7 +8,10 @@ use Rattle.ipc_scalar.specs.Flat.{slot_of, text_of}
 use Rattle.ipc_scalar.specs.declared.fault.FlatFault.{FlatFault}
 use Rattle.ipc_flat.specs.Views.{TableView, or_default, table_from, scalar, field}
 use Rattle.ipc_scalar.specs.Faulty.{◌>>=◌ as ◌flat_then◌}
+use Rattle.std.specs.Ordering.{int_eq}
 use Rattle.ipc_model.specs.Answers.{◌>>=◌}
+use Rattle.ipc_model.specs.Layouts.{time_bits}
+use Rattle.ipc_model.specs.Ranges.{width}
 use Rattle.ipc_model.specs.WellFormed.{HasGoodType}
 use Rattle.ipc_model.specs.declared.fault.Fault.TheVariants.{BadType}
 use Rattle.ipc_model.specs.declared.schema.DataType.{DataType}
@@ -16,6 +19,7 @@ use Rattle.ipc_model.specs.declared.schema.DataType.TheVariants as type
 use Rattle.ipc_model.specs.declared.schema.DateUnit.TheVariants as date
 use Rattle.ipc_meta.specs.Lifts.{lift}
 use Rattle.ipc_meta.specs.Tables.{ok_or, unit_of, int_at, fixed_at, date_at, timestamp_at, type_of, type_in, is_type_code, code_at, type_at}
+use Rattle.ipc_meta.specs.Tables.{time_at, duration_at}
 use Rattle.ipc_meta.proofs.Sound.{bind_ok, lift_ok}
 use Rattle.ipc_meta.proofs.Refused.{choose}
 
@@ -63,6 +67,19 @@ timestamp_good t κ h =
     let z = bind_ok (lift (field t 1 text_of)) _ κ u.2 in
     other_good κ (type.Timestamp u.0 z.0) tt (cc)
 
+time_good : (t : TableView) (κ : DataType) → time_at t ≡ Ok κ → HasGoodType κ
+time_good t κ h =
+    let n = bind_ok (lift (scalar t 0 2 int16 (pos 1))) _ κ h in
+    let u = bind_ok (ok_or BadType (unit_of n.0)) _ κ n.2 in
+    let w = bind_ok (lift (scalar t 1 4 int32 (pos 32))) _ κ u.2 in
+    choose (int_eq w.0 (pos (width (time_bits u.0)))) _ _ _ w.2 (λ i h. other_good κ (type.Time u.0) tt (cc)) (λ i h. absurd (cc))
+
+duration_good : (t : TableView) (κ : DataType) → duration_at t ≡ Ok κ → HasGoodType κ
+duration_good t κ h =
+    let n = bind_ok (lift (scalar t 0 2 int16 (pos 1))) _ κ h in
+    let u = bind_ok (ok_or BadType (unit_of n.0)) _ κ n.2 in
+    other_good κ (type.Duration u.0) tt (cc)
+
 type_good : (code : ℕ) (t : TableView) (κ : DataType) → type_of code t ≡ Ok κ → HasGoodType κ
 unfolding type_of
 type_good code t κ h =
@@ -73,11 +90,14 @@ type_good code t κ h =
     choose (code == 5) _ _ _ h (λ i h. other_good κ type.Utf8 tt (cc)) (λ n5 h.
     choose (code == 6) _ _ _ h (λ i h. other_good κ type.Bool tt (cc)) (λ n6 h.
     choose (code == 8) _ _ _ h (λ i h. let w = bind_ok (lift (scalar t 0 2 int16 (pos 1))) _ κ h in date_good w.0 κ w.2) (λ n8 h.
+    choose (code == 9) _ _ _ h (λ i h. time_good t κ h) (λ n9 h.
     choose (code == 10) _ _ _ h (λ i h. timestamp_good t κ h) (λ n10 h.
     choose (code == 12) _ _ _ h (λ i h. other_good κ type.List tt (cc)) (λ n12 h.
     choose (code == 13) _ _ _ h (λ i h. other_good κ type.Struct tt (cc)) (λ n13 h.
-    choose (code == 15) _ _ _ h (λ i h. fixed_good t κ h) (λ n15 h. absurd (cc)))))))))))
+    choose (code == 15) _ _ _ h (λ i h. fixed_good t κ h) (λ n15 h.
+    choose (code == 18) _ _ _ h (λ i h. duration_good t κ h) (λ n18 h. absurd (cc)))))))))))))
 
+-- a type that a Field table states is a good one: no fixed width of it is above 2^31 - 1
 pub good_type : (t : TableView) (κ : DataType) → type_at t ≡ Ok κ → HasGoodType κ
 unfolding type_at
 good_type t κ h =

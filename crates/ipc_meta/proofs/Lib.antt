@@ -23,3 +23,4 @@ pub mod WrittenTrees
 pub mod WrittenOrder
 pub mod WrittenAnswers
 pub mod SupportedLemmas
+pub mod Wider

@@ -24,6 +24,7 @@ part_num (suc w) k p m b h =
     let place : p + suc k ≡ suc (p + k) = omega arith in
     rw (front, byte, rest, place) refl
 
+-- the signed number of 64 bits at k of a part that begins at p is the one at p + k of the whole
 pub part_int64 : (b : List ℕ) (p q k : ℕ) → p + k + 8 ≤ q → int64 (slice_range b p q) k ≡ int64 b (p + k)
 part_int64 b p q k h = ap (cast_signed w64) (part_num 8 k p (q - p) b (omega arith))
 
@@ -38,6 +39,7 @@ pairs_more b p i n front h =
     rw (count, place) (sym (append_assoc front ((int64 b (p + i * 16), int64 b (p + i * 16 + 8)) ∷ [])
     (number_pairs b (p + (i + 1) * 16) (n - (i + 1)))))
 
+-- behind the last of n structs no more are to be read
 pub pairs_done : (b : List ℕ) (p i n : ℕ) (front : List (ℤ × ℤ)) → n ≤ i → front ++ number_pairs b (p + i * 16) (n - i) ≡ front ++ []
 unfolding number_pairs
 pairs_done b p i n front h = let count : n - i ≡ 0 = omega arith in rw count refl
@@ -76,6 +78,7 @@ structs_width w t k s h =
     go (Ok (Some p)) i = inner (elements_of t.bytes p w) i
     go (Err e) i = absurd (cc)
 
+-- the pairs of numbers in a field are those of the structs of 16 bytes in its vector
 pub numbers_are : (t : TableView) (k : ℕ) (s : Structs) → lift (field t k (structs_from 16)) ≡ Ok (Some s)
     → numbers_at t k ≡ Ok (number_pairs s.bytes s.at s.len)
 unfolding numbers_at

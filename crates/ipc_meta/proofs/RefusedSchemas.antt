@@ -7,7 +7,6 @@ use Rattle.std.specs.Ordering.{int_eq}
 use Rattle.std.proofs.lemmas.Bool.Decides.{nat_tests, Decides-int_eq, Decides-eqb}
 use Rattle.ipc_flat.specs.Views.{TableView}
 use Rattle.ipc_model.specs.Entries.{Entry, entries}
-use Rattle.ipc_model.specs.Limits.{max_fields, max_depth, max_text, max_pairs}
 use Rattle.ipc_model.specs.WellFormed.{HasGoodType, HasFittingChildren, IsLeaf}
 use Rattle.ipc_model.proofs.FirstFaults.{done_err, verdict_from_first}
 use Rattle.ipc_model.specs.FirstFault.{IsFirstFault}
@@ -33,6 +32,7 @@ use Rattle.ipc_meta.specs.declared.budget.Budget.{Budget}
 use Rattle.ipc_meta.specs.Reading.{pairs_read, fields_read, field_read}
 use Rattle.ipc_meta.specs.Totals.{fields_stated, text_stated, pairs_stated}
 use Rattle.std.proofs.lemmas.List.Sums.{sum_by-cons}
+use Rattle.ipc_model.specs.declared.limits.Limits.{Limits}
 
 -- ---- the tests of one field
 
@@ -73,16 +73,17 @@ encoded_after b s kinds e h all = go e.dictionary refl
         ≡ id = (Decides-int_eq d.id id).0 same in subst (λ n. Encodes b n κ) one (subst (Encodes b d.id) type (encoded b s e d h is)))
         (λ other k. all id κ k)
 
-conflict : (b : List ℕ) (s : TableView) (kinds : ℤ → Option DataType) (e : Entry) → Told b s e → AreEncoded b kinds
-    → has_conflict kinds e.dictionary e.kind ≡ true → Cause b (reader_fault (check.DictionaryConflict 0))
-conflict b s kinds e h all = go e.dictionary refl
+conflict : (limits : Limits) (b : List ℕ) (s : TableView) (kinds : ℤ → Option DataType) (e : Entry) → Told b s e → AreEncoded b kinds
+    → has_conflict kinds e.dictionary e.kind ≡ true → Cause limits b (reader_fault (check.DictionaryConflict 0))
+conflict limits b s kinds e h all = go e.dictionary refl
   where
     go : (o : Option Dictionary) → e.dictionary ≡ o → has_conflict kinds o e.kind ≡ true
-        → Cause b (reader_fault (check.DictionaryConflict 0))
+        → Cause limits b (reader_fault (check.DictionaryConflict 0))
     go None is k = cc
     go (Some d) is k = earlier (kinds d.id) refl (is_false _ k)
       where
-        earlier : (o : Option DataType) → kinds d.id ≡ o → agrees o e.kind ≡ false → Cause b (reader_fault (check.DictionaryConflict 0))
+        earlier : (o : Option DataType) → kinds d.id ≡ o → agrees o e.kind ≡ false
+            → Cause limits b (reader_fault (check.DictionaryConflict 0))
         earlier None at k = cc
         earlier (Some first) at k = (
           d.id,
@@ -94,116 +95,129 @@ conflict b s kinds e h all = go e.dictionary refl
               same_itself first in cc,
         )
 
-nested : (b : List ℕ) (s : TableView) (e : Entry) → Told b s e → has_leaf_dictionary e ≡ false
-    → Cause b (reader_fault (check.NestedDictionary 0))
-nested b s e h = go e.dictionary refl
+nested : (limits : Limits) (b : List ℕ) (s : TableView) (e : Entry) → Told b s e → has_leaf_dictionary e ≡ false
+    → Cause limits b (reader_fault (check.NestedDictionary 0))
+nested limits b s e h = go e.dictionary refl
   where
     go : (o : Option Dictionary) → e.dictionary ≡ o → not (is_some o) || is_leaf e.kind ≡ false
-        → Cause b (reader_fault (check.NestedDictionary 0))
+        → Cause limits b (reader_fault (check.NestedDictionary 0))
     go None is k = cc
     go (Some d) is k = (d.id, e.kind, encoded b s e d h is, leaf_test e.kind k)
 
 -- ---- the scan
 
 -- what the fields before have with these ones is no more than the Schema table states
-record Within (s : TableView) (a : Before) (es : List Entry) : Type 0 where
-  fields : a.fields + length es ≤ fields_stated s
-  text : a.text + sum_by (λ e. e.text) es ≤ text_stated s
-  pairs : a.pairs + sum_by (λ e. e.pairs) es ≤ pairs_stated s
+record Within (limits : Limits) (s : TableView) (a : Before) (es : List Entry) : Type 0 where
+  fields : a.fields + length es ≤ fields_stated limits s
+  text : a.text + sum_by (λ e. e.text) es ≤ text_stated limits s
+  pairs : a.pairs + sum_by (λ e. e.pairs) es ≤ pairs_stated limits s
 
-within_after : (s : TableView) (a : Before) (e : Entry) (es : List Entry) → Within s a (e ∷ es) → Within s (after a e) es
+within_after : {limits : Limits} → (s : TableView) (a : Before) (e : Entry) (es : List Entry) → Within limits s a (e ∷ es)
+    → Within limits s (after a e) es
 within_after s a e es w =
     let text = sum_by-cons (λ (e : Entry). e.text) e es in
     let pairs = sum_by-cons (λ (e : Entry). e.pairs) e es in
     record { fields = omega (arith, w.fields); text = omega (arith, w.text, text); pairs = omega (arith, w.pairs, pairs) }
 
-too_much : (a : Before) → is_little_text a ≡ false → (max_text < a.text) ⊎ (max_pairs < a.pairs)
-too_much a h = go (nat_le a.text max_text) refl h
+too_much : (limits : Limits) (a : Before) → is_little_text limits a ≡ false → (limits.text < a.text) ⊎ (limits.pairs < a.pairs)
+too_much limits a h = go (nat_le a.text limits.text) refl h
   where
-    go : (c : Bool) → nat_le a.text max_text ≡ c → (c && nat_le a.pairs max_pairs) ≡ false → (max_text < a.text) ⊎ (max_pairs < a.pairs)
+    go : (c : Bool) → nat_le a.text limits.text ≡ c → (c && nat_le a.pairs limits.pairs) ≡ false → (limits.text < a.text)
+        ⊎ (limits.pairs < a.pairs)
     go true is h = inr (grind (arith, nat_tests))
     go false is h = inl (grind (arith, nat_tests))
 
-text_refused : (b : List ℕ) (s : TableView) (a : Before) → HasTable b schema s → Within s a [] → is_little_text a ≡ false
-    → Cause b (reader_fault (check.TooMuchText 0))
-text_refused b s a hs w h = (
+text_refused : {limits : Limits} → (b : List ℕ) (s : TableView) (a : Before) → HasTable b schema s → Within limits s a []
+    → is_little_text limits a ≡ false
+    → Cause limits b (reader_fault (check.TooMuchText 0))
+text_refused {limits} b s a hs w h = (
   s,
   hs,
   ⊎_elim (λ m. inl (let t = w.text in omega (arith, m, t)))
-      (λ m. inr (let p = w.pairs in omega (arith, m, p))) (too_much a h),
+      (λ m. inr (let p = w.pairs in omega (arith, m, p))) (too_much limits a h),
 )
 
-entry_refused : (b : List ℕ) (s : TableView) (a : Before) (e : Entry) (x : SchemaFault) → HasTable b schema s → Told b s e
-    → AreEncoded b a.kinds → Within s (after a e) [] → fault_at a e ≡ Some x → Cause b (reader_fault x)
-entry_refused b s a e x hs h all w k =
+entry_refused : {limits : Limits} → (b : List ℕ) (s : TableView) (a : Before) (e : Entry) (x : SchemaFault) → HasTable b schema s
+    → Told b s e
+    → AreEncoded b a.kinds → Within limits s (after a e) [] → fault_at limits a e ≡ Some x → Cause limits b (reader_fault x)
+entry_refused {limits} b s a e x hs h all w k =
     choose (not (has_good_type e.kind)) _ _ _ k
     (λ i k. absurd (good_test e.kind (is_false _ i) (good_type h.table e.kind h.kind))) (λ i k.
     choose (not (has_fitting_children e.kind e.children)) _ _ _ k
     (λ i k. let same : check.BadChildren (a.fields + 1) ≡ x = cc in
     let fits : has_fitting_children e.kind h.elements.len ≡ false = rw h.many (is_false _ i) in
     told same (h.table, h.has, (e.kind, h.elements, h.kind, h.vector, fitting_test e.kind h.elements.len fits))) (λ i k.
-    choose (not (nat_le (a.fields + 1) max_fields)) _ _ _ k
+    choose (not (nat_le (a.fields + 1) limits.fields)) _ _ _ k
     (λ i k. let same : check.TooManyFields (a.fields + 1) ≡ x = cc in
-    let few : nat_le (a.fields + 1) max_fields ≡ false = is_false _ i in
-    let more : max_fields < a.fields + 1 = grind (arith, nat_tests) in
+    let few : nat_le (a.fields + 1) limits.fields ≡ false = is_false _ i in
+    let more : limits.fields < a.fields + 1 = grind (arith, nat_tests) in
     let all = w.fields in
     told same (s, hs, omega (arith, more, all))) (λ i k.
-    choose (not (nat_le e.depth max_depth)) _ _ _ k
+    choose (not (nat_le e.depth limits.depth)) _ _ _ k
     (λ i k. let same : check.TooDeep (a.fields + 1) ≡ x = cc in
-    let shallow : nat_le e.depth max_depth ≡ false = is_false _ i in
-    let deeper : max_depth < e.depth = grind (arith, nat_tests) in
+    let shallow : nat_le e.depth limits.depth ≡ false = is_false _ i in
+    let deeper : limits.depth < e.depth = grind (arith, nat_tests) in
     told same (s, hs, (h.table, e.depth, deeper, h.deep))) (λ i k.
-    choose (not (is_little_text (after a e))) _ _ _ k
+    choose (not (is_little_text limits (after a e))) _ _ _ k
     (λ i k. let same : check.TooMuchText (a.fields + 1) ≡ x = cc in told same (text_refused b s (after a e) hs w (is_false _ i))) (λ i k.
     choose (has_conflict a.kinds e.dictionary e.kind) _ _ _ k
-    (λ i k. let same : check.DictionaryConflict (a.fields + 1) ≡ x = cc in told same (conflict b s a.kinds e h all i)) (λ i k.
+    (λ i k. let same : check.DictionaryConflict (a.fields + 1) ≡ x = cc in told same (conflict limits b s a.kinds e h all i)) (λ i k.
     choose (not (has_leaf_dictionary e)) _ _ _ k
-    (λ i k. let same : check.NestedDictionary (a.fields + 1) ≡ x = cc in told same (nested b s e h (is_false _ i)))
+    (λ i k. let same : check.NestedDictionary (a.fields + 1) ≡ x = cc in told same (nested limits b s e h (is_false _ i)))
     (λ i k. absurd (cc))))))))
   where
-    told : {y : SchemaFault} → y ≡ x → Cause b (reader_fault y) → Cause b (reader_fault x)
-    told same cause = subst (λ y. Cause b (reader_fault y)) same cause
+    told : {y : SchemaFault} → y ≡ x → Cause limits b (reader_fault y) → Cause limits b (reader_fault x)
+    told same cause = subst (λ y. Cause limits b (reader_fault y)) same cause
 
-scan_refused : (b : List ℕ) (s : TableView) (es : List Entry) (a : Before) (x : SchemaFault) → HasTable b schema s
-    → AllByRecursion (Told b s) es → AreEncoded b a.kinds → Within s a es → scan a es ≡ Err x → Cause b (reader_fault x)
-scan_refused b s [] a x hs h all w k = absurd (cc)
-scan_refused b s (e ∷ es) a x hs h all w k =
-    go (fault_at a e) refl (λ k. scan_refused b s es (after a e) x hs h.1 (encoded_after b s a.kinds e h.0 all) next k) k
+scan_refused : {limits : Limits} → (b : List ℕ) (s : TableView) (es : List Entry) (a : Before) (x : SchemaFault) → HasTable b schema s
+    → AllByRecursion (Told b s) es → AreEncoded b a.kinds → Within limits s a es → scan limits a es ≡ Err x
+    → Cause limits b (reader_fault x)
+scan_refused {limits} b s [] a x hs h all w k = absurd (cc)
+scan_refused {limits} b s (e ∷ es) a x hs h all w k =
+    go (fault_at limits a e) refl (λ k. scan_refused b s es (after a e) x hs h.1 (encoded_after b s a.kinds e h.0 all) next k) k
   where
-    next : Within s (after a e) es
+    next : Within limits s (after a e) es
     next = within_after s a e es w
 
-    here : Within s (after a e) []
+    here : Within limits s (after a e) []
     here = record {
       fields = let n = next.fields in omega arith;
       text = let n = next.text in omega arith;
       pairs = let n = next.pairs in omega arith;
     }
 
-    go : (o : Option SchemaFault) → fault_at a e ≡ o → (scan (after a e) es ≡ Err x → Cause b (reader_fault x))
-        → unless_at o (scan (after a e) es) ≡ Err x → Cause b (reader_fault x)
+    go : (o : Option SchemaFault) → fault_at limits a e ≡ o → (scan limits (after a e) es ≡ Err x → Cause limits b (reader_fault x))
+        → unless_at o (scan limits (after a e) es) ≡ Err x → Cause limits b (reader_fault x)
     go None is later k = later k
     go (Some y) is later k = let same : y ≡ x =
-        cc in subst (λ y. Cause b (reader_fault y)) same (entry_refused b s a e y hs h.0 all here is)
+        cc in subst (λ y. Cause limits b (reader_fault y)) same (entry_refused b s a e y hs h.0 all here is)
 
-schema_refused : (b : List ℕ) (t : TableView) (s : Schema) (x : SchemaFault) → HasTable b schema t → VectorAt FieldAt s.fields t 1
-    → Totals t s.fields s.metadata → verdict_on s ≡ Err x → Cause b (reader_fault x)
-schema_refused b t s x has h totals k =
+schema_refused : {limits : Limits} → (b : List ℕ) (t : TableView) (s : Schema) (x : SchemaFault) → HasTable b schema t
+    → VectorAt FieldAt s.fields t 1
+    → Totals limits t s.fields s.metadata → verdict_on limits s ≡ Err x → Cause limits b (reader_fault x)
+schema_refused {limits} b t s x has h totals k =
     let own = at_start s.metadata in
     let text = totals.text in
     let pairs = totals.pairs in
-    choose (is_little_text own) _ _ _ k
-    (λ i k. scan_refused b t (entries s.fields) own x has (entries_told b t s.fields has h) (λ id κ bad. absurd (cc))
+    choose (is_little_text limits own) _ _ _ k
+    (λ i k. scan_refused {limits = limits} b t (entries s.fields) own x has (entries_told b t s.fields has h) (λ id κ bad. absurd (cc))
     (record { fields = omega (arith, totals.fields); text = omega (arith, text); pairs = omega (arith, pairs) }) (done_err _ x k))
     (λ i k. let same : check.TooMuchText 0 ≡ x = cc in
-    subst (λ y. Cause b (reader_fault y)) same
-    (text_refused b t own has (record { fields = omega arith; text = omega (arith, text); pairs = omega (arith, pairs) }) i))
+    subst (λ y. Cause limits b (reader_fault y)) same
+    (text_refused {limits = limits} b t own has (record {
+      fields = omega arith;
+      text = omega (arith, text);
+      pairs =
+          omega (arith, pairs);
+    }) i))
 
 -- the check's refusal, as the call that reads tells it
-pub check_refused : (b : List ℕ) (t : TableView) (s : Schema) (x : SchemaFault) (l m n : Budget) → HasTable b schema t
-    → pairs_read t 2 l ≡ Ok (s.metadata, m) → fields_read (field_read 64) t 1 m ≡ Ok (s.fields, n)
-    → (x ≡ check.OutOfMemory) ⊎ IsFirstFault s x → (reader_fault x ≡ reader_fault check.OutOfMemory → ⊥) → Cause b (reader_fault x)
-check_refused b t s x l m n has p q k ne =
+pub check_refused : {limits : Limits} → (b : List ℕ) (t : TableView) (s : Schema) (x : SchemaFault) (l m n : Budget) → HasTable b schema t
+    → pairs_read t 2 l ≡ Ok (s.metadata, m) → fields_read (field_read limits.depth) t 1 m ≡ Ok (s.fields, n)
+    → (x ≡ check.OutOfMemory) ⊎ IsFirstFault limits s x → (reader_fault x ≡ reader_fault check.OutOfMemory → ⊥)
+    → Cause limits b (reader_fault x)
+check_refused {limits} b t s x l m n has p q k ne =
     ⊎_elim (λ is. absurd (ne (ap reader_fault is)))
-    (λ first. schema_refused b t s x has (fields_sound (field_read 64) (field_sound 64) t 1 m n s.fields q)
-    (schema_totals t l m n s.fields s.metadata p q) (verdict_from_first s x first)) k
+    (λ first. schema_refused {limits = limits} b t s x has (fields_sound (field_read limits.depth) (field_sound limits.depth) t 1 m n
+    s.fields q)
+    (schema_totals {limits = limits} t l m n s.fields s.metadata p q) (verdict_from_first s x first)) k

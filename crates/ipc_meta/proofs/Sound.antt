@@ -19,10 +19,12 @@ use Rattle.ipc_meta.specs.declared.head.BatchHead.{BatchHead}
 use Rattle.ipc_meta.specs.Heads.{BatchAt, numbers_at}
 use Rattle.ipc_meta.specs.Reading.{batch_read, when_plain, each, text_read, pair_read, pairs_read, type_read, fields_read, field_read}
 
+-- where two steps together give an answer, the first gives one, and of it the second gives that answer
 pub bind_ok : {A B : Type 0} (r : Result A Fault) (f : A → Result B Fault) (y : B) → (r >>= f) ≡ Ok y → (x : A) × (r ≡ Ok x) × (f x ≡ Ok y)
 bind_ok (Ok x) f y h = (x, refl, h)
 bind_ok (Err e) f y h = absurd (cc)
 
+-- what is answered once FlatBuffers faults have the names of the reader's is what was answered before
 pub lift_ok : {A : Type 0} (r : Result A FlatFault) (x : A) → lift r ≡ Ok x → r ≡ Ok x
 lift_ok (Ok y) x h = cc
 lift_ok (Err e) x h = absurd (cc)
@@ -31,6 +33,7 @@ lift_ok (Err e) x h = absurd (cc)
 abbrev pub with_left : {X : Type 0} → X → Budget → Result (X × Budget) Fault
 with_left x l = Ok (x, l)
 
+-- answers with what is left of the budget are equal in both parts
 pub left_parts : {X : Type 0} (x y : X) (l m : Budget) → with_left x l ≡ with_left y m → (x ≡ y) × (l ≡ m)
 left_parts {X} x y l m h =
     let pair : (x, l) ≡ (y, m) = cc in
@@ -38,9 +41,11 @@ left_parts {X} x y l m h =
 
 -- ---- tables one after another
 
+-- what is read of a table is what the table states
 abbrev pub Sound : {X : Type 0} → (TableView → Reading X) → (X → TableView → Type 0) → Type 0
 Sound {X} f At = (t : TableView) (left after : Budget) (x : X) → f t left ≡ Ok (x, after) → At x t
 
+-- where each table states what is read of it, tables one after another state what is read of them
 pub each_sound : {X : Type 0} (f : TableView → Reading X) (At : X → TableView → Type 0) → Sound f At
     → (b : List ℕ) (n p : ℕ) (left after : Budget) (xs : List X) → each f b p n left ≡ Ok (xs, after) → TablesAt At b p n xs
 unfolding each
@@ -59,6 +64,7 @@ each_sound f At s b (suc n) p left after xs h =
 
 -- ---- texts and pairs
 
+-- a text that was read is the one in the table's field
 pub text_sound : (t : TableView) (k : ℕ) (left after : Budget) (s : List ℕ) → text_read t k left ≡ Ok (s, after) → text_at t k ≡ Ok s
 unfolding text_read
 text_sound t k left after s h =
@@ -67,6 +73,7 @@ text_sound t k left after s h =
     let e = left_parts a.0 s l.0 after l.2 in
     a.1 ∙ ap Ok e.0
 
+-- a pair that was read is the one that its KeyValue table states
 pub pair_sound : Sound pair_read PairAt
 unfolding pair_read
 pair_sound t left after p h =
@@ -75,6 +82,7 @@ pair_sound t left after p h =
     let e = left_parts (k.0.0, v.0.0) p v.0.1 after v.2 in
     subst (λ q. PairAt q t) e.0 (text_sound t 0 left k.0.1 k.0.0 k.1, text_sound t 1 k.0.1 v.0.1 v.0.0 v.1)
 
+-- pairs that were read are those that the vector in the table's field states
 pub pairs_sound : (t : TableView) (k : ℕ) (left after : Budget) (ps : List (List ℕ × List ℕ)) → pairs_read t k left ≡ Ok (ps, after)
     → VectorAt PairAt ps t k
 unfolding pairs_read
@@ -85,6 +93,7 @@ pairs_sound t k left after ps h =
 
 -- ---- the type
 
+-- a type that was read is the one that the Field table states
 pub type_sound : (t : TableView) (left after : Budget) (κ : DataType) → type_read t left ≡ Ok (κ, after) → type_at t ≡ Ok κ
 unfolding type_read
 type_sound t left after κ h =
@@ -107,9 +116,11 @@ natural X v k x = λ i t.
     (text_at t 0 ≡ Ok x.name) × (flag_at t 1 ≡ Ok x.nullable) × (type_at t ≡ Ok x.kind) × (dictionary_at t ≡ Ok x.dictionary)
     × VectorAt PairAt x.metadata t 6 × ((es : Elements) × (vector_at t 5 ≡ Ok es) × tables_map v k es.bytes es.at es.len x.children i)
 
+-- a table states a field where it states the field's own members, and its vector of children the children
 pub field_roll : (x : Field-F Field) → FieldAt (roll-Field x) ≡ field_step Field (λ y. y) FieldAt x
 field_roll x = rec-roll-Field (TableView → Type 0) field_step natural x
 
+-- fields that were read are those that the vector in the table's field states
 pub fields_sound : (f : TableView → Reading Field) → Sound f FieldAt → (t : TableView) (k : ℕ) (left after : Budget) (fs : List Field)
     → fields_read f t k left ≡ Ok (fs, after) → VectorAt FieldAt fs t k
 unfolding fields_read
@@ -118,6 +129,7 @@ fields_sound f s t k left after fs h =
     let l = bind_ok (less_fields v.0.len left) _ _ v.2 in
     (v.0, v.1, each_sound f FieldAt s v.0.bytes v.0.len v.0.at l.0 after fs l.2)
 
+-- a field that was read, down to any depth, is the one that its table states
 pub field_sound : (d : ℕ) → Sound (field_read d) FieldAt
 unfolding field_read
 field_sound zero t left after x h = absurd (cc)
@@ -159,6 +171,7 @@ given b = Ok b
 batch_same : (a b : BatchHead) → given a ≡ given b → a ≡ b
 batch_same a b h = cc
 
+-- a batch's head that was read is the one that the RecordBatch table states
 pub batch_sound : (t : TableView) (batch : BatchHead) → batch_read t ≡ Ok batch → BatchAt t batch
 unfolding batch_read
 batch_sound t batch h =

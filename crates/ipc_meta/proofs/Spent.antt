@@ -21,6 +21,7 @@ pub record Spent (left after : Budget) (a b c : ℕ) : Type 0 where
   pub text : left.text ≡ b + after.text
   pub pairs : left.pairs ≡ c + after.pairs
 
+-- bytes of text that are taken from the budget are taken from its text alone
 pub less_text_spent : (n : ℕ) (left after : Budget) → less_text n left ≡ Ok after → Spent left after 0 n 0
 less_text_spent n left after h =
     choose (nat_le n left.text) _ _ _ h
@@ -29,6 +30,7 @@ less_text_spent n left after h =
     subst (λ l. Spent left l 0 n 0) same (record { fields = omega arith; text = omega arith; pairs = omega arith }))
     (λ i k. absurd (cc))
 
+-- pairs that are taken from the budget are taken from its pairs alone
 pub less_pairs_spent : (n : ℕ) (left after : Budget) → less_pairs n left ≡ Ok after → Spent left after 0 0 n
 less_pairs_spent n left after h =
     choose (nat_le n left.pairs) _ _ _ h
@@ -37,6 +39,7 @@ less_pairs_spent n left after h =
     subst (λ l. Spent left l 0 0 n) same (record { fields = omega arith; text = omega arith; pairs = omega arith }))
     (λ i k. absurd (cc))
 
+-- fields that are taken from the budget are taken from its fields alone
 pub less_fields_spent : (n : ℕ) (left after : Budget) → less_fields n left ≡ Ok after → Spent left after n 0 0
 less_fields_spent n left after h =
     choose (nat_le n left.fields) _ _ _ h
@@ -53,6 +56,7 @@ joined l m n a b c x y z h k = record {
   pairs = omega (arith, h.pairs, k.pairs);
 }
 
+-- a text that was read takes its length from the budget
 pub text_spent : (t : TableView) (k : ℕ) (left : Budget) (x : List ℕ × Budget) → text_read t k left ≡ Ok x
     → Spent left x.1 0 (text_in t k) 0
 unfolding text_read
@@ -63,6 +67,7 @@ text_spent t k left x h =
     let size : text_in t k ≡ length a.0 = ap (or_zero length) a.1 in
     subst (λ m. Spent left m 0 (text_in t k) 0) e.1 (rw size (less_text_spent (length a.0) left l.0 l.1))
 
+-- a pair that was read takes the lengths of its key and its value from the budget
 pub pair_spent : (t : TableView) (left : Budget) (x : (List ℕ × List ℕ) × Budget) → pair_read t left ≡ Ok x
     → Spent left x.1 0 (pair_text_in t) 0
 unfolding pair_read
@@ -73,6 +78,7 @@ pair_spent t left x h =
     subst (λ m. Spent left m 0 (pair_text_in t) 0) e.1
     (joined left k.0.1 v.0.1 0 (text_in t 0) 0 0 (text_in t 1) 0 (text_spent t 0 left k.0 k.1) (text_spent t 1 k.0.1 v.0 v.1))
 
+-- tables that were read one after another take from the budget what each of them takes, added up
 pub each_spent : {X : Type 0} (g : TableView → Reading X) (wa wb wc : TableView → ℕ)
     → ((t : TableView) (left : Budget) (x : X × Budget) → g t left ≡ Ok x → Spent left x.1 (wa t) (wb t) (wc t))
     → (z : List ℕ) (n p : ℕ) (left : Budget) (x : List X × Budget) → each g z p n left ≡ Ok x
@@ -93,6 +99,7 @@ each_spent g wa wb wc s z (suc n) p left x h =
     (joined left c.0.1 r.0.1 (wa a.0) (wb a.0) (wc a.0) (sum_tables wa z (p + 4) n) (sum_tables wb z (p + 4) n) (sum_tables wc z (p + 4) n)
     (s a.0 left c.0 c.1) there))
 
+-- tables that state nothing of a kind state nothing of it together
 pub sum_none : (z : List ℕ) (n p : ℕ) → sum_tables (λ u. 0) z p n ≡ 0
 unfolding sum_tables
 sum_none z zero p = refl
@@ -103,6 +110,7 @@ sum_none z (suc n) p = go (table_from z p) (sum_none z n (p + 4))
     go (Ok u) h = omega (arith, h)
     go (Err e) h = omega (arith, h)
 
+-- pairs that were read take their number and the lengths of their texts from the budget
 pub pairs_spent : (t : TableView) (k : ℕ) (left : Budget) (x : List (List ℕ × List ℕ) × Budget) → pairs_read t k left ≡ Ok x
     → Spent left x.1 0 (sum_in pair_text_in t k) (count_in t k)
 unfolding pairs_read
@@ -121,6 +129,7 @@ pairs_spent t k left x h =
       pairs = omega (arith, first.pairs, rest.pairs, none, many);
     }
 
+-- a type that was read takes the length of its time zone, if it has one, from the budget
 pub type_spent : (t : TableView) (left : Budget) (x : DataType × Budget) → type_read t left ≡ Ok x
     → Spent left x.1 0 (or_zero kind_text (type_at t)) 0
 unfolding type_read
@@ -131,6 +140,7 @@ type_spent t left x h =
     let size : or_zero kind_text (type_at t) ≡ kind_text a.0 = ap (or_zero kind_text) a.1 in
     subst (λ m. Spent left m 0 (or_zero kind_text (type_at t)) 0) e.1 (rw size (less_text_spent (kind_text a.0) left l.0 l.1))
 
+-- fields that were read take their number from the budget, and what each of them takes
 pub fields_spent : (g : TableView → Reading Field) (wa wb wc : TableView → ℕ)
     → ((t : TableView) (left : Budget) (x : Field × Budget) → g t left ≡ Ok x → Spent left x.1 (wa t) (wb t) (wc t))
     → (t : TableView) (k : ℕ) (left : Budget) (x : List Field × Budget) → fields_read g t k left ≡ Ok x
@@ -158,6 +168,7 @@ children_in u = count_in u 5
 abbrev pub pairs_in : TableView → ℕ
 pairs_in u = count_in u 6
 
+-- a field that was read takes from the budget what its table states and those below it state
 pub field_spent : (d : ℕ) (t : TableView) (left : Budget) (x : Field × Budget) → field_read d t left ≡ Ok x
     → Spent left x.1 (tree children_in d t) (tree own_text d t) (tree pairs_in d t)
 unfolding field_read tree

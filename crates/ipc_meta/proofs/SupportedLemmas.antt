@@ -25,6 +25,7 @@ abbrev pub JudgedAt : Option ℕ → Field → Type 0
 JudgedAt o f = MatchOption o (is_supported_field f ≡ true)
     (λ code. (is_supported_field f ≡ false) × ((fs : List Field) → HasUnsupported code (f ∷ fs)))
 
+-- a field whose own type or dictionary is not supported is not supported
 pub closed_itself : (f : Field) → is_supported (out-Field f).kind (out-Field f).dictionary ≡ false → is_supported_field f ≡ false
 closed_itself f h = field_out f ∙ ap (λ b. b && are_supported (out-Field f).children) h
 
@@ -32,6 +33,7 @@ and_false : (b c : Bool) → c ≡ false → (b && c) ≡ false
 and_false true c h = h
 and_false false c h = refl
 
+-- a field whose own type and dictionary are supported is judged as its children are
 pub by_children : (f : Field) (o : Option ℕ) (cs : List Field) → is_supported (out-Field f).kind (out-Field f).dictionary ≡ true
     → cs ≡ (out-Field f).children → Judged o cs → JudgedAt o f
 by_children f o cs h e j = go o (subst (λ xs. Judged o xs) e j)
@@ -40,6 +42,7 @@ by_children f o cs h e j = go o (subst (λ xs. Judged o xs) e j)
     go None k = field_out f ∙ rw (h, k) refl
     go (Some code) k = (field_out f ∙ and_false _ _ k.0, λ fs. below k.1)
 
+-- fields of which one is not supported are not supported, for the code of its type
 pub unread_there : (code : ℕ) (xs : List Field) (i : ℕ) (x : Field) → x ≡ get_or xs i x → i < length xs → is_supported_field x ≡ false
     → ((fs : List Field) → HasUnsupported code (x ∷ fs)) → (are_supported xs ≡ false) × HasUnsupported code xs
 unread_there code [] i x e h closed u = absurd (omega (arith, h))

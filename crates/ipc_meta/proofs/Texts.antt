@@ -30,6 +30,7 @@ no_vtable b t = both (ok_if (nat_le (t + 4) (length b)) OutOfBounds (back_of t (
     go None h = cc
     go (Some v) h = tested (is_vtable b v) BadVtable v (λ i. cc) h
 
+-- the place of a field is no text, so it is never refused as one that isn't UTF-8
 pub no_slot : (b : List ℕ) (t k w : ℕ) → NoText (slot_of b t k w)
 unfolding slot_of
 no_slot b t k w = both (vtable_of b t) _ (no_vtable b t) (λ v. go (entry_of b v k))
@@ -52,6 +53,7 @@ no_points b p = both (ok_if (nat_le (p + 4) (length b)) OutOfBounds (num b p 4))
         by_test true h = cc
         by_test false h = tested (nat_le (p + o) (length b)) OutOfBounds (p + o) (λ i. cc) h
 
+-- a table behind an offset is never refused as a text that isn't UTF-8
 pub no_table_from : (b : List ℕ) (p : ℕ) → NoText (table_from b p)
 unfolding table_from table_of
 no_table_from b p = both (points b p >>= λ t. vtable_of b t >>= λ v. Ok t) _
@@ -81,11 +83,14 @@ no_field t k f other = both (slot_of t.bytes t.at k 4) _ (no_slot t.bytes t.at k
     go None h = cc
     go (Some p) h = both (f t.bytes p) _ (other p) (λ x i. cc) h
 
+-- the table in a field is never refused as a text that isn't UTF-8
 pub no_table_in : (t : TableView) (k : ℕ) → NoText (field t k table_from)
 no_table_in t k = no_field t k table_from (no_table_from t.bytes)
 
+-- the vector of tables in a field is never refused as a text that isn't UTF-8
 pub no_tables_in : (t : TableView) (k : ℕ) → NoText (field t k (elements_from 4))
 no_tables_in t k = no_field t k (elements_from 4) (no_elements_from 4 t.bytes)
 
+-- the vector of structs in a field is never refused as a text that isn't UTF-8
 pub no_structs_in : (t : TableView) (k : ℕ) → NoText (field t k (structs_from 16))
 no_structs_in t k = no_field t k (structs_from 16) (no_structs_from 16 t.bytes)

@@ -16,6 +16,7 @@ use Rattle.ipc_meta.specs.Totals.{pairs_stated}
 use Rattle.ipc_meta.proofs.Sound.{Sound, bind_ok, left_parts, each_sound, text_sound, type_sound, pairs_sound}
 use Rattle.ipc_meta.proofs.Entries.{tables_are}
 use Rattle.ipc_meta.proofs.Spent.{children_in, pairs_in}
+use Rattle.ipc_model.specs.declared.limits.Limits.{Limits}
 
 abbrev text_of : List Entry → ℕ
 text_of es = sum_by (λ e. e.text) es
@@ -139,16 +140,17 @@ field_sums (suc n) t left after x h =
     (vector_sums n t 5 cs.0.0 children))
 
 -- a schema that was read has what its table states
-pub record Totals (t : TableView) (fs : List Field) (own : List (List ℕ × List ℕ)) : Type 0 where
-  pub fields : length (entries fs) ≡ fields_stated t
-  pub text : pair_text own + text_of (entries fs) ≡ text_stated t
-  pub pairs : length own + pairs_of (entries fs) ≡ pairs_stated t
+pub record Totals (limits : Limits) (t : TableView) (fs : List Field) (own : List (List ℕ × List ℕ)) : Type 0 where
+  pub fields : length (entries fs) ≡ fields_stated limits t
+  pub text : pair_text own + text_of (entries fs) ≡ text_stated limits t
+  pub pairs : length own + pairs_of (entries fs) ≡ pairs_stated limits t
 
-pub schema_totals : (t : TableView) (left mid after : Budget) (fs : List Field) (own : List (List ℕ × List ℕ))
-    → pairs_read t 2 left ≡ Ok (own, mid) → fields_read (field_read 64) t 1 mid ≡ Ok (fs, after) → Totals t fs own
-schema_totals t left mid after fs own p h =
+-- a schema that was read has as many fields, bytes of text and pairs as its Schema table states
+pub schema_totals : {limits : Limits} → (t : TableView) (left mid after : Budget) (fs : List Field) (own : List (List ℕ × List ℕ))
+    → pairs_read t 2 left ≡ Ok (own, mid) → fields_read (field_read limits.depth) t 1 mid ≡ Ok (fs, after) → Totals limits t fs own
+schema_totals {limits} t left mid after fs own p h =
     let ps = pairs_sound t 2 left mid own p in
-    let sums = vector_sums 64 t 1 fs (fields_sums 64 (field_sums 64) t 1 mid after fs h) 1 in
+    let sums = vector_sums limits.depth t 1 fs (fields_sums limits.depth (field_sums limits.depth) t 1 mid after fs h) 1 in
     record {
       fields = sums.0;
       text = omega (arith, sums.1, pair_total t 2 own ps);

@@ -22,6 +22,7 @@ use Rattle.ipc_meta.specs.Heads.{BatchAt, DictionaryAt, HeaderAt, HeadOf}
 use Rattle.ipc_meta.specs.Reading.{batch_read, pairs_read, fields_read, field_read}
 use Rattle.ipc_meta.proofs.Sound.{left_parts}
 use Rattle.ipc_meta.proofs.Complete.{budget, schema_complete, batch_complete}
+use Rattle.ipc_model.specs.declared.limits.Limits.{Limits}
 
 value_or : {X E : Type 0} → X → Result X E → X
 value_or d (Ok x) = x
@@ -44,7 +45,8 @@ some_same x y o p h k e = ap (some_or x) (sym h ∙ (e ∙ k))
 pub table_same : (r : Result (Option TableView) FlatFault) (t u : TableView) → r ≡ Ok (Some t) → r ≡ Ok (Some u) → t ≡ u
 table_same r t u h k = some_same t u (Some t) (Some u) refl refl (ok_same r (Some t) (Some u) h k)
 
-pub schema_same : (t : TableView) (s z : Schema) → SchemaAt t s → SchemaAt t z → s ≡ z
+-- a Schema table states one schema at most
+pub schema_same : {limits : Limits} → (t : TableView) (s z : Schema) → SchemaAt limits t s → SchemaAt limits t z → s ≡ z
 schema_same t s z h k =
     let a = schema_complete t s h in
     let b = schema_complete t z k in
@@ -53,9 +55,11 @@ schema_same t s z h k =
     let fs = left_parts s.fields z.fields a.after b.after at in
     λ i. record { fields = fs.0 i; metadata = ps.0 i }
 
+-- a RecordBatch table states one batch's head at most
 pub batch_one : (t : TableView) (a b : BatchHead) → BatchAt t a → BatchAt t b → a ≡ b
 batch_one t a b h k = ok_same (batch_read t) a b (batch_complete t a h) (batch_complete t b k)
 
+-- a DictionaryBatch table states one id and one batch's head at most
 pub dictionary_same : (t : TableView) (i j : ℤ) (a b : BatchHead) → DictionaryAt t i a → DictionaryAt t j b → (i ≡ j) × (a ≡ b)
 dictionary_same t i j a b h k =
     let tables = table_same (field t 1 table_from) h.values.0 k.values.0 h.values.1 k.values.1 in (
@@ -70,34 +74,38 @@ code_of (head.Dictionary id batch) = 2
 code_of (head.Batch batch) = 3
 
 -- the table of a header states this head
-abbrev pub Stated : TableView → Head → Type 0
-Stated t (head.Schema s) = SchemaAt t s
-Stated t (head.Dictionary id batch) = DictionaryAt t id batch
-Stated t (head.Batch batch) = BatchAt t batch
+abbrev pub Stated : Limits → TableView → Head → Type 0
+Stated limits t (head.Schema s) = SchemaAt limits t s
+Stated limits t (head.Dictionary id batch) = DictionaryAt t id batch
+Stated limits t (head.Batch batch) = BatchAt t batch
 
-pub header_parts : (root : TableView) (h : Head) → HeaderAt root h
-    → (scalar root 1 1 byte 0 ≡ Ok (code_of h)) × ((t : TableView) × (field root 2 table_from ≡ Ok (Some t)) × Stated t h)
-header_parts root (head.Schema s) a = a
-header_parts root (head.Dictionary id batch) a = a
-header_parts root (head.Batch batch) a = a
+-- a message whose header states a head has the head's code, and a table that states it
+pub header_parts : (limits : Limits) (root : TableView) (h : Head) → HeaderAt limits root h
+    → (scalar root 1 1 byte 0 ≡ Ok (code_of h)) × ((t : TableView) × (field root 2 table_from ≡ Ok (Some t)) × Stated limits t h)
+header_parts limits root (head.Schema s) a = a
+header_parts limits root (head.Dictionary id batch) a = a
+header_parts limits root (head.Batch batch) a = a
 
-pub stated_same : (t : TableView) (g h : Head) → code_of g ≡ code_of h → Stated t g → Stated t h → g ≡ h
-stated_same t (head.Schema s) (head.Schema z) e a b = ap head.Schema (schema_same t s z a b)
-stated_same t (head.Dictionary i x) (head.Dictionary j y) e a b = let p = dictionary_same t i j x y a b in rw (p.0, p.1) refl
-stated_same t (head.Batch x) (head.Batch y) e a b = ap head.Batch (batch_one t x y a b)
-stated_same t (head.Schema s) (head.Dictionary j y) e a b = absurd (omega (arith, e))
-stated_same t (head.Schema s) (head.Batch y) e a b = absurd (omega (arith, e))
-stated_same t (head.Dictionary i x) (head.Schema z) e a b = absurd (omega (arith, e))
-stated_same t (head.Dictionary i x) (head.Batch y) e a b = absurd (omega (arith, e))
-stated_same t (head.Batch x) (head.Schema z) e a b = absurd (omega (arith, e))
-stated_same t (head.Batch x) (head.Dictionary j y) e a b = absurd (omega (arith, e))
+-- a header's table states one head at most of the same code
+pub stated_same : (limits : Limits) (t : TableView) (g h : Head) → code_of g ≡ code_of h → Stated limits t g → Stated limits t h → g ≡ h
+stated_same limits t (head.Schema s) (head.Schema z) e a b = ap head.Schema (schema_same t s z a b)
+stated_same limits t (head.Dictionary i x) (head.Dictionary j y) e a b = let p = dictionary_same t i j x y a b in rw (p.0, p.1) refl
+stated_same limits t (head.Batch x) (head.Batch y) e a b = ap head.Batch (batch_one t x y a b)
+stated_same limits t (head.Schema s) (head.Dictionary j y) e a b = absurd (omega (arith, e))
+stated_same limits t (head.Schema s) (head.Batch y) e a b = absurd (omega (arith, e))
+stated_same limits t (head.Dictionary i x) (head.Schema z) e a b = absurd (omega (arith, e))
+stated_same limits t (head.Dictionary i x) (head.Batch y) e a b = absurd (omega (arith, e))
+stated_same limits t (head.Batch x) (head.Schema z) e a b = absurd (omega (arith, e))
+stated_same limits t (head.Batch x) (head.Dictionary j y) e a b = absurd (omega (arith, e))
 
-pub header_same : (root : TableView) (g h : Head) → HeaderAt root g → HeaderAt root h → g ≡ h
-header_same root g h a b =
-    let p = header_parts root g a in
-    let q = header_parts root h b in
+-- a message's root table states one head at most
+pub header_same : (limits : Limits) (root : TableView) (g h : Head) → HeaderAt limits root g → HeaderAt limits root h → g ≡ h
+header_same limits root g h a b =
+    let p = header_parts limits root g a in
+    let q = header_parts limits root h b in
     let tables = table_same (field root 2 table_from) p.1.0 q.1.0 p.1.1 q.1.1 in
-    stated_same q.1.0 g h (ok_same (scalar root 1 1 byte 0) (code_of g) (code_of h) p.0 q.0) (subst (λ u. Stated u g) tables p.1.2) q.1.2
+    stated_same limits q.1.0 g h (ok_same (scalar root 1 1 byte 0) (code_of g) (code_of h) p.0 q.0) (subst (λ u. Stated limits u g) tables
+    p.1.2) q.1.2
 
 nat_of : ℤ → ℕ
 nat_of (pos n) = n
@@ -107,16 +115,19 @@ pos_same : (m n : ℕ) → pos m ≡ pos n → m ≡ n
 unfolding nat_of
 pos_same m n h = ap nat_of h
 
-pub head_same : (metadata : List ℕ) (g h : Head) (m n : ℕ) → HeadOf metadata g m → HeadOf metadata h n → (g ≡ h) × (m ≡ n)
-head_same metadata g h m n a b =
+-- metadata states one head and one length of a body at most
+pub head_same : {limits : Limits} → (metadata : List ℕ) (g h : Head) (m n : ℕ) → HeadOf limits metadata g m → HeadOf limits metadata h n
+    → (g ≡ h) × (m ≡ n)
+head_same {limits} metadata g h m n a b =
     let roots = ok_same (table_from metadata 0) a.root b.root a.stands b.stands in
     let body : scalar b.root 3 8 int64 (pos 0) ≡ Ok (pos m) = subst (λ r. scalar r 3 8 int64 (pos 0) ≡ Ok (pos m)) roots a.body in (
-      header_same b.root g h (subst (λ r. HeaderAt r g) roots a.header) b.header,
+      header_same limits b.root g h (subst (λ r. HeaderAt limits r g) roots a.header) b.header,
       pos_same m n (ok_same (scalar b.root 3 8 int64 (pos 0)) (pos m) (pos n) body b.body),
     )
 
 -- ---- where a part is refused that is stated, memory ran out
 
+-- what the definition reads is refused for lack of memory alone
 pub refused : {X Y : Type 0} (e : Fault) (r : Result Y Fault) (y : Y) (x : X) → r ≡ Ok y → Fails e r → Fails e (Ok x)
 refused e r y x is h = λ ne. let bad : Ok y ≡ Err e = sym is ∙ h ne in absurd (cc)
 
@@ -126,59 +137,71 @@ pair id batch = Ok (id, batch)
 refused_pair : {X : Type 0} (e : Fault) (id : ℤ) (batch : BatchHead) (x : X) → Fails e (pair id batch) → Fails e (Ok x)
 refused_pair e id batch x h = λ ne. let bad : pair id batch ≡ Err e = h ne in absurd (cc)
 
+-- a fault that can't be another one than lack of memory is lack of memory
 pub only_memory : (e : Fault) → ((e ≡ OutOfMemory → ⊥) → ⊥) → e ≡ OutOfMemory
 only_memory OutOfMemory h = refl
 only_memory _ h = absurd (h (λ q. cc))
 
-pub dictionary_refused : (root t : TableView) (e : Fault) (h : Head) → scalar root 1 1 byte 0 ≡ Ok 2 → field root 2 table_from ≡ Ok (Some t)
-    → ((id : ℤ) (batch : BatchHead) → DictionaryAt t id batch → Fails e (pair id batch)) → HeaderAt root h → Fails e (Ok h)
-dictionary_refused root t e (head.Schema s) c f bad a = absurd (omega (arith, ok_same (scalar root 1 1 byte 0) 1 2 a.0 c))
-dictionary_refused root t e (head.Batch batch) c f bad a = absurd (omega (arith, ok_same (scalar root 1 1 byte 0) 3 2 a.0 c))
-dictionary_refused root t e (head.Dictionary id batch) c f bad a =
+-- where the table of a dictionary batch is refused, the message states no head unless memory ran out
+pub dictionary_refused : (limits : Limits) (root t : TableView) (e : Fault) (h : Head) → scalar root 1 1 byte 0 ≡ Ok 2
+    → field root 2 table_from ≡ Ok (Some t)
+    → ((id : ℤ) (batch : BatchHead) → DictionaryAt t id batch → Fails e (pair id batch)) → HeaderAt limits root h → Fails e (Ok h)
+dictionary_refused limits root t e (head.Schema s) c f bad a = absurd (omega (arith, ok_same (scalar root 1 1 byte 0) 1 2 a.0 c))
+dictionary_refused limits root t e (head.Batch batch) c f bad a = absurd (omega (arith, ok_same (scalar root 1 1 byte 0) 3 2 a.0 c))
+dictionary_refused limits root t e (head.Dictionary id batch) c f bad a =
     let tables = table_same (field root 2 table_from) a.1.0 t a.1.1 f in
     refused_pair e id batch (head.Dictionary id batch) (bad id batch (subst (λ u. DictionaryAt u id batch) tables a.1.2))
 
-pub batch_refused : (root t : TableView) (e : Fault) (h : Head) → scalar root 1 1 byte 0 ≡ Ok 3 → field root 2 table_from ≡ Ok (Some t)
-    → Fails e (batch_read t) → HeaderAt root h → Fails e (Ok h)
-batch_refused root t e (head.Schema s) c f bad a = absurd (omega (arith, ok_same (scalar root 1 1 byte 0) 1 3 a.0 c))
-batch_refused root t e (head.Dictionary id batch) c f bad a = absurd (omega (arith, ok_same (scalar root 1 1 byte 0) 2 3 a.0 c))
-batch_refused root t e (head.Batch batch) c f bad a =
+-- where the table of a record batch is refused, the message states no head unless memory ran out
+pub batch_refused : (limits : Limits) (root t : TableView) (e : Fault) (h : Head) → scalar root 1 1 byte 0 ≡ Ok 3
+    → field root 2 table_from ≡ Ok (Some t)
+    → Fails e (batch_read t) → HeaderAt limits root h → Fails e (Ok h)
+batch_refused limits root t e (head.Schema s) c f bad a = absurd (omega (arith, ok_same (scalar root 1 1 byte 0) 1 3 a.0 c))
+batch_refused limits root t e (head.Dictionary id batch) c f bad a = absurd (omega (arith, ok_same (scalar root 1 1 byte 0) 2 3 a.0 c))
+batch_refused limits root t e (head.Batch batch) c f bad a =
     let tables = table_same (field root 2 table_from) a.1.0 t a.1.1 f in
     refused e (batch_read t) batch (head.Batch batch) (batch_complete t batch (subst (λ u. BatchAt u batch) tables a.1.2)) bad
 
-pub schema_refused : (root t : TableView) (e : Fault) (h : Head) → scalar root 1 1 byte 0 ≡ Ok 1 → field root 2 table_from ≡ Ok (Some t)
-    → ((s : Schema) → SchemaAt t s → Fails e (Ok s)) → HeaderAt root h → Fails e (Ok h)
-schema_refused root t e (head.Dictionary id batch) c f bad a = absurd (omega (arith, ok_same (scalar root 1 1 byte 0) 2 1 a.0 c))
-schema_refused root t e (head.Batch batch) c f bad a = absurd (omega (arith, ok_same (scalar root 1 1 byte 0) 3 1 a.0 c))
-schema_refused root t e (head.Schema s) c f bad a =
+-- where the table of a schema is refused, the message states no head unless memory ran out
+pub schema_refused : {limits : Limits} → (root t : TableView) (e : Fault) (h : Head) → scalar root 1 1 byte 0 ≡ Ok 1
+    → field root 2 table_from ≡ Ok (Some t)
+    → ((s : Schema) → SchemaAt limits t s → Fails e (Ok s)) → HeaderAt limits root h → Fails e (Ok h)
+schema_refused {limits} root t e (head.Dictionary id batch) c f bad a = absurd (omega (arith, ok_same (scalar root 1 1 byte 0) 2 1 a.0 c))
+schema_refused {limits} root t e (head.Batch batch) c f bad a = absurd (omega (arith, ok_same (scalar root 1 1 byte 0) 3 1 a.0 c))
+schema_refused {limits} root t e (head.Schema s) c f bad a =
     let tables = table_same (field root 2 table_from) a.1.0 t a.1.1 f in
-    refused e (Ok s) s (head.Schema s) refl (bad s (subst (λ u. SchemaAt u s) tables a.1.2))
+    refused e (Ok s) s (head.Schema s) refl (bad s (subst (λ u. SchemaAt limits u s) tables a.1.2))
 
-pub fields_refused : (t : TableView) (s : Schema) (e : Fault) (ps : List (List ℕ × List ℕ)) (l : Budget) → SchemaAt t s
-    → pairs_read t 2 (budget 65536 67108864 1048576) ≡ Ok (ps, l)
-    → Fails e (fields_read (field_read 64) t 1 l) → Fails e (Ok s)
-fields_refused t s e ps l h p bad =
+-- where the fields of a Schema table are refused, it states no schema unless memory ran out
+pub fields_refused : {limits : Limits} → (t : TableView) (s : Schema) (e : Fault) (ps : List (List ℕ × List ℕ)) (l : Budget)
+    → SchemaAt limits t s
+    → pairs_read t 2 (budget limits.fields limits.text limits.pairs) ≡ Ok (ps, l)
+    → Fails e (fields_read (field_read limits.depth) t 1 l) → Fails e (Ok s)
+fields_refused {limits} t s e ps l h p bad =
     let a = schema_complete t s h in
     let same = left_parts s.metadata ps a.mid l (sym a.pairs ∙ p) in
-    refused e (fields_read (field_read 64) t 1 l) (s.fields, a.after) s
-    (subst (λ z. fields_read (field_read 64) t 1 z ≡ Ok (s.fields, a.after)) same.1 a.fields) bad
+    refused e (fields_read (field_read limits.depth) t 1 l) (s.fields, a.after) s
+    (subst (λ z. fields_read (field_read limits.depth) t 1 z ≡ Ok (s.fields, a.after)) same.1 a.fields) bad
 
 abbrev schema_of : List Field → List (List ℕ × List ℕ) → Schema
 schema_of fs ps = record { fields = fs; metadata = ps }
 
-pub check_refused : (t : TableView) (s : Schema) (e : SchemaFault) (fs : List Field) (ps : List (List ℕ × List ℕ)) (l m : Budget)
-    → SchemaAt t s
-    → pairs_read t 2 (budget 65536 67108864 1048576) ≡ Ok (ps, l) → fields_read (field_read 64) t 1 l ≡ Ok (fs, m)
-    → ((e ≡ check.OutOfMemory → ⊥) → WellFormed (schema_of fs ps) → ⊥) → Fails (reader_fault e) (Ok s)
-check_refused t s e fs ps l m h p q bad =
+-- where the schema that was read is not well formed, its table states no schema unless memory ran out
+pub check_refused : {limits : Limits} → (t : TableView) (s : Schema) (e : SchemaFault) (fs : List Field) (ps : List (List ℕ
+    × List ℕ)) (l m : Budget)
+    → SchemaAt limits t s
+    → pairs_read t 2 (budget limits.fields limits.text limits.pairs) ≡ Ok (ps, l) → fields_read (field_read limits.depth) t 1 l ≡ Ok (fs, m)
+    → ((e ≡ check.OutOfMemory → ⊥) → WellFormed limits (schema_of fs ps) → ⊥) → Fails (reader_fault e) (Ok s)
+check_refused {limits} t s e fs ps l m h p q bad =
     let a = schema_complete t s h in
     let x = left_parts s.metadata ps a.mid l (sym a.pairs ∙ p) in
-    let read : fields_read (field_read 64) t 1 l ≡ Ok (s.fields, a.after) =
-    subst (λ z. fields_read (field_read 64) t 1 z ≡ Ok (s.fields, a.after)) x.1 a.fields in
+    let read : fields_read (field_read limits.depth) t 1 l ≡ Ok (s.fields, a.after) =
+    subst (λ z. fields_read (field_read limits.depth) t 1 z ≡ Ok (s.fields, a.after)) x.1 a.fields in
     let y = left_parts s.fields fs a.after m (sym read ∙ q) in
     let same : s ≡ schema_of fs ps = λ i. record { fields = y.0 i; metadata = x.0 i } in
-    λ ne. absurd (bad (λ is. ne (ap reader_fault is)) (subst WellFormed same h.well_formed))
+    λ ne. absurd (bad (λ is. ne (ap reader_fault is)) (subst (WellFormed limits) same h.well_formed))
 
+-- where the values of a dictionary batch are refused, its table states no batch unless memory ran out
 pub values_refused : (t d : TableView) (id : ℤ) (batch : BatchHead) (e : Fault) → DictionaryAt t id batch
     → field t 1 table_from ≡ Ok (Some d) → Fails e (batch_read d) → Fails e (pair id batch)
 values_refused t d id batch e h f bad =

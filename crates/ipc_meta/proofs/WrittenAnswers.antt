@@ -15,47 +15,62 @@ use Rattle.ipc_meta.specs.Rooms.{schema_room, head_room}
 use Rattle.ipc_meta.specs.Written.{schema_tree, batch_tree, message_tree, schema_message, batch_message}
 use Rattle.ipc_meta.proofs.WrittenHeads.{schema_stated, batch_stated}
 use Rattle.ipc_meta.proofs.WrittenOrder.{schema_needs, batch_room_opens}
+use Rattle.ipc_model.specs.declared.limits.Limits.{Limits}
 
+-- what follows of each answer of a call follows where the call answers
 pub ok_then : {A E : Type 0} (P Q : A → Type 0) (r : Result A E) → ((x : A) → P x → Q x) → IfOk r P → IfOk r Q
 ok_then P Q (Ok x) f h = f x h
 ok_then P Q (Err e) f h = tt
 
+-- what follows of each fault of a call follows where the call fails
 pub err_then : {A E : Type 0} (P Q : E → Type 0) (r : Result A E) → ((x : E) → P x → Q x) → IfErr r P → IfErr r Q
 err_then P Q (Ok x) f h = tt
 err_then P Q (Err e) f h = f e h
 
 -- memory ran out, or the tree's room is above the limit
-abbrev pub NoRoom : Tree → WriteFault → Type 0
-NoRoom f fault = (fault ≡ OutOfMemory) ⊎ ((fault ≡ TooLong) × (2 ^ 24 < room f))
+abbrev pub NoRoom : Limits → Tree → WriteFault → Type 0
+NoRoom limits f fault = (fault ≡ OutOfMemory) ⊎ ((fault ≡ TooLong) × (limits.metadata < room f))
 
+-- a message's tree around the tree of a schema is that schema's message
 pub schema_is : (s : Schema) (f g : Tree) → g ≡ message_tree 1 f 0 → f ≡ schema_tree s → g ≡ schema_message s
 schema_is s f g e h = e ∙ ap (λ (x : Tree). message_tree 1 x 0) h
 
+-- a message's tree around the tree of a batch's head is that batch's message
 pub batch_is : (b : BatchHead) (m : ℕ) (f g : Tree) → g ≡ message_tree 3 f m → f ≡ batch_tree b → g ≡ batch_message b m
 batch_is b m f g e h = e ∙ ap (λ (x : Tree). message_tree 3 x m) h
 
+-- where a tree lies in some bytes, whatever comes behind them, an equal tree does
 pub lies_as : (b : List ℕ) (f g : Tree) → f ≡ g → ((rest : List ℕ) → Encodes (b ++ rest) f) → (rest : List ℕ) → Encodes (b ++ rest) g
 lies_as b f g e h rest = subst (λ (x : Tree). Encodes (b ++ rest) x) e (h rest)
 
-pub schema_states : (b : List ℕ) (s : Schema) (f : Tree) → WellFormed s → f ≡ schema_message s → ((rest : List ℕ) → Encodes (b ++ rest) f)
-    → (rest : List ℕ) → HeadOf (b ++ rest) (head.Schema s) 0
+-- bytes in which the message of a well formed schema lies state that schema, and a body of no bytes
+pub schema_states : {limits : Limits} → (b : List ℕ) (s : Schema) (f : Tree) → WellFormed limits s → f ≡ schema_message s
+    → ((rest : List ℕ) → Encodes (b ++ rest) f)
+    → (rest : List ℕ) → HeadOf limits (b ++ rest) (head.Schema s) 0
 schema_states b s f w e h rest = schema_stated (b ++ rest) s w (lies_as b f (schema_message s) e h rest)
 
+-- the room of a schema's message is the one that the definition gives
 pub schema_room_is : (s : Schema) (f : Tree) → f ≡ schema_message s → room f ≡ schema_room s
 schema_room_is s f e = ap room e ∙ schema_needs s
 
-pub schema_refused : (s : Schema) (f : Tree) (fault : WriteFault) → f ≡ schema_message s → NoRoom f fault
-    → (fault ≡ OutOfMemory) ⊎ ((fault ≡ TooLong) × (2 ^ 24 < schema_room s))
-schema_refused s f fault e h = subst (λ (n : ℕ). (fault ≡ OutOfMemory) ⊎ ((fault ≡ TooLong) × (2 ^ 24 < n))) (schema_room_is s f e) h
+-- a schema is refused where memory ran out, or where its message is longer than metadata may be
+pub schema_refused : (limits : Limits) (s : Schema) (f : Tree) (fault : WriteFault) → f ≡ schema_message s → NoRoom limits f fault
+    → (fault ≡ OutOfMemory) ⊎ ((fault ≡ TooLong) × (limits.metadata < schema_room s))
+schema_refused limits s f fault e h = subst (λ (n : ℕ). (fault ≡ OutOfMemory) ⊎ ((fault ≡ TooLong)
+    × (limits.metadata < n))) (schema_room_is s f e) h
 
-pub batch_states : (b : List ℕ) (h : BatchHead) (m : ℕ) (f : Tree) → m ≤ 2 ^ 40 → f ≡ batch_message h m
-    → ((rest : List ℕ) → Encodes (b ++ rest) f) → (rest : List ℕ) → HeadOf (b ++ rest) (head.Batch h) m
+-- bytes in which the message of a batch lies state the batch's head and the length of its body
+pub batch_states : {limits : Limits} → (b : List ℕ) (h : BatchHead) (m : ℕ) (f : Tree) → m ≤ limits.body → f ≡ batch_message h m
+    → ((rest : List ℕ) → Encodes (b ++ rest) f) → (rest : List ℕ) → HeadOf limits (b ++ rest) (head.Batch h) m
 batch_states b h m f small e lies rest = batch_stated (b ++ rest) h m small (lies_as b f (batch_message h m) e lies rest)
 
+-- the room of a batch's message is the one that the definition gives
 pub batch_room_is : (h : BatchHead) (m : ℕ) (f : Tree) → f ≡ batch_message h m → room f ≡ head_room h m
 batch_room_is h m f e = ap room e ∙ batch_room_opens h m
 
-pub batch_refused : (h : BatchHead) (m : ℕ) (f : Tree) (fault : WriteFault) → f ≡ batch_message h m → NoRoom f fault
-    → (fault ≡ OutOfMemory) ⊎ ((fault ≡ TooLong) × ((2 ^ 24 < head_room h m) ⊎ (2 ^ 40 < m)))
-batch_refused h m f fault e (inl o) = inl o
-batch_refused h m f fault e (inr t) = inr (t.0, inl (subst (λ (n : ℕ). 2 ^ 24 < n) (batch_room_is h m f e) t.1))
+-- a batch is refused where memory ran out, or where its message is longer than metadata may be
+pub batch_refused : (limits : Limits) (h : BatchHead) (m : ℕ) (f : Tree) (fault : WriteFault) → f ≡ batch_message h m
+    → NoRoom limits f fault
+    → (fault ≡ OutOfMemory) ⊎ ((fault ≡ TooLong) × ((limits.metadata < head_room h m) ⊎ (limits.body < m)))
+batch_refused limits h m f fault e (inl o) = inl o
+batch_refused limits h m f fault e (inr t) = inr (t.0, inl (subst (λ (n : ℕ). limits.metadata < n) (batch_room_is h m f e) t.1))

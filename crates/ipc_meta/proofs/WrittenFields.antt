@@ -23,28 +23,30 @@ use Rattle.ipc_meta.proofs.Sound.{field_roll}
 use Rattle.ipc_meta.proofs.Standing.{tab, Holds, field_absent}
 use Rattle.ipc_meta.proofs.WrittenParts.{States, text_there, flag_there, vector_lies, pairs_there, neither, no_pairs, pairs_absent}
 use Rattle.ipc_meta.proofs.WrittenTypes.{type_there, dictionary_there}
+use Rattle.ipc_model.specs.declared.limits.Limits.{Limits}
 
 -- a field whose type and that of each below it are of a good width is stated where its table is written
-abbrev pub IsWritten : Field → Type 0
-IsWritten f = (d : ℕ) → AllByRecursion IsFieldWellFormed (preorder f d) → (b : List ℕ) → States field_tree FieldAt b f
+abbrev pub IsWritten : Limits → Field → Type 0
+IsWritten limits f = (d : ℕ) → AllByRecursion (IsFieldWellFormed limits) (preorder f d) → (b : List ℕ) → States field_tree FieldAt b f
 
-abbrev Shown : Type 0
-Shown = (f : Field) × IsWritten f
+abbrev Shown : Limits → Type 0
+Shown limits = (f : Field) × IsWritten limits f
 
-abbrev fields_of : List Shown → List Field
-fields_of cs = map (λ c. c.0) cs
+abbrev fields_of : (limits : Limits) → List (Shown limits) → List Field
+fields_of limits cs = map (λ c. c.0) cs
 
-fine_parts : (xs ys : List Entry) → AllByRecursion IsFieldWellFormed (xs ++ ys)
-    → AllByRecursion IsFieldWellFormed xs × AllByRecursion IsFieldWellFormed ys
-fine_parts [] ys h = (tt, h)
-fine_parts (x ∷ xs) ys h = let p = fine_parts xs ys h.1 in ((h.0, p.0), p.1)
+fine_parts : (limits : Limits) (xs ys : List Entry) → AllByRecursion (IsFieldWellFormed limits) (xs ++ ys)
+    → AllByRecursion (IsFieldWellFormed limits) xs × AllByRecursion (IsFieldWellFormed limits) ys
+fine_parts limits [] ys h = (tt, h)
+fine_parts limits (x ∷ xs) ys h = let p = fine_parts limits xs ys h.1 in ((h.0, p.0), p.1)
 
-children_written : (cs : List Shown) (d : ℕ) → AllByRecursion IsFieldWellFormed (all_at d (map preorder (fields_of cs))) → (b : List ℕ)
-    → AllByRecursion (States field_tree FieldAt b) (fields_of cs)
-children_written [] d fine b = tt
-children_written (c ∷ cs) d fine b =
-    let p = fine_parts (preorder c.0 d) (all_at d (map preorder (fields_of cs))) fine in
-    (c.1 d p.0 b, children_written cs d p.1 b)
+children_written : (limits : Limits) (cs : List (Shown limits)) (d : ℕ)
+    → AllByRecursion (IsFieldWellFormed limits) (all_at d (map preorder (fields_of limits cs))) → (b : List ℕ)
+    → AllByRecursion (States field_tree FieldAt b) (fields_of limits cs)
+children_written limits [] d fine b = tt
+children_written limits (c ∷ cs) d fine b =
+    let p = fine_parts limits (preorder c.0 d) (all_at d (map preorder (fields_of limits cs))) fine in
+    (c.1 d p.0 b, children_written limits cs d p.1 b)
 
 -- a Field table by its parts
 abbrev tree_with : List ℕ → Bool → DataType → Option Dictionary → List Field → List (List ℕ × List ℕ) → Tree
@@ -102,24 +104,25 @@ parts_there b t name nullable κ None cs ps good each h =
       vector_lies field_tree FieldAt b t 5 children.0 children.3.0 cs children.1.0 children.3.1 children.3.3 each,
     )
 
-roll_written : (y : Field-F Shown) → IsWritten (roll-Field (map-Field Shown Field (λ c. c.0) y))
-roll_written y = λ d fine b t h.
-    let z : Field-F Field = map-Field Shown Field (λ c. c.0) y in
-    let listed : AllByRecursion IsFieldWellFormed (preorder_step (map-Field Field Listing preorder z) d) =
-    subst (λ (l : Listing). AllByRecursion IsFieldWellFormed (l d)) (fold-roll-Field Listing preorder_step z) fine in
+roll_written : (limits : Limits) (y : Field-F (Shown limits)) → IsWritten limits (roll-Field (map-Field (Shown limits) Field (λ c. c.0) y))
+roll_written limits y = λ d fine b t h.
+    let z : Field-F Field = map-Field (Shown limits) Field (λ c. c.0) y in
+    let listed : AllByRecursion (IsFieldWellFormed limits) (preorder_step (map-Field Field Listing preorder z) d) =
+    subst (λ (l : Listing). AllByRecursion (IsFieldWellFormed limits) (l d)) (fold-roll-Field Listing preorder_step z) fine in
     let held : Holds b t (tree_with z.name z.nullable z.kind z.dictionary z.children z.metadata) =
     subst (λ (f : Tree). Holds b t f) (fold-roll-Field Tree written.field_step z) h in
-    let each = children_written y.children (d + 1) listed.1 b in
+    let each = children_written limits y.children (d + 1) listed.1 b in
     subst (λ (F : TableView → Type 0). F (tab b t)) (sym (field_roll z))
     (parts_there b t z.name z.nullable z.kind z.dictionary z.children z.metadata listed.0.good_type each held)
 
-field_written : (f : Field) → IsWritten f
-field_written = ind-Field IsWritten (λ x y is. subst (λ z. IsWritten (roll-Field z)) is (roll_written y))
+field_written : (limits : Limits) (f : Field) → IsWritten limits f
+field_written limits = ind-Field (IsWritten limits) (λ x y is. subst (λ z. IsWritten limits (roll-Field z)) is (roll_written limits y))
 
 -- the columns of a schema
-pub fields_written : (fs : List Field) → AllByRecursion IsFieldWellFormed (all_at 1 (map preorder fs)) → (b : List ℕ)
+pub fields_written : (limits : Limits) (fs : List Field) → AllByRecursion (IsFieldWellFormed limits) (all_at 1 (map preorder fs))
+    → (b : List ℕ)
     → AllByRecursion (States field_tree FieldAt b) fs
-fields_written [] fine b = tt
-fields_written (f ∷ fs) fine b =
-    let p = fine_parts (preorder f 1) (all_at 1 (map preorder fs)) fine in
-    (field_written f 1 p.0 b, fields_written fs p.1 b)
+fields_written limits [] fine b = tt
+fields_written limits (f ∷ fs) fine b =
+    let p = fine_parts limits (preorder f 1) (all_at 1 (map preorder fs)) fine in
+    (field_written limits f 1 p.0 b, fields_written limits fs p.1 b)

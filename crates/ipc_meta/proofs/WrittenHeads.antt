@@ -19,16 +19,19 @@ use Rattle.ipc_meta.specs.Written.{field_tree, schema_tree, batch_tree, message_
 use Rattle.ipc_meta.proofs.Standing.{Any, tab, Holds, scalar_there, scalar_absent, field_there, field_absent, table_there, structs_there}
 use Rattle.ipc_meta.proofs.WrittenParts.{vector_lies, pairs_there, neither, no_pairs, pairs_absent}
 use Rattle.ipc_meta.proofs.WrittenFields.{fields_written}
+use Rattle.ipc_model.specs.declared.limits.Limits.{Limits}
 
-pub schema_there : (b : List ℕ) (t : ℕ) (s : Schema) → WellFormed s → Holds b t (schema_tree s) → SchemaAt (tab b t) s
+-- a table written for a well formed schema states it
+pub schema_there : {limits : Limits} → (b : List ℕ) (t : ℕ) (s : Schema) → WellFormed limits s → Holds b t (schema_tree s)
+    → SchemaAt limits (tab b t) s
 unfolding EncodesTable HasField
-schema_there b t s w h =
+schema_there {limits} b t s w h =
     let columns = h.lies.0 in
     record {
       little_endian = scalar_absent b t 0 2 int16 (pos 0)
           (h.stands.absent 0 2 (neither (λ e. omega (arith, e)) (no_pairs 0 2 s.metadata (λ e. omega (arith, e)))));
       fields = vector_lies field_tree FieldAt b t 1 columns.0 columns.3.0 s.fields columns.1.0 columns.3.1 columns.3.3
-          (fields_written s.fields w.each b);
+          (fields_written limits s.fields w.each b);
       pairs = pairs_there b t 2 s.metadata h.lies.1
           (λ e. h.stands.absent 2 4 (neither (λ z. omega (arith, z)) (pairs_absent 2 2 s.metadata e)));
       well_formed = w;
@@ -52,6 +55,7 @@ numbers_there b t k p q xs s e lies =
     (field_there b t k p (structs_from 16) (structs b (q + 4) (length xs)) s (structs_there b p (q + 4) (length xs) 16 e))
     ∙ ap Ok (pairs_read b (q + 4) xs lies)
 
+-- a table written for a batch's head states it
 pub batch_there : (b : List ℕ) (t : ℕ) (h : BatchHead) → Holds b t (batch_tree h) → BatchAt (tab b t) h
 unfolding EncodesTable HasField
 batch_there b t h held =
@@ -100,7 +104,9 @@ message_there b code m header h =
       body = scalar_there b t 3 8 body.0 int64 (pos 0) body.1.0 ∙ ap Ok body.3;
     }
 
-pub schema_stated : (b : List ℕ) (s : Schema) → WellFormed s → Encodes b (schema_message s) → HeadOf b (head.Schema s) 0
+-- metadata in which the message of a well formed schema lies states that schema, and a body of no bytes
+pub schema_stated : {limits : Limits} → (b : List ℕ) (s : Schema) → WellFormed limits s → Encodes b (schema_message s)
+    → HeadOf limits b (head.Schema s) 0
 schema_stated b s w h =
     let m = message_there b 1 0 (schema_tree s) h in
     record {
@@ -112,7 +118,9 @@ schema_stated b s w h =
       header = (m.coded, (tab b m.u, m.headed, schema_there b m.u s w m.held));
     }
 
-pub batch_stated : (b : List ℕ) (h : BatchHead) (body : ℕ) → body ≤ 2 ^ 40 → Encodes b (batch_message h body) → HeadOf b (head.Batch h) body
+-- metadata in which the message of a batch lies states the batch's head and the length of its body
+pub batch_stated : {limits : Limits} → (b : List ℕ) (h : BatchHead) (body : ℕ) → body ≤ limits.body → Encodes b (batch_message h body)
+    → HeadOf limits b (head.Batch h) body
 batch_stated b h body small lies =
     let m = message_there b 3 body (batch_tree h) lies in
     record {

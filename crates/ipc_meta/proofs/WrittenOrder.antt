@@ -56,6 +56,8 @@ type_in_order (t.FixedSizeBinary n) = (omega arith, omega arith, tt, tt)
 type_in_order (t.Date unit) = (omega arith, omega arith, tt, tt)
 type_in_order (t.Timestamp unit None) = (omega arith, omega arith, tt, tt)
 type_in_order (t.Timestamp unit (Some zone)) = (omega arith, omega arith, tt, (omega arith, omega arith, tt, tt))
+type_in_order (t.Time unit) = (omega arith, omega arith, tt, (omega arith, omega arith, tt, tt))
+type_in_order (t.Duration unit) = (omega arith, omega arith, tt, tt)
 type_in_order t.List = tt
 type_in_order t.Struct = tt
 
@@ -138,10 +140,12 @@ batch_in_order : (b : BatchHead) → InOrder (batch_tree b)
 unfolding Ascends
 batch_in_order b = (omega arith, omega arith, tt, (omega arith, omega arith, tt, (omega arith, omega arith, tt, tt)))
 
+-- in each table of a schema's message the numbers of the fields ascend
 pub schema_ascends : (s : Schema) (code m : ℕ) (f g : Tree) → g ≡ message_tree code f m → f ≡ schema_tree s → Ascends (fields 0) g
 schema_ascends s code m f g e h = subst (λ (x : Tree). InOrder x) (sym e)
     (subst (λ (x : Tree). InOrder (message_tree code x m)) (sym h) (message_in_order code m (schema_tree s) (schema_in_order s)))
 
+-- in each table of a batch's message the numbers of the fields ascend
 pub batch_ascends : (b : BatchHead) (m : ℕ) (f g : Tree) → g ≡ message_tree 3 f m → f ≡ batch_tree b → Ascends (fields 0) g
 batch_ascends b m f g e h = subst (λ (x : Tree). InOrder x) (sym e)
     (subst (λ (x : Tree). InOrder (message_tree 3 x m)) (sym h) (message_in_order 3 m (batch_tree b) (batch_in_order b)))
@@ -153,6 +157,7 @@ pub head_counts : (b : BatchHead) (m : ℕ) → head_room b m ≡ 158 + 16 * len
 unfolding targets_room entry_count members head_room
 head_counts b m = omega arith
 
+-- the room of a batch's message is 158 bytes, and 16 for each node and each buffer
 pub batch_counts : (nodes buffers : ℕ) → batch_room nodes buffers ≡ 158 + 16 * nodes + 16 * buffers
 unfolding batch_room
 batch_counts nodes buffers =
@@ -161,13 +166,16 @@ batch_counts nodes buffers =
     let h = head_counts (record { length = pos 0; nodes = zeros nodes; buffers = zeros buffers }) 0 in
     omega (arith, h, n, b)
 
+-- the room of a batch's message depends on the numbers of its nodes and buffers alone
 pub batch_needs : (b : BatchHead) (m : ℕ) → head_room b m ≡ batch_room (length b.nodes) (length b.buffers)
 batch_needs b m = let h = head_counts b m in let c = batch_counts (length b.nodes) (length b.buffers) in omega (arith, h, c)
 
+-- the room of a batch's message is that of its tree
 pub batch_room_opens : (b : BatchHead) (m : ℕ) → room (batch_message b m) ≡ head_room b m
 unfolding head_room
 batch_room_opens b m = refl
 
+-- the room of a schema's message is that of its tree
 pub schema_needs : (s : Schema) → room (schema_message s) ≡ schema_room s
 unfolding schema_room
 schema_needs s = refl

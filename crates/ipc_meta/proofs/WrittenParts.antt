@@ -16,6 +16,7 @@ use Rattle.ipc_meta.specs.Fields.{TablesAt, VectorAt, PairAt}
 use Rattle.ipc_meta.specs.Written.{flag, pair_tree, with_pairs}
 use Rattle.ipc_meta.proofs.Standing.{Any, tab, Holds, scalar_there, field_there, field_absent, table_there, elements_there}
 
+-- a text that was written in a field is read there
 pub text_there : (b : List ℕ) (t k p : ℕ) (s : List ℕ) → slot_of b t k 4 ≡ Ok (Some p) → text_of b p ≡ Ok s → text_at (tab b t) k ≡ Ok s
 unfolding text_at
 text_there b t k p s h g = ap (λ (r : Result (Option (List ℕ)) FlatFault). lift r >>= λ o. Ok (or_else [] o))
@@ -25,12 +26,14 @@ flag_read : (v : Bool) → nat_lt 0 (flag v) ≡ v
 flag_read true = refl
 flag_read false = refl
 
+-- a truth value that was written in a field is read there
 pub flag_there : (b : List ℕ) (t k p : ℕ) (v : Bool) → slot_of b t k 1 ≡ Ok (Some p) → num b p 1 ≡ flag v → flag_at (tab b t) k ≡ Ok v
 unfolding flag_at
 flag_there b t k p v h g =
     ap (λ (r : Result ℕ FlatFault). lift r >>= λ n. Ok (nat_lt 0 n)) (scalar_there b t k 1 p byte 0 h)
     ∙ (ap (λ (n : ℕ). Ok (nat_lt 0 n)) g ∙ ap Ok (flag_read v))
 
+-- a vector that was written in a field is read there
 pub vector_there : (b : List ℕ) (t k p q n : ℕ) → slot_of b t k 4 ≡ Ok (Some p) → elements_of b p 4 ≡ Ok (q, n)
     → vector_at (tab b t) k ≡ Ok (record { bytes = b; at = q; len = n })
 unfolding vector_at
@@ -38,12 +41,14 @@ vector_there b t k p q n h g =
     ap (λ (r : Result (Option Elements) FlatFault). lift r >>= λ o. Ok (no_elements (tab b t) o))
     (field_there b t k p (elements_from 4) (record { bytes = b; at = q; len = n }) h (elements_there b p q n 4 g))
 
+-- where no vector was written in a field, one of no elements is read
 pub vector_absent : (b : List ℕ) (t k : ℕ) → slot_of b t k 4 ≡ Ok None → vector_at (tab b t) k ≡ Ok (record { bytes = b; at = 0; len = 0 })
 unfolding vector_at
 vector_absent b t k h = ap (λ (r : Result (Option Elements) FlatFault). lift r >>= λ o. Ok (no_elements (tab b t) o))
     (field_absent b t k (elements_from 4) h)
 
 module _ {X : Type 0} (tree : X → Tree) (At : X → TableView → Type 0) where
+  -- the tree of a vector has as many members as there are things to write
   pub members_length : (xs : List X) → members (tables_of (map tree xs)) ≡ length xs
   unfolding members
   members_length [] = refl
@@ -53,6 +58,7 @@ module _ {X : Type 0} (tree : X → Tree) (At : X → TableView → Type 0) wher
   abbrev pub States : List ℕ → X → Type 0
   States b x = (t : ℕ) → Holds b t (tree x) → At x (tab b t)
 
+  -- tables written one after another state the things that they were written for
   pub tables_there : (b : List ℕ) (q n : ℕ) (xs : List X) → n ≡ length xs → AllByRecursion (States b) xs
       → EncodesTable Any b (in_vector q) (tables_of (map tree xs)) → TablesAt At b q n xs
   unfolding EncodesTable
@@ -66,6 +72,7 @@ module _ {X : Type 0} (tree : X → Tree) (At : X → TableView → Type 0) wher
         tables_there b (q + 4) (n - 1) xs (omega (arith, c)) s.1 h.1,
       )
 
+-- a KeyValue table written for a pair states it
 pub pair_there : (b : List ℕ) (p : List ℕ × List ℕ) (t : ℕ) → Holds b t (pair_tree p) → PairAt p (tab b t)
 unfolding EncodesTable
 pair_there b p t h =
@@ -99,6 +106,7 @@ pairs_there b t k (p ∷ ps) h absent = let here =
 
 -- ---- fields that are absent
 
+-- where neither of two cases holds, their choice does not
 pub neither : {A B : Type 0} → (A → ⊥) → (B → ⊥) → A ⊎ B → ⊥
 neither f g (inl a) = f a
 neither f g (inr b) = g b

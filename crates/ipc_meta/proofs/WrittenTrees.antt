@@ -16,6 +16,7 @@ use Rattle.ipc_meta.specs.Written.{fields_then, pair_tree, with_pairs, dictionar
 use Rattle.ipc_meta.specs.Written.{with_table, with_tables, type_tree, field_step, field_tree, schema_tree}
 use Rattle.ipc_model.specs.TypeCodes.{type_code}
 
+-- a tree that the code makes has the fields of its slots
 pub tree_is : (t : FlatTree) (xs : List (ℕ × Slot)) → t.slots ≡ xs → view t ≡ fields_view xs
 tree_is t xs e = view_is t ∙ ap fields_view e
 
@@ -28,11 +29,13 @@ pub tables_slot : {X : Type 0} (tree : X → Tree) (s : Slot) (ts : List FlatTre
     → node s ≡ (tables, tables_of (map tree xs))
 tables_slot tree s ts xs is e = ap node is ∙ (tables_is ts ∙ ap (λ (l : Tree). (tables, l)) (vector_is ts ∙ ap tables_of e))
 
+-- one field more at the end of a tree stands before what comes behind
 pub fields_then_more : (xs : List (ℕ × Slot)) (x : ℕ × Slot) (rest : Tree)
     → fields_then (xs ++ x ∷ []) rest ≡ fields_then xs (field x.0 (node x.1).0 (node x.1).1 rest)
 fields_then_more [] x rest = refl
 fields_then_more (y ∷ ys) x rest = ap (field y.0 (node y.1).0 (node y.1).1) (fields_then_more ys x rest)
 
+-- the fields of a tree are those of its slots, and nothing behind them
 pub fields_then_none : (xs : List (ℕ × Slot)) → fields_view xs ≡ fields_then xs none
 fields_then_none [] = refl
 fields_then_none (x ∷ xs) = ap (field x.0 (node x.1).0 (node x.1).1) (fields_then_none xs)

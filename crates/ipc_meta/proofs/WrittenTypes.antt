@@ -10,6 +10,7 @@ use Rattle.ipc_flat.specs.Views.{TableView, table_from, scalar, field}
 use Rattle.ipc_model.specs.Answers.{◌>>=◌}
 use Rattle.ipc_model.specs.WellFormed.{HasGoodType}
 use Rattle.ipc_model.specs.Ranges.{width}
+use Rattle.ipc_model.specs.Layouts.{time_bits}
 use Rattle.ipc_model.specs.declared.fault.Fault.{Fault}
 use Rattle.ipc_model.specs.declared.fault.Fault.TheVariants.{UnsupportedType, BadType, BadIndexType}
 use Rattle.ipc_model.specs.declared.schema.IntBits.{IntBits}
@@ -26,6 +27,7 @@ use Rattle.ipc_build.specs.Encodes.{EncodesTable, HasField}
 use Rattle.ipc_meta.specs.Lifts.{lift}
 use Rattle.ipc_meta.specs.Tables.{bits_of, ok_or, int_at, fixed_at, date_at, unit_of, timestamp_at, type_of, type_in, is_type_code}
 use Rattle.ipc_meta.specs.Tables.{when_type, code_at, type_at, flag_at, index_in, index_at, dictionary_in, dictionary_at}
+use Rattle.ipc_meta.specs.Tables.{time_in, time_at, duration_at}
 use Rattle.ipc_meta.specs.Written.{int_tree, date_code, time_code, type_tree, dictionary_tree}
 use Rattle.ipc_model.specs.TypeCodes.{type_code}
 use Rattle.ipc_meta.proofs.Standing.{tab, Holds, scalar_there, field_there, field_absent, table_there}
@@ -93,6 +95,37 @@ timestamp_there b u unit zone h =
     ∙ (ap (λ (r : Result TimeUnit Fault). r >>= λ c. lift (field (tab b u) 1 text_of) >>= λ z. timestamp c z) (unit_read unit)
     ∙ ap (λ (r : Result (Option (List ℕ)) FlatFault). lift r >>= λ z. timestamp unit z) (zone_there b u unit zone h)))
 
+width_read : (unit : TimeUnit) → time_in unit (pos (width (time_bits unit))) ≡ Ok (t.Time unit)
+width_read time.Second = refl
+width_read time.Millisecond = refl
+width_read time.Microsecond = refl
+width_read time.Nanosecond = refl
+
+time_there : (b : List ℕ) (u : ℕ) (unit : TimeUnit) → Holds b u (type_tree (t.Time unit)) → time_at (tab b u) ≡ Ok (t.Time unit)
+unfolding EncodesTable
+time_there b u unit h =
+    let place = h.lies.0 in
+    let size = h.lies.1.0 in
+    ap (λ (r : Result ℤ FlatFault). lift r >>= λ n. ok_or BadType (unit_of n) >>= λ c. lift (scalar (tab b u) 1 4 int32 (pos 32))
+    >>= time_in c) (scalar_there b u 0 2 place.0 int16 (pos 1) place.1.0)
+    ∙ (ap (λ (m : ℤ). ok_or BadType (unit_of m) >>= λ c. lift (scalar (tab b u) 1 4 int32 (pos 32)) >>= time_in c) place.3
+    ∙ (ap (λ (r : Result TimeUnit Fault). r >>= λ c. lift (scalar (tab b u) 1 4 int32 (pos 32)) >>= time_in c) (unit_read unit)
+    ∙ (ap (λ (r : Result ℤ FlatFault). lift r >>= time_in unit) (scalar_there b u 1 4 size.0 int32 (pos 32) size.1.0)
+    ∙ (ap (time_in unit) size.3 ∙ width_read unit))))
+
+abbrev duration : TimeUnit → Result DataType Fault
+duration unit = Ok (t.Duration unit)
+
+duration_there : (b : List ℕ) (u : ℕ) (unit : TimeUnit) → Holds b u (type_tree (t.Duration unit))
+    → duration_at (tab b u) ≡ Ok (t.Duration unit)
+unfolding EncodesTable
+duration_there b u unit h =
+    let place = h.lies.0 in
+    ap (λ (r : Result ℤ FlatFault). lift r >>= λ n. ok_or BadType (unit_of n) >>= λ c. duration c)
+    (scalar_there b u 0 2 place.0 int16 (pos 1) place.1.0)
+    ∙ (ap (λ (m : ℤ). ok_or BadType (unit_of m) >>= λ c. duration c) place.3
+    ∙ ap (λ (r : Result TimeUnit Fault). r >>= λ c. duration c) (unit_read unit))
+
 type_table : (b : List ℕ) (u : ℕ) (κ : DataType) → HasGoodType κ → Holds b u (type_tree κ) → type_of (type_code κ) (tab b u) ≡ Ok κ
 unfolding EncodesTable type_of
 type_table b u t.Null g h = refl
@@ -104,6 +137,8 @@ type_table b u t.Utf8 g h = refl
 type_table b u (t.FixedSizeBinary n) g h = let place = h.lies.0 in fixed_there b u n place.0 place.1.0 place.3 g
 type_table b u (t.Date unit) g h = let place = h.lies.0 in date_there b u place.0 unit place.1.0 place.3
 type_table b u (t.Timestamp unit zone) g h = timestamp_there b u unit zone h
+type_table b u (t.Time unit) g h = time_there b u unit h
+type_table b u (t.Duration unit) g h = duration_there b u unit h
 type_table b u t.List g h = refl
 type_table b u t.Struct g h = refl
 
@@ -117,9 +152,12 @@ coded t.Utf8 = refl
 coded (t.FixedSizeBinary n) = refl
 coded (t.Date unit) = refl
 coded (t.Timestamp unit timezone) = refl
+coded (t.Time unit) = refl
+coded (t.Duration unit) = refl
 coded t.List = refl
 coded t.Struct = refl
 
+-- a type whose code and table were written in a field is the one that is read
 pub type_there : (b : List ℕ) (t c p u : ℕ) (κ : DataType) → slot_of b t 2 1 ≡ Ok (Some c) → num b c 1 ≡ type_code κ
     → slot_of b t 3 4 ≡ Ok (Some p) → table_of b p ≡ Ok u
     → HasGoodType κ → Holds b u (type_tree κ) → type_at (tab b t) ≡ Ok κ
@@ -159,6 +197,7 @@ encoding_there b u d h =
     (index_there b u index.0 index.3.0 d.index index.1.0 index.3.1 (record { stands = index.3.2; lies = index.3.3 }))
     ∙ ap (λ (r : Result Bool Fault). r >>= λ o. encoding d.id d.index o) (flag_there b u 2 order.0 d.ordered order.1.0 order.3)))
 
+-- a dictionary whose table was written in a field is the one that is read
 pub dictionary_there : (b : List ℕ) (t p u : ℕ) (d : Dictionary) → slot_of b t 4 4 ≡ Ok (Some p) → table_of b p ≡ Ok u
     → Holds b u (dictionary_tree d) → dictionary_at (tab b t) ≡ Ok (Some d)
 unfolding dictionary_at

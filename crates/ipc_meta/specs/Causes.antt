@@ -8,17 +8,19 @@ use Rattle.ipc_flat.specs.Views.{TableView, Elements, table_from, scalar, field}
 use Rattle.ipc_model.specs.declared.fault.Fault.{Fault}
 use Rattle.ipc_model.specs.declared.fault.Fault.TheVariants as f
 use Rattle.ipc_model.specs.declared.schema.DataType.{DataType}
+use Rattle.ipc_model.specs.declared.schema.TimeUnit.{TimeUnit}
+use Rattle.ipc_model.specs.Layouts.{time_bits}
+use Rattle.ipc_model.specs.Ranges.{width}
 use Rattle.ipc_model.specs.declared.schema.Dictionary.{Dictionary}
-use Rattle.ipc_model.specs.Limits.{max_fields, max_depth, max_text, max_pairs}
 use Rattle.ipc_model.specs.WellFormed.{HasFittingChildren, IsLeaf}
 use Rattle.ipc_meta.specs.Tables.{bits_of, unit_of, flag_at, vector_at, code_at, is_type_code}
 use Rattle.ipc_meta.specs.Tables.{type_at, dictionary_at}
 use Rattle.ipc_meta.specs.Totals.{fields_stated, text_stated, pairs_stated}
-use Rattle.ipc_model.specs.Limits.{max_body}
 use Rattle.ipc_meta.specs.Reached.{Kind, HasTable, IsDeep, HasIllFormed, HasOtherText, message}
 use Rattle.ipc_meta.specs.Reached.{schema, column, type_value, index_type, dictionary_batch}
 use Rattle.ipc_meta.specs.Reached.{record_batch}
 use Rattle.ipc_meta.specs.Version.{v5}
+use Rattle.ipc_model.specs.declared.limits.Limits.{Limits}
 
 -- the metadata has a table of this kind of which P holds
 abbrev pub Has : List ℕ → Kind → (TableView → Type 0) → Type 0
@@ -36,18 +38,26 @@ pub data HasNoHeader (b : List ℕ) : Type 0 where
   absent : Has b message (λ t. field t 2 table_from ≡ Ok None) → HasNoHeader b
   no_data : Has b dictionary_batch (λ t. field t 1 table_from ≡ Ok None) → HasNoHeader b
 
--- a type's table with this code in union Type has a width or a unit that no type has (Schema.fbs,
--- tables Int, Date, Timestamp and FixedSizeBinary; Null, Binary, Utf8, Bool, List and Struct_ have
--- no fields)
+-- a type's table with this code in union Type has a width or a unit that no type has, or a time's
+-- has another width than its unit's (Schema.fbs, tables Int, Date, Time, Timestamp, FixedSizeBinary
+-- and Duration; Null, Binary, Utf8, Bool, List and Struct_ have no fields)
 pub data IsNoType : ℕ → TableView → Type 0 where
   other_width : {v : TableView} → Is (scalar v 0 4 int32 (pos 0)) (λ width. bits_of width ≡ None)
       → IsNoType 2 v
   other_date_unit : {v : TableView}
       → Is (scalar v 0 2 int16 (pos 1)) (λ unit. (unit ≢ pos 0) × (unit ≢ pos 1)) → IsNoType 8 v
+  other_time_of_day_unit : {v : TableView}
+      → Is (scalar v 0 2 int16 (pos 1)) (λ unit. unit_of unit ≡ None) → IsNoType 9 v
+  other_time_of_day_width : {v : TableView} {unit : TimeUnit}
+      → Is (scalar v 0 2 int16 (pos 1)) (λ code. unit_of code ≡ Some unit)
+      → Is (scalar v 1 4 int32 (pos 32)) (λ bits. bits ≢ pos (width (time_bits unit)))
+      → IsNoType 9 v
   other_time_unit : {v : TableView} → Is (scalar v 0 2 int16 (pos 0)) (λ unit. unit_of unit ≡ None)
       → IsNoType 10 v
   negative_width : {v : TableView}
       → Is (scalar v 0 4 int32 (pos 0)) (λ width. int_lt width (pos 0) ≡ true) → IsNoType 15 v
+  other_duration_unit : {v : TableView}
+      → Is (scalar v 0 2 int16 (pos 1)) (λ unit. unit_of unit ≡ None) → IsNoType 18 v
 
 -- a field's type has a type's code and no table, or a table that is no type's
 pub data HasBadType (b : List ℕ) : Type 0 where
@@ -68,31 +78,31 @@ Encodes b id κ = Has b column (λ t. (type_at t ≡ Ok κ)
     × ((d : Dictionary) × (dictionary_at t ≡ Ok (Some d)) × (d.id ≡ id)))
 
 -- what each fault says of the metadata
-abbrev pub Cause : List ℕ → Fault → Type 0
-Cause b f.BadFlat = HasIllFormed b
-Cause b f.BadVersion = Has b message (λ t. Is (scalar t 0 2 int16 (pos 0)) (λ v. v ≢ v5))
-Cause b f.BadHeader = HasNoHeader b
-Cause b f.BadBodyLength = Has b message
+abbrev pub Cause : Limits → List ℕ → Fault → Type 0
+Cause limits b f.BadFlat = HasIllFormed b
+Cause limits b f.BadVersion = Has b message (λ t. Is (scalar t 0 2 int16 (pos 0)) (λ v. v ≢ v5))
+Cause limits b f.BadHeader = HasNoHeader b
+Cause limits b f.BadBodyLength = Has b message
     (λ t. Is (scalar t 3 8 int64 (pos 0)) (λ n. int_lt n (pos 0) ≡ true))
-Cause b f.BodyTooLong = Has b message
-    (λ t. Is (scalar t 3 8 int64 (pos 0)) (λ n. int_lt (pos max_body) n ≡ true))
-Cause b f.BigEndian = Has b schema (λ t. Is (scalar t 0 2 int16 (pos 0)) (λ e. e ≢ pos 0))
-Cause b (f.UnsupportedType code) =
+Cause limits b f.BodyTooLong = Has b message
+    (λ t. Is (scalar t 3 8 int64 (pos 0)) (λ n. int_lt (pos limits.body) n ≡ true))
+Cause limits b f.BigEndian = Has b schema (λ t. Is (scalar t 0 2 int16 (pos 0)) (λ e. e ≢ pos 0))
+Cause limits b (f.UnsupportedType code) =
     Has b column (λ t. (code_at t ≡ Ok code) × (is_type_code code ≡ false))
-Cause b f.BadType = HasBadType b
-Cause b f.BadChildren = HasBadChildren b
-Cause b f.NameNotUtf8 = HasOtherText b
-Cause b f.TooManyFields = Has b schema (λ t. max_fields < fields_stated t)
-Cause b f.TooDeep = Has b schema
-    (λ t. (u : TableView) × (depth : ℕ) × (max_depth < depth) × IsDeep t depth u)
-Cause b f.TooMuchText = Has b schema
-    (λ t. (max_text < text_stated t) ⊎ (max_pairs < pairs_stated t))
-Cause b f.DictionaryConflict =
+Cause limits b f.BadType = HasBadType b
+Cause limits b f.BadChildren = HasBadChildren b
+Cause limits b f.NameNotUtf8 = HasOtherText b
+Cause limits b f.TooManyFields = Has b schema (λ t. limits.fields < fields_stated limits t)
+Cause limits b f.TooDeep = Has b schema
+    (λ t. (u : TableView) × (depth : ℕ) × (limits.depth < depth) × IsDeep t depth u)
+Cause limits b f.TooMuchText = Has b schema
+    (λ t. (limits.text < text_stated limits t) ⊎ (limits.pairs < pairs_stated limits t))
+Cause limits b f.DictionaryConflict =
     (id : ℤ) × (κ : DataType) × (μ : DataType) × Encodes b id κ × Encodes b id μ × (κ ≢ μ)
-Cause b f.NestedDictionary = (id : ℤ) × (κ : DataType) × Encodes b id κ × (IsLeaf κ → ⊥)
-Cause b f.BadIndexType = Has b index_type
+Cause limits b f.NestedDictionary = (id : ℤ) × (κ : DataType) × Encodes b id κ × (IsLeaf κ → ⊥)
+Cause limits b f.BadIndexType = Has b index_type
     (λ t. Is (scalar t 0 4 int32 (pos 0)) (λ width. bits_of width ≡ None))
-Cause b f.Compressed = Has b record_batch
+Cause limits b f.Compressed = Has b record_batch
     (λ t. (c : TableView) × (field t 3 table_from ≡ Ok (Some c)))
-Cause b f.DeltaDictionary = Has b dictionary_batch (λ t. flag_at t 2 ≡ Ok true)
-Cause b fault = ⊥
+Cause limits b f.DeltaDictionary = Has b dictionary_batch (λ t. flag_at t 2 ≡ Ok true)
+Cause limits b fault = ⊥

@@ -8,6 +8,7 @@ use Rattle.ipc_model.specs.declared.schema.Field.{Field, rec-Field}
 use Rattle.ipc_model.specs.declared.schema.Field.TheOpen.{Field-F}
 use Rattle.ipc_model.specs.declared.schema.Schema.{Schema}
 use Rattle.ipc_meta.specs.Tables.{text_at, flag_at, vector_at, type_at, dictionary_at}
+use Rattle.ipc_model.specs.declared.limits.Limits.{Limits}
 
 module _ {X : Type 0} (At : X → TableView → Type 0) where
   -- the n offsets from p on point to tables that state these values, in order (FlatBuffers binary
@@ -40,8 +41,8 @@ FieldAt = rec-Field (TableView → Type 0) field_step
 
 -- Schema.fbs, table Schema: 0 endianness (enum Endianness, Little is 0), 1 fields, 2
 -- custom_metadata
-pub record SchemaAt (t : TableView) (s : Schema) : Type 0 where
+pub record SchemaAt (limits : Limits) (t : TableView) (s : Schema) : Type 0 where
   pub little_endian : scalar t 0 2 int16 (pos 0) ≡ Ok (pos 0)
   pub fields : VectorAt FieldAt s.fields t 1
   pub pairs : VectorAt PairAt s.metadata t 2
-  pub well_formed : WellFormed s
+  pub well_formed : WellFormed limits s

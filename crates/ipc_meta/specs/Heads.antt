@@ -13,7 +13,7 @@ use Rattle.ipc_meta.specs.Lifts.{lift}
 use Rattle.ipc_meta.specs.Tables.{flag_at}
 use Rattle.ipc_meta.specs.Fields.{SchemaAt}
 use Rattle.ipc_meta.specs.Version.{v5}
-use Rattle.ipc_model.specs.Limits.{max_body}
+use Rattle.ipc_model.specs.declared.limits.Limits.{Limits}
 
 -- the numbers of the n structs from p on, each of two signed 64-bit numbers (FlatBuffers binary
 -- format, "Structs")
@@ -51,17 +51,17 @@ IsHeader root code At = (scalar root 1 1 byte 0 ≡ Ok code)
     × ((t : TableView) × (field root 2 table_from ≡ Ok (Some t)) × At t)
 
 -- Message.fbs, union MessageHeader: Schema 1, DictionaryBatch 2, RecordBatch 3
-abbrev pub HeaderAt : TableView → Head → Type 0
-HeaderAt root (head.Schema s) = IsHeader root 1 (λ t. SchemaAt t s)
-HeaderAt root (head.Dictionary id batch) = IsHeader root 2 (λ t. DictionaryAt t id batch)
-HeaderAt root (head.Batch batch) = IsHeader root 3 (λ t. BatchAt t batch)
+abbrev pub HeaderAt : Limits → TableView → Head → Type 0
+HeaderAt limits root (head.Schema s) = IsHeader root 1 (λ t. SchemaAt limits t s)
+HeaderAt limits root (head.Dictionary id batch) = IsHeader root 2 (λ t. DictionaryAt t id batch)
+HeaderAt limits root (head.Batch batch) = IsHeader root 3 (λ t. BatchAt t batch)
 
 -- Message.fbs, table Message: the metadata's root table states this head and a body of m bytes: 0
 -- version (Schema.fbs, enum MetadataVersion), 3 bodyLength
-pub record HeadOf (metadata : List ℕ) (head : Head) (m : ℕ) : Type 0 where
+pub record HeadOf (limits : Limits) (metadata : List ℕ) (head : Head) (m : ℕ) : Type 0 where
   pub root : TableView
   pub stands : table_from metadata 0 ≡ Ok root
   pub version : scalar root 0 2 int16 (pos 0) ≡ Ok v5
   pub body : scalar root 3 8 int64 (pos 0) ≡ Ok (pos m)
-  pub fits : m ≤ max_body
-  pub header : HeaderAt root head
+  pub fits : m ≤ limits.body
+  pub header : HeaderAt limits root head

@@ -1,13 +1,15 @@
 -- What the metadata of a message keeps (Message.fbs, table Message).
 use Rattle.std.specs.Prelude.{◌≡◌, ℕ, List, length}
+use Rattle.ipc_model.specs.declared.limits.Limits.{Limits}
 use Rattle.ipc_meta.specs.declared.head.BatchHead.{BatchHead}
 use Rattle.ipc_meta.specs.declared.head.Head.{Head}
 use Rattle.ipc_meta.specs.Heads.{HeadOf}
 use Rattle.ipc_meta.specs.Rooms.{head_room, batch_room}
 
--- the same metadata states one head and one body's length at most
+-- the same metadata states one head and one body's length at most, whatever the limits
 abbrev pub OneHead : Type 0
-OneHead = (metadata : List ℕ) (g h : Head) (m n : ℕ) → HeadOf metadata g m → HeadOf metadata h n
+OneHead = (limits others : Limits) (metadata : List ℕ) (g h : Head) (m n : ℕ)
+    → HeadOf limits metadata g m → HeadOf others metadata h n
     → (g ≡ h) × (m ≡ n)
 
 -- the room of a batch's metadata depends on the numbers of its nodes and buffers alone

@@ -53,9 +53,12 @@ pub data LooksAt : Kind → ℕ → Held → Type 0 where
   bit_width : LooksAt (type_value 2) 0 (number 4)
   is_signed : LooksAt (type_value 2) 1 (number 1)
   date_unit : LooksAt (type_value 8) 0 (number 2)
+  time_of_day_unit : LooksAt (type_value 9) 0 (number 2)
+  time_of_day_width : LooksAt (type_value 9) 1 (number 4)
   time_unit : LooksAt (type_value 10) 0 (number 2)
   timezone : LooksAt (type_value 10) 1 text
   byte_width : LooksAt (type_value 15) 0 (number 4)
+  duration_unit : LooksAt (type_value 18) 0 (number 2)
   dictionary_id : LooksAt dictionary_encoding 0 (number 8)
   indices : LooksAt dictionary_encoding 1 table
   is_ordered : LooksAt dictionary_encoding 2 (number 1)

@@ -12,6 +12,7 @@ use Rattle.ipc_meta.specs.declared.head.Head.{Head}
 use Rattle.ipc_meta.specs.declared.head.Head.TheVariants as head
 use Rattle.ipc_meta.specs.Heads.{HeadOf}
 use Rattle.ipc_model.specs.TypeCodes.{type_code}
+use Rattle.ipc_model.specs.declared.limits.Limits.{Limits}
 
 -- the types whose columns are read
 abbrev pub is_supported_type : DataType → Bool
@@ -23,6 +24,8 @@ is_supported_type t.Utf8 = true
 is_supported_type (t.FixedSizeBinary width) = true
 is_supported_type (t.Date unit) = true
 is_supported_type (t.Timestamp unit timezone) = true
+is_supported_type (t.Time unit) = true
+is_supported_type (t.Duration unit) = true
 is_supported_type t.List = false
 is_supported_type t.Struct = false
 
@@ -74,6 +77,6 @@ NamesUnsupported (head.Batch batch) fault = ⊥
 
 -- the metadata states a head, and the fault tells the code of a field in it whose columns are not
 -- read
-abbrev pub IsUnsupported : List ℕ → Fault → Type 0
-IsUnsupported metadata fault =
-    (stated : Head) × (m : ℕ) × HeadOf metadata stated m × NamesUnsupported stated fault
+abbrev pub IsUnsupported : Limits → List ℕ → Fault → Type 0
+IsUnsupported limits metadata fault =
+    (stated : Head) × (m : ℕ) × HeadOf limits metadata stated m × NamesUnsupported stated fault

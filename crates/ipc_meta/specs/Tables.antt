@@ -2,10 +2,13 @@
 -- absent.
 use Rattle.std.specs.Prelude.{ℕ, ◌==◌, ◌||◌, Bool, true, nat_lt, ℤ, pos, negsuc, List, [], Option}
 use Rattle.std.specs.Prelude.{None, Some, Result, Ok, Err, if◌then◌else◌}
+use Rattle.std.specs.Ordering.{int_eq}
 use Rattle.ipc_scalar.specs.Bytes.{byte, int16, int32, int64}
 use Rattle.ipc_scalar.specs.Flat.{text_of}
 use Rattle.ipc_flat.specs.Views.{TableView, Elements, table_from, scalar, field, elements_from}
 use Rattle.ipc_model.specs.Answers.{◌>>=◌}
+use Rattle.ipc_model.specs.Layouts.{time_bits}
+use Rattle.ipc_model.specs.Ranges.{width}
 use Rattle.ipc_model.specs.declared.fault.Fault.{Fault}
 use Rattle.ipc_model.specs.declared.fault.Fault.TheVariants.{UnsupportedType, BadType, BadIndexType}
 use Rattle.ipc_model.specs.declared.schema.IntBits.{IntBits}
@@ -88,8 +91,25 @@ abbrev pub timestamp_at : TableView → Result DataType Fault
 timestamp_at v = lift (scalar v 0 2 int16 (pos 0)) >>= λ u. ok_or BadType (unit_of u)
     >>= λ u. lift (field v 1 text_of) >>= λ z. Ok (t.Timestamp u z)
 
+-- a time of this unit with so many bits, which are its unit's (Schema.fbs, table Time, 1 bitWidth)
+abbrev pub time_in : TimeUnit → ℤ → Result DataType Fault
+time_in unit bits =
+    if int_eq bits (pos (width (time_bits unit))) then Ok (t.Time unit) else Err BadType
+
+-- Schema.fbs, table Time: 0 unit, which is MILLISECOND where absent, 1 bitWidth, which is 32 where
+-- absent
+abbrev pub time_at : TableView → Result DataType Fault
+time_at v = lift (scalar v 0 2 int16 (pos 1)) >>= λ u. ok_or BadType (unit_of u)
+    >>= λ u. lift (scalar v 1 4 int32 (pos 32)) >>= time_in u
+
+-- Schema.fbs, table Duration: 0 unit, which is MILLISECOND where absent
+abbrev pub duration_at : TableView → Result DataType Fault
+duration_at v = lift (scalar v 0 2 int16 (pos 1)) >>= λ u. ok_or BadType (unit_of u)
+    >>= λ u. Ok (t.Duration u)
+
 -- Schema.fbs, union Type: Null 1, Int 2, Binary 4, Utf8 5, Bool 6, Date 8 (its unit is MILLISECOND
--- where absent), Timestamp 10, List 12, Struct_ 13, FixedSizeBinary 15; other codes are not read
+-- where absent), Time 9, Timestamp 10, List 12, Struct_ 13, FixedSizeBinary 15, Duration 18; other
+-- codes are not read
 unfoldable pub type_of : ℕ → TableView → Result DataType Fault
 type_of code v =
     if code == 1 then Ok t.Null
@@ -98,11 +118,13 @@ type_of code v =
     else (if code == 5 then Ok t.Utf8
     else (if code == 6 then Ok t.Bool
     else (if code == 8 then (lift (scalar v 0 2 int16 (pos 1)) >>= date_at)
+    else (if code == 9 then time_at v
     else (if code == 10 then timestamp_at v
     else (if code == 12 then Ok t.List
     else (if code == 13 then Ok t.Struct
     else (if code == 15 then (lift (scalar v 0 4 int32 (pos 0)) >>= fixed_at)
-    else Err (UnsupportedType code))))))))))
+    else (if code == 18 then duration_at v
+    else Err (UnsupportedType code))))))))))))
 
 -- a field without a table for its type has none
 abbrev pub type_in : ℕ → Option TableView → Result DataType Fault
@@ -118,7 +140,8 @@ unfoldable pub is_type_code : ℕ → Bool
 is_type_code code =
     code == 1 || (code == 2 || (code == 4
     || (code == 5 || (code == 6
-    || (code == 8 || (code == 10 || (code == 12 || (code == 13 || code == 15))))))))
+    || (code == 8 || (code == 9 || (code == 10
+    || (code == 12 || (code == 13 || (code == 15 || code == 18))))))))))
 
 -- what is read where the code is such a type's
 abbrev pub when_type : {X : Type 0} → ℕ → Result X Fault → Result X Fault

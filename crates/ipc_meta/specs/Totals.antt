@@ -4,8 +4,8 @@
 use Rattle.std.specs.Prelude.{ℕ, zero, suc, ◌+◌, List, length, Result, Ok, Err}
 use Rattle.ipc_flat.specs.Views.{TableView, table_from}
 use Rattle.ipc_model.specs.Entries.{kind_text}
-use Rattle.ipc_model.specs.Limits.{max_depth}
 use Rattle.ipc_meta.specs.Tables.{text_at, vector_at, type_at}
+use Rattle.ipc_model.specs.declared.limits.Limits.{Limits}
 
 -- w of a value, and 0 of none
 abbrev pub or_zero : {X E : Type 0} → (X → ℕ) → Result X E → ℕ
@@ -59,17 +59,18 @@ tree w zero t = 0
 tree w (suc depth) t = w t + sum_in (tree w depth) t field_children
 
 -- the sum of w over the Field tables of a Schema table, as deep as fields may stand
-abbrev pub over_fields : (TableView → ℕ) → TableView → ℕ
-over_fields w t = sum_in (tree w max_depth) t schema_fields
+abbrev pub over_fields : Limits → (TableView → ℕ) → TableView → ℕ
+over_fields limits w t = sum_in (tree w limits.depth) t schema_fields
 
 -- the fields of a Schema table with their descendants, which stand in at most one level more
-abbrev pub fields_stated : TableView → ℕ
-fields_stated t = count_in t schema_fields + over_fields (λ u. count_in u field_children) t
+abbrev pub fields_stated : Limits → TableView → ℕ
+fields_stated limits t = count_in t schema_fields + over_fields limits (λ u. count_in u
+    field_children) t
 
 -- the bytes of the names, timezones, keys and values of a Schema table and of its fields
-abbrev pub text_stated : TableView → ℕ
-text_stated t = sum_in pair_text_in t schema_pairs + over_fields own_text t
+abbrev pub text_stated : Limits → TableView → ℕ
+text_stated limits t = sum_in pair_text_in t schema_pairs + over_fields limits own_text t
 
 -- the pairs of key and value of the same
-abbrev pub pairs_stated : TableView → ℕ
-pairs_stated t = count_in t schema_pairs + over_fields (λ u. count_in u field_pairs) t
+abbrev pub pairs_stated : Limits → TableView → ℕ
+pairs_stated limits t = count_in t schema_pairs + over_fields limits (λ u. count_in u field_pairs) t

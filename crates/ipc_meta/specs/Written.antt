@@ -6,6 +6,7 @@ use Rattle.std.specs.Int.{Width, w16, w32, w64, cast_signed}
 use Rattle.ipc_build.specs.declared.tree.Slot.{Slot}
 use Rattle.ipc_build.specs.Trees.{Tree, none, field, byte, signed, string, pairs, table, tables}
 use Rattle.ipc_build.specs.Trees.{node, tables_of}
+use Rattle.ipc_model.specs.Layouts.{time_bits}
 use Rattle.ipc_model.specs.Ranges.{width}
 use Rattle.ipc_model.specs.TypeCodes.{type_code}
 use Rattle.ipc_model.specs.declared.schema.IntBits.{IntBits}
@@ -85,12 +86,19 @@ abbrev pub with_timezone : Option (List ℕ) → Tree
 with_timezone None = none
 with_timezone (Some zone) = with_text 1 zone none
 
+-- Schema.fbs, table Time: 0 unit, 1 bitWidth
+abbrev pub time_tree : TimeUnit → Tree
+time_tree unit =
+    with_signed 0 w16 (time_code unit) (with_signed 1 w32 (pos (width (time_bits unit))) none)
+
 -- Schema.fbs, union Type: the table of a type, with all its fields
 abbrev pub type_tree : DataType → Tree
 type_tree (t.Int bits sign) = int_tree bits sign
 type_tree (t.FixedSizeBinary n) = with_signed 0 w32 (cast_signed w32 n) none
 type_tree (t.Date unit) = with_signed 0 w16 (date_code unit) none
 type_tree (t.Timestamp unit timezone) = with_signed 0 w16 (time_code unit) (with_timezone timezone)
+type_tree (t.Time unit) = time_tree unit
+type_tree (t.Duration unit) = with_signed 0 w16 (time_code unit) none
 type_tree t.Null = none
 type_tree t.Bool = none
 type_tree t.Binary = none

@@ -5,6 +5,7 @@ ghost use Rattle.ipc_meta.specs.Heads.{numbers_at, DictionaryAt};
 ghost use Rattle.ipc_meta.specs.Reading.{batch_read};
 ghost use Rattle.ipc_meta.specs.Reached.{HasTable, dictionary_batch};
 ghost use Rattle.ipc_meta.specs.Causes.{Cause};
+ghost use Rattle.ipc_model.specs.declared.limits.Limits.{Limits};
 
 use crate::head::BatchHead;
 use crate::lifted::lifted;
@@ -67,8 +68,9 @@ pub(crate) fn read_dictionary_batch(
     ensures found { IfOk result (λ d. DictionaryAt table.now d.0 d.1) }
     ensures only { (id : ℤ) (batch : BatchHead) → DictionaryAt table.now id batch
         → AnswersUnlessOutOfMemory (λ y. y) result (Ok (id, batch)) }
-    ensures refused { IfErr result (λ f. (b : List ℕ) → HasTable b dictionary_batch table.now
-        → UnlessOutOfMemory f (Cause b f)) }
+    ensures refused { IfErr result
+        (λ f. (limits : Limits) (b : List ℕ) → HasTable b dictionary_batch table.now
+        → UnlessOutOfMemory f (Cause limits b f)) }
 {
     let id = lifted(table.scalar_i64(0, 0))?;
     if read_flag(table, 2)? {

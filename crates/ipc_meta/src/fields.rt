@@ -67,7 +67,7 @@ pub(crate) fn read_fields(
     alloc: Global,
     table: &TableRef<'_>,
     slot: u16,
-    depth: u32,
+    depth: u64,
     left: &mut Budget,
 ) -> Result<Items<Field>, Fault>
     ensures { AnswersUnlessOutOfMemory (λ fs. (fs, left.new)) result
@@ -92,7 +92,7 @@ pub(crate) fn read_fields(
 fn read_field(
     alloc: Global,
     table: &TableRef<'_>,
-    depth: u32,
+    depth: u64,
     left: &mut Budget,
 ) -> Result<Field, Fault>
     ensures { AnswersUnlessOutOfMemory (λ f. (f, left.new)) result

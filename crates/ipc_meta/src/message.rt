@@ -7,6 +7,7 @@ ghost use Rattle.ipc_meta.specs.Heads.{HeaderAt, HeadOf};
 ghost use Rattle.ipc_meta.specs.Supported.{IsSupported, IsUnsupported};
 ghost use Rattle.ipc_meta.specs.Reached.{HasTable, message, schema};
 ghost use Rattle.ipc_meta.specs.Causes.{Cause};
+ghost use Rattle.ipc_model.specs.declared.limits.Limits.{Limits};
 
 use crate::batches::{read_batch, read_dictionary_batch};
 use crate::budget::Budget;
@@ -16,22 +17,19 @@ use crate::lifted::lifted;
 use crate::supported::check_supported;
 use crate::version::VERSION;
 use ipc_flat::{Flat, TableRef};
-use ipc_model::limits::{MAX_BODY, MAX_DEPTH, MAX_FIELDS, MAX_PAIRS, MAX_TEXT};
-use ipc_model::{Fault, Schema};
+use ipc_model::{Fault, Limits, Schema};
 use std::alloc::Global;
 
 // Message.fbs, union MessageHeader: the last of the headers that a stream has, RecordBatch. The
 // first is 1.
 const LAST_HEADER: u8 = 3;
 
-// How many bytes a body may have, a signed number as its length is stated.
-const LONGEST_BODY: i64 = MAX_BODY as i64;
-
 // A Schema table (Schema.fbs) states that numbers begin with their lowest byte: 0 endianness.
 fn check_endianness(table: &TableRef<'_>) -> Result<(), Fault>
     ensures ok { OnOk result (scalar table.now 0 2 int16 (pos 0) ≡ Ok (pos 0)) }
     ensures only { IfErr result (λ f. ¬ (scalar table.now 0 2 int16 (pos 0) ≡ Ok (pos 0))) }
-    ensures refused { IfErr result (λ f. (b : List ℕ) → HasTable b schema table.now → Cause b f) }
+    ensures refused { IfErr result
+        (λ f. (limits : Limits) (b : List ℕ) → HasTable b schema table.now → Cause limits b f) }
 {
     if lifted(table.scalar_i16(0, 0))? != 0 {
         return Err(Fault::BigEndian);
@@ -40,34 +38,36 @@ fn check_endianness(table: &TableRef<'_>) -> Result<(), Fault>
 }
 
 // A Schema table (Schema.fbs): 0 endianness, 1 fields, 2 custom_metadata.
-fn read_schema(alloc: Global, table: &TableRef<'_>) -> Result<Schema, Fault>
-    ensures found { IfOk result (λ s. SchemaAt table.now s) }
-    ensures only { (s : Schema) → SchemaAt table.now s
+fn read_schema(alloc: Global, limits: &Limits, table: &TableRef<'_>) -> Result<Schema, Fault>
+    ensures found { IfOk result (λ s. SchemaAt limits.now table.now s) }
+    ensures only { (s : Schema) → SchemaAt limits.now table.now s
         → AnswersUnlessOutOfMemory (λ y. y) result (Ok s) }
     ensures refused { IfErr result
-        (λ f. (b : List ℕ) → HasTable b schema table.now → UnlessOutOfMemory f (Cause b f)) }
+        (λ f. (b : List ℕ) → HasTable b schema table.now
+        → UnlessOutOfMemory f (Cause limits.now b f)) }
 {
     check_endianness(table)?;
     let mut left = Budget {
-        fields: MAX_FIELDS,
-        text: MAX_TEXT,
-        pairs: MAX_PAIRS,
+        fields: limits.fields,
+        text: limits.text,
+        pairs: limits.pairs,
     };
     let metadata = read_pairs(alloc, table, 2, &mut left)?;
-    let fields = read_fields(alloc, table, 1, MAX_DEPTH, &mut left)?;
+    let fields = read_fields(alloc, table, 1, limits.depth, &mut left)?;
     let schema = Schema { fields, metadata };
-    schema.check(alloc)?;
+    schema.check(alloc, limits)?;
     Ok(schema)
 }
 
 // The header of a Message table (Message.fbs): 1 its code in union MessageHeader, 2 its table,
 // which isn't looked at where the code is none of a stream's.
-fn read_header(alloc: Global, root: &TableRef<'_>) -> Result<Head, Fault>
-    ensures found { IfOk result (λ head. HeaderAt root.now head) }
-    ensures only { (head : Head) → HeaderAt root.now head
+fn read_header(alloc: Global, limits: &Limits, root: &TableRef<'_>) -> Result<Head, Fault>
+    ensures found { IfOk result (λ head. HeaderAt limits.now root.now head) }
+    ensures only { (head : Head) → HeaderAt limits.now root.now head
         → AnswersUnlessOutOfMemory (λ y. y) result (Ok head) }
     ensures refused { IfErr result
-        (λ f. (b : List ℕ) → HasTable b message root.now → UnlessOutOfMemory f (Cause b f)) }
+        (λ f. (b : List ℕ) → HasTable b message root.now
+        → UnlessOutOfMemory f (Cause limits.now b f)) }
 {
     let code = lifted(root.scalar_u8(1, 0))?;
     if code == 0 || code > LAST_HEADER {
@@ -77,7 +77,7 @@ fn read_header(alloc: Global, root: &TableRef<'_>) -> Result<Head, Fault>
         return Err(Fault::BadHeader);
     };
     match code {
-        1 => Ok(Head::Schema(read_schema(alloc, &table)?)),
+        1 => Ok(Head::Schema(read_schema(alloc, limits, &table)?)),
         2 => {
             let (id, batch) = read_dictionary_batch(alloc, &table)?;
             Ok(Head::Dictionary(id, batch))
@@ -89,11 +89,11 @@ fn read_header(alloc: Global, root: &TableRef<'_>) -> Result<Head, Fault>
 
 // What the root table states (Message.fbs, table Message): the version, the body's length and the
 // header, whether or not columns of its types are read here.
-fn read_stated(alloc: Global, metadata: &[u8]) -> Result<(Head, u64), Fault>
-    ensures found { IfOk result (λ r. HeadOf metadata.now r.0 r.1) }
-    ensures only { (head : Head) (m : ℕ) → HeadOf metadata.now head m
+fn read_stated(alloc: Global, limits: &Limits, metadata: &[u8]) -> Result<(Head, u64), Fault>
+    ensures found { IfOk result (λ r. HeadOf limits.now metadata.now r.0 r.1) }
+    ensures only { (head : Head) (m : ℕ) → HeadOf limits.now metadata.now head m
         → MatchResult result (λ r. (r.0 ≡ head) × (r.1 ≡ m)) (λ f. f ≡ Fault.OutOfMemory) }
-    ensures refused { IfErr result (λ f. UnlessOutOfMemory f (Cause metadata.now f)) }
+    ensures refused { IfErr result (λ f. UnlessOutOfMemory f (Cause limits.now metadata.now f)) }
 {
     let root = lifted(Flat::root(metadata))?;
     if lifted(root.scalar_i16(0, 0))? != VERSION {
@@ -103,21 +103,23 @@ fn read_stated(alloc: Global, metadata: &[u8]) -> Result<(Head, u64), Fault>
     if body < 0 {
         return Err(Fault::BadBodyLength);
     }
-    if body > LONGEST_BODY {
+    if body > limits.body as i64 {
         return Err(Fault::BodyTooLong);
     }
-    let head = read_header(alloc, &root)?;
+    let head = read_header(alloc, limits, &root)?;
     Ok((head, body.unsigned_abs()))
 }
 
 /// Reads the metadata of one message: what its header states, and how many bytes the message's body
-/// has, from 0 to 2^40 (Message.fbs, table Message).
+/// has, from 0 to `limits.body` (Message.fbs, table Message).
 ///
-/// `metadata` is the FlatBuffer alone, without the mark and the size before it; padding behind it
-/// may hold anything (Arrow Columnar Format, "Encapsulated message format"). A schema that is
-/// answered is well formed, and columns of each of its fields are read here (`are_supported`). An
-/// absent vector is empty, an absent name, key or value is the empty text, and an absent timezone
-/// is none, unlike an empty one. Memory for texts, fields, nodes and buffers is taken from `alloc`.
+/// The body's length, the fields, the text and the pairs are within `limits`; how long the metadata
+/// itself is isn't asked. `metadata` is the FlatBuffer alone, without the mark and the size before
+/// it; padding behind it may hold anything (Arrow Columnar Format, "Encapsulated message format").
+/// A schema that is answered is well formed, and columns of each of its fields are read here
+/// (`are_supported`). An absent vector is empty, an absent name, key or value is the empty text,
+/// and an absent timezone is none, unlike an empty one. Memory for texts, fields, nodes and buffers
+/// is taken from `alloc`.
 ///
 /// # Errors
 ///
@@ -129,7 +131,7 @@ fn read_stated(alloc: Global, metadata: &[u8]) -> Result<(Head, u64), Fault>
 /// - `BadHeader` (F7): the header is neither a schema nor a dictionary batch nor a record batch, or
 ///   it is absent, or it is a dictionary batch without data.
 /// - `BadBodyLength` (F8): the body has fewer than 0 bytes.
-/// - `BodyTooLong` (F9): the body has more than 2^40 bytes.
+/// - `BodyTooLong` (F9): the body has more than `limits.body` bytes.
 /// - `BigEndian` (F12): the schema's endianness is not Little.
 /// - `UnsupportedType` (F13): a field's type is none of those that are known here, or the metadata
 /// states a schema with a field whose columns are not read here (`are_supported`); with the type's
@@ -138,25 +140,26 @@ fn read_stated(alloc: Global, metadata: &[u8]) -> Result<(Head, u64), Fault>
 /// - `BadType` (F14): a field's type has no table, or a width or a unit that no type has.
 /// - `BadChildren` (F15): a list without exactly one child, or children of a type that has none.
 /// - `NameNotUtf8` (F16): a name, a key, a value or a timezone is not UTF-8.
-/// - `TooManyFields` (F17): more than 65,536 fields with their descendants.
-/// - `TooDeep` (F18): fields more than 64 deep, where a column is 1 deep.
-/// - `TooMuchText` (F19): more than 2^26 bytes of names, keys, values and timezones, or more than
-///   2^20 pairs of key and value.
+/// - `TooManyFields` (F17): more than `limits.fields` fields with their descendants.
+/// - `TooDeep` (F18): fields more than `limits.depth` deep, where a column is 1 deep.
+/// - `TooMuchText` (F19): more than `limits.text` bytes of names, keys, values and timezones, or
+///   more than `limits.pairs` pairs of key and value.
 /// - `DictionaryConflict` (F20): two fields have one dictionary and values of different types.
 /// - `NestedDictionary` (F21): a dictionary of lists or of structs.
 /// - `BadIndexType` (F22): a dictionary's indices have another width than 8, 16, 32 or 64 bits.
 /// - `Compressed` (F23): a batch has a table for its compression.
 /// - `DeltaDictionary` (F24): a dictionary batch adds to a dictionary.
 /// - `OutOfMemory` (F37): `alloc` refused memory.
-pub fn read_message(alloc: Global, metadata: &[u8]) -> Result<(Head, u64), Fault>
-    ensures found { IfOk result (λ r. HeadOf metadata.now r.0 r.1) }
+pub fn read_message(alloc: Global, limits: &Limits, metadata: &[u8]) -> Result<(Head, u64), Fault>
+    ensures found { IfOk result (λ r. HeadOf limits.now metadata.now r.0 r.1) }
     ensures read { IfOk result (λ r. IsSupported r.0) }
-    ensures only { (head : Head) (m : ℕ) → HeadOf metadata.now head m → IsSupported head
+    ensures only { (head : Head) (m : ℕ) → HeadOf limits.now metadata.now head m → IsSupported head
         → MatchResult result (λ r. (r.0 ≡ head) × (r.1 ≡ m)) (λ f. f ≡ Fault.OutOfMemory) }
     ensures refused { IfErr result
-        (λ f. UnlessOutOfMemory f (Cause metadata.now f ⊎ IsUnsupported metadata.now f)) }
+        (λ f. UnlessOutOfMemory f (Cause limits.now metadata.now f
+        ⊎ IsUnsupported limits.now metadata.now f)) }
 {
-    let (head, body) = read_stated(alloc, metadata)?;
+    let (head, body) = read_stated(alloc, limits, metadata)?;
     check_supported(&head)?;
     Ok((head, body))
 }

@@ -18,7 +18,9 @@ fn is_supported(kind: &DataType, dictionary: Option<Dictionary>) -> bool
             | DataType::Utf8
             | DataType::FixedSizeBinary(_)
             | DataType::Date(_)
-            | DataType::Timestamp { .. } => true,
+            | DataType::Timestamp { .. }
+            | DataType::Time(_)
+            | DataType::Duration(_) => true,
             DataType::List | DataType::Struct => false,
         }
 }

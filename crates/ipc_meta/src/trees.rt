@@ -1,7 +1,7 @@
 //! The tables of schemas, batches and messages that are written.
 ghost use Rattle.std.specs.Prelude.{◌≡◌, ◌≤◌, ◌^◌, map, IfOk};
 ghost use Rattle.ipc_build.specs.Trees.{view};
-ghost use Rattle.ipc_model.specs.Limits.{max_body};
+ghost use Rattle.ipc_model.specs.Greatest.{greatest_body};
 ghost use Rattle.ipc_model.specs.declared.schema.Field.{out-Field};
 ghost use Rattle.ipc_meta.specs.Written.{field_tree, schema_tree, batch_tree, message_tree};
 
@@ -85,7 +85,7 @@ pub(crate) fn message_tree(
     header: FlatTree,
     body: u64,
 ) -> Result<FlatTree, AllocError>
-    requires { body ≤ max_body }
+    requires { body ≤ greatest_body }
     ensures { IfOk result (λ t. view t ≡ message_tree code (view header) body) }
 {
     let slots = vec![in alloc;

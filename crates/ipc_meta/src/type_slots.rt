@@ -3,7 +3,7 @@ ghost use Rattle.std.specs.Prelude.{◌≡◌, IfOk, pos};
 ghost use Rattle.ipc_build.specs.Trees.{Tree, fields_view};
 ghost use Rattle.ipc_model.specs.declared.schema.DataType.TheVariants as t;
 ghost use Rattle.ipc_meta.specs.Written.{fields_then, int_tree, date_code, time_code, type_tree};
-ghost use Rattle.ipc_meta.specs.Written.{dictionary_tree, with_dictionary};
+ghost use Rattle.ipc_meta.specs.Written.{dictionary_tree, time_tree, with_dictionary};
 
 use crate::slots::{Slots, table_of, text_slot};
 use ipc_build::Slot;
@@ -40,6 +40,16 @@ fn int_slots(alloc: Global, bits: IntBits, signed: bool) -> Result<Slots, AllocE
     ]?)
 }
 
+// Schema.fbs, table Time.
+fn time_slots(alloc: Global, unit: TimeUnit) -> Result<Slots, AllocError>
+    ensures { IfOk result (λ slots. fields_view slots.items ≡ time_tree unit) }
+{
+    Ok(vec![in alloc;
+        (0, Slot::I16(time_number(unit))),
+        (1, Slot::I32(i32::from(unit.time_bits().width()))),
+    ]?)
+}
+
 // Schema.fbs, table Timestamp.
 fn timestamp_slots(
     alloc: Global,
@@ -67,6 +77,8 @@ pub(crate) fn type_slots(alloc: Global, kind: &DataType) -> Result<Slots, AllocE
         }
         DataType::Date(unit) => Ok(vec![in alloc; (0, Slot::I16(date_number(*unit)))]?),
         DataType::Timestamp { unit, timezone } => timestamp_slots(alloc, *unit, timezone),
+        DataType::Time(unit) => time_slots(alloc, *unit),
+        DataType::Duration(unit) => Ok(vec![in alloc; (0, Slot::I16(time_number(*unit)))]?),
         DataType::Null
         | DataType::Bool
         | DataType::Binary

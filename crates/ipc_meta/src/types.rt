@@ -2,6 +2,7 @@ ghost use Rattle.std.specs.Prelude.{◌≡◌, ℤ, Ok, option_map, pos};
 ghost use Rattle.ipc_model.specs.Answers.{AnswersUnlessOutOfMemory};
 ghost use Rattle.ipc_model.specs.Entries.{kind_text};
 ghost use Rattle.ipc_meta.specs.Tables.{bits_of, unit_of, int_at, fixed_at, date_at, timestamp_at};
+ghost use Rattle.ipc_meta.specs.Tables.{time_at, duration_at};
 ghost use Rattle.ipc_meta.specs.Tables.{type_of, is_type_code, type_at, code_at, flag_at, index_at};
 ghost use Rattle.ipc_meta.specs.Tables.{dictionary_in, dictionary_at, map_ok};
 ghost use Rattle.ipc_meta.specs.Reading.{type_read};
@@ -25,7 +26,7 @@ fn bits_of(width: i32) -> Option<IntBits>
     }
 }
 
-// What a timestamp counts (Schema.fbs, enum TimeUnit).
+// What a time, a timestamp or a duration counts (Schema.fbs, enum TimeUnit).
 fn unit_of(unit: i16) -> Option<TimeUnit>
     ensures { result ≡ unit_of unit }
 {
@@ -81,6 +82,32 @@ fn date_of(unit: i16) -> Result<DataType, Fault>
     }
 }
 
+// A Time table (Schema.fbs): 0 unit, 1 bitWidth. A width that isn't the unit's is `BadType`.
+fn read_time(table: &TableRef<'_>) -> Result<DataType, Fault>
+    ensures { result ≡ time_at table.now }
+{
+    let unit = lifted(table.scalar_i16(0, 1))?;
+    let Some(unit) = unit_of(unit) else {
+        return Err(Fault::BadType);
+    };
+    let width = lifted(table.scalar_i32(1, 32))?;
+    if width != i32::from(unit.time_bits().width()) {
+        return Err(Fault::BadType);
+    }
+    Ok(DataType::Time(unit))
+}
+
+// A Duration table (Schema.fbs): 0 unit.
+fn read_duration(table: &TableRef<'_>) -> Result<DataType, Fault>
+    ensures { result ≡ duration_at table.now }
+{
+    let code = lifted(table.scalar_i16(0, 1))?;
+    match unit_of(code) {
+        None => Err(Fault::BadType),
+        Some(unit) => Ok(DataType::Duration(unit)),
+    }
+}
+
 // A Timestamp table (Schema.fbs): 0 unit, 1 timezone. An absent timezone and an empty one differ.
 fn read_timestamp(alloc: Global, table: &TableRef<'_>) -> Result<DataType, Fault>
     ensures { AnswersUnlessOutOfMemory (λ κ. κ) result (timestamp_at table.now) }
@@ -111,10 +138,12 @@ fn type_of(alloc: Global, code: u8, table: &TableRef<'_>) -> Result<DataType, Fa
         5 => Ok(DataType::Utf8),
         6 => Ok(DataType::Bool),
         8 => date_of(lifted(table.scalar_i16(0, 1))?),
+        9 => read_time(table),
         10 => read_timestamp(alloc, table),
         12 => Ok(DataType::List),
         13 => Ok(DataType::Struct),
         15 => fixed_of(lifted(table.scalar_i32(0, 0))?),
+        18 => read_duration(table),
         _ => Err(Fault::UnsupportedType(code)),
     }
 }
@@ -132,7 +161,7 @@ fn read_code(field: &TableRef<'_>) -> Result<u8, Fault>
 fn is_type_code(code: u8) -> bool
     ensures { result ≡ is_type_code code }
 {
-    matches!(code, 1 | 2 | 4 | 5 | 6 | 8 | 10 | 12 | 13 | 15)
+    matches!(code, 1 | 2 | 4 | 5 | 6 | 8 | 9 | 10 | 12 | 13 | 15 | 18)
 }
 
 // The type of a field (Schema.fbs, table Field, 2 and 3). A code that no type here has is

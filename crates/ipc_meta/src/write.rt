@@ -6,7 +6,6 @@ ghost use Rattle.ipc_build.specs.Encodes.{Encodes, Aligned};
 ghost use Rattle.ipc_build.specs.Ascends.{Ascends, fields};
 ghost use Rattle.ipc_build.specs.Room.{room, size};
 ghost use Rattle.ipc_model.specs.WellFormed.{WellFormed};
-ghost use Rattle.ipc_model.specs.Limits.{max_body, max_metadata};
 ghost use Rattle.ipc_meta.specs.Heads.{HeadOf};
 ghost use Rattle.ipc_meta.specs.Rooms.{head_room, schema_room};
 ghost use Rattle.ipc_meta.specs.Written.{schema_message, batch_message};
@@ -14,22 +13,21 @@ ghost use Rattle.ipc_meta.specs.Written.{schema_message, batch_message};
 use crate::head::{BatchHead, Head};
 use crate::trees::{batch_tree, message_tree, schema_tree};
 use ipc_build::{BuildFault, FlatTree, build};
-use ipc_model::limits::MAX_BODY;
-use ipc_model::{Schema, WriteFault};
+use ipc_model::{Limits, Schema, WriteFault};
 use std::alloc::Global;
 
 // The bytes of a message's metadata.
-fn built(alloc: Global, tree: &FlatTree) -> Result<Vec<u8>, WriteFault>
+fn built(alloc: Global, limits: &Limits, tree: &FlatTree) -> Result<Vec<u8>, WriteFault>
     requires { Ascends (fields 0) (view tree.now) }
     ensures lies { IfOk result (λ b. (rest : List ℕ) → Encodes (b.items ++ rest) (view tree.now)) }
     ensures aligned { IfOk result (λ b. Aligned b.items (view tree.now)) }
     ensures size { IfOk result (λ b. length b.items ≡ size (view tree.now)) }
     ensures within { IfOk result (λ b. (length b.items + 7) / 8 * 8 ≤ room (view tree.now)) }
-    ensures room { IfOk result (λ b. room (view tree.now) ≤ max_metadata) }
+    ensures room { IfOk result (λ b. room (view tree.now) ≤ limits.now.metadata) }
     ensures refused { IfErr result (λ f. (f ≡ WriteFault.OutOfMemory)
-        ⊎ ((f ≡ WriteFault.TooLong) × (max_metadata < room (view tree.now)))) }
+        ⊎ ((f ≡ WriteFault.TooLong) × (limits.now.metadata < room (view tree.now)))) }
 {
-    match build(alloc, tree) {
+    match build(alloc, tree, limits.metadata) {
         Ok(bytes) => Ok(bytes),
         Err(BuildFault::TooLarge) => Err(WriteFault::TooLong),
         Err(BuildFault::OutOfMemory) => Err(WriteFault::OutOfMemory),
@@ -37,42 +35,41 @@ fn built(alloc: Global, tree: &FlatTree) -> Result<Vec<u8>, WriteFault>
 }
 
 /// The metadata of a schema's message (Message.fbs, table Message; Schema.fbs, table Schema), for a
-/// schema that is well formed (`Schema::check`). The message has no body.
+/// schema that is well formed under the limits (`Schema::check`). The message has no body.
 ///
 /// The bytes are a FlatBuffer, in which each scalar and offset is aligned to its size. Written are
 /// the version (V5), the header with its code, and the body's length; of the schema its fields, and
 /// its pairs where there are any; of each field its name, whether it is nullable, its type with the
 /// code, and its children, and a dictionary and pairs where there are any; of each type all its
 /// fields, but a timezone only where there is one. No other field is present. Padding may follow
-/// the bytes: padded to a multiple of 8 they are at most 2^24.
+/// the bytes: padded to a multiple of 8 they are at most `limits.metadata`.
 ///
 /// # Errors
 ///
-/// - `TooLong` (W6): the room of the metadata is above 2^24 bytes. It is 16, and for each table 24
-/// and 10 for each of its vtable's
-/// entries, for each text 8 and its bytes, for each vector of tables 12 and 4 for each of them, and
-/// for each vector of pairs of
-///   numbers 12 and 16 for each of them.
+/// - `TooLong` (W6): the room of the metadata is above `limits.metadata` bytes. It is 16, and for
+///   each table 24 and 10 for each of its vtable's entries, for each text 8 and its bytes, for each
+///   vector of tables 12 and 4 for each of them, and for each vector of pairs of numbers 12 and 16
+///   for each of them.
 /// - `OutOfMemory` (W11): `alloc` refused memory.
-pub fn write_schema(alloc: Global, schema: &Schema) -> Result<Vec<u8>, WriteFault>
-    requires { WellFormed schema.now }
+pub fn write_schema(alloc: Global, limits: &Limits, schema: &Schema) -> Result<Vec<u8>, WriteFault>
+    requires { WellFormed limits.now schema.now }
     // Exactly these fields are there, whatever follows.
     ensures lies { IfOk result
         (λ b. (rest : List ℕ) → Encodes (b.items ++ rest) (schema_message schema.now)) }
     ensures aligned { IfOk result (λ b. Aligned b.items (schema_message schema.now)) }
     ensures states { IfOk result
-        (λ b. (rest : List ℕ) → HeadOf (b.items ++ rest) (Head.Schema schema.now) 0) }
+        (λ b. (rest : List ℕ) → HeadOf limits.now (b.items ++ rest) (Head.Schema schema.now) 0) }
     // Nothing stands behind them.
     ensures size { IfOk result (λ b. length b.items ≡ size (schema_message schema.now)) }
     ensures within { IfOk result (λ b. (length b.items + 7) / 8 * 8 ≤ schema_room schema.now) }
-    ensures short { IfOk result (λ b. (length b.items + 7) / 8 * 8 ≤ max_metadata) }
-    ensures room { IfOk result (λ b. schema_room schema.now ≤ max_metadata) }
+    ensures short { IfOk result (λ b. (length b.items + 7) / 8 * 8 ≤ limits.now.metadata) }
+    ensures room { IfOk result (λ b. schema_room schema.now ≤ limits.now.metadata) }
     ensures refused { IfErr result (λ f. (f ≡ WriteFault.OutOfMemory)
-        ⊎ ((f ≡ WriteFault.TooLong) × (max_metadata < schema_room schema.now))) }
+        ⊎ ((f ≡ WriteFault.TooLong) × (limits.now.metadata < schema_room schema.now))) }
 {
     let header = schema_tree(alloc, schema)?;
     let message = message_tree(alloc, 1, header, 0)?;
-    built(alloc, &message)
+    built(alloc, limits, &message)
 }
 
 /// The metadata of a record batch's message with a body of so many bytes (Message.fbs, tables
@@ -81,28 +78,33 @@ pub fn write_schema(alloc: Global, schema: &Schema) -> Result<Vec<u8>, WriteFaul
 ///
 /// # Errors
 ///
-/// - `TooLong` (W6): the body has more than 2^40 bytes, or the room of the metadata is above 2^24:
-/// 158, and 16 for each node and
-///   each buffer.
+/// - `TooLong` (W6): the body has more than `limits.body` bytes, or the room of the metadata is
+///   above `limits.metadata`: 158, and 16 for each node and each buffer.
 /// - `OutOfMemory` (W11): `alloc` refused memory.
-pub fn write_batch(alloc: Global, head: &BatchHead, body: u64) -> Result<Vec<u8>, WriteFault>
+pub fn write_batch(
+    alloc: Global,
+    limits: &Limits,
+    head: &BatchHead,
+    body: u64,
+) -> Result<Vec<u8>, WriteFault>
     ensures lies { IfOk result (λ b. (rest : List ℕ)
         → Encodes (b.items ++ rest) (batch_message head.now body)) }
     ensures aligned { IfOk result (λ b. Aligned b.items (batch_message head.now body)) }
     ensures states { IfOk result
-        (λ b. (rest : List ℕ) → HeadOf (b.items ++ rest) (Head.Batch head.now) body) }
+        (λ b. (rest : List ℕ) → HeadOf limits.now (b.items ++ rest) (Head.Batch head.now) body) }
     ensures size { IfOk result (λ b. length b.items ≡ size (batch_message head.now body)) }
     ensures within { IfOk result (λ b. (length b.items + 7) / 8 * 8 ≤ head_room head.now body) }
-    ensures short { IfOk result (λ b. (length b.items + 7) / 8 * 8 ≤ max_metadata) }
-    ensures room { IfOk result (λ b. (head_room head.now body ≤ max_metadata) × (body ≤ max_body)) }
+    ensures short { IfOk result (λ b. (length b.items + 7) / 8 * 8 ≤ limits.now.metadata) }
+    ensures room { IfOk result (λ b. (head_room head.now body ≤ limits.now.metadata)
+        × (body ≤ limits.now.body)) }
     ensures refused { IfErr result (λ f. (f ≡ WriteFault.OutOfMemory)
         ⊎ ((f ≡ WriteFault.TooLong)
-        × ((max_metadata < head_room head.now body) ⊎ (max_body < body)))) }
+        × ((limits.now.metadata < head_room head.now body) ⊎ (limits.now.body < body)))) }
 {
-    if body > MAX_BODY {
+    if body > limits.body {
         return Err(WriteFault::TooLong);
     }
     let header = batch_tree(alloc, head)?;
     let message = message_tree(alloc, 3, header, body)?;
-    built(alloc, &message)
+    built(alloc, limits, &message)
 }

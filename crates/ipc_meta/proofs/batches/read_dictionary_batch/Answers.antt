@@ -40,21 +40,22 @@ returns-in_err-read_batch-in-Some-clause-only c = λ id batch h.
 pub returns-in_err-id-clause-refused : goal.returns-in_err-id-clause-refused
 returns-in_err-id-clause-refused c =
     let p = err_from_is_err_and c.from_residual.result c.from_residual.ensures.1 in
-    rw (p.1, p.2) (λ b has ne. bad_number b dictionary_batch _ 0 8 int64 (pos 0) _ has id
+    rw (p.1, p.2) (λ limits b has ne. bad_number limits b dictionary_batch _ 0 8 int64 (pos 0) _ has id
     (ap lift (sym c.scalar_i64.ensures) ∙ sym c.in_err-id.ensures))
 
 pub returns-in_err-read_flag-clause-refused : goal.returns-in_err-read_flag-clause-refused
 returns-in_err-read_flag-clause-refused c =
     let p = err_from_is_err_and c.from_residual-in_err-read_flag.result c.from_residual-in_err-read_flag.ensures.1 in
-    rw (p.1, p.2) (λ b has ne. bad_flag b dictionary_batch _ 2 _ has is_delta (sym c.in_err-read_flag.ensures))
+    rw (p.1, p.2) (λ limits b has ne. bad_flag limits b dictionary_batch _ 2 _ has is_delta (sym c.in_err-read_flag.ensures))
 
 pub returns-in_err-lifted-clause-refused : goal.returns-in_err-lifted-clause-refused
 returns-in_err-lifted-clause-refused c =
     let p = err_from_is_err_and c.from_residual-in_err-lifted.result c.from_residual-in_err-lifted.ensures.1 in
-    rw (p.1, p.2) (λ b has ne. bad_table b dictionary_batch _ 1 _ has values (ap lift (sym c.table.ensures) ∙ sym c.in_err-lifted.ensures))
+    rw (p.1, p.2) (λ limits b has ne. bad_table limits b dictionary_batch _ 1 _ has values (ap lift (sym c.table.ensures)
+    ∙ sym c.in_err-lifted.ensures))
 
 pub returns-in_err-read_batch-in-Some-clause-refused : goal.returns-in_err-read_batch-in-Some-clause-refused
 returns-in_err-read_batch-in-Some-clause-refused c =
     let p = err_from_is_err_and c.from_residual-in_err-read_batch-in-Some.result c.from_residual-in_err-read_batch-in-Some.ensures.1 in
     let inner = lift_ok _ _ (ap lift (sym c.table.ensures) ∙ (sym c.in_ok-lifted.ensures ∙ ap Ok c.in-Some.is)) in
-    rw (p.1, p.2) (λ b has ne. batch_refused b _ _ (of_values has inner) (c.in_err-read_batch-in-Some.ensures ne))
+    rw (p.1, p.2) (λ limits b has ne. batch_refused limits b _ _ (of_values has inner) (c.in_err-read_batch-in-Some.ensures ne))

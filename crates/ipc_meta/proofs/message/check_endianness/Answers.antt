@@ -9,5 +9,5 @@ use Rattle.ipc_meta.proofs.message.check_endianness.Goals as goal
 pub returns-in_err-lifted-clause-refused : goal.returns-in_err-lifted-clause-refused
 returns-in_err-lifted-clause-refused c =
     let p = err_from_is_err_and c.from_residual.result c.from_residual.ensures.1 in
-    rw (p.1, p.2) (λ b has. bad_number b schema _ 0 2 int16 (pos 0) _ has endianness
+    rw (p.1, p.2) (λ limits b has. bad_number limits b schema _ 0 2 int16 (pos 0) _ has endianness
     (ap lift (sym c.scalar_i16.ensures) ∙ sym c.in_err-lifted.ensures))

@@ -28,32 +28,34 @@ returns-in_ok-read_batch-in-3-clause-found c = (
 )
 
 pub returns-in_ok-read_batch-in-3-clause-only : goal.returns-in_ok-read_batch-in-3-clause-only
-returns-in_ok-read_batch-in-3-clause-only c = λ h a. ap Ok (header_same _ h _ a (returns-in_ok-read_batch-in-3-clause-found c))
+returns-in_ok-read_batch-in-3-clause-only c = λ h a. ap Ok (header_same c.args.limits.now _ h _ a
+    (returns-in_ok-read_batch-in-3-clause-found c))
 
 pub returns-in_err-read_batch-in-3-clause-only : goal.returns-in_err-read_batch-in-3-clause-only
 returns-in_err-read_batch-in-3-clause-only c = λ h a.
     let p = err_from_is_err_and c.from_residual-in_err-read_batch-in-3.result c.from_residual-in_err-read_batch-in-3.ensures.1 in
-    rw (p.1, p.2) (batch_refused _ _ _ h (lift_ok _ _ (ap lift (sym c.scalar_u8.ensures) ∙ (sym c.in_ok-code.ensures ∙ ap Ok c.in-3.is)))
+    rw (p.1, p.2) (batch_refused c.args.limits.now _ _ _ h (lift_ok _ _ (ap lift (sym c.scalar_u8.ensures) ∙ (sym c.in_ok-code.ensures
+    ∙ ap Ok c.in-3.is)))
     (lift_ok _ _ (ap lift (sym c.table.ensures) ∙ (sym c.in_ok-table.ensures ∙ ap Ok c.in-Some.is))) c.in_err-read_batch-in-3.ensures a)
 
 pub returns-in_err-id-in-2-clause-only : goal.returns-in_err-id-in-2-clause-only
 returns-in_err-id-in-2-clause-only c = λ h a.
     let p = err_from_is_err_and c.from_residual-in_err-id-in-2.result c.from_residual-in_err-id-in-2.ensures.1 in
-    rw (p.1, p.2) (dictionary_refused _ _ _ h
+    rw (p.1, p.2) (dictionary_refused c.args.limits.now _ _ _ h
     (lift_ok _ _ (ap lift (sym c.scalar_u8.ensures) ∙ (sym c.in_ok-code.ensures ∙ ap Ok c.in-2.is)))
     (lift_ok _ _ (ap lift (sym c.table.ensures) ∙ (sym c.in_ok-table.ensures ∙ ap Ok c.in-Some.is))) c.in_err-id-in-2.ensures.only a)
 
 pub returns-in_err-code-clause-refused : goal.returns-in_err-code-clause-refused
 returns-in_err-code-clause-refused c =
     let p = err_from_is_err_and c.from_residual.result c.from_residual.ensures.1 in
-    rw (p.1, p.2) (λ b has ne. bad_number b message _ 1 1 byte 0 _ has header_type
+    rw (p.1, p.2) (λ b has ne. bad_number c.args.limits.now b message _ 1 1 byte 0 _ has header_type
     (ap lift (sym c.scalar_u8.ensures) ∙ sym c.in_err-code.ensures))
 
 pub returns-in_err-table-clause-refused : goal.returns-in_err-table-clause-refused
 returns-in_err-table-clause-refused c =
     let p = err_from_is_err_and c.from_residual-in_err-table.result c.from_residual-in_err-table.ensures.1 in
     let code = lift_ok _ _ (ap lift (sym c.scalar_u8.ensures) ∙ sym c.in_ok-code.ensures) in
-    rw (p.1, p.2) (λ b has ne. bad_value b _ 2 _
+    rw (p.1, p.2) (λ b has ne. bad_value c.args.limits.now b _ 2 _
     (at_header has code (one_of_three c.in_ok-code.code c.if-code-eq0.false (omega (arith, c.if-code-gt-LAST_HEADER.false))))
     (ap lift (sym c.table.ensures) ∙ sym c.in_err-table.ensures))
 
@@ -69,11 +71,12 @@ returns-in_err-id-in-2-clause-refused c =
     let p = err_from_is_err_and c.from_residual-in_err-id-in-2.result c.from_residual-in_err-id-in-2.ensures.1 in
     let code = lift_ok _ _ (ap lift (sym c.scalar_u8.ensures) ∙ (sym c.in_ok-code.ensures ∙ ap Ok c.in-2.is)) in
     let table = lift_ok _ _ (ap lift (sym c.table.ensures) ∙ (sym c.in_ok-table.ensures ∙ ap Ok c.in-Some.is)) in
-    rw (p.1, p.2) (λ b has. c.in_err-id-in-2.ensures.refused b (of_dictionary has (code, table)))
+    rw (p.1, p.2) (λ b has. c.in_err-id-in-2.ensures.refused c.args.limits.now b (of_dictionary has (code, table)))
 
 pub returns-in_err-read_batch-in-3-clause-refused : goal.returns-in_err-read_batch-in-3-clause-refused
 returns-in_err-read_batch-in-3-clause-refused c =
     let p = err_from_is_err_and c.from_residual-in_err-read_batch-in-3.result c.from_residual-in_err-read_batch-in-3.ensures.1 in
     let code = lift_ok _ _ (ap lift (sym c.scalar_u8.ensures) ∙ (sym c.in_ok-code.ensures ∙ ap Ok c.in-3.is)) in
     let table = lift_ok _ _ (ap lift (sym c.table.ensures) ∙ (sym c.in_ok-table.ensures ∙ ap Ok c.in-Some.is)) in
-    rw (p.1, p.2) (λ b has ne. told.batch_refused b _ _ (of_batch has (code, table)) (c.in_err-read_batch-in-3.ensures ne))
+    rw (p.1, p.2) (λ b has ne. told.batch_refused c.args.limits.now b _ _ (of_batch has (code, table)) (c.in_err-read_batch-in-3.ensures
+    ne))

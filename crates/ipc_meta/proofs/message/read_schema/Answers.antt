@@ -38,12 +38,12 @@ returns-in_err-check-clause-only c = λ s h.
 pub returns-in_err-metadata-clause-refused : goal.returns-in_err-metadata-clause-refused
 returns-in_err-metadata-clause-refused c =
     let p = err_from_is_err_and c.from_residual-in_err-metadata.result c.from_residual-in_err-metadata.ensures.1 in
-    rw (p.1, p.2) (λ b has ne. own_pairs_refused b _ _ has (c.in_err-metadata.ensures ne))
+    rw (p.1, p.2) (λ b has ne. own_pairs_refused c.args.limits.now b _ _ has (c.in_err-metadata.ensures ne))
 
 pub returns-in_err-fields-clause-refused : goal.returns-in_err-fields-clause-refused
 returns-in_err-fields-clause-refused c =
     let p = err_from_is_err_and c.from_residual-in_err-fields.result c.from_residual-in_err-fields.ensures.1 in
-    rw (p.1, p.2) (λ b has ne. columns_refused b _ _ _ has c.in_ok-metadata.ensures (c.in_err-fields.ensures ne))
+    rw (p.1, p.2) (λ b has ne. columns_refused c.args.limits.now b _ _ _ has c.in_ok-metadata.ensures (c.in_err-fields.ensures ne))
 
 pub returns-in_err-check-clause-refused : goal.returns-in_err-check-clause-refused
 returns-in_err-check-clause-refused c =
@@ -51,3 +51,8 @@ returns-in_err-check-clause-refused c =
     rw (p.1, p.2) (λ b has ne.
     told.check_refused b _ (record { fields = c.in_ok-fields.fields; metadata = c.in_ok-metadata.metadata }) _ _ _ _ has
     c.in_ok-metadata.ensures c.in_ok-fields.ensures c.in_err-check.ensures.first ne)
+
+pub returns-in_err-check_endianness-clause-refused : goal.returns-in_err-check_endianness-clause-refused
+returns-in_err-check_endianness-clause-refused c =
+    let p = err_from_is_err_and c.from_residual.result c.from_residual.ensures.1 in
+    rw (p.1, p.2) (λ b has ne. c.in_err-check_endianness.ensures.refused c.args.limits.now b has)

@@ -9,21 +9,21 @@ built-requires c = batch_ascends c.args.head.now c.args.body _ _ c.in_ok-message
 pub returns-clause-states : goal.returns-clause-states
 returns-clause-states c =
     let is = batch_is c.args.head.now c.args.body _ _ c.in_ok-message.ensures c.in_ok-header.ensures in
-    ok_then _ _ c.built.result (λ b lies. batch_states b.items c.args.head.now c.args.body _ c.if-body-gt-MAX_BODY.false is lies)
+    ok_then _ _ c.built.result (λ b lies. batch_states b.items c.args.head.now c.args.body _ c.if-body-limits.false is lies)
     c.built.ensures.lies
 
 pub returns-clause-room : goal.returns-clause-room
 returns-clause-room c =
     let is = batch_is c.args.head.now c.args.body _ _ c.in_ok-message.ensures c.in_ok-header.ensures in
     ok_then _ _ c.built.result (λ b h. (
-      subst (λ (n : ℕ). n ≤ 2 ^ 24) (batch_room_is c.args.head.now c.args.body _ is) h,
-      c.if-body-gt-MAX_BODY.false,
+      subst (λ (n : ℕ). n ≤ c.args.limits.now.metadata) (batch_room_is c.args.head.now c.args.body _ is) h,
+      c.if-body-limits.false,
     )) c.built.ensures.room
 
 pub returns-clause-refused : goal.returns-clause-refused
 returns-clause-refused c =
     let is = batch_is c.args.head.now c.args.body _ _ c.in_ok-message.ensures c.in_ok-header.ensures in
-    err_then _ _ c.built.result (λ f h. batch_refused c.args.head.now c.args.body _ f is h) c.built.ensures.refused
+    err_then _ _ c.built.result (λ f h. batch_refused c.args.limits.now c.args.head.now c.args.body _ f is h) c.built.ensures.refused
 
 pub returns-clause-within : goal.returns-clause-within
 returns-clause-within c =

@@ -14,12 +14,13 @@ returns-clause-states c =
 pub returns-clause-room : goal.returns-clause-room
 returns-clause-room c =
     let is = schema_is c.args.schema.now _ _ c.in_ok-message.ensures c.in_ok-header.ensures in
-    ok_then _ _ c.built.result (λ b h. subst (λ (n : ℕ). n ≤ 2 ^ 24) (schema_room_is c.args.schema.now _ is) h) c.built.ensures.room
+    ok_then _ _ c.built.result (λ b h. subst (λ (n : ℕ). n ≤ c.args.limits.now.metadata) (schema_room_is c.args.schema.now _ is) h)
+    c.built.ensures.room
 
 pub returns-clause-refused : goal.returns-clause-refused
 returns-clause-refused c =
     let is = schema_is c.args.schema.now _ _ c.in_ok-message.ensures c.in_ok-header.ensures in
-    err_then _ _ c.built.result (λ f h. schema_refused c.args.schema.now _ f is h) c.built.ensures.refused
+    err_then _ _ c.built.result (λ f h. schema_refused c.args.limits.now c.args.schema.now _ f is h) c.built.ensures.refused
 
 pub returns-clause-within : goal.returns-clause-within
 returns-clause-within c =
