@@ -3,3 +3,4 @@ pub mod OneFrame
 pub mod Decided
 pub mod Exact
 pub mod Written
+pub mod Wider
