@@ -5,9 +5,11 @@ use Rattle.std.specs.Bool.{Decides}
 use Rattle.std.proofs.lemmas.Bool.{and_parts, and_from, and_left, and_right, cases_order}
 use Rattle.ipc_column.specs.Checks.{all_below}
 
+-- all numbers below n + 1 pass a test where all below n do, and n does
 pub all_below_more : (f : ℕ → Bool) (n : ℕ) → all_below f (n + 1) ≡ (all_below f n && f n)
 all_below_more f n = rw add-one refl
 
+-- where all numbers below n pass a test, each of them does
 pub below_at : (f : ℕ → Bool) (n k : ℕ) → all_below f n ≡ true → k < n → f k ≡ true
 below_at f zero k h l = absurd (omega arith)
 below_at f (suc n) k h l =
@@ -15,6 +17,7 @@ below_at f (suc n) k h l =
     elim (cases_order k n) as (λ _. f k ≡ true)
     [ inl e ↦ rw e p.1 | inr r ↦ elim r as (λ _. f k ≡ true) [ inl m ↦ below_at f n k p.0 m | inr m ↦ absurd (omega arith) ] ]
 
+-- where each number below n passes a test, all of them do
 pub below_from : (f : ℕ → Bool) (n : ℕ) → ((k : ℕ) → k < n → f k ≡ true) → all_below f n ≡ true
 below_from f zero h = refl
 below_from f (suc n) h = and_from _ _ (below_from f n (λ k l. h k (omega arith))) (h n (omega arith))

@@ -27,6 +27,7 @@ use Rattle.ipc_column.proofs.Parts.{column_is}
 pub bitmap_front : (n i bytes : ℕ) → has_bitmap n bytes ≡ true → i < n → has_bitmap (i + 1) bytes ≡ true
 bitmap_front n i bytes h l = grind arith
 
+-- a column's buffers are long enough for its slots, and its offsets are in order
 pub record Long (c : Column) : Type 0 where
   pub bitmap : has_bitmap c.slots (length c.validity) ≡ true
   pub values : holds_values c.layout c.slots (length c.values) ≡ true
@@ -40,6 +41,7 @@ long c h =
     let q = and_parts (holds_values c.layout c.slots (length c.values)) (holds_offsets c.layout c.slots (length c.offsets)) p.1 in
     record { bitmap = p.0; values = q.0; offsets = q.1; order = h cause.BadOffsets }
 
+-- a column that passes every test has buffers long enough for its slots, and offsets in order
 pub part_long : (body : List ℕ) (p : ColumnRanges) → ((why : Cause) → passes why (column_of body p) ≡ true) → Long (own_column body p)
 part_long body p h = subst (λ (c : Column). Long c) (column_is body p) (long (column_of body p) h)
 
@@ -63,10 +65,12 @@ text_parts c long t p =
     let bytes = text_bytes c.layout c.slots (length c.offsets) long.offsets t p in
     record { bytes = bytes; order = text_order c.layout c.slots c.offsets (length c.values) long.order t p bytes }
 
+-- in a column of texts with slots that passes every test the offsets are there and ascend within the data
 pub part_texts : (body : List ℕ) (p : ColumnRanges) → ((why : Cause) → passes why (column_of body p) ≡ true)
     → is_texts (out-ColumnRanges p).layout ≡ true → 0 < (out-ColumnRanges p).slots → TextParts (own_column body p)
 part_texts body p h t n = text_parts (own_column body p) (part_long body p h) t n
 
+-- a slot of a part's column is a slot of the part itself
 pub part_slot : (body : List ℕ) (p : ColumnRanges) (i : ℕ) → i < (column_of body p).slots → i < (out-ColumnRanges p).slots
 part_slot body p i h = subst (λ (c : Column). i < c.slots) (column_is body p) h
 
@@ -88,6 +92,7 @@ pub record Kept (n : ℕ) (body : List ℕ) (p : ColumnRanges) : Type 0 where
   pub slots : (column_of body p).slots ≡ n
   pub good : all_below (is_good (column_of body p)) (column_of body p).slots ≡ true
 
+-- what a batch keeps of all its columns it keeps of each
 pub kept_at : (n : ℕ) (body : List ℕ) (ps : List ColumnRanges) (j : ℕ) (p : ColumnRanges) → j < length ps → p ≡ get_or ps j p
     → Holds n (columns body ps) → Kept n body p
 kept_at n body ps j p l e h = record {
@@ -101,10 +106,12 @@ kept_at n body ps j p l e h = record {
       (h cause.ValueNotUtf8)).1;
 }
 
+-- a row has as many values as there are columns
 pub row_length : (body : List ℕ) (ps : List ColumnRanges) (i : ℕ) → length (row (columns body ps) i) ≡ length ps
 row_length body [] i = refl
 row_length body (p ∷ ps) i = ap (λ (n : ℕ). suc n) (row_length body ps i)
 
+-- the value of row i in a column is the one in the column's slot i
 pub row_cell : (body : List ℕ) (ps : List ColumnRanges) (i j : ℕ) (p : ColumnRanges) → j < length ps → p ≡ get_or ps j p
     → slice_get (row (columns body ps) i) j ≡ Some (value_of (column_of body p) i)
 row_cell body [] i j p l e = absurd (omega arith)
@@ -118,13 +125,16 @@ row_more values done more j v l e d m =
     m ∙ (ap (λ (vs : List Value). vs ++ v ∷ []) d
     ∙ (ap (λ (w : Value). take j values ++ w ∷ []) (sym (get_or_from_slice_get values j v v e)) ∙ sym (take_more values j v l)))
 
+-- one row more of columns stands behind the rows before it
 pub rows_more : (cs : Columns) (n : ℕ) → rows_of cs (n + 1) ≡ rows_of cs n ++ row cs n ∷ []
 rows_more cs n = rw add-one refl
 
+-- the first n rows of columns are n
 pub rows_length : (cs : Columns) (n : ℕ) → length (rows_of cs n) ≡ n
 rows_length cs zero = refl
 rows_length cs (suc n) = let h = rows_length cs n in omega (arith, h, length-append (rows_of cs n) (row cs n ∷ []))
 
+-- row i of the rows of columns is made of slot i of each
 pub rows_at : (cs : Columns) (n i : ℕ) (d : List Value) → i < n → slice_index_or (rows_of cs n) i d ≡ row cs i
 rows_at cs zero i d l = absurd (omega arith)
 rows_at cs (suc n) i d l =

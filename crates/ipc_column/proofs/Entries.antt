@@ -33,6 +33,7 @@ counted_step y = λ d.
 counted : (f : Field) → IsCounted f
 counted = ind-Field IsCounted (λ x y is. subst (λ z. IsCounted (roll-Field z)) is (counted_step y))
 
+-- fields need a node for each field, those below them counted
 pub nodes_are_entries : (fs : List Field) → nodes_in (shape_of fs) ≡ length (entries fs)
 unfolding nodes_in
 nodes_are_entries [] = omega arith

@@ -13,6 +13,7 @@ use Rattle.ipc_column.specs.Views.{columns, column_of, children_of}
 use Rattle.ipc_column.specs.Shapes.{Shape, bare, field, shape_of, field_step, field_layout, field_children, nodes_in, buffers_in, cut}
 use Rattle.ipc_column.specs.Shapes.{column_at}
 
+-- the shape below a field is that of its children
 pub children_out : (f : Field) → field_children f ≡ shape_of (out-Field f).children
 children_out f = ap (λ (v : Layout × Shape). v.1) (fold_out-Field (Layout × Shape) field_step f)
 
@@ -21,21 +22,25 @@ pub shape_from : (fs : List Field) (i : ℕ) (f : Field) → i < length fs → f
     → shape_of (drop i fs) ≡ field (field_layout f) (field_children f) (shape_of (drop (i + 1) fs))
 shape_from fs i f h e = rw (drop-cons fs i f) (rw (← e, add-one) refl)
 
+-- the nodes of the fields from one on are its own, those below it and those of the fields behind it
 pub nodes_from : (fs : List Field) (i : ℕ) (f : Field) → i < length fs → f ≡ get_or fs i f
     → nodes_in (shape_of (drop i fs)) ≡ 1 + nodes_in (field_children f) + nodes_in (shape_of (drop (i + 1) fs))
 unfolding nodes_in
 nodes_from fs i f h e = rw (shape_from fs i f h e) refl
 
+-- the buffers of the fields from one on are its own, those below it and those of the fields behind it
 pub buffers_from : (fs : List Field) (i : ℕ) (f : Field) → i < length fs → f ≡ get_or fs i f
     → buffers_in (shape_of (drop i fs))
     ≡ own_buffers (field_layout f) + buffers_in (field_children f) + buffers_in (shape_of (drop (i + 1) fs))
 unfolding buffers_in
 buffers_from fs i f h e = rw (shape_from fs i f h e) refl
 
+-- behind the last field there are no nodes
 pub nodes_done : (fs : List Field) (i : ℕ) → length fs ≤ i → nodes_in (shape_of (drop i fs)) ≡ 0
 unfolding nodes_in
 nodes_done fs i h = rw (drop_all i fs h) refl
 
+-- behind the last field there are no buffers
 pub buffers_done : (fs : List Field) (i : ℕ) → length fs ≤ i → buffers_in (shape_of (drop i fs)) ≡ 0
 unfolding buffers_in
 buffers_done fs i h = rw (drop_all i fs h) refl
@@ -51,10 +56,12 @@ pub beside_push : (body : List ℕ) (ps : List ColumnRanges) (p : ColumnRanges) 
 beside_push body [] p ds = refl
 beside_push body (q ∷ ps) p ds = ap (λ (cs : Columns). column (column_of body q) (children_of body q) cs) (beside_push body ps p ds)
 
+-- columns with none beside them are those columns
 pub beside_none : (cs : Columns) → beside cs none ≡ cs
 beside_none none = refl
 beside_none (column c children rest) = ap (λ (ds : Columns). column c children ds) (beside_none rest)
 
+-- the columns of the fields from one on are its own, those below it and those of the fields behind it
 pub cut_from : (fs : List Field) (i : ℕ) (f : Field) (h : BatchHead) (body : List ℕ) (n b : ℕ) → i < length fs → f ≡ get_or fs i f
     → cut (shape_of (drop i fs)) h body n b ≡ column (column_at (field_layout f) h body n b)
     (cut (field_children f) h body (n + 1) (b + own_buffers (field_layout f)))
@@ -63,6 +70,7 @@ pub cut_from : (fs : List Field) (i : ℕ) (f : Field) (h : BatchHead) (body : L
 unfolding cut
 cut_from fs i f h body n b l e = rw (shape_from fs i f l e) refl
 
+-- behind the last field there are no columns
 pub cut_done : (fs : List Field) (i : ℕ) (h : BatchHead) (body : List ℕ) (n b : ℕ) → length fs ≤ i
     → cut (shape_of (drop i fs)) h body n b ≡ none
 unfolding cut
@@ -84,6 +92,7 @@ own_most l.Null = lit≤ tt
 own_most l.Unsupported = lit≤ tt
 own_most _ = lit≤ tt
 
+-- fields have at most three buffers for each node
 pub buffers_most : (s : Shape) → buffers_in s ≤ 3 * nodes_in s
 unfolding nodes_in buffers_in
 buffers_most bare = omega arith

@@ -21,6 +21,7 @@ use Rattle.ipc_column.specs.Checks.{HeadHolds, passes, all_pass, fault_of}
 use Rattle.ipc_column.specs.Rows.{Rows, RefusesParts, IsOneList, HasCounts, HasParts}
 use Rattle.ipc_column.proofs.Cells.{rows_length, rows_at}
 use Rattle.ipc_column.proofs.Rules.{decides, length_is, of_nodes, of_ranges, of_slot_count, every_top_true}
+use Rattle.ipc_model.specs.declared.limits.Limits.{Limits}
 
 -- the rows of columns, by index
 rows_values : (rows : List (List Value)) (fields : List Field) (head : BatchHead) (body : List ℕ) (n : ℕ)
@@ -30,80 +31,92 @@ rows_values rows fields head body n e i l =
     let size : length rows ≡ n = ap (λ (x : List (List Value)). length x) e ∙ rows_length (columns_of fields head body) n in
     ap (λ (x : List (List Value)). get_or x i []) e ∙ rows_at (columns_of fields head body) n i [] (rw size at l)
 
-pub rows_from : (fields : List Field) (head : BatchHead) (body : List ℕ) (rows : List (List Value)) → are_supported fields ≡ true
-    → Passing (shape_of fields) head body rows → Rows fields head body rows
-rows_from fields head body rows o p =
-    let lengths = (decides cause.BadNode fields head body).0 (p.sound cause.BadNode) in
+-- the rows found where every test passes are the rows of the parts
+pub rows_from : {limits : Limits} → (fields : List Field) (head : BatchHead) (body : List ℕ) (rows : List (List Value))
+    → are_supported fields ≡ true
+    → Passing limits (shape_of fields) head body rows → Rows limits fields head body rows
+rows_from {limits} fields head body rows o p =
+    let lengths = (decides limits cause.BadNode fields head body).0 (p.sound cause.BadNode) in
     record {
       types = o;
-      nodes = (decides cause.WrongNodeCount fields head body).0 (p.sound cause.WrongNodeCount);
-      buffers = (decides cause.WrongBufferCount fields head body).0 (p.sound cause.WrongBufferCount);
+      nodes = (decides limits cause.WrongNodeCount fields head body).0 (p.sound cause.WrongNodeCount);
+      buffers = (decides limits cause.WrongBufferCount fields head body).0 (p.sound cause.WrongBufferCount);
       lengths = lengths;
-      ranges = (decides cause.BufferOutOfBody fields head body).0 (p.sound cause.BufferOutOfBody);
-      bytes = (decides cause.BufferTooShort fields head body).0 (p.sound cause.BufferTooShort);
-      null_counts = (decides cause.BadNullCount fields head body).0 (p.sound cause.BadNullCount);
-      order = (decides cause.BadOffsets fields head body).0 (p.sound cause.BadOffsets);
-      texts = (decides cause.ValueNotUtf8 fields head body).0 (p.sound cause.ValueNotUtf8);
+      ranges = (decides limits cause.BufferOutOfBody fields head body).0 (p.sound cause.BufferOutOfBody);
+      bytes = (decides limits cause.BufferTooShort fields head body).0 (p.sound cause.BufferTooShort);
+      null_counts = (decides limits cause.BadNullCount fields head body).0 (p.sound cause.BadNullCount);
+      order = (decides limits cause.BadOffsets fields head body).0 (p.sound cause.BadOffsets);
+      texts = (decides limits cause.ValueNotUtf8 fields head body).0 (p.sound cause.ValueNotUtf8);
       count = length_is head.length lengths.batch
           ∙ ap (λ (n : ℕ). pos n) (sym (ap (λ (x : List (List Value)). length x) p.values
           ∙ rows_length (columns_of fields head body) (unsigned_abs head.length)));
       values = rows_values rows fields head body (unsigned_abs head.length) p.values;
     }
 
-rows_are : (fields : List Field) (head : BatchHead) (body : List ℕ) (rows : List (List Value)) → Rows fields head body rows
+rows_are : {limits : Limits} → (fields : List Field) (head : BatchHead) (body : List ℕ) (rows : List (List Value))
+    → Rows limits fields head body rows
     → rows ≡ rows_of (columns_of fields head body) (length rows)
 rows_are fields head body rows w =
     ext_get_or [] rows (rows_of (columns_of fields head body) (length rows)) (sym (rows_length (columns_of fields head body) (length rows)))
     (λ i l. w.values i l ∙ sym (rows_at (columns_of fields head body) (length rows) i [] l))
 
+-- the parts of a batch give one list of rows at most
 pub one_list : IsOneList
-one_list fields head body rows others a b =
-    let size : length rows ≡ length others = ap unsigned_abs (sym a.count ∙ b.count) in
-    rows_are fields head body rows a ∙ (ap (rows_of (columns_of fields head body)) size ∙ sym (rows_are fields head body others b))
+one_list limits others fields head body rows more a b =
+    let size : length rows ≡ length more = ap unsigned_abs (sym a.count ∙ b.count) in
+    rows_are fields head body rows a ∙ (ap (rows_of (columns_of fields head body)) size ∙ sym (rows_are fields head body more b))
 
-has_counts : (fields : List Field) (head : BatchHead) (body : List ℕ) → CountsHold (shape_of fields) head (length body)
+has_counts : {limits : Limits} → (fields : List Field) (head : BatchHead) (body : List ℕ)
+    → CountsHold limits (shape_of fields) head (length body)
     → HasCounts fields head
 has_counts fields head body h = record { nodes = eqb-true _ _ h.nodes; buffers = eqb-true _ _ h.buffers }
 
-has_parts : (fields : List Field) (head : BatchHead) (body : List ℕ) → HeadHolds (shape_of fields) head body → HasParts fields head body
-has_parts fields head body h =
-    let own = and_parts (is_slot_count head.length) (all is_node head.nodes) (h cause.BadNode) in
+has_parts : {limits : Limits} → (fields : List Field) (head : BatchHead) (body : List ℕ) → HeadHolds limits (shape_of fields) head body
+    → HasParts limits fields head body
+has_parts {limits} fields head body h =
+    let own = and_parts (is_slot_count limits head.length) (all (is_node limits) head.nodes) (h cause.BadNode) in
     record {
-      counts = has_counts fields head body (record { nodes = h cause.WrongNodeCount; buffers = h cause.WrongBufferCount });
+      counts = has_counts {limits = limits} fields head body (record {
+        nodes = h cause.WrongNodeCount;
+        buffers =
+            h cause.WrongBufferCount;
+      });
       batch = (of_slot_count head.length).0 own.0;
       bounds = (of_nodes head.nodes).0 own.1;
       ranges = (of_ranges head body).0 (h cause.BufferOutOfBody);
     }
 
 -- a fault whose test fails is true of the parts
-pub refuses_from : (f : Fault) (fields : List Field) (head : BatchHead) (body : List ℕ) → Failing f (shape_of fields) head body
-    → RefusesParts f fields head body
-refuses_from fault.WrongNodeCount fields head body r = not_from_Decides _ (decides cause.WrongNodeCount fields head body) r
-refuses_from fault.WrongBufferCount fields head body r = not_from_Decides _ (decides cause.WrongBufferCount fields head body) r
-refuses_from fault.BadNode fields head body r =
-    (has_counts fields head body r.0, not_from_Decides _ (decides cause.BadNode fields head body) r.1)
-refuses_from fault.BufferOutOfBody fields head body r =
-    (has_counts fields head body r.0, not_from_Decides _ (decides cause.BufferOutOfBody fields head body) r.1)
-refuses_from fault.BufferTooShort fields head body r =
-    (has_parts fields head body r.0, not_from_Decides _ (decides cause.BufferTooShort fields head body) r.1)
-refuses_from fault.BadNullCount fields head body r =
-    (has_parts fields head body r.0, not_from_Decides _ (decides cause.BadNullCount fields head body) r.1)
-refuses_from fault.BadOffsets fields head body r =
-    (has_parts fields head body r.0, not_from_Decides _ (decides cause.BadOffsets fields head body) r.1)
-refuses_from fault.ValueNotUtf8 fields head body r = (
+pub refuses_from : (limits : Limits) (f : Fault) (fields : List Field) (head : BatchHead) (body : List ℕ)
+    → Failing limits f (shape_of fields) head body
+    → RefusesParts limits f fields head body
+refuses_from limits fault.WrongNodeCount fields head body r = not_from_Decides _ (decides limits cause.WrongNodeCount fields head body) r
+refuses_from limits fault.WrongBufferCount fields head body r = not_from_Decides _ (decides limits cause.WrongBufferCount fields head body)
+    r
+refuses_from limits fault.BadNode fields head body r =
+    (has_counts fields head body r.0, not_from_Decides _ (decides limits cause.BadNode fields head body) r.1)
+refuses_from limits fault.BufferOutOfBody fields head body r =
+    (has_counts fields head body r.0, not_from_Decides _ (decides limits cause.BufferOutOfBody fields head body) r.1)
+refuses_from limits fault.BufferTooShort fields head body r =
+    (has_parts fields head body r.0, not_from_Decides _ (decides limits cause.BufferTooShort fields head body) r.1)
+refuses_from limits fault.BadNullCount fields head body r =
+    (has_parts fields head body r.0, not_from_Decides _ (decides limits cause.BadNullCount fields head body) r.1)
+refuses_from limits fault.BadOffsets fields head body r =
+    (has_parts fields head body r.0, not_from_Decides _ (decides limits cause.BadOffsets fields head body) r.1)
+refuses_from limits fault.ValueNotUtf8 fields head body r = (
   has_parts fields head body r.0,
   (
-    (decides cause.BufferTooShort fields head body).0 r.1.0,
-    (decides cause.BadOffsets fields head body).0 r.1.1,
-    not_from_Decides _ (decides cause.ValueNotUtf8 fields head body) r.1.2,
+    (decides limits cause.BufferTooShort fields head body).0 r.1.0,
+    (decides limits cause.BadOffsets fields head body).0 r.1.1,
+    not_from_Decides _ (decides limits cause.ValueNotUtf8 fields head body) r.1.2,
   ),
 )
-refuses_from fault.OutOfMemory fields head body r = tt
-refuses_from _ fields head body r = absurd r
+refuses_from limits fault.OutOfMemory fields head body r = tt
+refuses_from limits _ fields head body r = absurd r
 
 -- and then there are no rows
-pub no_rows : (f : Fault) (fields : List Field) (head : BatchHead) (body : List ℕ) (rows : List (List Value))
-    → RefusesParts f fields head body → Rows fields head body rows → f ≡ fault.OutOfMemory
+pub no_rows : {limits : Limits} → (f : Fault) (fields : List Field) (head : BatchHead) (body : List ℕ) (rows : List (List Value))
+    → RefusesParts limits f fields head body → Rows limits fields head body rows → f ≡ fault.OutOfMemory
 no_rows fault.OutOfMemory fields head body rows r w = refl
 no_rows fault.WrongNodeCount fields head body rows r w = absurd (r w.nodes)
 no_rows fault.WrongBufferCount fields head body rows r w = absurd (r w.buffers)
@@ -115,61 +128,68 @@ no_rows fault.BadOffsets fields head body rows r w = absurd (r.1 w.order)
 no_rows fault.ValueNotUtf8 fields head body rows r w = absurd (r.1.2 w.texts)
 no_rows _ fields head body rows r w = absurd r
 
-pub only_rows : (fields : List Field) (head : BatchHead) (body : List ℕ) (r : Result Contents Fault)
-    → IfOk r (λ b. Rows fields head body b.rows) → IfErr r (λ f. RefusesParts f fields head body)
-    → (rows : List (List Value)) → Rows fields head body rows → MatchResult r (λ b. b.rows ≡ rows) (λ f. f ≡ fault.OutOfMemory)
-only_rows fields head body (Ok b) a r rows w = one_list fields head body b.rows rows a w
-only_rows fields head body (Err f) a r rows w = no_rows f fields head body rows r w
+-- where parts give rows, the call that reads them answers those rows, unless memory ran out
+pub only_rows : {limits : Limits} → (fields : List Field) (head : BatchHead) (body : List ℕ) (r : Result Contents Fault)
+    → IfOk r (λ b. Rows limits fields head body b.rows) → IfErr r (λ f. RefusesParts limits f fields head body)
+    → (rows : List (List Value)) → Rows limits fields head body rows → MatchResult r (λ b. b.rows ≡ rows) (λ f. f ≡ fault.OutOfMemory)
+only_rows {limits} fields head body (Ok b) a r rows w = one_list limits limits fields head body b.rows rows a w
+only_rows {limits} fields head body (Err f) a r rows w = no_rows f fields head body rows r w
 
-pub ok_rows : (fields : List Field) (head : BatchHead) (body : List ℕ) (r : Result Contents Fault) → are_supported fields ≡ true
-    → IfOk r (λ b. Passing (shape_of fields) head body b.rows) → IfOk r (λ b. Rows fields head body b.rows)
-ok_rows fields head body (Ok b) o h = rows_from fields head body b.rows o h
-ok_rows fields head body (Err f) o h = h
+-- where the call answers what passes every test, it answers the rows of the parts
+pub ok_rows : (limits : Limits) (fields : List Field) (head : BatchHead) (body : List ℕ) (r : Result Contents Fault)
+    → are_supported fields ≡ true
+    → IfOk r (λ b. Passing limits (shape_of fields) head body b.rows) → IfOk r (λ b. Rows limits fields head body b.rows)
+ok_rows limits fields head body (Ok b) o h = rows_from fields head body b.rows o h
+ok_rows limits fields head body (Err f) o h = h
 
-pub err_refuses : (fields : List Field) (head : BatchHead) (body : List ℕ) (r : Result Contents Fault)
-    → IfErr r (λ f. Failing f (shape_of fields) head body) → IfErr r (λ f. RefusesParts f fields head body)
-err_refuses fields head body (Ok b) h = h
-err_refuses fields head body (Err f) h = refuses_from f fields head body h
+-- where the call answers a fault whose test fails, that fault is true of the parts
+pub err_refuses : (limits : Limits) (fields : List Field) (head : BatchHead) (body : List ℕ) (r : Result Contents Fault)
+    → IfErr r (λ f. Failing limits f (shape_of fields) head body) → IfErr r (λ f. RefusesParts limits f fields head body)
+err_refuses limits fields head body (Ok b) h = h
+err_refuses limits fields head body (Err f) h = refuses_from limits f fields head body h
 
 -- what the passes found, of the columns that were cut
-pub passing : (shape : Shape) (head : BatchHead) (body : List ℕ) (n : ℕ) (cs : Columns) → n ≡ unsigned_abs head.length
+pub passing : {limits : Limits} → (shape : Shape) (head : BatchHead) (body : List ℕ) (n : ℕ) (cs : Columns) → n ≡ unsigned_abs head.length
     → cs ≡ cut shape head body 0 0
-    → ((why : Cause) → head_passes why shape head (length body) ≡ true) → Holds n cs → Passing shape head body (rows_of cs n)
+    → ((why : Cause) → head_passes limits why shape head (length body) ≡ true) → Holds n cs → Passing limits shape head body (rows_of cs n)
 passing shape head body n cs en ec h p = record {
   sound = λ why. and_from _ _ (h why) (rw (en, ec) at (p why));
   values = rw (en, ec) refl;
 }
 
 -- what a refused head says
-pub head_failing : (why : Cause) (shape : Shape) (head : BatchHead) (body : List ℕ) → head_passes why shape head (length body) ≡ false
-    → IsCounted why shape head (length body) → Failing (fault_of why) shape head body
-head_failing cause.WrongNodeCount shape head body h n = and_left _ _ h
-head_failing cause.WrongBufferCount shape head body h n = and_left _ _ h
-head_failing cause.BadNode shape head body h n = (n, and_left _ _ h)
-head_failing cause.BufferOutOfBody shape head body h n = (n, and_left _ _ h)
-head_failing cause.BufferTooShort shape head body h n = absurd (cc)
-head_failing cause.BadNullCount shape head body h n = absurd (cc)
-head_failing cause.BadOffsets shape head body h n = absurd (cc)
-head_failing cause.ValueNotUtf8 shape head body h n = absurd (cc)
+pub head_failing : (limits : Limits) (why : Cause) (shape : Shape) (head : BatchHead) (body : List ℕ)
+    → head_passes limits why shape head (length body) ≡ false
+    → IsCounted limits why shape head (length body) → Failing limits (fault_of why) shape head body
+head_failing limits cause.WrongNodeCount shape head body h n = and_left _ _ h
+head_failing limits cause.WrongBufferCount shape head body h n = and_left _ _ h
+head_failing limits cause.BadNode shape head body h n = (n, and_left _ _ h)
+head_failing limits cause.BufferOutOfBody shape head body h n = (n, and_left _ _ h)
+head_failing limits cause.BufferTooShort shape head body h n = absurd (cc)
+head_failing limits cause.BadNullCount shape head body h n = absurd (cc)
+head_failing limits cause.BadOffsets shape head body h n = absurd (cc)
+head_failing limits cause.ValueNotUtf8 shape head body h n = absurd (cc)
 
 -- what refused columns say
-pub columns_failing : (why : Cause) (shape : Shape) (head : BatchHead) (body : List ℕ) (n : ℕ) (cs : Columns) → n ≡ unsigned_abs head.length
+pub columns_failing : (limits : Limits) (why : Cause) (shape : Shape) (head : BatchHead) (body : List ℕ) (n : ℕ) (cs : Columns)
+    → n ≡ unsigned_abs head.length
     → cs ≡ cut shape head body 0 0
-    → HeadHolds shape head body → all_pass why n cs ≡ false → (why ≡ cause.ValueNotUtf8 → (other : Cause) → every (passes other) cs ≡ true)
-    → Failing (fault_of why) shape head body
-columns_failing why shape head body n cs en ec h f t =
-    of_cause why (and_right (head_passes why shape head (length body)) _ (rw (en, ec) at f)) (λ e other. rw ec at (t e other))
+    → HeadHolds limits shape head body → all_pass why n cs ≡ false → (why ≡ cause.ValueNotUtf8 → (other : Cause)
+    → every (passes other) cs ≡ true)
+    → Failing limits (fault_of why) shape head body
+columns_failing limits why shape head body n cs en ec h f t =
+    of_cause why (and_right (head_passes limits why shape head (length body)) _ (rw (en, ec) at f)) (λ e other. rw ec at (t e other))
   where
-    counts : CountsHold shape head (length body)
+    counts : CountsHold limits shape head (length body)
     counts = record { nodes = h cause.WrongNodeCount; buffers = h cause.WrongBufferCount }
 
     holds : (test : Column → Bool) → every test (cut shape head body 0 0) ≡ true
         → (true && (every test (cut shape head body 0 0) && every_top (λ c. true) (cut shape head body 0 0))) ≡ true
     holds test e = and_from (every test (cut shape head body 0 0)) _ e (every_top_true (cut shape head body 0 0))
 
-    of_cause : (why : Cause) → fits shape head body why ≡ false
+    of_cause : (why : Cause) → fits limits shape head body why ≡ false
         → (why ≡ cause.ValueNotUtf8 → (other : Cause) → every (passes other) (cut shape head body 0 0) ≡ true)
-        → Failing (fault_of why) shape head body
+        → Failing limits (fault_of why) shape head body
     of_cause cause.WrongNodeCount e s = e
     of_cause cause.WrongBufferCount e s = e
     of_cause cause.BadNode e s = (counts, e)
@@ -187,7 +207,8 @@ columns_failing why shape head body n cs en ec h f t =
     )
 
 -- an exit with the fault of a cause
-pub exits : (r : Result Contents Fault) (f : Fault) (shape : Shape) (head : BatchHead) (body : List ℕ) → IsErrAnd r (λ e. e ≡ f)
-    → Failing f shape head body → IfErr r (λ e. Failing e shape head body)
-exits (Ok b) f shape head body e h = absurd e
-exits (Err d) f shape head body e h = subst (λ (x : Fault). Failing x shape head body) (sym e) h
+pub exits : (limits : Limits) (r : Result Contents Fault) (f : Fault) (shape : Shape) (head : BatchHead) (body : List ℕ)
+    → IsErrAnd r (λ e. e ≡ f)
+    → Failing limits f shape head body → IfErr r (λ e. Failing limits e shape head body)
+exits limits (Ok b) f shape head body e h = absurd e
+exits limits (Err d) f shape head body e h = subst (λ (x : Fault). Failing limits x shape head body) (sym e) h

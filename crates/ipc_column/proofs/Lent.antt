@@ -24,10 +24,12 @@ pub some_lent : {A : Type 0} {P Q : A → Type 0} (o : Option A) → ((a : A) �
 some_lent None f h = tt
 some_lent (Some a) f h = f a h
 
+-- a layout whose numbers are signed and of 64 bits is that of Int with this width
 pub wide : (l : Layout) → is_signed_64 l ≡ true → l ≡ Numbers B64 true
 wide (Numbers B64 true) h = refl
 wide _ h = absurd (false≢true h)
 
+-- bytes of the length 0 are none
 pub no_bytes : (bytes : List ℕ) → length bytes ≡ 0 → bytes ≡ []
 no_bytes [] h = refl
 no_bytes (b ∷ bs) h = absurd (omega arith)
@@ -44,6 +46,7 @@ module _ (body : List ℕ) (ps : List ColumnRanges) (n j : ℕ) (p : ColumnRange
   number_at : (i : ℕ) → value_of (own_column body p) i ≡ Int (int64 values (8 * i))
   number_at i = rw (lent.no_bitmap, lent.wide, lent.same) refl
 
+  -- a column that is lent has exactly the numbers that stand in its place in the rows
   pub lent_numbers : AreNumbers (rows_of (columns body ps) n) j values
   lent_numbers =
       let kept = kept_at n body ps j p inside is holds in

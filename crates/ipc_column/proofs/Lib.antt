@@ -10,3 +10,4 @@ pub mod Below
 pub mod Slices
 pub mod Visits
 pub mod Lent
+pub mod Wider

@@ -12,9 +12,11 @@ use Rattle.ipc_column.specs.Rules.{text_slots, texts_in}
 use Rattle.ipc_column.specs.Checks.{Judges}
 use Rattle.ipc_column.specs.Views.{columns, part_step, column_of, children_of, own_column}
 
+-- the columns below a part are those of its children
 pub children_out : (body : List ℕ) (p : ColumnRanges) → children_of body p ≡ columns body (out-ColumnRanges p).children.items
 children_out body p = ap (λ (v : Column × Columns). v.1) (fold_out-ColumnRanges (Column × Columns) (part_step body) p)
 
+-- a part's column is made of the part's own ranges of the body
 pub column_is : (body : List ℕ) (p : ColumnRanges) → column_of body p ≡ own_column body p
 column_is body p = ap (λ (v : Column × Columns). v.0) (fold_out-ColumnRanges (Column × Columns) (part_step body) p)
 
@@ -27,6 +29,7 @@ regroup : (a b c : Bool) → (a && (b && c)) ≡ ((a && b) && c)
 regroup true b c = refl
 regroup false b c = refl
 
+-- all columns from a part on pass a test where its own does, those below it do and those behind it do
 pub every_from : (test : Column → Bool) (body : List ℕ) (ps : List ColumnRanges) (i : ℕ) (p : ColumnRanges) → i < length ps
     → p ≡ get_or ps i p
     → every test (columns body (drop i ps))
@@ -34,11 +37,13 @@ pub every_from : (test : Column → Bool) (body : List ℕ) (ps : List ColumnRan
 every_from test body ps i p h e = rw (columns_from body ps i p h e)
     (regroup (test (column_of body p)) (every test (children_of body p)) (every test (columns body (drop (i + 1) ps))))
 
+-- the top columns from a part on pass a test where its own does and those behind it do
 pub every_top_from : (test : Column → Bool) (body : List ℕ) (ps : List ColumnRanges) (i : ℕ) (p : ColumnRanges) → i < length ps
     → p ≡ get_or ps i p
     → every_top test (columns body (drop i ps)) ≡ (test (column_of body p) && every_top test (columns body (drop (i + 1) ps)))
 every_top_from test body ps i p h e = rw (columns_from body ps i p h e) refl
 
+-- the slots of texts from a part on are its own and those behind it
 pub texts_from : (body : List ℕ) (ps : List ColumnRanges) (i : ℕ) (p : ColumnRanges) → i < length ps → p ≡ get_or ps i p
     → texts_in (columns body (drop i ps)) ≡ text_slots (column_of body p) + texts_in (columns body (drop (i + 1) ps))
 texts_from body ps i p h e = rw (columns_from body ps i p h e) refl

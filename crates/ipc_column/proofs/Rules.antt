@@ -20,12 +20,12 @@ use Rattle.ipc_column.specs.Shapes.{shape_of, columns_of}
 use Rattle.ipc_column.specs.Rules.{HasNodes, HasBuffers, HasLengths, HasRanges, HasBytes, HasNullCounts, HasOrder, HasTexts, IsSlotCount}
 use Rattle.ipc_column.specs.Rules.{IsNode, LiesIn, HoldValues, HoldOffsets, IsLongEnough, CountsNulls, AreOffsets, HasOffsets, IsText}
 use Rattle.ipc_column.specs.Rules.{SpellsTexts}
-use Rattle.ipc_model.specs.Limits.{max_rows}
 use Rattle.ipc_column.specs.Checks.{is_slot_count, is_node, lies_in, all, all_below, holds_values, holds_offsets, is_ascending_at}
 use Rattle.ipc_column.specs.Checks.{are_ascending, in_order, is_text, is_good, passes, top_passes, fits}
 use Rattle.ipc_column.specs.Values.{offset, place, is_valid}
 use Rattle.ipc_column.proofs.Below.{decides_below}
 use Rattle.ipc_column.proofs.Slices.{above}
+use Rattle.ipc_model.specs.declared.limits.Limits.{Limits}
 
 -- ---- numbers
 
@@ -36,17 +36,19 @@ of_test false = (λ e. absurd (cc), λ t. absurd t)
 of_le : (a b : ℤ) → Decides (int_le a b) (a ≤ℤ b)
 of_le a b = Decides-like (int_le a b) (λ t. record { le = t }) (λ h. h.le) (of_test (int_le a b))
 
-pub of_slot_count : (z : ℤ) → Decides (is_slot_count z) (IsSlotCount z)
-of_slot_count z =
-    Decides-like (is_slot_count z) (λ p. record { from = p.0; to = p.1 }) (λ h. (h.from, h.to))
-    (Decides-and _ _ (of_le (pos 0) z) (of_le z (pos max_rows)))
+-- the test of a number of slots decides whether it is from 0 to the most slots
+pub of_slot_count : {limits : Limits} → (z : ℤ) → Decides (is_slot_count limits z) (IsSlotCount limits z)
+of_slot_count {limits} z =
+    Decides-like (is_slot_count limits z) (λ p. record { from = p.0; to = p.1 }) (λ h. (h.from, h.to))
+    (Decides-and _ _ (of_le (pos 0) z) (of_le z (pos limits.slots)))
 
-of_node : (n : ℤ × ℤ) → Decides (is_node n) (IsNode n)
-of_node n =
-    Decides-like (is_node n) (λ p. record { slots = p.0; nulls_from = p.1.0; nulls_to = p.1.1 })
+of_node : {limits : Limits} → (n : ℤ × ℤ) → Decides (is_node limits n) (IsNode limits n)
+of_node {limits} n =
+    Decides-like (is_node limits n) (λ p. record { slots = p.0; nulls_from = p.1.0; nulls_to = p.1.1 })
     (λ h. (h.slots, (h.nulls_from, h.nulls_to)))
     (Decides-and _ _ (of_slot_count n.0) (Decides-and _ _ (of_le (pos 0) n.1) (of_le n.1 n.0)))
 
+-- the test of two numbers decides whether the first is at most the second
 pub of_bound : (least most : ℕ) → Decides (nat_le least most) (least ≤ most)
 of_bound least most = (λ e. leb-true least most e, λ h. le-leb least most h)
 
@@ -77,8 +79,9 @@ of_range size r = (
       (and_from _ _ ((of_le (pos 0) r.1).1 h.bytes) ((of_end size r.0 r.1 h.offset h.bytes).1 h.within)),
 )
 
-pub of_nodes : (nodes : List (ℤ × ℤ)) → Decides (all is_node nodes) (All IsNode nodes)
-of_nodes nodes = Decides-by_and is_node IsNode (all is_node) of_node refl (λ _ _. refl) nodes
+-- the test of the nodes decides whether each has a length, and a null count that is at most the length
+pub of_nodes : {limits : Limits} → (nodes : List (ℤ × ℤ)) → Decides (all (is_node limits) nodes) (All (IsNode limits) nodes)
+of_nodes {limits} nodes = Decides-by_and (is_node limits) (IsNode limits) (all (is_node limits)) of_node refl (λ _ _. refl) nodes
 
 -- ---- columns
 
@@ -179,10 +182,12 @@ of_each_top test P d (column c children rest) = Decides-and _ _ (d c) (of_each_t
 
 -- ---- the parts
 
+-- all columns pass a test that asks nothing
 pub every_true : (cs : Columns) → every (λ c. true) cs ≡ true
 every_true none = refl
 every_true (column c children rest) = rw (every_true children, every_true rest) refl
 
+-- all top columns pass a test that asks nothing
 pub every_top_true : (cs : Columns) → every_top (λ c. true) cs ≡ true
 every_top_true none = refl
 every_top_true (column c children rest) = every_top_true rest
@@ -192,15 +197,15 @@ of_slots (pos m) h n = Decides-like (n == m) (λ e. ap pos e) (λ e. ap unsigned
 of_slots (negsuc m) h n = absurd (omega (arith, ints, h))
 
 -- what is asked, by the cause that is answered where it doesn't hold
-abbrev pub Asked : Cause → List Field → BatchHead → List ℕ → Type 0
-Asked cause.WrongNodeCount fields head body = HasNodes fields head
-Asked cause.WrongBufferCount fields head body = HasBuffers fields head
-Asked cause.BadNode fields head body = HasLengths fields head body
-Asked cause.BufferOutOfBody fields head body = HasRanges head body
-Asked cause.BufferTooShort fields head body = HasBytes fields head body
-Asked cause.BadNullCount fields head body = HasNullCounts fields head body
-Asked cause.BadOffsets fields head body = HasOrder fields head body
-Asked cause.ValueNotUtf8 fields head body = HasTexts fields head body
+abbrev pub Asked : Limits → Cause → List Field → BatchHead → List ℕ → Type 0
+Asked limits cause.WrongNodeCount fields head body = HasNodes fields head
+Asked limits cause.WrongBufferCount fields head body = HasBuffers fields head
+Asked limits cause.BadNode fields head body = HasLengths limits fields head body
+Asked limits cause.BufferOutOfBody fields head body = HasRanges head body
+Asked limits cause.BufferTooShort fields head body = HasBytes fields head body
+Asked limits cause.BadNullCount fields head body = HasNullCounts fields head body
+Asked limits cause.BadOffsets fields head body = HasOrder fields head body
+Asked limits cause.ValueNotUtf8 fields head body = HasTexts fields head body
 
 of_head : (test : Bool) (P : Type 0) (cs : Columns) → Decides test P
     → Decides (test && (every (λ c. true) cs && every_top (λ c. true) cs)) P
@@ -217,16 +222,17 @@ of_tops : (test : Column → Bool) (P : Column → Type 0) (cs : Columns) → ((
 of_tops test P cs d = Decides-like _ (λ p. p.1.1) (λ h. (refl, (every_true cs, h)))
     (Decides-and _ _ (λ e. e, λ e. e) (Decides-and _ _ (λ e. e, λ e. e) (of_each_top test P d cs)))
 
-of_lengths : (fields : List Field) (head : BatchHead) (body : List ℕ)
-    → Decides (fits (shape_of fields) head body cause.BadNode) (HasLengths fields head body)
-of_lengths fields head body =
+of_lengths : {limits : Limits} → (fields : List Field) (head : BatchHead) (body : List ℕ)
+    → Decides (fits limits (shape_of fields) head body cause.BadNode) (HasLengths limits fields head body)
+of_lengths {limits} fields head body =
     let cs = columns_of fields head body in
     let n = unsigned_abs head.length in
     let top : Column → Bool = top_passes cause.BadNode n in
     let nodes = of_nodes head.nodes in (
       λ e.
-          let p = and_parts (is_slot_count head.length && all is_node head.nodes) (every (λ c. true) cs && every_top top cs) e in
-          let q = and_parts (is_slot_count head.length) (all is_node head.nodes) p.0 in
+          let p = and_parts (is_slot_count limits head.length && all (is_node limits) head.nodes) (every (λ c. true) cs
+          && every_top top cs) e in
+          let q = and_parts (is_slot_count limits head.length) (all (is_node limits) head.nodes) p.0 in
           let r = and_parts (every (λ c. true) cs) (every_top top cs) p.1 in
           let batch = (of_slot_count head.length).0 q.0 in
           record {
@@ -235,29 +241,31 @@ of_lengths fields head body =
             columns = (of_each_top top (λ c. pos c.slots ≡ head.length) (λ c. of_slots head.length batch.from c.slots) cs).0 r.1;
           },
       λ h.
-          and_from (is_slot_count head.length && all is_node head.nodes) (every (λ c. true) cs && every_top top cs)
+          and_from (is_slot_count limits head.length && all (is_node limits) head.nodes) (every (λ c. true) cs && every_top top cs)
           (and_from _ _ ((of_slot_count head.length).1 h.batch) (nodes.1 h.nodes))
           (and_from _ _ (every_true cs) ((of_each_top top (λ c. pos c.slots ≡ head.length)
           (λ c. of_slots head.length h.batch.from c.slots) cs).1 h.columns)),
     )
 
+-- the test of the buffers' ranges decides whether each lies in the body
 pub of_ranges : (head : BatchHead) (body : List ℕ) → Decides (all (lies_in (length body)) head.buffers) (HasRanges head body)
 of_ranges head body = Decides-by_and (lies_in (length body)) (LiesIn (length body)) (all (lies_in (length body)))
     (of_range (length body)) refl (λ _ _. refl) head.buffers
 
-pub decides : (why : Cause) (fields : List Field) (head : BatchHead) (body : List ℕ)
-    → Decides (fits (shape_of fields) head body why) (Asked why fields head body)
-decides cause.WrongNodeCount fields head body = of_head _ _ (columns_of fields head body) (Decides-eqb _ _)
-decides cause.WrongBufferCount fields head body = of_head _ _ (columns_of fields head body) (Decides-eqb _ _)
-decides cause.BadNode fields head body = of_lengths fields head body
-decides cause.BufferOutOfBody fields head body = of_head _ _ (columns_of fields head body) (of_ranges head body)
-decides cause.BufferTooShort fields head body = of_columns _ _ (columns_of fields head body) of_bytes
-decides cause.BadNullCount fields head body = of_columns _ _ (columns_of fields head body) of_null_count
-decides cause.BadOffsets fields head body =
+-- the test of each cause decides whether what the standard asks there holds
+pub decides : (limits : Limits) (why : Cause) (fields : List Field) (head : BatchHead) (body : List ℕ)
+    → Decides (fits limits (shape_of fields) head body why) (Asked limits why fields head body)
+decides limits cause.WrongNodeCount fields head body = of_head _ _ (columns_of fields head body) (Decides-eqb _ _)
+decides limits cause.WrongBufferCount fields head body = of_head _ _ (columns_of fields head body) (Decides-eqb _ _)
+decides limits cause.BadNode fields head body = of_lengths fields head body
+decides limits cause.BufferOutOfBody fields head body = of_head _ _ (columns_of fields head body) (of_ranges head body)
+decides limits cause.BufferTooShort fields head body = of_columns _ _ (columns_of fields head body) of_bytes
+decides limits cause.BadNullCount fields head body = of_columns _ _ (columns_of fields head body) of_null_count
+decides limits cause.BadOffsets fields head body =
     of_columns _ _ (columns_of fields head body) (λ c. of_order c.layout c.slots c.offsets (length c.values))
-decides cause.ValueNotUtf8 fields head body = of_tops _ _ (columns_of fields head body) of_texts
+decides limits cause.ValueNotUtf8 fields head body = of_tops _ _ (columns_of fields head body) of_texts
 
 -- a length that isn't negative is its absolute value
-pub length_is : (z : ℤ) → IsSlotCount z → z ≡ pos (unsigned_abs z)
+pub length_is : {limits : Limits} → (z : ℤ) → IsSlotCount limits z → z ≡ pos (unsigned_abs z)
 length_is (pos n) h = refl
 length_is (negsuc n) h = absurd (omega (arith, ints, h.from))

@@ -12,6 +12,7 @@ use Rattle.ipc_column.specs.declared.cell.Cell.{Cell}
 use Rattle.ipc_column.specs.declared.cell.Cell.TheVariants as cell
 use Rattle.ipc_column.specs.Values.{cell_value}
 
+-- the derived `==` calls two cells equal exactly where they show the same value
 pub same_cell : (a b : Cell) → (ghosts.eq a b ≡ true) ↔ (cell_value a ≡ cell_value b)
 same_cell cell.Null cell.Null = (λ h. refl, λ h. refl)
 same_cell (cell.Bool b) (cell.Bool c) = (

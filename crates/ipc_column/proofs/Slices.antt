@@ -56,6 +56,7 @@ pub record Places (o : List ℕ) (n size i j : ℕ) : Type 0 where
   pub last : place o j ≤ place o n
   pub inside : place o n ≤ size
 
+-- where the offsets ascend, those of two slots lie in their order, within the data
 pub places : (o : List ℕ) (n size i j : ℕ) → are_ascending o n size ≡ true → i ≤ j → j ≤ n → Places o n size i j
 places o n size i j h l m =
     let p = and_parts (int_le (pos 0) (offset o 0)) (all_below (is_ascending_at o) n && nat_le (place o n) size) h in

@@ -8,21 +8,21 @@ use Rattle.ipc_column.specs.Columns.{Column}
 use Rattle.ipc_column.specs.Rules.{text_slots, texts_in, count_of, slots_in}
 use Rattle.ipc_column.specs.Shapes.{Shape, bare, field, cut, column_at, nodes_in, buffers_in, node_at}
 use Rattle.ipc_column.specs.Checks.{all, is_node, is_slot_count}
-use Rattle.ipc_model.specs.Limits.{max_rows}
 use Rattle.ipc_model.specs.Layouts.{is_texts, own_buffers}
+use Rattle.ipc_model.specs.declared.limits.Limits.{Limits}
 
 all_at : {X : Type 0} (f : X → Bool) (xs : List X) (i : ℕ) (d : X) → all f xs ≡ true → i < length xs → f (get_or xs i d) ≡ true
 all_at f [] i d h l = absurd (omega arith)
 all_at f (x ∷ xs) zero d h l = (and_parts _ _ h).0
 all_at f (x ∷ xs) (suc i) d h l = all_at f xs i d (and_parts _ _ h).1 (omega arith)
 
-count_is : (z : ℤ) → is_slot_count z ≡ true → unsigned_abs z ≡ count_of z
-count_is (pos n) h = refl
-count_is (negsuc n) h = absurd (cc)
+count_is : (limits : Limits) (z : ℤ) → is_slot_count limits z ≡ true → unsigned_abs z ≡ count_of z
+count_is limits (pos n) h = refl
+count_is limits (negsuc n) h = absurd (cc)
 
-count-lt : (z : ℤ) → is_slot_count z ≡ true → count_of z < 2 ^ 31
-count-lt (pos n) h = let most = leb-true n max_rows (and_parts _ _ h).1 in omega (arith, most)
-count-lt (negsuc n) h = absurd (cc)
+count-lt : (limits : Limits) (z : ℤ) → is_slot_count limits z ≡ true → count_of z < 2 ^ 31
+count-lt limits (pos n) h = let most = leb-true n limits.slots (and_parts _ _ h).1 in omega (arith, most)
+count-lt limits (negsuc n) h = absurd (cc)
 
 -- the slots of nodes from one on
 slots_from : (nodes : List (ℤ × ℤ)) (n : ℕ) → n < length nodes
@@ -40,29 +40,33 @@ slots_less nodes n (suc d) l =
 text_most : (c : Column) → text_slots c ≤ c.slots
 text_most c = elim (is_texts c.layout) as (λ b. cond b c.slots 0 ≤ c.slots) [ true ↦ omega arith | false ↦ omega arith ]
 
-texts_cut : (s : Shape) (head : BatchHead) (body : List ℕ) (n b : ℕ) → all is_node head.nodes ≡ true → n + nodes_in s ≤ length head.nodes
+texts_cut : (limits : Limits) (s : Shape) (head : BatchHead) (body : List ℕ) (n b : ℕ) → all (is_node limits) head.nodes ≡ true
+    → n + nodes_in s ≤ length head.nodes
     → texts_in (cut s head body n b) + slots_in (drop (n + nodes_in s) head.nodes) ≤ slots_in (drop n head.nodes)
 unfolding cut nodes_in
-texts_cut bare head body n b h l = let e : n + 0 ≡ n = omega arith in rw e (omega arith)
-texts_cut (field layout children rest) head body n b h l =
+texts_cut limits bare head body n b h l = let e : n + 0 ≡ n = omega arith in rw e (omega arith)
+texts_cut limits (field layout children rest) head body n b h l =
     let here = slots_from head.nodes n (omega arith) in
-    let node = (and_parts _ _ (all_at is_node head.nodes n (pos 0, pos 0) h (omega arith))).0 in
+    let node = (and_parts _ _ (all_at (is_node limits) head.nodes n (pos 0, pos 0) h (omega arith))).0 in
     let own = text_most (column_at layout head body n b) in
-    let count = count_is (node_at head n).0 node in
+    let count = count_is limits (node_at head n).0 node in
     let below = slots_less head.nodes (n + 1) (nodes_in children) (omega arith) in
-    let after = texts_cut rest head body (n + 1 + nodes_in children) (b + own_buffers layout + buffers_in children) h (omega arith) in
+    let after = texts_cut limits rest head body (n + 1 + nodes_in children) (b + own_buffers layout + buffers_in children) h (omega arith)
+    in
     let end : n + (1 + nodes_in children + nodes_in rest) ≡ n + 1 + nodes_in children + nodes_in rest = omega arith in
     rw end (omega (arith, here, own, count, below, after))
 
 -- the slots of the nodes
-pub texts_most : (s : Shape) (head : BatchHead) (body : List ℕ) → all is_node head.nodes ≡ true → nodes_in s ≤ length head.nodes
+pub texts_most : (limits : Limits) (s : Shape) (head : BatchHead) (body : List ℕ) → all (is_node limits) head.nodes ≡ true
+    → nodes_in s ≤ length head.nodes
     → texts_in (cut s head body 0 0) ≤ slots_in head.nodes
-texts_most s head body h l = omega (arith, texts_cut s head body 0 0 h (omega arith))
+texts_most limits s head body h l = omega (arith, texts_cut limits s head body 0 0 h (omega arith))
 
-pub slots_most : (nodes : List (ℤ × ℤ)) → all is_node nodes ≡ true → slots_in nodes ≤ 2 ^ 31 * length nodes
-slots_most [] h = omega arith
-slots_most (node ∷ nodes) h =
+-- nodes have at most 2^31 slots each
+pub slots_most : (limits : Limits) (nodes : List (ℤ × ℤ)) → all (is_node limits) nodes ≡ true → slots_in nodes ≤ 2 ^ 31 * length nodes
+slots_most limits [] h = omega arith
+slots_most limits (node ∷ nodes) h =
     let p = and_parts _ _ h in
-    let few = count-lt node.0 (and_parts _ _ p.0).0 in
-    let rest = slots_most nodes p.1 in
+    let few = count-lt limits node.0 (and_parts _ _ p.0).0 in
+    let rest = slots_most limits nodes p.1 in
     omega (arith, few, rest)

@@ -17,7 +17,7 @@ use Rattle.ipc_column.specs.Columns.{Column, Columns, every, every_top}
 use Rattle.ipc_column.specs.Shapes.{Shape, nodes_in, buffers_in, cut}
 use Rattle.ipc_column.specs.Values.{rows_of, offset, place, between, is_valid}
 use Rattle.ipc_model.specs.declared.value.Value.{Value}
-use Rattle.ipc_model.specs.Limits.{max_rows}
+use Rattle.ipc_model.specs.declared.limits.Limits.{Limits}
 
 -- the fault that a cause is answered as
 abbrev pub fault_of : Cause → Fault
@@ -46,12 +46,12 @@ all_below f zero = true
 all_below f (suc n) = all_below f n && f n
 
 -- from 0 to the most slots
-abbrev pub is_slot_count : ℤ → Bool
-is_slot_count count = int_le (pos 0) count && int_le count (pos max_rows)
+abbrev pub is_slot_count : Limits → ℤ → Bool
+is_slot_count limits count = int_le (pos 0) count && int_le count (pos limits.slots)
 
 -- a length and a null count
-abbrev pub is_node : ℤ × ℤ → Bool
-is_node node = is_slot_count node.0 && (int_le (pos 0) node.1 && int_le node.1 node.0)
+abbrev pub is_node : Limits → ℤ × ℤ → Bool
+is_node limits node = is_slot_count limits node.0 && (int_le (pos 0) node.1 && int_le node.1 node.0)
 
 -- an offset and a length, within so many bytes
 abbrev pub lies_in : ℕ → ℤ × ℤ → Bool
@@ -60,23 +60,24 @@ lies_in size range = int_le (pos 0) range.0
     (unsigned_abs range.1 == 0 || nat_le (unsigned_abs range.0 + unsigned_abs range.1) size))
 
 -- the tests of a head
-abbrev pub head_passes : Cause → Shape → BatchHead → ℕ → Bool
-head_passes cause.WrongNodeCount shape head size = length head.nodes == nodes_in shape
-head_passes cause.WrongBufferCount shape head size = length head.buffers == buffers_in shape
-head_passes cause.BadNode shape head size = is_slot_count head.length && all is_node head.nodes
-head_passes cause.BufferOutOfBody shape head size = all (lies_in size) head.buffers
-head_passes _ shape head size = true
+abbrev pub head_passes : Limits → Cause → Shape → BatchHead → ℕ → Bool
+head_passes limits cause.WrongNodeCount shape head size = length head.nodes == nodes_in shape
+head_passes limits cause.WrongBufferCount shape head size = length head.buffers == buffers_in shape
+head_passes limits cause.BadNode shape head size = is_slot_count limits head.length
+    && all (is_node limits) head.nodes
+head_passes limits cause.BufferOutOfBody shape head size = all (lies_in size) head.buffers
+head_passes limits _ shape head size = true
 
 -- the head has as many nodes and buffers as the fields need
-pub record CountsHold (shape : Shape) (head : BatchHead) (size : ℕ) : Type 0 where
-  pub nodes : head_passes cause.WrongNodeCount shape head size ≡ true
-  pub buffers : head_passes cause.WrongBufferCount shape head size ≡ true
+pub record CountsHold (limits : Limits) (shape : Shape) (head : BatchHead) (size : ℕ) : Type 0 where
+  pub nodes : head_passes limits cause.WrongNodeCount shape head size ≡ true
+  pub buffers : head_passes limits cause.WrongBufferCount shape head size ≡ true
 
 -- a cause that is answered only where the head has
-abbrev pub IsCounted : Cause → Shape → BatchHead → ℕ → Type 0
-IsCounted cause.BadNode shape head size = CountsHold shape head size
-IsCounted cause.BufferOutOfBody shape head size = CountsHold shape head size
-IsCounted _ shape head size = ⊤
+abbrev pub IsCounted : Limits → Cause → Shape → BatchHead → ℕ → Type 0
+IsCounted limits cause.BadNode shape head size = CountsHold limits shape head size
+IsCounted limits cause.BufferOutOfBody shape head size = CountsHold limits shape head size
+IsCounted limits _ shape head size = ⊤
 
 -- a bitmap of so many bytes has n bits, or is absent
 abbrev pub has_bitmap : ℕ → ℕ → Bool
@@ -152,8 +153,8 @@ abbrev pub all_pass : Cause → ℕ → Columns → Bool
 all_pass why n cs = every (passes why) cs && every_top (top_passes why n) cs
 
 -- the tests of the parts
-abbrev pub fits : Shape → BatchHead → List ℕ → Cause → Bool
-fits shape head body why = head_passes why shape head (length body)
+abbrev pub fits : Limits → Shape → BatchHead → List ℕ → Cause → Bool
+fits limits shape head body why = head_passes limits why shape head (length body)
     && all_pass why (unsigned_abs head.length) (cut shape head body 0 0)
 
 -- n rows of the columns have values
@@ -161,32 +162,36 @@ abbrev pub Holds : ℕ → Columns → Type 0
 Holds n cs = (why : Cause) → all_pass why n cs ≡ true
 
 -- every test of the parts holds, and these are the rows of their columns
-pub record Passing (shape : Shape) (head : BatchHead) (body : List ℕ)
+pub record Passing (limits : Limits) (shape : Shape) (head : BatchHead) (body : List ℕ)
     (rows : List (List Value)) : Type 0 where
-  pub sound : (why : Cause) → fits shape head body why ≡ true
+  pub sound : (why : Cause) → fits limits shape head body why ≡ true
   pub values : rows ≡ rows_of (cut shape head body 0 0) (unsigned_abs head.length)
 
 -- every test of the head holds
-abbrev pub HeadHolds : Shape → BatchHead → List ℕ → Type 0
-HeadHolds shape head body = (why : Cause) → head_passes why shape head (length body) ≡ true
+abbrev pub HeadHolds : Limits → Shape → BatchHead → List ℕ → Type 0
+HeadHolds limits shape head body = (why : Cause)
+    → head_passes limits why shape head (length body) ≡ true
 
 -- the fault's own test fails where those before it hold, or memory ran out
-abbrev pub Failing : Fault → Shape → BatchHead → List ℕ → Type 0
-Failing fault.WrongNodeCount shape head body = fits shape head body cause.WrongNodeCount ≡ false
-Failing fault.WrongBufferCount shape head body = fits shape head body cause.WrongBufferCount ≡ false
-Failing fault.BadNode shape head body =
-    CountsHold shape head (length body) × (fits shape head body cause.BadNode ≡ false)
-Failing fault.BufferOutOfBody shape head body =
-    CountsHold shape head (length body) × (fits shape head body cause.BufferOutOfBody ≡ false)
-Failing fault.BufferTooShort shape head body =
-    HeadHolds shape head body × (fits shape head body cause.BufferTooShort ≡ false)
-Failing fault.BadNullCount shape head body =
-    HeadHolds shape head body × (fits shape head body cause.BadNullCount ≡ false)
-Failing fault.BadOffsets shape head body =
-    HeadHolds shape head body × (fits shape head body cause.BadOffsets ≡ false)
-Failing fault.ValueNotUtf8 shape head body =
-    HeadHolds shape head body × ((fits shape head body cause.BufferTooShort ≡ true)
-    × (fits shape head body cause.BadOffsets ≡ true)
-    × (fits shape head body cause.ValueNotUtf8 ≡ false))
-Failing fault.OutOfMemory shape head body = ⊤
-Failing _ shape head body = ⊥
+abbrev pub Failing : Limits → Fault → Shape → BatchHead → List ℕ → Type 0
+Failing limits fault.WrongNodeCount shape head body =
+    fits limits shape head body cause.WrongNodeCount ≡ false
+Failing limits fault.WrongBufferCount shape head body =
+    fits limits shape head body cause.WrongBufferCount ≡ false
+Failing limits fault.BadNode shape head body =
+    CountsHold limits shape head (length body) × (fits limits shape head body cause.BadNode ≡ false)
+Failing limits fault.BufferOutOfBody shape head body =
+    CountsHold limits shape head (length body)
+    × (fits limits shape head body cause.BufferOutOfBody ≡ false)
+Failing limits fault.BufferTooShort shape head body =
+    HeadHolds limits shape head body × (fits limits shape head body cause.BufferTooShort ≡ false)
+Failing limits fault.BadNullCount shape head body =
+    HeadHolds limits shape head body × (fits limits shape head body cause.BadNullCount ≡ false)
+Failing limits fault.BadOffsets shape head body =
+    HeadHolds limits shape head body × (fits limits shape head body cause.BadOffsets ≡ false)
+Failing limits fault.ValueNotUtf8 shape head body =
+    HeadHolds limits shape head body × ((fits limits shape head body cause.BufferTooShort ≡ true)
+    × (fits limits shape head body cause.BadOffsets ≡ true)
+    × (fits limits shape head body cause.ValueNotUtf8 ≡ false))
+Failing limits fault.OutOfMemory shape head body = ⊤
+Failing limits _ shape head body = ⊥

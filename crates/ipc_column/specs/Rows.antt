@@ -12,11 +12,12 @@ use Rattle.ipc_column.specs.Shapes.{columns_of}
 use Rattle.ipc_column.specs.Values.{row}
 use Rattle.ipc_column.specs.Rules.{HasNodes, HasBuffers, HasLengths, HasRanges, HasBytes}
 use Rattle.ipc_column.specs.Rules.{HasNullCounts, HasOrder, HasTexts, IsSlotCount, IsNode}
+use Rattle.ipc_model.specs.declared.limits.Limits.{Limits}
 
 -- The head and the body are a record batch of the fields (Arrow Columnar Format, "RecordBatch
 -- message"), and these are its rows: in row i stand the values of slot i, a column beside the
 -- other.
-pub record Rows (fields : List Field) (head : BatchHead) (body : List ℕ)
+pub record Rows (limits : Limits) (fields : List Field) (head : BatchHead) (body : List ℕ)
     (rows : List (List Value)) : Type 0 where
   -- each field is of a type that is read
   pub types : are_supported fields ≡ true
@@ -24,7 +25,7 @@ pub record Rows (fields : List Field) (head : BatchHead) (body : List ℕ)
   pub nodes : HasNodes fields head
   pub buffers : HasBuffers fields head
   -- the lengths are in their bounds and agree, and the ranges lie in the body
-  pub lengths : HasLengths fields head body
+  pub lengths : HasLengths limits fields head body
   pub ranges : HasRanges head body
   -- the buffers are long enough, and the null counts right
   pub bytes : HasBytes fields head body
@@ -44,35 +45,38 @@ pub record HasCounts (fields : List Field) (head : BatchHead) : Type 0 where
 
 -- and what the head says is in its bounds: the lengths, the null counts, and the ranges, which lie
 -- in the body
-pub record HasParts (fields : List Field) (head : BatchHead) (body : List ℕ) : Type 0 where
+pub record HasParts (limits : Limits) (fields : List Field) (head : BatchHead)
+    (body : List ℕ) : Type 0 where
   pub counts : HasCounts fields head
-  pub batch : IsSlotCount head.length
-  pub bounds : All IsNode head.nodes
+  pub batch : IsSlotCount limits head.length
+  pub bounds : All (IsNode limits) head.nodes
   pub ranges : HasRanges head body
 
 -- The cause of the fault is true of the parts. A node or a range is returned only where the head
 -- has as many as the fields need, a column only where all that the head says is in its bounds too,
 -- and a text only where all offsets are there and in order. Out of memory has no cause in them, and
 -- no other fault is answered.
-abbrev pub RefusesParts : Fault → List Field → BatchHead → List ℕ → Type 0
-RefusesParts fault.WrongNodeCount fields head body = ¬ HasNodes fields head
-RefusesParts fault.WrongBufferCount fields head body = ¬ HasBuffers fields head
-RefusesParts fault.BadNode fields head body = HasCounts fields head × ¬ HasLengths fields head body
-RefusesParts fault.BufferOutOfBody fields head body = HasCounts fields head × ¬ HasRanges head body
-RefusesParts fault.BufferTooShort fields head body =
-    HasParts fields head body × ¬ HasBytes fields head body
-RefusesParts fault.BadNullCount fields head body =
-    HasParts fields head body × ¬ HasNullCounts fields head body
-RefusesParts fault.BadOffsets fields head body =
-    HasParts fields head body × ¬ HasOrder fields head body
-RefusesParts fault.ValueNotUtf8 fields head body =
-    HasParts fields head body × (HasBytes fields head body × HasOrder fields head body
+abbrev pub RefusesParts : Limits → Fault → List Field → BatchHead → List ℕ → Type 0
+RefusesParts limits fault.WrongNodeCount fields head body = ¬ HasNodes fields head
+RefusesParts limits fault.WrongBufferCount fields head body = ¬ HasBuffers fields head
+RefusesParts limits fault.BadNode fields head body = HasCounts fields head
+    × ¬ HasLengths limits fields head body
+RefusesParts limits fault.BufferOutOfBody fields head body = HasCounts fields head
+    × ¬ HasRanges head body
+RefusesParts limits fault.BufferTooShort fields head body =
+    HasParts limits fields head body × ¬ HasBytes fields head body
+RefusesParts limits fault.BadNullCount fields head body =
+    HasParts limits fields head body × ¬ HasNullCounts fields head body
+RefusesParts limits fault.BadOffsets fields head body =
+    HasParts limits fields head body × ¬ HasOrder fields head body
+RefusesParts limits fault.ValueNotUtf8 fields head body =
+    HasParts limits fields head body × (HasBytes fields head body × HasOrder fields head body
     × ¬ HasTexts fields head body)
-RefusesParts fault.OutOfMemory fields head body = ⊤
-RefusesParts _ fields head body = ⊥
+RefusesParts limits fault.OutOfMemory fields head body = ⊤
+RefusesParts limits _ fields head body = ⊥
 
--- parts give one list of rows at most
+-- parts give one list of rows at most, whatever the limits
 abbrev pub IsOneList : Type 0
-IsOneList = (fields : List Field) (head : BatchHead) (body : List ℕ)
-    (rows others : List (List Value)) → Rows fields head body rows → Rows fields head body others
-    → rows ≡ others
+IsOneList = (limits others : Limits) (fields : List Field) (head : BatchHead) (body : List ℕ)
+    (rows more : List (List Value)) → Rows limits fields head body rows
+    → Rows others fields head body more → rows ≡ more

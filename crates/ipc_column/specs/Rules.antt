@@ -13,7 +13,7 @@ use Rattle.ipc_model.specs.Layouts.{number_bytes, has_validity, is_texts}
 use Rattle.ipc_column.specs.Columns.{Column, Columns, none, column, Each, EachTop}
 use Rattle.ipc_column.specs.Values.{offset, between, is_valid}
 use Rattle.ipc_column.specs.Shapes.{shape_of, nodes_in, buffers_in, columns_of}
-use Rattle.ipc_model.specs.Limits.{max_rows}
+use Rattle.ipc_model.specs.declared.limits.Limits.{Limits}
 
 -- a node for each field (Message.fbs, RecordBatch, "nodes")
 abbrev pub HasNodes : List Field → BatchHead → Type 0
@@ -24,21 +24,22 @@ abbrev pub HasBuffers : List Field → BatchHead → Type 0
 HasBuffers fields head = length head.buffers ≡ buffers_in (shape_of fields)
 
 -- from 0 to the most slots (Arrow Columnar Format, "Array lengths")
-pub record IsSlotCount (count : ℤ) : Type 0 where
+pub record IsSlotCount (limits : Limits) (count : ℤ) : Type 0 where
   pub from : pos 0 ≤ℤ count
-  pub to : count ≤ℤ pos max_rows
+  pub to : count ≤ℤ pos limits.slots
 
 -- a length, and a null count that is at most the length (Message.fbs, FieldNode)
-pub record IsNode (node : ℤ × ℤ) : Type 0 where
-  pub slots : IsSlotCount node.0
+pub record IsNode (limits : Limits) (node : ℤ × ℤ) : Type 0 where
+  pub slots : IsSlotCount limits node.0
   pub nulls_from : pos 0 ≤ℤ node.1
   pub nulls_to : node.1 ≤ℤ node.0
 
 -- the batch's length and those of its nodes; the columns are as long as the batch (Message.fbs,
 -- RecordBatch, "length")
-pub record HasLengths (fields : List Field) (head : BatchHead) (body : List ℕ) : Type 0 where
-  pub batch : IsSlotCount head.length
-  pub nodes : All IsNode head.nodes
+pub record HasLengths (limits : Limits) (fields : List Field) (head : BatchHead)
+    (body : List ℕ) : Type 0 where
+  pub batch : IsSlotCount limits head.length
+  pub nodes : All (IsNode limits) head.nodes
   pub columns : EachTop (λ c. pos c.slots ≡ head.length) (columns_of fields head body)
 
 -- a range that begins at 0 or above and that, unless it is empty, ends within so many bytes

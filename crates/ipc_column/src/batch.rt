@@ -3,7 +3,6 @@ ghost use Rattle.std.specs.Prelude.{IfSome, is_some, MatchResult, Some, slice_ge
 ghost use Rattle.std.specs.List.{AllByRecursion};
 ghost use Rattle.ipc_model.specs.declared.value.Value.{Value};
 ghost use Rattle.ipc_model.specs.Entries.{entries};
-ghost use Rattle.ipc_model.specs.Limits.{max_fields};
 ghost use Rattle.ipc_meta.specs.Supported.{are_supported};
 ghost use Rattle.ipc_column.specs.Rules.{texts_in, slots_in};
 ghost use Rattle.ipc_column.specs.Shapes.{shape_of, nodes_in, columns_of, cut};
@@ -21,7 +20,7 @@ use crate::rows::rows_in;
 use crate::validate::check_columns;
 use crate::values::numbers_in;
 use ipc_meta::BatchHead;
-use ipc_model::{Fault, Field, Items, Row};
+use ipc_model::{Fault, Field, Items, Limits, Row};
 use std::alloc::{AllocError, Global};
 use std::collections::BTreeMap;
 use std::marker::Model;
@@ -72,10 +71,16 @@ fn share(alloc: Global, shared: Shared) -> Result<Batch, AllocError>
 }
 
 // The rows of fields, as far as the head and the body give them.
-fn read(alloc: Global, fields: &[Field], head: &BatchHead, body: Vec<u8>) -> Result<Batch, Fault>
-    requires { nodes_in (shape_of fields.now) ≤ max_fields }
+fn read(
+    alloc: Global,
+    limits: &Limits,
+    fields: &[Field],
+    head: &BatchHead,
+    body: Vec<u8>,
+) -> Result<Batch, Fault>
+    requires { nodes_in (shape_of fields.now) ≤ limits.now.fields }
     ensures passing { IfOk result
-        (λ batch. Passing (shape_of fields.now) head.now body.items batch.rows) }
+        (λ batch. Passing limits.now (shape_of fields.now) head.now body.items batch.rows) }
     ensures columns { IfOk result (λ batch. batch.columns ≡ length fields.now) }
     ensures lent { IfOk result (λ batch. batch.lent
         ≡ lent_of (cut (shape_of fields.now) head.now body.items 0 0)) }
@@ -84,9 +89,9 @@ fn read(alloc: Global, fields: &[Field], head: &BatchHead, body: Vec<u8>) -> Res
         ≤ texts_in (cut (shape_of fields.now) head.now body.items 0 0)) }
     ensures slots { IfOk result (λ batch. batch.tests ≤ slots_in head.now.nodes) }
     ensures failing { IfErr result
-        (λ fault. Failing fault (shape_of fields.now) head.now body.items) }
+        (λ fault. Failing limits.now fault (shape_of fields.now) head.now body.items) }
 {
-    check_head(fields, head, body.len())?;
+    check_head(limits, fields, head, body.len())?;
     let (parts, _) = assign_buffers(alloc, fields, head, Cursor { node: 0, buffer: 0 })?;
     let count = head.length.unsigned_abs() as usize;
     let slot_tests = check_columns(&body, &parts, count)?;
@@ -129,21 +134,24 @@ impl Batch {
     /// (Message.fbs, RecordBatch; Arrow Columnar Format, "RecordBatch message").
     pub fn check(
         alloc: Global,
+        limits: &Limits,
         fields: Rc<Vec<Field>>,
         head: BatchHead,
         body: Vec<u8>,
         _dictionaries: &BTreeMap<i64, Rc<Batch>>,
     ) -> Result<Batch, Fault>
         requires read { are_supported fields.value.items ≡ true }
-        requires few { length (entries fields.value.items) ≤ max_fields }
+        requires few { length (entries fields.value.items) ≤ limits.now.fields }
         // What is answered are the rows of the parts.
-        ensures rows { IfOk result (λ batch. Rows fields.value.items head body.items batch.rows) }
+        ensures rows { IfOk result (λ batch. Rows limits.now fields.value.items head body.items
+            batch.rows) }
         // Where the parts give rows, these are answered, unless memory runs out.
-        ensures only { (rows : List (List Value)) → Rows fields.value.items head body.items rows
+        ensures only { (rows : List (List Value))
+            → Rows limits.now fields.value.items head body.items rows
             → MatchResult result (λ batch. batch.rows ≡ rows) (λ fault. fault ≡ Fault.OutOfMemory) }
         // A refusal is true of the parts.
         ensures refused { IfErr result
-            (λ fault. RefusesParts fault fields.value.items head body.items) }
+            (λ fault. RefusesParts limits.now fault fields.value.items head body.items) }
         ensures columns { IfOk result (λ batch. batch.columns ≡ length fields.value.items) }
         // Lent as they lie are the columns of signed 64-bit numbers without a validity bitmap.
         ensures lent { IfOk result (λ batch. batch.lent
@@ -154,7 +162,7 @@ impl Batch {
             (λ batch. batch.tests ≤ texts_in (columns_of fields.value.items head body.items)) }
         ensures tests { IfOk result (λ batch. batch.tests ≤ slots_in head.nodes) }
     {
-        read(alloc, fields.as_slice(), &head, body)
+        read(alloc, limits, fields.as_slice(), &head, body)
     }
 
     /// How many rows there are.

@@ -1,5 +1,4 @@
 ghost use Rattle.std.specs.Prelude.{◌≡◌, ◌≤◌, true, IfErr};
-ghost use Rattle.ipc_model.specs.Limits.{max_fields};
 ghost use Rattle.ipc_column.specs.Checks.{Judges, IsCounted, all, is_slot_count, is_node, lies_in};
 ghost use Rattle.ipc_column.specs.Checks.{head_passes};
 ghost use Rattle.ipc_column.specs.Shapes.{shape_of, nodes_in};
@@ -7,22 +6,18 @@ ghost use Rattle.ipc_column.specs.Shapes.{shape_of, nodes_in};
 use crate::assign::{Cursor, count};
 use crate::cause::Cause;
 use ipc_meta::BatchHead;
-use ipc_model::Field;
-use ipc_model::limits::MAX_ROWS;
+use ipc_model::{Field, Limits};
 
-// The most slots, a signed number as their count is stated.
-const MAX_SLOTS: i64 = MAX_ROWS as i64;
-
-fn is_slot_count(count: i64) -> bool
-    ensures { result ≡ is_slot_count count }
+fn is_slot_count(limits: &Limits, count: i64) -> bool
+    ensures { result ≡ is_slot_count limits.now count }
 {
-    0 <= count && count <= MAX_SLOTS
+    0 <= count && count <= limits.slots as i64
 }
 
-fn is_node(node: (i64, i64)) -> bool
-    ensures { result ≡ is_node node }
+fn is_node(limits: &Limits, node: (i64, i64)) -> bool
+    ensures { result ≡ is_node limits.now node }
 {
-    is_slot_count(node.0) && 0 <= node.1 && node.1 <= node.0
+    is_slot_count(limits, node.0) && 0 <= node.1 && node.1 <= node.0
 }
 
 fn lies_in(size: usize, range: (i64, i64)) -> bool
@@ -34,12 +29,12 @@ fn lies_in(size: usize, range: (i64, i64)) -> bool
             || range.0.unsigned_abs() as usize + range.1.unsigned_abs() as usize <= size)
 }
 
-fn are_nodes(nodes: &[(i64, i64)]) -> bool
-    ensures { result ≡ all is_node nodes.now }
+fn are_nodes(limits: &Limits, nodes: &[(i64, i64)]) -> bool
+    ensures { result ≡ all (is_node limits.now) nodes.now }
 {
     let mut good = true;
     for node in nodes {
-        good = good && is_node(*node);
+        good = good && is_node(limits, *node);
     }
     good
 }
@@ -57,10 +52,17 @@ fn lie_in(size: usize, buffers: &[(i64, i64)]) -> bool
 /// Whether the head has the nodes and buffers that the fields need, with lengths in their bounds
 /// and ranges within `size` bytes.
 #[tactic(auto, using(crate::proofs::Fields::buffers_most))]
-pub(crate) fn check_head(fields: &[Field], head: &BatchHead, size: usize) -> Result<(), Cause>
-    requires { nodes_in (shape_of fields.now) ≤ max_fields }
-    ensures judged { Judges result (λ why. head_passes why (shape_of fields.now) head.now size) }
-    ensures counted { IfErr result (λ why. IsCounted why (shape_of fields.now) head.now size) }
+pub(crate) fn check_head(
+    limits: &Limits,
+    fields: &[Field],
+    head: &BatchHead,
+    size: usize,
+) -> Result<(), Cause>
+    requires { nodes_in (shape_of fields.now) ≤ limits.now.fields }
+    ensures judged { Judges result (λ why. head_passes limits.now why (shape_of fields.now)
+        head.now size) }
+    ensures counted { IfErr result (λ why. IsCounted limits.now why (shape_of fields.now) head.now
+        size) }
 {
     let wanted = count(fields, Cursor { node: 0, buffer: 0 });
     if head.nodes.len() != wanted.node {
@@ -69,7 +71,7 @@ pub(crate) fn check_head(fields: &[Field], head: &BatchHead, size: usize) -> Res
     if head.buffers.len() != wanted.buffer {
         return Err(Cause::WrongBufferCount);
     }
-    if !is_slot_count(head.length) || !are_nodes(head.nodes.as_slice()) {
+    if !is_slot_count(limits, head.length) || !are_nodes(limits, head.nodes.as_slice()) {
         return Err(Cause::BadNode);
     }
     if !lie_in(size, head.buffers.as_slice()) {

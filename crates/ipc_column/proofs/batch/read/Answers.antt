@@ -34,16 +34,17 @@ returns-clause-passing c =
 
 pub returns-in_err-check_head-clause-failing : goal.returns-in_err-check_head-clause-failing
 returns-in_err-check_head-clause-failing c =
-    exits c.from_residual.result _ (shape_of c.args.fields.now) c.args.head.now c.args.body.items c.from_residual.ensures.1
-    (head_failing c.in_err-check_head.field-0.0 (shape_of c.args.fields.now) c.args.head.now c.args.body.items
+    exits c.args.limits.now c.from_residual.result _ (shape_of c.args.fields.now) c.args.head.now c.args.body.items
+    c.from_residual.ensures.1
+    (head_failing c.args.limits.now c.in_err-check_head.field-0.0 (shape_of c.args.fields.now) c.args.head.now c.args.body.items
     (rw (c.len.ensures ∙ c.args.body.ok.0) at c.in_err-check_head.ensures.judged)
     (rw (c.len.ensures ∙ c.args.body.ok.0) at c.in_err-check_head.ensures.counted))
 
 pub returns-in_err-slot_tests-clause-failing : goal.returns-in_err-slot_tests-clause-failing
 returns-in_err-slot_tests-clause-failing c =
-    exits c.from_residual-in_err-slot_tests.result _
+    exits c.args.limits.now c.from_residual-in_err-slot_tests.result _
     (shape_of c.args.fields.now) c.args.head.now c.args.body.items c.from_residual-in_err-slot_tests.ensures.1
-    (columns_failing c.in_err-slot_tests.field-0.0
+    (columns_failing c.args.limits.now c.in_err-slot_tests.field-0.0
     (shape_of c.args.fields.now) c.args.head.now c.args.body.items c.unsigned_abs-count.result _ (search rules)
     (c.in_ok-parts.ensures.parts c.args.body.items)
     (λ why. rw (c.len.ensures ∙ c.args.body.ok.0) at (c.in_ok-check_head.ensures.judged why))
@@ -53,20 +54,20 @@ returns-in_err-slot_tests-clause-failing c =
 pub check_columns-requires : goal.check_columns-requires
 check_columns-requires c =
     let nodes = eqb-true _ _ (c.in_ok-check_head.ensures.judged cause.WrongNodeCount) in
-    let good : all is_node c.args.head.now.nodes ≡ true =
-    (and_parts (is_slot_count c.args.head.now.length) (all is_node c.args.head.now.nodes)
+    let good : all (is_node c.args.limits.now) c.args.head.now.nodes ≡ true =
+    (and_parts (is_slot_count c.args.limits.now c.args.head.now.length) (all (is_node c.args.limits.now) c.args.head.now.nodes)
     (c.in_ok-check_head.ensures.judged cause.BadNode)).1 in
-    let most = texts_most (shape_of c.args.fields.now) c.args.head.now c.args.body.items good (omega (arith, nodes)) in
-    let few = slots_most c.args.head.now.nodes good in
+    let most = texts_most c.args.limits.now (shape_of c.args.fields.now) c.args.head.now c.args.body.items good (omega (arith, nodes)) in
+    let few = slots_most c.args.limits.now c.args.head.now.nodes good in
     rw (c.deref.ensures.value, c.deref-2.ensures.value, c.in_ok-parts.ensures.parts c.args.body.items) (omega (arith, most, few, nodes))
 
 pub returns-clause-slots : goal.returns-clause-slots
 returns-clause-slots c =
     let nodes = eqb-true _ _ (c.in_ok-check_head.ensures.judged cause.WrongNodeCount) in
-    let good : all is_node c.args.head.now.nodes ≡ true =
-    (and_parts (is_slot_count c.args.head.now.length) (all is_node c.args.head.now.nodes)
+    let good : all (is_node c.args.limits.now) c.args.head.now.nodes ≡ true =
+    (and_parts (is_slot_count c.args.limits.now c.args.head.now.length) (all (is_node c.args.limits.now) c.args.head.now.nodes)
     (c.in_ok-check_head.ensures.judged cause.BadNode)).1 in
-    let most = texts_most (shape_of c.args.fields.now) c.args.head.now c.args.body.items good (omega (arith, nodes)) in
+    let most = texts_most c.args.limits.now (shape_of c.args.fields.now) c.args.head.now c.args.body.items good (omega (arith, nodes)) in
     let visited = rw (c.deref.ensures.value, c.deref-2.ensures.value, c.in_ok-parts.ensures.parts c.args.body.items) at
     c.in_ok-slot_tests.ensures.visited in
     rw c.in_ok-share.ensures (omega (arith, visited, most))

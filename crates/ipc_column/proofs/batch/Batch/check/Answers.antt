@@ -8,17 +8,17 @@ read-requires c = rw (c.as_slice.ensures.value, c.deref.ensures) (omega (arith, 
 
 pub returns-clause-rows : goal.returns-clause-rows
 returns-clause-rows c =
-    ok_rows c.args.fields.value.items c.args.head c.args.body.items c.read.result c.requires.read
+    ok_rows c.args.limits.now c.args.fields.value.items c.args.head c.args.body.items c.read.result c.requires.read
     (rw (c.as_slice.ensures.value, c.deref.ensures) at c.read.ensures.passing)
 
 pub returns-clause-refused : goal.returns-clause-refused
-returns-clause-refused c = err_refuses c.args.fields.value.items c.args.head c.args.body.items c.read.result
+returns-clause-refused c = err_refuses c.args.limits.now c.args.fields.value.items c.args.head c.args.body.items c.read.result
     (rw (c.as_slice.ensures.value, c.deref.ensures) at c.read.ensures.failing)
 
 pub returns-clause-only : goal.returns-clause-only
 returns-clause-only c =
     only_rows c.args.fields.value.items c.args.head c.args.body.items c.read.result
-    (ok_rows c.args.fields.value.items c.args.head c.args.body.items c.read.result c.requires.read
+    (ok_rows c.args.limits.now c.args.fields.value.items c.args.head c.args.body.items c.read.result c.requires.read
     (rw (c.as_slice.ensures.value, c.deref.ensures) at c.read.ensures.passing))
-    (err_refuses c.args.fields.value.items c.args.head c.args.body.items c.read.result
+    (err_refuses c.args.limits.now c.args.fields.value.items c.args.head c.args.body.items c.read.result
     (rw (c.as_slice.ensures.value, c.deref.ensures) at c.read.ensures.failing))
