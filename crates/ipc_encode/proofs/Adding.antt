@@ -16,11 +16,13 @@ use Rattle.ipc_encode.specs.Writing.{Shows, AreStored, AllStored}
 
 -- ---- lists of buffers
 
+-- the bytes of some buffers and then others are those of the first and then those of the others
 pub joined_append : (xs ys : List (List ℕ)) → joined (xs ++ ys) ≡ joined xs ++ joined ys
 joined_append [] ys = refl
 joined_append (x ∷ xs) ys = ap (λ (bs : List ℕ). padded_buffer x ++ bs) (joined_append xs ys)
     ∙ sym (append_assoc (padded_buffer x) (joined xs) (joined ys))
 
+-- the ranges of some buffers and then others are those of the first, and those of the others behind their bytes
 pub ranges_append : (xs ys : List (List ℕ)) (start : ℕ)
     → ranges_from start (xs ++ ys) ≡ ranges_from start xs ++ ranges_from (start + length (joined xs)) ys
 ranges_append [] ys start = ap (λ (n : ℕ). ranges_from n ys) (omega arith)
@@ -39,6 +41,7 @@ adds_body d e xs ys whole a before =
     ∙ (append_assoc d.body.items (joined xs) (joined ys)
     ∙ (ap (λ (bs : List ℕ). d.body.items ++ bs) (sym (joined_append xs ys)) ∙ before))
 
+-- what is added of ranges beside what is left
 pub adds_ranges : (d e : Draft) (xs ys : List (List ℕ)) (whole : List (ℤ × ℤ)) → Adds d e xs
     → d.buffers.items ++ ranges_from (length d.body.items) (xs ++ ys) ≡ whole
     → e.buffers.items ++ ranges_from (length e.body.items) ys ≡ whole

@@ -11,6 +11,7 @@ use Rattle.ipc_encode.specs.declared.pieces.Flag.TheVariants.{Valid}
 use Rattle.ipc_encode.specs.Bitmaps.{flags_number, flags_bytes, bitmap}
 use Rattle.ipc_encode.specs.Cells.{is_set, flags, nulls}
 
+-- flags that are packed in n bytes have n bytes
 pub length_bytes : (n : ℕ) (fs : List Bool) → length (flags_bytes n fs) ≡ n
 length_bytes zero fs = refl
 length_bytes (suc n) fs = ap (λ (k : ℕ). suc k) (length_bytes n (drop 8 fs))
@@ -52,10 +53,12 @@ bit_is fs i l =
     ∙ (get_or-drop (8 * (i / 8)) fs (i % 8) false ∙ ap (λ (k : ℕ). get_or fs k false) place) in
     rw (byte, own, flag) (truth (get_or fs i false))
 
+-- there is a flag for each value
 pub flags_length : (which : Flag) (vs : List Value) → length (flags which vs) ≡ length vs
 flags_length which [] = refl
 flags_length which (v ∷ vs) = ap (λ (k : ℕ). suc k) (flags_length which vs)
 
+-- flag i is that of value i
 pub flag_at : (which : Flag) (vs : List Value) (i : ℕ) (d : Value) → i < length vs
     → get_or (flags which vs) i false ≡ is_set which (get_or vs i d)
 flag_at which [] i d l = absurd (omega arith)

@@ -14,6 +14,8 @@ use Rattle.ipc_model.specs.Entries.{entries}
 use Rattle.ipc_model.specs.declared.schema.DataType.{DataType}
 use Rattle.ipc_model.specs.declared.schema.DataType.TheVariants as t
 use Rattle.ipc_model.specs.declared.schema.DateUnit.TheVariants.{Day, Millisecond}
+use Rattle.ipc_model.specs.declared.schema.TimeUnit.{TimeUnit}
+use Rattle.ipc_model.specs.declared.schema.TimeUnit.TheVariants as u
 use Rattle.ipc_model.specs.declared.schema.Dictionary.{Dictionary}
 use Rattle.ipc_model.specs.declared.schema.Field.{Field, out-Field}
 use Rattle.ipc_model.specs.declared.value.Value.{Value, out-Value}
@@ -23,7 +25,8 @@ use Rattle.ipc_meta.specs.Supported.{is_supported_type, are_supported}
 use Rattle.ipc_meta.specs.declared.head.BatchHead.{BatchHead}
 use Rattle.ipc_model.specs.declared.layout.Layout.{Layout}
 use Rattle.ipc_model.specs.declared.layout.Layout.TheVariants as l
-use Rattle.ipc_model.specs.Layouts.{layout, type_layout, own_buffers}
+use Rattle.ipc_model.specs.Layouts.{layout, type_layout, own_buffers, time_bits}
+use Rattle.ipc_model.specs.Ranges.{width, IsSignedWithin, IsTimeOfDay}
 use Rattle.ipc_column.specs.Columns.{Column, Columns, none, column, Each, EachTop}
 use Rattle.ipc_column.specs.Shapes.{Shape, field, shape_of, field_shape, nodes_in, buffers_in, node_at, buffer_at, column_at, cut}
 use Rattle.ipc_column.specs.Shapes.{columns_of}
@@ -50,6 +53,7 @@ abbrev pub written : ℕ → List Field → List (List Value) → Columns
 written j [] rows = none
 written j (f ∷ fs) rows = column (column_of (layout_of f) (cells j rows)) none (written (j + 1) fs rows)
 
+-- as many buffers are written for a column as its layout has
 pub own_length : (l : Layout) (vs : List Value) → length (b.buffers_in (pieces l (nulls vs)) vs) ≡ own_buffers l
 own_length l.Null vs = refl
 own_length l.Bits vs = refl
@@ -58,9 +62,11 @@ own_length (l.FixedBytes width) vs = refl
 own_length (l.VariableBytes utf8) vs = refl
 own_length l.Unsupported vs = refl
 
+-- the buffers of a batch from the n-th on have these bytes
 abbrev pub BuffersAt : BatchHead → List ℕ → ℕ → List (List ℕ) → Type 0
 BuffersAt head body n bs = (k : ℕ) → k < length bs → buffer_at head body (n + k) ≡ get_or bs k []
 
+-- a column whose node and buffers were written is cut out of the body again
 pub column_back : (l : Layout) (vs : List Value) (head : BatchHead) (body : List ℕ) (n m : ℕ)
     → node_at head n ≡ (pos (length vs), pos (nulls vs)) → BuffersAt head body m (b.buffers_in (pieces l (nulls vs)) vs)
     → column_at l head body n m ≡ column_of l vs
@@ -121,13 +127,16 @@ column_back (l.VariableBytes utf8) vs head body n m e h =
       values = third i;
     }
 
+-- the nodes of a batch from the n-th on are these
 abbrev pub NodesAt : BatchHead → ℕ → List (ℤ × ℤ) → Type 0
 NodesAt head n ns = (k : ℕ) → k < length ns → node_at head (n + k) ≡ get_or ns k (pos 0, pos 0)
 
+-- a node is written for each field
 pub nodes_length : (fs : List Field) (j : ℕ) (rows : List (List Value)) → length (nodes_from j fs rows) ≡ length fs
 nodes_length [] j rows = refl
 nodes_length (f ∷ fs) j rows = ap (λ (k : ℕ). suc k) (nodes_length fs (j + 1) rows)
 
+-- the columns whose nodes and buffers were written are cut out of the body again
 pub cut_back : (fs : List Field) (j : ℕ) (rows : List (List Value)) (head : BatchHead) (body : List ℕ) (n m : ℕ) → AllByRecursion IsFlat fs
     → NodesAt head n (nodes_from j fs rows) → BuffersAt head body m (buffers_from j fs rows)
     → cut (shape_of fs) head body n m ≡ written j fs rows
@@ -166,19 +175,23 @@ pub record IsGood (f : Field) (vs : List Value) : Type 0 where
   pub held : AllHeld (layout_of f) vs
   pub short : IsShort (layout_of f) vs
 
+-- in the columns from column j on the layouts hold all values, and the data is within the reach of offsets
 abbrev pub AllGood : ℕ → List Field → List (List Value) → Type 0
 AllGood j [] rows = ⊤
 AllGood j (f ∷ fs) rows = IsGood f (cells j rows) × AllGood (j + 1) fs rows
 
+-- what follows of two facts of each element follows of the facts of all
 pub all_both : {X : Type 0} (P Q R : X → Type 0) → ((x : X) → P x → Q x → R x) → (xs : List X) → AllByRecursion P xs → AllByRecursion Q xs
     → AllByRecursion R xs
 all_both P Q R f [] p q = tt
 all_both P Q R f (x ∷ xs) p q = (f x p.0 q.0, all_both P Q R f xs p.1 q.1)
 
+-- what follows of a fact of each element follows of the fact of all
 pub all_one : {X : Type 0} (P R : X → Type 0) → ((x : X) → P x → R x) → (xs : List X) → AllByRecursion P xs → AllByRecursion R xs
 all_one P R f [] p = tt
 all_one P R f (x ∷ xs) p = (f x p.0, all_one P R f xs p.1)
 
+-- what says nothing holds of all
 pub all_top : {X : Type 0} (xs : List X) → AllByRecursion (λ x. ⊤) xs
 all_top [] = tt
 all_top (x ∷ xs) = (tt, all_top xs)
@@ -188,6 +201,7 @@ abbrev pub Known : Layout → Value-F Value → Type 0
 Known (l.VariableBytes utf8) w = SpellsOut w
 Known _ w = ⊤
 
+-- each text is UTF-8 in a column whose texts are
 pub known : (l : Layout) (vs : List Value) → AreStored l vs → AllByRecursion (λ v. Known l (out-Value v)) vs
 known (l.VariableBytes utf8) vs h = h
 known (l.Numbers bits signed) vs h = all_top vs
@@ -195,6 +209,13 @@ known l.Null vs h = all_top vs
 known l.Bits vs h = all_top vs
 known (l.FixedBytes width) vs h = all_top vs
 known l.Unsupported vs h = all_top vs
+
+-- a time of day fits the bits of its unit
+time_fits : (unit : TimeUnit) (z : ℤ) → IsTimeOfDay unit z → IsSignedWithin (width (time_bits unit)) z
+time_fits u.Second z h = let from = h.0 in let to = h.1 in (omega (arith, ints), omega (arith, ints))
+time_fits u.Millisecond z h = let from = h.0 in let to = h.1 in (omega (arith, ints), omega (arith, ints))
+time_fits u.Microsecond z h = let from = h.0 in let to = h.1 in (omega (arith, ints), omega (arith, ints))
+time_fits u.Nanosecond z h = let from = h.0 in let to = h.1 in (omega (arith, ints), omega (arith, ints))
 
 -- a value of a type's own is held by its layout
 pub held : (kind : DataType) (nullable : Bool) (n : ℕ) (w : Value-F Value) → is_supported_type kind ≡ true → IsOwn kind nullable n w
@@ -227,6 +248,12 @@ held (t.Date Day) nullable n _ o h m = absurd h
 held (t.Date Millisecond) nullable n Value-F.Null o h m = tt
 held (t.Date Millisecond) nullable n (Value-F.Int z) o h m = h.0
 held (t.Date Millisecond) nullable n _ o h m = absurd h
+held (t.Time unit) nullable n Value-F.Null o h m = tt
+held (t.Time unit) nullable n (Value-F.Int z) o h m = time_fits unit z h
+held (t.Time unit) nullable n _ o h m = absurd h
 held (t.Timestamp unit timezone) nullable n Value-F.Null o h m = tt
 held (t.Timestamp unit timezone) nullable n (Value-F.Int z) o h m = h
 held (t.Timestamp unit timezone) nullable n _ o h m = absurd h
+held (t.Duration unit) nullable n Value-F.Null o h m = tt
+held (t.Duration unit) nullable n (Value-F.Int z) o h m = h
+held (t.Duration unit) nullable n _ o h m = absurd h

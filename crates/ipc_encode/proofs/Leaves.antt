@@ -20,6 +20,7 @@ use Rattle.ipc_model.specs.declared.layout.Layout.{Layout}
 use Rattle.ipc_column.specs.Shapes.{Shape, bare, field_shape, field_step, shapes}
 use Rattle.ipc_encode.specs.Buffers.{layout_of}
 use Rattle.ipc_encode.specs.Cells.{cell, cells}
+use Rattle.ipc_model.specs.declared.limits.Limits.{Limits}
 
 -- a field without children or dictionary, of a type that is read
 pub record IsFlat (f : Field) : Type 0 where
@@ -37,7 +38,9 @@ no_children t.Binary n o h = h
 no_children t.Utf8 n o h = h
 no_children (t.FixedSizeBinary width) n o h = h
 no_children (t.Date unit) n o h = h
+no_children (t.Time unit) n o h = h
 no_children (t.Timestamp unit timezone) n o h = h
+no_children (t.Duration unit) n o h = h
 
 no_dictionary : (kind : DataType) (d : Option Dictionary) → is_supported kind d ≡ true → (is_supported_type kind ≡ true) × (d ≡ None)
 no_dictionary kind None h = (h, refl)
@@ -64,20 +67,22 @@ all_left P [] ys h = h
 all_left P (x ∷ xs) ys h = all_left P xs ys h.1
 
 -- what the first of the entries says
-first_fine : (f : Field) (rest : List Entry) → AllByRecursion IsFieldWellFormed (preorder f 1 ++ rest)
+first_fine : (limits : Limits) (f : Field) (rest : List Entry) → AllByRecursion (IsFieldWellFormed limits) (preorder f 1 ++ rest)
     → HasFittingChildren (out-Field f).kind (length (out-Field f).children)
-first_fine f rest h =
+first_fine limits f rest h =
     let layer = map-Field Field Listing preorder (out-Field f) in
-    let here : AllByRecursion IsFieldWellFormed (preorder_step layer 1 ++ rest) =
-    subst (λ (l : Listing). AllByRecursion IsFieldWellFormed (l 1 ++ rest)) (fold_out-Field Listing preorder_step f) h in
+    let here : AllByRecursion (IsFieldWellFormed limits) (preorder_step layer 1 ++ rest) =
+    subst (λ (l : Listing). AllByRecursion (IsFieldWellFormed limits) (l 1 ++ rest)) (fold_out-Field Listing preorder_step f) h in
     subst (λ (n : ℕ). HasFittingChildren (out-Field f).kind n) (length-map (out-Field f).children preorder) here.0.fitting_children
 
-pub flats : (fs : List Field) → are_supported fs ≡ true → AllByRecursion IsFieldWellFormed (entries fs) → AllByRecursion IsFlat fs
-flats [] o h = tt
-flats (f ∷ fs) o h =
+-- the fields of a well formed schema whose types are supported have no children and no dictionary
+pub flats : (limits : Limits) (fs : List Field) → are_supported fs ≡ true → AllByRecursion (IsFieldWellFormed limits) (entries fs)
+    → AllByRecursion IsFlat fs
+flats limits [] o h = tt
+flats limits (f ∷ fs) o h =
     let parts = and_parts (is_supported_field f) (are_supported fs) o in (
-      flat f parts.0 (first_fine f (all_at 1 (map preorder fs)) h),
-      flats fs parts.1 (all_left IsFieldWellFormed (preorder f 1) (all_at 1 (map preorder fs)) h),
+      flat f parts.0 (first_fine limits f (all_at 1 (map preorder fs)) h),
+      flats limits fs parts.1 (all_left (IsFieldWellFormed limits) (preorder f 1) (all_at 1 (map preorder fs)) h),
     )
 
 -- ---- values that fit
@@ -95,6 +100,7 @@ own f v h =
 abbrev pub FitFrom : ℕ → List Field → List (List Value) → Type 0
 FitFrom j fs rows = AllByRecursion (λ row. (length row ≡ j + length fs) × EachFits Fits fs (drop j row)) rows
 
+-- rows that fit the fields fit them from column 0 on
 pub fit_start : (fs : List Field) (rows : List (List Value)) → AllByRecursion (RowFits fs) rows → FitFrom 0 fs rows
 fit_start fs [] h = tt
 fit_start fs (row ∷ rows) h = ((omega (arith, h.0.0), h.0.1), fit_start fs rows h.1)

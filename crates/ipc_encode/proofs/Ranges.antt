@@ -22,6 +22,7 @@ bytes_behind front b more =
     omega (arith, length-append front (b ++ more), length-append b more) in
     rw (le-leb (length front + length b) (length (front ++ (b ++ more))) inside) (cut_behind front b more)
 
+-- there is a range for each buffer
 pub ranges_length : (bs : List (List ℕ)) (start : ℕ) → length (ranges_from start bs) ≡ length bs
 ranges_length [] start = refl
 ranges_length (b ∷ bs) start = ap (λ (k : ℕ). suc k) (ranges_length bs (start + length (padded_buffer b)))
@@ -44,6 +45,7 @@ buffer_back (b ∷ bs) front (suc k) l =
     (sym (length-append front (padded_buffer b)))
     ∙ buffer_back bs (front ++ padded_buffer b) k (omega arith))
 
+-- the ranges of buffers lie within a body that has room for all of them
 pub ranges_inside : (bs : List (List ℕ)) (start size : ℕ) → start + length (joined bs) ≤ size
     → AllByRecursion (LiesIn size) (ranges_from start bs)
 ranges_inside [] start size h = tt

@@ -143,6 +143,7 @@ null_held : (value : Value) (w : Value-F Value) → out-Value value ≡ w → Ho
 null_held value Value-F.Null e h = null_is value e
 null_held value _ e h = absurd h
 
+-- slot i of a column that was written has the i-th of its values
 pub value_is : (l : Layout) (vs : List Value) (i : ℕ) → i < length vs → AllHeld l vs → IsShort l vs
     → value_of (column_of l vs) i ≡ get_or vs i v.Null
 value_is l.Null vs i k all short = null_held (get_or vs i v.Null) (out-Value (get_or vs i v.Null)) refl (held_at l.Null vs i v.Null all k)

@@ -36,18 +36,22 @@ use Rattle.ipc_encode.proofs.Ranges.{cut_behind}
 
 -- ---- a column as it is written
 
+-- the bytes of the validity bitmap that is written, none where no value is null
 abbrev pub validity_bytes : List Value → List ℕ
 validity_bytes vs = piece_bytes (validity (nulls vs)) vs
 
+-- the bytes of the validity bitmap in a column of this layout
 abbrev pub validity_in : Layout → List Value → List ℕ
 validity_in l.Null vs = []
 validity_in l.Unsupported vs = []
 validity_in _ vs = validity_bytes vs
 
+-- the bytes of the offsets in a column of this layout
 abbrev pub offsets_in : Layout → List Value → List ℕ
 offsets_in (l.VariableBytes utf8) vs = offsets vs
 offsets_in _ vs = []
 
+-- the bytes of the values in a column of this layout
 abbrev pub values_in : Layout → List Value → List ℕ
 values_in l.Bits vs = bitmap (flags True vs)
 values_in (l.Numbers bits signed) vs = slots (Number bits) vs
@@ -55,6 +59,7 @@ values_in (l.FixedBytes width) vs = slots (Fixed width) vs
 values_in (l.VariableBytes utf8) vs = slots Content vs
 values_in _ vs = []
 
+-- the column of this layout that is written for these values
 abbrev pub column_of : Layout → List Value → Column
 column_of l vs = record {
   layout = l;
@@ -77,9 +82,11 @@ Holds (l.VariableBytes false) (Value-F.Bytes bytes) = ⊤
 Holds (l.VariableBytes true) (Value-F.Text text) = IsUtf8 text
 Holds _ w = ⊥
 
+-- each of the values is held by the layout
 abbrev pub AllHeld : Layout → List Value → Type 0
 AllHeld l vs = AllByRecursion (λ v. Holds l (out-Value v)) vs
 
+-- where a layout holds all values, it holds the i-th
 pub held_at : (l : Layout) (vs : List Value) (i : ℕ) (d : Value) → AllHeld l vs → i < length vs → Holds l (out-Value (get_or vs i d))
 held_at l [] i d h k = absurd (omega arith)
 held_at l (v ∷ vs) zero d h k = h.0
@@ -87,11 +94,13 @@ held_at l (v ∷ vs) (suc i) d h k = held_at l vs i d h.1 (omega arith)
 
 -- ---- validity
 
+-- no more of the values are null than there are
 pub nulls_most : (vs : List Value) → nulls vs ≤ length vs
 nulls_most [] = omega arith
 nulls_most (v ∷ vs) = let h = nulls_most vs in elim (is_set Valid v) as (λ b. cond b 0 1 + nulls vs ≤ suc (length vs))
     [ true ↦ omega (arith, h) | false ↦ omega (arith, h) ]
 
+-- where no value is null, each is valid
 pub no_null : (vs : List Value) (i : ℕ) (d : Value) → nulls vs ≡ 0 → i < length vs → is_set Valid (get_or vs i d) ≡ true
 no_null [] i d e k = absurd (omega arith)
 no_null (v ∷ vs) zero d e k = first (is_set Valid v) e
@@ -101,6 +110,7 @@ no_null (v ∷ vs) zero d e k = first (is_set Valid v) e
     first false e = absurd (omega arith)
 no_null (v ∷ vs) (suc i) d e k = no_null vs i d (omega (arith, e)) (omega arith)
 
+-- a validity bitmap has one bit for each value, rounded up to whole bytes
 pub bitmap_length : (vs : List Value) → length (bitmap (flags Valid vs)) ≡ (length vs + 7) / 8
 bitmap_length vs = length_bytes _ _ ∙ ap (λ (n : ℕ). (n + 7) / 8) (flags_length Valid vs)
 
@@ -112,6 +122,7 @@ validity_cases P vs none some =
       | false ↦ λ e. some
     ] refl
 
+-- a slot is valid exactly where its value is not null
 pub valid_is : (vs : List Value) (i : ℕ) (d : Value) → i < length vs → is_valid (validity_bytes vs) i ≡ is_set Valid (get_or vs i d)
 valid_is vs i d k =
     validity_cases (λ bytes. is_valid bytes i ≡ is_set Valid (get_or vs i d)) vs (λ none. sym (no_null vs i d none k)) some
@@ -123,6 +134,7 @@ valid_is vs i d k =
 
 -- ---- slots
 
+-- the bytes of all slots are those before slot i, its own and those behind it
 pub slots_split : (which : ValueSlot) (vs : List Value) (i : ℕ) (d : Value) → i < length vs
     → slots which vs ≡ slots which (take i vs) ++ (slot_bytes which (get_or vs i d) ++ slots which (drop (suc i) vs))
 slots_split which [] i d k = absurd (omega arith)
@@ -135,12 +147,14 @@ slots_split which (v ∷ vs) (suc i) d k =
 abbrev pub Wide : ValueSlot → ℕ → List Value → Type 0
 Wide which w vs = AllByRecursion (λ v. length (slot_bytes which v) ≡ w) vs
 
+-- slots of w bytes each have w bytes for each value
 pub wide_length : (which : ValueSlot) (w : ℕ) (vs : List Value) → Wide which w vs → length (slots which vs) ≡ w * length vs
 wide_length which w [] h = omega arith
 wide_length which w (v ∷ vs) h =
     let e : w * suc (length vs) ≡ w + w * length vs = omega arith in
     omega (arith, e, h.0, wide_length which w vs h.1, length-append (slot_bytes which v) (slots which vs))
 
+-- the first i slots of w bytes each have w * i bytes
 pub wide_front : (which : ValueSlot) (w : ℕ) (vs : List Value) (i : ℕ) → Wide which w vs → i ≤ length vs
     → length (slots which (take i vs)) ≡ w * i
 wide_front which w vs zero h k = omega arith
@@ -149,16 +163,19 @@ wide_front which w (v ∷ vs) (suc i) h k =
     let e : w * suc i ≡ w + w * i = omega arith in
     omega (arith, e, h.0, wide_front which w vs i h.1 (omega arith), length-append (slot_bytes which v) (slots which (take i vs)))
 
+-- each slot of numbers has the bytes of their width
 pub numbers_wide : (bits : IntBits) (vs : List Value) → Wide (Number bits) (number_bytes bits) vs
 numbers_wide bits [] = tt
 numbers_wide bits (v ∷ vs) = (length_low_bytes 0 (number_bytes bits) (number_bits v), numbers_wide bits vs)
 
+-- a value of fixed-size binary has as many bytes as its width
 pub fixed_length : (width : ℕ) (v : Value) (w : Value-F Value) → out-Value v ≡ w → Holds (l.FixedBytes width) w
     → length (fixed width v) ≡ width
 fixed_length width v Value-F.Null e h = rw e (length-replicate width 0)
 fixed_length width v (Value-F.Bytes bytes) e h = rw e h
 fixed_length width v _ e h = absurd h
 
+-- each slot of fixed-size binary has as many bytes as its width
 pub fixed_wide : (width : ℕ) (vs : List Value) → AllHeld (l.FixedBytes width) vs → Wide (Fixed width) width vs
 fixed_wide width [] h = tt
 fixed_wide width (v ∷ vs) h = (fixed_length width v (out-Value v) refl h.0, fixed_wide width vs h.1)
@@ -190,6 +207,7 @@ fixed_back width vs i d h k =
 
 -- ---- offsets
 
+-- the end of each slot is a number of 4 bytes
 pub ends_length : (start : ℕ) (vs : List Value) → length (ends start vs) ≡ 4 * length vs
 ends_length start [] = omega arith
 ends_length start (v ∷ vs) =
@@ -218,6 +236,7 @@ ends_back (v ∷ vs) front start (suc i) k =
     ∙ (ap (λ (m : ℕ). num ((front ++ own) ++ (bytes_low_first 0 4 next ++ ends next vs)) m 4) place
     ∙ (later ∙ ap (λ (m : ℕ). m % 2 ^ 32) sum))
 
+-- the data before slot i is no longer than all data
 pub front_most : (vs : List Value) (i : ℕ) → length (slots Content (take i vs)) ≤ length (slots Content vs)
 front_most vs zero = omega arith
 front_most [] (suc i) = omega arith
@@ -235,6 +254,7 @@ offset_is vs i k short =
     ∙ (ends_back vs [] 0 i k ∙ ap (λ (m : ℕ). m % 2 ^ 32) (let e : 0 + n ≡ n = omega arith in e)) in
     ap (cast_signed w32) (back ∙ mod-eq_of_lt (omega (arith, most, short))) ∙ to_z_pos w32 n (omega (arith, most, short))
 
+-- the data between offset i and the next one is the content of value i
 pub between_is : (vs : List Value) (i : ℕ) (d : Value) → i < length vs → length (slots Content vs) ≤ 2 ^ 31 - 1
     → between (offsets vs) (slots Content vs) i ≡ content (get_or vs i d)
 between_is vs i d k short =
@@ -264,6 +284,7 @@ between_is vs i d k short =
 
 -- ---- the facts of a column
 
+-- the buffers that are written are long enough for their slots
 pub long_enough : (l : Layout) (vs : List Value) → AllHeld l vs → IsLongEnough (column_of l vs)
 long_enough lay vs h = record { bitmap = bitmap_there lay; values = values_there lay h; offsets = offsets_there lay }
   where
@@ -291,6 +312,7 @@ long_enough lay vs h = record { bitmap = bitmap_there lay; values = values_there
     offsets_there (l.VariableBytes utf8) = λ some. let e = ends_length 0 vs in omega (arith, e)
     offsets_there _ = tt
 
+-- the null count that is written is the number of the bitmap's clear bits
 pub counts_nulls : (l : Layout) (vs : List Value) → AllHeld l vs → CountsNulls (column_of l vs)
 counts_nulls lay vs h = record { with_bitmap = there lay; without_bitmap = absent lay h }
   where
@@ -328,6 +350,7 @@ abbrev pub IsShort : Layout → List Value → Type 0
 IsShort (l.VariableBytes utf8) vs = length (slots Content vs) ≤ 2 ^ 31 - 1
 IsShort _ vs = ⊤
 
+-- the offsets that are written begin at 0 and ascend within the data
 pub in_order : (l : Layout) (vs : List Value) → IsShort l vs → HasOffsets l (length vs) (offsets_in l vs) (length (values_in l vs))
 in_order (l.VariableBytes utf8) vs short = λ some there. record { from = first; order = λ i k. next i k; to = last }
   where
@@ -354,12 +377,14 @@ in_order (l.VariableBytes utf8) vs short = λ some there. record { from = first;
     last = let most = front_most vs (length vs) in rw (offset_is vs (length vs) (omega arith) short) (omega (arith, ints, most))
 in_order _ vs short = tt
 
+-- the content of a text that is not null is UTF-8
 pub spelled : (w : Value-F Value) (v : Value) → out-Value v ≡ w → Holds (l.VariableBytes true) w → is_set Valid v ≡ true
     → IsUtf8 (content v)
 spelled Value-F.Null v e h s = absurd (let f : is_set Valid v ≡ false = rw e refl in cc)
 spelled (Value-F.Text text) v e h s = rw e h
 spelled _ v e h s = absurd h
 
+-- each slot of texts that is written is UTF-8
 pub spells_texts : (l : Layout) (vs : List Value) → AllHeld l vs → IsShort l vs → SpellsTexts (column_of l vs)
 spells_texts (l.VariableBytes true) vs h short = λ i k valid.
     let value = get_or vs i v.Null in

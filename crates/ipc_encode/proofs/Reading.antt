@@ -43,6 +43,7 @@ use Rattle.ipc_encode.proofs.Readback.{value_is}
 use Rattle.ipc_encode.proofs.ReadbackParts.{column_of, Holds, AllHeld, IsShort, nulls_most, long_enough, counts_nulls, in_order}
 use Rattle.ipc_encode.proofs.ReadbackParts.{spells_texts}
 use Rattle.ipc_encode.proofs.HeldValues.{written, own_length, nodes_length, cut_back, AllGood, all_both, Known, known, held}
+use Rattle.ipc_model.specs.declared.limits.Limits.{Limits}
 
 all_held : (f : Field) (vs : List Value) → IsFlat f → AllByRecursion (IsOf f) vs → AreStored (layout_of f) vs → AllHeld (layout_of f) vs
 all_held f vs flat fits spells =
@@ -141,9 +142,10 @@ buffers_count (f ∷ fs) j rows flat =
     let size = own_length (layout_of f) (cells j rows) in
     omega (arith, rest, own, none, size, length-append (column_buffers f (cells j rows)) (buffers_from (j + 1) fs rows))
 
-are_nodes : (fs : List Field) (j : ℕ) (rows : List (List Value)) → length rows < 2 ^ 31 → AllByRecursion IsNode (nodes_from j fs rows)
-are_nodes [] j rows few = tt
-are_nodes (f ∷ fs) j rows few =
+are_nodes : (limits : Limits) (fs : List Field) (j : ℕ) (rows : List (List Value)) → length rows ≤ limits.slots
+    → AllByRecursion (IsNode limits) (nodes_from j fs rows)
+are_nodes limits [] j rows few = tt
+are_nodes limits (f ∷ fs) j rows few =
     let most = nulls_most (cells j rows) in
     let size = cells_length j rows in
     let inside : nulls (cells j rows) ≤ length rows = omega (arith, most, size) in (
@@ -152,7 +154,7 @@ are_nodes (f ∷ fs) j rows few =
         nulls_from = omega (arith, ints);
         nulls_to = omega (arith, ints, inside);
       },
-      are_nodes fs (j + 1) rows few,
+      are_nodes limits fs (j + 1) rows few,
     )
 
 abbrev head_of : List Field → List (List Value) → BatchHead
@@ -163,15 +165,15 @@ head_of fields rows = record {
 }
 
 -- the parts that rows are written as give the rows
-pub rows_back : (fields : List Field) (rows : List (List Value)) → are_supported fields ≡ true
-    → AllByRecursion IsFieldWellFormed (entries fields) → AllByRecursion (RowFits fields) rows → IsWithin fields rows
+pub rows_back : {limits : Limits} → (fields : List Field) (rows : List (List Value)) → are_supported fields ≡ true
+    → AllByRecursion (IsFieldWellFormed limits) (entries fields) → AllByRecursion (RowFits fields) rows → IsWithin limits fields rows
     → AllStored 0 fields rows
-    → Rows fields (head_of fields rows) (body_of fields rows) rows
-rows_back fields rows o fine fits within spells =
+    → Rows limits fields (head_of fields rows) (body_of fields rows) rows
+rows_back {limits} fields rows o fine fits within spells =
     let head = head_of fields rows in
     let body = body_of fields rows in
-    let flat = flats fields o fine in
-    let few : length rows < 2 ^ 31 = elim (cases_lt (2 ^ 31 - 1) (length rows)) as (λ _. length rows < 2 ^ 31)
+    let flat = flats limits fields o fine in
+    let few : length rows ≤ limits.slots = elim (cases_lt limits.slots (length rows)) as (λ _. length rows ≤ limits.slots)
     [ inl x ↦ absurd (within.few x) | inr g ↦ omega (arith, g) ] in
     let good = goods fields 0 rows flat (fit_start fields rows fits) spells (λ x. within.short (inl x)) in
     let e : columns_of fields head body ≡ written 0 fields rows =
@@ -184,7 +186,7 @@ rows_back fields rows o fine fits within spells =
       buffers = ranges_length (buffers_of fields rows) 0 ∙ sym (buffers_count fields 0 rows flat);
       lengths = record {
         batch = record { from = omega (arith, ints); to = omega (arith, ints, few) };
-        nodes = All-from_recursion IsNode (nodes_from 0 fields rows) (are_nodes fields 0 rows few);
+        nodes = All-from_recursion (IsNode limits) (nodes_from 0 fields rows) (are_nodes limits fields 0 rows few);
         columns = subst (λ (cs : Columns). EachTop (λ c. pos c.slots ≡ pos (length rows)) cs) (sym e) (slots_top fields 0 rows);
       };
       ranges = All-from_recursion (LiesIn (length body)) (ranges_from 0 (buffers_of fields rows))
@@ -204,14 +206,19 @@ rows_back fields rows o fine fits within spells =
     }
 
 -- the same of any parts that are these lists
-pub rows_of_parts : (fields : List Field) (rows : List (List Value)) (nodes buffers : List (ℤ × ℤ)) (body : List ℕ)
-    → are_supported fields ≡ true → AllByRecursion IsFieldWellFormed (entries fields) → AllByRecursion (RowFits fields) rows
-    → IsWithin fields rows
+pub rows_of_parts : {limits : Limits} → (fields : List Field) (rows : List (List Value)) (nodes buffers : List (ℤ × ℤ)) (body : List ℕ)
+    → are_supported fields ≡ true → AllByRecursion (IsFieldWellFormed limits) (entries fields) → AllByRecursion (RowFits fields) rows
+    → IsWithin limits fields rows
     → AllStored 0 fields rows → nodes ≡ nodes_from 0 fields rows → buffers ≡ ranges_from 0 (buffers_of fields rows)
     → body ≡ body_of fields rows
-    → Rows fields (record { length = pos (length rows); nodes = nodes; buffers = buffers }) body rows
-rows_of_parts fields rows nodes buffers body o fine fits within spells n r b =
-    subst (λ (bytes : List ℕ). Rows fields (record { length = pos (length rows); nodes = nodes; buffers = buffers }) bytes rows) (sym b)
-    (subst (λ (head : BatchHead). Rows fields head (body_of fields rows) rows)
+    → Rows limits fields (record { length = pos (length rows); nodes = nodes; buffers = buffers }) body rows
+rows_of_parts {limits} fields rows nodes buffers body o fine fits within spells n r b =
+    subst (λ (bytes : List ℕ). Rows limits fields (record {
+      length = pos (length rows);
+      nodes = nodes;
+      buffers =
+          buffers;
+    }) bytes rows) (sym b)
+    (subst (λ (head : BatchHead). Rows limits fields head (body_of fields rows) rows)
     (λ i. record { length = pos (length rows); nodes = (sym n) i; buffers = (sym r) i })
     (rows_back fields rows o fine fits within spells))

@@ -1,22 +1,30 @@
 -- What is done so far beside what is left of the rows.
 use Rattle.std.proofs.Common.{◌≡◌, ◌∙◌, refl, sym, ap, ℕ, zero, suc, ◌+◌, ◌-◌, ◌*◌, ◌/◌, ◌^◌, ◌<◌, ◌≤◌, Bool, true, false, cond, List, []}
 use Rattle.std.proofs.Common.{◌∷◌, ◌++◌, length, take, drop, take_all, get_or, add-one, drop-cons, drop-drop, append_assoc, length-append}
-use Rattle.std.proofs.Common.{length-drop, arith, inl, inr}
+use Rattle.std.proofs.Common.{length-drop, arith, inl, inr, ⊎_elim, subst, Result, Ok, Err, IfErr}
 use Rattle.std.specs.Prelude.{slice_range, min}
 use Rattle.std.proofs.lemmas.Bool.{cases_lt}
 use Rattle.std.proofs.Math.Pow.{pow_mono}
+use Rattle.ipc_model.specs.declared.fault.WriteFault.{WriteFault}
+use Rattle.ipc_model.specs.declared.fault.WriteFault.TheVariants as fault
+use Rattle.ipc_model.specs.declared.limits.Limits.{Limits}
 use Rattle.ipc_model.specs.declared.value.Value.{Value}
 use Rattle.ipc_encode.specs.declared.pieces.Flag.{Flag}
+use Rattle.ipc_encode.specs.declared.pieces.Piece.{Piece}
+use Rattle.ipc_encode.specs.declared.pieces.Piece.TheVariants as p
+use Rattle.ipc_encode.specs.Writing.{IsRefusedAt}
 use Rattle.ipc_encode.specs.Bitmaps.{flags_number, flags_bytes, bitmap}
 use Rattle.ipc_encode.specs.Cells.{cell, cells, is_set, flags}
 use Rattle.ipc_encode.proofs.Bits.{flags_length}
 
 -- ---- the values that are left
 
+-- a column has a cell for each row
 pub cells_length : (j : ℕ) (rows : List (List Value)) → length (cells j rows) ≡ length rows
 cells_length j [] = refl
 cells_length j (row ∷ rows) = ap (λ (k : ℕ). suc k) (cells_length j rows)
 
+-- a column's cells from row i on are the one in that row and those behind it
 pub cells_from : (j : ℕ) (rows : List (List Value)) (i : ℕ) (row : List Value) → i < length rows → row ≡ get_or rows i row
     → cells j (drop i rows) ≡ cell j row ∷ cells j (drop (i + 1) rows)
 cells_from j rows i row l e = rw (drop-cons rows i row) (rw (← e, add-one) refl)
@@ -85,6 +93,7 @@ take_eight rows k =
       | inr g ↦ let e : min (length rows) (8 * k + 8) - 8 * k ≡ 8 = omega arith in ap (λ (n : ℕ). take n (drop (8 * k) rows)) e
     ]
 
+-- before its first byte is written all of a bitmap is left
 pub flags_start : (which : Flag) (j : ℕ) (rows : List (List Value))
     → flags_bytes ((length rows + 7) / 8 - 0) (flags which (cells j rows)) ≡ bitmap (flags which (cells j rows))
 flags_start which j rows =
@@ -125,3 +134,16 @@ pub past_limit : (limit : ℕ) (front rest old more : List ℕ) → front ++ res
 past_limit limit front rest old more e h =
     let size = ap (λ (bs : List ℕ). length bs) e in
     omega (arith, size, h, length-append front rest, length-append old more)
+
+-- ---- offsets
+
+-- offsets that aren't written whatever the body's length are not written where it has this one
+pub offsets_refused : (limits : Limits) (piece : Piece) (values : List Value) (size : ℕ) (r : Result Unit WriteFault) → piece ≡ p.Offsets
+    → IfErr r (λ fault. (any : Limits) → IsRefusedAt any p.Offsets values 0 fault) → IfErr r (IsRefusedAt limits piece values size)
+offsets_refused limits piece values size r is h = subst (λ q. IfErr r (IsRefusedAt limits q values size)) (sym is) (by_answer r h)
+  where
+    by_answer : (r : Result Unit WriteFault) → IfErr r (λ fault. (any : Limits) → IsRefusedAt any p.Offsets values 0 fault)
+        → IfErr r (IsRefusedAt limits p.Offsets values size)
+    by_answer (Ok x) h = h
+    by_answer (Err fault.TooLong) h = ⊎_elim inl (λ none. absurd (omega (arith, none))) (h limits)
+    by_answer (Err e) h = h limits

@@ -9,11 +9,12 @@ use Rattle.ipc_model.specs.declared.layout.Layout.TheVariants as l
 use Rattle.ipc_encode.specs.declared.pieces.ValueSlot.TheVariants.{Content}
 use Rattle.ipc_encode.specs.Cells.{cells, slots}
 use Rattle.ipc_encode.specs.Buffers.{layout_of, body_of}
-use Rattle.ipc_model.specs.Limits.{max_body, max_data, max_rows}
+use Rattle.ipc_model.specs.Limits.{max_data}
+use Rattle.ipc_model.specs.declared.limits.Limits.{Limits}
 
 -- more rows than a length of 32 bits counts (Arrow Columnar Format, "Array lengths")
-abbrev pub IsTooMany : List (List Value) → Type 0
-IsTooMany rows = max_rows < length rows
+abbrev pub IsTooMany : Limits → List (List Value) → Type 0
+IsTooMany limits rows = limits.slots < length rows
 
 -- more bytes than an offset of 32 bits counts (Arrow Columnar Format, "Variable-size Binary
 -- Layout")
@@ -32,17 +33,19 @@ SomeLongData j (f ∷ fs) rows =
     HasLongData (layout_of f) (cells j rows) ⊎ SomeLongData (j + 1) fs rows
 
 -- a binary or UTF-8 column has more data than its offsets reach, or the body would be too long
-abbrev pub IsTooLong : List Field → List (List Value) → Type 0
-IsTooLong fields rows = SomeLongData 0 fields rows ⊎ (max_body < length (body_of fields rows))
+abbrev pub IsTooLong : Limits → List Field → List (List Value) → Type 0
+IsTooLong limits fields rows = SomeLongData 0 fields rows
+    ⊎ (limits.body < length (body_of fields rows))
 
 -- the rows are within the limits
-pub record IsWithin (fields : List Field) (rows : List (List Value)) : Type 0 where
-  pub few : ¬ IsTooMany rows
-  pub short : ¬ IsTooLong fields rows
+pub record IsWithin (limits : Limits) (fields : List Field) (rows : List
+    (List Value)) : Type 0 where
+  pub few : ¬ IsTooMany limits rows
+  pub short : ¬ IsTooLong limits fields rows
 
 -- why rows aren't written: W6 and W8 with their cause, or out of memory
-abbrev pub IsRefused : List Field → List (List Value) → WriteFault → Type 0
-IsRefused fields rows fault.TooLong = IsTooLong fields rows
-IsRefused fields rows fault.TooManyRows = IsTooMany rows
-IsRefused fields rows fault.OutOfMemory = ⊤
-IsRefused fields rows _ = ⊥
+abbrev pub IsRefused : Limits → List Field → List (List Value) → WriteFault → Type 0
+IsRefused limits fields rows fault.TooLong = IsTooLong limits fields rows
+IsRefused limits fields rows fault.TooManyRows = IsTooMany limits rows
+IsRefused limits fields rows fault.OutOfMemory = ⊤
+IsRefused limits fields rows _ = ⊥

@@ -16,7 +16,8 @@ use Rattle.ipc_encode.specs.Cells.{cells, slots, HasUtf8}
 use Rattle.ipc_encode.specs.Buffers.{layout_of, joined, nodes_from, ranges_from, buffers_of}
 use Rattle.ipc_encode.specs.Buffers.{body_of}
 use Rattle.ipc_encode.specs.Limits.{HasLongData}
-use Rattle.ipc_model.specs.Limits.{max_body, max_data}
+use Rattle.ipc_model.specs.Limits.{max_data}
+use Rattle.ipc_model.specs.declared.limits.Limits.{Limits}
 
 -- ---- of one buffer
 
@@ -32,10 +33,10 @@ Shows (p.Slots Content) values = AllByRecursion HasUtf8 values
 Shows _ values = ⊤
 
 -- why a buffer isn't written that would make a body so long
-abbrev pub IsRefusedAt : Piece → List Value → ℕ → WriteFault → Type 0
-IsRefusedAt piece values size fault.TooLong = HasLong piece values ⊎ (max_body < size)
-IsRefusedAt piece values size fault.OutOfMemory = ⊤
-IsRefusedAt piece values size _ = ⊥
+abbrev pub IsRefusedAt : Limits → Piece → List Value → ℕ → WriteFault → Type 0
+IsRefusedAt limits piece values size fault.TooLong = HasLong piece values ⊎ (limits.body < size)
+IsRefusedAt limits piece values size fault.OutOfMemory = ⊤
+IsRefusedAt limits piece values size _ = ⊥
 
 -- one of these buffers
 abbrev pub SomeLong : List Piece → List Value → Type 0
@@ -44,10 +45,10 @@ SomeLong (piece ∷ more) values = HasLong piece values ⊎ SomeLong more values
 
 -- why the buffers of a column aren't written: a value's data or the body is too long, or memory
 -- ran out
-abbrev pub AreRefusedAt : List Piece → List Value → ℕ → WriteFault → Type 0
-AreRefusedAt pieces values size fault.TooLong = SomeLong pieces values ⊎ (max_body < size)
-AreRefusedAt pieces values size fault.OutOfMemory = ⊤
-AreRefusedAt pieces values size _ = ⊥
+abbrev pub AreRefusedAt : Limits → List Piece → List Value → ℕ → WriteFault → Type 0
+AreRefusedAt limits pieces values size fault.TooLong = SomeLong pieces values ⊎ (limits.body < size)
+AreRefusedAt limits pieces values size fault.OutOfMemory = ⊤
+AreRefusedAt limits pieces values size _ = ⊥
 
 -- ---- of one column
 
@@ -66,10 +67,11 @@ AllStored j [] rows = ⊤
 AllStored j (f ∷ fs) rows = AreStored (layout_of f) (cells j rows) × AllStored (j + 1) fs rows
 
 -- why a column isn't written that would make a body so long
-abbrev pub IsColumnRefusedAt : Field → List Value → ℕ → WriteFault → Type 0
-IsColumnRefusedAt f values size fault.TooLong = HasLongData (layout_of f) values ⊎ (max_body < size)
-IsColumnRefusedAt f values size fault.OutOfMemory = ⊤
-IsColumnRefusedAt f values size _ = ⊥
+abbrev pub IsColumnRefusedAt : Limits → Field → List Value → ℕ → WriteFault → Type 0
+IsColumnRefusedAt limits f values size fault.TooLong = HasLongData (layout_of f) values
+    ⊎ (limits.body < size)
+IsColumnRefusedAt limits f values size fault.OutOfMemory = ⊤
+IsColumnRefusedAt limits f values size _ = ⊥
 
 -- ---- of a draft
 

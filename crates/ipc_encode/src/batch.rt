@@ -5,7 +5,6 @@ ghost use Rattle.ipc_model.specs.WellFormed.{IsFieldWellFormed};
 ghost use Rattle.ipc_model.specs.Entries.{entries};
 ghost use Rattle.ipc_meta.specs.Supported.{are_supported};
 ghost use Rattle.ipc_column.specs.Rows.{Rows};
-ghost use Rattle.ipc_model.specs.Limits.{max_body};
 ghost use Rattle.ipc_encode.specs.Buffers.{AreLaidOut};
 ghost use Rattle.ipc_encode.specs.Writing.{IsDrafted};
 ghost use Rattle.ipc_encode.specs.Limits.{IsWithin, IsRefused};
@@ -13,11 +12,8 @@ ghost use Rattle.ipc_encode.specs.Writing.{AllStored};
 
 use crate::draft::{Draft, add_column};
 use crate::index::IndexOf;
-use ipc_model::{Field, Items, Row, WriteFault, limits};
+use ipc_model::{Field, Items, Limits, Row, WriteFault};
 use std::alloc::Global;
-
-// The most rows of a batch.
-const MAX_ROWS: usize = limits::MAX_ROWS as usize;
 
 /// What rows are written as (Message.fbs, RecordBatch).
 #[derive(Debug, Drop)]
@@ -44,20 +40,21 @@ pub struct Parts {
 /// bytes; a buffer's length is without its padding. There is a validity bitmap only where a value
 /// is null. A null slot is zeros, false or an empty range, and offsets begin at 0.
 ///
-/// Refused with W8 `TooManyRows` where there are more than 2^31 - 1 rows; with W6 `TooLong` where a
-/// binary or UTF-8 column has more than 2^31 - 1 bytes of data, or the body would have more than
-/// 2^40 bytes; with W11 `OutOfMemory` where a list can't grow.
+/// Refused with W8 `TooManyRows` where there are more than `limits.slots` rows; with W6 `TooLong`
+/// where a binary or UTF-8 column has more than 2^31 - 1 bytes of data, whatever the limits, or the
+/// body would have more than `limits.body` bytes; with W11 `OutOfMemory` where a list can't grow.
 pub fn encode<I: IndexOf>(
     alloc: Global,
+    limits: &Limits,
     fields: &[Field],
     rows: &[Row],
     _indices: &I,
 ) -> Result<Parts, WriteFault>
-    requires fine { AllByRecursion IsFieldWellFormed (entries fields.now) }
+    requires fine { AllByRecursion (IsFieldWellFormed limits.now) (entries fields.now) }
     requires conform { AllByRecursion (RowFits fields.now) rows.now }
     // The parts give these rows back.
     ensures rows { IfOk result (λ parts. are_supported fields.now ≡ true
-        → Rows fields.now (record {
+        → Rows limits.now fields.now (record {
           length = pos (length rows.now);
           nodes = parts.nodes;
           buffers = parts.buffers;
@@ -67,13 +64,14 @@ pub fn encode<I: IndexOf>(
         (λ parts. are_supported fields.now ≡ true → AreLaidOut fields.now rows.now parts) }
     // What is written is within the limits.
     ensures within { IfOk result
-        (λ parts. are_supported fields.now ≡ true → IsWithin fields.now rows.now) }
-    ensures body { IfOk result (λ parts. length parts.body.items ≤ max_body) }
+        (λ parts. are_supported fields.now ≡ true → IsWithin limits.now fields.now rows.now) }
+    ensures body { IfOk result (λ parts. length parts.body.items ≤ limits.now.body) }
     // A refusal is true of the rows.
     ensures refused { IfErr result
-        (λ fault. are_supported fields.now ≡ true → IsRefused fields.now rows.now fault) }
+        (λ fault. are_supported fields.now ≡ true
+        → IsRefused limits.now fields.now rows.now fault) }
 {
-    let draft = draft_of(alloc, fields, rows)?;
+    let draft = draft_of(alloc, limits, fields, rows)?;
     let Draft {
         nodes,
         buffers,
@@ -87,14 +85,19 @@ pub fn encode<I: IndexOf>(
 }
 
 // The nodes and buffers of all columns.
-fn draft_of(alloc: Global, fields: &[Field], rows: &[Row]) -> Result<Draft, WriteFault>
+fn draft_of(
+    alloc: Global,
+    limits: &Limits,
+    fields: &[Field],
+    rows: &[Row],
+) -> Result<Draft, WriteFault>
     ensures laid_out { IfOk result (λ draft. IsDrafted fields.now rows.now draft) }
-    ensures within { IfOk result (λ draft. IsWithin fields.now rows.now) }
+    ensures within { IfOk result (λ draft. IsWithin limits.now fields.now rows.now) }
     ensures stored { IfOk result (λ draft. AllStored 0 fields.now rows.now) }
-    ensures body { IfOk result (λ draft. length draft.body.items ≤ max_body) }
-    ensures refused { IfErr result (IsRefused fields.now rows.now) }
+    ensures body { IfOk result (λ draft. length draft.body.items ≤ limits.now.body) }
+    ensures refused { IfErr result (IsRefused limits.now fields.now rows.now) }
 {
-    if rows.len() > MAX_ROWS {
+    if rows.len() > limits.slots as usize {
         return Err(WriteFault::TooManyRows);
     }
     let mut draft = Draft {
@@ -103,7 +106,7 @@ fn draft_of(alloc: Global, fields: &[Field], rows: &[Row]) -> Result<Draft, Writ
         body: Vec::new(alloc),
     };
     for (column, field) in fields.iter().enumerate() {
-        add_column(&mut draft, field, rows, column)?;
+        add_column(limits, &mut draft, field, rows, column)?;
     }
     Ok(draft)
 }

@@ -1,7 +1,7 @@
 ghost use Rattle.std.specs.Prelude.{◌≡◌, ◌≤◌, ◌<◌, ◌+◌, ◌-◌, ◌%◌, ◌^◌, ◌++◌, ℕ, pos, [], ◌∷◌};
 ghost use Rattle.std.specs.Prelude.{length, replicate, OnOk, IfErr};
 ghost use Rattle.std.specs.List.{AllByRecursion};
-ghost use Rattle.ipc_model.specs.Limits.{max_body, max_rows};
+ghost use Rattle.ipc_model.specs.Greatest.{greatest_slots};
 ghost use Rattle.ipc_encode.specs.Buffers.{buffers_in, column_buffers, joined, layout_of};
 ghost use Rattle.ipc_encode.specs.Buffers.{piece_bytes};
 ghost use Rattle.ipc_encode.specs.Cells.{cells, nulls};
@@ -12,8 +12,8 @@ ghost use Rattle.ipc_encode.specs.Writing.{AreStored};
 
 use crate::cells::count_nulls;
 use crate::pieces::{Piece, pieces_of};
-use crate::slots::{MAX_BODY, write_piece};
-use ipc_model::{Field, Row, WriteFault};
+use crate::slots::write_piece;
+use ipc_model::{Field, Limits, Row, WriteFault};
 use std::alloc::{AllocError, Global};
 
 /// A record batch as far as it is written.
@@ -36,27 +36,28 @@ fn pad(body: &mut Vec<u8>, len: usize) -> Result<(), AllocError>
 
 // Adds one buffer of a column.
 fn add_buffer(
+    limits: &Limits,
     draft: &mut Draft,
     rows: &[Row],
     column: usize,
     piece: Piece,
 ) -> Result<(), WriteFault>
-    requires few { length rows.now ≤ max_rows }
-    requires body { length draft.old.body.items ≤ max_body }
+    requires few { length rows.now ≤ greatest_slots }
+    requires body { length draft.old.body.items ≤ limits.now.body }
     ensures nodes { OnOk result (draft.new.nodes.items ≡ draft.old.nodes.items) }
     ensures adds { OnOk result
         (Adds draft.old draft.new (piece_bytes piece (cells column rows.now) ∷ [])) }
     ensures shows { OnOk result (Shows piece (cells column rows.now)) }
-    ensures body { OnOk result (length draft.new.body.items ≤ max_body) }
-    ensures err { IfErr result (IsRefusedAt piece (cells column rows.now)
+    ensures body { OnOk result (length draft.new.body.items ≤ limits.now.body) }
+    ensures err { IfErr result (IsRefusedAt limits.now piece (cells column rows.now)
         (length (draft.old.body.items
         ++ joined (piece_bytes piece (cells column rows.now) ∷ [])))) }
 {
     let start = draft.body.len();
-    write_piece(&mut draft.body, rows, column, piece)?;
+    write_piece(limits, &mut draft.body, rows, column, piece)?;
     let len = draft.body.len() - start;
     pad(&mut draft.body, len)?;
-    if draft.body.len() > MAX_BODY {
+    if draft.body.len() > limits.body as usize {
         return Err(WriteFault::TooLong);
     }
     draft.buffers.push((start as i64, len as i64))?;
@@ -65,24 +66,25 @@ fn add_buffer(
 
 // Adds these buffers of a column.
 fn add_buffers(
+    limits: &Limits,
     draft: &mut Draft,
     rows: &[Row],
     column: usize,
     pieces: &[Piece],
 ) -> Result<(), WriteFault>
-    requires few { length rows.now ≤ max_rows }
-    requires body { length draft.old.body.items ≤ max_body }
+    requires few { length rows.now ≤ greatest_slots }
+    requires body { length draft.old.body.items ≤ limits.now.body }
     ensures nodes { OnOk result (draft.new.nodes.items ≡ draft.old.nodes.items) }
     ensures adds { OnOk result
         (Adds draft.old draft.new (buffers_in pieces.now (cells column rows.now))) }
     ensures shows { OnOk result
         (AllByRecursion (λ piece. Shows piece (cells column rows.now)) pieces.now) }
-    ensures body { OnOk result (length draft.new.body.items ≤ max_body) }
-    ensures err { IfErr result (AreRefusedAt pieces.now (cells column rows.now)
+    ensures body { OnOk result (length draft.new.body.items ≤ limits.now.body) }
+    ensures err { IfErr result (AreRefusedAt limits.now pieces.now (cells column rows.now)
         (length (draft.old.body.items ++ joined (buffers_in pieces.now (cells column rows.now))))) }
 {
     for piece in pieces {
-        add_buffer(draft, rows, column, *piece)?;
+        add_buffer(limits, draft, rows, column, *piece)?;
     }
     Ok(())
 }
@@ -90,15 +92,16 @@ fn add_buffers(
 /// Adds the node and the buffers of a column.
 ///
 /// Refused with `TooLong` where offsets don't reach the end of the column's data or the body would
-/// have more than 2^40 bytes, and with `OutOfMemory`.
+/// have more than `limits.body` bytes, and with `OutOfMemory`.
 pub(crate) fn add_column(
+    limits: &Limits,
     draft: &mut Draft,
     field: &Field,
     rows: &[Row],
     column: usize,
 ) -> Result<(), WriteFault>
-    requires few { length rows.now ≤ max_rows }
-    requires body { length draft.old.body.items ≤ max_body }
+    requires few { length rows.now ≤ greatest_slots }
+    requires body { length draft.old.body.items ≤ limits.now.body }
     ensures nodes { OnOk result (draft.new.nodes.items
         ≡ draft.old.nodes.items ++ (pos (length rows.now), pos (nulls (cells column rows.now)))
         ∷ []) }
@@ -106,8 +109,8 @@ pub(crate) fn add_column(
         (Adds draft.old draft.new (column_buffers field.now (cells column rows.now))) }
     ensures short { OnOk result (¬ HasLongData (layout_of field.now) (cells column rows.now)) }
     ensures stored { OnOk result (AreStored (layout_of field.now) (cells column rows.now)) }
-    ensures body { OnOk result (length draft.new.body.items ≤ max_body) }
-    ensures err { IfErr result (IsColumnRefusedAt field.now (cells column rows.now)
+    ensures body { OnOk result (length draft.new.body.items ≤ limits.now.body) }
+    ensures err { IfErr result (IsColumnRefusedAt limits.now field.now (cells column rows.now)
         (length (draft.old.body.items
         ++ joined (column_buffers field.now (cells column rows.now))))) }
 {
@@ -115,5 +118,5 @@ pub(crate) fn add_column(
     draft.nodes.push((rows.len() as i64, nulls as i64))?;
     let alloc: Global = *draft.body.allocator();
     let pieces = pieces_of(alloc, field, nulls)?;
-    add_buffers(draft, rows, column, &pieces)
+    add_buffers(limits, draft, rows, column, &pieces)
 }

@@ -1,22 +1,20 @@
 ghost use Rattle.std.specs.Prelude.{◌≡◌, ◌≤◌, ◌<◌, ◌+◌, ◌-◌, ◌^◌, ◌++◌, [], ◌∷◌, length, OnOk};
 ghost use Rattle.std.specs.Prelude.{IfErr};
 ghost use Rattle.std.specs.List.{AllByRecursion};
-ghost use Rattle.ipc_model.specs.Limits.{max_body, max_rows};
+ghost use Rattle.ipc_model.specs.Greatest.{greatest_body, greatest_slots};
 ghost use Rattle.ipc_encode.specs.Bitmaps.{flags_number, bitmap};
 ghost use Rattle.ipc_encode.specs.Buffers.{piece_bytes};
 ghost use Rattle.ipc_encode.specs.Cells.{cells, flags, slot_bytes, slots, offsets};
 ghost use Rattle.ipc_encode.specs.Writing.{IsRefusedAt, Shows};
+ghost use Rattle.ipc_model.specs.declared.limits.Limits.{Limits};
 
 use crate::cells::{content, count_nulls, is_set, number_bits, value_at};
 use crate::pieces::{Flag, Piece, ValueSlot};
-use ipc_model::{IntBits, Row, Value, WriteFault, limits};
+use ipc_model::{IntBits, Limits, Row, Value, WriteFault};
 use std::alloc::AllocError;
 
-/// The most bytes of a body.
-pub(crate) const MAX_BODY: usize = limits::MAX_BODY as usize;
-
 // The most bytes that offsets of 32 bits reach.
-const MAX_DATA: usize = limits::MAX_DATA as usize;
+const MAX_DATA: usize = ipc_model::MAX_DATA as usize;
 
 // The flags of at most eight values in a byte, the first of them lowest.
 fn packed(rows: &[Row], column: usize, flag: Flag) -> u8
@@ -39,7 +37,7 @@ fn write_flags(
     column: usize,
     flag: Flag,
 ) -> Result<(), AllocError>
-    requires { length rows.now ≤ max_rows }
+    requires { length rows.now ≤ greatest_slots }
     ensures { OnOk result (body.new.items
         ≡ body.old.items ++ bitmap (flags flag (cells column rows.now))) }
 {
@@ -66,7 +64,7 @@ fn write_number(body: &mut Vec<u8>, value: &Value, bits: IntBits) -> Result<(), 
 
 // Appends the bytes of a binary value, or so many zeros.
 fn write_fixed(body: &mut Vec<u8>, value: &Value, width: u32) -> Result<(), AllocError>
-    requires { length body.old.items ≤ max_body }
+    requires { length body.old.items ≤ greatest_body }
     ensures { OnOk result (body.new.items
         ≡ body.old.items ++ slot_bytes (ValueSlot.Fixed width) value.now) }
 {
@@ -78,7 +76,7 @@ fn write_fixed(body: &mut Vec<u8>, value: &Value, width: u32) -> Result<(), Allo
 
 // Appends what a value gives to the buffer of values.
 fn write_slot(body: &mut Vec<u8>, value: &Value, slot: ValueSlot) -> Result<(), AllocError>
-    requires { length body.old.items ≤ max_body }
+    requires { length body.old.items ≤ greatest_body }
     ensures ok { OnOk result (body.new.items ≡ body.old.items ++ slot_bytes slot value.now) }
     ensures shows { OnOk result (Shows (Piece.Slots slot) (value.now ∷ [])) }
 {
@@ -91,6 +89,7 @@ fn write_slot(body: &mut Vec<u8>, value: &Value, slot: ValueSlot) -> Result<(), 
 
 // Appends the slots of a column's values.
 fn write_slots(
+    limits: &Limits,
     body: &mut Vec<u8>,
     rows: &[Row],
     column: usize,
@@ -99,12 +98,12 @@ fn write_slots(
     ensures ok { OnOk result
         (body.new.items ≡ body.old.items ++ slots slot (cells column rows.now)) }
     ensures shows { OnOk result (Shows (Piece.Slots slot) (cells column rows.now)) }
-    ensures err { IfErr result (IsRefusedAt (Piece.Slots slot) (cells column rows.now)
+    ensures err { IfErr result (IsRefusedAt limits.now (Piece.Slots slot) (cells column rows.now)
         (length body.old.items + length (slots slot (cells column rows.now)))) }
 {
     let null = Value::Null;
     for row in rows {
-        if body.len() > MAX_BODY {
+        if body.len() > limits.body as usize {
             return Err(WriteFault::TooLong);
         }
         write_slot(body, value_at(row, column, &null), slot)?;
@@ -116,7 +115,9 @@ fn write_slots(
 fn write_offsets(body: &mut Vec<u8>, rows: &[Row], column: usize) -> Result<(), WriteFault>
     ensures ok { OnOk result (body.new.items ≡ body.old.items ++ offsets (cells column rows.now)) }
     ensures shows { OnOk result (Shows Piece.Offsets (cells column rows.now)) }
-    ensures err { IfErr result (IsRefusedAt Piece.Offsets (cells column rows.now) 0) }
+    ensures err { IfErr result
+        (λ fault. (limits : Limits) → IsRefusedAt limits Piece.Offsets (cells column rows.now) 0
+        fault) }
 {
     let null = Value::Null;
     let mut end = 0;
@@ -137,22 +138,23 @@ fn write_offsets(body: &mut Vec<u8>, rows: &[Row], column: usize) -> Result<(), 
 /// Refused with `TooLong` where offsets don't reach the end of the data or the body is too long,
 /// and with `OutOfMemory`.
 pub(crate) fn write_piece(
+    limits: &Limits,
     body: &mut Vec<u8>,
     rows: &[Row],
     column: usize,
     piece: Piece,
 ) -> Result<(), WriteFault>
-    requires { length rows.now ≤ max_rows }
+    requires { length rows.now ≤ greatest_slots }
     ensures ok { OnOk result (body.new.items
         ≡ body.old.items ++ piece_bytes piece (cells column rows.now)) }
     ensures shows { OnOk result (Shows piece (cells column rows.now)) }
-    ensures err { IfErr result (IsRefusedAt piece (cells column rows.now)
+    ensures err { IfErr result (IsRefusedAt limits.now piece (cells column rows.now)
         (length body.old.items + length (piece_bytes piece (cells column rows.now)))) }
 {
     match piece {
         Piece::Absent => Ok(()),
         Piece::Flags(flag) => Ok(write_flags(body, rows, column, flag)?),
-        Piece::Slots(slot) => write_slots(body, rows, column, slot),
+        Piece::Slots(slot) => write_slots(limits, body, rows, column, slot),
         Piece::Offsets => write_offsets(body, rows, column),
     }
 }

@@ -13,5 +13,5 @@ invariant-loop-column l = record {
   spells : AllStored l.column (drop l.column l.fields) l.rows → AllStored 0 l.fields l.rows;
   long : SomeLongData l.column (drop l.column l.fields) l.rows → SomeLongData 0 l.fields l.rows;
   short : SomeLongData 0 l.fields l.rows → SomeLongData l.column (drop l.column l.fields) l.rows;
-  small : length l.draft.body.items ≤ 2 ^ 40;
+  small : length l.draft.body.items ≤ l.limits.body;
 }

@@ -15,5 +15,5 @@ invariant-loop-piece l = record {
       ≡ l.fn.draft.body.items ++ joined (buffers_in l.pieces (cells l.column l.rows));
   fits : AllShown (cells l.column l.rows) (drop l.piece-index l.pieces) → AllShown (cells l.column l.rows) l.pieces;
   long : SomeLong (drop l.piece-index l.pieces) (cells l.column l.rows) → SomeLong l.pieces (cells l.column l.rows);
-  small : length l.draft.body.items ≤ 2 ^ 40;
+  small : length l.draft.body.items ≤ l.limits.body;
 }
