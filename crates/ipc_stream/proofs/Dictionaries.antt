@@ -13,6 +13,7 @@ use Rattle.ipc_model.specs.declared.schema.Schema.{Schema}
 use Rattle.ipc_meta.specs.Supported.{all_true, are_supported, is_supported, is_supported_field, supported_step}
 use Rattle.ipc_stream.specs.Readable.{IsReadable}
 use Rattle.ipc_stream.specs.Reasons.{NamesNone}
+use Rattle.ipc_model.specs.declared.limits.Limits.{Limits}
 
 -- no entry of the list has a dictionary
 abbrev Plain : List Entry → Type 0
@@ -65,7 +66,8 @@ fields_plain (f ∷ fs) h =
     let parts = and_parts (is_supported_field f) (are_supported fs) h in
     plain_both (preorder f 1) (all_at 1 (map preorder fs)) (field_plain f parts.0 1) (fields_plain fs parts.1)
 
-pub open_names_none : (s : Schema) (id : ℤ) → IsReadable s → NamesNone id s
+-- no field of a schema that is read names a dictionary
+pub open_names_none : {limits : Limits} → (s : Schema) (id : ℤ) → IsReadable limits s → NamesNone id s
 open_names_none s id readable = record {
   none = λ e among d some same. let none : Some d ≡ None = sym some ∙ fields_plain s.fields readable.open_fields e among in absurd (cc);
 }

@@ -10,21 +10,26 @@ use Rattle.ipc_model.specs.declared.fault.Fault.TheVariants.{Read}
 use Rattle.ipc_stream.specs.Failures.{Tells}
 use Rattle.ipc_stream.specs.Taken.{Behind, Fills, Takes, Loses, count_up}
 
+-- where a call left the source's bytes as they were, it took none
 pub takes_kept : (a b : Option (List ℕ)) (n : ℕ) → n ≤ 2 ^ 64 - 1 → Keeps a b → Takes a b n n []
 takes_kept a b n fits same = record { bytes = Consumes-kept a a b [] (Consumes-nil a) same; counted = omega arith }
 
+-- what changed nothing of the source took no bytes
 pub takes_none : (a : Option (List ℕ)) (n : ℕ) → n ≤ 2 ^ 64 - 1 → Takes a a n n []
 takes_none a n fits = record { bytes = Consumes-nil a; counted = omega arith }
 
+-- what two calls took one after the other is the bytes of the first and then those of the second
 pub takes_then : (a b c : Option (List ℕ)) (n m k : ℕ) (x y : List ℕ) → Takes a b n m x → Takes b c m k y → Takes a c n k (x ++ y)
 takes_then a b c n m k x y t u = record {
   bytes = Consumes-trans a b c x y t.bytes u.bytes;
   counted = omega (arith, t.counted, u.counted, length-append x y);
 }
 
+-- where a call left the source's bytes as they were, it lost none
 pub loses_none : (a b : Option (List ℕ)) (n wanted : ℕ) → n ≤ 2 ^ 64 - 1 → Keeps a b → Loses a b n n wanted
 loses_none a b n wanted fits same = record { lost = []; few = omega arith; takes = takes_kept a b n fits same }
 
+-- what came behind the bytes of a buffer came behind those of an equal one
 pub behind_at : (a b : Option (List ℕ)) (x y buffer : List ℕ) (start wanted k : ℕ) → x ≡ y → Behind a b x buffer start wanted k
     → Behind a b y buffer start wanted k
 behind_at a b x y buffer start wanted k is h = subst (λ z. Behind a b z buffer start wanted k) is h

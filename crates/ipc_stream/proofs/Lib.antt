@@ -14,3 +14,4 @@ pub mod MessagesWritten
 pub mod SentBytes
 pub mod TablesWritten
 pub mod RoundTrips
+pub mod Wider

@@ -24,6 +24,7 @@ use Rattle.ipc_stream.specs.declared.scope.Scope.{Scope}
 use Rattle.ipc_stream.specs.Stream.{InForce, Event, schema, batch, Run, events_of}
 use Rattle.ipc_stream.specs.Readable.{IsReadable}
 use Rattle.ipc_stream.specs.Reasons.{IsOutside, IsNoSchema, NamesNone, Wanted, Reads}
+use Rattle.ipc_model.specs.declared.limits.Limits.{Limits}
 
 -- a count that stops at 2^64 - 1
 abbrev pub count_up : ℕ → ℕ → ℕ
@@ -62,25 +63,26 @@ pub record Loses (old new : Option (List ℕ)) (count_old count_new wanted : ℕ
   pub takes : Takes old new count_old count_new lost
 
 -- why no frame is read, whatever the state
-pub data BreaksFrame (z : List ℕ) (left : Option (List ℕ)) (fault : Fault) : Type 0 where
-  refused : RefusesNow z fault → BreaksFrame z left fault
-  truncated : (k : ℕ) → fault ≡ Truncated → Pending z k → z ≢ [] → IsAtEnd left
-      → BreaksFrame z left fault
-  aside : IsOutside fault → BreaksFrame z left fault
+pub data BreaksFrame (limits : Limits) (z : List ℕ) (left : Option (List ℕ))
+    (fault : Fault) : Type 0 where
+  refused : RefusesNow limits z fault → BreaksFrame limits z left fault
+  truncated : (k : ℕ) → fault ≡ Truncated → Pending limits z k → z ≢ [] → IsAtEnd left
+      → BreaksFrame limits z left fault
+  aside : IsOutside fault → BreaksFrame limits z left fault
 
 -- a frame, or the end of the source between two frames, or neither
-abbrev pub GivesFrame : List ℕ → Option (List ℕ) → Result (Option Framed) Fault → Type 0
-GivesFrame z left (Ok (Some frame)) = IsFrame z frame × IsSupportedFrame frame
-GivesFrame z left (Ok None) = (z ≡ []) × IsAtEnd left
-GivesFrame z left (Err fault) = BreaksFrame z left fault
+abbrev pub GivesFrame : Limits → List ℕ → Option (List ℕ) → Result (Option Framed) Fault → Type 0
+GivesFrame limits z left (Ok (Some frame)) = IsFrame limits z frame × IsSupportedFrame frame
+GivesFrame limits z left (Ok None) = (z ≡ []) × IsAtEnd left
+GivesFrame limits z left (Err fault) = BreaksFrame limits z left fault
 
 -- what was taken from the source to find a frame, and what was found
-pub record TakesFrame (old new : Option (List ℕ)) (count_old count_new : ℕ)
+pub record TakesFrame (limits : Limits) (old new : Option (List ℕ)) (count_old count_new : ℕ)
     (r : Result (Option Framed) Fault) : Type 0 where
   pub z : List ℕ
   pub takes : Takes old new count_old count_new z
-  pub wanted : Wanted z
-  pub gives : GivesFrame z new r
+  pub wanted : Wanted limits z
+  pub gives : GivesFrame limits z new r
 
 -- a message with this schema, or none
 abbrev pub BringsSchema : Framed → Result Schema Fault → Type 0
@@ -89,59 +91,70 @@ BringsSchema f.End (Ok s) = ⊥
 BringsSchema frame (Err fault) = (fault ≡ MissingSchema) × IsNoSchema frame
 
 -- the first message is this schema's, or there is none
-abbrev pub GivesSchema : List ℕ → Option (List ℕ) → Result Schema Fault → Type 0
-GivesSchema x left (Ok s) = Run None x (schema s ∷ []) (Some (record { schema = s })) × IsReadable s
-GivesSchema x left (Err fault) = Reads None x left [] (Err fault)
+abbrev pub GivesSchema : Limits → List ℕ → Option (List ℕ) → Result Schema Fault → Type 0
+GivesSchema limits x left (Ok s) = Run limits None x (schema s ∷ []) (Some (record {
+  schema =
+      s;
+})) × IsReadable limits s
+GivesSchema limits x left (Err fault) = Reads limits None x left [] (Err fault)
 
 -- what was taken from the source to find the schema, and what was found
-pub record TakesSchema (old new : Option (List ℕ)) (count_old count_new : ℕ)
+pub record TakesSchema (limits : Limits) (old new : Option (List ℕ)) (count_old count_new : ℕ)
     (r : Result Schema Fault) : Type 0 where
   pub x : List ℕ
   pub takes : Takes old new count_old count_new x
-  pub wanted : Wanted x
-  pub gives : GivesSchema x new r
+  pub wanted : Wanted limits x
+  pub gives : GivesSchema limits x new r
 
 -- the first message is a schema's, which is in force now, or there is none
-abbrev pub GivesScope : List ℕ → Option (List ℕ) → Result Scope Fault → Type 0
-GivesScope x left (Ok scope) =
-    Run None x (schema scope.schema ∷ []) (Some (record { schema = scope.schema }))
-GivesScope x left (Err fault) = Reads None x left [] (Err fault)
+abbrev pub GivesScope : Limits → List ℕ → Option (List ℕ) → Result Scope Fault → Type 0
+GivesScope limits x left (Ok scope) =
+    Run limits None x (schema scope.schema ∷ []) (Some (record { schema = scope.schema }))
+GivesScope limits x left (Err fault) = Reads limits None x left [] (Err fault)
 
 -- what was taken from the source to find the schema with what follows from it, and what was found
-pub record TakesScope (old new : Option (List ℕ)) (count_old count_new : ℕ)
+pub record TakesScope (limits : Limits) (old new : Option (List ℕ)) (count_old count_new : ℕ)
     (r : Result Scope Fault) : Type 0 where
   pub x : List ℕ
   pub takes : Takes old new count_old count_new x
-  pub gives : GivesScope x new r
+  pub gives : GivesScope limits x new r
 
 -- why a frame behind the schema is refused
-abbrev pub RefusesNext : Schema → Framed → Fault → Type 0
-RefusesNext s f.End fault = ⊥
-RefusesNext s (f.Message meta (h.Schema t) body) fault = fault ≡ SecondSchema
-RefusesNext s (f.Message meta (h.Dictionary id b) body) fault =
+abbrev pub RefusesNext : Limits → Schema → Framed → Fault → Type 0
+RefusesNext limits s f.End fault = ⊥
+RefusesNext limits s (f.Message meta (h.Schema t) body) fault = fault ≡ SecondSchema
+RefusesNext limits s (f.Message meta (h.Dictionary id b) body) fault =
     (fault ≡ UnknownDictionary) × NamesNone id s
-RefusesNext s (f.Message meta (h.Batch b) body) fault = RefusesParts fault s.fields b body.items
+RefusesNext limits s (f.Message meta (h.Batch b) body) fault =
+    RefusesParts limits fault s.fields b body.items
 
 -- a message with the rows of this batch, or the end mark, or neither
-abbrev pub BringsNext : Schema → Framed → Result Next Fault → Type 0
-BringsNext s (f.Message meta head body) (Ok (next.Batch found)) =
-    (b : BatchHead) × (head ≡ h.Batch b) × Rows s.fields b body.items found.rows
-BringsNext s f.End (Ok (next.Ended Mark)) = ⊤
-BringsNext s frame (Err fault) = RefusesNext s frame fault
-BringsNext s frame next = ⊥
+abbrev pub BringsNext : Limits → Schema → Framed → Result Next Fault → Type 0
+BringsNext limits s (f.Message meta head body) (Ok (next.Batch found)) =
+    (b : BatchHead) × (head ≡ h.Batch b) × Rows limits s.fields b body.items found.rows
+BringsNext limits s f.End (Ok (next.Ended Mark)) = ⊤
+BringsNext limits s frame (Err fault) = RefusesNext limits s frame fault
+BringsNext limits s frame next = ⊥
 
 -- the next batch, or how the stream ends, or neither
-abbrev pub ReadAnswer : InForce → List ℕ → Option (List ℕ) → Result Next Fault → Type 0
-ReadAnswer o x left (Ok (next.Batch found)) = Run (Some o) x (batch found.rows ∷ []) (Some o)
-ReadAnswer o x left (Ok (next.Ended end)) = Reads (Some o) x left [] (Ok end)
-ReadAnswer o x left (Err fault) = Reads (Some o) x left [] (Err fault)
+abbrev pub ReadAnswer : Limits → InForce → List ℕ → Option (List ℕ) → Result Next Fault → Type 0
+ReadAnswer limits o x left (Ok (next.Batch found)) =
+    Run limits (Some o) x (batch found.rows ∷ []) (Some o)
+ReadAnswer limits o x left (Ok (next.Ended end)) = Reads limits (Some o) x left [] (Ok end)
+ReadAnswer limits o x left (Err fault) = Reads limits (Some o) x left [] (Err fault)
 
 -- what was taken from the source for the next event behind the schema, and what was found
-pub record ReadsNext (old new : Option (List ℕ)) (count_old count_new : ℕ) (o : InForce)
+pub record ReadsNext (limits : Limits) (old new : Option (List ℕ)) (count_old count_new : ℕ) (o :
+    InForce)
     (r : Result Next Fault) : Type 0 where
   pub x : List ℕ
   pub takes : Takes old new count_old count_new x
-  pub gives : ReadAnswer o x new r
+  pub gives : ReadAnswer limits o x new r
+
+-- a batch has a column for each field of the schema
+abbrev pub HasColumns : Schema → Next → Type 0
+HasColumns s (next.Batch found) = found.columns ≡ length s.fields
+HasColumns s (next.Ended end) = ⊤
 
 -- the event is a batch
 abbrev pub IsBatch : Next → Type 0
@@ -149,12 +162,14 @@ IsBatch (next.Batch found) = ⊤
 IsBatch (next.Ended end) = ⊥
 
 -- the bytes are this table and its end, or some messages behind which reading broke off
-abbrev pub GivesTable : List ℕ → Option (List ℕ) → Result (Table × End) Fault → Type 0
-GivesTable x left (Ok t) = Reads None x left (events_of t.0) (Ok t.1)
-GivesTable x left (Err fault) = (events : List Event) × Reads None x left events (Err fault)
+abbrev pub GivesTable : Limits → List ℕ → Option (List ℕ) → Result (Table × End) Fault → Type 0
+GivesTable limits x left (Ok t) = Reads limits None x left (events_of t.0) (Ok t.1)
+GivesTable limits x left (Err fault) = (events : List Event)
+    × Reads limits None x left events (Err fault)
 
 -- what was taken of a source, and what that is
-pub record TakesTable (old new : Option (List ℕ)) (r : Result (Table × End) Fault) : Type 0 where
+pub record TakesTable (limits : Limits) (old new : Option (List ℕ)) (r : Result
+    (Table × End) Fault) : Type 0 where
   pub x : List ℕ
   pub bytes : Consumes old new x
-  pub gives : GivesTable x new r
+  pub gives : GivesTable limits x new r

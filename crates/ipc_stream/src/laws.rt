@@ -1,4 +1,4 @@
-ghost use Rattle.ipc_stream.specs.Laws.{NoneBegins, OneFront, OneTable};
+ghost use Rattle.ipc_stream.specs.Laws.{NoneBegins, OneFront, OneTable, Wider};
 
 /// The law: bytes denote one table with one end at most (Arrow Columnar Format, "IPC Streaming
 /// Format").
@@ -16,4 +16,9 @@ pub fn none_begins()
 /// follows them. So what is written is read back, and what follows it is left.
 pub fn one_front()
     ensures { OneFront }
+{}
+
+/// The law: what denotes a table under some limits denotes it under all that cover them.
+pub fn wider()
+    ensures { Wider }
 {}

@@ -1,5 +1,5 @@
 ghost use Rattle.std.specs.Prelude.{◌≡◌, ◌≤◌, ◌-◌, ◌^◌, ◌<◌, ◌++◌, ℕ, List, Some, IfOk, IfErr};
-ghost use Rattle.std.specs.Prelude.{IsSome, MatchResult, true};
+ghost use Rattle.std.specs.Prelude.{IfSome, IsSome, MatchResult, length, true};
 ghost use Rattle.ipc_model.specs.declared.schema.Schema.{Schema};
 ghost use Rattle.ipc_model.specs.declared.value.Value.{Value};
 ghost use Rattle.ipc_meta.specs.Supported.{are_supported};
@@ -17,7 +17,7 @@ use crate::reading::{Next, read_next, read_scope};
 use crate::scope::Scope;
 use crate::source::Source;
 use ipc_column::Batch;
-use ipc_model::{Fault, Field, Schema};
+use ipc_model::{Fault, Field, Limits, Schema};
 use std::alloc::Global;
 use std::marker::Model;
 
@@ -47,6 +47,7 @@ impl<R: Source> Model for StreamReader<R> {
       remaining = R.remaining s.source;
       failures = R.failures s.source;
       bound = R.bound s.source;
+      limits = s.scope.limits;
       schema = s.scope.schema;
       phase = s.phase;
       messages =
@@ -58,19 +59,21 @@ impl<R: Source> Model for StreamReader<R> {
 // A reader that took a schema's message, or the source again with the fault.
 fn open_with<R: Source>(
     alloc: Global,
+    limits: &Limits,
     source: R,
     intake: Intake,
 ) -> Result<StreamReader<R>, (Fault, R)>
     requires { intake.taken ≡ 0 }
-    ensures opened { IfOk result (λ s. Opens (R.remaining source) s) }
-    ensures refused { IfErr result (λ e. OpenFails (R.remaining source) (R.remaining e.1) e.0) }
+    ensures opened { IfOk result (λ s. Opens limits.now (R.remaining source) s) }
+    ensures refused { IfErr result (λ e. OpenFails limits.now (R.remaining source)
+        (R.remaining e.1) e.0) }
     ensures failures { MatchResult result (λ s. (R.failures source ≡ 0) × (s.failures ≡ 0))
         (λ e. Tells (R.failures source) (R.failures e.1) e.0) }
     ensures fewer { IfOk result (λ s. s.bound < R.bound source) }
 {
     let mut source = source;
     let mut intake = intake;
-    match read_scope(alloc, &mut source, &mut intake) {
+    match read_scope(alloc, limits, &mut source, &mut intake) {
         Ok(scope) => Ok(StreamReader {
             source,
             intake,
@@ -84,21 +87,30 @@ fn open_with<R: Source>(
 }
 
 impl<R: Source> StreamReader<R> {
-    /// Reads the first message, which is the schema's. At a refusal the source comes back with the
-    /// fault. A source that failed before is returned as F36 at its first use.
-    pub fn open(alloc: Global, source: R) -> Result<StreamReader<R>, (Fault, R)>
-        ensures opened { IfOk result (λ s. Opens (R.remaining source) s) }
-        ensures refused { IfErr result (λ e. OpenFails (R.remaining source) (R.remaining e.1) e.0) }
+    /// Reads the first message, which is the schema's. What is read, from here on, is within the
+    /// limits. At a refusal the source comes back with the fault. A source that failed before is
+    /// returned as F36 at its first use.
+    pub fn open(alloc: Global, limits: Limits, source: R) -> Result<StreamReader<R>, (Fault, R)>
+        ensures opened { IfOk result (λ s. Opens limits (R.remaining source) s) }
+        ensures refused { IfErr result (λ e. OpenFails limits (R.remaining source)
+            (R.remaining e.1) e.0) }
         ensures failures { MatchResult result (λ s. (R.failures source ≡ 0) × (s.failures ≡ 0))
             (λ e. Tells (R.failures source) (R.failures e.1) e.0) }
         ensures fewer { IfOk result (λ s. s.bound < R.bound source) }
         // The message of a schema of types that are read, at the front of the source, is read,
         // whatever follows it, unless memory runs out or the source fails.
         ensures schema { (x rest : List ℕ) (s : Schema) → are_supported s.fields ≡ true
-            → R.remaining source ≡ Some (x ++ rest) → OpensStream s x
+            → R.remaining source ≡ Some (x ++ rest) → OpensStream limits s x
             → MatchResult result (λ reader. reader.schema ≡ s) (λ e. IsOutside e.0) }
     {
-        open_with(alloc, source, Intake::new(alloc))
+        open_with(alloc, &limits, source, Intake::new(alloc))
+    }
+
+    /// The limits that it was opened with.
+    pub fn limits(&self) -> Limits
+        ensures { result ≡ self.now.limits }
+    {
+        self.scope.limits
     }
 
     /// The schema of the stream.
@@ -120,6 +132,8 @@ impl<R: Source> StreamReader<R> {
     // Reads on, which `next` says in more words.
     fn advance(&mut self) -> Result<Option<Batch>, Fault>
         ensures next { NextCall self.old self.new result }
+        ensures columns { IfOk result
+            (λ batch. IfSome batch (λ found. found.columns ≡ length self.old.schema.fields)) }
         ensures fewer { IfOk result (λ batch. IsSome batch → self.new.bound < self.old.bound) }
         ensures failures { StaysOrFails self.old.failures self.new.failures result }
         ensures rose { IfErr result (λ fault. fault ≡ Fault.Read → self.old.failures ≡ 0) }
@@ -153,6 +167,9 @@ impl<R: Source> StreamReader<R> {
     /// call answers F35 and takes nothing.
     pub fn next(&mut self) -> Result<Option<Batch>, Fault>
         ensures next { NextCall self.old self.new result }
+        // A batch has a column for each field of the schema.
+        ensures columns { IfOk result
+            (λ batch. IfSome batch (λ found. found.columns ≡ length self.old.schema.fields)) }
         ensures fewer { IfOk result (λ batch. IsSome batch → self.new.bound < self.old.bound) }
         ensures failures { StaysOrFails self.old.failures self.new.failures result }
         // F36 is answered only where the source had not failed before.
@@ -161,7 +178,7 @@ impl<R: Source> StreamReader<R> {
         // runs out or the source fails.
         ensures batch { (x rest : List ℕ) (rows : List (List Value))
             → self.old.phase ≡ Phase.Reading → self.old.remaining ≡ Some (x ++ rest)
-            → AddsRows self.old.schema rows x
+            → AddsRows self.old.limits self.old.schema rows x
             → MatchResult result (λ batch. GivesRows batch rows) IsOutside }
         // So is an end, by the mark or where nothing is left.
         ensures ended { (z : List ℕ) (end : End) → self.old.phase ≡ Phase.Reading

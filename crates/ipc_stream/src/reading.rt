@@ -3,7 +3,7 @@ ghost use Rattle.ipc_stream.specs.Failures.{FailsAs};
 ghost use Rattle.ipc_stream.specs.Readable.{IsReadable};
 ghost use Rattle.ipc_stream.specs.Reasons.{NamesNone};
 ghost use Rattle.ipc_stream.specs.Taken.{BringsNext, BringsSchema, IsBatch, TakesFrame, ReadsNext};
-ghost use Rattle.ipc_stream.specs.Taken.{TakesSchema, TakesScope};
+ghost use Rattle.ipc_stream.specs.Taken.{HasColumns, TakesSchema, TakesScope};
 
 use crate::end::End;
 use crate::intake::{Intake, fill};
@@ -12,7 +12,7 @@ use crate::source::Source;
 use ipc_column::Batch;
 use ipc_frame::{Frame, Seen, next_frame};
 use ipc_meta::Head;
-use ipc_model::{Fault, Schema};
+use ipc_model::{Fault, Limits, Schema};
 use std::alloc::Global;
 
 // What comes behind the schema.
@@ -27,10 +27,11 @@ pub enum Next {
 // The frame at the front of the source, or none at its end.
 fn read_frame<R: Source>(
     alloc: Global,
+    limits: &Limits,
     source: &mut R,
     intake: &mut Intake,
 ) -> Result<Option<Frame>, Fault>
-    ensures frame { TakesFrame (R.remaining source.old)
+    ensures frame { TakesFrame limits.now (R.remaining source.old)
         (R.remaining source.new) intake.old.taken intake.new.taken result }
     ensures fewer { IfOk result (λ frame. IsSome frame → R.bound source.new < R.bound source.old) }
     ensures failures { FailsAs (R.failures source.old) (R.failures source.new) result }
@@ -44,7 +45,7 @@ fn read_frame<R: Source>(
             }
             return Err(Fault::Truncated);
         }
-        match next_frame(alloc, &intake.buffer[..intake.filled])? {
+        match next_frame(alloc, limits, &intake.buffer[..intake.filled])? {
             Seen::Short(more) => wanted = more,
             Seen::Whole(frame, _) => return Ok(Some(frame)),
         }
@@ -67,15 +68,16 @@ fn schema_of(frame: Frame) -> Result<Schema, Fault>
 // The schema at the front of the source.
 fn read_schema<R: Source>(
     alloc: Global,
+    limits: &Limits,
     source: &mut R,
     intake: &mut Intake,
 ) -> Result<Schema, Fault>
-    ensures schema { TakesSchema (R.remaining source.old)
+    ensures schema { TakesSchema limits.now (R.remaining source.old)
         (R.remaining source.new) intake.old.taken intake.new.taken result }
     ensures fewer { IfOk result (λ schema. R.bound source.new < R.bound source.old) }
     ensures failures { FailsAs (R.failures source.old) (R.failures source.new) result }
 {
-    match read_frame(alloc, source, intake)? {
+    match read_frame(alloc, limits, source, intake)? {
         Some(frame) => schema_of(frame),
         None => Err(Fault::Truncated),
     }
@@ -84,22 +86,23 @@ fn read_schema<R: Source>(
 // What the schema at the front of the source puts in force.
 pub fn read_scope<R: Source>(
     alloc: Global,
+    limits: &Limits,
     source: &mut R,
     intake: &mut Intake,
 ) -> Result<Scope, Fault>
-    ensures scope { TakesScope (R.remaining source.old)
+    ensures limits { IfOk result (λ scope. scope.limits ≡ limits.now) }
+    ensures scope { TakesScope limits.now (R.remaining source.old)
         (R.remaining source.new) intake.old.taken intake.new.taken result }
     ensures fewer { IfOk result (λ scope. R.bound source.new < R.bound source.old) }
     ensures failures { FailsAs (R.failures source.old) (R.failures source.new) result }
 {
-    let schema = read_schema(alloc, source, intake)?;
-    Ok(Scope::new(alloc, schema)?)
+    let schema = read_schema(alloc, limits, source, intake)?;
+    Ok(Scope::new(alloc, *limits, schema)?)
 }
 
 // Why a dictionary with this id isn't taken: no field of types that are read names one.
-#[tactic(auto, using(crate::proofs::Dictionaries::open_names_none))]
-fn unknown_dictionary(schema: &Schema, id: i64) -> Fault
-    requires { IsReadable schema.now }
+fn unknown_dictionary(limits: &Limits, schema: &Schema, id: i64) -> Fault
+    requires { IsReadable limits.now schema.now }
     ensures fault { result ≡ Fault.UnknownDictionary }
     ensures names { NamesNone id schema.now }
 {
@@ -108,18 +111,26 @@ fn unknown_dictionary(schema: &Schema, id: i64) -> Fault
 
 // What a frame behind the schema brings.
 fn next_of(alloc: Global, scope: &Scope, frame: Frame) -> Result<Next, Fault>
-    ensures { BringsNext scope.now.schema frame result }
+    ensures next { BringsNext scope.now.limits scope.now.schema frame result }
+    ensures columns { IfOk result (HasColumns scope.now.schema) }
 {
     match frame {
         Frame::End => Ok(Next::Ended(End::Mark)),
         Frame::Message { meta, head, body } => match head {
             Head::Batch(head) => {
                 let fields = scope.fields.clone()?;
-                let batch = Batch::check(alloc, fields, head, body, &scope.dictionaries)?;
+                let batch = Batch::check(
+                    alloc,
+                    &scope.limits,
+                    fields,
+                    head,
+                    body,
+                    &scope.dictionaries,
+                )?;
                 Ok(Next::Batch(batch))
             }
             Head::Schema(_) => Err(Fault::SecondSchema),
-            Head::Dictionary(id, _) => Err(unknown_dictionary(&scope.schema, id)),
+            Head::Dictionary(id, _) => Err(unknown_dictionary(&scope.limits, &scope.schema, id)),
         },
     }
 }
@@ -131,13 +142,14 @@ pub fn read_next<R: Source>(
     intake: &mut Intake,
     scope: &Scope,
 ) -> Result<Next, Fault>
-    ensures next { ReadsNext (R.remaining source.old)
+    ensures next { ReadsNext scope.now.limits (R.remaining source.old)
         (R.remaining source.new) intake.old.taken intake.new.taken
         (record { schema = scope.now.schema }) result }
+    ensures columns { IfOk result (HasColumns scope.now.schema) }
     ensures fewer { IfOk result (λ next. IsBatch next → R.bound source.new < R.bound source.old) }
     ensures failures { FailsAs (R.failures source.old) (R.failures source.new) result }
 {
-    match read_frame(alloc, source, intake)? {
+    match read_frame(alloc, &scope.limits, source, intake)? {
         Some(frame) => next_of(alloc, scope, frame),
         None => Ok(Next::Ended(End::Closed)),
     }

@@ -18,7 +18,7 @@ use crate::sending::{send_batch, send_end, send_schema};
 use crate::sink::Sink;
 use crate::source::Source;
 use ipc_column::Batch;
-use ipc_model::{Fault, Items, Row, Table, WriteFault};
+use ipc_model::{Fault, Items, Limits, Row, Table, WriteFault};
 use std::alloc::Global;
 
 // Puts the rows of a batch behind those of the batches before.
@@ -31,12 +31,16 @@ fn keep_rows(alloc: Global, batches: &mut Vec<Items<Row>>, batch: &Batch) -> Res
 }
 
 // The table at the front of the source, and how the stream ends.
-fn read_batches<R: Source>(alloc: Global, source: &mut R) -> Result<(Table, End), Fault>
-    ensures table { TakesTable (R.remaining source.old) (R.remaining source.new) result }
+fn read_batches<R: Source>(
+    alloc: Global,
+    limits: &Limits,
+    source: &mut R,
+) -> Result<(Table, End), Fault>
+    ensures table { TakesTable limits.now (R.remaining source.old) (R.remaining source.new) result }
     ensures failures { FailsAs (R.failures source.old) (R.failures source.new) result }
 {
     let mut intake = Intake::new(alloc);
-    let scope = read_scope(alloc, source, &mut intake)?;
+    let scope = read_scope(alloc, limits, source, &mut intake)?;
     let mut batches = Vec::new(alloc);
     loop {
         match read_next(alloc, source, &mut intake, &scope)? {
@@ -58,42 +62,54 @@ fn read_batches<R: Source>(alloc: Global, source: &mut R) -> Result<(Table, End)
 /// its metadata (F5 to F9, F12 to F24) or of its body (F10, F11, F25 to F34). F4 comes where the
 /// source ends elsewhere than after the schema and between two messages, F36 exactly where the
 /// source failed in this call, and F37 where a growth was refused.
-pub fn read_table<R: Source>(alloc: Global, source: &mut R) -> Result<(Table, End), Fault>
+pub fn read_table<R: Source>(
+    alloc: Global,
+    limits: &Limits,
+    source: &mut R,
+) -> Result<(Table, End), Fault>
     // What was taken denotes the answer. Where no mark ended it, nothing is left.
     ensures denotes { IfOk result (λ a. (x : List ℕ)
-        × Consumes (R.remaining source.old) (R.remaining source.new) x × Denotes x a.0 a.1
+        × Consumes (R.remaining source.old) (R.remaining source.new) x
+        × Denotes limits.now x a.0 a.1
         × (a.1 ≡ Closed → IsAtEnd (R.remaining source.new))) }
     // A table of types that are read, with its mark, is answered, whatever follows, unless memory
     // runs out or the source fails.
     ensures marked { (x rest : List ℕ) (t : Table) → are_supported t.schema.fields ≡ true
-        → R.remaining source.old ≡ Some (x ++ rest) → Denotes x t Mark → R.failures source.new ≡ 0
+        → R.remaining source.old ≡ Some (x ++ rest) → Denotes limits.now x t Mark
+        → R.failures source.new ≡ 0
         → MatchResult result (λ a. (a.0 ≡ t) × (a.1 ≡ Mark)) (λ fault. fault ≡ Fault.OutOfMemory) }
     // One without a mark is answered where nothing follows, unless memory runs out or the source
     // fails.
     ensures closed { (x : List ℕ) (t : Table) → are_supported t.schema.fields ≡ true
-        → R.remaining source.old ≡ Some x → Denotes x t Closed → R.failures source.new ≡ 0
+        → R.remaining source.old ≡ Some x → Denotes limits.now x t Closed
+        → R.failures source.new ≡ 0
         → MatchResult result (λ a. (a.0 ≡ t) × (a.1 ≡ Closed))
         (λ fault. fault ≡ Fault.OutOfMemory) }
     // Whatever the answer, what was taken, and why reading ended there.
-    ensures exact { TakesTable (R.remaining source.old) (R.remaining source.new) result }
+    ensures exact { TakesTable limits.now (R.remaining source.old) (R.remaining source.new) result }
     // F36 is answered exactly where the source failed in this call.
     ensures failures { FailsAs (R.failures source.old) (R.failures source.new) result }
 {
-    read_batches(alloc, source)
+    read_batches(alloc, limits, source)
 }
 
 // Sends the messages of a table and the end mark.
-fn write_messages<W: Sink>(alloc: Global, sink: &mut W, table: &Table) -> Result<(), WriteFault>
-    ensures denotes { OnOk result (Sent (IsTableOf table.now) (W.written sink.old)
+fn write_messages<W: Sink>(
+    alloc: Global,
+    limits: &Limits,
+    sink: &mut W,
+    table: &Table,
+) -> Result<(), WriteFault>
+    ensures denotes { OnOk result (Sent (IsTableOf limits.now table.now) (W.written sink.old)
         (W.written sink.new) (W.failures sink.old) (W.failures sink.new)) }
     ensures handed_on { OnOk result (W.held_back sink.new ≡ Some []) }
-    ensures accepted { OnOk result (AcceptsTable table.now) }
-    ensures broken { IfErr result (λ fault. BreaksOff table.now (W.written sink.old)
+    ensures accepted { OnOk result (AcceptsTable limits.now table.now) }
+    ensures broken { IfErr result (λ fault. BreaksOff limits.now table.now (W.written sink.old)
         (W.written sink.new) (W.failures sink.old) (W.failures sink.new) fault) }
 {
-    let schema = send_schema(alloc, sink, &table.schema)?;
+    let schema = send_schema(alloc, limits, sink, &table.schema)?;
     for rows in table.batches.as_slice() {
-        send_batch(alloc, sink, &schema, rows.as_slice())?;
+        send_batch(alloc, limits, sink, &schema, rows.as_slice())?;
     }
     send_end(sink)
 }
@@ -105,21 +121,26 @@ fn write_messages<W: Sink>(alloc: Global, sink: &mut W, table: &Table) -> Result
 /// The refusals are theirs: W1 for the schema, W2 to W5 for the first row of a batch that doesn't
 /// fit, with its number in its batch and its path, W6 and W8 for lengths above the limits, W9 where
 /// the sink failed and W11 where memory was refused. What was sent before stands.
-pub fn write_table<W: Sink>(alloc: Global, sink: &mut W, table: &Table) -> Result<(), WriteFault>
+pub fn write_table<W: Sink>(
+    alloc: Global,
+    limits: &Limits,
+    sink: &mut W,
+    table: &Table,
+) -> Result<(), WriteFault>
     // What was written denotes the table, with its mark, and no call of the sink failed.
-    ensures denotes { OnOk result (Sent (IsTableOf table.now) (W.written sink.old)
+    ensures denotes { OnOk result (Sent (IsTableOf limits.now table.now) (W.written sink.old)
         (W.written sink.new) (W.failures sink.old) (W.failures sink.new)) }
     // Nothing is held back.
     ensures handed_on { OnOk result (W.held_back sink.new ≡ Some []) }
     // The schema and all batches are accepted.
-    ensures accepted { OnOk result (AcceptsTable table.now) }
+    ensures accepted { OnOk result (AcceptsTable limits.now table.now) }
     // At a refusal, which messages are accepted and out, and why the next one is refused.
-    ensures broken { IfErr result (λ fault. BreaksOff table.now (W.written sink.old)
+    ensures broken { IfErr result (λ fault. BreaksOff limits.now table.now (W.written sink.old)
         (W.written sink.new) (W.failures sink.old) (W.failures sink.new) fault) }
     // A table that fits its schema and keeps the limits is refused only where the sink fails or
     // memory runs out.
-    ensures fits { TableFits table.now → IsWithinLimits table.now
+    ensures fits { TableFits limits.now table.now → IsWithinLimits limits.now table.now
         → IfErr result (λ fault. (fault ≡ WriteFault.Write) ⊎ (fault ≡ WriteFault.OutOfMemory)) }
 {
-    write_messages(alloc, sink, table)
+    write_messages(alloc, limits, sink, table)
 }

@@ -21,7 +21,8 @@ pub returns-in_err-more-clause-frame : goal.returns-in_err-more-clause-frame
 returns-in_err-more-clause-frame g c =
     let p = err_from_is_err_and c.from_residual-in_err-more.result c.from_residual-in_err-more.ensures.1 in
     rw (p.1, p.2) (frame_refused _ _ _ _ _ _ _ _ _ _ _ _ _ _ c.loop-alloc.invariant c.in_ok-fill.ensures.filled c.in_err-more.field-0.0
-    (subst (λ z. Sees (take c.fill.new.intake.filled z) (Err c.in_err-more.field-0.0)) c.deref.ensures.value c.in_err-more.ensures))
+    (subst (λ z. Sees c.args.limits.now (take c.fill.new.intake.filled z) (Err c.in_err-more.field-0.0)) c.deref.ensures.value
+    c.in_err-more.ensures))
 
 pub returns-in_err-more-clause-failures : goal.returns-in_err-more-clause-failures
 returns-in_err-more-clause-failures g c =
@@ -33,11 +34,13 @@ pub loop-alloc-preserved : goal.loop-alloc-preserved
 loop-alloc-preserved g c =
     pends_more _ _ _ _ _ _ _ _ _ _ _ _ _ _ c.loop-alloc.invariant c.in_ok-fill.ensures.filled _ _ c.in-Short.more c.in_ok-fill.ensures.fewer
     c.in_ok-fill.ensures.failures
-    (subst (λ s. Sees (take c.fill.new.intake.filled c.fill.new.intake.buffer.items) (Ok s)) c.in-Short.is
-    (subst (λ z. Sees (take c.fill.new.intake.filled z) (Ok c.in_ok-more.field-0)) c.deref.ensures.value c.in_ok-more.ensures))
+    (subst (λ s. Sees c.args.limits.now (take c.fill.new.intake.filled c.fill.new.intake.buffer.items) (Ok s)) c.in-Short.is
+    (subst (λ z. Sees c.args.limits.now (take c.fill.new.intake.filled z) (Ok c.in_ok-more.field-0)) c.deref.ensures.value
+    c.in_ok-more.ensures))
 
 pub returns-in-Whole-clause-frame : goal.returns-in-Whole-clause-frame
 returns-in-Whole-clause-frame g c =
     frame_read _ _ _ _ _ _ _ _ _ _ _ _ _ _ c.loop-alloc.invariant c.in_ok-fill.ensures.filled c.in-Whole.frame c.in-Whole.field-1
-    (subst (λ s. Sees (take c.fill.new.intake.filled c.fill.new.intake.buffer.items) (Ok s)) c.in-Whole.is
-    (subst (λ z. Sees (take c.fill.new.intake.filled z) (Ok c.in_ok-more.field-0)) c.deref.ensures.value c.in_ok-more.ensures))
+    (subst (λ s. Sees c.args.limits.now (take c.fill.new.intake.filled c.fill.new.intake.buffer.items) (Ok s)) c.in-Whole.is
+    (subst (λ z. Sees c.args.limits.now (take c.fill.new.intake.filled z) (Ok c.in_ok-more.field-0)) c.deref.ensures.value
+    c.in_ok-more.ensures))

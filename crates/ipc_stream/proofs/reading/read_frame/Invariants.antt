@@ -4,7 +4,8 @@ use Rattle.ipc_stream.proofs.reading.read_frame.Given as goal
 
 abbrev pub invariant-loop-alloc : goal.invariant-loop-alloc
 invariant-loop-alloc g l =
-    Pends (g.R.Source.remaining l.fn.source) (g.R.Source.remaining l.source) (g.R.Source.bound l.fn.source) (g.R.Source.bound l.source)
+    Pends l.limits (g.R.Source.remaining l.fn.source) (g.R.Source.remaining l.source) (g.R.Source.bound l.fn.source) (g.R.Source.bound
+    l.source)
     (g.R.Source.failures l.fn.source) (g.R.Source.failures l.source) l.fn.intake.taken l.intake.taken
     (take l.intake.filled l.intake.buffer.items) l.wanted
 

@@ -13,17 +13,17 @@ pub loop-rows-preserved : goal.loop-rows-preserved
 loop-rows-preserved g c =
     let i = c.loop-rows.rows-index in
     let is = c.rows-item.is ∙ ap (λ xs. get_or xs i c.rows-item.result) c.as_slice-rows-items.ensures in
-    let sent = subst (λ (s : Schema). Sent (AddsRows s c.as_slice.result.now) (g.W.Sink.written c.loop-rows.sink)
+    let sent = subst (λ (s : Schema). Sent (AddsRows c.args.limits.now s c.as_slice.result.now) (g.W.Sink.written c.loop-rows.sink)
     (g.W.Sink.written c.send_batch.new.sink) (g.W.Sink.failures c.loop-rows.sink) (g.W.Sink.failures c.send_batch.new.sink))
     c.in_ok-schema.ensures.copied c.in_ok-send_batch.ensures.sends in
-    let accepts = subst (λ (s : Schema). AcceptsRows s c.as_slice.result.now) c.in_ok-schema.ensures.copied
+    let accepts = subst (λ (s : Schema). AcceptsRows c.args.limits.now s c.as_slice.result.now) c.in_ok-schema.ensures.copied
     c.in_ok-send_batch.ensures.judged in
     batch_out c.args.table.now _ _ _ _ _ _ i c.loop-rows.invariant c.rows-item.result
     (omega (arith, ap length c.as_slice-rows-items.ensures)) is
-    (subst (λ (rows : List (List Value)). Sent (AddsRows c.args.table.now.schema rows) (g.W.Sink.written c.loop-rows.sink)
+    (subst (λ (rows : List (List Value)). Sent (AddsRows c.args.limits.now c.args.table.now.schema rows) (g.W.Sink.written c.loop-rows.sink)
     (g.W.Sink.written c.send_batch.new.sink) (g.W.Sink.failures c.loop-rows.sink) (g.W.Sink.failures c.send_batch.new.sink))
     c.as_slice.ensures sent)
-    (subst (λ (rows : List (List Value)). AcceptsRows c.args.table.now.schema rows) c.as_slice.ensures accepts)
+    (subst (λ (rows : List (List Value)). AcceptsRows c.args.limits.now c.args.table.now.schema rows) c.as_slice.ensures accepts)
 
 pub returns-in_err-schema-clause-broken : goal.returns-in_err-schema-clause-broken
 returns-in_err-schema-clause-broken g c =
@@ -37,15 +37,17 @@ returns-in_err-send_batch-clause-broken g c =
     let i = c.loop-rows.rows-index in
     let is = c.rows-item.is ∙ ap (λ xs. get_or xs i c.rows-item.result) c.as_slice-rows-items.ensures in
     let fault = c.in_err-send_batch.field-0.0 in
-    let unsent = subst (λ (s : Schema). NotSentWhole (AddsRows s c.as_slice.result.now) (g.W.Sink.written c.loop-rows.sink)
+    let unsent = subst (λ (s : Schema). NotSentWhole (AddsRows c.args.limits.now s c.as_slice.result.now) (g.W.Sink.written
+    c.loop-rows.sink)
     (g.W.Sink.written c.send_batch.new.sink) (g.W.Sink.failures c.loop-rows.sink) (g.W.Sink.failures c.send_batch.new.sink) fault)
     c.in_ok-schema.ensures.copied c.in_err-send_batch.ensures.sends in
-    let refused = subst (λ (s : Schema). RefusesRows s c.as_slice.result.now fault) c.in_ok-schema.ensures.copied
+    let refused = subst (λ (s : Schema). RefusesRows c.args.limits.now s c.as_slice.result.now fault) c.in_ok-schema.ensures.copied
     c.in_err-send_batch.ensures.judged in
     rw (p.1, p.2) (batch_breaks c.args.table.now _ _ _ _ _ _ i c.loop-rows.invariant c.rows-item.result
     (omega (arith, ap length c.as_slice-rows-items.ensures)) is fault
-    (subst (λ (rows : List (List Value)). RefusesRows c.args.table.now.schema rows fault) c.as_slice.ensures refused)
-    (subst (λ (rows : List (List Value)). NotSentWhole (AddsRows c.args.table.now.schema rows) (g.W.Sink.written c.loop-rows.sink)
+    (subst (λ (rows : List (List Value)). RefusesRows c.args.limits.now c.args.table.now.schema rows fault) c.as_slice.ensures refused)
+    (subst (λ (rows : List (List Value)). NotSentWhole (AddsRows c.args.limits.now c.args.table.now.schema rows) (g.W.Sink.written
+    c.loop-rows.sink)
     (g.W.Sink.written c.send_batch.new.sink) (g.W.Sink.failures c.loop-rows.sink) (g.W.Sink.failures c.send_batch.new.sink) fault)
     c.as_slice.ensures unsent))
 

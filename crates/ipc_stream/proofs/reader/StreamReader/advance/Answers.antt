@@ -13,9 +13,9 @@ returns-in-Ended-clause-next g c =
 
 pub returns-in-Ok-Ended-clause-next : goal.returns-in-Ok-Ended-clause-next
 returns-in-Ok-Ended-clause-next g c =
-    rw (sym c.self.view_is) (next_ends _ _ c.in-Reading.is refl refl c.self.inside.counted c.in-Ok-Ended.end refl
+    rw (sym c.self.view_is) (next_ends _ _ c.in-Reading.is refl refl refl c.self.inside.counted c.in-Ok-Ended.end refl
     (next_at _ _ _ _ _ _ _ c.in-Ok-Ended.field-0-is c.in-Ok-Ended.ensures.next))
 
 pub returns-in-Err-clause-next : goal.returns-in-Err-clause-next
 returns-in-Err-clause-next g c =
-    rw (sym c.self.view_is) (next_breaks _ _ c.in-Reading.is refl refl c.self.inside.counted c.in-Err.fault refl c.in-Err.ensures.next)
+    rw (sym c.self.view_is) (next_breaks _ _ c.in-Reading.is refl refl refl c.self.inside.counted c.in-Err.fault refl c.in-Err.ensures.next)
