@@ -15,9 +15,11 @@ use Rattle.jiff_core.proofs.DateLemmas.{epoch_day_injective}
 use Rattle.jiff_core.proofs.SignedLemmas.{signed_arith}
 use Rattle.ipc_text.specs.Calendar.{Civil, tomorrow, civil_on, two_digits, four_digits, day_text}
 
+-- the number that the library of dates counts to a day
 abbrev count : Civil → ℕ
 count c = day_count (pos c.year) c.month c.day
 
+-- a day stands in the calendar: from the year 1 on, in one of 12 months, within the days of its month
 pub record Stands (c : Civil) : Type 0 where
   pub year : 1 ≤ c.year
   pub first : 1 ≤ c.month
@@ -25,6 +27,7 @@ pub record Stands (c : Civil) : Type 0 where
   pub day : 1 ≤ c.day
   pub within : c.day ≤ days_in_month (pos c.year) c.month
 
+-- a day stands in the calendar and is counted one after another
 pub record Follows (c d : Civil) : Type 0 where
   pub stands : Stands d
   pub count : count d ≡ count c + 1
@@ -81,6 +84,7 @@ next_year c s le ge =
       );
     }
 
+-- the day that comes next is counted one more
 pub tomorrow_follows : (c : Civil) → Stands c → Follows c (tomorrow c)
 tomorrow_follows c s = elim (cases_Bool (nat_lt c.day (days_in_month (pos c.year) c.month))) [
   | inl less ↦ rw less (next_day c s (grind (arith, nat_tests)))
@@ -90,10 +94,12 @@ tomorrow_follows c s = elim (cases_Bool (nat_lt c.day (days_in_month (pos c.year
   ]
 ]
 
+-- the nth day after 0001-01-01 stands in the calendar and is counted n after it
 pub record Counts (n : ℕ) : Type 0 where
   pub stands : Stands (civil_on n)
   pub count : count (civil_on n) ≡ n + 3_652_791
 
+-- of each n the nth day after 0001-01-01 is counted n after it
 pub civil_counts : (n : ℕ) → Counts n
 unfolding civil_on
 civil_counts zero = record {
@@ -133,6 +139,7 @@ unsigned_is : (w : ℤ) → pos 0 ≤ℤ w → pos (unsigned_abs w) ≡ w
 unsigned_is (pos n) h = refl
 unsigned_is (negsuc n) h = absurd (omega (arith, signed_arith))
 
+-- a date of the library is this day of the calendar, in the years 1 to 9999
 pub record Same (d : Date) (c : Civil) : Type 0 where
   pub year : d.year ≡ pos c.year
   pub month : d.month ≡ c.month
@@ -143,6 +150,7 @@ pub record Same (d : Date) (c : Civil) : Type 0 where
 apart : (a b n : ℕ) (z : ℤ) → a ≡ n + 3_652_791 → b ≡ 4_371_953 → pos n ≡ z +ℤ pos 719_162 → pos a -ℤ pos b ≡ z
 apart a b n z e f w = omega (arith, signed_arith)
 
+-- the date that the library gives for a number in range is the day that the calendar has for it
 pub same_day : (d : Date) (z : ℤ) → neg_ℤ (pos 719_162) ≤ℤ z → z <ℤ pos 2_932_897 → epoch_day d ≡ z
     → Same d (civil_on (unsigned_abs (z +ℤ pos 719_162)))
 unfolding days_from_civil date_of civil_on
@@ -157,6 +165,7 @@ same_day d z low high e =
     let p = epoch_day_injective d b (e ∙ sym there) in
     record { year = p.0; month = p.1; day = p.2; positive = h.stands.year; four = le }
 
+-- the digits of that date are the text of the day
 pub printed : (d : Date) (z : ℤ) → int_lt z (neg_ℤ (pos 719_162)) ≡ false → int_lt (pos 2_932_896) z ≡ false
     → Same d (civil_on (unsigned_abs (z +ℤ pos 719_162)))
     → Some (four_digits (unsigned_abs d.year) ++ 45 ∷ two_digits d.month ++ 45 ∷ two_digits d.day) ≡ day_text z

@@ -1,14 +1,14 @@
 -- Records of CSV, field by field.
-use Rattle.std.proofs.Common.{◌≡◌, ◌∙◌, ◌==◌, ◌<◌, ◌≤◌, ◌+◌, ℕ, zero, suc, false, List, [], ◌∷◌, ◌++◌, length, map, drop}
+use Rattle.std.proofs.Common.{◌≡◌, ◌∙◌, ◌==◌, ◌<◌, ◌≤◌, ◌+◌, ℕ, zero, suc, Bool, true, false, List, [], ◌∷◌, ◌++◌, length, map, drop}
 use Rattle.std.proofs.Common.{drop-cons, get_or, add-one, Option, Some, None}
 use Rattle.std.proofs.Common.{Result, Ok, Err, option_map, refl, sym, ap, arith, append_assoc, append-nil, if◌then◌else◌}
 use Rattle.std.proofs.lemmas.Bool.Decides.{nat_tests}
 use Rattle.std.proofs.lemmas.List.{drop_all}
 use Rattle.std.proofs.Common.{length-append}
-use Rattle.csv.specs.Writing.{is_blank, field_text, fields_text, row_body, row_text, next_sep, default_writer}
+use Rattle.csv.specs.Writing.{is_blank, field_text, fields_text, row_body, next_sep, default_writer}
 use Rattle.ipc_model.specs.declared.schema.Field.{Field, out-Field}
 use Rattle.ipc_model.specs.declared.value.Value.{Value, out-Value}
-use Rattle.ipc_text.specs.RowCsv.{with_field, with_fields, body_from, all_texts, in_front, each_text, value_text}
+use Rattle.ipc_text.specs.RowCsv.{with_field, with_fields, body_from, all_texts, in_front, each_text, value_text, end_behind, Ended}
 use Rattle.ipc_text.specs.declared.fault.TextFault.{TextFault}
 
 some_byte : (n : ℕ) → (suc n == 0) ≡ false
@@ -47,7 +47,7 @@ one_more zero out text (Err e) = refl
 one_more (suc n) out text (Ok ts) = rw (separated n) (ap Ok (simp append_assoc refl))
 one_more (suc n) out text (Err e) = refl
 
--- a field more
+-- where a cell's field was appended behind what separates it, the cells behind it lead to the same text or fault
 pub field_more : (i : ℕ) (out o1 o2 : List ℕ) (cell : Option (List ℕ)) (cells : List (Option (List ℕ)))
     → o1 ≡ out ++ next_sep default_writer i → Some o2 ≡ option_map (with_field o1) cell
     → with_fields (i + 1) o2 (all_texts (i + 1) cells) ≡ with_fields i out (all_texts i (cell ∷ cells))
@@ -68,26 +68,23 @@ unfolding fields_text
 one_name zero out text ts = simp append_assoc refl
 one_name (suc n) out text ts = rw (separated n) (simp append_assoc refl)
 
--- a name more
+-- where a name was appended behind what separates it, the names behind it lead to the same text
 pub name_more : (i : ℕ) (out o1 text : List ℕ) (ts : List (List ℕ)) → o1 ≡ out ++ next_sep default_writer i
     → with_field o1 text ++ body_from (i + 1) ts ≡ out ++ body_from i (text ∷ ts)
 name_more i out o1 text ts e = rw (e, add-one) (one_name i out text ts)
 
+-- no texts leave a text as it is
 pub no_more : (n : ℕ) (out : List ℕ) → out ++ body_from n [] ≡ out
 unfolding fields_text
 no_more zero out = append-nil out
 no_more (suc n) out = append-nil out
 
+-- the names from a column on: its own, and those behind it
 pub names_from : (fs : List Field) (i : ℕ) (f : Field) → i < length fs → f ≡ get_or fs i f
     → map (λ g. (out-Field g).name) (drop i fs) ≡ (out-Field f).name ∷ map (λ g. (out-Field g).name) (drop (i + 1) fs)
 names_from fs i f lt e = rw (drop-cons fs i f) (rw (← e, add-one) refl)
 
--- the end of a record
-pub ended : (before : List ℕ) (ts : List (List ℕ)) (o o1 : List ℕ) → o ≡ before ++ row_body default_writer ts
-    → o1 ≡ o ++ (if length (row_body default_writer ts) == 0 then 34 ∷ 34 ∷ [] else [])
-    → o1 ++ 10 ∷ [] ≡ before ++ row_text default_writer ts
-ended before ts o o1 e f = rw (f, e, blank_is ts) (simp append_assoc refl)
-
+-- behind the last column nothing is appended
 pub no_columns : (n : ℕ) (out : List ℕ) (fs : List Field) (vs : List Value) → length fs ≤ n
     → with_fields n out (all_texts n (each_text (drop n fs) vs)) ≡ Ok out
 no_columns n out fs vs le = rw (drop_all n fs le) (ap Ok (no_more n out))
@@ -96,6 +93,7 @@ without_values : (n : ℕ) (out : List ℕ) (fs : List Field) → with_fields n 
 without_values n out [] = ap Ok (no_more n out)
 without_values n out (f ∷ fs) = ap Ok (no_more n out)
 
+-- behind the last value of a row nothing is appended
 pub no_values : (n : ℕ) (out : List ℕ) (fs : List Field) (vs : List Value) → length vs ≤ n
     → with_fields n out (all_texts n (each_text fs (drop n vs))) ≡ Ok out
 no_values n out fs vs le = rw (drop_all n vs le) (without_values n out fs)
@@ -105,5 +103,18 @@ added m zero k e = grind (arith, nat_tests, e)
 added m (suc n) k e = grind (arith, nat_tests, e)
 
 -- nothing stands behind a text where both are as long together as it is alone
-pub nothing_behind : (before xs : List ℕ) (n : ℕ) → length before ≡ n → (length (before ++ xs) == n) ≡ (length xs == 0)
+nothing_behind : (before xs : List ℕ) (n : ℕ) → length before ≡ n → (length (before ++ xs) == n) ≡ (length xs == 0)
 nothing_behind before xs n e = rw (length-append before xs) (added (length before) (length xs) n e)
+
+end_of : (blank : Bool) (before body : List ℕ) → before ++ body ++ (if blank then 34 ∷ 34 ∷ 10 ∷ [] else 10 ∷ [])
+    ≡ before ++ (body ++ ((if blank then 34 ∷ 34 ∷ [] else []) ++ 10 ∷ []))
+end_of true before body = simp append_assoc refl
+end_of false before body = simp append_assoc refl
+
+-- what ends a record where its fields stand makes of them the record
+pub ended : (start : ℕ) (old new : List ℕ) → new ≡ old ++ end_behind start old → Ended start old new
+ended start old new e = λ before texts l f.
+    let body = row_body default_writer texts in
+    let blank : (length old == start) ≡ (length body == 0) =
+    ap (λ xs. length xs == start) f ∙ nothing_behind before body start l in
+    rw (e, blank, f, blank_is texts) (end_of (length body == 0) before body)

@@ -1,7 +1,8 @@
 -- Dates, times of day and points in time as texts (ISO 8601-1, "Local time of day", "Combined date
 -- and time of day representations"). There are no leap seconds.
 use Rattle.std.specs.Prelude.{ℕ, ◌+◌, ◌*◌, ◌/◌, ◌%◌, ℤ, pos, if◌then◌else◌}
-use Rattle.std.specs.Prelude.{unsigned_abs, List, [], ◌∷◌, ◌++◌, Option, Some, None, option_map}
+use Rattle.std.specs.Prelude.{unsigned_abs, int_lt, List, [], ◌∷◌, ◌++◌}
+use Rattle.std.specs.Prelude.{Option, Some, None, option_map}
 use Rattle.std.specs.Int.{int_div_euclid, int_rem_euclid}
 use Rattle.std.specs.Ordering.{int_eq}
 use Rattle.ipc_model.specs.declared.schema.DataType.{DataType}
@@ -52,6 +53,12 @@ date_text d.Millisecond z =
     if int_eq (int_rem_euclid z (pos 86_400_000)) (pos 0)
     then day_text (int_div_euclid z (pos 86_400_000)) else None
 
+-- the text of a time (Schema.fbs, table Time): so many units after midnight, within 24 hours
+abbrev pub time_text : TimeUnit → ℤ → Option (List ℕ)
+time_text unit z =
+    if int_lt z (pos 0) then None
+    else if int_lt z (pos (per_day unit)) then Some (time_of_day unit (unsigned_abs z)) else None
+
 -- what stands behind a point in time: `Z` where a time zone is present and not empty
 abbrev pub zone_text : Option (List ℕ) → List ℕ
 zone_text None = []
@@ -66,15 +73,22 @@ timestamp_text unit zone z =
     (unsigned_abs (int_rem_euclid z (pos (per_day unit)))) ++ zone_text zone)
     (day_text (int_div_euclid z (pos (per_day unit))))
 
--- the text of a value of this type that is a date or a point in time, where it has one
+-- the text of a number of this type where it is a date, a time or a point in time, and has one; of
+-- a number of another type, what is given
+abbrev pub moment_or : Option (List ℕ) → DataType → ℤ → Option (List ℕ)
+moment_or other (t.Date unit) z = date_text unit z
+moment_or other (t.Time unit) z = time_text unit z
+moment_or other (t.Timestamp unit zone) z = timestamp_text unit zone z
+moment_or other (t.Duration unit) z = other
+moment_or other t.Null z = other
+moment_or other t.Bool z = other
+moment_or other (t.Int bits signed) z = other
+moment_or other t.Binary z = other
+moment_or other t.Utf8 z = other
+moment_or other (t.FixedSizeBinary width) z = other
+moment_or other t.List z = other
+moment_or other t.Struct z = other
+
+-- the text of a number of this type that is a date, a time or a point in time, where it has one
 abbrev pub moment_text : DataType → ℤ → Option (List ℕ)
-moment_text (t.Date unit) z = date_text unit z
-moment_text (t.Timestamp unit zone) z = timestamp_text unit zone z
-moment_text t.Null z = None
-moment_text t.Bool z = None
-moment_text (t.Int bits signed) z = None
-moment_text t.Binary z = None
-moment_text t.Utf8 z = None
-moment_text (t.FixedSizeBinary width) z = None
-moment_text t.List z = None
-moment_text t.Struct z = None
+moment_text kind z = moment_or None kind z

@@ -13,7 +13,7 @@ use Rattle.ipc_model.specs.declared.schema.DataType.TheVariants as t
 use Rattle.ipc_model.specs.declared.schema.Field.{Field, out-Field}
 use Rattle.ipc_model.specs.declared.value.Value.{Value, out-Value}
 use Rattle.ipc_model.specs.declared.value.Value.TheOpen.{Value-F}
-use Rattle.ipc_text.specs.Moments.{date_text, timestamp_text}
+use Rattle.ipc_text.specs.Moments.{moment_or}
 use Rattle.ipc_text.specs.declared.fault.TextFault.{TextFault}
 use Rattle.ipc_text.specs.declared.fault.TextFault.TheVariants.{NotFlat, NoColumns, NoTextForm}
 use Rattle.ipc_text.specs.declared.fault.TextFault.TheVariants.{OutOfMemory}
@@ -32,18 +32,9 @@ abbrev pub backslashed : List ℕ → List ℕ
 backslashed [] = []
 backslashed (b ∷ bs) = if b == backslash then backslash ∷ b ∷ bs else b ∷ bs
 
--- the text of a signed number of this type: of a date or a point in time, where it has one
+-- the text of a signed number of this type: of a date, a time or a point in time, where it has one
 abbrev pub int_text : DataType → ℤ → Option (List ℕ)
-int_text (t.Date unit) z = date_text unit z
-int_text (t.Timestamp unit zone) z = timestamp_text unit zone z
-int_text t.Null z = Some (signed_decimal z)
-int_text t.Bool z = Some (signed_decimal z)
-int_text (t.Int bits signed) z = Some (signed_decimal z)
-int_text t.Binary z = Some (signed_decimal z)
-int_text t.Utf8 z = Some (signed_decimal z)
-int_text (t.FixedSizeBinary width) z = Some (signed_decimal z)
-int_text t.List z = Some (signed_decimal z)
-int_text t.Struct z = Some (signed_decimal z)
+int_text kind z = moment_or (Some (signed_decimal z)) kind z
 
 -- the text of a value of this type, where it has one: bytes as lower-case hexadecimal digits
 abbrev pub value_text : DataType → Value-F Value → Option (List ℕ)
@@ -88,7 +79,9 @@ is_nested t.Binary = false
 is_nested t.Utf8 = false
 is_nested (t.FixedSizeBinary width) = false
 is_nested (t.Date unit) = false
+is_nested (t.Time unit) = false
 is_nested (t.Timestamp unit timezone) = false
+is_nested (t.Duration unit) = false
 
 -- the texts of values beside their columns
 abbrev pub each_text : List Field → List Value → List (Option (List ℕ))
@@ -155,6 +148,15 @@ Ended start old new =
     (before : List ℕ) (texts : List (List ℕ)) → length before ≡ start
     → old ≡ before ++ csv.row_body default_writer texts
     → new ≡ before ++ csv.row_text default_writer texts
+
+-- what ends a record whose fields stand in a text from a place on: a line feed, behind two quotes
+-- where nothing stands there
+abbrev pub end_behind : ℕ → List ℕ → List ℕ
+end_behind start text = if length text == start then codes "\"\"\n" else codes "\n"
+
+-- a list begins with another
+abbrev pub BeginsWith : List ℕ → List ℕ → Type 0
+BeginsWith front whole = (behind : List ℕ) × (whole ≡ front ++ behind)
 
 -- a text, and a row's fields behind it, unless there is a fault
 abbrev pub put_texts : List ℕ → List Field → List Value → Result (List ℕ) TextFault

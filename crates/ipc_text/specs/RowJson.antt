@@ -22,7 +22,7 @@ abbrev pub text_or_number : Option (List ℕ) → ℤ → Data
 text_or_number (Some text) z = string text
 text_or_number None z = number (number_of z)
 
--- a signed number of this type: dates and points in time as their text, where they have one
+-- a signed number of this type: dates, times and points in time as their text, where they have one
 abbrev pub int_json : DataType → ℤ → Data
 int_json kind z = text_or_number (moment_text kind z) z
 

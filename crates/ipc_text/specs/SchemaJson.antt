@@ -60,8 +60,10 @@ type_json t.Binary = named (codes "binary") []
 type_json t.Utf8 = named (codes "utf8") []
 type_json (t.FixedSizeBinary size) = named (codes "fixed_size_binary") (number (unsigned size) ∷ [])
 type_json (t.Date unit) = named (codes "date") (string (date_unit_name unit) ∷ [])
+type_json (t.Time unit) = named (codes "time") (string (unit_name unit) ∷ [])
 type_json (t.Timestamp unit zone) =
     named (codes "timestamp") (string (unit_name unit) ∷ text_or_null zone ∷ [])
+type_json (t.Duration unit) = named (codes "duration") (string (unit_name unit) ∷ [])
 type_json t.List = named (codes "list") []
 type_json t.Struct = named (codes "struct") []
 

@@ -11,8 +11,8 @@ use hex::FromHexError;
 use itoa::Buffer;
 use std::alloc::Global;
 
-/// The signed number whose decimal text this is: no plus sign, no leading zero, no `-0`. None for
-/// any other text.
+/// The signed number, of an integer or a duration, whose decimal text this is: no plus sign, no
+/// leading zero, no `-0`. None for any other text.
 pub fn read_int(text: &str) -> Option<i64>
     ensures only { IfSome result (λ z. signed_decimal z ≡ text.now) }
     ensures all { (z : ℤ) → FitsSigned w64 z → signed_decimal z ≡ text.now → result ≡ Some z }

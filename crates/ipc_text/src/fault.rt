@@ -15,8 +15,8 @@ pub enum TextFault {
     /// X2: no column, of which CSV has no record.
     #[error("X2 NoColumns")]
     NoColumns,
-    /// X3: a date or a point in time outside the years 0001 to 9999, or milliseconds of a date that
-    /// are no whole days, for CSV; the first such column.
+    /// X3: a date or a point in time outside the years 0001 to 9999, milliseconds of a date that
+    /// are no whole days, or a time not within 24 hours, for CSV; the first such column.
     #[error("X3 NoTextForm at column {column}")]
     NoTextForm {
         /// The column's number.

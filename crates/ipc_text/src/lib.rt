@@ -4,6 +4,7 @@
 mod calendar;
 mod csv_cell;
 mod csv_row;
+mod digits;
 mod fault;
 mod moment;
 mod row;
@@ -16,7 +17,7 @@ pub use csv_row::{
     push_int, push_null, push_text, push_uint, push_value,
 };
 pub use fault::TextFault;
-pub use moment::{date_text, timestamp_text};
+pub use moment::{date_text, time_text, timestamp_text};
 pub use row::{put_bytes, put_int, put_row_json, row_json};
 pub use schema::{pairs_json, schema_json};
 pub use short_text::ShortText;

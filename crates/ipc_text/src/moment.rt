@@ -1,5 +1,7 @@
-//! Dates and points in time.
+//! Dates, times and points in time.
 ghost use Rattle.std.specs.Prelude.{◌≡◌, ◌<◌, ◌≤◌, ◌+◌, ◌*◌, ◌++◌, option_map, length};
+ghost use Rattle.std.specs.Prelude.{IsSome, ◌↔◌};
+ghost use Rattle.ipc_model.specs.Ranges.{IsTimeOfDay};
 ghost use Rattle.ipc_text.specs.Moments as spec;
 ghost use Rattle.ipc_text.specs.Moments.{per_second, per_day, clock_text, fraction_text};
 ghost use Rattle.ipc_text.specs.Moments.{time_of_day, zone_text};
@@ -83,6 +85,22 @@ pub fn date_text(unit: DateUnit, number: i64) -> Option<ShortText>
             day_text(number.div_euclid(86_400_000))
         }
     }
+}
+
+/// The text of a time of day, so many units after midnight: `hh:mm:ss`, and 0, 3, 6 or 9 digits of
+/// a second behind a point by the unit. None below 0, and from 24 hours on.
+#[tactic(auto, using(crate::proofs::Times::time_has_text))]
+pub fn time_text(unit: TimeUnit, number: i64) -> Option<ShortText>
+    ensures text { result ≡ spec.time_text unit number }
+    ensures conforming { IsSome result ↔ IsTimeOfDay unit number }
+{
+    let per_day = (86_400 * per_second(unit)) as i64;
+    if number < 0 || number >= per_day {
+        return None;
+    }
+    let mut text = ShortText::new();
+    push_time_of_day(&mut text, unit, number as u64);
+    Some(text)
 }
 
 // `Z` for a time zone that is present and not empty.

@@ -5,7 +5,6 @@ ghost use Rattle.json.specs.Token.{Token};
 ghost use Rattle.json.specs.Tree.{json_tokens, items_tokens};
 ghost use Rattle.serde_json.specs.Data.{string, number, unsigned};
 ghost use Rattle.serde_json.specs.Written.{outline, items_outline};
-ghost use Rattle.ipc_model.specs.Ranges.{width};
 ghost use Rattle.ipc_model.specs.declared.schema.Field.{out-Field};
 ghost use Rattle.ipc_text.specs.SchemaJson as spec;
 ghost use Rattle.ipc_text.specs.SchemaJson.{named, type_json, dictionary_json, pair_json};
@@ -15,7 +14,7 @@ ghost use Rattle.ipc_text.specs.SchemaJson.{unit_name, date_unit_name, int_name,
 ghost use Rattle.ipc_text.specs.SchemaJson.{items_of};
 
 use crate::fault::TextFault;
-use ipc_model::{DataType, DateUnit, Dictionary, Field, IntBits, Schema, Text, TimeUnit};
+use ipc_model::{DataType, DateUnit, Dictionary, Field, Schema, Text, TimeUnit};
 use json::Writer;
 use std::alloc::{AllocError, Global};
 
@@ -36,17 +35,6 @@ fn date_unit_name(unit: DateUnit) -> &'static str
     match unit {
         DateUnit::Day => "day",
         DateUnit::Millisecond => "ms",
-    }
-}
-
-fn width(bits: IntBits) -> u64
-    ensures { result ≡ width bits }
-{
-    match bits {
-        IntBits::B8 => 8,
-        IntBits::B16 => 16,
-        IntBits::B32 => 32,
-        IntBits::B64 => 64,
     }
 }
 
@@ -124,14 +112,20 @@ fn put_type(out: &mut Writer, kind: &DataType) -> Result<(), AllocError>
     match kind {
         DataType::Null => put_name(out, "null"),
         DataType::Bool => put_name(out, "bool"),
-        DataType::Int { bits, signed } => put_name_and_number(out, int_name(*signed), width(*bits)),
+        DataType::Int { bits, signed } => put_name_and_number(
+            out,
+            int_name(*signed),
+            u64::from(bits.width()),
+        ),
         DataType::Binary => put_name(out, "binary"),
         DataType::Utf8 => put_name(out, "utf8"),
         DataType::FixedSizeBinary(size) => {
             put_name_and_number(out, "fixed_size_binary", u64::from(*size))
         }
         DataType::Date(unit) => put_name_and_text(out, "date", date_unit_name(*unit)),
+        DataType::Time(unit) => put_name_and_text(out, "time", unit_name(*unit)),
         DataType::Timestamp { unit, timezone } => put_timestamp(out, *unit, timezone),
+        DataType::Duration(unit) => put_name_and_text(out, "duration", unit_name(*unit)),
         DataType::List => put_name(out, "list"),
         DataType::Struct => put_name(out, "struct"),
     }
@@ -148,7 +142,7 @@ fn put_dictionary(out: &mut Writer, dictionary: Option<Dictionary>) -> Result<()
     let index = dictionary.index;
     out.begin_array()?;
     out.i64(dictionary.id)?;
-    put_name_and_number(out, int_name(index.signed), width(index.bits))?;
+    put_name_and_number(out, int_name(index.signed), u64::from(index.bits.width()))?;
     out.boolean(dictionary.ordered)?;
     out.end_array()
 }

@@ -1,7 +1,7 @@
 //! Texts whose right form is given.
 use crate::{
     TextFault, csv_header, csv_record, date_text, pairs_json, read_bool, read_bytes, read_int,
-    read_text, read_uint, row_json, schema_json, timestamp_text,
+    read_text, read_uint, row_json, schema_json, time_text, timestamp_text,
 };
 use ipc_model::{DataType, DateUnit, Field, IntBits, Items, Schema, Text, TimeUnit, Value};
 use std::alloc::{AllocError, Global};
@@ -75,6 +75,30 @@ fn points_in_time(rt: HostRuntime) -> Result<(), Fail> {
     ];
     for (unit, zone, number, wanted) in cases {
         let text = timestamp_text(unit, zone, number);
+        assert_eq!(rt; text.as_ref().map(|text| text.as_str()), wanted);
+    }
+    Ok(())
+}
+
+#[test]
+fn times(rt: HostRuntime) -> Result<(), Fail> {
+    let cases = [
+        (TimeUnit::Second, 0, Some("00:00:00")),
+        (TimeUnit::Second, 3_723, Some("01:02:03")),
+        (TimeUnit::Second, 86_399, Some("23:59:59")),
+        (TimeUnit::Second, 86_400, None),
+        (TimeUnit::Millisecond, 86_399_999, Some("23:59:59.999")),
+        (TimeUnit::Millisecond, 86_400_000, None),
+        (TimeUnit::Microsecond, 0, Some("00:00:00.000000")),
+        (
+            TimeUnit::Nanosecond,
+            45_296_000_000_007,
+            Some("12:34:56.000000007"),
+        ),
+        (TimeUnit::Nanosecond, -1, None),
+    ];
+    for (unit, number, wanted) in cases {
+        let text = time_text(unit, number);
         assert_eq!(rt; text.as_ref().map(|text| text.as_str()), wanted);
     }
     Ok(())
@@ -248,5 +272,38 @@ fn csv_fields(rt: HostRuntime) -> Result<(), Fail> {
         Some([0u8, 171].as_slice())
     );
     assert!(rt; read_bytes(alloc, b"0")?.is_none());
+    Ok(())
+}
+
+#[test]
+fn times_and_durations(rt: HostRuntime) -> Result<(), Fail> {
+    let alloc = rt.alloc();
+    let schema = Schema {
+        fields: Items::from_vec(vec![in alloc;
+            field(alloc, "t", DataType::Time(TimeUnit::Millisecond))?,
+            field(alloc, "d", DataType::Duration(TimeUnit::Microsecond))?,
+        ]?),
+        metadata: Items::from_vec(Vec::new(alloc)),
+    };
+    let text = schema_json(alloc, &schema)?;
+    assert!(rt; text.as_str().contains("\"type\":[\"time\",\"ms\"]}"));
+    assert!(rt; text.as_str().contains("\"type\":[\"duration\",\"us\"]}"));
+    let row = vec![in alloc; Value::Int(86_399_999), Value::Int(-90)]?;
+    assert_eq!(rt;
+        row_json(alloc, &schema, row.as_slice())?.as_str(),
+        "[\"23:59:59.999\",-90]"
+    );
+    assert_eq!(rt;
+        csv_record(alloc, &schema, row.as_slice())?.as_slice(),
+        b"23:59:59.999,-90\n".as_slice()
+    );
+    assert_eq!(rt; read_int("-90"), Some(-90));
+    let row = vec![in alloc; Value::Int(86_400_000), Value::Int(0)]?;
+    assert_eq!(rt;
+        row_json(alloc, &schema, row.as_slice())?.as_str(),
+        "[86400000,0]"
+    );
+    let refused = csv_record(alloc, &schema, row.as_slice());
+    assert!(rt; matches!(&refused, Err(TextFault::NoTextForm { column: 0 })));
     Ok(())
 }
