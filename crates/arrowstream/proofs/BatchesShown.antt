@@ -25,6 +25,7 @@ use Rattle.ipc_stream.specs.Stream.{State, Event, InForce, schema, batch, Step, 
 use Rattle.arrowstream.specs.Columns.{AreShownColumns, IsShownColumn}
 use Rattle.arrowstream.specs.Rows.{AreShownRows, IsShown}
 use Rattle.arrowstream.proofs.Shown.{null_shown, int_shown}
+use Rattle.ipc_model.specs.declared.limits.Limits.{Limits}
 
 -- the layout of a column that is shown
 shape_is : (f : Field) → IsShownColumn f → (field_shape f).0 ≡ Numbers B64 true
@@ -53,7 +54,8 @@ by_index : {X : Type 0} (P : X → Type 0) (xs : List X) (d : X) → ((i : ℕ) 
 by_index P [] d all = tt
 by_index P (x ∷ xs) d all = (all 0 (omega arith), by_index P xs d (λ i h. all (suc i) (omega (arith, h))))
 
-rows_shown : (fs : List Field) (h : BatchHead) (body : List ℕ) (rows : List (List Value)) → AreShownColumns fs → Rows fs h body rows
+rows_shown : {limits : Limits} → (fs : List Field) (h : BatchHead) (body : List ℕ) (rows : List (List Value)) → AreShownColumns fs
+    → Rows limits fs h body rows
     → AreShownRows rows
 rows_shown fs h body rows all r =
     by_index (AllByRecursion IsShown) rows []
@@ -64,19 +66,21 @@ abbrev pub IsShownEvent : Event → Type 0
 IsShownEvent (schema s) = ⊤
 IsShownEvent (batch rows) = AreShownRows rows
 
-step_shown : (σ τ : State) (h : Head) (body : List ℕ) (es : List Event) (o : InForce) → AreShownColumns o.schema.fields → σ ≡ Some o
-    → Step σ h body es τ → AllByRecursion IsShownEvent es × (τ ≡ Some o)
-step_shown σ τ h body es o all is first = absurd (cc)
-step_shown σ τ h body es o all is (came {o = p} {b = b} {body = c} {rows = rows} r) =
+step_shown : {limits : Limits} → (σ τ : State) (h : Head) (body : List ℕ) (es : List Event) (o : InForce)
+    → AreShownColumns o.schema.fields → σ ≡ Some o
+    → Step limits σ h body es τ → AllByRecursion IsShownEvent es × (τ ≡ Some o)
+step_shown {limits} σ τ h body es o all is first = absurd (cc)
+step_shown {limits} σ τ h body es o all is (came {o = p} {b = b} {body = c} {rows = rows} r) =
     let same : p ≡ o = cc in
-    ((rows_shown o.schema.fields b c rows all (subst (λ (q : InForce). Rows q.schema.fields b c rows) same r), tt), is)
+    ((rows_shown o.schema.fields b c rows all (subst (λ (q : InForce). Rows limits q.schema.fields b c rows) same r), tt), is)
 
 append_shown : (es fs : List Event) → AllByRecursion IsShownEvent es → AllByRecursion IsShownEvent fs
     → AllByRecursion IsShownEvent (es ++ fs)
 append_shown [] fs a b = b
 append_shown (e ∷ es) fs a b = (a.0, append_shown es fs a.1 b)
 
-run_shown : (σ τ : State) (x : List ℕ) (es : List Event) (o : InForce) → AreShownColumns o.schema.fields → σ ≡ Some o → Run σ x es τ
+run_shown : {limits : Limits} → (σ τ : State) (x : List ℕ) (es : List Event) (o : InForce) → AreShownColumns o.schema.fields → σ ≡ Some o
+    → Run limits σ x es τ
     → AllByRecursion IsShownEvent es
 run_shown σ τ x es o all is done = tt
 run_shown σ τ x es o all is (more {σ = a} {τ = b} {υ = c} {x = u} {metadata = m} {body = d} {y = v} {h = h} {es = ds}
@@ -85,6 +89,6 @@ run_shown σ τ x es o all is (more {σ = a} {τ = b} {υ = c} {x = u} {metadata
     append_shown ds gs s.0 (run_shown b c v gs o all s.1 rest)
 
 -- what a run of one batch says of its rows
-pub batch_shown : (o : InForce) (x : List ℕ) (rows : List (List Value)) → AreShownColumns o.schema.fields
-    → Run (Some o) x (batch rows ∷ []) (Some o) → AreShownRows rows
+pub batch_shown : {limits : Limits} → (o : InForce) (x : List ℕ) (rows : List (List Value)) → AreShownColumns o.schema.fields
+    → Run limits (Some o) x (batch rows ∷ []) (Some o) → AreShownRows rows
 batch_shown o x rows all run = (run_shown (Some o) (Some o) x (batch rows ∷ []) o all refl run).0

@@ -11,6 +11,7 @@ use Rattle.std.proofs.lemmas.Fmt.{decimal_digit, decimal_step, decimal_nonempty,
 use Rattle.std.specs.Fmt.{decimal}
 use Rattle.arrowstream.specs.Digits.{last_digits}
 
+-- the last k digits of a number are k bytes
 pub length-last : (k n : ℕ) → length (last_digits k n) ≡ k
 length-last zero n = refl
 length-last (suc k) n = length-append (last_digits k (n / 10)) ((48 + n % 10) ∷ []) ∙ rw (length-last k (n / 10)) (omega arith)
@@ -112,6 +113,7 @@ exact k n low high s = omega (arith, longer k n low s, length-decimal-le (suc k)
 pub seven : (n : ℕ) → n < 10 → 7 + length (decimal n) ≡ 8
 seven n h = omega (arith, ap length (decimal_digit n h))
 
+-- a number of k + 1 digits and the zeros in front of it make eight digits
 pub fewer : (z k n : ℕ) → z + suc k ≡ 8 → 10 ^ k ≤ n → n < 10 ^ suc k → n < 2 ^ 64 → z + length (decimal n) ≡ 8
 fewer z k n e low high s = omega (arith, e, exact k n low high s)
 

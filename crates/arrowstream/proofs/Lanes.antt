@@ -44,6 +44,7 @@ chunk_number xs p =
     (let e : p + 7 ≡ suc (suc (suc (suc (suc (suc (suc p)))))) = omega arith in e) in
     omega (arith, a, b, c, d, f, g, h, i)
 
+-- number i of a lent column is the signed number in the eight bytes from 8 * i on
 pub number_at : (xs numbers : List ℕ) (all : List (List ℕ)) (i : ℕ) → all ≡ first_chunks 8 (length xs / 8) xs → i < length xs / 8
     → number_in (slice_index_or all i []) ≡ Int (int64 xs (8 * i))
 number_at xs numbers all i is inside =
@@ -57,9 +58,11 @@ module _ {X : Type 0} (numbers : X → List (List ℕ)) where
     pub long : AreLong numbers columns (length rows)
     pub same : (i : ℕ) → i < length rows → row_in numbers columns i ≡ take count (slice_index_or rows i [])
 
+  -- before the first column no numbers are lent
   pub lent_none : (columns : List X) (rows : List (List Value)) → columns ≡ [] → LentSome columns rows 0
   lent_none columns rows none = subst (λ (c : List X). LentSome c rows 0) (sym none) (record { size = refl; long = tt; same = λ i h. refl })
 
+  -- where one column more lends its numbers, the first columns and it lend theirs
   pub lent_more : (columns more : List X) (x : X) (rows : List (List Value)) (count : ℕ) (values : List ℕ) → LentSome columns rows count
       → AreNumbers rows count values
       → numbers x ≡ first_chunks 8 (length values / 8) values → length (numbers x) ≡ length values / 8 → more ≡ columns ++ x ∷ []
@@ -79,6 +82,7 @@ module _ {X : Type 0} (numbers : X → List (List ℕ)) where
             ∙ (ap (λ (w : Value). take count row ++ w ∷ []) last ∙ sym (take_more row count _ wide)));
       })
 
+  -- columns that all lend their numbers have exactly the numbers of the rows
   pub lent_all : (columns : List X) (rows : List (List Value)) (count : ℕ) → LentSome columns rows count
       → AllByRecursion (λ row. length row ≡ count) rows → 0 < length columns → AreLent numbers columns rows
   lent_all columns rows count lent wide some = record {
@@ -124,6 +128,7 @@ module _ {X : Type 0} (numbers : X → List (List ℕ)) where
       ∙ (ap (λ (x : List ℕ). opened (take i (row_in numbers columns row)) ++ (comma i ++ x)) (sym (int_text z))
       ∙ cell_more (row_in numbers columns row) i (Int z) wide at)
 
+  -- one number more of a row is put
   pub number_more : (columns : List X) (row : ℕ) (old now new : Output) (before i : ℕ) (x d : X) (z : ℤ)
       → RowPut columns row old now before i → i < length columns → x ≡ get_or columns i d
       → number_in (slice_index_or (numbers x) row []) ≡ Int z → Puts now new (before ∷ signed_decimal z)
@@ -135,6 +140,7 @@ module _ {X : Type 0} (numbers : X → List (List ℕ)) where
     later = λ some. (number_text columns row old now before i x d z put inside is value, refl);
   }
 
+  -- columns with a number for each of n rows have one for each of fewer rows
   pub long_less : (columns : List X) (n m : ℕ) → m ≤ n → AreLong numbers columns n → AreLong numbers columns m
   long_less [] n m h long = tt
   long_less (x ∷ xs) n m h long = (omega (arith, h, long.0), long_less xs n m h long.1)

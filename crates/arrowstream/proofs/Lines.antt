@@ -14,9 +14,11 @@ use Rattle.arrowstream.proofs.Puts.{puts_then, puts_not_then, puts_not_front}
 use Rattle.arrowstream.proofs.Texts.{cell_more, row_rest, row_whole, lines_more, lines_rest, lines_whole}
 use Rattle.arrowstream.proofs.Lanes.{RowPut, number_text}
 
+-- where a text was put, an equal text was
 pub put_at : (a b : Output) (t u : List ℕ) → t ≡ u → Puts a b t → Puts a b u
 put_at a b t u is p = subst (Puts a b) is p
 
+-- where a text was not put, an equal text was not
 pub not_at : (a : Output) (w : Option (List ℕ)) (n : ℕ) (t u : List ℕ) (e : PrintFault) → t ≡ u → PutFails a w n t e → PutFails a w n u e
 not_at a w n t u e is p = subst (λ (x : List ℕ). PutFails a w n x e) is p
 
@@ -32,6 +34,7 @@ module _ (row : List Value) where
   row_next a b d c v inside at p q = put_at a d _ _ (cell_more row c v inside at)
       (puts_then a b d (opened (take c row)) (comma c ++ cell_text v) p q)
 
+  -- where a cell of a row was not put, the row was not
   pub row_cut : (a b : Output) (w : Option (List ℕ)) (n c : ℕ) (v : Value) (e : PrintFault) → c < length row → slice_get row c ≡ Some v
       → Puts a b (opened (take c row)) → PutFails b w n (comma c ++ cell_text v) e → PutFails a w n (line row) e
   row_cut a b w n c v e inside at p q =
@@ -55,12 +58,14 @@ module _ (rows : List (List Value)) where
   rows_next a b d i inside p q = put_at a d _ _ (lines_more rows i inside)
       (puts_then a b d (lines (take i rows)) (line (slice_index_or rows i [])) p q)
 
+  -- where one of the rows was not put, the rows were not
   pub rows_cut : (a b : Output) (w : Option (List ℕ)) (n i : ℕ) (e : PrintFault) → i < length rows → Puts a b (lines (take i rows))
       → PutFails b w n (line (slice_index_or rows i [])) e → PutFails a w n (lines rows) e
   rows_cut a b w n i e inside p q =
       puts_not_front a w n (lines (take (i + 1) rows)) (lines (drop (i + 1) rows)) (lines rows) e (lines_rest rows (i + 1))
       (not_at a w n _ _ e (lines_more rows i inside) (puts_not_then a b w n (lines (take i rows)) (line (slice_index_or rows i [])) e p q))
 
+  -- where each row was put, all were
   pub rows_end : (a b : Output) (i : ℕ) → length rows ≤ i → Puts a b (lines (take i rows)) → Puts a b (lines rows)
   rows_end a b i all p = put_at a b _ _ (ap lines (take_all i rows all)) p
 
@@ -72,6 +77,7 @@ module _ {X : Type 0} (numbers : X → List (List ℕ)) (columns : List X) (row 
   pub numbers_begin : (a b : Output) → Puts a b [] → RowPut numbers columns row a b 91 0
   numbers_begin a b p = record { text = []; puts = p; first = λ is. (refl, refl); later = λ some. absurd (omega (arith, some)) }
 
+  -- where a number of a row was not put, the row was not
   pub numbers_cut : (a b : Output) (w : Option (List ℕ)) (n before i : ℕ) (x d : X) (z : ℤ) (e : PrintFault)
       (put : RowPut numbers columns row a b before i) → i < length columns → x ≡ get_or columns i d
       → number_in (slice_index_or (numbers x) row []) ≡ Int z → PutFails b w n (before ∷ signed_decimal z) e → PutFails a w n (line whole) e
@@ -81,6 +87,7 @@ module _ {X : Type 0} (numbers : X → List (List ℕ)) (columns : List X) (row 
       (not_at a w n _ _ e (number_text numbers columns row a b before i x d z put inside is value)
       (puts_not_then a b w n put.text (before ∷ signed_decimal z) e put.puts q))
 
+  -- the bracket behind all numbers of a row
   pub numbers_end : (a b : Output) (w : Option (List ℕ)) (n before i : ℕ) (kept : List ℕ) (r : Result ℕ PrintFault)
       → RowPut numbers columns row a b before i → 0 < i → length columns ≤ i → PrintsAt b w n kept (93 ∷ 10 ∷ []) r
       → PrintsAt a w n kept (line whole) r

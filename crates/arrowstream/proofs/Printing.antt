@@ -27,19 +27,22 @@ use Rattle.arrowstream.proofs.Shown.{all_more}
 use Rattle.arrowstream.proofs.Lines.{put_at, not_at}
 use Rattle.arrowstream.proofs.Texts.{batch_lines_more}
 use Rattle.arrowstream.proofs.BatchesShown.{batch_shown}
+use Rattle.ipc_model.specs.declared.limits.Limits.{Limits}
 
 -- these batches were read behind the schema, and printed
 pub record Batches (old now : Reader) (before after : Output) : Type 0 where
   pub x : List ℕ
   pub batches : List (List (List Value))
   pub bytes : Consumes old.remaining now.remaining x
-  pub run : Run (Some (in_force_of old)) x (map batch batches) (Some (in_force_of old))
+  pub run : Run old.limits (Some (in_force_of old)) x (map batch batches) (Some (in_force_of old))
   pub reading : now.phase ≡ Reading
   pub same : now.schema ≡ old.schema
+  pub same_limits : now.limits ≡ old.limits
   pub counts : now.failures ≡ old.failures
   pub cells : AllByRecursion AreShownRows batches
   pub puts : Puts before after (batch_lines batches)
 
+-- before the first batch nothing was read and nothing printed
 pub batches_none : (r : Reader) (o : Output) → r.phase ≡ Reading → Batches r r o o
 batches_none r o reading = record {
   x = [];
@@ -48,57 +51,67 @@ batches_none r o reading = record {
   run = done;
   reading = reading;
   same = refl;
+  same_limits = refl;
   counts = refl;
   cells = tt;
   puts = puts_none o;
 }
 
 -- what a call that gave a batch says, where the reader was reading
-gave : (o : InForce) (p q : Phase) (x : List ℕ) (left : Option (List ℕ)) (found : Contents) → p ≡ Reading
-    → NextAnswer o p x left (Ok (Some found)) q → (q ≡ Reading) × Run (Some o) x (batch found.rows ∷ []) (Some o)
-gave o Reading Reading x left found is h = (refl, h)
-gave o Reading (Ended e) x left found is h = absurd h
-gave o Reading Refused x left found is h = absurd h
-gave o (Ended e) q x left found is h = absurd (cc)
-gave o Refused q x left found is h = absurd (cc)
+gave : (limits : Limits) (o : InForce) (p q : Phase) (x : List ℕ) (left : Option (List ℕ)) (found : Contents) → p ≡ Reading
+    → NextAnswer limits o p x left (Ok (Some found)) q → (q ≡ Reading) × Run limits (Some o) x (batch found.rows ∷ []) (Some o)
+gave limits o Reading Reading x left found is h = (refl, h)
+gave limits o Reading (Ended e) x left found is h = absurd h
+gave limits o Reading Refused x left found is h = absurd h
+gave limits o (Ended e) q x left found is h = absurd (cc)
+gave limits o Refused q x left found is h = absurd (cc)
 
-ended : (o : InForce) (p q : Phase) (x : List ℕ) (left : Option (List ℕ)) → p ≡ Reading → NextAnswer o p x left (Ok None) q
-    → (e : End) × Reads (Some o) x left [] (Ok e)
-ended o Reading Reading x left is h = absurd h
-ended o Reading (Ended e) x left is h = (e, h)
-ended o Reading Refused x left is h = absurd h
-ended o (Ended e) q x left is h = absurd (cc)
-ended o Refused q x left is h = absurd (cc)
+ended : (limits : Limits) (o : InForce) (p q : Phase) (x : List ℕ) (left : Option (List ℕ)) → p ≡ Reading
+    → NextAnswer limits o p x left (Ok None) q
+    → (e : End) × Reads limits (Some o) x left [] (Ok e)
+ended limits o Reading Reading x left is h = absurd h
+ended limits o Reading (Ended e) x left is h = (e, h)
+ended limits o Reading Refused x left is h = absurd h
+ended limits o (Ended e) q x left is h = absurd (cc)
+ended limits o Refused q x left is h = absurd (cc)
 
-broke : (o : InForce) (p q : Phase) (x : List ℕ) (left : Option (List ℕ)) (f : Fault) → p ≡ Reading → NextAnswer o p x left (Err f) q
-    → Reads (Some o) x left [] (Err f)
-broke o Reading Reading x left f is h = absurd h
-broke o Reading (Ended e) x left f is h = absurd h
-broke o Reading Refused x left f is h = h
-broke o (Ended e) q x left f is h = absurd (cc)
-broke o Refused q x left f is h = absurd (cc)
+broke : (limits : Limits) (o : InForce) (p q : Phase) (x : List ℕ) (left : Option (List ℕ)) (f : Fault) → p ≡ Reading
+    → NextAnswer limits o p x left (Err f) q
+    → Reads limits (Some o) x left [] (Err f)
+broke limits o Reading Reading x left f is h = absurd h
+broke limits o Reading (Ended e) x left f is h = absurd h
+broke limits o Reading Refused x left f is h = h
+broke limits o (Ended e) q x left f is h = absurd (cc)
+broke limits o Refused q x left f is h = absurd (cc)
 
 module _ (old now new : Reader) (before after : Output) (b : Batches old now before after) where
   same_open : in_force_of now ≡ in_force_of old
   same_open = ap (λ s. record { schema = s }) b.same
 
+  -- the answer, under the limits that the reader was opened with
+  same_answer : (r : Result (Option Contents) Fault) (t : NextCall now new r)
+      → NextAnswer old.limits (in_force_of now) now.phase t.x new.remaining r new.phase
+  same_answer r t = subst (λ limits. NextAnswer limits (in_force_of now) now.phase t.x new.remaining r new.phase) b.same_limits t.gives
+
   -- the batch that came
   found_run : (found : Contents) → (t : NextCall now new (Ok (Some found)))
-      → (new.phase ≡ Reading) × Run (Some (in_force_of old)) t.x (batch found.rows ∷ []) (Some (in_force_of old))
+      → (new.phase ≡ Reading) × Run old.limits (Some (in_force_of old)) t.x (batch found.rows ∷ []) (Some (in_force_of old))
   found_run found t =
-      let h = gave (in_force_of now) now.phase new.phase t.x new.remaining found b.reading t.gives in
-      (h.0, subst (λ (o : InForce). Run (Some o) t.x (batch found.rows ∷ []) (Some o)) same_open h.1)
+      let h = gave old.limits (in_force_of now) now.phase new.phase t.x new.remaining found b.reading (same_answer (Ok (Some found)) t) in
+      (h.0, subst (λ (o : InForce). Run old.limits (Some o) t.x (batch found.rows ∷ []) (Some o)) same_open h.1)
 
+  -- the rows of a batch whose columns are all shown have values that are shown
   pub found_shown : (found : Contents) → NextCall now new (Ok (Some found)) → AreShownColumns old.schema.fields → AreShownRows found.rows
   found_shown found t columns = batch_shown (in_force_of old) t.x found.rows columns (found_run found t).1
 
   more_run : (found : Contents) (t : NextCall now new (Ok (Some found)))
-      → Run (Some (in_force_of old)) (b.x ++ t.x) (map batch (b.batches ++ found.rows ∷ [])) (Some (in_force_of old))
+      → Run old.limits (Some (in_force_of old)) (b.x ++ t.x) (map batch (b.batches ++ found.rows ∷ [])) (Some (in_force_of old))
   more_run found t =
-      subst (λ es. Run (Some (in_force_of old)) (b.x ++ t.x) es (Some (in_force_of old)))
+      subst (λ es. Run old.limits (Some (in_force_of old)) (b.x ++ t.x) es (Some (in_force_of old)))
       (sym (map-append batch b.batches (found.rows ∷ [])))
       (run_then _ _ _ b.x t.x (map batch b.batches) (batch found.rows ∷ []) b.run (found_run found t).1)
 
+  -- where one batch more is read and its rows are put, the batches that were printed are those from before and it
   pub batches_more : (found : Contents) (next : Output) → NextCall now new (Ok (Some found)) → new.failures ≡ now.failures
       → AreShownColumns old.schema.fields → Puts after next (lines found.rows) → Batches old new before next
   batches_more found next t works columns puts = record {
@@ -108,6 +121,7 @@ module _ (old now new : Reader) (before after : Output) (b : Batches old now bef
     run = more_run found t;
     reading = (found_run found t).0;
     same = t.same_schema ∙ b.same;
+    same_limits = t.same_limits ∙ b.same_limits;
     counts = works ∙ b.counts;
     cells = all_more AreShownRows b.batches found.rows b.cells (found_shown found t columns);
     puts = put_at before next _ _ (batch_lines_more b.batches found.rows)
@@ -131,15 +145,15 @@ module _ (old now new : Reader) (before after : Output) (b : Batches old now bef
     works = λ other z. works ∙ (b.counts ∙ z);
   }
 
-  behind : (y : List ℕ) (r : Result End Fault) → Reads (Some (in_force_of now)) y new.remaining [] r
-      → Reads (Some (in_force_of old)) (b.x ++ y) new.remaining (map batch b.batches) r
+  behind : (y : List ℕ) (r : Result End Fault) → Reads old.limits (Some (in_force_of now)) y new.remaining [] r
+      → Reads old.limits (Some (in_force_of old)) (b.x ++ y) new.remaining (map batch b.batches) r
   behind y r h =
-      subst (λ es. Reads (Some (in_force_of old)) (b.x ++ y) new.remaining es r) (append-nil (map batch b.batches))
+      subst (λ es. Reads old.limits (Some (in_force_of old)) (b.x ++ y) new.remaining es r) (append-nil (map batch b.batches))
       (reads_after _ _ b.x y new.remaining (map batch b.batches) [] r b.run
-      (subst (λ (o : InForce). Reads (Some o) y new.remaining [] r) same_open h))
+      (subst (λ (o : InForce). Reads old.limits (Some o) y new.remaining [] r) same_open h))
 
   printed : (y : List ℕ) (r : Result End Fault) → Consumes now.remaining new.remaining y
-      → Reads (Some (in_force_of now)) y new.remaining [] r → PrintsRows old new before after r
+      → Reads old.limits (Some (in_force_of now)) y new.remaining [] r → PrintsRows old new before after r
   printed y r bytes h = record {
     x = b.x ++ y;
     batches = b.batches;
@@ -149,15 +163,18 @@ module _ (old now new : Reader) (before after : Output) (b : Batches old now bef
     puts = b.puts;
   }
 
+  -- where the end is read behind the batches that were printed, all rows of the stream were
   pub batches_end : NextCall now new (Ok None) → new.failures ≡ now.failures → PrintsBatches old new before after (Ok None)
   batches_end t works =
-      let h = ended (in_force_of now) now.phase new.phase t.x new.remaining b.reading t.gives in
+      let h = ended old.limits (in_force_of now) now.phase new.phase t.x new.remaining b.reading (same_answer (Ok None) t) in
       (h.0, printed t.x (Ok h.0) t.bytes h.1, λ z. works ∙ (b.counts ∙ z))
 
+  -- where a fault is read behind the batches that were printed, their rows were, and the answer is the fault
   pub batches_break : (f : Fault) → NextCall now new (Err f) → Tells now.failures new.failures f
       → PrintsBatches old new before after (Ok (Some f))
   batches_break f t tells = (
-    printed t.x (Err f) t.bytes (broke (in_force_of now) now.phase new.phase t.x new.remaining f b.reading t.gives),
+    printed t.x (Err f) t.bytes (broke old.limits (in_force_of now) now.phase new.phase t.x new.remaining f b.reading (same_answer (Err f)
+        t)),
     record { failed = tells.failed; stayed = λ other. tells.stayed other ∙ b.counts },
   )
 

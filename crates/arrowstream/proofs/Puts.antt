@@ -62,6 +62,7 @@ puts_not_more a w n t u e q = record {
   works = q.works;
 }
 
+-- where the front of a text was not put, the whole text was not
 pub puts_not_front : (a : Output) (w : Option (List ℕ)) (n : ℕ) (t u whole : List ℕ) (e : PrintFault) → whole ≡ t ++ u → PutFails a w n t e
     → PutFails a w n whole e
 puts_not_front a w n t u whole e is q = subst (λ (x : List ℕ). PutFails a w n x e) (sym is) (puts_not_more a w n t u e q)
@@ -124,6 +125,7 @@ flush_cut a now new n m p kept failed = record {
   works = λ other. absurd (other refl);
 }
 
+-- all of what was kept went out, and the flush succeeded
 pub flush_done : (a : Output) (now new : Option (List ℕ)) (n m : ℕ) → Puts a (output now n []) [] → Keeps now new → m ≡ 0
     → Puts a (output new m []) []
 flush_done a now new n m p kept works = record {

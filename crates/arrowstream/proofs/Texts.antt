@@ -31,6 +31,7 @@ opened_front (v ∷ vs) ws = (
       ∙ sym (append_assoc (codes "[" ++ cell_text v) (behind_commas vs) (behind_commas ws)),
 )
 
+-- the front of a row with one cell more is that front, a comma where it isn't the first, and the cell's text
 pub cell_more : (row : List Value) (c : ℕ) (v : Value) → c < length row → slice_get row c ≡ Some v
     → opened (take c row) ++ (comma c ++ cell_text v) ≡ opened (take (c + 1) row)
 cell_more row c v inside at =
@@ -46,6 +47,7 @@ row_rest row c =
     let is : opened row ≡ opened (take c row) ++ front.0 = ap opened (sym (take-append-drop c row)) ∙ front.1 in
     (front.0 ++ (93 ∷ 10 ∷ []), ap (λ (x : List ℕ). x ++ (93 ∷ 10 ∷ [])) is ∙ append_assoc (opened (take c row)) front.0 (93 ∷ 10 ∷ []))
 
+-- the front of a row with all its cells, a bracket and a line feed are its line
 pub row_whole : (row : List Value) (c : ℕ) → length row ≡ c → opened (take c row) ++ (93 ∷ 10 ∷ []) ≡ line row
 row_whole row c size = ap (λ (x : List Value). opened x ++ (93 ∷ 10 ∷ [])) (take_all c row (omega (arith, size)))
 
@@ -54,18 +56,22 @@ lines_append [] more = refl
 lines_append (row ∷ rows) more = ap (λ (x : List ℕ). line row ++ x) (lines_append rows more)
     ∙ sym (append_assoc (line row) (lines rows) (lines more))
 
+-- the lines of the first i rows and that of the next one are those of the first i + 1
 pub lines_more : (rows : List (List Value)) (i : ℕ) → i < length rows
     → lines (take i rows) ++ line (slice_index_or rows i []) ≡ lines (take (i + 1) rows)
 lines_more rows i inside =
     ap (λ (x : List ℕ). lines (take i rows) ++ x) (sym (append-nil (line (slice_index_or rows i []))))
     ∙ (sym (lines_append (take i rows) (slice_index_or rows i [] ∷ [])) ∙ ap lines (sym (take_more rows i [] inside)))
 
+-- the lines of rows are those of the first i and those of the others
 pub lines_rest : (rows : List (List Value)) (i : ℕ) → lines rows ≡ lines (take i rows) ++ lines (drop i rows)
 lines_rest rows i = ap lines (sym (take-append-drop i rows)) ∙ lines_append (take i rows) (drop i rows)
 
+-- the lines of the first n of n rows are those of all
 pub lines_whole : (rows : List (List Value)) (n : ℕ) → n ≡ length rows → lines (take n rows) ≡ lines rows
 lines_whole rows n size = ap lines (take_all n rows (omega (arith, size)))
 
+-- the lines of batches and those of one more are those of all of them
 pub batch_lines_more : (batches : List (List (List Value))) (rows : List (List Value))
     → batch_lines batches ++ lines rows ≡ batch_lines (batches ++ rows ∷ [])
 batch_lines_more [] rows = sym (append-nil (lines rows))

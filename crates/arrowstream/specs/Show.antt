@@ -23,42 +23,48 @@ use Rattle.arrowstream.specs.declared.run.Stop.TheVariants as stop
 use Rattle.arrowstream.specs.Columns.{AreShownColumns, IsNotShown}
 use Rattle.arrowstream.specs.Output.{Output, Grows, Puts, PutFails}
 use Rattle.arrowstream.specs.Rows.{AreShownRows, batch_lines}
+use Rattle.ipc_model.specs.declared.limits.Limits.{Limits}
 
 -- The bytes that were taken denote a table and its end, each value is one that is shown, and
 -- exactly the rows were printed, a line for each.
-pub record ShowsTable (old new written_old written_new : Option (List ℕ)) : Type 0 where
+pub record ShowsTable (limits : Limits) (old new written_old written_new : Option
+    (List ℕ)) : Type 0 where
   pub x : List ℕ
   pub table : Table
   pub end : End
   pub bytes : Consumes old new x
-  pub denotes : Denotes x table end
+  pub denotes : Denotes limits x table end
   pub closed : end ≡ Closed → IsAtEnd new
   pub columns : AreShownColumns table.schema.fields
   pub cells : AllByRecursion AreShownRows table.batches
   pub text : Appends written_old written_new (batch_lines table.batches)
 
 -- Why a stream isn't read to its end, and what was printed before.
-pub data Breaks (old new written_old written_new : Option (List ℕ)) (fault : Fault) : Type 0 where
+pub data Breaks (limits : Limits) (old new written_old written_new : Option (List ℕ))
+    (fault : Fault) : Type 0 where
   -- no schema is read
-  unopened : (x : List ℕ) → Consumes old new x → Reads None x new [] (Err fault)
-      → Keeps written_old written_new → Breaks old new written_old written_new fault
+  unopened : (x : List ℕ) → Consumes old new x → Reads limits None x new [] (Err fault)
+      → Keeps written_old written_new → Breaks limits old new written_old written_new fault
   -- a column of the schema is none that is shown
   not_shown : (x : List ℕ) (s : Schema) (σ : State) (code : ℕ) → Consumes old new x
-      → Run None x (schema s ∷ []) σ → IsNotShown s.fields code → fault ≡ f.UnsupportedType code
-      → Keeps written_old written_new → Breaks old new written_old written_new fault
+      → Run limits None x (schema s ∷ []) σ → IsNotShown s.fields code
+      → fault ≡ f.UnsupportedType code
+      → Keeps written_old written_new → Breaks limits old new written_old written_new fault
   -- reading breaks off behind a schema and batches, whose rows were printed
   broken : (x : List ℕ) (table : Table) → Consumes old new x
-      → Reads None x new (events_of table) (Err fault) → AllByRecursion AreShownRows table.batches
+      → Reads limits None x new (events_of table) (Err fault)
+      → AllByRecursion AreShownRows table.batches
       → Appends written_old written_new (batch_lines table.batches)
-      → Breaks old new written_old written_new fault
+      → Breaks limits old new written_old written_new fault
 
 -- Whatever the answer: a beginning of the rows of the batches that were read was printed.
-pub data ShowsPart (old new written_old written_new : Option (List ℕ)) : Type 0 where
+pub data ShowsPart (limits : Limits) (old new written_old written_new : Option
+    (List ℕ)) : Type 0 where
   nothing : (x : List ℕ) → Consumes old new x → Keeps written_old written_new
-      → ShowsPart old new written_old written_new
+      → ShowsPart limits old new written_old written_new
   some : (x rest behind : List ℕ) (table : Table) (σ : State) → Consumes old new (x ++ rest)
-      → Run None x (events_of table) σ → Grows written_old [] written_new behind
-      (batch_lines table.batches) → ShowsPart old new written_old written_new
+      → Run limits None x (events_of table) σ → Grows written_old [] written_new behind
+      (batch_lines table.batches) → ShowsPart limits old new written_old written_new
 
 -- the exit status of a job that stopped: memory ran out, a device failed, or the stream is refused
 abbrev pub stop_status : Stop → ℕ
@@ -85,7 +91,7 @@ pub record PrintsRows (old new : Reader) (before after : Output)
   pub x : List ℕ
   pub batches : List (List (List Value))
   pub bytes : Consumes old.remaining new.remaining x
-  pub reads : Reads (Some (in_force_of old)) x new.remaining (map batch batches) answer
+  pub reads : Reads old.limits (Some (in_force_of old)) x new.remaining (map batch batches) answer
   pub cells : AllByRecursion AreShownRows batches
   pub puts : Puts before after (batch_lines batches)
 
@@ -99,7 +105,7 @@ pub record PrintsPart (old new : Reader) (before : Output) (written : Option (Li
   pub whole : List ℕ
   pub joined : x ≡ whole ++ rest
   pub state : State
-  pub run : Run (Some (in_force_of old)) whole (map batch batches) state
+  pub run : Run old.limits (Some (in_force_of old)) whole (map batch batches) state
   pub puts : PutFails before written failures (batch_lines batches) fault
   pub works : fault ≢ p.Write → old.failures ≡ 0 → new.failures ≡ 0
 
@@ -131,10 +137,11 @@ ShowsRows old new before after (Err (stop.Print fault)) =
     PrintsPart old new before after.written after.failures fault
 
 -- what an answer says of the whole stream
-abbrev pub Shows : Option (List ℕ) → Option (List ℕ) → Option (List ℕ) → Option (List ℕ)
+abbrev pub Shows : Limits → Option (List ℕ) → Option (List ℕ) → Option (List ℕ) → Option (List ℕ)
     → Result ⊤ Stop → Type 0
-Shows old new written_old written_new (Ok done) = ShowsTable old new written_old written_new
-Shows old new written_old written_new (Err (stop.Stream fault message)) =
-    Breaks old new written_old written_new fault
-Shows old new written_old written_new (Err (stop.Print fault)) =
-    ShowsPart old new written_old written_new
+Shows limits old new written_old written_new (Ok done) =
+    ShowsTable limits old new written_old written_new
+Shows limits old new written_old written_new (Err (stop.Stream fault message)) =
+    Breaks limits old new written_old written_new fault
+Shows limits old new written_old written_new (Err (stop.Print fault)) =
+    ShowsPart limits old new written_old written_new

@@ -9,7 +9,7 @@ mod run;
 mod tests;
 mod types;
 
-use ipc_stream::Device;
+use ipc_stream::{Device, Limits};
 use run::run;
 use std::env::Args;
 use std::process::ExitCode;
@@ -42,6 +42,12 @@ fn main(rt: HostRuntime) -> ExitCode {
     }
     let input = Device::new(rt.reader());
     let mut output = Device::new(io::writer(&rt));
-    let (status, _input) = run(rt.alloc(), input, &mut output, &mut rt.stderr());
+    let (status, _input) = run(
+        rt.alloc(),
+        Limits::standard(),
+        input,
+        &mut output,
+        &mut rt.stderr(),
+    );
     ExitCode::from(status)
 }

@@ -9,7 +9,7 @@ ghost use Rattle.arrowstream.specs.Show.{ShowsTable, TellsDevices, exit_status, 
 
 use crate::rows::{Lines, PrintFault};
 use crate::types::first_not_shown;
-use ipc_model::{Fault, WriteFault};
+use ipc_model::{Fault, Limits, WriteFault};
 use ipc_stream::{Sink, Source, StreamReader};
 use std::alloc::Global;
 use std::io::Write;
@@ -34,6 +34,7 @@ fn print_rows<R: Source, W: Sink>(
     requires reading { stream.old.phase ≡ Reading }
     requires columns { AreShownColumns stream.old.schema.fields }
     ensures schema { stream.new.schema ≡ stream.old.schema }
+    ensures limits { stream.new.limits ≡ stream.old.limits }
     ensures prints { PrintsBatches stream.old stream.new
         (output (W.written sink.old) (W.failures sink.old) lines.old)
         (output (W.written sink.new) (W.failures sink.new) lines.new) result }
@@ -92,14 +93,19 @@ fn show_rows<R: Source, W: Sink>(
 }
 
 // Prints a stream, and gives its source back.
-fn show<R: Source, W: Sink>(alloc: Global, source: R, sink: &mut W) -> (Result<(), Stop>, R)
+fn show<R: Source, W: Sink>(
+    alloc: Global,
+    limits: Limits,
+    source: R,
+    sink: &mut W,
+) -> (Result<(), Stop>, R)
     ensures handed_on { OnOk result.0 (W.held_back sink.new ≡ Some []) }
-    ensures shows { Shows (R.remaining source) (R.remaining result.1) (W.written sink.old)
+    ensures shows { Shows limits (R.remaining source) (R.remaining result.1) (W.written sink.old)
         (W.written sink.new) result.0 }
     ensures devices { TellsDevices (R.failures source) (R.failures result.1) (W.failures sink.old)
         (W.failures sink.new) (exit_status result.0) }
 {
-    match StreamReader::open(alloc, source) {
+    match StreamReader::open(alloc, limits, source) {
         Ok(stream) => {
             let mut stream = stream;
             let result = show_rows(alloc, &mut stream, sink);
@@ -135,29 +141,29 @@ fn tell<E: Write>(stop: Stop, messages: &mut E) {
     }
 }
 
-/// Reads a stream from `source` batch by batch and prints its rows to `sink`; on a refusal prints
-/// the fault's line to
-/// `messages`. Rows that were printed before it stand, and no byte behind an end-of-stream mark is
-/// read.
+/// Reads a stream from `source` batch by batch under these limits and prints its rows to `sink`; on
+/// a refusal prints the fault's line to `messages`. Rows that were printed before it stand, and no
+/// byte behind an end-of-stream mark is read.
 ///
 /// The answer is the exit status, and the source again: 0 where the stream was read to its end and
 /// all was printed, 1 where it is refused, or has a column that isn't shown, 3 where the source or
 /// the sink failed, 4 where memory ran out. A failing `messages` changes nothing.
 pub fn run<R: Source, W: Sink, E: Write>(
     alloc: Global,
+    limits: Limits,
     source: R,
     sink: &mut W,
     messages: &mut E,
 ) -> (u8, R)
     // At 0 the bytes that were taken denote a table with its end, and exactly its rows were
     // printed.
-    ensures done { result.0 ≡ 0 → ShowsTable (R.remaining source) (R.remaining result.1)
+    ensures done { result.0 ≡ 0 → ShowsTable limits (R.remaining source) (R.remaining result.1)
         (W.written sink.old) (W.written sink.new) }
     // Then the sink holds nothing back.
     ensures handed_on { result.0 ≡ 0 → W.held_back sink.new ≡ Some [] }
     // At 1 the stream is refused, and exactly the rows of the batches before were printed.
     ensures refused { result.0 ≡ 1 → (fault : Fault) × ¬ IsOutside fault
-        × Breaks (R.remaining source) (R.remaining result.1) (W.written sink.old)
+        × Breaks limits (R.remaining source) (R.remaining result.1) (W.written sink.old)
         (W.written sink.new) fault }
     // 3 comes exactly where a device failed.
     ensures devices { TellsDevices (R.failures source) (R.failures result.1) (W.failures sink.old)
@@ -165,10 +171,10 @@ pub fn run<R: Source, W: Sink, E: Write>(
     // 4 is left for memory; there is no other status.
     ensures one { (result.0 ≡ 0) ⊎ (result.0 ≡ 1) ⊎ (result.0 ≡ 3) ⊎ (result.0 ≡ 4) }
     // Whatever the status, a beginning of the rows of what was read was printed.
-    ensures part { ShowsPart (R.remaining source) (R.remaining result.1) (W.written sink.old)
+    ensures part { ShowsPart limits (R.remaining source) (R.remaining result.1) (W.written sink.old)
         (W.written sink.new) }
 {
-    match show(alloc, source, sink) {
+    match show(alloc, limits, source, sink) {
         (Ok(()), source) => (0, source),
         (Err(stop), source) => {
             tell(stop, messages);

@@ -1,6 +1,6 @@
 use crate::digits::{put_i64, put_u64};
 use crate::run::run;
-use ipc_stream::{Device, Source};
+use ipc_stream::{Device, Limits, Source};
 use std::alloc::Global;
 use std::io;
 use std::io::{Read, Write};
@@ -19,7 +19,7 @@ fn shown(alloc: Global, bytes: &[u8]) -> (u8, Vec<u8>, Vec<u8>) {
 fn shown_on<R: Source + Drop, W: Write>(alloc: Global, source: R, writer: W) -> (u8, W, Vec<u8>) {
     let mut sink = Device::new(writer);
     let mut messages = Vec::new(alloc);
-    let (status, _source) = run(alloc, source, &mut sink, &mut messages);
+    let (status, _source) = run(alloc, Limits::standard(), source, &mut sink, &mut messages);
     (status, sink.into_inner(), messages)
 }
 
@@ -88,6 +88,7 @@ fn tells_a_failed_device(rt: HostRuntime) {
     let mut sink = Device::new(Vec::new(alloc));
     let (status, _) = run(
         alloc,
+        Limits::standard(),
         Device::new(NUMBERS_32.as_slice()),
         &mut sink,
         &mut Broken,
