@@ -1,4 +1,5 @@
 //! What is read in a stream.
+use crate::request::Request;
 use ipc_model::{Fault, Items, Row, Table};
 use ipc_stream::{End, Limited, Memory, Source, StreamReader};
 use std::alloc::{AllocError, Global};
@@ -49,10 +50,10 @@ fn read_on(alloc: Global, reader: StreamReader<Limited<Memory>>) -> Result<Answe
 
 impl Answer {
     /// What is read where the source gives at most `step` bytes in a call, and at least one.
-    pub fn of(alloc: Global, bytes: &[u8], step: usize) -> Result<Answer, AllocError> {
-        let memory = Memory::new(Vec::from_slice(alloc, bytes)?);
+    pub fn of(alloc: Global, request: &Request, step: usize) -> Result<Answer, AllocError> {
+        let memory = Memory::new(request.stream.clone()?);
         let source = Limited::new(memory, step.max(1), u64::MAX);
-        match StreamReader::open(alloc, source) {
+        match StreamReader::open(alloc, request.limits, source) {
             Ok(reader) => read_on(alloc, reader),
             Err((fault, source)) => Ok(Answer {
                 table: None,

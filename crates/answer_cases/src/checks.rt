@@ -1,6 +1,7 @@
 //! What is looked at in the answer to a stream.
 use crate::answer::Answer;
-use ipc_model::Table;
+use crate::request::Request;
+use ipc_model::{Limits, Table};
 use ipc_stream::{Memory, RoundTripFault, read_table, write_and_read_back};
 use std::alloc::{AllocError, Global};
 
@@ -36,11 +37,11 @@ pub struct Report {
 // What is read in pieces of the first size for which that differs.
 fn in_pieces(
     alloc: Global,
-    bytes: &[u8],
+    request: &Request,
     whole: &Answer,
 ) -> Result<Option<(usize, Answer)>, AllocError> {
     for step in PIECES {
-        let answer = Answer::of(alloc, bytes, step)?;
+        let answer = Answer::of(alloc, request, step)?;
         if answer != *whole {
             return Ok(Some((step, answer)));
         }
@@ -49,9 +50,9 @@ fn in_pieces(
 }
 
 // Whether `read_table` answers the same as a reader did, and takes the same bytes.
-fn is_same_table(alloc: Global, bytes: &[u8], answer: &Answer) -> Result<bool, AllocError> {
-    let mut source = Memory::new(Vec::from_slice(alloc, bytes)?);
-    let same = match read_table(alloc, &mut source) {
+fn is_same_table(alloc: Global, request: &Request, answer: &Answer) -> Result<bool, AllocError> {
+    let mut source = Memory::new(request.stream.clone()?);
+    let same = match read_table(alloc, &request.limits, &mut source) {
         Ok((table, end)) => answer.end == Some(end) && answer.table == Some(table),
         Err(fault) => matches!(answer.refusal, Some((other, _)) if other == fault),
     };
@@ -61,8 +62,10 @@ fn is_same_table(alloc: Global, bytes: &[u8], answer: &Answer) -> Result<bool, A
 // Bytes that stand behind what is written.
 const BEHIND: &[u8] = b"behind";
 
+// How a table comes back under the standard limits.
 fn round_trip(alloc: Global, table: &Table) -> RoundTrip {
-    match write_and_read_back(alloc, table, BEHIND) {
+    let limits = Limits::standard();
+    match write_and_read_back(alloc, &limits, &limits, table, BEHIND) {
         Ok((back, _end, source)) => {
             if back == *table && source.unread() == BEHIND {
                 RoundTrip::Same
@@ -75,17 +78,17 @@ fn round_trip(alloc: Global, table: &Table) -> RoundTrip {
 }
 
 impl Report {
-    /// What is said of the stream at the front of some bytes.
-    pub fn of(alloc: Global, bytes: &[u8]) -> Result<Report, AllocError> {
-        let answer = Answer::of(alloc, bytes, usize::MAX)?;
+    /// What is said of the stream at the front of the bytes.
+    pub fn of(alloc: Global, request: &Request) -> Result<Report, AllocError> {
+        let answer = Answer::of(alloc, request, usize::MAX)?;
         let round_trip = match (&answer.table, answer.end) {
             (Some(table), Some(_)) => Some(round_trip(alloc, table)),
             _ => None,
         };
         Ok(Report {
-            length: bytes.len(),
-            in_pieces: in_pieces(alloc, bytes, &answer)?,
-            same_table: is_same_table(alloc, bytes, &answer)?,
+            length: request.stream.len(),
+            in_pieces: in_pieces(alloc, request, &answer)?,
+            same_table: is_same_table(alloc, request, &answer)?,
             answer,
             round_trip,
         })

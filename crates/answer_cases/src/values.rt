@@ -56,7 +56,8 @@ fn write_timestamp<W: fmt::Write>(
     f.write_str(")")
 }
 
-/// A type, as in `int32`, `fixed_size_binary(5)`, `date(day)` or `timestamp(us "UTC")`.
+/// A type, as in `int32`, `fixed_size_binary(5)`, `date(day)`, `time(ms)`, `duration(s)` or
+/// `timestamp(us "UTC")`.
 pub fn write_type<W: fmt::Write>(f: &mut fmt::Formatter<W>, kind: &DataType) -> fmt::Result {
     match kind {
         DataType::Null => f.write_str("null"),
@@ -67,7 +68,9 @@ pub fn write_type<W: fmt::Write>(f: &mut fmt::Formatter<W>, kind: &DataType) -> 
         DataType::FixedSizeBinary(width) => write!(f, "fixed_size_binary({width})"),
         DataType::Date(DateUnit::Day) => f.write_str("date(day)"),
         DataType::Date(DateUnit::Millisecond) => f.write_str("date(ms)"),
+        DataType::Time(unit) => write!(f, "time({})", unit_text(*unit)),
         DataType::Timestamp { unit, timezone } => write_timestamp(f, *unit, timezone),
+        DataType::Duration(unit) => write!(f, "duration({})", unit_text(*unit)),
         DataType::List => f.write_str("list"),
         DataType::Struct => f.write_str("struct"),
     }

@@ -1,7 +1,7 @@
 //! The record batch of some rows, as a stream carries it.
 use ipc_frame::{Frame, Seen, next_frame};
 use ipc_meta::{BatchHead, Head};
-use ipc_model::{Fault, Field, Items, Row, Schema, Table};
+use ipc_model::{Fault, Field, Items, Limits, Row, Schema, Table};
 use ipc_stream::{Memory, write_table};
 use std::alloc::{AllocError, Global};
 
@@ -21,20 +21,21 @@ fn table_of(alloc: Global, fields: &[Field], rows: Items<Row>) -> Result<Table, 
 /// The head and the body of the one batch that has these rows.
 pub fn batch_of(
     alloc: Global,
+    limits: &Limits,
     fields: &[Field],
     rows: Items<Row>,
 ) -> Result<(BatchHead, Vec<u8>), Fault> {
     let table = table_of(alloc, fields, rows)?;
     let mut stream = Memory::new(Vec::new(alloc));
-    if write_table(alloc, &mut stream, &table).is_err() {
+    if write_table(alloc, limits, &mut stream, &table).is_err() {
         return Err(Fault::OutOfMemory);
     }
     let bytes = stream.into_bytes();
-    let Seen::Whole(_, schema) = next_frame(alloc, &bytes)? else {
+    let Seen::Whole(_, schema) = next_frame(alloc, limits, &bytes)? else {
         return Err(Fault::Truncated);
     };
     let behind = bytes.get(schema..).unwrap_or(&[]);
-    match next_frame(alloc, behind)? {
+    match next_frame(alloc, limits, behind)? {
         Seen::Whole(frame, _) => match frame {
             Frame::Message {
                 meta: _,

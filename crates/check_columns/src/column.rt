@@ -1,7 +1,6 @@
 //! Columns of each kind.
 ghost use Rattle.std.specs.Prelude.{◌≡◌, ◌≤◌, ◌∷◌, [], length, true, IfOk};
 ghost use Rattle.ipc_model.specs.Entries.{entries};
-ghost use Rattle.ipc_model.specs.Limits.{max_fields};
 ghost use Rattle.ipc_meta.specs.Supported.{are_supported, is_supported_type};
 
 use ipc_model::{DataType, Field, IntBits, Items, Row, Text, Value};
@@ -49,7 +48,7 @@ fn data_type(kind: Kind) -> DataType
 
 fn field(alloc: Global, kind: Kind) -> Result<Field, AllocError>
     ensures open { IfOk result (λ f. are_supported (f ∷ []) ≡ true) }
-    ensures few { IfOk result (λ f. length (entries (f ∷ [])) ≤ max_fields) }
+    ensures few { IfOk result (λ f. length (entries (f ∷ [])) ≤ 1) }
 {
     Ok(Field {
         name: Text::copied(alloc, "a")?,
@@ -64,7 +63,7 @@ fn field(alloc: Global, kind: Kind) -> Result<Field, AllocError>
 /// A schema's fields, which are one column.
 pub fn fields(alloc: Global, kind: Kind) -> Result<Rc<Vec<Field>>, AllocError>
     ensures open { IfOk result (λ all. are_supported all.value.items ≡ true) }
-    ensures few { IfOk result (λ all. length (entries all.value.items) ≤ max_fields) }
+    ensures few { IfOk result (λ all. length (entries all.value.items) ≤ 1) }
 {
     let mut all = Vec::new(alloc);
     all.push(field(alloc, kind)?)?;

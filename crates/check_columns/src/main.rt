@@ -12,7 +12,7 @@ use batch::batch_of;
 use column::{Kind, fields, rows};
 use ipc_column::Batch;
 use ipc_meta::BatchHead;
-use ipc_model::Fault;
+use ipc_model::{Fault, Limits};
 use std::alloc::Global;
 use std::collections::BTreeMap;
 use std::env::Args;
@@ -36,8 +36,9 @@ fn asked(words: Args) -> Option<(Kind, u32, u32)> {
 
 // How many bytes were checked.
 fn check(alloc: Global, kind: Kind, count: u32, times: u32) -> Result<u64, Fault> {
+    let limits = Limits::standard();
     let fields = fields(alloc, kind)?;
-    let (head, body) = batch_of(alloc, fields.as_slice(), rows(alloc, kind, count)?)?;
+    let (head, body) = batch_of(alloc, &limits, fields.as_slice(), rows(alloc, kind, count)?)?;
     let dictionaries = BTreeMap::new(alloc);
     let mut bytes = 0u64;
     for _ in 0..times {
@@ -46,7 +47,14 @@ fn check(alloc: Global, kind: Kind, count: u32, times: u32) -> Result<u64, Fault
             nodes: head.nodes.clone()?,
             buffers: head.buffers.clone()?,
         };
-        let batch = Batch::check(alloc, fields.clone()?, head, body.clone()?, &dictionaries)?;
+        let batch = Batch::check(
+            alloc,
+            &limits,
+            fields.clone()?,
+            head,
+            body.clone()?,
+            &dictionaries,
+        )?;
         bytes = bytes.saturating_add(batch.body_len() as u64);
     }
     Ok(bytes)

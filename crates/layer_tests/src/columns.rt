@@ -2,12 +2,11 @@
 //! many slots are tested. What is read and refused in batches stands in `cases/`.
 ghost use Rattle.std.specs.Prelude.{◌≡◌, ◌≤◌, ◌∷◌, [], length, true, IfOk};
 ghost use Rattle.ipc_model.specs.Entries.{entries};
-ghost use Rattle.ipc_model.specs.Limits.{max_fields};
 ghost use Rattle.ipc_meta.specs.Supported.{are_supported, is_supported_type};
 
 use ipc_column::{Batch, Cell};
 use ipc_meta::BatchHead;
-use ipc_model::{DataType, Fault, Field, IntBits, Items, Text};
+use ipc_model::{DataType, Fault, Field, IntBits, Items, Limits, Text};
 use std::alloc::{AllocError, Global};
 use std::collections::BTreeMap;
 use std::rc::Rc;
@@ -18,7 +17,7 @@ const MOST: i64 = 2_147_483_647;
 fn field(alloc: Global, kind: DataType) -> Result<Field, AllocError>
     requires { is_supported_type kind ≡ true }
     ensures open { IfOk result (λ f. are_supported (f ∷ []) ≡ true) }
-    ensures few { IfOk result (λ f. length (entries (f ∷ [])) ≤ max_fields) }
+    ensures few { IfOk result (λ f. length (entries (f ∷ [])) ≤ 1) }
 {
     Ok(Field {
         name: Text::copied(alloc, "a")?,
@@ -33,7 +32,7 @@ fn field(alloc: Global, kind: DataType) -> Result<Field, AllocError>
 fn fields(alloc: Global, kind: DataType) -> Result<Rc<Vec<Field>>, AllocError>
     requires { is_supported_type kind ≡ true }
     ensures open { IfOk result (λ all. are_supported all.value.items ≡ true) }
-    ensures few { IfOk result (λ all. length (entries all.value.items) ≤ max_fields) }
+    ensures few { IfOk result (λ all. length (entries all.value.items) ≤ 1) }
 {
     let mut all = Vec::new(alloc);
     all.push(field(alloc, kind)?)?;
@@ -60,6 +59,7 @@ fn batch(
     let body = Vec::from_slice(alloc, body)?;
     Batch::check(
         alloc,
+        &Limits::standard(),
         fields(alloc, kind)?,
         head,
         body,

@@ -2,12 +2,12 @@
 ghost use Rattle.std.specs.Prelude.{◌≡◌, ◌∷◌, [], length, true, IfOk, IsTrue};
 ghost use Rattle.std.specs.List.{AllByRecursion};
 ghost use Rattle.ipc_model.specs.Fits.{RowFits};
-ghost use Rattle.ipc_model.specs.WellFormed.{WellFormed};
+ghost use Rattle.ipc_model.specs.RowFaults.{HasShortPaths};
 
 use ipc_encode::{IndexOf, NoIndices, Parts, encode};
 use ipc_model::{
-    DataType, DateUnit, Field, IntBits, Items, Row, Schema, Text, TimeUnit, Value, WriteFault,
-    conforms,
+    DataType, DateUnit, Field, IntBits, Items, Limits, Row, Schema, Text, TimeUnit, Value,
+    WriteFault, conforms,
 };
 use std::alloc::{AllocError, Global};
 use std::test::Fail;
@@ -30,7 +30,7 @@ fn schema_of(alloc: Global, kind: DataType, nullable: bool) -> Result<Schema, Al
 }
 
 fn fit(schema: &Schema, rows: &[Row]) -> bool
-    requires { WellFormed schema.now }
+    requires { HasShortPaths schema.now }
     ensures { IsTrue result → AllByRecursion (RowFits schema.now.fields) rows.now }
 {
     for row in rows {
@@ -42,6 +42,7 @@ fn fit(schema: &Schema, rows: &[Row]) -> bool
 }
 
 // The parts of a column of these values, where they fit it.
+#[tactic(auto, using(ipc_model::proofs::Depths::short_paths))]
 fn column(
     alloc: Global,
     kind: DataType,
@@ -49,7 +50,8 @@ fn column(
     values: Vec<Value>,
 ) -> Result<Option<Parts>, WriteFault> {
     let schema = schema_of(alloc, kind, nullable)?;
-    schema.check(alloc)?;
+    let limits = Limits::standard();
+    schema.check(alloc, &limits)?;
     let mut rows = Vec::new(alloc);
     for value in values {
         let mut row = Vec::new(alloc);
@@ -59,7 +61,7 @@ fn column(
     if !fit(&schema, &rows) {
         return Ok(None);
     }
-    let parts = encode(alloc, schema.fields.as_slice(), &rows, &NoIndices)?;
+    let parts = encode(alloc, &limits, schema.fields.as_slice(), &rows, &NoIndices)?;
     Ok(Some(parts))
 }
 

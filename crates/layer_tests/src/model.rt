@@ -1,8 +1,8 @@
 //! Rows, schemas, copies and the words of refusals.
 
 use ipc_model::{
-    DataType, DateUnit, Dictionary, Fault, Field, IndexType, IntBits, Items, RowCause, RowFault,
-    Schema, SchemaFault, Table, Text, Value, WriteFault, conforms,
+    DataType, DateUnit, Dictionary, Fault, Field, IndexType, IntBits, Items, Limits, RowCause,
+    RowFault, Schema, SchemaFault, Table, Text, Value, WriteFault, conforms,
 };
 use std::alloc::{AllocError, Global};
 use std::test::Fail;
@@ -64,9 +64,10 @@ fn pair(alloc: Global, date: Value, name: Value) -> Result<Value, AllocError> {
 }
 
 // Whether a row of two values fits the schema.
+#[tactic(auto, using(ipc_model::proofs::Depths::short_paths))]
 fn judged(alloc: Global, first: Value, second: Value) -> Result<Result<(), RowFault>, Fault> {
     let schema = schema(alloc)?;
-    schema.check(alloc)?;
+    schema.check(alloc, &Limits::standard())?;
     let row = items(alloc, first, second)?;
     Ok(conforms(&schema, row.as_slice()))
 }
@@ -109,6 +110,7 @@ fn rows_that_do_not_fit(rt: HostRuntime) -> Result<(), Fail> {
 
 // What the writer says of this value alone in a row with this number, where it doesn't fit a column
 // of this type.
+#[tactic(auto, using(ipc_model::proofs::Depths::short_paths))]
 fn refused_alone(
     alloc: Global,
     kind: DataType,
@@ -121,7 +123,7 @@ fn refused_alone(
         fields: Items::from_vec(fields),
         metadata: Items::new(alloc),
     };
-    schema.check(alloc)?;
+    schema.check(alloc, &Limits::standard())?;
     match conforms(&schema, &[value]) {
         Ok(()) => Ok(None),
         Err(fault) => Ok(Some(fault.at_row(row))),
@@ -163,10 +165,11 @@ fn numbers_out_of_range(rt: HostRuntime) -> Result<(), Fail> {
 }
 
 #[test]
+#[tactic(auto, using(ipc_model::proofs::Depths::short_paths))]
 fn a_row_with_one_value_too_few(rt: HostRuntime) -> Result<(), Fail> {
     let alloc = rt.alloc();
     let schema = schema(alloc)?;
-    schema.check(alloc)?;
+    schema.check(alloc, &Limits::standard())?;
     let fault = conforms(&schema, &[Value::Int(1)])
         .err()
         .ok_or("a refusal")?;
@@ -182,18 +185,27 @@ fn schemas_that_are_refused(rt: HostRuntime) -> Result<(), Fail> {
     let first = field(alloc, "first", true, DataType::Bool)?;
     let second = field(alloc, "second", true, DataType::FixedSizeBinary(1 << 31))?;
     wide.fields = items(alloc, first, second)?;
-    assert_eq!(rt; wide.check(alloc), Err(SchemaFault::BadType(2)));
+    assert_eq!(rt;
+        wide.check(alloc, &Limits::standard()),
+        Err(SchemaFault::BadType(2))
+    );
     let first = field(alloc, "first", true, DataType::List)?;
     let second = field(alloc, "second", true, DataType::Bool)?;
     wide.fields = items(alloc, first, second)?;
-    assert_eq!(rt; wide.check(alloc), Err(SchemaFault::BadChildren(1)));
+    assert_eq!(rt;
+        wide.check(alloc, &Limits::standard()),
+        Err(SchemaFault::BadChildren(1))
+    );
     let mut list = field(alloc, "list", true, DataType::List)?;
     let inner = field(alloc, "inner", true, DataType::Bool)?;
     let other = field(alloc, "other", true, DataType::Bool)?;
     list.children = items(alloc, inner, other)?;
     let first = field(alloc, "first", true, DataType::Bool)?;
     wide.fields = items(alloc, first, list)?;
-    assert_eq!(rt; wide.check(alloc), Err(SchemaFault::BadChildren(2)));
+    assert_eq!(rt;
+        wide.check(alloc, &Limits::standard()),
+        Err(SchemaFault::BadChildren(2))
+    );
     assert_eq!(rt;
         Fault::from(SchemaFault::BadChildren(1)),
         Fault::BadChildren

@@ -1,5 +1,5 @@
 //! Trees that are written in the FlatBuffers binary format and read back.
-ghost use Rattle.std.specs.Prelude.{◌≡◌, IfOk};
+ghost use Rattle.std.specs.Prelude.{◌≡◌, ◌<◌, ◌^◌, IfOk};
 ghost use Rattle.std.specs.List.{All};
 ghost use Rattle.ipc_build.specs.Trees.{view};
 ghost use Rattle.ipc_build.specs.Ascends.{fields, Ascends};
@@ -68,7 +68,7 @@ fn every_slot(alloc: Global) -> Result<FlatTree, AllocError>
 
 fn built(alloc: Global) -> Result<Vec<u8>, Fail> {
     let tree = every_slot(alloc)?;
-    Ok(build(alloc, &tree)?)
+    Ok(build(alloc, &tree, 1 << 24)?)
 }
 
 #[test]
@@ -118,7 +118,7 @@ fn references_come_back(rt: HostRuntime) -> Result<(), Fail> {
 #[test]
 fn one_scalar_byte_for_byte(rt: HostRuntime) -> Result<(), Fail> {
     let tree = one_scalar(rt.alloc())?;
-    let bytes = build(rt.alloc(), &tree).ok().ok_or("bytes")?;
+    let bytes = build(rt.alloc(), &tree, 1 << 24).ok().ok_or("bytes")?;
     let expected: [u8; 32] = [
         20, 0, 0, 0, 12, 0, 12, 0, 0, 0, 0, 0, 0, 0, 4, 0, 0, 0, 0, 0, 16, 0, 0, 0, 42, 0, 0, 0, 0,
         0, 0, 0,
@@ -137,17 +137,26 @@ fn one_scalar(alloc: Global) -> Result<FlatTree, AllocError>
     })
 }
 
-// The room of a table with field 0, a text of so many bytes, is 58 more than these.
+// Whether a table with field 0, a text of so many bytes, has no more room than this.
+fn has_room(alloc: Global, bytes: usize, greatest: u64) -> Result<bool, Fail>
+    requires { greatest < 2 ^ 31 }
+{
+    let text = "a".repeat(alloc, bytes)?;
+    let tree = of_text(alloc, &text)?;
+    match build(alloc, &tree, greatest) {
+        Ok(_) => Ok(true),
+        Err(BuildFault::TooLarge) => Ok(false),
+        Err(fault) => Err(Fail::from(fault)),
+    }
+}
+
+// The table and its one entry take 16, 24 and 10, and the text 8 and its bytes.
 #[test]
 fn too_large_from_one_byte_on(rt: HostRuntime) -> Result<(), Fail> {
     let alloc = rt.alloc();
-    for (bytes, fits) in [(16_777_216 - 58, true), (16_777_216 - 57, false)] {
-        let text = "a".repeat(alloc, bytes)?;
-        let tree = of_text(alloc, &text)?;
-        let answer = build(alloc, &tree);
-        assert_eq!(rt; answer.is_ok(), fits);
-        assert_eq!(rt; matches!(answer, Err(BuildFault::TooLarge)), !fits);
-    }
+    assert!(rt; has_room(alloc, 0, 58)? && !has_room(alloc, 0, 57)?);
+    assert!(rt; has_room(alloc, 1, 59)? && !has_room(alloc, 1, 58)?);
+    assert!(rt; has_room(alloc, 1000, 1058)? && !has_room(alloc, 1000, 1057)?);
     Ok(())
 }
 
@@ -164,7 +173,7 @@ fn prints_faults(rt: HostRuntime) -> Result<(), Fail> {
     let fault = BuildFault::TooLarge;
     assert_eq!(rt;
         format!(in alloc; "{fault}")?.as_str(),
-        "the tree has room for more than 16777216 bytes"
+        "the tree has more room than it may"
     );
     let fault = BuildFault::OutOfMemory;
     assert_eq!(rt; format!(in alloc; "{fault}")?.as_str(), "out of memory");

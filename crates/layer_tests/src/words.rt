@@ -4,8 +4,8 @@ use ipc_build::BuildFault;
 use ipc_column::Cell;
 use ipc_flat::FlatFault;
 use ipc_model::{
-    DataType, Dictionary, Fault, Field, IndexType, IntBits, RowCause, Schema, SchemaFault, Text,
-    Value, WriteFault, conforms,
+    DataType, Dictionary, Fault, Field, IndexType, IntBits, Limits, RowCause, Schema, SchemaFault,
+    Text, Value, WriteFault, conforms,
 };
 use std::alloc::{AllocError, Global};
 use std::fmt::Display;
@@ -28,7 +28,7 @@ fn names(alloc: Global) -> Result<Schema, AllocError> {
 fn fields_in_one_line(rt: HostRuntime) -> Result<(), Fail> {
     let alloc = rt.alloc();
     let schema = names(alloc)?;
-    schema.check(alloc)?;
+    schema.check(alloc, &Limits::standard())?;
     let field = schema.fields.as_slice().first().ok_or("a column")?;
     assert_eq!(rt; field.name.as_str(), "names");
     assert!(rt; !field.nullable);
@@ -52,10 +52,11 @@ fn fields_in_one_line(rt: HostRuntime) -> Result<(), Fail> {
 }
 
 #[test]
+#[tactic(auto, using(ipc_model::proofs::Depths::short_paths))]
 fn faults_of_rows(rt: HostRuntime) -> Result<(), Fail> {
     let alloc = rt.alloc();
     let schema = names(alloc)?;
-    schema.check(alloc)?;
+    schema.check(alloc, &Limits::standard())?;
     let pair = vec![in alloc; Value::text(alloc, "a")?, Value::Int(1)]?;
     let fault = conforms(&schema, &[Value::Struct(pair.into())])
         .err()

@@ -3,7 +3,7 @@
 #![tactic(auto)]
 
 use ipc_stream::{
-    Cell, DataType, DateUnit, Fault, Field, IntBits, Memory, Row, Schema, StreamReader,
+    Cell, DataType, DateUnit, Fault, Field, IntBits, Limits, Memory, Row, Schema, StreamReader,
     StreamWriter, Value, WriteFault,
 };
 use std::alloc::{AllocError, Global};
@@ -22,7 +22,8 @@ fn write(alloc: Global) -> Result<Memory, WriteFault> {
     ]?);
     let first = vec![in alloc; Value::Int(1), Value::text(alloc, "one")?, Value::Int(0)]?;
     let second = vec![in alloc; Value::Int(-2), Value::Null, Value::Int(19_000)]?;
-    let mut stream = StreamWriter::start(alloc, Memory::new(Vec::new(alloc)), &schema)?;
+    let sink = Memory::new(Vec::new(alloc));
+    let mut stream = StreamWriter::start(alloc, Limits::standard(), sink, &schema)?;
     stream.write_batch(&[Row::from(first)])?;
     stream.write_batch(&[Row::from(second)])?;
     Ok(stream.finish()?)
@@ -31,10 +32,10 @@ fn write(alloc: Global) -> Result<Memory, WriteFault> {
 // The cells of a stream, a line for each row.
 fn read(alloc: Global, source: Memory) -> Result<String, Fault> {
     let mut text = String::new(alloc);
-    let mut stream = StreamReader::open(alloc, source)?;
+    let mut stream = StreamReader::open(alloc, Limits::standard(), source)?;
     while let Some(batch) = stream.next()? {
         for row in 0..batch.rows() {
-            for (column, field) in stream.fields().iter().enumerate().take(batch.columns()) {
+            for (column, field) in stream.fields().iter().enumerate() {
                 let cell = spell(alloc, &field.kind, batch.cell(row, column))?;
                 text.push_str(cell.as_str())?;
             }

@@ -2,7 +2,7 @@
 //! rows.
 
 use crate::tables::{empty, numbers, row, schema_of, written};
-use ipc_model::{DataType, DateUnit, IntBits, Items, Table, Value, WriteFault};
+use ipc_model::{DataType, DateUnit, IntBits, Items, Limits, Table, Value, WriteFault};
 use ipc_stream::{Device, StreamWriter, write_table};
 use std::alloc::{AllocError, Global};
 use std::io;
@@ -59,7 +59,7 @@ fn writes_to_a_writer_that_takes_three_bytes(rt: HostRuntime) -> Result<(), Fail
     let table = numbers(alloc)?;
     let whole = written(alloc, &table)?;
     let mut sink = Device::new(Narrow::new(alloc, u32::MAX, true));
-    write_table(alloc, &mut sink, &table)?;
+    write_table(alloc, &Limits::standard(), &mut sink, &table)?;
     assert_eq!(rt; sink.into_inner().bytes.as_slice(), whole.as_slice());
     Ok(())
 }
@@ -73,7 +73,7 @@ fn tells_a_writer_that_fails(rt: HostRuntime) -> Result<(), Fail> {
     let mut sink = Device::new(Narrow::new(alloc, 5, true));
     for _ in 0..2 {
         assert_eq!(rt;
-            write_table(alloc, &mut sink, &table).err(),
+            write_table(alloc, &Limits::standard(), &mut sink, &table).err(),
             Some(WriteFault::Write)
         );
     }
@@ -90,12 +90,15 @@ fn tells_a_writer_whose_flush_fails(rt: HostRuntime) -> Result<(), Fail> {
     let whole = written(alloc, &table)?;
     let mut sink = Device::new(Narrow::new(alloc, u32::MAX, false));
     assert_eq!(rt;
-        write_table(alloc, &mut sink, &table).err(),
+        write_table(alloc, &Limits::standard(), &mut sink, &table).err(),
         Some(WriteFault::Write)
     );
     assert_eq!(rt; sink.into_inner().bytes.as_slice(), whole.as_slice());
     let sink = Device::new(Narrow::new(alloc, u32::MAX, false));
-    let mut writer = StreamWriter::start(alloc, sink, &table.schema).map_err(|(fault, _)| fault)?;
+    let mut writer = StreamWriter::start(alloc, Limits::standard(), sink, &table.schema).map_err(|(
+        fault,
+        _,
+    )| fault)?;
     for rows in table.batches.as_slice() {
         writer.write_batch(rows.as_slice())?;
     }
@@ -131,17 +134,19 @@ fn tells_values_out_of_range(rt: HostRuntime) -> Result<(), Fail> {
     for (kind, fits, wide) in ranges(alloc)? {
         let schema = schema_of(alloc, kind)?;
         let rows = vec![in alloc; row(alloc, fits)?, row(alloc, wide)?]?;
-        let mut writer = StreamWriter::start(alloc, empty(alloc), &schema).map_err(|(
-            fault,
-            _,
-        )| fault)?;
+        let mut writer = StreamWriter::start(
+            alloc,
+            Limits::standard(),
+            empty(alloc),
+            &schema,
+        ).map_err(|(fault, _)| fault)?;
         let fault = writer.write_batch(&rows).err().ok_or("a refusal")?;
         assert_eq!(rt; format!(in alloc; "{fault}")?.as_str(), REFUSED);
         let sent = writer.into_inner().into_bytes();
         let batches = Items::from_vec(vec![in alloc; Items::from_vec(rows)]?);
         let table = Table { schema, batches };
         let mut sink = empty(alloc);
-        let fault = write_table(alloc, &mut sink, &table)
+        let fault = write_table(alloc, &Limits::standard(), &mut sink, &table)
             .err()
             .ok_or("a refusal")?;
         assert_eq!(rt; format!(in alloc; "{fault}")?.as_str(), REFUSED);

@@ -5,6 +5,8 @@
 #[cfg(test)]
 mod devices;
 #[cfg(test)]
+mod limits;
+#[cfg(test)]
 mod streams;
 #[cfg(test)]
 mod tables;

@@ -2,7 +2,7 @@
 //! streams stands in `cases/`.
 
 use crate::tables::{no_fields, numbers, written};
-use ipc_model::Fault;
+use ipc_model::{Fault, Limits};
 use ipc_stream::{End, Limited, Memory, StreamReader};
 use std::test::Fail;
 
@@ -14,7 +14,10 @@ fn stays_refused(rt: HostRuntime) -> Result<(), Fail> {
     let size = whole.len().saturating_sub(8);
     let mut bytes = Vec::from_slice(alloc, whole.get(..size).ok_or("a schema")?)?;
     bytes.extend_from_slice(&whole)?;
-    let mut reader = StreamReader::open(alloc, Memory::new(bytes)).map_err(|(fault, _)| fault)?;
+    let mut reader = StreamReader::open(alloc, Limits::standard(), Memory::new(bytes)).map_err(|(
+        fault,
+        _,
+    )| fault)?;
     assert_eq!(rt; reader.next().err(), Some(Fault::SecondSchema));
     for _ in 0..2 {
         assert_eq!(rt; reader.next().err(), Some(Fault::Failed));
@@ -30,7 +33,10 @@ fn stays_refused(rt: HostRuntime) -> Result<(), Fail> {
 fn stays_ended(rt: HostRuntime) -> Result<(), Fail> {
     let alloc = rt.alloc();
     let source = Memory::new(written(alloc, &numbers(alloc)?)?);
-    let mut reader = StreamReader::open(alloc, source).map_err(|(fault, _)| fault)?;
+    let mut reader = StreamReader::open(alloc, Limits::standard(), source).map_err(|(
+        fault,
+        _,
+    )| fault)?;
     assert_eq!(rt; reader.schema().fields.len(), 1);
     let batch = reader.next()?.ok_or("a batch")?;
     assert_eq!(rt; batch.rows(), 3);
@@ -51,7 +57,9 @@ fn tells_a_failed_source(rt: HostRuntime) -> Result<(), Fail> {
     let bytes = written(alloc, &no_fields(alloc))?;
     let left = bytes.len().saturating_sub(8);
     let source = Limited::new(Memory::new(bytes), 56, 2);
-    let (fault, source) = StreamReader::open(alloc, source).err().ok_or("a refusal")?;
+    let (fault, source) = StreamReader::open(alloc, Limits::standard(), source)
+        .err()
+        .ok_or("a refusal")?;
     assert_eq!(rt; fault, Fault::Read);
     assert_eq!(rt; source.into_inner().unread().len(), left);
     Ok(())
@@ -61,7 +69,10 @@ fn tells_a_failed_source(rt: HostRuntime) -> Result<(), Fail> {
 fn grows_a_table(rt: HostRuntime) -> Result<(), Fail> {
     let alloc = rt.alloc();
     let source = Memory::new(written(alloc, &numbers(alloc)?)?);
-    let mut reader = StreamReader::open(alloc, source).map_err(|(fault, _)| fault)?;
+    let mut reader = StreamReader::open(alloc, Limits::standard(), source).map_err(|(
+        fault,
+        _,
+    )| fault)?;
     let batch = reader.next()?.ok_or("a batch")?;
     assert_eq!(rt; batch.to_rows(alloc)?.len(), 3);
     Ok(())

@@ -1,7 +1,7 @@
 //! Tables that the tests write and read back.
 
 use ipc_model::{
-    DataType, Fault, Field, IntBits, Items, Row, Schema, Table, Text, Value, WriteFault,
+    DataType, Fault, Field, IntBits, Items, Limits, Row, Schema, Table, Text, Value, WriteFault,
 };
 use ipc_stream::{Memory, read_table, write_table};
 use std::alloc::{AllocError, Global};
@@ -60,14 +60,24 @@ pub fn no_fields(alloc: Global) -> Table {
 
 /// The table of a stream.
 pub fn table_of(alloc: Global, bytes: &[u8]) -> Result<Table, Fault> {
-    let (table, _) = read_table(alloc, &mut Memory::new(Vec::from_slice(alloc, bytes)?))?;
+    let mut source = Memory::new(Vec::from_slice(alloc, bytes)?);
+    let (table, _) = read_table(alloc, &Limits::standard(), &mut source)?;
     Ok(table)
 }
 
-/// The stream of a table. A memory fails only where it can't grow: then memory ran out.
+/// The stream of a table.
 pub fn written(alloc: Global, table: &Table) -> Result<Vec<u8>, WriteFault> {
+    written_within(alloc, &Limits::standard(), table)
+}
+
+/// The same under these limits. A memory fails only where it can't grow: then memory ran out.
+pub fn written_within(
+    alloc: Global,
+    limits: &Limits,
+    table: &Table,
+) -> Result<Vec<u8>, WriteFault> {
     let mut sink = empty(alloc);
-    match write_table(alloc, &mut sink, table) {
+    match write_table(alloc, limits, &mut sink, table) {
         Ok(()) => Ok(sink.into_bytes()),
         Err(WriteFault::Write) => Err(WriteFault::OutOfMemory),
         Err(fault) => Err(fault),

@@ -2,7 +2,7 @@
 
 use crate::tables::{empty, no_fields, numbers, row, schema_of_numbers, table_of, written};
 use ipc_meta::{BatchHead, Head, read_message};
-use ipc_model::{DataType, Fault, Field, IntBits, Items, Schema, Text, Value, WriteFault};
+use ipc_model::{DataType, Fault, Field, IntBits, Items, Limits, Schema, Text, Value, WriteFault};
 use ipc_stream::{Limited, StreamWriter, write_table};
 use std::alloc::{AllocError, Global};
 use std::test::Fail;
@@ -25,7 +25,7 @@ fn batch_of(alloc: Global, bytes: &[u8]) -> Result<Option<(BatchHead, &[u8])>, F
     let Some((metadata, behind)) = message_at(rest) else {
         return Ok(None);
     };
-    match read_message(alloc, metadata)? {
+    match read_message(alloc, &Limits::standard(), metadata)? {
         (Head::Batch(head), _) => Ok(Some((head, behind))),
         _ => Ok(None),
     }
@@ -58,7 +58,7 @@ fn writes_the_same_bytes(rt: HostRuntime) -> Result<(), Fail> {
     assert_eq!(rt; whole.as_slice(), written(alloc, &table)?.as_slice());
     for step in [1, 3, 288] {
         let mut sink = Limited::new(empty(alloc), step, u64::MAX);
-        write_table(alloc, &mut sink, &table)?;
+        write_table(alloc, &Limits::standard(), &mut sink, &table)?;
         assert_eq!(rt; sink.into_inner().into_bytes().as_slice(), whole.as_slice());
     }
     Ok(())
@@ -71,7 +71,7 @@ fn tells_a_sink_that_fails_at_the_schema(rt: HostRuntime) -> Result<(), Fail> {
     let table = no_fields(alloc);
     let whole = written(alloc, &table)?;
     let sink = Limited::new(empty(alloc), 5, 1);
-    let (fault, sink) = StreamWriter::start(alloc, sink, &table.schema)
+    let (fault, sink) = StreamWriter::start(alloc, Limits::standard(), sink, &table.schema)
         .err()
         .ok_or("a refusal")?;
     assert_eq!(rt; fault, WriteFault::Write);
@@ -86,10 +86,16 @@ fn tells_a_sink_that_fails_at_the_schema(rt: HostRuntime) -> Result<(), Fail> {
 fn stays_failed(rt: HostRuntime) -> Result<(), Fail> {
     let alloc = rt.alloc();
     let schema = schema_of_numbers(alloc, IntBits::B64)?;
-    let started = StreamWriter::start(alloc, empty(alloc), &schema).map_err(|(fault, _)| fault)?;
+    let started = StreamWriter::start(alloc, Limits::standard(), empty(alloc), &schema).map_err(|(
+        fault,
+        _,
+    )| fault)?;
     let size = started.into_inner().into_bytes().len();
     let sink = Limited::new(empty(alloc), 5, (size as u64).div_ceil(5) + 1);
-    let mut writer = StreamWriter::start(alloc, sink, &schema).map_err(|(fault, _)| fault)?;
+    let mut writer = StreamWriter::start(alloc, Limits::standard(), sink, &schema).map_err(|(
+        fault,
+        _,
+    )| fault)?;
     assert_eq!(rt; writer.write_batch(&[]).err(), Some(WriteFault::Write));
     for _ in 0..2 {
         assert_eq!(rt; writer.write_batch(&[]).err(), Some(WriteFault::Failed));
@@ -106,7 +112,10 @@ fn tells_a_flush_that_fails(rt: HostRuntime) -> Result<(), Fail> {
     let alloc = rt.alloc();
     let schema = schema_of_numbers(alloc, IntBits::B64)?;
     let sink = Limited::new(empty(alloc), 1 << 20, 2);
-    let writer = StreamWriter::start(alloc, sink, &schema).map_err(|(fault, _)| fault)?;
+    let writer = StreamWriter::start(alloc, Limits::standard(), sink, &schema).map_err(|(
+        fault,
+        _,
+    )| fault)?;
     let (fault, sink) = writer.finish().err().ok_or("a refusal")?;
     assert_eq!(rt; fault, WriteFault::Write);
     let bytes = sink.into_inner().into_bytes();
@@ -120,7 +129,9 @@ fn tells_a_flush_that_fails(rt: HostRuntime) -> Result<(), Fail> {
 fn writes_on_after_a_refused_row(rt: HostRuntime) -> Result<(), Fail> {
     let alloc = rt.alloc();
     let schema = schema_of_numbers(alloc, IntBits::B8)?;
-    let mut writer = StreamWriter::start(alloc, empty(alloc), &schema).map_err(|(fault, _)| fault)?;
+    let mut writer = StreamWriter::start(alloc, Limits::standard(), empty(alloc), &schema).map_err(
+        |(fault, _)| fault,
+    )?;
     let fits = row(alloc, Value::Int(127))?;
     let wide = row(alloc, Value::Int(128))?;
     let fault = writer.write_batch(&[wide]).err().ok_or("a refusal")?;
@@ -163,7 +174,7 @@ fn start_refused(alloc: Global, field: Field) -> Result<(WriteFault, usize), Fai
         fields: Items::from_vec(fields),
         metadata: Items::new(alloc),
     };
-    let (fault, sink) = StreamWriter::start(alloc, empty(alloc), &schema)
+    let (fault, sink) = StreamWriter::start(alloc, Limits::standard(), empty(alloc), &schema)
         .err()
         .ok_or("a refusal")?;
     Ok((fault, sink.into_bytes().len()))

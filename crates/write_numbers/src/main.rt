@@ -3,7 +3,7 @@
 //! writer is measured by it.
 #![tactic(auto)]
 
-use ipc_model::{DataType, Field, IntBits, Items, Row, Schema, Text, Value, WriteFault};
+use ipc_model::{DataType, Field, IntBits, Items, Limits, Row, Schema, Text, Value, WriteFault};
 use ipc_stream::{Device, StreamWriter};
 use std::alloc::{AllocError, Global};
 use std::env::Args;
@@ -79,7 +79,7 @@ fn write<W: Write + Drop>(
 ) -> Result<(), WriteFault> {
     let schema = schema(alloc)?;
     let rows = rows(alloc, count)?;
-    let mut stream = StreamWriter::start(alloc, Device::new(writer), &schema)?;
+    let mut stream = StreamWriter::start(alloc, Limits::standard(), Device::new(writer), &schema)?;
     for _ in 0..batches {
         stream.write_batch(&rows)?;
     }

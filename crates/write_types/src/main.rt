@@ -3,7 +3,8 @@
 #![tactic(auto)]
 
 use ipc_model::{
-    DataType, DateUnit, Field, IntBits, Items, Row, Schema, Text, TimeUnit, Value, WriteFault,
+    DataType, DateUnit, Field, IntBits, Items, Limits, Row, Schema, Text, TimeUnit, Value,
+    WriteFault,
 };
 use ipc_stream::{Device, StreamWriter};
 use std::alloc::{AllocError, Global};
@@ -63,25 +64,11 @@ fn timestamp(alloc: Global, unit: TimeUnit, zone: Option<&str>) -> Result<DataTy
 }
 
 // A name, a type and a value of it for each column.
-fn columns(alloc: Global) -> Result<Vec<(&'static str, DataType, Value)>, AllocError> {
-    let int = |bits, signed| DataType::Int { bits, signed };
+type Columns = Vec<(&'static str, DataType, Value)>;
+
+// Columns of dates, times and durations.
+fn moments(alloc: Global) -> Result<Columns, AllocError> {
     Ok(vec![in alloc;
-        ("", DataType::Null, Value::Null),
-        ("truth", DataType::Bool, Value::Bool(true)),
-        ("i8", int(IntBits::B8, true), Value::Int(-128)),
-        ("i16", int(IntBits::B16, true), Value::Int(-2)),
-        ("i32", int(IntBits::B32, true), Value::Int(2_147_483_647)),
-        ("i64", int(IntBits::B64, true), Value::Int(i64::MIN)),
-        ("u8", int(IntBits::B8, false), Value::UInt(255)),
-        ("u16", int(IntBits::B16, false), Value::UInt(256)),
-        ("u32", int(IntBits::B32, false), Value::UInt(4_294_967_295)),
-        ("u64", int(IntBits::B64, false), Value::UInt(u64::MAX)),
-        ("no bytes", DataType::FixedSizeBinary(0), bytes(alloc, &[])?),
-        (
-            "two bytes",
-            DataType::FixedSizeBinary(2),
-            bytes(alloc, &[0, 255])?
-        ),
         ("day", DataType::Date(DateUnit::Day), Value::Int(-719_162)),
         (
             "midnight",
@@ -108,6 +95,55 @@ fn columns(alloc: Global) -> Result<Vec<(&'static str, DataType, Value)>, AllocE
             timestamp(alloc, TimeUnit::Nanosecond, Some("+01:00"))?,
             Value::Int(i64::MAX)
         ),
+        (
+            "last second",
+            DataType::Time(TimeUnit::Second),
+            Value::Int(86_399)
+        ),
+        (
+            "noon",
+            DataType::Time(TimeUnit::Millisecond),
+            Value::Int(43_200_000)
+        ),
+        ("dawn", DataType::Time(TimeUnit::Microsecond), Value::Int(1)),
+        (
+            "last moment",
+            DataType::Time(TimeUnit::Nanosecond),
+            Value::Int(86_399_999_999_999)
+        ),
+        (
+            "a day",
+            DataType::Duration(TimeUnit::Second),
+            Value::Int(86_400)
+        ),
+        (
+            "back",
+            DataType::Duration(TimeUnit::Nanosecond),
+            Value::Int(i64::MIN)
+        ),
+    ]?)
+}
+
+// Columns of all other types.
+fn columns(alloc: Global) -> Result<Columns, AllocError> {
+    let int = |bits, signed| DataType::Int { bits, signed };
+    Ok(vec![in alloc;
+        ("", DataType::Null, Value::Null),
+        ("truth", DataType::Bool, Value::Bool(true)),
+        ("i8", int(IntBits::B8, true), Value::Int(-128)),
+        ("i16", int(IntBits::B16, true), Value::Int(-2)),
+        ("i32", int(IntBits::B32, true), Value::Int(2_147_483_647)),
+        ("i64", int(IntBits::B64, true), Value::Int(i64::MIN)),
+        ("u8", int(IntBits::B8, false), Value::UInt(255)),
+        ("u16", int(IntBits::B16, false), Value::UInt(256)),
+        ("u32", int(IntBits::B32, false), Value::UInt(4_294_967_295)),
+        ("u64", int(IntBits::B64, false), Value::UInt(u64::MAX)),
+        ("no bytes", DataType::FixedSizeBinary(0), bytes(alloc, &[])?),
+        (
+            "two bytes",
+            DataType::FixedSizeBinary(2),
+            bytes(alloc, &[0, 255])?
+        ),
         ("binary", DataType::Binary, bytes(alloc, &[0, 1, 2])?),
         ("größe", DataType::Utf8, Value::Text(text(alloc, "é\0")?)),
     ]?)
@@ -118,7 +154,9 @@ fn parts(alloc: Global) -> Result<(Schema, Row, Row), AllocError> {
     let mut fields = Vec::new(alloc);
     let mut full = Vec::new(alloc);
     let mut nulls = Vec::new(alloc);
-    for (place, (name, kind, value)) in columns(alloc)?.into_iter().enumerate() {
+    let mut columns = columns(alloc)?;
+    columns.append(&mut moments(alloc)?)?;
+    for (place, (name, kind, value)) in columns.into_iter().enumerate() {
         fields.push(field(alloc, name, kind, place % 4)?)?;
         full.push(value)?;
         nulls.push(Value::Null)?;
@@ -136,7 +174,7 @@ fn write<W: Write + Drop>(alloc: Global, writer: W) -> Result<(), WriteFault> {
     let first = [full.clone()?];
     let second = [nulls.clone()?];
     let third = [full, nulls];
-    let mut stream = StreamWriter::start(alloc, Device::new(writer), &schema)?;
+    let mut stream = StreamWriter::start(alloc, Limits::standard(), Device::new(writer), &schema)?;
     stream.write_batch(&[])?;
     stream.write_batch(&first)?;
     stream.write_batch(&second)?;
