@@ -17,7 +17,7 @@ const GREATEST_SLOTS: u64 = 0x7fff_ffff;
 
 const GREATEST_FIELDS: u64 = 1 << 20;
 
-const GREATEST_DEPTH: u64 = 64;
+pub(crate) const GREATEST_DEPTH: u64 = 64;
 
 const GREATEST_TEXT: u64 = 1 << 30;
 
