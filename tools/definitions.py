@@ -2,10 +2,12 @@
 """Makes docs/DEFINITIONS.md from the comments above the public definitions in crates/*/specs/.
 
     tools/definitions.py            writes the page
-    tools/definitions.py --check    fails where the page is another one, or where a public definition has no comment
+    tools/definitions.py --check    fails where the page is another one, or where a public
+                                    definition has no comment
 
-A definition's comment is the lines that begin with `--` right above it. What it names of a standard is the definition's section; a comment
-that names none has the section that the first comment of its file names, and else the definition is this project's own.
+A definition's comment is the lines that begin with `--` right above it. What it names of a standard
+is the definition's section; a comment that names none has the section that the first comment of its
+file names, and else the definition is this project's own.
 """
 import pathlib
 import re
@@ -15,26 +17,37 @@ TOP = pathlib.Path(__file__).resolve().parent.parent
 PAGE = TOP / "docs" / "DEFINITIONS.md"
 HEAD = """# The definitions
 
-Made by `tools/definitions.py` from the comments above the public definitions; `bin/test` checks that it is.
+Made by `tools/definitions.py` from the comments above the public definitions; `bin/test` checks
+that it is.
 
-Contracts cite these definitions, and whoever believes a contract believes them. They relate whole values to whole lists of
-bytes: no reading order, no buffers, no passes. Where a function that follows the code stands beside a relation, its comment says
-so, and a proved law joins the two. The crates come from the bytes up to a whole stream; a module `M` of crate `c` is
-`crates/c/specs/M.antt`. "section" is the place in the public standard that a definition states: the Arrow Columnar Format 1.x, its
-metadata schemas Schema.fbs and Message.fbs at version V5, the FlatBuffers binary format, or an RFC; "this project" where there is none,
-as for limits and for what a call did.
+Contracts cite these definitions, and whoever believes a contract believes them. They relate whole
+values to whole lists of bytes: no reading order, no buffers, no passes. Where a function that
+follows the code stands beside a relation, its comment says so, and a proved law joins the two. The
+crates come from the bytes up to a whole stream; a module `M` of crate `c` is
+`crates/c/specs/M.antt`. "section" is the place in the public standard that a definition states: the
+Arrow Columnar Format 1.x, its metadata schemas Schema.fbs and Message.fbs at version V5, the
+FlatBuffers binary format, or an RFC; "this project" where there is none, as for limits and for what
+a call did.
 
-Outside vectors: the streams of `samples/` and `cases/` were laid out from the standard, not by this project's writer. The program's tests
-read them by the calls whose contracts are these definitions, and compare what comes out.
+Outside vectors: the streams of `samples/` and `cases/` were laid out from the standard, not by this
+project's writer. The program's tests read them by the calls whose contracts are these definitions,
+and compare what comes out.
 """
 
-# a definition begins at the margin, or inside a `module _` with a word before or behind `pub`, which a record's member hasn't
-DEFINITION = re.compile(r"^(?:(?:(?:abbrev|unfoldable|opaque) )*pub (?:data |record )?|  (?:(?:abbrev|unfoldable|opaque) )+pub |  pub (?:data|record) )([^\s:({]+)(?: [({].*)? ?:")
+# a definition begins at the margin, or inside a `module _` with a word before or behind `pub`,
+# which a record's member hasn't
+HOW = "(?:abbrev|unfoldable|opaque)"
+DEFINITION = re.compile(
+    rf"^(?:(?:{HOW} )*pub (?:data |record )?|  (?:{HOW} )+pub |  pub (?:data|record) )"
+    r"([^\s:({]+)(?: [({].*)? ?:"
+)
 NOT_DEFINITIONS = {"mod", "use", "module"}
-STANDARD = re.compile(r"Schema\.fbs|Message\.fbs|Arrow Columnar Format|FlatBuffers binary format|RFC \d+")
+SOURCE = r"Schema\.fbs|Message\.fbs|Arrow Columnar Format|{}FlatBuffers binary format|RFC \d+"
+STANDARD = re.compile(SOURCE.format(""))
 SECTION = re.compile(
-    r'((?:Schema\.fbs|Message\.fbs|Arrow Columnar Format|Arrow|FlatBuffers binary format|RFC \d+)'
-    r'(?:, (?:table|tables|struct|union|enum)s? [\w, ]*?\w(?=[,;):.]|$)|, "[^"]+"(?:(?:, | and )"[^"]+")*|, [A-Z]\w+\b(?!\.fbs))*)'
+    rf'((?:{SOURCE.format("Arrow|")})'
+    r'(?:, (?:table|tables|struct|union|enum)s? [\w, ]*?\w(?=[,;):.]|$)'
+    r'|, "[^"]+"(?:(?:, | and )"[^"]+")*|, [A-Z]\w+\b(?!\.fbs))*)'
 )
 QUOTED = re.compile(r'(?<!, )(?<!and )"[A-Z][^"]+"(?:(?:, | and )"[A-Z][^"]+")*')
 
@@ -42,7 +55,8 @@ QUOTED = re.compile(r'(?<!, )(?<!and )"[A-Z][^"]+"(?:(?:, | and )"[A-Z][^"]+")*'
 def crates():
     """The crates of the repository that have definitions, in the order of crates.txt."""
     lines = (TOP / "crates.txt").read_text(encoding="utf-8").splitlines()
-    names = [line.split(":")[0].split()[0] for line in lines if line.strip() and not line.startswith("#")]
+    lines = [line for line in lines if line.strip() and not line.startswith("#")]
+    names = [line.split(":")[0].split()[0] for line in lines]
     return [name for name in names if (TOP / "crates" / name / "specs").is_dir()]
 
 
@@ -68,8 +82,8 @@ def file_comment(lines):
 
 
 def section_of(text, standard, beginning):
-    """What a comment names of a standard, as one text; a title alone is of the standard that was named last above it. A comment that names
-    nothing has what the file's first one names."""
+    """What a comment names of a standard, as one text; a title alone is of the standard that was
+    named last above it. A comment that names nothing has what the file's first one names."""
     found = [part.strip() for part in SECTION.findall(text)]
     if not found and standard:
         found = [f"{standard}, {title}" for title in QUOTED.findall(text)]
@@ -82,7 +96,8 @@ def cell(text):
 
 
 def definitions_of(path):
-    """Name, section, sentence of each public definition of a file; the sentence is None where there is no comment."""
+    """Name, section, sentence of each public definition of a file; the sentence is None where there
+    is no comment."""
     lines = path.read_text(encoding="utf-8").splitlines()
     beginning = file_comment(lines)
     standard = None
@@ -112,9 +127,11 @@ def page():
             for definition, section, sentence in definitions_of(path):
                 if sentence is None:
                     missing.append(f"crates/{crate}/specs/{name}.antt: {definition}")
-                rows.append(f"| `{cell(definition)}` | `{name}` | {cell(section)} | {cell(sentence or '')} |")
+                cells = [f"`{cell(definition)}`", f"`{name}`", cell(section), cell(sentence or "")]
+                rows.append(f"| {' | '.join(cells)} |")
         if rows:
-            parts.append(f"## `{crate}`\n\n| definition | module | section | in words |\n|---|---|---|---|\n" + "\n".join(rows))
+            titles = "| definition | module | section | in words |\n|---|---|---|---|"
+            parts.append("\n".join([f"## `{crate}`\n\n{titles}", *rows]))
     return "\n\n".join(parts) + "\n", missing
 
 

@@ -1,8 +1,9 @@
 #!/usr/bin/env python3
-"""Says which lines and files of the crates are too long; the status is 1 where there are some.
+"""Says which lines and files are too long; the status is 1 where there are some.
 
-Code, clauses and definitions have at most 100 characters a line, proofs 140. Files of code have at
-most 800 lines, files of proofs 400. A line with a hint for the prover is its layout's to break.
+Code, clauses, definitions and tools have at most 100 characters a line, proofs 140. Files of code
+have at most 800 lines, files of proofs 400. A line with a hint for the prover is its layout's to
+break.
 """
 import pathlib
 import sys
@@ -35,6 +36,7 @@ def main():
         for path in TOP.glob(f"crates/*/{folder}/**/*")
         if path.suffix in (".rt", ".antt")
     ]
+    files += [path for path in [*TOP.glob("bin/*"), *TOP.glob("tools/*")] if path.is_file()]
     found = [text for path in sorted(files) for text in too_long(path)]
     print("\n".join(found[:40]) or f"lines: {len(files)} files within their bounds")
     return 1 if found else 0

@@ -1,8 +1,9 @@
 /* Test equipment: refuses growths of memory of the program that it is loaded into by LD_PRELOAD.
 
-   A growth is a call of malloc or realloc after the program has begun. GROWTH_REFUSE=5 refuses the fifth, and
-   GROWTH_REFUSE=5+ the fifth and each later one. At the end the number of growths that were asked for goes to the file
-   that GROWTH_COUNT names. It includes no header, so the toolchain's own clang builds it wherever the toolchain is. */
+   A growth is a call of malloc or realloc after the program has begun. GROWTH_REFUSE=5 refuses the
+   fifth, and GROWTH_REFUSE=5+ the fifth and each later one. At the end the number of growths that
+   were asked for goes to the file that GROWTH_COUNT names. It includes no header, so the clang of
+   the toolchain builds it wherever the toolchain is. */
 typedef unsigned long bytes;
 
 extern void *__libc_malloc(bytes);

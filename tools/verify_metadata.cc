@@ -1,5 +1,6 @@
-// Reads a stream from standard input, and has the verifier that comes with FlatBuffers judge the metadata of each message. Prints how many
-// messages there are and the codes of the schema's types; the status is 1 at the first metadata that is refused.
+// Reads a stream from standard input, and has the verifier that comes with FlatBuffers judge the
+// metadata of each message. Prints how many messages there are and the codes of the schema's types;
+// the status is 1 at the first metadata that is refused.
 #include <cstdint>
 #include <cstdio>
 #include <iostream>
@@ -29,7 +30,9 @@ int main() {
   std::map<int, int> types;
   std::size_t place = 0, messages = 0;
   for (; place < stream.size(); ++messages) {
-    if (place + 8 > stream.size() || number_at(stream, place) != 0xffffffff) return refused("no message begins", messages);
+    if (place + 8 > stream.size() || number_at(stream, place) != 0xffffffff) {
+      return refused("no message begins", messages);
+    }
     const std::size_t size = number_at(stream, place + 4);
     place += 8;
     if (size == 0) break;
@@ -38,7 +41,9 @@ int main() {
     std::vector<std::uint64_t> words((size + 7) / 8);
     std::copy_n(stream.begin() + place, size, reinterpret_cast<char*>(words.data()));
     flatbuffers::Verifier verifier(reinterpret_cast<const std::uint8_t*>(words.data()), size, 128);
-    if (!metadata::VerifyMessageBuffer(verifier)) return refused("the verifier refuses the metadata", messages);
+    if (!metadata::VerifyMessageBuffer(verifier)) {
+      return refused("the verifier refuses the metadata", messages);
+    }
     const metadata::Message* message = metadata::GetMessage(words.data());
     if (const metadata::Schema* schema = message->header_as_Schema()) {
       if (schema->fields() != nullptr) {
