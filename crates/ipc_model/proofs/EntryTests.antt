@@ -1,23 +1,14 @@
 -- The tests of one entry, in their order, and the first that fails.
-use Rattle.std.proofs.Common.{◌≡◌, ◌∙◌, refl, sym, ap, subst, ℕ, zero, suc, ◌+◌, ◌<◌, ◌≤◌, ℤ, Bool, true, false, not, ◌&&◌, ◌⊎◌, ⊎_elim}
-use Rattle.std.proofs.Common.{inl, inr, List, [], ◌∷◌, ◌++◌, length, take, drop, Option, Some, None, Result, Ok, Err, length-append, arith}
-use Rattle.std.specs.Prelude.{◌↔◌, sum_by, nat_le, slice_get, if◌then◌else◌, IfErr}
-use Rattle.std.proofs.lemmas.Bool.{cases_lt, cases_order, false≢true}
-use Rattle.std.proofs.lemmas.Bool.Decides.{nat_tests}
-use Rattle.std.proofs.lemmas.List.Sums.{sum_by-append, sum_by-cons}
-use Rattle.std.proofs.lemmas.Option.{slice_get_past}
-use Rattle.ipc_model.specs.FirstFault.{HasMuchText, HasConflict, Breaks, BreaksAt, rank, number_of, IsFirstAt, IsFirstFault}
-use Rattle.ipc_model.specs.WellFormed.{IsAmong}
-use Rattle.ipc_model.specs.SchemaFaults.{Before, after, scan, unless_at, fault_at, has_good_type, has_fitting_children, has_leaf_dictionary}
-use Rattle.ipc_model.specs.SchemaFaults.{is_little_text, has_conflict, agrees, same_type, at_start, done, verdict_on}
-use Rattle.ipc_model.specs.Entries.{Entry, entries, pair_text}
-use Rattle.ipc_model.proofs.Meanings.{Clear, clear_of, holds, good_both, fitting_both, leaf_both, agree_is, after_it, at_it, before_it}
-use Rattle.ipc_model.proofs.SameTypes.{same_itself}
+use Rattle.std.proofs.Common.{◌≡◌, refl, sym, subst, ℕ, ◌+◌, ◌≤◌, Bool, true, false, not}
+use Rattle.std.proofs.Common.{Option, Some, None, arith}
+use Rattle.std.specs.Prelude.{nat_le, if◌then◌else◌}
+use Rattle.std.proofs.lemmas.Bool.{false≢true}
+use Rattle.ipc_model.specs.FirstFault.{rank, number_of}
+use Rattle.ipc_model.specs.SchemaFaults.{Before, after, fault_at, has_good_type, has_fitting_children, has_leaf_dictionary}
+use Rattle.ipc_model.specs.SchemaFaults.{is_little_text, has_conflict}
+use Rattle.ipc_model.specs.Entries.{Entry}
 use Rattle.ipc_model.specs.declared.check.SchemaFault.{SchemaFault}
 use Rattle.ipc_model.specs.declared.check.SchemaFault.TheVariants as f
-use Rattle.ipc_model.specs.declared.schema.DataType.{DataType}
-use Rattle.ipc_model.specs.declared.schema.Dictionary.{Dictionary}
-use Rattle.ipc_model.specs.declared.schema.Schema.{Schema}
 use Rattle.ipc_model.specs.declared.limits.Limits.{Limits}
 
 -- ---- the tests of one entry, in their order

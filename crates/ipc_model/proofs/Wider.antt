@@ -1,7 +1,7 @@
 -- What is well formed under some limits is so under all that cover them.
-use Rattle.std.proofs.Common.{◌≤◌, ℕ, List, [], ◌∷◌, refl, arith}
+use Rattle.std.proofs.Common.{ℕ, List, [], ◌∷◌, arith}
 use Rattle.std.specs.List.{AllByRecursion}
-use Rattle.ipc_model.specs.Entries.{Entry, entries}
+use Rattle.ipc_model.specs.Entries.{Entry, entries, AllowPairs}
 use Rattle.ipc_model.specs.Greatest.{greatest_metadata, greatest_body, greatest_slots, greatest_fields, greatest_depth, greatest_text}
 use Rattle.ipc_model.specs.Greatest.{greatest_pairs}
 use Rattle.ipc_model.specs.Limits.{Covers}
@@ -62,4 +62,12 @@ well_formed_wider limits others s c w = record {
   little_text = omega (arith, w.little_text, c.text);
   few_pairs = omega (arith, w.few_pairs, c.pairs);
   one_type = w.one_type;
+}
+
+-- pairs that one batch may have under some limits it may have under all that cover them
+pub pairs_wider : (limits others : Limits) (pairs : List (List ℕ × List ℕ)) → Covers others limits → AllowPairs limits pairs
+    → AllowPairs others pairs
+pairs_wider limits others pairs c h = record {
+  little_text = (let l = h.little_text in let w = c.text in omega (arith, l, w));
+  few_pairs = (let f = h.few_pairs in let w = c.pairs in omega (arith, f, w));
 }

@@ -1,6 +1,7 @@
 -- A schema as a list: one entry for each field, a field before its children (Arrow Columnar
 -- Format, "RecordBatch message": the pre-order of a schema's fields).
-use Rattle.std.specs.Prelude.{ℕ, ◌+◌, ◌^◌, List, [], ◌∷◌, ◌++◌, map, length, Option, Some, None}
+use Rattle.std.specs.Prelude.{ℕ, ◌+◌, ◌≤◌, List, [], ◌∷◌, ◌++◌, map, length, Option, Some, None}
+use Rattle.ipc_model.specs.declared.limits.Limits.{Limits}
 use Rattle.ipc_model.specs.declared.schema.DataType.{DataType}
 use Rattle.ipc_model.specs.declared.schema.DataType.TheVariants as t
 use Rattle.ipc_model.specs.declared.schema.Dictionary.{Dictionary}
@@ -23,6 +24,11 @@ pub record Entry : Type 0 where
 abbrev pub pair_text : List (List ℕ × List ℕ) → ℕ
 pair_text [] = 0
 pair_text (p ∷ ps) = length p.0 + length p.1 + pair_text ps
+
+-- one batch may have these pairs of key and value under the limits
+pub record AllowPairs (limits : Limits) (pairs : List (List ℕ × List ℕ)) : Type 0 where
+  pub little_text : pair_text pairs ≤ limits.text
+  pub few_pairs : length pairs ≤ limits.pairs
 
 -- how many bytes the type's own text has: a timestamp's timezone
 abbrev pub kind_text : DataType → ℕ

@@ -4,6 +4,9 @@ ghost use Rattle.ipc_model.specs.Greatest.{greatest_metadata, greatest_body, gre
 ghost use Rattle.ipc_model.specs.Greatest.{greatest_fields, greatest_depth, greatest_text};
 ghost use Rattle.ipc_model.specs.Greatest.{greatest_pairs};
 
+use crate::check::pair_text;
+use ipc_items::Text;
+
 /// The most bytes of data of a column whose offsets have 32 bits, whatever the limits (Arrow
 /// Columnar Format, "Variable-size Binary Layout").
 pub const MAX_DATA: u64 = 0x7fff_ffff;
@@ -41,9 +44,11 @@ pub struct Limits {
     pub fields: u64,
     /// The most fields one above another, where a column is 1 deep: at most 64.
     pub depth: u64,
-    /// The most bytes of a schema's names, keys, values and timezones together: at most 2^30.
+    /// The most bytes of a schema's names, keys, values and timezones together, and of the keys and
+    /// values of one batch: at most 2^30.
     pub text: u64,
-    /// The most pairs of key and value of a schema and its fields together: at most 2^24.
+    /// The most pairs of key and value of a schema and its fields together, and of one batch: at
+    /// most 2^24.
     pub pairs: u64,
     pub ghost metadata_fits: { metadata ≤ greatest_metadata },
     pub ghost body_fits: { body ≤ greatest_body },
@@ -57,6 +62,7 @@ pub struct Limits {
 impl Limits {
     ghost use Rattle.std.specs.Prelude.{◌↔◌, IsTrue, IsSome, IfSome};
     ghost use Rattle.ipc_model.specs.Limits.{IsStandard, Covers, HaveValues, AreAllowed};
+    ghost use Rattle.ipc_model.specs.Entries.{AllowPairs};
 
     /// Limits that fit what is written in practice: metadata of 2^24 bytes, bodies of 2^40, 2^31 -
     /// 1 slots, 65,536 fields, 64 of them one above another, 2^26 bytes of text and 2^20 pairs.
@@ -120,5 +126,13 @@ impl Limits {
             && self.depth >= others.depth
             && self.text >= others.text
             && self.pairs >= others.pairs
+    }
+
+    /// Whether one batch may have these pairs of key and value: they are not more than `pairs`, and
+    /// their keys and values have not more than `text` bytes together.
+    pub fn allow_pairs(&self, pairs: &[(Text, Text)]) -> bool
+        ensures { IsTrue result ↔ AllowPairs self.now pairs.now }
+    {
+        pairs.len() as u64 <= self.pairs && pair_text(0, pairs) <= self.text
     }
 }
