@@ -1,11 +1,9 @@
 -- What the tables state is what is read, where it is within the budget.
-use Rattle.std.proofs.Common.{◌≡◌, ◌∙◌, refl, sym, ap, subst, ℕ, zero, suc, ◌+◌, ◌-◌, ◌<◌, ◌≤◌, true, List, [], ◌∷◌, ◌++◌, map, length}
+use Rattle.std.proofs.Common.{◌≡◌, ◌∙◌, refl, sym, ap, subst, ℕ, zero, suc, ◌+◌, ◌-◌, ◌<◌, ◌≤◌, true, List, [], ◌∷◌, map, length}
 use Rattle.std.proofs.Common.{nat_le, le-leb, length-append, arith}
 use Rattle.std.specs.Prelude.{sum_by, Ok}
-use Rattle.std.specs.List.{AllByRecursion}
 use Rattle.std.proofs.lemmas.List.Sums.{sum_by-append, sum_by-cons}
 use Rattle.ipc_flat.specs.Views.{TableView}
-use Rattle.ipc_model.specs.WellFormed.{IsFieldWellFormed}
 use Rattle.ipc_model.specs.Entries.{Entry, Listing, entry_of, preorder, preorder_step, all_at, entries, pair_text, kind_text}
 use Rattle.ipc_model.specs.declared.schema.DataType.{DataType}
 use Rattle.ipc_model.specs.declared.schema.Field.{Field, roll-Field, out-Field, ind-Field, fold-roll-Field, fold_out-Field, map-Field}
@@ -17,7 +15,8 @@ use Rattle.ipc_meta.specs.declared.head.BatchHead.{BatchHead}
 use Rattle.ipc_meta.specs.Budgets.{less_fields, less_text, less_pairs}
 use Rattle.ipc_meta.specs.Tables.{text_at, type_at}
 use Rattle.ipc_meta.specs.Fields.{TablesAt, VectorAt, PairAt, FieldAt, SchemaAt}
-use Rattle.ipc_meta.specs.Heads.{BatchAt}
+use Rattle.ipc_meta.specs.Heads.{BatchAt, PairsAt}
+use Rattle.ipc_meta.specs.Totals.{message_pairs}
 use Rattle.ipc_meta.specs.Reading.{batch_read, each, text_read, pair_read, pairs_read, type_read, fields_read, field_read}
 use Rattle.ipc_meta.proofs.Entries.{tables_are}
 use Rattle.ipc_meta.proofs.Sound.{field_roll}
@@ -261,3 +260,14 @@ schema_complete {limits} t s h =
 pub batch_complete : (t : TableView) (batch : BatchHead) → BatchAt t batch → batch_read t ≡ Ok batch
 unfolding batch_read
 batch_complete t batch h = rw (h.uncompressed, h.length, h.nodes, h.buffers) refl
+
+-- the pairs that a record batch's message states are read by a budget of the limits on texts and pairs
+pub batch_pairs_complete : {limits : Limits} → (root : TableView) (ps : List (List ℕ × List ℕ)) → PairsAt limits root ps
+    → (after : Budget) × (pairs_read root message_pairs (budget 0 limits.text limits.pairs) ≡ Ok (ps, after))
+batch_pairs_complete {limits} root ps h =
+    let few = h.allowed.few_pairs in
+    let little = h.allowed.little_text in (
+      budget 0 (limits.text - pair_text ps) (limits.pairs - length ps),
+      pairs_complete root message_pairs ps 0 limits.text limits.pairs (limits.text - pair_text ps) (limits.pairs - length ps) h.stated
+          (omega (arith, little)) (omega (arith, few)),
+    )

@@ -2,6 +2,7 @@ pub mod Each
 pub mod Steps
 pub mod Sound
 pub mod Numbers
+mod BatchPairs
 pub mod Complete
 pub mod Unique
 pub mod Empty

@@ -1,7 +1,7 @@
 -- Where a schema that was read is not well formed, the fault's cause is true of the metadata.
 use Rattle.std.proofs.Common.{◌≡◌, ◌∙◌, refl, sym, ap, subst, ℕ, ◌+◌, ◌^◌, Bool, true, false, not, ◌||◌, List, [], ◌∷◌, ◌⊎◌, inl, inr}
 use Rattle.std.proofs.Common.{⊎_elim, ◌≤◌, ◌<◌, ◌&&◌, length, arith}
-use Rattle.std.specs.Prelude.{sum_by, ℤ, ◌-◌, nat_le, Option, None, Some, is_some, Result, Ok, Err}
+use Rattle.std.specs.Prelude.{sum_by, ℤ, ◌-◌, nat_le, Option, None, Some, is_some, Ok, Err}
 use Rattle.std.specs.List.{AllByRecursion}
 use Rattle.std.specs.Ordering.{int_eq}
 use Rattle.std.proofs.lemmas.Bool.Decides.{nat_tests, Decides-int_eq, Decides-eqb}
@@ -11,7 +11,7 @@ use Rattle.ipc_model.specs.WellFormed.{HasGoodType, HasFittingChildren, IsLeaf}
 use Rattle.ipc_model.proofs.FirstFaults.{done_err, verdict_from_first}
 use Rattle.ipc_model.specs.FirstFault.{IsFirstFault}
 use Rattle.ipc_model.specs.SchemaFaults.{Before, after, scan, unless_at, fault_at, has_good_type, has_fitting_children, has_leaf_dictionary}
-use Rattle.ipc_model.specs.SchemaFaults.{is_leaf, is_little_text, same_type, agrees, has_conflict, with_kind, at_start, done, verdict_on}
+use Rattle.ipc_model.specs.SchemaFaults.{is_leaf, is_little_text, same_type, agrees, has_conflict, with_kind, at_start, verdict_on}
 use Rattle.ipc_model.specs.Refusals.{reader_fault}
 use Rattle.ipc_model.specs.declared.check.SchemaFault.{SchemaFault}
 use Rattle.ipc_model.specs.declared.check.SchemaFault.TheVariants as check
@@ -22,7 +22,7 @@ use Rattle.ipc_model.specs.declared.schema.Schema.{Schema}
 use Rattle.ipc_model.proofs.SameTypes.{same_itself}
 use Rattle.ipc_meta.specs.Fields.{VectorAt, FieldAt}
 use Rattle.ipc_meta.specs.Reached.{schema, HasTable}
-use Rattle.ipc_meta.specs.Causes.{Encodes, Cause}
+use Rattle.ipc_meta.specs.Causes.{Encodes, Cause, in_schema}
 use Rattle.ipc_meta.proofs.Refused.{choose}
 use Rattle.ipc_meta.proofs.GoodTypes.{good_type}
 use Rattle.ipc_meta.proofs.Entries.{Told, entries_told}
@@ -130,7 +130,7 @@ too_much limits a h = go (nat_le a.text limits.text) refl h
 text_refused : {limits : Limits} → (b : List ℕ) (s : TableView) (a : Before) → HasTable b schema s → Within limits s a []
     → is_little_text limits a ≡ false
     → Cause limits b (reader_fault (check.TooMuchText 0))
-text_refused {limits} b s a hs w h = (
+text_refused {limits} b s a hs w h = in_schema (
   s,
   hs,
   ⊎_elim (λ m. inl (let t = w.text in omega (arith, m, t)))

@@ -3,7 +3,7 @@ use Rattle.std.proofs.Common.{◌≡◌, refl, ap, subst, ℕ, zero, suc, ◌+�
 use Rattle.std.specs.Prelude.{length, nat_le, Result, Ok, Err}
 use Rattle.std.proofs.lemmas.Bool.Decides.{nat_tests}
 use Rattle.ipc_flat.specs.Views.{TableView, table_from}
-use Rattle.ipc_model.specs.Entries.{kind_text}
+use Rattle.ipc_model.specs.Entries.{kind_text, pair_text}
 use Rattle.ipc_model.specs.declared.schema.DataType.{DataType}
 use Rattle.ipc_model.specs.declared.schema.Field.{Field}
 use Rattle.ipc_meta.specs.declared.budget.Budget.{Budget}
@@ -192,3 +192,64 @@ field_spent (suc d) t left x h =
       text = omega (arith, a.text, b.text, c.text, f.text);
       pairs = omega (arith, a.pairs, b.pairs, c.pairs, f.pairs);
     })
+
+-- ---- by what was read
+
+text_taken : (t : TableView) (k : ℕ) (left after : Budget) (s : List ℕ) → text_read t k left ≡ Ok (s, after)
+    → Spent left after 0 (length s) 0
+unfolding text_read
+text_taken t k left after s h =
+    let a = bind_ok (text_at t k) _ _ h in
+    let l = bind_ok (less_text (length a.0) left) _ _ a.2 in
+    let e = left_parts a.0 s l.0 after l.2 in
+    subst (λ z. Spent left after 0 (length z) 0) e.0
+    (subst (λ m. Spent left m 0 (length a.0) 0) e.1 (less_text_spent (length a.0) left l.0 l.1))
+
+pair_taken : (t : TableView) (left after : Budget) (p : List ℕ × List ℕ) → pair_read t left ≡ Ok (p, after)
+    → Spent left after 0 (length p.0 + length p.1) 0
+unfolding pair_read
+pair_taken t left after p h =
+    let k = bind_ok (text_read t 0 left) _ _ h in
+    let v = bind_ok (text_read t 1 k.0.1) _ _ k.2 in
+    let e = left_parts (k.0.0, v.0.0) p v.0.1 after v.2 in
+    subst (λ q. Spent left after 0 (length q.0 + length q.1) 0) e.0
+    (subst (λ m. Spent left m 0 (length k.0.0 + length v.0.0) 0) e.1
+    (joined left k.0.1 v.0.1 0 (length k.0.0) 0 0 (length v.0.0) 0 (text_taken t 0 left k.0.1 k.0.0 k.1)
+    (text_taken t 1 k.0.1 v.0.1 v.0.0 v.1)))
+
+each_taken : (b : List ℕ) (n p : ℕ) (left after : Budget) (ps : List (List ℕ × List ℕ)) → each pair_read b p n left ≡ Ok (ps, after)
+    → Spent left after 0 (pair_text ps) 0 × (length ps ≡ n)
+unfolding each
+each_taken b zero p left after ps h =
+    let e = left_parts [] ps left after h in
+    subst (λ qs. Spent left after 0 (pair_text qs) 0 × (length qs ≡ 0)) e.0
+    (subst (λ m. Spent left m 0 0 0) e.1 (record { fields = omega arith; text = omega arith; pairs = omega arith }), refl)
+each_taken b (suc n) p left after ps h =
+    let a = bind_ok (lift (table_from b p)) _ _ h in
+    let c = bind_ok (pair_read a.0 left) _ _ a.2 in
+    let r = bind_ok (each pair_read b (p + 4) n c.0.1) _ _ c.2 in
+    let e = left_parts (c.0.0 ∷ r.0.0) ps r.0.1 after r.2 in
+    let first = pair_taken a.0 left c.0.1 c.0.0 c.1 in
+    let rest = each_taken b n (p + 4) c.0.1 r.0.1 r.0.0 r.1 in
+    let count = rest.1 in
+    subst (λ qs. Spent left after 0 (pair_text qs) 0 × (length qs ≡ suc n)) e.0 (
+      subst (λ m. Spent left m 0 (pair_text (c.0.0 ∷ r.0.0)) 0) e.1
+          (joined left c.0.1 r.0.1 0 (length c.0.0.0 + length c.0.0.1) 0 0 (pair_text r.0.0) 0 first rest.0),
+      omega (arith, count),
+    )
+
+-- pairs that were read take from the budget their bytes of text, and as many pairs as they are
+pub pairs_taken : (t : TableView) (k : ℕ) (left after : Budget) (ps : List (List ℕ × List ℕ)) → pairs_read t k left ≡ Ok (ps, after)
+    → Spent left after 0 (pair_text ps) (length ps)
+unfolding pairs_read
+pairs_taken t k left after ps h =
+    let v = bind_ok (vector_at t k) _ _ h in
+    let l = bind_ok (less_pairs v.0.len left) _ _ v.2 in
+    let rest = each_taken v.0.bytes v.0.len v.0.at l.0 after ps l.2 in
+    let counted = less_pairs_spent v.0.len left l.0 l.1 in
+    let few = rest.1 in
+    record {
+      fields = omega (arith, counted.fields, rest.0.fields);
+      text = omega (arith, counted.text, rest.0.text);
+      pairs = omega (arith, counted.pairs, rest.0.pairs, few);
+    }

@@ -18,10 +18,10 @@ use Rattle.ipc_meta.specs.declared.head.BatchHead.{BatchHead}
 use Rattle.ipc_meta.specs.declared.head.Head.{Head}
 use Rattle.ipc_meta.specs.declared.head.Head.TheVariants as head
 use Rattle.ipc_meta.specs.Fields.{SchemaAt}
-use Rattle.ipc_meta.specs.Heads.{BatchAt, DictionaryAt, HeaderAt, HeadOf}
+use Rattle.ipc_meta.specs.Heads.{BatchAt, DictionaryAt, PairsAt, HeaderAt, HeadOf}
 use Rattle.ipc_meta.specs.Reading.{batch_read, pairs_read, fields_read, field_read}
 use Rattle.ipc_meta.proofs.Sound.{left_parts}
-use Rattle.ipc_meta.proofs.Complete.{budget, schema_complete, batch_complete}
+use Rattle.ipc_meta.proofs.Complete.{budget, schema_complete, batch_complete, batch_pairs_complete}
 use Rattle.ipc_model.specs.declared.limits.Limits.{Limits}
 
 value_or : {X E : Type 0} → X → Result X E → X
@@ -71,32 +71,41 @@ dictionary_same t i j a b h k =
 abbrev pub code_of : Head → ℕ
 code_of (head.Schema s) = 1
 code_of (head.Dictionary id batch) = 2
-code_of (head.Batch batch) = 3
+code_of (head.Batch batch pairs) = 3
 
--- the table of a header states this head
-abbrev pub Stated : Limits → TableView → Head → Type 0
-Stated limits t (head.Schema s) = SchemaAt limits t s
-Stated limits t (head.Dictionary id batch) = DictionaryAt t id batch
-Stated limits t (head.Batch batch) = BatchAt t batch
+-- the table of a header, and what stands beside it in the root table, state this head
+abbrev pub Stated : Limits → TableView → TableView → Head → Type 0
+Stated limits root t (head.Schema s) = SchemaAt limits t s
+Stated limits root t (head.Dictionary id batch) = DictionaryAt t id batch
+Stated limits root t (head.Batch batch pairs) = BatchAt t batch × PairsAt limits root pairs
 
 -- a message whose header states a head has the head's code, and a table that states it
 pub header_parts : (limits : Limits) (root : TableView) (h : Head) → HeaderAt limits root h
-    → (scalar root 1 1 byte 0 ≡ Ok (code_of h)) × ((t : TableView) × (field root 2 table_from ≡ Ok (Some t)) × Stated limits t h)
+    → (scalar root 1 1 byte 0 ≡ Ok (code_of h)) × ((t : TableView) × (field root 2 table_from ≡ Ok (Some t)) × Stated limits root t h)
 header_parts limits root (head.Schema s) a = a
 header_parts limits root (head.Dictionary id batch) a = a
-header_parts limits root (head.Batch batch) a = a
+header_parts limits root (head.Batch batch pairs) a = (a.0.0, (a.0.1.0, a.0.1.1, (a.0.1.2, a.1)))
+
+-- a record batch's message has one list of pairs at most
+pub pairs_same : {limits : Limits} → (root : TableView) (ps qs : List (List ℕ × List ℕ)) → PairsAt limits root ps → PairsAt limits root qs
+    → ps ≡ qs
+pairs_same root ps qs a b =
+    let x = batch_pairs_complete root ps a in
+    let y = batch_pairs_complete root qs b in
+    (left_parts ps qs x.0 y.0 (sym x.1 ∙ y.1)).0
 
 -- a header's table states one head at most of the same code
-pub stated_same : (limits : Limits) (t : TableView) (g h : Head) → code_of g ≡ code_of h → Stated limits t g → Stated limits t h → g ≡ h
-stated_same limits t (head.Schema s) (head.Schema z) e a b = ap head.Schema (schema_same t s z a b)
-stated_same limits t (head.Dictionary i x) (head.Dictionary j y) e a b = let p = dictionary_same t i j x y a b in rw (p.0, p.1) refl
-stated_same limits t (head.Batch x) (head.Batch y) e a b = ap head.Batch (batch_one t x y a b)
-stated_same limits t (head.Schema s) (head.Dictionary j y) e a b = absurd (omega (arith, e))
-stated_same limits t (head.Schema s) (head.Batch y) e a b = absurd (omega (arith, e))
-stated_same limits t (head.Dictionary i x) (head.Schema z) e a b = absurd (omega (arith, e))
-stated_same limits t (head.Dictionary i x) (head.Batch y) e a b = absurd (omega (arith, e))
-stated_same limits t (head.Batch x) (head.Schema z) e a b = absurd (omega (arith, e))
-stated_same limits t (head.Batch x) (head.Dictionary j y) e a b = absurd (omega (arith, e))
+pub stated_same : (limits : Limits) (root t : TableView) (g h : Head) → code_of g ≡ code_of h → Stated limits root t g
+    → Stated limits root t h → g ≡ h
+stated_same limits root t (head.Schema s) (head.Schema z) e a b = ap head.Schema (schema_same t s z a b)
+stated_same limits root t (head.Dictionary i x) (head.Dictionary j y) e a b = let p = dictionary_same t i j x y a b in rw (p.0, p.1) refl
+stated_same limits root t (head.Batch x p) (head.Batch y q) e a b = rw (batch_one t x y a.0 b.0, pairs_same root p q a.1 b.1) refl
+stated_same limits root t (head.Schema s) (head.Dictionary j y) e a b = absurd (omega (arith, e))
+stated_same limits root t (head.Schema s) (head.Batch y q) e a b = absurd (omega (arith, e))
+stated_same limits root t (head.Dictionary i x) (head.Schema z) e a b = absurd (omega (arith, e))
+stated_same limits root t (head.Dictionary i x) (head.Batch y q) e a b = absurd (omega (arith, e))
+stated_same limits root t (head.Batch x p) (head.Schema z) e a b = absurd (omega (arith, e))
+stated_same limits root t (head.Batch x p) (head.Dictionary j y) e a b = absurd (omega (arith, e))
 
 -- a message's root table states one head at most
 pub header_same : (limits : Limits) (root : TableView) (g h : Head) → HeaderAt limits root g → HeaderAt limits root h → g ≡ h
@@ -104,8 +113,8 @@ header_same limits root g h a b =
     let p = header_parts limits root g a in
     let q = header_parts limits root h b in
     let tables = table_same (field root 2 table_from) p.1.0 q.1.0 p.1.1 q.1.1 in
-    stated_same limits q.1.0 g h (ok_same (scalar root 1 1 byte 0) (code_of g) (code_of h) p.0 q.0) (subst (λ u. Stated limits u g) tables
-    p.1.2) q.1.2
+    stated_same limits root q.1.0 g h (ok_same (scalar root 1 1 byte 0) (code_of g) (code_of h) p.0 q.0)
+    (subst (λ u. Stated limits root u g) tables p.1.2) q.1.2
 
 nat_of : ℤ → ℕ
 nat_of (pos n) = n
@@ -147,7 +156,8 @@ pub dictionary_refused : (limits : Limits) (root t : TableView) (e : Fault) (h :
     → field root 2 table_from ≡ Ok (Some t)
     → ((id : ℤ) (batch : BatchHead) → DictionaryAt t id batch → Fails e (pair id batch)) → HeaderAt limits root h → Fails e (Ok h)
 dictionary_refused limits root t e (head.Schema s) c f bad a = absurd (omega (arith, ok_same (scalar root 1 1 byte 0) 1 2 a.0 c))
-dictionary_refused limits root t e (head.Batch batch) c f bad a = absurd (omega (arith, ok_same (scalar root 1 1 byte 0) 3 2 a.0 c))
+dictionary_refused limits root t e (head.Batch batch ps) c f bad a =
+    absurd (omega (arith, ok_same (scalar root 1 1 byte 0) 3 2 a.0.0 c))
 dictionary_refused limits root t e (head.Dictionary id batch) c f bad a =
     let tables = table_same (field root 2 table_from) a.1.0 t a.1.1 f in
     refused_pair e id batch (head.Dictionary id batch) (bad id batch (subst (λ u. DictionaryAt u id batch) tables a.1.2))
@@ -158,16 +168,24 @@ pub batch_refused : (limits : Limits) (root t : TableView) (e : Fault) (h : Head
     → Fails e (batch_read t) → HeaderAt limits root h → Fails e (Ok h)
 batch_refused limits root t e (head.Schema s) c f bad a = absurd (omega (arith, ok_same (scalar root 1 1 byte 0) 1 3 a.0 c))
 batch_refused limits root t e (head.Dictionary id batch) c f bad a = absurd (omega (arith, ok_same (scalar root 1 1 byte 0) 2 3 a.0 c))
-batch_refused limits root t e (head.Batch batch) c f bad a =
-    let tables = table_same (field root 2 table_from) a.1.0 t a.1.1 f in
-    refused e (batch_read t) batch (head.Batch batch) (batch_complete t batch (subst (λ u. BatchAt u batch) tables a.1.2)) bad
+batch_refused limits root t e (head.Batch batch ps) c f bad a =
+    let tables = table_same (field root 2 table_from) a.0.1.0 t a.0.1.1 f in
+    refused e (batch_read t) batch (head.Batch batch ps) (batch_complete t batch (subst (λ u. BatchAt u batch) tables a.0.1.2)) bad
+
+-- where the pairs of a record batch's message are refused, it states no head unless memory ran out
+pub pairs_refused : (limits : Limits) (root : TableView) (e : Fault) (h : Head) → scalar root 1 1 byte 0 ≡ Ok 3
+    → ((ps : List (List ℕ × List ℕ)) → PairsAt limits root ps → Fails e (Ok ps)) → HeaderAt limits root h → Fails e (Ok h)
+pairs_refused limits root e (head.Schema s) c bad a = absurd (omega (arith, ok_same (scalar root 1 1 byte 0) 1 3 a.0 c))
+pairs_refused limits root e (head.Dictionary id batch) c bad a = absurd (omega (arith, ok_same (scalar root 1 1 byte 0) 2 3 a.0 c))
+pairs_refused limits root e (head.Batch batch ps) c bad a = refused e (Ok ps) ps (head.Batch batch ps) refl (bad ps a.1)
 
 -- where the table of a schema is refused, the message states no head unless memory ran out
 pub schema_refused : {limits : Limits} → (root t : TableView) (e : Fault) (h : Head) → scalar root 1 1 byte 0 ≡ Ok 1
     → field root 2 table_from ≡ Ok (Some t)
     → ((s : Schema) → SchemaAt limits t s → Fails e (Ok s)) → HeaderAt limits root h → Fails e (Ok h)
 schema_refused {limits} root t e (head.Dictionary id batch) c f bad a = absurd (omega (arith, ok_same (scalar root 1 1 byte 0) 2 1 a.0 c))
-schema_refused {limits} root t e (head.Batch batch) c f bad a = absurd (omega (arith, ok_same (scalar root 1 1 byte 0) 3 1 a.0 c))
+schema_refused {limits} root t e (head.Batch batch ps) c f bad a =
+    absurd (omega (arith, ok_same (scalar root 1 1 byte 0) 3 1 a.0.0 c))
 schema_refused {limits} root t e (head.Schema s) c f bad a =
     let tables = table_same (field root 2 table_from) a.1.0 t a.1.1 f in
     refused e (Ok s) s (head.Schema s) refl (bad s (subst (λ u. SchemaAt limits u s) tables a.1.2))

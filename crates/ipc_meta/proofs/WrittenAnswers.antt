@@ -1,5 +1,5 @@
 -- What the calls that write metadata answer.
-use Rattle.std.proofs.Common.{◌≡◌, ◌∙◌, ap, subst, ℕ, ◌^◌, ◌<◌, ◌≤◌, List, ◌++◌, inl, inr}
+use Rattle.std.proofs.Common.{◌≡◌, ◌∙◌, refl, ap, subst, ℕ, ◌<◌, ◌≤◌, List, [], ◌++◌, inl, inr, arith}
 use Rattle.std.specs.Prelude.{◌⊎◌, Result, Ok, Err, IfOk, IfErr}
 use Rattle.ipc_model.specs.WellFormed.{WellFormed}
 use Rattle.ipc_model.specs.declared.fault.WriteFault.{WriteFault}
@@ -11,7 +11,9 @@ use Rattle.ipc_build.specs.Room.{room}
 use Rattle.ipc_meta.specs.declared.head.BatchHead.{BatchHead}
 use Rattle.ipc_meta.specs.declared.head.Head.TheVariants as head
 use Rattle.ipc_meta.specs.Heads.{HeadOf}
-use Rattle.ipc_meta.specs.Rooms.{schema_room, head_room}
+use Rattle.ipc_model.specs.Entries.{AllowPairs}
+use Rattle.ipc_meta.specs.Rooms.{schema_room, head_room, IsTooLong}
+use Rattle.ipc_meta.specs.Rooms as too_long
 use Rattle.ipc_meta.specs.Written.{schema_tree, batch_tree, message_tree, schema_message, batch_message}
 use Rattle.ipc_meta.proofs.WrittenHeads.{schema_stated, batch_stated}
 use Rattle.ipc_meta.proofs.WrittenOrder.{schema_needs, batch_room_opens}
@@ -32,12 +34,14 @@ abbrev pub NoRoom : Limits → Tree → WriteFault → Type 0
 NoRoom limits f fault = (fault ≡ OutOfMemory) ⊎ ((fault ≡ TooLong) × (limits.metadata < room f))
 
 -- a message's tree around the tree of a schema is that schema's message
-pub schema_is : (s : Schema) (f g : Tree) → g ≡ message_tree 1 f 0 → f ≡ schema_tree s → g ≡ schema_message s
-schema_is s f g e h = e ∙ ap (λ (x : Tree). message_tree 1 x 0) h
+pub schema_is : (s : Schema) (ps : List (List ℕ × List ℕ)) (f g : Tree) → g ≡ message_tree 1 f 0 ps → ps ≡ [] → f ≡ schema_tree s
+    → g ≡ schema_message s
+schema_is s ps f g e none h = e ∙ rw (none, h) refl
 
 -- a message's tree around the tree of a batch's head is that batch's message
-pub batch_is : (b : BatchHead) (m : ℕ) (f g : Tree) → g ≡ message_tree 3 f m → f ≡ batch_tree b → g ≡ batch_message b m
-batch_is b m f g e h = e ∙ ap (λ (x : Tree). message_tree 3 x m) h
+pub batch_is : (b : BatchHead) (ps : List (List ℕ × List ℕ)) (m : ℕ) (f g : Tree) → g ≡ message_tree 3 f m ps → f ≡ batch_tree b
+    → g ≡ batch_message b ps m
+batch_is b ps m f g e h = e ∙ ap (λ (x : Tree). message_tree 3 x m ps) h
 
 -- where a tree lies in some bytes, whatever comes behind them, an equal tree does
 pub lies_as : (b : List ℕ) (f g : Tree) → f ≡ g → ((rest : List ℕ) → Encodes (b ++ rest) f) → (rest : List ℕ) → Encodes (b ++ rest) g
@@ -60,17 +64,27 @@ schema_refused limits s f fault e h = subst (λ (n : ℕ). (fault ≡ OutOfMemor
     × (limits.metadata < n))) (schema_room_is s f e) h
 
 -- bytes in which the message of a batch lies state the batch's head and the length of its body
-pub batch_states : {limits : Limits} → (b : List ℕ) (h : BatchHead) (m : ℕ) (f : Tree) → m ≤ limits.body → f ≡ batch_message h m
-    → ((rest : List ℕ) → Encodes (b ++ rest) f) → (rest : List ℕ) → HeadOf limits (b ++ rest) (head.Batch h) m
-batch_states b h m f small e lies rest = batch_stated (b ++ rest) h m small (lies_as b f (batch_message h m) e lies rest)
+pub batch_states : {limits : Limits} → (b : List ℕ) (h : BatchHead) (ps : List (List ℕ × List ℕ)) (m : ℕ) (f : Tree) → m ≤ limits.body
+    → AllowPairs limits ps → f ≡ batch_message h ps m
+    → ((rest : List ℕ) → Encodes (b ++ rest) f) → (rest : List ℕ) → HeadOf limits (b ++ rest) (head.Batch h ps) m
+batch_states b h ps m f small allowed e lies rest =
+    batch_stated (b ++ rest) h ps m small allowed (lies_as b f (batch_message h ps m) e lies rest)
 
 -- the room of a batch's message is the one that the definition gives
-pub batch_room_is : (h : BatchHead) (m : ℕ) (f : Tree) → f ≡ batch_message h m → room f ≡ head_room h m
-batch_room_is h m f e = ap room e ∙ batch_room_opens h m
+pub batch_room_is : (h : BatchHead) (ps : List (List ℕ × List ℕ)) (m : ℕ) (f : Tree) → f ≡ batch_message h ps m → room f ≡ head_room h ps m
+batch_room_is h ps m f e = ap room e ∙ batch_room_opens h ps m
 
 -- a batch is refused where memory ran out, or where its message is longer than metadata may be
-pub batch_refused : (limits : Limits) (h : BatchHead) (m : ℕ) (f : Tree) (fault : WriteFault) → f ≡ batch_message h m
-    → NoRoom limits f fault
-    → (fault ≡ OutOfMemory) ⊎ ((fault ≡ TooLong) × ((limits.metadata < head_room h m) ⊎ (limits.body < m)))
-batch_refused limits h m f fault e (inl o) = inl o
-batch_refused limits h m f fault e (inr t) = inr (t.0, inl (subst (λ (n : ℕ). limits.metadata < n) (batch_room_is h m f e) t.1))
+pub batch_refused : (limits : Limits) (h : BatchHead) (ps : List (List ℕ × List ℕ)) (m : ℕ) (f : Tree) (fault : WriteFault)
+    → f ≡ batch_message h ps m → NoRoom limits f fault
+    → (fault ≡ OutOfMemory) ⊎ ((fault ≡ TooLong) × IsTooLong limits h ps m)
+batch_refused limits h ps m f fault e (inl o) = inl o
+batch_refused limits h ps m f fault e (inr t) =
+    inr (t.0, too_long.long_metadata (subst (λ (n : ℕ). limits.metadata < n) (batch_room_is h ps m f e) t.1))
+
+-- what has room, a body within the limit and pairs that are allowed is not too long
+pub not_too_long : (limits : Limits) (h : BatchHead) (ps : List (List ℕ × List ℕ)) (m : ℕ) → head_room h ps m ≤ limits.metadata
+    → m ≤ limits.body → AllowPairs limits ps → IsTooLong limits h ps m → ⊥
+not_too_long limits h ps m room body allowed (too_long.long_metadata long) = absurd (omega (arith, room, long))
+not_too_long limits h ps m room body allowed (too_long.long_body long) = absurd (omega (arith, body, long))
+not_too_long limits h ps m room body allowed (too_long.other_pairs other) = other allowed

@@ -1,5 +1,5 @@
 -- Heads that were written are those that are read.
-use Rattle.std.proofs.Common.{◌≡◌, ◌∙◌, refl, ap, subst, ℕ, ◌+◌, ◌^◌, ◌≤◌, List, [], ◌∷◌, length, arith}
+use Rattle.std.proofs.Common.{◌≡◌, ◌∙◌, refl, ap, subst, ℕ, ◌+◌, ◌≤◌, List, [], ◌∷◌, length, arith}
 use Rattle.std.specs.Prelude.{ℤ, pos, Option, Some, Result, Ok}
 use Rattle.ipc_scalar.specs.Bytes.{byte, int16, int64}
 use Rattle.ipc_scalar.specs.declared.fault.FlatFault.{FlatFault}
@@ -11,7 +11,8 @@ use Rattle.ipc_model.specs.declared.schema.Schema.{Schema}
 use Rattle.ipc_build.specs.Trees.{Tree}
 use Rattle.ipc_build.specs.Encodes.{HasField, EncodesTable, EncodesPairs, Encodes}
 use Rattle.ipc_meta.specs.Lifts.{lift}
-use Rattle.ipc_meta.specs.Fields.{SchemaAt, FieldAt}
+use Rattle.ipc_model.specs.Entries.{AllowPairs}
+use Rattle.ipc_meta.specs.Fields.{SchemaAt, FieldAt, VectorAt, PairAt}
 use Rattle.ipc_meta.specs.declared.head.BatchHead.{BatchHead}
 use Rattle.ipc_meta.specs.declared.head.Head.TheVariants as head
 use Rattle.ipc_meta.specs.Heads.{number_pairs, pairs_in, numbers_at, BatchAt, HeadOf}
@@ -74,7 +75,7 @@ batch_there b t h held =
 -- ---- messages
 
 -- the root table of a message, with its header
-record Message (b : List ℕ) (code m : ℕ) (header : Tree) : Type 0 where
+record Message (b : List ℕ) (code m : ℕ) (header : Tree) (pairs : List (List ℕ × List ℕ)) : Type 0 where
   t : ℕ
   u : ℕ
   stands : table_from b 0 ≡ Ok (tab b t)
@@ -83,10 +84,12 @@ record Message (b : List ℕ) (code m : ℕ) (header : Tree) : Type 0 where
   headed : field (tab b t) 2 table_from ≡ Ok (Some (tab b u))
   held : Holds b u header
   body : scalar (tab b t) 3 8 int64 (pos 0) ≡ Ok (pos m)
+  paired : VectorAt PairAt pairs (tab b t) 4
 
-message_there : (b : List ℕ) (code m : ℕ) (header : Tree) → Encodes b (message_tree code header m) → Message b code m header
-unfolding EncodesTable
-message_there b code m header h =
+message_there : (b : List ℕ) (code m : ℕ) (header : Tree) (pairs : List (List ℕ × List ℕ)) → Encodes b (message_tree code header m pairs)
+    → Message b code m header pairs
+unfolding EncodesTable HasField
+message_there b code m header pairs h =
     let root = h.0 in
     let t = root.3.0 in
     let version = root.3.3.0 in
@@ -102,13 +105,16 @@ message_there b code m header h =
       headed = field_there b t 2 headed.0 table_from (tab b headed.3.0) headed.1.0 (table_there b headed.0 headed.3.0 headed.3.1);
       held = record { stands = headed.3.2; lies = headed.3.3 };
       body = scalar_there b t 3 8 body.0 int64 (pos 0) body.1.0 ∙ ap Ok body.3;
+      paired = pairs_there b t 4 pairs root.3.3.1.1.1.1
+          (λ e. root.3.2.absent 4 4 (neither (λ z. omega (arith, z)) (neither (λ z. omega (arith, z)) (neither (λ z. omega (arith, z))
+          (neither (λ z. omega (arith, z)) (pairs_absent 4 4 pairs e))))));
     }
 
 -- metadata in which the message of a well formed schema lies states that schema, and a body of no bytes
 pub schema_stated : {limits : Limits} → (b : List ℕ) (s : Schema) → WellFormed limits s → Encodes b (schema_message s)
     → HeadOf limits b (head.Schema s) 0
 schema_stated b s w h =
-    let m = message_there b 1 0 (schema_tree s) h in
+    let m = message_there b 1 0 (schema_tree s) [] h in
     record {
       root = tab b m.t;
       stands = m.stands;
@@ -119,15 +125,19 @@ schema_stated b s w h =
     }
 
 -- metadata in which the message of a batch lies states the batch's head and the length of its body
-pub batch_stated : {limits : Limits} → (b : List ℕ) (h : BatchHead) (body : ℕ) → body ≤ limits.body → Encodes b (batch_message h body)
-    → HeadOf limits b (head.Batch h) body
-batch_stated b h body small lies =
-    let m = message_there b 3 body (batch_tree h) lies in
+pub batch_stated : {limits : Limits} → (b : List ℕ) (h : BatchHead) (pairs : List (List ℕ × List ℕ)) (body : ℕ) → body ≤ limits.body
+    → AllowPairs limits pairs → Encodes b (batch_message h pairs body)
+    → HeadOf limits b (head.Batch h pairs) body
+batch_stated b h pairs body small allowed lies =
+    let m = message_there b 3 body (batch_tree h) pairs lies in
     record {
       root = tab b m.t;
       stands = m.stands;
       version = m.version;
       body = m.body;
       fits = small;
-      header = (m.coded, (tab b m.u, m.headed, batch_there b m.u h m.held));
+      header = (
+        (m.coded, (tab b m.u, m.headed, batch_there b m.u h m.held)),
+        record { stated = m.paired; allowed = allowed },
+      );
     }

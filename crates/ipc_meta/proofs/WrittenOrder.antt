@@ -15,6 +15,7 @@ use Rattle.ipc_build.specs.Layout.{entry_count, members}
 use Rattle.ipc_build.specs.Ascends.{fields, elements, Ascends}
 use Rattle.ipc_build.specs.Room.{room, targets_room}
 use Rattle.ipc_meta.specs.declared.head.BatchHead.{BatchHead}
+use Rattle.ipc_model.specs.Entries.{pair_text}
 use Rattle.ipc_meta.specs.Rooms.{schema_room, head_room, zeros, batch_room}
 use Rattle.ipc_meta.specs.Written.{pair_tree, with_pairs, with_tables, int_tree, type_tree, dictionary_tree, with_dictionary, field_step}
 use Rattle.ipc_meta.specs.Written.{field_tree, schema_tree, batch_tree, message_tree, schema_message, batch_message}
@@ -118,13 +119,18 @@ fields_in_order : (fs : List Field) → AllByRecursion (λ f. InOrder (field_tre
 fields_in_order [] = tt
 fields_in_order (f ∷ fs) = (field_in_order f, fields_in_order fs)
 
-message_in_order : (code m : ℕ) (header : Tree) → InOrder header → InOrder (message_tree code header m)
+message_in_order : (code m : ℕ) (header : Tree) (ps : List (List ℕ × List ℕ)) → InOrder header → InOrder (message_tree code header m ps)
 unfolding Ascends
-message_in_order code m header h = (
+message_in_order code m header ps h = (
   omega arith,
   omega arith,
   tt,
-  (omega arith, omega arith, tt, (omega arith, omega arith, h, (omega arith, omega arith, tt, tt))),
+  (
+    omega arith,
+    omega arith,
+    tt,
+    (omega arith, omega arith, h, (omega arith, omega arith, tt, with_pairs_in_order 4 4 ps (omega arith) (omega arith))),
+  ),
 )
 
 schema_in_order : (s : Schema) → InOrder (schema_tree s)
@@ -141,39 +147,64 @@ unfolding Ascends
 batch_in_order b = (omega arith, omega arith, tt, (omega arith, omega arith, tt, (omega arith, omega arith, tt, tt)))
 
 -- in each table of a schema's message the numbers of the fields ascend
-pub schema_ascends : (s : Schema) (code m : ℕ) (f g : Tree) → g ≡ message_tree code f m → f ≡ schema_tree s → Ascends (fields 0) g
-schema_ascends s code m f g e h = subst (λ (x : Tree). InOrder x) (sym e)
-    (subst (λ (x : Tree). InOrder (message_tree code x m)) (sym h) (message_in_order code m (schema_tree s) (schema_in_order s)))
+pub schema_ascends : (s : Schema) (code m : ℕ) (ps : List (List ℕ × List ℕ)) (f g : Tree) → g ≡ message_tree code f m ps
+    → f ≡ schema_tree s → Ascends (fields 0) g
+schema_ascends s code m ps f g e h = subst (λ (x : Tree). InOrder x) (sym e)
+    (subst (λ (x : Tree). InOrder (message_tree code x m ps)) (sym h) (message_in_order code m (schema_tree s) ps (schema_in_order s)))
 
 -- in each table of a batch's message the numbers of the fields ascend
-pub batch_ascends : (b : BatchHead) (m : ℕ) (f g : Tree) → g ≡ message_tree 3 f m → f ≡ batch_tree b → Ascends (fields 0) g
-batch_ascends b m f g e h = subst (λ (x : Tree). InOrder x) (sym e)
-    (subst (λ (x : Tree). InOrder (message_tree 3 x m)) (sym h) (message_in_order 3 m (batch_tree b) (batch_in_order b)))
+pub batch_ascends : (b : BatchHead) (ps : List (List ℕ × List ℕ)) (m : ℕ) (f g : Tree) → g ≡ message_tree 3 f m ps → f ≡ batch_tree b
+    → Ascends (fields 0) g
+batch_ascends b ps m f g e h = subst (λ (x : Tree). InOrder x) (sym e)
+    (subst (λ (x : Tree). InOrder (message_tree 3 x m ps)) (sym h) (message_in_order 3 m (batch_tree b) ps (batch_in_order b)))
 
 -- ---- room
 
--- in numbers: 158, and 16 for each node and each buffer
-pub head_counts : (b : BatchHead) (m : ℕ) → head_room b m ≡ 158 + 16 * length b.nodes + 16 * length b.buffers
-unfolding targets_room entry_count members head_room
-head_counts b m = omega arith
+-- the room that pairs add to a message
+abbrev pub pairs_room : List (List ℕ × List ℕ) → ℕ
+pairs_room [] = 0
+pairs_room (p ∷ ps) = 22 + 64 * length (p ∷ ps) + pair_text (p ∷ ps)
 
--- the room of a batch's message is 158 bytes, and 16 for each node and each buffer
-pub batch_counts : (nodes buffers : ℕ) → batch_room nodes buffers ≡ 158 + 16 * nodes + 16 * buffers
+pair_members : (ps : List (List ℕ × List ℕ)) → members (tables_of (map pair_tree ps)) ≡ length ps
+unfolding members
+pair_members [] = refl
+pair_members (p ∷ ps) = let rest = pair_members ps in omega (arith, rest)
+
+-- the tables of the pairs, each with its key and its value
+tables_room : (ps : List (List ℕ × List ℕ)) → targets_room (tables_of (map pair_tree ps)) ≡ 60 * length ps + pair_text ps
+unfolding targets_room entry_count
+tables_room [] = refl
+tables_room (p ∷ ps) = let rest = tables_room ps in omega (arith, rest)
+
+-- in numbers: 158, 16 for each node and each buffer, and the room of the pairs
+pub head_counts : (b : BatchHead) (ps : List (List ℕ × List ℕ)) (m : ℕ)
+    → head_room b ps m ≡ 158 + 16 * length b.nodes + 16 * length b.buffers + pairs_room ps
+unfolding targets_room entry_count members head_room
+head_counts b [] m = omega arith
+head_counts b (p ∷ ps) m =
+    let rest = tables_room ps in
+    let count = pair_members ps in
+    omega (arith, rest, count)
+
+-- the room of a batch's message is 158 bytes, 16 for each node and each buffer, and the room of the pairs
+pub batch_counts : (nodes buffers : ℕ) (ps : List (List ℕ × List ℕ))
+    → batch_room nodes buffers ps ≡ 158 + 16 * nodes + 16 * buffers + pairs_room ps
 unfolding batch_room
-batch_counts nodes buffers =
+batch_counts nodes buffers ps =
     let n = length-replicate {A = ℤ × ℤ} nodes (pos 0, pos 0) in
     let b = length-replicate {A = ℤ × ℤ} buffers (pos 0, pos 0) in
-    let h = head_counts (record { length = pos 0; nodes = zeros nodes; buffers = zeros buffers }) 0 in
+    let h = head_counts (record { length = pos 0; nodes = zeros nodes; buffers = zeros buffers }) ps 0 in
     omega (arith, h, n, b)
 
--- the room of a batch's message depends on the numbers of its nodes and buffers alone
-pub batch_needs : (b : BatchHead) (m : ℕ) → head_room b m ≡ batch_room (length b.nodes) (length b.buffers)
-batch_needs b m = let h = head_counts b m in let c = batch_counts (length b.nodes) (length b.buffers) in omega (arith, h, c)
+-- the room of a batch's message depends on its pairs and on the numbers of its nodes and buffers alone
+pub batch_needs : (b : BatchHead) (ps : List (List ℕ × List ℕ)) (m : ℕ)
+    → head_room b ps m ≡ batch_room (length b.nodes) (length b.buffers) ps
+batch_needs b ps m = let h = head_counts b ps m in let c = batch_counts (length b.nodes) (length b.buffers) ps in omega (arith, h, c)
 
 -- the room of a batch's message is that of its tree
-pub batch_room_opens : (b : BatchHead) (m : ℕ) → room (batch_message b m) ≡ head_room b m
+pub batch_room_opens : (b : BatchHead) (ps : List (List ℕ × List ℕ)) (m : ℕ) → room (batch_message b ps m) ≡ head_room b ps m
 unfolding head_room
-batch_room_opens b m = refl
+batch_room_opens b ps m = refl
 
 -- the room of a schema's message is that of its tree
 pub schema_needs : (s : Schema) → room (schema_message s) ≡ schema_room s

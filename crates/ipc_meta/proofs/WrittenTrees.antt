@@ -8,12 +8,13 @@ use Rattle.ipc_build.specs.declared.tree.FlatTree.{FlatTree}
 use Rattle.ipc_build.specs.declared.tree.Slot.{Slot}
 use Rattle.ipc_build.specs.declared.tree.Slot.TheVariants as v
 use Rattle.ipc_build.specs.Trees.{Node, Tree, none, field, string, table, tables, tables_of, node, view, fields_view, tables_view}
-use Rattle.ipc_build.proofs.Nodes.{view_is, bool_is, u8_is, table_is, tables_is}
+use Rattle.ipc_build.proofs.Nodes.{view_is, bool_is, u8_is, i16_is, i64_is, table_is, tables_is}
 use Rattle.ipc_model.specs.declared.schema.Dictionary.{Dictionary}
 use Rattle.ipc_model.specs.declared.schema.Field.{Field, out-Field, fold_out-Field}
 use Rattle.ipc_model.specs.declared.schema.Schema.{Schema}
 use Rattle.ipc_meta.specs.Written.{fields_then, pair_tree, with_pairs, dictionary_tree, with_dictionary, flag, with_text, with_byte}
-use Rattle.ipc_meta.specs.Written.{with_table, with_tables, type_tree, field_step, field_tree, schema_tree}
+use Rattle.ipc_meta.specs.Written.{with_table, with_tables, type_tree, field_step, field_tree, schema_tree, message_tree}
+use Rattle.ipc_meta.specs.Version.{v5}
 use Rattle.ipc_model.specs.TypeCodes.{type_code}
 
 -- a tree that the code makes has the fields of its slots
@@ -114,3 +115,12 @@ pub schema_made : (s : Schema) (t : FlatTree) (first last : List (ℕ × Slot)) 
 schema_made s t first last ts us whole pairs first_is same fields =
     whole ∙ (fields_then_none last ∙ (pairs
     ∙ vector_more field_tree 1 [] first ts us s.fields first_is same fields (with_pairs 2 s.metadata)))
+
+-- a Message table
+pub message_made : (code body : ℕ) (version number : ℤ) (t header : FlatTree) (first last : List (ℕ × Slot)) (ps : List (List ℕ × List ℕ))
+    → view t ≡ fields_view last → fields_then last none ≡ fields_then first (with_pairs 4 ps)
+    → first ≡ (0, v.I16 version) ∷ (1, v.U8 code) ∷ (2, v.Table header) ∷ (3, v.I64 number) ∷ [] → version ≡ v5 → number ≡ pos body
+    → view t ≡ message_tree code (view header) body ps
+message_made code body version number t header first last ps whole pairs first_is five counted =
+    whole ∙ (fields_then_none last ∙ (pairs ∙ (ap (λ (xs : List (ℕ × Slot)). fields_then xs (with_pairs 4 ps)) first_is
+    ∙ rw (i16_is version, u8_is code, table_is header, i64_is number, five, counted) refl)))

@@ -15,8 +15,10 @@ use Rattle.ipc_model.specs.declared.schema.Dictionary.{Dictionary}
 use Rattle.ipc_model.specs.WellFormed.{HasFittingChildren, IsLeaf}
 use Rattle.ipc_meta.specs.Tables.{bits_of, unit_of, flag_at, vector_at, code_at, is_type_code}
 use Rattle.ipc_meta.specs.Tables.{type_at, dictionary_at}
-use Rattle.ipc_meta.specs.Totals.{fields_stated, text_stated, pairs_stated}
+use Rattle.ipc_meta.specs.Totals.{fields_stated, text_stated, pairs_stated, sum_in, count_in}
+use Rattle.ipc_meta.specs.Totals.{pair_text_in, message_pairs}
 use Rattle.ipc_meta.specs.Reached.{Kind, HasTable, IsDeep, HasIllFormed, HasOtherText, message}
+use Rattle.ipc_meta.specs.Reached.{batch_message}
 use Rattle.ipc_meta.specs.Reached.{schema, column, type_value, index_type, dictionary_batch}
 use Rattle.ipc_meta.specs.Reached.{record_batch}
 use Rattle.ipc_meta.specs.Version.{v5}
@@ -77,6 +79,15 @@ abbrev pub Encodes : List ℕ → ℤ → DataType → Type 0
 Encodes b id κ = Has b column (λ t. (type_at t ≡ Ok κ)
     × ((d : Dictionary) × (dictionary_at t ≡ Ok (Some d)) × (d.id ≡ id)))
 
+-- the texts or the pairs of a schema are above their limits, or those of a record batch's message
+-- (Schema.fbs, table KeyValue)
+pub data HasMuchText (limits : Limits) (b : List ℕ) : Type 0 where
+  in_schema : Has b schema
+      (λ t. (limits.text < text_stated limits t) ⊎ (limits.pairs < pairs_stated limits t))
+      → HasMuchText limits b
+  in_batch : Has b batch_message (λ t. (limits.text < sum_in pair_text_in t message_pairs)
+      ⊎ (limits.pairs < count_in t message_pairs)) → HasMuchText limits b
+
 -- what each fault says of the metadata
 abbrev pub Cause : Limits → List ℕ → Fault → Type 0
 Cause limits b f.BadFlat = HasIllFormed b
@@ -95,8 +106,7 @@ Cause limits b f.NameNotUtf8 = HasOtherText b
 Cause limits b f.TooManyFields = Has b schema (λ t. limits.fields < fields_stated limits t)
 Cause limits b f.TooDeep = Has b schema
     (λ t. (u : TableView) × (depth : ℕ) × (limits.depth < depth) × IsDeep t depth u)
-Cause limits b f.TooMuchText = Has b schema
-    (λ t. (limits.text < text_stated limits t) ⊎ (limits.pairs < pairs_stated limits t))
+Cause limits b f.TooMuchText = HasMuchText limits b
 Cause limits b f.DictionaryConflict =
     (id : ℤ) × (κ : DataType) × (μ : DataType) × Encodes b id κ × Encodes b id μ × (κ ≢ μ)
 Cause limits b f.NestedDictionary = (id : ℤ) × (κ : DataType) × Encodes b id κ × (IsLeaf κ → ⊥)

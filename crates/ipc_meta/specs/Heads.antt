@@ -1,6 +1,6 @@
 -- What the metadata of a message states as a whole (Message.fbs, tables Message, RecordBatch and
 -- DictionaryBatch).
-use Rattle.std.specs.Prelude.{◌≡◌, ℕ, zero, suc, ◌+◌, ◌^◌, ◌≤◌, false, ℤ, pos, List, [], ◌∷◌}
+use Rattle.std.specs.Prelude.{◌≡◌, ℕ, zero, suc, ◌+◌, ◌≤◌, false, ℤ, pos, List, [], ◌∷◌}
 use Rattle.std.specs.Prelude.{Option, None, Some, Result, Ok}
 use Rattle.ipc_scalar.specs.Bytes.{byte, int16, int64}
 use Rattle.ipc_flat.specs.Views.{TableView, Structs, table_from, scalar, field, structs_from}
@@ -11,7 +11,9 @@ use Rattle.ipc_meta.specs.declared.head.Head.{Head}
 use Rattle.ipc_meta.specs.declared.head.Head.TheVariants as head
 use Rattle.ipc_meta.specs.Lifts.{lift}
 use Rattle.ipc_meta.specs.Tables.{flag_at}
-use Rattle.ipc_meta.specs.Fields.{SchemaAt}
+use Rattle.ipc_model.specs.Entries.{AllowPairs}
+use Rattle.ipc_meta.specs.Fields.{SchemaAt, VectorAt, PairAt}
+use Rattle.ipc_meta.specs.Totals.{message_pairs}
 use Rattle.ipc_meta.specs.Version.{v5}
 use Rattle.ipc_model.specs.declared.limits.Limits.{Limits}
 
@@ -45,6 +47,13 @@ pub record DictionaryAt (t : TableView) (id : ℤ) (batch : BatchHead) : Type 0 
   pub values : (d : TableView) × (field t 1 table_from ≡ Ok (Some d)) × BatchAt d batch
   pub whole : flag_at t 2 ≡ Ok false
 
+-- Message.fbs, table Message: 4 custom_metadata, which is looked at in the message of a record
+-- batch; what is within the limits is counted for this message alone
+pub record PairsAt (limits : Limits) (root : TableView) (pairs : List (List ℕ × List ℕ)) : Type 0
+  where
+    pub stated : VectorAt PairAt pairs root message_pairs
+    pub allowed : AllowPairs limits pairs
+
 -- Message.fbs, table Message: 1 the header's code in union MessageHeader, 2 the header's table
 abbrev pub IsHeader : TableView → ℕ → (TableView → Type 0) → Type 0
 IsHeader root code At = (scalar root 1 1 byte 0 ≡ Ok code)
@@ -54,7 +63,8 @@ IsHeader root code At = (scalar root 1 1 byte 0 ≡ Ok code)
 abbrev pub HeaderAt : Limits → TableView → Head → Type 0
 HeaderAt limits root (head.Schema s) = IsHeader root 1 (λ t. SchemaAt limits t s)
 HeaderAt limits root (head.Dictionary id batch) = IsHeader root 2 (λ t. DictionaryAt t id batch)
-HeaderAt limits root (head.Batch batch) = IsHeader root 3 (λ t. BatchAt t batch)
+HeaderAt limits root (head.Batch batch pairs) =
+    IsHeader root 3 (λ t. BatchAt t batch) × PairsAt limits root pairs
 
 -- Message.fbs, table Message: the metadata's root table states this head and a body of m bytes: 0
 -- version (Schema.fbs, enum MetadataVersion), 3 bodyLength

@@ -12,7 +12,8 @@ OneHead = (limits others : Limits) (metadata : List ℕ) (g h : Head) (m n : ℕ
     → HeadOf limits metadata g m → HeadOf others metadata h n
     → (g ≡ h) × (m ≡ n)
 
--- the room of a batch's metadata depends on the numbers of its nodes and buffers alone
+-- the room of a batch's metadata depends on its pairs and on the numbers of its nodes and buffers
+-- alone
 abbrev pub RoomByCounts : Type 0
-RoomByCounts = (head : BatchHead) (m : ℕ)
-    → head_room head m ≡ batch_room (length head.nodes) (length head.buffers)
+RoomByCounts = (head : BatchHead) (pairs : List (List ℕ × List ℕ)) (m : ℕ)
+    → head_room head pairs m ≡ batch_room (length head.nodes) (length head.buffers) pairs

@@ -11,9 +11,11 @@ use Rattle.ipc_model.specs.declared.fault.Fault.TheVariants.{BadFlat}
 use Rattle.ipc_meta.specs.Lifts.{lift}
 use Rattle.ipc_meta.specs.Tables.{vector_at, code_at, is_type_code}
 
--- the tables that are looked at; a type's table has its code in union Type
+-- the tables that are looked at; a type's table has its code in union Type, and the message of a
+-- record batch is a kind of its own beside that of every message
 pub data Kind : Type 0 where
   message : Kind
+  batch_message : Kind
   schema : Kind
   column : Kind
   key_value : Kind
@@ -39,6 +41,7 @@ pub data LooksAt : Kind → ℕ → Held → Type 0 where
   version : LooksAt message 0 (number 2)
   header_type : LooksAt message 1 (number 1)
   body_length : LooksAt message 3 (number 8)
+  batch_metadata : LooksAt batch_message 4 tables
   endianness : LooksAt schema 0 (number 2)
   fields : LooksAt schema 1 tables
   schema_metadata : LooksAt schema 2 tables
@@ -96,6 +99,9 @@ pub data HasTable (b : List ℕ) : Kind → TableView → Type 0 where
   of_dictionary : {t u : TableView} → HasTable b message t → Header t 2 u
       → HasTable b dictionary_batch u
   of_batch : {t u : TableView} → HasTable b message t → Header t 3 u → HasTable b record_batch u
+  with_batch : {t u : TableView} → HasTable b message t → Header t 3 u → HasTable b batch_message t
+  of_batch_pair : {t u : TableView} → HasTable b batch_message t → Element t 4 u
+      → HasTable b key_value u
   of_values : {t u : TableView} → HasTable b dictionary_batch t → field t 1 table_from ≡ Ok (Some u)
       → HasTable b record_batch u
   of_column : {t u : TableView} → HasTable b schema t → Element t 1 u → HasTable b column u

@@ -1,7 +1,9 @@
 -- How many bytes the metadata of a message may need: the room of the tree that is written, a bound
 -- of this project (FlatBuffers binary format).
-use Rattle.std.specs.Prelude.{ℕ, ℤ, pos, List, replicate}
+use Rattle.std.specs.Prelude.{ℕ, ◌<◌, ℤ, pos, List, replicate}
 use Rattle.ipc_build.specs.Room.{room}
+use Rattle.ipc_model.specs.Entries.{AllowPairs}
+use Rattle.ipc_model.specs.declared.limits.Limits.{Limits}
 use Rattle.ipc_model.specs.declared.schema.Schema.{Schema}
 use Rattle.ipc_meta.specs.declared.head.BatchHead.{BatchHead}
 use Rattle.ipc_meta.specs.Written.{schema_message, batch_message}
@@ -10,16 +12,23 @@ use Rattle.ipc_meta.specs.Written.{schema_message, batch_message}
 unfoldable pub schema_room : Schema → ℕ
 schema_room s = room (schema_message s)
 
--- the room of the metadata of this batch, with a body of m bytes
-unfoldable pub head_room : BatchHead → ℕ → ℕ
-head_room head m = room (batch_message head m)
+-- the room of the metadata of this batch with these pairs and a body of m bytes
+unfoldable pub head_room : BatchHead → List (List ℕ × List ℕ) → ℕ → ℕ
+head_room head pairs m = room (batch_message head pairs m)
 
 -- n pairs of zeros
 abbrev pub zeros : ℕ → List (ℤ × ℤ)
 zeros n = replicate n (pos 0, pos 0)
 
--- the room of the metadata of a batch with so many nodes and buffers, whatever numbers they hold
--- (`RoomByCounts`)
-unfoldable pub batch_room : ℕ → ℕ → ℕ
-batch_room nodes buffers = head_room
-    (record { length = pos 0; nodes = zeros nodes; buffers = zeros buffers }) 0
+-- what is too long to be written of a batch: its metadata, its body or its pairs
+pub data IsTooLong (limits : Limits) (head : BatchHead) (pairs : List (List ℕ × List ℕ)) (m : ℕ) :
+    Type 0 where
+  long_metadata : limits.metadata < head_room head pairs m → IsTooLong limits head pairs m
+  long_body : limits.body < m → IsTooLong limits head pairs m
+  other_pairs : (AllowPairs limits pairs → ⊥) → IsTooLong limits head pairs m
+
+-- the room of the metadata of a batch with these pairs and so many nodes and buffers, whatever
+-- numbers they hold (`RoomByCounts`)
+unfoldable pub batch_room : ℕ → ℕ → List (List ℕ × List ℕ) → ℕ
+batch_room nodes buffers pairs = head_room
+    (record { length = pos 0; nodes = zeros nodes; buffers = zeros buffers }) pairs 0

@@ -56,7 +56,7 @@ are_supported (f ∷ fs) = is_supported_field f && are_supported fs
 abbrev pub IsSupported : Head → Type 0
 IsSupported (head.Schema s) = are_supported s.fields ≡ true
 IsSupported (head.Dictionary id batch) = ⊤
-IsSupported (head.Batch batch) = ⊤
+IsSupported (head.Batch batch pairs) = ⊤
 
 -- one of these fields, or of those below them, has a type with this code (Schema.fbs, union Type),
 -- and columns of it, with its dictionary, are not read
@@ -73,7 +73,7 @@ abbrev pub NamesUnsupported : Head → Fault → Type 0
 NamesUnsupported (head.Schema s) fault =
     (code : ℕ) × (fault ≡ UnsupportedType code) × HasUnsupported code s.fields
 NamesUnsupported (head.Dictionary id batch) fault = ⊥
-NamesUnsupported (head.Batch batch) fault = ⊥
+NamesUnsupported (head.Batch batch pairs) fault = ⊥
 
 -- the metadata states a head, and the fault tells the code of a field in it whose columns are not
 -- read

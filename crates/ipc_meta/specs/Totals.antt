@@ -41,6 +41,10 @@ schema_fields = 1
 abbrev pub schema_pairs : ℕ
 schema_pairs = 2
 
+-- where a Message table has its pairs (Message.fbs, table Message)
+abbrev pub message_pairs : ℕ
+message_pairs = 4
+
 -- where a Field table has its children and its pairs (Schema.fbs, table Field)
 abbrev pub field_children : ℕ
 field_children = 5

@@ -136,15 +136,15 @@ schema_tree s = with_tables 1 (map field_tree s.fields) (with_pairs 2 s.metadata
 abbrev pub batch_tree : BatchHead → Tree
 batch_tree b = with_signed 0 w64 b.length (with_numbers 1 b.nodes (with_numbers 2 b.buffers none))
 
--- Message.fbs, table Message: 0 version, 1 and 2 header, 3 bodyLength
-abbrev pub message_tree : ℕ → Tree → ℕ → Tree
-message_tree code header m = with_signed 0 w16 v5
-    (with_byte 1 code (with_table 2 header (with_signed 3 w64 (pos m) none)))
+-- Message.fbs, table Message: 0 version, 1 and 2 header, 3 bodyLength, 4 custom_metadata
+abbrev pub message_tree : ℕ → Tree → ℕ → List (List ℕ × List ℕ) → Tree
+message_tree code header m ps = with_signed 0 w16 v5
+    (with_byte 1 code (with_table 2 header (with_signed 3 w64 (pos m) (with_pairs 4 ps))))
 
--- Message.fbs, union MessageHeader: Schema is 1; its message has no body
+-- Message.fbs, union MessageHeader: Schema is 1; its message has no body and no pairs
 abbrev pub schema_message : Schema → Tree
-schema_message s = message_tree 1 (schema_tree s) 0
+schema_message s = message_tree 1 (schema_tree s) 0 []
 
 -- Message.fbs, union MessageHeader: RecordBatch is 3
-abbrev pub batch_message : BatchHead → ℕ → Tree
-batch_message b m = message_tree 3 (batch_tree b) m
+abbrev pub batch_message : BatchHead → List (List ℕ × List ℕ) → ℕ → Tree
+batch_message b ps m = message_tree 3 (batch_tree b) m ps

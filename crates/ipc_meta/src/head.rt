@@ -1,4 +1,4 @@
-use ipc_model::{Items, Schema};
+use ipc_model::{Items, Schema, Text};
 
 /// What the metadata states of a record batch (Message.fbs, table RecordBatch). The numbers are as
 /// they were written: they may be negative, and nothing is said yet of how they fit the schema or
@@ -23,6 +23,7 @@ pub enum Head {
     /// The values of the dictionary with this id, as a batch of one column, which take the place of
     /// all that it had before (table DictionaryBatch).
     Dictionary(i64, BatchHead),
-    /// Rows of the schema (table RecordBatch).
-    Batch(BatchHead),
+    /// Rows of the schema (table RecordBatch), and the message's pairs of key and value
+    /// (`custom_metadata`): in their order, with keys that are repeated.
+    Batch(BatchHead, Items<(Text, Text)>),
 }

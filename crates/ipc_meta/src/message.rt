@@ -3,9 +3,9 @@ ghost use Rattle.ipc_scalar.specs.Bytes.{int16};
 ghost use Rattle.ipc_flat.specs.Views.{scalar};
 ghost use Rattle.ipc_model.specs.Answers.{UnlessOutOfMemory, AnswersUnlessOutOfMemory};
 ghost use Rattle.ipc_meta.specs.Fields.{SchemaAt};
-ghost use Rattle.ipc_meta.specs.Heads.{HeaderAt, HeadOf};
+ghost use Rattle.ipc_meta.specs.Heads.{PairsAt, HeaderAt, HeadOf};
 ghost use Rattle.ipc_meta.specs.Supported.{IsSupported, IsUnsupported};
-ghost use Rattle.ipc_meta.specs.Reached.{HasTable, message, schema};
+ghost use Rattle.ipc_meta.specs.Reached.{HasTable, message, batch_message, schema};
 ghost use Rattle.ipc_meta.specs.Causes.{Cause};
 ghost use Rattle.ipc_model.specs.declared.limits.Limits.{Limits};
 
@@ -17,7 +17,7 @@ use crate::lifted::lifted;
 use crate::supported::check_supported;
 use crate::version::VERSION;
 use ipc_flat::{Flat, TableRef};
-use ipc_model::{Fault, Limits, Schema};
+use ipc_model::{Fault, Items, Limits, Schema, Text};
 use std::alloc::Global;
 
 // Message.fbs, union MessageHeader: the last of the headers that a stream has, RecordBatch. The
@@ -59,6 +59,28 @@ fn read_schema(alloc: Global, limits: &Limits, table: &TableRef<'_>) -> Result<S
     Ok(schema)
 }
 
+// The pairs of a record batch's message (Message.fbs, table Message): 4 custom_metadata.
+fn read_batch_pairs(
+    alloc: Global,
+    limits: &Limits,
+    root: &TableRef<'_>,
+) -> Result<Items<(Text, Text)>, Fault>
+    ensures found { IfOk result (λ pairs. PairsAt limits.now root.now pairs) }
+    ensures only { (pairs : List (List ℕ × List ℕ)) → PairsAt limits.now root.now pairs
+        → AnswersUnlessOutOfMemory (λ y. y) result (Ok pairs) }
+    ensures refused { IfErr result
+        (λ f. (b : List ℕ) → HasTable b batch_message root.now
+        → UnlessOutOfMemory f (Cause limits.now b f)) }
+{
+    let (text, pairs) = (limits.text, limits.pairs);
+    let mut left = Budget {
+        fields: 0,
+        text,
+        pairs,
+    };
+    read_pairs(alloc, root, 4, &mut left)
+}
+
 // The header of a Message table (Message.fbs): 1 its code in union MessageHeader, 2 its table,
 // which isn't looked at where the code is none of a stream's.
 fn read_header(alloc: Global, limits: &Limits, root: &TableRef<'_>) -> Result<Head, Fault>
@@ -82,7 +104,10 @@ fn read_header(alloc: Global, limits: &Limits, root: &TableRef<'_>) -> Result<He
             let (id, batch) = read_dictionary_batch(alloc, &table)?;
             Ok(Head::Dictionary(id, batch))
         }
-        3 => Ok(Head::Batch(read_batch(alloc, &table)?)),
+        3 => {
+            let batch = read_batch(alloc, &table)?;
+            Ok(Head::Batch(batch, read_batch_pairs(alloc, limits, root)?))
+        }
         _ => Err(Fault::BadHeader),
     }
 }
@@ -117,9 +142,10 @@ fn read_stated(alloc: Global, limits: &Limits, metadata: &[u8]) -> Result<(Head,
 /// itself is isn't asked. `metadata` is the FlatBuffer alone, without the mark and the size before
 /// it; padding behind it may hold anything (Arrow Columnar Format, "Encapsulated message format").
 /// A schema that is answered is well formed, and columns of each of its fields are read here
-/// (`are_supported`). An absent vector is empty, an absent name, key or value is the empty text,
-/// and an absent timezone is none, unlike an empty one. Memory for texts, fields, nodes and buffers
-/// is taken from `alloc`.
+/// (`are_supported`). The pairs of the message itself are read where it is a record batch's, and
+/// aren't looked at in others. An absent vector is empty, an absent name, key or value is the empty
+/// text, and an absent timezone is none, unlike an empty one. Memory for texts, fields, nodes and
+/// buffers is taken from `alloc`.
 ///
 /// # Errors
 ///
@@ -134,16 +160,16 @@ fn read_stated(alloc: Global, limits: &Limits, metadata: &[u8]) -> Result<(Head,
 /// - `BodyTooLong` (F9): the body has more than `limits.body` bytes.
 /// - `BigEndian` (F12): the schema's endianness is not Little.
 /// - `UnsupportedType` (F13): a field's type is none of those that are known here, or the metadata
-/// states a schema with a field whose columns are not read here (`are_supported`); with the type's
-/// code
-///   in union Type (Schema.fbs).
+///   states a schema with a field whose columns are not read here (`are_supported`); with the
+///   type's code in union Type (Schema.fbs).
 /// - `BadType` (F14): a field's type has no table, or a width or a unit that no type has.
 /// - `BadChildren` (F15): a list without exactly one child, or children of a type that has none.
 /// - `NameNotUtf8` (F16): a name, a key, a value or a timezone is not UTF-8.
 /// - `TooManyFields` (F17): more than `limits.fields` fields with their descendants.
 /// - `TooDeep` (F18): fields more than `limits.depth` deep, where a column is 1 deep.
 /// - `TooMuchText` (F19): more than `limits.text` bytes of names, keys, values and timezones, or
-///   more than `limits.pairs` pairs of key and value.
+///   more than `limits.pairs` pairs of key and value: in a schema, or in the pairs of a record
+///   batch's message, which are counted by themselves.
 /// - `DictionaryConflict` (F20): two fields have one dictionary and values of different types.
 /// - `NestedDictionary` (F21): a dictionary of lists or of structs.
 /// - `BadIndexType` (F22): a dictionary's indices have another width than 8, 16, 32 or 64 bits.

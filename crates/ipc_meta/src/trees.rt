@@ -10,7 +10,7 @@ use crate::slots::{push_pairs, table_of, text_slot};
 use crate::type_slots::{push_dictionary, type_slots};
 use crate::version::VERSION;
 use ipc_build::{FlatTree, Slot};
-use ipc_model::{Field, Items, Schema};
+use ipc_model::{Field, Items, Schema, Text};
 use std::alloc::{AllocError, Global};
 
 // Schema.fbs, table Field, with the tables of its children.
@@ -77,22 +77,24 @@ pub(crate) fn batch_tree(alloc: Global, head: &BatchHead) -> Result<FlatTree, Al
     Ok(table_of(slots))
 }
 
-/// Message.fbs, table Message: the header's code in union MessageHeader with its table, and the
-/// length of the body.
+/// Message.fbs, table Message: the header's code in union MessageHeader with its table, the length
+/// of the body, and the message's pairs.
 pub(crate) fn message_tree(
     alloc: Global,
     code: u8,
     header: FlatTree,
     body: u64,
+    pairs: &Items<(Text, Text)>,
 ) -> Result<FlatTree, AllocError>
     requires { body ≤ greatest_body }
-    ensures { IfOk result (λ t. view t ≡ message_tree code (view header) body) }
+    ensures { IfOk result (λ t. view t ≡ message_tree code (view header) body pairs.now) }
 {
-    let slots = vec![in alloc;
+    let mut slots = vec![in alloc;
         (0, Slot::I16(VERSION)),
         (1, Slot::U8(code)),
         (2, Slot::Table(header)),
         (3, Slot::I64(body.cast_signed())),
     ]?;
+    push_pairs(alloc, &mut slots, 4, pairs)?;
     Ok(table_of(slots))
 }

@@ -7,13 +7,13 @@ ghost use Rattle.ipc_build.specs.Ascends.{Ascends, fields};
 ghost use Rattle.ipc_build.specs.Room.{room, size};
 ghost use Rattle.ipc_model.specs.WellFormed.{WellFormed};
 ghost use Rattle.ipc_meta.specs.Heads.{HeadOf};
-ghost use Rattle.ipc_meta.specs.Rooms.{head_room, schema_room};
+ghost use Rattle.ipc_meta.specs.Rooms.{IsTooLong, head_room, schema_room};
 ghost use Rattle.ipc_meta.specs.Written.{schema_message, batch_message};
 
 use crate::head::{BatchHead, Head};
 use crate::trees::{batch_tree, message_tree, schema_tree};
 use ipc_build::{BuildFault, FlatTree, build};
-use ipc_model::{Limits, Schema, WriteFault};
+use ipc_model::{Items, Limits, Schema, Text, WriteFault};
 use std::alloc::Global;
 
 // The bytes of a message's metadata.
@@ -68,43 +68,47 @@ pub fn write_schema(alloc: Global, limits: &Limits, schema: &Schema) -> Result<V
         ⊎ ((f ≡ WriteFault.TooLong) × (limits.now.metadata < schema_room schema.now))) }
 {
     let header = schema_tree(alloc, schema)?;
-    let message = message_tree(alloc, 1, header, 0)?;
+    let message = message_tree(alloc, 1, header, 0, &Items::new(alloc))?;
     built(alloc, limits, &message)
 }
 
 /// The metadata of a record batch's message with a body of so many bytes (Message.fbs, tables
-/// Message and RecordBatch). The numbers of the head are written as they are. Its layout and its
+/// Message and RecordBatch), with these pairs of key and value: the numbers of the head are written
+/// as they are, and so are the pairs, which are absent where there are none. Its layout and its
 /// padding are those of `write_schema`'s.
 ///
 /// # Errors
 ///
-/// - `TooLong` (W6): the body has more than `limits.body` bytes, or the room of the metadata is
-///   above `limits.metadata`: 158, and 16 for each node and each buffer.
+/// - `TooLong` (W6): the body has more than `limits.body` bytes, the keys and values of the pairs
+///   have more than `limits.text` bytes, there are more than `limits.pairs` pairs, or the room of
+///   the metadata is above `limits.metadata`: 158, 16 for each node and each buffer, and where
+///   there are pairs 22, and 64 with the bytes of key and value for each of them.
 /// - `OutOfMemory` (W11): `alloc` refused memory.
 pub fn write_batch(
     alloc: Global,
     limits: &Limits,
     head: &BatchHead,
+    pairs: &Items<(Text, Text)>,
     body: u64,
 ) -> Result<Vec<u8>, WriteFault>
     ensures lies { IfOk result (λ b. (rest : List ℕ)
-        → Encodes (b.items ++ rest) (batch_message head.now body)) }
-    ensures aligned { IfOk result (λ b. Aligned b.items (batch_message head.now body)) }
-    ensures states { IfOk result
-        (λ b. (rest : List ℕ) → HeadOf limits.now (b.items ++ rest) (Head.Batch head.now) body) }
-    ensures size { IfOk result (λ b. length b.items ≡ size (batch_message head.now body)) }
-    ensures within { IfOk result (λ b. (length b.items + 7) / 8 * 8 ≤ head_room head.now body) }
+        → Encodes (b.items ++ rest) (batch_message head.now pairs.now body)) }
+    ensures aligned { IfOk result (λ b. Aligned b.items (batch_message head.now pairs.now body)) }
+    ensures states { IfOk result (λ b. (rest : List ℕ)
+        → HeadOf limits.now (b.items ++ rest) (Head.Batch head.now pairs.now) body) }
+    ensures size { IfOk result
+        (λ b. length b.items ≡ size (batch_message head.now pairs.now body)) }
+    ensures within { IfOk result
+        (λ b. (length b.items + 7) / 8 * 8 ≤ head_room head.now pairs.now body) }
     ensures short { IfOk result (λ b. (length b.items + 7) / 8 * 8 ≤ limits.now.metadata) }
-    ensures room { IfOk result (λ b. (head_room head.now body ≤ limits.now.metadata)
-        × (body ≤ limits.now.body)) }
+    ensures room { IfOk result (λ b. ¬ IsTooLong limits.now head.now pairs.now body) }
     ensures refused { IfErr result (λ f. (f ≡ WriteFault.OutOfMemory)
-        ⊎ ((f ≡ WriteFault.TooLong)
-        × ((limits.now.metadata < head_room head.now body) ⊎ (limits.now.body < body)))) }
+        ⊎ ((f ≡ WriteFault.TooLong) × IsTooLong limits.now head.now pairs.now body)) }
 {
-    if body > limits.body {
+    if body > limits.body || !limits.allow_pairs(pairs.as_slice()) {
         return Err(WriteFault::TooLong);
     }
     let header = batch_tree(alloc, head)?;
-    let message = message_tree(alloc, 3, header, body)?;
+    let message = message_tree(alloc, 3, header, body, pairs)?;
     built(alloc, limits, &message)
 }

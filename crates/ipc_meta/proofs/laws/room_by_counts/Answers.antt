@@ -2,4 +2,4 @@ use Rattle.ipc_meta.proofs.WrittenOrder.{batch_needs}
 use Rattle.ipc_meta.proofs.laws.room_by_counts.Goals as goal
 
 pub returns : goal.returns
-returns c = λ head m. batch_needs head m
+returns c = λ head pairs m. batch_needs head pairs m
