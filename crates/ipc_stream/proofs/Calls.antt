@@ -1,26 +1,25 @@
 -- What a call of a reader answers where a message, or an end, is at the front of what its source gives.
-use Rattle.std.proofs.Common.{◌≡◌, ◌≢◌, ◌∙◌, refl, sym, ap, subst, ℕ, inl, inr, List, [], ◌∷◌, ◌++◌, Option, Some, None, Result, Ok, Err}
-use Rattle.std.proofs.Common.{append_assoc}
+use Rattle.std.proofs.Common.{◌≡◌, ◌∙◌, refl, sym, ap, subst, ℕ, inl, inr, List, [], ◌∷◌, ◌++◌, Option, Some, None, Result, Ok, Err}
 use Rattle.std.specs.Prelude.{IfErr, IfOk, MatchResult, true}
-use Rattle.std.specs.Io.KnownBytes.{Consumes, IsAtEnd}
+use Rattle.std.specs.Io.KnownBytes.{Consumes}
 use Rattle.std.proofs.lemmas.List.{append-nil}
 use Rattle.ipc_model.specs.declared.fault.Fault.{Fault}
 use Rattle.ipc_model.specs.declared.schema.Schema.{Schema}
-use Rattle.ipc_model.specs.declared.value.Value.{Value}
+use Rattle.ipc_model.specs.declared.table.BatchRows.{BatchRows}
 use Rattle.ipc_meta.specs.declared.head.Head.{Head}
 use Rattle.ipc_meta.specs.Supported.{IsSupported, are_supported}
 use Rattle.ipc_frame.specs.Frames.{eos, Frame}
 use Rattle.ipc_frame.proofs.OneFrame.{frame_one}
-use Rattle.ipc_column.specs.Contents.{Contents}
+use Rattle.ipc_stream.specs.Found.{Found, rows_of}
 use Rattle.ipc_stream.specs.declared.end.End.{End}
 use Rattle.ipc_stream.specs.declared.end.End.TheVariants.{Mark, Closed}
 use Rattle.ipc_stream.specs.declared.phase.Phase.{Phase}
 use Rattle.ipc_stream.specs.declared.phase.Phase.TheVariants as phase
-use Rattle.ipc_stream.specs.Reader.{BeginsEnd, GivesRows, NextAnswer, NextCall, Opens, OpenFails, Reader, in_force_of}
+use Rattle.ipc_stream.specs.Reader.{BeginsEnd, GivesBatch, NextAnswer, NextCall, Opens, OpenFails, Reader, in_force_of}
 use Rattle.ipc_stream.specs.Reasons.{Ends, IsOutside, Reads}
 use Rattle.ipc_stream.specs.Stream.{Event, InForce, Run, State, Step, batch, came, done, first, more, schema}
-use Rattle.ipc_stream.specs.Writing.{AddsRows, OpensStream}
-use Rattle.ipc_stream.proofs.OneReading.{IsStop, at_eos, frame_stop, step_one}
+use Rattle.ipc_stream.specs.Writing.{AddsBatch, OpensStream}
+use Rattle.ipc_stream.proofs.OneReading.{IsStop, frame_stop, step_one}
 use Rattle.ipc_stream.proofs.Reasons.{message_breaks, step_read, stop_breaks}
 use Rattle.ipc_model.specs.declared.limits.Limits.{Limits}
 
@@ -29,7 +28,7 @@ use Rattle.ipc_model.specs.declared.limits.Limits.{Limits}
 step_event : {limits : Limits} → {σ τ : State} {g : Head} {body : List ℕ} {es : List Event} → Step limits σ g body es τ → (d : Event)
     × (es ≡ d ∷ [])
 step_event (first {s = s}) = (schema s, refl)
-step_event (came {rows = rows} r) = (batch rows, refl)
+step_event (came {pairs = pairs} {rows = rows} r) = (batch (record { pairs = pairs; rows = rows }), refl)
 
 -- messages that tell nothing are none, and change nothing
 pub run_none : {limits : Limits} → {σ τ : State} {x : List ℕ} {es : List Event} → Run limits σ x es τ → es ≡ [] → (x ≡ []) × (σ ≡ τ)
@@ -137,19 +136,19 @@ opens_or (Err e) view left fault old x rest s read opened refused is o = opens_f
 
 -- ---- a batch
 
-module _ {limits : Limits} (o : InForce) (x u z b : List ℕ) (rows : List (List Value)) (m : IsMessage limits (Some o) x (batch rows))
+module _ {limits : Limits} (o : InForce) (x u z b : List ℕ) (rows : BatchRows) (m : IsMessage limits (Some o) x (batch rows))
     (joined : x ++ u ≡ z ++ b) where
   read : IsSupported m.head
   read = (step_read [] m.step (tt, tt)).0
 
-  abbrev RowsOr : Result (Option Contents) Fault → Type 0
-  RowsOr r = MatchResult r (λ found. GivesRows found rows) IsOutside
+  abbrev RowsOr : Result (Option Found) Fault → Type 0
+  RowsOr r = MatchResult r (λ found. GivesBatch found rows) IsOutside
 
-  gives_batch : (r : Result (Option Contents) Fault) (p : Phase) → NextAnswer limits o phase.Reading z (Some b) r p → RowsOr r
+  gives_batch : (r : Result (Option Found) Fault) (p : Phase) → NextAnswer limits o phase.Reading z (Some b) r p → RowsOr r
   gives_batch (Ok (Some found)) phase.Reading h =
-      let one : batch rows ≡ batch found.rows =
-      same_event (Some o) x z u b (batch rows) (batch found.rows) m (one_message (batch found.rows) h refl) joined in
-      let same : found.rows ≡ rows = cc in same
+      let one : batch rows ≡ batch (rows_of found) =
+      same_event (Some o) x z u b (batch rows) (batch (rows_of found)) m (one_message (batch (rows_of found)) h refl) joined in
+      let same : rows_of found ≡ rows = cc in same
   gives_batch (Ok (Some found)) (phase.Ended end) h = absurd h
   gives_batch (Ok (Some found)) phase.Refused h = absurd h
   gives_batch (Ok None) phase.Reading h = absurd h
@@ -162,9 +161,9 @@ module _ {limits : Limits} (o : InForce) (x u z b : List ℕ) (rows : List (List
       only_aside (Some o) x u z b (batch rows) m read joined fault (nothing_read (Some o) z (Some b) (Err fault) h)
 
 -- where a batch's message is next, the call gives its rows, unless memory runs out or the source fails
-pub next_batch : (old new : Reader) (r : Result (Option Contents) Fault) (x rest : List ℕ) (rows : List (List Value)) → NextCall old new r
-    → old.phase ≡ phase.Reading → old.remaining ≡ Some (x ++ rest) → AddsRows old.limits old.schema rows x
-    → MatchResult r (λ found. GivesRows found rows) IsOutside
+pub next_batch : (old new : Reader) (r : Result (Option Found) Fault) (x rest : List ℕ) (rows : BatchRows) → NextCall old new r
+    → old.phase ≡ phase.Reading → old.remaining ≡ Some (x ++ rest) → AddsBatch old.limits old.schema rows x
+    → MatchResult r (λ found. GivesBatch found rows) IsOutside
 next_batch old new r x rest rows h reading is adds =
     let k = known (x ++ rest) h.x old.remaining new.remaining is h.bytes in
     let gives = subst (λ left. NextAnswer old.limits (in_force_of old) phase.Reading h.x left r new.phase) k.1
@@ -188,10 +187,10 @@ same_end limits σ z b Closed Mark h e =
     let none : eos ++ b ≡ [] = sym (ap (λ y. y ++ b) e.0) ∙ h in absurd (cc)
 
 module _ (limits : Limits) (o : InForce) (z b : List ℕ) (end : End) (begins : BeginsEnd end (z ++ b)) where
-  gives_end : (r : Result (Option Contents) Fault) (p : Phase) → NextAnswer limits o phase.Reading z (Some b) r p
+  gives_end : (r : Result (Option Found) Fault) (p : Phase) → NextAnswer limits o phase.Reading z (Some b) r p
       → MatchResult r (λ found. p ≡ phase.Ended end) IsOutside
   gives_end (Ok (Some found)) phase.Reading h =
-      let m = one_message (batch found.rows) h refl in
+      let m = one_message (batch (rows_of found)) h refl in
       absurd (frame_stop {limits = limits} z m.metadata m.body b (z ++ b) m.head m.frame refl (stop_at end (z ++ b) begins))
   gives_end (Ok (Some found)) (phase.Ended other) h = absurd h
   gives_end (Ok (Some found)) phase.Refused h = absurd h
@@ -204,7 +203,7 @@ module _ (limits : Limits) (o : InForce) (z b : List ℕ) (end : End) (begins : 
       (nothing_read (Some o) z (Some b) (Err fault) h)
 
 -- where the end is next, the reader comes to that end, unless memory runs out or the source fails
-pub next_end : (old new : Reader) (r : Result (Option Contents) Fault) (z : List ℕ) (end : End) → NextCall old new r
+pub next_end : (old new : Reader) (r : Result (Option Found) Fault) (z : List ℕ) (end : End) → NextCall old new r
     → old.phase ≡ phase.Reading → old.remaining ≡ Some z → BeginsEnd end z → MatchResult r (λ found. new.phase ≡ phase.Ended end) IsOutside
 next_end old new r z end h reading is begins =
     let k = known z h.x old.remaining new.remaining is h.bytes in

@@ -44,7 +44,7 @@ breaks_frame {limits} z left e sees = elim (is_memory e) as (λ b. is_memory e �
 not_unread : (head : Head) → NamesUnsupported head Read → ⊥
 not_unread (h.Schema s) (code, is, unread) = cc
 not_unread (h.Dictionary id b) bad = bad
-not_unread (h.Batch b) bad = bad
+not_unread (h.Batch b pairs) bad = bad
 
 no_cause : {limits : Limits} → {metadata : List ℕ} → ⊥ ⊎ IsUnsupported limits metadata Read → ⊥
 no_cause (inl bad) = bad

@@ -82,7 +82,7 @@ stop_refused {limits} σ z b e o s (early r) = stop_early limits z b s e r
 stop_refused {limits} σ z b e o s (no_schema fr q none is other) = o none
 stop_refused {limits} σ z b e o s (second_schema p t m body q is frame) = stop_frame limits z b s m body (h.Schema t) frame
 stop_refused {limits} σ z b e o s (dictionary p id d m body q is none frame) = stop_frame limits z b s m body (h.Dictionary id d) frame
-stop_refused {limits} σ z b e o s (no_rows p d m body is frame refuses) = stop_frame limits z b s m body (h.Batch d) frame
+stop_refused {limits} σ z b e o s (no_rows p d ps m body is frame refuses) = stop_frame limits z b s m body (h.Batch d ps) frame
 
 -- where a stream may stop, reading breaks off only because memory ran out or the source failed
 pub stop_breaks : {limits : Limits} → (σ : State) (z b : List ℕ) (e : Fault) → σ ≢ None → IsStop (z ++ b) → Breaks limits σ z (Some b) e
@@ -102,7 +102,8 @@ schema_step (came r) e = absurd (cc)
 -- a batch that takes a step gives rows
 pub record StepsByRows (limits : Limits) (o : InForce) (g : Head) (body : List ℕ) : Type 0 where
   pub batch_head : BatchHead
-  pub is_batch : g ≡ h.Batch batch_head
+  pub its_pairs : List (List ℕ × List ℕ)
+  pub is_batch : g ≡ h.Batch batch_head its_pairs
   pub its_rows : List (List Value)
   pub gives : Rows limits o.schema.fields batch_head body its_rows
 
@@ -110,10 +111,11 @@ batch_step : {limits : Limits} → {σ τ : State} {g : Head} {body : List ℕ} 
     → σ ≡ Some o
     → StepsByRows limits o g body
 batch_step {limits} o first e = absurd (cc)
-batch_step {limits} o (came {o = p} {b = b} {body = body} {rows = rows} r) e =
+batch_step {limits} o (came {o = p} {b = b} {pairs = pairs} {body = body} {rows = rows} r) e =
     let same : p ≡ o = cc in
     record {
       batch_head = b;
+      its_pairs = pairs;
       is_batch = refl;
       its_rows = rows;
       gives =
@@ -121,16 +123,16 @@ batch_step {limits} o (came {o = p} {b = b} {body = body} {rows = rows} r) e =
     }
 
 no_schema_batch : {limits : Limits} → (o : InForce) (s : Schema) (body : List ℕ) → StepsByRows limits o (h.Schema s) body → ⊥
-no_schema_batch o s body b = let bad : h.Schema s ≡ h.Batch b.batch_head = b.is_batch in cc
+no_schema_batch o s body b = let bad : h.Schema s ≡ h.Batch b.batch_head b.its_pairs = b.is_batch in cc
 
 no_dictionary_batch : {limits : Limits} → (o : InForce) (id : ℤ) (d : BatchHead) (body : List ℕ)
     → StepsByRows limits o (h.Dictionary id d) body → ⊥
-no_dictionary_batch o id d body b = let bad : h.Dictionary id d ≡ h.Batch b.batch_head = b.is_batch in cc
+no_dictionary_batch o id d body b = let bad : h.Dictionary id d ≡ h.Batch b.batch_head b.its_pairs = b.is_batch in cc
 
-batch_refused : {limits : Limits} → (o : InForce) (d : BatchHead) (body : List ℕ) (e : Fault) → StepsByRows limits o (h.Batch d) body
-    → RefusesParts limits e o.schema.fields d body → e ≡ OutOfMemory
-batch_refused {limits} o d body e b r =
-    let same : d ≡ b.batch_head = (let eq : h.Batch d ≡ h.Batch b.batch_head = b.is_batch in cc) in
+batch_refused : {limits : Limits} → (o : InForce) (d : BatchHead) (ps : List (List ℕ × List ℕ)) (body : List ℕ) (e : Fault)
+    → StepsByRows limits o (h.Batch d ps) body → RefusesParts limits e o.schema.fields d body → e ≡ OutOfMemory
+batch_refused {limits} o d ps body e b r =
+    let same : d ≡ b.batch_head = (let eq : h.Batch d ps ≡ h.Batch b.batch_head b.its_pairs = b.is_batch in cc) in
     none_refused e o.schema.fields d body b.its_rows r (subst (λ z. Rows limits o.schema.fields z body b.its_rows) (sym same) b.gives)
 
 -- where all schemas that a run tells are of types that are read, so is its first head
@@ -170,7 +172,7 @@ module _ {limits : Limits} (σ τ : State) (x m body u z b : List ℕ) (g : Head
   message_refused e (second_schema o s l c q is k) = absurd (no_schema_batch o s c (message_batch (h.Schema s) l c o is k))
   message_refused e (dictionary o id d l c q is none k) =
       absurd (no_dictionary_batch o id d c (message_batch (h.Dictionary id d) l c o is k))
-  message_refused e (no_rows o d l c is k r) = batch_refused o d c e (message_batch (h.Batch d) l c o is k) r
+  message_refused e (no_rows o d ps l c is k r) = batch_refused o d ps c e (message_batch (h.Batch d ps) l c o is k) r
 
   message_pending : (k : ℕ) → IsAtEnd (Some b) → Pending limits z k → ⊥
   message_pending k none p =

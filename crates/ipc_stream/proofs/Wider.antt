@@ -1,5 +1,5 @@
 -- What denotes a table under some limits denotes it under all that cover them.
-use Rattle.std.proofs.Common.{ℕ, List, [], ◌++◌}
+use Rattle.std.proofs.Common.{ℕ, List}
 use Rattle.ipc_model.specs.Limits.{Covers}
 use Rattle.ipc_model.specs.declared.limits.Limits.{Limits}
 use Rattle.ipc_model.specs.declared.table.Table.{Table}
@@ -8,7 +8,7 @@ use Rattle.ipc_frame.proofs.Wider.{frame_wider}
 use Rattle.ipc_column.proofs.Wider.{rows_wider}
 use Rattle.ipc_stream.specs.declared.end.End.{End}
 use Rattle.ipc_stream.specs.declared.end.End.TheVariants.{Mark, Closed}
-use Rattle.ipc_stream.specs.Stream.{State, Event, Step, first, came, Run, done, more, events_of, Denotes}
+use Rattle.ipc_stream.specs.Stream.{State, Event, Step, first, came, Run, done, more, Denotes}
 
 -- a step under some limits is one under all that cover them
 step_wider : {limits others : Limits} {σ τ : State} {h : Head} {body : List ℕ} {es : List Event} → Covers others limits

@@ -1,5 +1,6 @@
 pub mod Failures
 pub mod Stream
+pub mod Found
 pub mod Readable
 pub mod Reasons
 pub mod Taken

@@ -22,6 +22,7 @@ use Rattle.ipc_stream.specs.declared.reading.Next.{Next}
 use Rattle.ipc_stream.specs.declared.reading.Next.TheVariants as next
 use Rattle.ipc_stream.specs.declared.scope.Scope.{Scope}
 use Rattle.ipc_stream.specs.Stream.{InForce, Event, schema, batch, Run, events_of}
+use Rattle.ipc_stream.specs.Found.{rows_of}
 use Rattle.ipc_stream.specs.Readable.{IsReadable}
 use Rattle.ipc_stream.specs.Reasons.{IsOutside, IsNoSchema, NamesNone, Wanted, Reads}
 use Rattle.ipc_model.specs.declared.limits.Limits.{Limits}
@@ -125,21 +126,21 @@ RefusesNext limits s f.End fault = ⊥
 RefusesNext limits s (f.Message meta (h.Schema t) body) fault = fault ≡ SecondSchema
 RefusesNext limits s (f.Message meta (h.Dictionary id b) body) fault =
     (fault ≡ UnknownDictionary) × NamesNone id s
-RefusesNext limits s (f.Message meta (h.Batch b) body) fault =
+RefusesNext limits s (f.Message meta (h.Batch b pairs) body) fault =
     RefusesParts limits fault s.fields b body.items
 
 -- a message with the rows of this batch, or the end mark, or neither
 abbrev pub BringsNext : Limits → Schema → Framed → Result Next Fault → Type 0
-BringsNext limits s (f.Message meta head body) (Ok (next.Batch found)) =
-    (b : BatchHead) × (head ≡ h.Batch b) × Rows limits s.fields b body.items found.rows
+BringsNext limits s (f.Message meta head body) (Ok (next.Batch found pairs)) =
+    (b : BatchHead) × (head ≡ h.Batch b pairs) × Rows limits s.fields b body.items found.rows
 BringsNext limits s f.End (Ok (next.Ended Mark)) = ⊤
 BringsNext limits s frame (Err fault) = RefusesNext limits s frame fault
 BringsNext limits s frame next = ⊥
 
 -- the next batch, or how the stream ends, or neither
 abbrev pub ReadAnswer : Limits → InForce → List ℕ → Option (List ℕ) → Result Next Fault → Type 0
-ReadAnswer limits o x left (Ok (next.Batch found)) =
-    Run limits (Some o) x (batch found.rows ∷ []) (Some o)
+ReadAnswer limits o x left (Ok (next.Batch found pairs)) =
+    Run limits (Some o) x (batch (rows_of (found, pairs)) ∷ []) (Some o)
 ReadAnswer limits o x left (Ok (next.Ended end)) = Reads limits (Some o) x left [] (Ok end)
 ReadAnswer limits o x left (Err fault) = Reads limits (Some o) x left [] (Err fault)
 
@@ -153,12 +154,12 @@ pub record ReadsNext (limits : Limits) (old new : Option (List ℕ)) (count_old 
 
 -- a batch has a column for each field of the schema
 abbrev pub HasColumns : Schema → Next → Type 0
-HasColumns s (next.Batch found) = found.columns ≡ length s.fields
+HasColumns s (next.Batch found pairs) = found.columns ≡ length s.fields
 HasColumns s (next.Ended end) = ⊤
 
 -- the event is a batch
 abbrev pub IsBatch : Next → Type 0
-IsBatch (next.Batch found) = ⊤
+IsBatch (next.Batch found pairs) = ⊤
 IsBatch (next.Ended end) = ⊥
 
 -- the bytes are this table and its end, or some messages behind which reading broke off

@@ -1,14 +1,15 @@
 ghost use Rattle.std.specs.Prelude.{◌≡◌, ◌≤◌, ◌-◌, ◌^◌, ◌<◌, ◌++◌, ℕ, List, Some, IfOk, IfErr};
 ghost use Rattle.std.specs.Prelude.{IfSome, IsSome, MatchResult, length, true};
 ghost use Rattle.ipc_model.specs.declared.schema.Schema.{Schema};
-ghost use Rattle.ipc_model.specs.declared.value.Value.{Value};
+ghost use Rattle.ipc_model.specs.declared.table.BatchRows.{BatchRows};
 ghost use Rattle.ipc_meta.specs.Supported.{are_supported};
 ghost use Rattle.ipc_stream.specs.declared.end.End.{End};
 ghost use Rattle.ipc_stream.specs.declared.phase.Phase.TheVariants.{Reading};
 ghost use Rattle.ipc_stream.specs.Failures.{StaysOrFails, Tells};
-ghost use Rattle.ipc_stream.specs.Reader.{BeginsEnd, GivesRows, NextCall, Opens, OpenFails, end_of};
+ghost use Rattle.ipc_stream.specs.Reader.{BeginsEnd, GivesBatch, NextCall, Opens, OpenFails};
+ghost use Rattle.ipc_stream.specs.Reader.{end_of};
 ghost use Rattle.ipc_stream.specs.Reasons.{IsOutside};
-ghost use Rattle.ipc_stream.specs.Writing.{AddsRows, OpensStream};
+ghost use Rattle.ipc_stream.specs.Writing.{AddsBatch, OpensStream};
 
 use crate::end::End;
 use crate::intake::Intake;
@@ -17,7 +18,7 @@ use crate::reading::{Next, read_next, read_scope};
 use crate::scope::Scope;
 use crate::source::Source;
 use ipc_column::Batch;
-use ipc_model::{Fault, Field, Limits, Schema};
+use ipc_model::{Fault, Field, Items, Limits, Schema, Text};
 use std::alloc::Global;
 use std::marker::Model;
 
@@ -130,11 +131,11 @@ impl<R: Source> StreamReader<R> {
     }
 
     // Reads on, which `next` says in more words.
-    fn advance(&mut self) -> Result<Option<Batch>, Fault>
+    fn advance(&mut self) -> Result<Option<(Batch, Items<(Text, Text)>)>, Fault>
         ensures next { NextCall self.old self.new result }
         ensures columns { IfOk result
-            (λ batch. IfSome batch (λ found. found.columns ≡ length self.old.schema.fields)) }
-        ensures fewer { IfOk result (λ batch. IsSome batch → self.new.bound < self.old.bound) }
+            (λ next. IfSome next (λ found. found.0.columns ≡ length self.old.schema.fields)) }
+        ensures fewer { IfOk result (λ next. IsSome next → self.new.bound < self.old.bound) }
         ensures failures { StaysOrFails self.old.failures self.new.failures result }
         ensures rose { IfErr result (λ fault. fault ≡ Fault.Read → self.old.failures ≡ 0) }
     {
@@ -147,9 +148,9 @@ impl<R: Source> StreamReader<R> {
                 &mut self.intake,
                 &self.scope,
             ) {
-                Ok(Next::Batch(batch)) => {
+                Ok(Next::Batch(batch, pairs)) => {
                     self.messages = self.messages.saturating_add(1);
-                    Ok(Some(batch))
+                    Ok(Some((batch, pairs)))
                 }
                 Ok(Next::Ended(end)) => {
                     self.phase = Phase::Ended(end);
@@ -163,27 +164,28 @@ impl<R: Source> StreamReader<R> {
         }
     }
 
-    /// The next batch, or none at the end of the stream and from then on. After a refusal every
-    /// call answers F35 and takes nothing.
-    pub fn next(&mut self) -> Result<Option<Batch>, Fault>
+    /// The next batch with the pairs of key and value of its message (Message.fbs, table Message,
+    /// `custom_metadata`; in their order, with keys that are repeated), or none at the end of the
+    /// stream and from then on. After a refusal every call answers F35 and takes nothing.
+    pub fn next(&mut self) -> Result<Option<(Batch, Items<(Text, Text)>)>, Fault>
         ensures next { NextCall self.old self.new result }
         // A batch has a column for each field of the schema.
         ensures columns { IfOk result
-            (λ batch. IfSome batch (λ found. found.columns ≡ length self.old.schema.fields)) }
-        ensures fewer { IfOk result (λ batch. IsSome batch → self.new.bound < self.old.bound) }
+            (λ next. IfSome next (λ found. found.0.columns ≡ length self.old.schema.fields)) }
+        ensures fewer { IfOk result (λ next. IsSome next → self.new.bound < self.old.bound) }
         ensures failures { StaysOrFails self.old.failures self.new.failures result }
         // F36 is answered only where the source had not failed before.
         ensures rose { IfErr result (λ fault. fault ≡ Fault.Read → self.old.failures ≡ 0) }
         // A batch's message at the front of the source is read, whatever follows it, unless memory
         // runs out or the source fails.
-        ensures batch { (x rest : List ℕ) (rows : List (List Value))
+        ensures batch { (x rest : List ℕ) (b : BatchRows)
             → self.old.phase ≡ Phase.Reading → self.old.remaining ≡ Some (x ++ rest)
-            → AddsRows self.old.limits self.old.schema rows x
-            → MatchResult result (λ batch. GivesRows batch rows) IsOutside }
+            → AddsBatch self.old.limits self.old.schema b x
+            → MatchResult result (λ next. GivesBatch next b) IsOutside }
         // So is an end, by the mark or where nothing is left.
         ensures ended { (z : List ℕ) (end : End) → self.old.phase ≡ Phase.Reading
             → self.old.remaining ≡ Some z → BeginsEnd end z
-            → MatchResult result (λ batch. self.new.phase ≡ Phase.Ended end) IsOutside }
+            → MatchResult result (λ next. self.new.phase ≡ Phase.Ended end) IsOutside }
     {
         self.advance()
     }

@@ -12,14 +12,14 @@ use crate::source::Source;
 use ipc_column::Batch;
 use ipc_frame::{Frame, Seen, next_frame};
 use ipc_meta::Head;
-use ipc_model::{Fault, Limits, Schema};
+use ipc_model::{Fault, Items, Limits, Schema, Text};
 use std::alloc::Global;
 
 // What comes behind the schema.
 #[derive(Drop)]
 pub enum Next {
-    // A batch.
-    Batch(Batch),
+    // A batch, with the pairs of its message.
+    Batch(Batch, Items<(Text, Text)>),
     // How the stream ends.
     Ended(End),
 }
@@ -117,7 +117,7 @@ fn next_of(alloc: Global, scope: &Scope, frame: Frame) -> Result<Next, Fault>
     match frame {
         Frame::End => Ok(Next::Ended(End::Mark)),
         Frame::Message { meta, head, body } => match head {
-            Head::Batch(head) => {
+            Head::Batch(head, pairs) => {
                 let fields = scope.fields.clone()?;
                 let batch = Batch::check(
                     alloc,
@@ -127,7 +127,7 @@ fn next_of(alloc: Global, scope: &Scope, frame: Frame) -> Result<Next, Fault>
                     body,
                     &scope.dictionaries,
                 )?;
-                Ok(Next::Batch(batch))
+                Ok(Next::Batch(batch, pairs))
             }
             Head::Schema(_) => Err(Fault::SecondSchema),
             Head::Dictionary(id, _) => Err(unknown_dictionary(&scope.limits, &scope.schema, id)),

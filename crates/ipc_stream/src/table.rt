@@ -5,6 +5,7 @@ ghost use Rattle.ipc_model.specs.declared.table.Table.{Table};
 ghost use Rattle.ipc_meta.specs.Supported.{are_supported};
 ghost use Rattle.ipc_stream.specs.declared.end.End.TheVariants.{Closed, Mark};
 ghost use Rattle.ipc_stream.specs.Failures.{FailsAs};
+ghost use Rattle.ipc_stream.specs.Found.{rows_of};
 ghost use Rattle.ipc_stream.specs.Stream.{Denotes};
 ghost use Rattle.ipc_stream.specs.Taken.{TakesTable};
 ghost use Rattle.ipc_model.specs.Fits.{TableFits};
@@ -18,15 +19,22 @@ use crate::sending::{send_batch, send_end, send_schema};
 use crate::sink::Sink;
 use crate::source::Source;
 use ipc_column::Batch;
-use ipc_model::{Fault, Items, Limits, Row, Table, WriteFault};
+use ipc_model::{BatchRows, Fault, Items, Limits, Table, Text, WriteFault};
 use std::alloc::Global;
 
-// Puts the rows of a batch behind those of the batches before.
-fn keep_rows(alloc: Global, batches: &mut Vec<Items<Row>>, batch: &Batch) -> Result<(), Fault>
-    ensures kept { OnOk result (batches.new.items ≡ batches.old.items ++ (batch.now.rows ∷ [])) }
+// Puts the pairs and rows of a batch behind those of the batches before.
+fn keep_batch(
+    alloc: Global,
+    batches: &mut Vec<BatchRows>,
+    batch: &Batch,
+    pairs: Items<(Text, Text)>,
+) -> Result<(), Fault>
+    ensures kept { OnOk result
+        (batches.new.items ≡ batches.old.items ++ (rows_of (batch.now, pairs) ∷ [])) }
     ensures memory { IfErr result (λ fault. fault ≡ Fault.OutOfMemory) }
 {
-    batches.push(batch.to_rows(alloc)?)?;
+    let rows = batch.to_rows(alloc)?;
+    batches.push(BatchRows { pairs, rows })?;
     Ok(())
 }
 
@@ -44,7 +52,7 @@ fn read_batches<R: Source>(
     let mut batches = Vec::new(alloc);
     loop {
         match read_next(alloc, source, &mut intake, &scope)? {
-            Next::Batch(batch) => keep_rows(alloc, &mut batches, &batch)?,
+            Next::Batch(batch, pairs) => keep_batch(alloc, &mut batches, &batch, pairs)?,
             Next::Ended(end) => {
                 let batches = Items::from_vec(batches);
                 return Ok((scope.table_of(batches), end));
@@ -108,8 +116,8 @@ fn write_messages<W: Sink>(
         (W.written sink.new) (W.failures sink.old) (W.failures sink.new) fault) }
 {
     let schema = send_schema(alloc, limits, sink, &table.schema)?;
-    for rows in table.batches.as_slice() {
-        send_batch(alloc, limits, sink, &schema, rows.as_slice())?;
+    for batch in table.batches.as_slice() {
+        send_batch(alloc, limits, sink, &schema, batch)?;
     }
     send_end(sink)
 }
