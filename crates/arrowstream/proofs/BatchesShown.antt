@@ -1,24 +1,23 @@
 -- A column of signed 64-bit numbers gives numbers and nulls.
-use Rattle.std.proofs.Common.{◌≡◌, ◌∙◌, refl, sym, ap, subst, ℕ, zero, suc, ◌+◌, ◌*◌, ◌<◌, List, [], ◌∷◌, ◌++◌, length, map, Bool, true}
-use Rattle.std.proofs.Common.{false, Option, Some, None, arith}
+use Rattle.std.proofs.Common.{◌≡◌, ◌∙◌, refl, sym, ap, subst, ℕ, suc, ◌*◌, ◌<◌, List, [], ◌∷◌, ◌++◌, length, map, Bool, true}
+use Rattle.std.proofs.Common.{false, Option, Some, arith}
 use Rattle.std.specs.Prelude.{slice_index_or, if◌then◌else◌, ⊤}
 use Rattle.std.specs.List.{AllByRecursion}
 use Rattle.ipc_model.specs.declared.schema.Field.{Field, out-Field, fold_out-Field}
-use Rattle.ipc_model.specs.declared.schema.Field.TheOpen.{Field-F}
 use Rattle.ipc_model.specs.declared.schema.DataType.{DataType}
 use Rattle.ipc_model.specs.declared.schema.DataType.TheVariants as t
 use Rattle.ipc_model.specs.declared.schema.Dictionary.{Dictionary}
 use Rattle.ipc_model.specs.declared.schema.IntBits.TheVariants.{B64}
+use Rattle.ipc_model.specs.declared.table.BatchRows.{BatchRows}
 use Rattle.ipc_model.specs.declared.value.Value.{Value}
 use Rattle.ipc_model.specs.declared.value.Value.TheVariants as v
 use Rattle.ipc_meta.specs.declared.head.BatchHead.{BatchHead}
 use Rattle.ipc_meta.specs.declared.head.Head.{Head}
 use Rattle.ipc_model.specs.declared.layout.Layout.{Layout}
 use Rattle.ipc_model.specs.declared.layout.Layout.TheVariants.{Numbers}
-use Rattle.ipc_column.specs.Columns.{Column, Columns, none, column}
+use Rattle.ipc_column.specs.Columns.{Column}
 use Rattle.ipc_model.specs.Layouts.{layout, number_bytes}
-use Rattle.ipc_column.specs.Shapes.{Shape, bare, field, shapes, field_shape, field_step, shape_of, cut, column_at, nodes_in, buffers_in}
-use Rattle.ipc_column.specs.Shapes.{columns_of}
+use Rattle.ipc_column.specs.Shapes.{Shape, shapes, field_shape, field_step, cut, column_at}
 use Rattle.ipc_column.specs.Values.{is_valid, own_value, value_of, signed_at, row}
 use Rattle.ipc_column.specs.Rows.{Rows}
 use Rattle.ipc_stream.specs.Stream.{State, Event, InForce, schema, batch, Step, first, came, Run, done, more}
@@ -64,7 +63,7 @@ rows_shown fs h body rows all r =
 -- what an event says
 abbrev pub IsShownEvent : Event → Type 0
 IsShownEvent (schema s) = ⊤
-IsShownEvent (batch rows) = AreShownRows rows
+IsShownEvent (batch b) = AreShownRows b.rows
 
 step_shown : {limits : Limits} → (σ τ : State) (h : Head) (body : List ℕ) (es : List Event) (o : InForce)
     → AreShownColumns o.schema.fields → σ ≡ Some o
@@ -89,6 +88,6 @@ run_shown σ τ x es o all is (more {σ = a} {τ = b} {υ = c} {x = u} {metadata
     append_shown ds gs s.0 (run_shown b c v gs o all s.1 rest)
 
 -- what a run of one batch says of its rows
-pub batch_shown : {limits : Limits} → (o : InForce) (x : List ℕ) (rows : List (List Value)) → AreShownColumns o.schema.fields
-    → Run limits (Some o) x (batch rows ∷ []) (Some o) → AreShownRows rows
-batch_shown o x rows all run = (run_shown (Some o) (Some o) x (batch rows ∷ []) o all refl run).0
+pub batch_shown : {limits : Limits} → (o : InForce) (x : List ℕ) (b : BatchRows) → AreShownColumns o.schema.fields
+    → Run limits (Some o) x (batch b ∷ []) (Some o) → AreShownRows b.rows
+batch_shown o x b all run = (run_shown (Some o) (Some o) x (batch b ∷ []) o all refl run).0

@@ -1,7 +1,7 @@
 -- Columns whose numbers are lent, and the rows that they make.
-use Rattle.std.proofs.Common.{◌≡◌, ◌∙◌, refl, sym, ap, subst, ℕ, zero, suc, ◌+◌, ◌*◌, ◌/◌, ◌<◌, ◌≤◌, List, [], ◌∷◌, ◌++◌, length, map, take}
-use Rattle.std.proofs.Common.{drop, get_or, Some, append_assoc, arith}
-use Rattle.std.specs.Prelude.{ℤ, codes, slice_get, slice_index_or}
+use Rattle.std.proofs.Common.{◌≡◌, ◌∙◌, refl, sym, ap, subst, ℕ, zero, suc, ◌+◌, ◌*◌, ◌/◌, ◌<◌, ◌≤◌, List, [], ◌∷◌, ◌++◌, length, take}
+use Rattle.std.proofs.Common.{drop, get_or, Some, arith}
+use Rattle.std.specs.Prelude.{ℤ, slice_get, slice_index_or}
 use Rattle.std.specs.Fmt.{signed_decimal}
 use Rattle.std.specs.Int.{w64, cast_signed, from_le_bytes}
 use Rattle.std.specs.List.{AllByRecursion}
@@ -15,7 +15,7 @@ use Rattle.ipc_model.specs.declared.value.Value.TheVariants.{Int}
 use Rattle.ipc_column.specs.Lending.{AreNumbers}
 use Rattle.arrowstream.specs.Columns.{number_in, row_in, AreLong, AreLent}
 use Rattle.arrowstream.specs.Output.{Output, Puts}
-use Rattle.arrowstream.specs.Rows.{cell_text, comma, opened, line}
+use Rattle.arrowstream.specs.Rows.{comma, opened}
 use Rattle.arrowstream.proofs.Puts.{puts_then}
 use Rattle.arrowstream.proofs.Shown.{all_more, all_at, got_inside, int_text}
 use Rattle.arrowstream.proofs.Texts.{cell_more}

@@ -1,6 +1,6 @@
 -- Rows that are put, cell by cell and row by row.
 use Rattle.std.proofs.Common.{◌≡◌, ◌∙◌, refl, sym, ap, subst, ℕ, ◌+◌, ◌<◌, ◌≤◌, List, [], ◌∷◌, ◌++◌, length, take, drop, get_or, Option}
-use Rattle.std.proofs.Common.{Some, Result, Ok, Err, append_assoc, arith}
+use Rattle.std.proofs.Common.{Some, Result, Ok, Err, arith}
 use Rattle.std.specs.Prelude.{ℤ, slice_get, slice_index_or}
 use Rattle.std.specs.Fmt.{signed_decimal}
 use Rattle.std.proofs.lemmas.List.{take_all, length-map}
@@ -11,7 +11,7 @@ use Rattle.arrowstream.specs.Columns.{number_in, row_in}
 use Rattle.arrowstream.specs.Output.{Output, output, Puts, PutFails, PrintsAt}
 use Rattle.arrowstream.specs.Rows.{cell_text, comma, opened, line, lines}
 use Rattle.arrowstream.proofs.Puts.{puts_then, puts_not_then, puts_not_front}
-use Rattle.arrowstream.proofs.Texts.{cell_more, row_rest, row_whole, lines_more, lines_rest, lines_whole}
+use Rattle.arrowstream.proofs.Texts.{cell_more, row_rest, row_whole, lines_more, lines_rest}
 use Rattle.arrowstream.proofs.Lanes.{RowPut, number_text}
 
 -- where a text was put, an equal text was

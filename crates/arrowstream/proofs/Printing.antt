@@ -1,26 +1,25 @@
 -- Batches that are read and printed.
-use Rattle.std.proofs.Common.{◌≡◌, ◌≢◌, ◌∙◌, refl, sym, ap, subst, ℕ, zero, suc, inl, inr, List, [], ◌∷◌, ◌++◌, map, Option, Some, None}
-use Rattle.std.proofs.Common.{Result, Ok, Err, append_assoc, append-nil, arith}
-use Rattle.std.specs.Io.KnownBytes.{Appends, Consumes, IsAtEnd, Keeps}
-use Rattle.std.specs.List.{AllByRecursion}
+use Rattle.std.proofs.Common.{◌≡◌, ◌∙◌, refl, sym, ap, subst, ℕ, List, [], ◌∷◌, ◌++◌, map, Option, Some, None}
+use Rattle.std.proofs.Common.{Result, Ok, Err, append-nil}
+use Rattle.std.specs.Io.KnownBytes.{Consumes}
 use Rattle.std.proofs.KnownBytes.{Consumes-nil, Consumes-trans}
 use Rattle.std.proofs.lemmas.List.{map-append}
 use Rattle.ipc_model.specs.declared.fault.Fault.{Fault}
-use Rattle.ipc_model.specs.declared.value.Value.{Value}
-use Rattle.ipc_column.specs.Contents.{Contents}
+use Rattle.ipc_model.specs.declared.table.BatchRows.{BatchRows}
+use Rattle.ipc_stream.specs.Found.{Found, rows_of}
 use Rattle.ipc_stream.specs.declared.end.End.{End}
 use Rattle.ipc_stream.specs.declared.phase.Phase.{Phase}
 use Rattle.ipc_stream.specs.declared.phase.Phase.TheVariants.{Reading, Ended, Refused}
-use Rattle.ipc_stream.specs.Failures.{FailsAs, Tells}
+use Rattle.ipc_stream.specs.Failures.{Tells}
 use Rattle.ipc_stream.specs.Reader.{Reader, in_force_of, NextAnswer, NextCall}
 use Rattle.ipc_stream.specs.Reasons.{Reads}
-use Rattle.ipc_stream.specs.Stream.{State, Event, InForce, batch, Run, done, more}
+use Rattle.ipc_stream.specs.Stream.{InForce, batch, Run, done}
 use Rattle.ipc_stream.proofs.Runs.{run_then, reads_after}
 use Rattle.arrowstream.specs.declared.rows.PrintFault.{PrintFault}
 use Rattle.arrowstream.specs.declared.rows.PrintFault.TheVariants.{Write, OutOfMemory}
 use Rattle.arrowstream.specs.Columns.{AreShownColumns}
-use Rattle.arrowstream.specs.Output.{Output, output, Puts, PutFails}
-use Rattle.arrowstream.specs.Rows.{AreShownRows, lines, batch_lines}
+use Rattle.arrowstream.specs.Output.{Output, Puts, PutFails}
+use Rattle.arrowstream.specs.Rows.{AreShownRows, AreShownBatches, lines, batch_lines}
 use Rattle.arrowstream.specs.Show.{PrintsRows, PrintsPart, PrintsBatches}
 use Rattle.arrowstream.proofs.Puts.{puts_then, puts_not_then, puts_none, puts_never}
 use Rattle.arrowstream.proofs.Shown.{all_more}
@@ -32,14 +31,14 @@ use Rattle.ipc_model.specs.declared.limits.Limits.{Limits}
 -- these batches were read behind the schema, and printed
 pub record Batches (old now : Reader) (before after : Output) : Type 0 where
   pub x : List ℕ
-  pub batches : List (List (List Value))
+  pub batches : List BatchRows
   pub bytes : Consumes old.remaining now.remaining x
   pub run : Run old.limits (Some (in_force_of old)) x (map batch batches) (Some (in_force_of old))
   pub reading : now.phase ≡ Reading
   pub same : now.schema ≡ old.schema
   pub same_limits : now.limits ≡ old.limits
   pub counts : now.failures ≡ old.failures
-  pub cells : AllByRecursion AreShownRows batches
+  pub cells : AreShownBatches batches
   pub puts : Puts before after (batch_lines batches)
 
 -- before the first batch nothing was read and nothing printed
@@ -58,8 +57,8 @@ batches_none r o reading = record {
 }
 
 -- what a call that gave a batch says, where the reader was reading
-gave : (limits : Limits) (o : InForce) (p q : Phase) (x : List ℕ) (left : Option (List ℕ)) (found : Contents) → p ≡ Reading
-    → NextAnswer limits o p x left (Ok (Some found)) q → (q ≡ Reading) × Run limits (Some o) x (batch found.rows ∷ []) (Some o)
+gave : (limits : Limits) (o : InForce) (p q : Phase) (x : List ℕ) (left : Option (List ℕ)) (found : Found) → p ≡ Reading
+    → NextAnswer limits o p x left (Ok (Some found)) q → (q ≡ Reading) × Run limits (Some o) x (batch (rows_of found) ∷ []) (Some o)
 gave limits o Reading Reading x left found is h = (refl, h)
 gave limits o Reading (Ended e) x left found is h = absurd h
 gave limits o Reading Refused x left found is h = absurd h
@@ -89,59 +88,60 @@ module _ (old now new : Reader) (before after : Output) (b : Batches old now bef
   same_open = ap (λ s. record { schema = s }) b.same
 
   -- the answer, under the limits that the reader was opened with
-  same_answer : (r : Result (Option Contents) Fault) (t : NextCall now new r)
+  same_answer : (r : Result (Option Found) Fault) (t : NextCall now new r)
       → NextAnswer old.limits (in_force_of now) now.phase t.x new.remaining r new.phase
   same_answer r t = subst (λ limits. NextAnswer limits (in_force_of now) now.phase t.x new.remaining r new.phase) b.same_limits t.gives
 
   -- the batch that came
-  found_run : (found : Contents) → (t : NextCall now new (Ok (Some found)))
-      → (new.phase ≡ Reading) × Run old.limits (Some (in_force_of old)) t.x (batch found.rows ∷ []) (Some (in_force_of old))
+  found_run : (found : Found) → (t : NextCall now new (Ok (Some found)))
+      → (new.phase ≡ Reading) × Run old.limits (Some (in_force_of old)) t.x (batch (rows_of found) ∷ []) (Some (in_force_of old))
   found_run found t =
       let h = gave old.limits (in_force_of now) now.phase new.phase t.x new.remaining found b.reading (same_answer (Ok (Some found)) t) in
-      (h.0, subst (λ (o : InForce). Run old.limits (Some o) t.x (batch found.rows ∷ []) (Some o)) same_open h.1)
+      (h.0, subst (λ (o : InForce). Run old.limits (Some o) t.x (batch (rows_of found) ∷ []) (Some o)) same_open h.1)
 
   -- the rows of a batch whose columns are all shown have values that are shown
-  pub found_shown : (found : Contents) → NextCall now new (Ok (Some found)) → AreShownColumns old.schema.fields → AreShownRows found.rows
-  found_shown found t columns = batch_shown (in_force_of old) t.x found.rows columns (found_run found t).1
+  pub found_shown : (found : Found) → NextCall now new (Ok (Some found)) → AreShownColumns old.schema.fields
+      → AreShownRows (rows_of found).rows
+  found_shown found t columns = batch_shown (in_force_of old) t.x (rows_of found) columns (found_run found t).1
 
-  more_run : (found : Contents) (t : NextCall now new (Ok (Some found)))
-      → Run old.limits (Some (in_force_of old)) (b.x ++ t.x) (map batch (b.batches ++ found.rows ∷ [])) (Some (in_force_of old))
+  more_run : (found : Found) (t : NextCall now new (Ok (Some found)))
+      → Run old.limits (Some (in_force_of old)) (b.x ++ t.x) (map batch (b.batches ++ rows_of found ∷ [])) (Some (in_force_of old))
   more_run found t =
       subst (λ es. Run old.limits (Some (in_force_of old)) (b.x ++ t.x) es (Some (in_force_of old)))
-      (sym (map-append batch b.batches (found.rows ∷ [])))
-      (run_then _ _ _ b.x t.x (map batch b.batches) (batch found.rows ∷ []) b.run (found_run found t).1)
+      (sym (map-append batch b.batches (rows_of found ∷ [])))
+      (run_then _ _ _ b.x t.x (map batch b.batches) (batch (rows_of found) ∷ []) b.run (found_run found t).1)
 
   -- where one batch more is read and its rows are put, the batches that were printed are those from before and it
-  pub batches_more : (found : Contents) (next : Output) → NextCall now new (Ok (Some found)) → new.failures ≡ now.failures
-      → AreShownColumns old.schema.fields → Puts after next (lines found.rows) → Batches old new before next
+  pub batches_more : (found : Found) (next : Output) → NextCall now new (Ok (Some found)) → new.failures ≡ now.failures
+      → AreShownColumns old.schema.fields → Puts after next (lines (rows_of found).rows) → Batches old new before next
   batches_more found next t works columns puts = record {
     x = b.x ++ t.x;
-    batches = b.batches ++ found.rows ∷ [];
+    batches = b.batches ++ rows_of found ∷ [];
     bytes = Consumes-trans old.remaining now.remaining new.remaining b.x t.x b.bytes t.bytes;
     run = more_run found t;
     reading = (found_run found t).0;
     same = t.same_schema ∙ b.same;
     same_limits = t.same_limits ∙ b.same_limits;
     counts = works ∙ b.counts;
-    cells = all_more AreShownRows b.batches found.rows b.cells (found_shown found t columns);
-    puts = put_at before next _ _ (batch_lines_more b.batches found.rows)
-        (puts_then before after next (batch_lines b.batches) (lines found.rows) b.puts puts);
+    cells = all_more (λ q. AreShownRows q.rows) b.batches (rows_of found) b.cells (found_shown found t columns);
+    puts = put_at before next _ _ (batch_lines_more b.batches (rows_of found))
+        (puts_then before after next (batch_lines b.batches) (lines (rows_of found).rows) b.puts puts);
   }
 
   -- the rows of the batch that came weren't all printed
-  pub batches_cut : (found : Contents) (w : Option (List ℕ)) (n : ℕ) (e : PrintFault) → NextCall now new (Ok (Some found))
-      → new.failures ≡ now.failures → PutFails after w n (lines found.rows) e → PrintsPart old new before w n e
+  pub batches_cut : (found : Found) (w : Option (List ℕ)) (n : ℕ) (e : PrintFault) → NextCall now new (Ok (Some found))
+      → new.failures ≡ now.failures → PutFails after w n (lines (rows_of found).rows) e → PrintsPart old new before w n e
   batches_cut found w n e t works q = record {
     x = b.x ++ t.x;
-    batches = b.batches ++ found.rows ∷ [];
+    batches = b.batches ++ rows_of found ∷ [];
     bytes = Consumes-trans old.remaining now.remaining new.remaining b.x t.x b.bytes t.bytes;
     rest = [];
     whole = b.x ++ t.x;
     joined = sym (append-nil (b.x ++ t.x));
     state = Some (in_force_of old);
     run = more_run found t;
-    puts = not_at before w n _ _ e (batch_lines_more b.batches found.rows)
-        (puts_not_then before after w n (batch_lines b.batches) (lines found.rows) e b.puts q);
+    puts = not_at before w n _ _ e (batch_lines_more b.batches (rows_of found))
+        (puts_not_then before after w n (batch_lines b.batches) (lines (rows_of found).rows) e b.puts q);
     works = λ other z. works ∙ (b.counts ∙ z);
   }
 

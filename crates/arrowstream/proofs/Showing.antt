@@ -1,26 +1,24 @@
 -- A whole stream, from its schema on.
-use Rattle.std.proofs.Common.{◌≡◌, ◌≢◌, ◌∙◌, refl, sym, ap, subst, ℕ, ◌⊎◌, inl, inr, List, [], ◌∷◌, ◌++◌, map, Option, Some, None, Result}
+use Rattle.std.proofs.Common.{◌≡◌, ◌∙◌, sym, ap, subst, ℕ, inl, inr, List, [], ◌∷◌, ◌++◌, map, Option, Some, None, Result}
 use Rattle.std.proofs.Common.{Ok, Err, append_assoc, append-nil, arith}
 use Rattle.std.specs.Prelude.{⊤}
 use Rattle.std.specs.Io.KnownBytes.{Appends, Consumes, IsAtEnd, Keeps}
-use Rattle.std.proofs.KnownBytes.{Consumes-nil, Consumes-trans, Keeps-refl}
+use Rattle.std.proofs.KnownBytes.{Consumes-trans, Keeps-refl}
 use Rattle.ipc_model.specs.declared.fault.Fault.{Fault}
 use Rattle.ipc_model.specs.declared.fault.Fault.TheVariants as f
 use Rattle.ipc_model.specs.declared.table.Table.{Table}
-use Rattle.ipc_model.specs.declared.value.Value.{Value}
 use Rattle.ipc_stream.specs.declared.end.End.{End}
 use Rattle.ipc_stream.specs.declared.end.End.TheVariants.{Mark, Closed}
 use Rattle.ipc_stream.specs.Reader.{Reader, in_force_of, Opens, OpenFails}
 use Rattle.ipc_stream.specs.Reasons.{Reads, Ends, IsOutside}
-use Rattle.ipc_stream.specs.Stream.{State, Event, schema, batch, Run, Denotes, events_of}
-use Rattle.arrowstream.specs.declared.rows.PrintFault.{PrintFault}
+use Rattle.ipc_stream.specs.Stream.{State, schema, batch, Run, Denotes, events_of}
 use Rattle.arrowstream.specs.declared.rows.PrintFault.TheVariants as p
 use Rattle.arrowstream.specs.declared.run.Stop.{Stop}
 use Rattle.arrowstream.specs.declared.run.Stop.TheVariants as stop
 use Rattle.arrowstream.specs.Output.{Output, output, Grows}
 use Rattle.arrowstream.specs.Rows.{batch_lines}
 use Rattle.arrowstream.specs.Show.{ShowsTable, Breaks, not_shown, unopened, broken, ShowsPart, nothing, some, ShowsRows, Shows, PrintsRows}
-use Rattle.arrowstream.specs.Show.{PrintsPart, HasOtherColumn, exit_status, stop_status}
+use Rattle.arrowstream.specs.Show.{exit_status, stop_status}
 use Rattle.ipc_stream.proofs.Runs.{run_then, reads_after}
 use Rattle.ipc_model.specs.declared.limits.Limits.{Limits}
 

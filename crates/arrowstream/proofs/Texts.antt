@@ -1,9 +1,10 @@
 -- Rows as text, value by value.
-use Rattle.std.proofs.Common.{◌≡◌, ◌∙◌, refl, sym, ap, subst, ℕ, zero, suc, ◌+◌, ◌<◌, ◌≤◌, List, [], ◌∷◌, ◌++◌, length, take, drop, Some}
+use Rattle.std.proofs.Common.{◌≡◌, ◌∙◌, refl, sym, ap, ℕ, ◌+◌, ◌<◌, List, [], ◌∷◌, ◌++◌, length, take, drop, Some}
 use Rattle.std.proofs.Common.{append_assoc, append-nil, take-append-drop, arith}
 use Rattle.std.specs.Prelude.{slice_get, slice_index_or, codes}
 use Rattle.std.proofs.lemmas.List.{take_more, take_all, length-take-le}
 use Rattle.std.proofs.lemmas.Option.{get_or_from_slice_get}
+use Rattle.ipc_model.specs.declared.table.BatchRows.{BatchRows}
 use Rattle.ipc_model.specs.declared.value.Value.{Value}
 use Rattle.arrowstream.specs.Rows.{cell_text, comma, behind_commas, opened, line, lines, batch_lines}
 
@@ -72,8 +73,8 @@ pub lines_whole : (rows : List (List Value)) (n : ℕ) → n ≡ length rows →
 lines_whole rows n size = ap lines (take_all n rows (omega (arith, size)))
 
 -- the lines of batches and those of one more are those of all of them
-pub batch_lines_more : (batches : List (List (List Value))) (rows : List (List Value))
-    → batch_lines batches ++ lines rows ≡ batch_lines (batches ++ rows ∷ [])
-batch_lines_more [] rows = sym (append-nil (lines rows))
-batch_lines_more (b ∷ bs) rows = append_assoc (lines b) (batch_lines bs) (lines rows)
-    ∙ ap (λ (x : List ℕ). lines b ++ x) (batch_lines_more bs rows)
+pub batch_lines_more : (batches : List BatchRows) (last : BatchRows)
+    → batch_lines batches ++ lines last.rows ≡ batch_lines (batches ++ last ∷ [])
+batch_lines_more [] last = sym (append-nil (lines last.rows))
+batch_lines_more (b ∷ bs) last = append_assoc (lines b.rows) (batch_lines bs) (lines last.rows)
+    ∙ ap (λ (x : List ℕ). lines b.rows ++ x) (batch_lines_more bs last)

@@ -2,6 +2,7 @@
 use Rattle.std.specs.Prelude.{ℕ, zero, suc, List, [], ◌∷◌, ◌++◌, codes, ⊤}
 use Rattle.std.specs.List.{AllByRecursion}
 use Rattle.std.specs.Fmt.{signed_decimal}
+use Rattle.ipc_model.specs.declared.table.BatchRows.{BatchRows}
 use Rattle.ipc_model.specs.declared.value.Value.{Value, out-Value}
 use Rattle.ipc_model.specs.declared.value.Value.TheOpen.{Value-F}
 
@@ -60,10 +61,14 @@ lines [] = []
 lines (row ∷ rows) = line row ++ lines rows
 
 -- the rows of batches, one after another
-abbrev pub batch_lines : List (List (List Value)) → List ℕ
+abbrev pub batch_lines : List BatchRows → List ℕ
 batch_lines [] = []
-batch_lines (rows ∷ batches) = lines rows ++ batch_lines batches
+batch_lines (b ∷ batches) = lines b.rows ++ batch_lines batches
 
 -- each value of the rows is one that is shown
 abbrev pub AreShownRows : List (List Value) → Type 0
 AreShownRows rows = AllByRecursion (AllByRecursion IsShown) rows
+
+-- so is each of the batches'
+abbrev pub AreShownBatches : List BatchRows → Type 0
+AreShownBatches batches = AllByRecursion (λ b. AreShownRows b.rows) batches

@@ -2,14 +2,13 @@
 use Rattle.std.specs.Prelude.{◌≡◌, ◌≢◌, ◌⊎◌, ℕ, List, [], ◌∷◌, ◌++◌, map, Option, Some, None}
 use Rattle.std.specs.Prelude.{Result, Ok, Err, ⊤}
 use Rattle.std.specs.Io.KnownBytes.{Appends, Consumes, IsAtEnd, Keeps}
-use Rattle.std.specs.List.{AllByRecursion}
 use Rattle.ipc_model.specs.declared.fault.Fault.{Fault}
 use Rattle.ipc_model.specs.declared.fault.Fault.TheVariants as f
 use Rattle.ipc_model.specs.declared.fault.WriteFault.TheVariants as w
 use Rattle.ipc_model.specs.Numbering.{fault_status, write_fault_status}
 use Rattle.ipc_model.specs.declared.schema.Schema.{Schema}
 use Rattle.ipc_model.specs.declared.table.Table.{Table}
-use Rattle.ipc_model.specs.declared.value.Value.{Value}
+use Rattle.ipc_model.specs.declared.table.BatchRows.{BatchRows}
 use Rattle.ipc_stream.specs.declared.end.End.{End}
 use Rattle.ipc_stream.specs.declared.end.End.TheVariants.{Closed}
 use Rattle.ipc_stream.specs.Stream.{State, schema, batch, Run, events_of, Denotes}
@@ -22,7 +21,7 @@ use Rattle.arrowstream.specs.declared.run.Stop.{Stop}
 use Rattle.arrowstream.specs.declared.run.Stop.TheVariants as stop
 use Rattle.arrowstream.specs.Columns.{AreShownColumns, IsNotShown}
 use Rattle.arrowstream.specs.Output.{Output, Grows, Puts, PutFails}
-use Rattle.arrowstream.specs.Rows.{AreShownRows, batch_lines}
+use Rattle.arrowstream.specs.Rows.{AreShownBatches, batch_lines}
 use Rattle.ipc_model.specs.declared.limits.Limits.{Limits}
 
 -- The bytes that were taken denote a table and its end, each value is one that is shown, and
@@ -36,7 +35,7 @@ pub record ShowsTable (limits : Limits) (old new written_old written_new : Optio
   pub denotes : Denotes limits x table end
   pub closed : end ≡ Closed → IsAtEnd new
   pub columns : AreShownColumns table.schema.fields
-  pub cells : AllByRecursion AreShownRows table.batches
+  pub cells : AreShownBatches table.batches
   pub text : Appends written_old written_new (batch_lines table.batches)
 
 -- Why a stream isn't read to its end, and what was printed before.
@@ -53,7 +52,7 @@ pub data Breaks (limits : Limits) (old new written_old written_new : Option (Lis
   -- reading breaks off behind a schema and batches, whose rows were printed
   broken : (x : List ℕ) (table : Table) → Consumes old new x
       → Reads limits None x new (events_of table) (Err fault)
-      → AllByRecursion AreShownRows table.batches
+      → AreShownBatches table.batches
       → Appends written_old written_new (batch_lines table.batches)
       → Breaks limits old new written_old written_new fault
 
@@ -89,17 +88,17 @@ pub record TellsDevices (source_old source_new sink_old sink_new status : ℕ) :
 pub record PrintsRows (old new : Reader) (before after : Output)
     (answer : Result End Fault) : Type 0 where
   pub x : List ℕ
-  pub batches : List (List (List Value))
+  pub batches : List BatchRows
   pub bytes : Consumes old.remaining new.remaining x
   pub reads : Reads old.limits (Some (in_force_of old)) x new.remaining (map batch batches) answer
-  pub cells : AllByRecursion AreShownRows batches
+  pub cells : AreShownBatches batches
   pub puts : Puts before after (batch_lines batches)
 
 -- rows that were read behind the schema, of which a beginning was put
 pub record PrintsPart (old new : Reader) (before : Output) (written : Option (List ℕ))
     (failures : ℕ) (fault : PrintFault) : Type 0 where
   pub x : List ℕ
-  pub batches : List (List (List Value))
+  pub batches : List BatchRows
   pub bytes : Consumes old.remaining new.remaining x
   pub rest : List ℕ
   pub whole : List ℕ

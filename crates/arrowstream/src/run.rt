@@ -41,7 +41,7 @@ fn print_rows<R: Source, W: Sink>(
 {
     loop {
         match stream.next() {
-            Ok(Some(batch)) => lines.print(alloc, sink, &batch)?,
+            Ok(Some((batch, _pairs))) => lines.print(alloc, sink, &batch)?,
             Ok(None) => return Ok(None),
             Err(fault) => return Ok(Some(fault)),
         }

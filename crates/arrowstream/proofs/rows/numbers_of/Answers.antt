@@ -1,5 +1,5 @@
-use Rattle.std.proofs.Common.{refl, ℕ, List, Bor, arith}
-use Rattle.arrowstream.proofs.Lanes.{lent_more, lent_all}
+use Rattle.std.proofs.Common.{ℕ, List, Bor}
+use Rattle.arrowstream.proofs.Lanes.{lent_more}
 use Rattle.arrowstream.proofs.rows.numbers_of.Goals as goal
 
 pub loop-column-preserved : goal.loop-column-preserved

@@ -1,10 +1,10 @@
-use Rattle.std.proofs.Common.{◌≡◌, ◌+◌, ◌≤◌, ap, sym, refl, arith, ℕ, List, Bor, get_or, length, [], ◌∷◌, rules, FitsSigned, w64}
+use Rattle.std.proofs.Common.{◌+◌, ◌≤◌, ap, sym, refl, arith, ℕ, List, Bor, get_or, length, [], rules, FitsSigned, w64}
 use Rattle.std.proofs.lemmas.Int.{to_z-of_z}
 use Rattle.std.proofs.lemmas.Result.{err_from_is_err_and}
 use Rattle.ipc_model.specs.declared.value.Value.TheVariants.{Int}
 use Rattle.arrowstream.proofs.Shown.{all_at}
 use Rattle.arrowstream.proofs.Lanes.{number_more}
-use Rattle.arrowstream.proofs.Lines.{numbers_begin, numbers_cut, numbers_end}
+use Rattle.arrowstream.proofs.Lines.{numbers_cut, numbers_end}
 use Rattle.arrowstream.proofs.rows.print_number_row.Goals as goal
 
 abbrev at : Bor (List (List ℕ)) → List (List ℕ)

@@ -1,8 +1,5 @@
-use Rattle.std.proofs.Common.{◌≡◌, ℕ, List, [], ap, subst, arith, Bor, length}
-use Rattle.std.specs.Prelude.{slice_index_or}
+use Rattle.std.proofs.Common.{ℕ, List, ap, arith, Bor, length}
 use Rattle.std.proofs.lemmas.Result.{err_from_is_err_and}
-use Rattle.ipc_model.specs.declared.value.Value.{Value}
-use Rattle.arrowstream.specs.Output.{Output, Puts, PutFails}
 use Rattle.arrowstream.specs.Rows.{line}
 use Rattle.arrowstream.proofs.Lanes.{long_less}
 use Rattle.arrowstream.proofs.Lines.{rows_next, rows_cut, rows_end, put_at, not_at}

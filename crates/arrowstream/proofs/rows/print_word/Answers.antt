@@ -1,9 +1,6 @@
-use Rattle.std.proofs.Common.{◌++◌, ◌∷◌, []}
+use Rattle.std.proofs.Common.{[]}
 use Rattle.std.proofs.lemmas.Result.{err_from_is_err_and}
-use Rattle.std.specs.Fmt.{signed_decimal}
-use Rattle.ipc_column.specs.Values.{cell_value}
-use Rattle.arrowstream.specs.Rows.{cell_text, comma}
-use Rattle.arrowstream.proofs.Puts.{puts_behind, puts_kept, puts_not_more}
+use Rattle.arrowstream.proofs.Puts.{puts_not_more}
 use Rattle.arrowstream.proofs.rows.print_word.Goals as goal
 
 pub returns-in_err-at-clause-puts : goal.returns-in_err-at-clause-puts
