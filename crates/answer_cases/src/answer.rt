@@ -1,6 +1,6 @@
 //! What is read in a stream.
 use crate::request::Request;
-use ipc_model::{Fault, Items, Row, Table};
+use ipc_model::{BatchRows, Fault, Items, Table};
 use ipc_stream::{End, Limited, Memory, Source, StreamReader};
 use std::alloc::{AllocError, Global};
 
@@ -23,10 +23,11 @@ pub struct Answer {
 fn read_batches<R: Source>(
     alloc: Global,
     reader: &mut StreamReader<R>,
-    batches: &mut Vec<Items<Row>>,
+    batches: &mut Vec<BatchRows>,
 ) -> Result<(), Fault> {
-    while let Some(batch) = reader.next()? {
-        batches.push(batch.to_rows(alloc)?)?;
+    while let Some((batch, pairs)) = reader.next()? {
+        let rows = batch.to_rows(alloc)?;
+        batches.push(BatchRows { pairs, rows })?;
     }
     Ok(())
 }

@@ -2,7 +2,7 @@
 use crate::answer::Answer;
 use crate::checks::{PIECES, Report, RoundTrip};
 use crate::values::{write_dictionary, write_pairs, write_text, write_type, write_value};
-use ipc_model::{Field, Row, Schema, Table};
+use ipc_model::{BatchRows, Field, Row, Schema, Table};
 use ipc_stream::{End, RoundTripFault};
 use std::fmt;
 
@@ -66,12 +66,18 @@ fn write_rows<W: fmt::Write>(f: &mut fmt::Formatter<W>, rows: &[Row]) -> fmt::Re
     Ok(())
 }
 
+fn write_batch<W: fmt::Write>(f: &mut fmt::Formatter<W>, batch: &BatchRows) -> fmt::Result {
+    let count = batch.rows.len();
+    write!(f, "batch {count}")?;
+    write_pairs(f, batch.pairs.as_slice())?;
+    f.write_str("\n")?;
+    write_rows(f, batch.rows.as_slice())
+}
+
 fn write_table<W: fmt::Write>(f: &mut fmt::Formatter<W>, table: &Table) -> fmt::Result {
     write_schema(f, &table.schema)?;
-    for rows in table.batches.as_slice() {
-        let count = rows.len();
-        writeln!(f, "batch {count}")?;
-        write_rows(f, rows.as_slice())?;
+    for batch in table.batches.as_slice() {
+        write_batch(f, batch)?;
     }
     Ok(())
 }

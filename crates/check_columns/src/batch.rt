@@ -1,14 +1,14 @@
 //! The record batch of some rows, as a stream carries it.
 use ipc_frame::{Frame, Seen, next_frame};
 use ipc_meta::{BatchHead, Head};
-use ipc_model::{Fault, Field, Items, Limits, Row, Schema, Table};
+use ipc_model::{BatchRows, Fault, Field, Items, Limits, Row, Schema, Table};
 use ipc_stream::{Memory, write_table};
 use std::alloc::{AllocError, Global};
 
 // The table of these rows in one batch.
 fn table_of(alloc: Global, fields: &[Field], rows: Items<Row>) -> Result<Table, AllocError> {
     let mut batches = Vec::new(alloc);
-    batches.push(rows)?;
+    batches.push(BatchRows::new(rows.into_vec()))?;
     Ok(Table {
         schema: Schema {
             fields: Items::from_vec(Vec::from_clones(alloc, fields)?),
@@ -42,7 +42,7 @@ pub fn batch_of(
                 head,
                 body,
             } => match head {
-                Head::Batch(head) => Ok((head, body)),
+                Head::Batch(head, _) => Ok((head, body)),
                 _ => Err(Fault::BadHeader),
             },
             Frame::End => Err(Fault::Truncated),

@@ -1,8 +1,8 @@
 //! Rows, schemas, copies and the words of refusals.
 
 use ipc_model::{
-    DataType, DateUnit, Dictionary, Fault, Field, IndexType, IntBits, Items, Limits, RowCause,
-    RowFault, Schema, SchemaFault, Table, Text, Value, WriteFault, conforms,
+    BatchRows, DataType, DateUnit, Dictionary, Fault, Field, IndexType, IntBits, Items, Limits,
+    RowCause, RowFault, Schema, SchemaFault, Table, Text, Value, WriteFault, conforms,
 };
 use std::alloc::{AllocError, Global};
 use std::test::Fail;
@@ -220,7 +220,7 @@ fn table(alloc: Global, number: i64) -> Result<Table, AllocError> {
     let mut rows = Vec::new(alloc);
     rows.push(row)?;
     let mut batches = Vec::new(alloc);
-    batches.push(Items::from_vec(rows))?;
+    batches.push(BatchRows::new(rows))?;
     Ok(Table {
         schema: schema(alloc)?,
         batches: Items::from_vec(batches),

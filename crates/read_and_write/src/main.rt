@@ -3,8 +3,8 @@
 #![tactic(auto)]
 
 use ipc_stream::{
-    Cell, DataType, DateUnit, Fault, Field, IntBits, Limits, Memory, Row, Schema, StreamReader,
-    StreamWriter, Value, WriteFault,
+    BatchRows, Cell, DataType, DateUnit, Fault, Field, IntBits, Limits, Memory, Row, Schema,
+    StreamReader, StreamWriter, Value, WriteFault,
 };
 use std::alloc::{AllocError, Global};
 use std::process::ExitCode;
@@ -24,8 +24,8 @@ fn write(alloc: Global) -> Result<Memory, WriteFault> {
     let second = vec![in alloc; Value::Int(-2), Value::Null, Value::Int(19_000)]?;
     let sink = Memory::new(Vec::new(alloc));
     let mut stream = StreamWriter::start(alloc, Limits::standard(), sink, &schema)?;
-    stream.write_batch(&[Row::from(first)])?;
-    stream.write_batch(&[Row::from(second)])?;
+    stream.write_batch(&BatchRows::new(vec![in alloc; Row::from(first)]?))?;
+    stream.write_batch(&BatchRows::new(vec![in alloc; Row::from(second)]?))?;
     Ok(stream.finish()?)
 }
 
@@ -33,7 +33,7 @@ fn write(alloc: Global) -> Result<Memory, WriteFault> {
 fn read(alloc: Global, source: Memory) -> Result<String, Fault> {
     let mut text = String::new(alloc);
     let mut stream = StreamReader::open(alloc, Limits::standard(), source)?;
-    while let Some(batch) = stream.next()? {
+    while let Some((batch, _pairs)) = stream.next()? {
         for row in 0..batch.rows() {
             for (column, field) in stream.fields().iter().enumerate() {
                 let cell = spell(alloc, &field.kind, batch.cell(row, column))?;

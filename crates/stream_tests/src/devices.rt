@@ -2,7 +2,7 @@
 //! rows.
 
 use crate::tables::{empty, numbers, row, schema_of, written};
-use ipc_model::{DataType, DateUnit, IntBits, Items, Limits, Table, Value, WriteFault};
+use ipc_model::{BatchRows, DataType, DateUnit, IntBits, Items, Limits, Table, Value, WriteFault};
 use ipc_stream::{Device, StreamWriter, write_table};
 use std::alloc::{AllocError, Global};
 use std::io;
@@ -99,8 +99,8 @@ fn tells_a_writer_whose_flush_fails(rt: HostRuntime) -> Result<(), Fail> {
         fault,
         _,
     )| fault)?;
-    for rows in table.batches.as_slice() {
-        writer.write_batch(rows.as_slice())?;
+    for batch in table.batches.as_slice() {
+        writer.write_batch(batch)?;
     }
     let (fault, sink) = writer.finish().err().ok_or("a refusal")?;
     assert_eq!(rt; fault, WriteFault::Write);
@@ -140,10 +140,11 @@ fn tells_values_out_of_range(rt: HostRuntime) -> Result<(), Fail> {
             empty(alloc),
             &schema,
         ).map_err(|(fault, _)| fault)?;
-        let fault = writer.write_batch(&rows).err().ok_or("a refusal")?;
+        let batch = BatchRows::new(rows);
+        let fault = writer.write_batch(&batch).err().ok_or("a refusal")?;
         assert_eq!(rt; format!(in alloc; "{fault}")?.as_str(), REFUSED);
         let sent = writer.into_inner().into_bytes();
-        let batches = Items::from_vec(vec![in alloc; Items::from_vec(rows)]?);
+        let batches = Items::from_vec(vec![in alloc; batch]?);
         let table = Table { schema, batches };
         let mut sink = empty(alloc);
         let fault = write_table(alloc, &Limits::standard(), &mut sink, &table)

@@ -1,7 +1,7 @@
 //! Streams at each limit of a reader and a writer, and one past it.
 
 use crate::tables::{empty, no_fields, numbers, table_of, written, written_within};
-use ipc_model::{Fault, Items, Limits, Row, WriteFault};
+use ipc_model::{BatchRows, Fault, Items, Limits, Row, WriteFault};
 use ipc_stream::{Memory, StreamReader, StreamWriter};
 use std::alloc::{AllocError, Global};
 use std::test::Fail;
@@ -89,9 +89,9 @@ fn rows_past_a_writers_limit(rt: HostRuntime) -> Result<(), Fail> {
         fault,
         _,
     )| fault)?;
-    let fault = writer.write_batch(&rows(alloc, 3)?).err();
+    let fault = writer.write_batch(&BatchRows::new(rows(alloc, 3)?)).err();
     assert_eq!(rt; fault, Some(WriteFault::TooManyRows));
-    writer.write_batch(&rows(alloc, 2)?)?;
+    writer.write_batch(&BatchRows::new(rows(alloc, 2)?))?;
     let sink = writer.finish().map_err(|(fault, _)| fault)?;
     let table = table_of(alloc, &sink.into_bytes())?;
     assert_eq!(rt; table.batches.len(), 1);

@@ -38,7 +38,7 @@ fn stays_ended(rt: HostRuntime) -> Result<(), Fail> {
         _,
     )| fault)?;
     assert_eq!(rt; reader.schema().fields.len(), 1);
-    let batch = reader.next()?.ok_or("a batch")?;
+    let (batch, _) = reader.next()?.ok_or("a batch")?;
     assert_eq!(rt; batch.rows(), 3);
     assert_eq!(rt; reader.end(), None);
     for _ in 0..2 {
@@ -73,7 +73,7 @@ fn grows_a_table(rt: HostRuntime) -> Result<(), Fail> {
         fault,
         _,
     )| fault)?;
-    let batch = reader.next()?.ok_or("a batch")?;
+    let (batch, _) = reader.next()?.ok_or("a batch")?;
     assert_eq!(rt; batch.to_rows(alloc)?.len(), 3);
     Ok(())
 }

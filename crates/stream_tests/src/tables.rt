@@ -1,7 +1,8 @@
 //! Tables that the tests write and read back.
 
 use ipc_model::{
-    DataType, Fault, Field, IntBits, Items, Limits, Row, Schema, Table, Text, Value, WriteFault,
+    BatchRows, DataType, Fault, Field, IntBits, Items, Limits, Row, Schema, Table, Text, Value,
+    WriteFault,
 };
 use ipc_stream::{Memory, read_table, write_table};
 use std::alloc::{AllocError, Global};
@@ -43,7 +44,7 @@ pub fn numbers(alloc: Global) -> Result<Table, AllocError> {
     }
     Ok(Table {
         schema: schema_of_numbers(alloc, IntBits::B64)?,
-        batches: Items::from_vec(vec![in alloc; Items::from_vec(rows)]?),
+        batches: Items::from_vec(vec![in alloc; BatchRows::new(rows)]?),
     })
 }
 

@@ -2,7 +2,9 @@
 
 use crate::tables::{empty, no_fields, numbers, row, schema_of_numbers, table_of, written};
 use ipc_meta::{BatchHead, Head, read_message};
-use ipc_model::{DataType, Fault, Field, IntBits, Items, Limits, Schema, Text, Value, WriteFault};
+use ipc_model::{
+    BatchRows, DataType, Fault, Field, IntBits, Items, Limits, Schema, Text, Value, WriteFault,
+};
 use ipc_stream::{Limited, StreamWriter, write_table};
 use std::alloc::{AllocError, Global};
 use std::test::Fail;
@@ -26,7 +28,7 @@ fn batch_of(alloc: Global, bytes: &[u8]) -> Result<Option<(BatchHead, &[u8])>, F
         return Ok(None);
     };
     match read_message(alloc, &Limits::standard(), metadata)? {
-        (Head::Batch(head), _) => Ok(Some((head, behind))),
+        (Head::Batch(head, _), _) => Ok(Some((head, behind))),
         _ => Ok(None),
     }
 }
@@ -96,9 +98,10 @@ fn stays_failed(rt: HostRuntime) -> Result<(), Fail> {
         fault,
         _,
     )| fault)?;
-    assert_eq!(rt; writer.write_batch(&[]).err(), Some(WriteFault::Write));
+    let none = BatchRows::new(Vec::new(alloc));
+    assert_eq!(rt; writer.write_batch(&none).err(), Some(WriteFault::Write));
     for _ in 0..2 {
-        assert_eq!(rt; writer.write_batch(&[]).err(), Some(WriteFault::Failed));
+        assert_eq!(rt; writer.write_batch(&none).err(), Some(WriteFault::Failed));
     }
     let (fault, sink) = writer.finish().err().ok_or("a refusal")?;
     assert_eq!(rt; fault, WriteFault::Failed);
@@ -134,21 +137,24 @@ fn writes_on_after_a_refused_row(rt: HostRuntime) -> Result<(), Fail> {
     )?;
     let fits = row(alloc, Value::Int(127))?;
     let wide = row(alloc, Value::Int(128))?;
-    let fault = writer.write_batch(&[wide]).err().ok_or("a refusal")?;
+    let fault = writer
+        .write_batch(&BatchRows::new(vec![in alloc; wide]?))
+        .err()
+        .ok_or("a refusal")?;
     assert_eq!(rt;
         format!(in alloc; "{fault}")?.as_str(),
         "W4 OutOfRange at row 0 path 0"
     );
     let null = row(alloc, Value::Null)?;
     let fault = writer
-        .write_batch(&[fits.clone()?, null])
+        .write_batch(&BatchRows::new(vec![in alloc; fits.clone()?, null]?))
         .err()
         .ok_or("a refusal")?;
     assert_eq!(rt;
         format!(in alloc; "{fault}")?.as_str(),
         "W5 NullNotAllowed at row 1 path 0"
     );
-    writer.write_batch(&[fits])?;
+    writer.write_batch(&BatchRows::new(vec![in alloc; fits]?))?;
     let sink = writer.finish().map_err(|(fault, _)| fault)?;
     let table = table_of(alloc, &sink.into_bytes())?;
     assert_eq!(rt; table.batches.len(), 1);

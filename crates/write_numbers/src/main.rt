@@ -3,7 +3,9 @@
 //! writer is measured by it.
 #![tactic(auto)]
 
-use ipc_model::{DataType, Field, IntBits, Items, Limits, Row, Schema, Text, Value, WriteFault};
+use ipc_model::{
+    BatchRows, DataType, Field, IntBits, Items, Limits, Row, Schema, Text, Value, WriteFault,
+};
 use ipc_stream::{Device, StreamWriter};
 use std::alloc::{AllocError, Global};
 use std::env::Args;
@@ -63,12 +65,12 @@ fn row(alloc: Global, number: u32) -> Result<Row, AllocError> {
     Ok(Items::from_vec(values))
 }
 
-fn rows(alloc: Global, count: u32) -> Result<Vec<Row>, AllocError> {
+fn rows(alloc: Global, count: u32) -> Result<BatchRows, AllocError> {
     let mut rows = Vec::new(alloc);
     for number in 0..count {
         rows.push(row(alloc, number)?)?;
     }
-    Ok(rows)
+    Ok(BatchRows::new(rows))
 }
 
 fn write<W: Write + Drop>(

@@ -3,8 +3,8 @@
 #![tactic(auto)]
 
 use ipc_model::{
-    DataType, DateUnit, Field, IntBits, Items, Limits, Row, Schema, Text, TimeUnit, Value,
-    WriteFault,
+    BatchRows, DataType, DateUnit, Field, IntBits, Items, Limits, Row, Schema, Text, TimeUnit,
+    Value, WriteFault,
 };
 use ipc_stream::{Device, StreamWriter};
 use std::alloc::{AllocError, Global};
@@ -171,14 +171,14 @@ fn parts(alloc: Global) -> Result<(Schema, Row, Row), AllocError> {
 // Batches without rows, without nulls, with nulls alone, and with both.
 fn write<W: Write + Drop>(alloc: Global, writer: W) -> Result<(), WriteFault> {
     let (schema, full, nulls) = parts(alloc)?;
-    let first = [full.clone()?];
-    let second = [nulls.clone()?];
-    let third = [full, nulls];
+    let first = vec![in alloc; full.clone()?]?;
+    let second = vec![in alloc; nulls.clone()?]?;
+    let third = vec![in alloc; full, nulls]?;
     let mut stream = StreamWriter::start(alloc, Limits::standard(), Device::new(writer), &schema)?;
-    stream.write_batch(&[])?;
-    stream.write_batch(&first)?;
-    stream.write_batch(&second)?;
-    stream.write_batch(&third)?;
+    stream.write_batch(&BatchRows::new(Vec::new(alloc)))?;
+    stream.write_batch(&BatchRows::new(first))?;
+    stream.write_batch(&BatchRows::new(second).with_pairs(pairs(alloc, 3)?.into_vec()))?;
+    stream.write_batch(&BatchRows::new(third))?;
     let _device = stream.finish()?;
     Ok(())
 }
