@@ -4,29 +4,41 @@ ghost use Rattle.std.specs.List.{AllByRecursion};
 ghost use Rattle.ipc_model.specs.Fits.{RowFits};
 ghost use Rattle.ipc_model.specs.RowFaults.{HasShortPaths};
 
+use ipc_column::Cell;
 use ipc_encode::{IndexOf, NoIndices, Parts, encode};
 use ipc_model::{
-    DataType, DateUnit, Field, IntBits, Items, Limits, Row, Schema, Text, TimeUnit, Value,
-    WriteFault, conforms,
+    DataType, DateUnit, Field, IntBits, Items, Limits, Row, Schema, TimeUnit, Value, WriteFault,
+    conforms,
 };
 use std::alloc::{AllocError, Global};
 use std::test::Fail;
 
-fn schema_of(alloc: Global, kind: DataType, nullable: bool) -> Result<Schema, AllocError> {
-    let field = Field {
-        name: Text::copied(alloc, "a")?,
-        nullable,
-        kind,
-        dictionary: None,
-        children: Items::new(alloc),
-        metadata: Items::new(alloc),
-    };
-    let mut fields = Vec::new(alloc);
-    fields.push(field)?;
-    Ok(Schema {
-        fields: Items::from_vec(fields),
-        metadata: Items::new(alloc),
-    })
+// A column of this type, which may be null.
+fn schema_of(alloc: Global, kind: DataType) -> Result<Schema, AllocError> {
+    let field = Field::new(alloc, "a", kind)?.nullable();
+    Ok(Schema::new(vec![in alloc; field]?))
+}
+
+fn value_of(alloc: Global, cell: Cell<'_>) -> Result<Value, AllocError> {
+    match cell {
+        Cell::Null => Ok(Value::Null),
+        Cell::Bool(truth) => Ok(Value::Bool(truth)),
+        Cell::Int(number) => Ok(Value::Int(number)),
+        Cell::UInt(number) => Ok(Value::UInt(number)),
+        Cell::Bytes(bytes) => Ok(Value::Bytes(Items::copied(alloc, bytes)?)),
+        Cell::Text(text) => Value::text(alloc, text),
+    }
+}
+
+// A row for each of these values.
+fn rows_of(alloc: Global, cells: &[Cell<'_>]) -> Result<Vec<Row>, AllocError> {
+    let mut rows = Vec::new(alloc);
+    for cell in cells {
+        let mut row = Vec::new(alloc);
+        row.push(value_of(alloc, *cell)?)?;
+        rows.push(Items::from_vec(row))?;
+    }
+    Ok(rows)
 }
 
 fn fit(schema: &Schema, rows: &[Row]) -> bool
@@ -43,21 +55,11 @@ fn fit(schema: &Schema, rows: &[Row]) -> bool
 
 // The parts of a column of these values, where they fit it.
 #[tactic(auto, using(ipc_model::proofs::Depths::short_paths))]
-fn column(
-    alloc: Global,
-    kind: DataType,
-    nullable: bool,
-    values: Vec<Value>,
-) -> Result<Option<Parts>, WriteFault> {
-    let schema = schema_of(alloc, kind, nullable)?;
+fn column(alloc: Global, kind: DataType, cells: &[Cell<'_>]) -> Result<Option<Parts>, WriteFault> {
+    let schema = schema_of(alloc, kind)?;
     let limits = Limits::standard();
     schema.check(alloc, &limits)?;
-    let mut rows = Vec::new(alloc);
-    for value in values {
-        let mut row = Vec::new(alloc);
-        row.push(value)?;
-        rows.push(Items::from_vec(row))?;
-    }
+    let rows = rows_of(alloc, cells)?;
     if !fit(&schema, &rows) {
         return Ok(None);
     }
@@ -65,28 +67,23 @@ fn column(
     Ok(Some(parts))
 }
 
+// Whether a column of these values is written as this node, these buffers and this body.
 fn is_written(
-    parts: &Option<Parts>,
+    alloc: Global,
+    kind: DataType,
+    cells: &[Cell<'_>],
     node: (i64, i64),
     buffers: &[(i64, i64)],
     body: &[u8],
-) -> bool {
-    match parts {
-        None => false,
-        Some(parts) => {
-            parts.nodes.as_slice() == [node].as_slice()
-                && parts.buffers.as_slice() == buffers
-                && parts.body.as_slice() == body
-        }
-    }
-}
-
-fn bytes(alloc: Global, bytes: &[u8]) -> Result<Value, AllocError> {
-    Ok(Value::Bytes(Items::copied(alloc, bytes)?))
-}
-
-fn text(alloc: Global, text: &str) -> Result<Value, AllocError> {
-    Ok(Value::Text(Text::copied(alloc, text)?))
+) -> Result<bool, WriteFault> {
+    let Some(parts) = column(alloc, kind, cells)? else {
+        return Ok(false);
+    };
+    Ok(
+        parts.nodes.as_slice() == [node].as_slice()
+            && parts.buffers.as_slice() == buffers
+            && parts.body.as_slice() == body,
+    )
 }
 
 fn int(bits: IntBits, signed: bool) -> DataType {
@@ -95,139 +92,114 @@ fn int(bits: IntBits, signed: bool) -> DataType {
 
 #[test]
 fn signed_numbers(rt: HostRuntime) -> Result<(), Fail> {
-    let alloc = rt.alloc();
-    let values = vec![in alloc; Value::Int(1), Value::Int(-2), Value::Int(i64::MAX)]?;
+    let kind = int(IntBits::B64, true);
+    let cells = [Cell::Int(1), Cell::Int(-2), Cell::Int(i64::MAX)];
     let body = [
         1, 0, 0, 0, 0, 0, 0, 0, 254, 255, 255, 255, 255, 255, 255, 255, 255, 255, 255, 255, 255,
         255, 255, 127,
     ];
-    let parts = column(alloc, int(IntBits::B64, true), false, values)?;
-    assert!(rt; is_written(&parts, (3, 0), &[(0, 0), (0, 24)], &body));
-    let values = vec![in alloc; Value::Int(-128), Value::Null, Value::Int(127)]?;
+    assert!(rt; is_written(rt.alloc(), kind, &cells, (3, 0), &[(0, 0), (0, 24)], &body)?);
+    Ok(())
+}
+
+#[test]
+fn bytes_and_a_null(rt: HostRuntime) -> Result<(), Fail> {
+    let kind = int(IntBits::B8, true);
+    let cells = [Cell::Int(-128), Cell::Null, Cell::Int(127)];
     let body = [5, 0, 0, 0, 0, 0, 0, 0, 128, 0, 127, 0, 0, 0, 0, 0];
-    let parts = column(alloc, int(IntBits::B8, true), true, values)?;
-    assert!(rt; is_written(&parts, (3, 1), &[(0, 1), (8, 3)], &body));
+    assert!(rt; is_written(rt.alloc(), kind, &cells, (3, 1), &[(0, 1), (8, 3)], &body)?);
     Ok(())
 }
 
 #[test]
 fn unsigned_numbers(rt: HostRuntime) -> Result<(), Fail> {
-    let alloc = rt.alloc();
-    let values = vec![in alloc; Value::UInt(1), Value::UInt(65535)]?;
-    let parts = column(alloc, int(IntBits::B16, false), false, values)?;
-    assert!(rt;
-        is_written(
-            &parts,
-            (2, 0),
-            &[(0, 0), (0, 4)],
-            &[1, 0, 255, 255, 0, 0, 0, 0]
-        )
-    );
-    let values = vec![in alloc; Value::UInt(u64::MAX)]?;
-    let parts = column(alloc, int(IntBits::B64, false), false, values)?;
-    assert!(rt; is_written(&parts, (1, 0), &[(0, 0), (0, 8)], &[255; 8]));
-    let values = vec![in alloc; Value::UInt(256)]?;
-    assert!(rt; column(alloc, int(IntBits::B8, false), false, values)?.is_none());
+    let kind = int(IntBits::B16, false);
+    let cells = [Cell::UInt(1), Cell::UInt(65535)];
+    let body = [1, 0, 255, 255, 0, 0, 0, 0];
+    assert!(rt; is_written(rt.alloc(), kind, &cells, (2, 0), &[(0, 0), (0, 4)], &body)?);
+    Ok(())
+}
+
+#[test]
+fn the_greatest_number(rt: HostRuntime) -> Result<(), Fail> {
+    let kind = int(IntBits::B64, false);
+    let cells = [Cell::UInt(u64::MAX)];
+    let body = [255; 8];
+    assert!(rt; is_written(rt.alloc(), kind, &cells, (1, 0), &[(0, 0), (0, 8)], &body)?);
     Ok(())
 }
 
 #[test]
 fn truth_values(rt: HostRuntime) -> Result<(), Fail> {
-    let alloc = rt.alloc();
-    let values = vec![in alloc; Value::Bool(true), Value::Null, Value::Bool(false)]?;
+    let kind = DataType::Bool;
+    let cells = [Cell::Bool(true), Cell::Null, Cell::Bool(false)];
     let body = [5, 0, 0, 0, 0, 0, 0, 0, 1, 0, 0, 0, 0, 0, 0, 0];
-    let parts = column(alloc, DataType::Bool, true, values)?;
-    assert!(rt; is_written(&parts, (3, 1), &[(0, 1), (8, 1)], &body));
-    // The ninth value begins a second byte.
-    let mut values = Vec::new(alloc);
-    for i in 0..9 {
-        values.push(Value::Bool(i % 8 == 0))?;
-    }
-    let parts = column(alloc, DataType::Bool, false, values)?;
-    assert!(rt; is_written(&parts, (9, 0), &[(0, 0), (0, 2)], &[1, 1, 0, 0, 0, 0, 0, 0]));
+    assert!(rt; is_written(rt.alloc(), kind, &cells, (3, 1), &[(0, 1), (8, 1)], &body)?);
+    Ok(())
+}
+
+// The ninth value begins a second byte.
+#[test]
+fn nine_truth_values(rt: HostRuntime) -> Result<(), Fail> {
+    let kind = DataType::Bool;
+    let mut cells = [Cell::Bool(false); 9];
+    cells[0] = Cell::Bool(true);
+    cells[8] = Cell::Bool(true);
+    let body = [1, 1, 0, 0, 0, 0, 0, 0];
+    assert!(rt; is_written(rt.alloc(), kind, &cells, (9, 0), &[(0, 0), (0, 2)], &body)?);
     Ok(())
 }
 
 #[test]
 fn texts(rt: HostRuntime) -> Result<(), Fail> {
-    let alloc = rt.alloc();
-    let values = vec![in alloc; text(alloc, "é")?, Value::Null, text(alloc, "")?]?;
+    let cells = [Cell::Text("é"), Cell::Null, Cell::Text("")];
+    let buffers = [(0, 1), (8, 16), (24, 2)];
     let body = [
         5, 0, 0, 0, 0, 0, 0, 0, 0, 0, 0, 0, 2, 0, 0, 0, 2, 0, 0, 0, 2, 0, 0, 0, 0xc3, 0xa9, 0, 0,
         0, 0, 0, 0,
     ];
-    let parts = column(alloc, DataType::Utf8, true, values)?;
-    assert!(rt; is_written(&parts, (3, 1), &[(0, 1), (8, 16), (24, 2)], &body));
-    let parts = column(alloc, DataType::Utf8, true, Vec::new(alloc))?;
-    assert!(rt; is_written(&parts, (0, 0), &[(0, 0), (0, 4), (8, 0)], &[0; 8]));
-    let values = vec![in alloc; bytes(alloc, &[0xff])?]?;
-    let body = [0, 0, 0, 0, 1, 0, 0, 0, 0xff, 0, 0, 0, 0, 0, 0, 0];
-    let parts = column(alloc, DataType::Binary, false, values)?;
-    assert!(rt; is_written(&parts, (1, 0), &[(0, 0), (0, 8), (8, 1)], &body));
+    assert!(rt; is_written(rt.alloc(), DataType::Utf8, &cells, (3, 1), &buffers, &body)?);
+    Ok(())
+}
+
+#[test]
+fn no_texts(rt: HostRuntime) -> Result<(), Fail> {
+    let buffers = [(0, 0), (0, 4), (8, 0)];
+    assert!(rt; is_written(rt.alloc(), DataType::Utf8, &[], (0, 0), &buffers, &[0; 8])?);
     Ok(())
 }
 
 #[test]
 fn fixed_sizes(rt: HostRuntime) -> Result<(), Fail> {
-    let alloc = rt.alloc();
-    let values = vec![in alloc; bytes(alloc, &[])?, bytes(alloc, &[])?, bytes(alloc, &[])?]?;
-    let parts = column(alloc, DataType::FixedSizeBinary(0), false, values)?;
-    assert!(rt; is_written(&parts, (3, 0), &[(0, 0), (0, 0)], &[]));
-    let values = vec![in alloc; Value::Null, bytes(alloc, &[7, 8, 9])?]?;
+    let kind = DataType::FixedSizeBinary(3);
+    let cells = [Cell::Null, Cell::Bytes(&[7, 8, 9])];
     let body = [2, 0, 0, 0, 0, 0, 0, 0, 0, 0, 0, 7, 8, 9, 0, 0];
-    let parts = column(alloc, DataType::FixedSizeBinary(3), true, values)?;
-    assert!(rt; is_written(&parts, (2, 1), &[(0, 1), (8, 6)], &body));
+    assert!(rt; is_written(rt.alloc(), kind, &cells, (2, 1), &[(0, 1), (8, 6)], &body)?);
     Ok(())
 }
 
 #[test]
-fn dates_and_timestamps(rt: HostRuntime) -> Result<(), Fail> {
-    let alloc = rt.alloc();
-    let values = vec![in alloc; Value::Int(-1)]?;
-    let parts = column(alloc, DataType::Date(DateUnit::Day), false, values)?;
-    assert!(rt;
-        is_written(
-            &parts,
-            (1, 0),
-            &[(0, 0), (0, 4)],
-            &[255, 255, 255, 255, 0, 0, 0, 0]
-        )
-    );
-    let values = vec![in alloc; Value::Int(86_400_000)]?;
-    let parts = column(alloc, DataType::Date(DateUnit::Millisecond), false, values)?;
-    assert!(rt;
-        is_written(
-            &parts,
-            (1, 0),
-            &[(0, 0), (0, 8)],
-            &[0, 0x5c, 0x26, 5, 0, 0, 0, 0]
-        )
-    );
-    let values = vec![in alloc; Value::Int(1)]?;
-    assert!(rt; column(alloc, DataType::Date(DateUnit::Millisecond), false, values)?.is_none());
-    let kind = DataType::Timestamp {
-        unit: TimeUnit::Nanosecond,
-        timezone: None,
-    };
-    let values = vec![in alloc; Value::Int(i64::MIN)]?;
-    let parts = column(alloc, kind, false, values)?;
-    assert!(rt;
-        is_written(
-            &parts,
-            (1, 0),
-            &[(0, 0), (0, 8)],
-            &[0, 0, 0, 0, 0, 0, 0, 128]
-        )
-    );
+fn dates(rt: HostRuntime) -> Result<(), Fail> {
+    let kind = DataType::Date(DateUnit::Millisecond);
+    let cells = [Cell::Int(86_400_000)];
+    let body = [0, 0x5c, 0x26, 5, 0, 0, 0, 0];
+    assert!(rt; is_written(rt.alloc(), kind, &cells, (1, 0), &[(0, 0), (0, 8)], &body)?);
+    Ok(())
+}
+
+#[test]
+fn times(rt: HostRuntime) -> Result<(), Fail> {
+    let kind = DataType::Time(TimeUnit::Millisecond);
+    let cells = [Cell::Int(1)];
+    let body = [1, 0, 0, 0, 0, 0, 0, 0];
+    assert!(rt; is_written(rt.alloc(), kind, &cells, (1, 0), &[(0, 0), (0, 4)], &body)?);
     Ok(())
 }
 
 #[test]
 fn nulls(rt: HostRuntime) -> Result<(), Fail> {
-    let alloc = rt.alloc();
-    let values = vec![in alloc; Value::Null, Value::Null]?;
-    let parts = column(alloc, DataType::Null, false, values)?;
-    assert!(rt; is_written(&parts, (2, 2), &[], &[]));
+    let cells = [Cell::Null, Cell::Null];
+    assert!(rt; is_written(rt.alloc(), DataType::Null, &cells, (2, 2), &[], &[])?);
     assert!(rt; NoIndices.index_of(1, &Value::Null).is_none());
     Ok(())
 }

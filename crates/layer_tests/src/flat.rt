@@ -1,6 +1,6 @@
 //! FlatBuffers in place.
 
-use ipc_flat::{Flat, FlatFault};
+use ipc_flat::{Flat, FlatFault, TableRef};
 use std::test::Fail;
 
 // The metadata of a stream's schema message, as the FlatBuffers library writes it for a schema
@@ -22,9 +22,21 @@ const REFERENCES: [u8; 60] = [
     0,
 ];
 
+fn root_of(bytes: &[u8]) -> Result<TableRef<'_>, Fail> {
+    Ok(Flat::root(bytes).ok().ok_or("a table")?)
+}
+
+fn is_refused(bytes: &[u8], wanted: FlatFault) -> bool {
+    Flat::root(bytes).err() == Some(wanted)
+}
+
+fn has_text(table: &TableRef<'_>, slot: u16, wanted: &str) -> bool {
+    matches!(table.text(slot), Ok(Some(text)) if text == wanted)
+}
+
 #[test]
 fn schema_message(rt: HostRuntime) -> Result<(), Fail> {
-    let message = Flat::root(&SCHEMA_MESSAGE).ok().ok_or("a message")?;
+    let message = root_of(&SCHEMA_MESSAGE)?;
     assert!(rt; matches!(message.scalar_i16(0, 0), Ok(4)));
     assert!(rt; matches!(message.scalar_u8(1, 0), Ok(1)));
     assert!(rt; matches!(message.scalar_i64(3, -7), Ok(-7)));
@@ -36,43 +48,48 @@ fn schema_message(rt: HostRuntime) -> Result<(), Fail> {
 
 #[test]
 fn vtable_behind_its_table(rt: HostRuntime) -> Result<(), Fail> {
-    let table = Flat::root(&VTABLE_BEHIND).ok().ok_or("a table")?;
+    let table = root_of(&VTABLE_BEHIND)?;
     assert!(rt; matches!(table.scalar_i32(0, 0), Ok(42)));
     assert!(rt; matches!(table.scalar_i32(1, 9), Ok(9)));
     assert!(rt; matches!(table.scalar_i32(2, 9), Ok(9)));
     Ok(())
 }
 
+// The inner table shares the vtable, by which its text is behind the last byte.
 #[test]
-fn text_and_vectors(rt: HostRuntime) -> Result<(), Fail> {
-    let table = Flat::root(&REFERENCES).ok().ok_or("a table")?;
-    assert!(rt; matches!(table.text(0), Ok(Some("é"))));
-    let tables = table.tables(1).ok().flatten().ok_or("tables")?;
-    assert_eq!(rt; tables.len(), 1);
-    let structs = table.structs(2, 2).ok().flatten().ok_or("structs")?;
-    assert_eq!(rt; structs.len(), 2);
-    if tables.len() == 1 && structs.len() == 2 {
-        let inner = tables.at(0).ok().ok_or("an inner table")?;
-        assert!(rt; matches!(inner.text(0), Err(FlatFault::OutOfBounds)));
-        assert!(rt; matches!(structs.at(1), [3, 4]));
+fn tables_in_place(rt: HostRuntime) -> Result<(), Fail> {
+    let root = root_of(&REFERENCES)?;
+    assert!(rt; has_text(&root, 0, "é"));
+    let tables = root.tables(1).ok().flatten().ok_or("tables")?;
+    if tables.len() != 1 {
+        return Err(Fail::from("one table"));
     }
-    assert!(rt; matches!(table.structs(2, usize::MAX), Err(FlatFault::OutOfBounds)));
+    let inner = tables.at(0).ok().ok_or("an inner table")?;
+    assert!(rt; inner.text(0).err() == Some(FlatFault::OutOfBounds));
+    Ok(())
+}
+
+#[test]
+fn structs_in_place(rt: HostRuntime) -> Result<(), Fail> {
+    let root = root_of(&REFERENCES)?;
+    let structs = root.structs(2, 2).ok().flatten().ok_or("structs")?;
+    assert!(rt; structs.len() == 2 && matches!(structs.at(1), [3, 4]));
+    assert!(rt; matches!(root.structs(2, usize::MAX), Err(FlatFault::OutOfBounds)));
     Ok(())
 }
 
 #[test]
 fn faults(rt: HostRuntime) -> Result<(), Fail> {
-    assert!(rt; matches!(Flat::root(&[]), Err(FlatFault::OutOfBounds)));
-    assert!(rt; matches!(Flat::root(&[0, 0, 0, 0]), Err(FlatFault::OffsetZero)));
-    assert!(rt;
-        matches!(
-            Flat::root(&[4, 0, 0, 0, 5, 0, 0, 0]),
-            Err(FlatFault::BadVtable)
-        )
-    );
+    assert!(rt; is_refused(&[], FlatFault::OutOfBounds));
+    assert!(rt; is_refused(&[0, 0, 0, 0], FlatFault::OffsetZero));
+    assert!(rt; is_refused(&[4, 0, 0, 0, 5, 0, 0, 0], FlatFault::BadVtable));
+    Ok(())
+}
+
+#[test]
+fn text_of_other_bytes(rt: HostRuntime) -> Result<(), Fail> {
     let mut bytes = REFERENCES;
     bytes[37] = 0;
-    let table = Flat::root(&bytes).ok().ok_or("a table")?;
-    assert!(rt; matches!(table.text(0), Err(FlatFault::NotUtf8)));
+    assert!(rt; root_of(&bytes)?.text(0).err() == Some(FlatFault::NotUtf8));
     Ok(())
 }

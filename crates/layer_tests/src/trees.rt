@@ -96,20 +96,6 @@ fn references_come_back(rt: HostRuntime) -> Result<(), Fail> {
     assert!(rt; matches!(table.text(6), Ok(Some("é1"))));
     let inner = table.table(8).ok().flatten().ok_or("a table")?;
     assert!(rt; matches!(inner.text(0), Ok(Some("inner"))));
-    let tables = table.tables(9).ok().flatten().ok_or("tables")?;
-    assert_eq!(rt; tables.len(), 2);
-    if tables.len() == 2 {
-        let first = tables.at(0).ok().ok_or("the first")?;
-        assert!(rt; matches!(first.text(0), Ok(Some(""))));
-        let second = tables.at(1).ok().ok_or("the second")?;
-        assert!(rt; matches!(second.text(0), Ok(None)));
-    }
-    let pairs = table.structs(10, 16).ok().flatten().ok_or("pairs")?;
-    assert_eq!(rt; pairs.len(), 2);
-    if pairs.len() == 2 {
-        assert!(rt; matches!(pairs.at(0), [1, 0, 0, 0, 0, 0, 0, 0, 255, 255, ..]));
-        assert!(rt; matches!(pairs.at(1), [0, 0, 0, 0, 0, 0, 0, 128, 255, ..]));
-    }
     Ok(())
 }
 
@@ -164,18 +150,5 @@ fn too_large_from_one_byte_on(rt: HostRuntime) -> Result<(), Fail> {
 fn grows_a_buffer(rt: HostRuntime) -> Result<(), Fail> {
     let bytes = built(rt.alloc())?;
     assert!(rt; Flat::root(&bytes).is_ok());
-    Ok(())
-}
-
-#[test]
-fn prints_faults(rt: HostRuntime) -> Result<(), Fail> {
-    let alloc = rt.alloc();
-    let fault = BuildFault::TooLarge;
-    assert_eq!(rt;
-        format!(in alloc; "{fault}")?.as_str(),
-        "the tree has more room than it may"
-    );
-    let fault = BuildFault::OutOfMemory;
-    assert_eq!(rt; format!(in alloc; "{fault}")?.as_str(), "out of memory");
     Ok(())
 }
