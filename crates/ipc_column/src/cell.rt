@@ -100,8 +100,8 @@ fn is_valid_in(body: &[u8], validity: BufferRange, slot: usize) -> bool
     validity.len == 0 || is_valid(bytes_at(body, validity), slot)
 }
 
-/// What a slot of a part holds.
-pub(crate) fn cell_at<'a>(body: &'a [u8], part: &'a ColumnRanges, slot: usize) -> Cell<'a>
+// What a slot of a part holds.
+fn cell_at<'a>(body: &'a [u8], part: &'a ColumnRanges, slot: usize) -> Cell<'a>
     requires sound { (why : Cause) → passes why (column_of body.now part.now) ≡ true }
     requires slot { slot < (column_of body.now part.now).slots }
     requires good { is_good (column_of body.now part.now) slot ≡ true }
