@@ -1,9 +1,9 @@
 //! Writers of std as sinks, and values out of their type's range, through every call that writes
 //! rows.
 
-use crate::tables::{empty, numbers, row, schema_of, written};
+use crate::tables::{empty, numbers, row, schema_of, started, written};
 use ipc_model::{BatchRows, DataType, DateUnit, IntBits, Items, Limits, Table, Value, WriteFault};
-use ipc_stream::{Device, StreamWriter, write_table};
+use ipc_stream::{Device, write_table};
 use std::alloc::{AllocError, Global};
 use std::io;
 use std::io::Write;
@@ -53,14 +53,20 @@ impl Write for Narrow {
     }
 }
 
+// Why a table isn't written whole, none where it is, and what went out.
+fn table_refused(alloc: Global, table: &Table, sink: Narrow) -> (Option<WriteFault>, Vec<u8>) {
+    let mut sink = Device::new(sink);
+    let fault = write_table(alloc, &Limits::standard(), &mut sink, table).err();
+    (fault, sink.into_inner().bytes)
+}
+
 #[test]
 fn writes_to_a_writer_that_takes_three_bytes(rt: HostRuntime) -> Result<(), Fail> {
-    let alloc = rt.alloc();
-    let table = numbers(alloc)?;
-    let whole = written(alloc, &table)?;
-    let mut sink = Device::new(Narrow::new(alloc, u32::MAX, true));
-    write_table(alloc, &Limits::standard(), &mut sink, &table)?;
-    assert_eq!(rt; sink.into_inner().bytes.as_slice(), whole.as_slice());
+    let table = numbers(rt.alloc())?;
+    let whole = written(rt.alloc(), &table)?;
+    let sink = Narrow::new(rt.alloc(), u32::MAX, true);
+    let (fault, bytes) = table_refused(rt.alloc(), &table, sink);
+    assert!(rt; fault.is_none() && bytes.as_slice() == whole.as_slice());
     Ok(())
 }
 
@@ -69,89 +75,111 @@ fn writes_to_a_writer_that_takes_three_bytes(rt: HostRuntime) -> Result<(), Fail
 fn tells_a_writer_that_fails(rt: HostRuntime) -> Result<(), Fail> {
     let alloc = rt.alloc();
     let table = numbers(alloc)?;
-    let whole = written(alloc, &table)?;
     let mut sink = Device::new(Narrow::new(alloc, 5, true));
     for _ in 0..2 {
-        assert_eq!(rt;
-            write_table(alloc, &Limits::standard(), &mut sink, &table).err(),
-            Some(WriteFault::Write)
-        );
+        let fault = write_table(alloc, &Limits::standard(), &mut sink, &table).err();
+        assert!(rt; fault == Some(WriteFault::Write));
     }
-    let bytes = sink.into_inner().bytes;
-    assert_eq!(rt; Some(bytes.as_slice()), whole.get(..15));
+    let whole = written(alloc, &table)?;
+    assert!(rt; Some(sink.into_inner().bytes.as_slice()) == whole.get(..15));
     Ok(())
 }
 
-// A flush that fails is W9 of `finish`, after all bytes went out.
+// A flush that fails is W9, after all bytes went out.
 #[test]
 fn tells_a_writer_whose_flush_fails(rt: HostRuntime) -> Result<(), Fail> {
-    let alloc = rt.alloc();
-    let table = numbers(alloc)?;
-    let whole = written(alloc, &table)?;
-    let mut sink = Device::new(Narrow::new(alloc, u32::MAX, false));
-    assert_eq!(rt;
-        write_table(alloc, &Limits::standard(), &mut sink, &table).err(),
-        Some(WriteFault::Write)
-    );
-    assert_eq!(rt; sink.into_inner().bytes.as_slice(), whole.as_slice());
-    let sink = Device::new(Narrow::new(alloc, u32::MAX, false));
-    let mut writer = StreamWriter::start(alloc, Limits::standard(), sink, &table.schema).map_err(|(
-        fault,
-        _,
-    )| fault)?;
+    let table = numbers(rt.alloc())?;
+    let whole = written(rt.alloc(), &table)?;
+    let sink = Narrow::new(rt.alloc(), u32::MAX, false);
+    let (fault, bytes) = table_refused(rt.alloc(), &table, sink);
+    assert!(rt; fault == Some(WriteFault::Write) && bytes.as_slice() == whole.as_slice());
+    Ok(())
+}
+
+// The same batch by batch: why the writer isn't finished, and what went out.
+fn finish_refused(
+    alloc: Global,
+    table: &Table,
+    sink: Narrow,
+) -> Result<(WriteFault, Vec<u8>), Fail> {
+    let mut writer = started(alloc, Device::new(sink), &table.schema)?;
     for batch in table.batches.as_slice() {
         writer.write_batch(batch)?;
     }
     let (fault, sink) = writer.finish().err().ok_or("a refusal")?;
-    assert_eq!(rt; fault, WriteFault::Write);
-    assert_eq!(rt; sink.into_inner().bytes.as_slice(), whole.as_slice());
-    Ok(())
+    Ok((fault, sink.into_inner().bytes))
 }
 
-// A type, a value in its range and one out of it.
-fn ranges(alloc: Global) -> Result<Vec<(DataType, Value, Value)>, AllocError> {
-    let byte = DataType::Int {
-        bits: IntBits::B8,
-        signed: false,
-    };
-    Ok(vec![in alloc;
-        (byte, Value::UInt(255), Value::UInt(256)),
-        (
-            DataType::Date(DateUnit::Millisecond),
-            Value::Int(86_400_000),
-            Value::Int(1)
-        ),
-    ]?)
+#[test]
+fn is_not_finished_where_a_flush_fails(rt: HostRuntime) -> Result<(), Fail> {
+    let table = numbers(rt.alloc())?;
+    let whole = written(rt.alloc(), &table)?;
+    let sink = Narrow::new(rt.alloc(), u32::MAX, false);
+    let (fault, bytes) = finish_refused(rt.alloc(), &table, sink)?;
+    assert!(rt; fault == WriteFault::Write && bytes.as_slice() == whole.as_slice());
+    Ok(())
 }
 
 const REFUSED: &str = "W4 OutOfRange at row 1 path 0";
 
-// 256 in a column of unsigned numbers of 8 bits, and a date in milliseconds that is no whole day,
-// each in the second row.
-#[test]
-fn tells_values_out_of_range(rt: HostRuntime) -> Result<(), Fail> {
-    let alloc = rt.alloc();
-    for (kind, fits, wide) in ranges(alloc)? {
-        let schema = schema_of(alloc, kind)?;
-        let rows = vec![in alloc; row(alloc, fits)?, row(alloc, wide)?]?;
-        let mut writer = StreamWriter::start(
-            alloc,
-            Limits::standard(),
-            empty(alloc),
-            &schema,
-        ).map_err(|(fault, _)| fault)?;
-        let batch = BatchRows::new(rows);
-        let fault = writer.write_batch(&batch).err().ok_or("a refusal")?;
-        assert_eq!(rt; format!(in alloc; "{fault}")?.as_str(), REFUSED);
-        let sent = writer.into_inner().into_bytes();
-        let batches = Items::from_vec(vec![in alloc; batch]?);
-        let table = Table { schema, batches };
-        let mut sink = empty(alloc);
-        let fault = write_table(alloc, &Limits::standard(), &mut sink, &table)
-            .err()
-            .ok_or("a refusal")?;
-        assert_eq!(rt; format!(in alloc; "{fault}")?.as_str(), REFUSED);
-        assert_eq!(rt; sink.into_bytes().as_slice(), sent.as_slice());
+fn is_told(alloc: Global, fault: WriteFault) -> Result<bool, AllocError> {
+    Ok(format!(in alloc; "{fault}")?.as_str() == REFUSED)
+}
+
+// Whether a table of one batch is refused for its second row, and sends what its schema sends.
+fn is_refused_whole(alloc: Global, table: &Table, sent: &[u8]) -> Result<bool, Fail> {
+    let mut sink = empty(alloc);
+    let result = write_table(alloc, &Limits::standard(), &mut sink, table);
+    let fault = result.err().ok_or("a refusal")?;
+    Ok(is_told(alloc, fault)? && sink.into_bytes().as_slice() == sent)
+}
+
+// What a writer sends of a table whose batch it refuses for its second row.
+fn sent_before(alloc: Global, table: &Table) -> Result<Option<Vec<u8>>, Fail> {
+    let mut writer = started(alloc, empty(alloc), &table.schema)?;
+    let batch = table.batches.as_slice().first().ok_or("a batch")?;
+    let result = writer.write_batch(batch);
+    if is_told(alloc, result.err().ok_or("a refusal")?)? {
+        Ok(Some(writer.into_inner().into_bytes()))
+    } else {
+        Ok(None)
     }
+}
+
+// A table with a value of this type's range and one out of it.
+fn out_of_range(
+    alloc: Global,
+    kind: DataType,
+    fits: Value,
+    wide: Value,
+) -> Result<Table, AllocError> {
+    let rows = vec![in alloc; row(alloc, fits)?, row(alloc, wide)?]?;
+    Ok(Table {
+        schema: schema_of(alloc, kind)?,
+        batches: Items::from_vec(vec![in alloc; BatchRows::new(rows)]?),
+    })
+}
+
+fn is_refused(alloc: Global, table: &Table) -> Result<bool, Fail> {
+    let sent = sent_before(alloc, table)?.ok_or("another line")?;
+    is_refused_whole(alloc, table, &sent)
+}
+
+#[test]
+fn tells_a_number_too_wide(rt: HostRuntime) -> Result<(), Fail> {
+    let byte = DataType::Int {
+        bits: IntBits::B8,
+        signed: false,
+    };
+    let table = out_of_range(rt.alloc(), byte, Value::UInt(255), Value::UInt(256))?;
+    assert!(rt; is_refused(rt.alloc(), &table)?);
+    Ok(())
+}
+
+#[test]
+fn tells_part_of_a_day(rt: HostRuntime) -> Result<(), Fail> {
+    let kind = DataType::Date(DateUnit::Millisecond);
+    let table = out_of_range(rt.alloc(), kind, Value::Int(86_400_000), Value::Int(1))?;
+    assert!(rt; is_refused(rt.alloc(), &table)?);
     Ok(())
 }

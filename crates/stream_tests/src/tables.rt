@@ -4,7 +4,7 @@ use ipc_model::{
     BatchRows, DataType, Fault, Field, IntBits, Items, Limits, Row, Schema, Table, Text, Value,
     WriteFault,
 };
-use ipc_stream::{Memory, read_table, write_table};
+use ipc_stream::{Memory, Sink, Source, StreamReader, StreamWriter, read_table, write_table};
 use std::alloc::{AllocError, Global};
 
 pub fn empty(alloc: Global) -> Memory {
@@ -48,6 +48,13 @@ pub fn numbers(alloc: Global) -> Result<Table, AllocError> {
     })
 }
 
+/// A batch of these rows with one pair, of two bytes.
+pub fn paired(alloc: Global, rows: Vec<Row>) -> Result<BatchRows, AllocError> {
+    let key = Text::from_string(String::from_str(alloc, "k")?);
+    let value = Text::from_string(String::from_str(alloc, "v")?);
+    Ok(BatchRows::new(rows).with_pairs(vec![in alloc; (key, value)]?))
+}
+
 /// A table without columns and batches.
 pub fn no_fields(alloc: Global) -> Table {
     Table {
@@ -83,4 +90,23 @@ pub fn written_within(
         Err(WriteFault::Write) => Err(WriteFault::OutOfMemory),
         Err(fault) => Err(fault),
     }
+}
+
+/// A reader of a stream, under the standard limits.
+pub fn opened<R: Source + Drop>(alloc: Global, source: R) -> Result<StreamReader<R>, Fault> {
+    Ok(StreamReader::open(alloc, Limits::standard(), source)?)
+}
+
+/// A writer of a table with this schema, under the standard limits.
+pub fn started<W: Sink + Drop>(
+    alloc: Global,
+    sink: W,
+    schema: &Schema,
+) -> Result<StreamWriter<W>, WriteFault> {
+    Ok(StreamWriter::start(alloc, Limits::standard(), sink, schema)?)
+}
+
+/// What a writer sent, with the end mark.
+pub fn finished(writer: StreamWriter<Memory>) -> Result<Vec<u8>, WriteFault> {
+    Ok(writer.finish()?.into_bytes())
 }

@@ -1,11 +1,14 @@
 //! Tables written, batch by batch and whole, and read back.
 
-use crate::tables::{empty, no_fields, numbers, row, schema_of_numbers, table_of, written};
+use crate::tables::{
+    empty, finished, no_fields, numbers, paired, row, schema_of_numbers, started, table_of, written,
+};
 use ipc_meta::{BatchHead, Head, read_message};
 use ipc_model::{
-    BatchRows, DataType, Fault, Field, IntBits, Items, Limits, Schema, Text, Value, WriteFault,
+    BatchRows, DataType, Fault, Field, IntBits, Items, Limits, Row, Schema, Table, Value,
+    WriteFault,
 };
-use ipc_stream::{Limited, StreamWriter, write_table};
+use ipc_stream::{Limited, Memory, Sink, StreamWriter, write_table};
 use std::alloc::{AllocError, Global};
 use std::test::Fail;
 
@@ -39,166 +42,185 @@ const BEHIND: [u8; 32] = [
     255, 127, 255, 255, 255, 255, 0, 0, 0, 0,
 ];
 
+// Whether a stream's batch is that of the numbers, with the end mark behind it.
+fn has_numbers(alloc: Global, bytes: &[u8]) -> Result<bool, Fault> {
+    let Some((head, behind)) = batch_of(alloc, bytes)? else {
+        return Ok(false);
+    };
+    Ok(
+        head.length == 3
+            && head.nodes.as_slice() == [(3, 0)].as_slice()
+            && head.buffers.as_slice() == [(0, 0), (0, 24)].as_slice()
+            && behind == BEHIND.as_slice(),
+    )
+}
+
 #[test]
 fn writes_numbers(rt: HostRuntime) -> Result<(), Fail> {
-    let alloc = rt.alloc();
-    let bytes = written(alloc, &numbers(alloc)?)?;
-    let (head, behind) = batch_of(alloc, &bytes)?.ok_or("a batch")?;
-    assert_eq!(rt; head.length, 3);
-    assert_eq!(rt; head.nodes.as_slice(), [(3, 0)].as_slice());
-    assert_eq!(rt; head.buffers.as_slice(), [(0, 0), (0, 24)].as_slice());
-    assert_eq!(rt; behind, BEHIND.as_slice());
+    let bytes = written(rt.alloc(), &numbers(rt.alloc())?)?;
+    assert!(rt; has_numbers(rt.alloc(), &bytes)?);
     Ok(())
+}
+
+// The stream of a table, given to a sink that takes so many bytes in a call.
+fn written_in_steps(alloc: Global, table: &Table, step: usize) -> Result<Vec<u8>, WriteFault> {
+    let mut sink = Limited::new(empty(alloc), step.max(1), u64::MAX);
+    write_table(alloc, &Limits::standard(), &mut sink, table)?;
+    Ok(sink.into_inner().into_bytes())
 }
 
 // However few bytes a call takes, the same bytes are written, and so they are in another run.
 #[test]
 fn writes_the_same_bytes(rt: HostRuntime) -> Result<(), Fail> {
-    let alloc = rt.alloc();
-    let table = numbers(alloc)?;
-    let whole = written(alloc, &table)?;
-    assert_eq!(rt; whole.as_slice(), written(alloc, &table)?.as_slice());
-    for step in [1, 3, 288] {
-        let mut sink = Limited::new(empty(alloc), step, u64::MAX);
-        write_table(alloc, &Limits::standard(), &mut sink, &table)?;
-        assert_eq!(rt; sink.into_inner().into_bytes().as_slice(), whole.as_slice());
+    let table = numbers(rt.alloc())?;
+    let whole = written(rt.alloc(), &table)?;
+    for step in [1, 3, 288, 1 << 20] {
+        let bytes = written_in_steps(rt.alloc(), &table, step)?;
+        assert!(rt; bytes.as_slice() == whole.as_slice());
     }
     Ok(())
+}
+
+// Why no writer is started, and what went out.
+fn start_refused<W: Sink + Drop>(
+    alloc: Global,
+    sink: W,
+    schema: &Schema,
+) -> Result<(WriteFault, W), Fail> {
+    Ok(
+        StreamWriter::start(alloc, Limits::standard(), sink, schema)
+            .err()
+            .ok_or("a refusal")?,
+    )
 }
 
 // A sink that takes five bytes and then fails.
 #[test]
 fn tells_a_sink_that_fails_at_the_schema(rt: HostRuntime) -> Result<(), Fail> {
-    let alloc = rt.alloc();
-    let table = no_fields(alloc);
-    let whole = written(alloc, &table)?;
-    let sink = Limited::new(empty(alloc), 5, 1);
-    let (fault, sink) = StreamWriter::start(alloc, Limits::standard(), sink, &table.schema)
-        .err()
-        .ok_or("a refusal")?;
-    assert_eq!(rt; fault, WriteFault::Write);
+    let table = no_fields(rt.alloc());
+    let sink = Limited::new(empty(rt.alloc()), 5, 1);
+    let (fault, sink) = start_refused(rt.alloc(), sink, &table.schema)?;
+    assert!(rt; fault == WriteFault::Write);
     let bytes = sink.into_inner().into_bytes();
-    assert_eq!(rt; Some(bytes.as_slice()), whole.get(..5));
-    assert_eq!(rt; bytes.get(..4), Some([255; 4].as_slice()));
+    assert!(rt; bytes.len() == 5 && bytes.get(..4) == Some([255; 4].as_slice()));
     Ok(())
 }
 
-// The same behind a schema that was sent, and then each call is refused.
+// How many bytes the message of a schema has.
+fn size_of(alloc: Global, schema: &Schema) -> Result<usize, WriteFault> {
+    Ok(
+        started(alloc, empty(alloc), schema)?
+            .into_inner()
+            .into_bytes()
+            .len(),
+    )
+}
+
+// A writer whose sink takes the schema's bytes, five in a call, and five more, and then fails.
+fn failing(
+    alloc: Global,
+    schema: &Schema,
+    size: usize,
+) -> Result<StreamWriter<Limited<Memory>>, WriteFault> {
+    let calls = (size as u64).div_ceil(5) + 1;
+    started(alloc, Limited::new(empty(alloc), 5, calls), schema)
+}
+
+// Why a batch without rows is refused: none where it isn't.
+fn refusal(alloc: Global, writer: &mut StreamWriter<Limited<Memory>>) -> Option<WriteFault> {
+    writer.write_batch(&BatchRows::new(Vec::new(alloc))).err()
+}
+
+// Why the writer isn't finished, and what went out.
+fn finish_refused(writer: StreamWriter<Limited<Memory>>) -> Result<(WriteFault, Vec<u8>), Fail> {
+    let (fault, sink) = writer.finish().err().ok_or("a refusal")?;
+    Ok((fault, sink.into_inner().into_bytes()))
+}
+
+// A sink that fails behind the schema; then each call is refused.
 #[test]
 fn stays_failed(rt: HostRuntime) -> Result<(), Fail> {
-    let alloc = rt.alloc();
-    let schema = schema_of_numbers(alloc, IntBits::B64)?;
-    let started = StreamWriter::start(alloc, Limits::standard(), empty(alloc), &schema).map_err(|(
-        fault,
-        _,
-    )| fault)?;
-    let size = started.into_inner().into_bytes().len();
-    let sink = Limited::new(empty(alloc), 5, (size as u64).div_ceil(5) + 1);
-    let mut writer = StreamWriter::start(alloc, Limits::standard(), sink, &schema).map_err(|(
-        fault,
-        _,
-    )| fault)?;
-    let none = BatchRows::new(Vec::new(alloc));
-    assert_eq!(rt; writer.write_batch(&none).err(), Some(WriteFault::Write));
+    let schema = schema_of_numbers(rt.alloc(), IntBits::B64)?;
+    let size = size_of(rt.alloc(), &schema)?;
+    let mut writer = failing(rt.alloc(), &schema, size)?;
+    assert!(rt; refusal(rt.alloc(), &mut writer) == Some(WriteFault::Write));
     for _ in 0..2 {
-        assert_eq!(rt; writer.write_batch(&none).err(), Some(WriteFault::Failed));
+        assert!(rt; refusal(rt.alloc(), &mut writer) == Some(WriteFault::Failed));
     }
-    let (fault, sink) = writer.finish().err().ok_or("a refusal")?;
-    assert_eq!(rt; fault, WriteFault::Failed);
-    assert_eq!(rt; sink.into_inner().into_bytes().len(), size + 5);
+    let (fault, bytes) = finish_refused(writer)?;
+    assert!(rt; fault == WriteFault::Failed && bytes.len() == size.saturating_add(5));
     Ok(())
 }
 
 // The end mark goes out, and the flush behind it fails.
 #[test]
 fn tells_a_flush_that_fails(rt: HostRuntime) -> Result<(), Fail> {
-    let alloc = rt.alloc();
-    let schema = schema_of_numbers(alloc, IntBits::B64)?;
-    let sink = Limited::new(empty(alloc), 1 << 20, 2);
-    let writer = StreamWriter::start(alloc, Limits::standard(), sink, &schema).map_err(|(
-        fault,
-        _,
-    )| fault)?;
-    let (fault, sink) = writer.finish().err().ok_or("a refusal")?;
-    assert_eq!(rt; fault, WriteFault::Write);
-    let bytes = sink.into_inner().into_bytes();
-    assert_eq!(rt; table_of(alloc, &bytes)?.batches.len(), 0);
+    let schema = schema_of_numbers(rt.alloc(), IntBits::B64)?;
+    let sink = Limited::new(empty(rt.alloc()), 1 << 20, 2);
+    let (fault, bytes) = finish_refused(started(rt.alloc(), sink, &schema)?)?;
+    assert!(rt; fault == WriteFault::Write);
+    assert!(rt; table_of(rt.alloc(), &bytes)?.batches.len() == 0);
     Ok(())
 }
+
+// A row for each of these numbers.
+fn rows_of(alloc: Global, numbers: &[Option<i64>]) -> Result<BatchRows, AllocError> {
+    let mut rows = Vec::new(alloc);
+    for number in numbers {
+        rows.push(row(alloc, number.map_or(Value::Null, Value::Int))?)?;
+    }
+    Ok(BatchRows::new(rows))
+}
+
+// Whether a writer refuses these rows with this line.
+fn is_refused(
+    alloc: Global,
+    writer: &mut StreamWriter<Memory>,
+    numbers: &[Option<i64>],
+    line: &str,
+) -> Result<bool, Fail> {
+    let rows = rows_of(alloc, numbers)?;
+    let fault = writer.write_batch(&rows).err().ok_or("a refusal")?;
+    Ok(format!(in alloc; "{fault}")?.as_str() == line)
+}
+
+const WIDE: &str = "W4 OutOfRange at row 0 path 0";
+
+const NULL: &str = "W5 NullNotAllowed at row 1 path 0";
 
 // A row that doesn't fit is refused with its number and its path, nothing goes out, and the writer
 // writes on.
 #[test]
 fn writes_on_after_a_refused_row(rt: HostRuntime) -> Result<(), Fail> {
-    let alloc = rt.alloc();
-    let schema = schema_of_numbers(alloc, IntBits::B8)?;
-    let mut writer = StreamWriter::start(alloc, Limits::standard(), empty(alloc), &schema).map_err(
-        |(fault, _)| fault,
-    )?;
-    let fits = row(alloc, Value::Int(127))?;
-    let wide = row(alloc, Value::Int(128))?;
-    let fault = writer
-        .write_batch(&BatchRows::new(vec![in alloc; wide]?))
-        .err()
-        .ok_or("a refusal")?;
-    assert_eq!(rt;
-        format!(in alloc; "{fault}")?.as_str(),
-        "W4 OutOfRange at row 0 path 0"
-    );
-    let null = row(alloc, Value::Null)?;
-    let fault = writer
-        .write_batch(&BatchRows::new(vec![in alloc; fits.clone()?, null]?))
-        .err()
-        .ok_or("a refusal")?;
-    assert_eq!(rt;
-        format!(in alloc; "{fault}")?.as_str(),
-        "W5 NullNotAllowed at row 1 path 0"
-    );
-    writer.write_batch(&BatchRows::new(vec![in alloc; fits]?))?;
-    let sink = writer.finish().map_err(|(fault, _)| fault)?;
-    let table = table_of(alloc, &sink.into_bytes())?;
-    assert_eq!(rt; table.batches.len(), 1);
+    let schema = schema_of_numbers(rt.alloc(), IntBits::B8)?;
+    let mut writer = started(rt.alloc(), empty(rt.alloc()), &schema)?;
+    assert!(rt; is_refused(rt.alloc(), &mut writer, &[Some(128)], WIDE)?);
+    assert!(rt; is_refused(rt.alloc(), &mut writer, &[Some(127), None], NULL)?);
+    writer.write_batch(&rows_of(rt.alloc(), &[Some(127)])?)?;
+    let bytes = finished(writer)?;
+    assert!(rt; table_of(rt.alloc(), &bytes)?.batches.len() == 1);
     Ok(())
-}
-
-fn field(alloc: Global, kind: DataType, children: Vec<Field>) -> Result<Field, AllocError> {
-    Ok(Field {
-        name: Text::from_string(String::from_str(alloc, "a")?),
-        nullable: true,
-        kind,
-        dictionary: None,
-        children: Items::from_vec(children),
-        metadata: Items::from_vec(Vec::new(alloc)),
-    })
-}
-
-// Why the schema of one such column is refused, and how many bytes went out.
-fn start_refused(alloc: Global, field: Field) -> Result<(WriteFault, usize), Fail> {
-    let mut fields = Vec::new(alloc);
-    fields.push(field)?;
-    let schema = Schema {
-        fields: Items::from_vec(fields),
-        metadata: Items::new(alloc),
-    };
-    let (fault, sink) = StreamWriter::start(alloc, Limits::standard(), empty(alloc), &schema)
-        .err()
-        .ok_or("a refusal")?;
-    Ok((fault, sink.into_bytes().len()))
 }
 
 // A width that no column has; a list, which is well formed and not written yet; a list without its
 // child.
+fn refused_columns(alloc: Global) -> Result<Vec<Field>, AllocError> {
+    let child = Field::new(alloc, "b", DataType::Utf8)?;
+    let children = vec![in alloc; child]?;
+    Ok(vec![in alloc;
+        Field::new(alloc, "a", DataType::FixedSizeBinary(1 << 31))?,
+        Field::new(alloc, "a", DataType::List)?.with_children(children),
+        Field::new(alloc, "a", DataType::List)?,
+    ]?)
+}
+
 #[test]
 fn refuses_schemas(rt: HostRuntime) -> Result<(), Fail> {
     let alloc = rt.alloc();
-    let wide = field(alloc, DataType::FixedSizeBinary(1 << 31), Vec::new(alloc))?;
-    let child = field(alloc, DataType::Utf8, Vec::new(alloc))?;
-    let list = field(alloc, DataType::List, vec![in alloc; child]?)?;
-    let childless = field(alloc, DataType::List, Vec::new(alloc))?;
-    for field in vec![in alloc; wide, list, childless]? {
-        let (fault, sent) = start_refused(alloc, field)?;
-        assert_eq!(rt; fault, WriteFault::BadSchema);
-        assert_eq!(rt; sent, 0);
+    for column in refused_columns(alloc)? {
+        let schema = Schema::new(vec![in alloc; column]?);
+        let (fault, sink) = start_refused(alloc, empty(alloc), &schema)?;
+        assert!(rt; fault == WriteFault::BadSchema && sink.into_bytes().is_empty());
     }
     Ok(())
 }
@@ -206,7 +228,11 @@ fn refuses_schemas(rt: HostRuntime) -> Result<(), Fail> {
 #[test]
 fn grows_a_written_table(rt: HostRuntime) -> Result<(), Fail> {
     let alloc = rt.alloc();
-    let table = numbers(alloc)?;
+    let rows = vec![in alloc; row(alloc, Value::Int(1))?]?;
+    let table = Table {
+        schema: schema_of_numbers(alloc, IntBits::B64)?,
+        batches: Items::from_vec(vec![in alloc; paired(alloc, rows)?]?),
+    };
     let bytes = written(alloc, &table)?;
     assert!(rt; table_of(alloc, &bytes)?.is_same(&table));
     Ok(())
