@@ -12,26 +12,29 @@ pub struct Request {
     pub limits: Limits,
 }
 
+// The names of the limits, in the order of their values.
+const NAMES: [&str; 7] = [
+    "metadata", "body", "slots", "fields", "depth", "text", "pairs",
+];
+
+fn place_of(name: &str) -> Option<usize> {
+    NAMES.iter().position(|known| *known == name)
+}
+
 // The same limits with another value for the one of this name: None where there is no such limit,
 // or the value is above its greatest.
 fn with(limits: Limits, name: &str, value: u64) -> Option<Limits> {
-    let mut metadata = limits.metadata;
-    let mut body = limits.body;
-    let mut slots = limits.slots;
-    let mut fields = limits.fields;
-    let mut depth = limits.depth;
-    let mut text = limits.text;
-    let mut pairs = limits.pairs;
-    match name {
-        "metadata" => metadata = value,
-        "body" => body = value,
-        "slots" => slots = value,
-        "fields" => fields = value,
-        "depth" => depth = value,
-        "text" => text = value,
-        "pairs" => pairs = value,
-        _ => return None,
-    }
+    let mut values = [
+        limits.metadata,
+        limits.body,
+        limits.slots,
+        limits.fields,
+        limits.depth,
+        limits.text,
+        limits.pairs,
+    ];
+    *values.get_mut(place_of(name)?)? = value;
+    let [metadata, body, slots, fields, depth, text, pairs] = values;
     Limits::new(metadata, body, slots, fields, depth, text, pairs)
 }
 
