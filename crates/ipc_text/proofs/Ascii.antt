@@ -12,7 +12,8 @@ use Rattle.hex.proofs.HexLemmas.{IsAscii-encode_with}
 pub ascii_is_utf8 : (bs : List ℕ) → IsAscii bs → IsUtf8 bs
 ascii_is_utf8 bs h = IsUtf8-from_ascii bs h
 
-all_small : (bs : List ℕ) → list_all (λ b. nat_lt b 128) bs ≡ true → IsAscii bs
+-- bytes below 128 are ASCII
+pub all_small : (bs : List ℕ) → list_all (λ b. nat_lt b 128) bs ≡ true → IsAscii bs
 all_small [] h i = omega arith
 all_small (b ∷ bs) h zero =
     let e = (and_parts (nat_lt b 128) (list_all (λ c. nat_lt c 128) bs) h).0 in grind (arith, nat_tests)

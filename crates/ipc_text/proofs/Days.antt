@@ -1,11 +1,12 @@
 -- The nth tomorrow of 0001-01-01 has the day number n - 719162.
 use Rattle.std.proofs.Common.{◌≡◌, ◌∙◌, ◌+◌, ◌<◌, ◌≤◌, ℕ, zero, suc, false, ℤ, pos, negsuc, neg_ℤ, ◌+ℤ◌, ◌-ℤ◌, ◌≤ℤ◌, ◌<ℤ◌, unsigned_abs}
-use Rattle.std.proofs.Common.{refl, sym, ap, inl, inr, arith, nat_lt, lit≤, ◌++◌, ◌∷◌, Some}
+use Rattle.std.proofs.Common.{refl, sym, ap, inl, inr, arith, nat_lt, lit≤, ◌++◌, ◌∷◌, List, Some}
 use Rattle.std.specs.Prelude.{int_lt}
 use Rattle.std.proofs.lemmas.Bool.{cases_Bool}
 use Rattle.std.proofs.lemmas.Bool.Decides.{nat_tests}
-use Rattle.jiff_core.specs.Calendar.{days_in_month, days_from_civil, day_count}
-use Rattle.jiff_core.specs.Date.{epoch_day}
+use Rattle.std.proofs.lemmas.Int.{ints}
+use Rattle.jiff_core.specs.Calendar.{days_in_month, days_from_civil, day_count, IsDate}
+use Rattle.jiff_core.specs.Date.{epoch_day, IsYmd}
 use Rattle.jiff_core.specs.declared.civil.date.Date.{Date}
 use Rattle.jiff_core.proofs.CalendarLemmas.{day_count-next_year, day_count-last_of_year, day_count-next_month, day_count-day}
 use Rattle.jiff_core.proofs.CalendarLemmas.{day_count-epoch, day_count-later_year, day_count-day_of_year, day_count-end}
@@ -13,7 +14,8 @@ use Rattle.jiff_core.proofs.CalendarLemmas.{days_in_month_bounds}
 use Rattle.jiff_core.proofs.MarchLemmas.{day_count-early}
 use Rattle.jiff_core.proofs.DateLemmas.{epoch_day_injective}
 use Rattle.jiff_core.proofs.SignedLemmas.{signed_arith}
-use Rattle.ipc_text.specs.Calendar.{Civil, tomorrow, civil_on, two_digits, four_digits, day_text}
+use Rattle.ipc_text.specs.Calendar.{Civil, tomorrow, civil_on, two_digits, four_digits, civil_text, day_text}
+use Rattle.ipc_text.proofs.Taken.{left}
 
 -- the number that the library of dates counts to a day
 abbrev count : Civil → ℕ
@@ -170,3 +172,63 @@ pub printed : (d : Date) (z : ℤ) → int_lt z (neg_ℤ (pos 719_162)) ≡ fals
     → Same d (civil_on (unsigned_abs (z +ℤ pos 719_162)))
     → Some (four_digits (unsigned_abs d.year) ++ 45 ∷ two_digits d.month ++ 45 ∷ two_digits d.day) ≡ day_text z
 printed d z low high s = rw (low, high, s.year, s.month, s.day) refl
+
+-- the day with this number has this text
+pub record IsDay (z : ℤ) (text : List ℕ) : Type 0 where
+  pub civil : Civil
+  pub text_is : civil_text civil ≡ text
+  pub year : civil.year < 10_000
+  pub month : civil.month < 100
+  pub day : civil.day < 100
+  pub date : IsDate (pos civil.year) (pos civil.month) (pos civil.day)
+  pub number : (d : Date) → IsYmd (pos civil.year) (pos civil.month) (pos civil.day) d → epoch_day d ≡ z
+
+same_count : (d : Date) (c : Civil) → IsYmd (pos c.year) (pos c.month) (pos c.day) d
+    → epoch_day d ≡ days_from_civil (pos c.year) c.month c.day
+same_count d c h =
+    let m : d.month ≡ c.month = let e = h.1 in cc in
+    let n : d.day ≡ c.day = let e = h.2 in cc in
+    rw (h.0, m, n) refl
+
+is_date : (c : Civil) → Stands c → c.year ≤ 9999 → IsDate (pos c.year) (pos c.month) (pos c.day)
+is_date c s le =
+    let a = s.year in let b = s.first in let d = s.last in let e = s.day in let w = s.within in (
+      (omega (arith, signed_arith), omega (arith, signed_arith)),
+      (omega (arith, signed_arith), omega (arith, signed_arith)),
+      (omega (arith, signed_arith), omega (arith, signed_arith)),
+    )
+
+day_is : (z : ℤ) (text : List ℕ) → neg_ℤ (pos 719_162) ≤ℤ z → z <ℤ pos 2_932_897
+    → civil_text (civil_on (unsigned_abs (z +ℤ pos 719_162))) ≡ text → IsDay z text
+unfolding days_from_civil
+day_is z text low high e =
+    let n = unsigned_abs (z +ℤ pos 719_162) in
+    let whole : pos n ≡ z +ℤ pos 719_162 = unsigned_is (z +ℤ pos 719_162) (omega (arith, signed_arith)) in
+    let h = civil_counts n in
+    let k = h.count in
+    let c = civil_on n in
+    let le : c.year ≤ 9999 = below_10000 c h.stands (omega (arith, signed_arith)) in
+    let there : days_from_civil (pos c.year) c.month c.day ≡ z = apart _ _ n z k day_count-epoch whole in
+    let last = h.stands.last in
+    let within = h.stands.within in
+    record {
+      civil = c;
+      text_is = e;
+      year = omega arith;
+      month = omega arith;
+      day = omega (arith, days_in_month_bounds (pos c.year) c.month);
+      date = is_date c h.stands le;
+      number = λ d y. same_count d c y ∙ there;
+    }
+
+-- where a number has the text of a day, it is that of one
+pub day_of : (z : ℤ) (text : List ℕ) → day_text z ≡ Some text → IsDay z text
+day_of z text e = elim (cases_Bool (int_lt z (neg_ℤ (pos 719_162)))) [
+  | inl early ↦ absurd (let f = rw early at e in cc)
+  | inr low ↦ elim (cases_Bool (int_lt (pos 2_932_896) z)) [
+    | inl late ↦ absurd (let f = rw (low, late) at e in cc)
+    | inr high ↦
+        let f = rw (low, high) at e in
+        day_is z text (grind (arith, ints)) (omega (arith, signed_arith)) (left f)
+  ]
+]

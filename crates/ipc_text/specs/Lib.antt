@@ -4,3 +4,4 @@ pub mod RowJson
 pub mod SchemaJson
 pub mod RowCsv
 pub mod CsvCells
+pub mod CsvRows

@@ -1,10 +1,11 @@
 -- Dates, times of day and points in time as texts (ISO 8601-1, "Local time of day", "Combined date
 -- and time of day representations"). There are no leap seconds.
-use Rattle.std.specs.Prelude.{ℕ, ◌+◌, ◌*◌, ◌/◌, ◌%◌, ℤ, pos, if◌then◌else◌}
+use Rattle.std.specs.Prelude.{ℕ, ◌+◌, ◌/◌, ◌%◌, ℤ, pos, ◌*ℤ◌, if◌then◌else◌}
 use Rattle.std.specs.Prelude.{unsigned_abs, int_lt, List, [], ◌∷◌, ◌++◌}
 use Rattle.std.specs.Prelude.{Option, Some, None, option_map}
 use Rattle.std.specs.Int.{int_div_euclid, int_rem_euclid}
 use Rattle.std.specs.Ordering.{int_eq}
+use Rattle.ipc_model.specs.Ranges.{ticks_in_a_day}
 use Rattle.ipc_model.specs.declared.schema.DataType.{DataType}
 use Rattle.ipc_model.specs.declared.schema.DataType.TheVariants as t
 use Rattle.ipc_model.specs.declared.schema.DateUnit.{DateUnit}
@@ -42,10 +43,6 @@ clock_text s = two_digits (s / 3_600) ++ 58 ∷ two_digits (s / 60 % 60) ++ 58 �
 abbrev pub time_of_day : TimeUnit → ℕ → List ℕ
 time_of_day unit n = clock_text (n / per_second unit) ++ fraction_text unit (n % per_second unit)
 
--- a day's length in a unit
-abbrev pub per_day : TimeUnit → ℕ
-per_day unit = 86_400 * per_second unit
-
 -- the text of a date (Schema.fbs, table Date): of milliseconds only where they are whole days
 abbrev pub date_text : DateUnit → ℤ → Option (List ℕ)
 date_text d.Day z = day_text z
@@ -53,11 +50,17 @@ date_text d.Millisecond z =
     if int_eq (int_rem_euclid z (pos 86_400_000)) (pos 0)
     then day_text (int_div_euclid z (pos 86_400_000)) else None
 
+-- the number of the date that begins so many days after 1970-01-01 (Schema.fbs, enum DateUnit)
+abbrev pub date_of_day : DateUnit → ℤ → ℤ
+date_of_day d.Day z = z
+date_of_day d.Millisecond z = z *ℤ pos 86_400_000
+
 -- the text of a time (Schema.fbs, table Time): so many units after midnight, within 24 hours
 abbrev pub time_text : TimeUnit → ℤ → Option (List ℕ)
 time_text unit z =
     if int_lt z (pos 0) then None
-    else if int_lt z (pos (per_day unit)) then Some (time_of_day unit (unsigned_abs z)) else None
+    else if int_lt z (pos (ticks_in_a_day unit)) then Some (time_of_day unit (unsigned_abs z))
+    else None
 
 -- what stands behind a point in time: `Z` where a time zone is present and not empty
 abbrev pub zone_text : Option (List ℕ) → List ℕ
@@ -70,8 +73,8 @@ zone_text (Some (b ∷ bs)) = 90 ∷ []
 abbrev pub timestamp_text : TimeUnit → Option (List ℕ) → ℤ → Option (List ℕ)
 timestamp_text unit zone z =
     option_map (λ day. day ++ 84 ∷ time_of_day unit
-    (unsigned_abs (int_rem_euclid z (pos (per_day unit)))) ++ zone_text zone)
-    (day_text (int_div_euclid z (pos (per_day unit))))
+    (unsigned_abs (int_rem_euclid z (pos (ticks_in_a_day unit)))) ++ zone_text zone)
+    (day_text (int_div_euclid z (pos (ticks_in_a_day unit))))
 
 -- the text of a number of this type where it is a date, a time or a point in time, and has one; of
 -- a number of another type, what is given

@@ -1,16 +1,16 @@
 //! Dates, times and points in time.
 ghost use Rattle.std.specs.Prelude.{◌≡◌, ◌<◌, ◌≤◌, ◌+◌, ◌*◌, ◌++◌, option_map, length};
-ghost use Rattle.std.specs.Prelude.{IsSome, ◌↔◌};
-ghost use Rattle.ipc_model.specs.Ranges.{IsTimeOfDay};
+ghost use Rattle.std.specs.Prelude.{IsSome, ◌↔◌, pos};
+ghost use Rattle.ipc_model.specs.Ranges.{IsTimeOfDay, ticks_in_a_day};
 ghost use Rattle.ipc_text.specs.Moments as spec;
-ghost use Rattle.ipc_text.specs.Moments.{per_second, per_day, clock_text, fraction_text};
+ghost use Rattle.ipc_text.specs.Moments.{per_second, clock_text, fraction_text};
 ghost use Rattle.ipc_text.specs.Moments.{time_of_day, zone_text};
 
 use crate::calendar::day_text;
 use crate::short_text::ShortText;
 use ipc_model::{DateUnit, TimeUnit};
 
-fn per_second(unit: TimeUnit) -> u64
+pub(crate) fn per_second(unit: TimeUnit) -> u64
     ensures { result ≡ per_second unit }
 {
     match unit {
@@ -19,6 +19,13 @@ fn per_second(unit: TimeUnit) -> u64
         TimeUnit::Microsecond => 1_000_000,
         TimeUnit::Nanosecond => 1_000_000_000,
     }
+}
+
+// How many of a unit a day of 24 hours has (Schema.fbs, table Time).
+pub(crate) fn ticks_in_a_day(unit: TimeUnit) -> i64
+    ensures { result ≡ pos (ticks_in_a_day unit) }
+{
+    (86_400 * per_second(unit)) as i64
 }
 
 // The text of so many seconds after midnight.
@@ -62,7 +69,7 @@ fn push_fraction(text: &mut ShortText, unit: TimeUnit, part: u32)
 
 // The text of so many units after midnight.
 fn push_time_of_day(text: &mut ShortText, unit: TimeUnit, number: u64)
-    requires small { number < per_day unit }
+    requires small { number < ticks_in_a_day unit }
     requires room { length text.old + 18 ≤ 32 }
     ensures { text.new ≡ text.old ++ time_of_day unit number }
 {
@@ -94,8 +101,7 @@ pub fn time_text(unit: TimeUnit, number: i64) -> Option<ShortText>
     ensures text { result ≡ spec.time_text unit number }
     ensures conforming { IsSome result ↔ IsTimeOfDay unit number }
 {
-    let per_day = (86_400 * per_second(unit)) as i64;
-    if number < 0 || number >= per_day {
+    if number < 0 || number >= ticks_in_a_day(unit) {
         return None;
     }
     let mut text = ShortText::new();
@@ -121,10 +127,10 @@ pub fn timestamp_text(unit: TimeUnit, timezone: Option<&str>, number: i64) -> Op
     ensures { result ≡ spec.timestamp_text unit
         (option_map (λ zone. zone.now) timezone.entry) number }
 {
-    let per_day = (86_400 * per_second(unit)) as i64;
-    let mut text = day_text(number.div_euclid(per_day))?;
+    let ticks = ticks_in_a_day(unit);
+    let mut text = day_text(number.div_euclid(ticks))?;
     text.push(b'T');
-    push_time_of_day(&mut text, unit, number.rem_euclid(per_day) as u64);
+    push_time_of_day(&mut text, unit, number.rem_euclid(ticks) as u64);
     push_zone(&mut text, timezone);
     Some(text)
 }

@@ -1,8 +1,10 @@
 //! Texts whose right form is given.
 use crate::{
-    TextFault, csv_header, csv_record, date_text, pairs_json, read_bool, read_bytes, read_int,
-    read_text, read_uint, row_json, schema_json, time_text, timestamp_text,
+    TextFault, check_header, csv_header, csv_record, date_text, pairs_json, read_bool, read_bytes,
+    read_date, read_int, read_text, read_time, read_timestamp, read_uint, row_from_csv, row_json,
+    schema_json, time_text, timestamp_text,
 };
+use csv::ByteRecord;
 use ipc_model::{DataType, DateUnit, Field, IntBits, Items, Schema, Text, TimeUnit, Value};
 use std::alloc::{AllocError, Global};
 use std::test::Fail;
@@ -305,5 +307,153 @@ fn times_and_durations(rt: HostRuntime) -> Result<(), Fail> {
     );
     let refused = csv_record(alloc, &schema, row.as_slice());
     assert!(rt; matches!(&refused, Err(TextFault::NoTextForm { column: 0 })));
+    Ok(())
+}
+
+#[test]
+fn moments_read_back(rt: HostRuntime) -> Result<(), Fail> {
+    for day in [-719_162, -1, 0, 11_016, 11_017, 47_541, 2_932_896] {
+        let text = date_text(DateUnit::Day, day).unwrap();
+        assert_eq!(rt;
+            read_date(DateUnit::Day, text.as_str().as_bytes()),
+            Some(day)
+        );
+        let milliseconds = day * 86_400_000;
+        let read = read_date(DateUnit::Millisecond, text.as_str().as_bytes());
+        assert_eq!(rt; read, Some(milliseconds));
+    }
+    for text in [
+        "10000-01-01",
+        "0000-12-31",
+        "2001-02-29",
+        "1970-1-01",
+        "+1970-01-01",
+        "",
+    ] {
+        assert_eq!(rt; read_date(DateUnit::Day, text.as_bytes()), None);
+    }
+    assert_eq!(rt;
+        read_time(TimeUnit::Millisecond, b"23:59:59.999"),
+        Some(86_399_999)
+    );
+    for text in ["24:00:00.000", "23:59:60.000", "00:00:00", "00:00:00.0000"] {
+        assert_eq!(rt; read_time(TimeUnit::Millisecond, text.as_bytes()), None);
+    }
+    for number in [i64::MIN, i64::MIN + 1, -1, 0, 1_000_002_003, i64::MAX] {
+        let text = timestamp_text(TimeUnit::Nanosecond, Some("UTC"), number).unwrap();
+        let read = read_timestamp(TimeUnit::Nanosecond, Some("UTC"), text.as_str().as_bytes());
+        assert_eq!(rt; read, Some(number));
+        let read = read_timestamp(TimeUnit::Nanosecond, None, text.as_str().as_bytes());
+        assert_eq!(rt; read, None);
+    }
+    Ok(())
+}
+
+fn record(alloc: Global, fields: &[&[u8]]) -> Result<ByteRecord, AllocError> {
+    ByteRecord::from_fields(alloc, fields)
+}
+
+#[test]
+fn rows_from_csv(rt: HostRuntime) -> Result<(), Fail> {
+    let alloc = rt.alloc();
+    let schema = schema(alloc)?;
+    let row = vec![in alloc;
+        Value::Int(-7),
+        Value::Text(text(alloc, "\\N")?),
+        Value::Int(11_016),
+        Value::Bytes(Items::from_vec(vec![in alloc; 0u8, 171]?)),
+        Value::Int(-1),
+    ]?;
+    let at = b"1969-12-31T23:59:59.999999Z".as_slice();
+    let fields: [&[u8]; 5] = [b"-7", b"\\\\N", b"2000-02-29", b"00Ab", at];
+    let read = row_from_csv(alloc, &schema, 3, &record(alloc, &fields)?)?;
+    assert_eq!(rt; read.as_slice(), row.as_slice());
+    let nulls: [&[u8]; 5] = [b"\\N", b"\\N", b"\\N", b"\\N", b"\\N"];
+    let read = row_from_csv(alloc, &schema, 3, &record(alloc, &nulls)?)?;
+    assert!(rt; read.iter().all(|value| *value == Value::Null));
+    let bad: [&[u8]; 5] = [b"-7", b"\\x", b"x", b"00ab", at];
+    let refused = row_from_csv(alloc, &schema, 3, &record(alloc, &bad)?);
+    assert!(rt;
+        matches!(
+            &refused,
+            Err(TextFault::BadField {
+                record: 3,
+                column: 1
+            })
+        )
+    );
+    let refused = row_from_csv(alloc, &schema, 3, &record(alloc, &bad[..4])?);
+    assert!(rt; matches!(&refused, Err(TextFault::WrongFieldCount { record: 3 })));
+    let nested = one_column(alloc, DataType::Struct)?;
+    let refused = row_from_csv(alloc, &nested, 3, &record(alloc, &bad)?);
+    assert!(rt; matches!(&refused, Err(TextFault::NotFlat)));
+    Ok(())
+}
+
+#[test]
+fn headers(rt: HostRuntime) -> Result<(), Fail> {
+    let alloc = rt.alloc();
+    let schema = schema(alloc)?;
+    let names: [&[u8]; 5] = [b"id", b"\"n\"", b"day", b"raw", b"at"];
+    assert!(rt; check_header(&schema, &record(alloc, &names)?).is_ok());
+    let other: [&[u8]; 5] = [b"id", b"\"n\"", b"Day", b"raw", b"At"];
+    let refused = check_header(&schema, &record(alloc, &other)?);
+    assert!(rt;
+        matches!(
+            &refused,
+            Err(TextFault::BadField {
+                record: 0,
+                column: 2
+            })
+        )
+    );
+    let refused = check_header(&schema, &record(alloc, &other[..4])?);
+    assert!(rt; matches!(&refused, Err(TextFault::WrongFieldCount { record: 0 })));
+    Ok(())
+}
+
+#[test]
+fn fields_that_are_no_values(rt: HostRuntime) -> Result<(), Fail> {
+    let alloc = rt.alloc();
+    let byte = DataType::Int {
+        bits: IntBits::B8,
+        signed: true,
+    };
+    let cases = [
+        (byte, ["+1", "01", "-0", "128", "-129", ""]),
+        (DataType::Bool, ["True", "1", "", "truee", "\\n", "null"]),
+        (DataType::Null, ["", "null", "0", "\\", "\\\\N", "NULL"]),
+        (
+            DataType::FixedSizeBinary(1),
+            ["", "0", "0000", "0g", "\\x", "0x"],
+        ),
+        (
+            DataType::Date(DateUnit::Day),
+            [
+                "10000-01-01",
+                "0000-01-01",
+                "2001-02-29",
+                "0",
+                "",
+                "1970-1-1",
+            ],
+        ),
+    ];
+    for (kind, texts) in cases {
+        let schema = one_column(alloc, kind)?;
+        for text in texts {
+            let fields: [&[u8]; 1] = [text.as_bytes()];
+            let refused = row_from_csv(alloc, &schema, 1, &record(alloc, &fields)?);
+            assert!(rt;
+                matches!(
+                    &refused,
+                    Err(TextFault::BadField {
+                        record: 1,
+                        column: 0
+                    })
+                )
+            );
+        }
+    }
     Ok(())
 }
