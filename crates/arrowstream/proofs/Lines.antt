@@ -51,23 +51,26 @@ module _ (row : List Value) where
   row_ends a b w n c kept (Err e) size p q =
       not_at a w n _ _ e (row_whole row c size) (puts_not_then a b w n (opened (take c row)) (93 ∷ 10 ∷ []) e p q)
 
-module _ (rows : List (List Value)) where
+module _ (line_of : List Value → List ℕ) (rows : List (List Value)) where
   -- one row more
-  pub rows_next : (a b d : Output) (i : ℕ) → i < length rows → Puts a b (lines (take i rows)) → Puts b d (line (slice_index_or rows i []))
-      → Puts a d (lines (take (i + 1) rows))
-  rows_next a b d i inside p q = put_at a d _ _ (lines_more rows i inside)
-      (puts_then a b d (lines (take i rows)) (line (slice_index_or rows i [])) p q)
+  pub rows_next : (a b d : Output) (i : ℕ) → i < length rows → Puts a b (lines line_of (take i rows))
+      → Puts b d (line_of (slice_index_or rows i [])) → Puts a d (lines line_of (take (i + 1) rows))
+  rows_next a b d i inside p q = put_at a d _ _ (lines_more line_of rows i inside)
+      (puts_then a b d (lines line_of (take i rows)) (line_of (slice_index_or rows i [])) p q)
 
   -- where one of the rows was not put, the rows were not
-  pub rows_cut : (a b : Output) (w : Option (List ℕ)) (n i : ℕ) (e : PrintFault) → i < length rows → Puts a b (lines (take i rows))
-      → PutFails b w n (line (slice_index_or rows i [])) e → PutFails a w n (lines rows) e
+  pub rows_cut : (a b : Output) (w : Option (List ℕ)) (n i : ℕ) (e : PrintFault) → i < length rows
+      → Puts a b (lines line_of (take i rows)) → PutFails b w n (line_of (slice_index_or rows i [])) e
+      → PutFails a w n (lines line_of rows) e
   rows_cut a b w n i e inside p q =
-      puts_not_front a w n (lines (take (i + 1) rows)) (lines (drop (i + 1) rows)) (lines rows) e (lines_rest rows (i + 1))
-      (not_at a w n _ _ e (lines_more rows i inside) (puts_not_then a b w n (lines (take i rows)) (line (slice_index_or rows i [])) e p q))
+      puts_not_front a w n (lines line_of (take (i + 1) rows)) (lines line_of (drop (i + 1) rows)) (lines line_of rows) e
+      (lines_rest line_of rows (i + 1))
+      (not_at a w n _ _ e (lines_more line_of rows i inside)
+      (puts_not_then a b w n (lines line_of (take i rows)) (line_of (slice_index_or rows i [])) e p q))
 
   -- where each row was put, all were
-  pub rows_end : (a b : Output) (i : ℕ) → length rows ≤ i → Puts a b (lines (take i rows)) → Puts a b (lines rows)
-  rows_end a b i all p = put_at a b _ _ (ap lines (take_all i rows all)) p
+  pub rows_end : (a b : Output) (i : ℕ) → length rows ≤ i → Puts a b (lines line_of (take i rows)) → Puts a b (lines line_of rows)
+  rows_end a b i all p = put_at a b _ _ (ap (lines line_of) (take_all i rows all)) p
 
 module _ {X : Type 0} (numbers : X → List (List ℕ)) (columns : List X) (row : ℕ) where
   abbrev whole : List Value

@@ -12,13 +12,15 @@ grows_none : (w : Option (List ℕ)) (kept : List ℕ) → Grows w kept w kept [
 grows_none None kept = tt
 grows_none (Some xs) kept = sym (append-nil (xs ++ kept))
 
-grows_then : (a b c : Option (List ℕ)) (k0 k1 k2 t u : List ℕ) → Grows a k0 b k1 t → Grows b k1 c k2 u → Grows a k0 c k2 (t ++ u)
+-- one text and then another
+pub grows_then : (a b c : Option (List ℕ)) (k0 k1 k2 t u : List ℕ) → Grows a k0 b k1 t → Grows b k1 c k2 u → Grows a k0 c k2 (t ++ u)
 grows_then None b c k0 k1 k2 t u p q = tt
 grows_then (Some xs) None c k0 k1 k2 t u p q = absurd p
 grows_then (Some xs) (Some ys) None k0 k1 k2 t u p q = absurd q
 grows_then (Some xs) (Some ys) (Some zs) k0 k1 k2 t u p q = q ∙ (ap (λ (l : List ℕ). l ++ u) p ∙ append_assoc (xs ++ k0) t u)
 
-grows_more : (a b : Option (List ℕ)) (k0 k1 t u : List ℕ) → Grows a k0 b k1 t → Grows a k0 b (k1 ++ u) (t ++ u)
+-- with more behind what is kept, that was put too
+pub grows_more : (a b : Option (List ℕ)) (k0 k1 t u : List ℕ) → Grows a k0 b k1 t → Grows a k0 b (k1 ++ u) (t ++ u)
 grows_more None b k0 k1 t u p = tt
 grows_more (Some xs) None k0 k1 t u p = absurd p
 grows_more (Some xs) (Some ys) k0 k1 t u p = sym (append_assoc ys k1 u) ∙ (ap (λ (l : List ℕ). l ++ u) p ∙ append_assoc (xs ++ k0) t u)
@@ -131,4 +133,25 @@ pub flush_done : (a : Output) (now new : Option (List ℕ)) (n m : ℕ) → Puts
 flush_done a now new n m p kept works = record {
   bytes = grows_same a.written now new a.kept [] [] p.bytes kept;
   works = λ z. works;
+}
+
+grows_whole : (a b : Option (List ℕ)) (word behind : List ℕ) → Grows a word b behind [] → Grows a [] b behind word
+grows_whole None b word behind p = tt
+grows_whole (Some xs) None word behind p = absurd p
+grows_whole (Some xs) (Some ys) word behind p =
+    p ∙ (append-nil (xs ++ word) ∙ ap (λ (l : List ℕ). l ++ word) (sym (append-nil xs)))
+
+-- a text that was sent by itself was put
+pub puts_sent : (w v : Option (List ℕ)) (n m : ℕ) (word : List ℕ) → Puts (output w n word) (output v m []) []
+    → Puts (output w n []) (output v m []) word
+puts_sent w v n m word p = record { bytes = grows_whole w v word [] p.bytes; works = p.works }
+
+-- a text that was sent by itself and not whole was not put
+pub puts_not_sent : (w v : Option (List ℕ)) (n m : ℕ) (word : List ℕ) (e : PrintFault) → PutFails (output w n word) v m [] e
+    → PutFails (output w n []) v m word e
+puts_not_sent w v n m word e q = record {
+  behind = q.behind;
+  bytes = grows_whole w v word q.behind q.bytes;
+  failed = q.failed;
+  works = q.works;
 }

@@ -1,10 +1,10 @@
 -- Rows as text, value by value.
+use Rattle.ipc_model.specs.declared.table.BatchRows.{BatchRows}
 use Rattle.std.proofs.Common.{◌≡◌, ◌∙◌, refl, sym, ap, ℕ, ◌+◌, ◌<◌, List, [], ◌∷◌, ◌++◌, length, take, drop, Some}
 use Rattle.std.proofs.Common.{append_assoc, append-nil, take-append-drop, arith}
 use Rattle.std.specs.Prelude.{slice_get, slice_index_or, codes}
 use Rattle.std.proofs.lemmas.List.{take_more, take_all, length-take-le}
 use Rattle.std.proofs.lemmas.Option.{get_or_from_slice_get}
-use Rattle.ipc_model.specs.declared.table.BatchRows.{BatchRows}
 use Rattle.ipc_model.specs.declared.value.Value.{Value}
 use Rattle.arrowstream.specs.Rows.{cell_text, comma, behind_commas, opened, line, lines, batch_lines}
 
@@ -52,29 +52,26 @@ row_rest row c =
 pub row_whole : (row : List Value) (c : ℕ) → length row ≡ c → opened (take c row) ++ (93 ∷ 10 ∷ []) ≡ line row
 row_whole row c size = ap (λ (x : List Value). opened x ++ (93 ∷ 10 ∷ [])) (take_all c row (omega (arith, size)))
 
-lines_append : (rows more : List (List Value)) → lines (rows ++ more) ≡ lines rows ++ lines more
-lines_append [] more = refl
-lines_append (row ∷ rows) more = ap (λ (x : List ℕ). line row ++ x) (lines_append rows more)
-    ∙ sym (append_assoc (line row) (lines rows) (lines more))
+module _ (line_of : List Value → List ℕ) where
+  lines_append : (rows more : List (List Value)) → lines line_of (rows ++ more) ≡ lines line_of rows ++ lines line_of more
+  lines_append [] more = refl
+  lines_append (row ∷ rows) more = ap (λ (x : List ℕ). line_of row ++ x) (lines_append rows more)
+      ∙ sym (append_assoc (line_of row) (lines line_of rows) (lines line_of more))
 
--- the lines of the first i rows and that of the next one are those of the first i + 1
-pub lines_more : (rows : List (List Value)) (i : ℕ) → i < length rows
-    → lines (take i rows) ++ line (slice_index_or rows i []) ≡ lines (take (i + 1) rows)
-lines_more rows i inside =
-    ap (λ (x : List ℕ). lines (take i rows) ++ x) (sym (append-nil (line (slice_index_or rows i []))))
-    ∙ (sym (lines_append (take i rows) (slice_index_or rows i [] ∷ [])) ∙ ap lines (sym (take_more rows i [] inside)))
+  -- the lines of the first i rows and that of the next one are those of the first i + 1
+  pub lines_more : (rows : List (List Value)) (i : ℕ) → i < length rows
+      → lines line_of (take i rows) ++ line_of (slice_index_or rows i []) ≡ lines line_of (take (i + 1) rows)
+  lines_more rows i inside =
+      ap (λ (x : List ℕ). lines line_of (take i rows) ++ x) (sym (append-nil (line_of (slice_index_or rows i []))))
+      ∙ (sym (lines_append (take i rows) (slice_index_or rows i [] ∷ [])) ∙ ap (lines line_of) (sym (take_more rows i [] inside)))
 
--- the lines of rows are those of the first i and those of the others
-pub lines_rest : (rows : List (List Value)) (i : ℕ) → lines rows ≡ lines (take i rows) ++ lines (drop i rows)
-lines_rest rows i = ap lines (sym (take-append-drop i rows)) ∙ lines_append (take i rows) (drop i rows)
+  -- the lines of rows are those of the first i and those of the others
+  pub lines_rest : (rows : List (List Value)) (i : ℕ) → lines line_of rows ≡ lines line_of (take i rows) ++ lines line_of (drop i rows)
+  lines_rest rows i = ap (lines line_of) (sym (take-append-drop i rows)) ∙ lines_append (take i rows) (drop i rows)
 
--- the lines of the first n of n rows are those of all
-pub lines_whole : (rows : List (List Value)) (n : ℕ) → n ≡ length rows → lines (take n rows) ≡ lines rows
-lines_whole rows n size = ap lines (take_all n rows (omega (arith, size)))
-
--- the lines of batches and those of one more are those of all of them
-pub batch_lines_more : (batches : List BatchRows) (last : BatchRows)
-    → batch_lines batches ++ lines last.rows ≡ batch_lines (batches ++ last ∷ [])
-batch_lines_more [] last = sym (append-nil (lines last.rows))
-batch_lines_more (b ∷ bs) last = append_assoc (lines b.rows) (batch_lines bs) (lines last.rows)
-    ∙ ap (λ (x : List ℕ). lines b.rows ++ x) (batch_lines_more bs last)
+  -- the lines of batches and those of one more are those of all of them
+  pub batch_lines_more : (batches : List BatchRows) (rows : BatchRows)
+      → batch_lines line_of batches ++ lines line_of rows.rows ≡ batch_lines line_of (batches ++ rows ∷ [])
+  batch_lines_more [] rows = sym (append-nil (lines line_of rows.rows))
+  batch_lines_more (b ∷ bs) rows = append_assoc (lines line_of b.rows) (batch_lines line_of bs) (lines line_of rows.rows)
+      ∙ ap (λ (x : List ℕ). lines line_of b.rows ++ x) (batch_lines_more bs rows)

@@ -1,9 +1,8 @@
--- The columns that `show` prints.
-use Rattle.std.specs.Prelude.{◌≡◌, ℕ, ◌<◌, ◌≤◌, true, List, [], length, map, take, Some, None}
-use Rattle.std.specs.Prelude.{slice_get, slice_index_or}
+-- Columns of signed 64-bit numbers, whose rows are printed in bulk.
+use Rattle.std.specs.Prelude.{◌≡◌, ℕ, ◌<◌, ◌≤◌, true, List, [], length, map, None}
+use Rattle.std.specs.Prelude.{slice_index_or}
 use Rattle.std.specs.List.{AllByRecursion}
 use Rattle.std.specs.Int.{w64, cast_signed, from_le_bytes}
-use Rattle.ipc_model.specs.TypeCodes.{type_code}
 use Rattle.ipc_model.specs.declared.schema.DataType.TheVariants as t
 use Rattle.ipc_model.specs.declared.schema.IntBits.TheVariants.{B64}
 use Rattle.ipc_model.specs.declared.schema.Field.{Field, out-Field}
@@ -18,15 +17,6 @@ pub record IsShownColumn (f : Field) : Type 0 where
 -- each column is one
 abbrev pub AreShownColumns : List Field → Type 0
 AreShownColumns fields = AllByRecursion IsShownColumn fields
-
--- some column is none of these, the first such of this code, and the fault says so
-pub record IsNotShown (fields : List Field) (code : ℕ) : Type 0 where
-  pub place : ℕ
-  pub column : Field
-  pub there : slice_get fields place ≡ Some column
-  pub coded : type_code (out-Field column).kind ≡ code
-  pub other : ¬ IsShownColumn column
-  pub first : AreShownColumns (take place fields)
 
 -- the number in eight bytes, the lowest first, in two's complement (Arrow Columnar Format, "Byte
 -- Order")

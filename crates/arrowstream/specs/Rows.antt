@@ -1,12 +1,13 @@
--- What `show` prints: each row as a JSON array on a line of its own (RFC 8259).
+-- Rows as lines, and the text of signed 64-bit numbers: a JSON array on a line of its own
+-- (RFC 8259).
+use Rattle.ipc_model.specs.declared.table.BatchRows.{BatchRows}
 use Rattle.std.specs.Prelude.{ℕ, zero, suc, List, [], ◌∷◌, ◌++◌, codes, ⊤}
 use Rattle.std.specs.List.{AllByRecursion}
 use Rattle.std.specs.Fmt.{signed_decimal}
-use Rattle.ipc_model.specs.declared.table.BatchRows.{BatchRows}
 use Rattle.ipc_model.specs.declared.value.Value.{Value, out-Value}
 use Rattle.ipc_model.specs.declared.value.Value.TheOpen.{Value-F}
 
--- a value that is shown: null or a signed number
+-- null or a signed number
 abbrev pub IsShownIn : Value-F Value → Type 0
 IsShownIn Value-F.Null = ⊤
 IsShownIn (Value-F.Bool truth) = ⊥
@@ -17,7 +18,7 @@ IsShownIn (Value-F.Text text) = ⊥
 IsShownIn (Value-F.List values) = ⊥
 IsShownIn (Value-F.Struct values) = ⊥
 
--- the values that `show` prints: null and signed numbers
+-- the values of columns of signed numbers: null and signed numbers
 abbrev pub IsShown : Value → Type 0
 IsShown value = IsShownIn (out-Value value)
 
@@ -55,20 +56,16 @@ closed = 93 ∷ 10 ∷ []
 abbrev pub line : List Value → List ℕ
 line row = opened row ++ closed
 
--- a line for each row
-abbrev pub lines : List (List Value) → List ℕ
-lines [] = []
-lines (row ∷ rows) = line row ++ lines rows
+-- each row as a line, one behind another
+abbrev pub lines : (List Value → List ℕ) → List (List Value) → List ℕ
+lines line_of [] = []
+lines line_of (row ∷ rows) = line_of row ++ lines line_of rows
 
 -- the rows of batches, one after another
-abbrev pub batch_lines : List BatchRows → List ℕ
-batch_lines [] = []
-batch_lines (b ∷ batches) = lines b.rows ++ batch_lines batches
+abbrev pub batch_lines : (List Value → List ℕ) → List BatchRows → List ℕ
+batch_lines line_of [] = []
+batch_lines line_of (b ∷ batches) = lines line_of b.rows ++ batch_lines line_of batches
 
 -- each value of the rows is one that is shown
 abbrev pub AreShownRows : List (List Value) → Type 0
 AreShownRows rows = AllByRecursion (AllByRecursion IsShown) rows
-
--- so is each of the batches'
-abbrev pub AreShownBatches : List BatchRows → Type 0
-AreShownBatches batches = AllByRecursion (λ b. AreShownRows b.rows) batches

@@ -1,53 +1,71 @@
-//! The command `arrowstream`: `arrowstream show < STREAM` prints each row of an Arrow IPC stream as
-//! a JSON array.
+//! The command `arrowstream`, which prints Arrow IPC streams: `arrowstream --help` says how.
 #![tactic(auto)]
 
+mod batch_text;
+mod csv_row;
 mod digits;
+mod form;
+mod json_row;
 mod rows;
 mod run;
+mod stop;
 #[cfg(test)]
 mod tests;
 mod types;
+mod words;
 
-use ipc_stream::{Device, Limits};
+use ipc_stream::Device;
 use run::run;
+use std::alloc::{AllocError, Global};
 use std::env::Args;
+use std::io::Write;
 use std::process::ExitCode;
 use std::{env, io};
+use words::{Job, Usage, read_words};
 
-const USAGE: &str = "usage: arrowstream show < STREAM";
+// The words of a command line as a list.
+fn collect_words(alloc: Global, words: Args) -> Result<Vec<String>, AllocError> {
+    let mut all = Vec::new(alloc);
+    for word in words {
+        all.push(word)?;
+    }
+    Ok(all)
+}
 
-// Whether the words, of which the first is the program's name, are the one job that it does.
-fn ask_to_show(words: Args) -> bool {
-    let mut words = words;
-    let _program = words.next();
-    let Some(job) = words.next() else {
-        return false;
-    };
-    job.as_str() == "show" && words.next().is_none()
+// The job of the command line.
+fn read_job(rt: &HostRuntime) -> Result<Job, Usage> {
+    match env::args(rt) {
+        Ok(words) => read_words(rt.alloc(), collect_words(rt.alloc(), words)?),
+        Err(error) if error.kind() == io::ErrorKind::OutOfMemory => Err(Usage::OutOfMemory),
+        Err(_) => Err(Usage::Wrong(String::from_str(rt.alloc(), "error: a word is not UTF-8\n")?)),
+    }
+}
+
+// Tells why there is no job, and answers the exit status.
+fn tell_usage(rt: &HostRuntime, usage: &Usage) -> u8 {
+    match usage {
+        Usage::Help(text) => match io::writer(rt).write_all(text.as_bytes()) {
+            Ok(()) => 0,
+            Err(_) => 3,
+        },
+        Usage::Wrong(text) => {
+            let _ = rt.stderr().write_all(text.as_bytes());
+            2
+        }
+        Usage::OutOfMemory => {
+            let _ = rt.stderr().write_all(b"out of memory\n");
+            4
+        }
+    }
 }
 
 fn main(rt: HostRuntime) -> ExitCode {
-    let is_show = match env::args(&rt) {
-        Ok(words) => ask_to_show(words),
-        Err(error) if error.kind() == io::ErrorKind::OutOfMemory => {
-            let _ = rt.eprintln("out of memory");
-            return ExitCode::from(4);
-        }
-        Err(_) => false,
+    let job = match read_job(&rt) {
+        Ok(job) => job,
+        Err(usage) => return ExitCode::from(tell_usage(&rt, &usage)),
     };
-    if !is_show {
-        let _ = rt.eprintln(USAGE);
-        return ExitCode::from(2);
-    }
     let input = Device::new(rt.reader());
     let mut output = Device::new(io::writer(&rt));
-    let (status, _input) = run(
-        rt.alloc(),
-        Limits::standard(),
-        input,
-        &mut output,
-        &mut rt.stderr(),
-    );
+    let (status, _input) = run(rt.alloc(), job, input, &mut output, &mut rt.stderr());
     ExitCode::from(status)
 }

@@ -1,4 +1,5 @@
-//! Rows as text: each a JSON array on a line of its own.
+//! Text on its way to a sink, and rows of signed 64-bit numbers as text: each a JSON array on a
+//! line of its own.
 ghost use Rattle.std.specs.Prelude.{◌≡◌, ◌≤◌, ◌<◌, ◌+◌, ◌++◌, ◌∷◌, [], length, take, vec_len};
 ghost use Rattle.std.specs.Prelude.{slice_index_or, IfErr, IfOk, IfSome, MatchResult, Some, OnOk};
 ghost use Rattle.std.specs.Fmt.{signed_decimal};
@@ -21,7 +22,7 @@ const KEPT: usize = 1 << 16;
 // More than any cell takes with the byte before it.
 const ROOM: usize = 32;
 
-/// Why rows were not printed.
+/// Why a text was not printed.
 #[derive(Clone, Copy, Debug, PartialEq, Eq)]
 pub enum PrintFault {
     /// The sink failed.
@@ -84,6 +85,30 @@ fn put_word(text: &mut [u8], at: usize, word: &[u8]) -> usize
 {
     text[at..at + word.len()].copy_from_slice(word);
     at + word.len()
+}
+
+// Adds a text of any length behind the first `start` bytes, and returns where it ends.
+fn put_text<W: Sink>(
+    sink: &mut W,
+    text: &mut [u8],
+    start: usize,
+    word: &[u8],
+) -> Result<usize, PrintFault>
+    requires { start ≤ length text.old }
+    ensures inside { IfOk result (λ end. end ≤ length text.new) }
+    ensures same_room { length text.new ≡ length text.old }
+    ensures puts { PrintsAt (output (W.written sink.old) (W.failures sink.old)
+        (take start text.old)) (W.written sink.new) (W.failures sink.new) text.new word.now result }
+{
+    if word.len() <= text.len() - start {
+        return Ok(put_word(text, start, word));
+    }
+    send(sink, &text[..start])?;
+    if word.len() <= text.len() {
+        return Ok(put_word(text, 0, word));
+    }
+    send(sink, word)?;
+    Ok(0)
 }
 
 // A comma before each cell but the first.
@@ -205,7 +230,7 @@ fn print_cells<W: Sink>(
     ensures inside { IfOk result (λ end. end ≤ length text.new) }
     ensures puts { PrintsAt (output (W.written sink.old) (W.failures sink.old)
         (take start text.old)) (W.written sink.new) (W.failures sink.new) text.new
-        (lines batch.now.rows) result }
+        (lines line batch.now.rows) result }
 {
     let mut at = start;
     for row in 0..batch.rows() {
@@ -305,7 +330,7 @@ fn print_numbers<W: Sink>(
     ensures inside { IfOk result (λ end. end ≤ length text.new) }
     ensures puts { PrintsAt (output (W.written sink.old) (W.failures sink.old)
         (take start text.old)) (W.written sink.new) (W.failures sink.new) text.new
-        (lines batch.now.rows) result }
+        (lines line batch.now.rows) result }
 {
     let mut at = start;
     for row in 0..batch.rows() {
@@ -328,7 +353,7 @@ fn print_batch<W: Sink>(
     ensures inside { IfOk result (λ end. end ≤ length text.new) }
     ensures puts { PrintsAt (output (W.written sink.old) (W.failures sink.old)
         (take start text.old)) (W.written sink.new) (W.failures sink.new) text.new
-        (lines batch.now.rows) result }
+        (lines line batch.now.rows) result }
 {
     match numbers_of(alloc, batch)? {
         Some(columns) => print_numbers(sink, text, start, &columns, batch),
@@ -336,7 +361,7 @@ fn print_batch<W: Sink>(
     }
 }
 
-/// Rows as text, on their way to a sink. What is seen of it is the text that is kept.
+/// Text on its way to a sink. What is seen of it is the text that is kept.
 #[derive(Drop)]
 pub struct Lines {
     text: Vec<u8>,
@@ -357,7 +382,7 @@ impl Model for Lines {
 }
 
 impl Lines {
-    /// With no row. Out of memory is answered where the text finds no room.
+    /// With no text. Out of memory is answered where the text finds no room.
     pub fn new(alloc: Global) -> Result<Lines, AllocError>
         ensures { IfOk result (λ lines. lines ≡ []) }
     {
@@ -367,12 +392,23 @@ impl Lines {
         })
     }
 
+    /// Adds a text. Where it finds no room behind what is kept, that goes to the sink first, and a
+    /// text that is longer than all that is ever kept goes there itself. `Write` is answered where
+    /// the sink failed, and nothing else; then what was kept is lost.
+    pub fn put<W: Sink>(&mut self, sink: &mut W, text: &[u8]) -> Result<(), PrintFault>
+        ensures { PrintsAs (output (W.written sink.old) (W.failures sink.old) self.old)
+            (W.written sink.new) (W.failures sink.new) self.new text.now result }
+    {
+        self.at = put_text(sink, &mut self.text, self.at, text)?;
+        Ok(())
+    }
+
     /// Adds each row of a batch as a JSON array on a line of its own. Full text goes to the sink.
     ///
     /// The caller knows that each value is null or a signed number. `Write` is answered where the
     /// sink failed, and `OutOfMemory` where a list of columns found no room; then a beginning of
     /// the rows went out, and what was kept is lost.
-    pub fn print<W: Sink>(
+    pub fn put_numbers<W: Sink>(
         &mut self,
         alloc: Global,
         sink: &mut W,
@@ -380,7 +416,7 @@ impl Lines {
     ) -> Result<(), PrintFault>
         requires { AreShownRows batch.now.rows }
         ensures { PrintsAs (output (W.written sink.old) (W.failures sink.old) self.old)
-            (W.written sink.new) (W.failures sink.new) self.new (lines batch.now.rows) result }
+            (W.written sink.new) (W.failures sink.new) self.new (lines line batch.now.rows) result }
     {
         self.at = print_batch(alloc, sink, &mut self.text, self.at, batch)?;
         Ok(())

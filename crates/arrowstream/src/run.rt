@@ -1,184 +1,311 @@
-//! The job `show`: a stream's rows are printed as they come.
-ghost use Rattle.std.specs.Prelude.{◌≡◌, ◌≢◌, ◌⊎◌, [], Some, IfErr, IfOk, OnOk};
+//! Jobs: a stream is read, and its rows are printed as they come.
+ghost use Rattle.std.specs.Prelude.{◌≡◌, ◌≢◌, ◌⊎◌, ◌++◌, ◌∷◌, [], Some, IfErr, IfOk, OnOk};
+ghost use Rattle.std.specs.Prelude.{decimal, length, None, Ok};
 ghost use Rattle.ipc_stream.specs.declared.phase.Phase.TheVariants.{Reading};
-ghost use Rattle.ipc_stream.specs.Reasons.{IsOutside};
-ghost use Rattle.arrowstream.specs.Columns.{AreShownColumns};
-ghost use Rattle.arrowstream.specs.Output.{output};
-ghost use Rattle.arrowstream.specs.Show.{Breaks, PrintsBatches, Shows, ShowsPart, ShowsRows};
-ghost use Rattle.arrowstream.specs.Show.{ShowsTable, TellsDevices, exit_status, stop_status};
+ghost use Rattle.ipc_text.specs.RowCsv.{unless_fault};
+ghost use Rattle.ipc_text.specs.SchemaJson.{schema_text};
+ghost use Rattle.arrowstream.specs.Forms.{counts_text, form_fault, front_text};
+ghost use Rattle.arrowstream.specs.Output.{output, PrintsAs};
+ghost use Rattle.arrowstream.specs.Jobs.{IsWhole, Prints, PrintsAll, PrintsBatches};
+ghost use Rattle.arrowstream.specs.Jobs.{PrintsStream, PrintsTable, outcome_tail};
+ghost use Rattle.arrowstream.specs.Jobs.{PrintsSome, Refused, TellsDevices, exit_status};
+ghost use Rattle.arrowstream.specs.Jobs.{stop_status, write_fault};
+ghost use Rattle.arrowstream.specs.Words.{form_of, limits_of};
 
+use crate::batch_text::print_batch;
+use crate::form::Form;
 use crate::rows::{Lines, PrintFault};
-use crate::types::first_not_shown;
-use ipc_model::{Fault, Limits, WriteFault};
-use ipc_stream::{Sink, Source, StreamReader};
-use std::alloc::Global;
+use crate::stop::{Outcome, Stop, Tally};
+use crate::words::Job;
+use ipc_model::{Limits, Schema, WriteFault};
+use ipc_stream::{End, Sink, Source, StreamReader};
+use ipc_text::{TextFault, check_flat, csv_header, schema_json};
+use itoa::Buffer;
+use std::alloc::{AllocError, Global};
 use std::io::Write;
 
-// Why a job stopped.
-#[derive(Clone, Copy)]
-enum Stop {
-    // The stream was refused at the message with this number.
-    Stream(Fault, u64),
-    // The rows could not be printed.
-    Print(PrintFault),
-}
-
-// Prints the rows of a stream, and returns the fault at which reading broke off, if it did. The
-// columns are those that are shown.
+// Prints the rows of a stream, and tells how that ended.
 fn print_rows<R: Source, W: Sink>(
     alloc: Global,
+    form: Form,
     stream: &mut StreamReader<R>,
     lines: &mut Lines,
     sink: &mut W,
-) -> Result<Option<Fault>, PrintFault>
+) -> Result<Outcome, PrintFault>
     requires reading { stream.old.phase ≡ Reading }
-    requires columns { AreShownColumns stream.old.schema.fields }
+    requires fits { form_fault form stream.old.schema.fields ≡ None }
     ensures schema { stream.new.schema ≡ stream.old.schema }
     ensures limits { stream.new.limits ≡ stream.old.limits }
-    ensures prints { PrintsBatches stream.old stream.new
+    ensures prints { PrintsBatches form [] stream.old stream.new
         (output (W.written sink.old) (W.failures sink.old) lines.old)
         (output (W.written sink.new) (W.failures sink.new) lines.new) result }
 {
+    let mut tally = Tally::none();
     loop {
         match stream.next() {
-            Ok(Some((batch, _pairs))) => lines.print(alloc, sink, &batch)?,
-            Ok(None) => return Ok(None),
-            Err(fault) => return Ok(Some(fault)),
+            Ok(Some((batch, _pairs))) => {
+                let refused = print_batch(alloc, form, stream.fields(), &batch, lines, sink)?;
+                if let Some(fault) = refused {
+                    return Ok(Outcome::Refused(fault));
+                }
+                tally = tally.with_batch(batch.rows());
+            }
+            // The reader has an end now, so none is made up.
+            Ok(None) => {
+                let end = stream.end().unwrap_or(End::Closed);
+                return Ok(Outcome::Whole(end, tally));
+            }
+            Err(fault) => return Ok(Outcome::Broken(fault)),
         }
     }
 }
 
-// Prints the rows of a stream behind its schema. Those before a fault go out before it is returned.
+// The schema's JSON text and a line feed.
+fn schema_line(alloc: Global, schema: &Schema) -> Result<Vec<u8>, TextFault>
+    ensures { IfOk result (λ line. line.items ≡ schema_text schema.now ++ 10 ∷ []) }
+{
+    let mut line = schema_json(alloc, schema)?.into_bytes();
+    line.push(b'\n')?;
+    Ok(line)
+}
+
+// Appends a number in decimal and a word.
+fn push_count(out: &mut Vec<u8>, number: u64, word: &[u8]) -> Result<(), AllocError>
+    ensures { OnOk result (out.new.items ≡ out.old.items ++ decimal number ++ word.now) }
+{
+    let mut digits = Buffer::new();
+    out.extend_from_slice(digits.format(number).as_bytes())?;
+    out.extend_from_slice(word)
+}
+
+// How a stream ended, how many bytes were taken of it, and how many batches and rows it has.
+fn counts_line(alloc: Global, end: End, bytes: u64, tally: Tally) -> Result<Vec<u8>, AllocError>
+    ensures { IfOk result (λ line. line.items ≡ counts_text end bytes tally.batches tally.rows) }
+{
+    let mut line = Vec::new(alloc);
+    match end {
+        End::Mark => line.extend_from_slice(b"mark ")?,
+        End::Closed => line.extend_from_slice(b"closed ")?,
+    }
+    push_count(&mut line, bytes, b" bytes ")?;
+    push_count(&mut line, tally.batches, b" batches ")?;
+    push_count(&mut line, tally.rows, b" rows\n")?;
+    Ok(line)
+}
+
+// Prints what stands behind the rows, once they ended.
+fn print_tail<W: Sink>(
+    alloc: Global,
+    form: Form,
+    outcome: Outcome,
+    bytes: u64,
+    lines: &mut Lines,
+    sink: &mut W,
+) -> Result<(), PrintFault>
+    ensures puts { PrintsAs (output (W.written sink.old) (W.failures sink.old) lines.old)
+        (W.written sink.new) (W.failures sink.new) lines.new (outcome_tail form outcome bytes)
+        result }
+    ensures whole { IfErr result (λ fault. IsWhole outcome) }
+{
+    let Outcome::Whole(end, tally) = outcome else {
+        return Ok(());
+    };
+    match form {
+        Form::Counts => {
+            let line = counts_line(alloc, end, bytes, tally)?;
+            lines.put(sink, line.as_slice())
+        }
+        Form::Rows | Form::Records => Ok(()),
+    }
+}
+
+// Prints what stands in front of the rows.
+fn print_front<W: Sink>(
+    alloc: Global,
+    form: Form,
+    schema: &Schema,
+    lines: &mut Lines,
+    sink: &mut W,
+) -> Result<(), PrintFault>
+    requires fits { form_fault form schema.now.fields ≡ None }
+    ensures puts { PrintsAs (output (W.written sink.old) (W.failures sink.old) lines.old)
+        (W.written sink.new) (W.failures sink.new) lines.new (front_text form schema.now)
+        result }
+{
+    match form {
+        Form::Counts => match schema_line(alloc, schema) {
+            Ok(line) => lines.put(sink, line.as_slice()),
+            Err(_) => Err(PrintFault::OutOfMemory),
+        },
+        Form::Rows => Ok(()),
+        Form::Records => match csv_header(alloc, schema) {
+            Ok(header) => lines.put(sink, header.as_slice()),
+            Err(_) => Err(PrintFault::OutOfMemory),
+        },
+    }
+}
+
+// Prints a stream behind its schema. What comes before a fault goes out before it is returned.
 fn print_stream<R: Source, W: Sink>(
     alloc: Global,
+    form: Form,
     stream: &mut StreamReader<R>,
     sink: &mut W,
-) -> Result<Option<Fault>, PrintFault>
+) -> Result<Outcome, PrintFault>
     requires reading { stream.old.phase ≡ Reading }
-    requires columns { AreShownColumns stream.old.schema.fields }
-    ensures works { IfOk result (λ fault. W.failures sink.new ≡ 0) }
-    ensures handed_on { IfOk result (λ fault. W.held_back sink.new ≡ Some []) }
-    ensures prints { PrintsBatches stream.old stream.new
-        (output (W.written sink.old) (W.failures sink.old) [])
+    requires fits { form_fault form stream.old.schema.fields ≡ None }
+    ensures works { IfOk result (λ outcome. W.failures sink.new ≡ 0) }
+    ensures handed_on { IfOk result (λ outcome. W.held_back sink.new ≡ Some []) }
+    ensures prints { PrintsAll form (front_text form stream.old.schema) stream.old
+        stream.new (output (W.written sink.old) (W.failures sink.old) [])
         (output (W.written sink.new) (W.failures sink.new) []) result }
 {
     let mut lines = Lines::new(alloc)?;
-    let fault = print_rows(alloc, stream, &mut lines, sink)?;
+    print_front(alloc, form, stream.schema(), &mut lines, sink)?;
+    let outcome = print_rows(alloc, form, stream, &mut lines, sink)?;
+    print_tail(alloc, form, outcome, stream.taken(), &mut lines, sink)?;
     lines.flush(sink)?;
-    Ok(fault)
+    Ok(outcome)
+}
+
+// Whether the form has a place for the columns.
+fn check_form(form: Form, schema: &Schema) -> Result<(), TextFault>
+    ensures { result ≡ unless_fault (form_fault form schema.now.fields) (Ok tt) }
+{
+    match form {
+        Form::Counts | Form::Rows => Ok(()),
+        Form::Records => check_flat(schema),
+    }
+}
+
+// Why rows weren't printed, as a refusal of writing.
+fn write_fault_of(fault: PrintFault) -> WriteFault
+    ensures { result ≡ write_fault fault }
+{
+    match fault {
+        PrintFault::Write => WriteFault::Write,
+        PrintFault::OutOfMemory => WriteFault::OutOfMemory,
+    }
 }
 
 // Prints a stream whose schema was read.
-fn show_rows<R: Source, W: Sink>(
+fn print_open<R: Source, W: Sink>(
     alloc: Global,
+    form: Form,
     stream: &mut StreamReader<R>,
     sink: &mut W,
 ) -> Result<(), Stop>
     requires { stream.old.phase ≡ Reading }
     ensures handed_on { OnOk result (W.held_back sink.new ≡ Some []) }
-    ensures shows { ShowsRows stream.old stream.new
+    ensures prints { PrintsStream form stream.old stream.new
         (output (W.written sink.old) (W.failures sink.old) [])
         (output (W.written sink.new) (W.failures sink.new) []) result }
     ensures devices { TellsDevices stream.old.failures stream.new.failures (W.failures sink.old)
         (W.failures sink.new) (exit_status result) }
 {
-    if let Some(code) = first_not_shown(stream.schema()) {
-        return Err(Stop::Stream(Fault::UnsupportedType(code), 0));
+    if let Err(fault) = check_form(form, stream.schema()) {
+        return Err(Stop::Text(fault));
     }
-    match print_stream(alloc, stream, sink) {
-        Ok(None) => Ok(()),
-        Ok(Some(fault)) => Err(Stop::Stream(fault, stream.messages())),
-        Err(fault) => Err(Stop::Print(fault)),
+    match print_stream(alloc, form, stream, sink) {
+        Ok(Outcome::Whole(..)) => Ok(()),
+        Ok(Outcome::Broken(fault)) => Err(Stop::Read(fault, stream.messages())),
+        Ok(Outcome::Refused(fault)) => Err(Stop::Text(fault)),
+        Err(fault) => Err(Stop::Write(write_fault_of(fault))),
     }
 }
 
-// Prints a stream, and gives its source back.
-fn show<R: Source, W: Sink>(
+// Prints a stream in a form, and gives its source back.
+fn print<R: Source, W: Sink>(
     alloc: Global,
     limits: Limits,
+    form: Form,
     source: R,
     sink: &mut W,
 ) -> (Result<(), Stop>, R)
     ensures handed_on { OnOk result.0 (W.held_back sink.new ≡ Some []) }
-    ensures shows { Shows limits (R.remaining source) (R.remaining result.1) (W.written sink.old)
-        (W.written sink.new) result.0 }
+    ensures prints { Prints form limits (R.remaining source) (R.remaining result.1)
+        (W.written sink.old) (W.written sink.new) result.0 }
     ensures devices { TellsDevices (R.failures source) (R.failures result.1) (W.failures sink.old)
         (W.failures sink.new) (exit_status result.0) }
 {
     match StreamReader::open(alloc, limits, source) {
         Ok(stream) => {
             let mut stream = stream;
-            let result = show_rows(alloc, &mut stream, sink);
+            let result = print_open(alloc, form, &mut stream, sink);
             (result, stream.into_inner())
         }
-        Err((fault, source)) => (Err(Stop::Stream(fault, 0)), source),
+        Err((fault, source)) => (Err(Stop::Read(fault, 0)), source),
     }
 }
 
 // The exit status of a job that stopped.
-fn status_of(stop: Stop) -> u8
-    ensures { result ≡ stop_status stop }
+fn status_of(stop: &Stop) -> u8
+    ensures { result ≡ stop_status stop.now }
 {
     match stop {
-        Stop::Stream(fault, _) => fault.exit_status(),
-        Stop::Print(PrintFault::Write) => WriteFault::Write.exit_status(),
-        Stop::Print(PrintFault::OutOfMemory) => WriteFault::OutOfMemory.exit_status(),
+        Stop::Read(fault, _) => fault.exit_status(),
+        Stop::Write(fault) => fault.exit_status(),
+        Stop::Text(TextFault::OutOfMemory) => WriteFault::OutOfMemory.exit_status(),
+        Stop::Text(_) => 1,
     }
 }
 
 // Tells why a job stopped, as one line.
-fn tell<E: Write>(stop: Stop, messages: &mut E) {
+fn tell<E: Write>(stop: &Stop, messages: &mut E) {
     match stop {
-        Stop::Stream(fault, message) => {
-            let _ = writeln!(messages, "{}", fault.at_message(message));
+        Stop::Read(fault, message) => {
+            let _ = writeln!(messages, "{}", fault.at_message(*message));
         }
-        Stop::Print(PrintFault::Write) => {
-            let _ = writeln!(messages, "{}", WriteFault::Write);
-        }
-        Stop::Print(PrintFault::OutOfMemory) => {
+        Stop::Write(WriteFault::OutOfMemory) => {
             let _ = messages.write_all(b"out of memory\n");
+        }
+        Stop::Write(fault) => {
+            let _ = writeln!(messages, "{fault}");
+        }
+        Stop::Text(fault) => {
+            let _ = writeln!(messages, "{fault}");
         }
     }
 }
 
-/// Reads a stream from `source` batch by batch under these limits and prints its rows to `sink`; on
-/// a refusal prints the fault's line to `messages`. Rows that were printed before it stand, and no
-/// byte behind an end-of-stream mark is read.
+/// Does a job: reads a stream from `source` batch by batch under the job's limits and prints it to
+/// `sink` in the job's form; on a refusal prints the fault's line to `messages`. What was printed
+/// before it stands, and no byte behind an end-of-stream mark is read.
 ///
 /// The answer is the exit status, and the source again: 0 where the stream was read to its end and
-/// all was printed, 1 where it is refused, or has a column that isn't shown, 3 where the source or
-/// the sink failed, 4 where memory ran out. A failing `messages` changes nothing.
+/// all was printed, 1 where it is refused, or its columns or a row have no text in this form, 3
+/// where the source or the sink failed, 4 where memory ran out. A failing `messages` changes
+/// nothing.
 pub fn run<R: Source, W: Sink, E: Write>(
     alloc: Global,
-    limits: Limits,
+    job: Job,
     source: R,
     sink: &mut W,
     messages: &mut E,
 ) -> (u8, R)
-    // At 0 the bytes that were taken denote a table with its end, and exactly its rows were
-    // printed.
-    ensures done { result.0 ≡ 0 → ShowsTable limits (R.remaining source) (R.remaining result.1)
-        (W.written sink.old) (W.written sink.new) }
+    // At 0 the bytes that were taken denote a table with its end, and exactly its text was printed.
+    ensures done { result.0 ≡ 0 → PrintsTable (form_of job) (limits_of job)
+        (R.remaining source) (R.remaining result.1) (W.written sink.old) (W.written sink.new) }
     // Then the sink holds nothing back.
     ensures handed_on { result.0 ≡ 0 → W.held_back sink.new ≡ Some [] }
-    // At 1 the stream is refused, and exactly the rows of the batches before were printed.
-    ensures refused { result.0 ≡ 1 → (fault : Fault) × ¬ IsOutside fault
-        × Breaks limits (R.remaining source) (R.remaining result.1) (W.written sink.old)
-        (W.written sink.new) fault }
+    // At 1 the stream or a row is refused, and exactly what came before was printed.
+    ensures refused { result.0 ≡ 1 → Refused (form_of job) (limits_of job)
+        (R.remaining source) (R.remaining result.1) (W.written sink.old) (W.written sink.new) }
     // 3 comes exactly where a device failed.
     ensures devices { TellsDevices (R.failures source) (R.failures result.1) (W.failures sink.old)
         (W.failures sink.new) result.0 }
     // 4 is left for memory; there is no other status.
     ensures one { (result.0 ≡ 0) ⊎ (result.0 ≡ 1) ⊎ (result.0 ≡ 3) ⊎ (result.0 ≡ 4) }
-    // Whatever the status, a beginning of the rows of what was read was printed.
-    ensures part { ShowsPart limits (R.remaining source) (R.remaining result.1) (W.written sink.old)
-        (W.written sink.new) }
+    // Whatever the status, a beginning of the text of what was read was printed.
+    ensures part { PrintsSome (form_of job) (limits_of job) (R.remaining source)
+        (R.remaining result.1) (W.written sink.old) (W.written sink.new) }
 {
-    match show(alloc, limits, source, sink) {
-        (Ok(()), source) => (0, source),
-        (Err(stop), source) => {
-            tell(stop, messages);
-            (status_of(stop), source)
+    let (result, source) = print(alloc, job.limits(), job.form(), source, sink);
+    match result {
+        Ok(()) => (0, source),
+        Err(stop) => {
+            tell(&stop, messages);
+            (status_of(&stop), source)
         }
     }
 }

@@ -1,5 +1,6 @@
 use crate::digits::{put_i64, put_u64};
 use crate::run::run;
+use crate::words::{Job, Usage, read_words};
 use ipc_stream::{Device, Limits, Source};
 use std::alloc::Global;
 use std::io;
@@ -12,20 +13,27 @@ use vectors::{NO_FIELDS, NULLS_64, NUMBERS_32, NUMBERS_64, THREE_EMPTY_ROWS};
 
 // What `show` answers and prints, over memory.
 fn shown(alloc: Global, bytes: &[u8]) -> (u8, Vec<u8>, Vec<u8>) {
-    shown_on(alloc, Device::new(bytes), Vec::new(alloc))
+    let job = Job::Show(Limits::standard());
+    done_on(alloc, job, Device::new(bytes), Vec::new(alloc))
 }
 
-// The same of any source and writer.
-fn shown_on<R: Source + Drop, W: Write>(alloc: Global, source: R, writer: W) -> (u8, W, Vec<u8>) {
+// What a job answers and prints, over any source and writer.
+fn done_on<R: Source + Drop, W: Write>(
+    alloc: Global,
+    job: Job,
+    source: R,
+    writer: W,
+) -> (u8, W, Vec<u8>) {
     let mut sink = Device::new(writer);
     let mut messages = Vec::new(alloc);
-    let (status, _source) = run(alloc, Limits::standard(), source, &mut sink, &mut messages);
+    let (status, _source) = run(alloc, job, source, &mut sink, &mut messages);
     (status, sink.into_inner(), messages)
 }
 
 #[test]
 fn shows_rows(rt: HostRuntime) {
-    let cases: [(&[u8], &[u8]); 4] = [
+    let cases: [(&[u8], &[u8]); 5] = [
+        (&NUMBERS_32, b"[1]\n[null]\n[3]\n"),
         (&NUMBERS_64, b"[1]\n[-2]\n[9223372036854775807]\n"),
         (&NULLS_64, b"[1]\n[null]\n[-1]\n"),
         (&NO_FIELDS, b""),
@@ -41,8 +49,7 @@ fn shows_rows(rt: HostRuntime) {
 
 #[test]
 fn shows_refusals(rt: HostRuntime) {
-    let cases: [(&[u8], &[u8]); 4] = [
-        (&NUMBERS_32, b"F13 UnsupportedType(2) at message 0\n"),
+    let cases: [(&[u8], &[u8]); 3] = [
         (&NUMBERS_64[..200], b"F4 Truncated at message 1\n"),
         (&[], b"F4 Truncated at message 0\n"),
         (&[40, 0, 0, 0], b"F1 NotContinued at message 0\n"),
@@ -78,22 +85,167 @@ impl Write for Broken {
 #[test]
 fn tells_a_failed_device(rt: HostRuntime) {
     let alloc = rt.alloc();
-    let (status, output, messages) = shown_on(alloc, Device::new(Broken), Vec::new(alloc));
+    let (status, output, messages) = done_on(
+        alloc,
+        Job::Show(Limits::standard()),
+        Device::new(Broken),
+        Vec::new(alloc),
+    );
     assert_eq!(rt; status, 3);
     assert_eq!(rt; output.len(), 0);
     assert_eq!(rt; messages.as_slice(), b"F36 Read at message 0\n".as_slice());
-    let (status, _, messages) = shown_on(alloc, Device::new(NUMBERS_64.as_slice()), Broken);
+    let (status, _, messages) = done_on(
+        alloc,
+        Job::Show(Limits::standard()),
+        Device::new(NUMBERS_64.as_slice()),
+        Broken,
+    );
     assert_eq!(rt; status, 3);
     assert_eq!(rt; messages.as_slice(), b"W9 Write\n".as_slice());
     let mut sink = Device::new(Vec::new(alloc));
     let (status, _) = run(
         alloc,
-        Limits::standard(),
-        Device::new(NUMBERS_32.as_slice()),
+        Job::Show(Limits::standard()),
+        Device::new(&NUMBERS_64[..47]),
         &mut sink,
         &mut Broken,
     );
     assert_eq!(rt; status, 1);
+}
+
+#[test]
+fn prints_records(rt: HostRuntime) {
+    let alloc = rt.alloc();
+    let cases: [(&[u8], &[u8], u8, &[u8]); 3] = [
+        (&NUMBERS_32, b"a\n1\n\\N\n3\n", 0, b""),
+        (
+            &NUMBERS_64[..286],
+            b"a\n1\n-2\n9223372036854775807\n",
+            1,
+            b"F4 Truncated at message 2\n",
+        ),
+        (&THREE_EMPTY_ROWS, b"", 1, b"X2 NoColumns\n"),
+    ];
+    for (bytes, wanted, wanted_status, line) in cases {
+        let job = Job::ToCsv(Limits::standard());
+        let (status, output, messages) = done_on(alloc, job, Device::new(bytes), Vec::new(alloc));
+        assert_eq!(rt; status, wanted_status);
+        assert_eq!(rt; output.as_slice(), wanted);
+        assert_eq!(rt; messages.as_slice(), line);
+    }
+}
+
+#[test]
+fn checks_streams(rt: HostRuntime) {
+    let alloc = rt.alloc();
+    let none = b"{\"fields\":[],\"metadata\":[]}\n";
+    let cases: [(&[u8], &[u8], u8, &[u8]); 4] = [
+        (&NO_FIELDS, b"mark 56 bytes 0 batches 0 rows\n", 0, b""),
+        (
+            &NO_FIELDS[..48],
+            b"closed 48 bytes 0 batches 0 rows\n",
+            0,
+            b"",
+        ),
+        (
+            &THREE_EMPTY_ROWS,
+            b"mark 120 bytes 1 batches 3 rows\n",
+            0,
+            b"",
+        ),
+        (
+            &THREE_EMPTY_ROWS[..119],
+            b"",
+            1,
+            b"F4 Truncated at message 2\n",
+        ),
+    ];
+    for (bytes, wanted, wanted_status, line) in cases {
+        let job = Job::Check(Limits::standard());
+        let (status, output, messages) = done_on(alloc, job, Device::new(bytes), Vec::new(alloc));
+        assert_eq!(rt; status, wanted_status);
+        let (schema, counts) = output.as_slice().split_at(none.len().min(output.len()));
+        assert_eq!(rt; schema, none.as_slice());
+        assert_eq!(rt; counts, wanted);
+        assert_eq!(rt; messages.as_slice(), line);
+    }
+}
+
+// What the words of a command line ask for.
+fn asked(alloc: Global, words: &[&str]) -> Result<Result<Job, Usage>, Fail> {
+    let mut all = Vec::new(alloc);
+    for word in words {
+        all.push(String::from_str(alloc, word)?)?;
+    }
+    Ok(read_words(alloc, all))
+}
+
+#[test]
+fn reads_jobs(rt: HostRuntime) -> Result<(), Fail> {
+    let alloc = rt.alloc();
+    let program = "arrowstream";
+    let usual = Limits::standard();
+    assert!(rt;
+        matches!(&asked(alloc, &[program, "show"])?, Ok(Job::Show(limits)) if *limits == usual)
+    );
+    assert!(rt;
+        matches!(&asked(alloc, &[program, "to-csv"])?, Ok(Job::ToCsv(limits)) if *limits == usual)
+    );
+    let few = asked(
+        alloc,
+        &[
+            program,
+            "to-csv",
+            "--max-rows",
+            "0",
+            "--max-body=4398046511104",
+            "--max-metadata",
+            "39",
+        ],
+    )?;
+    let Ok(Job::ToCsv(limits)) = &few else {
+        return Err(Fail::new("no job"));
+    };
+    assert_eq!(rt; limits.slots, 0);
+    assert_eq!(rt; limits.body, 1 << 42);
+    assert_eq!(rt; limits.metadata, 39);
+    Ok(())
+}
+
+#[test]
+fn refuses_other_words(rt: HostRuntime) -> Result<(), Fail> {
+    let alloc = rt.alloc();
+    let cases: [&[&str]; 9] = [
+        &["arrowstream"],
+        &[],
+        &["arrowstream", "list"],
+        &["arrowstream", "show", "all"],
+        &["arrowstream", "show", "--max-rows", "2147483648"],
+        &["arrowstream", "show", "--max-rows", "-1"],
+        &["arrowstream", "show", "--max-body", "4398046511105"],
+        &["arrowstream", "show", "--max-metadata", "268435457"],
+        &["arrowstream", "show", "--max-metadata", "x"],
+    ];
+    for words in cases {
+        assert!(rt; matches!(&asked(alloc, words)?, Err(Usage::Wrong(_))));
+    }
+    Ok(())
+}
+
+#[test]
+fn helps(rt: HostRuntime) -> Result<(), Fail> {
+    let alloc = rt.alloc();
+    let cases: [&[&str]; 5] = [
+        &["arrowstream", "--help"],
+        &["arrowstream", "help"],
+        &["arrowstream", "help", "show"],
+        &["arrowstream", "to-csv", "--help"],
+        &["arrowstream", "--version"],
+    ];
+    for words in cases {
+        assert!(rt; matches!(&asked(alloc, words)?, Err(Usage::Help(_))));
+    }
+    Ok(())
 }
 
 // Whether a number, and half of it below zero, are shown as the library shows them.

@@ -1,8 +1,8 @@
-//! The columns that are shown.
-ghost use Rattle.std.specs.Prelude.{◌≡◌, ◌↔◌, IsTrue, MatchOption, true};
-ghost use Rattle.arrowstream.specs.Columns.{AreShownColumns, IsNotShown, IsShownColumn};
+//! The columns of signed 64-bit numbers.
+ghost use Rattle.std.specs.Prelude.{◌≡◌, ◌↔◌, IsTrue, true};
+ghost use Rattle.arrowstream.specs.Columns.{AreShownColumns, IsShownColumn};
 
-use ipc_model::{DataType, Field, IntBits, Schema};
+use ipc_model::{DataType, Field, IntBits};
 
 // Whether values of a type are signed numbers of 64 bits.
 fn is_number(kind: &DataType) -> bool
@@ -24,15 +24,9 @@ fn is_shown(field: &Field) -> bool
     is_number(&field.kind) && field.dictionary.is_none()
 }
 
-/// The type code of the first column that `show` doesn't print, if there is one.
-pub fn first_not_shown(schema: &Schema) -> Option<u8>
-    ensures { MatchOption result (AreShownColumns schema.now.fields)
-        (λ code. IsNotShown schema.now.fields code) }
+/// Whether each column holds signed numbers of 64 bits, without a dictionary.
+pub fn are_numbers(fields: &[Field]) -> bool
+    ensures { IsTrue result ↔ AreShownColumns fields.now }
 {
-    for field in schema.fields.as_slice() {
-        if !is_shown(field) {
-            return Some(field.kind.code());
-        }
-    }
-    None
+    fields.iter().all(is_shown)
 }

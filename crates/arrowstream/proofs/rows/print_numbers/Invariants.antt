@@ -1,6 +1,6 @@
 use Rattle.std.proofs.Common.{◌≤◌, length, take}
 use Rattle.arrowstream.specs.Output.{output, Puts}
-use Rattle.arrowstream.specs.Rows.{lines}
+use Rattle.arrowstream.specs.Rows.{line, lines}
 use Rattle.arrowstream.proofs.rows.print_numbers.Given as goal
 
 -- the first rows were put
@@ -8,5 +8,5 @@ abbrev pub invariant-loop-row : goal.invariant-loop-row
 invariant-loop-row g l = record {
   inside : l.at ≤ length l.text;
   put : Puts (output (g.W.Sink.written l.fn.sink) (g.W.Sink.failures l.fn.sink) (take l.fn.start l.fn.text))
-      (output (g.W.Sink.written l.sink) (g.W.Sink.failures l.sink) (take l.at l.text)) (lines (take l.row l.batch.rows));
+      (output (g.W.Sink.written l.sink) (g.W.Sink.failures l.sink) (take l.at l.text)) (lines line (take l.row l.batch.rows));
 }
