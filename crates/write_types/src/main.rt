@@ -66,87 +66,111 @@ fn timestamp(alloc: Global, unit: TimeUnit, zone: Option<&str>) -> Result<DataTy
 // A name, a type and a value of it for each column.
 type Columns = Vec<(&'static str, DataType, Value)>;
 
-// Columns of dates, times and durations.
-fn moments(alloc: Global) -> Result<Columns, AllocError> {
+// Columns of points in time: a name, a unit, a time zone and a number for each.
+fn timestamps(alloc: Global) -> Result<Columns, AllocError> {
+    let all = [
+        ("seconds", TimeUnit::Second, None, -1),
+        ("millis", TimeUnit::Millisecond, Some(""), 0),
+        ("micros", TimeUnit::Microsecond, Some("UTC"), 1),
+        ("nanos", TimeUnit::Nanosecond, Some("+01:00"), i64::MAX),
+    ];
+    let mut columns = Vec::new(alloc);
+    for (name, unit, zone, number) in all {
+        columns.push((name, timestamp(alloc, unit, zone)?, Value::Int(number)))?;
+    }
+    Ok(columns)
+}
+
+// Columns of times: a name, a unit and a number for each.
+fn times(alloc: Global) -> Result<Columns, AllocError> {
+    let all = [
+        ("last second", TimeUnit::Second, 86_399),
+        ("noon", TimeUnit::Millisecond, 43_200_000),
+        ("dawn", TimeUnit::Microsecond, 1),
+        ("last moment", TimeUnit::Nanosecond, 86_399_999_999_999),
+    ];
+    let mut columns = Vec::new(alloc);
+    for (name, unit, number) in all {
+        columns.push((name, DataType::Time(unit), Value::Int(number)))?;
+    }
+    Ok(columns)
+}
+
+// Columns of dates and durations.
+fn days(alloc: Global) -> Result<Columns, AllocError> {
+    let day = DataType::Date(DateUnit::Day);
+    let midnight = DataType::Date(DateUnit::Millisecond);
+    let seconds = DataType::Duration(TimeUnit::Second);
+    let back = DataType::Duration(TimeUnit::Nanosecond);
     Ok(vec![in alloc;
-        ("day", DataType::Date(DateUnit::Day), Value::Int(-719_162)),
-        (
-            "midnight",
-            DataType::Date(DateUnit::Millisecond),
-            Value::Int(-86_400_000)
-        ),
-        (
-            "seconds",
-            timestamp(alloc, TimeUnit::Second, None)?,
-            Value::Int(-1)
-        ),
-        (
-            "millis",
-            timestamp(alloc, TimeUnit::Millisecond, Some(""))?,
-            Value::Int(0)
-        ),
-        (
-            "micros",
-            timestamp(alloc, TimeUnit::Microsecond, Some("UTC"))?,
-            Value::Int(1)
-        ),
-        (
-            "nanos",
-            timestamp(alloc, TimeUnit::Nanosecond, Some("+01:00"))?,
-            Value::Int(i64::MAX)
-        ),
-        (
-            "last second",
-            DataType::Time(TimeUnit::Second),
-            Value::Int(86_399)
-        ),
-        (
-            "noon",
-            DataType::Time(TimeUnit::Millisecond),
-            Value::Int(43_200_000)
-        ),
-        ("dawn", DataType::Time(TimeUnit::Microsecond), Value::Int(1)),
-        (
-            "last moment",
-            DataType::Time(TimeUnit::Nanosecond),
-            Value::Int(86_399_999_999_999)
-        ),
-        (
-            "a day",
-            DataType::Duration(TimeUnit::Second),
-            Value::Int(86_400)
-        ),
-        (
-            "back",
-            DataType::Duration(TimeUnit::Nanosecond),
-            Value::Int(i64::MIN)
-        ),
+        ("day", day, Value::Int(-719_162)),
+        ("midnight", midnight, Value::Int(-86_400_000)),
+        ("a day", seconds, Value::Int(86_400)),
+        ("back", back, Value::Int(i64::MIN)),
     ]?)
 }
 
-// Columns of all other types.
+// Columns of signed numbers: a name, bits and a number for each.
+fn signed_numbers(alloc: Global) -> Result<Columns, AllocError> {
+    let all = [
+        ("i8", IntBits::B8, -128),
+        ("i16", IntBits::B16, -2),
+        ("i32", IntBits::B32, 2_147_483_647),
+        ("i64", IntBits::B64, i64::MIN),
+    ];
+    let mut columns = Vec::new(alloc);
+    for (name, bits, number) in all {
+        let kind = DataType::Int { bits, signed: true };
+        columns.push((name, kind, Value::Int(number)))?;
+    }
+    Ok(columns)
+}
+
+// The same of unsigned ones.
+fn unsigned_numbers(alloc: Global) -> Result<Columns, AllocError> {
+    let all = [
+        ("u8", IntBits::B8, 255),
+        ("u16", IntBits::B16, 256),
+        ("u32", IntBits::B32, 4_294_967_295),
+        ("u64", IntBits::B64, u64::MAX),
+    ];
+    let mut columns = Vec::new(alloc);
+    for (name, bits, number) in all {
+        let kind = DataType::Int {
+            bits,
+            signed: false,
+        };
+        columns.push((name, kind, Value::UInt(number)))?;
+    }
+    Ok(columns)
+}
+
+// Columns of bytes and texts.
+fn texts(alloc: Global) -> Result<Columns, AllocError> {
+    let mut columns = Vec::new(alloc);
+    columns.push(("no bytes", DataType::FixedSizeBinary(0), bytes(alloc, &[])?))?;
+    columns.push((
+        "two bytes",
+        DataType::FixedSizeBinary(2),
+        bytes(alloc, &[0, 255])?,
+    ))?;
+    columns.push(("binary", DataType::Binary, bytes(alloc, &[0, 1, 2])?))?;
+    columns.push(("größe", DataType::Utf8, Value::text(alloc, "é\0")?))?;
+    Ok(columns)
+}
+
+// Columns of all types.
 fn columns(alloc: Global) -> Result<Columns, AllocError> {
-    let int = |bits, signed| DataType::Int { bits, signed };
-    Ok(vec![in alloc;
-        ("", DataType::Null, Value::Null),
-        ("truth", DataType::Bool, Value::Bool(true)),
-        ("i8", int(IntBits::B8, true), Value::Int(-128)),
-        ("i16", int(IntBits::B16, true), Value::Int(-2)),
-        ("i32", int(IntBits::B32, true), Value::Int(2_147_483_647)),
-        ("i64", int(IntBits::B64, true), Value::Int(i64::MIN)),
-        ("u8", int(IntBits::B8, false), Value::UInt(255)),
-        ("u16", int(IntBits::B16, false), Value::UInt(256)),
-        ("u32", int(IntBits::B32, false), Value::UInt(4_294_967_295)),
-        ("u64", int(IntBits::B64, false), Value::UInt(u64::MAX)),
-        ("no bytes", DataType::FixedSizeBinary(0), bytes(alloc, &[])?),
-        (
-            "two bytes",
-            DataType::FixedSizeBinary(2),
-            bytes(alloc, &[0, 255])?
-        ),
-        ("binary", DataType::Binary, bytes(alloc, &[0, 1, 2])?),
-        ("größe", DataType::Utf8, Value::Text(text(alloc, "é\0")?)),
-    ]?)
+    let mut columns = Vec::new(alloc);
+    columns.push(("", DataType::Null, Value::Null))?;
+    columns.push(("truth", DataType::Bool, Value::Bool(true)))?;
+    columns.append(&mut signed_numbers(alloc)?)?;
+    columns.append(&mut unsigned_numbers(alloc)?)?;
+    columns.append(&mut texts(alloc)?)?;
+    columns.append(&mut days(alloc)?)?;
+    columns.append(&mut timestamps(alloc)?)?;
+    columns.append(&mut times(alloc)?)?;
+    Ok(columns)
 }
 
 // The schema, a row of values and a row of nulls.
@@ -154,9 +178,7 @@ fn parts(alloc: Global) -> Result<(Schema, Row, Row), AllocError> {
     let mut fields = Vec::new(alloc);
     let mut full = Vec::new(alloc);
     let mut nulls = Vec::new(alloc);
-    let mut columns = columns(alloc)?;
-    columns.append(&mut moments(alloc)?)?;
-    for (place, (name, kind, value)) in columns.into_iter().enumerate() {
+    for (place, (name, kind, value)) in columns(alloc)?.into_iter().enumerate() {
         fields.push(field(alloc, name, kind, place % 4)?)?;
         full.push(value)?;
         nulls.push(Value::Null)?;
