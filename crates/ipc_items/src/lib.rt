@@ -9,6 +9,3 @@ mod text;
 
 pub use items::Items;
 pub use text::Text;
-
-#[cfg(test)]
-mod tests;

@@ -1,5 +1,5 @@
-//! Tests of the crates below the stream: FlatBuffers in place, rows, schemas and limits, and
-//! batches of one column.
+//! Tests of the crates below the stream: lists, FlatBuffers in place, rows, limits, printed words,
+//! and batches of one column.
 #![tactic(auto)]
 
 #[cfg(test)]
@@ -8,6 +8,8 @@ mod columns;
 mod encoding;
 #[cfg(test)]
 mod flat;
+#[cfg(test)]
+mod items;
 #[cfg(test)]
 mod limits;
 #[cfg(test)]
