@@ -29,5 +29,5 @@ returns-else-is_own-clause-all c v h =
     let r = c.in_ok-value.ensures.all f.nullable (length f.children) v (own_of_fits c.args.field.now v h.0) h.1 in
     let e = left (sym c.in-Some.is ∙ r) in
     let own = c.is_own.ensures.1
-        (subst (λ w. IsOwn f.kind f.nullable (length f.children) (out-Value w)) (sym e) (own_of_fits c.args.field.now v h.0)) in
+    (subst (λ w. IsOwn f.kind f.nullable (length f.children) (out-Value w)) (sym e) (own_of_fits c.args.field.now v h.0)) in
     let no = c.if-is_own.false in absurd cc

@@ -54,8 +54,20 @@ summed unit day units a t b c d h p q r s =
     let fd : FitsSigned w64 day = omega (arith, signed_arith) in
     let wd : FitsSigned w128 day = omega (arith, signed_arith) in
     let wu : FitsSigned w128 (pos units) = omega (arith, signed_arith) in
-    rw (p, r, q, s, to_z-of_z fd, to_z-of_z f.ticks, to_z-of_z wd, to_z-of_z f.wide_ticks, to_z-of_z wu, to_z-of_z f.product, to_z-of_z
-        f.sum) refl
+    rw (
+      p,
+      r,
+      q,
+      s,
+      to_z-of_z fd,
+      to_z-of_z f.ticks,
+      to_z-of_z wd,
+      to_z-of_z f.wide_ticks,
+      to_z-of_z wu,
+      to_z-of_z f.product,
+      to_z-of_z
+          f.sum,
+    ) refl
 
 pub returns-in-Ok : goal.returns-in-Ok
 returns-in-Ok c z h e =
