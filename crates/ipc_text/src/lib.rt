@@ -25,6 +25,3 @@ pub use moment_reader::{read_date, read_time, read_timestamp};
 pub use row::{put_bytes, put_int, put_row_json, row_json};
 pub use schema::{pairs_json, schema_json};
 pub use short_text::ShortText;
-
-#[cfg(test)]
-mod tests;

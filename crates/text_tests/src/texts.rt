@@ -1,11 +1,11 @@
 //! Texts whose right form is given.
-use crate::{
+use csv::ByteRecord;
+use ipc_model::{DataType, DateUnit, Field, IntBits, Items, Schema, Text, TimeUnit, Value};
+use ipc_text::{
     TextFault, check_header, csv_header, csv_record, date_text, pairs_json, read_bool, read_bytes,
     read_date, read_int, read_text, read_time, read_timestamp, read_uint, row_from_csv, row_json,
     schema_json, time_text, timestamp_text,
 };
-use csv::ByteRecord;
-use ipc_model::{DataType, DateUnit, Field, IntBits, Items, Schema, Text, TimeUnit, Value};
 use std::alloc::{AllocError, Global};
 use std::test::Fail;
 

@@ -1,0 +1,5 @@
+//! Tests of `ipc_text`: texts of schemas, rows, dates and times, and what is read back of them.
+#![tactic(auto)]
+
+#[cfg(test)]
+mod texts;
