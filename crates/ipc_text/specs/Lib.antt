@@ -5,3 +5,4 @@ pub mod SchemaJson
 pub mod RowCsv
 pub mod CsvCells
 pub mod CsvRows
+pub mod SchemaTexts

@@ -11,6 +11,7 @@ mod moment;
 mod moment_reader;
 mod row;
 mod schema;
+mod schema_reader;
 mod short_text;
 
 pub use csv_cell::{read_bool, read_bytes, read_int, read_text, read_uint};
@@ -24,4 +25,5 @@ pub use moment::{date_text, time_text, timestamp_text};
 pub use moment_reader::{read_date, read_time, read_timestamp};
 pub use row::{put_bytes, put_int, put_row_json, row_json};
 pub use schema::{pairs_json, schema_json};
+pub use schema_reader::schema_from_json;
 pub use short_text::ShortText;

@@ -4,7 +4,7 @@ use ipc_model::{DataType, DateUnit, Field, IntBits, Items, Schema, Text, TimeUni
 use ipc_text::{
     TextFault, check_header, csv_header, csv_record, date_text, pairs_json, read_bool, read_bytes,
     read_date, read_int, read_text, read_time, read_timestamp, read_uint, row_from_csv, row_json,
-    schema_json, time_text, timestamp_text,
+    schema_from_json, schema_json, time_text, timestamp_text,
 };
 use std::alloc::{AllocError, Global};
 use std::test::Fail;
@@ -454,6 +454,62 @@ fn fields_that_are_no_values(rt: HostRuntime) -> Result<(), Fail> {
                 )
             );
         }
+    }
+    Ok(())
+}
+
+fn nested(alloc: Global) -> Result<Schema, AllocError> {
+    let mut inner = field(alloc, "n", DataType::Time(TimeUnit::Nanosecond))?;
+    for kind in [DataType::List, DataType::Struct, DataType::List] {
+        let children = vec![in alloc; inner]?;
+        inner = field(alloc, "above", kind)?.with_children(children);
+    }
+    let columns = vec![in alloc; inner, field(alloc, "last", DataType::Null)?]?;
+    Ok(Schema::new(columns))
+}
+
+#[test]
+fn schemas_from_json(rt: HostRuntime) -> Result<(), Fail> {
+    let alloc = rt.alloc();
+    for schema in [schema(alloc)?, nested(alloc)?] {
+        let text = schema_json(alloc, &schema)?;
+        assert!(rt; schema_from_json(alloc, text.as_str())? == schema);
+    }
+    let members = "\"children\":0,\"dictionary\":[-3,[\"uint\",8],true],\"metadata\":[]";
+    let given = format!(in alloc;
+        "{{\"metadata\":[], \"fields\":[\n{{\"name\":\"b\",\"name\":\"a\",{members},{}}}]}}",
+        "\"nullable\":true,\"type\":[\"utf8\"]"
+    )?;
+    let read = schema_from_json(alloc, given.as_str())?;
+    assert_eq!(rt; read.fields.as_slice()[0].name.as_str(), "a");
+    Ok(())
+}
+
+#[test]
+fn texts_that_are_no_schemas(rt: HostRuntime) -> Result<(), Fail> {
+    let alloc = rt.alloc();
+    let cases = [
+        ("[\"int\",32]", "0", true),
+        ("[\"int\",32.0]", "0", false),
+        ("[\"int\",24]", "0", false),
+        ("[\"int\",32]", "-0", false),
+        ("[\"int\",32]", "1", false),
+        ("[\"int\",32]", "0,\"more\":0", false),
+        ("[\"list\"]", "0", false),
+        ("[\"utf8\",null]", "0", false),
+        ("[\"fixed_size_binary\",2147483648]", "0", false),
+        ("[\"timestamp\",\"us\",\"\"]", "0", true),
+        ("[\"timestamp\",\"us\"]", "0", false),
+    ];
+    for (kind, children, wanted) in cases {
+        let front = "{\"fields\":[{\"children\":";
+        let middle =
+            ",\"dictionary\":null,\"metadata\":[],\"name\":\"\",\"nullable\":true,\"type\":";
+        let end = "}],\"metadata\":[]}";
+        let given = format!(in alloc; "{front}{children}{middle}{kind}{end}")?;
+        let read = schema_from_json(alloc, given.as_str());
+        assert_eq!(rt; read.is_ok(), wanted);
+        assert!(rt; wanted || matches!(&read, Err(TextFault::BadSchemaJson)));
     }
     Ok(())
 }
