@@ -481,7 +481,8 @@ fn schemas_from_json(rt: HostRuntime) -> Result<(), Fail> {
         "\"nullable\":true,\"type\":[\"utf8\"]"
     )?;
     let read = schema_from_json(alloc, given.as_str())?;
-    assert_eq!(rt; read.fields.as_slice()[0].name.as_str(), "a");
+    let first = read.fields.first().ok_or("a field")?;
+    assert_eq!(rt; first.name.as_str(), "a");
     Ok(())
 }
 
