@@ -225,14 +225,19 @@ fn refuses_schemas(rt: HostRuntime) -> Result<(), Fail> {
     Ok(())
 }
 
+// A table of a batch with a pair.
+fn table_with_a_pair(alloc: Global) -> Result<Table, AllocError> {
+    let rows = vec![in alloc; row(alloc, Value::Int(1))?]?;
+    Ok(Table {
+        schema: schema_of_numbers(alloc, IntBits::B64)?,
+        batches: Items::from_vec(vec![in alloc; paired(alloc, rows)?]?),
+    })
+}
+
 #[test]
 fn grows_a_written_table(rt: HostRuntime) -> Result<(), Fail> {
     let alloc = rt.alloc();
-    let rows = vec![in alloc; row(alloc, Value::Int(1))?]?;
-    let table = Table {
-        schema: schema_of_numbers(alloc, IntBits::B64)?,
-        batches: Items::from_vec(vec![in alloc; paired(alloc, rows)?]?),
-    };
+    let table = table_with_a_pair(alloc)?;
     let bytes = written(alloc, &table)?;
     assert!(rt; table_of(alloc, &bytes)?.is_same(&table));
     Ok(())
