@@ -1,0 +1,14 @@
+# bash completion for arrowstream
+_arrowstream() {
+  local words
+  case "${COMP_WORDS[1]}" in
+    check) words='--max-metadata --max-body --max-rows --help' ;;
+    show) words='--max-metadata --max-body --max-rows --help' ;;
+    to-csv) words='--max-metadata --max-body --max-rows --help' ;;
+    help) words='check show to-csv' ;;
+    *) words='check show to-csv help --help --version' ;;
+  esac
+  [ "$COMP_CWORD" -gt 1 ] || words='check show to-csv help --help --version'
+  mapfile -t COMPREPLY < <(compgen -W "$words" -- "${COMP_WORDS[COMP_CWORD]}")
+}
+complete -o default -F _arrowstream arrowstream

@@ -1,0 +1,18 @@
+# fish completion for arrowstream
+complete -c arrowstream -f
+complete -c arrowstream -n __fish_use_subcommand -a check -d 'Reads an Arrow IPC stream to its end, and tells its schema and counts'
+complete -c arrowstream -n __fish_use_subcommand -a show -d 'Prints each row of an Arrow IPC stream as a JSON array on a line of its own'
+complete -c arrowstream -n __fish_use_subcommand -a to-csv -d 'Prints an Arrow IPC stream as CSV, a header first'
+complete -c arrowstream -n __fish_use_subcommand -a help -d 'Print this message or the help of the given subcommand(s)'
+complete -c arrowstream -n '__fish_seen_subcommand_from check' -l max-metadata -r -d 'The most bytes of a message'\''s metadata [default: 16777216]'
+complete -c arrowstream -n '__fish_seen_subcommand_from check' -l max-body -r -d 'The most bytes of a message'\''s body [default: 1099511627776]'
+complete -c arrowstream -n '__fish_seen_subcommand_from check' -l max-rows -r -d 'The most rows of a batch [default: 2147483647]'
+complete -c arrowstream -n '__fish_seen_subcommand_from check' -l help -d 'Print help'
+complete -c arrowstream -n '__fish_seen_subcommand_from show' -l max-metadata -r -d 'The most bytes of a message'\''s metadata [default: 16777216]'
+complete -c arrowstream -n '__fish_seen_subcommand_from show' -l max-body -r -d 'The most bytes of a message'\''s body [default: 1099511627776]'
+complete -c arrowstream -n '__fish_seen_subcommand_from show' -l max-rows -r -d 'The most rows of a batch [default: 2147483647]'
+complete -c arrowstream -n '__fish_seen_subcommand_from show' -l help -d 'Print help'
+complete -c arrowstream -n '__fish_seen_subcommand_from to-csv' -l max-metadata -r -d 'The most bytes of a message'\''s metadata [default: 16777216]'
+complete -c arrowstream -n '__fish_seen_subcommand_from to-csv' -l max-body -r -d 'The most bytes of a message'\''s body [default: 1099511627776]'
+complete -c arrowstream -n '__fish_seen_subcommand_from to-csv' -l max-rows -r -d 'The most rows of a batch [default: 2147483647]'
+complete -c arrowstream -n '__fish_seen_subcommand_from to-csv' -l help -d 'Print help'

@@ -1,0 +1,166 @@
+#!/usr/bin/env python3
+"""Makes the man page and the completions of shells from what `arrowstream --help` prints.
+
+    tools/manual.py FOLDER PROGRAM      writes arrowstream.1, arrowstream.bash, arrowstream.fish
+                                        and _arrowstream into the folder
+"""
+import pathlib
+import re
+import subprocess
+import sys
+
+
+def in_two(line):
+    """The word of a line of a list, and what is said of it."""
+    return re.split(r"\s{2,}", line.strip(), maxsplit=1)
+
+
+class Page:
+    """What the help of the program or of one subcommand says."""
+
+    def __init__(self, program, *words):
+        done = subprocess.run(
+            [program, *words, "--help"], capture_output=True, text=True, check=True
+        )
+        self.name = " ".join(words)
+        self.about, rest = done.stdout.split("\n\nUsage: ", 1)
+        self.usage, rest = rest.split("\n", 1)
+        self.commands, self.options, self.behind = {}, [], []
+        for part in rest.strip("\n").split("\n\n"):
+            self.read(part)
+
+    def read(self, part):
+        """Takes one part of the help: a list of commands or of options, or text behind them."""
+        lines = part.split("\n")
+        if lines[0] == "Commands:":
+            self.commands = dict(map(in_two, lines[1:]))
+        elif lines[0] == "Options:":
+            self.options = list(map(in_two, lines[1:]))
+        else:
+            self.behind.append(lines)
+
+    def long_options(self):
+        """Each long option, whether it takes a value, and its help."""
+        for words, text in self.options:
+            yield re.search(r"--[a-z-]+", words).group(), "<" in words, text
+
+
+def escaped(text):
+    """A line for roff, in which no sign is a command."""
+    text = text.replace("\\", "\\e").replace("-", "\\-")
+    return "\\&" + text if text[:1] in ".'" else text
+
+
+def options_of(page):
+    """The options of a page as paragraphs of roff."""
+    for words, text in page.options:
+        yield from (".TP", f"\\fB{escaped(words)}\\fR", escaped(text))
+
+
+def behind_of(page):
+    """What stands behind the options: paragraphs, and lists whose first line ends in a colon."""
+    for lines in page.behind:
+        if lines[0].endswith(":"):
+            yield from (".PP", escaped(lines[0]), ".RS 4", ".nf")
+            yield from (escaped(line.strip()) for line in lines[1:])
+            yield from (".fi", ".RE")
+        else:
+            yield ".PP"
+            yield from map(escaped, lines)
+
+
+def manual(version, top, pages):
+    """The man page, for section 1."""
+    lines = [f'.TH ARROWSTREAM 1 "" "{version}" "User Commands"', ".SH NAME"]
+    lines += [f"arrowstream \\- {escaped(top.about)}", ".SH SYNOPSIS"]
+    for page in pages:
+        lines += [f"\\fB{escaped(page.usage)}\\fR", ".br"]
+    lines += [".SH DESCRIPTION", *behind_of(top), ".SH OPTIONS", *options_of(top)]
+    for page in pages:
+        lines += [f".SH {escaped(page.name.upper())}", escaped(page.about), *options_of(page)]
+        lines += behind_of(page)
+    return "\n".join(lines) + "\n"
+
+
+def bash(top, pages):
+    """Completion for bash."""
+    cases = [
+        f"    {page.name}) words='{' '.join(option for option, _, _ in page.long_options())}' ;;"
+        for page in pages
+    ]
+    first = " ".join([*top.commands, *(option for option, _, _ in top.long_options())])
+    return "\n".join(
+        [
+            "# bash completion for arrowstream",
+            "_arrowstream() {",
+            "  local words",
+            '  case "${COMP_WORDS[1]}" in',
+            *cases,
+            f"    help) words='{' '.join(page.name for page in pages)}' ;;",
+            f"    *) words='{first}' ;;",
+            "  esac",
+            f'  [ "$COMP_CWORD" -gt 1 ] || words=\'{first}\'',
+            '  mapfile -t COMPREPLY < <(compgen -W "$words" -- "${COMP_WORDS[COMP_CWORD]}")',
+            "}",
+            "complete -o default -F _arrowstream arrowstream",
+            "",
+        ]
+    )
+
+
+def quoted(text):
+    """A text between single quotes, as shells read it."""
+    return "'" + text.replace("'", "'\\''") + "'"
+
+
+def fish(top, pages):
+    """Completion for fish."""
+    lines = ["# fish completion for arrowstream", "complete -c arrowstream -f"]
+    for name, text in top.commands.items():
+        where = "-n __fish_use_subcommand"
+        lines.append(f"complete -c arrowstream {where} -a {name} -d {quoted(text)}")
+    for page in pages:
+        where = quoted(f"__fish_seen_subcommand_from {page.name}")
+        for option, value, text in page.long_options():
+            needs = " -r" if value else ""
+            lines.append(
+                f"complete -c arrowstream -n {where} -l {option[2:]}{needs} -d {quoted(text)}"
+            )
+    return "\n".join(lines) + "\n"
+
+
+def zsh(top, pages):
+    """Completion for zsh."""
+    lines = ["#compdef arrowstream", 'case "$words[2]" in']
+    for page in pages:
+        shown = []
+        for option, value, text in page.long_options():
+            text = text.replace("[", "(").replace("]", ")")
+            shown.append("    " + quoted(f"{option}[{text}]" + (":number:" if value else "")))
+        lines += [f"  {page.name}) _arguments \\", " \\\n".join(shown) + " ;;"]
+    lines += ["  *) local -a commands", "    commands=("]
+    lines += ["      " + quoted(f"{name}:{text}") for name, text in top.commands.items()]
+    lines += ["    )", "    _describe command commands ;;", "esac", ""]
+    return "\n".join(lines)
+
+
+def main(folder, program):
+    told = subprocess.run([program, "--version"], capture_output=True, text=True, check=True)
+    top = Page(program)
+    pages = [Page(program, name) for name in top.commands if name != "help"]
+    made = {
+        "arrowstream.1": manual(told.stdout.strip(), top, pages),
+        "arrowstream.bash": bash(top, pages),
+        "arrowstream.fish": fish(top, pages),
+        "_arrowstream": zsh(top, pages),
+    }
+    home = pathlib.Path(folder)
+    home.mkdir(parents=True, exist_ok=True)
+    for name, text in made.items():
+        (home / name).write_text(text, "utf-8")
+
+
+if __name__ == "__main__":
+    if len(sys.argv) != 3:
+        sys.exit(__doc__)
+    main(*sys.argv[1:])
