@@ -1,8 +1,8 @@
 -- What a command line asks for.
 use Rattle.std.specs.Prelude.{◌≡◌, ℕ, ◌^◌, ◌-◌, unwrap_or, Option}
 use Rattle.ipc_model.specs.declared.limits.Limits.{Limits}
-use Rattle.arrowstream.specs.declared.form.Form.{Form}
-use Rattle.arrowstream.specs.declared.form.Form.TheVariants.{Counts, Rows, Records}
+use Rattle.ipc_print.specs.declared.form.Form.{Form}
+use Rattle.ipc_print.specs.declared.form.Form.TheVariants.{Counts, Rows, Records}
 use Rattle.arrowstream.specs.declared.words.Job.{Job}
 use Rattle.arrowstream.specs.declared.words.Job.TheVariants as job
 

@@ -1,17 +1,9 @@
 //! The command `arrowstream`, which prints Arrow IPC streams: `arrowstream --help` says how.
 #![tactic(auto)]
 
-mod batch_text;
-mod csv_row;
-mod digits;
-mod form;
-mod json_row;
-mod rows;
 mod run;
-mod stop;
 #[cfg(test)]
 mod tests;
-mod types;
 mod words;
 
 use ipc_stream::Device;

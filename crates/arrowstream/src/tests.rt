@@ -1,6 +1,6 @@
-use crate::digits::{put_i64, put_u64};
 use crate::run::run;
 use crate::words::{Job, Usage, read_words};
+use ipc_print::{put_i64, put_u64};
 use ipc_stream::{Device, Limits, Source};
 use std::alloc::Global;
 use std::io;

@@ -2,11 +2,11 @@
 ghost use Rattle.std.specs.Prelude.{◌≡◌, IfOk, IfSome};
 ghost use Rattle.arrowstream.specs.Words.{AreAskedFor, HaveOptions, form_of, limits_of};
 
-use crate::form::Form;
 use clap::builder::ValueParser;
 use clap::error::ErrorKind;
 use clap::{Arg, ArgAction, ArgMatches, Command, Error};
 use ipc_model::Limits;
+use ipc_print::Form;
 use std::alloc::{AllocError, Global};
 
 /// What is to be done, and how much a stream may hold.

@@ -1,0 +1,176 @@
+-- The values that cells lend, and their texts.
+use Rattle.std.proofs.Common.{◌≡◌, ◌∙◌, refl, sym, ap, ℕ, ◌+◌, ◌<◌, List, [], ◌∷◌, ◌++◌, length, map, drop, get_or, Option, Some}
+use Rattle.std.proofs.Common.{Result, Err, inl, inr, append_assoc, arith}
+use Rattle.std.specs.Prelude.{slice_get}
+use Rattle.std.specs.List.{AllByRecursion}
+use Rattle.std.specs.Fmt.{signed_decimal}
+use Rattle.std.specs.Prelude.{ℤ, pos, negsuc}
+use Rattle.std.proofs.lemmas.Option.{get_or_from_slice_get}
+use Rattle.json.specs.Token.{Token}
+use Rattle.json.specs.Tree.{json_tokens, items_tokens}
+use Rattle.serde_json.specs.Written.{outline, items_outline, compact_text, items_text}
+use Rattle.ipc_model.specs.declared.schema.DataType.{DataType}
+use Rattle.ipc_model.specs.declared.schema.DataType.TheVariants as t
+use Rattle.ipc_model.specs.declared.schema.IntBits.TheVariants.{B64}
+use Rattle.std.specs.Prelude.{true}
+use Rattle.ipc_model.specs.declared.schema.Field.{Field, out-Field, fold_out-Field}
+use Rattle.ipc_model.specs.declared.value.Value.{Value, out-Value, out-roll-Value}
+use Rattle.ipc_model.specs.declared.value.Value.TheOpen.{Value-F}
+use Rattle.ipc_model.specs.declared.value.Value.TheVariants as v
+use Rattle.ipc_column.specs.declared.cell.Cell.{Cell}
+use Rattle.ipc_column.specs.declared.cell.Cell.TheVariants as cell
+use Rattle.ipc_column.specs.Values.{cell_value}
+use Rattle.ipc_text.specs.RowJson.{Printed, cell_json, each_json, field_json, value_json, row_text}
+use Rattle.csv.specs.Writing.{next_sep, default_writer}
+use Rattle.ipc_text.specs.declared.fault.TextFault.{TextFault}
+use Rattle.ipc_text.specs.RowCsv.{Appended, IsRefusal, LacksText, text_in, value_text, with_fields, all_texts, each_text}
+use Rattle.ipc_text.proofs.Records.{field_more, cells_from as texts_from}
+use Rattle.ipc_text.proofs.Fronts.{each_from}
+use Rattle.ipc_print.specs.declared.form.Form.TheVariants.{Counts, Rows}
+use Rattle.ipc_print.specs.Columns.{AreShownColumns, IsShownColumn}
+use Rattle.ipc_print.specs.Forms.{line_of, HaveLines}
+use Rattle.ipc_print.specs.Rows.{AreShownRows, IsShown, IsShownIn, text_in as number_text_in, cell_text, behind_commas, line, lines}
+
+-- what a cell lends, in the open form of values
+abbrev pub open_value : Cell → Value-F Value
+open_value cell.Null = Value-F.Null
+open_value (cell.Bool truth) = Value-F.Bool truth
+open_value (cell.Int number) = Value-F.Int number
+open_value (cell.UInt number) = Value-F.UInt number
+open_value (cell.Bytes bytes) = Value-F.Bytes bytes.now
+open_value (cell.Text text) = Value-F.Text text.now
+
+out_cell : (c : Cell) → out-Value (cell_value c) ≡ open_value c
+out_cell cell.Null = ap out-Value (sym v.rolls-Null) ∙ out-roll-Value Value-F.Null
+out_cell (cell.Bool truth) = ap out-Value (sym (v.rolls-Bool truth)) ∙ out-roll-Value (Value-F.Bool truth)
+out_cell (cell.Int number) = ap out-Value (sym (v.rolls-Int number)) ∙ out-roll-Value (Value-F.Int number)
+out_cell (cell.UInt number) = ap out-Value (sym (v.rolls-UInt number)) ∙ out-roll-Value (Value-F.UInt number)
+out_cell (cell.Bytes bytes) = ap out-Value (sym (v.rolls-Bytes bytes.now)) ∙ out-roll-Value (Value-F.Bytes bytes.now)
+out_cell (cell.Text text) = ap out-Value (sym (v.rolls-Text text.now)) ∙ out-roll-Value (Value-F.Text text.now)
+
+value_in : (f : Field) (w : Value) → cell_json f w ≡ value_json (out-Field f).kind (map cell_json (out-Field f).children) (out-Value w)
+value_in f w = ap (λ (print : Printed). print w) (fold_out-Field Printed field_json f)
+
+-- the JSON of a cell
+pub json_of : (f : Field) (c : Cell)
+    → cell_json f (cell_value c) ≡ value_json (out-Field f).kind (map cell_json (out-Field f).children) (open_value c)
+json_of f c = value_in f (cell_value c) ∙ ap (value_json (out-Field f).kind (map cell_json (out-Field f).children)) (out_cell c)
+
+-- the text of a cell in CSV
+pub csv_of : (kind : DataType) (c : Cell) → text_in kind (cell_value c) ≡ value_text kind (open_value c)
+csv_of kind c = ap (value_text kind) (out_cell c)
+
+-- the tokens of the cells from a column on: those of its cell, and the rest
+pub cells_from : (fs : List Field) (vs : List Value) (i : ℕ) (f : Field) (v : Value) (out new initial all : List Token)
+    → i < length fs → f ≡ get_or fs i f → i < length vs → slice_get vs i ≡ Some v
+    → out ++ items_tokens (items_outline (each_json (map cell_json (drop i fs)) (drop i vs))) ≡ initial ++ all
+    → new ≡ out ++ json_tokens (outline (cell_json f v))
+    → new ++ items_tokens (items_outline (each_json (map cell_json (drop (i + 1) fs)) (drop (i + 1) vs))) ≡ initial ++ all
+cells_from fs vs i f v out new initial all inside is wide at before put =
+    let rest = items_tokens (items_outline (each_json (map cell_json (drop (i + 1) fs)) (drop (i + 1) vs))) in
+    ap (λ (ts : List Token). ts ++ rest) put
+    ∙ (append_assoc out (json_tokens (outline (cell_json f v))) rest
+    ∙ (ap (λ (ts : List Token). out ++ ts) (sym (each_from fs vs i f v inside wide is (sym (get_or_from_slice_get vs i v v at)))) ∙ before))
+
+-- where a cell's field was refused, the row is
+pub cell_refused : (fs : List Field) (vs : List Value) (i : ℕ) (f : Field) (v : Value) (out : List ℕ) (wanted : Result (List ℕ) TextFault)
+    (fault : TextFault) → i < length fs → f ≡ get_or fs i f → i < length vs → slice_get vs i ≡ Some v
+    → with_fields i out (all_texts i (each_text (drop i fs) (drop i vs))) ≡ wanted → LacksText i (text_in (out-Field f).kind v) fault
+    → IsRefusal wanted fault
+cell_refused fs vs i f v out wanted fault inside is wide at before (inl e) = inl e
+cell_refused fs vs i f v out wanted fault inside is wide at before (inr (e, none)) =
+    let cells = texts_from fs vs i f v inside wide is (sym (get_or_from_slice_get vs i v v at)) in
+    let rest = each_text (drop (i + 1) fs) (drop (i + 1) vs) in
+    inr (sym before
+    ∙ (ap (λ (cs : List (Option (List ℕ))). with_fields i out (all_texts i cs)) cells
+    ∙ (ap (λ (t : Option (List ℕ)). with_fields i out (all_texts i (t ∷ rest))) none ∙ ap Err (sym e))))
+
+-- where a cell's field was appended, those behind it lead to the same text or fault
+pub cell_appended : (fs : List Field) (vs : List Value) (i : ℕ) (f : Field) (v : Value) (out o1 o2 : List ℕ)
+    (wanted : Result (List ℕ) TextFault) → i < length fs → f ≡ get_or fs i f → i < length vs → slice_get vs i ≡ Some v
+    → with_fields i out (all_texts i (each_text (drop i fs) (drop i vs))) ≡ wanted → o1 ≡ out ++ next_sep default_writer i
+    → Appended o1 (text_in (out-Field f).kind v) o2
+    → with_fields (i + 1) o2 (all_texts (i + 1) (each_text (drop (i + 1) fs) (drop (i + 1) vs))) ≡ wanted
+cell_appended fs vs i f v out o1 o2 wanted inside is wide at before comma put =
+    let cells = texts_from fs vs i f v inside wide is (sym (get_or_from_slice_get vs i v v at)) in
+    field_more i out o1 o2 (text_in (out-Field f).kind v) (each_text (drop (i + 1) fs) (drop (i + 1) vs)) comma put
+    ∙ (ap (λ (cs : List (Option (List ℕ))). with_fields i out (all_texts i cs)) (sym cells) ∙ before)
+
+-- ---- rows of signed 64-bit numbers
+
+int_digits : (z : ℤ) (prints : List Printed) → signed_decimal z ≡ compact_text (value_json (t.Int B64 true) prints (Value-F.Int z))
+int_digits (pos n) prints = refl
+int_digits (negsuc n) prints = refl
+
+number_in : (w : Value-F Value) (prints : List Printed) → IsShownIn w
+    → number_text_in w ≡ compact_text (value_json (t.Int B64 true) prints w)
+number_in Value-F.Null prints shown = refl
+number_in (Value-F.Bool truth) prints shown = absurd shown
+number_in (Value-F.Int z) prints shown = int_digits z prints
+number_in (Value-F.UInt n) prints shown = absurd shown
+number_in (Value-F.Bytes bytes) prints shown = absurd shown
+number_in (Value-F.Text text) prints shown = absurd shown
+number_in (Value-F.List vs) prints shown = absurd shown
+number_in (Value-F.Struct vs) prints shown = absurd shown
+
+number_text : (f : Field) (w : Value) → IsShownColumn f → IsShown w → cell_text w ≡ compact_text (cell_json f w)
+number_text f w column shown =
+    let prints = map cell_json (out-Field f).children in
+    number_in (out-Value w) prints shown
+    ∙ (ap (λ (k : DataType). compact_text (value_json k prints (out-Value w))) (sym column.kind) ∙ ap compact_text (sym (value_in f w)))
+
+-- the line without its line feed
+abbrev feed : List ℕ
+feed = 10 ∷ []
+
+behind : (fs : List Field) (row : List Value) → AreShownColumns fs → AllByRecursion IsShown row → length row ≡ length fs
+    → behind_commas row ++ (93 ∷ feed) ≡ items_text true (each_json (map cell_json fs) row) ++ feed
+behind [] [] columns shown size = refl
+behind [] (w ∷ ws) columns shown size = absurd (omega (arith, size))
+behind (f ∷ fs) [] columns shown size = absurd (omega (arith, size))
+behind (f ∷ fs) (w ∷ ws) columns shown size =
+    let rest = items_text true (each_json (map cell_json fs) ws) in
+    let one = number_text f w columns.0 shown.0 in
+    let more = behind fs ws columns.1 shown.1 (omega (arith, size)) in
+    ap (λ (t : List ℕ). 44 ∷ t)
+    (append_assoc (cell_text w) (behind_commas ws) (93 ∷ feed)
+    ∙ (ap (λ (t : List ℕ). cell_text w ++ t) more
+    ∙ (ap (λ (t : List ℕ). t ++ (rest ++ feed)) one ∙ sym (append_assoc (compact_text (cell_json f w)) rest feed))))
+
+-- the line of a row of numbers is its JSON text and a line feed
+number_line : (fs : List Field) (row : List Value) → AreShownColumns fs → AllByRecursion IsShown row → length row ≡ length fs
+    → line row ≡ row_text fs row ++ feed
+number_line [] [] columns shown size = refl
+number_line [] (w ∷ ws) columns shown size = absurd (omega (arith, size))
+number_line (f ∷ fs) [] columns shown size = absurd (omega (arith, size))
+number_line (f ∷ fs) (w ∷ ws) columns shown size =
+    let rest = items_text true (each_json (map cell_json fs) ws) in
+    let one = number_text f w columns.0 shown.0 in
+    let more = behind fs ws columns.1 shown.1 (omega (arith, size)) in
+    ap (λ (t : List ℕ). 91 ∷ t)
+    (append_assoc (cell_text w) (behind_commas ws) (93 ∷ feed)
+    ∙ (ap (λ (t : List ℕ). cell_text w ++ t) more
+    ∙ (ap (λ (t : List ℕ). t ++ (rest ++ feed)) one ∙ sym (append_assoc (compact_text (cell_json f w)) rest feed))))
+
+-- so are the lines of rows
+pub number_lines : (fs : List Field) (rows : List (List Value)) (columns : ℕ) → columns ≡ length fs → AreShownColumns fs → AreShownRows rows
+    → AllByRecursion (λ row. length row ≡ columns) rows → lines line rows ≡ lines (line_of Rows fs) rows
+number_lines fs [] columns is shown all wide = refl
+number_lines fs (row ∷ rows) columns is shown all wide =
+    ap (λ (t : List ℕ). t ++ lines line rows) (number_line fs row shown all.0 (wide.0 ∙ is))
+    ∙ ap (λ (t : List ℕ). line_of Rows fs row ++ t) (number_lines fs rows columns is shown all.1 wide.1)
+
+-- JSON has a text for each row
+pub json_has : (fs : List Field) (rows : List (List Value)) → HaveLines Rows fs rows
+json_has fs [] = tt
+json_has fs (row ∷ rows) = (tt, json_has fs rows)
+
+-- where only counts are printed, each row has its text, which is none
+pub nothing_has : (fs : List Field) (rows : List (List Value)) → HaveLines Counts fs rows
+nothing_has fs [] = tt
+nothing_has fs (row ∷ rows) = (tt, nothing_has fs rows)
+
+-- rows of which nothing is printed have no text
+pub no_lines : (fs : List Field) (rows : List (List Value)) → lines (line_of Counts fs) rows ≡ []
+no_lines fs [] = refl
+no_lines fs (row ∷ rows) = no_lines fs rows

@@ -1,0 +1,231 @@
+-- The front and the tail around the rows of batches.
+use Rattle.ipc_model.specs.declared.table.BatchRows.{BatchRows}
+use Rattle.std.proofs.Common.{◌≡◌, ◌∙◌, refl, sym, ap, ℕ, List, [], ◌∷◌, ◌++◌, take, drop, Option, Some}
+use Rattle.std.proofs.Common.{Result, Ok, Err, append_assoc, append-nil}
+use Rattle.std.proofs.KnownBytes.{Consumes-nil}
+use Rattle.ipc_model.specs.declared.fault.Fault.{Fault}
+use Rattle.ipc_model.specs.declared.value.Value.{Value}
+use Rattle.ipc_stream.specs.declared.end.End.{End}
+use Rattle.ipc_stream.specs.Reader.{Reader, in_force_of}
+use Rattle.ipc_stream.specs.Stream.{done}
+use Rattle.ipc_print.specs.declared.rows.PrintFault.{PrintFault}
+use Rattle.ipc_print.specs.declared.rows.PrintFault.TheVariants.{Write, OutOfMemory}
+use Rattle.ipc_print.specs.declared.form.Form.{Form}
+use Rattle.ipc_print.specs.declared.stop.Outcome.{Outcome}
+use Rattle.ipc_print.specs.declared.stop.Outcome.TheVariants.{Whole, Broken, Refused as Lacking}
+use Rattle.ipc_print.specs.Forms.{line_of, tail_of, tail_text}
+use Rattle.ipc_print.specs.Output.{Output, Puts, PutFails}
+use Rattle.ipc_print.specs.Rows.{lines, batch_lines}
+use Rattle.ipc_print.specs.Streams.{PrintsRows, PrintsPart, PrintsBatches}
+use Rattle.ipc_print.proofs.Puts.{puts_then, puts_not_then, puts_not_more, puts_not_front, puts_never}
+use Rattle.ipc_print.proofs.Lines.{put_at, not_at}
+use Rattle.ipc_print.proofs.Texts.{batch_lines_more, lines_rest}
+use Rattle.std.proofs.Common.{length, inl, inr}
+use Rattle.ipc_stream.specs.Taken.{count_up}
+use Rattle.ipc_print.specs.declared.stop.Tally.{Tally}
+use Rattle.ipc_print.specs.Forms.{tail_of, tail_text}
+use Rattle.ipc_print.specs.Streams.{IsTally, IsWhole, PrintsAll, outcome_tail}
+
+-- nothing was read, and of the front a beginning was printed
+pub part_front : (form : Form) (front : List ℕ) (r : Reader) (before : Output) (w : Option (List ℕ)) (n : ℕ) (e : PrintFault)
+    → PutFails before w n front e → PrintsPart form front r r before w n e
+part_front form front r before w n e q = record {
+  x = [];
+  batches = [];
+  bytes = Consumes-nil r.remaining;
+  rest = [];
+  whole = [];
+  joined = refl;
+  state = Some (in_force_of r);
+  run = done;
+  tail = [];
+  ends = inl refl;
+  puts = puts_not_more before w n _ [] e (puts_not_more before w n front [] e q);
+  works = λ other z. z;
+}
+
+-- nothing was read and printed, since memory ran out
+pub part_none : (form : Form) (front : List ℕ) (r : Reader) (o : Output) → PrintsPart form front r r o o.written o.failures OutOfMemory
+part_none form front r o = part_front form front r o o.written o.failures OutOfMemory (puts_never o front)
+
+module _ (form : Form) (front : List ℕ) (old new : Reader) where
+  abbrev line_in : List Value → List ℕ
+  line_in = line_of form old.schema.fields
+
+  rows_behind : (r : Result End Fault) (before mid after : Output) → Puts before mid front → PrintsRows form [] old new mid after r
+      → PrintsRows form front old new before after r
+  rows_behind r before mid after p q = record {
+    x = q.x;
+    batches = q.batches;
+    bytes = q.bytes;
+    reads = q.reads;
+    counted = q.counted;
+    have = q.have;
+    puts = puts_then before mid after front (batch_lines line_in q.batches) p q.puts;
+  }
+
+  -- what was put behind the front, with the front
+  pub behind_front : (before mid after : Output) (r : Result Outcome PrintFault) → Puts before mid front
+      → PrintsBatches form [] old new mid after r → PrintsBatches form front old new before after r
+  unfolding rows_behind
+  behind_front before mid after (Ok (Whole e tally)) p q = ((rows_behind (Ok e) before mid after p q.0.0, q.0.1), q.1)
+  behind_front before mid after (Ok (Broken f)) p q = (rows_behind (Err f) before mid after p q.0, q.1)
+  behind_front before mid after (Ok (Lacking f)) p q =
+      let h = q.0 in (
+        record {
+          x = h.x;
+          batches = h.batches;
+          last = h.last;
+          count = h.count;
+          bytes = h.bytes;
+          state = h.state;
+          run = h.run;
+          have = h.have;
+          refuses = h.refuses;
+          puts = put_at before after _ _
+              (sym (append_assoc front (batch_lines line_in h.batches) (lines line_in (take h.count h.last.rows))))
+              (puts_then before mid after front _ p h.puts);
+        },
+        q.1,
+      )
+  behind_front before mid after (Err e) p q = record {
+    x = q.x;
+    batches = q.batches;
+    bytes = q.bytes;
+    rest = q.rest;
+    whole = q.whole;
+    joined = q.joined;
+    state = q.state;
+    run = q.run;
+    tail = q.tail;
+    ends = q.ends;
+    puts = not_at before after.written after.failures _ _ e (sym (append_assoc front (batch_lines line_in q.batches) q.tail))
+        (puts_not_then before mid after.written after.failures front (batch_lines line_in q.batches ++ q.tail) e p q.puts);
+    works = q.works;
+  }
+
+  module _ (before mid : Output) where
+    rows_flushed : (r : Result End Fault) (after : Output) → PrintsRows form front old new before mid r → Puts mid after []
+        → PrintsRows form front old new before after r
+    rows_flushed r after p q = record {
+      x = p.x;
+      batches = p.batches;
+      bytes = p.bytes;
+      reads = p.reads;
+      counted = p.counted;
+      have = p.have;
+      puts = put_at before after _ _ (append-nil (front ++ batch_lines line_in p.batches)) (puts_then before mid after _ [] p.puts q);
+    }
+
+    -- the tail of counts is that of the batches
+    tail_is : (e : End) (tally : Tally) (batches : List BatchRows) → IsTally tally batches
+        → tail_of form e new.taken tally.batches tally.rows ≡ tail_text form e new.taken batches
+    tail_is e tally batches (some, few) =
+        ap (λ (n : ℕ). tail_of form e new.taken n tally.rows) some
+        ∙ ap (λ (n : ℕ). tail_of form e new.taken (count_up 0 (length batches)) n) few
+
+    -- the tail was put too, and what was kept went out
+    pub flushed : (outcome : Outcome) (last after : Output) → PrintsBatches form front old new before mid (Ok outcome)
+        → Puts mid last (outcome_tail form outcome new.taken) → Puts last after [] → PrintsAll form front old new before after (Ok outcome)
+    flushed (Whole e tally) last after p tail q = (
+      record {
+        middle = mid;
+        rows = p.0.0;
+        tail = put_at mid after _ _ (append-nil _ ∙ tail_is e tally p.0.0.batches p.0.1) (puts_then mid last after _ [] tail q);
+      },
+      p.1,
+    )
+    flushed (Broken f) last after p tail q = (rows_flushed (Err f) after p.0 (puts_then mid last after [] [] tail q), p.1)
+    flushed (Lacking f) last after p tail q =
+        let h = p.0 in (
+          record {
+            x = h.x;
+            batches = h.batches;
+            last = h.last;
+            count = h.count;
+            bytes = h.bytes;
+            state = h.state;
+            run = h.run;
+            have = h.have;
+            refuses = h.refuses;
+            puts = put_at before after _ _ (append-nil _) (puts_then before mid after _ [] h.puts (puts_then mid last after [] [] tail q));
+          },
+          p.1,
+        )
+
+    rows_unflushed : (r : Result End Fault) (w : Option (List ℕ)) (n : ℕ) → PrintsRows form front old new before mid r
+        → PutFails mid w n [] Write → PrintsPart form front old new before w n Write
+    rows_unflushed r w n p q = record {
+      x = p.x;
+      batches = p.batches;
+      bytes = p.bytes;
+      rest = p.reads.rest;
+      whole = p.reads.whole;
+      joined = p.reads.joined;
+      state = p.reads.state;
+      run = p.reads.run;
+      tail = [];
+      ends = inl refl;
+      puts = puts_not_then before mid w n _ [] Write p.puts q;
+      works = λ other. absurd (other refl);
+    }
+
+    -- the text of batches and of the first rows of one more is a beginning of the text with all its rows
+    all_rows : (batches : List BatchRows) (rows : BatchRows) (count : ℕ)
+        → front ++ batch_lines line_in (batches ++ rows ∷ [])
+        ≡ ((front ++ batch_lines line_in batches) ++ lines line_in (take count rows.rows)) ++ lines line_in (drop count rows.rows)
+    all_rows batches rows count =
+        ap (λ (t : List ℕ). front ++ t) (sym (batch_lines_more line_in batches rows))
+        ∙ (sym (append_assoc front (batch_lines line_in batches) (lines line_in rows.rows))
+        ∙ (ap (λ (t : List ℕ). (front ++ batch_lines line_in batches) ++ t) (lines_rest line_in rows.rows count)
+        ∙ sym (append_assoc (front ++ batch_lines line_in batches) (lines line_in (take count rows.rows)) (lines line_in (drop count
+        rows.rows)))))
+
+    -- the tail of a stream that was read to its end was not put
+    pub tail_cut : (outcome : Outcome) (w : Option (List ℕ)) (n : ℕ) (e : PrintFault) → IsWhole outcome
+        → PrintsBatches form front old new before mid (Ok outcome) → PutFails mid w n (outcome_tail form outcome new.taken) e
+        → PrintsPart form front old new before w n e
+    tail_cut (Whole end tally) w n e is p q =
+        let r = p.0.0 in
+        record {
+          x = r.x;
+          batches = r.batches;
+          bytes = r.bytes;
+          rest = r.reads.rest;
+          whole = r.reads.whole;
+          joined = r.reads.joined;
+          state = r.reads.state;
+          run = r.reads.run;
+          tail = outcome_tail form (Whole end tally) new.taken;
+          ends = inr (end, (new.taken, tail_is end tally r.batches p.0.1));
+          puts = puts_not_then before mid w n _ _ e r.puts q;
+          works = λ other. p.1;
+        }
+    tail_cut (Broken f) w n e is p q = absurd is
+    tail_cut (Lacking f) w n e is p q = absurd is
+
+    -- what was kept did not go out
+    pub unflushed : (outcome : Outcome) (last : Output) (w : Option (List ℕ)) (n : ℕ)
+        → PrintsBatches form front old new before mid (Ok outcome) → Puts mid last (outcome_tail form outcome new.taken)
+        → PutFails last w n [] Write → PrintsPart form front old new before w n Write
+    unflushed (Whole e tally) last w n p tail q =
+        tail_cut (Whole e tally) w n Write tt p (not_at mid w n _ _ Write (append-nil _) (puts_not_then mid last w n _ [] Write tail q))
+    unflushed (Broken f) last w n p tail q = rows_unflushed (Err f) w n p.0 (puts_not_then mid last w n [] [] Write tail q)
+    unflushed (Lacking f) last w n p tail q =
+        let h = p.0 in
+        record {
+          x = h.x;
+          batches = h.batches ++ h.last ∷ [];
+          bytes = h.bytes;
+          rest = [];
+          whole = h.x;
+          joined = sym (append-nil h.x);
+          state = h.state;
+          run = h.run;
+          tail = [];
+          ends = inl refl;
+          puts = puts_not_more before w n _ [] Write (puts_not_front before w n _ _ _ Write (all_rows h.batches h.last h.count)
+              (not_at before w n _ _ Write (append-nil _)
+              (puts_not_then before mid w n _ [] Write h.puts (puts_not_then mid last w n [] [] Write tail q))));
+          works = λ other. absurd (other refl);
+        }

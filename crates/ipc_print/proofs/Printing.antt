@@ -1,0 +1,272 @@
+-- Batches that are read and printed.
+use Rattle.ipc_model.specs.declared.table.BatchRows.{BatchRows}
+use Rattle.std.proofs.Common.{◌≡◌, ◌∙◌, refl, sym, ap, subst, ℕ, List, [], ◌∷◌, ◌++◌, map, Option, Some, None}
+use Rattle.std.proofs.Common.{Result, Ok, Err, append-nil}
+use Rattle.std.specs.Io.KnownBytes.{Consumes}
+use Rattle.std.proofs.KnownBytes.{Consumes-nil, Consumes-trans}
+use Rattle.std.proofs.lemmas.List.{map-append}
+use Rattle.ipc_model.specs.declared.fault.Fault.{Fault}
+use Rattle.ipc_model.specs.declared.value.Value.{Value}
+use Rattle.ipc_stream.specs.Found.{Found, rows_of}
+use Rattle.ipc_stream.specs.declared.end.End.{End}
+use Rattle.ipc_stream.specs.declared.phase.Phase.{Phase}
+use Rattle.ipc_stream.specs.declared.phase.Phase.TheVariants.{Reading, Ended, Refused}
+use Rattle.ipc_stream.specs.Failures.{Tells}
+use Rattle.ipc_stream.specs.Reader.{Reader, in_force_of, NextAnswer, NextCall, end_of}
+use Rattle.ipc_stream.specs.Reasons.{Reads}
+use Rattle.ipc_stream.specs.Stream.{InForce, batch, Run, done}
+use Rattle.ipc_stream.proofs.Runs.{run_then, reads_after}
+use Rattle.ipc_print.specs.declared.rows.PrintFault.{PrintFault}
+use Rattle.ipc_model.specs.declared.schema.Field.{Field}
+use Rattle.ipc_text.specs.declared.fault.TextFault.{TextFault}
+use Rattle.ipc_print.specs.declared.form.Form.{Form}
+use Rattle.ipc_print.specs.declared.stop.Outcome.TheVariants.{Whole, Broken, Refused as Lacking}
+use Rattle.ipc_print.specs.Columns.{AreShownColumns}
+use Rattle.ipc_print.specs.Forms.{line_of, HaveLines, HaveAllLines, row_count}
+use Rattle.ipc_print.specs.Output.{Output, output, Puts}
+use Rattle.ipc_print.specs.Rows.{AreShownRows, lines, batch_lines}
+use Rattle.ipc_print.specs.Streams.{PrintsRows, PrintsPart, PrintsBatches, PutsRows}
+use Rattle.ipc_print.proofs.Puts.{puts_then, puts_not_then, puts_not_more, puts_none}
+use Rattle.ipc_print.proofs.Shown.{all_more}
+use Rattle.ipc_print.proofs.Lines.{put_at, not_at}
+use Rattle.ipc_print.proofs.Texts.{batch_lines_more}
+use Rattle.ipc_print.proofs.BatchesShown.{batch_shown}
+use Rattle.ipc_model.specs.declared.limits.Limits.{Limits}
+use Rattle.std.proofs.Common.{◌+◌, length, inl, arith}
+use Rattle.std.specs.Prelude.{unwrap_or}
+use Rattle.std.proofs.lemmas.List.{length-append}
+use Rattle.ipc_stream.specs.declared.end.End.TheVariants.{Closed}
+use Rattle.ipc_stream.specs.Reader.{end_of}
+use Rattle.ipc_stream.specs.Taken.{count_up}
+use Rattle.ipc_print.specs.declared.stop.Tally.{Tally}
+use Rattle.ipc_print.specs.Forms.{row_count}
+use Rattle.ipc_print.specs.Streams.{IsTally}
+
+-- these batches were read behind the schema, and printed
+pub record Batches (form : Form) (tally : Tally) (old now : Reader) (before after : Output) : Type 0 where
+  pub x : List ℕ
+  pub batches : List BatchRows
+  pub bytes : Consumes old.remaining now.remaining x
+  pub run : Run old.limits (Some (in_force_of old)) x (map batch batches) (Some (in_force_of old))
+  pub reading : now.phase ≡ Reading
+  pub same : now.schema ≡ old.schema
+  pub same_limits : now.limits ≡ old.limits
+  pub counts : now.failures ≡ old.failures
+  pub counted : (k : ℕ) → old.taken ≡ count_up 0 k → now.taken ≡ count_up 0 (k + length x)
+  pub tallies : IsTally tally batches
+  pub have : HaveAllLines form old.schema.fields batches
+  pub puts : Puts before after (batch_lines (line_of form old.schema.fields) batches)
+
+zero_more : (k : ℕ) → k + 0 ≡ k
+zero_more k = omega arith
+
+-- before the first batch nothing was read and nothing printed
+pub batches_none : (form : Form) (r : Reader) (o : Output) → r.phase ≡ Reading → Batches form (record { batches = 0; rows = 0 }) r r o o
+batches_none form r o reading = record {
+  x = [];
+  batches = [];
+  bytes = Consumes-nil r.remaining;
+  run = done;
+  reading = reading;
+  same = refl;
+  same_limits = refl;
+  counts = refl;
+  counted = λ k is. is ∙ ap (count_up 0) (sym (zero_more k));
+  tallies = (omega arith, omega arith);
+  have = tt;
+  puts = puts_none o;
+}
+
+-- one batch more is counted
+row_count_more : (batches : List BatchRows) (rows : BatchRows)
+    → row_count (batches ++ rows ∷ []) ≡ row_count batches + length rows.rows
+row_count_more [] rows = omega arith
+row_count_more (b ∷ bs) rows = let more = row_count_more bs rows in omega (arith, more)
+
+tally_more : (tally next : Tally) (batches : List BatchRows) (rows : BatchRows) → IsTally tally batches
+    → next.batches ≡ count_up tally.batches 1 → next.rows ≡ count_up tally.rows (length rows.rows)
+    → IsTally next (batches ++ rows ∷ [])
+tally_more tally next batches rows (some, few) one all =
+    let long = length-append batches (rows ∷ []) in
+    let sum = row_count_more batches rows in
+    (omega (arith, some, one, long), omega (arith, few, all, sum))
+
+-- what a call that gave a batch says, where the reader was reading
+gave : (limits : Limits) (o : InForce) (p q : Phase) (x : List ℕ) (left : Option (List ℕ)) (found : Found) → p ≡ Reading
+    → NextAnswer limits o p x left (Ok (Some found)) q → (q ≡ Reading) × Run limits (Some o) x (batch (rows_of found) ∷ []) (Some o)
+gave limits o Reading Reading x left found is h = (refl, h)
+gave limits o Reading (Ended e) x left found is h = absurd h
+gave limits o Reading Refused x left found is h = absurd h
+gave limits o (Ended e) q x left found is h = absurd (cc)
+gave limits o Refused q x left found is h = absurd (cc)
+
+ended : (limits : Limits) (o : InForce) (p q : Phase) (x : List ℕ) (left : Option (List ℕ)) → p ≡ Reading
+    → NextAnswer limits o p x left (Ok None) q
+    → (e : End) × (Reads limits (Some o) x left [] (Ok e)) × (q ≡ Ended e)
+ended limits o Reading Reading x left is h = absurd h
+ended limits o Reading (Ended e) x left is h = (e, h, refl)
+ended limits o Reading Refused x left is h = absurd h
+ended limits o (Ended e) q x left is h = absurd (cc)
+ended limits o Refused q x left is h = absurd (cc)
+
+broke : (limits : Limits) (o : InForce) (p q : Phase) (x : List ℕ) (left : Option (List ℕ)) (f : Fault) → p ≡ Reading
+    → NextAnswer limits o p x left (Err f) q
+    → Reads limits (Some o) x left [] (Err f)
+broke limits o Reading Reading x left f is h = absurd h
+broke limits o Reading (Ended e) x left f is h = absurd h
+broke limits o Reading Refused x left f is h = h
+broke limits o (Ended e) q x left f is h = absurd (cc)
+broke limits o Refused q x left f is h = absurd (cc)
+
+module _ (form : Form) (tally : Tally) (old now new : Reader) (before after : Output) (b : Batches form tally old now before after) where
+  abbrev line : List Value → List ℕ
+  line = line_of form old.schema.fields
+
+  same_open : in_force_of now ≡ in_force_of old
+  same_open = ap (λ s. record { schema = s }) b.same
+
+  -- the answer, under the limits that the reader was opened with
+  same_answer : (r : Result (Option Found) Fault) (t : NextCall now new r)
+      → NextAnswer old.limits (in_force_of now) now.phase t.x new.remaining r new.phase
+  same_answer r t = subst (λ limits. NextAnswer limits (in_force_of now) now.phase t.x new.remaining r new.phase) b.same_limits t.gives
+
+  -- the batch that came
+  found_run : (found : Found) → (t : NextCall now new (Ok (Some found)))
+      → (new.phase ≡ Reading) × Run old.limits (Some (in_force_of old)) t.x (batch (rows_of found) ∷ []) (Some (in_force_of old))
+  found_run found t =
+      let h = gave old.limits (in_force_of now) now.phase new.phase t.x new.remaining found b.reading (same_answer (Ok (Some found)) t) in
+      (h.0, subst (λ (o : InForce). Run old.limits (Some o) t.x (batch (rows_of found) ∷ []) (Some o)) same_open h.1)
+
+  -- the rows of a batch whose columns are all shown have values that are shown
+  pub found_shown : (found : Found) → NextCall now new (Ok (Some found)) → AreShownColumns old.schema.fields → AreShownRows found.0.rows
+  found_shown found t columns = batch_shown (in_force_of old) t.x (rows_of found) columns (found_run found t).1
+
+  more_run : (found : Found) (t : NextCall now new (Ok (Some found)))
+      → Run old.limits (Some (in_force_of old)) (b.x ++ t.x) (map batch (b.batches ++ rows_of found ∷ [])) (Some (in_force_of old))
+  more_run found t =
+      subst (λ es. Run old.limits (Some (in_force_of old)) (b.x ++ t.x) es (Some (in_force_of old)))
+      (sym (map-append batch b.batches (rows_of found ∷ [])))
+      (run_then _ _ _ b.x t.x (map batch b.batches) (batch (rows_of found) ∷ []) b.run (found_run found t).1)
+
+  -- what was put of a batch, by the fields that are in force
+  same_puts : (fields : List Field) (found : Found) (w : Option (List ℕ)) (n : ℕ) (k : List ℕ) (r : Result (Option TextFault) PrintFault)
+      → fields ≡ old.schema.fields → PutsRows form fields found.0.rows after w n k r
+      → PutsRows form old.schema.fields found.0.rows after w n k r
+  same_puts fields found w n k r is p = subst (λ (fs : List Field). PutsRows form fs found.0.rows after w n k r) is p
+
+  counted_more : (found : Found) (t : NextCall now new (Ok (Some found))) (k : ℕ) → old.taken ≡ count_up 0 k
+      → new.taken ≡ count_up 0 (k + length (b.x ++ t.x))
+  counted_more found t k is =
+      let before = b.counted k is in
+      let long = length-append b.x t.x in
+      omega (arith, before, long, t.counted)
+
+  -- where one batch more is read and its rows are put, the batches that were printed are those from before and it
+  pub batches_more : (fields : List Field) (found : Found) (next : Tally) (w : Option (List ℕ)) (n : ℕ) (k : List ℕ)
+      → next.batches ≡ count_up tally.batches 1 → next.rows ≡ count_up tally.rows (length found.0.rows)
+      → fields ≡ old.schema.fields → NextCall now new (Ok (Some found)) → new.failures ≡ now.failures
+      → PutsRows form fields found.0.rows after w n k (Ok None) → Batches form next old new before (output w n k)
+  batches_more fields found next w n k one all is t works p =
+      let q = same_puts fields found w n k (Ok None) is p in
+      record {
+        x = b.x ++ t.x;
+        batches = b.batches ++ rows_of found ∷ [];
+        bytes = Consumes-trans old.remaining now.remaining new.remaining b.x t.x b.bytes t.bytes;
+        run = more_run found t;
+        reading = (found_run found t).0;
+        same = t.same_schema ∙ b.same;
+        same_limits = t.same_limits ∙ b.same_limits;
+        counts = works ∙ b.counts;
+        counted = counted_more found t;
+        tallies = tally_more tally next b.batches (rows_of found) b.tallies one all;
+        have = all_more (λ q. HaveLines form old.schema.fields q.rows) b.batches (rows_of found) b.have q.0;
+        puts = put_at before (output w n k) _ _ (batch_lines_more line b.batches (rows_of found))
+            (puts_then before after (output w n k) (batch_lines line b.batches) (lines line found.0.rows) b.puts q.1);
+      }
+
+  -- a row of the batch that came isn't printed, and those before it were
+  pub batches_refused : (fields : List Field) (found : Found) (w : Option (List ℕ)) (n : ℕ) (k : List ℕ) (fault : TextFault)
+      → fields ≡ old.schema.fields → NextCall now new (Ok (Some found)) → new.failures ≡ now.failures
+      → PutsRows form fields found.0.rows after w n k (Ok (Some fault))
+      → PrintsBatches form [] old new before (output w n k) (Ok (Lacking fault))
+  batches_refused fields found w n k fault is t works p =
+      let q = same_puts fields found w n k (Ok (Some fault)) is p in (
+        record {
+          x = b.x ++ t.x;
+          batches = b.batches;
+          last = rows_of found;
+          count = q.0;
+          bytes = Consumes-trans old.remaining now.remaining new.remaining b.x t.x b.bytes t.bytes;
+          state = Some (in_force_of old);
+          run = more_run found t;
+          have = b.have;
+          refuses = q.1;
+          puts = puts_then before after (output w n k) (batch_lines line b.batches) _ b.puts q.2;
+        },
+        λ z. works ∙ (b.counts ∙ z),
+      )
+
+  -- the rows of the batch that came weren't all printed
+  pub batches_cut : (fields : List Field) (found : Found) (w : Option (List ℕ)) (n : ℕ) (k : List ℕ) (e : PrintFault)
+      → fields ≡ old.schema.fields → NextCall now new (Ok (Some found)) → new.failures ≡ now.failures
+      → PutsRows form fields found.0.rows after w n k (Err e) → PrintsPart form [] old new before w n e
+  batches_cut fields found w n k e is t works p =
+      let q = same_puts fields found w n k (Err e) is p in
+      record {
+        x = b.x ++ t.x;
+        batches = b.batches ++ rows_of found ∷ [];
+        bytes = Consumes-trans old.remaining now.remaining new.remaining b.x t.x b.bytes t.bytes;
+        rest = [];
+        whole = b.x ++ t.x;
+        joined = sym (append-nil (b.x ++ t.x));
+        state = Some (in_force_of old);
+        run = more_run found t;
+        tail = [];
+        ends = inl refl;
+        puts = puts_not_more before w n _ [] e (not_at before w n _ _ e (batch_lines_more line b.batches (rows_of found))
+            (puts_not_then before after w n (batch_lines line b.batches) (lines line found.0.rows) e b.puts q));
+        works = λ other z. works ∙ (b.counts ∙ z);
+      }
+
+  behind : (y : List ℕ) (r : Result End Fault) → Reads old.limits (Some (in_force_of now)) y new.remaining [] r
+      → Reads old.limits (Some (in_force_of old)) (b.x ++ y) new.remaining (map batch b.batches) r
+  behind y r h =
+      subst (λ es. Reads old.limits (Some (in_force_of old)) (b.x ++ y) new.remaining es r) (append-nil (map batch b.batches))
+      (reads_after _ _ b.x y new.remaining (map batch b.batches) [] r b.run
+      (subst (λ (o : InForce). Reads old.limits (Some o) y new.remaining [] r) same_open h))
+
+  printed : (y : List ℕ) (r : Result End Fault) → Consumes now.remaining new.remaining y → new.taken ≡ count_up now.taken (length y)
+      → Reads old.limits (Some (in_force_of now)) y new.remaining [] r → PrintsRows form [] old new before after r
+  printed y r bytes more h = record {
+    x = b.x ++ y;
+    batches = b.batches;
+    bytes = Consumes-trans old.remaining now.remaining new.remaining b.x y b.bytes bytes;
+    reads = behind y r h;
+    counted = λ k is.
+        let before = b.counted k is in
+        let long = length-append b.x y in
+        omega (arith, before, long, more);
+    have = b.have;
+    puts = b.puts;
+  }
+
+  -- where the end is read behind the batches that were printed, all rows of the stream were
+  pub batches_end : (end : Option End) (e : End) → NextCall now new (Ok None) → new.failures ≡ now.failures → end ≡ end_of new.phase
+      → e ≡ unwrap_or end Closed → PrintsBatches form [] old new before after (Ok (Whole e tally))
+  unfolding printed
+  batches_end end e t works found is =
+      let h = ended old.limits (in_force_of now) now.phase new.phase t.x new.remaining b.reading (same_answer (Ok None) t) in
+      let same : e ≡ h.0 =
+      is ∙ (ap (λ (o : Option End). unwrap_or o Closed) found ∙ ap (λ (q : Phase). unwrap_or (end_of q) Closed) h.2) in
+      subst (λ (e : End). PrintsBatches form [] old new before after (Ok (Whole e tally))) (sym same)
+      ((printed t.x (Ok h.0) t.bytes t.counted h.1, b.tallies), λ z. works ∙ (b.counts ∙ z))
+
+  -- where a fault is read behind the batches that were printed, their rows were, and the answer is the fault
+  pub batches_break : (f : Fault) → NextCall now new (Err f) → Tells now.failures new.failures f
+      → PrintsBatches form [] old new before after (Ok (Broken f))
+  batches_break f t tells = (
+    printed t.x (Err f) t.bytes t.counted
+        (broke old.limits (in_force_of now) now.phase new.phase t.x new.remaining f b.reading (same_answer (Err f)
+        t)),
+    record { failed = tells.failed; stayed = λ other. tells.stayed other ∙ b.counts },
+  )

@@ -1,0 +1,208 @@
+-- A whole stream, from its schema on.
+use Rattle.ipc_model.specs.declared.table.BatchRows.{BatchRows}
+use Rattle.std.proofs.Common.{refl, ◌≡◌, ◌≢◌, ◌∙◌, sym, ap, subst, ℕ, inl, inr, List, [], ◌∷◌, ◌++◌, map, take, drop, Option, Some, None}
+use Rattle.std.proofs.Common.{Result, Ok, Err, append_assoc, append-nil, arith}
+use Rattle.std.specs.Prelude.{⊤}
+use Rattle.std.specs.Io.KnownBytes.{Appends, Consumes, IsAtEnd, Keeps}
+use Rattle.std.proofs.KnownBytes.{Consumes-trans, Keeps-refl}
+use Rattle.ipc_model.specs.declared.fault.Fault.{Fault}
+use Rattle.ipc_model.specs.declared.table.Table.{Table}
+use Rattle.ipc_model.specs.declared.value.Value.{Value}
+use Rattle.ipc_stream.specs.declared.end.End.{End}
+use Rattle.ipc_stream.specs.declared.end.End.TheVariants.{Mark, Closed}
+use Rattle.ipc_stream.specs.Reader.{Reader, in_force_of, Opens, OpenFails}
+use Rattle.ipc_stream.specs.Reasons.{Reads, Ends}
+use Rattle.ipc_stream.specs.Stream.{State, Event, schema, batch, Run, Denotes, events_of}
+use Rattle.ipc_model.specs.declared.fault.WriteFault.{WriteFault}
+use Rattle.ipc_model.specs.Numbering.{write_fault_status}
+use Rattle.ipc_text.specs.declared.fault.TextFault.{TextFault}
+use Rattle.ipc_print.specs.declared.form.Form.{Form}
+use Rattle.ipc_print.specs.declared.rows.PrintFault.{PrintFault}
+use Rattle.ipc_print.specs.declared.rows.PrintFault.TheVariants as p
+use Rattle.ipc_print.specs.declared.stop.Stop.{Stop}
+use Rattle.ipc_print.specs.declared.stop.Stop.TheVariants as stop
+use Rattle.ipc_print.specs.Forms.{front_text, line_of, tail_text}
+use Rattle.ipc_stream.specs.Taken.{count_up}
+use Rattle.std.specs.Prelude.{length}
+use Rattle.ipc_print.specs.Output.{Output, output, Grows}
+use Rattle.ipc_print.specs.Rows.{lines, batch_lines}
+use Rattle.ipc_print.specs.Streams.{PrintsTable, Breaks, unopened, broken, Stops, unfit, refused, PrintsSome, nothing, some, PrintsStream}
+use Rattle.ipc_print.specs.Streams.{Prints, PrintsRows, PrintsPart, RefusesRow, Refused, exit_status, write_fault}
+use Rattle.ipc_print.specs.Streams.{printed}
+use Rattle.ipc_print.proofs.Puts.{grows_more, grows_then}
+use Rattle.ipc_print.proofs.Texts.{batch_lines_more, lines_rest}
+use Rattle.std.proofs.lemmas.List.{map-append, length-append}
+use Rattle.ipc_stream.proofs.Runs.{run_then, reads_after}
+use Rattle.ipc_model.specs.declared.limits.Limits.{Limits}
+
+-- where nothing is kept, the sink holds all of the text
+grows_appends : (a b : Option (List ℕ)) (t : List ℕ) → Grows a [] b [] t → Appends a b t
+grows_appends None b t g = tt
+grows_appends (Some xs) None t g = absurd g
+grows_appends (Some xs) (Some ys) t g = sym (append-nil ys) ∙ (g ∙ ap (λ (l : List ℕ). l ++ t) (append-nil xs))
+
+appends_grows : (a b : Option (List ℕ)) (t : List ℕ) → Appends a b t → Grows a [] b [] t
+appends_grows None b t g = tt
+appends_grows (Some xs) None t g = absurd g
+appends_grows (Some xs) (Some ys) t g = append-nil ys ∙ (g ∙ ap (λ (l : List ℕ). l ++ t) (sym (append-nil xs)))
+
+-- whole messages and how reading ended, as what they denote
+denotes : {limits : Limits} → (x whole rest : List ℕ) (t : Table) (σ : State) (left : Option (List ℕ)) (end : End) → x ≡ whole ++ rest
+    → Run limits None whole (events_of t) σ → Ends limits σ rest left (Ok end) → Denotes limits x t end
+denotes {limits} x whole rest t σ left Mark joined run e = (whole, joined ∙ ap (λ (z : List ℕ). whole ++ z) e.0, (σ, run))
+denotes {limits} x whole rest t σ left Closed joined run e =
+    let all : x ≡ whole = joined ∙ (ap (λ (z : List ℕ). whole ++ z) e.0 ∙ append-nil whole) in
+    (σ, subst (λ (y : List ℕ). Run limits None y (events_of t) σ) (sym all) run)
+
+at_end : (limits : Limits) (σ : State) (rest : List ℕ) (left : Option (List ℕ)) (end : End) → Ends limits σ rest left (Ok end)
+    → end ≡ Closed → IsAtEnd left
+at_end limits σ rest left Mark e is = absurd (cc)
+at_end limits σ rest left Closed e is = e.2
+
+-- the events of a table with one batch more
+one_more : (t : Table) (rows : BatchRows) → schema t.schema ∷ map batch (t.batches ++ rows ∷ []) ≡ events_of t ++ batch rows ∷ []
+one_more t rows = ap (λ (es : List Event). schema t.schema ∷ es) (map-append batch t.batches (rows ∷ []))
+
+-- why rows weren't printed is no refusal
+no_refusal : (why : PrintFault) → write_fault_status (write_fault why) ≢ 1
+no_refusal p.Write is = absurd (omega (arith, is))
+no_refusal p.OutOfMemory is = absurd (omega (arith, is))
+
+module _ {limits : Limits} (form : Form) (old : Option (List ℕ)) (s t : Reader) (o : Opens limits old s)
+    (w0 w1 : Option (List ℕ)) (n0 n1 : ℕ) where
+  abbrev front : List ℕ
+  front = front_text form s.schema
+
+  module _ (after : Output) (a : Result End Fault) (r : PrintsRows form front s t (output w0 n0 []) after a) where
+    abbrev table : Table
+    table = record { schema = s.schema; batches = r.batches }
+
+    all_bytes : Consumes old t.remaining (o.x ++ r.x)
+    all_bytes = Consumes-trans old s.remaining t.remaining o.x r.x o.bytes r.bytes
+
+    all_reads : Reads limits None (o.x ++ r.x) t.remaining (events_of table) a
+    all_reads = reads_after None (Some (in_force_of s)) o.x r.x t.remaining (schema s.schema ∷ []) (map batch r.batches) a o.run
+        (subst (λ l. Reads l (Some (in_force_of s)) r.x t.remaining (map batch r.batches) a) o.same_limits r.reads)
+
+  rows_refused : (fault : TextFault) → RefusesRow form front s t (output w0 n0 []) (output w1 n1 []) fault
+      → Stops form limits old t.remaining w0 w1 fault
+  rows_refused fault r =
+      let whole : Table = record { schema = s.schema; batches = r.batches } in
+      refused (o.x ++ r.x) whole r.last r.count r.state (Consumes-trans old s.remaining t.remaining o.x r.x o.bytes r.bytes)
+      (subst (λ (es : List Event). Run limits None (o.x ++ r.x) es r.state) (one_more whole r.last)
+      (run_then None (Some (in_force_of s)) r.state o.x r.x (schema s.schema ∷ []) (map batch (r.batches ++ r.last ∷ [])) o.run
+      (subst (λ l. Run l (Some (in_force_of s)) r.x (map batch (r.batches ++ r.last ∷ [])) r.state) o.same_limits r.run)))
+      r.have r.refuses (grows_appends w0 w1 _ r.puts.bytes)
+
+  part : (why : PrintFault) → PrintsPart form front s t (output w0 n0 []) w1 n1 why → PrintsSome form limits old t.remaining w0 w1
+  part why r =
+      some (o.x ++ r.whole) r.rest r.puts.behind r.tail (record { schema = s.schema; batches = r.batches }) r.state
+      (subst (λ (z : List ℕ). Consumes old t.remaining z) (ap (λ (z : List ℕ). o.x ++ z) r.joined ∙ sym (append_assoc o.x r.whole r.rest))
+      (Consumes-trans old s.remaining t.remaining o.x r.x o.bytes r.bytes))
+      (run_then None (Some (in_force_of s)) r.state o.x r.whole (schema s.schema ∷ []) (map batch r.batches) o.run
+      (subst (λ l. Run l (Some (in_force_of s)) r.whole (map batch r.batches) r.state) o.same_limits r.run))
+      r.ends r.puts.bytes
+
+  prints_rows : (r : Result ⊤ Stop) → PrintsStream form s t (output w0 n0 []) (output w1 n1 []) r
+      → Prints form limits old t.remaining w0 w1 r
+  prints_rows (Ok done) (fits, (end, all)) =
+      let r = all.rows in
+      let reads = all_reads all.middle (Ok end) r in
+      let long = length-append o.x r.x in
+      let taken : t.taken ≡ count_up 0 (length (o.x ++ r.x)) =
+      r.counted (length o.x) o.counted ∙ ap (count_up 0) (sym long) in
+      record {
+        x = o.x ++ r.x;
+        table = record { schema = s.schema; batches = r.batches };
+        end = end;
+        bytes = all_bytes all.middle (Ok end) r;
+        denotes = denotes (o.x ++ r.x) reads.whole reads.rest
+            (record { schema = s.schema; batches = r.batches }) reads.state t.remaining end reads.joined reads.run reads.ends;
+        closed = at_end limits reads.state reads.rest t.remaining end reads.ends;
+        fits = fits;
+        rows = r.have;
+        text = subst (λ (n : ℕ). Appends w0 w1 (printed form s.schema r.batches ++ tail_text form end n r.batches)) taken
+            (grows_appends w0 w1 _ (grows_then w0 all.middle.written w1 [] all.middle.kept [] _ _ r.puts.bytes all.tail.bytes));
+      }
+  prints_rows (Err (stop.Read fault n)) r =
+      broken (o.x ++ r.x) (record { schema = s.schema; batches = r.batches }) (all_bytes (output w1 n1 []) (Err fault) r)
+      (all_reads (output w1 n1 []) (Err fault) r) r.have (grows_appends w0 w1 (printed form s.schema r.batches) r.puts.bytes)
+  prints_rows (Err (stop.Text fault)) (inl other) =
+      let taken : Consumes old t.remaining o.x = subst (λ (z : Reader). Consumes old z.remaining o.x) (sym other.same) o.bytes in
+      let silent : Keeps w0 w1 = subst (λ (z : Output). Keeps w0 z.written) (sym other.silent) (Keeps-refl w0) in
+      unfit o.x s.schema (Some (in_force_of s)) taken o.run other.unfit silent
+  prints_rows (Err (stop.Text fault)) (inr r) = rows_refused fault r
+  prints_rows (Err (stop.Write fault)) (why, is, r) =
+      (subst (λ (f : WriteFault). write_fault_status f ≢ 1) (sym is) (no_refusal why), part why r)
+
+-- the same with the source that came back
+pub prints_all : {limits : Limits} → (form : Form) (old new : Option (List ℕ)) (s t : Reader) (w0 w1 : Option (List ℕ)) (n0 n1 : ℕ)
+    (r : Result ⊤ Stop) → Opens limits old s → new ≡ t.remaining → PrintsStream form s t (output w0 n0 []) (output w1 n1 []) r
+    → Prints form limits old new w0 w1 r
+prints_all {limits} form old new s t w0 w1 n0 n1 r o is h =
+    subst (λ (z : Option (List ℕ)). Prints form limits old z w0 w1 r) (sym is) (prints_rows form old s t o w0 w1 n0 n1 r h)
+
+-- no schema was read
+pub prints_none : {limits : Limits} → (form : Form) (old new w : Option (List ℕ)) (fault : Fault) → OpenFails limits old new fault
+    → Breaks form limits old new w w fault
+prints_none form old new w fault o = unopened o.x o.bytes o.reads (Keeps-refl w)
+
+-- why a stream isn't read to its end, as what was printed
+broken_part : {limits : Limits} → (form : Form) (old new w0 w1 : Option (List ℕ)) (fault : Fault) → Breaks form limits old new w0 w1 fault
+    → PrintsSome form limits old new w0 w1
+broken_part form old new w0 w1 fault (unopened x bytes reads kept) = nothing x bytes kept
+broken_part form old new w0 w1 fault (broken x t bytes reads have text) =
+    some reads.whole reads.rest [] [] t reads.state (subst (λ (z : List ℕ). Consumes old new z) reads.joined bytes) reads.run (inl refl)
+    (appends_grows w0 w1 _ (subst (λ (z : List ℕ). Appends w0 w1 z) (sym (append-nil _)) text))
+
+-- the text of batches and of the first rows of one more is a beginning of the text with all its rows
+all_rows : (form : Form) (t : Table) (rows : BatchRows) (count : ℕ)
+    → (printed form t.schema t.batches ++ lines (line_of form t.schema.fields) (take count rows.rows))
+    ++ lines (line_of form t.schema.fields) (drop count rows.rows)
+    ≡ printed form t.schema (t.batches ++ rows ∷ [])
+all_rows form t rows count =
+    let line = line_of form t.schema.fields in
+    let front = front_text form t.schema in
+    append_assoc (front ++ batch_lines line t.batches) (lines line (take count rows.rows)) (lines line (drop count rows.rows))
+    ∙ (ap (λ (x : List ℕ). (front ++ batch_lines line t.batches) ++ x) (sym (lines_rest line rows.rows count))
+    ∙ (append_assoc front (batch_lines line t.batches) (lines line rows.rows)
+    ∙ ap (λ (x : List ℕ). front ++ x) (batch_lines_more line t.batches rows)))
+
+-- why a table isn't printed to its end, as what was printed
+stopped_part : {limits : Limits} → (form : Form) (old new w0 w1 : Option (List ℕ)) (fault : TextFault)
+    → Stops form limits old new w0 w1 fault → PrintsSome form limits old new w0 w1
+stopped_part form old new w0 w1 fault (unfit x s σ bytes run why kept) = nothing x bytes kept
+stopped_part {limits} form old new w0 w1 fault (refused x t rows count σ bytes run have refuses text) =
+    let line = line_of form t.schema.fields in
+    let rest = lines line (drop count rows.rows) in
+    some x [] rest [] (record { schema = t.schema; batches = t.batches ++ rows ∷ [] }) σ
+    (subst (λ (z : List ℕ). Consumes old new z) (sym (append-nil x)) bytes)
+    (subst (λ (es : List Event). Run limits None x es σ) (sym (one_more t rows)) run) (inl refl)
+    (subst (λ (z : List ℕ). Grows w0 [] w1 rest z) (all_rows form t rows count ∙ sym (append-nil _))
+    (grows_more w0 w1 [] [] (printed form t.schema t.batches ++ lines line (take count rows.rows)) rest (appends_grows w0 w1 _ text)))
+
+table_part : {limits : Limits} → (form : Form) (old new w0 w1 : Option (List ℕ)) → PrintsTable form limits old new w0 w1
+    → PrintsSome form limits old new w0 w1
+table_part {limits} form old new w0 w1 s = by_end s.end s.denotes
+  where
+    by_end : (end : End) → Denotes limits s.x s.table end → PrintsSome form limits old new w0 w1
+    by_end Mark d = some d.0 _ [] _ s.table d.2.0 (subst (λ (z : List ℕ). Consumes old new z) d.1 s.bytes) d.2.1
+        (inr (s.end, (count_up 0 (length s.x), refl))) (appends_grows w0 w1 _ s.text)
+    by_end Closed d = some s.x [] [] _ s.table d.0 (subst (λ (z : List ℕ). Consumes old new z) (sym (append-nil s.x)) s.bytes) d.1
+        (inr (s.end, (count_up 0 (length s.x), refl))) (appends_grows w0 w1 _ s.text)
+
+-- whatever the answer, a beginning of the text of the batches that were read was printed
+pub part_of : {limits : Limits} → (form : Form) (old new w0 w1 : Option (List ℕ)) (r : Result ⊤ Stop) → Prints form limits old new w0 w1 r
+    → PrintsSome form limits old new w0 w1
+part_of form old new w0 w1 (Ok done) h = table_part form old new w0 w1 h
+part_of form old new w0 w1 (Err (stop.Read fault n)) h = broken_part form old new w0 w1 fault h
+part_of form old new w0 w1 (Err (stop.Text fault)) h = stopped_part form old new w0 w1 fault h
+part_of form old new w0 w1 (Err (stop.Write fault)) h = h.1
+
+-- where the exit status is 1, the stream or a row is refused
+pub refused_of : {limits : Limits} → (form : Form) (old new w0 w1 : Option (List ℕ)) (r : Result ⊤ Stop) → exit_status r ≡ 1
+    → Prints form limits old new w0 w1 r → Refused form limits old new w0 w1
+refused_of form old new w0 w1 (Ok done) is h = absurd (omega (arith, is))
+refused_of form old new w0 w1 (Err (stop.Read fault n)) is h = inl (fault, is, h)
+refused_of form old new w0 w1 (Err (stop.Text fault)) is h = inr (fault, is, h)
+refused_of form old new w0 w1 (Err (stop.Write fault)) is h = absurd (h.0 is)

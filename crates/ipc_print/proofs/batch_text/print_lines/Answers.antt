@@ -1,0 +1,34 @@
+use Rattle.std.proofs.Common.{[], sym, subst, List, take, arith}
+use Rattle.std.specs.Prelude.{slice_index_or}
+use Rattle.std.proofs.lemmas.List.{take_more}
+use Rattle.std.proofs.lemmas.Result.{err_from_is_err_and}
+use Rattle.ipc_model.specs.declared.value.Value.{Value}
+use Rattle.ipc_print.specs.Forms.{HasLine, HaveLines, line_of}
+use Rattle.ipc_print.specs.declared.rows.PrintFault.TheVariants.{OutOfMemory}
+use Rattle.ipc_print.proofs.Lines.{rows_next, rows_cut}
+use Rattle.ipc_print.proofs.Puts.{puts_never}
+use Rattle.ipc_print.proofs.Shown.{all_more}
+use Rattle.ipc_print.proofs.batch_text.print_lines.Goals as goal
+
+pub returns-in-Err-OutOfMemory : goal.returns-in-Err-OutOfMemory
+returns-in-Err-OutOfMemory g c =
+    rows_cut (line_of c.args.form c.args.fields.now) c.args.batch.now.rows _ _ _ _ c.loop-row.row OutOfMemory (omega arith)
+    c.loop-row.invariant.put (puts_never _ _)
+
+pub returns-in_err-put : goal.returns-in_err-put
+returns-in_err-put g c =
+    let p = err_from_is_err_and c.from_residual.result c.from_residual.ensures.1 in
+    rw (p.1, p.2) (rows_cut (line_of c.args.form c.args.fields.now) c.args.batch.now.rows _ _ _ _ c.loop-row.row _ (omega arith)
+    c.loop-row.invariant.put (rw (c.as_slice.ensures.value, c.in-Ok.ensures.text) at c.in_err-put.ensures))
+
+pub loop-row-preserved : goal.loop-row-preserved
+loop-row-preserved g c =
+    let rows = c.args.batch.now.rows in
+    let row = slice_index_or rows c.loop-row.row [] in
+    record {
+      have = subst (λ (rs : List (List Value)). HaveLines c.args.form c.args.fields.now rs)
+          (sym (take_more rows c.loop-row.row [] (omega arith)))
+          (all_more (HasLine c.args.form c.args.fields.now) (take c.loop-row.row rows) row c.loop-row.invariant.have c.in-Ok.ensures.ok);
+      put = rows_next (line_of c.args.form c.args.fields.now) rows _ _ _ c.loop-row.row (omega arith) c.loop-row.invariant.put
+          (rw (c.as_slice.ensures.value, c.in-Ok.ensures.text) at c.in_ok-put.ensures);
+    }

@@ -1,0 +1,10 @@
+use Rattle.ipc_print.proofs.Streams.{prints_all, prints_none}
+use Rattle.ipc_print.proofs.print.print.Goals as goal
+
+pub returns-in-Ok-clause-prints : goal.returns-in-Ok-clause-prints
+returns-in-Ok-clause-prints g c =
+    prints_all c.args.form _ _ c.in-Ok.stream _ _ _ _ _ c.print_open-result.result c.in-Ok.ensures.opened c.into_inner.ensures.remaining
+    c.print_open-result.ensures.prints
+
+pub returns-in-Err-clause-prints : goal.returns-in-Err-clause-prints
+returns-in-Err-clause-prints g c = prints_none c.args.form _ _ _ c.in-Err.fault c.in-Err.ensures.refused

@@ -1,0 +1,101 @@
+-- The texts that are printed of a table, in each form: its schema and counts, its rows as JSON (RFC
+-- 8259), or records of CSV (RFC 4180).
+use Rattle.ipc_model.specs.declared.table.BatchRows.{BatchRows}
+use Rattle.std.specs.Prelude.{◌≡◌, ◌⊎◌, ◌+◌, ◌<◌, ℕ, List, [], ◌∷◌, ◌++◌, length, take, codes}
+use Rattle.std.specs.Prelude.{decimal, Option, None, Result, Ok, Err, ⊤, slice_index_or}
+use Rattle.std.specs.List.{AllByRecursion}
+use Rattle.ipc_model.specs.declared.schema.Field.{Field}
+use Rattle.ipc_model.specs.declared.schema.Schema.{Schema}
+use Rattle.ipc_model.specs.declared.value.Value.{Value}
+use Rattle.ipc_stream.specs.declared.end.End.{End}
+use Rattle.ipc_stream.specs.declared.end.End.TheVariants.{Mark, Closed}
+use Rattle.ipc_stream.specs.Taken.{count_up}
+use Rattle.ipc_text.specs.RowJson.{row_text}
+use Rattle.ipc_text.specs.SchemaJson.{schema_text}
+use Rattle.ipc_text.specs.RowCsv.{flat_fault, header_text, row_csv}
+use Rattle.ipc_text.specs.declared.fault.TextFault.{TextFault}
+use Rattle.ipc_print.specs.declared.form.Form.{Form}
+use Rattle.ipc_print.specs.declared.form.Form.TheVariants.{Counts, Rows, Records}
+
+-- a text where there is one, else nothing
+abbrev pub text_or_none : Result (List ℕ) TextFault → List ℕ
+text_or_none (Ok text) = text
+text_or_none (Err fault) = []
+
+-- why columns have no place in this form: CSV has none for lists and structs, and wants a column
+abbrev pub form_fault : Form → List Field → Option TextFault
+form_fault Counts fields = None
+form_fault Rows fields = None
+form_fault Records fields = flat_fault fields
+
+-- what is printed in front of the rows: the schema as JSON in front of the counts, and a header in
+-- CSV
+abbrev pub front_text : Form → Schema → List ℕ
+front_text Counts s = schema_text s ++ 10 ∷ []
+front_text Rows s = []
+front_text Records s = text_or_none (header_text s.fields)
+
+-- what is printed of a row: its JSON text and a line feed, or its record in CSV, where it has one
+abbrev pub line_of : Form → List Field → List Value → List ℕ
+line_of Counts fields row = []
+line_of Rows fields row = row_text fields row ++ 10 ∷ []
+line_of Records fields row = text_or_none (row_csv fields row)
+
+-- why a row isn't printed, if it isn't: no record has it
+abbrev pub Lacks : Form → List Field → List Value → TextFault → Type 0
+Lacks Counts fields row fault = ⊥
+Lacks Rows fields row fault = ⊥
+Lacks Records fields row fault = row_csv fields row ≡ Err fault
+
+-- the row is printed: JSON has a text for each, and CSV a record for this one
+abbrev pub HasLine : Form → List Field → List Value → Type 0
+HasLine Counts fields row = ⊤
+HasLine Rows fields row = ⊤
+HasLine Records fields row = row_csv fields row ≡ Ok (line_of Records fields row)
+
+-- each of the rows is
+abbrev pub HaveLines : Form → List Field → List (List Value) → Type 0
+HaveLines form fields rows = AllByRecursion (HasLine form fields) rows
+
+-- each row of the batches is
+abbrev pub HaveAllLines : Form → List Field → List BatchRows → Type 0
+HaveAllLines form fields batches = AllByRecursion (λ b. HaveLines form fields b.rows) batches
+
+-- the row with this number is the first of these that isn't printed, for this fault
+pub record Refuses (form : Form) (fields : List Field) (rows : List (List Value)) (count : ℕ)
+    (fault : TextFault) : Type 0 where
+  pub inside : count < length rows
+  pub before : HaveLines form fields (take count rows)
+  pub lacks : Lacks form fields (slice_index_or rows count []) fault
+
+-- how many rows batches have together
+abbrev pub row_count : List BatchRows → ℕ
+row_count [] = 0
+row_count (b ∷ batches) = length b.rows + row_count batches
+
+-- how a stream ended
+abbrev pub end_text : End → List ℕ
+end_text Mark = codes "mark "
+end_text Closed = codes "closed "
+
+-- how a stream of so many bytes ended, and how many batches and rows it has
+abbrev pub counts_text : End → ℕ → ℕ → ℕ → List ℕ
+counts_text end bytes batches rows =
+    end_text end ++ decimal bytes ++ codes " bytes " ++ decimal batches ++ codes " batches "
+    ++ decimal rows ++ codes " rows\n"
+
+-- what is printed at the end of a stream of so many bytes, batches and rows
+abbrev pub tail_of : Form → End → ℕ → ℕ → ℕ → List ℕ
+tail_of Counts end bytes batches rows = counts_text end bytes batches rows
+tail_of Rows end bytes batches rows = []
+tail_of Records end bytes batches rows = []
+
+-- the same of these batches; a count stops at 2^64 - 1
+abbrev pub tail_text : Form → End → ℕ → List BatchRows → List ℕ
+tail_text form end bytes batches =
+    tail_of form end bytes (count_up 0 (length batches)) (count_up 0 (row_count batches))
+
+-- nothing, or what is printed at the end of a stream with these batches
+abbrev pub IsTail : Form → List BatchRows → List ℕ → Type 0
+IsTail form batches tail = (tail ≡ [])
+    ⊎ ((end : End) × ((bytes : ℕ) × (tail ≡ tail_text form end bytes batches)))

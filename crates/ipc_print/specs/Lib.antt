@@ -1,0 +1,6 @@
+pub mod Columns
+pub mod Digits
+pub mod Forms
+pub mod Output
+pub mod Rows
+pub mod Streams

@@ -1,0 +1,272 @@
+-- What is read of a stream and printed, whatever the answer.
+use Rattle.ipc_model.specs.declared.table.BatchRows.{BatchRows}
+use Rattle.std.specs.Prelude.{◌≡◌, ◌≢◌, ◌⊎◌, ◌+◌, ℕ, List, [], ◌∷◌, ◌++◌, length, map, take, Option}
+use Rattle.std.specs.Prelude.{Some, None}
+use Rattle.std.specs.Prelude.{Result, Ok, Err, ⊤}
+use Rattle.std.specs.Io.KnownBytes.{Appends, Consumes, IsAtEnd, Keeps}
+use Rattle.ipc_model.specs.declared.fault.Fault.{Fault}
+use Rattle.ipc_model.specs.declared.fault.WriteFault.{WriteFault}
+use Rattle.ipc_model.specs.declared.fault.WriteFault.TheVariants as w
+use Rattle.ipc_model.specs.Numbering.{fault_status, write_fault_status}
+use Rattle.ipc_model.specs.declared.limits.Limits.{Limits}
+use Rattle.ipc_model.specs.declared.schema.Field.{Field}
+use Rattle.ipc_model.specs.declared.schema.Schema.{Schema}
+use Rattle.ipc_model.specs.declared.table.Table.{Table}
+use Rattle.ipc_model.specs.declared.value.Value.{Value}
+use Rattle.ipc_stream.specs.declared.end.End.{End}
+use Rattle.ipc_stream.specs.declared.end.End.TheVariants.{Closed}
+use Rattle.ipc_stream.specs.Stream.{State, schema, batch, Run, events_of, Denotes}
+use Rattle.ipc_stream.specs.Failures.{Tells}
+use Rattle.ipc_stream.specs.Reasons.{Reads}
+use Rattle.ipc_stream.specs.Reader.{Reader, in_force_of}
+use Rattle.ipc_stream.specs.Taken.{count_up}
+use Rattle.ipc_text.specs.declared.fault.TextFault.{TextFault}
+use Rattle.ipc_text.specs.declared.fault.TextFault.TheVariants as x
+use Rattle.ipc_print.specs.declared.form.Form.{Form}
+use Rattle.ipc_print.specs.declared.rows.PrintFault.{PrintFault}
+use Rattle.ipc_print.specs.declared.rows.PrintFault.TheVariants as p
+use Rattle.ipc_print.specs.declared.stop.Stop.{Stop}
+use Rattle.ipc_print.specs.declared.stop.Stop.TheVariants as stop
+use Rattle.ipc_print.specs.declared.stop.Outcome.{Outcome}
+use Rattle.ipc_print.specs.declared.stop.Tally.{Tally}
+use Rattle.ipc_print.specs.declared.stop.Outcome.TheVariants as o
+use Rattle.ipc_print.specs.Forms.{form_fault, front_text, line_of, HaveLines, IsTail}
+use Rattle.ipc_print.specs.Forms.{row_count, tail_of, tail_text}
+use Rattle.ipc_print.specs.Forms.{HaveAllLines, Refuses}
+use Rattle.ipc_print.specs.Output.{Output, output, Grows, Puts, PutFails}
+use Rattle.ipc_print.specs.Rows.{lines, batch_lines}
+
+-- what is printed of batches with these columns: the front, and a line for each row
+abbrev pub printed : Form → Schema → List BatchRows → List ℕ
+printed form s batches = front_text form s ++ batch_lines (line_of form s.fields) batches
+
+-- The bytes that were taken denote a table and its end, and exactly its text was printed: the
+-- front, the rows in order, and the tail.
+pub record PrintsTable (form : Form) (limits : Limits) (old new written_old written_new : Option
+    (List ℕ)) : Type 0 where
+  pub x : List ℕ
+  pub table : Table
+  pub end : End
+  pub bytes : Consumes old new x
+  pub denotes : Denotes limits x table end
+  pub closed : end ≡ Closed → IsAtEnd new
+  pub fits : form_fault form table.schema.fields ≡ None
+  pub rows : HaveAllLines form table.schema.fields table.batches
+  pub text : Appends written_old written_new (printed form table.schema table.batches
+      ++ tail_text form end (count_up 0 (length x)) table.batches)
+
+-- Why a stream isn't read to its end, and what was printed before.
+pub data Breaks (form : Form) (limits : Limits) (old new written_old written_new : Option (List ℕ))
+    (fault : Fault) : Type 0 where
+  -- no schema is read
+  unopened : (x : List ℕ) → Consumes old new x → Reads limits None x new [] (Err fault)
+      → Keeps written_old written_new → Breaks form limits old new written_old written_new fault
+  -- reading breaks off behind a schema and batches, whose text was printed
+  broken : (x : List ℕ) (table : Table) → Consumes old new x
+      → Reads limits None x new (events_of table) (Err fault)
+      → HaveAllLines form table.schema.fields table.batches
+      → Appends written_old written_new (printed form table.schema table.batches)
+      → Breaks form limits old new written_old written_new fault
+
+-- Why a table that is read isn't printed to its end, and what was printed before.
+pub data Stops (form : Form) (limits : Limits) (old new written_old written_new : Option (List ℕ))
+    (fault : TextFault) : Type 0 where
+  -- the form has no place for the columns
+  unfit : (x : List ℕ) (s : Schema) (σ : State) → Consumes old new x
+      → Run limits None x (schema s ∷ []) σ → form_fault form s.fields ≡ Some fault
+      → Keeps written_old written_new → Stops form limits old new written_old written_new fault
+  -- a row of the last batch that was read has no text; all that stands before it was printed
+  refused : (x : List ℕ) (table : Table) (last : BatchRows) (count : ℕ) (σ : State)
+      → Consumes old new x
+      → Run limits None x (events_of table ++ batch last ∷ []) σ
+      → HaveAllLines form table.schema.fields table.batches
+      → Refuses form table.schema.fields last.rows count fault
+      → Appends written_old written_new
+      (printed form table.schema table.batches
+      ++ lines (line_of form table.schema.fields) (take count last.rows))
+      → Stops form limits old new written_old written_new fault
+
+-- Whatever the answer: a beginning of the text of the batches that were read was printed.
+pub data PrintsSome (form : Form) (limits : Limits) (old new written_old written_new : Option
+    (List ℕ)) : Type 0 where
+  nothing : (x : List ℕ) → Consumes old new x → Keeps written_old written_new
+      → PrintsSome form limits old new written_old written_new
+  some : (x rest behind tail : List ℕ) (table : Table) (σ : State) → Consumes old new (x ++ rest)
+      → Run limits None x (events_of table) σ → IsTail form table.batches tail
+      → Grows written_old [] written_new behind (printed form table.schema table.batches ++ tail)
+      → PrintsSome form limits old new written_old written_new
+
+-- the exit status of a refusal of texts
+abbrev pub text_status : TextFault → ℕ
+text_status x.OutOfMemory = write_fault_status w.OutOfMemory
+text_status _ = 1
+
+-- the exit status of a program that stopped so: memory ran out, a device failed, or what was read is
+-- refused
+abbrev pub stop_status : Stop → ℕ
+stop_status (stop.Read fault message) = fault_status fault
+stop_status (stop.Write fault) = write_fault_status fault
+stop_status (stop.Text fault) = text_status fault
+
+-- the exit status of a program that prints
+abbrev pub exit_status : {T : Type 0} → Result T Stop → ℕ
+exit_status (Ok done) = 0
+exit_status (Err why) = stop_status why
+
+-- the status is 3 exactly where the source or the sink failed in the call; the numbers count their
+-- failures before it and behind it
+pub record TellsDevices (source_old source_new sink_old sink_new status : ℕ) : Type 0 where
+  pub failed : status ≡ 3 → (source_new ≡ 1) ⊎ (sink_new ≡ 1)
+  pub works : status ≢ 3 → source_old ≡ 0 → sink_old ≡ 0 → (source_new ≡ 0) × (sink_new ≡ 0)
+
+-- what an answer says of a stream that is printed: of one that isn't written, a beginning was
+abbrev pub Prints : Form → Limits → Option (List ℕ) → Option (List ℕ) → Option (List ℕ)
+    → Option (List ℕ) → Result ⊤ Stop → Type 0
+Prints form limits old new written_old written_new (Ok done) =
+    PrintsTable form limits old new written_old written_new
+Prints form limits old new written_old written_new (Err (stop.Read fault message)) =
+    Breaks form limits old new written_old written_new fault
+Prints form limits old new written_old written_new (Err (stop.Text fault)) =
+    Stops form limits old new written_old written_new fault
+Prints form limits old new written_old written_new (Err (stop.Write fault)) =
+    (write_fault_status fault ≢ 1) × PrintsSome form limits old new written_old written_new
+
+-- a refusal of what was read, that isn't want of memory: its cause, and what was printed before
+abbrev pub Refused : Form → Limits → Option (List ℕ) → Option (List ℕ) → Option (List ℕ)
+    → Option (List ℕ) → Type 0
+Refused form limits old new written_old written_new =
+    ((fault : Fault) × (fault_status fault ≡ 1)
+    × Breaks form limits old new written_old written_new fault)
+    ⊎ ((fault : TextFault) × (text_status fault ≡ 1)
+    × Stops form limits old new written_old written_new fault)
+
+-- ---- the steps in between
+
+-- how many batches there are, and how many rows they have
+abbrev pub IsTally : Tally → List BatchRows → Type 0
+IsTally tally batches = (tally.batches ≡ count_up 0 (length batches))
+    × (tally.rows ≡ count_up 0 (row_count batches))
+
+-- what is printed where printing rows ended, behind so many bytes
+abbrev pub outcome_tail : Form → Outcome → ℕ → List ℕ
+outcome_tail form (o.Whole end tally) bytes = tail_of form end bytes tally.batches tally.rows
+outcome_tail form (o.Broken fault) bytes = []
+outcome_tail form (o.Refused fault) bytes = []
+
+-- the stream was read to its end
+abbrev pub IsWhole : Outcome → Type 0
+IsWhole (o.Whole end tally) = ⊤
+IsWhole (o.Broken fault) = ⊥
+IsWhole (o.Refused fault) = ⊥
+
+module _ (form : Form) (front : List ℕ) (old new : Reader) (before : Output) where
+  abbrev line : List Value → List ℕ
+  line = line_of form old.schema.fields
+
+  -- what was read behind the schema, how that ended, and that the rows were put behind a front
+  pub record PrintsRows (after : Output) (answer : Result End Fault) : Type 0 where
+    pub x : List ℕ
+    pub batches : List BatchRows
+    pub bytes : Consumes old.remaining new.remaining x
+    pub reads :
+        Reads old.limits (Some (in_force_of old)) x new.remaining (map batch batches) answer
+    pub counted :
+        (k : ℕ) → old.taken ≡ count_up 0 k → new.taken ≡ count_up 0 (k + length x)
+    pub have : HaveAllLines form old.schema.fields batches
+    pub puts : Puts before after (front ++ batch_lines line batches)
+
+  -- batches that were read behind the schema, and a row of the last of them that isn't printed
+  pub record RefusesRow (after : Output) (fault : TextFault) : Type 0 where
+    pub x : List ℕ
+    pub batches : List BatchRows
+    pub last : BatchRows
+    pub count : ℕ
+    pub bytes : Consumes old.remaining new.remaining x
+    pub state : State
+    pub run : Run old.limits (Some (in_force_of old)) x (map batch (batches ++ last ∷ [])) state
+    pub have : HaveAllLines form old.schema.fields batches
+    pub refuses : Refuses form old.schema.fields last.rows count fault
+    pub puts : Puts before after
+        ((front ++ batch_lines line batches) ++ lines line (take count last.rows))
+
+  -- rows that were read behind the schema, of which with the front a beginning was put
+  pub record PrintsPart (written : Option (List ℕ)) (failures : ℕ)
+      (fault : PrintFault) : Type 0 where
+    pub x : List ℕ
+    pub batches : List BatchRows
+    pub bytes : Consumes old.remaining new.remaining x
+    pub rest : List ℕ
+    pub whole : List ℕ
+    pub joined : x ≡ whole ++ rest
+    pub state : State
+    pub run : Run old.limits (Some (in_force_of old)) whole (map batch batches) state
+    pub tail : List ℕ
+    pub ends : IsTail form batches tail
+    pub puts :
+        PutFails before written failures ((front ++ batch_lines line batches) ++ tail) fault
+    pub works : fault ≢ p.Write → old.failures ≡ 0 → new.failures ≡ 0
+
+  -- what was read to its end behind the schema, with all its rows put behind a front, and the tail
+  pub record PrintsWhole (after : Output) (end : End) : Type 0 where
+    pub middle : Output
+    pub rows : PrintsRows middle (Ok end)
+    pub tail : Puts middle after (tail_text form end new.taken rows.batches)
+
+-- the columns have no place in the form, and nothing was taken and printed
+pub record Unfit (form : Form) (old new : Reader) (before after : Output)
+    (fault : TextFault) : Type 0 where
+  pub unfit : form_fault form old.schema.fields ≡ Some fault
+  pub same : new ≡ old
+  pub silent : after ≡ before
+
+-- what an answer says of the rows behind a front
+abbrev pub PrintsBatches : Form → List ℕ → Reader → Reader → Output → Output
+    → Result Outcome PrintFault → Type 0
+PrintsBatches form front old new before after (Ok (o.Whole end tally)) =
+    ((rows : PrintsRows form front old new before after (Ok end)) × IsTally tally rows.batches)
+    × (old.failures ≡ 0 → new.failures ≡ 0)
+PrintsBatches form front old new before after (Ok (o.Broken fault)) =
+    PrintsRows form front old new before after (Err fault) × Tells old.failures new.failures fault
+PrintsBatches form front old new before after (Ok (o.Refused fault)) =
+    RefusesRow form front old new before after fault × (old.failures ≡ 0 → new.failures ≡ 0)
+PrintsBatches form front old new before after (Err fault) =
+    PrintsPart form front old new before after.written after.failures fault
+
+-- the same with what is printed at the end
+abbrev pub PrintsAll : Form → List ℕ → Reader → Reader → Output → Output
+    → Result Outcome PrintFault → Type 0
+PrintsAll form front old new before after (Ok (o.Whole end tally)) =
+    PrintsWhole form front old new before after end × (old.failures ≡ 0 → new.failures ≡ 0)
+PrintsAll form front old new before after answer =
+    PrintsBatches form front old new before after answer
+
+-- why rows weren't printed, as a refusal of writing
+abbrev pub write_fault : PrintFault → WriteFault
+write_fault p.Write = w.Write
+write_fault p.OutOfMemory = w.OutOfMemory
+
+-- what an answer says of a stream whose schema was read
+abbrev pub PrintsStream : Form → Reader → Reader → Output → Output → Result ⊤ Stop → Type 0
+PrintsStream form old new before after (Ok done) =
+    (form_fault form old.schema.fields ≡ None)
+    × ((end : End) × PrintsWhole form (front_text form old.schema) old new before after end)
+PrintsStream form old new before after (Err (stop.Read fault message)) =
+    PrintsRows form (front_text form old.schema) old new before after (Err fault)
+PrintsStream form old new before after (Err (stop.Text fault)) =
+    Unfit form old new before after fault
+    ⊎ RefusesRow form (front_text form old.schema) old new before after fault
+PrintsStream form old new before after (Err (stop.Write fault)) =
+    (why : PrintFault) × (fault ≡ write_fault why)
+    × PrintsPart form (front_text form old.schema) old new before after.written
+    after.failures why
+
+-- what printing a batch says: all its rows were put, or those before one that isn't printed
+abbrev pub PutsRows : Form → List Field → List (List Value) → Output → Option (List ℕ) → ℕ
+    → List ℕ → Result (Option TextFault) PrintFault → Type 0
+PutsRows form fields rows old written failures kept (Ok None) = HaveLines form fields rows
+    × Puts old (output written failures kept) (lines (line_of form fields) rows)
+PutsRows form fields rows old written failures kept (Ok (Some fault)) =
+    (count : ℕ) × Refuses form fields rows count fault
+    × Puts old (output written failures kept) (lines (line_of form fields) (take count rows))
+PutsRows form fields rows old written failures kept (Err fault) =
+    PutFails old written failures (lines (line_of form fields) rows) fault

@@ -1,0 +1,125 @@
+//! The rows of a batch as text, in each form.
+ghost use Rattle.std.specs.Prelude.{◌≡◌, ◌≢◌, ◌<◌, [], length, IfErr, IfOk, IsTrue, None};
+ghost use Rattle.std.specs.Prelude.{slice_index_or};
+ghost use Rattle.ipc_text.specs.declared.fault.TextFault.TheVariants.{OutOfMemory};
+ghost use Rattle.ipc_print.specs.Columns.{AreShownColumns};
+ghost use Rattle.ipc_print.specs.Forms as spec;
+ghost use Rattle.ipc_print.specs.Forms.{HasLine, Lacks, form_fault};
+ghost use Rattle.ipc_print.specs.Streams.{PutsRows};
+ghost use Rattle.ipc_print.specs.Output.{output};
+ghost use Rattle.ipc_print.specs.Rows.{AreShownRows};
+
+use crate::csv_row::csv_line;
+use crate::form::Form;
+use crate::json_row::json_line;
+use crate::rows::{Lines, PrintFault};
+use crate::types::are_numbers;
+use ipc_column::Batch;
+use ipc_model::Field;
+use ipc_stream::Sink;
+use ipc_text::TextFault;
+use std::alloc::Global;
+
+// The line of a row, in the room of the line before.
+fn line_of(
+    form: Form,
+    line: Vec<u8>,
+    digits: &mut Vec<u8>,
+    fields: &[Field],
+    batch: &Batch,
+    row: usize,
+) -> Result<Vec<u8>, TextFault>
+    requires row { row < length batch.now.rows }
+    requires columns { batch.now.columns ≡ length fields.now }
+    requires fits { form_fault form fields.now ≡ None }
+    ensures text { IfOk result (λ line. line.items
+        ≡ spec.line_of form fields.now (slice_index_or batch.now.rows row [])) }
+    ensures ok { IfOk result
+        (λ line. HasLine form fields.now (slice_index_or batch.now.rows row [])) }
+    ensures refused { IfErr result (λ fault. fault ≢ OutOfMemory
+        → Lacks form fields.now (slice_index_or batch.now.rows row []) fault) }
+{
+    match form {
+        Form::Counts => {
+            let mut text = line;
+            text.clear();
+            Ok(text)
+        }
+        Form::Rows => Ok(json_line(line, digits, fields, batch, row)?),
+        Form::Records => csv_line(line, fields, batch, row),
+    }
+}
+
+// Adds the rows of a batch, line by line, as `print_batch`.
+fn print_lines<W: Sink>(
+    alloc: Global,
+    form: Form,
+    fields: &[Field],
+    batch: &Batch,
+    lines: &mut Lines,
+    sink: &mut W,
+) -> Result<Option<TextFault>, PrintFault>
+    requires columns { batch.now.columns ≡ length fields.now }
+    requires fits { form_fault form fields.now ≡ None }
+    ensures { PutsRows form fields.now batch.now.rows
+        (output (W.written sink.old) (W.failures sink.old) lines.old) (W.written sink.new)
+        (W.failures sink.new) lines.new result }
+{
+    let mut line = Vec::new(alloc);
+    let mut digits = Vec::new(alloc);
+    for row in 0..batch.rows() {
+        line = match line_of(form, line, &mut digits, fields, batch, row) {
+            Ok(text) => text,
+            Err(TextFault::OutOfMemory) => return Err(PrintFault::OutOfMemory),
+            Err(fault) => return Ok(Some(fault)),
+        };
+        lines.put(sink, line.as_slice())?;
+    }
+    Ok(None)
+}
+
+// Whether nothing is printed of a row.
+fn is_silent(form: Form) -> bool
+    ensures { IsTrue result → form ≡ Form.Counts }
+{
+    matches!(form, Form::Counts)
+}
+
+// Whether rows of these columns are printed in bulk.
+fn is_numeric(form: Form, fields: &[Field]) -> bool
+    ensures { IsTrue result → (form ≡ Form.Rows) × AreShownColumns fields.now }
+{
+    matches!(form, Form::Rows) && are_numbers(fields)
+}
+
+/// Adds each row of a batch in this form, and answers why one isn't added, if it isn't: X3 in CSV.
+/// Then the rows before it were added.
+///
+/// The caller gives the fields of the batch's columns, which the form has a place for. `Write` is
+/// answered where the sink failed, and `OutOfMemory` where a line found no room; then a beginning
+/// of the rows went out, and what was kept is lost.
+pub fn print_batch<W: Sink>(
+    alloc: Global,
+    form: Form,
+    fields: &[Field],
+    batch: &Batch,
+    lines: &mut Lines,
+    sink: &mut W,
+) -> Result<Option<TextFault>, PrintFault>
+    requires columns { batch.now.columns ≡ length fields.now }
+    requires fits { form_fault form fields.now ≡ None }
+    requires numbers { AreShownColumns fields.now → AreShownRows batch.now.rows }
+    ensures { PutsRows form fields.now batch.now.rows
+        (output (W.written sink.old) (W.failures sink.old) lines.old) (W.written sink.new)
+        (W.failures sink.new) lines.new result }
+{
+    if is_silent(form) {
+        return Ok(None);
+    }
+    if is_numeric(form, fields) {
+        let _columns = batch.columns();
+        lines.put_numbers(alloc, sink, batch)?;
+        return Ok(None);
+    }
+    print_lines(alloc, form, fields, batch, lines, sink)
+}

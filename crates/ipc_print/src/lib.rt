@@ -1,0 +1,17 @@
+//! The rows of a stream as text: its counts, lines of JSON, or records of CSV.
+#![tactic(auto)]
+
+mod batch_text;
+mod csv_row;
+mod digits;
+mod form;
+mod json_row;
+mod print;
+mod rows;
+mod stop;
+mod types;
+
+pub use digits::{put_i64, put_u64};
+pub use form::Form;
+pub use print::print;
+pub use stop::Stop;

@@ -1,0 +1,241 @@
+//! A stream is read, and its rows are printed as they come.
+ghost use Rattle.std.specs.Prelude.{◌≡◌, ◌++◌, ◌∷◌, [], Some, IfErr, IfOk, OnOk};
+ghost use Rattle.std.specs.Prelude.{decimal, None, Ok};
+ghost use Rattle.ipc_stream.specs.declared.phase.Phase.TheVariants.{Reading};
+ghost use Rattle.ipc_text.specs.RowCsv.{unless_fault};
+ghost use Rattle.ipc_text.specs.SchemaJson.{schema_text};
+ghost use Rattle.ipc_print.specs.Forms.{counts_text, form_fault, front_text};
+ghost use Rattle.ipc_print.specs.Output.{output, PrintsAs};
+ghost use Rattle.ipc_print.specs.Streams.{IsWhole, Prints, PrintsAll, PrintsBatches};
+ghost use Rattle.ipc_print.specs.Streams.{PrintsStream, TellsDevices, exit_status};
+ghost use Rattle.ipc_print.specs.Streams.{outcome_tail, write_fault};
+
+use crate::batch_text::print_batch;
+use crate::form::Form;
+use crate::rows::{Lines, PrintFault};
+use crate::stop::{Outcome, Stop, Tally};
+use ipc_model::{Limits, Schema, WriteFault};
+use ipc_stream::{End, Sink, Source, StreamReader};
+use ipc_text::{TextFault, check_flat, csv_header, schema_json};
+use itoa::Buffer;
+use std::alloc::{AllocError, Global};
+
+// Prints the rows of a stream, and tells how that ended.
+fn print_rows<R: Source, W: Sink>(
+    alloc: Global,
+    form: Form,
+    stream: &mut StreamReader<R>,
+    lines: &mut Lines,
+    sink: &mut W,
+) -> Result<Outcome, PrintFault>
+    requires reading { stream.old.phase ≡ Reading }
+    requires fits { form_fault form stream.old.schema.fields ≡ None }
+    ensures schema { stream.new.schema ≡ stream.old.schema }
+    ensures limits { stream.new.limits ≡ stream.old.limits }
+    ensures prints { PrintsBatches form [] stream.old stream.new
+        (output (W.written sink.old) (W.failures sink.old) lines.old)
+        (output (W.written sink.new) (W.failures sink.new) lines.new) result }
+{
+    let mut tally = Tally::none();
+    loop {
+        match stream.next() {
+            Ok(Some((batch, _pairs))) => {
+                let refused = print_batch(alloc, form, stream.fields(), &batch, lines, sink)?;
+                if let Some(fault) = refused {
+                    return Ok(Outcome::Refused(fault));
+                }
+                tally = tally.with_batch(batch.rows());
+            }
+            // The reader has an end now, so none is made up.
+            Ok(None) => {
+                let end = stream.end().unwrap_or(End::Closed);
+                return Ok(Outcome::Whole(end, tally));
+            }
+            Err(fault) => return Ok(Outcome::Broken(fault)),
+        }
+    }
+}
+
+// The schema's JSON text and a line feed.
+fn schema_line(alloc: Global, schema: &Schema) -> Result<Vec<u8>, TextFault>
+    ensures { IfOk result (λ line. line.items ≡ schema_text schema.now ++ 10 ∷ []) }
+{
+    let mut line = schema_json(alloc, schema)?.into_bytes();
+    line.push(b'\n')?;
+    Ok(line)
+}
+
+// Appends a number in decimal and a word.
+fn push_count(out: &mut Vec<u8>, number: u64, word: &[u8]) -> Result<(), AllocError>
+    ensures { OnOk result (out.new.items ≡ out.old.items ++ decimal number ++ word.now) }
+{
+    let mut digits = Buffer::new();
+    out.extend_from_slice(digits.format(number).as_bytes())?;
+    out.extend_from_slice(word)
+}
+
+// How a stream ended, how many bytes were taken of it, and how many batches and rows it has.
+fn counts_line(alloc: Global, end: End, bytes: u64, tally: Tally) -> Result<Vec<u8>, AllocError>
+    ensures { IfOk result (λ line. line.items ≡ counts_text end bytes tally.batches tally.rows) }
+{
+    let mut line = Vec::new(alloc);
+    match end {
+        End::Mark => line.extend_from_slice(b"mark ")?,
+        End::Closed => line.extend_from_slice(b"closed ")?,
+    }
+    push_count(&mut line, bytes, b" bytes ")?;
+    push_count(&mut line, tally.batches, b" batches ")?;
+    push_count(&mut line, tally.rows, b" rows\n")?;
+    Ok(line)
+}
+
+// Prints what stands behind the rows, once they ended.
+fn print_tail<W: Sink>(
+    alloc: Global,
+    form: Form,
+    outcome: Outcome,
+    bytes: u64,
+    lines: &mut Lines,
+    sink: &mut W,
+) -> Result<(), PrintFault>
+    ensures puts { PrintsAs (output (W.written sink.old) (W.failures sink.old) lines.old)
+        (W.written sink.new) (W.failures sink.new) lines.new (outcome_tail form outcome bytes)
+        result }
+    ensures whole { IfErr result (λ fault. IsWhole outcome) }
+{
+    let Outcome::Whole(end, tally) = outcome else {
+        return Ok(());
+    };
+    match form {
+        Form::Counts => {
+            let line = counts_line(alloc, end, bytes, tally)?;
+            lines.put(sink, line.as_slice())
+        }
+        Form::Rows | Form::Records => Ok(()),
+    }
+}
+
+// Prints what stands in front of the rows.
+fn print_front<W: Sink>(
+    alloc: Global,
+    form: Form,
+    schema: &Schema,
+    lines: &mut Lines,
+    sink: &mut W,
+) -> Result<(), PrintFault>
+    requires fits { form_fault form schema.now.fields ≡ None }
+    ensures puts { PrintsAs (output (W.written sink.old) (W.failures sink.old) lines.old)
+        (W.written sink.new) (W.failures sink.new) lines.new (front_text form schema.now)
+        result }
+{
+    match form {
+        Form::Counts => match schema_line(alloc, schema) {
+            Ok(line) => lines.put(sink, line.as_slice()),
+            Err(_) => Err(PrintFault::OutOfMemory),
+        },
+        Form::Rows => Ok(()),
+        Form::Records => match csv_header(alloc, schema) {
+            Ok(header) => lines.put(sink, header.as_slice()),
+            Err(_) => Err(PrintFault::OutOfMemory),
+        },
+    }
+}
+
+// Prints a stream behind its schema. What comes before a fault goes out before it is returned.
+fn print_stream<R: Source, W: Sink>(
+    alloc: Global,
+    form: Form,
+    stream: &mut StreamReader<R>,
+    sink: &mut W,
+) -> Result<Outcome, PrintFault>
+    requires reading { stream.old.phase ≡ Reading }
+    requires fits { form_fault form stream.old.schema.fields ≡ None }
+    ensures works { IfOk result (λ outcome. W.failures sink.new ≡ 0) }
+    ensures handed_on { IfOk result (λ outcome. W.held_back sink.new ≡ Some []) }
+    ensures prints { PrintsAll form (front_text form stream.old.schema) stream.old
+        stream.new (output (W.written sink.old) (W.failures sink.old) [])
+        (output (W.written sink.new) (W.failures sink.new) []) result }
+{
+    let mut lines = Lines::new(alloc)?;
+    print_front(alloc, form, stream.schema(), &mut lines, sink)?;
+    let outcome = print_rows(alloc, form, stream, &mut lines, sink)?;
+    print_tail(alloc, form, outcome, stream.taken(), &mut lines, sink)?;
+    lines.flush(sink)?;
+    Ok(outcome)
+}
+
+// Whether the form has a place for the columns.
+fn check_form(form: Form, schema: &Schema) -> Result<(), TextFault>
+    ensures { result ≡ unless_fault (form_fault form schema.now.fields) (Ok tt) }
+{
+    match form {
+        Form::Counts | Form::Rows => Ok(()),
+        Form::Records => check_flat(schema),
+    }
+}
+
+// Why rows weren't printed, as a refusal of writing.
+fn write_fault_of(fault: PrintFault) -> WriteFault
+    ensures { result ≡ write_fault fault }
+{
+    match fault {
+        PrintFault::Write => WriteFault::Write,
+        PrintFault::OutOfMemory => WriteFault::OutOfMemory,
+    }
+}
+
+// Prints a stream whose schema was read.
+fn print_open<R: Source, W: Sink>(
+    alloc: Global,
+    form: Form,
+    stream: &mut StreamReader<R>,
+    sink: &mut W,
+) -> Result<(), Stop>
+    requires { stream.old.phase ≡ Reading }
+    ensures handed_on { OnOk result (W.held_back sink.new ≡ Some []) }
+    ensures prints { PrintsStream form stream.old stream.new
+        (output (W.written sink.old) (W.failures sink.old) [])
+        (output (W.written sink.new) (W.failures sink.new) []) result }
+    ensures devices { TellsDevices stream.old.failures stream.new.failures (W.failures sink.old)
+        (W.failures sink.new) (exit_status result) }
+{
+    if let Err(fault) = check_form(form, stream.schema()) {
+        return Err(Stop::Text(fault));
+    }
+    match print_stream(alloc, form, stream, sink) {
+        Ok(Outcome::Whole(..)) => Ok(()),
+        Ok(Outcome::Broken(fault)) => Err(Stop::Read(fault, stream.messages())),
+        Ok(Outcome::Refused(fault)) => Err(Stop::Text(fault)),
+        Err(fault) => Err(Stop::Write(write_fault_of(fault))),
+    }
+}
+
+/// Prints the stream of `source`, batch by batch under these limits, to `sink` in a form, and gives
+/// the source back. What was printed before a refusal stands, and no byte behind an end-of-stream
+/// mark is read.
+///
+/// `Read` is answered where the stream is refused or the source failed, `Text` where the columns or
+/// a row have no text in this form, `Write` where the sink failed; each has its want of memory too.
+/// At Ok the sink was flushed.
+pub fn print<R: Source, W: Sink>(
+    alloc: Global,
+    limits: Limits,
+    form: Form,
+    source: R,
+    sink: &mut W,
+) -> (Result<(), Stop>, R)
+    ensures handed_on { OnOk result.0 (W.held_back sink.new ≡ Some []) }
+    ensures prints { Prints form limits (R.remaining source) (R.remaining result.1)
+        (W.written sink.old) (W.written sink.new) result.0 }
+    ensures devices { TellsDevices (R.failures source) (R.failures result.1) (W.failures sink.old)
+        (W.failures sink.new) (exit_status result.0) }
+{
+    match StreamReader::open(alloc, limits, source) {
+        Ok(stream) => {
+            let mut stream = stream;
+            let result = print_open(alloc, form, &mut stream, sink);
+            (result, stream.into_inner())
+        }
+        Err((fault, source)) => (Err(Stop::Read(fault, 0)), source),
+    }
+}

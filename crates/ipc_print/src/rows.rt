@@ -1,0 +1,442 @@
+//! Text on its way to a sink, and rows of signed 64-bit numbers as text: each a JSON array on a
+//! line of its own.
+ghost use Rattle.std.specs.Prelude.{◌≡◌, ◌≤◌, ◌<◌, ◌+◌, ◌++◌, ◌∷◌, [], length, take, vec_len};
+ghost use Rattle.std.specs.Prelude.{slice_index_or, IfErr, IfOk, IfSome, MatchResult, Some, OnOk};
+ghost use Rattle.std.specs.Fmt.{signed_decimal};
+ghost use Rattle.std.specs.Int.{cast_signed, from_le_bytes, w64};
+ghost use Rattle.ipc_column.specs.Values.{cell_value};
+ghost use Rattle.ipc_print.specs.Columns.{AreLent, row_in, AreLong};
+ghost use Rattle.ipc_print.specs.Output.{PrintsAs, PrintsAt, output};
+ghost use Rattle.ipc_print.specs.Rows.{AreShownRows, IsShown, cell_text, closed, comma, line};
+ghost use Rattle.ipc_print.specs.Rows.{lines};
+
+use crate::digits::put_i64;
+use ipc_column::{Batch, Cell};
+use ipc_stream::Sink;
+use std::alloc::{AllocError, Global};
+use std::marker::Model;
+
+// How many bytes of text are kept before they go to the sink.
+const KEPT: usize = 1 << 16;
+
+// More than any cell takes with the byte before it.
+const ROOM: usize = 32;
+
+/// Why a text was not printed.
+#[derive(Clone, Copy, Debug, PartialEq, Eq)]
+pub enum PrintFault {
+    /// The sink failed.
+    Write,
+    /// The text found no room.
+    OutOfMemory,
+}
+
+impl From<AllocError> for PrintFault {
+    ghost use Rattle.std.specs.Prelude.{◌≡◌};
+    ghost use Rattle.ipc_print.specs.declared.rows.PrintFault.TheVariants.{OutOfMemory};
+
+    ghost from_gives = { λ _ fault. fault ≡ OutOfMemory };
+
+    fn from(_error: AllocError) -> PrintFault {
+        PrintFault::OutOfMemory
+    }
+}
+
+// Sends all of a text. Never inlined, so that the loop over the cells keeps its registers.
+#[cold]
+#[inline(never)]
+fn send<W: Sink>(sink: &mut W, text: &[u8]) -> Result<(), PrintFault>
+    ensures puts { PrintsAs (output (W.written sink.old) (W.failures sink.old) text.now)
+        (W.written sink.new) (W.failures sink.new) [] [] result }
+    ensures only { IfErr result (λ fault. fault ≡ PrintFault.Write) }
+{
+    let mut sent = 0;
+    while sent < text.len() {
+        match sink.write(&text[sent..]) {
+            Ok(count) => sent += count,
+            Err(_) => return Err(PrintFault::Write),
+        }
+    }
+    Ok(())
+}
+
+// Sends the text before `at` on its way where little room is left, and returns the place for what
+// comes next.
+#[inline(always)]
+fn make_room<W: Sink>(sink: &mut W, text: &[u8], at: usize) -> Result<usize, PrintFault>
+    requires at { at ≤ length text.now }
+    requires room { 32 ≤ length text.now }
+    ensures room { IfOk result (λ place. place + 32 ≤ length text.now) }
+    ensures puts { PrintsAt (output (W.written sink.old) (W.failures sink.old) (take at text.now))
+        (W.written sink.new) (W.failures sink.new) text.now [] result }
+{
+    if text.len() - at < ROOM {
+        send(sink, &text[..at])?;
+        return Ok(0);
+    }
+    Ok(at)
+}
+
+#[inline(always)]
+fn put_word(text: &mut [u8], at: usize, word: &[u8]) -> usize
+    requires { at + length word.now ≤ length text.old }
+    ensures end { result ≡ at + length word.now }
+    ensures text { take result text.new ≡ take at text.old ++ word.now }
+{
+    text[at..at + word.len()].copy_from_slice(word);
+    at + word.len()
+}
+
+// Adds a text of any length behind the first `start` bytes, and returns where it ends.
+fn put_text<W: Sink>(
+    sink: &mut W,
+    text: &mut [u8],
+    start: usize,
+    word: &[u8],
+) -> Result<usize, PrintFault>
+    requires { start ≤ length text.old }
+    ensures inside { IfOk result (λ end. end ≤ length text.new) }
+    ensures same_room { length text.new ≡ length text.old }
+    ensures puts { PrintsAt (output (W.written sink.old) (W.failures sink.old)
+        (take start text.old)) (W.written sink.new) (W.failures sink.new) text.new word.now result }
+{
+    if word.len() <= text.len() - start {
+        return Ok(put_word(text, start, word));
+    }
+    send(sink, &text[..start])?;
+    if word.len() <= text.len() {
+        return Ok(put_word(text, 0, word));
+    }
+    send(sink, word)?;
+    Ok(0)
+}
+
+// A comma before each cell but the first.
+#[inline(always)]
+fn put_comma(text: &mut [u8], at: usize, column: usize) -> usize
+    requires { at + 1 ≤ length text.old }
+    ensures end { result ≤ at + 1 }
+    ensures text { take result text.new ≡ take at text.old ++ comma column }
+{
+    if column == 0 {
+        return at;
+    }
+    put_word(text, at, b",")
+}
+
+// A number or `null`: the caller knows that the cell is one of both.
+#[inline(always)]
+fn put_cell(text: &mut [u8], at: usize, cell: Cell<'_>) -> usize
+    requires room { at + 25 ≤ length text.old }
+    requires shown { IsShown (cell_value cell) }
+    ensures end { result ≤ at + 25 }
+    ensures text { take result text.new ≡ take at text.old ++ cell_text (cell_value cell.entry) }
+{
+    match cell {
+        Cell::Int(number) => put_i64(text, at, number),
+        _ => put_word(text, at, b"null"),
+    }
+}
+
+// Prints a word of at most 32 bytes from `start` on, and returns where it ends.
+#[inline(always)]
+fn print_word<W: Sink>(
+    sink: &mut W,
+    text: &mut [u8],
+    start: usize,
+    word: &[u8],
+) -> Result<usize, PrintFault>
+    requires start { start ≤ length text.old }
+    requires room { 32 ≤ length text.old }
+    requires word { length word.now ≤ 32 }
+    ensures inside { IfOk result (λ end. end ≤ length text.new) }
+    ensures puts { PrintsAt (output (W.written sink.old) (W.failures sink.old)
+        (take start text.old)) (W.written sink.new) (W.failures sink.new) text.new word.now result }
+{
+    let at = make_room(sink, text, start)?;
+    Ok(put_word(text, at, word))
+}
+
+// Prints the end of a row from `start` on, and returns where it ends.
+#[inline(always)]
+fn close_row<W: Sink>(sink: &mut W, text: &mut [u8], start: usize) -> Result<usize, PrintFault>
+    requires start { start ≤ length text.old }
+    requires room { 32 ≤ length text.old }
+    ensures inside { IfOk result (λ end. end ≤ length text.new) }
+    ensures puts { PrintsAt (output (W.written sink.old) (W.failures sink.old)
+        (take start text.old)) (W.written sink.new) (W.failures sink.new) text.new closed result }
+{
+    print_word(sink, text, start, b"]\n")
+}
+
+// Prints the cell of a column, behind a comma where it isn't the first, and returns where it ends.
+#[inline(always)]
+fn print_cell<W: Sink>(
+    sink: &mut W,
+    text: &mut [u8],
+    start: usize,
+    column: usize,
+    cell: Cell<'_>,
+) -> Result<usize, PrintFault>
+    requires start { start ≤ length text.old }
+    requires room { 32 ≤ length text.old }
+    requires shown { IsShown (cell_value cell) }
+    ensures inside { IfOk result (λ end. end ≤ length text.new) }
+    ensures puts { PrintsAt (output (W.written sink.old) (W.failures sink.old)
+        (take start text.old)) (W.written sink.new) (W.failures sink.new) text.new
+        (comma column ++ cell_text (cell_value cell.entry)) result }
+{
+    let at = make_room(sink, text, start)?;
+    let at = put_comma(text, at, column);
+    Ok(put_cell(text, at, cell))
+}
+
+// Prints a row from `start` on, and returns where it ends.
+#[inline(always)]
+fn print_row<W: Sink>(
+    sink: &mut W,
+    text: &mut [u8],
+    start: usize,
+    batch: &Batch,
+    row: usize,
+) -> Result<usize, PrintFault>
+    requires row { row < length batch.now.rows }
+    requires shown { AreShownRows batch.now.rows }
+    requires start { start ≤ length text.old }
+    requires room { 32 ≤ length text.old }
+    ensures inside { IfOk result (λ end. end ≤ length text.new) }
+    ensures puts { PrintsAt (output (W.written sink.old) (W.failures sink.old)
+        (take start text.old)) (W.written sink.new) (W.failures sink.new) text.new
+        (line (slice_index_or batch.now.rows row [])) result }
+{
+    let mut at = print_word(sink, text, start, b"[")?;
+    for column in 0..batch.columns() {
+        at = print_cell(sink, text, at, column, batch.cell(row, column))?;
+    }
+    close_row(sink, text, at)
+}
+
+// Prints the rows of a batch from `start` on, and returns where the last one ends.
+#[inline(never)]
+fn print_cells<W: Sink>(
+    sink: &mut W,
+    text: &mut [u8],
+    start: usize,
+    batch: &Batch,
+) -> Result<usize, PrintFault>
+    requires shown { AreShownRows batch.now.rows }
+    requires start { start ≤ length text.old }
+    requires room { 32 ≤ length text.old }
+    ensures inside { IfOk result (λ end. end ≤ length text.new) }
+    ensures puts { PrintsAt (output (W.written sink.old) (W.failures sink.old)
+        (take start text.old)) (W.written sink.new) (W.failures sink.new) text.new
+        (lines line batch.now.rows) result }
+{
+    let mut at = start;
+    for row in 0..batch.rows() {
+        at = print_row(sink, text, at, batch, row)?;
+    }
+    Ok(at)
+}
+
+// The numbers of each column, where there is a column and each lends its numbers.
+fn numbers_of<'a>(alloc: Global, batch: &'a Batch) -> Result<Option<Vec<&'a [[u8; 8]]>>, AllocError>
+    ensures { IfOk result (λ lent. IfSome lent
+        (λ columns. AreLent (λ c. c.now) columns.items batch.now.rows)) }
+{
+    let mut columns = Vec::with_capacity(alloc, batch.columns())?;
+    for column in 0..batch.columns() {
+        match batch.numbers(column) {
+            Some(values) => columns.push(values.as_chunks::<8>().0)?,
+            None => return Ok(None),
+        }
+    }
+    if columns.is_empty() {
+        return Ok(None);
+    }
+    Ok(Some(columns))
+}
+
+// Prints a number behind a byte from `start` on, and returns where it ends.
+#[inline(always)]
+fn print_number<W: Sink>(
+    sink: &mut W,
+    text: &mut [u8],
+    start: usize,
+    before: u8,
+    number: i64,
+) -> Result<usize, PrintFault>
+    requires start { start ≤ length text.old }
+    requires room { 32 ≤ length text.old }
+    ensures inside { IfOk result (λ end. end ≤ length text.new) }
+    ensures puts { PrintsAt (output (W.written sink.old) (W.failures sink.old)
+        (take start text.old)) (W.written sink.new) (W.failures sink.new) text.new
+        (before ∷ signed_decimal number) result }
+{
+    let at = make_room(sink, text, start)?;
+    let at = put_word(text, at, &[before]);
+    Ok(put_i64(text, at, number))
+}
+
+// The number in a row of a column.
+#[inline(always)]
+fn number_at(numbers: &[[u8; 8]], row: usize) -> i64
+    requires { row < length numbers.now }
+    ensures { result ≡ cast_signed w64 (from_le_bytes w64 (slice_index_or numbers.now row [])) }
+{
+    i64::from_le_bytes(numbers[row])
+}
+
+// Prints a row of numbers from `start` on, and returns where it ends.
+#[inline(always)]
+fn print_number_row<W: Sink>(
+    sink: &mut W,
+    text: &mut [u8],
+    start: usize,
+    columns: &[&[[u8; 8]]],
+    row: usize,
+) -> Result<usize, PrintFault>
+    requires some { 0 < length columns.now }
+    requires long { AreLong (λ c. c.now) columns.now (row + 1) }
+    requires start { start ≤ length text.old }
+    requires room { 32 ≤ length text.old }
+    ensures inside { IfOk result (λ end. end ≤ length text.new) }
+    ensures puts { PrintsAt (output (W.written sink.old) (W.failures sink.old)
+        (take start text.old)) (W.written sink.new) (W.failures sink.new) text.new
+        (line (row_in (λ c. c.now) columns.now row)) result }
+{
+    let mut at = start;
+    let mut before = b'[';
+    for numbers in columns {
+        at = print_number(sink, text, at, before, number_at(numbers, row))?;
+        before = b',';
+    }
+    close_row(sink, text, at)
+}
+
+// Prints the rows of a batch, given its columns' numbers, from `start` on, and returns where the
+// last one ends.
+#[inline(never)]
+fn print_numbers<W: Sink>(
+    sink: &mut W,
+    text: &mut [u8],
+    start: usize,
+    columns: &[&[[u8; 8]]],
+    batch: &Batch,
+) -> Result<usize, PrintFault>
+    requires lent { AreLent (λ c. c.now) columns.now batch.now.rows }
+    requires start { start ≤ length text.old }
+    requires room { 32 ≤ length text.old }
+    ensures inside { IfOk result (λ end. end ≤ length text.new) }
+    ensures puts { PrintsAt (output (W.written sink.old) (W.failures sink.old)
+        (take start text.old)) (W.written sink.new) (W.failures sink.new) text.new
+        (lines line batch.now.rows) result }
+{
+    let mut at = start;
+    for row in 0..batch.rows() {
+        at = print_number_row(sink, text, at, columns, row)?;
+    }
+    Ok(at)
+}
+
+// Prints the rows of a batch from `start` on, and returns where the last one ends.
+fn print_batch<W: Sink>(
+    alloc: Global,
+    sink: &mut W,
+    text: &mut [u8],
+    start: usize,
+    batch: &Batch,
+) -> Result<usize, PrintFault>
+    requires shown { AreShownRows batch.now.rows }
+    requires start { start ≤ length text.old }
+    requires room { 32 ≤ length text.old }
+    ensures inside { IfOk result (λ end. end ≤ length text.new) }
+    ensures puts { PrintsAt (output (W.written sink.old) (W.failures sink.old)
+        (take start text.old)) (W.written sink.new) (W.failures sink.new) text.new
+        (lines line batch.now.rows) result }
+{
+    match numbers_of(alloc, batch)? {
+        Some(columns) => print_numbers(sink, text, start, &columns, batch),
+        None => print_cells(sink, text, start, batch),
+    }
+}
+
+/// Text on its way to a sink. What is seen of it is the text that is kept.
+#[derive(Drop)]
+pub struct Lines {
+    text: Vec<u8>,
+    at: usize,
+    ghost room: { 32 ≤ vec_len text },
+    ghost inside: { at ≤ vec_len text },
+}
+
+impl Model for Lines {
+    ghost use Rattle.std.specs.Prelude.{ℕ, List, take};
+    ghost use Rattle.std.specs.Coded.{codes};
+
+    ghost Value = { List ℕ };
+
+    ghost coded = { Prim.hlevel codes };
+
+    ghost view = { λ l. take l.at l.text.items };
+}
+
+impl Lines {
+    /// With no text. Out of memory is answered where the text finds no room.
+    pub fn new(alloc: Global) -> Result<Lines, AllocError>
+        ensures { IfOk result (λ lines. lines ≡ []) }
+    {
+        Ok(Lines {
+            text: vec![in alloc; 0u8; KEPT]?,
+            at: 0,
+        })
+    }
+
+    /// Adds a text. Where it finds no room behind what is kept, that goes to the sink first, and a
+    /// text that is longer than all that is ever kept goes there itself. `Write` is answered where
+    /// the sink failed, and nothing else; then what was kept is lost.
+    pub fn put<W: Sink>(&mut self, sink: &mut W, text: &[u8]) -> Result<(), PrintFault>
+        ensures { PrintsAs (output (W.written sink.old) (W.failures sink.old) self.old)
+            (W.written sink.new) (W.failures sink.new) self.new text.now result }
+    {
+        self.at = put_text(sink, &mut self.text, self.at, text)?;
+        Ok(())
+    }
+
+    /// Adds each row of a batch as a JSON array on a line of its own. Full text goes to the sink.
+    ///
+    /// The caller knows that each value is null or a signed number. `Write` is answered where the
+    /// sink failed, and `OutOfMemory` where a list of columns found no room; then a beginning of
+    /// the rows went out, and what was kept is lost.
+    pub fn put_numbers<W: Sink>(
+        &mut self,
+        alloc: Global,
+        sink: &mut W,
+        batch: &Batch,
+    ) -> Result<(), PrintFault>
+        requires { AreShownRows batch.now.rows }
+        ensures { PrintsAs (output (W.written sink.old) (W.failures sink.old) self.old)
+            (W.written sink.new) (W.failures sink.new) self.new (lines line batch.now.rows) result }
+    {
+        self.at = print_batch(alloc, sink, &mut self.text, self.at, batch)?;
+        Ok(())
+    }
+
+    /// Sends what is kept, and flushes the sink. `Write` is answered where it failed, and nothing
+    /// else; then what was kept is lost.
+    pub fn flush<W: Sink>(&mut self, sink: &mut W) -> Result<(), PrintFault>
+        ensures works { MatchResult result (λ _. W.failures sink.new ≡ 0)
+            (λ fault. fault ≡ PrintFault.Write) }
+        // Nothing is held back.
+        ensures handed_on { OnOk result (W.held_back sink.new ≡ Some []) }
+        ensures puts { PrintsAs (output (W.written sink.old) (W.failures sink.old) self.old)
+            (W.written sink.new) (W.failures sink.new) [] [] result }
+    {
+        send(sink, &self.text[..self.at])?;
+        self.at = 0;
+        match sink.flush() {
+            Ok(()) => Ok(()),
+            Err(_) => Err(PrintFault::Write),
+        }
+    }
+}

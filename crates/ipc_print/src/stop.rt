@@ -1,0 +1,78 @@
+//! How printing ended.
+
+ghost use Rattle.std.specs.Prelude.{◌≡◌};
+ghost use Rattle.ipc_stream.specs.Taken.{count_up};
+ghost use Rattle.ipc_print.specs.Streams.{stop_status};
+
+use ipc_model::{Fault, WriteFault};
+use ipc_stream::End;
+use ipc_text::TextFault;
+
+/// Why printing stopped.
+#[derive(Debug, Drop)]
+pub enum Stop {
+    /// The stream was refused at the message with this number.
+    Read(Fault, u64),
+    /// What was read could not be written.
+    Write(WriteFault),
+    /// What was read has no text.
+    Text(TextFault),
+}
+
+impl Stop {
+    /// The exit status of a program that stopped so: 1 where the stream or a row is refused, 3 where
+    /// the source or the sink failed, 4 where memory ran out.
+    pub fn exit_status(&self) -> u8
+        ensures { result ≡ stop_status self.now }
+    {
+        match self {
+            Stop::Read(fault, _) => fault.exit_status(),
+            Stop::Write(fault) => fault.exit_status(),
+            Stop::Text(TextFault::OutOfMemory) => WriteFault::OutOfMemory.exit_status(),
+            Stop::Text(_) => 1,
+        }
+    }
+}
+
+/// How many batches were read, and how many rows they have. A count stops at 2^64 - 1.
+#[derive(Clone, Copy, Debug, PartialEq, Eq)]
+pub struct Tally {
+    /// The batches.
+    pub batches: u64,
+    /// Their rows.
+    pub rows: u64,
+}
+
+impl Tally {
+    /// Of nothing.
+    pub fn none() -> Tally
+        ensures { result ≡ record { batches = 0; rows = 0 } }
+    {
+        Tally {
+            batches: 0,
+            rows: 0,
+        }
+    }
+
+    /// With one batch more, of so many rows.
+    pub fn with_batch(self, rows: usize) -> Tally
+        ensures batches { result.batches ≡ count_up self.batches 1 }
+        ensures rows { result.rows ≡ count_up self.rows rows }
+    {
+        Tally {
+            batches: self.batches.saturating_add(1),
+            rows: self.rows.saturating_add(rows as u64),
+        }
+    }
+}
+
+/// How printing a stream behind its schema ended, where all was printed that came before.
+#[derive(Clone, Copy, Debug, PartialEq, Eq)]
+pub enum Outcome {
+    /// At the stream's end, behind so many batches and rows.
+    Whole(End, Tally),
+    /// Where reading broke off.
+    Broken(Fault),
+    /// At a row that has no text.
+    Refused(TextFault),
+}
