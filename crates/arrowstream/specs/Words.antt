@@ -25,11 +25,11 @@ AreAskedFor limits = (metadata : Option ℕ) × ((body : Option ℕ) × ((rows :
 -- the limits of a job
 abbrev pub limits_of : Job → Limits
 limits_of (job.Check limits) = limits
-limits_of (job.Show limits) = limits
+limits_of (job.Show limits pairs) = limits
 limits_of (job.ToCsv limits) = limits
 
 -- the form in which a job prints
 abbrev pub form_of : Job → Form
 form_of (job.Check limits) = Counts
-form_of (job.Show limits) = Rows
+form_of (job.Show limits pairs) = Rows pairs
 form_of (job.ToCsv limits) = Records

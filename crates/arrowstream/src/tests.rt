@@ -11,10 +11,17 @@ mod vectors;
 
 use vectors::{NO_FIELDS, NULLS_64, NUMBERS_32, NUMBERS_64, THREE_EMPTY_ROWS};
 
+// The job `show` under the usual limits.
+fn showing() -> Job {
+    Job::Show {
+        limits: Limits::standard(),
+        pairs: false,
+    }
+}
+
 // What `show` answers and prints, over memory.
 fn shown(alloc: Global, bytes: &[u8]) -> (u8, Vec<u8>, Vec<u8>) {
-    let job = Job::Show(Limits::standard());
-    done_on(alloc, job, Device::new(bytes), Vec::new(alloc))
+    done_on(alloc, showing(), Device::new(bytes), Vec::new(alloc))
 }
 
 // What a job answers and prints, over any source and writer.
@@ -87,7 +94,7 @@ fn tells_a_failed_device(rt: HostRuntime) {
     let alloc = rt.alloc();
     let (status, output, messages) = done_on(
         alloc,
-        Job::Show(Limits::standard()),
+        showing(),
         Device::new(Broken),
         Vec::new(alloc),
     );
@@ -96,7 +103,7 @@ fn tells_a_failed_device(rt: HostRuntime) {
     assert_eq!(rt; messages.as_slice(), b"F36 Read at message 0\n".as_slice());
     let (status, _, messages) = done_on(
         alloc,
-        Job::Show(Limits::standard()),
+        showing(),
         Device::new(NUMBERS_64.as_slice()),
         Broken,
     );
@@ -105,7 +112,7 @@ fn tells_a_failed_device(rt: HostRuntime) {
     let mut sink = Device::new(Vec::new(alloc));
     let (status, _) = run(
         alloc,
-        Job::Show(Limits::standard()),
+        showing(),
         Device::new(&NUMBERS_64[..47]),
         &mut sink,
         &mut Broken,
@@ -186,7 +193,7 @@ fn reads_jobs(rt: HostRuntime) -> Result<(), Fail> {
     let program = "arrowstream";
     let usual = Limits::standard();
     assert!(rt;
-        matches!(&asked(alloc, &[program, "show"])?, Ok(Job::Show(limits)) if *limits == usual)
+        matches!(&asked(alloc, &[program, "show"])?, Ok(Job::Show { limits, pairs: false }) if *limits == usual)
     );
     assert!(rt;
         matches!(&asked(alloc, &[program, "to-csv"])?, Ok(Job::ToCsv(limits)) if *limits == usual)

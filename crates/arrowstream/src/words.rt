@@ -15,7 +15,12 @@ pub enum Job {
     /// Reads a stream, and prints its schema and how many bytes, batches and rows it has.
     Check(Limits),
     /// Prints each row of a stream as a JSON array on a line of its own.
-    Show(Limits),
+    Show {
+        /// How much the stream may hold.
+        limits: Limits,
+        /// Whether a line with its pairs stands in front of each batch's rows.
+        pairs: bool,
+    },
     /// Prints a stream as CSV.
     ToCsv(Limits),
 }
@@ -26,7 +31,8 @@ impl Job {
         ensures { result ≡ limits_of self.now }
     {
         match self {
-            Job::Check(limits) | Job::Show(limits) | Job::ToCsv(limits) => *limits,
+            Job::Check(limits) | Job::ToCsv(limits) => *limits,
+            Job::Show { limits, .. } => *limits,
         }
     }
 
@@ -36,7 +42,7 @@ impl Job {
     {
         match self {
             Job::Check(_) => Form::Counts,
-            Job::Show(_) => Form::Rows,
+            Job::Show { pairs, .. } => Form::Rows { pairs: *pairs },
             Job::ToCsv(_) => Form::Records,
         }
     }
@@ -83,8 +89,12 @@ Examples:
   arrowstream check --max-rows 1000000 < upload.arrows";
 
 const SHOW_EXAMPLES: &str = "\
+With --pairs a line stands in front of each batch's rows: {\"metadata\":P}, where P is an array of
+[key,value] arrays.
+
 Examples:
   arrowstream show < trades.arrows
+  arrowstream show --pairs < trades.arrows
   arrowstream show < trades.arrows | head -n 3";
 
 const TO_CSV_EXAMPLES: &str = "\
@@ -142,9 +152,14 @@ fn command<'a>(alloc: Global) -> Result<Command<'a>, AllocError> {
     let check = Command::new(alloc, "check")
         .about("Reads an Arrow IPC stream to its end, and tells its schema and counts")
         .after_help(CHECK_EXAMPLES);
+    let pairs = Arg::new(alloc, "pairs")
+        .long("pairs")
+        .action(ArgAction::SetTrue)
+        .help("Print a line with its pairs of key and value in front of each batch's rows");
     let show = Command::new(alloc, "show")
         .about("Prints each row of an Arrow IPC stream as a JSON array on a line of its own")
-        .after_help(SHOW_EXAMPLES);
+        .after_help(SHOW_EXAMPLES)
+        .arg(pairs)?;
     let to_csv = Command::new(alloc, "to-csv")
         .about("Prints an Arrow IPC stream as CSV, a header first")
         .after_help(TO_CSV_EXAMPLES);
@@ -215,7 +230,10 @@ fn read<'a>(alloc: Global, words: &'a [String]) -> Result<Job, Usage>
     };
     match matches.subcommand() {
         Some(("check", options)) => Ok(Job::Check(read_limits(alloc, options)?)),
-        Some(("show", options)) => Ok(Job::Show(read_limits(alloc, options)?)),
+        Some(("show", options)) => Ok(Job::Show {
+            limits: read_limits(alloc, options)?,
+            pairs: options.get_flag("pairs"),
+        }),
         Some(("to-csv", options)) => Ok(Job::ToCsv(read_limits(alloc, options)?)),
         _ => Err(Usage::Wrong(String::from_str(alloc, "error: no subcommand\n")?)),
     }

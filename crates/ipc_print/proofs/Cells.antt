@@ -12,7 +12,7 @@ use Rattle.serde_json.specs.Written.{outline, items_outline, compact_text, items
 use Rattle.ipc_model.specs.declared.schema.DataType.{DataType}
 use Rattle.ipc_model.specs.declared.schema.DataType.TheVariants as t
 use Rattle.ipc_model.specs.declared.schema.IntBits.TheVariants.{B64}
-use Rattle.std.specs.Prelude.{true}
+use Rattle.std.specs.Prelude.{Bool, true}
 use Rattle.ipc_model.specs.declared.schema.Field.{Field, out-Field, fold_out-Field}
 use Rattle.ipc_model.specs.declared.value.Value.{Value, out-Value, out-roll-Value}
 use Rattle.ipc_model.specs.declared.value.Value.TheOpen.{Value-F}
@@ -153,17 +153,17 @@ number_line (f ∷ fs) (w ∷ ws) columns shown size =
     ∙ (ap (λ (t : List ℕ). t ++ (rest ++ feed)) one ∙ sym (append_assoc (compact_text (cell_json f w)) rest feed))))
 
 -- so are the lines of rows
-pub number_lines : (fs : List Field) (rows : List (List Value)) (columns : ℕ) → columns ≡ length fs → AreShownColumns fs → AreShownRows rows
-    → AllByRecursion (λ row. length row ≡ columns) rows → lines line rows ≡ lines (line_of Rows fs) rows
-number_lines fs [] columns is shown all wide = refl
-number_lines fs (row ∷ rows) columns is shown all wide =
+pub number_lines : (pairs : Bool) (fs : List Field) (rows : List (List Value)) (columns : ℕ) → columns ≡ length fs → AreShownColumns fs → AreShownRows rows
+    → AllByRecursion (λ row. length row ≡ columns) rows → lines line rows ≡ lines (line_of (Rows pairs) fs) rows
+number_lines pairs fs [] columns is shown all wide = refl
+number_lines pairs fs (row ∷ rows) columns is shown all wide =
     ap (λ (t : List ℕ). t ++ lines line rows) (number_line fs row shown all.0 (wide.0 ∙ is))
-    ∙ ap (λ (t : List ℕ). line_of Rows fs row ++ t) (number_lines fs rows columns is shown all.1 wide.1)
+    ∙ ap (λ (t : List ℕ). line_of (Rows pairs) fs row ++ t) (number_lines pairs fs rows columns is shown all.1 wide.1)
 
 -- JSON has a text for each row
-pub json_has : (fs : List Field) (rows : List (List Value)) → HaveLines Rows fs rows
-json_has fs [] = tt
-json_has fs (row ∷ rows) = (tt, json_has fs rows)
+pub json_has : (pairs : Bool) (fs : List Field) (rows : List (List Value)) → HaveLines (Rows pairs) fs rows
+json_has pairs fs [] = tt
+json_has pairs fs (row ∷ rows) = (tt, json_has pairs fs rows)
 
 -- where only counts are printed, each row has its text, which is none
 pub nothing_has : (fs : List Field) (rows : List (List Value)) → HaveLines Counts fs rows

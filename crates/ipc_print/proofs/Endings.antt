@@ -13,13 +13,13 @@ use Rattle.ipc_print.specs.declared.rows.PrintFault.TheVariants.{Write, OutOfMem
 use Rattle.ipc_print.specs.declared.form.Form.{Form}
 use Rattle.ipc_print.specs.declared.stop.Outcome.{Outcome}
 use Rattle.ipc_print.specs.declared.stop.Outcome.TheVariants.{Whole, Broken, Refused as Lacking}
-use Rattle.ipc_print.specs.Forms.{line_of, tail_of, tail_text}
+use Rattle.ipc_print.specs.Forms.{head_of, line_of, tail_of, tail_text}
 use Rattle.ipc_print.specs.Output.{Output, Puts, PutFails}
 use Rattle.ipc_print.specs.Rows.{lines, batch_lines}
 use Rattle.ipc_print.specs.Streams.{PrintsRows, PrintsPart, PrintsBatches}
 use Rattle.ipc_print.proofs.Puts.{puts_then, puts_not_then, puts_not_more, puts_not_front, puts_never}
 use Rattle.ipc_print.proofs.Lines.{put_at, not_at}
-use Rattle.ipc_print.proofs.Texts.{batch_lines_more, lines_rest}
+use Rattle.ipc_print.proofs.Texts.{batch_lines_more, head_rest}
 use Rattle.std.proofs.Common.{length, inl, inr}
 use Rattle.ipc_stream.specs.Taken.{count_up}
 use Rattle.ipc_print.specs.declared.stop.Tally.{Tally}
@@ -61,7 +61,7 @@ module _ (form : Form) (front : List ℕ) (old new : Reader) where
     reads = q.reads;
     counted = q.counted;
     have = q.have;
-    puts = puts_then before mid after front (batch_lines line_in q.batches) p q.puts;
+    puts = puts_then before mid after front (batch_lines (head_of form) line_in q.batches) p q.puts;
   }
 
   -- what was put behind the front, with the front
@@ -83,7 +83,8 @@ module _ (form : Form) (front : List ℕ) (old new : Reader) where
           have = h.have;
           refuses = h.refuses;
           puts = put_at before after _ _
-              (sym (append_assoc front (batch_lines line_in h.batches) (lines line_in (take h.count h.last.rows))))
+              (sym (append_assoc front (batch_lines (head_of form) line_in h.batches)
+              (head_of form h.last.pairs ++ lines line_in (take h.count h.last.rows))))
               (puts_then before mid after front _ p h.puts);
         },
         q.1,
@@ -99,8 +100,8 @@ module _ (form : Form) (front : List ℕ) (old new : Reader) where
     run = q.run;
     tail = q.tail;
     ends = q.ends;
-    puts = not_at before after.written after.failures _ _ e (sym (append_assoc front (batch_lines line_in q.batches) q.tail))
-        (puts_not_then before mid after.written after.failures front (batch_lines line_in q.batches ++ q.tail) e p q.puts);
+    puts = not_at before after.written after.failures _ _ e (sym (append_assoc front (batch_lines (head_of form) line_in q.batches) q.tail))
+        (puts_not_then before mid after.written after.failures front (batch_lines (head_of form) line_in q.batches ++ q.tail) e p q.puts);
     works = q.works;
   }
 
@@ -114,7 +115,7 @@ module _ (form : Form) (front : List ℕ) (old new : Reader) where
       reads = p.reads;
       counted = p.counted;
       have = p.have;
-      puts = put_at before after _ _ (append-nil (front ++ batch_lines line_in p.batches)) (puts_then before mid after _ [] p.puts q);
+      puts = put_at before after _ _ (append-nil (front ++ batch_lines (head_of form) line_in p.batches)) (puts_then before mid after _ [] p.puts q);
     }
 
     -- the tail of counts is that of the batches
@@ -172,14 +173,16 @@ module _ (form : Form) (front : List ℕ) (old new : Reader) where
 
     -- the text of batches and of the first rows of one more is a beginning of the text with all its rows
     all_rows : (batches : List BatchRows) (rows : BatchRows) (count : ℕ)
-        → front ++ batch_lines line_in (batches ++ rows ∷ [])
-        ≡ ((front ++ batch_lines line_in batches) ++ lines line_in (take count rows.rows)) ++ lines line_in (drop count rows.rows)
+        → front ++ batch_lines (head_of form) line_in (batches ++ rows ∷ [])
+        ≡ ((front ++ batch_lines (head_of form) line_in batches) ++ (head_of form rows.pairs ++ lines line_in (take count rows.rows)))
+        ++ lines line_in (drop count rows.rows)
     all_rows batches rows count =
-        ap (λ (t : List ℕ). front ++ t) (sym (batch_lines_more line_in batches rows))
-        ∙ (sym (append_assoc front (batch_lines line_in batches) (lines line_in rows.rows))
-        ∙ (ap (λ (t : List ℕ). (front ++ batch_lines line_in batches) ++ t) (lines_rest line_in rows.rows count)
-        ∙ sym (append_assoc (front ++ batch_lines line_in batches) (lines line_in (take count rows.rows)) (lines line_in (drop count
-        rows.rows)))))
+        let texts = batch_lines (head_of form) line_in batches in
+        let head = head_of form rows.pairs in
+        ap (λ (t : List ℕ). front ++ t) (sym (batch_lines_more line_in (head_of form) batches rows))
+        ∙ (sym (append_assoc front texts (head ++ lines line_in rows.rows))
+        ∙ (ap (λ (t : List ℕ). (front ++ texts) ++ t) (head_rest line_in head rows.rows count)
+        ∙ sym (append_assoc (front ++ texts) (head ++ lines line_in (take count rows.rows)) (lines line_in (drop count rows.rows)))))
 
     -- the tail of a stream that was read to its end was not put
     pub tail_cut : (outcome : Outcome) (w : Option (List ℕ)) (n : ℕ) (e : PrintFault) → IsWhole outcome

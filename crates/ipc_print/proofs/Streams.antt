@@ -21,7 +21,7 @@ use Rattle.ipc_print.specs.declared.rows.PrintFault.{PrintFault}
 use Rattle.ipc_print.specs.declared.rows.PrintFault.TheVariants as p
 use Rattle.ipc_print.specs.declared.stop.Stop.{Stop}
 use Rattle.ipc_print.specs.declared.stop.Stop.TheVariants as stop
-use Rattle.ipc_print.specs.Forms.{front_text, line_of, tail_text}
+use Rattle.ipc_print.specs.Forms.{front_text, head_of, line_of, tail_text}
 use Rattle.ipc_stream.specs.Taken.{count_up}
 use Rattle.std.specs.Prelude.{length}
 use Rattle.ipc_print.specs.Output.{Output, output, Grows}
@@ -30,7 +30,7 @@ use Rattle.ipc_print.specs.Streams.{PrintsTable, Breaks, unopened, broken, Stops
 use Rattle.ipc_print.specs.Streams.{Prints, PrintsRows, PrintsPart, RefusesRow, Refused, exit_status, write_fault}
 use Rattle.ipc_print.specs.Streams.{printed}
 use Rattle.ipc_print.proofs.Puts.{grows_more, grows_then}
-use Rattle.ipc_print.proofs.Texts.{batch_lines_more, lines_rest}
+use Rattle.ipc_print.proofs.Texts.{batch_lines_more, head_rest}
 use Rattle.std.proofs.lemmas.List.{map-append, length-append}
 use Rattle.ipc_stream.proofs.Runs.{run_then, reads_after}
 use Rattle.ipc_model.specs.declared.limits.Limits.{Limits}
@@ -157,16 +157,19 @@ broken_part form old new w0 w1 fault (broken x t bytes reads have text) =
 
 -- the text of batches and of the first rows of one more is a beginning of the text with all its rows
 all_rows : (form : Form) (t : Table) (rows : BatchRows) (count : ℕ)
-    → (printed form t.schema t.batches ++ lines (line_of form t.schema.fields) (take count rows.rows))
+    → (printed form t.schema t.batches
+    ++ (head_of form rows.pairs ++ lines (line_of form t.schema.fields) (take count rows.rows)))
     ++ lines (line_of form t.schema.fields) (drop count rows.rows)
     ≡ printed form t.schema (t.batches ++ rows ∷ [])
 all_rows form t rows count =
     let line = line_of form t.schema.fields in
     let front = front_text form t.schema in
-    append_assoc (front ++ batch_lines line t.batches) (lines line (take count rows.rows)) (lines line (drop count rows.rows))
-    ∙ (ap (λ (x : List ℕ). (front ++ batch_lines line t.batches) ++ x) (sym (lines_rest line rows.rows count))
-    ∙ (append_assoc front (batch_lines line t.batches) (lines line rows.rows)
-    ∙ ap (λ (x : List ℕ). front ++ x) (batch_lines_more line t.batches rows)))
+    let head = head_of form rows.pairs in
+    let texts = batch_lines (head_of form) line t.batches in
+    append_assoc (front ++ texts) (head ++ lines line (take count rows.rows)) (lines line (drop count rows.rows))
+    ∙ (ap (λ (x : List ℕ). (front ++ texts) ++ x) (sym (head_rest line head rows.rows count))
+    ∙ (append_assoc front texts (head ++ lines line rows.rows)
+    ∙ ap (λ (x : List ℕ). front ++ x) (batch_lines_more line (head_of form) t.batches rows)))
 
 -- why a table isn't printed to its end, as what was printed
 stopped_part : {limits : Limits} → (form : Form) (old new w0 w1 : Option (List ℕ)) (fault : TextFault)
@@ -179,7 +182,7 @@ stopped_part {limits} form old new w0 w1 fault (refused x t rows count σ bytes 
     (subst (λ (z : List ℕ). Consumes old new z) (sym (append-nil x)) bytes)
     (subst (λ (es : List Event). Run limits None x es σ) (sym (one_more t rows)) run) (inl refl)
     (subst (λ (z : List ℕ). Grows w0 [] w1 rest z) (all_rows form t rows count ∙ sym (append-nil _))
-    (grows_more w0 w1 [] [] (printed form t.schema t.batches ++ lines line (take count rows.rows)) rest (appends_grows w0 w1 _ text)))
+    (grows_more w0 w1 [] [] (printed form t.schema t.batches ++ (head_of form rows.pairs ++ lines line (take count rows.rows))) rest (appends_grows w0 w1 _ text)))
 
 table_part : {limits : Limits} → (form : Form) (old new w0 w1 : Option (List ℕ)) → PrintsTable form limits old new w0 w1
     → PrintsSome form limits old new w0 w1

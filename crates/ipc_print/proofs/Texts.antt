@@ -69,9 +69,18 @@ module _ (line_of : List Value → List ℕ) where
   pub lines_rest : (rows : List (List Value)) (i : ℕ) → lines line_of rows ≡ lines line_of (take i rows) ++ lines line_of (drop i rows)
   lines_rest rows i = ap (lines line_of) (sym (take-append-drop i rows)) ∙ lines_append (take i rows) (drop i rows)
 
-  -- the lines of batches and those of one more are those of all of them
-  pub batch_lines_more : (batches : List BatchRows) (rows : BatchRows)
-      → batch_lines line_of batches ++ lines line_of rows.rows ≡ batch_lines line_of (batches ++ rows ∷ [])
-  batch_lines_more [] rows = sym (append-nil (lines line_of rows.rows))
-  batch_lines_more (b ∷ bs) rows = append_assoc (lines line_of b.rows) (batch_lines line_of bs) (lines line_of rows.rows)
-      ∙ ap (λ (x : List ℕ). lines line_of b.rows ++ x) (batch_lines_more bs rows)
+  -- a text and the lines of rows are it with the lines of the first i, and those of the others
+  pub head_rest : (head : List ℕ) (rows : List (List Value)) (i : ℕ)
+      → head ++ lines line_of rows ≡ (head ++ lines line_of (take i rows)) ++ lines line_of (drop i rows)
+  head_rest head rows i = ap (λ (x : List ℕ). head ++ x) (lines_rest rows i)
+      ∙ sym (append_assoc head (lines line_of (take i rows)) (lines line_of (drop i rows)))
+
+  -- the text of batches and that of one more is that of all of them
+  pub batch_lines_more : (head_of : List (List ℕ × List ℕ) → List ℕ) (batches : List BatchRows) (rows : BatchRows)
+      → batch_lines head_of line_of batches ++ (head_of rows.pairs ++ lines line_of rows.rows)
+      ≡ batch_lines head_of line_of (batches ++ rows ∷ [])
+  batch_lines_more head_of [] rows = sym (append-nil (head_of rows.pairs ++ lines line_of rows.rows))
+  batch_lines_more head_of (b ∷ bs) rows =
+      append_assoc (head_of b.pairs ++ lines line_of b.rows) (batch_lines head_of line_of bs)
+      (head_of rows.pairs ++ lines line_of rows.rows)
+      ∙ ap (λ (x : List ℕ). (head_of b.pairs ++ lines line_of b.rows) ++ x) (batch_lines_more head_of bs rows)

@@ -2,7 +2,8 @@
 -- 8259), or records of CSV (RFC 4180).
 use Rattle.ipc_model.specs.declared.table.BatchRows.{BatchRows}
 use Rattle.std.specs.Prelude.{◌≡◌, ◌⊎◌, ◌+◌, ◌<◌, ℕ, List, [], ◌∷◌, ◌++◌, length, take, codes}
-use Rattle.std.specs.Prelude.{decimal, Option, None, Result, Ok, Err, ⊤, slice_index_or}
+use Rattle.std.specs.Prelude.{decimal, Option, None, Result, Ok, Err, ⊤, true, false}
+use Rattle.std.specs.Prelude.{slice_index_or}
 use Rattle.std.specs.List.{AllByRecursion}
 use Rattle.ipc_model.specs.declared.schema.Field.{Field}
 use Rattle.ipc_model.specs.declared.schema.Schema.{Schema}
@@ -11,7 +12,7 @@ use Rattle.ipc_stream.specs.declared.end.End.{End}
 use Rattle.ipc_stream.specs.declared.end.End.TheVariants.{Mark, Closed}
 use Rattle.ipc_stream.specs.Taken.{count_up}
 use Rattle.ipc_text.specs.RowJson.{row_text}
-use Rattle.ipc_text.specs.SchemaJson.{schema_text}
+use Rattle.ipc_text.specs.SchemaJson.{pairs_text, schema_text}
 use Rattle.ipc_text.specs.RowCsv.{flat_fault, header_text, row_csv}
 use Rattle.ipc_text.specs.declared.fault.TextFault.{TextFault}
 use Rattle.ipc_print.specs.declared.form.Form.{Form}
@@ -25,32 +26,43 @@ text_or_none (Err fault) = []
 -- why columns have no place in this form: CSV has none for lists and structs, and wants a column
 abbrev pub form_fault : Form → List Field → Option TextFault
 form_fault Counts fields = None
-form_fault Rows fields = None
+form_fault (Rows pairs) fields = None
 form_fault Records fields = flat_fault fields
 
 -- what is printed in front of the rows: the schema as JSON in front of the counts, and a header in
 -- CSV
 abbrev pub front_text : Form → Schema → List ℕ
 front_text Counts s = schema_text s ++ 10 ∷ []
-front_text Rows s = []
+front_text (Rows pairs) s = []
 front_text Records s = text_or_none (header_text s.fields)
+
+-- the line of a batch's pairs: a JSON object with the one member `metadata`
+abbrev pub pairs_line : List (List ℕ × List ℕ) → List ℕ
+pairs_line pairs = codes "{\"metadata\":" ++ pairs_text pairs ++ codes "}\n"
+
+-- what is printed in front of a batch's rows: the line of its pairs, where rows come with pairs
+abbrev pub head_of : Form → List (List ℕ × List ℕ) → List ℕ
+head_of Counts pairs = []
+head_of (Rows true) pairs = pairs_line pairs
+head_of (Rows false) pairs = []
+head_of Records pairs = []
 
 -- what is printed of a row: its JSON text and a line feed, or its record in CSV, where it has one
 abbrev pub line_of : Form → List Field → List Value → List ℕ
 line_of Counts fields row = []
-line_of Rows fields row = row_text fields row ++ 10 ∷ []
+line_of (Rows pairs) fields row = row_text fields row ++ 10 ∷ []
 line_of Records fields row = text_or_none (row_csv fields row)
 
 -- why a row isn't printed, if it isn't: no record has it
 abbrev pub Lacks : Form → List Field → List Value → TextFault → Type 0
 Lacks Counts fields row fault = ⊥
-Lacks Rows fields row fault = ⊥
+Lacks (Rows pairs) fields row fault = ⊥
 Lacks Records fields row fault = row_csv fields row ≡ Err fault
 
 -- the row is printed: JSON has a text for each, and CSV a record for this one
 abbrev pub HasLine : Form → List Field → List Value → Type 0
 HasLine Counts fields row = ⊤
-HasLine Rows fields row = ⊤
+HasLine (Rows pairs) fields row = ⊤
 HasLine Records fields row = row_csv fields row ≡ Ok (line_of Records fields row)
 
 -- each of the rows is
@@ -87,7 +99,7 @@ counts_text end bytes batches rows =
 -- what is printed at the end of a stream of so many bytes, batches and rows
 abbrev pub tail_of : Form → End → ℕ → ℕ → ℕ → List ℕ
 tail_of Counts end bytes batches rows = counts_text end bytes batches rows
-tail_of Rows end bytes batches rows = []
+tail_of (Rows pairs) end bytes batches rows = []
 tail_of Records end bytes batches rows = []
 
 -- the same of these batches; a count stops at 2^64 - 1

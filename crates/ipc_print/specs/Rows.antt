@@ -61,10 +61,12 @@ abbrev pub lines : (List Value → List ℕ) → List (List Value) → List ℕ
 lines line_of [] = []
 lines line_of (row ∷ rows) = line_of row ++ lines line_of rows
 
--- the rows of batches, one after another
-abbrev pub batch_lines : (List Value → List ℕ) → List BatchRows → List ℕ
-batch_lines line_of [] = []
-batch_lines line_of (b ∷ batches) = lines line_of b.rows ++ batch_lines line_of batches
+-- batches, one after another: what stands in front of each, by its pairs, and its rows
+abbrev pub batch_lines : (List (List ℕ × List ℕ) → List ℕ) → (List Value → List ℕ) → List BatchRows
+    → List ℕ
+batch_lines head_of line_of [] = []
+batch_lines head_of line_of (b ∷ batches) =
+    (head_of b.pairs ++ lines line_of b.rows) ++ batch_lines head_of line_of batches
 
 -- each value of the rows is one that is shown
 abbrev pub AreShownRows : List (List Value) → Type 0

@@ -30,15 +30,17 @@ use Rattle.ipc_print.specs.declared.stop.Stop.TheVariants as stop
 use Rattle.ipc_print.specs.declared.stop.Outcome.{Outcome}
 use Rattle.ipc_print.specs.declared.stop.Tally.{Tally}
 use Rattle.ipc_print.specs.declared.stop.Outcome.TheVariants as o
-use Rattle.ipc_print.specs.Forms.{form_fault, front_text, line_of, HaveLines, IsTail}
+use Rattle.ipc_print.specs.Forms.{form_fault, front_text, head_of, line_of, HaveLines, IsTail}
 use Rattle.ipc_print.specs.Forms.{row_count, tail_of, tail_text}
 use Rattle.ipc_print.specs.Forms.{HaveAllLines, Refuses}
 use Rattle.ipc_print.specs.Output.{Output, output, Grows, Puts, PutFails}
 use Rattle.ipc_print.specs.Rows.{lines, batch_lines}
 
--- what is printed of batches with these columns: the front, and a line for each row
+-- what is printed of batches with these columns: the front, and for each batch its head and a line
+-- for each row
 abbrev pub printed : Form → Schema → List BatchRows → List ℕ
-printed form s batches = front_text form s ++ batch_lines (line_of form s.fields) batches
+printed form s batches =
+    front_text form s ++ batch_lines (head_of form) (line_of form s.fields) batches
 
 -- The bytes that were taken denote a table and its end, and exactly its text was printed: the
 -- front, the rows in order, and the tail.
@@ -83,7 +85,8 @@ pub data Stops (form : Form) (limits : Limits) (old new written_old written_new 
       → Refuses form table.schema.fields last.rows count fault
       → Appends written_old written_new
       (printed form table.schema table.batches
-      ++ lines (line_of form table.schema.fields) (take count last.rows))
+      ++ (head_of form last.pairs
+      ++ lines (line_of form table.schema.fields) (take count last.rows)))
       → Stops form limits old new written_old written_new fault
 
 -- Whatever the answer: a beginning of the text of the batches that were read was printed.
@@ -173,7 +176,7 @@ module _ (form : Form) (front : List ℕ) (old new : Reader) (before : Output) w
     pub counted :
         (k : ℕ) → old.taken ≡ count_up 0 k → new.taken ≡ count_up 0 (k + length x)
     pub have : HaveAllLines form old.schema.fields batches
-    pub puts : Puts before after (front ++ batch_lines line batches)
+    pub puts : Puts before after (front ++ batch_lines (head_of form) line batches)
 
   -- batches that were read behind the schema, and a row of the last of them that isn't printed
   pub record RefusesRow (after : Output) (fault : TextFault) : Type 0 where
@@ -187,7 +190,8 @@ module _ (form : Form) (front : List ℕ) (old new : Reader) (before : Output) w
     pub have : HaveAllLines form old.schema.fields batches
     pub refuses : Refuses form old.schema.fields last.rows count fault
     pub puts : Puts before after
-        ((front ++ batch_lines line batches) ++ lines line (take count last.rows))
+        ((front ++ batch_lines (head_of form) line batches)
+        ++ (head_of form last.pairs ++ lines line (take count last.rows)))
 
   -- rows that were read behind the schema, of which with the front a beginning was put
   pub record PrintsPart (written : Option (List ℕ)) (failures : ℕ)
@@ -203,7 +207,8 @@ module _ (form : Form) (front : List ℕ) (old new : Reader) (before : Output) w
     pub tail : List ℕ
     pub ends : IsTail form batches tail
     pub puts :
-        PutFails before written failures ((front ++ batch_lines line batches) ++ tail) fault
+        PutFails before written failures
+        ((front ++ batch_lines (head_of form) line batches) ++ tail) fault
     pub works : fault ≢ p.Write → old.failures ≡ 0 → new.failures ≡ 0
 
   -- what was read to its end behind the schema, with all its rows put behind a front, and the tail
@@ -260,13 +265,15 @@ PrintsStream form old new before after (Err (stop.Write fault)) =
     × PrintsPart form (front_text form old.schema) old new before after.written
     after.failures why
 
--- what printing a batch says: all its rows were put, or those before one that isn't printed
-abbrev pub PutsRows : Form → List Field → List (List Value) → Output → Option (List ℕ) → ℕ
-    → List ℕ → Result (Option TextFault) PrintFault → Type 0
-PutsRows form fields rows old written failures kept (Ok None) = HaveLines form fields rows
-    × Puts old (output written failures kept) (lines (line_of form fields) rows)
-PutsRows form fields rows old written failures kept (Ok (Some fault)) =
+-- what printing a batch says: its head and all its rows were put, or those before one that isn't
+-- printed
+abbrev pub PutsRows : Form → List Field → List ℕ → List (List Value) → Output → Option (List ℕ)
+    → ℕ → List ℕ → Result (Option TextFault) PrintFault → Type 0
+PutsRows form fields head rows old written failures kept (Ok None) = HaveLines form fields rows
+    × Puts old (output written failures kept) (head ++ lines (line_of form fields) rows)
+PutsRows form fields head rows old written failures kept (Ok (Some fault)) =
     (count : ℕ) × Refuses form fields rows count fault
-    × Puts old (output written failures kept) (lines (line_of form fields) (take count rows))
-PutsRows form fields rows old written failures kept (Err fault) =
-    PutFails old written failures (lines (line_of form fields) rows) fault
+    × Puts old (output written failures kept)
+    (head ++ lines (line_of form fields) (take count rows))
+PutsRows form fields head rows old written failures kept (Err fault) =
+    PutFails old written failures (head ++ lines (line_of form fields) rows) fault

@@ -1,12 +1,12 @@
 //! The rows of a batch as text, in each form.
-ghost use Rattle.std.specs.Prelude.{◌≡◌, ◌≢◌, ◌<◌, [], length, IfErr, IfOk, IsTrue, None};
+ghost use Rattle.std.specs.Prelude.{◌≡◌, ◌≢◌, ◌<◌, [], length, Bool, IfErr, IfOk, IsTrue, None};
 ghost use Rattle.std.specs.Prelude.{slice_index_or};
 ghost use Rattle.ipc_text.specs.declared.fault.TextFault.TheVariants.{OutOfMemory};
 ghost use Rattle.ipc_print.specs.Columns.{AreShownColumns};
 ghost use Rattle.ipc_print.specs.Forms as spec;
-ghost use Rattle.ipc_print.specs.Forms.{HasLine, Lacks, form_fault};
+ghost use Rattle.ipc_print.specs.Forms.{HasLine, Lacks, form_fault, head_of, pairs_line};
 ghost use Rattle.ipc_print.specs.Streams.{PutsRows};
-ghost use Rattle.ipc_print.specs.Output.{output};
+ghost use Rattle.ipc_print.specs.Output.{PrintsAs, output};
 ghost use Rattle.ipc_print.specs.Rows.{AreShownRows};
 
 use crate::csv_row::csv_line;
@@ -15,9 +15,9 @@ use crate::json_row::json_line;
 use crate::rows::{Lines, PrintFault};
 use crate::types::are_numbers;
 use ipc_column::Batch;
-use ipc_model::Field;
+use ipc_model::{Field, Text};
 use ipc_stream::Sink;
-use ipc_text::TextFault;
+use ipc_text::{TextFault, pairs_json};
 use std::alloc::Global;
 
 // The line of a row, in the room of the line before.
@@ -45,7 +45,7 @@ fn line_of(
             text.clear();
             Ok(text)
         }
-        Form::Rows => Ok(json_line(line, digits, fields, batch, row)?),
+        Form::Rows { .. } => Ok(json_line(line, digits, fields, batch, row)?),
         Form::Records => csv_line(line, fields, batch, row),
     }
 }
@@ -61,7 +61,7 @@ fn print_lines<W: Sink>(
 ) -> Result<Option<TextFault>, PrintFault>
     requires columns { batch.now.columns ≡ length fields.now }
     requires fits { form_fault form fields.now ≡ None }
-    ensures { PutsRows form fields.now batch.now.rows
+    ensures { PutsRows form fields.now [] batch.now.rows
         (output (W.written sink.old) (W.failures sink.old) lines.old) (W.written sink.new)
         (W.failures sink.new) lines.new result }
 {
@@ -87,18 +87,45 @@ fn is_silent(form: Form) -> bool
 
 // Whether rows of these columns are printed in bulk.
 fn is_numeric(form: Form, fields: &[Field]) -> bool
-    ensures { IsTrue result → (form ≡ Form.Rows) × AreShownColumns fields.now }
+    ensures rows { IsTrue result → (pairs : Bool) × (form ≡ Form.Rows pairs) }
+    ensures shown { IsTrue result → AreShownColumns fields.now }
 {
-    matches!(form, Form::Rows) && are_numbers(fields)
+    matches!(form, Form::Rows { .. }) && are_numbers(fields)
 }
 
-/// Adds each row of a batch in this form, and answers why one isn't added, if it isn't: X3 in CSV.
-/// Then the rows before it were added.
-///
-/// The caller gives the fields of the batch's columns, which the form has a place for. `Write` is
-/// answered where the sink failed, and `OutOfMemory` where a line found no room; then a beginning
-/// of the rows went out, and what was kept is lost.
-pub fn print_batch<W: Sink>(
+// The line of a batch's pairs: a JSON object with the one member `metadata`.
+fn line_of_pairs(alloc: Global, pairs: &[(Text, Text)]) -> Result<Vec<u8>, TextFault>
+    ensures { IfOk result (λ line. line.items ≡ pairs_line pairs.now) }
+{
+    let mut line = Vec::new(alloc);
+    line.extend_from_slice(b"{\"metadata\":")?;
+    line.extend_from_slice(pairs_json(alloc, pairs)?.as_bytes())?;
+    line.extend_from_slice(b"}\n")?;
+    Ok(line)
+}
+
+// Adds what stands in front of a batch's rows.
+fn print_head<W: Sink>(
+    alloc: Global,
+    form: Form,
+    pairs: &[(Text, Text)],
+    lines: &mut Lines,
+    sink: &mut W,
+) -> Result<(), PrintFault>
+    ensures { PrintsAs (output (W.written sink.old) (W.failures sink.old) lines.old)
+        (W.written sink.new) (W.failures sink.new) lines.new (head_of form pairs.now) result }
+{
+    match form {
+        Form::Rows { pairs: true } => match line_of_pairs(alloc, pairs) {
+            Ok(line) => lines.put(sink, line.as_slice()),
+            Err(_) => Err(PrintFault::OutOfMemory),
+        },
+        Form::Counts | Form::Rows { pairs: false } | Form::Records => Ok(()),
+    }
+}
+
+// Adds the rows of a batch, as `print_batch`.
+fn print_rows<W: Sink>(
     alloc: Global,
     form: Form,
     fields: &[Field],
@@ -109,7 +136,7 @@ pub fn print_batch<W: Sink>(
     requires columns { batch.now.columns ≡ length fields.now }
     requires fits { form_fault form fields.now ≡ None }
     requires numbers { AreShownColumns fields.now → AreShownRows batch.now.rows }
-    ensures { PutsRows form fields.now batch.now.rows
+    ensures { PutsRows form fields.now [] batch.now.rows
         (output (W.written sink.old) (W.failures sink.old) lines.old) (W.written sink.new)
         (W.failures sink.new) lines.new result }
 {
@@ -122,4 +149,31 @@ pub fn print_batch<W: Sink>(
         return Ok(None);
     }
     print_lines(alloc, form, fields, batch, lines, sink)
+}
+
+/// Adds a batch in this form: its head, which tells its pairs where the form has them, and each of
+/// its rows. Answers why a row isn't added, if one isn't: X3 in CSV. Then the rows before it were
+/// added.
+///
+/// The caller gives the fields of the batch's columns, which the form has a place for. `Write` is
+/// answered where the sink failed, and `OutOfMemory` where a line found no room; then a beginning
+/// of the batch's text went out, and what was kept is lost.
+pub fn print_batch<W: Sink>(
+    alloc: Global,
+    form: Form,
+    fields: &[Field],
+    pairs: &[(Text, Text)],
+    batch: &Batch,
+    lines: &mut Lines,
+    sink: &mut W,
+) -> Result<Option<TextFault>, PrintFault>
+    requires columns { batch.now.columns ≡ length fields.now }
+    requires fits { form_fault form fields.now ≡ None }
+    requires numbers { AreShownColumns fields.now → AreShownRows batch.now.rows }
+    ensures { PutsRows form fields.now (head_of form pairs.now) batch.now.rows
+        (output (W.written sink.old) (W.failures sink.old) lines.old) (W.written sink.new)
+        (W.failures sink.new) lines.new result }
+{
+    print_head(alloc, form, pairs, lines, sink)?;
+    print_rows(alloc, form, fields, batch, lines, sink)
 }

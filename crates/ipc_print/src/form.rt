@@ -6,7 +6,11 @@ pub enum Form {
     /// The schema as JSON, and behind the batches how many bytes, batches and rows there are.
     Counts,
     /// Each row as a JSON array on a line of its own.
-    Rows,
+    Rows {
+        /// Whether a line with its pairs of key and value stands in front of each batch's rows: a
+        /// JSON object with the one member `metadata`.
+        pairs: bool,
+    },
     /// A header and records of CSV.
     Records,
 }

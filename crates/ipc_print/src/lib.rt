@@ -6,12 +6,12 @@ mod csv_row;
 mod digits;
 mod form;
 mod json_row;
-mod print;
+mod printing;
 mod rows;
 mod stop;
 mod types;
 
 pub use digits::{put_i64, put_u64};
 pub use form::Form;
-pub use print::print;
+pub use printing::print;
 pub use stop::Stop;

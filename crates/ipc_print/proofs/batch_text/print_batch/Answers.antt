@@ -1,28 +1,12 @@
-use Rattle.std.proofs.Common.{◌∙◌, sym}
 use Rattle.std.proofs.lemmas.Result.{err_from_is_err_and}
-use Rattle.ipc_print.proofs.Cells.{number_lines, json_has, nothing_has, no_lines}
-use Rattle.ipc_print.proofs.Lines.{put_at, not_at}
-use Rattle.ipc_print.proofs.Puts.{puts_none}
+use Rattle.ipc_print.proofs.Heads.{rows_behind}
+use Rattle.ipc_print.proofs.Puts.{puts_not_more}
 use Rattle.ipc_print.proofs.batch_text.print_batch.Goals as goal
 
-pub returns-in_err-put_numbers : goal.returns-in_err-put_numbers
-returns-in_err-put_numbers g c =
+pub returns-in_err-print_head : goal.returns-in_err-print_head
+returns-in_err-print_head g c =
     let p = err_from_is_err_and c.from_residual.result c.from_residual.ensures.1 in
-    let both = c.is_numeric.ensures c.if-is_numeric.true in
-    let text = number_lines c.args.fields.now c.args.batch.now.rows c.columns-columns.result
-    (c.columns-columns.ensures.count ∙ c.requires.columns) both.1 (c.requires.numbers both.1) c.columns-columns.ensures.rows in
-    rw (p.1, p.2, both.0) (not_at _ _ _ _ _ _ text c.in_err-put_numbers.ensures)
+    rw (p.1, p.2) (puts_not_more _ _ _ _ _ _ c.in_err-print_head.ensures)
 
-pub returns-then-is_numeric : goal.returns-then-is_numeric
-returns-then-is_numeric g c =
-    let both = c.is_numeric.ensures c.if-is_numeric.true in
-    let text = number_lines c.args.fields.now c.args.batch.now.rows c.columns-columns.result
-    (c.columns-columns.ensures.count ∙ c.requires.columns) both.1 (c.requires.numbers both.1) c.columns-columns.ensures.rows in
-    rw both.0 (json_has c.args.fields.now c.args.batch.now.rows, put_at _ _ _ _ text c.in_ok-put_numbers.ensures)
-
-pub returns-then-is_silent : goal.returns-then-is_silent
-returns-then-is_silent g c =
-    rw (c.is_silent.ensures c.if-is_silent.true) (
-      nothing_has c.args.fields.now c.args.batch.now.rows,
-      put_at _ _ _ _ (sym (no_lines c.args.fields.now c.args.batch.now.rows)) (puts_none _),
-    )
+pub returns : goal.returns
+returns g c = rows_behind _ _ _ _ _ _ _ _ _ c.print_rows.result c.in_ok-print_head.ensures c.print_rows.ensures

@@ -1,6 +1,6 @@
 use Rattle.std.proofs.lemmas.Result.{err_from_is_err_and}
 use Rattle.ipc_print.proofs.Puts.{puts_never}
-use Rattle.ipc_print.proofs.print.print_tail.Goals as goal
+use Rattle.ipc_print.proofs.printing.print_tail.Goals as goal
 
 pub returns-in_err-line-in-Counts-clause-puts : goal.returns-in_err-line-in-Counts-clause-puts
 returns-in_err-line-in-Counts-clause-puts g c =

@@ -1,6 +1,6 @@
 use Rattle.ipc_print.specs.Output.{output}
-use Rattle.ipc_print.proofs.Printing.{Batches}
-use Rattle.ipc_print.proofs.print.print_rows.Given as goal
+use Rattle.ipc_print.proofs.BatchesRead.{Batches}
+use Rattle.ipc_print.proofs.printing.print_rows.Given as goal
 
 -- the batches so far were printed
 abbrev pub invariant-loop-batch : goal.invariant-loop-batch

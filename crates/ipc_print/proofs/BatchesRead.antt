@@ -22,7 +22,7 @@ use Rattle.ipc_text.specs.declared.fault.TextFault.{TextFault}
 use Rattle.ipc_print.specs.declared.form.Form.{Form}
 use Rattle.ipc_print.specs.declared.stop.Outcome.TheVariants.{Whole, Broken, Refused as Lacking}
 use Rattle.ipc_print.specs.Columns.{AreShownColumns}
-use Rattle.ipc_print.specs.Forms.{line_of, HaveLines, HaveAllLines, row_count}
+use Rattle.ipc_print.specs.Forms.{head_of, line_of, HaveLines, HaveAllLines, row_count}
 use Rattle.ipc_print.specs.Output.{Output, output, Puts}
 use Rattle.ipc_print.specs.Rows.{AreShownRows, lines, batch_lines}
 use Rattle.ipc_print.specs.Streams.{PrintsRows, PrintsPart, PrintsBatches, PutsRows}
@@ -55,7 +55,7 @@ pub record Batches (form : Form) (tally : Tally) (old now : Reader) (before afte
   pub counted : (k : ℕ) → old.taken ≡ count_up 0 k → now.taken ≡ count_up 0 (k + length x)
   pub tallies : IsTally tally batches
   pub have : HaveAllLines form old.schema.fields batches
-  pub puts : Puts before after (batch_lines (line_of form old.schema.fields) batches)
+  pub puts : Puts before after (batch_lines (head_of form) (line_of form old.schema.fields) batches)
 
 zero_more : (k : ℕ) → k + 0 ≡ k
 zero_more k = omega arith
@@ -150,9 +150,9 @@ module _ (form : Form) (tally : Tally) (old now new : Reader) (before after : Ou
 
   -- what was put of a batch, by the fields that are in force
   same_puts : (fields : List Field) (found : Found) (w : Option (List ℕ)) (n : ℕ) (k : List ℕ) (r : Result (Option TextFault) PrintFault)
-      → fields ≡ old.schema.fields → PutsRows form fields found.0.rows after w n k r
-      → PutsRows form old.schema.fields found.0.rows after w n k r
-  same_puts fields found w n k r is p = subst (λ (fs : List Field). PutsRows form fs found.0.rows after w n k r) is p
+      → fields ≡ old.schema.fields → PutsRows form fields (head_of form found.1) found.0.rows after w n k r
+      → PutsRows form old.schema.fields (head_of form found.1) found.0.rows after w n k r
+  same_puts fields found w n k r is p = subst (λ (fs : List Field). PutsRows form fs (head_of form found.1) found.0.rows after w n k r) is p
 
   counted_more : (found : Found) (t : NextCall now new (Ok (Some found))) (k : ℕ) → old.taken ≡ count_up 0 k
       → new.taken ≡ count_up 0 (k + length (b.x ++ t.x))
@@ -165,7 +165,7 @@ module _ (form : Form) (tally : Tally) (old now new : Reader) (before after : Ou
   pub batches_more : (fields : List Field) (found : Found) (next : Tally) (w : Option (List ℕ)) (n : ℕ) (k : List ℕ)
       → next.batches ≡ count_up tally.batches 1 → next.rows ≡ count_up tally.rows (length found.0.rows)
       → fields ≡ old.schema.fields → NextCall now new (Ok (Some found)) → new.failures ≡ now.failures
-      → PutsRows form fields found.0.rows after w n k (Ok None) → Batches form next old new before (output w n k)
+      → PutsRows form fields (head_of form found.1) found.0.rows after w n k (Ok None) → Batches form next old new before (output w n k)
   batches_more fields found next w n k one all is t works p =
       let q = same_puts fields found w n k (Ok None) is p in
       record {
@@ -180,14 +180,14 @@ module _ (form : Form) (tally : Tally) (old now new : Reader) (before after : Ou
         counted = counted_more found t;
         tallies = tally_more tally next b.batches (rows_of found) b.tallies one all;
         have = all_more (λ q. HaveLines form old.schema.fields q.rows) b.batches (rows_of found) b.have q.0;
-        puts = put_at before (output w n k) _ _ (batch_lines_more line b.batches (rows_of found))
-            (puts_then before after (output w n k) (batch_lines line b.batches) (lines line found.0.rows) b.puts q.1);
+        puts = put_at before (output w n k) _ _ (batch_lines_more line (head_of form) b.batches (rows_of found))
+            (puts_then before after (output w n k) (batch_lines (head_of form) line b.batches) (head_of form found.1 ++ lines line found.0.rows) b.puts q.1);
       }
 
   -- a row of the batch that came isn't printed, and those before it were
   pub batches_refused : (fields : List Field) (found : Found) (w : Option (List ℕ)) (n : ℕ) (k : List ℕ) (fault : TextFault)
       → fields ≡ old.schema.fields → NextCall now new (Ok (Some found)) → new.failures ≡ now.failures
-      → PutsRows form fields found.0.rows after w n k (Ok (Some fault))
+      → PutsRows form fields (head_of form found.1) found.0.rows after w n k (Ok (Some fault))
       → PrintsBatches form [] old new before (output w n k) (Ok (Lacking fault))
   batches_refused fields found w n k fault is t works p =
       let q = same_puts fields found w n k (Ok (Some fault)) is p in (
@@ -201,7 +201,7 @@ module _ (form : Form) (tally : Tally) (old now new : Reader) (before after : Ou
           run = more_run found t;
           have = b.have;
           refuses = q.1;
-          puts = puts_then before after (output w n k) (batch_lines line b.batches) _ b.puts q.2;
+          puts = puts_then before after (output w n k) (batch_lines (head_of form) line b.batches) _ b.puts q.2;
         },
         λ z. works ∙ (b.counts ∙ z),
       )
@@ -209,7 +209,7 @@ module _ (form : Form) (tally : Tally) (old now new : Reader) (before after : Ou
   -- the rows of the batch that came weren't all printed
   pub batches_cut : (fields : List Field) (found : Found) (w : Option (List ℕ)) (n : ℕ) (k : List ℕ) (e : PrintFault)
       → fields ≡ old.schema.fields → NextCall now new (Ok (Some found)) → new.failures ≡ now.failures
-      → PutsRows form fields found.0.rows after w n k (Err e) → PrintsPart form [] old new before w n e
+      → PutsRows form fields (head_of form found.1) found.0.rows after w n k (Err e) → PrintsPart form [] old new before w n e
   batches_cut fields found w n k e is t works p =
       let q = same_puts fields found w n k (Err e) is p in
       record {
@@ -223,8 +223,8 @@ module _ (form : Form) (tally : Tally) (old now new : Reader) (before after : Ou
         run = more_run found t;
         tail = [];
         ends = inl refl;
-        puts = puts_not_more before w n _ [] e (not_at before w n _ _ e (batch_lines_more line b.batches (rows_of found))
-            (puts_not_then before after w n (batch_lines line b.batches) (lines line found.0.rows) e b.puts q));
+        puts = puts_not_more before w n _ [] e (not_at before w n _ _ e (batch_lines_more line (head_of form) b.batches (rows_of found))
+            (puts_not_then before after w n (batch_lines (head_of form) line b.batches) (head_of form found.1 ++ lines line found.0.rows) e b.puts q));
         works = λ other z. works ∙ (b.counts ∙ z);
       }
 

@@ -1,5 +1,5 @@
 use Rattle.ipc_print.proofs.Streams.{prints_all, prints_none}
-use Rattle.ipc_print.proofs.print.print.Goals as goal
+use Rattle.ipc_print.proofs.printing.print.Goals as goal
 
 pub returns-in-Ok-clause-prints : goal.returns-in-Ok-clause-prints
 returns-in-Ok-clause-prints g c =

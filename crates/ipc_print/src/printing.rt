@@ -39,8 +39,9 @@ fn print_rows<R: Source, W: Sink>(
     let mut tally = Tally::none();
     loop {
         match stream.next() {
-            Ok(Some((batch, _pairs))) => {
-                let refused = print_batch(alloc, form, stream.fields(), &batch, lines, sink)?;
+            Ok(Some((batch, pairs))) => {
+                let fields = stream.fields();
+                let refused = print_batch(alloc, form, fields, &pairs, &batch, lines, sink)?;
                 if let Some(fault) = refused {
                     return Ok(Outcome::Refused(fault));
                 }
@@ -111,7 +112,7 @@ fn print_tail<W: Sink>(
             let line = counts_line(alloc, end, bytes, tally)?;
             lines.put(sink, line.as_slice())
         }
-        Form::Rows | Form::Records => Ok(()),
+        Form::Rows { .. } | Form::Records => Ok(()),
     }
 }
 
@@ -133,7 +134,7 @@ fn print_front<W: Sink>(
             Ok(line) => lines.put(sink, line.as_slice()),
             Err(_) => Err(PrintFault::OutOfMemory),
         },
-        Form::Rows => Ok(()),
+        Form::Rows { .. } => Ok(()),
         Form::Records => match csv_header(alloc, schema) {
             Ok(header) => lines.put(sink, header.as_slice()),
             Err(_) => Err(PrintFault::OutOfMemory),
@@ -169,7 +170,7 @@ fn check_form(form: Form, schema: &Schema) -> Result<(), TextFault>
     ensures { result ≡ unless_fault (form_fault form schema.now.fields) (Ok tt) }
 {
     match form {
-        Form::Counts | Form::Rows => Ok(()),
+        Form::Counts | Form::Rows { .. } => Ok(()),
         Form::Records => check_flat(schema),
     }
 }

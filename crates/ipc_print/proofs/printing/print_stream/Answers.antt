@@ -2,7 +2,7 @@ use Rattle.std.proofs.Common.{Ok, Err}
 use Rattle.std.proofs.lemmas.Result.{err_from_is_err_and}
 use Rattle.ipc_print.specs.Output.{output}
 use Rattle.ipc_print.proofs.Endings.{part_none, part_front, behind_front, flushed, unflushed, tail_cut}
-use Rattle.ipc_print.proofs.print.print_stream.Goals as goal
+use Rattle.ipc_print.proofs.printing.print_stream.Goals as goal
 
 pub returns-in_err-lines-clause-prints : goal.returns-in_err-lines-clause-prints
 returns-in_err-lines-clause-prints g c =

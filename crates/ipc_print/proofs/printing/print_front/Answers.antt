@@ -1,5 +1,5 @@
 use Rattle.ipc_print.proofs.Puts.{puts_never}
-use Rattle.ipc_print.proofs.print.print_front.Goals as goal
+use Rattle.ipc_print.proofs.printing.print_front.Goals as goal
 
 pub returns-in-Err : goal.returns-in-Err
 returns-in-Err g c = record { puts = puts_never _ _ }
