@@ -3,7 +3,7 @@ _arrowstream() {
   local words
   case "${COMP_WORDS[1]}" in
     check) words='--max-metadata --max-body --max-rows --help' ;;
-    show) words='--max-metadata --max-body --max-rows --help' ;;
+    show) words='--pairs --max-metadata --max-body --max-rows --help' ;;
     to-csv) words='--max-metadata --max-body --max-rows --help' ;;
     help) words='check show to-csv' ;;
     *) words='check show to-csv help --help --version' ;;

@@ -8,6 +8,7 @@ complete -c arrowstream -n '__fish_seen_subcommand_from check' -l max-metadata -
 complete -c arrowstream -n '__fish_seen_subcommand_from check' -l max-body -r -d 'The most bytes of a message'\''s body [default: 1099511627776]'
 complete -c arrowstream -n '__fish_seen_subcommand_from check' -l max-rows -r -d 'The most rows of a batch [default: 2147483647]'
 complete -c arrowstream -n '__fish_seen_subcommand_from check' -l help -d 'Print help'
+complete -c arrowstream -n '__fish_seen_subcommand_from show' -l pairs -d 'Print a line with its pairs of key and value in front of each batch'\''s rows'
 complete -c arrowstream -n '__fish_seen_subcommand_from show' -l max-metadata -r -d 'The most bytes of a message'\''s metadata [default: 16777216]'
 complete -c arrowstream -n '__fish_seen_subcommand_from show' -l max-body -r -d 'The most bytes of a message'\''s body [default: 1099511627776]'
 complete -c arrowstream -n '__fish_seen_subcommand_from show' -l max-rows -r -d 'The most rows of a batch [default: 2147483647]'
