@@ -1,8 +1,6 @@
 -- What a command line asks for.
-use Rattle.std.specs.Prelude.{◌≡◌, ℕ, ◌^◌, ◌-◌, unwrap_or, Option}
+use Rattle.std.specs.Prelude.{◌≡◌, ◌≤◌, ℕ, ◌^◌, ◌-◌, unwrap_or, Option, ⊤}
 use Rattle.ipc_model.specs.declared.limits.Limits.{Limits}
-use Rattle.ipc_print.specs.declared.form.Form.{Form}
-use Rattle.ipc_print.specs.declared.form.Form.TheVariants.{Counts, Rows, Records}
 use Rattle.arrowstream.specs.declared.words.Job.{Job}
 use Rattle.arrowstream.specs.declared.words.Job.TheVariants as job
 
@@ -22,14 +20,22 @@ abbrev pub AreAskedFor : Limits → Type 0
 AreAskedFor limits = (metadata : Option ℕ) × ((body : Option ℕ) × ((rows : Option ℕ)
     × HaveOptions metadata body rows limits))
 
--- the limits of a job
-abbrev pub limits_of : Job → Limits
-limits_of (job.Check limits) = limits
-limits_of (job.Show limits pairs) = limits
-limits_of (job.ToCsv limits) = limits
+-- a batch may be asked to have so many rows
+abbrev pub IsBatchSize : ℕ → Type 0
+IsBatchSize size = (1 ≤ size) × (size ≤ 2 ^ 31 - 1)
 
--- the form in which a job prints
-abbrev pub form_of : Job → Form
-form_of (job.Check limits) = Counts
-form_of (job.Show limits pairs) = Rows pairs
-form_of (job.ToCsv limits) = Records
+-- where a job has a batch size, it is one that may be asked for
+abbrev pub HasGoodSize : Job → Type 0
+HasGoodSize (job.Check limits) = ⊤
+HasGoodSize (job.Show limits pairs) = ⊤
+HasGoodSize (job.ToCsv limits) = ⊤
+HasGoodSize (job.Rewrite limits) = ⊤
+HasGoodSize (job.FromCsv path size) = IsBatchSize size
+
+-- a job's numbers are those of its options, in their ranges
+abbrev pub IsAsked : Job → Type 0
+IsAsked (job.Check limits) = AreAskedFor limits
+IsAsked (job.Show limits pairs) = AreAskedFor limits
+IsAsked (job.ToCsv limits) = AreAskedFor limits
+IsAsked (job.Rewrite limits) = AreAskedFor limits
+IsAsked (job.FromCsv path size) = IsBatchSize size

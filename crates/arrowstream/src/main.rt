@@ -1,7 +1,12 @@
-//! The command `arrowstream`, which prints Arrow IPC streams: `arrowstream --help` says how.
+//! The command `arrowstream`, which reads and writes Arrow IPC streams: `arrowstream --help` says
+//! how.
 #![tactic(auto)]
 
+ghost use Rattle.std.specs.Prelude.{IfOk};
+ghost use Rattle.arrowstream.specs.Words.{HasGoodSize};
+
 mod run;
+mod stop;
 #[cfg(test)]
 mod tests;
 mod words;
@@ -10,6 +15,7 @@ use ipc_stream::Device;
 use run::run;
 use std::alloc::{AllocError, Global};
 use std::env::Args;
+use std::fs::File;
 use std::io::Write;
 use std::process::ExitCode;
 use std::{env, io};
@@ -25,12 +31,35 @@ fn collect_words(alloc: Global, words: Args) -> Result<Vec<String>, AllocError> 
 }
 
 // The job of the command line.
-fn read_job(rt: &HostRuntime) -> Result<Job, Usage> {
+fn read_job(rt: &HostRuntime) -> Result<Job, Usage>
+    ensures { IfOk result HasGoodSize }
+{
     match env::args(rt) {
         Ok(words) => read_words(rt.alloc(), collect_words(rt.alloc(), words)?),
         Err(error) if error.kind() == io::ErrorKind::OutOfMemory => Err(Usage::OutOfMemory),
         Err(_) => Err(Usage::Wrong(String::from_str(rt.alloc(), "error: a word is not UTF-8\n")?)),
     }
+}
+
+// The file with the schema, where the job names one that can be opened.
+fn open_schema(rt: &HostRuntime, job: &Job) -> Result<Option<File>, Usage> {
+    let Job::FromCsv { schema, .. } = job else {
+        return Ok(None);
+    };
+    match File::open(rt, schema.as_str()) {
+        Ok(file) => Ok(Some(file)),
+        Err(error) if error.kind() == io::ErrorKind::OutOfMemory => Err(Usage::OutOfMemory),
+        Err(_) => Ok(None),
+    }
+}
+
+// The job of the command line, with its schema's file.
+fn read_job_and_schema(rt: &HostRuntime) -> Result<(Job, Option<File>), Usage>
+    ensures { IfOk result (λ read. HasGoodSize read.0) }
+{
+    let job = read_job(rt)?;
+    let schema = open_schema(rt, &job)?;
+    Ok((job, schema))
 }
 
 // Tells why there is no job, and answers the exit status.
@@ -52,12 +81,19 @@ fn tell_usage(rt: &HostRuntime, usage: &Usage) -> u8 {
 }
 
 fn main(rt: HostRuntime) -> ExitCode {
-    let job = match read_job(&rt) {
-        Ok(job) => job,
+    let (job, schema) = match read_job_and_schema(&rt) {
+        Ok(read) => read,
         Err(usage) => return ExitCode::from(tell_usage(&rt, &usage)),
     };
-    let input = Device::new(rt.reader());
-    let mut output = Device::new(io::writer(&rt));
-    let (status, _input) = run(rt.alloc(), job, input, &mut output, &mut rt.stderr());
+    let output = Device::new(io::writer(&rt));
+    let mut messages = rt.stderr();
+    let (status, _input, _output) = run(
+        rt.alloc(),
+        job,
+        schema,
+        rt.reader(),
+        output,
+        &mut messages,
+    );
     ExitCode::from(status)
 }

@@ -1,71 +1,177 @@
-//! Jobs: each is done between a source and a sink.
-ghost use Rattle.std.specs.Prelude.{◌≡◌, ◌⊎◌, [], Some};
-ghost use Rattle.ipc_print.specs.Streams.{PrintsSome, PrintsTable, Refused, TellsDevices};
-ghost use Rattle.arrowstream.specs.Words.{form_of, limits_of};
+//! Jobs: each is done between an input and a sink.
+ghost use Rattle.std.specs.Prelude.{◌≡◌, ◌≢◌, ◌⊎◌, [], Result, Some, IfErr, IfOk, OnOk, ⊤};
+ghost use Rattle.arrowstream.specs.Jobs.{Answers, AnswersCsv, AnswersPrint, AnswersRewrite};
+ghost use Rattle.arrowstream.specs.Jobs.{HasNoSchema, IsSchemaOf, bytes_of, exit_status, lifted};
+ghost use Rattle.arrowstream.specs.Jobs.{stop_of_csv};
+ghost use Rattle.arrowstream.specs.Words.{HasGoodSize, IsBatchSize};
+ghost use Rattle.arrowstream.specs.declared.stop.Stop.{Stop};
 
+use crate::stop::Stop;
 use crate::words::Job;
-use ipc_model::WriteFault;
-use ipc_print::{Stop, print};
-use ipc_stream::{Sink, Source};
+use ipc_from_csv::from_csv;
+use ipc_model::{Limits, Schema};
+use ipc_print::{Form, print};
+use ipc_rewrite::rewrite;
+use ipc_stream::{Device, Sink};
+use ipc_text::{TextFault, schema_from_json};
 use std::alloc::Global;
-use std::io::Write;
+use std::io;
+use std::io::{Read, Write};
 
-// Tells why a job stopped, as one line.
-fn tell<E: Write>(stop: &Stop, messages: &mut E) {
-    match stop {
-        Stop::Read(fault, message) => {
-            let _ = writeln!(messages, "{}", fault.at_message(*message));
-        }
-        Stop::Write(WriteFault::OutOfMemory) => {
-            let _ = messages.write_all(b"out of memory\n");
-        }
-        Stop::Write(fault) => {
-            let _ = writeln!(messages, "{fault}");
-        }
-        Stop::Text(fault) => {
-            let _ = writeln!(messages, "{fault}");
-        }
+// Prints a stream in a form.
+fn print_job<R: Read, W: Sink>(
+    alloc: Global,
+    form: Form,
+    limits: Limits,
+    input: R,
+    sink: W,
+) -> (Result<(), Stop>, R, W)
+    ensures answers { AnswersPrint form limits (R.remaining input) (R.remaining result.1)
+        (W.written sink) (W.written result.2) result.0 }
+    ensures handed_on { OnOk result.0 (W.held_back result.2 ≡ Some []) }
+    ensures works { exit_status result.0 ≢ 3 → W.failures sink ≡ 0 → W.failures result.2 ≡ 0 }
+{
+    let mut sink = sink;
+    let (result, source) = print(alloc, limits, form, Device::new(input), &mut sink);
+    let result = match result {
+        Ok(()) => Ok(()),
+        Err(why) => Err(why.into()),
+    };
+    (result, source.into_inner(), sink)
+}
+
+// Writes a stream anew.
+fn rewrite_job<R: Read, W: Sink>(
+    alloc: Global,
+    limits: Limits,
+    input: R,
+    sink: W,
+) -> (Result<(), Stop>, R, W)
+    ensures answers { AnswersRewrite limits (R.remaining input) (R.remaining result.1)
+        (W.written sink) (W.written result.2) (W.failures sink) (W.failures result.2) result.0 }
+    ensures handed_on { OnOk result.0 (W.held_back result.2 ≡ Some []) }
+    ensures works { exit_status result.0 ≢ 3 → W.failures sink ≡ 0 → W.failures result.2 ≡ 0 }
+{
+    let (result, source, sink) = rewrite(alloc, limits, Device::new(input), sink);
+    let result = match result {
+        Ok(()) => Ok(()),
+        Err(why) => Err(why.into()),
+    };
+    (result, source.into_inner(), sink)
+}
+
+// The schema whose JSON text a file holds.
+fn read_schema<P: Read + Drop>(alloc: Global, file: Option<P>) -> Result<Schema, Stop>
+    ensures read { IfOk result (IsSchemaOf (bytes_of P.remaining file)) }
+    ensures none { IfErr result HasNoSchema }
+{
+    let Some(file) = file else {
+        return Err(Stop::Schema);
+    };
+    match io::read_to_string(alloc, file) {
+        Ok(text) => Ok(schema_from_json(alloc, &text)?),
+        Err(error) => Err(match error.kind() {
+            io::ErrorKind::OutOfMemory => Stop::Text(TextFault::OutOfMemory),
+            io::ErrorKind::InvalidData => Stop::Text(TextFault::BadSchemaJson),
+            _ => Stop::Schema,
+        }),
     }
 }
 
-/// Does a job: reads a stream from `source` batch by batch under the job's limits and prints it to
-/// `sink` in the job's form; on a refusal prints the fault's line to `messages`. What was printed
-/// before it stands, and no byte behind an end-of-stream mark is read.
-///
-/// The answer is the exit status, and the source again: 0 where the stream was read to its end and
-/// all was printed, 1 where it is refused, or its columns or a row have no text in this form, 3
-/// where the source or the sink failed, 4 where memory ran out. A failing `messages` changes
-/// nothing.
-pub fn run<R: Source, W: Sink, E: Write>(
+// What became of records of CSV, as what became of the job.
+fn csv_result(answer: Result<(), ipc_from_csv::Stop>) -> Result<(), Stop>
+    ensures { result ≡ lifted stop_of_csv answer }
+{
+    match answer {
+        Ok(()) => Ok(()),
+        Err(why) => Err(why.into()),
+    }
+}
+
+// Writes records of CSV as a stream, by the schema of a file.
+fn csv_job<P: Read + Drop, R: Read, W: Sink>(
+    alloc: Global,
+    file: Option<P>,
+    batch: u64,
+    input: R,
+    sink: W,
+) -> (Result<(), Stop>, R, W)
+    requires { IsBatchSize batch }
+    ensures answers { AnswersCsv (bytes_of P.remaining file) batch (R.remaining input)
+        (W.written sink) (W.written result.2) (W.failures sink) (W.failures result.2) result.0 }
+    ensures handed_on { OnOk result.0 (W.held_back result.2 ≡ Some []) }
+    ensures works { exit_status result.0 ≢ 3 → W.failures sink ≡ 0 → W.failures result.2 ≡ 0 }
+{
+    let schema = match read_schema(alloc, file) {
+        Ok(schema) => schema,
+        Err(why) => return (Err(why), input, sink),
+    };
+    let (result, input, sink) = from_csv(alloc, input, sink, &schema, batch);
+    (csv_result(result), input, sink)
+}
+
+// Does a job, as `run`.
+fn do_job<P: Read + Drop, R: Read, W: Sink>(
     alloc: Global,
     job: Job,
-    source: R,
-    sink: &mut W,
-    messages: &mut E,
-) -> (u8, R)
-    // At 0 the bytes that were taken denote a table with its end, and exactly its text was printed.
-    ensures done { result.0 ≡ 0 → PrintsTable (form_of job) (limits_of job)
-        (R.remaining source) (R.remaining result.1) (W.written sink.old) (W.written sink.new) }
-    // Then the sink holds nothing back.
-    ensures handed_on { result.0 ≡ 0 → W.held_back sink.new ≡ Some [] }
-    // At 1 the stream or a row is refused, and exactly what came before was printed.
-    ensures refused { result.0 ≡ 1 → Refused (form_of job) (limits_of job)
-        (R.remaining source) (R.remaining result.1) (W.written sink.old) (W.written sink.new) }
-    // 3 comes exactly where a device failed.
-    ensures devices { TellsDevices (R.failures source) (R.failures result.1) (W.failures sink.old)
-        (W.failures sink.new) result.0 }
-    // 4 is left for memory; there is no other status.
-    ensures one { (result.0 ≡ 0) ⊎ (result.0 ≡ 1) ⊎ (result.0 ≡ 3) ⊎ (result.0 ≡ 4) }
-    // Whatever the status, a beginning of the text of what was read was printed.
-    ensures part { PrintsSome (form_of job) (limits_of job) (R.remaining source)
-        (R.remaining result.1) (W.written sink.old) (W.written sink.new) }
+    schema: Option<P>,
+    input: R,
+    sink: W,
+) -> (Result<(), Stop>, R, W)
+    requires { HasGoodSize job }
+    ensures answers { Answers job (bytes_of P.remaining schema) (R.remaining input)
+        (R.remaining result.1) (W.written sink) (W.written result.2) (W.failures sink)
+        (W.failures result.2) result.0 }
+    ensures handed_on { OnOk result.0 (W.held_back result.2 ≡ Some []) }
+    ensures works { exit_status result.0 ≢ 3 → W.failures sink ≡ 0 → W.failures result.2 ≡ 0 }
 {
-    let (result, source) = print(alloc, job.limits(), job.form(), source, sink);
+    match job {
+        Job::Check(limits) => print_job(alloc, Form::Counts, limits, input, sink),
+        Job::Show { limits, pairs } => {
+            print_job(alloc, Form::Rows { pairs }, limits, input, sink)
+        }
+        Job::ToCsv(limits) => print_job(alloc, Form::Records, limits, input, sink),
+        Job::Rewrite(limits) => rewrite_job(alloc, limits, input, sink),
+        Job::FromCsv { schema: _, batch } => csv_job(alloc, schema, batch, input, sink),
+    }
+}
+
+/// Does a job: reads `input` batch by batch and sends what the job makes of it to `sink`; on a
+/// refusal prints the fault's line to `messages`. What went out before it stands. Of a stream, no
+/// byte behind its end-of-stream mark is read.
+///
+/// `schema` is the file that the job names, or none where that can't be opened; only `FromCsv` reads
+/// it. The caller gives a batch size from 1 to 2^31 - 1, as `read_words` does.
+///
+/// The answer is the exit status, and the input and the sink again: 0 where all was done, 1 where
+/// what was read is refused, 3 where the input, the schema's file or the sink failed, 4 where memory
+/// ran out. A failing `messages` changes nothing.
+pub fn run<P: Read + Drop, R: Read, W: Sink, E: Write>(
+    alloc: Global,
+    job: Job,
+    schema: Option<P>,
+    input: R,
+    sink: W,
+    messages: &mut E,
+) -> (u8, R, W)
+    requires { HasGoodSize job }
+    // The status is that of an answer, which says what was read and what went out.
+    ensures answers { (r : Result ⊤ Stop) × (result.0 ≡ exit_status r)
+        × Answers job (bytes_of P.remaining schema) (R.remaining input) (R.remaining result.1)
+        (W.written sink) (W.written result.2) (W.failures sink) (W.failures result.2) r }
+    // Where all was done the sink holds nothing back.
+    ensures handed_on { result.0 ≡ 0 → W.held_back result.2 ≡ Some [] }
+    // A sink fails only at 3.
+    ensures works { result.0 ≢ 3 → W.failures sink ≡ 0 → W.failures result.2 ≡ 0 }
+    // There is no other status.
+    ensures one { (result.0 ≡ 0) ⊎ (result.0 ≡ 1) ⊎ (result.0 ≡ 3) ⊎ (result.0 ≡ 4) }
+{
+    let (result, input, sink) = do_job(alloc, job, schema, input, sink);
     match result {
-        Ok(()) => (0, source),
+        Ok(()) => (0, input, sink),
         Err(stop) => {
-            tell(&stop, messages);
-            (stop.exit_status(), source)
+            stop.tell(messages);
+            (stop.exit_status(), input, sink)
         }
     }
 }

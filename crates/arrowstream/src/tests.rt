@@ -1,7 +1,7 @@
 use crate::run::run;
 use crate::words::{Job, Usage, read_words};
 use ipc_print::{put_i64, put_u64};
-use ipc_stream::{Device, Limits, Source};
+use ipc_stream::{Device, Limits};
 use std::alloc::Global;
 use std::io;
 use std::io::{Read, Write};
@@ -21,19 +21,30 @@ fn showing() -> Job {
 
 // What `show` answers and prints, over memory.
 fn shown(alloc: Global, bytes: &[u8]) -> (u8, Vec<u8>, Vec<u8>) {
-    done_on(alloc, showing(), Device::new(bytes), Vec::new(alloc))
+    done_on(alloc, showing(), bytes, Vec::new(alloc))
 }
 
-// What a job answers and prints, over any source and writer.
-fn done_on<R: Source + Drop, W: Write>(
+// What a job that reads a stream answers and prints, over any reader and writer.
+fn done_on<R: Read + Drop, W: Write>(
     alloc: Global,
     job: Job,
-    source: R,
+    input: R,
     writer: W,
 ) -> (u8, W, Vec<u8>) {
-    let mut sink = Device::new(writer);
+    done_with(alloc, job, &[], input, writer)
+}
+
+// What a job answers and prints, where the schema's file holds these bytes.
+fn done_with<R: Read + Drop, W: Write>(
+    alloc: Global,
+    job: Job,
+    schema: &[u8],
+    input: R,
+    writer: W,
+) -> (u8, W, Vec<u8>) {
     let mut messages = Vec::new(alloc);
-    let (status, _source) = run(alloc, job, source, &mut sink, &mut messages);
+    let sink = Device::new(writer);
+    let (status, _input, sink) = run(alloc, job, Some(schema), input, sink, &mut messages);
     (status, sink.into_inner(), messages)
 }
 
@@ -92,29 +103,20 @@ impl Write for Broken {
 #[test]
 fn tells_a_failed_device(rt: HostRuntime) {
     let alloc = rt.alloc();
-    let (status, output, messages) = done_on(
-        alloc,
-        showing(),
-        Device::new(Broken),
-        Vec::new(alloc),
-    );
+    let (status, output, messages) = done_on(alloc, showing(), Broken, Vec::new(alloc));
     assert_eq!(rt; status, 3);
     assert_eq!(rt; output.len(), 0);
     assert_eq!(rt; messages.as_slice(), b"F36 Read at message 0\n".as_slice());
-    let (status, _, messages) = done_on(
-        alloc,
-        showing(),
-        Device::new(NUMBERS_64.as_slice()),
-        Broken,
-    );
+    let (status, _, messages) = done_on(alloc, showing(), NUMBERS_64.as_slice(), Broken);
     assert_eq!(rt; status, 3);
     assert_eq!(rt; messages.as_slice(), b"W9 Write\n".as_slice());
-    let mut sink = Device::new(Vec::new(alloc));
-    let (status, _) = run(
+    let sink = Device::new(Vec::new(alloc));
+    let (status, _, _) = run(
         alloc,
         showing(),
-        Device::new(&NUMBERS_64[..47]),
-        &mut sink,
+        None::<&[u8]>,
+        &NUMBERS_64[..47],
+        sink,
         &mut Broken,
     );
     assert_eq!(rt; status, 1);
@@ -135,7 +137,7 @@ fn prints_records(rt: HostRuntime) {
     ];
     for (bytes, wanted, wanted_status, line) in cases {
         let job = Job::ToCsv(Limits::standard());
-        let (status, output, messages) = done_on(alloc, job, Device::new(bytes), Vec::new(alloc));
+        let (status, output, messages) = done_on(alloc, job, bytes, Vec::new(alloc));
         assert_eq!(rt; status, wanted_status);
         assert_eq!(rt; output.as_slice(), wanted);
         assert_eq!(rt; messages.as_slice(), line);
@@ -169,7 +171,7 @@ fn checks_streams(rt: HostRuntime) {
     ];
     for (bytes, wanted, wanted_status, line) in cases {
         let job = Job::Check(Limits::standard());
-        let (status, output, messages) = done_on(alloc, job, Device::new(bytes), Vec::new(alloc));
+        let (status, output, messages) = done_on(alloc, job, bytes, Vec::new(alloc));
         assert_eq!(rt; status, wanted_status);
         let (schema, counts) = output.as_slice().split_at(none.len().min(output.len()));
         assert_eq!(rt; schema, none.as_slice());

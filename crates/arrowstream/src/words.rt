@@ -1,15 +1,15 @@
 //! What a command line asks for.
 ghost use Rattle.std.specs.Prelude.{◌≡◌, IfOk, IfSome};
-ghost use Rattle.arrowstream.specs.Words.{AreAskedFor, HaveOptions, form_of, limits_of};
+ghost use Rattle.arrowstream.specs.Words.{AreAskedFor, HasGoodSize, HaveOptions, IsAsked};
+ghost use Rattle.arrowstream.specs.Words.{IsBatchSize};
 
 use clap::builder::ValueParser;
 use clap::error::ErrorKind;
 use clap::{Arg, ArgAction, ArgMatches, Command, Error};
 use ipc_model::Limits;
-use ipc_print::Form;
 use std::alloc::{AllocError, Global};
 
-/// What is to be done, and how much a stream may hold.
+/// What is to be done, and how much a stream that is read may hold.
 #[derive(Debug, Drop)]
 pub enum Job {
     /// Reads a stream, and prints its schema and how many bytes, batches and rows it has.
@@ -23,29 +23,15 @@ pub enum Job {
     },
     /// Prints a stream as CSV.
     ToCsv(Limits),
-}
-
-impl Job {
-    /// How much a stream may hold.
-    pub fn limits(&self) -> Limits
-        ensures { result ≡ limits_of self.now }
-    {
-        match self {
-            Job::Check(limits) | Job::ToCsv(limits) => *limits,
-            Job::Show { limits, .. } => *limits,
-        }
-    }
-
-    /// The form in which it is printed.
-    pub fn form(&self) -> Form
-        ensures { result ≡ form_of self.now }
-    {
-        match self {
-            Job::Check(_) => Form::Counts,
-            Job::Show { pairs, .. } => Form::Rows { pairs: *pairs },
-            Job::ToCsv(_) => Form::Records,
-        }
-    }
+    /// Writes a stream anew, with the same schema, batches and rows.
+    Rewrite(Limits),
+    /// Writes records of CSV as a stream.
+    FromCsv {
+        /// The path of a file with the schema as JSON.
+        schema: String,
+        /// How many rows a batch has; the last may have fewer.
+        batch: u64,
+    },
 }
 
 /// Why a command line asks for no job.
@@ -72,13 +58,15 @@ Examples:
   arrowstream check < trades.arrows
   arrowstream show < trades.arrows
   arrowstream to-csv < trades.arrows > trades.csv
+  arrowstream from-csv --schema trades.json < trades.csv > trades.arrows
+  arrowstream rewrite < other.arrows > trades.arrows
   arrowstream show --max-body 1000000 < upload.arrows
 
 Exit status:
   0  all was done
   1  the input is refused, for the reason that standard error gives
   2  the command line is wrong
-  3  standard input or standard output failed
+  3  standard input, standard output or the schema's file failed
   4  memory ran out";
 
 const CHECK_EXAMPLES: &str = "\
@@ -103,6 +91,24 @@ Null is \\N, and bytes are hexadecimal digits. Columns of lists and structs have
 Examples:
   arrowstream to-csv < trades.arrows > trades.csv
   arrowstream to-csv --max-rows 1000000 < upload.arrows";
+
+const REWRITE_EXAMPLES: &str = "\
+The schema, the batches with their pairs and the rows are the same; the layout of each batch is that
+of this program, and the stream ends with its mark. It is written under the limits that are given,
+each raised to its usual value where it is below.
+
+Examples:
+  arrowstream rewrite < other.arrows > trades.arrows
+  arrowstream rewrite --max-rows 1000000 < upload.arrows > trades.arrows";
+
+const FROM_CSV_EXAMPLES: &str = "\
+The first record is the header: the names of the schema's columns in their order. A field \\N is null.
+The schema is JSON, as the first line that check prints. Each batch is sent as soon as it is full.
+
+Examples:
+  arrowstream check < trades.arrows | head -n 1 > trades.json
+  arrowstream from-csv --schema trades.json < trades.csv > trades.arrows
+  arrowstream from-csv --schema trades.json --batch 1000 < trades.csv > trades.arrows";
 
 // An option with a number up to a greatest one.
 fn limit<'a>(
@@ -147,30 +153,64 @@ fn with_limits<'a>(alloc: Global, command: Command<'a>) -> Result<Command<'a>, A
         ))
 }
 
+// The subcommand that writes a stream of CSV.
+fn from_csv<'a>(alloc: Global) -> Result<Command<'a>, AllocError> {
+    Command::new(alloc, "from-csv")
+        .about("Writes records of CSV as an Arrow IPC stream")
+        .after_help(FROM_CSV_EXAMPLES)
+        .arg(
+            Arg::new(alloc, "schema")
+                .long("schema")
+                .value_name("PATH")
+                .action(ArgAction::Set)
+                .required(true)
+                .help("A file with the schema as JSON"),
+        )?
+        .arg(
+            Arg::new(alloc, "batch")
+                .long("batch")
+                .value_name("N")
+                .action(ArgAction::Set)
+                .default_value("65536")
+                .value_parser(ValueParser::unsigned(1, 0x7fff_ffff))
+                .help("The rows of a batch; the last may have fewer"),
+        )
+}
+
+// The subcommand that prints rows.
+fn show<'a>(alloc: Global) -> Result<Command<'a>, AllocError> {
+    let pairs = Arg::new(alloc, "pairs")
+        .long("pairs")
+        .action(ArgAction::SetTrue)
+        .help("Print a line with its pairs of key and value in front of each batch's rows");
+    let command = Command::new(alloc, "show")
+        .about("Prints each row of an Arrow IPC stream as a JSON array on a line of its own")
+        .after_help(SHOW_EXAMPLES)
+        .arg(pairs)?;
+    with_limits(alloc, command)
+}
+
 // The program's words.
 fn command<'a>(alloc: Global) -> Result<Command<'a>, AllocError> {
     let check = Command::new(alloc, "check")
         .about("Reads an Arrow IPC stream to its end, and tells its schema and counts")
         .after_help(CHECK_EXAMPLES);
-    let pairs = Arg::new(alloc, "pairs")
-        .long("pairs")
-        .action(ArgAction::SetTrue)
-        .help("Print a line with its pairs of key and value in front of each batch's rows");
-    let show = Command::new(alloc, "show")
-        .about("Prints each row of an Arrow IPC stream as a JSON array on a line of its own")
-        .after_help(SHOW_EXAMPLES)
-        .arg(pairs)?;
     let to_csv = Command::new(alloc, "to-csv")
         .about("Prints an Arrow IPC stream as CSV, a header first")
         .after_help(TO_CSV_EXAMPLES);
+    let rewrite = Command::new(alloc, "rewrite")
+        .about("Writes an Arrow IPC stream anew, batch by batch")
+        .after_help(REWRITE_EXAMPLES);
     Command::new(alloc, "arrowstream")
-        .about("Reads Apache Arrow IPC streams")
+        .about("Reads and writes Apache Arrow IPC streams")
         .version("0.1.0")
         .after_help(EXAMPLES)
         .subcommand_required(true)
         .subcommand(with_limits(alloc, check)?)?
-        .subcommand(with_limits(alloc, show)?)?
-        .subcommand(with_limits(alloc, to_csv)?)
+        .subcommand(show(alloc)?)?
+        .subcommand(with_limits(alloc, to_csv)?)?
+        .subcommand(from_csv(alloc)?)?
+        .subcommand(with_limits(alloc, rewrite)?)
 }
 
 // What a refused command line is told.
@@ -219,9 +259,27 @@ fn read_limits(alloc: Global, words: &ArgMatches<'_>) -> Result<Limits, Usage>
     }
 }
 
+// The schema's path and the batch size that `from-csv` is given.
+fn read_from_csv(alloc: Global, words: &ArgMatches<'_>) -> Result<Job, Usage>
+    ensures asked { IfOk result IsAsked }
+    ensures size { IfOk result HasGoodSize }
+{
+    match (words.get_str("schema"), words.get_one::<u64>("batch")) {
+        (Some(path), Some(batch)) if 1 <= batch && batch <= 0x7fff_ffff => Ok(Job::FromCsv {
+            schema: String::from_str(alloc, path)?,
+            batch,
+        }),
+        _ => Err(Usage::Wrong(String::from_str(
+            alloc,
+            "error: no schema, or a batch of no size\n",
+        )?)),
+    }
+}
+
 // The job of words that the command line outlives.
 fn read<'a>(alloc: Global, words: &'a [String]) -> Result<Job, Usage>
-    ensures { IfOk result (λ job. AreAskedFor (limits_of job)) }
+    ensures asked { IfOk result IsAsked }
+    ensures size { IfOk result HasGoodSize }
 {
     let command: Command<'a> = command(alloc)?;
     let matches = match command.try_get_matches_from(words) {
@@ -235,6 +293,8 @@ fn read<'a>(alloc: Global, words: &'a [String]) -> Result<Job, Usage>
             pairs: options.get_flag("pairs"),
         }),
         Some(("to-csv", options)) => Ok(Job::ToCsv(read_limits(alloc, options)?)),
+        Some(("from-csv", options)) => read_from_csv(alloc, options),
+        Some(("rewrite", options)) => Ok(Job::Rewrite(read_limits(alloc, options)?)),
         _ => Err(Usage::Wrong(String::from_str(alloc, "error: no subcommand\n")?)),
     }
 }
@@ -244,8 +304,10 @@ fn read<'a>(alloc: Global, words: &'a [String]) -> Result<Job, Usage>
 /// `Help` is answered where they ask for help or the version, `Wrong` where they are none of the
 /// program's, a number out of its range among them, and `OutOfMemory` where memory ran out.
 pub fn read_words(alloc: Global, words: Vec<String>) -> Result<Job, Usage>
-    // Its limits are the usual ones but for those that the three options ask for.
-    ensures { IfOk result (λ job. AreAskedFor (limits_of job)) }
+    // Its limits are the usual ones but for those that the three options ask for, and a batch has
+    // from 1 to 2^31 - 1 rows.
+    ensures asked { IfOk result IsAsked }
+    ensures size { IfOk result HasGoodSize }
 {
     read(alloc, words.as_slice())
 }

@@ -1,0 +1,127 @@
+-- What the jobs read and send, and the exit statuses.
+use Rattle.std.specs.Prelude.{◌≡◌, ◌⊎◌, ◌≤◌, ◌^◌, ◌-◌, ℕ, List, Option, Some, Result, Ok, Err, ⊤}
+use Rattle.std.specs.Prelude.{IfSome, option_and_then}
+use Rattle.serde_json.specs.Read.{read}
+use Rattle.ipc_model.specs.Limits.{IsStandard}
+use Rattle.ipc_model.specs.Numbering.{fault_status, write_fault_status}
+use Rattle.ipc_model.specs.WellFormed.{WellFormed}
+use Rattle.ipc_model.specs.declared.fault.Fault.TheVariants as f
+use Rattle.ipc_model.specs.declared.fault.WriteFault.TheVariants as w
+use Rattle.ipc_model.specs.declared.limits.Limits.{Limits}
+use Rattle.ipc_model.specs.declared.schema.Schema.{Schema}
+use Rattle.ipc_text.specs.SchemaJson.{schema_json}
+use Rattle.ipc_text.specs.SchemaTexts.{IsUnread}
+use Rattle.ipc_text.specs.declared.fault.TextFault.{TextFault}
+use Rattle.ipc_text.specs.declared.fault.TextFault.TheVariants as x
+use Rattle.ipc_print.specs.Streams.{Prints}
+use Rattle.ipc_print.specs.declared.form.Form.{Form}
+use Rattle.ipc_print.specs.declared.form.Form.TheVariants.{Counts, Rows, Records}
+use Rattle.ipc_print.specs.declared.stop.Stop.{Stop as PrintStop}
+use Rattle.ipc_print.specs.declared.stop.Stop.TheVariants as print
+use Rattle.ipc_rewrite.specs.Rewriting.{Rewrites}
+use Rattle.ipc_rewrite.specs.declared.stop.Stop.{Stop as RewriteStop}
+use Rattle.ipc_rewrite.specs.declared.stop.Stop.TheVariants as rewrite
+use Rattle.ipc_from_csv.specs.Conversion as csv
+use Rattle.ipc_from_csv.specs.declared.stop.Stop.{Stop as CsvStop}
+use Rattle.ipc_from_csv.specs.declared.stop.Stop.TheVariants as from_csv
+use Rattle.arrowstream.specs.declared.stop.Stop.{Stop}
+use Rattle.arrowstream.specs.declared.stop.Stop.TheVariants as stop
+use Rattle.arrowstream.specs.declared.words.Job.{Job}
+use Rattle.arrowstream.specs.declared.words.Job.TheVariants as job
+
+-- the exit status of a refusal of texts
+abbrev pub text_status : TextFault → ℕ
+text_status x.OutOfMemory = write_fault_status w.OutOfMemory
+text_status _ = 1
+
+-- the exit status of a job that stopped: memory ran out, a device failed, or what was read is
+-- refused
+abbrev pub stop_status : Stop → ℕ
+stop_status (stop.Read fault message) = fault_status fault
+stop_status stop.Input = fault_status f.Read
+stop_status stop.Schema = fault_status f.Read
+stop_status (stop.Write fault) = write_fault_status fault
+stop_status (stop.Text fault) = text_status fault
+
+-- the exit status of a job
+abbrev pub exit_status : {T : Type 0} → Result T Stop → ℕ
+exit_status (Ok done) = 0
+exit_status (Err why) = stop_status why
+
+-- why printing stopped, as why the job did
+abbrev pub stop_of_print : PrintStop → Stop
+stop_of_print (print.Read fault message) = stop.Read fault message
+stop_of_print (print.Write fault) = stop.Write fault
+stop_of_print (print.Text fault) = stop.Text fault
+
+-- why writing a stream anew stopped, as why the job did
+abbrev pub stop_of_rewrite : RewriteStop → Stop
+stop_of_rewrite (rewrite.Read fault message) = stop.Read fault message
+stop_of_rewrite (rewrite.Write fault) = stop.Write fault
+
+-- why records of CSV became no stream, as why the job stopped
+abbrev pub stop_of_csv : CsvStop → Stop
+stop_of_csv from_csv.Input = stop.Input
+stop_of_csv (from_csv.Write fault) = stop.Write fault
+stop_of_csv (from_csv.Text fault) = stop.Text fault
+
+-- an answer with its refusal as the job's
+abbrev pub lifted : {A : Type 0} → (A → Stop) → Result ⊤ A → Result ⊤ Stop
+lifted stop_of (Ok done) = Ok done
+lifted stop_of (Err why) = Err (stop_of why)
+
+-- what an answer says of a stream that is printed in a form
+abbrev pub AnswersPrint : Form → Limits → Option (List ℕ) → Option (List ℕ) → Option (List ℕ)
+    → Option (List ℕ) → Result ⊤ Stop → Type 0
+AnswersPrint form limits old new written_old written_new r =
+    (p : Result ⊤ PrintStop) × (r ≡ lifted stop_of_print p)
+    × Prints form limits old new written_old written_new p
+
+-- what an answer says of a stream that is written anew
+abbrev pub AnswersRewrite : Limits → Option (List ℕ) → Option (List ℕ) → Option (List ℕ)
+    → Option (List ℕ) → ℕ → ℕ → Result ⊤ Stop → Type 0
+AnswersRewrite limits old new written_old written_new failures_old failures_new r =
+    (p : Result ⊤ RewriteStop) × (r ≡ lifted stop_of_rewrite p)
+    × Rewrites limits old new written_old written_new failures_old failures_new p
+
+-- the bytes of a file, where it was opened and they are known
+abbrev pub bytes_of : {P : Type 0} → (P → Option (List ℕ)) → Option P → Option (List ℕ)
+bytes_of remaining file = option_and_then remaining file
+
+-- a schema that is well formed under the standard limits, as whose JSON text these bytes read
+-- (RFC 8259), where they are known
+pub record IsSchemaOf (bytes : Option (List ℕ)) (s : Schema) : Type 0 where
+  pub read : IfSome bytes (λ text. read text ≡ Some (schema_json s))
+  pub limits : Limits
+  pub standard : IsStandard limits
+  pub formed : WellFormed limits s
+
+-- there is no schema: its file can't be read, or its text isn't
+abbrev pub HasNoSchema : Stop → Type 0
+HasNoSchema why = (why ≡ stop.Schema)
+    ⊎ ((fault : TextFault) × (why ≡ stop.Text fault) × IsUnread fault)
+
+-- what an answer says of records of CSV: there was no schema, and nothing went out; or by the file's
+-- schema they became a stream of batches of so many rows, or it broke off
+abbrev pub AnswersCsv : Option (List ℕ) → ℕ → Option (List ℕ) → Option (List ℕ)
+    → Option (List ℕ) → ℕ → ℕ → Result ⊤ Stop → Type 0
+AnswersCsv bytes size input written_old written_new failures_old failures_new r =
+    ((why : Stop) × (r ≡ Err why) × HasNoSchema why × (written_new ≡ written_old)
+    × (failures_new ≡ failures_old))
+    ⊎ ((s : Schema) × IsSchemaOf bytes s × (p : Result ⊤ CsvStop) × (r ≡ lifted stop_of_csv p)
+    × csv.Answers input s size written_old written_new failures_old failures_new p)
+
+-- what an answer says of a job, whose schema's file has these bytes: what was read of the input, and
+-- what went out
+abbrev pub Answers : Job → Option (List ℕ) → Option (List ℕ) → Option (List ℕ) → Option (List ℕ)
+    → Option (List ℕ) → ℕ → ℕ → Result ⊤ Stop → Type 0
+Answers (job.Check limits) bytes old new written_old written_new failures_old failures_new r =
+    AnswersPrint Counts limits old new written_old written_new r
+Answers (job.Show limits pairs) bytes old new written_old written_new failures_old failures_new r =
+    AnswersPrint (Rows pairs) limits old new written_old written_new r
+Answers (job.ToCsv limits) bytes old new written_old written_new failures_old failures_new r =
+    AnswersPrint Records limits old new written_old written_new r
+Answers (job.Rewrite limits) bytes old new written_old written_new failures_old failures_new r =
+    AnswersRewrite limits old new written_old written_new failures_old failures_new r
+Answers (job.FromCsv path size) bytes old new written_old written_new failures_old failures_new r =
+    AnswersCsv bytes size old written_old written_new failures_old failures_new r

@@ -1,0 +1,96 @@
+//! Why a job stopped, as an exit status and a line.
+ghost use Rattle.std.specs.Prelude.{◌≡◌};
+ghost use Rattle.arrowstream.specs.Jobs.{stop_of_csv, stop_of_print, stop_of_rewrite, stop_status};
+
+use ipc_model::{Fault, WriteFault};
+use ipc_text::TextFault;
+use std::io::Write;
+
+/// Why a job stopped.
+#[derive(Debug, Drop)]
+pub enum Stop {
+    /// The stream was refused at the message with this number, or the source failed there.
+    Read(Fault, u64),
+    /// The input of CSV failed.
+    Input,
+    /// The file with the schema can't be read.
+    Schema,
+    /// What was read could not be written.
+    Write(WriteFault),
+    /// What was read has no text, or is none.
+    Text(TextFault),
+}
+
+impl From<TextFault> for Stop {
+    ghost use Rattle.std.specs.Prelude.{◌≡◌};
+    ghost use Rattle.arrowstream.specs.declared.stop.Stop.TheVariants.{Text};
+
+    ghost from_gives = { λ fault stop. stop ≡ Text fault };
+
+    fn from(fault: TextFault) -> Stop {
+        Stop::Text(fault)
+    }
+}
+
+impl From<ipc_print::Stop> for Stop {
+    ghost from_gives = { λ why stop. stop ≡ stop_of_print why };
+
+    fn from(why: ipc_print::Stop) -> Stop {
+        match why {
+            ipc_print::Stop::Read(fault, message) => Stop::Read(fault, message),
+            ipc_print::Stop::Write(fault) => Stop::Write(fault),
+            ipc_print::Stop::Text(fault) => Stop::Text(fault),
+        }
+    }
+}
+
+impl From<ipc_rewrite::Stop> for Stop {
+    ghost from_gives = { λ why stop. stop ≡ stop_of_rewrite why };
+
+    fn from(why: ipc_rewrite::Stop) -> Stop {
+        match why {
+            ipc_rewrite::Stop::Read(fault, message) => Stop::Read(fault, message),
+            ipc_rewrite::Stop::Write(fault) => Stop::Write(fault),
+        }
+    }
+}
+
+impl From<ipc_from_csv::Stop> for Stop {
+    ghost from_gives = { λ why stop. stop ≡ stop_of_csv why };
+
+    fn from(why: ipc_from_csv::Stop) -> Stop {
+        match why {
+            ipc_from_csv::Stop::Input => Stop::Input,
+            ipc_from_csv::Stop::Write(fault) => Stop::Write(fault),
+            ipc_from_csv::Stop::Text(fault) => Stop::Text(fault),
+        }
+    }
+}
+
+impl Stop {
+    /// The exit status: 1 where what was read is refused, 3 where a device failed, 4 where memory
+    /// ran out.
+    pub fn exit_status(&self) -> u8
+        ensures { result ≡ stop_status self.now }
+    {
+        match self {
+            Stop::Read(fault, _) => fault.exit_status(),
+            Stop::Input | Stop::Schema => Fault::Read.exit_status(),
+            Stop::Write(fault) => fault.exit_status(),
+            Stop::Text(TextFault::OutOfMemory) => WriteFault::OutOfMemory.exit_status(),
+            Stop::Text(_) => 1,
+        }
+    }
+
+    /// Tells it as one line. A failing writer changes nothing.
+    pub fn tell<E: Write>(&self, messages: &mut E) {
+        let _ = match self {
+            Stop::Read(fault, message) => writeln!(messages, "{}", fault.at_message(*message)),
+            Stop::Input => writeln!(messages, "{}", Fault::Read),
+            Stop::Schema => writeln!(messages, "cannot read schema"),
+            Stop::Write(WriteFault::OutOfMemory) => writeln!(messages, "out of memory"),
+            Stop::Write(fault) => writeln!(messages, "{fault}"),
+            Stop::Text(fault) => writeln!(messages, "{fault}"),
+        };
+    }
+}
