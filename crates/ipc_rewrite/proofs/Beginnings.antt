@@ -1,0 +1,86 @@
+-- Where bytes hold a table, messages at their front are the first messages of that table.
+use Rattle.std.proofs.Common.{◌≡◌, ◌∙◌, refl, sym, ap, subst, ℕ, inl, List, [], ◌∷◌, ◌++◌, map, append_assoc, None}
+use Rattle.std.proofs.lemmas.List.{append-nil}
+use Rattle.ipc_model.specs.declared.limits.Limits.{Limits}
+use Rattle.ipc_model.specs.declared.schema.Schema.{Schema}
+use Rattle.ipc_model.specs.declared.table.BatchRows.{BatchRows}
+use Rattle.ipc_model.specs.declared.table.Table.{Table}
+use Rattle.ipc_frame.specs.Frames.{eos}
+use Rattle.ipc_frame.proofs.OneFrame.{frame_one}
+use Rattle.ipc_stream.specs.declared.end.End.TheVariants.{Mark, Closed}
+use Rattle.ipc_stream.specs.Stream.{State, Event, schema, batch, Step, Run, done, more, events_of, Denotes}
+use Rattle.ipc_stream.proofs.OneReading.{IsStop, at_eos, frame_stop, step_one}
+
+-- of two runs of messages over the same bytes, one up to where a run may stop, the other tells the first events of it
+pub run_begins : {limits : Limits} → {σ τ υ : State} {x y : List ℕ} {es fs : List Event} (a b : List ℕ) → Run limits σ x es τ
+    → Run limits σ y fs υ → IsStop a → x ++ a ≡ y ++ b → (rest : List Event) × (es ≡ fs ++ rest)
+run_begins {limits} a b done done s e = ([], refl)
+run_begins {limits} a b done (more {x = x} {metadata = m} {body = body} {y = y} {h = g} f p q) s e =
+    absurd (frame_stop x m body (y ++ b) a g f (sym (append_assoc x y b) ∙ sym e) s)
+run_begins {limits} a b (more {es = es} {fs = fs} f p q) done s e = (es ++ fs, refl)
+run_begins {limits} a b (more {σ = σ} {τ = τ} {υ = υ} {x = x} {metadata = m} {body = body} {y = y} {h = g} {es = es} {fs = fs} f p q)
+    (more {τ = τ'} {υ = υ'} {x = x'} {metadata = m'} {body = body'} {y = y'} {h = g'} {es = es'} {fs = fs'} f' p' q') s e =
+    let same = frame_one x x' m m' body body' (y ++ a) (y' ++ b) g g' f f' (sym (append_assoc x y a) ∙ (e ∙ append_assoc x' y' b)) in
+    let other : Step limits σ g body es' τ' = subst (λ z. Step limits σ z body es' τ') (sym same.same_head)
+    (subst (λ z. Step limits σ g' z es' τ') (sym same.same_body) p') in
+    let step = step_one p other in
+    let rest = run_begins a b q (subst (λ z. Run limits z y' fs' υ') (sym step.1) q') s same.same_rest in
+    (rest.0, ap (λ l. l ++ fs) step.0 ∙ (ap (λ l. es' ++ l) rest.1 ∙ sym (append_assoc es' fs' rest.0)))
+
+-- batches whose events begin those of others begin them
+batches_begin : (xs ys : List BatchRows) (rest : List Event) → map batch xs ≡ map batch ys ++ rest
+    → (more : List BatchRows) × (xs ≡ ys ++ more)
+batches_begin xs [] rest e = (xs, refl)
+batches_begin [] (y ∷ ys) rest e = absurd (cc)
+batches_begin (x ∷ xs) (y ∷ ys) rest e =
+    let head : batch x ≡ batch y = cc in
+    let one : x ≡ y = cc in
+    let tail : map batch xs ≡ map batch ys ++ rest = cc in
+    let others = batches_begin xs ys rest tail in
+    (others.0, cc)
+
+-- a table whose events begin those of another has its schema, and its first batches
+pub table_begins : (t u : Table) (rest : List Event) → events_of t ≡ events_of u ++ rest
+    → (more : List BatchRows) × (t ≡ record { schema = u.schema; batches = u.batches ++ more })
+table_begins t u rest e =
+    let head : schema t.schema ≡ schema u.schema = cc in
+    let one : t.schema ≡ u.schema = cc in
+    let tail : map batch t.batches ≡ map batch u.batches ++ rest = cc in
+    let others = batches_begin t.batches u.batches rest tail in
+    (others.0, λ i. record { schema = one i; batches = others.1 i })
+
+-- a schema whose event begins those of a table is the table's
+pub schema_begins : (t : Table) (s : Schema) (rest : List Event) → events_of t ≡ (schema s ∷ []) ++ rest → s ≡ t.schema
+schema_begins t s rest e =
+    let head : schema t.schema ≡ schema s = cc in
+    let one : t.schema ≡ s = cc in
+    sym one
+
+-- bytes begin with the messages of a table, behind which a run may stop
+pub record Holds (limits : Limits) (z : List ℕ) (t : Table) : Type 0 where
+  pub state : State
+  pub whole : List ℕ
+  pub rest : List ℕ
+  pub run : Run limits None whole (events_of t) state
+  pub joined : whole ++ rest ≡ z
+  pub stop : IsStop rest
+
+-- bytes that denote a table with its mark hold it, whatever follows
+pub holds_marked : {limits : Limits} → (x rest : List ℕ) (t : Table) → Denotes limits x t Mark → Holds limits (x ++ rest) t
+holds_marked x rest t d = record {
+  state = d.2.0;
+  whole = d.0;
+  rest = eos ++ rest;
+  run = d.2.1;
+  joined = sym (append_assoc d.0 eos rest) ∙ ap (λ y. y ++ rest) (sym d.1);
+  stop = at_eos rest;
+}
+
+-- bytes that denote a table without a mark hold it
+pub holds_closed : {limits : Limits} → (x : List ℕ) (t : Table) → Denotes limits x t Closed → Holds limits x t
+holds_closed x t d = record { state = d.0; whole = x; rest = []; run = d.1; joined = append-nil x; stop = inl refl }
+
+-- the messages at the front of such bytes are the first of the table
+pub front_begins : {limits : Limits} → (z x b : List ℕ) (t : Table) (fs : List Event) (υ : State) → Holds limits z t → z ≡ x ++ b
+    → Run limits None x fs υ → (rest : List Event) × (events_of t ≡ fs ++ rest)
+front_begins z x b t fs υ h is run = run_begins h.rest b h.run run h.stop (h.joined ∙ is)

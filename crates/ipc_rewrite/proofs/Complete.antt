@@ -1,0 +1,161 @@
+-- Where a source holds a table, that table is sent, or writing it breaks off, or memory runs out in reading.
+use Rattle.std.proofs.Common.{◌≡◌, ◌∙◌, refl, sym, subst, ℕ, ◌<◌, List, [], ◌∷◌, ◌++◌, length, map, Option, Some, None}
+use Rattle.std.proofs.Common.{Result, Ok, Err, append_assoc, append-nil, arith}
+use Rattle.std.specs.Prelude.{⊤, true}
+use Rattle.std.specs.List.{AllByRecursion}
+use Rattle.std.specs.Io.KnownBytes.{Consumes, IsAtEnd}
+use Rattle.std.proofs.lemmas.List.{length-append}
+use Rattle.std.proofs.Math.Seq.{get_or-append_seam, take-append_seam}
+use Rattle.ipc_model.specs.declared.fault.Fault.{Fault}
+use Rattle.ipc_model.specs.declared.fault.Fault.TheVariants.{OutOfMemory}
+use Rattle.ipc_model.specs.declared.fault.WriteFault.{WriteFault}
+use Rattle.ipc_model.specs.declared.fault.WriteFault.TheVariants as w
+use Rattle.ipc_model.specs.declared.limits.Limits.{Limits}
+use Rattle.ipc_model.specs.declared.schema.Schema.{Schema}
+use Rattle.ipc_model.specs.declared.table.BatchRows.{BatchRows}
+use Rattle.ipc_model.specs.declared.table.Table.{Table}
+use Rattle.ipc_meta.specs.Supported.{are_supported}
+use Rattle.ipc_frame.specs.Frames.{eos}
+use Rattle.ipc_stream.specs.declared.end.End.{End}
+use Rattle.ipc_stream.specs.declared.end.End.TheVariants.{Mark, Closed}
+use Rattle.ipc_stream.specs.Failures.{Tells}
+use Rattle.ipc_stream.specs.Reasons.{Reads}
+use Rattle.ipc_stream.specs.Stream.{schema, batch, Run, events_of, Denotes}
+use Rattle.ipc_stream.specs.Taken.{TakesTable}
+use Rattle.ipc_stream.specs.Writing.{AcceptsBatch, AcceptsTable, AddsBatch, BreaksOff, CutShort, EndsStream, IsTableOf, NotSentWhole, OpensStream}
+use Rattle.ipc_stream.specs.Writing.{RefusesBatch, RefusesSchema, Sent}
+use Rattle.ipc_stream.proofs.Answered.{answers_marked, answers_closed}
+use Rattle.ipc_stream.proofs.Reasons.{run_told}
+use Rattle.ipc_stream.proofs.TablesWritten.{IsOut, batch_breaks, end_broken, start_breaks}
+use Rattle.ipc_rewrite.specs.declared.stop.Stop.{Stop}
+use Rattle.ipc_rewrite.specs.declared.stop.Stop.TheVariants as stop
+use Rattle.ipc_rewrite.specs.Raised.{raised_of}
+use Rattle.ipc_rewrite.specs.Rewriting.{AnswersTable, AreMessagesOf, BreaksReading, unopened, broken, BreaksWriting, unstarted, refused}
+use Rattle.ipc_rewrite.specs.Rewriting.{unended, Rewrites, TellsFailures, with_batch}
+use Rattle.ipc_rewrite.proofs.Beginnings.{Holds, front_begins, holds_closed, holds_marked, schema_begins, table_begins}
+
+-- what denotes a table and its end is read to that end
+reads_of : {limits : Limits} → (x : List ℕ) (left : Option (List ℕ)) (t : Table) (end : End) → Denotes limits x t end
+    → (end ≡ Closed → IsAtEnd left) → Reads limits None x left (events_of t) (Ok end)
+reads_of x left t Mark d closed = record {
+  state = d.2.0;
+  whole = d.0;
+  rest = eos;
+  joined = d.1;
+  run = d.2.1;
+  ends = (refl, run_told d.2.1 (λ none. absurd (cc)));
+}
+reads_of x left t Closed d closed = record {
+  state = d.0;
+  whole = x;
+  rest = [];
+  joined = sym (append-nil x);
+  run = d.1;
+  ends = (refl, run_told d.1 (λ none. absurd (cc)), closed refl);
+}
+
+-- a source that holds known bytes leaves the rest of them
+left_of : (z : List ℕ) (new : Option (List ℕ)) (x : List ℕ) → Consumes (Some z) new x → (b : List ℕ) × (z ≡ x ++ b)
+left_of z None x c = absurd c
+left_of z (Some b) x c = (b, c)
+
+-- the batch behind the first ones is inside
+inside_behind : (xs more : List BatchRows) (last : BatchRows) → length xs < length (xs ++ last ∷ more)
+inside_behind xs more last = let long = length-append xs (last ∷ more) in omega (arith, long)
+
+-- the messages of a table are the first ones of the table with more batches
+first_out : {limits : Limits} → (t : Table) (more : List BatchRows) (w0 w1 : Option (List ℕ)) (f0 f1 : ℕ) → AcceptsTable limits t
+    → Sent (AreMessagesOf limits t) w0 w1 f0 f1
+    → IsOut limits (record { schema = t.schema; batches = t.batches ++ more }) w0 w1 f0 f1 (length t.batches)
+first_out {limits} t more w0 w1 f0 f1 accepts sent = record {
+  bytes = sent.x;
+  run = subst (λ (bs : List BatchRows). Run limits None sent.x (schema t.schema ∷ map batch bs) (Some (record { schema = t.schema })))
+      (sym (take-append_seam t.batches more)) sent.whole;
+  appended = sent.bytes;
+  worked = sent.worked;
+  works = sent.works;
+  accepts_schema = accepts.schema;
+  accepts = subst (λ (bs : List BatchRows). AllByRecursion (AcceptsBatch limits t.schema) bs) (sym (take-append_seam t.batches more)) accepts.batches;
+}
+
+-- where the batch behind the first ones is refused, writing the whole table breaks off there
+last_breaks : {limits : Limits} → (t : Table) (last : BatchRows) (more : List BatchRows) (w0 between w1 : Option (List ℕ)) (f0 f f1 : ℕ)
+    (fault : WriteFault) → AcceptsTable limits t → Sent (AreMessagesOf limits t) w0 between f0 f → RefusesBatch limits t.schema last fault
+    → NotSentWhole (AddsBatch limits t.schema last) between w1 f f1 fault
+    → BreaksOff limits (record { schema = t.schema; batches = t.batches ++ last ∷ more }) w0 w1 f0 f1 fault
+last_breaks t last more w0 between w1 f0 f f1 fault accepts sent refuses unsent =
+    batch_breaks (record { schema = t.schema; batches = t.batches ++ last ∷ more }) w0 between w1 f0 f f1 (length t.batches)
+    (first_out t (last ∷ more) w0 between f0 f accepts sent) last (inside_behind t.batches more last)
+    (sym (get_or-append_seam t.batches last more last)) fault refuses unsent
+
+-- where the sink failed at the end mark, writing the table breaks off there
+mark_breaks : {limits : Limits} → (t : Table) (w0 between w1 : Option (List ℕ)) (f0 f f1 : ℕ) → AcceptsTable limits t
+    → Sent (AreMessagesOf limits t) w0 between f0 f → CutShort EndsStream between w1 f1 → BreaksOff limits t w0 w1 f0 f1 w.Write
+mark_breaks {limits} t w0 between w1 f0 f f1 accepts sent cut =
+    let whole : record { schema = t.schema; batches = t.batches ++ [] } ≡ t = λ i. record
+    { schema = t.schema; batches = append-nil t.batches i } in
+    let out = subst (λ (u : Table). IsOut limits u w0 between f0 f (length t.batches)) whole (first_out t [] w0 between f0 f accepts sent) in
+    end_broken t w0 between w1 f0 f f1 (length t.batches) out (omega arith) (Err w.Write) cut refl
+
+module _ {limits : Limits} (new : Option (List ℕ)) (z : List ℕ) (t : Table) (h : Holds limits z t) (w0 w1 : Option (List ℕ)) (f0 f1 : ℕ)
+    (only : (u : Table) (end : End) → TakesTable limits (Some z) new (Ok (u, end)) → u ≡ t) where
+  -- the table that was read to its end is this one
+  same_table : (x : List ℕ) (u : Table) (end : End) → Consumes (Some z) new x → Denotes limits x u end → (end ≡ Closed → IsAtEnd new)
+      → u ≡ t
+  same_table x u end bytes d closed = only u end (record { x = x; bytes = bytes; gives = reads_of x new u end d closed })
+
+  writing : (fault : WriteFault) → BreaksWriting limits (Some z) new w0 w1 f0 f1 fault → BreaksOff (raised_of limits) t w0 w1 f0 f1 fault
+  writing fault (unstarted x s bytes run refuses unsent) =
+      let left = left_of z new x bytes in
+      let begins = front_begins z x left.0 t _ _ h left.1 run in
+      let same = schema_begins t s begins.0 begins.1 in
+      start_breaks t w0 w1 f0 f1 fault (subst (λ (q : Schema). RefusesSchema (raised_of limits) q fault) same refuses)
+      (subst (λ (q : Schema). NotSentWhole (OpensStream (raised_of limits) q) w0 w1 f0 f1 fault) same unsent)
+  writing fault (refused x u last between f bytes run accepts sent refuses unsent) =
+      let left = left_of z new x bytes in
+      let begins = front_begins z x left.0 t _ _ h left.1 run in
+      let others = table_begins t (with_batch u last) begins.0 begins.1 in
+      let joined : record { schema = u.schema; batches = u.batches ++ last ∷ others.0 } ≡ t =
+      (λ i. record { schema = u.schema; batches = sym (append_assoc u.batches (last ∷ []) others.0) i }) ∙ sym others.1 in
+      subst (λ (q : Table). BreaksOff (raised_of limits) q w0 w1 f0 f1 fault) joined
+      (last_breaks u last others.0 w0 between w1 f0 f f1 fault accepts sent refuses unsent)
+  writing fault (unended x u end between f bytes d closed accepts sent is cut) =
+      subst (λ (e : WriteFault). BreaksOff (raised_of limits) t w0 w1 f0 f1 e) (sym is)
+      (subst (λ (q : Table). BreaksOff (raised_of limits) q w0 w1 f0 f1 w.Write) (same_table x u end bytes d closed)
+      (mark_breaks u w0 between w1 f0 f f1 accepts sent cut))
+
+  reading : (fault : Fault) (message : ℕ) → BreaksReading limits (Some z) new w0 w1 f0 f1 fault message
+      → TakesTable limits (Some z) new (Err fault)
+  reading fault message (unopened x bytes reads number same count) = record { x = x; bytes = bytes; gives = ([], reads) }
+  reading fault message (broken x u bytes reads number accepts sent) = record { x = x; bytes = bytes; gives = (events_of u, reads) }
+
+  -- what is answered of a source that holds the table
+  pub answered : (g0 g1 : ℕ) → ((fault : Fault) → TakesTable limits (Some z) new (Err fault) → Tells g0 g1 fault → fault ≡ OutOfMemory)
+      → (r : Result ⊤ Stop) → TellsFailures g0 g1 f0 f1 r → Rewrites limits (Some z) new w0 w1 f0 f1 r
+      → AnswersTable (raised_of limits) t w0 w1 f0 f1 r
+  answered g0 g1 memory (Ok done) tells c =
+      subst (λ (u : Table). Sent (IsTableOf (raised_of limits) u) w0 w1 f0 f1)
+      (same_table c.x c.table c.end c.bytes c.denotes c.closed) c.sent
+  answered g0 g1 memory (Err (stop.Read fault message)) tells c = memory fault (reading fault message c) tells.0
+  answered g0 g1 memory (Err (stop.Write fault)) tells c = writing fault c
+
+module _ {limits : Limits} (old new w0 w1 : Option (List ℕ)) (g0 g1 f0 f1 : ℕ) (r : Result ⊤ Stop) (tells : TellsFailures g0 g1 f0 f1 r)
+    (c : Rewrites limits old new w0 w1 f0 f1 r) (none : g1 ≡ 0) where
+  -- where bytes up to an end mark denote a table, that one is written or refused, unless memory runs out
+  pub answered_marked : (x rest : List ℕ) (t : Table) → are_supported t.schema.fields ≡ true → old ≡ Some (x ++ rest)
+      → Denotes limits x t Mark → AnswersTable (raised_of limits) t w0 w1 f0 f1 r
+  answered_marked x rest t read is d =
+      let z = x ++ rest in
+      answered new z t (holds_marked x rest t d) w0 w1 f0 f1
+      (λ u end takes. (answers_marked (Some z) new 0 0 (Ok (u, end)) takes refl (refl, refl) x rest t read refl d).0) g0 g1
+      (λ fault takes failed. answers_marked (Some z) new g0 g1 (Err fault) takes none failed x rest t read refl d)
+      r tells (subst (λ (o : Option (List ℕ)). Rewrites limits o new w0 w1 f0 f1 r) is c)
+
+  -- where all bytes of the source denote a table, that one is written or refused, unless memory runs out
+  pub answered_closed : (x : List ℕ) (t : Table) → are_supported t.schema.fields ≡ true → old ≡ Some x → Denotes limits x t Closed
+      → AnswersTable (raised_of limits) t w0 w1 f0 f1 r
+  answered_closed x t read is d =
+      answered new x t (holds_closed x t d) w0 w1 f0 f1
+      (λ u end takes. (answers_closed (Some x) new 0 0 (Ok (u, end)) takes refl (refl, refl) x t read refl d).0) g0 g1
+      (λ fault takes failed. answers_closed (Some x) new g0 g1 (Err fault) takes none failed x t read refl d)
+      r tells (subst (λ (o : Option (List ℕ)). Rewrites limits o new w0 w1 f0 f1 r) is c)

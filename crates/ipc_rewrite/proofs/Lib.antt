@@ -1,0 +1,4 @@
+pub mod Batches
+pub mod Beginnings
+pub mod Complete
+pub mod Whole

@@ -1,0 +1,158 @@
+-- A whole stream, from its schema on.
+use Rattle.std.proofs.Common.{◌≡◌, ◌∙◌, refl, sym, ap, subst, ℕ, List, [], ◌∷◌, ◌++◌, length, map, Option, Some, None, Result, Ok, Err}
+use Rattle.std.proofs.Common.{arith, false}
+use Rattle.std.specs.List.{AllByRecursion}
+use Rattle.std.specs.Io.KnownBytes.{Consumes}
+use Rattle.std.proofs.KnownBytes.{Appends-trans, Consumes-trans}
+use Rattle.std.proofs.lemmas.List.{length-map}
+use Rattle.ipc_model.specs.declared.fault.Fault.{Fault}
+use Rattle.ipc_model.specs.declared.fault.WriteFault.{WriteFault}
+use Rattle.ipc_model.specs.declared.fault.WriteFault.TheVariants as w
+use Rattle.ipc_model.specs.declared.limits.Limits.{Limits}
+use Rattle.ipc_model.specs.declared.table.BatchRows.{BatchRows}
+use Rattle.ipc_model.specs.declared.table.Table.{Table}
+use Rattle.ipc_stream.specs.declared.end.End.{End}
+use Rattle.ipc_stream.specs.Reader.{Reader, in_force_of, Opens, OpenFails}
+use Rattle.ipc_stream.specs.Reasons.{Reads}
+use Rattle.ipc_stream.specs.Stream.{schema, batch, Run, events_of}
+use Rattle.ipc_stream.specs.Taken.{count_up}
+use Rattle.ipc_stream.specs.Writer.{Writer, Starts, StartFails, Finishes, FinishFails}
+use Rattle.ipc_stream.specs.Writing.{AcceptsBatch, AcceptsSchema, AcceptsTable, AddsBatch, RefusesBatch, EndsStream, CutShort, NotSentWhole, Sent}
+use Rattle.ipc_stream.proofs.Answered.{taken_denotes}
+use Rattle.ipc_stream.proofs.Runs.{run_then, reads_after}
+use Rattle.ipc_rewrite.specs.declared.stop.Stop.{Stop}
+use Rattle.ipc_rewrite.specs.declared.stop.Stop.TheVariants as stop
+use Rattle.ipc_rewrite.specs.Raised.{raised_of}
+use Rattle.ipc_rewrite.specs.Rewriting.{AreMessagesOf, AddsBatches, CopiesTable, BreaksReading, unopened, broken, BreaksWriting, unstarted}
+use Rattle.ipc_rewrite.specs.Rewriting.{refused, unended, Rewrites, CopiesRest, CopiesBatches}
+
+-- a table's messages are its schema's and then those of its batches
+messages_of : (limits : Limits) (t : Table) (x y : List ℕ) → Run limits None x (schema t.schema ∷ []) (Some (record { schema = t.schema }))
+    → AddsBatches limits t.schema t.batches y → AreMessagesOf limits t (x ++ y)
+messages_of limits t x y first rest = run_then _ _ _ x y (schema t.schema ∷ []) (map batch t.batches) first rest
+
+-- the end mark, as the only fault of the last call
+mark_cut : (before : Writer) (w1 : Option (List ℕ)) (f1 : ℕ) (fault : WriteFault) → before.failed ≡ false → FinishFails before w1 f1 fault
+    → (fault ≡ w.Write) × CutShort EndsStream before.written w1 f1
+mark_cut before w1 f1 w.Write works h = (refl, h.1)
+mark_cut before w1 f1 w.Failed works h = absurd (cc)
+mark_cut before w1 f1 w.BadSchema works h = absurd h
+mark_cut before w1 f1 (w.Row row cause) works h = absurd h
+mark_cut before w1 f1 w.TooLong works h = absurd h
+mark_cut before w1 f1 w.DictionaryFull works h = absurd h
+mark_cut before w1 f1 w.TooManyRows works h = absurd h
+mark_cut before w1 f1 w.OutOfMemory works h = absurd h
+
+-- where a new stream isn't begun, it is since the schema that was read is refused
+pub schema_refused : {limits : Limits} → (start : Option (List ℕ)) (s : Reader) (w0 w1 : Option (List ℕ)) (f0 f1 : ℕ) (fault : WriteFault)
+    → Opens limits start s → StartFails (raised_of s.limits) s.schema w0 w1 f0 f1 fault
+    → BreaksWriting limits start s.remaining w0 w1 f0 f1 fault
+schema_refused {limits} start s w0 w1 f0 f1 fault o h =
+    let fails = subst (λ l. StartFails (raised_of l) s.schema w0 w1 f0 f1 fault) o.same_limits h in
+    unstarted o.x s.schema o.bytes o.run fails.cause fails.unsent
+
+module _ {limits : Limits} (start : Option (List ℕ)) (s t : Reader) (before : Writer) (w0 : Option (List ℕ)) (f0 : ℕ)
+    (o : Opens limits start s) (begun : Starts (raised_of s.limits) s.schema w0 f0 before) where
+  -- the new stream's limits
+  raised_here : before.limits ≡ raised_of limits
+  raised_here = begun.same_limits ∙ ap raised_of o.same_limits
+
+  -- the schema and these batches
+  abbrev table_with : List BatchRows → Table
+  table_with batches = record { schema = s.schema; batches = batches }
+
+  -- the messages of the schema and of these batches were sent
+  all_sent : (batches : List BatchRows) (w1 : Option (List ℕ)) (f1 : ℕ)
+      → Sent (AddsBatches before.limits s.schema batches) before.written w1 before.failures f1
+      → Sent (AreMessagesOf (raised_of limits) (table_with batches)) w0 w1 f0 f1
+  all_sent batches w1 f1 sent = record {
+    x = begun.sent.x ++ sent.x;
+    whole = messages_of (raised_of limits) (table_with batches) begun.sent.x sent.x
+        (subst (λ l. Run (raised_of l) None begun.sent.x (schema s.schema ∷ []) (Some (in_force_of s))) o.same_limits begun.sent.whole)
+        (subst (λ l. AddsBatches l s.schema batches sent.x) raised_here sent.whole);
+    bytes = Appends-trans w0 before.written w1 begun.sent.x sent.x begun.sent.bytes sent.bytes;
+    worked = begun.sent.worked;
+    works = sent.works;
+  }
+
+  -- the schema and these batches are accepted
+  all_accepted : (batches : List BatchRows) → AllByRecursion (AcceptsBatch before.limits s.schema) batches
+      → AcceptsTable (raised_of limits) (table_with batches)
+  all_accepted batches accepts = record {
+    schema = subst (λ l. AcceptsSchema (raised_of l) s.schema) o.same_limits begun.accepts;
+    batches = subst (λ l. AllByRecursion (AcceptsBatch l s.schema) batches) raised_here accepts;
+  }
+
+  module _ (after : Writer) (answer : Result End Fault) (r : CopiesRest s t before after answer) where
+    taken : Consumes start t.remaining (o.x ++ r.x)
+    taken = Consumes-trans start s.remaining t.remaining o.x r.x o.bytes r.bytes
+
+    reads : Reads limits None (o.x ++ r.x) t.remaining (events_of (table_with r.batches)) answer
+    reads = reads_after None (Some (in_force_of s)) o.x r.x t.remaining (schema s.schema ∷ []) (map batch r.batches) answer o.run
+        (subst (λ l. Reads l (Some (in_force_of s)) r.x t.remaining (map batch r.batches) answer) o.same_limits r.reads)
+
+    numbered : t.messages ≡ count_up 0 (length (events_of (table_with r.batches)))
+    numbered =
+        let counted = r.counted 1 (omega (arith, o.one_message)) in
+        let long = length-map r.batches batch in
+        omega (arith, counted, long)
+
+  -- where all batches were sent and then the end mark, the table was
+  pub table_copied : (after : Writer) (end : End) (w1 held : Option (List ℕ)) (f1 : ℕ) → CopiesRest s t before after (Ok end)
+      → Finishes after w1 held f1 → CopiesTable limits start t.remaining w0 w1 f0 f1
+  table_copied after end w1 held f1 r finishes =
+      let h = taken_denotes start t.remaining (Ok (table_with r.batches, end))
+      (record { x = o.x ++ r.x; bytes = taken after (Ok end) r; gives = reads after (Ok end) r }) in
+      let sent = all_sent r.batches after.written after.failures r.sent in
+      record {
+        x = h.0;
+        table = table_with r.batches;
+        end = end;
+        bytes = h.1;
+        denotes = h.2;
+        closed = h.3;
+        accepts = all_accepted r.batches r.accepts;
+        sent = record {
+          x = sent.x ++ finishes.sent.x;
+          whole = (sent.x, ap (λ y. sent.x ++ y) finishes.sent.whole, (Some (in_force_of s), sent.whole));
+          bytes = Appends-trans w0 after.written w1 sent.x finishes.sent.x sent.bytes finishes.sent.bytes;
+          worked = sent.worked;
+          works = finishes.sent.works;
+        };
+      }
+
+  -- where all batches were sent and the end mark wasn't, the sink failed
+  pub mark_refused : (after : Writer) (end : End) (w1 : Option (List ℕ)) (f1 : ℕ) (fault : WriteFault) → after.failed ≡ false
+      → CopiesRest s t before after (Ok end) → FinishFails after w1 f1 fault → BreaksWriting limits start t.remaining w0 w1 f0 f1 fault
+  mark_refused after end w1 f1 fault works r fails =
+      let h = taken_denotes start t.remaining (Ok (table_with r.batches, end))
+      (record { x = o.x ++ r.x; bytes = taken after (Ok end) r; gives = reads after (Ok end) r }) in
+      let cut = mark_cut after w1 f1 fault works fails in
+      unended h.0 (table_with r.batches) end after.written after.failures h.1 h.2 h.3 (all_accepted r.batches r.accepts)
+      (all_sent r.batches after.written after.failures r.sent) cut.0 cut.1
+
+  broken_here : (after : Writer) (why : Stop) → CopiesBatches s t before after (Err why)
+      → Rewrites limits start t.remaining w0 after.written f0 after.failures (Err why)
+  broken_here after (stop.Read fault message) (r, number) =
+      broken (o.x ++ r.x) (table_with r.batches) (taken after (Err fault) r) (reads after (Err fault) r)
+      (number ∙ numbered after (Err fault) r) (all_accepted r.batches r.accepts) (all_sent r.batches after.written after.failures r.sent)
+  broken_here after (stop.Write fault) r =
+      refused (o.x ++ r.x) (table_with r.batches) r.last r.between r.failures
+      (Consumes-trans start s.remaining t.remaining o.x r.x o.bytes r.bytes)
+      (messages_of limits (table_with (r.batches ++ r.last ∷ [])) o.x r.x o.run
+      (subst (λ l. AddsBatches l s.schema (r.batches ++ r.last ∷ []) r.x) o.same_limits r.run))
+      (all_accepted r.batches r.accepts) (all_sent r.batches r.between r.failures r.sent)
+      (subst (λ l. RefusesBatch l s.schema r.last fault) raised_here r.refuses)
+      (subst (λ l. NotSentWhole (AddsBatch l s.schema r.last) r.between after.written r.failures after.failures fault) raised_here r.unsent)
+
+  -- where the batches were not all read and sent, neither was the stream
+  pub batches_broken : (after : Writer) (w1 : Option (List ℕ)) (f1 : ℕ) (why : Stop) → w1 ≡ after.written → f1 ≡ after.failures
+      → CopiesBatches s t before after (Err why) → Rewrites limits start t.remaining w0 w1 f0 f1 (Err why)
+  batches_broken after w1 f1 why same_bytes same_count copies =
+      subst (λ b. Rewrites limits start t.remaining w0 b f0 f1 (Err why)) (sym same_bytes)
+      (subst (λ n. Rewrites limits start t.remaining w0 after.written f0 n (Err why)) (sym same_count) (broken_here after why copies))
+
+-- where no schema is read, nothing is, and nothing was asked of the sink
+pub none_read : {limits : Limits} → (old new w0 : Option (List ℕ)) (f0 : ℕ) (fault : Fault) → OpenFails limits old new fault
+    → BreaksReading limits old new w0 w0 f0 f0 fault 0
+none_read old new w0 f0 fault fails = unopened fails.x fails.bytes fails.reads refl refl refl

@@ -1,0 +1,179 @@
+-- What is taken of a source and sent to a sink where a stream is written anew (Arrow Columnar
+-- Format, "IPC Streaming Format").
+use Rattle.std.specs.Prelude.{◌≡◌, ◌≢◌, ◌+◌, ℕ, List, [], ◌∷◌, ◌++◌, length, map, Option, Some}
+use Rattle.std.specs.Prelude.{None, Result, Ok, Err, ⊤}
+use Rattle.std.specs.Io.KnownBytes.{Consumes, IsAtEnd}
+use Rattle.std.specs.List.{AllByRecursion}
+use Rattle.ipc_model.specs.declared.fault.Fault.{Fault}
+use Rattle.ipc_model.specs.declared.fault.Fault.TheVariants.{OutOfMemory}
+use Rattle.ipc_model.specs.declared.fault.WriteFault.{WriteFault}
+use Rattle.ipc_model.specs.declared.fault.WriteFault.TheVariants as w
+use Rattle.ipc_model.specs.declared.limits.Limits.{Limits}
+use Rattle.ipc_model.specs.declared.schema.Schema.{Schema}
+use Rattle.ipc_model.specs.declared.table.BatchRows.{BatchRows}
+use Rattle.ipc_model.specs.declared.table.Table.{Table}
+use Rattle.ipc_stream.specs.declared.end.End.{End}
+use Rattle.ipc_stream.specs.declared.end.End.TheVariants.{Closed}
+use Rattle.ipc_stream.specs.Failures.{Tells}
+use Rattle.ipc_stream.specs.Reader.{Reader, in_force_of}
+use Rattle.ipc_stream.specs.Reasons.{Reads}
+use Rattle.ipc_stream.specs.Stream.{batch, Run, events_of, Denotes}
+use Rattle.ipc_stream.specs.Taken.{count_up}
+use Rattle.ipc_stream.specs.Writer.{Writer}
+use Rattle.ipc_stream.specs.Writing.{AcceptsBatch, AcceptsTable, AddsBatch, BreaksOff, CutShort}
+use Rattle.ipc_stream.specs.Writing.{EndsStream, IsTableOf, NotSentWhole, OpensStream}
+use Rattle.ipc_stream.specs.Writing.{RefusesBatch, RefusesSchema, Sent}
+use Rattle.ipc_rewrite.specs.declared.stop.Stop.{Stop}
+use Rattle.ipc_rewrite.specs.declared.stop.Stop.TheVariants as stop
+use Rattle.ipc_rewrite.specs.Raised.{raised_of}
+
+-- x is the messages of a table: its schema's, and those of its batches in order
+abbrev pub AreMessagesOf : Limits → Table → List ℕ → Type 0
+AreMessagesOf limits t x = Run limits None x (events_of t) (Some (record { schema = t.schema }))
+
+-- x is the messages of batches, behind the schema
+abbrev pub AddsBatches : Limits → Schema → List BatchRows → List ℕ → Type 0
+AddsBatches limits s batches x = Run limits (Some (record { schema = s })) x (map batch batches)
+    (Some (record { schema = s }))
+
+-- a table with one batch more
+abbrev pub with_batch : Table → BatchRows → Table
+with_batch t last = record { schema = t.schema; batches = t.batches ++ last ∷ [] }
+
+-- The bytes that were taken denote a table and its end, and that table with the end mark was sent.
+pub record CopiesTable (limits : Limits) (old new written_old written_new : Option (List ℕ))
+    (failures_old failures_new : ℕ) : Type 0 where
+  pub x : List ℕ
+  pub table : Table
+  pub end : End
+  pub bytes : Consumes old new x
+  pub denotes : Denotes limits x table end
+  pub closed : end ≡ Closed → IsAtEnd new
+  pub accepts : AcceptsTable (raised_of limits) table
+  pub sent : Sent (IsTableOf (raised_of limits) table) written_old written_new failures_old
+      failures_new
+
+-- Why a stream isn't read to its end, and the messages that were sent before.
+pub data BreaksReading (limits : Limits) (old new written_old written_new : Option (List ℕ))
+    (failures_old failures_new : ℕ) (fault : Fault) (message : ℕ) : Type 0 where
+  -- no schema is read, and nothing was asked of the sink
+  unopened : (x : List ℕ) → Consumes old new x → Reads limits None x new [] (Err fault)
+      → message ≡ 0 → written_new ≡ written_old → failures_new ≡ failures_old
+      → BreaksReading limits old new written_old written_new failures_old failures_new fault message
+  -- reading breaks off behind a schema and batches, whose messages were sent
+  broken : (x : List ℕ) (table : Table) → Consumes old new x
+      → Reads limits None x new (events_of table) (Err fault)
+      → message ≡ count_up 0 (length (events_of table)) → AcceptsTable (raised_of limits) table
+      → Sent (AreMessagesOf (raised_of limits) table) written_old written_new failures_old
+      failures_new
+      → BreaksReading limits old new written_old written_new failures_old failures_new fault message
+
+-- Why what was read isn't written, and the messages that were sent before. Of the call that is
+-- refused a beginning was sent at W9, and nothing at any other fault.
+pub data BreaksWriting (limits : Limits) (old new written_old written_new : Option (List ℕ))
+    (failures_old failures_new : ℕ) (fault : WriteFault) : Type 0 where
+  -- the schema that was read is refused
+  unstarted : (x : List ℕ) (s : Schema) → Consumes old new x → OpensStream limits s x
+      → RefusesSchema (raised_of limits) s fault
+      → NotSentWhole (OpensStream (raised_of limits) s) written_old written_new failures_old
+      failures_new fault
+      → BreaksWriting limits old new written_old written_new failures_old failures_new fault
+  -- the last batch that was read is refused; all messages before it were sent
+  refused : (x : List ℕ) (table : Table) (last : BatchRows) (between : Option (List ℕ))
+      (failures : ℕ) → Consumes old new x → AreMessagesOf limits (with_batch table last) x
+      → AcceptsTable (raised_of limits) table
+      → Sent (AreMessagesOf (raised_of limits) table) written_old between failures_old failures
+      → RefusesBatch (raised_of limits) table.schema last fault
+      → NotSentWhole (AddsBatch (raised_of limits) table.schema last) between written_new failures
+      failures_new fault
+      → BreaksWriting limits old new written_old written_new failures_old failures_new fault
+  -- the stream was read to its end, and all its messages were sent, but not the end mark
+  unended : (x : List ℕ) (table : Table) (end : End) (between : Option (List ℕ)) (failures : ℕ)
+      → Consumes old new x → Denotes limits x table end → (end ≡ Closed → IsAtEnd new)
+      → AcceptsTable (raised_of limits) table
+      → Sent (AreMessagesOf (raised_of limits) table) written_old between failures_old failures
+      → fault ≡ w.Write → CutShort EndsStream between written_new failures_new
+      → BreaksWriting limits old new written_old written_new failures_old failures_new fault
+
+-- what an answer says of a stream that is read under these limits and written anew
+abbrev pub Rewrites : Limits → Option (List ℕ) → Option (List ℕ) → Option (List ℕ)
+    → Option (List ℕ) → ℕ → ℕ → Result ⊤ Stop → Type 0
+Rewrites limits old new written_old written_new failures_old failures_new (Ok done) =
+    CopiesTable limits old new written_old written_new failures_old failures_new
+Rewrites limits old new written_old written_new failures_old failures_new
+    (Err (stop.Read fault message)) =
+    BreaksReading limits old new written_old written_new failures_old failures_new fault message
+Rewrites limits old new written_old written_new failures_old failures_new
+    (Err (stop.Write fault)) =
+    BreaksWriting limits old new written_old written_new failures_old failures_new fault
+
+-- What an answer says of a source that holds this table: the table was sent with its mark, or
+-- writing it broke off, or memory ran out in reading.
+abbrev pub AnswersTable : Limits → Table → Option (List ℕ) → Option (List ℕ) → ℕ → ℕ
+    → Result ⊤ Stop → Type 0
+AnswersTable limits t written_old written_new failures_old failures_new (Ok done) =
+    Sent (IsTableOf limits t) written_old written_new failures_old failures_new
+AnswersTable limits t written_old written_new failures_old failures_new
+    (Err (stop.Read fault message)) = fault ≡ OutOfMemory
+AnswersTable limits t written_old written_new failures_old failures_new
+    (Err (stop.Write fault)) =
+    BreaksOff limits t written_old written_new failures_old failures_new fault
+
+-- with this fault the sink's count of failures went from `old` to `new`: W9 says that it is 1, any
+-- other that it stayed
+pub record TellsSink (old new : ℕ) (fault : WriteFault) : Type 0 where
+  pub failed : fault ≡ w.Write → new ≡ 1
+  pub stayed : fault ≢ w.Write → new ≡ old
+
+-- How often the source and the sink failed before a call and behind it: none did where it succeeds.
+-- Where reading is refused the sink didn't fail in the call, and where writing is refused the source
+-- never did.
+abbrev pub TellsFailures : ℕ → ℕ → ℕ → ℕ → Result ⊤ Stop → Type 0
+TellsFailures source_old source_new sink_old sink_new (Ok done) =
+    (source_old ≡ 0) × (source_new ≡ 0) × (sink_old ≡ 0) × (sink_new ≡ 0)
+TellsFailures source_old source_new sink_old sink_new (Err (stop.Read fault message)) =
+    Tells source_old source_new fault × (sink_new ≡ sink_old)
+TellsFailures source_old source_new sink_old sink_new (Err (stop.Write fault)) =
+    (source_old ≡ 0) × (source_new ≡ 0) × TellsSink sink_old sink_new fault
+
+-- ---- the batches behind the schema
+
+-- what was read behind the schema and how that ended, and that all of it was sent
+pub record CopiesRest (old new : Reader) (before after : Writer)
+    (answer : Result End Fault) : Type 0 where
+  pub x : List ℕ
+  pub batches : List BatchRows
+  pub bytes : Consumes old.remaining new.remaining x
+  pub reads :
+      Reads old.limits (Some (in_force_of old)) x new.remaining (map batch batches) answer
+  pub counted : (k : ℕ) → old.messages ≡ count_up 0 k → new.messages ≡ count_up 0 (k
+      + length batches)
+  pub accepts : AllByRecursion (AcceptsBatch before.limits old.schema) batches
+  pub sent : Sent (AddsBatches before.limits old.schema batches) before.written after.written
+      before.failures after.failures
+
+-- batches that were read behind the schema, of which all but the last were sent
+pub record RefusesLast (old new : Reader) (before after : Writer)
+    (fault : WriteFault) : Type 0 where
+  pub x : List ℕ
+  pub batches : List BatchRows
+  pub last : BatchRows
+  pub bytes : Consumes old.remaining new.remaining x
+  pub run : AddsBatches old.limits old.schema (batches ++ last ∷ []) x
+  pub accepts : AllByRecursion (AcceptsBatch before.limits old.schema) batches
+  pub between : Option (List ℕ)
+  pub failures : ℕ
+  pub sent : Sent (AddsBatches before.limits old.schema batches) before.written between
+      before.failures failures
+  pub refuses : RefusesBatch before.limits old.schema last fault
+  pub unsent : NotSentWhole (AddsBatch before.limits old.schema last) between after.written failures
+      after.failures fault
+
+-- what an answer says of the batches behind the schema
+abbrev pub CopiesBatches : Reader → Reader → Writer → Writer → Result ⊤ Stop → Type 0
+CopiesBatches old new before after (Ok done) =
+    (end : End) × CopiesRest old new before after (Ok end)
+CopiesBatches old new before after (Err (stop.Read fault message)) =
+    CopiesRest old new before after (Err fault) × (message ≡ new.messages)
+CopiesBatches old new before after (Err (stop.Write fault)) =
+    RefusesLast old new before after fault

@@ -1,0 +1,147 @@
+//! A stream is read batch by batch, and each batch is written as soon as it is read.
+ghost use Rattle.std.specs.Prelude.{◌≡◌, ◌++◌, ℕ, List, [], Option, Some, MatchResult, OnOk};
+ghost use Rattle.std.specs.Prelude.{false, true};
+ghost use Rattle.ipc_model.specs.declared.limits.Limits.{Limits};
+ghost use Rattle.ipc_model.specs.declared.table.Table.{Table};
+ghost use Rattle.ipc_meta.specs.Supported.{are_supported};
+ghost use Rattle.ipc_stream.specs.declared.end.End.TheVariants.{Closed, Mark};
+ghost use Rattle.ipc_stream.specs.declared.phase.Phase.TheVariants.{Reading};
+ghost use Rattle.ipc_stream.specs.Found.{rows_of};
+ghost use Rattle.ipc_stream.specs.Reader.{Opens};
+ghost use Rattle.ipc_stream.specs.Stream.{Denotes};
+ghost use Rattle.ipc_stream.specs.Writing.{AcceptsBatch, AddsBatch, RefusesBatch, Sends};
+ghost use Rattle.ipc_rewrite.specs.Raised.{raised_of};
+ghost use Rattle.ipc_rewrite.specs.Rewriting.{AnswersTable, CopiesBatches, Rewrites};
+ghost use Rattle.ipc_rewrite.specs.Rewriting.{TellsFailures};
+
+use crate::limits::raised;
+use crate::stop::Stop;
+use ipc_model::{BatchRows, Items, Limits, Text, WriteFault};
+use ipc_stream::{Batch, Sink, Source, StreamReader, StreamWriter};
+use std::alloc::Global;
+
+// Writes the rows of a batch, with these pairs.
+fn copy_batch<W: Sink>(
+    alloc: Global,
+    batch: &Batch,
+    pairs: Items<(Text, Text)>,
+    writer: &mut StreamWriter<W>,
+) -> Result<(), WriteFault>
+    requires works { writer.old.failed ≡ false }
+    ensures sends { Sends
+        (AddsBatch writer.old.limits writer.old.schema (rows_of (batch.now, pairs)))
+        writer.old.written writer.new.written writer.old.failures writer.new.failures result }
+    ensures judged { MatchResult result
+        (λ _. AcceptsBatch writer.old.limits writer.old.schema (rows_of (batch.now, pairs)))
+        (λ fault. RefusesBatch writer.old.limits writer.old.schema (rows_of (batch.now, pairs))
+        fault) }
+    ensures limits { OnOk result (writer.new.limits ≡ writer.old.limits) }
+    ensures schema { OnOk result (writer.new.schema ≡ writer.old.schema) }
+    ensures works { OnOk result (writer.new.failed ≡ false) }
+{
+    let Ok(rows) = batch.to_rows(alloc) else {
+        return Err(WriteFault::OutOfMemory);
+    };
+    writer.write_batch(&BatchRows { pairs, rows })
+}
+
+// Writes each batch that is read, to the end of the stream.
+fn copy_batches<R: Source, W: Sink>(
+    alloc: Global,
+    stream: &mut StreamReader<R>,
+    writer: &mut StreamWriter<W>,
+) -> Result<(), Stop>
+    requires reading { stream.old.phase ≡ Reading }
+    requires source { stream.old.failures ≡ 0 }
+    requires works { writer.old.failed ≡ false }
+    requires sink { writer.old.failures ≡ 0 }
+    requires schema { writer.old.schema ≡ stream.old.schema }
+    ensures copies { CopiesBatches stream.old stream.new writer.old writer.new result }
+    ensures works { OnOk result (writer.new.failed ≡ false) }
+    ensures devices { TellsFailures stream.old.failures stream.new.failures writer.old.failures
+        writer.new.failures result }
+{
+    loop {
+        match stream.next() {
+            Ok(Some((batch, pairs))) => copy_batch(alloc, &batch, pairs, writer)?,
+            Ok(None) => return Ok(()),
+            Err(fault) => return Err(Stop::Read(fault, stream.messages())),
+        }
+    }
+}
+
+// Writes a stream whose schema was read, and gives the sink back.
+fn copy_stream<R: Source, W: Sink>(
+    alloc: Global,
+    stream: &mut StreamReader<R>,
+    sink: W,
+) -> (Result<(), Stop>, W)
+    requires reading { stream.old.phase ≡ Reading }
+    requires source { stream.old.failures ≡ 0 }
+    ensures rewrites { (limits : Limits) (start : Option (List ℕ)) → Opens limits start stream.old
+        → Rewrites limits start stream.new.remaining (W.written sink) (W.written result.1)
+        (W.failures sink) (W.failures result.1) result.0 }
+    ensures handed_on { OnOk result.0 (W.held_back result.1 ≡ Some []) }
+    ensures devices { TellsFailures stream.old.failures stream.new.failures (W.failures sink)
+        (W.failures result.1) result.0 }
+{
+    let limits = raised(&stream.limits());
+    let mut writer = match StreamWriter::start(alloc, limits, sink, stream.schema()) {
+        Ok(writer) => writer,
+        Err((fault, sink)) => return (Err(Stop::Write(fault)), sink),
+    };
+    if let Err(stop) = copy_batches(alloc, stream, &mut writer) {
+        return (Err(stop), writer.into_inner());
+    }
+    match writer.finish() {
+        Ok(sink) => (Ok(()), sink),
+        Err((fault, sink)) => (Err(Stop::Write(fault)), sink),
+    }
+}
+
+/// Reads a stream from `source` under the limits and writes it anew to `sink`, with the
+/// end-of-stream mark (Arrow Columnar Format, "IPC Streaming Format"): the schema's message goes out
+/// once it is read, and each batch, with its pairs and rows, before the next is read. One batch is
+/// kept at a time, as rows of its own. What is written is within the limits that `raised` makes of
+/// those that are given. Source and sink come back beside the answer.
+///
+/// `Stop::Read` has the refusals of `StreamReader`, F1 to F37 without F35, with the number of the
+/// message, where the schema's is 0. `Stop::Write` has those of `StreamWriter`, W1 to W9 and W11:
+/// W11 comes also where memory is refused for a batch's rows. What was written before stands.
+pub fn rewrite<R: Source, W: Sink>(
+    alloc: Global,
+    limits: Limits,
+    source: R,
+    sink: W,
+) -> (Result<(), Stop>, R, W)
+    // At Ok what was taken denotes a table, and what was sent is that table with the mark. At a
+    // fault, why reading or writing broke off there, and the messages that were sent before.
+    ensures rewrites { Rewrites limits (R.remaining source) (R.remaining result.1)
+        (W.written sink) (W.written result.2) (W.failures sink) (W.failures result.2) result.0 }
+    // At Ok the sink holds nothing back.
+    ensures handed_on { OnOk result.0 (W.held_back result.2 ≡ Some []) }
+    // F36 and W9 are answered exactly where the source or the sink failed in this call.
+    ensures devices { TellsFailures (R.failures source) (R.failures result.1) (W.failures sink)
+        (W.failures result.2) result.0 }
+    // A table of types that are read, with its mark, is written whatever follows it, or refused as
+    // it is by a writer, unless memory runs out or the source fails.
+    ensures marked { (x rest : List ℕ) (t : Table) → are_supported t.schema.fields ≡ true
+        → R.remaining source ≡ Some (x ++ rest) → Denotes limits x t Mark
+        → R.failures result.1 ≡ 0
+        → AnswersTable (raised_of limits) t (W.written sink) (W.written result.2)
+        (W.failures sink) (W.failures result.2) result.0 }
+    // So is one without a mark where nothing follows.
+    ensures closed { (x : List ℕ) (t : Table) → are_supported t.schema.fields ≡ true
+        → R.remaining source ≡ Some x → Denotes limits x t Closed → R.failures result.1 ≡ 0
+        → AnswersTable (raised_of limits) t (W.written sink) (W.written result.2)
+        (W.failures sink) (W.failures result.2) result.0 }
+{
+    match StreamReader::open(alloc, limits, source) {
+        Ok(stream) => {
+            let mut stream = stream;
+            let (result, sink) = copy_stream(alloc, &mut stream, sink);
+            (result, stream.into_inner(), sink)
+        }
+        Err((fault, source)) => (Err(Stop::Read(fault, 0)), source, sink),
+    }
+}

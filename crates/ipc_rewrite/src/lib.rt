@@ -1,0 +1,11 @@
+//! A stream is read batch by batch and written anew, with the same schema and the same batches
+//! (Arrow Columnar Format, "IPC Streaming Format").
+#![tactic(auto)]
+
+mod copying;
+mod limits;
+mod stop;
+
+pub use copying::rewrite;
+pub use limits::raised;
+pub use stop::Stop;

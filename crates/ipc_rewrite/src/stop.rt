@@ -1,0 +1,23 @@
+//! Why a stream isn't written anew.
+
+use ipc_model::{Fault, WriteFault};
+
+/// Why a stream isn't written anew.
+#[derive(Debug, Drop)]
+pub enum Stop {
+    /// It was refused at the message with this number, which is as many as were read before it.
+    Read(Fault, u64),
+    /// What was read could not be written.
+    Write(WriteFault),
+}
+
+impl From<WriteFault> for Stop {
+    ghost use Rattle.std.specs.Prelude.{◌≡◌};
+    ghost use Rattle.ipc_rewrite.specs.declared.stop.Stop.TheVariants.{Write};
+
+    ghost from_gives = { λ fault stop. stop ≡ Write fault };
+
+    fn from(fault: WriteFault) -> Stop {
+        Stop::Write(fault)
+    }
+}
