@@ -1,6 +1,7 @@
 -- A whole stream, from its schema on.
 use Rattle.std.proofs.Common.{◌≡◌, ◌∙◌, refl, sym, ap, subst, ℕ, List, [], ◌∷◌, ◌++◌, length, map, Option, Some, None, Result, Ok, Err}
-use Rattle.std.proofs.Common.{arith, false}
+use Rattle.std.proofs.Common.{arith}
+use Rattle.std.specs.Prelude.{⊤, MatchResult}
 use Rattle.std.specs.List.{AllByRecursion}
 use Rattle.std.specs.Io.KnownBytes.{Consumes}
 use Rattle.std.proofs.KnownBytes.{Appends-trans, Consumes-trans}
@@ -16,7 +17,7 @@ use Rattle.ipc_stream.specs.Reader.{Reader, in_force_of, Opens, OpenFails}
 use Rattle.ipc_stream.specs.Reasons.{Reads}
 use Rattle.ipc_stream.specs.Stream.{schema, batch, Run, events_of}
 use Rattle.ipc_stream.specs.Taken.{count_up}
-use Rattle.ipc_stream.specs.Writer.{Writer, Starts, StartFails, Finishes, FinishFails}
+use Rattle.ipc_stream.specs.Writer.{Writer, Starts, StartFails}
 use Rattle.ipc_stream.specs.Writing.{AcceptsBatch, AcceptsSchema, AcceptsTable, AddsBatch, RefusesBatch, EndsStream, CutShort, NotSentWhole, Sent}
 use Rattle.ipc_stream.proofs.Answered.{taken_denotes}
 use Rattle.ipc_stream.proofs.Runs.{run_then, reads_after}
@@ -30,18 +31,6 @@ use Rattle.ipc_rewrite.specs.Rewriting.{refused, unended, Rewrites, CopiesRest, 
 messages_of : (limits : Limits) (t : Table) (x y : List ℕ) → Run limits None x (schema t.schema ∷ []) (Some (record { schema = t.schema }))
     → AddsBatches limits t.schema t.batches y → AreMessagesOf limits t (x ++ y)
 messages_of limits t x y first rest = run_then _ _ _ x y (schema t.schema ∷ []) (map batch t.batches) first rest
-
--- the end mark, as the only fault of the last call
-mark_cut : (before : Writer) (w1 : Option (List ℕ)) (f1 : ℕ) (fault : WriteFault) → before.failed ≡ false → FinishFails before w1 f1 fault
-    → (fault ≡ w.Write) × CutShort EndsStream before.written w1 f1
-mark_cut before w1 f1 w.Write works h = (refl, h.1)
-mark_cut before w1 f1 w.Failed works h = absurd (cc)
-mark_cut before w1 f1 w.BadSchema works h = absurd h
-mark_cut before w1 f1 (w.Row row cause) works h = absurd h
-mark_cut before w1 f1 w.TooLong works h = absurd h
-mark_cut before w1 f1 w.DictionaryFull works h = absurd h
-mark_cut before w1 f1 w.TooManyRows works h = absurd h
-mark_cut before w1 f1 w.OutOfMemory works h = absurd h
 
 -- where a new stream isn't begun, it is since the schema that was read is refused
 pub schema_refused : {limits : Limits} → (start : Option (List ℕ)) (s : Reader) (w0 w1 : Option (List ℕ)) (f0 f1 : ℕ) (fault : WriteFault)
@@ -97,10 +86,9 @@ module _ {limits : Limits} (start : Option (List ℕ)) (s t : Reader) (before : 
         let long = length-map r.batches batch in
         omega (arith, counted, long)
 
-  -- where all batches were sent and then the end mark, the table was
-  pub table_copied : (after : Writer) (end : End) (w1 held : Option (List ℕ)) (f1 : ℕ) → CopiesRest s t before after (Ok end)
-      → Finishes after w1 held f1 → CopiesTable limits start t.remaining w0 w1 f0 f1
-  table_copied after end w1 held f1 r finishes =
+  table_copied : (after : Writer) (end : End) (w1 : Option (List ℕ)) (f1 : ℕ) → CopiesRest s t before after (Ok end)
+      → Sent EndsStream after.written w1 after.failures f1 → CopiesTable limits start t.remaining w0 w1 f0 f1
+  table_copied after end w1 f1 r mark =
       let h = taken_denotes start t.remaining (Ok (table_with r.batches, end))
       (record { x = o.x ++ r.x; bytes = taken after (Ok end) r; gives = reads after (Ok end) r }) in
       let sent = all_sent r.batches after.written after.failures r.sent in
@@ -113,23 +101,30 @@ module _ {limits : Limits} (start : Option (List ℕ)) (s t : Reader) (before : 
         closed = h.3;
         accepts = all_accepted r.batches r.accepts;
         sent = record {
-          x = sent.x ++ finishes.sent.x;
-          whole = (sent.x, ap (λ y. sent.x ++ y) finishes.sent.whole, (Some (in_force_of s), sent.whole));
-          bytes = Appends-trans w0 after.written w1 sent.x finishes.sent.x sent.bytes finishes.sent.bytes;
+          x = sent.x ++ mark.x;
+          whole = (sent.x, ap (λ y. sent.x ++ y) mark.whole, (Some (in_force_of s), sent.whole));
+          bytes = Appends-trans w0 after.written w1 sent.x mark.x sent.bytes mark.bytes;
           worked = sent.worked;
-          works = finishes.sent.works;
+          works = mark.works;
         };
       }
 
-  -- where all batches were sent and the end mark wasn't, the sink failed
-  pub mark_refused : (after : Writer) (end : End) (w1 : Option (List ℕ)) (f1 : ℕ) (fault : WriteFault) → after.failed ≡ false
-      → CopiesRest s t before after (Ok end) → FinishFails after w1 f1 fault → BreaksWriting limits start t.remaining w0 w1 f0 f1 fault
-  mark_refused after end w1 f1 fault works r fails =
+  mark_refused : (after : Writer) (end : End) (w1 : Option (List ℕ)) (f1 : ℕ) → CopiesRest s t before after (Ok end)
+      → CutShort EndsStream after.written w1 f1 → BreaksWriting limits start t.remaining w0 w1 f0 f1 w.Write
+  mark_refused after end w1 f1 r cut =
       let h = taken_denotes start t.remaining (Ok (table_with r.batches, end))
       (record { x = o.x ++ r.x; bytes = taken after (Ok end) r; gives = reads after (Ok end) r }) in
-      let cut = mark_cut after w1 f1 fault works fails in
       unended h.0 (table_with r.batches) end after.written after.failures h.1 h.2 h.3 (all_accepted r.batches r.accepts)
-      (all_sent r.batches after.written after.failures r.sent) cut.0 cut.1
+      (all_sent r.batches after.written after.failures r.sent) refl cut
+
+  -- where all batches were sent, the stream is written as far as the last call says
+  pub stream_ended : (after : Writer) (end : End) (w1 : Option (List ℕ)) (f1 : ℕ) (r : Result ⊤ Stop) → CopiesRest s t before after (Ok end)
+      → MatchResult r (λ _. Sent EndsStream after.written w1 after.failures f1)
+      (λ why. (why ≡ stop.Write w.Write) × CutShort EndsStream after.written w1 f1)
+      → Rewrites limits start t.remaining w0 w1 f0 f1 r
+  stream_ended after end w1 f1 (Ok done) r mark = table_copied after end w1 f1 r mark
+  stream_ended after end w1 f1 (Err why) r (is, cut) =
+      subst (λ (e : Stop). Rewrites limits start t.remaining w0 w1 f0 f1 (Err e)) (sym is) (mark_refused after end w1 f1 r cut)
 
   broken_here : (after : Writer) (why : Stop) → CopiesBatches s t before after (Err why)
       → Rewrites limits start t.remaining w0 after.written f0 after.failures (Err why)

@@ -1,6 +1,6 @@
 //! A stream is read batch by batch, and each batch is written as soon as it is read.
-ghost use Rattle.std.specs.Prelude.{◌≡◌, ◌++◌, ℕ, List, [], Option, Some, MatchResult, OnOk};
-ghost use Rattle.std.specs.Prelude.{false, true};
+ghost use Rattle.std.specs.Prelude.{◌≡◌, ◌++◌, ℕ, List, [], IfErr, IfOk, MatchResult};
+ghost use Rattle.std.specs.Prelude.{OnOk, Option, Some, false, true};
 ghost use Rattle.ipc_model.specs.declared.limits.Limits.{Limits};
 ghost use Rattle.ipc_model.specs.declared.table.Table.{Table};
 ghost use Rattle.ipc_meta.specs.Supported.{are_supported};
@@ -9,14 +9,17 @@ ghost use Rattle.ipc_stream.specs.declared.phase.Phase.TheVariants.{Reading};
 ghost use Rattle.ipc_stream.specs.Found.{rows_of};
 ghost use Rattle.ipc_stream.specs.Reader.{Opens};
 ghost use Rattle.ipc_stream.specs.Stream.{Denotes};
-ghost use Rattle.ipc_stream.specs.Writing.{AcceptsBatch, AddsBatch, RefusesBatch, Sends};
+ghost use Rattle.ipc_stream.specs.Writer.{Starts, StartFails};
+ghost use Rattle.ipc_stream.specs.Writing.{AcceptsBatch, AddsBatch, CutShort, EndsStream};
+ghost use Rattle.ipc_stream.specs.Writing.{RefusesBatch, Sends, Sent};
+ghost use Rattle.ipc_rewrite.specs.declared.stop.Stop.TheVariants.{Write};
 ghost use Rattle.ipc_rewrite.specs.Raised.{raised_of};
 ghost use Rattle.ipc_rewrite.specs.Rewriting.{AnswersTable, CopiesBatches, Rewrites};
 ghost use Rattle.ipc_rewrite.specs.Rewriting.{TellsFailures};
 
 use crate::limits::raised;
 use crate::stop::Stop;
-use ipc_model::{BatchRows, Items, Limits, Text, WriteFault};
+use ipc_model::{BatchRows, Items, Limits, Schema, Text, WriteFault};
 use ipc_stream::{Batch, Sink, Source, StreamReader, StreamWriter};
 use std::alloc::Global;
 
@@ -46,6 +49,7 @@ fn copy_batch<W: Sink>(
 }
 
 // Writes each batch that is read, to the end of the stream.
+#[tactic(auto, using(crate::proofs::Batches::copied_none, crate::proofs::Batches::copied_more))]
 fn copy_batches<R: Source, W: Sink>(
     alloc: Global,
     stream: &mut StreamReader<R>,
@@ -70,6 +74,37 @@ fn copy_batches<R: Source, W: Sink>(
     }
 }
 
+// Begins the new stream.
+fn begin_stream<W: Sink>(
+    alloc: Global,
+    limits: &Limits,
+    sink: W,
+    schema: &Schema,
+) -> Result<StreamWriter<W>, (WriteFault, W)>
+    ensures started { IfOk result
+        (λ s. Starts (raised_of limits.now) schema.now (W.written sink) (W.failures sink) s) }
+    ensures refused { IfErr result (λ e. StartFails (raised_of limits.now) schema.now
+        (W.written sink) (W.written e.1) (W.failures sink) (W.failures e.1) e.0) }
+{
+    StreamWriter::start(alloc, raised(limits), sink, schema)
+}
+
+// Ends the new stream with its mark.
+fn end_stream<W: Sink>(writer: StreamWriter<W>) -> (Result<(), Stop>, W)
+    requires { writer.failed ≡ false }
+    ensures ends { MatchResult result.0
+        (λ _. Sent EndsStream writer.written (W.written result.1) writer.failures
+        (W.failures result.1))
+        (λ stop. (stop ≡ Write WriteFault.Write)
+        × CutShort EndsStream writer.written (W.written result.1) (W.failures result.1)) }
+    ensures handed_on { OnOk result.0 (W.held_back result.1 ≡ Some []) }
+{
+    match writer.finish() {
+        Ok(sink) => (Ok(()), sink),
+        Err((fault, sink)) => (Err(Stop::Write(fault)), sink),
+    }
+}
+
 // Writes a stream whose schema was read, and gives the sink back.
 fn copy_stream<R: Source, W: Sink>(
     alloc: Global,
@@ -85,17 +120,13 @@ fn copy_stream<R: Source, W: Sink>(
     ensures devices { TellsFailures stream.old.failures stream.new.failures (W.failures sink)
         (W.failures result.1) result.0 }
 {
-    let limits = raised(&stream.limits());
-    let mut writer = match StreamWriter::start(alloc, limits, sink, stream.schema()) {
+    let mut writer = match begin_stream(alloc, &stream.limits(), sink, stream.schema()) {
         Ok(writer) => writer,
         Err((fault, sink)) => return (Err(Stop::Write(fault)), sink),
     };
-    if let Err(stop) = copy_batches(alloc, stream, &mut writer) {
-        return (Err(stop), writer.into_inner());
-    }
-    match writer.finish() {
-        Ok(sink) => (Ok(()), sink),
-        Err((fault, sink)) => (Err(Stop::Write(fault)), sink),
+    match copy_batches(alloc, stream, &mut writer) {
+        Ok(()) => end_stream(writer),
+        Err(stop) => (Err(stop), writer.into_inner()),
     }
 }
 

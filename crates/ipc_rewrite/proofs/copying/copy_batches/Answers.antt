@@ -1,9 +1,6 @@
 use Rattle.std.proofs.lemmas.Result.{err_from_is_err_and}
-use Rattle.ipc_rewrite.proofs.Batches.{copied_none, copied_more, copied_refused, copied_end, copied_break}
+use Rattle.ipc_rewrite.proofs.Batches.{copied_refused, copied_end, copied_break}
 use Rattle.ipc_rewrite.proofs.copying.copy_batches.Goals as goal
-
-pub loop-batch-init : goal.loop-batch-init
-loop-batch-init g c = copied_none _ _ c.requires.reading c.requires.source c.requires.works c.requires.sink c.requires.schema
 
 pub returns-in_err-copy_batch-in-Ok-Some-clause-copies : goal.returns-in_err-copy_batch-in-Ok-Some-clause-copies
 returns-in_err-copy_batch-in-Ok-Some-clause-copies g c =
@@ -12,13 +9,6 @@ returns-in_err-copy_batch-in-Ok-Some-clause-copies g c =
     rw (p.1, p.2) (copied_refused _ _ _ _ _ c.loop-batch.invariant (c.in-Ok-Some.batch, c.in-Ok-Some.pairs) c.copy_batch.new.writer
     c.in_err-copy_batch-in-Ok-Some.field-0.0 next c.in_err-copy_batch-in-Ok-Some.ensures.sends
     c.in_err-copy_batch-in-Ok-Some.ensures.judged)
-
-pub loop-batch-preserved : goal.loop-batch-preserved
-loop-batch-preserved g c =
-    let next = rw c.in-Ok-Some.field-0-is at c.in-Ok-Some.ensures.next in
-    let e = c.in_ok-copy_batch-in-Ok-Some.ensures in
-    copied_more _ _ _ _ _ c.loop-batch.invariant (c.in-Ok-Some.batch, c.in-Ok-Some.pairs) c.copy_batch.new.writer next
-    c.in-Ok-Some.ensures.failures e.sends e.judged e.limits e.schema e.works
 
 pub returns-in-Ok-None-clause-copies : goal.returns-in-Ok-None-clause-copies
 returns-in-Ok-None-clause-copies g c =
