@@ -22,7 +22,8 @@ use Rattle.ipc_stream.specs.Failures.{Tells}
 use Rattle.ipc_stream.specs.Reasons.{Reads}
 use Rattle.ipc_stream.specs.Stream.{schema, batch, Run, events_of, Denotes}
 use Rattle.ipc_stream.specs.Taken.{TakesTable}
-use Rattle.ipc_stream.specs.Writing.{AcceptsBatch, AcceptsTable, AddsBatch, BreaksOff, CutShort, EndsStream, IsTableOf, NotSentWhole, OpensStream}
+use Rattle.ipc_stream.specs.Writing.{AcceptsBatch, AcceptsTable, AddsBatch, BreaksOff, CutShort, EndsStream, IsTableOf, NotSentWhole}
+use Rattle.ipc_stream.specs.Writing.{OpensStream}
 use Rattle.ipc_stream.specs.Writing.{RefusesBatch, RefusesSchema, Sent}
 use Rattle.ipc_stream.proofs.Answered.{answers_marked, answers_closed}
 use Rattle.ipc_stream.proofs.Reasons.{run_told}
@@ -75,7 +76,8 @@ first_out {limits} t more w0 w1 f0 f1 accepts sent = record {
   worked = sent.worked;
   works = sent.works;
   accepts_schema = accepts.schema;
-  accepts = subst (λ (bs : List BatchRows). AllByRecursion (AcceptsBatch limits t.schema) bs) (sym (take-append_seam t.batches more)) accepts.batches;
+  accepts = subst (λ (bs : List BatchRows). AllByRecursion (AcceptsBatch limits t.schema) bs) (sym (take-append_seam t.batches more))
+      accepts.batches;
 }
 
 -- where the batch behind the first ones is refused, writing the whole table breaks off there
@@ -94,7 +96,8 @@ mark_breaks : {limits : Limits} → (t : Table) (w0 between w1 : Option (List �
 mark_breaks {limits} t w0 between w1 f0 f f1 accepts sent cut =
     let whole : record { schema = t.schema; batches = t.batches ++ [] } ≡ t = λ i. record
     { schema = t.schema; batches = append-nil t.batches i } in
-    let out = subst (λ (u : Table). IsOut limits u w0 between f0 f (length t.batches)) whole (first_out t [] w0 between f0 f accepts sent) in
+    let out = subst (λ (u : Table). IsOut limits u w0 between f0 f (length t.batches)) whole
+    (first_out t [] w0 between f0 f accepts sent) in
     end_broken t w0 between w1 f0 f f1 (length t.batches) out (omega arith) (Err w.Write) cut refl
 
 module _ {limits : Limits} (new : Option (List ℕ)) (z : List ℕ) (t : Table) (h : Holds limits z t) (w0 w1 : Option (List ℕ)) (f0 f1 : ℕ)

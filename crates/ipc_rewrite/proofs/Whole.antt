@@ -18,7 +18,8 @@ use Rattle.ipc_stream.specs.Reasons.{Reads}
 use Rattle.ipc_stream.specs.Stream.{schema, batch, Run, events_of}
 use Rattle.ipc_stream.specs.Taken.{count_up}
 use Rattle.ipc_stream.specs.Writer.{Writer, Starts, StartFails}
-use Rattle.ipc_stream.specs.Writing.{AcceptsBatch, AcceptsSchema, AcceptsTable, AddsBatch, RefusesBatch, EndsStream, CutShort, NotSentWhole, Sent}
+use Rattle.ipc_stream.specs.Writing.{AcceptsBatch, AcceptsSchema, AcceptsTable, AddsBatch, CutShort, EndsStream, NotSentWhole}
+use Rattle.ipc_stream.specs.Writing.{RefusesBatch, Sent}
 use Rattle.ipc_stream.proofs.Answered.{taken_denotes}
 use Rattle.ipc_stream.proofs.Runs.{run_then, reads_after}
 use Rattle.ipc_rewrite.specs.declared.stop.Stop.{Stop}

@@ -1,5 +1,4 @@
--- What is taken of a source and sent to a sink where a stream is written anew (Arrow Columnar
--- Format, "IPC Streaming Format").
+-- What is taken of a source and sent to a sink where a stream is written anew.
 use Rattle.std.specs.Prelude.{◌≡◌, ◌≢◌, ◌+◌, ℕ, List, [], ◌∷◌, ◌++◌, length, map, Option, Some}
 use Rattle.std.specs.Prelude.{None, Result, Ok, Err, ⊤}
 use Rattle.std.specs.Io.KnownBytes.{Consumes, IsAtEnd}
@@ -27,11 +26,12 @@ use Rattle.ipc_rewrite.specs.declared.stop.Stop.{Stop}
 use Rattle.ipc_rewrite.specs.declared.stop.Stop.TheVariants as stop
 use Rattle.ipc_rewrite.specs.Raised.{raised_of}
 
--- x is the messages of a table: its schema's, and those of its batches in order
+-- x is the messages of a table: its schema's, and those of its batches in order (Arrow Columnar
+-- Format, "IPC Streaming Format")
 abbrev pub AreMessagesOf : Limits → Table → List ℕ → Type 0
 AreMessagesOf limits t x = Run limits None x (events_of t) (Some (record { schema = t.schema }))
 
--- x is the messages of batches, behind the schema
+-- x is the messages of batches, behind the schema (Arrow Columnar Format, "IPC Streaming Format")
 abbrev pub AddsBatches : Limits → Schema → List BatchRows → List ℕ → Type 0
 AddsBatches limits s batches x = Run limits (Some (record { schema = s })) x (map batch batches)
     (Some (record { schema = s }))
@@ -95,7 +95,8 @@ pub data BreaksWriting (limits : Limits) (old new written_old written_new : Opti
       → fault ≡ w.Write → CutShort EndsStream between written_new failures_new
       → BreaksWriting limits old new written_old written_new failures_old failures_new fault
 
--- what an answer says of a stream that is read under these limits and written anew
+-- what an answer says of a stream that is read under these limits and written under the raised
+-- ones
 abbrev pub Rewrites : Limits → Option (List ℕ) → Option (List ℕ) → Option (List ℕ)
     → Option (List ℕ) → ℕ → ℕ → Result ⊤ Stop → Type 0
 Rewrites limits old new written_old written_new failures_old failures_new (Ok done) =
@@ -107,8 +108,8 @@ Rewrites limits old new written_old written_new failures_old failures_new
     (Err (stop.Write fault)) =
     BreaksWriting limits old new written_old written_new failures_old failures_new fault
 
--- What an answer says of a source that holds this table: the table was sent with its mark, or
--- writing it broke off, or memory ran out in reading.
+-- What an answer says where the source holds this table: it was sent with the mark, or writing it
+-- broke off, or memory ran out in reading it.
 abbrev pub AnswersTable : Limits → Table → Option (List ℕ) → Option (List ℕ) → ℕ → ℕ
     → Result ⊤ Stop → Type 0
 AnswersTable limits t written_old written_new failures_old failures_new (Ok done) =
@@ -125,9 +126,9 @@ pub record TellsSink (old new : ℕ) (fault : WriteFault) : Type 0 where
   pub failed : fault ≡ w.Write → new ≡ 1
   pub stayed : fault ≢ w.Write → new ≡ old
 
--- How often the source and the sink failed before a call and behind it: none did where it succeeds.
--- Where reading is refused the sink didn't fail in the call, and where writing is refused the source
--- never did.
+-- How often the source and the sink failed before a call and behind it: neither did where it
+-- succeeds. Where reading is refused the sink didn't fail in the call, and where writing is refused
+-- the source never did.
 abbrev pub TellsFailures : ℕ → ℕ → ℕ → ℕ → Result ⊤ Stop → Type 0
 TellsFailures source_old source_new sink_old sink_new (Ok done) =
     (source_old ≡ 0) × (source_new ≡ 0) × (sink_old ≡ 0) × (sink_new ≡ 0)

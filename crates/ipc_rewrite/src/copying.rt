@@ -131,14 +131,15 @@ fn copy_stream<R: Source, W: Sink>(
 }
 
 /// Reads a stream from `source` under the limits and writes it anew to `sink`, with the
-/// end-of-stream mark (Arrow Columnar Format, "IPC Streaming Format"): the schema's message goes out
-/// once it is read, and each batch, with its pairs and rows, before the next is read. One batch is
-/// kept at a time, as rows of its own. What is written is within the limits that `raised` makes of
-/// those that are given. Source and sink come back beside the answer.
+/// end-of-stream mark (Arrow Columnar Format, "IPC Streaming Format"): the schema's message goes
+/// out once it is read, and each batch, with its pairs and rows, before the next is read. One batch
+/// is kept at a time, as rows of its own. What is written is within the limits that `raised` makes
+/// of those that are given. Source and sink come back beside the answer.
 ///
 /// `Stop::Read` has the refusals of `StreamReader`, F1 to F37 without F35, with the number of the
-/// message, where the schema's is 0. `Stop::Write` has those of `StreamWriter`, W1 to W9 and W11:
-/// W11 comes also where memory is refused for a batch's rows. What was written before stands.
+/// message, where the schema's is 0. `Stop::Write` has those of `StreamWriter`, W1 to W9 and W11,
+/// of what was read: a null in a required field is read, and refused as W5. W11 comes also where
+/// memory is refused for a batch's rows. What was written before stands.
 pub fn rewrite<R: Source, W: Sink>(
     alloc: Global,
     limits: Limits,
