@@ -1,0 +1,209 @@
+-- How a conversion ends.
+use Rattle.std.proofs.Common.{◌≡◌, ◌∙◌, refl, sym, ap, subst, ℕ, suc, ◌<◌, List, [], ◌∷◌, ◌++◌, length, map, take, Option, Some, None}
+use Rattle.std.proofs.Common.{Ok, Err, true, false, arith}
+use Rattle.std.specs.Prelude.{◌==◌, Bool, IfErr, OnOk, Result}
+use Rattle.std.specs.List.{AllByRecursion}
+use Rattle.std.proofs.KnownBytes.{Appends-nil, Appends-trans}
+use Rattle.std.proofs.Math.Seq.{drop-length, take-length}
+use Rattle.std.proofs.lemmas.Bool.{eqb-true, false≢true}
+use Rattle.std.proofs.lemmas.List.{append-nil}
+use Rattle.csv.specs.declared.reader.Reader.{Reader}
+use Rattle.ipc_model.specs.Limits.{IsStandard}
+use Rattle.ipc_model.specs.declared.fault.WriteFault.{WriteFault}
+use Rattle.ipc_model.specs.declared.fault.WriteFault.TheVariants as w
+use Rattle.ipc_model.specs.declared.limits.Limits.{Limits}
+use Rattle.ipc_model.specs.declared.schema.Schema.{Schema}
+use Rattle.ipc_model.specs.declared.table.BatchRows.{BatchRows}
+use Rattle.ipc_model.specs.declared.value.Value.{Value}
+use Rattle.ipc_stream.specs.Stream.{Event, Run, batch, done, schema}
+use Rattle.ipc_stream.specs.Writer.{Finishes, FinishFails, Leaves, StartFails, Writer}
+use Rattle.ipc_stream.specs.Writing.{AcceptsBatch, AddsBatch, AddsNext, BreaksOff, CutShort, EndsStream, NotSentWhole, RefusesFirst}
+use Rattle.ipc_text.specs.RowCsv.{flat_fault, names}
+use Rattle.ipc_from_csv.specs.Batches.{last_batch}
+use Rattle.ipc_from_csv.specs.Conversion.{Answers, AnswersHeader, Converts, StopsFor, StopsWriting, before, in_header, table_of}
+use Rattle.ipc_from_csv.specs.Records.{AreRecordsOf, Stands}
+use Rattle.ipc_from_csv.specs.Steps.{IsOut, SendsAll}
+use Rattle.ipc_from_csv.specs.declared.stop.Stop.{Stop}
+use Rattle.ipc_from_csv.specs.declared.stop.Stop.TheVariants as stop
+use Rattle.ipc_from_csv.proofs.Breaking.{take_events}
+use Rattle.ipc_from_csv.proofs.Reading.{are_first}
+use Rattle.ipc_from_csv.proofs.Sending.{Came, batch_of, batch_out, came_fill}
+
+-- some rows are kept where a vector of so many is not empty
+pub some_kept : (len : ℕ) (kept : List (List Value)) (empty : Bool) → len ≡ length kept → empty ≡ (len == 0) → empty ≡ false → 0 < length kept
+some_kept len [] empty is told some = absurd (false≢true (sym some ∙ (told ∙ ap (λ n. n == 0) is)))
+some_kept len (r ∷ kept) empty is told some = omega arith
+
+-- none is kept where it is empty
+pub none_kept : (len : ℕ) (kept : List (List Value)) (empty : Bool) → len ≡ length kept → empty ≡ (len == 0) → empty ≡ true → length kept ≡ 0
+none_kept len kept empty is told none = sym is ∙ eqb-true len 0 (sym told ∙ none)
+
+-- where rows are left over they are the last batch
+pub last_is : (kept : List (List Value)) → 0 < length kept → last_batch kept ≡ batch_of kept ∷ []
+last_is [] some = absurd (omega (arith, some))
+last_is (r ∷ kept) some = refl
+
+-- where none is left over there is no last batch
+pub no_last : (kept : List (List Value)) → length kept ≡ 0 → last_batch kept ≡ []
+no_last [] none = refl
+no_last (r ∷ kept) none = absurd (omega (arith, none))
+
+module _ {R : Type 0} (remaining : R → Option (List ℕ)) (input : Option (List ℕ)) (s : Schema) (size : ℕ) (old : Option (List ℕ))
+    (failures : ℕ) (reader : Reader R) (writer : Writer) (number : ℕ) (kept : List (List Value))
+    (came : Came remaining input s size old failures reader writer number kept) (few : length kept < size)
+    (all : AreRecordsOf input (names s.fields ∷ came.records)) where
+  all_sent : (new : Writer) → IsOut s (came.batches ++ last_batch kept) old failures new → SendsAll input s size old failures new
+  all_sent new out = record {
+    flat = came.flat;
+    records = came.records;
+    all = all;
+    there = are_first remaining input (names s.fields ∷ came.records) reader came.stands;
+    rows = came.rows;
+    read = came.read;
+    batches = came.batches;
+    left = kept;
+    fill = came_fill remaining input s size old failures reader writer number kept came few;
+    out = out;
+  }
+
+  -- where no row is left over, all is out
+  pub ends_full : length kept ≡ 0 → SendsAll input s size old failures writer
+  ends_full none = all_sent writer (subst (λ bs. IsOut s bs old failures writer)
+      (sym (ap (λ bs. came.batches ++ bs) (no_last kept none) ∙ append-nil came.batches)) came.out)
+
+  -- where the last batch was sent, all is out
+  pub ends_last : (new : Writer) (b : BatchRows) → b ≡ batch_of kept → 0 < length kept
+      → Leaves (AddsBatch writer.limits writer.schema b) writer new (Ok tt) → AcceptsBatch writer.limits writer.schema b
+      → SendsAll input s size old failures new
+  ends_last new b is some leaves accepts = all_sent new (subst (λ bs. IsOut s (came.batches ++ bs) old failures new)
+      (ap (λ z. z ∷ []) is ∙ sym (last_is kept some)) (batch_out s came.batches old failures writer new came.out b leaves accepts))
+
+-- ---- the start and the end of the stream
+
+-- a conversion stops where the schema is refused
+pub start_stops : {R : Type 0} (remaining : R → Option (List ℕ)) (input : Option (List ℕ)) (s : Schema) (size : ℕ) (old new : Option (List ℕ))
+    (f0 f1 : ℕ) (reader : Reader R) (limits : Limits) (fault : WriteFault) → IsStandard limits → 0 < size → flat_fault s.fields ≡ None
+    → Stands remaining input (names s.fields ∷ []) reader → StartFails limits s old new f0 f1 fault
+    → StopsWriting input s size old new f0 f1 fault
+start_stops remaining input s size old new f0 f1 reader limits fault standard some flat stands fails = record {
+  limits = limits;
+  standard = standard;
+  flat = flat;
+  records = [];
+  there = are_first remaining input (names s.fields ∷ []) reader stands;
+  rows = [];
+  read = tt;
+  batches = [];
+  left = [];
+  fill = record { full = tt; few = some; joined = refl };
+  all = λ some_left. absurd (some_left refl);
+  breaks = record {
+    count = 0;
+    accepts = tt;
+    refuses = fails.cause;
+    state = None;
+    x = [];
+    run = done;
+    between = old;
+    bytes = Appends-nil old;
+    unsent = fails.unsent;
+  };
+}
+
+module _ (input : Option (List ℕ)) (s : Schema) (size : ℕ) (old : Option (List ℕ)) (failures : ℕ) (writer : Writer)
+    (sends : SendsAll input s size old failures writer) where
+  -- where the end mark is out behind all rows, all is converted
+  pub all_converts : (new held_back : Option (List ℕ)) (failures_new : ℕ) → Finishes writer new held_back failures_new
+      → Converts input s size old new failures failures_new
+  all_converts new held_back failures_new finishes = record {
+    limits = writer.limits;
+    standard = sends.out.standard;
+    flat = sends.flat;
+    records = sends.records;
+    all = sends.all;
+    rows = sends.rows;
+    read = sends.read;
+    batches = sends.batches;
+    left = sends.left;
+    fill = sends.fill;
+    sent = record {
+      x = sends.out.sent.x ++ finishes.sent.x;
+      whole = (
+        sends.out.sent.x,
+        ap (λ y. sends.out.sent.x ++ y) finishes.sent.whole,
+        (Some (record { schema = s }), sends.out.sent.whole),
+      );
+      bytes = Appends-trans old writer.written new sends.out.sent.x finishes.sent.x sends.out.sent.bytes finishes.sent.bytes;
+      worked = sends.out.sent.worked;
+      works = finishes.sent.works;
+    };
+  }
+
+  cut_breaks : (new : Option (List ℕ)) (failures_new : ℕ) → CutShort EndsStream writer.written new failures_new
+      → BreaksOff writer.limits (table_of s (sends.batches ++ last_batch sends.left)) old new failures failures_new w.Write
+  cut_breaks new failures_new cut =
+      let batches = sends.batches ++ last_batch sends.left in
+      let none = sym (drop-length batches) in
+      record {
+        count = suc (length batches);
+        accepts = (
+          sends.out.accepts_schema,
+          subst (AllByRecursion (AcceptsBatch writer.limits s)) (sym (take-length batches)) sends.out.accepts,
+        );
+        refuses = subst (λ l. RefusesFirst writer.limits s l w.Write) none refl;
+        state = Some (record { schema = s });
+        x = sends.out.sent.x;
+        run = subst (λ (es : List Event). Run writer.limits None sends.out.sent.x (schema s ∷ es) (Some (record { schema = s })))
+            (sym (ap (λ bs. take (length batches) (map batch bs)) (sym (append-nil batches)) ∙ take_events batches [])) sends.out.sent.whole;
+        between = writer.written;
+        bytes = sends.out.sent.bytes;
+        unsent = subst (λ l. NotSentWhole (AddsNext writer.limits s l) writer.written new failures failures_new w.Write) none cut;
+      }
+
+  cut_stops : (new : Option (List ℕ)) (failures_new : ℕ) → CutShort EndsStream writer.written new failures_new
+      → StopsWriting input s size old new failures failures_new w.Write
+  cut_stops new failures_new cut = record {
+    limits = writer.limits;
+    standard = sends.out.standard;
+    flat = sends.flat;
+    records = sends.records;
+    there = sends.there;
+    rows = sends.rows;
+    read = sends.read;
+    batches = sends.batches;
+    left = sends.left;
+    fill = sends.fill;
+    all = λ _. sends.all;
+    breaks = cut_breaks new failures_new cut;
+  }
+
+  -- a conversion stops where the end mark isn't out whole
+  pub end_stops : (new : Option (List ℕ)) (failures_new : ℕ) (fault : WriteFault) → FinishFails writer new failures_new fault
+      → StopsWriting input s size old new failures failures_new fault
+  end_stops new failures_new w.Write fails = cut_stops new failures_new fails.1
+  end_stops new failures_new w.Failed fails = absurd (false≢true (sym sends.out.works ∙ fails.0))
+  end_stops new failures_new w.BadSchema fails = absurd fails
+  end_stops new failures_new (w.Row row cause) fails = absurd fails
+  end_stops new failures_new w.TooLong fails = absurd fails
+  end_stops new failures_new w.DictionaryFull fails = absurd fails
+  end_stops new failures_new w.TooManyRows fails = absurd fails
+  end_stops new failures_new w.OutOfMemory fails = absurd fails
+
+  -- a whole stream, or why there is none, by how its end was sent
+  pub answers_end : (new held_back : Option (List ℕ)) (failures_new : ℕ) (r : Result Unit Stop)
+      → OnOk r (Finishes writer new held_back failures_new)
+      → IfErr r (λ why. (fault : WriteFault) × (why ≡ stop.Write fault) × FinishFails writer new failures_new fault)
+      → Answers input s size old new failures failures_new r
+  answers_end new held_back failures_new (Ok x) ended refused = all_converts new held_back failures_new ended
+  answers_end new held_back failures_new (Err why) ended refused =
+      subst (λ z. StopsFor input s size old new failures failures_new z) (sym refused.1) (end_stops new failures_new refused.0 refused.2)
+
+-- ---- the header
+
+-- a conversion stops where the header is refused, and nothing is out
+pub header_stops : {R : Type 0} (remaining : R → Option (List ℕ)) (input : Option (List ℕ)) (s : Schema) (size : ℕ) (old : Option (List ℕ))
+    (failures : ℕ) (reader : Reader R) (why : Stop) → AnswersHeader remaining input s.fields reader (Err why)
+    → StopsFor input s size old old failures failures why
+header_stops remaining input s size old failures reader stop.Input answers = before answers (refl, refl)
+header_stops remaining input s size old failures reader (stop.Text fault) answers = in_header answers (refl, refl)
+header_stops remaining input s size old failures reader (stop.Write fault) answers = absurd answers

@@ -1,0 +1,4 @@
+pub mod Reading
+pub mod Sending
+pub mod Breaking
+pub mod Ending

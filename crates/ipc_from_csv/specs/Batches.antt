@@ -1,0 +1,23 @@
+-- Rows cut into batches.
+use Rattle.std.specs.Prelude.{◌≡◌, ℕ, ◌<◌, List, [], ◌∷◌, ◌++◌, length, flat_map}
+use Rattle.std.specs.List.{AllByRecursion}
+use Rattle.ipc_model.specs.declared.table.BatchRows.{BatchRows}
+use Rattle.ipc_model.specs.declared.value.Value.{Value}
+
+-- a batch without pairs that has exactly so many rows
+pub record IsFull (size : ℕ) (b : BatchRows) : Type 0 where
+  pub pairs : b.pairs ≡ []
+  pub rows : length b.rows ≡ size
+
+-- rows fill these batches in their order, each with exactly so many rows, and fewer than so many
+-- are left over
+pub record Fill (size : ℕ) (rows : List (List Value)) (batches : List BatchRows)
+    (left : List (List Value)) : Type 0 where
+  pub full : AllByRecursion (IsFull size) batches
+  pub few : length left < size
+  pub joined : flat_map (λ b. b.rows) batches ++ left ≡ rows
+
+-- the last batch, of the rows that are left over, where there are some
+abbrev pub last_batch : List (List Value) → List BatchRows
+last_batch [] = []
+last_batch (row ∷ rows) = record { pairs = []; rows = row ∷ rows } ∷ []

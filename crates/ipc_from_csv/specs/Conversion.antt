@@ -1,0 +1,156 @@
+-- What becomes of an input of CSV and of the sink for its stream.
+use Rattle.std.specs.Prelude.{◌≡◌, ◌≢◌, ℕ, ◌+◌, List, [], ◌∷◌, ◌++◌, length, Option, Some, None}
+use Rattle.std.specs.Prelude.{Result, Ok, Err}
+use Rattle.csv.specs.declared.reader.Reader.{Reader}
+use Rattle.ipc_model.specs.Limits.{IsStandard}
+use Rattle.ipc_model.specs.declared.fault.WriteFault.{WriteFault}
+use Rattle.ipc_model.specs.declared.limits.Limits.{Limits}
+use Rattle.ipc_model.specs.declared.schema.Field.{Field}
+use Rattle.ipc_model.specs.declared.schema.Schema.{Schema}
+use Rattle.ipc_model.specs.declared.table.BatchRows.{BatchRows}
+use Rattle.ipc_model.specs.declared.table.Table.{Table}
+use Rattle.ipc_model.specs.declared.value.Value.{Value}
+use Rattle.ipc_stream.specs.declared.end.End.TheVariants.{Closed, Mark}
+use Rattle.ipc_stream.specs.Stream.{Denotes}
+use Rattle.ipc_stream.specs.Writing.{BreaksOff, Sent}
+use Rattle.ipc_text.specs.CsvRows.{IsHeaderFault, IsRecordFault}
+use Rattle.ipc_text.specs.RowCsv.{flat_fault, names}
+use Rattle.ipc_text.specs.declared.fault.TextFault.{TextFault}
+use Rattle.ipc_text.specs.declared.fault.TextFault.TheVariants.{OutOfMemory, WrongFieldCount}
+use Rattle.ipc_from_csv.specs.Batches.{Fill, last_batch}
+use Rattle.ipc_from_csv.specs.Records.{AreFirstRecordsOf, AreRecordsOf, EachRecordReadsAs, Stands}
+use Rattle.ipc_from_csv.specs.declared.stop.Stop.{Stop}
+use Rattle.ipc_from_csv.specs.declared.stop.Stop.TheVariants as stop
+
+-- the table of a schema and batches
+abbrev pub table_of : Schema → List BatchRows → Table
+table_of s batches = record { schema = s; batches = batches }
+
+-- The header and all records of the input were read. What went out is the stream, with its mark, of
+-- the table whose batches are their rows: each of exactly so many, but the last, which has those
+-- that are left over
+pub record Converts (input : Option (List ℕ)) (s : Schema) (size : ℕ) (old new : Option (List ℕ))
+    (failures_old failures_new : ℕ) : Type 0 where
+  pub limits : Limits
+  pub standard : IsStandard limits
+  pub flat : flat_fault s.fields ≡ None
+  pub records : List (List (List ℕ))
+  pub all : AreRecordsOf input (names s.fields ∷ records)
+  pub rows : List (List Value)
+  pub read : EachRecordReadsAs s.fields records rows
+  pub batches : List BatchRows
+  pub left : List (List Value)
+  pub fill : Fill size rows batches left
+  pub sent : Sent (λ x. Denotes limits x (table_of s (batches ++ last_batch left)) Mark) old new
+      failures_old failures_new
+
+-- the schema and the batches that the rows of these records fill went out, and no more
+pub record SendsFull (s : Schema) (size : ℕ) (records : List (List (List ℕ)))
+    (old new : Option (List ℕ)) (failures_old failures_new : ℕ) : Type 0 where
+  pub limits : Limits
+  pub standard : IsStandard limits
+  pub flat : flat_fault s.fields ≡ None
+  pub rows : List (List Value)
+  pub read : EachRecordReadsAs s.fields records rows
+  pub batches : List BatchRows
+  pub left : List (List Value)
+  pub fill : Fill size rows batches left
+  pub sent : Sent (λ x. Denotes limits x (table_of s batches) Closed) old new failures_old
+      failures_new
+
+-- nothing went out, and no call of the sink failed
+abbrev pub Unsent : Option (List ℕ) → Option (List ℕ) → ℕ → ℕ → Type 0
+Unsent old new failures_old failures_new = (new ≡ old) × (failures_new ≡ failures_old)
+
+-- some first records of the input read as rows, and the batches that those fill went out
+pub record StopsBehind (input : Option (List ℕ)) (s : Schema) (size : ℕ) (old new : Option (List ℕ))
+    (failures_old failures_new : ℕ) : Type 0 where
+  pub records : List (List (List ℕ))
+  pub there : AreFirstRecordsOf input (names s.fields ∷ records)
+  pub sent : SendsFull s size records old new failures_old failures_new
+
+-- why nothing goes out: the columns have no place in CSV, there is no header, it is another, or
+-- memory ran out
+pub data RefusesHeader (input : Option (List ℕ)) (fields : List Field)
+    (fault : TextFault) : Type 0 where
+  columns : flat_fault fields ≡ Some fault → RefusesHeader input fields fault
+  missing : flat_fault fields ≡ None → AreRecordsOf input [] → fault ≡ WrongFieldCount 0
+      → RefusesHeader input fields fault
+  other : (header : List (List ℕ)) → AreFirstRecordsOf input (header ∷ [])
+      → IsHeaderFault fields header fault → RefusesHeader input fields fault
+  exhausted : flat_fault fields ≡ None → fault ≡ OutOfMemory → RefusesHeader input fields fault
+
+-- the header is right, and the record behind so many reads as no row; the batches that those fill
+-- went out. The header is record 0
+pub record RefusesRecord (input : Option (List ℕ)) (s : Schema) (size : ℕ)
+    (old new : Option (List ℕ)) (failures_old failures_new : ℕ) (fault : TextFault) : Type 0 where
+  pub before : List (List (List ℕ))
+  pub texts : List (List ℕ)
+  pub there : AreFirstRecordsOf input (names s.fields ∷ before ++ texts ∷ [])
+  pub cause : IsRecordFault (length before + 1) s.fields texts fault
+  pub sent : SendsFull s size before old new failures_old failures_new
+
+-- a refusal of the header, of a record, or for want of memory behind some records
+pub data RefusesText (input : Option (List ℕ)) (s : Schema) (size : ℕ) (old new : Option (List ℕ))
+    (failures_old failures_new : ℕ) (fault : TextFault) : Type 0 where
+  in_header : RefusesHeader input s.fields fault → Unsent old new failures_old failures_new
+      → RefusesText input s size old new failures_old failures_new fault
+  in_record : RefusesRecord input s size old new failures_old failures_new fault
+      → RefusesText input s size old new failures_old failures_new fault
+  exhausted_behind : fault ≡ OutOfMemory → StopsBehind input s size old new failures_old failures_new
+      → RefusesText input s size old new failures_old failures_new fault
+
+-- the reader of the input stopped: before the header, when nothing went out, or behind some records
+pub data StopsReading (input : Option (List ℕ)) (s : Schema) (size : ℕ) (old new : Option (List ℕ))
+    (failures_old failures_new : ℕ) : Type 0 where
+  before : flat_fault s.fields ≡ None → Unsent old new failures_old failures_new
+      → StopsReading input s size old new failures_old failures_new
+  behind : StopsBehind input s size old new failures_old failures_new
+      → StopsReading input s size old new failures_old failures_new
+
+-- writing the table of some first records broke off: the rows that fill no batch are part of it
+-- only behind the last record
+pub record StopsWriting (input : Option (List ℕ)) (s : Schema) (size : ℕ) (old new : Option
+    (List ℕ))
+    (failures_old failures_new : ℕ) (fault : WriteFault) : Type 0 where
+  pub limits : Limits
+  pub standard : IsStandard limits
+  pub flat : flat_fault s.fields ≡ None
+  pub records : List (List (List ℕ))
+  pub there : AreFirstRecordsOf input (names s.fields ∷ records)
+  pub rows : List (List Value)
+  pub read : EachRecordReadsAs s.fields records rows
+  pub batches : List BatchRows
+  pub left : List (List Value)
+  pub fill : Fill size rows batches left
+  pub all : left ≢ [] → AreRecordsOf input (names s.fields ∷ records)
+  pub breaks : BreaksOff limits (table_of s (batches ++ last_batch left)) old new failures_old
+      failures_new fault
+
+-- why no whole stream was made, and what went out
+abbrev pub StopsFor : Option (List ℕ) → Schema → ℕ → Option (List ℕ) → Option (List ℕ) → ℕ → ℕ
+    → Stop → Type 0
+StopsFor input s size old new failures_old failures_new stop.Input =
+    StopsReading input s size old new failures_old failures_new
+StopsFor input s size old new failures_old failures_new (stop.Text fault) =
+    RefusesText input s size old new failures_old failures_new fault
+StopsFor input s size old new failures_old failures_new (stop.Write fault) =
+    StopsWriting input s size old new failures_old failures_new fault
+
+-- a whole stream, or why there is none
+abbrev pub Answers : Option (List ℕ) → Schema → ℕ → Option (List ℕ) → Option (List ℕ) → ℕ → ℕ
+    → Result Unit Stop → Type 0
+Answers input s size old new failures_old failures_new (Ok x) =
+    Converts input s size old new failures_old failures_new
+Answers input s size old new failures_old failures_new (Err why) =
+    StopsFor input s size old new failures_old failures_new why
+
+-- the header was read and names the columns, or why it was not
+abbrev pub AnswersHeader : {R : Type 0} → (R → Option (List ℕ)) → Option (List ℕ) → List Field
+    → Reader R → Result Unit Stop → Type 0
+AnswersHeader remaining input fields reader (Ok x) =
+    (flat_fault fields ≡ None) × Stands remaining input (names fields ∷ []) reader
+AnswersHeader remaining input fields reader (Err stop.Input) = flat_fault fields ≡ None
+AnswersHeader remaining input fields reader (Err (stop.Text fault)) =
+    RefusesHeader input fields fault
+AnswersHeader remaining input fields reader (Err (stop.Write fault)) = ⊥

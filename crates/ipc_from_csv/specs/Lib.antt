@@ -1,0 +1,4 @@
+pub mod Records
+pub mod Batches
+pub mod Conversion
+pub mod Steps

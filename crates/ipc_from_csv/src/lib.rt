@@ -1,0 +1,9 @@
+//! Records of CSV become a stream (RFC 4180; Arrow Columnar Format, "IPC Streaming Format").
+#![tactic(auto)]
+
+mod convert;
+mod records;
+mod stop;
+
+pub use convert::from_csv;
+pub use stop::Stop;

@@ -1,0 +1,74 @@
+//! The records of an input, one after the other.
+ghost use Rattle.std.specs.Prelude.{◌≡◌, ◌⊎◌, ℕ, List, [], Option, IfErr, IfOk, OnOk, true};
+ghost use Rattle.csv.specs.Reading.{error_kind, is_io};
+ghost use Rattle.csv.specs.Records.{fields_of};
+ghost use Rattle.csv.specs.declared.error.ErrorKind.TheVariants as kind;
+ghost use Rattle.ipc_text.specs.declared.fault.TextFault.TheVariants.{OutOfMemory};
+ghost use Rattle.ipc_from_csv.specs.declared.stop.Stop.TheVariants as stop;
+ghost use Rattle.ipc_from_csv.specs.Records.{Finds, IsSetUp, Stands};
+ghost use Rattle.ipc_from_csv.specs.Conversion.{AnswersHeader};
+
+use crate::stop::Stop;
+use csv::{ByteRecord, Error, Reader, ReaderBuilder};
+use ipc_model::Schema;
+use ipc_text::{TextFault, check_flat, check_header};
+use std::alloc::Global;
+use std::io::Read;
+
+// A reader of all records of an input, the header's among them, however many fields each has.
+pub fn reader_of<R: Read>(alloc: Global, input: R) -> Reader<R>
+    ensures set_up { IsSetUp result }
+    ensures stands { Stands R.remaining (R.remaining input) [] result }
+{
+    ReaderBuilder::new()
+        .has_headers(false)
+        .flexible(true)
+        .from_reader(alloc, input)
+}
+
+// Why the next record could not be read.
+fn stop_of(error: Error) -> Stop
+    requires { (is_io (error_kind error) ≡ true) ⊎ (error_kind error ≡ kind.OutOfMemory) }
+    ensures io { is_io (error_kind error) ≡ true → result ≡ stop.Input }
+    ensures memory { error_kind error ≡ kind.OutOfMemory → result ≡ stop.Text OutOfMemory }
+{
+    if error.is_io_error() {
+        Stop::Input
+    } else {
+        Stop::Text(TextFault::OutOfMemory)
+    }
+}
+
+// Reads the next record, and says whether there was one.
+pub fn next_record<R: Read>(reader: &mut Reader<R>, fields: &mut ByteRecord) -> Result<bool, Stop>
+    requires { IsSetUp reader.old }
+    ensures set_up { OnOk result (IsSetUp reader.new) }
+    ensures finds { IfOk result (λ found. (input : Option (List ℕ)) (records : List (List (List ℕ)))
+        → Stands R.remaining input records reader.old
+        → Finds R.remaining input records reader.new found (fields_of fields.new)) }
+    ensures stopped { IfErr result (λ why. (why ≡ stop.Input) ⊎ (why ≡ stop.Text OutOfMemory)) }
+{
+    match reader.read_byte_record(fields) {
+        Ok(found) => Ok(found),
+        Err(error) => Err(stop_of(error)),
+    }
+}
+
+// Reads the header, once the columns have a place in CSV, and judges it.
+pub fn read_header<R: Read>(
+    reader: &mut Reader<R>,
+    fields: &mut ByteRecord,
+    schema: &Schema,
+) -> Result<(), Stop>
+    requires { IsSetUp reader.old }
+    ensures set_up { OnOk result (IsSetUp reader.new) }
+    ensures answers { (input : Option (List ℕ)) → Stands R.remaining input [] reader.old
+        → AnswersHeader R.remaining input schema.now.fields reader.new result }
+{
+    check_flat(schema)?;
+    if !next_record(reader, fields)? {
+        return Err(Stop::Text(TextFault::WrongFieldCount { record: 0 }));
+    }
+    check_header(schema, fields)?;
+    Ok(())
+}
