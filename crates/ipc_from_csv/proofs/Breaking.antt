@@ -1,5 +1,6 @@
 -- Where a conversion breaks off.
-use Rattle.std.proofs.Common.{◌≡◌, ◌⊎◌, ◌∙◌, refl, sym, ap, subst, ℕ, suc, ◌<◌, inl, inr, List, [], ◌∷◌, ◌++◌, length, map, take, Option, Some}
+use Rattle.std.proofs.Common.{◌≡◌, ◌⊎◌, ◌∙◌, refl, sym, ap, subst, ℕ, suc, ◌<◌, inl, inr, List, [], ◌∷◌, ◌++◌, length}
+use Rattle.std.proofs.Common.{map, take, Option, Some}
 use Rattle.std.proofs.Common.{None, Err, false}
 use Rattle.std.specs.List.{AllByRecursion}
 use Rattle.std.proofs.Math.Seq.{drop-append_seam, take-append_seam}
@@ -19,7 +20,8 @@ use Rattle.ipc_text.specs.RowCsv.{names}
 use Rattle.ipc_text.specs.declared.fault.TextFault.{TextFault}
 use Rattle.ipc_text.specs.declared.fault.TextFault.TheVariants.{OutOfMemory}
 use Rattle.ipc_from_csv.specs.Batches.{last_batch}
-use Rattle.ipc_from_csv.specs.Conversion.{RefusesText, SendsFull, StopsBehind, StopsFor, StopsWriting, table_of, in_record, exhausted_behind, behind}
+use Rattle.ipc_from_csv.specs.Conversion.{RefusesText, SendsFull, StopsBehind, StopsFor, StopsWriting, table_of}
+use Rattle.ipc_from_csv.specs.Conversion.{in_record, exhausted_behind, behind}
 use Rattle.ipc_from_csv.specs.Records.{AreRecordsOf, Stands}
 use Rattle.ipc_from_csv.specs.Steps.{IsOut}
 use Rattle.ipc_from_csv.specs.declared.stop.Stop.{Stop}
@@ -30,8 +32,8 @@ use Rattle.ipc_from_csv.proofs.Sending.{Came, batch_of, came_fill, came_filled}
 -- ---- a batch that is refused
 
 -- a writer that works doesn't answer that it failed before
-pub not_failed : (IsWhole : List ℕ → Type 0) (old new : Writer) (fault : WriteFault) → old.failed ≡ false → Leaves IsWhole old new (Err fault)
-    → ¬ (fault ≡ w.Failed)
+pub not_failed : (IsWhole : List ℕ → Type 0) (old new : Writer) (fault : WriteFault) → old.failed ≡ false
+    → Leaves IsWhole old new (Err fault) → ¬ (fault ≡ w.Failed)
 not_failed IsWhole old new fault works leaves = λ is.
     let before = subst (λ f. Leaves IsWhole old new (Err f)) is leaves in
     false≢true (sym works ∙ before.0)
@@ -60,7 +62,8 @@ pub batch_breaks : (s : Schema) (batches : List BatchRows) (old : Option (List �
     → BreaksOff writer.limits (table_of s (batches ++ b ∷ [])) old new.written failures new.failures fault
 batch_breaks s batches old failures writer new b fault out leaves judged =
     let same = subst (λ z. Leaves (AddsBatch writer.limits z b) writer new (Err fault)) out.same_schema leaves in
-    let refuses = subst (λ z. RefusesBatch writer.limits z b fault) out.same_schema (judged (not_failed _ writer new fault out.works same)) in
+    let refuses = subst (λ z. RefusesBatch writer.limits z b fault) out.same_schema
+    (judged (not_failed _ writer new fault out.works same)) in
     let next = sym (drop-append_seam batches (b ∷ [])) in
     record {
       count = suc (length batches);
@@ -90,12 +93,9 @@ module _ {R : Type 0} (remaining : R → Option (List ℕ)) (input : Option (Lis
   full_sent few = record {
     limits = writer.limits;
     standard = came.out.standard;
-    flat = came.flat;
-    rows = came.rows;
-    read = came.read;
     batches = came.batches;
     left = kept;
-    fill = came_fill remaining input s size old failures reader writer number kept came few;
+    batched = came_fill remaining input s size old failures reader writer number kept came few;
     sent = record {
       x = came.out.sent.x;
       whole = (Some (record { schema = s }), came.out.sent.whole);
@@ -145,14 +145,11 @@ module _ {R : Type 0} (remaining : R → Option (List ℕ)) (input : Option (Lis
     batch_stops some full = record {
       limits = writer.limits;
       standard = came.out.standard;
-      flat = came.flat;
       records = came.records;
       there = are_first remaining input (names s.fields ∷ came.records) reader came.stands;
-      rows = came.rows;
-      read = came.read;
       batches = came.batches ++ batch_of kept ∷ [];
       left = [];
-      fill = came_filled remaining input s size old failures reader writer number kept came some full;
+      batched = came_filled remaining input s size old failures reader writer number kept came some full;
       all = λ some_left. absurd (some_left refl);
       breaks = subst (λ bs. BreaksOff writer.limits (table_of s bs) old new.written failures new.failures fault)
           (sym (append-nil (came.batches ++ batch_of kept ∷ []))) breaks_here;
@@ -164,14 +161,11 @@ module _ {R : Type 0} (remaining : R → Option (List ℕ)) (input : Option (Lis
     last_stops few last all = record {
       limits = writer.limits;
       standard = came.out.standard;
-      flat = came.flat;
       records = came.records;
       there = are_first remaining input (names s.fields ∷ came.records) reader came.stands;
-      rows = came.rows;
-      read = came.read;
       batches = came.batches;
       left = kept;
-      fill = came_fill remaining input s size old failures reader writer number kept came few;
+      batched = came_fill remaining input s size old failures reader writer number kept came few;
       all = λ _. all;
       breaks = subst (λ bs. BreaksOff writer.limits (table_of s (came.batches ++ bs)) old new.written failures new.failures fault)
           (sym last) breaks_here;

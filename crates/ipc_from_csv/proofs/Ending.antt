@@ -30,12 +30,14 @@ use Rattle.ipc_from_csv.proofs.Reading.{are_first}
 use Rattle.ipc_from_csv.proofs.Sending.{Came, batch_of, batch_out, came_fill}
 
 -- some rows are kept where a vector of so many is not empty
-pub some_kept : (len : ℕ) (kept : List (List Value)) (empty : Bool) → len ≡ length kept → empty ≡ (len == 0) → empty ≡ false → 0 < length kept
+pub some_kept : (len : ℕ) (kept : List (List Value)) (empty : Bool) → len ≡ length kept → empty ≡ (len == 0) → empty ≡ false
+    → 0 < length kept
 some_kept len [] empty is told some = absurd (false≢true (sym some ∙ (told ∙ ap (λ n. n == 0) is)))
 some_kept len (r ∷ kept) empty is told some = omega arith
 
 -- none is kept where it is empty
-pub none_kept : (len : ℕ) (kept : List (List Value)) (empty : Bool) → len ≡ length kept → empty ≡ (len == 0) → empty ≡ true → length kept ≡ 0
+pub none_kept : (len : ℕ) (kept : List (List Value)) (empty : Bool) → len ≡ length kept → empty ≡ (len == 0) → empty ≡ true
+    → length kept ≡ 0
 none_kept len kept empty is told none = sym is ∙ eqb-true len 0 (sym told ∙ none)
 
 -- where rows are left over they are the last batch
@@ -54,15 +56,12 @@ module _ {R : Type 0} (remaining : R → Option (List ℕ)) (input : Option (Lis
     (all : AreRecordsOf input (names s.fields ∷ came.records)) where
   all_sent : (new : Writer) → IsOut s (came.batches ++ last_batch kept) old failures new → SendsAll input s size old failures new
   all_sent new out = record {
-    flat = came.flat;
     records = came.records;
     all = all;
     there = are_first remaining input (names s.fields ∷ came.records) reader came.stands;
-    rows = came.rows;
-    read = came.read;
     batches = came.batches;
     left = kept;
-    fill = came_fill remaining input s size old failures reader writer number kept came few;
+    batched = came_fill remaining input s size old failures reader writer number kept came few;
     out = out;
   }
 
@@ -81,21 +80,18 @@ module _ {R : Type 0} (remaining : R → Option (List ℕ)) (input : Option (Lis
 -- ---- the start and the end of the stream
 
 -- a conversion stops where the schema is refused
-pub start_stops : {R : Type 0} (remaining : R → Option (List ℕ)) (input : Option (List ℕ)) (s : Schema) (size : ℕ) (old new : Option (List ℕ))
-    (f0 f1 : ℕ) (reader : Reader R) (limits : Limits) (fault : WriteFault) → IsStandard limits → 0 < size → flat_fault s.fields ≡ None
-    → Stands remaining input (names s.fields ∷ []) reader → StartFails limits s old new f0 f1 fault
+pub start_stops : {R : Type 0} (remaining : R → Option (List ℕ)) (input : Option (List ℕ)) (s : Schema) (size : ℕ)
+    (old new : Option (List ℕ)) (f0 f1 : ℕ) (reader : Reader R) (limits : Limits) (fault : WriteFault) → IsStandard limits
+    → 0 < size → flat_fault s.fields ≡ None → Stands remaining input (names s.fields ∷ []) reader → StartFails limits s old new f0 f1 fault
     → StopsWriting input s size old new f0 f1 fault
 start_stops remaining input s size old new f0 f1 reader limits fault standard some flat stands fails = record {
   limits = limits;
   standard = standard;
-  flat = flat;
   records = [];
   there = are_first remaining input (names s.fields ∷ []) reader stands;
-  rows = [];
-  read = tt;
   batches = [];
   left = [];
-  fill = record { full = tt; few = some; joined = refl };
+  batched = record { flat = flat; rows = []; read = tt; fill = record { full = tt; few = some; joined = refl } };
   all = λ some_left. absurd (some_left refl);
   breaks = record {
     count = 0;
@@ -118,14 +114,11 @@ module _ (input : Option (List ℕ)) (s : Schema) (size : ℕ) (old : Option (Li
   all_converts new held_back failures_new finishes = record {
     limits = writer.limits;
     standard = sends.out.standard;
-    flat = sends.flat;
     records = sends.records;
     all = sends.all;
-    rows = sends.rows;
-    read = sends.read;
     batches = sends.batches;
     left = sends.left;
-    fill = sends.fill;
+    batched = sends.batched;
     sent = record {
       x = sends.out.sent.x ++ finishes.sent.x;
       whole = (
@@ -154,7 +147,8 @@ module _ (input : Option (List ℕ)) (s : Schema) (size : ℕ) (old : Option (Li
         state = Some (record { schema = s });
         x = sends.out.sent.x;
         run = subst (λ (es : List Event). Run writer.limits None sends.out.sent.x (schema s ∷ es) (Some (record { schema = s })))
-            (sym (ap (λ bs. take (length batches) (map batch bs)) (sym (append-nil batches)) ∙ take_events batches [])) sends.out.sent.whole;
+            (sym (ap (λ bs. take (length batches) (map batch bs)) (sym (append-nil batches)) ∙ take_events batches []))
+            sends.out.sent.whole;
         between = writer.written;
         bytes = sends.out.sent.bytes;
         unsent = subst (λ l. NotSentWhole (AddsNext writer.limits s l) writer.written new failures failures_new w.Write) none cut;
@@ -165,14 +159,11 @@ module _ (input : Option (List ℕ)) (s : Schema) (size : ℕ) (old : Option (Li
   cut_stops new failures_new cut = record {
     limits = writer.limits;
     standard = sends.out.standard;
-    flat = sends.flat;
     records = sends.records;
     there = sends.there;
-    rows = sends.rows;
-    read = sends.read;
     batches = sends.batches;
     left = sends.left;
-    fill = sends.fill;
+    batched = sends.batched;
     all = λ _. sends.all;
     breaks = cut_breaks new failures_new cut;
   }

@@ -1,5 +1,6 @@
 -- Rows gathered in batches, and batches sent.
-use Rattle.std.proofs.Common.{◌≡◌, ◌∙◌, refl, sym, ap, subst, ℕ, ◌+◌, ◌<◌, List, [], ◌∷◌, ◌++◌, length, map, Option, Some, None, append_assoc, arith}
+use Rattle.std.proofs.Common.{◌≡◌, ◌∙◌, refl, sym, ap, subst, ℕ, ◌+◌, ◌<◌, List, [], ◌∷◌, ◌++◌, length, map}
+use Rattle.std.proofs.Common.{Option, Some, None, append_assoc, arith}
 use Rattle.std.specs.Prelude.{flat_map, Ok}
 use Rattle.std.specs.List.{AllByRecursion}
 use Rattle.std.proofs.KnownBytes.{Appends-trans}
@@ -17,7 +18,7 @@ use Rattle.ipc_stream.proofs.Runs.{run_then}
 use Rattle.ipc_model.specs.Limits.{IsStandard}
 use Rattle.ipc_text.specs.CsvRows.{RecordReadsAs}
 use Rattle.ipc_text.specs.RowCsv.{flat_fault, names}
-use Rattle.ipc_from_csv.specs.Batches.{Fill, IsFull}
+use Rattle.ipc_from_csv.specs.Batches.{AreBatched, IsFull}
 use Rattle.ipc_from_csv.specs.Records.{EachRecordReadsAs, Stands}
 use Rattle.ipc_from_csv.specs.Steps.{Begins, IsOut}
 
@@ -58,8 +59,8 @@ starts_out s old failures writer standard starts = record {
 module _ (s : Schema) (batches : List BatchRows) (old : Option (List ℕ)) (failures : ℕ) (writer new : Writer)
     (out : IsOut s batches old failures writer) (b : BatchRows) where
   sent_more : Sent (AddsBatch writer.limits s b) writer.written new.written writer.failures new.failures
-      → Sent (λ x. Run writer.limits None x (schema s ∷ map batch (batches ++ b ∷ [])) (Some (record { schema = s }))) old new.written failures
-      new.failures
+      → Sent (λ x. Run writer.limits None x (schema s ∷ map batch (batches ++ b ∷ [])) (Some (record { schema = s }))) old new.written
+      failures new.failures
   sent_more sent = record {
     x = out.sent.x ++ sent.x;
     whole = subst (λ (es : List Event). Run writer.limits None (out.sent.x ++ sent.x) (schema s ∷ es) (Some (record { schema = s })))
@@ -74,14 +75,15 @@ module _ (s : Schema) (batches : List BatchRows) (old : Option (List ℕ)) (fail
       → IsOut s (batches ++ b ∷ []) old failures new
   batch_out leaves accepts =
       let (worked, sent, same_schema, same_limits, works) = leaves in
-      let first = subst (λ z. Sent (AddsBatch writer.limits z b) writer.written new.written writer.failures new.failures) out.same_schema sent in
+      let first = subst (λ z. Sent (AddsBatch writer.limits z b) writer.written new.written writer.failures new.failures) out.same_schema
+      sent in
       let fits = subst (λ z. AcceptsBatch writer.limits z b) out.same_schema accepts in
       record {
         standard = subst IsStandard (sym same_limits) out.standard;
         same_schema = same_schema ∙ out.same_schema;
         works = works;
-        sent = subst (λ l. Sent (λ x. Run l None x (schema s ∷ map batch (batches ++ b ∷ [])) (Some (record { schema = s }))) old new.written
-            failures new.failures) (sym same_limits) (sent_more first);
+        sent = subst (λ l. Sent (λ x. Run l None x (schema s ∷ map batch (batches ++ b ∷ [])) (Some (record { schema = s }))) old
+            new.written failures new.failures) (sym same_limits) (sent_more first);
         accepts_schema = subst (λ l. AcceptsSchema l s) (sym same_limits) out.accepts_schema;
         accepts = subst (λ l. AllByRecursion (AcceptsBatch l s) (batches ++ b ∷ [])) (sym same_limits)
             (all_push (AcceptsBatch writer.limits s) batches b out.accepts fits);
@@ -141,13 +143,18 @@ module _ {R : Type 0} (remaining : R → Option (List ℕ)) (input : Option (Lis
   }
 
   -- where as many rows are kept as a batch has, they are one full batch more
-  pub came_filled : 0 < size → length kept ≡ size → Fill size came.rows (came.batches ++ batch_of kept ∷ []) []
+  pub came_filled : 0 < size → length kept ≡ size → AreBatched s size came.records (came.batches ++ batch_of kept ∷ []) []
   came_filled some full = record {
-    full = all_push (IsFull size) came.batches (batch_of kept) came.full (record { pairs = refl; rows = full });
-    few = some;
-    joined = append-nil (flat_map (λ b. b.rows) (came.batches ++ batch_of kept ∷ []))
-        ∙ (flat_map-append (λ b. b.rows) came.batches (batch_of kept ∷ [])
-        ∙ (ap (λ z. flat_map (λ b. b.rows) came.batches ++ z) (append-nil kept) ∙ came.joined));
+    flat = came.flat;
+    rows = came.rows;
+    read = came.read;
+    fill = record {
+      full = all_push (IsFull size) came.batches (batch_of kept) came.full (record { pairs = refl; rows = full });
+      few = some;
+      joined = append-nil (flat_map (λ b. b.rows) (came.batches ++ batch_of kept ∷ []))
+          ∙ (flat_map-append (λ b. b.rows) came.batches (batch_of kept ∷ [])
+          ∙ (ap (λ z. flat_map (λ b. b.rows) came.batches ++ z) (append-nil kept) ∙ came.joined));
+    };
   }
 
   -- the rows that were kept went out as a full batch
@@ -159,15 +166,20 @@ module _ {R : Type 0} (remaining : R → Option (List ℕ)) (input : Option (Lis
     records = came.records;
     numbered = came.numbered;
     stands = came.stands;
-    rows = came.rows;
-    read = came.read;
+    rows = (came_filled some full).rows;
+    read = (came_filled some full).read;
     batches = came.batches ++ batch_of kept ∷ [];
-    full = (came_filled some full).full;
-    joined = (came_filled some full).joined;
+    full = (came_filled some full).fill.full;
+    joined = (came_filled some full).fill.joined;
     out = subst (λ z. IsOut s (came.batches ++ z ∷ []) old failures new) is
         (batch_out s came.batches old failures writer new came.out b leaves accepts);
   }
 
   -- where fewer rows are kept than a batch has, the rows fill the batches that are out
-  pub came_fill : length kept < size → Fill size came.rows came.batches kept
-  came_fill few = record { full = came.full; few = few; joined = came.joined }
+  pub came_fill : length kept < size → AreBatched s size came.records came.batches kept
+  came_fill few = record {
+    flat = came.flat;
+    rows = came.rows;
+    read = came.read;
+    fill = record { full = came.full; few = few; joined = came.joined };
+  }

@@ -1,8 +1,12 @@
 -- Rows cut into batches.
 use Rattle.std.specs.Prelude.{◌≡◌, ℕ, ◌<◌, List, [], ◌∷◌, ◌++◌, length, flat_map}
+use Rattle.std.specs.Prelude.{None}
 use Rattle.std.specs.List.{AllByRecursion}
+use Rattle.ipc_model.specs.declared.schema.Schema.{Schema}
 use Rattle.ipc_model.specs.declared.table.BatchRows.{BatchRows}
 use Rattle.ipc_model.specs.declared.value.Value.{Value}
+use Rattle.ipc_text.specs.RowCsv.{flat_fault}
+use Rattle.ipc_from_csv.specs.Records.{EachRecordReadsAs}
 
 -- a batch without pairs that has exactly so many rows
 pub record IsFull (size : ℕ) (b : BatchRows) : Type 0 where
@@ -16,6 +20,15 @@ pub record Fill (size : ℕ) (rows : List (List Value)) (batches : List BatchRow
   pub full : AllByRecursion (IsFull size) batches
   pub few : length left < size
   pub joined : flat_map (λ b. b.rows) batches ++ left ≡ rows
+
+-- each of these records reads as a row of columns that CSV has a place for, and their rows fill
+-- these batches and leave these over
+pub record AreBatched (s : Schema) (size : ℕ) (records : List (List (List ℕ)))
+    (batches : List BatchRows) (left : List (List Value)) : Type 0 where
+  pub flat : flat_fault s.fields ≡ None
+  pub rows : List (List Value)
+  pub read : EachRecordReadsAs s.fields records rows
+  pub fill : Fill size rows batches left
 
 -- the last batch, of the rows that are left over, where there are some
 abbrev pub last_batch : List (List Value) → List BatchRows

@@ -17,8 +17,8 @@ use Rattle.ipc_text.specs.CsvRows.{IsHeaderFault, IsRecordFault}
 use Rattle.ipc_text.specs.RowCsv.{flat_fault, names}
 use Rattle.ipc_text.specs.declared.fault.TextFault.{TextFault}
 use Rattle.ipc_text.specs.declared.fault.TextFault.TheVariants.{OutOfMemory, WrongFieldCount}
-use Rattle.ipc_from_csv.specs.Batches.{Fill, last_batch}
-use Rattle.ipc_from_csv.specs.Records.{AreFirstRecordsOf, AreRecordsOf, EachRecordReadsAs, Stands}
+use Rattle.ipc_from_csv.specs.Batches.{AreBatched, last_batch}
+use Rattle.ipc_from_csv.specs.Records.{AreFirstRecordsOf, AreRecordsOf, Stands}
 use Rattle.ipc_from_csv.specs.declared.stop.Stop.{Stop}
 use Rattle.ipc_from_csv.specs.declared.stop.Stop.TheVariants as stop
 
@@ -33,14 +33,11 @@ pub record Converts (input : Option (List ℕ)) (s : Schema) (size : ℕ) (old n
     (failures_old failures_new : ℕ) : Type 0 where
   pub limits : Limits
   pub standard : IsStandard limits
-  pub flat : flat_fault s.fields ≡ None
   pub records : List (List (List ℕ))
   pub all : AreRecordsOf input (names s.fields ∷ records)
-  pub rows : List (List Value)
-  pub read : EachRecordReadsAs s.fields records rows
   pub batches : List BatchRows
   pub left : List (List Value)
-  pub fill : Fill size rows batches left
+  pub batched : AreBatched s size records batches left
   pub sent : Sent (λ x. Denotes limits x (table_of s (batches ++ last_batch left)) Mark) old new
       failures_old failures_new
 
@@ -49,12 +46,9 @@ pub record SendsFull (s : Schema) (size : ℕ) (records : List (List (List ℕ))
     (old new : Option (List ℕ)) (failures_old failures_new : ℕ) : Type 0 where
   pub limits : Limits
   pub standard : IsStandard limits
-  pub flat : flat_fault s.fields ≡ None
-  pub rows : List (List Value)
-  pub read : EachRecordReadsAs s.fields records rows
   pub batches : List BatchRows
   pub left : List (List Value)
-  pub fill : Fill size rows batches left
+  pub batched : AreBatched s size records batches left
   pub sent : Sent (λ x. Denotes limits x (table_of s batches) Closed) old new failures_old
       failures_new
 
@@ -97,7 +91,8 @@ pub data RefusesText (input : Option (List ℕ)) (s : Schema) (size : ℕ) (old 
       → RefusesText input s size old new failures_old failures_new fault
   in_record : RefusesRecord input s size old new failures_old failures_new fault
       → RefusesText input s size old new failures_old failures_new fault
-  exhausted_behind : fault ≡ OutOfMemory → StopsBehind input s size old new failures_old failures_new
+  exhausted_behind : fault ≡ OutOfMemory
+      → StopsBehind input s size old new failures_old failures_new
       → RefusesText input s size old new failures_old failures_new fault
 
 -- the reader of the input stopped: before the header, when nothing went out, or behind some records
@@ -115,14 +110,11 @@ pub record StopsWriting (input : Option (List ℕ)) (s : Schema) (size : ℕ) (o
     (failures_old failures_new : ℕ) (fault : WriteFault) : Type 0 where
   pub limits : Limits
   pub standard : IsStandard limits
-  pub flat : flat_fault s.fields ≡ None
   pub records : List (List (List ℕ))
   pub there : AreFirstRecordsOf input (names s.fields ∷ records)
-  pub rows : List (List Value)
-  pub read : EachRecordReadsAs s.fields records rows
   pub batches : List BatchRows
   pub left : List (List Value)
-  pub fill : Fill size rows batches left
+  pub batched : AreBatched s size records batches left
   pub all : left ≢ [] → AreRecordsOf input (names s.fields ∷ records)
   pub breaks : BreaksOff limits (table_of s (batches ++ last_batch left)) old new failures_old
       failures_new fault

@@ -11,9 +11,9 @@ use Rattle.ipc_stream.specs.Stream.{Run, batch, schema}
 use Rattle.ipc_stream.specs.Writer.{Writer}
 use Rattle.ipc_stream.specs.Writing.{AcceptsBatch, AcceptsSchema, Sent}
 use Rattle.ipc_text.specs.RowCsv.{flat_fault, names}
-use Rattle.ipc_from_csv.specs.Batches.{Fill, last_batch}
+use Rattle.ipc_from_csv.specs.Batches.{AreBatched, last_batch}
 use Rattle.ipc_from_csv.specs.Conversion.{StopsFor}
-use Rattle.ipc_from_csv.specs.Records.{AreFirstRecordsOf, AreRecordsOf, EachRecordReadsAs, Stands}
+use Rattle.ipc_from_csv.specs.Records.{AreFirstRecordsOf, AreRecordsOf, Stands}
 use Rattle.ipc_from_csv.specs.declared.stop.Stop.{Stop}
 
 -- the schema and these batches went out to a sink, each of them accepted, and its writer goes on
@@ -37,15 +37,12 @@ Begins remaining input s old failures reader writer =
 -- all records behind the header were read, and their rows went out in batches
 pub record SendsAll (input : Option (List ℕ)) (s : Schema) (size : ℕ) (old : Option (List ℕ))
     (failures : ℕ) (writer : Writer) : Type 0 where
-  pub flat : flat_fault s.fields ≡ None
   pub records : List (List (List ℕ))
   pub all : AreRecordsOf input (names s.fields ∷ records)
   pub there : AreFirstRecordsOf input (names s.fields ∷ records)
-  pub rows : List (List Value)
-  pub read : EachRecordReadsAs s.fields records rows
   pub batches : List BatchRows
   pub left : List (List Value)
-  pub fill : Fill size rows batches left
+  pub batched : AreBatched s size records batches left
   pub out : IsOut s (batches ++ last_batch left) old failures writer
 
 -- the same, or why not

@@ -28,8 +28,8 @@ returns-in_err-write_batch g c = record {
       let all = found_none g.R.Read.remaining input (names c.args.schema.now.fields ∷ came.records) c.next_record.new.reader _ _
       c.if-not-branch.true (c.in_ok-next_record.ensures.finds input _ came.stands) in
       rw (p.1, p.2) (last_stops _ _ _ _ _ _ _ _ _ _ came c.write_batch.new.self c.in_err-write_batch.field-0.0
-      c.new.result c.new.ensures c.in_err-write_batch.ensures.sends c.in_err-write_batch.ensures.judged c.loop-number.invariant.1 (last_is _ (some_kept _ _ _ c.loop-number.rows.ok.0 c.is_empty.ensures
-      c.if-not-is_empty.true)) all);
+      c.new.result c.new.ensures c.in_err-write_batch.ensures.sends c.in_err-write_batch.ensures.judged
+      c.loop-number.invariant.1 (last_is _ (some_kept _ _ _ c.loop-number.rows.ok.0 c.is_empty.ensures c.if-not-is_empty.true)) all);
 }
 
 pub returns-then-not-branch : goal.returns-then-not-branch
@@ -107,7 +107,8 @@ loop-number-preserved g c =
         let good : is_ok c.push.result ≡ true = search rules in
             let items = rw good at c.push.ensures.items in
             let longer = length_push c.loop-number.rows.items c.in_ok-row_from_csv.field-0 in
-            rw w.rows-is (omega (arith, ap length items, longer, c.push.new.self.ok.0, c.len.ensures, w.if-len-batch.false, c.loop-number.invariant.1)),
+            rw w.rows-is (omega (arith, ap length items, longer, c.push.new.self.ok.0, c.len.ensures, w.if-len-batch.false,
+            c.loop-number.invariant.1)),
         λ input old failures begins.
             let came = c.loop-number.invariant.2 input old failures begins in
             let stands = found_one g.R.Read.remaining input (names c.args.schema.now.fields ∷ came.records) c.next_record.new.reader _ _
