@@ -29,7 +29,7 @@ ghost use Rattle.ipc_model.specs.declared.limits.Limits.{Limits};
 ghost use Rattle.ipc_model.specs.declared.schema.Schema.{Schema};
 ghost use Rattle.serde_json.specs.Read.{read as read_text};
 ghost use Rattle.std.specs.List.{AllByRecursion};
-ghost use Rattle.ipc_text.specs.SchemaJson.{field_json, joined, schema_json};
+ghost use Rattle.ipc_text.specs.SchemaJson.{field_json, joined, schema_json, schema_text};
 
 use crate::fault::TextFault;
 use ipc_model::{
@@ -557,13 +557,8 @@ fn check_standard(alloc: Global, schema: &Schema) -> Result<(), TextFault>
     }
 }
 
-/// The schema whose JSON text this is, in the form of `schema_json`: with its keys in any order,
-/// where of a key that stands twice the last counts, with no other key, and with whitespace between
-/// tokens.
-///
-/// X6 where the text is none of that form, or that of a schema which `Schema::check` refuses under
-/// `Limits::standard`. It takes memory for the text's values and the schema.
-pub fn schema_from_json(alloc: Global, text: &str) -> Result<Schema, TextFault>
+// The schema whose JSON text this is, as `schema_from_json`.
+fn read_text_of(alloc: Global, text: &str) -> Result<Schema, TextFault>
     ensures read { IfOk result (λ s. (read_text text.now ≡ Some (schema_json s))
         × ((limits : Limits) × IsStandard limits × WellFormed limits s)) }
     ensures all { (s : Schema) (limits : Limits) → read_text text.now ≡ Some (schema_json s)
@@ -576,4 +571,27 @@ pub fn schema_from_json(alloc: Global, text: &str) -> Result<Schema, TextFault>
     let schema = read_schema(alloc, &value)?;
     check_standard(alloc, &schema)?;
     Ok(schema)
+}
+
+/// The schema whose JSON text this is, in the form of `schema_json`: with its keys in any order,
+/// where of a key that stands twice the last counts, with no other key, and with whitespace between
+/// tokens. Of the text that `schema_json` gives of a schema, it is that schema.
+///
+/// X6 where the text is none of that form, or that of a schema which `Schema::check` refuses under
+/// `Limits::standard`. It takes memory for the text's values and the schema.
+pub fn schema_from_json(alloc: Global, text: &str) -> Result<Schema, TextFault>
+    ensures read { IfOk result (λ s. (read_text text.now ≡ Some (schema_json s))
+        × ((limits : Limits) × IsStandard limits × WellFormed limits s)) }
+    ensures all { (s : Schema) (limits : Limits) → read_text text.now ≡ Some (schema_json s)
+        → IsStandard limits → WellFormed limits s
+        → AllByRecursion (λ e. HasWideId e.dictionary) (spec_entries s.fields)
+        → MatchResult result (λ read. read ≡ s) (λ fault. fault ≡ TextFault.OutOfMemory) }
+    // The text that `schema_json` gives of such a schema reads as it.
+    ensures back { (s : Schema) (limits : Limits) → text.now ≡ schema_text s
+        → IsStandard limits → WellFormed limits s
+        → AllByRecursion (λ e. HasWideId e.dictionary) (spec_entries s.fields)
+        → MatchResult result (λ read. read ≡ s) (λ fault. fault ≡ TextFault.OutOfMemory) }
+    ensures refused { IfErr result IsUnread }
+{
+    read_text_of(alloc, text)
 }
