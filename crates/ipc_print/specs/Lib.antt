@@ -1,5 +1,6 @@
 pub mod Columns
 pub mod Digits
+pub mod Escaped
 pub mod Forms
 pub mod Output
 pub mod Rows

@@ -1,6 +1,6 @@
 //! The rows of a batch as text, in each form.
-ghost use Rattle.std.specs.Prelude.{◌≡◌, ◌≢◌, ◌<◌, [], length, Bool, IfErr, IfOk, IsTrue, None};
-ghost use Rattle.std.specs.Prelude.{slice_index_or};
+ghost use Rattle.std.specs.Prelude.{◌≡◌, ◌≢◌, ◌≤◌, ◌<◌, [], length, take, Bool, IfErr, IfOk};
+ghost use Rattle.std.specs.Prelude.{slice_index_or, IsTrue, None};
 ghost use Rattle.ipc_text.specs.declared.fault.TextFault.TheVariants.{OutOfMemory};
 ghost use Rattle.ipc_print.specs.Columns.{AreShownColumns};
 ghost use Rattle.ipc_print.specs.Forms as spec;
@@ -20,33 +20,29 @@ use ipc_stream::Sink;
 use ipc_text::{TextFault, pairs_json};
 use std::alloc::Global;
 
-// The line of a row, in the room of the line before.
+// Writes the line of a row to the front of a buffer, and returns where it ends.
 fn line_of(
     form: Form,
-    line: Vec<u8>,
-    digits: &mut Vec<u8>,
+    text: &mut Vec<u8>,
     fields: &[Field],
     batch: &Batch,
     row: usize,
-) -> Result<Vec<u8>, TextFault>
+) -> Result<usize, TextFault>
     requires row { row < length batch.now.rows }
     requires columns { batch.now.columns ≡ length fields.now }
     requires fits { form_fault form fields.now ≡ None }
-    ensures text { IfOk result (λ line. line.items
+    ensures inside { IfOk result (λ end. end ≤ length text.new.items) }
+    ensures text { IfOk result (λ end. take end text.new.items
         ≡ spec.line_of form fields.now (slice_index_or batch.now.rows row [])) }
     ensures ok { IfOk result
-        (λ line. HasLine form fields.now (slice_index_or batch.now.rows row [])) }
+        (λ end. HasLine form fields.now (slice_index_or batch.now.rows row [])) }
     ensures refused { IfErr result (λ fault. fault ≢ OutOfMemory
         → Lacks form fields.now (slice_index_or batch.now.rows row []) fault) }
 {
     match form {
-        Form::Counts => {
-            let mut text = line;
-            text.clear();
-            Ok(text)
-        }
-        Form::Rows { .. } => Ok(json_line(line, digits, fields, batch, row)?),
-        Form::Records => csv_line(line, fields, batch, row),
+        Form::Counts => Ok(0),
+        Form::Rows { .. } => Ok(json_line(text, fields, batch, row)?),
+        Form::Records => csv_line(text, fields, batch, row),
     }
 }
 
@@ -65,15 +61,14 @@ fn print_lines<W: Sink>(
         (output (W.written sink.old) (W.failures sink.old) lines.old) (W.written sink.new)
         (W.failures sink.new) lines.new result }
 {
-    let mut line = Vec::new(alloc);
-    let mut digits = Vec::new(alloc);
+    let mut text = Vec::new(alloc);
     for row in 0..batch.rows() {
-        line = match line_of(form, line, &mut digits, fields, batch, row) {
-            Ok(text) => text,
+        let end = match line_of(form, &mut text, fields, batch, row) {
+            Ok(end) => end,
             Err(TextFault::OutOfMemory) => return Err(PrintFault::OutOfMemory),
             Err(fault) => return Ok(Some(fault)),
         };
-        lines.put(sink, line.as_slice())?;
+        lines.put(sink, &text[..end])?;
     }
     Ok(None)
 }

@@ -1,82 +1,194 @@
 //! A row of lent cells as a record of CSV.
-ghost use Rattle.std.specs.Prelude.{◌≡◌, ◌<◌, [], length, IfErr, IfOk, None, Ok, OnOk};
-ghost use Rattle.std.specs.Prelude.{slice_index_or};
+ghost use Rattle.std.specs.Prelude.{◌≡◌, ◌≤◌, ◌<◌, ◌+◌, ◌++◌, [], length, take, IfErr, IfOk};
+ghost use Rattle.std.specs.Prelude.{None, Ok, slice_index_or};
+ghost use Rattle.csv.specs.Writing.{default_writer, next_sep};
 ghost use Rattle.ipc_column.specs.Values.{cell_value};
-ghost use Rattle.ipc_text.specs.RowCsv.{Appended, IsRefusal, LacksText, flat_fault, put_texts};
-ghost use Rattle.ipc_text.specs.RowCsv.{row_csv, text_in};
+ghost use Rattle.ipc_text.specs.Moments.{moment_text};
+ghost use Rattle.ipc_text.specs.RowCsv.{Appended, IsRefusal, LacksText, flat_fault, int_text};
+ghost use Rattle.ipc_text.specs.RowCsv.{bool_text, null_text, put_texts, row_csv, text_in};
+ghost use Rattle.ipc_text.specs.RowCsv.{with_field};
 
+use crate::fields::{
+    put_bytes_field, put_end, put_field, put_signed_field, put_text_field, put_unsigned_field,
+};
+use crate::room::{put, reserve};
 use ipc_column::{Batch, Cell};
 use ipc_model::{DataType, Field};
-use ipc_text::{
-    TextFault, end_record, push_bool, push_bytes, push_comma, push_int, push_null, push_text,
-    push_uint,
-};
+use ipc_text::{TextFault, moment_text};
 
-// Appends a value of a column of this type.
-fn push_cell(
-    out: &mut Vec<u8>,
+// More than a comma and any value but a text or bytes take.
+const ROOM: usize = 64;
+
+// The comma in front of the column with this number, of which the first has none.
+#[inline(always)]
+fn put_comma(text: &mut Vec<u8>, at: usize, column: usize) -> usize
+    requires { at + 1 ≤ length text.old.items }
+    ensures end { result ≤ at + 1 }
+    ensures same_room { length text.new.items ≡ length text.old.items }
+    ensures text { take result text.new.items
+        ≡ take at text.old.items ++ next_sep default_writer column }
+{
+    if column == 0 {
+        return at;
+    }
+    put(text, at, b",")
+}
+
+// A date, a time or a point in time.
+#[inline(always)]
+fn put_moment(
+    text: &mut Vec<u8>,
+    at: usize,
+    column: u64,
+    kind: &DataType,
+    number: i64,
+) -> Result<usize, TextFault>
+    requires { at ≤ length text.old.items }
+    ensures inside { IfOk result (λ end. end ≤ length text.new.items) }
+    ensures ok { IfOk result (λ end. Appended (take at text.old.items)
+        (moment_text kind.now number) (take end text.new.items)) }
+    ensures refused { IfErr result (LacksText column (moment_text kind.now number)) }
+{
+    let Some(moment) = moment_text(kind, number) else {
+        return Err(TextFault::NoTextForm { column });
+    };
+    Ok(put_field(text, at, moment.as_str().as_bytes())?)
+}
+
+// A signed number of this type.
+#[inline(always)]
+fn put_int(
+    text: &mut Vec<u8>,
+    at: usize,
+    column: u64,
+    kind: &DataType,
+    number: i64,
+) -> Result<usize, TextFault>
+    requires { at + 25 ≤ length text.old.items }
+    ensures inside { IfOk result (λ end. end ≤ length text.new.items) }
+    ensures ok { IfOk result (λ end. Appended (take at text.old.items)
+        (int_text kind.now number) (take end text.new.items)) }
+    ensures refused { IfErr result (LacksText column (int_text kind.now number)) }
+{
+    match kind {
+        DataType::Date(_) | DataType::Time(_) | DataType::Timestamp { .. } => {
+            put_moment(text, at, column, kind, number)
+        }
+        _ => Ok(put_signed_field(text, at, number)),
+    }
+}
+
+#[inline(always)]
+fn put_null(text: &mut Vec<u8>, at: usize) -> usize
+    requires { at + 2 ≤ length text.old.items }
+    ensures inside { result ≤ length text.new.items }
+    ensures text { take result text.new.items ≡ with_field (take at text.old.items) null_text }
+{
+    put(text, at, b"\\N")
+}
+
+#[inline(always)]
+fn put_bool(text: &mut Vec<u8>, at: usize, truth: bool) -> usize
+    requires { at + 5 ≤ length text.old.items }
+    ensures inside { result ≤ length text.new.items }
+    ensures text { take result text.new.items
+        ≡ with_field (take at text.old.items) (bool_text truth) }
+{
+    match truth {
+        true => put(text, at, b"true"),
+        false => put(text, at, b"false"),
+    }
+}
+
+// A value of a column of this type.
+#[inline(always)]
+fn put_cell(
+    text: &mut Vec<u8>,
+    at: usize,
     column: u64,
     kind: &DataType,
     cell: Cell<'_>,
-) -> Result<(), TextFault>
-    ensures ok { OnOk result
-        (Appended out.old.items (text_in kind.now (cell_value cell.entry)) out.new.items) }
+) -> Result<usize, TextFault>
+    requires { at + 25 ≤ length text.old.items }
+    ensures inside { IfOk result (λ end. end ≤ length text.new.items) }
+    ensures ok { IfOk result (λ end. Appended (take at text.old.items)
+        (text_in kind.now (cell_value cell.entry)) (take end text.new.items)) }
     ensures refused { IfErr result (LacksText column (text_in kind.now (cell_value cell.entry))) }
 {
     match cell {
-        Cell::Null => push_null(out)?,
-        Cell::Bool(truth) => push_bool(out, truth)?,
-        Cell::Int(number) => return push_int(out, column, kind, number),
-        Cell::UInt(number) => push_uint(out, number)?,
-        Cell::Bytes(bytes) => push_bytes(out, bytes)?,
-        Cell::Text(text) => push_text(out, text)?,
+        Cell::Null => Ok(put_null(text, at)),
+        Cell::Bool(truth) => Ok(put_bool(text, at, truth)),
+        Cell::Int(number) => put_int(text, at, column, kind, number),
+        Cell::UInt(number) => Ok(put_unsigned_field(text, at, number)),
+        Cell::Bytes(bytes) => Ok(put_bytes_field(text, at, bytes)?),
+        Cell::Text(chars) => Ok(put_text_field(text, at, chars)?),
     }
-    Ok(())
 }
 
-// Appends the fields of a row of a batch with a column for each field.
-fn push_cells(
-    out: &mut Vec<u8>,
+// A value of a column of this type, behind a comma where it isn't the first.
+#[inline(always)]
+fn put_next(
+    text: &mut Vec<u8>,
+    start: usize,
+    column: usize,
+    kind: &DataType,
+    cell: Cell<'_>,
+) -> Result<usize, TextFault>
+    requires { start ≤ length text.old.items }
+    ensures inside { IfOk result (λ end. end ≤ length text.new.items) }
+    ensures ok { IfOk result (λ end. Appended
+        (take start text.old.items ++ next_sep default_writer column)
+        (text_in kind.now (cell_value cell.entry)) (take end text.new.items)) }
+    ensures refused { IfErr result (LacksText column (text_in kind.now (cell_value cell.entry))) }
+{
+    reserve(text, start, ROOM)?;
+    let at = put_comma(text, start, column);
+    put_cell(text, at, column as u64, kind, cell)
+}
+
+// The fields of a row of a batch with a column for each field, from the front of the buffer on.
+fn put_cells(
+    text: &mut Vec<u8>,
     fields: &[Field],
     batch: &Batch,
     row: usize,
-) -> Result<(), TextFault>
+) -> Result<usize, TextFault>
     requires row { row < length batch.now.rows }
     requires columns { batch.now.columns ≡ length fields.now }
-    ensures ok { OnOk result (put_texts out.old.items fields.now
-        (slice_index_or batch.now.rows row []) ≡ Ok out.new.items) }
-    ensures refused { IfErr result (IsRefusal (put_texts out.old.items fields.now
+    ensures inside { IfOk result (λ end. end ≤ length text.new.items) }
+    ensures ok { IfOk result (λ end. put_texts [] fields.now
+        (slice_index_or batch.now.rows row []) ≡ Ok (take end text.new.items)) }
+    ensures refused { IfErr result (IsRefusal (put_texts [] fields.now
         (slice_index_or batch.now.rows row []))) }
 {
+    let mut at = 0;
     for (column, field) in fields.iter().enumerate() {
-        push_comma(out, column)?;
-        push_cell(out, column as u64, &field.kind, batch.cell(row, column))?;
+        at = put_next(text, at, column, &field.kind, batch.cell(row, column))?;
     }
-    Ok(())
+    Ok(at)
 }
 
-/// The record of a row, in the room of the line before: its fields and a line feed. X3 with the
-/// first column whose value has no text. What memory refuses is `OutOfMemory`.
+/// Writes the record of a row to the front of a buffer, its fields and a line feed, and returns
+/// where it ends. What the buffer holds before means nothing: it is room to be used again. X3 with
+/// the first column whose value has no text. What memory refuses is `OutOfMemory`.
 ///
 /// The caller gives a row below the batch's `rows`, and the fields of its columns, which CSV has a
 /// place for.
 pub fn csv_line(
-    line: Vec<u8>,
+    text: &mut Vec<u8>,
     fields: &[Field],
     batch: &Batch,
     row: usize,
-) -> Result<Vec<u8>, TextFault>
+) -> Result<usize, TextFault>
     requires row { row < length batch.now.rows }
     requires columns { batch.now.columns ≡ length fields.now }
     requires fits { flat_fault fields.now ≡ None }
-    ensures ok { IfOk result (λ line. row_csv fields.now (slice_index_or batch.now.rows row [])
-        ≡ Ok line.items) }
+    ensures inside { IfOk result (λ end. end ≤ length text.new.items) }
+    ensures ok { IfOk result (λ end. row_csv fields.now (slice_index_or batch.now.rows row [])
+        ≡ Ok (take end text.new.items)) }
     ensures refused { IfErr result
         (IsRefusal (row_csv fields.now (slice_index_or batch.now.rows row []))) }
 {
-    let mut text = line;
-    text.clear();
-    push_cells(&mut text, fields, batch, row)?;
-    end_record(&mut text, 0)?;
-    Ok(text)
+    let at = put_cells(text, fields, batch, row)?;
+    Ok(put_end(text, at)?)
 }

@@ -136,3 +136,23 @@ pub fn put_i64(text: &mut [u8], at: usize, number: i64) -> usize
     text[at] = b'-';
     put_u64(text, at + usize::from(number < 0), number.unsigned_abs())
 }
+
+/// A signed number in decimal in a buffer with room for it from `at` on.
+#[inline(always)]
+pub(crate) fn put_signed(text: &mut Vec<u8>, at: usize, number: i64) -> usize
+    requires { at + 25 ≤ length text.old.items }
+    ensures inside { result ≤ length text.new.items }
+    ensures text { take result text.new.items ≡ take at text.old.items ++ signed_decimal number }
+{
+    put_i64(text.as_mut_slice(), at, number)
+}
+
+/// An unsigned number in decimal in a buffer with room for it from `at` on.
+#[inline(always)]
+pub(crate) fn put_unsigned(text: &mut Vec<u8>, at: usize, number: u64) -> usize
+    requires { at + 24 ≤ length text.old.items }
+    ensures inside { result ≤ length text.new.items }
+    ensures text { take result text.new.items ≡ take at text.old.items ++ decimal number }
+{
+    put_u64(text.as_mut_slice(), at, number)
+}

@@ -1,97 +1,177 @@
 //! A row of lent cells as a line of JSON.
-ghost use Rattle.std.specs.Prelude.{◌≡◌, ◌<◌, ◌++◌, ◌∷◌, [], length, map, IfOk, OnOk};
-ghost use Rattle.std.specs.Prelude.{slice_index_or};
-ghost use Rattle.json.specs.Tree.{json_tokens, items_tokens};
-ghost use Rattle.serde_json.specs.Written.{outline, items_outline};
+ghost use Rattle.std.specs.Prelude.{◌≡◌, ◌≤◌, ◌<◌, ◌+◌, ◌++◌, ◌∷◌, [], length, map, take, false};
+ghost use Rattle.std.specs.Prelude.{IfOk, slice_index_or};
+ghost use Rattle.hex.specs.Hex.{encode_lower};
+ghost use Rattle.json.specs.Print.{quoted};
+ghost use Rattle.serde_json.specs.Data.{boolean, null};
+ghost use Rattle.serde_json.specs.Written.{comma_if, compact_text, items_text};
 ghost use Rattle.ipc_column.specs.Values.{cell_value};
-ghost use Rattle.ipc_text.specs.RowJson.{cell_json, each_json, row_json, row_text};
+ghost use Rattle.ipc_text.specs.RowJson.{cell_json, each_json, int_json, row_text};
 
+use crate::digits::{put_signed, put_unsigned};
+use crate::hexadecimal::put_hexadecimal;
+use crate::room::{put, reserve};
+use crate::strings::put_string;
 use ipc_column::{Batch, Cell};
-use ipc_model::Field;
-use ipc_text::{put_bytes, put_int};
-use json::Writer;
+use ipc_model::{DataType, Field};
+use ipc_text::moment_text;
 use std::alloc::AllocError;
 
-// Appends the value of a field.
+// More than a comma and any value but a text or bytes take.
+const ROOM: usize = 64;
+
+// A comma, where something stands before.
+#[inline(always)]
+fn put_comma(text: &mut Vec<u8>, at: usize, later: bool) -> usize
+    requires { at + 1 ≤ length text.old.items }
+    ensures end { result ≤ at + 1 }
+    ensures same_room { length text.new.items ≡ length text.old.items }
+    ensures text { take result text.new.items ≡ take at text.old.items ++ comma_if later }
+{
+    if !later {
+        return at;
+    }
+    put(text, at, b",")
+}
+
+#[inline(always)]
+fn put_null(text: &mut Vec<u8>, at: usize) -> usize
+    requires { at + 4 ≤ length text.old.items }
+    ensures inside { result ≤ length text.new.items }
+    ensures text { take result text.new.items ≡ take at text.old.items ++ compact_text null }
+{
+    put(text, at, b"null")
+}
+
+#[inline(always)]
+fn put_bool(text: &mut Vec<u8>, at: usize, truth: bool) -> usize
+    requires { at + 5 ≤ length text.old.items }
+    ensures inside { result ≤ length text.new.items }
+    ensures text { take result text.new.items
+        ≡ take at text.old.items ++ compact_text (boolean truth) }
+{
+    match truth {
+        true => put(text, at, b"true"),
+        false => put(text, at, b"false"),
+    }
+}
+
+// A date, a time or a point in time as its text where it has one, and else the number.
+#[inline(always)]
+fn put_int(text: &mut Vec<u8>, at: usize, kind: &DataType, number: i64) -> Result<usize, AllocError>
+    requires { at + 25 ≤ length text.old.items }
+    ensures inside { IfOk result (λ end. end ≤ length text.new.items) }
+    ensures text { IfOk result (λ end. take end text.new.items
+        ≡ take at text.old.items ++ compact_text (int_json kind.now number)) }
+{
+    match moment_text(kind, number) {
+        Some(moment) => put_string(text, at, moment.as_str().as_bytes()),
+        None => Ok(put_signed(text, at, number)),
+    }
+}
+
+// Bytes as a text of lower-case hexadecimal digits.
+#[inline(always)]
+fn put_bytes(text: &mut Vec<u8>, at: usize, bytes: &[u8]) -> Result<usize, AllocError>
+    requires { at + 1 ≤ length text.old.items }
+    ensures inside { IfOk result (λ end. end ≤ length text.new.items) }
+    ensures text { IfOk result (λ end. take end text.new.items
+        ≡ take at text.old.items ++ quoted (encode_lower bytes.now)) }
+{
+    let at = put(text, at, b"\"");
+    let at = put_hexadecimal(text, at, bytes)?;
+    reserve(text, at, 1)?;
+    Ok(put(text, at, b"\""))
+}
+
+// The value of a field.
+#[inline(always)]
 fn put_cell(
-    out: &mut Writer,
-    digits: &mut Vec<u8>,
+    text: &mut Vec<u8>,
+    at: usize,
     field: &Field,
     cell: Cell<'_>,
-) -> Result<(), AllocError>
-    ensures ok { OnOk result (out.new.tokens ≡ out.old.tokens
-        ++ json_tokens (outline (cell_json field.now (cell_value cell.entry)))) }
-    ensures before { out.new.before ≡ out.old.before }
+) -> Result<usize, AllocError>
+    requires { at + 25 ≤ length text.old.items }
+    ensures inside { IfOk result (λ end. end ≤ length text.new.items) }
+    ensures text { IfOk result (λ end. take end text.new.items ≡ take at text.old.items
+        ++ compact_text (cell_json field.now (cell_value cell.entry))) }
 {
     match cell {
-        Cell::Null => out.null(),
-        Cell::Bool(truth) => out.boolean(truth),
-        Cell::Int(number) => put_int(out, &field.kind, number),
-        Cell::UInt(number) => out.u64(number),
-        Cell::Bytes(bytes) => put_bytes(out, digits, bytes),
-        Cell::Text(text) => out.string(text),
+        Cell::Null => Ok(put_null(text, at)),
+        Cell::Bool(truth) => Ok(put_bool(text, at, truth)),
+        Cell::Int(number) => put_int(text, at, &field.kind, number),
+        Cell::UInt(number) => Ok(put_unsigned(text, at, number)),
+        Cell::Bytes(bytes) => put_bytes(text, at, bytes),
+        Cell::Text(chars) => put_string(text, at, chars.as_bytes()),
     }
 }
 
-// Appends the cells of a row and the closing bracket.
+// The value of a field, behind a comma where something stands before.
+#[inline(always)]
+fn put_item(
+    text: &mut Vec<u8>,
+    start: usize,
+    later: bool,
+    field: &Field,
+    cell: Cell<'_>,
+) -> Result<usize, AllocError>
+    requires { start ≤ length text.old.items }
+    ensures inside { IfOk result (λ end. end ≤ length text.new.items) }
+    ensures text { IfOk result (λ end. take end text.new.items ≡ take start text.old.items
+        ++ comma_if later ++ compact_text (cell_json field.now (cell_value cell.entry))) }
+{
+    reserve(text, start, ROOM)?;
+    let at = put_comma(text, start, later);
+    put_cell(text, at, field, cell)
+}
+
+// The cells of a row and the closing bracket.
 fn put_cells(
-    out: &mut Writer,
-    digits: &mut Vec<u8>,
+    text: &mut Vec<u8>,
+    start: usize,
     fields: &[Field],
     batch: &Batch,
     row: usize,
-) -> Result<(), AllocError>
+) -> Result<usize, AllocError>
     requires row { row < length batch.now.rows }
     requires columns { batch.now.columns ≡ length fields.now }
-    ensures ok { OnOk result (out.new.tokens ≡ out.old.tokens ++ items_tokens (items_outline
-        (each_json (map cell_json fields.now) (slice_index_or batch.now.rows row [])))) }
-    ensures before { out.new.before ≡ out.old.before }
+    requires start { start ≤ length text.old.items }
+    ensures inside { IfOk result (λ end. end ≤ length text.new.items) }
+    ensures text { IfOk result (λ end. take end text.new.items ≡ take start text.old.items
+        ++ items_text false (each_json (map cell_json fields.now)
+        (slice_index_or batch.now.rows row []))) }
 {
+    let mut at = start;
+    let mut later = false;
     for (column, field) in fields.iter().enumerate() {
-        put_cell(out, digits, field, batch.cell(row, column))?;
+        at = put_item(text, at, later, field, batch.cell(row, column))?;
+        later = true;
     }
-    out.end_array()
+    reserve(text, at, 1)?;
+    Ok(put(text, at, b"]"))
 }
 
-// Appends a row of a batch with a column for each field.
-fn put_row(
-    out: &mut Writer,
-    digits: &mut Vec<u8>,
-    fields: &[Field],
-    batch: &Batch,
-    row: usize,
-) -> Result<(), AllocError>
-    requires row { row < length batch.now.rows }
-    requires columns { batch.now.columns ≡ length fields.now }
-    ensures ok { OnOk result (out.new.tokens ≡ out.old.tokens
-        ++ json_tokens (outline (row_json fields.now (slice_index_or batch.now.rows row [])))) }
-    ensures before { out.new.before ≡ out.old.before }
-{
-    out.begin_array()?;
-    put_cells(out, digits, fields, batch, row)
-}
-
-/// The JSON text of a row and a line feed, in the room of the line before. What `digits` holds
-/// means nothing: it is room to be used again. It refuses only where memory ran out.
+/// Writes the JSON text of a row and a line feed to the front of a buffer, and returns where it
+/// ends. What the buffer holds before means nothing: it is room to be used again. It refuses only
+/// where memory ran out.
 ///
 /// The caller gives a row below the batch's `rows`, and the fields of its columns.
 pub fn json_line(
-    line: Vec<u8>,
-    digits: &mut Vec<u8>,
+    text: &mut Vec<u8>,
     fields: &[Field],
     batch: &Batch,
     row: usize,
-) -> Result<Vec<u8>, AllocError>
+) -> Result<usize, AllocError>
     requires row { row < length batch.now.rows }
     requires columns { batch.now.columns ≡ length fields.now }
-    ensures { IfOk result (λ line. line.items
+    ensures inside { IfOk result (λ end. end ≤ length text.new.items) }
+    ensures text { IfOk result (λ end. take end text.new.items
         ≡ row_text fields.now (slice_index_or batch.now.rows row []) ++ 10 ∷ []) }
 {
-    let mut room = line;
-    room.clear();
-    let mut writer = Writer::new(room);
-    put_row(&mut writer, digits, fields, batch, row)?;
-    let mut text = writer.into_inner();
-    text.push(b'\n')?;
-    Ok(text)
+    reserve(text, 0, 1)?;
+    let at = put(text, 0, b"[");
+    let at = put_cells(text, at, fields, batch, row)?;
+    reserve(text, at, 1)?;
+    Ok(put(text, at, b"\n"))
 }

@@ -4,11 +4,15 @@
 mod batch_text;
 mod csv_row;
 mod digits;
+mod fields;
 mod form;
+mod hexadecimal;
 mod json_row;
 mod printing;
+mod room;
 mod rows;
 mod stop;
+mod strings;
 mod types;
 
 pub use digits::{put_i64, put_u64};

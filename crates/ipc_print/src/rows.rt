@@ -77,8 +77,9 @@ fn make_room<W: Sink>(sink: &mut W, text: &[u8], at: usize) -> Result<usize, Pri
     Ok(at)
 }
 
+// Writes a word from `at` on, and returns where it ends.
 #[inline(always)]
-fn put_word(text: &mut [u8], at: usize, word: &[u8]) -> usize
+pub(crate) fn put_word(text: &mut [u8], at: usize, word: &[u8]) -> usize
     requires { at + length word.now ≤ length text.old }
     ensures end { result ≡ at + length word.now }
     ensures text { take result text.new ≡ take at text.old ++ word.now }

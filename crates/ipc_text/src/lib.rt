@@ -23,7 +23,7 @@ pub use csv_row::{
 pub use fault::TextFault;
 pub use moment::{date_text, time_text, timestamp_text};
 pub use moment_reader::{read_date, read_time, read_timestamp};
-pub use row::{put_bytes, put_int, put_row_json, row_json};
+pub use row::{moment_text, put_bytes, put_int, put_row_json, row_json};
 pub use schema::{pairs_json, schema_json};
 pub use schema_reader::schema_from_json;
 pub use short_text::ShortText;

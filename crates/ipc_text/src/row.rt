@@ -20,8 +20,9 @@ use ipc_model::{DataType, Field, Schema, Value};
 use json::Writer;
 use std::alloc::{AllocError, Global};
 
-// The text of a number of this type that is a date, a time or a point in time, where it has one.
-pub(crate) fn moment_text(kind: &DataType, number: i64) -> Option<ShortText>
+/// The text of a number of this type that is a date, a time or a point in time, where it has one.
+/// None for another type.
+pub fn moment_text(kind: &DataType, number: i64) -> Option<ShortText>
     ensures { result ≡ moment_text kind.now number }
 {
     match kind {

@@ -19,7 +19,7 @@ pub returns-in_err-put : goal.returns-in_err-put
 returns-in_err-put g c =
     let p = err_from_is_err_and c.from_residual.result c.from_residual.ensures.1 in
     rw (p.1, p.2) (rows_cut (line_of c.args.form c.args.fields.now) c.args.batch.now.rows _ _ _ _ c.loop-row.row _ (omega arith)
-    c.loop-row.invariant.put (rw (c.as_slice.ensures.value, c.in-Ok.ensures.text) at c.in_err-put.ensures))
+    c.loop-row.invariant.put (rw (c.deref.ensures.value, c.in-Ok.ensures.text) at c.in_err-put.ensures))
 
 pub loop-row-preserved : goal.loop-row-preserved
 loop-row-preserved g c =
@@ -30,5 +30,5 @@ loop-row-preserved g c =
           (sym (take_more rows c.loop-row.row [] (omega arith)))
           (all_more (HasLine c.args.form c.args.fields.now) (take c.loop-row.row rows) row c.loop-row.invariant.have c.in-Ok.ensures.ok);
       put = rows_next (line_of c.args.form c.args.fields.now) rows _ _ _ c.loop-row.row (omega arith) c.loop-row.invariant.put
-          (rw (c.as_slice.ensures.value, c.in-Ok.ensures.text) at c.in_ok-put.ensures);
+          (rw (c.deref.ensures.value, c.in-Ok.ensures.text) at c.in_ok-put.ensures);
     }

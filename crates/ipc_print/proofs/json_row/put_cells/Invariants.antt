@@ -1,16 +1,15 @@
-use Rattle.std.proofs.Common.{◌≡◌, ◌++◌, [], map, drop}
+use Rattle.std.proofs.Common.{◌≡◌, ◌≤◌, ◌++◌, [], map, drop, take, length, false}
 use Rattle.std.specs.Prelude.{slice_index_or}
-use Rattle.json.specs.Tree.{items_tokens}
-use Rattle.serde_json.specs.Written.{items_outline}
+use Rattle.serde_json.specs.Written.{items_text}
 use Rattle.ipc_text.specs.RowJson.{cell_json, each_json}
 use Rattle.ipc_print.proofs.json_row.put_cells.Given as goal
 
--- the first cells were appended
+-- the first cells were written
 abbrev pub invariant-loop-column : goal.invariant-loop-column
 invariant-loop-column l =
     let row = slice_index_or l.batch.rows l.row [] in
     record {
-      tokens : l.out.tokens ++ items_tokens (items_outline (each_json (map cell_json (drop l.column l.fields)) (drop l.column row)))
-          ≡ l.initial.out.tokens ++ items_tokens (items_outline (each_json (map cell_json l.fields) row));
-      before : l.out.before ≡ l.initial.out.before;
+      inside : l.at ≤ length l.text.items;
+      text : take l.at l.text.items ++ items_text l.later (each_json (map cell_json (drop l.column l.fields)) (drop l.column row))
+          ≡ take l.start l.initial.text.items ++ items_text false (each_json (map cell_json l.fields) row);
     }

@@ -1,0 +1,31 @@
+use Rattle.std.proofs.Common.{[], sym, ◌∙◌, refl, take}
+use Rattle.std.specs.Prelude.{slice_index_or}
+use Rattle.std.proofs.lemmas.Result.{err_from_is_err_and}
+use Rattle.ipc_column.specs.Values.{cell_value}
+use Rattle.ipc_text.proofs.Records.{no_columns}
+use Rattle.ipc_print.proofs.Cells.{cell_refused, cell_appended}
+use Rattle.ipc_print.proofs.Shown.{got_inside}
+use Rattle.ipc_print.proofs.csv_row.put_cells.Goals as goal
+
+pub returns-in_err-at-clause-refused : goal.returns-in_err-at-clause-refused
+returns-in_err-at-clause-refused c =
+    let row = slice_index_or c.args.batch.now.rows c.args.row [] in
+    let value = cell_value c.cell.result in
+    let p = err_from_is_err_and c.from_residual.result c.from_residual.ensures.1 in
+    rw (p.1, p.2) (cell_refused c.args.fields.now row c.loop-column.column c.index-fields-column.result value _ _ _ c.loop-column-test.true
+    c.index-fields-column.is (got_inside row c.loop-column.column value c.cell.ensures) c.cell.ensures c.loop-column.invariant.text
+    c.in_err-at.ensures.refused)
+
+pub loop-column-preserved : goal.loop-column-preserved
+loop-column-preserved c =
+    let row = slice_index_or c.args.batch.now.rows c.args.row [] in
+    let value = cell_value c.cell.result in
+    record {
+      inside = c.in_ok-at.ensures.inside;
+      text = cell_appended c.args.fields.now row c.loop-column.column c.index-fields-column.result value _ _ _ _ c.loop-column-test.true
+          c.index-fields-column.is (got_inside row c.loop-column.column value c.cell.ensures) c.cell.ensures c.loop-column.invariant.text
+          refl c.in_ok-at.ensures.ok;
+    }
+
+pub returns-clause-ok : goal.returns-clause-ok
+returns-clause-ok c = sym c.loop-column.invariant.text ∙ no_columns c.loop-column.column _ c.args.fields.now _ c.loop-column-test.false

@@ -1,0 +1,115 @@
+//! Texts of JSON at a place: one look at the bytes and one copy, where none has another form.
+ghost use Rattle.std.specs.Prelude.{◌≡◌, ◌≤◌, ◌<◌, ◌+◌, ◌++◌, ◌∷◌, [], length, take, false, OnOk};
+ghost use Rattle.std.specs.Prelude.{IfOk};
+ghost use Rattle.std.specs.Char.{digit_char};
+ghost use Rattle.json.specs.Print.{escape, escape_byte, quoted};
+ghost use Rattle.ipc_print.specs.Escaped.{has_escaped, is_escaped};
+
+use crate::room::reserve;
+use crate::rows::put_word;
+use std::alloc::AllocError;
+
+fn hex_digit(number: u8) -> u8
+    requires { number < 16 }
+    ensures { result ≡ digit_char number }
+{
+    if number < 10 {
+        b'0' + number
+    } else {
+        b'a' + (number - 10)
+    }
+}
+
+#[tactic(auto, unfolding(json::specs::Print::escape_byte))]
+fn push_escaped(out: &mut Vec<u8>, byte: u8) -> Result<(), AllocError>
+    ensures { OnOk result (out.new.items ≡ out.old.items ++ escape_byte byte) }
+{
+    match byte {
+        b'"' => out.extend_from_slice(b"\\\"")?,
+        b'\\' => out.extend_from_slice(b"\\\\")?,
+        8 => out.extend_from_slice(b"\\b")?,
+        12 => out.extend_from_slice(b"\\f")?,
+        10 => out.extend_from_slice(b"\\n")?,
+        13 => out.extend_from_slice(b"\\r")?,
+        9 => out.extend_from_slice(b"\\t")?,
+        0..=31 => {
+            out.extend_from_slice(b"\\u00")?;
+            out.push(hex_digit(byte / 16))?;
+            out.push(hex_digit(byte % 16))?;
+        }
+        _ => out.push(byte)?,
+    }
+    Ok(())
+}
+
+fn push_each_escaped(out: &mut Vec<u8>, chars: &[u8]) -> Result<(), AllocError>
+    ensures { OnOk result (out.new.items ≡ out.old.items ++ escape chars.now) }
+{
+    for byte in chars {
+        push_escaped(out, *byte)?;
+    }
+    Ok(())
+}
+
+// Appends a text behind the first `at` bytes, byte by byte, and returns where it ends.
+#[cold]
+#[inline(never)]
+fn put_escaped(text: &mut Vec<u8>, at: usize, chars: &[u8]) -> Result<usize, AllocError>
+    requires { at ≤ length text.old.items }
+    ensures inside { IfOk result (λ end. end ≤ length text.new.items) }
+    ensures text { IfOk result
+        (λ end. take end text.new.items ≡ take at text.old.items ++ quoted chars.now) }
+{
+    text.truncate(at);
+    text.push(b'"')?;
+    push_each_escaped(text, chars)?;
+    text.push(b'"')?;
+    Ok(text.len())
+}
+
+#[inline(always)]
+fn is_escaped(byte: u8) -> bool
+    ensures { result ≡ is_escaped byte }
+{
+    byte < 32 || byte == b'"' || byte == b'\\'
+}
+
+// Whether a byte has another form. All are looked at, several at a time.
+#[inline(always)]
+fn has_escaped(chars: &[u8]) -> bool
+    ensures { result ≡ has_escaped chars.now }
+{
+    let mut found = false;
+    for byte in chars {
+        found = found | is_escaped(*byte);
+    }
+    found
+}
+
+// Writes a text as it stands between two quotation marks, and returns where it ends.
+#[inline(always)]
+fn put_plain(text: &mut [u8], at: usize, chars: &[u8]) -> usize
+    requires room { at + length chars.now + 2 ≤ length text.old }
+    requires plain { has_escaped chars.now ≡ false }
+    ensures end { result ≡ at + length chars.now + 2 }
+    ensures text { take result text.new ≡ take at text.old ++ quoted chars.now }
+{
+    let at = put_word(text, at, b"\"");
+    let at = put_word(text, at, chars);
+    put_word(text, at, b"\"")
+}
+
+/// Writes a text of JSON from `at` on, and returns where it ends.
+#[inline(always)]
+pub fn put_string(text: &mut Vec<u8>, at: usize, chars: &[u8]) -> Result<usize, AllocError>
+    requires { at ≤ length text.old.items }
+    ensures inside { IfOk result (λ end. end ≤ length text.new.items) }
+    ensures text { IfOk result
+        (λ end. take end text.new.items ≡ take at text.old.items ++ quoted chars.now) }
+{
+    if has_escaped(chars) {
+        return put_escaped(text, at, chars);
+    }
+    reserve(text, at, chars.len() + 2)?;
+    Ok(put_plain(text.as_mut_slice(), at, chars))
+}
