@@ -201,6 +201,7 @@ impl Batch {
     /// The column's field says what it means. Signed integers, dates and timestamps are `Int`, in
     /// the field's unit from 1970-01-01 on; unsigned integers are `UInt`; binary and fixed-size
     /// binary are `Bytes`.
+    #[inline(always)]
     pub fn cell(&self, row: usize, column: usize) -> Cell<'_>
         requires row { row < length self.now.rows }
         requires column { column < self.now.columns }

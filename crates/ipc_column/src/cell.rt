@@ -42,6 +42,7 @@ impl Cell<'_> {
 }
 
 /// Whether a slot isn't null.
+#[inline(always)]
 pub(crate) fn is_valid(validity: &[u8], slot: usize) -> bool
     requires { has_bitmap (slot + 1) (length validity.now) ≡ true }
     ensures { result ≡ is_valid validity.now slot }
@@ -51,6 +52,7 @@ pub(crate) fn is_valid(validity: &[u8], slot: usize) -> bool
 
 // What a valid slot holds, one of the first `slots`.
 #[tactic(auto, using(crate::proofs::Numbers::slot_inside))]
+#[inline(always)]
 fn own_cell<'a>(
     layout: Layout,
     offsets: &[u8],
@@ -93,6 +95,7 @@ fn own_cell<'a>(
 
 // Whether a slot isn't null, where its bitmap is this span. A span of no bytes isn't looked up.
 #[tactic(auto, unfolding(crate::specs::Columns::bytes_of))]
+#[inline(always)]
 fn is_valid_in(body: &[u8], validity: BufferRange, slot: usize) -> bool
     requires { has_bitmap (slot + 1) (length (span_bytes body.now validity)) ≡ true }
     ensures { result ≡ is_valid (span_bytes body.now validity) slot }
@@ -101,6 +104,7 @@ fn is_valid_in(body: &[u8], validity: BufferRange, slot: usize) -> bool
 }
 
 // What a slot of a part holds.
+#[inline(always)]
 fn cell_at<'a>(body: &'a [u8], part: &'a ColumnRanges, slot: usize) -> Cell<'a>
     requires sound { (why : Cause) → passes why (column_of body.now part.now) ≡ true }
     requires slot { slot < (column_of body.now part.now).slots }
@@ -120,6 +124,7 @@ fn cell_at<'a>(body: &'a [u8], part: &'a ColumnRanges, slot: usize) -> Cell<'a>
 }
 
 /// What stands in a row and a column of parts that give so many rows.
+#[inline(always)]
 pub(crate) fn cell_in<'a>(
     body: &'a [u8],
     parts: &'a [ColumnRanges],

@@ -7,6 +7,7 @@ use ipc_model::IntBits;
 use ipc_scalar::{get_i32, get_i64, get_u16, get_u32};
 
 /// The signed number in a slot.
+#[inline(always)]
 pub(crate) fn signed_at(bits: IntBits, values: &[u8], slot: usize) -> i64
     requires { number_bytes bits * (slot + 1) ≤ length values.now }
     ensures { result ≡ signed_at bits values.now (number_bytes bits * slot) }
@@ -20,6 +21,7 @@ pub(crate) fn signed_at(bits: IntBits, values: &[u8], slot: usize) -> i64
 }
 
 /// The unsigned number in a slot.
+#[inline(always)]
 pub(crate) fn unsigned_at(bits: IntBits, values: &[u8], slot: usize) -> u64
     requires { number_bytes bits * (slot + 1) ≤ length values.now }
     ensures { result ≡ num values.now (number_bytes bits * slot) (number_bytes bits) }
@@ -33,6 +35,7 @@ pub(crate) fn unsigned_at(bits: IntBits, values: &[u8], slot: usize) -> u64
 }
 
 /// The bytes of a slot of so many.
+#[inline(always)]
 pub(crate) fn bytes_of(width: u32, values: &[u8], slot: usize) -> &[u8]
     requires { width * (slot + 1) ≤ length values.now }
     ensures { result.now ≡ slice_range values.now (width * slot) (width * slot + width) }

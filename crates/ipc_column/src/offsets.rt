@@ -5,6 +5,7 @@ ghost use Rattle.ipc_column.specs.Values.{offset, place, between};
 use ipc_scalar::get_i32;
 
 // Offset `i`.
+#[inline(always)]
 fn offset_at(offsets: &[u8], i: usize) -> i32
     requires { 4 * (i + 1) ≤ length offsets.now }
     ensures { result ≡ offset offsets.now i }
@@ -13,6 +14,7 @@ fn offset_at(offsets: &[u8], i: usize) -> i32
 }
 
 /// Where offset `i` points, if it isn't negative.
+#[inline(always)]
 pub(crate) fn place_at(offsets: &[u8], i: usize) -> usize
     requires { 4 * (i + 1) ≤ length offsets.now }
     ensures { result ≡ place offsets.now i }
@@ -39,6 +41,7 @@ pub(crate) fn are_in_order(offsets: &[u8], slots: usize, size: usize) -> bool
 }
 
 /// The bytes of a slot, one of so many.
+#[inline(always)]
 pub(crate) fn bytes_between<'a>(
     offsets: &[u8],
     values: &'a [u8],

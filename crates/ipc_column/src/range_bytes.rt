@@ -5,6 +5,7 @@ use crate::ranges::BufferRange;
 
 /// The bytes of a span, or none where it passes the end of the body.
 #[tactic(auto, unfolding(crate::specs::Columns::bytes_of))]
+#[inline(always)]
 pub(crate) fn bytes_at(body: &[u8], span: BufferRange) -> &[u8]
     ensures { result.now ≡ span_bytes body.now span }
 {

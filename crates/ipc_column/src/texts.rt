@@ -15,6 +15,7 @@ use crate::range_bytes::bytes_at;
 use crate::ranges::ColumnRanges;
 
 /// The text of bytes that were found UTF-8.
+#[inline(always)]
 pub(crate) fn text_of(bytes: &[u8]) -> &str
     requires { is_utf8 bytes.now ≡ true }
     ensures { result.now ≡ bytes.now }
