@@ -1,9 +1,11 @@
 -- Texts whose bytes stand for themselves.
-use Rattle.std.proofs.Common.{◌≡◌, ◌<◌, ◌/◌, ◌%◌, refl, ℕ, zero, suc, slice_index, Bool, true, false, List, [], ◌∷◌, arith}
+use Rattle.std.proofs.Common.{◌≡◌, ◌<◌, ◌≤◌, ◌/◌, ◌%◌, refl, ℕ, zero, suc, slice_index, Bool, true, false, List, [], ◌∷◌, arith}
 use Rattle.std.specs.Prelude.{◌||◌}
 use Rattle.std.proofs.lemmas.Bool.{agree_below_at, or_parts}
 use Rattle.hex.specs.Hex.{IsBytes, encode_with, encode_lower, lower_digits}
 use Rattle.json.specs.Print.{escape, escape_byte}
+use Rattle.ipc_text.specs.ShortTexts.{IsPlain}
+use Rattle.std.proofs.lemmas.Bool.Decides.{nat_tests}
 use Rattle.ipc_print.specs.Escaped.{is_escaped, has_escaped}
 
 own_byte : (x : ℕ) → is_escaped x ≡ false → escape_byte x ≡ x ∷ []
@@ -30,3 +32,14 @@ encoded_own (b ∷ bs) bytes =
 -- hexadecimal digits of bytes stand in a text of JSON as they are
 pub own_digits : (bs : List ℕ) → IsBytes bs → escape (encode_lower bs) ≡ encode_lower bs
 own_digits bs bytes = own_bytes (encode_lower bs) (encoded_own bs bytes)
+
+letter_own : (b : ℕ) → 45 ≤ b → b ≤ 90 → is_escaped b ≡ false
+letter_own b low high = grind (arith, nat_tests)
+
+short_own : (bs : List ℕ) → IsPlain bs → has_escaped bs ≡ false
+short_own [] plain = refl
+short_own (b ∷ bs) plain = rw (letter_own b plain.0.0 plain.0.1, short_own bs plain.1) refl
+
+-- the texts of dates and times stand in a text of JSON as they are
+pub own_moment : (bs : List ℕ) → IsPlain bs → escape bs ≡ bs
+own_moment bs plain = own_bytes bs (short_own bs plain)

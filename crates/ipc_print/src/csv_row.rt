@@ -9,7 +9,8 @@ ghost use Rattle.ipc_text.specs.RowCsv.{bool_text, null_text, put_texts, row_csv
 ghost use Rattle.ipc_text.specs.RowCsv.{with_field};
 
 use crate::fields::{
-    put_bytes_field, put_end, put_field, put_signed_field, put_text_field, put_unsigned_field,
+    put_bytes_field, put_end, put_moment_field, put_signed_field, put_text_field,
+    put_unsigned_field,
 };
 use crate::room::{put, reserve};
 use ipc_column::{Batch, Cell};
@@ -43,7 +44,7 @@ fn put_moment(
     kind: &DataType,
     number: i64,
 ) -> Result<usize, TextFault>
-    requires { at ≤ length text.old.items }
+    requires { at + 32 ≤ length text.old.items }
     ensures inside { IfOk result (λ end. end ≤ length text.new.items) }
     ensures ok { IfOk result (λ end. Appended (take at text.old.items)
         (moment_text kind.now number) (take end text.new.items)) }
@@ -52,7 +53,7 @@ fn put_moment(
     let Some(moment) = moment_text(kind, number) else {
         return Err(TextFault::NoTextForm { column });
     };
-    Ok(put_field(text, at, moment.as_str().as_bytes())?)
+    Ok(put_moment_field(text, at, &moment))
 }
 
 // A signed number of this type.
@@ -64,7 +65,7 @@ fn put_int(
     kind: &DataType,
     number: i64,
 ) -> Result<usize, TextFault>
-    requires { at + 25 ≤ length text.old.items }
+    requires { at + 32 ≤ length text.old.items }
     ensures inside { IfOk result (λ end. end ≤ length text.new.items) }
     ensures ok { IfOk result (λ end. Appended (take at text.old.items)
         (int_text kind.now number) (take end text.new.items)) }
@@ -109,7 +110,7 @@ fn put_cell(
     kind: &DataType,
     cell: Cell<'_>,
 ) -> Result<usize, TextFault>
-    requires { at + 25 ≤ length text.old.items }
+    requires { at + 32 ≤ length text.old.items }
     ensures inside { IfOk result (λ end. end ≤ length text.new.items) }
     ensures ok { IfOk result (λ end. Appended (take at text.old.items)
         (text_in kind.now (cell_value cell.entry)) (take end text.new.items)) }

@@ -9,8 +9,8 @@ ghost use Rattle.ipc_text.specs.RowCsv.{backslashed, with_field, Ended};
 
 use crate::digits::{put_signed, put_unsigned};
 use crate::hexadecimal::put_hexadecimal;
-use crate::room::{put, reserve};
-use ipc_text::{push_field, push_text};
+use crate::room::{put, put_short, reserve};
+use ipc_text::{ShortText, push_field, push_text};
 use std::alloc::AllocError;
 
 #[inline(always)]
@@ -59,6 +59,18 @@ pub(crate) fn put_field(text: &mut Vec<u8>, at: usize, field: &[u8]) -> Result<u
     }
     reserve(text, at, field.len())?;
     Ok(put(text, at, field))
+}
+
+// Writes the text of a date, a time or a point in time as a field of CSV from `at` on, and returns
+// where it ends.
+#[inline(always)]
+pub(crate) fn put_moment_field(text: &mut Vec<u8>, at: usize, moment: &ShortText) -> usize
+    requires { at + 32 ≤ length text.old.items }
+    ensures inside { result ≤ length text.new.items }
+    ensures text { take result text.new.items
+        ≡ with_field (take at text.old.items) moment.now }
+{
+    put_short(text, at, moment)
 }
 
 // Appends a text behind the first `at` bytes, with one more backslash in front.

@@ -11,7 +11,7 @@ ghost use Rattle.ipc_text.specs.RowJson.{cell_json, each_json, int_json, row_tex
 use crate::digits::{put_signed, put_unsigned};
 use crate::hexadecimal::put_hexadecimal;
 use crate::room::{put, reserve};
-use crate::strings::put_string;
+use crate::strings::{put_moment, put_string};
 use ipc_column::{Batch, Cell};
 use ipc_model::{DataType, Field};
 use ipc_text::moment_text;
@@ -58,15 +58,15 @@ fn put_bool(text: &mut Vec<u8>, at: usize, truth: bool) -> usize
 
 // A date, a time or a point in time as its text where it has one, and else the number.
 #[inline(always)]
-fn put_int(text: &mut Vec<u8>, at: usize, kind: &DataType, number: i64) -> Result<usize, AllocError>
-    requires { at + 25 ≤ length text.old.items }
-    ensures inside { IfOk result (λ end. end ≤ length text.new.items) }
-    ensures text { IfOk result (λ end. take end text.new.items
-        ≡ take at text.old.items ++ compact_text (int_json kind.now number)) }
+fn put_int(text: &mut Vec<u8>, at: usize, kind: &DataType, number: i64) -> usize
+    requires { at + 34 ≤ length text.old.items }
+    ensures inside { result ≤ length text.new.items }
+    ensures text { take result text.new.items
+        ≡ take at text.old.items ++ compact_text (int_json kind.now number) }
 {
     match moment_text(kind, number) {
-        Some(moment) => put_string(text, at, moment.as_str().as_bytes()),
-        None => Ok(put_signed(text, at, number)),
+        Some(moment) => put_moment(text, at, &moment),
+        None => put_signed(text, at, number),
     }
 }
 
@@ -92,7 +92,7 @@ fn put_cell(
     field: &Field,
     cell: Cell<'_>,
 ) -> Result<usize, AllocError>
-    requires { at + 25 ≤ length text.old.items }
+    requires { at + 34 ≤ length text.old.items }
     ensures inside { IfOk result (λ end. end ≤ length text.new.items) }
     ensures text { IfOk result (λ end. take end text.new.items ≡ take at text.old.items
         ++ compact_text (cell_json field.now (cell_value cell.entry))) }
@@ -100,7 +100,7 @@ fn put_cell(
     match cell {
         Cell::Null => Ok(put_null(text, at)),
         Cell::Bool(truth) => Ok(put_bool(text, at, truth)),
-        Cell::Int(number) => put_int(text, at, &field.kind, number),
+        Cell::Int(number) => Ok(put_int(text, at, &field.kind, number)),
         Cell::UInt(number) => Ok(put_unsigned(text, at, number)),
         Cell::Bytes(bytes) => put_bytes(text, at, bytes),
         Cell::Text(chars) => put_string(text, at, chars.as_bytes()),

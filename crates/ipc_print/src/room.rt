@@ -1,7 +1,9 @@
 //! Room for a text that is written at a place of a kept buffer.
+ghost use Rattle.ipc_text.specs.ShortTexts.{IsPlain};
 ghost use Rattle.std.specs.Prelude.{◌≡◌, ◌≤◌, ◌<◌, ◌+◌, ◌++◌, length, take, OnOk};
 
 use crate::rows::put_word;
+use ipc_text::ShortText;
 use std::alloc::AllocError;
 
 // Makes the buffer longer. It is called once for each length that a line never had before.
@@ -43,4 +45,17 @@ pub fn put(text: &mut Vec<u8>, at: usize, word: &[u8]) -> usize
     ensures text { take result text.new.items ≡ take at text.old.items ++ word.now }
 {
     put_word(text.as_mut_slice(), at, word)
+}
+
+/// Writes the text of a date, a time or a point in time from `at` on, and returns where it ends.
+/// There is room for the longest.
+#[inline(always)]
+pub fn put_short(text: &mut Vec<u8>, at: usize, moment: &ShortText) -> usize
+    requires { at + 32 ≤ length text.old.items }
+    ensures end { result ≤ at + 32 }
+    ensures same_room { length text.new.items ≡ length text.old.items }
+    ensures text { take result text.new.items ≡ take at text.old.items ++ moment.now }
+    ensures plain { IsPlain moment.now }
+{
+    moment.put(text.as_mut_slice(), at)
 }

@@ -5,8 +5,9 @@ ghost use Rattle.std.specs.Char.{digit_char};
 ghost use Rattle.json.specs.Print.{escape, escape_byte, quoted};
 ghost use Rattle.ipc_print.specs.Escaped.{has_escaped, is_escaped};
 
-use crate::room::reserve;
+use crate::room::{put, put_short, reserve};
 use crate::rows::put_word;
+use ipc_text::ShortText;
 use std::alloc::AllocError;
 
 fn hex_digit(number: u8) -> u8
@@ -97,6 +98,18 @@ fn put_plain(text: &mut [u8], at: usize, chars: &[u8]) -> usize
     let at = put_word(text, at, b"\"");
     let at = put_word(text, at, chars);
     put_word(text, at, b"\"")
+}
+
+/// Writes the text of a date, a time or a point in time from `at` on, and returns where it ends.
+#[inline(always)]
+pub fn put_moment(text: &mut Vec<u8>, at: usize, moment: &ShortText) -> usize
+    requires { at + 34 ≤ length text.old.items }
+    ensures inside { result ≤ length text.new.items }
+    ensures text { take result text.new.items ≡ take at text.old.items ++ quoted moment.now }
+{
+    let at = put(text, at, b"\"");
+    let at = put_short(text, at, moment);
+    put(text, at, b"\"")
 }
 
 /// Writes a text of JSON from `at` on, and returns where it ends.

@@ -6,3 +6,4 @@ pub mod RowCsv
 pub mod CsvCells
 pub mod CsvRows
 pub mod SchemaTexts
+pub mod ShortTexts

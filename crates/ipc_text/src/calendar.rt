@@ -11,6 +11,7 @@ const FIRST_DAY: i64 = -719_162;
 const LAST_DAY: i64 = 2_932_896;
 
 /// The text of the day with this number, in the years 0001 to 9999.
+#[inline(always)]
 pub(crate) fn day_text(day: i64) -> Option<ShortText>
     ensures text { result ≡ day_text day }
     ensures short { IfSome result (λ text. length text ≡ 10) }

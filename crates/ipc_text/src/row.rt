@@ -22,6 +22,7 @@ use std::alloc::{AllocError, Global};
 
 /// The text of a number of this type that is a date, a time or a point in time, where it has one.
 /// None for another type.
+#[inline(always)]
 pub fn moment_text(kind: &DataType, number: i64) -> Option<ShortText>
     ensures { result ≡ moment_text kind.now number }
 {

@@ -1,6 +1,7 @@
-ghost use Rattle.std.specs.Prelude.{◌≡◌, ◌++◌, ◌∷◌, [], ◌+◌, ◌<◌, ◌≤◌, length};
+ghost use Rattle.std.specs.Prelude.{◌≡◌, ◌++◌, ◌∷◌, [], ◌+◌, ◌<◌, ◌≤◌, length, take};
 ghost use Rattle.ipc_text.specs.Calendar.{two_digits, four_digits};
 ghost use Rattle.ipc_text.specs.Moments.{three_digits};
+ghost use Rattle.ipc_text.specs.ShortTexts.{IsPlain};
 
 use std::marker::Model;
 
@@ -13,13 +14,13 @@ pub struct ShortText {
 
 impl Model for ShortText {
     ghost use Rattle.std.specs.Prelude.{List, ℕ, take, ◌≤◌};
-    ghost use Rattle.std.specs.Str.{IsAscii};
+    ghost use Rattle.ipc_text.specs.ShortTexts.{IsPlain};
 
     ghost Value = { List ℕ };
 
     ghost view = { λ s. take s.len s.bytes };
 
-    ghost invariant = { λ s. (s.len ≤ 32) × IsAscii (take s.len s.bytes) };
+    ghost invariant = { λ s. (s.len ≤ 32) × IsPlain (take s.len s.bytes) };
 }
 
 impl ShortText {
@@ -34,7 +35,7 @@ impl ShortText {
 
     pub(crate) fn push(&mut self, byte: u8)
         requires room { length self.old < 32 }
-        requires ascii { byte < 128 }
+        requires plain { (45 ≤ byte) × (byte ≤ 90) }
         ensures { self.new ≡ self.old ++ byte ∷ [] }
     {
         self.bytes[self.len] = byte;
@@ -71,8 +72,22 @@ impl ShortText {
         self.push_two_digits(number % 100);
     }
 
+    /// Writes the text from `at` on, and returns where it ends. What stands behind the end may
+    /// change too, up to `at + 32`.
+    #[inline(always)]
+    pub fn put(&self, text: &mut [u8], at: usize) -> usize
+        requires { at + 32 ≤ length text.old }
+        ensures end { result ≤ at + 32 }
+        ensures text { take result text.new ≡ take at text.old ++ self.now }
+        // It stands for itself in a text of JSON, and needs no quotes in CSV.
+        ensures plain { IsPlain self.now }
+    {
+        text[at..at + 32].copy_from_slice(&self.bytes);
+        at + self.len
+    }
+
     /// The text, which is ASCII.
-    #[tactic(auto, using(crate::proofs::Ascii::ascii_is_utf8))]
+    #[tactic(auto, using(crate::proofs::Ascii::plain_is_utf8))]
     pub fn as_str(&self) -> &str
         ensures { result.now ≡ self.now }
     {
