@@ -55,17 +55,18 @@ pub(crate) fn is_valid(validity: &[u8], slot: usize) -> bool
 #[inline(always)]
 fn own_cell<'a>(
     layout: Layout,
-    offsets: &[u8],
+    body: &[u8],
+    offsets: BufferRange,
     values: &'a [u8],
     slots: usize,
     slot: usize,
 ) -> Cell<'a>
     requires slot { slot < slots }
     requires values { holds_values layout slots (length values.now) ≡ true }
-    requires offsets { holds_offsets layout slots (length offsets.now) ≡ true }
-    requires order { in_order layout slots offsets.now (length values.now) ≡ true }
-    requires text { is_text layout offsets.now values.now slot ≡ true }
-    ensures { cell_value result ≡ own_value layout offsets.now values.now slot }
+    requires offsets { holds_offsets layout slots (length (span_bytes body.now offsets)) ≡ true }
+    requires order { in_order layout slots (span_bytes body.now offsets) (length values.now) ≡ true }
+    requires text { is_text layout (span_bytes body.now offsets) values.now slot ≡ true }
+    ensures { cell_value result ≡ own_value layout (span_bytes body.now offsets) values.now slot }
 {
     // The widest numbers come first, without a table of jumps.
     if let Layout::Numbers {
@@ -85,10 +86,16 @@ fn own_cell<'a>(
         } => Cell::UInt(unsigned_at(bits, values, slot)),
         Layout::FixedBytes(width) => Cell::Bytes(bytes_of(width, values, slot)),
         Layout::VariableBytes { utf8: true } => Cell::Text(text_of(bytes_between(
-            offsets, values, slots, slot,
+            bytes_at(body, offsets),
+            values,
+            slots,
+            slot,
         ))),
         Layout::VariableBytes { utf8: false } => Cell::Bytes(bytes_between(
-            offsets, values, slots, slot,
+            bytes_at(body, offsets),
+            values,
+            slots,
+            slot,
         )),
     }
 }
@@ -116,7 +123,8 @@ fn cell_at<'a>(body: &'a [u8], part: &'a ColumnRanges, slot: usize) -> Cell<'a>
     }
     own_cell(
         part.layout,
-        bytes_at(body, part.offsets),
+        body,
+        part.offsets,
         bytes_at(body, part.values),
         part.slots,
         slot,

@@ -9,6 +9,7 @@ mod digits;
 mod fault;
 mod moment;
 mod moment_reader;
+mod pairs;
 mod row;
 mod schema;
 mod schema_reader;

@@ -3,7 +3,18 @@ ghost use Rattle.ipc_text.specs.Calendar.{two_digits, four_digits};
 ghost use Rattle.ipc_text.specs.Moments.{three_digits};
 ghost use Rattle.ipc_text.specs.ShortTexts.{IsPlain};
 
+use crate::pairs::pair;
 use std::marker::Model;
+
+// Writes the two digits of a number below 100.
+#[inline(always)]
+fn put_two_digits(bytes: &mut [u8; 32], at: usize, number: u32)
+    requires small { number < 100 }
+    requires room { at + 2 ≤ 32 }
+    ensures { take (at + 2) bytes.new ≡ take at bytes.old ++ two_digits number }
+{
+    bytes[at..at + 2].copy_from_slice(&pair(number));
+}
 
 /// A text of at most 32 bytes, which takes no memory. Contracts see its bytes.
 #[derive(Drop)]
@@ -48,8 +59,8 @@ impl ShortText {
         requires room { length self.old + 2 ≤ 32 }
         ensures { self.new ≡ self.old ++ two_digits number }
     {
-        self.push(b'0' + (number / 10) as u8);
-        self.push(b'0' + (number % 10) as u8);
+        put_two_digits(&mut self.bytes, self.len, number);
+        self.len += 2;
     }
 
     // A number below 1,000.

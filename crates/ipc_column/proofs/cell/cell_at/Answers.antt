@@ -7,11 +7,10 @@ is_valid_in-requires c =
     (part_slot c.args.body.now c.args.part.now c.args.slot c.requires.slot)
 
 pub own_cell-requires-clause-values : goal.own_cell-requires-clause-values
-own_cell-requires-clause-values c = rw c.bytes_at-2.ensures (part_long c.args.body.now c.args.part.now c.requires.sound).values
+own_cell-requires-clause-values c = rw c.bytes_at.ensures (part_long c.args.body.now c.args.part.now c.requires.sound).values
 
 pub own_cell-requires-clause-offsets : goal.own_cell-requires-clause-offsets
-own_cell-requires-clause-offsets c = rw c.bytes_at.ensures (part_long c.args.body.now c.args.part.now c.requires.sound).offsets
+own_cell-requires-clause-offsets c = (part_long c.args.body.now c.args.part.now c.requires.sound).offsets
 
 pub own_cell-requires-clause-order : goal.own_cell-requires-clause-order
-own_cell-requires-clause-order c = rw (c.bytes_at.ensures, c.bytes_at-2.ensures)
-    (part_long c.args.body.now c.args.part.now c.requires.sound).order
+own_cell-requires-clause-order c = rw c.bytes_at.ensures (part_long c.args.body.now c.args.part.now c.requires.sound).order
