@@ -8,6 +8,7 @@ mod fields;
 mod form;
 mod hexadecimal;
 mod json_row;
+mod plain;
 mod printing;
 mod room;
 mod rows;

@@ -1,10 +1,10 @@
 //! Texts of JSON at a place: one look at the bytes and one copy, where none has another form.
-ghost use Rattle.std.specs.Prelude.{◌≡◌, ◌≤◌, ◌<◌, ◌+◌, ◌++◌, ◌∷◌, [], length, take, false, OnOk};
+ghost use Rattle.std.specs.Prelude.{◌≡◌, ◌≤◌, ◌<◌, ◌+◌, ◌++◌, ◌∷◌, [], length, take, OnOk};
 ghost use Rattle.std.specs.Prelude.{IfOk};
 ghost use Rattle.std.specs.Char.{digit_char};
 ghost use Rattle.json.specs.Print.{escape, escape_byte, quoted};
-ghost use Rattle.ipc_print.specs.Escaped.{has_escaped, is_escaped};
 
+use crate::plain::is_plain;
 use crate::room::{put, put_short, reserve};
 use crate::rows::put_word;
 use ipc_text::ShortText;
@@ -68,30 +68,11 @@ fn put_escaped(text: &mut Vec<u8>, at: usize, chars: &[u8]) -> Result<usize, All
     Ok(text.len())
 }
 
-#[inline(always)]
-fn is_escaped(byte: u8) -> bool
-    ensures { result ≡ is_escaped byte }
-{
-    byte < 32 || byte == b'"' || byte == b'\\'
-}
-
-// Whether a byte has another form. All are looked at, several at a time.
-#[inline(always)]
-fn has_escaped(chars: &[u8]) -> bool
-    ensures { result ≡ has_escaped chars.now }
-{
-    let mut found = false;
-    for byte in chars {
-        found = found | is_escaped(*byte);
-    }
-    found
-}
-
 // Writes a text as it stands between two quotation marks, and returns where it ends.
 #[inline(always)]
 fn put_plain(text: &mut [u8], at: usize, chars: &[u8]) -> usize
     requires room { at + length chars.now + 2 ≤ length text.old }
-    requires plain { has_escaped chars.now ≡ false }
+    requires plain { escape chars.now ≡ chars.now }
     ensures end { result ≡ at + length chars.now + 2 }
     ensures text { take result text.new ≡ take at text.old ++ quoted chars.now }
 {
@@ -120,7 +101,7 @@ pub fn put_string(text: &mut Vec<u8>, at: usize, chars: &[u8]) -> Result<usize, 
     ensures text { IfOk result
         (λ end. take end text.new.items ≡ take at text.old.items ++ quoted chars.now) }
 {
-    if has_escaped(chars) {
+    if !is_plain(chars) {
         return put_escaped(text, at, chars);
     }
     reserve(text, at, chars.len() + 2)?;

@@ -1,5 +1,5 @@
 use Rattle.std.proofs.Common.{append_assoc, refl}
-use Rattle.ipc_print.proofs.Plain.{own_moment}
+use Rattle.ipc_print.proofs.OwnBytes.{own_moment}
 use Rattle.ipc_print.proofs.strings.put_moment.Goals as goal
 
 pub returns-clause-text : goal.returns-clause-text
