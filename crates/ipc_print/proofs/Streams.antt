@@ -27,7 +27,7 @@ use Rattle.std.specs.Prelude.{length}
 use Rattle.ipc_print.specs.Output.{Output, output, Grows}
 use Rattle.ipc_print.specs.Rows.{lines, batch_lines}
 use Rattle.ipc_print.specs.Streams.{PrintsTable, Breaks, unopened, broken, Stops, unfit, refused, PrintsSome, nothing, some, PrintsStream}
-use Rattle.ipc_print.specs.Streams.{Prints, PrintsRows, PrintsPart, RefusesRow, Refused, exit_status, write_fault}
+use Rattle.ipc_print.specs.Streams.{Prints, PrintsRows, PrintsPart, RefusesRow, write_fault}
 use Rattle.ipc_print.specs.Streams.{printed}
 use Rattle.ipc_print.proofs.Puts.{grows_more, grows_then}
 use Rattle.ipc_print.proofs.Texts.{batch_lines_more, head_rest}
@@ -201,11 +201,3 @@ part_of form old new w0 w1 (Ok done) h = table_part form old new w0 w1 h
 part_of form old new w0 w1 (Err (stop.Read fault n)) h = broken_part form old new w0 w1 fault h
 part_of form old new w0 w1 (Err (stop.Text fault)) h = stopped_part form old new w0 w1 fault h
 part_of form old new w0 w1 (Err (stop.Write fault)) h = h.1
-
--- where the exit status is 1, the stream or a row is refused
-pub refused_of : {limits : Limits} → (form : Form) (old new w0 w1 : Option (List ℕ)) (r : Result ⊤ Stop) → exit_status r ≡ 1
-    → Prints form limits old new w0 w1 r → Refused form limits old new w0 w1
-refused_of form old new w0 w1 (Ok done) is h = absurd (omega (arith, is))
-refused_of form old new w0 w1 (Err (stop.Read fault n)) is h = inl (fault, is, h)
-refused_of form old new w0 w1 (Err (stop.Text fault)) is h = inr (fault, is, h)
-refused_of form old new w0 w1 (Err (stop.Write fault)) is h = absurd (h.0 is)

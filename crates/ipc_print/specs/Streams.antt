@@ -134,15 +134,6 @@ Prints form limits old new written_old written_new (Err (stop.Text fault)) =
 Prints form limits old new written_old written_new (Err (stop.Write fault)) =
     (write_fault_status fault ≢ 1) × PrintsSome form limits old new written_old written_new
 
--- a refusal of what was read, that isn't want of memory: its cause, and what was printed before
-abbrev pub Refused : Form → Limits → Option (List ℕ) → Option (List ℕ) → Option (List ℕ)
-    → Option (List ℕ) → Type 0
-Refused form limits old new written_old written_new =
-    ((fault : Fault) × (fault_status fault ≡ 1)
-    × Breaks form limits old new written_old written_new fault)
-    ⊎ ((fault : TextFault) × (text_status fault ≡ 1)
-    × Stops form limits old new written_old written_new fault)
-
 -- ---- the steps in between
 
 -- how many batches there are, and how many rows they have

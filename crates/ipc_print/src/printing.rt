@@ -7,7 +7,7 @@ ghost use Rattle.ipc_text.specs.SchemaJson.{schema_text};
 ghost use Rattle.ipc_print.specs.Forms.{counts_text, form_fault, front_text};
 ghost use Rattle.ipc_print.specs.Output.{output, PrintsAs};
 ghost use Rattle.ipc_print.specs.Streams.{IsWhole, Prints, PrintsAll, PrintsBatches};
-ghost use Rattle.ipc_print.specs.Streams.{PrintsStream, TellsDevices, exit_status};
+ghost use Rattle.ipc_print.specs.Streams.{PrintsSome, PrintsStream, TellsDevices, exit_status};
 ghost use Rattle.ipc_print.specs.Streams.{outcome_tail, write_fault};
 
 use crate::batch_text::print_batch;
@@ -225,9 +225,16 @@ pub fn print<R: Source, W: Sink>(
     source: R,
     sink: &mut W,
 ) -> (Result<(), Stop>, R)
+    // At Ok the sink holds nothing back.
     ensures handed_on { OnOk result.0 (W.held_back sink.new ≡ Some []) }
+    // At Ok the bytes that were taken denote a table with its end, and exactly its text was printed;
+    // at a fault its cause is true, and exactly what came before was printed.
     ensures prints { Prints form limits (R.remaining source) (R.remaining result.1)
         (W.written sink.old) (W.written sink.new) result.0 }
+    // Whatever the answer, a beginning of the text of what was read was printed.
+    ensures part { PrintsSome form limits (R.remaining source) (R.remaining result.1)
+        (W.written sink.old) (W.written sink.new) }
+    // F36 and W9 are answered exactly where the source or the sink failed.
     ensures devices { TellsDevices (R.failures source) (R.failures result.1) (W.failures sink.old)
         (W.failures sink.new) (exit_status result.0) }
 {

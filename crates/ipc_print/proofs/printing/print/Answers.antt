@@ -1,4 +1,6 @@
-use Rattle.ipc_print.proofs.Streams.{prints_all, prints_none}
+use Rattle.std.proofs.Common.{Err}
+use Rattle.ipc_print.specs.declared.stop.Stop.TheVariants.{Read}
+use Rattle.ipc_print.proofs.Streams.{part_of, prints_all, prints_none}
 use Rattle.ipc_print.proofs.printing.print.Goals as goal
 
 pub returns-in-Ok-clause-prints : goal.returns-in-Ok-clause-prints
@@ -8,3 +10,12 @@ returns-in-Ok-clause-prints g c =
 
 pub returns-in-Err-clause-prints : goal.returns-in-Err-clause-prints
 returns-in-Err-clause-prints g c = prints_none c.args.form _ _ _ c.in-Err.fault c.in-Err.ensures.refused
+
+pub returns-in-Ok-clause-part : goal.returns-in-Ok-clause-part
+returns-in-Ok-clause-part g c = part_of c.args.form _ _ _ _ c.print_open-result.result
+    (prints_all c.args.form _ _ c.in-Ok.stream _ _ _ _ _ c.print_open-result.result c.in-Ok.ensures.opened c.into_inner.ensures.remaining
+    c.print_open-result.ensures.prints)
+
+pub returns-in-Err-clause-part : goal.returns-in-Err-clause-part
+returns-in-Err-clause-part g c = part_of c.args.form _ _ _ _ (Err (Read c.in-Err.fault 0))
+    (prints_none c.args.form _ _ _ c.in-Err.fault c.in-Err.ensures.refused)
