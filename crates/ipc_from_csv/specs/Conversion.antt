@@ -1,9 +1,10 @@
 -- What becomes of an input of CSV and of the sink for its stream.
 use Rattle.std.specs.Prelude.{◌≡◌, ◌≢◌, ℕ, ◌+◌, List, [], ◌∷◌, ◌++◌, length, Option, Some, None}
-use Rattle.std.specs.Prelude.{Result, Ok, Err}
+use Rattle.std.specs.Prelude.{Result, Ok, Err, ⊤}
 use Rattle.csv.specs.declared.reader.Reader.{Reader}
 use Rattle.ipc_model.specs.Limits.{IsStandard}
 use Rattle.ipc_model.specs.declared.fault.WriteFault.{WriteFault}
+use Rattle.ipc_model.specs.declared.fault.WriteFault.TheVariants as write
 use Rattle.ipc_model.specs.declared.limits.Limits.{Limits}
 use Rattle.ipc_model.specs.declared.schema.Field.{Field}
 use Rattle.ipc_model.specs.declared.schema.Schema.{Schema}
@@ -118,6 +119,15 @@ pub record StopsWriting (input : Option (List ℕ)) (s : Schema) (size : ℕ) (o
   pub all : left ≢ [] → AreRecordsOf input (names s.fields ∷ records)
   pub breaks : BreaksOff limits (table_of s (batches ++ last_batch left)) old new failures_old
       failures_new fault
+
+-- what the writer may refuse of rows that fit, in batches that aren't too large: the schema (W1,
+-- W6), a batch that is too long (W6), for a sink that failed (W9) or for want of memory (W11)
+abbrev pub IsLeftToRefuse : WriteFault → Type 0
+IsLeftToRefuse write.BadSchema = ⊤
+IsLeftToRefuse write.TooLong = ⊤
+IsLeftToRefuse write.Write = ⊤
+IsLeftToRefuse write.OutOfMemory = ⊤
+IsLeftToRefuse fault = ⊥
 
 -- why no whole stream was made, and what went out
 abbrev pub StopsFor : Option (List ℕ) → Schema → ℕ → Option (List ℕ) → Option (List ℕ) → ℕ → ℕ

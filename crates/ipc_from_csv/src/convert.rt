@@ -6,7 +6,7 @@ ghost use Rattle.ipc_stream.specs.Writer.{Finishes, FinishFails};
 ghost use Rattle.ipc_text.specs.RowCsv.{flat_fault, names};
 ghost use Rattle.ipc_from_csv.specs.declared.stop.Stop.TheVariants as stop;
 ghost use Rattle.ipc_from_csv.specs.Records.{IsSetUp, Stands};
-ghost use Rattle.ipc_from_csv.specs.Conversion.{Answers, Converts, StopsFor};
+ghost use Rattle.ipc_from_csv.specs.Conversion.{Answers, Converts, IsLeftToRefuse, StopsFor};
 ghost use Rattle.ipc_from_csv.specs.Steps.{Begins, SendsRecords};
 
 use crate::records::{next_record, read_header, reader_of};
@@ -130,6 +130,9 @@ pub fn from_csv<R: Read, W: Sink>(
     // At a refusal, its cause, and exactly what went out before it.
     ensures stopped { IfErr result.0 (λ why. StopsFor (R.remaining input) schema.now batch
         (W.written sink) (W.written result.2) (W.failures sink) (W.failures result.2) why) }
+    // The rows fit and the batches aren't too large, so W2 to W5 and W8 don't come.
+    ensures left { IfErr result.0 (λ why. (fault : WriteFault) → why ≡ stop.Write fault
+        → IsLeftToRefuse fault) }
     // W9 comes only where the sink failed.
     ensures failed { result.0 ≡ Err (stop.Write WriteFault.Write) → W.failures result.2 ≡ 1 }
     // Any other answer leaves a sink that works as one.

@@ -1,4 +1,4 @@
-use Rattle.std.proofs.Common.{◌≡◌, ◌∙◌, ap, ◌∷◌, length, refl, true, arith, rules}
+use Rattle.std.proofs.Common.{◌≡◌, ◌∙◌, ap, [], ◌∷◌, ◌++◌, length, refl, true, arith, rules}
 use Rattle.std.specs.Result.{is_ok}
 use Rattle.std.proofs.lemmas.Result.{err_from_is_err_and}
 use Rattle.std.proofs.lemmas.List.{length_push}
@@ -77,7 +77,8 @@ returns-in_err-write_batch-2 g c = record {
       let more = came_more _ _ _ _ _ _ _ _ _ _ came c.next_record.new.reader _ c.in_ok-row_from_csv.field-0 stands
       c.in_ok-row_from_csv.ensures.read in
       let good : is_ok c.push.result ≡ true = search rules in
-      let items = rw good at c.push.ensures.items in
+      let items : c.push.new.self.items ≡ c.loop-number.rows.items ++ c.in_ok-row_from_csv.field-0 ∷ [] =
+      rw good at c.push.ensures.items in
       rw (p.1, p.2) (batch_stops _ _ _ _ _ _ _ _ _ _ more c.write_batch-then-len-batch.new.self c.in_err-write_batch-2.field-0.0
       c.new-full.result (c.new-full.ensures ∙ ap batch_of items) c.in_err-write_batch-2.ensures.sends c.in_err-write_batch-2.ensures.judged
       c.requires.some (omega (arith, ap length items, c.push.new.self.ok.0, c.len.ensures, c.if-len-batch.true)));
@@ -96,7 +97,8 @@ loop-number-preserved g c =
             let more = came_more _ _ _ _ _ _ _ _ _ _ came c.next_record.new.reader _ c.in_ok-row_from_csv.field-0 stands
             c.in_ok-row_from_csv.ensures.read in
             let good : is_ok c.push.result ≡ true = search rules in
-            let items = rw good at c.push.ensures.items in
+            let items : c.push.new.self.items ≡ c.loop-number.rows.items ++ c.in_ok-row_from_csv.field-0 ∷ [] =
+            rw good at c.push.ensures.items in
             rw (w.stream-is, w.rows-is, w.clear.ensures.items) (came_sent _ _ _ _ _ _ _ _ _ _ more w.write_batch-then-len-batch.new.self
             w.new-full.result (w.new-full.ensures ∙ ap batch_of items) c.requires.some
             (omega (arith, ap length items, c.push.new.self.ok.0, c.len.ensures, w.if-len-batch.true)) w.in_ok-write_batch-2.ensures.sends
@@ -105,10 +107,18 @@ loop-number-preserved g c =
       | else-len-batch w ↦ (
         c.in_ok-next_record.ensures.set_up,
         let good : is_ok c.push.result ≡ true = search rules in
-            let items = rw good at c.push.ensures.items in
+            let items : c.push.new.self.items ≡ c.loop-number.rows.items ++ c.in_ok-row_from_csv.field-0 ∷ [] =
+            rw good at c.push.ensures.items in
             let longer = length_push c.loop-number.rows.items c.in_ok-row_from_csv.field-0 in
-            rw w.rows-is (omega (arith, ap length items, longer, c.push.new.self.ok.0, c.len.ensures, w.if-len-batch.false,
-            c.loop-number.invariant.1)),
+            rw w.rows-is (omega (
+              arith,
+              ap length items,
+              longer,
+              c.push.new.self.ok.0,
+              c.len.ensures,
+              w.if-len-batch.false,
+              c.loop-number.invariant.1,
+            )),
         λ input old failures begins.
             let came = c.loop-number.invariant.2 input old failures begins in
             let stands = found_one g.R.Read.remaining input (names c.args.schema.now.fields ∷ came.records) c.next_record.new.reader _ _
