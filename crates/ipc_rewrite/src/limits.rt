@@ -1,12 +1,18 @@
 //! The limits of a stream that is written anew.
 ghost use Rattle.std.specs.Prelude.{◌≡◌};
+ghost use Rattle.ipc_model.specs.Limits.{Covers, IsStandard};
+ghost use Rattle.ipc_model.specs.declared.limits.Limits.{Limits};
 ghost use Rattle.ipc_rewrite.specs.Raised.{raised_of};
 
 use ipc_model::Limits;
 
-/// The limits with each value that is below the standard one raised to it.
+/// The limits of what `rewrite` writes: those of what it reads, with each value that is below the
+/// standard one raised to it. What is within the given limits is within these, and so is what is
+/// within the standard ones.
 pub fn raised(limits: &Limits) -> Limits
-    ensures { result ≡ raised_of limits.now }
+    ensures raised { result ≡ raised_of limits.now }
+    ensures covers { Covers result limits.now }
+    ensures standard { (usual : Limits) → IsStandard usual → Covers result usual }
 {
     let standard = Limits::standard();
     Limits {
