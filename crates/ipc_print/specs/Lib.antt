@@ -5,3 +5,4 @@ pub mod Forms
 pub mod Output
 pub mod Rows
 pub mod Streams
+pub mod Unquoted

@@ -2,7 +2,6 @@
 ghost use Rattle.std.specs.Prelude.{◌≡◌, ◌≤◌, ◌<◌, ◌+◌, ◌++◌, length, take, decimal, OnOk};
 ghost use Rattle.std.specs.Prelude.{IfOk};
 ghost use Rattle.std.specs.Fmt.{signed_decimal};
-ghost use Rattle.csv.specs.Writing as csv;
 ghost use Rattle.csv.specs.Writing.{default_writer};
 ghost use Rattle.hex.specs.Hex.{encode_lower};
 ghost use Rattle.ipc_text.specs.RowCsv.{backslashed, with_field, Ended};
@@ -10,27 +9,9 @@ ghost use Rattle.ipc_text.specs.RowCsv.{backslashed, with_field, Ended};
 use crate::digits::{put_signed, put_unsigned};
 use crate::hexadecimal::put_hexadecimal;
 use crate::room::{put, put_short, reserve};
+use crate::unquoted::needs_no_quotes;
 use ipc_text::{ShortText, push_field, push_text};
 use std::alloc::AllocError;
-
-#[inline(always)]
-fn calls_for_quotes(byte: u8) -> bool
-    ensures { result ≡ csv.needs_byte default_writer byte }
-{
-    byte == b',' || byte == b'"' || byte == b'\r' || byte == b'\n'
-}
-
-// Whether a byte calls for quotes. All are looked at, several at a time.
-#[inline(always)]
-fn needs_quotes(field: &[u8]) -> bool
-    ensures { result ≡ csv.needs_quotes default_writer field.now }
-{
-    let mut found = false;
-    for byte in field {
-        found = found | calls_for_quotes(*byte);
-    }
-    found
-}
 
 // Appends a field behind the first `at` bytes, in quotes, and returns where it ends.
 #[cold]
@@ -54,11 +35,11 @@ pub(crate) fn put_field(text: &mut Vec<u8>, at: usize, field: &[u8]) -> Result<u
     ensures text { IfOk result
         (λ end. take end text.new.items ≡ with_field (take at text.old.items) field.now) }
 {
-    if needs_quotes(field) {
-        return put_quoted(text, at, field);
+    if needs_no_quotes(field) {
+        reserve(text, at, field.len())?;
+        return Ok(put(text, at, field));
     }
-    reserve(text, at, field.len())?;
-    Ok(put(text, at, field))
+    put_quoted(text, at, field)
 }
 
 // Writes the text of a date, a time or a point in time as a field of CSV from `at` on, and returns

@@ -15,6 +15,7 @@ mod rows;
 mod stop;
 mod strings;
 mod types;
+mod unquoted;
 
 pub use digits::{put_i64, put_u64};
 pub use form::Form;
