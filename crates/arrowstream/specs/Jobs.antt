@@ -101,8 +101,8 @@ abbrev pub HasNoSchema : Stop → Type 0
 HasNoSchema why = (why ≡ stop.Schema)
     ⊎ ((fault : TextFault) × (why ≡ stop.Text fault) × IsUnread fault)
 
--- what an answer says of records of CSV: there was no schema, and nothing went out; or by the file's
--- schema they became a stream of batches of so many rows, or it broke off
+-- what an answer says of records of CSV: there was no schema, and nothing went out; or by the
+-- file's schema they became a stream of batches of so many rows, or it broke off
 abbrev pub AnswersCsv : Option (List ℕ) → ℕ → Option (List ℕ) → Option (List ℕ)
     → Option (List ℕ) → ℕ → ℕ → Result ⊤ Stop → Type 0
 AnswersCsv bytes size input written_old written_new failures_old failures_new r =
@@ -111,8 +111,8 @@ AnswersCsv bytes size input written_old written_new failures_old failures_new r 
     ⊎ ((s : Schema) × IsSchemaOf bytes s × (p : Result ⊤ CsvStop) × (r ≡ lifted stop_of_csv p)
     × csv.Answers input s size written_old written_new failures_old failures_new p)
 
--- what an answer says of a job, whose schema's file has these bytes: what was read of the input, and
--- what went out
+-- what an answer says of a job, whose schema's file has these bytes: what was read of the input,
+-- and what went out
 abbrev pub Answers : Job → Option (List ℕ) → Option (List ℕ) → Option (List ℕ) → Option (List ℕ)
     → Option (List ℕ) → ℕ → ℕ → Result ⊤ Stop → Type 0
 Answers (job.Check limits) bytes old new written_old written_new failures_old failures_new r =

@@ -140,12 +140,12 @@ fn do_job<P: Read + Drop, R: Read, W: Sink>(
 /// refusal prints the fault's line to `messages`. What went out before it stands. Of a stream, no
 /// byte behind its end-of-stream mark is read.
 ///
-/// `schema` is the file that the job names, or none where that can't be opened; only `FromCsv` reads
-/// it. The caller gives a batch size from 1 to 2^31 - 1, as `read_words` does.
+/// `schema` is the file that the job names, or none where that can't be opened; only `FromCsv`
+/// reads it. The caller gives a batch size from 1 to 2^31 - 1, as `read_words` does.
 ///
 /// The answer is the exit status, and the input and the sink again: 0 where all was done, 1 where
-/// what was read is refused, 3 where the input, the schema's file or the sink failed, 4 where memory
-/// ran out. A failing `messages` changes nothing.
+/// what was read is refused, 3 where the input, the schema's file or the sink failed, 4 where
+/// memory ran out. A failing `messages` changes nothing.
 pub fn run<P: Read + Drop, R: Read, W: Sink, E: Write>(
     alloc: Global,
     job: Job,

@@ -194,9 +194,8 @@ fn reads_jobs(rt: HostRuntime) -> Result<(), Fail> {
     let alloc = rt.alloc();
     let program = "arrowstream";
     let usual = Limits::standard();
-    assert!(rt;
-        matches!(&asked(alloc, &[program, "show"])?, Ok(Job::Show { limits, pairs: false }) if *limits == usual)
-    );
+    let plain = asked(alloc, &[program, "show"])?;
+    assert!(rt; matches!(&plain, Ok(Job::Show { limits, pairs: false }) if *limits == usual));
     assert!(rt;
         matches!(&asked(alloc, &[program, "to-csv"])?, Ok(Job::ToCsv(limits)) if *limits == usual)
     );

@@ -102,8 +102,9 @@ Examples:
   arrowstream rewrite --max-rows 1000000 < upload.arrows > trades.arrows";
 
 const FROM_CSV_EXAMPLES: &str = "\
-The first record is the header: the names of the schema's columns in their order. A field \\N is null.
-The schema is JSON, as the first line that check prints. Each batch is sent as soon as it is full.
+The first record is the header: the names of the schema's columns in their order. A field \\N is
+null. The schema is JSON, as the first line that check prints. Each batch is sent as soon as it is
+full.
 
 Examples:
   arrowstream check < trades.arrows | head -n 1 > trades.json

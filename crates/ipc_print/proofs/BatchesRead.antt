@@ -181,7 +181,8 @@ module _ (form : Form) (tally : Tally) (old now new : Reader) (before after : Ou
         tallies = tally_more tally next b.batches (rows_of found) b.tallies one all;
         have = all_more (λ q. HaveLines form old.schema.fields q.rows) b.batches (rows_of found) b.have q.0;
         puts = put_at before (output w n k) _ _ (batch_lines_more line (head_of form) b.batches (rows_of found))
-            (puts_then before after (output w n k) (batch_lines (head_of form) line b.batches) (head_of form found.1 ++ lines line found.0.rows) b.puts q.1);
+            (puts_then before after (output w n k) (batch_lines (head_of form) line b.batches)
+            (head_of form found.1 ++ lines line found.0.rows) b.puts q.1);
       }
 
   -- a row of the batch that came isn't printed, and those before it were
@@ -224,7 +225,8 @@ module _ (form : Form) (tally : Tally) (old now new : Reader) (before after : Ou
         tail = [];
         ends = inl refl;
         puts = puts_not_more before w n _ [] e (not_at before w n _ _ e (batch_lines_more line (head_of form) b.batches (rows_of found))
-            (puts_not_then before after w n (batch_lines (head_of form) line b.batches) (head_of form found.1 ++ lines line found.0.rows) e b.puts q));
+            (puts_not_then before after w n (batch_lines (head_of form) line b.batches)
+            (head_of form found.1 ++ lines line found.0.rows) e b.puts q));
         works = λ other z. works ∙ (b.counts ∙ z);
       }
 

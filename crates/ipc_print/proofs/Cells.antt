@@ -153,7 +153,8 @@ number_line (f ∷ fs) (w ∷ ws) columns shown size =
     ∙ (ap (λ (t : List ℕ). t ++ (rest ++ feed)) one ∙ sym (append_assoc (compact_text (cell_json f w)) rest feed))))
 
 -- so are the lines of rows
-pub number_lines : (pairs : Bool) (fs : List Field) (rows : List (List Value)) (columns : ℕ) → columns ≡ length fs → AreShownColumns fs → AreShownRows rows
+pub number_lines : (pairs : Bool) (fs : List Field) (rows : List (List Value)) (columns : ℕ) → columns ≡ length fs
+    → AreShownColumns fs → AreShownRows rows
     → AllByRecursion (λ row. length row ≡ columns) rows → lines line rows ≡ lines (line_of (Rows pairs) fs) rows
 number_lines pairs fs [] columns is shown all wide = refl
 number_lines pairs fs (row ∷ rows) columns is shown all wide =

@@ -115,7 +115,8 @@ module _ (form : Form) (front : List ℕ) (old new : Reader) where
       reads = p.reads;
       counted = p.counted;
       have = p.have;
-      puts = put_at before after _ _ (append-nil (front ++ batch_lines (head_of form) line_in p.batches)) (puts_then before mid after _ [] p.puts q);
+      puts = put_at before after _ _ (append-nil (front ++ batch_lines (head_of form) line_in p.batches))
+          (puts_then before mid after _ [] p.puts q);
     }
 
     -- the tail of counts is that of the batches

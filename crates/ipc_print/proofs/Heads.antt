@@ -10,8 +10,8 @@ use Rattle.ipc_print.specs.Streams.{PutsRows}
 use Rattle.ipc_print.proofs.Puts.{puts_then, puts_not_then}
 
 -- rows that were put behind a head were put with it
-pub rows_behind : (form : Form) (fields : List Field) (head : List ℕ) (rows : List (List Value)) (a b : Output) (w : Option (List ℕ)) (n : ℕ)
-    (k : List ℕ) (r : Result (Option TextFault) PrintFault) → Puts a b head → PutsRows form fields [] rows b w n k r
+pub rows_behind : (form : Form) (fields : List Field) (head : List ℕ) (rows : List (List Value)) (a b : Output) (w : Option (List ℕ))
+    (n : ℕ) (k : List ℕ) (r : Result (Option TextFault) PrintFault) → Puts a b head → PutsRows form fields [] rows b w n k r
     → PutsRows form fields head rows a w n k r
 rows_behind form fields head rows a b w n k (Ok None) p q = (q.0, puts_then a b (output w n k) head _ p q.1)
 rows_behind form fields head rows a b w n k (Ok (Some fault)) p q = (q.0, q.1, puts_then a b (output w n k) head _ p q.2)

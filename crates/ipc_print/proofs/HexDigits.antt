@@ -1,5 +1,6 @@
 -- Hexadecimal digits, two for each byte.
-use Rattle.std.proofs.Common.{◌≡◌, ◌/◌, ◌%◌, ◌+◌, ◌<◌, ◌≤◌, ◌==◌, ◌∙◌, ap, sym, append-nil, ℕ, true, List, [], ◌∷◌, ◌++◌, length, drop, drop-cons, get_or, add-one, slice_index, refl}
+use Rattle.std.proofs.Common.{◌≡◌, ◌/◌, ◌%◌, ◌+◌, ◌<◌, ◌≤◌, ◌==◌, ◌∙◌, ap, sym, append-nil, ℕ, true, List, [], ◌∷◌, ◌++◌, length, drop}
+use Rattle.std.proofs.Common.{drop-cons, get_or, add-one, slice_index, refl}
 use Rattle.std.specs.Int.{w16, to_le_bytes}
 use Rattle.std.proofs.lemmas.Bool.{agree_below_at, eqb-true}
 use Rattle.std.proofs.lemmas.List.{drop_all}
@@ -8,11 +9,13 @@ use Rattle.ipc_print.specs.declared.hexadecimal.TheConstants.{DIGITS}
 
 first_is : (b : ℕ) → b < 256 → slice_index (to_le_bytes w16 (slice_index DIGITS b)) 0 ≡ slice_index lower_digits (b / 16)
 first_is b small = eqb-true _ _
-    (agree_below_at (λ k. slice_index (to_le_bytes w16 (slice_index DIGITS k)) 0 == slice_index lower_digits (k / 16)) (λ k. true) 256 b refl small)
+    (agree_below_at (λ k. slice_index (to_le_bytes w16 (slice_index DIGITS k)) 0 == slice_index lower_digits (k / 16)) (λ k. true) 256 b
+    refl small)
 
 second_is : (b : ℕ) → b < 256 → slice_index (to_le_bytes w16 (slice_index DIGITS b)) 1 ≡ slice_index lower_digits (b % 16)
 second_is b small = eqb-true _ _
-    (agree_below_at (λ k. slice_index (to_le_bytes w16 (slice_index DIGITS k)) 1 == slice_index lower_digits (k % 16)) (λ k. true) 256 b refl small)
+    (agree_below_at (λ k. slice_index (to_le_bytes w16 (slice_index DIGITS k)) 1 == slice_index lower_digits (k % 16)) (λ k. true) 256 b
+    refl small)
 
 -- entry b of the table has the two digits of b as bytes, the first digit in the lower one
 pub digits_are : (b : ℕ) → b < 256 → to_le_bytes w16 (slice_index DIGITS b) ≡ encode_lower (b ∷ [])

@@ -1,5 +1,6 @@
 -- From the mask of many bytes to a field that needs no quotes.
-use Rattle.std.proofs.Common.{◌≡◌, ◌∙◌, ℕ, zero, suc, ◌+◌, ◌-◌, ◌%◌, ◌^◌, ◌<◌, ◌≤◌, Bool, true, false, cond, ◌==◌, List, [], ◌∷◌, length, drop, get_or, map}
+use Rattle.std.proofs.Common.{◌≡◌, ◌∙◌, ℕ, zero, suc, ◌+◌, ◌-◌, ◌%◌, ◌^◌, ◌<◌, ◌≤◌, Bool, true, false, cond, ◌==◌, List, [], ◌∷◌, length}
+use Rattle.std.proofs.Common.{drop, get_or, map}
 use Rattle.std.proofs.Common.{replicate, bit_or, Fits, w8, refl, sym, ap, ap₂, arith, eqb, get_or-take, get_or-drop}
 use Rattle.std.specs.Prelude.{not}
 use Rattle.std.proofs.lemmas.Bool.{agree_below_at, eqb-true, not-true}
@@ -65,13 +66,15 @@ where_true false P f = tt
 -- where the four comparisons of so many bytes find nothing, none of them calls for quotes
 pub none_in_lanes : (d : List ℕ) (i n : ℕ) → i + n ≤ length d → n ≤ 64 → ((k : ℕ) → Fits w8 (get_or d k 0))
     → OnTrue (mask_l (map (top 7) (zip2 bit_or (zip2 bit_or (zip2 bit_or (zip2 hit (chunk i n d) (replicate n 44))
-    (zip2 hit (chunk i n d) (replicate n 34))) (zip2 hit (chunk i n d) (replicate n 10))) (zip2 hit (chunk i n d) (replicate n 13)))) % 2 ^ 64 == 0)
+    (zip2 hit (chunk i n d) (replicate n 34))) (zip2 hit (chunk i n d) (replicate n 10)))
+    (zip2 hit (chunk i n d) (replicate n 13)))) % 2 ^ 64 == 0)
     (NeedNone d i (i + n))
 none_in_lanes d i n room few fits =
     let v = chunk i n d in
     let long = length-chunk i n d room in
     let mask = mask_is v _ (omega (arith, long, few)) (chunk-fits w8 i n d fits)
-    (either_way _ _ v (either_way _ _ v (either_way _ _ v (zip2_splat hit v n 44 long) (zip2_splat hit v n 34 long)) (zip2_splat hit v n 10 long))
+    (either_way _ _ v (either_way _ _ v (either_way _ _ v (zip2_splat hit v n 44 long) (zip2_splat hit v n 34 long))
+    (zip2_splat hit v n 10 long))
     (zip2_splat hit v n 13 long)) in
     where_true _ _ (λ e. none_from_mask d i n room (sym mask ∙ eqb-true _ 0 e))
 

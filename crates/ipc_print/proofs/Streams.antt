@@ -182,7 +182,8 @@ stopped_part {limits} form old new w0 w1 fault (refused x t rows count σ bytes 
     (subst (λ (z : List ℕ). Consumes old new z) (sym (append-nil x)) bytes)
     (subst (λ (es : List Event). Run limits None x es σ) (sym (one_more t rows)) run) (inl refl)
     (subst (λ (z : List ℕ). Grows w0 [] w1 rest z) (all_rows form t rows count ∙ sym (append-nil _))
-    (grows_more w0 w1 [] [] (printed form t.schema t.batches ++ (head_of form rows.pairs ++ lines line (take count rows.rows))) rest (appends_grows w0 w1 _ text)))
+    (grows_more w0 w1 [] [] (printed form t.schema t.batches ++ (head_of form rows.pairs ++ lines line (take count rows.rows))) rest
+    (appends_grows w0 w1 _ text)))
 
 table_part : {limits : Limits} → (form : Form) (old new w0 w1 : Option (List ℕ)) → PrintsTable form limits old new w0 w1
     → PrintsSome form limits old new w0 w1

@@ -104,8 +104,8 @@ abbrev pub text_status : TextFault → ℕ
 text_status x.OutOfMemory = write_fault_status w.OutOfMemory
 text_status _ = 1
 
--- the exit status of a program that stopped so: memory ran out, a device failed, or what was read is
--- refused
+-- the exit status of a program that stopped so: memory ran out, a device failed, or what was read
+-- is refused
 abbrev pub stop_status : Stop → ℕ
 stop_status (stop.Read fault message) = fault_status fault
 stop_status (stop.Write fault) = write_fault_status fault

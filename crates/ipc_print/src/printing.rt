@@ -227,8 +227,8 @@ pub fn print<R: Source, W: Sink>(
 ) -> (Result<(), Stop>, R)
     // At Ok the sink holds nothing back.
     ensures handed_on { OnOk result.0 (W.held_back sink.new ≡ Some []) }
-    // At Ok the bytes that were taken denote a table with its end, and exactly its text was printed;
-    // at a fault its cause is true, and exactly what came before was printed.
+    // At Ok the bytes that were taken denote a table with its end, and exactly its text was
+    // printed; at a fault its cause is true, and exactly what came before was printed.
     ensures prints { Prints form limits (R.remaining source) (R.remaining result.1)
         (W.written sink.old) (W.written sink.new) result.0 }
     // Whatever the answer, a beginning of the text of what was read was printed.

@@ -20,8 +20,8 @@ pub enum Stop {
 }
 
 impl Stop {
-    /// The exit status of a program that stopped so: 1 where the stream or a row is refused, 3 where
-    /// the source or the sink failed, 4 where memory ran out.
+    /// The exit status of a program that stopped so: 1 where the stream or a row is refused, 3
+    /// where the source or the sink failed, 4 where memory ran out.
     pub fn exit_status(&self) -> u8
         ensures { result ≡ stop_status self.now }
     {

@@ -1,5 +1,6 @@
 -- The text that is printed of a schema reads as its JSON data.
-use Rattle.std.proofs.Common.{◌≡◌, ◌∙◌, refl, sym, ap, subst, ℕ, ◌+◌, ◌^◌, ◌<◌, ◌≤◌, List, [], ◌∷◌, ◌++◌, map, length, arith, Bool, true, false}
+use Rattle.std.proofs.Common.{◌≡◌, ◌∙◌, refl, sym, ap, subst, ℕ, ◌+◌, ◌^◌, ◌<◌, ◌≤◌, List, [], ◌∷◌, ◌++◌, map, length, arith, Bool, true}
+use Rattle.std.proofs.Common.{false}
 use Rattle.std.proofs.Common.{Option, Some, None, length-append}
 use Rattle.std.proofs.lemmas.List.{length-map}
 use Rattle.std.proofs.Math.Nat.{max-le}
@@ -22,10 +23,15 @@ use Rattle.ipc_model.specs.declared.schema.Field.TheOpen.{Field-F}
 use Rattle.ipc_model.specs.declared.schema.IntBits.{IntBits}
 use Rattle.ipc_model.specs.declared.schema.IntBits.TheVariants as b
 use Rattle.ipc_model.specs.declared.schema.Schema.{Schema}
-use Rattle.ipc_text.specs.SchemaJson.{int_name, unit_name, date_unit_name, named, text_or_null, type_json, dictionary_json, pair_json, pairs_json, own_json, items_of}
+use Rattle.ipc_model.specs.declared.schema.Schema.{}
+use Rattle.ipc_text.specs.SchemaJson.{int_name, unit_name, date_unit_name, named, text_or_null, type_json, dictionary_json, pair_json}
+use Rattle.ipc_text.specs.SchemaJson.{pairs_json, own_json, items_of}
 use Rattle.ipc_text.specs.SchemaJson.{field_step, field_json, joined, schema_json, schema_text}
+use Rattle.ipc_text.specs.SchemaJson.{}
 use Rattle.ipc_text.specs.SchemaTexts.{HasWideId}
-use Rattle.ipc_text.proofs.ReadBack.{IsBack, string_back, boolean_back, null_back, unsigned_back, signed_back, none_back, item_back, items_back}
+use Rattle.ipc_text.specs.SchemaTexts.{}
+use Rattle.ipc_text.proofs.ReadBack.{IsBack, string_back, boolean_back, null_back, unsigned_back, signed_back, none_back}
+use Rattle.ipc_text.proofs.ReadBack.{item_back, items_back}
 use Rattle.ipc_text.proofs.ReadBack.{array_back, text_back}
 use Rattle.ipc_text.proofs.Trees.{preorder_unrolled}
 
@@ -175,7 +181,8 @@ fields_back (f ∷ fs) d h few =
     let rest = all_at d (map preorder fs) in
     let parts = all_split IsNarrow (preorder f d) rest h in
     let sum = length-append (preorder f d) rest in
-    all_both (IsBack 3) (field_json f) _ (field_back f d parts.0 (omega (arith, few, sum))) (fields_back fs d parts.1 (omega (arith, few, sum)))
+    all_both (IsBack 3) (field_json f) _ (field_back f d parts.0 (omega (arith, few, sum)))
+    (fields_back fs d parts.1 (omega (arith, few, sum)))
 
 -- ---- the schema
 
@@ -194,7 +201,8 @@ schema_back : (limits : Limits) (s : Schema) → IsStandard limits → WellForme
 schema_back limits s standard formed wide =
     let few = formed.few_fields in
     let most = standard.fields in
-    let fields = array_back _ (items_back _ (fields_back s.fields 1 (narrow limits (entries s.fields) formed.each wide) (omega (arith, few, most)))) in
+    let each = narrow limits (entries s.fields) formed.each wide in
+    let fields = array_back _ (items_back _ (fields_back s.fields 1 each (omega (arith, few, most)))) in
     let metadata = pairs_back s.metadata in
     record {
       reads = two_members _ _ fields.reads metadata.reads;

@@ -12,7 +12,8 @@ loop-byte-preserved c =
       end = omega (arith, two, before, end);
       room = search rules;
       text = rw (c.put_word-end.ensures.text, c.digits_of.ensures)
-          (simp append_assoc (rw (digits_from c.args.bytes.now c.loop-byte.byte-index b c.loop-byte-test.true refl) at c.loop-byte.invariant.text));
+          (simp append_assoc (rw (digits_from c.args.bytes.now c.loop-byte.byte-index b c.loop-byte-test.true refl)
+          at c.loop-byte.invariant.text));
     }
 
 pub returns-clause-text : goal.returns-clause-text

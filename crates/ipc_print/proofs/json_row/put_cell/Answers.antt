@@ -13,7 +13,8 @@ returns-in-Bool-clause-text c = rw (c.in-Bool.is, json_of c.args.field.now (cell
 pub returns-in-Int-clause-text : goal.returns-in-Int-clause-text
 returns-in-Int-clause-text c =
     let fits : FitsSigned w64 c.in-Int.number = search rules in
-    rw (c.in-Int.is, json_of c.args.field.now (cell.Int c.in-Int.number)) (rw (to_z-of_z w64 c.in-Int.number fits) at c.put_int.ensures.text)
+    rw (c.in-Int.is, json_of c.args.field.now (cell.Int c.in-Int.number))
+    (rw (to_z-of_z w64 c.in-Int.number fits) at c.put_int.ensures.text)
 
 pub returns-in-UInt-clause-text : goal.returns-in-UInt-clause-text
 returns-in-UInt-clause-text c = rw (c.in-UInt.is, json_of c.args.field.now (cell.UInt c.in-UInt.number)) c.put_unsigned.ensures.text
@@ -22,4 +23,5 @@ pub returns-in-Bytes-clause-text : goal.returns-in-Bytes-clause-text
 returns-in-Bytes-clause-text c = rw (c.in-Bytes.is, json_of c.args.field.now (cell.Bytes c.in-Bytes.bytes)) c.put_bytes.ensures.text
 
 pub returns-in-Text-clause-text : goal.returns-in-Text-clause-text
-returns-in-Text-clause-text c = rw (c.in-Text.is, json_of c.args.field.now (cell.Text c.in-Text.chars), ← c.as_bytes.ensures.value) c.put_string.ensures.text
+returns-in-Text-clause-text c =
+    rw (c.in-Text.is, json_of c.args.field.now (cell.Text c.in-Text.chars), ← c.as_bytes.ensures.value) c.put_string.ensures.text

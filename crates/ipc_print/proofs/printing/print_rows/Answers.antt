@@ -22,8 +22,8 @@ returns-in_err-refused-in-Ok-Some-clause-prints g c =
     let next = rw c.in-Ok-Some.field-0-is at c.in-Ok-Some.ensures.next in
     let is : c.fields-fields.result.now ≡ c.args.stream.now.schema.fields =
     c.fields-fields.ensures ∙ ap (λ (s : Schema). s.fields) (next.same_schema ∙ c.loop-batch.invariant.same) in
-    rw (p.1, p.2) (batches_cut c.args.form _ _ _ _ _ _ c.loop-batch.invariant c.fields-fields.result.now (c.in-Ok-Some.batch, c.in-Ok-Some.pairs)
-    _ _
+    rw (p.1, p.2) (batches_cut c.args.form _ _ _ _ _ _ c.loop-batch.invariant c.fields-fields.result.now
+    (c.in-Ok-Some.batch, c.in-Ok-Some.pairs) _ _
     c.print_batch.new.lines _ is next c.in-Ok-Some.ensures.failures (rw c.deref.ensures at c.in_err-refused-in-Ok-Some.ensures))
 
 pub returns-in-Some-clause-prints : goal.returns-in-Some-clause-prints
