@@ -1,8 +1,7 @@
 -- Cells of a row, text by text.
-use Rattle.std.proofs.Common.{◌≡◌, ◌∙◌, refl, sym, ap, ℕ, ◌+◌, ◌<◌, Bool, true, List, [], ◌∷◌, ◌++◌, map, length, drop, drop-cons, get_or}
-use Rattle.std.proofs.Common.{add-one}
-use Rattle.std.proofs.Common.{Result, append_assoc, arith, Some}
-use Rattle.std.specs.Prelude.{slice_get, IfOk, take}
+use Rattle.std.proofs.Common.{◌≡◌, refl, sym, ℕ, ◌+◌, ◌<◌, Bool, true, List, ◌++◌, map, length, drop, drop-cons, get_or, add-one}
+use Rattle.std.proofs.Common.{append_assoc, Some}
+use Rattle.std.specs.Prelude.{slice_get}
 use Rattle.std.proofs.lemmas.Option.{get_or_from_slice_get}
 use Rattle.serde_json.specs.Written.{compact_text, items_text, comma_if}
 use Rattle.ipc_model.specs.declared.schema.Field.{Field}

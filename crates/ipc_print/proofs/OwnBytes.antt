@@ -1,6 +1,5 @@
 -- Texts whose bytes stand for themselves.
-use Rattle.std.proofs.Common.{◌≡◌, ◌<◌, ◌≤◌, ◌/◌, ◌%◌, refl, ℕ, zero, suc, slice_index, Bool, true, false, List, [], ◌∷◌, arith}
-use Rattle.std.specs.Prelude.{◌||◌}
+use Rattle.std.proofs.Common.{◌≡◌, ◌<◌, ◌≤◌, ◌/◌, ◌%◌, refl, ℕ, suc, slice_index, false, List, [], ◌∷◌, arith}
 use Rattle.std.proofs.lemmas.Bool.{agree_below_at, or_parts}
 use Rattle.hex.specs.Hex.{IsBytes, encode_with, encode_lower, lower_digits}
 use Rattle.json.specs.Print.{escape, escape_byte}

@@ -1,6 +1,5 @@
 -- What ends a record.
-use Rattle.std.proofs.Common.{◌≡◌, ◌<◌, ◌==◌, ℕ, zero, suc, false, List, [], ◌∷◌, length, refl, sym, ap, arith, Option, None, Result, Ok}
-use Rattle.std.proofs.Common.{Err}
+use Rattle.std.proofs.Common.{◌≡◌, ◌<◌, ◌==◌, ℕ, suc, false, List, [], ◌∷◌, length, refl, sym, ap, arith, None, Result, Ok, Err}
 use Rattle.std.proofs.lemmas.Bool.Decides.{nat_tests}
 use Rattle.csv.specs.Writing.{row_body, default_writer}
 use Rattle.ipc_model.specs.declared.schema.Field.{Field}

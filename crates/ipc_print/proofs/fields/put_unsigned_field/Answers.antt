@@ -1,4 +1,3 @@
-use Rattle.std.proofs.Common.{arith}
 use Rattle.ipc_print.proofs.NumberFields.{unsigned_as_it_stands}
 use Rattle.ipc_print.proofs.fields.put_unsigned_field.Goals as goal
 

@@ -1,4 +1,4 @@
-use Rattle.std.proofs.Common.{◌≡◌, ◌∙◌, ap, ℕ, length, get_or, append_assoc, arith, refl, rules}
+use Rattle.std.proofs.Common.{◌≡◌, ◌∙◌, ap, length, get_or, append_assoc, arith, refl, rules}
 use Rattle.ipc_print.proofs.HexDigits.{digits_from, two_digits, all_digits}
 use Rattle.ipc_print.proofs.hexadecimal.put_digits.Goals as goal
 

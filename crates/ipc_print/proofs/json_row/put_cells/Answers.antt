@@ -1,4 +1,4 @@
-use Rattle.std.proofs.Common.{[], map, take}
+use Rattle.std.proofs.Common.{[]}
 use Rattle.std.specs.Prelude.{slice_index_or}
 use Rattle.ipc_column.specs.Values.{cell_value}
 use Rattle.ipc_print.proofs.CellTexts.{cell_written}
