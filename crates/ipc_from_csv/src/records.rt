@@ -1,6 +1,6 @@
 //! The records of an input, one after the other.
-ghost use Rattle.std.specs.Prelude.{◌≡◌, ◌⊎◌, ℕ, List, [], Option, IfErr, IfOk, OnOk, true};
-ghost use Rattle.csv.specs.Reading.{error_kind, is_io};
+ghost use Rattle.std.specs.Prelude.{◌≡◌, ◌⊎◌, ℕ, List, [], Option, IfErr, IfOk, OnErr, OnOk, true};
+ghost use Rattle.csv.specs.Reading.{error_kind, has_failed, is_io};
 ghost use Rattle.csv.specs.Records.{fields_of};
 ghost use Rattle.csv.specs.declared.error.ErrorKind.TheVariants as kind;
 ghost use Rattle.ipc_text.specs.declared.fault.TextFault.TheVariants.{OutOfMemory};
@@ -47,6 +47,7 @@ pub fn next_record<R: Read>(reader: &mut Reader<R>, fields: &mut ByteRecord) -> 
         → Stands R.remaining input records reader.old
         → Finds R.remaining input records reader.new found (fields_of fields.new)) }
     ensures stopped { IfErr result (λ why. (why ≡ stop.Input) ⊎ (why ≡ stop.Text OutOfMemory)) }
+    ensures failed { OnErr result (has_failed reader.new ≡ true) }
 {
     match reader.read_byte_record(fields) {
         Ok(found) => Ok(found),
