@@ -64,8 +64,7 @@ fn own_cell<'a>(
     requires slot { slot < slots }
     requires values { holds_values layout slots (length values.now) ≡ true }
     requires offsets { holds_offsets layout slots (length (span_bytes body.now offsets)) ≡ true }
-    requires order {
-        in_order layout slots (span_bytes body.now offsets) (length values.now) ≡ true }
+    requires rise { in_order layout slots (span_bytes body.now offsets) (length values.now) ≡ true }
     requires text { is_text layout (span_bytes body.now offsets) values.now slot ≡ true }
     ensures { cell_value result ≡ own_value layout (span_bytes body.now offsets) values.now slot }
 {

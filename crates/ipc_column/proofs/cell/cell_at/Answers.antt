@@ -12,5 +12,5 @@ own_cell-requires-clause-values c = rw c.bytes_at.ensures (part_long c.args.body
 pub own_cell-requires-clause-offsets : goal.own_cell-requires-clause-offsets
 own_cell-requires-clause-offsets c = (part_long c.args.body.now c.args.part.now c.requires.sound).offsets
 
-pub own_cell-requires-clause-order : goal.own_cell-requires-clause-order
-own_cell-requires-clause-order c = rw c.bytes_at.ensures (part_long c.args.body.now c.args.part.now c.requires.sound).order
+pub own_cell-requires-clause-rise : goal.own_cell-requires-clause-rise
+own_cell-requires-clause-rise c = rw c.bytes_at.ensures (part_long c.args.body.now c.args.part.now c.requires.sound).order
