@@ -40,9 +40,10 @@ class Page:
             self.behind.append(lines)
 
     def long_options(self):
-        """Each long option, whether it takes a value, and its help."""
+        """Each long option, the name of its value where it takes one, and its help."""
         for words, text in self.options:
-            yield re.search(r"--[a-z-]+", words).group(), "<" in words, text
+            value = re.search(r"<([A-Z]+)>", words)
+            yield re.search(r"--[a-z-]+", words).group(), value and value.group(1), text
 
 
 def escaped(text):
@@ -122,7 +123,7 @@ def fish(top, pages):
     for page in pages:
         where = quoted(f"__fish_seen_subcommand_from {page.name}")
         for option, value, text in page.long_options():
-            needs = " -r" if value else ""
+            needs = {None: "", "PATH": " -r -F"}.get(value, " -r")
             lines.append(
                 f"complete -c arrowstream -n {where} -l {option[2:]}{needs} -d {quoted(text)}"
             )
@@ -136,7 +137,8 @@ def zsh(top, pages):
         shown = []
         for option, value, text in page.long_options():
             text = text.replace("[", "(").replace("]", ")")
-            shown.append("    " + quoted(f"{option}[{text}]" + (":number:" if value else "")))
+            behind = {None: "", "PATH": ":file:_files"}.get(value, ":number:")
+            shown.append("    " + quoted(f"{option}[{text}]{behind}"))
         lines += [f"  {page.name}) _arguments \\", " \\\n".join(shown) + " ;;"]
     lines += ["  *) local -a commands", "    commands=("]
     lines += ["      " + quoted(f"{name}:{text}") for name, text in top.commands.items()]
