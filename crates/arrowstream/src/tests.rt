@@ -1,3 +1,5 @@
+ghost use Rattle.arrowstream.specs.Words.{HasGoodSize};
+
 use crate::run::run;
 use crate::words::{Job, Usage, read_words};
 use ipc_print::{put_i64, put_u64};
@@ -12,7 +14,9 @@ mod vectors;
 use vectors::{NO_FIELDS, NULLS_64, NUMBERS_32, NUMBERS_64, THREE_EMPTY_ROWS};
 
 // The job `show` under the usual limits.
-fn showing() -> Job {
+fn showing() -> Job
+    ensures { HasGoodSize result }
+{
     Job::Show {
         limits: Limits::standard(),
         pairs: false,
@@ -30,21 +34,12 @@ fn done_on<R: Read + Drop, W: Write>(
     job: Job,
     input: R,
     writer: W,
-) -> (u8, W, Vec<u8>) {
-    done_with(alloc, job, &[], input, writer)
-}
-
-// What a job answers and prints, where the schema's file holds these bytes.
-fn done_with<R: Read + Drop, W: Write>(
-    alloc: Global,
-    job: Job,
-    schema: &[u8],
-    input: R,
-    writer: W,
-) -> (u8, W, Vec<u8>) {
+) -> (u8, W, Vec<u8>)
+    requires { HasGoodSize job }
+{
     let mut messages = Vec::new(alloc);
     let sink = Device::new(writer);
-    let (status, _input, sink) = run(alloc, job, Some(schema), input, sink, &mut messages);
+    let (status, _input, sink) = run(alloc, job, None::<&[u8]>, input, sink, &mut messages);
     (status, sink.into_inner(), messages)
 }
 
