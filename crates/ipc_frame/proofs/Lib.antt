@@ -1,6 +1,10 @@
-pub mod Wholes
 pub mod OneFrame
 pub mod Decided
 pub mod Exact
+pub mod Undecided
+pub mod Parted
+pub mod Stepped
+pub mod Fed
+pub mod Pulls
 pub mod Written
 pub mod Wider

@@ -1,5 +1,5 @@
 -- What is a message under some limits is one under all that cover them.
-use Rattle.std.proofs.Common.{◌≤◌, ℕ, List, length, arith}
+use Rattle.std.proofs.Common.{ℕ, List, length, arith}
 use Rattle.ipc_model.specs.Limits.{Covers}
 use Rattle.ipc_model.specs.declared.limits.Limits.{Limits}
 use Rattle.ipc_meta.specs.declared.head.Head.{Head}

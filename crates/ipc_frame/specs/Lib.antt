@@ -1,6 +1,11 @@
 pub mod Frames
 pub mod Sees
-pub mod Starts
+pub mod Parts
+pub mod Steps
+pub mod Pieces
+pub mod Failures
+pub mod Pulled
 pub mod Laws
 pub mod Decisions
+pub mod Texts
 pub mod Written

@@ -2,11 +2,17 @@
 //! Columnar Format, "Encapsulated message format").
 #![tactic(auto)]
 
+mod decision;
 mod frame;
+mod frames;
 pub mod laws;
-mod next;
+mod parts;
+mod pull;
+mod source;
+mod step;
 mod write;
 
-pub use frame::{Frame, Seen};
-pub use next::{END, next_frame};
+pub use frame::{END, Frame};
+pub use frames::Frames;
+pub use source::{Failed, Source};
 pub use write::frame_into;

@@ -1,0 +1,64 @@
+-- The calls of messages whose bytes are pushed.
+use Rattle.std.proofs.Common.{◌≡◌, refl, ap, subst, ℕ, ◌+◌, ◌≤◌, List, ◌++◌, length, length-append, arith, None, Some, Ok}
+use Rattle.ipc_model.specs.declared.limits.Limits.{Limits}
+use Rattle.ipc_frame.specs.Frames.{Pending}
+use Rattle.ipc_frame.specs.Parts.{bytes_of, wanted_of}
+use Rattle.ipc_frame.specs.Steps.{FeedsOn, IsWhole}
+use Rattle.ipc_frame.specs.Pieces.{Feeds, IsSound, behind, held_of, phase_after, progress_of, taking}
+use Rattle.ipc_frame.specs.declared.frame.Frame.{Frame as Framed}
+use Rattle.ipc_frame.specs.declared.frame.Frame.TheVariants as f
+use Rattle.ipc_frame.specs.declared.frames.Phase.{Phase}
+use Rattle.ipc_frame.specs.declared.frames.Phase.TheVariants as phase
+use Rattle.ipc_frame.specs.declared.parts.Awaited.{Awaited}
+use Rattle.ipc_frame.specs.declared.parts.Awaited.TheVariants as awaited
+use Rattle.ipc_frame.specs.declared.parts.Parts.{Parts}
+use Rattle.ipc_frame.specs.declared.step.Step.TheVariants.{More, Whole}
+
+-- the whole piece is kept
+pub feeds_none : (limits : Limits) (z piece : List ℕ) (p : Parts) (n : ℕ) (a : Awaited) → FeedsOn limits z piece p (Ok (n, More a))
+    → Feeds limits (taking z) piece (taking (bytes_of p)) (Ok (n, None))
+feeds_none limits z piece p n a h =
+    (h.0, ap taking h.1, (wanted_of p a, subst (λ x. Pending limits x (wanted_of p a)) h.1 h.2.pending))
+
+-- ---- what comes behind a frame
+
+-- behind a frame nothing is kept
+pub sound_behind : (limits : Limits) (z : List ℕ) (p : Parts) (frame : Framed) → IsWhole limits z p frame
+    → IsSound limits p (phase_after frame)
+sound_behind limits z p (f.Message meta head body) h = h.fresh
+sound_behind limits z p f.End h = h.empty
+
+-- and the next message is at its beginning, unless it was the end mark
+pub progress_behind : (limits : Limits) (z : List ℕ) (p : Parts) (frame : Framed) → IsWhole limits z p frame
+    → progress_of p (phase_after frame) ≡ behind frame
+progress_behind limits z p (f.Message meta head body) h = ap taking h.empty
+progress_behind limits z p f.End h = refl
+
+-- a beginning of the piece is this frame
+pub feeds_whole : (limits : Limits) (z piece : List ℕ) (p : Parts) (n : ℕ) (frame : Framed)
+    → FeedsOn limits z piece p (Ok (n, Whole frame))
+    → Feeds limits (taking z) piece (progress_of p (phase_after frame)) (Ok (n, Some frame))
+feeds_whole limits z piece p n frame h = (h.0, progress_behind limits _ p frame h.1, h.1.is, h.1.read)
+
+-- ---- what is kept
+
+lengths : (p : Parts) → length (bytes_of p) ≡ length p.start.items + length p.meta.items + length p.body.items
+lengths p = omega (arith, length-append p.start.items (p.meta.items ++ p.body.items), length-append p.meta.items p.body.items)
+
+-- the parts in front of a body have few bytes
+pub front_fits : (limits : Limits) (p : Parts) (s : Phase) → IsSound limits p s
+    → length p.start.items + length p.meta.items ≤ 268435464
+front_fits limits p (phase.Reading awaited.Mark) h = omega (arith, h.fits.few, ap length h.fits.no_metadata)
+front_fits limits p (phase.Reading awaited.Size) h = omega (arith, h.fits.few, ap length h.fits.no_metadata)
+front_fits limits p (phase.Reading (awaited.Metadata n)) h =
+    omega (arith, h.fits.eight, h.fits.few, h.fits.begins.fits, limits.metadata_fits)
+front_fits limits p (phase.Reading (awaited.Body n)) h = omega (arith, h.fits.eight, h.fits.begins.fits, limits.metadata_fits)
+front_fits limits p phase.Ended h = omega (arith, ap length h, lengths p)
+front_fits limits p phase.Refused h = omega (arith, ap length h, lengths p)
+
+-- the bytes that are kept are counted
+pub held_is : (limits : Limits) (p : Parts) (s : Phase) → IsSound limits p s
+    → length p.start.items + length p.meta.items + length p.body.items ≡ held_of (progress_of p s)
+held_is limits p (phase.Reading a) h = omega (arith, lengths p)
+held_is limits p phase.Ended h = omega (arith, ap length h, lengths p)
+held_is limits p phase.Refused h = omega (arith, ap length h, lengths p)

@@ -1,0 +1,153 @@
+-- From the parts of a message to what its bytes say.
+use Rattle.std.proofs.Common.{◌≡◌, ◌∙◌, refl, sym, ap, subst, ℕ, ◌+◌, ◌-◌, ◌<◌, ◌≤◌, ◌⊎◌, inr, List, [], ◌++◌, length, take, drop}
+use Rattle.std.proofs.Common.{length-append, arith}
+use Rattle.std.specs.Prelude.{slice_range, pos}
+use Rattle.std.proofs.lemmas.List.{append-nil, take_all, take_at, drop_at}
+use Rattle.ipc_scalar.specs.Bytes.{int32}
+use Rattle.ipc_model.specs.declared.fault.Fault.{Fault}
+use Rattle.ipc_model.specs.declared.limits.Limits.{Limits}
+use Rattle.ipc_meta.specs.declared.head.Head.{Head}
+use Rattle.ipc_meta.specs.Causes.{Cause}
+use Rattle.ipc_meta.specs.Heads.{HeadOf}
+use Rattle.ipc_meta.specs.Supported.{IsSupported, IsUnsupported}
+use Rattle.ipc_frame.specs.Frames.{eos, Frame, Begins, Pending, in_metadata, in_body}
+use Rattle.ipc_frame.specs.Sees.{RefusesMessage}
+use Rattle.ipc_frame.specs.Parts.{bytes_of, wanted_of, InSize, InMetadata, InBody, Undecided}
+use Rattle.ipc_frame.specs.declared.parts.Parts.{Parts}
+use Rattle.ipc_frame.specs.declared.parts.Awaited.TheVariants as awaited
+use Rattle.ipc_frame.proofs.Decided.{eos_of}
+use Rattle.ipc_frame.proofs.Exact.{begins_longer, pending_none}
+
+-- ---- three lists, of which the first has eight bytes
+
+module _ (limits : Limits) (s m b : List ℕ) (eight : length s ≡ 8) where
+  behind_start : drop 8 (s ++ (m ++ b)) ≡ m ++ b
+  behind_start = drop_at s (m ++ b) 8 eight
+
+  long : length (s ++ (m ++ b)) ≡ 8 + length m + length b
+  long = omega (arith, eight, length-append s (m ++ b), length-append m b)
+
+  metadata_part : (n : ℕ) → n ≡ length m → slice_range (s ++ (m ++ b)) 8 (8 + n) ≡ m
+  metadata_part n is =
+      let size : 8 + n - 8 ≡ n = omega arith in
+      ap (λ k. take k (drop 8 (s ++ (m ++ b)))) size ∙ (ap (take n) behind_start ∙ take_at m b n (sym is))
+
+  whole_frame : (head : Head) → Begins limits s (length m) → HeadOf limits m head (length b) → Frame limits (s ++ (m ++ b)) m head b
+  whole_frame head begins states =
+      let all = begins_longer s (m ++ b) (length m) begins in
+      record { begun = all.begun; marked = all.marked; sized = all.sized; carried = behind_start; fits = all.fits; states = states }
+
+  no_head : (n : ℕ) (fault : Fault) → n ≡ length m → 0 < n → Begins limits s n
+      → ((head : Head) (k : ℕ) → HeadOf limits m head k → IsSupported head → ⊥)
+      → Cause limits m fault ⊎ IsUnsupported limits m fault → RefusesMessage limits (s ++ (m ++ b)) fault
+  no_head n fault is some begins none cause =
+      let part = metadata_part n is in
+      inr (record {
+        size = n;
+        begins = begins_longer s (m ++ b) n begins;
+        some = some;
+        whole = omega (arith, long, is);
+        none = λ head k states read. none head k (subst (λ x. HeadOf limits x head k) part states) read;
+        cause = subst (λ x. Cause limits x fault ⊎ IsUnsupported limits x fault) (sym part) cause;
+      })
+
+  awaits_metadata : (n k : ℕ) → Begins limits s n → b ≡ [] → 0 < k → length m + k ≡ n → Pending limits (s ++ (m ++ b)) k
+  awaits_metadata n k begins none some is =
+      in_metadata {n = n} some (omega (arith, long, ap length none)) (begins_longer s (m ++ b) n begins)
+
+  awaits_body : (n k : ℕ) (head : Head) → Begins limits s (length m) → HeadOf limits m head n → IsSupported head → 0 < k
+      → length b + k ≡ n → Pending limits (s ++ (m ++ b)) k
+  awaits_body n k head begins states read some is =
+      in_body {n = length m} {m = n} {head = head} some (omega (arith, long)) (begins_longer s (m ++ b) (length m) begins)
+      (omega (arith, long)) (subst (λ x. HeadOf limits x head n) (sym (metadata_part (length m) refl)) states) read
+
+-- ---- the first eight bytes
+
+alone : (p : Parts) → p.meta.items ≡ [] → p.body.items ≡ [] → bytes_of p ≡ p.start.items
+alone p a b = ap (λ z. p.start.items ++ (z ++ p.body.items)) a ∙ (ap (λ z. p.start.items ++ z) b ∙ append-nil p.start.items)
+
+module _ (limits : Limits) (p : Parts) (h : InSize p.start.items p.meta.items p.body.items) where
+  module _ (whole : 8 ≤ length p.start.items) where
+    begins : (n : ℕ) → int32 p.start.items 4 ≡ pos n → n ≤ limits.metadata → Begins limits p.start.items n
+    begins n is fits = record { begun = whole; marked = h.marked; sized = is; fits = fits }
+
+    -- a size of 0 is the end mark's
+    pub ends : int32 p.start.items 4 ≡ pos 0 → bytes_of p ≡ eos
+    ends none =
+        alone p h.no_metadata h.no_body ∙ (sym (take_all 8 p.start.items h.few)
+        ∙ eos_of {limits = limits} p.start.items (begins 0 none (omega arith)))
+
+    pub sized : (n : ℕ) → int32 p.start.items 4 ≡ pos n → n ≤ limits.metadata → 0 < n → Undecided limits p (awaited.Metadata n)
+    sized n is fits some =
+        let none : length p.meta.items ≡ 0 = ap length h.no_metadata in
+        let eight : length p.start.items ≡ 8 = omega (arith, whole, h.few) in
+        let size = begins n is fits in
+        record {
+          fits = record { eight = eight; begins = size; some = some; few = omega (arith, none); no_body = h.no_body };
+          pending = awaits_metadata limits _ _ _ eight n _ size h.no_body (omega (arith, none)) (omega (arith, none));
+        }
+
+-- ---- the metadata
+
+module _ (limits : Limits) (p : Parts) (n : ℕ) (h : InMetadata limits p.start.items p.meta.items p.body.items n) where
+  pub metadata_short : length p.meta.items < n → Undecided limits p (awaited.Metadata n)
+  metadata_short short = record {
+    fits = h;
+    pending = awaits_metadata limits _ _ _ h.eight n _ h.begins h.no_body (omega arith) (omega arith);
+  }
+
+  module _ (whole : n ≤ length p.meta.items) where
+    all : n ≡ length p.meta.items
+    all = omega (arith, h.few)
+
+    here : Begins limits p.start.items (length p.meta.items)
+    here = subst (λ j. Begins limits p.start.items j) all h.begins
+
+    none : length p.body.items ≡ 0
+    none = ap length h.no_body
+
+    pub stated : (k : ℕ) (head : Head) → HeadOf limits p.meta.items head k → IsSupported head → 0 < k
+        → Undecided limits p (awaited.Body k)
+    stated k head states read some = record {
+      fits = record { eight = h.eight; begins = here; head = head; states = states; read = read; few = omega (arith, none) };
+      pending = awaits_body limits _ _ _ h.eight k _ head here states read (omega (arith, none)) (omega (arith, none));
+    }
+
+    pub empty_body : (head : Head) → HeadOf limits p.meta.items head 0 → Frame limits (bytes_of p) p.meta.items head p.body.items
+    empty_body head states =
+        whole_frame limits _ _ _ h.eight head here (subst (λ j. HeadOf limits p.meta.items head j) (sym none) states)
+
+    pub refused_metadata : (fault : Fault) → ((head : Head) (k : ℕ) → HeadOf limits p.meta.items head k → IsSupported head → ⊥)
+        → Cause limits p.meta.items fault ⊎ IsUnsupported limits p.meta.items fault → RefusesMessage limits (bytes_of p) fault
+    refused_metadata fault states cause = no_head limits _ _ _ h.eight n fault all h.some h.begins states cause
+
+-- ---- the body
+
+module _ (limits : Limits) (p : Parts) (n : ℕ) (h : InBody limits p.start.items p.meta.items p.body.items n) where
+  pub body_short : length p.body.items < n → Undecided limits p (awaited.Body n)
+  body_short short = record {
+    fits = h;
+    pending = awaits_body limits _ _ _ h.eight n _ h.head h.begins h.states h.read (omega arith) (omega arith);
+  }
+
+  pub whole_body : (k : ℕ) (head : Head) → n ≤ length p.body.items → HeadOf limits p.meta.items head k → k ≡ n
+      → Frame limits (bytes_of p) p.meta.items head p.body.items
+  whole_body k head whole states same =
+      let all : k ≡ length p.body.items = omega (arith, h.few) in
+      whole_frame limits _ _ _ h.eight head h.begins (subst (λ j. HeadOf limits p.meta.items head j) all states)
+
+-- ---- no byte
+
+-- of a message of which nothing came four bytes are wanted
+pub nothing_came : (limits : Limits) (p : Parts) → p.start.items ≡ [] → p.meta.items ≡ [] → p.body.items ≡ []
+    → (bytes_of p ≡ []) × Undecided limits p awaited.Mark
+nothing_came limits p a b d =
+    let empty : bytes_of p ≡ [] = rw (a, b, d) refl in
+    let four : wanted_of p awaited.Mark ≡ 4 = rw a refl in (
+      empty,
+      record {
+        fits = record { few = omega (arith, ap length a); no_metadata = b; no_body = d };
+        pending = subst (λ z. Pending limits z (wanted_of p awaited.Mark)) (sym empty)
+            (subst (λ n. Pending limits [] n) (sym four) pending_none);
+      },
+    )

@@ -1,0 +1,11 @@
+use Rattle.std.proofs.Common.{ap, arith, length, ◌∙◌}
+use Rattle.ipc_frame.proofs.Pulls.{comes_behind, behind_at}
+use Rattle.ipc_frame.proofs.pull.read_onto.Goals as goal
+
+pub returns-clause-comes : goal.returns-clause-comes
+returns-clause-comes g c =
+    rw c.truncate.ensures.items
+    (comes_behind _ _ c.args.list.now.items c.resize.new.self.items c.read_behind.new.list _ _ c.min.result _ c.args.wanted
+    c.in_ok-count.count c.args.list.now.ok.0 c.len-start.ensures c.in_ok-resize.ensures.items c.resize.new.self.ok.0
+    (c.in_ok-count.ensures.same ∙ ap length c.deref_mut.ensures.value) (omega (arith, c.min.ensures))
+    (behind_at _ _ _ _ _ _ _ c.deref_mut.ensures.value c.in_ok-count.ensures.behind))

@@ -1,0 +1,80 @@
+-- The bytes that came of one message, in its three parts (Arrow Columnar Format, "Encapsulated
+-- message format").
+use Rattle.std.specs.Prelude.{◌≡◌, ℕ, ◌-◌, ◌<◌, ◌≤◌, List, [], ◌++◌, length, take, Result, Ok, Err}
+use Rattle.ipc_meta.specs.declared.head.Head.{Head}
+use Rattle.ipc_meta.specs.Heads.{HeadOf}
+use Rattle.ipc_meta.specs.Supported.{IsSupported}
+use Rattle.ipc_model.specs.Answers.{UnlessOutOfMemory}
+use Rattle.ipc_model.specs.declared.fault.Fault.{Fault}
+use Rattle.ipc_model.specs.declared.limits.Limits.{Limits}
+use Rattle.ipc_frame.specs.Frames.{mark, eos, Frame, Begins, Pending}
+use Rattle.ipc_frame.specs.Sees.{RefusesMessage}
+use Rattle.ipc_frame.specs.declared.parts.Parts.{Parts}
+use Rattle.ipc_frame.specs.declared.parts.Awaited.{Awaited}
+use Rattle.ipc_frame.specs.declared.parts.Awaited.TheVariants as awaited
+use Rattle.ipc_frame.specs.declared.decision.Decision.{Decision}
+use Rattle.ipc_frame.specs.declared.decision.Decision.TheVariants as decision
+
+-- all bytes that came
+abbrev pub bytes_of : Parts → List ℕ
+bytes_of p = p.start.items ++ (p.meta.items ++ p.body.items)
+
+-- how many bytes are needed before the next decision
+abbrev pub wanted_of : Parts → Awaited → ℕ
+wanted_of p awaited.Mark = 4 - length p.start.items
+wanted_of p awaited.Size = 8 - length p.start.items
+wanted_of p (awaited.Metadata size) = size - length p.meta.items
+wanted_of p (awaited.Body size) = size - length p.body.items
+
+-- the mark comes: at most four bytes, and nothing behind them
+pub record InMark (start meta body : List ℕ) : Type 0 where
+  pub few : length start ≤ 4
+  pub no_metadata : meta ≡ []
+  pub no_body : body ≡ []
+
+-- the size comes: the mark is there, and at most eight bytes
+pub record InSize (start meta body : List ℕ) : Type 0 where
+  pub four : 4 ≤ length start
+  pub few : length start ≤ 8
+  pub marked : take 4 start ≡ mark
+  pub no_metadata : meta ≡ []
+  pub no_body : body ≡ []
+
+-- the metadata comes: the first eight bytes state its size
+pub record InMetadata (limits : Limits) (start meta body : List ℕ) (size : ℕ) : Type 0 where
+  pub eight : length start ≡ 8
+  pub begins : Begins limits start size
+  pub some : 0 < size
+  pub few : length meta ≤ size
+  pub no_body : body ≡ []
+
+-- the body comes: the metadata states its size
+pub record InBody (limits : Limits) (start meta body : List ℕ) (size : ℕ) : Type 0 where
+  pub eight : length start ≡ 8
+  pub begins : Begins limits start (length meta)
+  pub head : Head
+  pub states : HeadOf limits meta head size
+  pub read : IsSupported head
+  pub few : length body ≤ size
+
+-- the parts in front of what is awaited are whole, and no more than that came of it
+abbrev pub Fits : Limits → Parts → Awaited → Type 0
+Fits limits p awaited.Mark = InMark p.start.items p.meta.items p.body.items
+Fits limits p awaited.Size = InSize p.start.items p.meta.items p.body.items
+Fits limits p (awaited.Metadata size) =
+    InMetadata limits p.start.items p.meta.items p.body.items size
+Fits limits p (awaited.Body size) = InBody limits p.start.items p.meta.items p.body.items size
+
+-- nothing is decided: more of what is awaited has to come
+pub record Undecided (limits : Limits) (p : Parts) (a : Awaited) : Type 0 where
+  pub fits : Fits limits p a
+  pub pending : Pending limits (bytes_of p) (wanted_of p a)
+
+-- what the bytes that came say: nothing yet, the end mark, a message, or a refusal
+abbrev pub Decides : Limits → Parts → Result Decision Fault → Type 0
+Decides limits p (Ok (decision.More a)) = Undecided limits p a
+Decides limits p (Ok decision.End) = bytes_of p ≡ eos
+Decides limits p (Ok (decision.Message head)) =
+    Frame limits (bytes_of p) p.meta.items head p.body.items × IsSupported head
+Decides limits p (Err fault) =
+    UnlessOutOfMemory fault (RefusesMessage limits (bytes_of p) fault)

@@ -1,0 +1,92 @@
+-- Messages whose bytes are taken from a source (Arrow Columnar Format, "Encapsulated message
+-- format").
+use Rattle.std.specs.Prelude.{◌≡◌, ℕ, ◌+◌, ◌≤◌, List, [], ◌++◌, length, take, drop, Option, None}
+use Rattle.std.specs.Prelude.{Result, Ok, Err}
+use Rattle.std.specs.Io.KnownBytes.{Consumes, IsAtEnd}
+use Rattle.ipc_model.specs.declared.fault.Fault.{Fault}
+use Rattle.ipc_model.specs.declared.limits.Limits.{Limits}
+use Rattle.ipc_frame.specs.Frames.{Pending}
+use Rattle.ipc_frame.specs.Decisions.{RefusesNow}
+use Rattle.ipc_frame.specs.Failures.{FailsAs, UnlessOutside}
+use Rattle.ipc_frame.specs.Parts.{bytes_of, Undecided}
+use Rattle.ipc_frame.specs.Steps.{IsWhole}
+use Rattle.ipc_frame.specs.Pieces.{Progress, taking, ended, refused, Feeds}
+use Rattle.ipc_frame.specs.declared.frame.Frame.{Frame as Framed}
+use Rattle.ipc_frame.specs.declared.parts.Parts.{Parts}
+use Rattle.ipc_frame.specs.declared.step.Step.{Step}
+use Rattle.ipc_frame.specs.declared.step.Step.TheVariants.{More, Whole}
+
+-- k bytes came to a list behind its first bytes, and none only at the source's end
+pub record Behind (old new : Option (List ℕ)) (list_old list_new : List ℕ)
+    (start k : ℕ) : Type 0 where
+  pub fits : start + k ≤ length list_new
+  pub before : take start list_new ≡ take start list_old
+  pub bytes : Consumes old new (take k (drop start list_new))
+  pub at_end : k ≡ 0 → IsAtEnd new
+
+-- k bytes came behind those of a list, at most as many as were wanted, and none only at the
+-- source's end
+pub record Comes (old new : Option (List ℕ)) (list_old list_new : List ℕ)
+    (wanted k : ℕ) : Type 0 where
+  pub came : List ℕ
+  pub list : list_new ≡ list_old ++ came
+  pub count : length came ≡ k
+  pub few : k ≤ wanted
+  pub bytes : Consumes old new came
+  pub at_end : k ≡ 0 → IsAtEnd new
+
+-- what came behind the bytes z is kept and undecided, or makes a frame, or is refused at its last
+-- byte; nothing came only at the source's end
+abbrev pub GivesOn : Limits → List ℕ → List ℕ → Option (List ℕ) → Parts → Result Step Fault
+    → Type 0
+GivesOn limits z came left p (Ok (More a)) =
+    (came ≡ [] → IsAtEnd left) × (bytes_of p ≡ z ++ came) × Undecided limits p a
+GivesOn limits z came left p (Ok (Whole frame)) = IsWhole limits (z ++ came) p frame
+GivesOn limits z came left p (Err fault) =
+    UnlessOutside fault (RefusesNow limits (z ++ came) fault)
+
+-- what was taken behind the bytes z, of which no byte was not wanted, and what it makes
+pub record ReadsOn (limits : Limits) (old new : Option (List ℕ)) (z : List ℕ) (p : Parts)
+    (count : ℕ) (r : Result Step Fault) : Type 0 where
+  pub came : List ℕ
+  pub counted : length came ≡ count
+  pub wants : ℕ
+  pub undecided : Pending limits z wants
+  pub few : length came ≤ wants
+  pub bytes : Consumes old new came
+  pub gives : GivesOn limits z came new p r
+
+-- of the bytes that came `feed` would answer this; a refusal comes with the last of them
+abbrev pub Gives : Limits → Progress → List ℕ → Progress → Result (Option Framed) Fault → Type 0
+Gives limits before came after (Ok found) =
+    Feeds limits before came after (Ok (length came, found))
+Gives limits (taking z) came after (Err fault) =
+    (after ≡ refused) × UnlessOutside fault (RefusesNow limits (z ++ came) fault)
+Gives limits before came after (Err fault) = Feeds limits before came after (Err fault)
+
+-- while messages come, none comes only at the source's end
+abbrev pub EndsAt : Progress → List ℕ → Option (List ℕ) → Result (Option Framed) Fault → Type 0
+EndsAt (taking z) came left (Ok None) = came ≡ [] → IsAtEnd left
+EndsAt progress came left r = Unit {0}
+
+-- no more bytes came than are wanted before the next decision, and none where no message comes
+abbrev pub IsFew : Limits → Progress → List ℕ → Type 0
+IsFew limits (taking z) came = (k : ℕ) × Pending limits z k × (length came ≤ k)
+IsFew limits ended came = came ≡ []
+IsFew limits refused came = came ≡ []
+
+-- so many bytes were taken of a source, none that was not wanted, and what they make
+pub record Takes (limits : Limits) (old new : Option (List ℕ)) (before after : Progress)
+    (count : ℕ) (r : Result (Option Framed) Fault) : Type 0 where
+  pub came : List ℕ
+  pub counted : length came ≡ count
+  pub bytes : Consumes old new came
+  pub few : IsFew limits before came
+  pub at_end : EndsAt before came new r
+  pub gives : Gives limits before came after r
+
+-- the source is asked while messages come, and not behind their end or a refusal
+abbrev pub FailsWhile : Progress → ℕ → ℕ → Result (Option Framed) Fault → Type 0
+FailsWhile (taking z) old new r = FailsAs old new r
+FailsWhile ended old new r = new ≡ old
+FailsWhile refused old new r = new ≡ old

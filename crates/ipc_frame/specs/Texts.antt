@@ -1,0 +1,7 @@
+-- What is printed of a device that failed.
+use Rattle.std.specs.Prelude.{ℕ, List, codes}
+use Rattle.ipc_frame.specs.declared.source.Failed.{Failed}
+
+-- a failed call of a source or a sink
+abbrev pub failed_text : Failed → List ℕ
+failed_text failed = codes "the device failed"

@@ -1,0 +1,95 @@
+ghost use Rattle.std.specs.Prelude.{◌≡◌, ◌<◌, ◌≤◌, ◌+◌, length, IfOk, IfErr, OnOk, OnErr};
+ghost use Rattle.std.specs.Io.KnownBytes.{Keeps};
+ghost use Rattle.ipc_frame.specs.Failures.{FailsAs, IsOutside};
+ghost use Rattle.ipc_frame.specs.Parts.{Fits, Undecided, bytes_of, wanted_of};
+ghost use Rattle.ipc_frame.specs.Pulled.{Behind, Comes, ReadsOn};
+
+use crate::parts::{Awaited, Parts, wanted};
+use crate::source::Source;
+use crate::step::{Step, conclude};
+use ipc_model::{Fault, Limits};
+use std::alloc::Global;
+
+// How many bytes are asked for at most at once.
+const PIECE: usize = 65_536;
+
+// Asks the source once, for what finds room behind the first `start` bytes.
+fn read_behind<R: Source>(source: &mut R, list: &mut [u8], start: usize) -> Result<usize, Fault>
+    requires { start < length list.old }
+    ensures behind { IfOk result (λ k. Behind (R.remaining source.old)
+        (R.remaining source.new) list.old list.new start k) }
+    ensures same { length list.new ≡ length list.old }
+    ensures fewer { IfOk result (λ k. (R.bound source.new + k) ≤ R.bound source.old) }
+    ensures lost { OnErr result (Keeps (R.remaining source.old) (R.remaining source.new)) }
+    ensures only { IfErr result (λ fault. fault ≡ Fault.Read) }
+    ensures failures { FailsAs (R.failures source.old) (R.failures source.new) result }
+{
+    match source.read(&mut list[start..]) {
+        Ok(count) => Ok(count),
+        Err(_) => Err(Fault::Read),
+    }
+}
+
+// Asks the source once, for no more than is wanted, and puts what comes behind what the list holds,
+// which grows by no more than is asked for.
+fn read_onto<R: Source>(source: &mut R, list: &mut Vec<u8>, wanted: usize) -> Result<usize, Fault>
+    requires { 0 < wanted }
+    ensures comes { IfOk result (λ k. Comes (R.remaining source.old)
+        (R.remaining source.new) list.old.items list.new.items wanted k) }
+    ensures fewer { IfOk result (λ k. (R.bound source.new + k) ≤ R.bound source.old) }
+    ensures lost { OnErr result (Keeps (R.remaining source.old) (R.remaining source.new)) }
+    ensures only { IfErr result IsOutside }
+    ensures failures { FailsAs (R.failures source.old) (R.failures source.new) result }
+{
+    let start = list.len();
+    list.resize(start + wanted.min(PIECE), 0)?;
+    let count = read_behind(source, list, start)?;
+    list.truncate(start + count);
+    Ok(count)
+}
+
+// Asks the source once for the part that is awaited.
+fn read_part<R: Source>(
+    limits: &Limits,
+    source: &mut R,
+    parts: &mut Parts,
+    awaited: Awaited,
+) -> Result<usize, Fault>
+    requires { Undecided limits.now parts.old awaited }
+    ensures fits { OnOk result (Fits limits.now parts.new awaited) }
+    ensures comes { IfOk result (λ k. Comes (R.remaining source.old)
+        (R.remaining source.new) (bytes_of parts.old) (bytes_of parts.new)
+        (wanted_of parts.old awaited) k) }
+    ensures fewer { IfOk result (λ k. (R.bound source.new + k) ≤ R.bound source.old) }
+    ensures lost { OnErr result (Keeps (R.remaining source.old) (R.remaining source.new)) }
+    ensures only { IfErr result IsOutside }
+    ensures failures { FailsAs (R.failures source.old) (R.failures source.new) result }
+{
+    let wants = wanted(limits, parts, awaited);
+    match awaited {
+        Awaited::Mark | Awaited::Size => read_onto(source, &mut parts.start, wants),
+        Awaited::Metadata(_) => read_onto(source, &mut parts.meta, wants),
+        Awaited::Body(_) => read_onto(source, &mut parts.body, wants),
+    }
+}
+
+// Asks the source once, for no more than is wanted, and says how many bytes came and what they
+// make.
+pub fn read_on<R: Source>(
+    alloc: Global,
+    limits: &Limits,
+    source: &mut R,
+    parts: &mut Parts,
+    awaited: Awaited,
+) -> (usize, Result<Step, Fault>)
+    requires { Undecided limits.now parts.old awaited }
+    ensures reads { ReadsOn limits.now (R.remaining source.old)
+        (R.remaining source.new) (bytes_of parts.old) parts.new result.0 result.1 }
+    ensures fewer { OnOk result.1 ((R.bound source.new + result.0) ≤ R.bound source.old) }
+    ensures failures { FailsAs (R.failures source.old) (R.failures source.new) result.1 }
+{
+    match read_part(limits, source, parts, awaited) {
+        Ok(count) => (count, conclude(alloc, limits, parts, awaited)),
+        Err(fault) => (0, Err(fault)),
+    }
+}

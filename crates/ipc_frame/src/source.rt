@@ -1,0 +1,43 @@
+ghost use Rattle.std.specs.Prelude.{ℕ, List, Option, Some, ◌≤◌, ◌+◌, length, IfOk};
+ghost use Rattle.std.specs.Io.KnownBytes.{ReadConsumes};
+ghost use Rattle.ipc_frame.specs.Failures.{Counts};
+ghost use Rattle.ipc_frame.specs.Texts.{failed_text};
+
+use std::error::Error;
+use std::fmt;
+
+/// A call of a device failed. Each later call of it fails too.
+#[derive(Clone, Copy, Debug, PartialEq, Eq)]
+pub struct Failed;
+
+/// `the device failed`.
+impl fmt::Display for Failed {
+    ghost output = { λ failed. Some (failed_text failed) };
+
+    fn fmt<W: fmt::Write>(&self, f: &mut fmt::Formatter<W>) -> fmt::Result {
+        f.write_str("the device failed")
+    }
+}
+
+impl Error for Failed {}
+
+/// What gives the bytes of a stream, in pieces of its own choice.
+pub trait Source {
+    /// The bytes that are still to come, where the source tells them.
+    ghost remaining: { Self → Option (List ℕ) };
+
+    /// How many calls failed: 0 until one does, 1 from then on.
+    ghost failures: { Self → ℕ };
+
+    /// No more bytes than so many are still to come.
+    ghost bound: { Self → ℕ };
+
+    /// Puts the next bytes at the front of `into` and says how many they are: none only where
+    /// `into` is empty or no byte is left. A call that fails takes no byte, and so does each one
+    /// after it.
+    fn read(&mut self, into: &mut [u8]) -> Result<usize, Failed>
+        ensures count { IfOk result (λ k. k ≤ length into.new) }
+        ensures bytes { ReadConsumes (remaining self.old) (remaining self.new) result into.new }
+        ensures fewer { IfOk result (λ k. (bound self.new + k) ≤ bound self.old) }
+        ensures failures { Counts (failures self.old) (failures self.new) result };
+}
