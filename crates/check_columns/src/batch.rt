@@ -1,5 +1,5 @@
 //! The record batch of some rows, as a stream carries it.
-use ipc_frame::{Frame, Seen, next_frame};
+use ipc_frame::{Frame, Frames};
 use ipc_meta::{BatchHead, Head};
 use ipc_model::{BatchRows, Fault, Field, Items, Limits, Row, Schema, Table};
 use ipc_stream::{Memory, write_table};
@@ -31,22 +31,20 @@ pub fn batch_of(
         return Err(Fault::OutOfMemory);
     }
     let bytes = stream.into_bytes();
-    let Seen::Whole(_, schema) = next_frame(alloc, limits, &bytes)? else {
-        return Err(Fault::Truncated);
-    };
-    let behind = bytes.get(schema..).unwrap_or(&[]);
-    match next_frame(alloc, limits, behind)? {
-        Seen::Whole(frame, _) => match frame {
+    let mut frames = Frames::new(alloc, *limits);
+    let (schema, _) = frames.feed(&bytes)?;
+    let (_, found) = frames.feed(bytes.get(schema..).unwrap_or(&[]))?;
+    match found {
+        Some(
             Frame::Message {
                 meta: _,
                 head,
                 body,
-            } => match head {
-                Head::Batch(head, _) => Ok((head, body)),
-                _ => Err(Fault::BadHeader),
             },
-            Frame::End => Err(Fault::Truncated),
+        ) => match head {
+            Head::Batch(head, _) => Ok((head, body)),
+            _ => Err(Fault::BadHeader),
         },
-        Seen::Short(_) => Err(Fault::Truncated),
+        _ => Err(Fault::Truncated),
     }
 }

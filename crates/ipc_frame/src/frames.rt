@@ -96,8 +96,8 @@ impl Frames {
         ensures limits { self.new.limits ≡ self.old.limits }
     {
         match self.phase {
-            Phase::Refused => Err(Fault::Failed),
             Phase::Ended => Ok((0, None)),
+            Phase::Refused => Err(Fault::Failed),
             Phase::Reading(awaited) => {
                 match feed_on(self.alloc, &self.limits, &mut self.parts, awaited, piece) {
                     Ok((taken, Step::More(awaited))) => {
@@ -134,8 +134,8 @@ impl Frames {
             (R.failures source.new) result.1 }
     {
         match self.phase {
-            Phase::Refused => (0, Err(Fault::Failed)),
             Phase::Ended => (0, Ok(None)),
+            Phase::Refused => (0, Err(Fault::Failed)),
             Phase::Reading(awaited) => {
                 let (count, step) = read_on(
                     self.alloc,
@@ -191,8 +191,8 @@ impl Frames {
         ensures limits { self.new.limits ≡ self.old.limits }
     {
         match self.phase {
-            Phase::Refused => Err(Fault::Failed),
             Phase::Ended => Ok(()),
+            Phase::Refused => Err(Fault::Failed),
             Phase::Reading(Awaited::Mark) if self.parts.start.is_empty() => {
                 self.phase = Phase::Ended;
                 Ok(())

@@ -1,7 +1,7 @@
 -- What a reader takes from its source, and what it answers (Arrow Columnar Format, "IPC Streaming
 -- Format").
-use Rattle.std.specs.Prelude.{◌≡◌, ◌≢◌, ℕ, ◌+◌, ◌-◌, ◌^◌, ◌≤◌, min, List, [], ◌∷◌, ◌++◌, length}
-use Rattle.std.specs.Prelude.{take, drop, Option, ⊤, Some, None, Result, Ok, Err}
+use Rattle.std.specs.Prelude.{◌≡◌, ◌≢◌, ℕ, ◌+◌, ◌-◌, ◌^◌, min, List, [], ◌∷◌, length}
+use Rattle.std.specs.Prelude.{Option, ⊤, Some, None, Result, Ok, Err}
 use Rattle.std.specs.Io.KnownBytes.{Consumes, IsAtEnd}
 use Rattle.ipc_model.specs.declared.fault.Fault.{Fault}
 use Rattle.ipc_model.specs.declared.fault.Fault.TheVariants.{MissingSchema, SecondSchema, Truncated}
@@ -35,33 +35,6 @@ count_up n k = min (n + k) (2 ^ 64 - 1)
 pub record Takes (old new : Option (List ℕ)) (count_old count_new : ℕ) (x : List ℕ) : Type 0 where
   pub bytes : Consumes old new x
   pub counted : count_new ≡ count_up count_old (length x)
-
--- k bytes came to a buffer behind its first bytes, at most as many as were wanted, and none only at
--- the end
-pub record Behind (old new : Option (List ℕ)) (buffer_old buffer_new : List ℕ)
-    (start wanted k : ℕ) : Type 0 where
-  pub few : k ≤ wanted
-  pub fits : start + k ≤ length buffer_new
-  pub before : take start buffer_new ≡ take start buffer_old
-  pub bytes : Consumes old new (take k (drop start buffer_new))
-  pub ended : k ≡ 0 → IsAtEnd new
-
--- k bytes came behind those that were kept, at most as many as were wanted, and none only at the
--- end
-pub record Fills (old new : Option (List ℕ)) (count_old count_new : ℕ) (kept_old kept_new : List ℕ)
-    (wanted k : ℕ) : Type 0 where
-  pub came : List ℕ
-  pub kept : kept_new ≡ kept_old ++ came
-  pub count : length came ≡ k
-  pub few : k ≤ wanted
-  pub takes : Takes old new count_old count_new came
-  pub ended : k ≡ 0 → IsAtEnd new
-
--- some bytes came and were lost, at most as many as were wanted
-pub record Loses (old new : Option (List ℕ)) (count_old count_new wanted : ℕ) : Type 0 where
-  pub lost : List ℕ
-  pub few : length lost ≤ wanted
-  pub takes : Takes old new count_old count_new lost
 
 -- why no frame is read, whatever the state
 pub data BreaksFrame (limits : Limits) (z : List ℕ) (left : Option (List ℕ))

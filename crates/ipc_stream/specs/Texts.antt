@@ -1,13 +1,8 @@
--- What is printed of a device that failed, and of a table that didn't come back.
+-- What is printed of a table that didn't come back.
 use Rattle.std.specs.Prelude.{ℕ, List, ◌++◌, codes}
 use Rattle.ipc_model.specs.Texts.{fault_text, write_fault_text}
 use Rattle.ipc_stream.specs.declared.round_trip.RoundTripFault.{RoundTripFault}
 use Rattle.ipc_stream.specs.declared.round_trip.RoundTripFault.TheVariants.{Write, Read}
-use Rattle.ipc_stream.specs.declared.source.Failed.{Failed}
-
--- a failed call of a source or a sink
-abbrev pub failed_text : Failed → List ℕ
-failed_text failed = codes "the device failed"
 
 -- a table that was not written or not read back
 abbrev pub round_trip_text : RoundTripFault → List ℕ

@@ -104,7 +104,7 @@ impl<R: Source> StreamReader<R> {
             → R.remaining source ≡ Some (x ++ rest) → OpensStream limits s x
             → MatchResult result (λ reader. reader.schema ≡ s) (λ e. IsOutside e.0) }
     {
-        open_with(alloc, &limits, source, Intake::new(alloc))
+        open_with(alloc, &limits, source, Intake::new())
     }
 
     /// The limits that it was opened with.

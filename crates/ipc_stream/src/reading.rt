@@ -6,11 +6,11 @@ ghost use Rattle.ipc_stream.specs.Taken.{BringsNext, BringsSchema, IsBatch, Take
 ghost use Rattle.ipc_stream.specs.Taken.{HasColumns, TakesSchema, TakesScope};
 
 use crate::end::End;
-use crate::intake::{Intake, fill};
+use crate::intake::Intake;
 use crate::scope::Scope;
 use crate::source::Source;
 use ipc_column::Batch;
-use ipc_frame::{Frame, Seen, next_frame};
+use ipc_frame::{Frame, Frames};
 use ipc_meta::Head;
 use ipc_model::{Fault, Items, Limits, Schema, Text};
 use std::alloc::Global;
@@ -36,18 +36,16 @@ fn read_frame<R: Source>(
     ensures fewer { IfOk result (λ frame. IsSome frame → R.bound source.new < R.bound source.old) }
     ensures failures { FailsAs (R.failures source.old) (R.failures source.new) result }
 {
-    intake.filled = 0;
-    let mut wanted = 4;
+    let mut frames = Frames::new(alloc, *limits);
     loop {
-        if fill(source, intake, wanted)? == 0 {
-            if intake.filled == 0 {
-                return Ok(None);
-            }
-            return Err(Fault::Truncated);
+        let (count, answer) = frames.feed_from(source);
+        intake.taken = intake.taken.saturating_add(count as u64);
+        if let Some(frame) = answer? {
+            return Ok(Some(frame));
         }
-        match next_frame(alloc, limits, &intake.buffer[..intake.filled])? {
-            Seen::Short(more) => wanted = more,
-            Seen::Whole(frame, _) => return Ok(Some(frame)),
+        if count == 0 {
+            frames.close()?;
+            return Ok(None);
         }
     }
 }

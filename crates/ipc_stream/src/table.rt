@@ -47,7 +47,7 @@ fn read_batches<R: Source>(
     ensures table { TakesTable limits.now (R.remaining source.old) (R.remaining source.new) result }
     ensures failures { FailsAs (R.failures source.old) (R.failures source.new) result }
 {
-    let mut intake = Intake::new(alloc);
+    let mut intake = Intake::new();
     let scope = read_scope(alloc, limits, source, &mut intake)?;
     let mut batches = Vec::new(alloc);
     loop {
