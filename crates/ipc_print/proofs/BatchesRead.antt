@@ -37,7 +37,7 @@ use Rattle.std.specs.Prelude.{unwrap_or}
 use Rattle.std.proofs.lemmas.List.{length-append}
 use Rattle.ipc_stream.specs.declared.end.End.TheVariants.{Closed}
 use Rattle.ipc_stream.specs.Reader.{end_of}
-use Rattle.ipc_stream.specs.Taken.{count_up}
+use Rattle.ipc_stream.specs.Counts.{count_up}
 use Rattle.ipc_print.specs.declared.stop.Tally.{Tally}
 use Rattle.ipc_print.specs.Forms.{row_count}
 use Rattle.ipc_print.specs.Streams.{IsTally}

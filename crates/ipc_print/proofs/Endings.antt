@@ -21,7 +21,7 @@ use Rattle.ipc_print.proofs.Puts.{puts_then, puts_not_then, puts_not_more, puts_
 use Rattle.ipc_print.proofs.Lines.{put_at, not_at}
 use Rattle.ipc_print.proofs.Texts.{batch_lines_more, head_rest}
 use Rattle.std.proofs.Common.{length, inl, inr}
-use Rattle.ipc_stream.specs.Taken.{count_up}
+use Rattle.ipc_stream.specs.Counts.{count_up}
 use Rattle.ipc_print.specs.declared.stop.Tally.{Tally}
 use Rattle.ipc_print.specs.Forms.{tail_of, tail_text}
 use Rattle.ipc_print.specs.Streams.{IsTally, IsWhole, PrintsAll, outcome_tail}

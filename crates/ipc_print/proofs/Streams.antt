@@ -22,7 +22,7 @@ use Rattle.ipc_print.specs.declared.rows.PrintFault.TheVariants as p
 use Rattle.ipc_print.specs.declared.stop.Stop.{Stop}
 use Rattle.ipc_print.specs.declared.stop.Stop.TheVariants as stop
 use Rattle.ipc_print.specs.Forms.{front_text, head_of, line_of, tail_text}
-use Rattle.ipc_stream.specs.Taken.{count_up}
+use Rattle.ipc_stream.specs.Counts.{count_up}
 use Rattle.std.specs.Prelude.{length}
 use Rattle.ipc_print.specs.Output.{Output, output, Grows}
 use Rattle.ipc_print.specs.Rows.{lines, batch_lines}

@@ -10,7 +10,7 @@ use Rattle.ipc_model.specs.declared.schema.Schema.{Schema}
 use Rattle.ipc_model.specs.declared.value.Value.{Value}
 use Rattle.ipc_stream.specs.declared.end.End.{End}
 use Rattle.ipc_stream.specs.declared.end.End.TheVariants.{Mark, Closed}
-use Rattle.ipc_stream.specs.Taken.{count_up}
+use Rattle.ipc_stream.specs.Counts.{count_up}
 use Rattle.ipc_text.specs.RowJson.{row_text}
 use Rattle.ipc_text.specs.SchemaJson.{pairs_text, schema_text}
 use Rattle.ipc_text.specs.RowCsv.{flat_fault, header_text, row_csv}

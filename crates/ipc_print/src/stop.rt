@@ -1,7 +1,7 @@
 //! How printing ended.
 
 ghost use Rattle.std.specs.Prelude.{◌≡◌};
-ghost use Rattle.ipc_stream.specs.Taken.{count_up};
+ghost use Rattle.ipc_stream.specs.Counts.{count_up};
 ghost use Rattle.ipc_print.specs.Streams.{stop_status};
 
 use ipc_model::{Fault, WriteFault};

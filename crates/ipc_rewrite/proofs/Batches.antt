@@ -17,7 +17,7 @@ use Rattle.ipc_stream.specs.Found.{Found, rows_of}
 use Rattle.ipc_stream.specs.Reader.{Reader, in_force_of, NextAnswer, NextCall}
 use Rattle.ipc_stream.specs.Reasons.{Reads}
 use Rattle.ipc_stream.specs.Stream.{InForce, Event, batch, Run, done}
-use Rattle.ipc_stream.specs.Taken.{count_up}
+use Rattle.ipc_stream.specs.Counts.{count_up}
 use Rattle.ipc_stream.specs.Writer.{Writer}
 use Rattle.ipc_stream.specs.Writing.{AcceptsBatch, AddsBatch, RefusesBatch, Sent, NotSentWhole}
 use Rattle.ipc_stream.proofs.Runs.{run_then, reads_after}

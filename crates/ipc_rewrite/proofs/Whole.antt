@@ -16,7 +16,7 @@ use Rattle.ipc_stream.specs.declared.end.End.{End}
 use Rattle.ipc_stream.specs.Reader.{Reader, in_force_of, Opens, OpenFails}
 use Rattle.ipc_stream.specs.Reasons.{Reads}
 use Rattle.ipc_stream.specs.Stream.{schema, batch, Run, events_of}
-use Rattle.ipc_stream.specs.Taken.{count_up}
+use Rattle.ipc_stream.specs.Counts.{count_up}
 use Rattle.ipc_stream.specs.Writer.{Writer, Starts, StartFails}
 use Rattle.ipc_stream.specs.Writing.{AcceptsBatch, AcceptsSchema, AcceptsTable, AddsBatch, CutShort, EndsStream, NotSentWhole}
 use Rattle.ipc_stream.specs.Writing.{RefusesBatch, Sent}

@@ -17,7 +17,7 @@ use Rattle.ipc_stream.specs.Failures.{Tells}
 use Rattle.ipc_stream.specs.Reader.{Reader, in_force_of}
 use Rattle.ipc_stream.specs.Reasons.{Reads}
 use Rattle.ipc_stream.specs.Stream.{batch, Run, events_of, Denotes}
-use Rattle.ipc_stream.specs.Taken.{count_up}
+use Rattle.ipc_stream.specs.Counts.{count_up}
 use Rattle.ipc_stream.specs.Writer.{Writer}
 use Rattle.ipc_stream.specs.Writing.{AcceptsBatch, AcceptsTable, AddsBatch, BreaksOff, CutShort}
 use Rattle.ipc_stream.specs.Writing.{EndsStream, IsTableOf, NotSentWhole, OpensStream}

@@ -2,11 +2,13 @@ pub mod Runs
 pub mod Dictionaries
 pub mod OneReading
 pub mod FromMemory
-pub mod Intakes
-pub mod FramesRead
+pub mod PulledEvents
 pub mod Nexts
 pub mod Tables
 pub mod Reasons
+pub mod Verdicts
+pub mod Courses
+pub mod Decoders
 pub mod Answered
 pub mod Readers
 pub mod Calls

@@ -80,7 +80,7 @@ stop_pending {limits} σ z k o (inr (c, is)) p (inr some) = pending_not_end c k 
 stop_refused : {limits : Limits} → (σ : State) (z b : List ℕ) (e : Fault) → σ ≢ None → IsStop (z ++ b) → Refuses limits σ z e → ⊥
 stop_refused {limits} σ z b e o s (early r) = stop_early limits z b s e r
 stop_refused {limits} σ z b e o s (no_schema fr q none is other) = o none
-stop_refused {limits} σ z b e o s (second_schema p t m body q is frame) = stop_frame limits z b s m body (h.Schema t) frame
+stop_refused {limits} σ z b e o s (second_schema p t m body q is frame read) = stop_frame limits z b s m body (h.Schema t) frame
 stop_refused {limits} σ z b e o s (dictionary p id d m body q is none frame) = stop_frame limits z b s m body (h.Dictionary id d) frame
 stop_refused {limits} σ z b e o s (no_rows p d ps m body is frame refuses) = stop_frame limits z b s m body (h.Batch d ps) frame
 
@@ -166,10 +166,10 @@ module _ {limits : Limits} (σ τ : State) (x m body u z b : List ℕ) (g : Head
       subst (λ y. StepsByRows limits o y other) same.same_head (subst (λ y. StepsByRows limits o g y) same.same_body (batch_step o step
       some))
 
-  message_refused : (e : Fault) → Refuses limits σ z e → e ≡ OutOfMemory
+  pub message_refused : (e : Fault) → Refuses limits σ z e → e ≡ OutOfMemory
   message_refused e (early r) = absurd (message_early e r)
   message_refused e (no_schema fr q none is other) = absurd (message_schema fr none is other)
-  message_refused e (second_schema o s l c q is k) = absurd (no_schema_batch o s c (message_batch (h.Schema s) l c o is k))
+  message_refused e (second_schema o s l c q is k read) = absurd (no_schema_batch o s c (message_batch (h.Schema s) l c o is k))
   message_refused e (dictionary o id d l c q is none k) =
       absurd (no_dictionary_batch o id d c (message_batch (h.Dictionary id d) l c o is k))
   message_refused e (no_rows o d ps l c is k r) = batch_refused o d ps c e (message_batch (h.Batch d ps) l c o is k) r

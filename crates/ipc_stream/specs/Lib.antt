@@ -2,7 +2,12 @@ pub mod Failures
 pub mod Stream
 pub mod Found
 pub mod Readable
+pub mod Counts
 pub mod Reasons
+pub mod Verdicts
+pub mod Decoding
+pub mod Scopes
+pub mod Courses
 pub mod Taken
 pub mod Reader
 pub mod Laws

@@ -1,4 +1,5 @@
 ghost use Rattle.ipc_stream.specs.Laws.{NoneBegins, OneFront, OneTable, Wider};
+ghost use Rattle.ipc_stream.specs.Verdicts.{AnyCut, OneVerdict};
 
 /// The law: bytes denote one table with one end at most (Arrow Columnar Format, "IPC Streaming
 /// Format").
@@ -21,4 +22,16 @@ pub fn one_front()
 /// The law: what denotes a table under some limits denotes it under all that cover them.
 pub fn wider()
     ensures { Wider }
+{}
+
+/// The law: the beginning of a stream has one verdict at most: which messages are whole, and
+/// whether what is behind them is undecided, ends the stream or is refused.
+pub fn one_verdict()
+    ensures { OneVerdict }
+{}
+
+/// The law: the verdict about some bytes is the same wherever they are cut. What the bytes before a
+/// cut lead to is all that the verdict about those behind it rests on.
+pub fn any_cut()
+    ensures { AnyCut }
 {}

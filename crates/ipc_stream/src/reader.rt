@@ -1,23 +1,21 @@
-ghost use Rattle.std.specs.Prelude.{◌≡◌, ◌≤◌, ◌-◌, ◌^◌, ◌<◌, ◌++◌, ℕ, List, Some, IfOk, IfErr};
-ghost use Rattle.std.specs.Prelude.{IfSome, IsSome, MatchResult, length, true};
+ghost use Rattle.std.specs.Prelude.{◌≡◌, ◌≢◌, ◌≤◌, ◌-◌, ◌^◌, ◌<◌, ◌++◌, ℕ, List, None, Some};
+ghost use Rattle.std.specs.Prelude.{IfOk, IfErr, IfSome, IsSome, MatchResult, length, true};
 ghost use Rattle.ipc_model.specs.declared.schema.Schema.{Schema};
 ghost use Rattle.ipc_model.specs.declared.table.BatchRows.{BatchRows};
 ghost use Rattle.ipc_meta.specs.Supported.{are_supported};
 ghost use Rattle.ipc_stream.specs.declared.end.End.{End};
-ghost use Rattle.ipc_stream.specs.declared.phase.Phase.TheVariants.{Reading};
 ghost use Rattle.ipc_stream.specs.Failures.{StaysOrFails, Tells};
 ghost use Rattle.ipc_stream.specs.Reader.{BeginsEnd, GivesBatch, NextCall, Opens, OpenFails};
-ghost use Rattle.ipc_stream.specs.Reader.{end_of};
+ghost use Rattle.ipc_stream.specs.Reader.{KeepsNone, WorksWhile, end_of};
 ghost use Rattle.ipc_stream.specs.Reasons.{IsOutside};
 ghost use Rattle.ipc_stream.specs.Writing.{AddsBatch, OpensStream};
 
+use crate::decoder::Decoder;
 use crate::end::End;
-use crate::intake::Intake;
 use crate::phase::Phase;
-use crate::reading::{Next, read_next, read_scope};
-use crate::scope::Scope;
-use crate::source::Source;
+use crate::pulling::{Next, read_next, read_schema};
 use ipc_column::Batch;
+use ipc_frame::Source;
 use ipc_model::{Fault, Field, Items, Limits, Schema, Text};
 use std::alloc::Global;
 use std::marker::Model;
@@ -26,19 +24,19 @@ use std::marker::Model;
 #[derive(Drop)]
 pub struct StreamReader<R: Source> {
     source: R,
-    intake: Intake,
-    scope: Scope,
-    phase: Phase,
-    messages: u64,
-    alloc: Global,
-    ghost works: { phase ≡ Reading → R.failures source ≡ 0 },
-    ghost counted: { messages ≤ 2 ^ 64 - 1 },
+    decoder: Decoder,
+    taken: u64,
+    ghost open: { decoder.state ≢ None },
+    ghost between: { KeepsNone decoder.stage },
+    ghost works: { WorksWhile decoder.stage (R.failures source) },
+    ghost counted: { decoder.messages ≤ 2 ^ 64 - 1 },
+    ghost taken_counted: { taken ≤ 2 ^ 64 - 1 },
 }
 
 impl<R: Source> Model for StreamReader<R> {
     ghost use Rattle.std.specs.Coded.{codes};
     ghost use Rattle.ipc_model.specs.contracts.schema.Field as field;
-    ghost use Rattle.ipc_stream.specs.Reader.{Reader};
+    ghost use Rattle.ipc_stream.specs.Reader.{Reader, phase_of, schema_in};
 
     ghost Value = { Reader };
 
@@ -48,40 +46,35 @@ impl<R: Source> Model for StreamReader<R> {
       remaining = R.remaining s.source;
       failures = R.failures s.source;
       bound = R.bound s.source;
-      limits = s.scope.limits;
-      schema = s.scope.schema;
-      phase = s.phase;
-      messages =
-          s.messages;
-      taken = s.intake.taken;
+      limits = s.decoder.limits;
+      schema = schema_in s.decoder.state;
+      phase = phase_of s.decoder.stage;
+      messages = s.decoder.messages;
+      taken = s.taken;
     } };
 }
 
 // A reader that took a schema's message, or the source again with the fault.
 fn open_with<R: Source>(
     alloc: Global,
-    limits: &Limits,
+    limits: Limits,
     source: R,
-    intake: Intake,
 ) -> Result<StreamReader<R>, (Fault, R)>
-    requires { intake.taken ≡ 0 }
-    ensures opened { IfOk result (λ s. Opens limits.now (R.remaining source) s) }
-    ensures refused { IfErr result (λ e. OpenFails limits.now (R.remaining source)
+    ensures opened { IfOk result (λ s. Opens limits (R.remaining source) s) }
+    ensures refused { IfErr result (λ e. OpenFails limits (R.remaining source)
         (R.remaining e.1) e.0) }
     ensures failures { MatchResult result (λ s. (R.failures source ≡ 0) × (s.failures ≡ 0))
         (λ e. Tells (R.failures source) (R.failures e.1) e.0) }
     ensures fewer { IfOk result (λ s. s.bound < R.bound source) }
 {
     let mut source = source;
-    let mut intake = intake;
-    match read_scope(alloc, limits, &mut source, &mut intake) {
-        Ok(scope) => Ok(StreamReader {
+    let mut decoder = Decoder::new(alloc, limits);
+    let mut taken = 0;
+    match read_schema(&mut source, &mut decoder, &mut taken) {
+        Ok(()) => Ok(StreamReader {
             source,
-            intake,
-            scope,
-            phase: Phase::Reading,
-            messages: 1,
-            alloc,
+            decoder,
+            taken,
         }),
         Err(fault) => Err((fault, source)),
     }
@@ -104,21 +97,21 @@ impl<R: Source> StreamReader<R> {
             → R.remaining source ≡ Some (x ++ rest) → OpensStream limits s x
             → MatchResult result (λ reader. reader.schema ≡ s) (λ e. IsOutside e.0) }
     {
-        open_with(alloc, &limits, source, Intake::new())
+        open_with(alloc, limits, source)
     }
 
     /// The limits that it was opened with.
     pub fn limits(&self) -> Limits
         ensures { result ≡ self.now.limits }
     {
-        self.scope.limits
+        self.decoder.limits()
     }
 
     /// The schema of the stream.
     pub fn schema(&self) -> &Schema
         ensures { result.now ≡ self.now.schema }
     {
-        &self.scope.schema
+        self.decoder.schema().unwrap()
     }
 
     /// The columns of the stream: the field with a number says what the cells of a batch's column
@@ -127,7 +120,7 @@ impl<R: Source> StreamReader<R> {
     pub fn fields(&self) -> &[Field]
         ensures { result.now ≡ self.now.schema.fields }
     {
-        self.scope.schema.fields.as_slice()
+        self.schema().fields.as_slice()
     }
 
     // Reads on, which `next` says in more words.
@@ -139,28 +132,15 @@ impl<R: Source> StreamReader<R> {
         ensures failures { StaysOrFails self.old.failures self.new.failures result }
         ensures rose { IfErr result (λ fault. fault ≡ Fault.Read → self.old.failures ≡ 0) }
     {
-        match self.phase {
+        match self.decoder.phase() {
             Phase::Refused => Err(Fault::Failed),
             Phase::Ended(_) => Ok(None),
-            Phase::Reading => match read_next(
-                self.alloc,
-                &mut self.source,
-                &mut self.intake,
-                &self.scope,
-            ) {
-                Ok(Next::Batch(batch, pairs)) => {
-                    self.messages = self.messages.saturating_add(1);
-                    Ok(Some((batch, pairs)))
+            Phase::Reading => {
+                match read_next(&mut self.source, &mut self.decoder, &mut self.taken)? {
+                    Next::Batch(batch, pairs) => Ok(Some((batch, pairs))),
+                    Next::Ended(_) => Ok(None),
                 }
-                Ok(Next::Ended(end)) => {
-                    self.phase = Phase::Ended(end);
-                    Ok(None)
-                }
-                Err(fault) => {
-                    self.phase = Phase::Refused;
-                    Err(fault)
-                }
-            },
+            }
         }
     }
 
@@ -194,7 +174,7 @@ impl<R: Source> StreamReader<R> {
     pub fn end(&self) -> Option<End>
         ensures { result ≡ end_of self.now.phase }
     {
-        match self.phase {
+        match self.decoder.phase() {
             Phase::Ended(end) => Some(end),
             _ => None,
         }
@@ -205,14 +185,14 @@ impl<R: Source> StreamReader<R> {
     pub fn messages(&self) -> u64
         ensures { result ≡ self.now.messages }
     {
-        self.messages
+        self.decoder.messages()
     }
 
     /// How many bytes were taken of the source, an end mark included. The count stops at 2^64 - 1.
     pub fn taken(&self) -> u64
         ensures { result ≡ self.now.taken }
     {
-        self.intake.taken
+        self.taken
     }
 
     /// The source, which has left what was not taken.
@@ -223,11 +203,8 @@ impl<R: Source> StreamReader<R> {
     {
         let StreamReader {
             source,
-            intake: _,
-            scope: _,
-            phase: _,
-            messages: _,
-            alloc: _,
+            decoder: _,
+            taken: _,
         } = self;
         source
     }

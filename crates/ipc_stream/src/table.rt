@@ -1,5 +1,5 @@
-ghost use Rattle.std.specs.Prelude.{◌≡◌, ◌++◌, ◌⊎◌, ℕ, List, [], ◌∷◌, IfErr, IfOk, MatchResult};
-ghost use Rattle.std.specs.Prelude.{OnOk, Some, true};
+ghost use Rattle.std.specs.Prelude.{◌≡◌, ◌≢◌, ◌≤◌, ◌-◌, ◌^◌, ◌++◌, ◌⊎◌, ℕ, List, [], ◌∷◌};
+ghost use Rattle.std.specs.Prelude.{IfErr, IfOk, MatchResult, None, OnOk, Some, true};
 ghost use Rattle.std.specs.Io.KnownBytes.{Appends, Consumes, IsAtEnd};
 ghost use Rattle.ipc_model.specs.declared.table.Table.{Table};
 ghost use Rattle.ipc_meta.specs.Supported.{are_supported};
@@ -7,19 +7,20 @@ ghost use Rattle.ipc_stream.specs.declared.end.End.TheVariants.{Closed, Mark};
 ghost use Rattle.ipc_stream.specs.Failures.{FailsAs};
 ghost use Rattle.ipc_stream.specs.Found.{rows_of};
 ghost use Rattle.ipc_stream.specs.Stream.{Denotes};
-ghost use Rattle.ipc_stream.specs.Taken.{TakesTable};
+ghost use Rattle.ipc_stream.specs.Decoding.{taking};
+ghost use Rattle.ipc_stream.specs.Taken.{TakesBatches, TakesTable};
 ghost use Rattle.ipc_model.specs.Fits.{TableFits};
 ghost use Rattle.ipc_stream.specs.Writing.{AcceptsTable, BreaksOff, IsTableOf, IsWithinLimits};
 ghost use Rattle.ipc_stream.specs.Writing.{Sent};
 
+use crate::decoder::Decoder;
 use crate::end::End;
-use crate::intake::Intake;
-use crate::reading::{Next, read_next, read_scope};
+use crate::pulling::{Next, read_next, read_schema};
 use crate::sending::{send_batch, send_end, send_schema};
 use crate::sink::Sink;
-use crate::source::Source;
 use ipc_column::Batch;
-use ipc_model::{BatchRows, Fault, Items, Limits, Table, Text, WriteFault};
+use ipc_frame::Source;
+use ipc_model::{BatchRows, Batches, Fault, Items, Limits, Table, Text, WriteFault};
 use std::alloc::Global;
 
 // Puts the pairs and rows of a batch behind those of the batches before.
@@ -38,8 +39,33 @@ fn keep_batch(
     Ok(())
 }
 
-// The table at the front of the source, and how the stream ends.
+// The batches behind the schema, and how the stream ends.
 fn read_batches<R: Source>(
+    alloc: Global,
+    source: &mut R,
+    decoder: &mut Decoder,
+    taken: &mut u64,
+) -> Result<(Batches, End), Fault>
+    requires between { decoder.old.stage ≡ taking [] }
+    requires open { decoder.old.state ≢ None }
+    requires counted { decoder.old.messages ≤ 2 ^ 64 - 1 }
+    requires within { taken.old ≤ 2 ^ 64 - 1 }
+    ensures batches { TakesBatches (R.remaining source.old) (R.remaining source.new) decoder.old
+        result }
+    ensures schema { IfOk result (λ all. decoder.new.state ≡ decoder.old.state) }
+    ensures failures { FailsAs (R.failures source.old) (R.failures source.new) result }
+{
+    let mut batches = Vec::new(alloc);
+    loop {
+        match read_next(source, decoder, taken)? {
+            Next::Batch(batch, pairs) => keep_batch(alloc, &mut batches, &batch, pairs)?,
+            Next::Ended(end) => return Ok((Items::from_vec(batches), end)),
+        }
+    }
+}
+
+// The table at the front of the source, and how the stream ends.
+fn read_messages<R: Source>(
     alloc: Global,
     limits: &Limits,
     source: &mut R,
@@ -47,17 +73,13 @@ fn read_batches<R: Source>(
     ensures table { TakesTable limits.now (R.remaining source.old) (R.remaining source.new) result }
     ensures failures { FailsAs (R.failures source.old) (R.failures source.new) result }
 {
-    let mut intake = Intake::new();
-    let scope = read_scope(alloc, limits, source, &mut intake)?;
-    let mut batches = Vec::new(alloc);
-    loop {
-        match read_next(alloc, source, &mut intake, &scope)? {
-            Next::Batch(batch, pairs) => keep_batch(alloc, &mut batches, &batch, pairs)?,
-            Next::Ended(end) => {
-                let batches = Items::from_vec(batches);
-                return Ok((scope.table_of(batches), end));
-            }
-        }
+    let mut decoder = Decoder::new(alloc, *limits);
+    let mut taken = 0;
+    read_schema(source, &mut decoder, &mut taken)?;
+    let (batches, end) = read_batches(alloc, source, &mut decoder, &mut taken)?;
+    match decoder.into_schema() {
+        Some(schema) => Ok((Table { schema, batches }, end)),
+        None => Err(Fault::MissingSchema),
     }
 }
 
@@ -98,7 +120,7 @@ pub fn read_table<R: Source>(
     // F36 is answered exactly where the source failed in this call.
     ensures failures { FailsAs (R.failures source.old) (R.failures source.new) result }
 {
-    read_batches(alloc, limits, source)
+    read_messages(alloc, limits, source)
 }
 
 // Sends the messages of a table and the end mark.
