@@ -6,7 +6,7 @@ use Rattle.ipc_model.specs.Limits.{IsStandard}
 use Rattle.ipc_model.specs.WellFormed.{WellFormed}
 use Rattle.ipc_model.specs.declared.limits.Limits.{Limits}
 use Rattle.ipc_model.specs.declared.schema.Schema.{Schema}
-use Rattle.ipc_text.specs.SchemaJson.{schema_json}
+use Rattle.ipc_json.specs.SchemaJson.{schema_json}
 use Rattle.ipc_from_csv.specs.Conversion.{Answers, Converts, StopsFor}
 use Rattle.ipc_from_csv.specs.declared.stop.Stop.{Stop as CsvStop}
 use Rattle.arrowstream.specs.declared.stop.Stop.{Stop}

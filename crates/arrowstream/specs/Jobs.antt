@@ -9,10 +9,10 @@ use Rattle.ipc_model.specs.declared.fault.Fault.TheVariants as f
 use Rattle.ipc_model.specs.declared.fault.WriteFault.TheVariants as w
 use Rattle.ipc_model.specs.declared.limits.Limits.{Limits}
 use Rattle.ipc_model.specs.declared.schema.Schema.{Schema}
-use Rattle.ipc_text.specs.SchemaJson.{schema_json}
-use Rattle.ipc_text.specs.SchemaTexts.{IsUnread}
-use Rattle.ipc_text.specs.declared.fault.TextFault.{TextFault}
-use Rattle.ipc_text.specs.declared.fault.TextFault.TheVariants as x
+use Rattle.ipc_json.specs.SchemaJson.{schema_json}
+use Rattle.ipc_json.specs.SchemaTexts.{IsUnread}
+use Rattle.ipc_moments.specs.declared.fault.TextFault.{TextFault}
+use Rattle.ipc_moments.specs.declared.fault.TextFault.TheVariants as x
 use Rattle.ipc_print.specs.Streams.{Prints}
 use Rattle.ipc_print.specs.declared.form.Form.{Form}
 use Rattle.ipc_print.specs.declared.form.Form.TheVariants.{Counts, Rows, Records}

@@ -3,7 +3,7 @@ ghost use Rattle.std.specs.Prelude.{◌≡◌};
 ghost use Rattle.arrowstream.specs.Jobs.{stop_of_csv, stop_of_print, stop_of_rewrite, stop_status};
 
 use ipc_model::{Fault, WriteFault};
-use ipc_text::TextFault;
+use ipc_moments::TextFault;
 use std::io::Write;
 
 /// Why a job stopped.

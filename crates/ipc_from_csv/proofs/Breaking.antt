@@ -15,10 +15,10 @@ use Rattle.ipc_model.specs.declared.value.Value.{Value}
 use Rattle.ipc_stream.specs.Stream.{Event, Run, batch, schema}
 use Rattle.ipc_stream.specs.Writer.{Leaves, Writer}
 use Rattle.ipc_stream.specs.Writing.{AcceptsBatch, AddsBatch, AddsNext, BreaksOff, NotSentWhole, RefusesBatch, RefusesFirst}
-use Rattle.ipc_text.specs.CsvRows.{IsRecordFault}
-use Rattle.ipc_text.specs.RowCsv.{names}
-use Rattle.ipc_text.specs.declared.fault.TextFault.{TextFault}
-use Rattle.ipc_text.specs.declared.fault.TextFault.TheVariants.{OutOfMemory}
+use Rattle.ipc_csv.specs.CsvRows.{IsRecordFault}
+use Rattle.ipc_csv.specs.RowCsv.{names}
+use Rattle.ipc_moments.specs.declared.fault.TextFault.{TextFault}
+use Rattle.ipc_moments.specs.declared.fault.TextFault.TheVariants.{OutOfMemory}
 use Rattle.ipc_from_csv.specs.Batches.{last_batch}
 use Rattle.ipc_from_csv.specs.Conversion.{RefusesText, SendsFull, StopsBehind, StopsFor, StopsWriting, table_of}
 use Rattle.ipc_from_csv.specs.Conversion.{in_record, exhausted_behind, behind}

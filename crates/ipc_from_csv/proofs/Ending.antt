@@ -18,7 +18,7 @@ use Rattle.ipc_model.specs.declared.value.Value.{Value}
 use Rattle.ipc_stream.specs.Stream.{Event, Run, batch, done, schema}
 use Rattle.ipc_stream.specs.Writer.{Finishes, FinishFails, Leaves, StartFails, Writer}
 use Rattle.ipc_stream.specs.Writing.{AcceptsBatch, AddsBatch, AddsNext, BreaksOff, CutShort, EndsStream, NotSentWhole, RefusesFirst}
-use Rattle.ipc_text.specs.RowCsv.{flat_fault, names}
+use Rattle.ipc_csv.specs.RowCsv.{flat_fault, names}
 use Rattle.ipc_from_csv.specs.Batches.{last_batch}
 use Rattle.ipc_from_csv.specs.Conversion.{Answers, AnswersHeader, Converts, StopsFor, StopsWriting, before, in_header, table_of}
 use Rattle.ipc_from_csv.specs.Records.{AreRecordsOf, Stands}

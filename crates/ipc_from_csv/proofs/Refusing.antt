@@ -12,7 +12,7 @@ use Rattle.ipc_model.specs.declared.schema.Schema.{Schema}
 use Rattle.ipc_model.specs.declared.table.BatchRows.{BatchRows}
 use Rattle.ipc_model.specs.declared.value.Value.{Value}
 use Rattle.ipc_stream.specs.Writing.{Misfits, RefusesBatch, RefusesFirst, RefusesNext, RefusesSchema}
-use Rattle.ipc_text.specs.CsvRows.{EachReadsAs}
+use Rattle.ipc_csv.specs.CsvRows.{EachReadsAs}
 use Rattle.ipc_from_csv.specs.Batches.{IsFull, last_batch}
 use Rattle.ipc_from_csv.specs.Conversion.{Answers, IsLeftToRefuse, StopsFor, StopsWriting, table_of}
 use Rattle.ipc_from_csv.specs.Records.{EachRecordReadsAs}

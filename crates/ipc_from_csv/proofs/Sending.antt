@@ -16,8 +16,8 @@ use Rattle.ipc_stream.specs.Writer.{Leaves, Starts, Writer}
 use Rattle.ipc_stream.specs.Writing.{AcceptsBatch, AcceptsSchema, AddsBatch, OpensStream, Sent}
 use Rattle.ipc_stream.proofs.Runs.{run_then}
 use Rattle.ipc_model.specs.Limits.{IsStandard}
-use Rattle.ipc_text.specs.CsvRows.{RecordReadsAs}
-use Rattle.ipc_text.specs.RowCsv.{flat_fault, names}
+use Rattle.ipc_csv.specs.CsvRows.{RecordReadsAs}
+use Rattle.ipc_csv.specs.RowCsv.{flat_fault, names}
 use Rattle.ipc_from_csv.specs.Batches.{AreBatched, IsFull}
 use Rattle.ipc_from_csv.specs.Records.{EachRecordReadsAs, Stands}
 use Rattle.ipc_from_csv.specs.Steps.{Begins, IsOut}

@@ -5,7 +5,7 @@ use Rattle.std.specs.List.{AllByRecursion}
 use Rattle.ipc_model.specs.declared.schema.Schema.{Schema}
 use Rattle.ipc_model.specs.declared.table.BatchRows.{BatchRows}
 use Rattle.ipc_model.specs.declared.value.Value.{Value}
-use Rattle.ipc_text.specs.RowCsv.{flat_fault}
+use Rattle.ipc_csv.specs.RowCsv.{flat_fault}
 use Rattle.ipc_from_csv.specs.Records.{EachRecordReadsAs}
 
 -- a batch without pairs that has exactly so many rows

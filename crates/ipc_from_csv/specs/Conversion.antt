@@ -14,10 +14,10 @@ use Rattle.ipc_model.specs.declared.value.Value.{Value}
 use Rattle.ipc_stream.specs.declared.end.End.TheVariants.{Closed, Mark}
 use Rattle.ipc_stream.specs.Stream.{Denotes}
 use Rattle.ipc_stream.specs.Writing.{BreaksOff, Sent}
-use Rattle.ipc_text.specs.CsvRows.{IsHeaderFault, IsRecordFault}
-use Rattle.ipc_text.specs.RowCsv.{flat_fault, names}
-use Rattle.ipc_text.specs.declared.fault.TextFault.{TextFault}
-use Rattle.ipc_text.specs.declared.fault.TextFault.TheVariants.{OutOfMemory, WrongFieldCount}
+use Rattle.ipc_csv.specs.CsvRows.{IsHeaderFault, IsRecordFault}
+use Rattle.ipc_csv.specs.RowCsv.{flat_fault, names}
+use Rattle.ipc_moments.specs.declared.fault.TextFault.{TextFault}
+use Rattle.ipc_moments.specs.declared.fault.TextFault.TheVariants.{OutOfMemory, WrongFieldCount}
 use Rattle.ipc_from_csv.specs.Batches.{AreBatched, last_batch}
 use Rattle.ipc_from_csv.specs.Records.{AreFirstRecordsOf, AreRecordsOf, Stands}
 use Rattle.ipc_from_csv.specs.declared.stop.Stop.{Stop}

@@ -8,7 +8,7 @@ use Rattle.csv.specs.declared.reader.Reader.{Reader}
 use Rattle.csv.specs.declared.reader.Trim.TheVariants as trim
 use Rattle.ipc_model.specs.declared.schema.Field.{Field}
 use Rattle.ipc_model.specs.declared.value.Value.{Value}
-use Rattle.ipc_text.specs.CsvRows.{RecordReadsAs}
+use Rattle.ipc_csv.specs.CsvRows.{RecordReadsAs}
 
 -- these are all the records of an input, where its bytes are known: of what follows a byte order
 -- mark, if it begins with one

@@ -10,7 +10,7 @@ use Rattle.ipc_model.specs.declared.value.Value.{Value}
 use Rattle.ipc_stream.specs.Stream.{Run, batch, schema}
 use Rattle.ipc_stream.specs.Writer.{Writer}
 use Rattle.ipc_stream.specs.Writing.{AcceptsBatch, AcceptsSchema, Sent}
-use Rattle.ipc_text.specs.RowCsv.{flat_fault, names}
+use Rattle.ipc_csv.specs.RowCsv.{flat_fault, names}
 use Rattle.ipc_from_csv.specs.Batches.{AreBatched, last_batch}
 use Rattle.ipc_from_csv.specs.Conversion.{StopsFor}
 use Rattle.ipc_from_csv.specs.Records.{AreFirstRecordsOf, AreRecordsOf, Stands}

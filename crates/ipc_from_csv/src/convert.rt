@@ -3,7 +3,7 @@ ghost use Rattle.std.specs.Prelude.{◌≡◌, ◌≢◌, ◌<◌, ◌≤◌, �
 ghost use Rattle.std.specs.Prelude.{Some, Err, IfErr, OnOk};
 ghost use Rattle.ipc_model.specs.declared.fault.WriteFault.{WriteFault};
 ghost use Rattle.ipc_stream.specs.Writer.{Finishes, FinishFails};
-ghost use Rattle.ipc_text.specs.RowCsv.{flat_fault, names};
+ghost use Rattle.ipc_csv.specs.RowCsv.{flat_fault, names};
 ghost use Rattle.ipc_from_csv.specs.declared.stop.Stop.TheVariants as stop;
 ghost use Rattle.ipc_from_csv.specs.Records.{IsSetUp, Stands};
 ghost use Rattle.ipc_from_csv.specs.Conversion.{Answers, Converts, IsLeftToRefuse, StopsFor};
@@ -12,9 +12,9 @@ ghost use Rattle.ipc_from_csv.specs.Steps.{Begins, SendsRecords};
 use crate::records::{next_record, read_header, reader_of};
 use crate::stop::Stop;
 use csv::{ByteRecord, Reader};
+use ipc_csv::row_from_csv;
 use ipc_model::{BatchRows, Limits, Schema, WriteFault};
 use ipc_stream::{Sink, StreamWriter};
-use ipc_text::row_from_csv;
 use std::alloc::Global;
 use std::io::Read;
 

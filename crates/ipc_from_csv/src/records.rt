@@ -3,15 +3,16 @@ ghost use Rattle.std.specs.Prelude.{◌≡◌, ◌⊎◌, ℕ, List, [], Option,
 ghost use Rattle.csv.specs.Reading.{error_kind, has_failed, is_io};
 ghost use Rattle.csv.specs.Records.{fields_of};
 ghost use Rattle.csv.specs.declared.error.ErrorKind.TheVariants as kind;
-ghost use Rattle.ipc_text.specs.declared.fault.TextFault.TheVariants.{OutOfMemory};
+ghost use Rattle.ipc_moments.specs.declared.fault.TextFault.TheVariants.{OutOfMemory};
 ghost use Rattle.ipc_from_csv.specs.declared.stop.Stop.TheVariants as stop;
 ghost use Rattle.ipc_from_csv.specs.Records.{Finds, IsSetUp, Stands};
 ghost use Rattle.ipc_from_csv.specs.Conversion.{AnswersHeader};
 
 use crate::stop::Stop;
 use csv::{ByteRecord, Error, Reader, ReaderBuilder};
+use ipc_csv::{check_flat, check_header};
 use ipc_model::Schema;
-use ipc_text::{TextFault, check_flat, check_header};
+use ipc_moments::TextFault;
 use std::alloc::Global;
 use std::io::Read;
 

@@ -1,11 +1,11 @@
 //! Why a conversion stopped.
 ghost use Rattle.std.specs.Prelude.{◌≡◌};
-ghost use Rattle.ipc_text.specs.declared.fault.TextFault.{TextFault};
-ghost use Rattle.ipc_text.specs.declared.fault.TextFault.TheVariants.{OutOfMemory};
+ghost use Rattle.ipc_moments.specs.declared.fault.TextFault.{TextFault};
+ghost use Rattle.ipc_moments.specs.declared.fault.TextFault.TheVariants.{OutOfMemory};
 ghost use Rattle.ipc_from_csv.specs.declared.stop.Stop.TheVariants as stop;
 
 use ipc_model::WriteFault;
-use ipc_text::TextFault;
+use ipc_moments::TextFault;
 use std::alloc::AllocFailed;
 
 /// Why no whole stream was made of an input.

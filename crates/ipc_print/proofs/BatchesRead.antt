@@ -18,7 +18,7 @@ use Rattle.ipc_stream.specs.Stream.{InForce, batch, Run, done}
 use Rattle.ipc_stream.proofs.Runs.{run_then, reads_after}
 use Rattle.ipc_print.specs.declared.rows.PrintFault.{PrintFault}
 use Rattle.ipc_model.specs.declared.schema.Field.{Field}
-use Rattle.ipc_text.specs.declared.fault.TextFault.{TextFault}
+use Rattle.ipc_moments.specs.declared.fault.TextFault.{TextFault}
 use Rattle.ipc_print.specs.declared.form.Form.{Form}
 use Rattle.ipc_print.specs.declared.stop.Outcome.TheVariants.{Whole, Broken, Refused as Lacking}
 use Rattle.ipc_print.specs.Columns.{AreShownColumns}

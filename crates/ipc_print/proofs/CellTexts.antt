@@ -6,7 +6,7 @@ use Rattle.std.proofs.lemmas.Option.{get_or_from_slice_get}
 use Rattle.serde_json.specs.Written.{compact_text, items_text, comma_if}
 use Rattle.ipc_model.specs.declared.schema.Field.{Field}
 use Rattle.ipc_model.specs.declared.value.Value.{Value}
-use Rattle.ipc_text.specs.RowJson.{cell_json, each_json}
+use Rattle.ipc_json.specs.RowJson.{cell_json, each_json}
 use Rattle.ipc_print.proofs.Shown.{got_inside}
 
 each_more : (fs : List Field) (vs : List Value) (i : ℕ) (f : Field) (v : Value) (later : Bool) → i < length fs → f ≡ get_or fs i f

@@ -20,12 +20,12 @@ use Rattle.ipc_model.specs.declared.value.Value.TheVariants as v
 use Rattle.ipc_column.specs.declared.cell.Cell.{Cell}
 use Rattle.ipc_column.specs.declared.cell.Cell.TheVariants as cell
 use Rattle.ipc_column.specs.Values.{cell_value}
-use Rattle.ipc_text.specs.RowJson.{Printed, cell_json, each_json, field_json, value_json, row_text}
+use Rattle.ipc_json.specs.RowJson.{Printed, cell_json, each_json, field_json, value_json, row_text}
 use Rattle.csv.specs.Writing.{next_sep, default_writer}
-use Rattle.ipc_text.specs.declared.fault.TextFault.{TextFault}
-use Rattle.ipc_text.specs.RowCsv.{Appended, IsRefusal, LacksText, text_in, value_text, with_fields, all_texts, each_text}
-use Rattle.ipc_text.proofs.Records.{field_more, cells_from as texts_from}
-use Rattle.ipc_text.proofs.Fronts.{each_from}
+use Rattle.ipc_moments.specs.declared.fault.TextFault.{TextFault}
+use Rattle.ipc_csv.specs.RowCsv.{Appended, IsRefusal, LacksText, text_in, value_text, with_fields, all_texts, each_text}
+use Rattle.ipc_csv.proofs.Records.{field_more, cells_from as texts_from}
+use Rattle.ipc_json.proofs.Fronts.{each_from}
 use Rattle.ipc_print.specs.declared.form.Form.TheVariants.{Counts, Rows}
 use Rattle.ipc_print.specs.Columns.{AreShownColumns, IsShownColumn}
 use Rattle.ipc_print.specs.Forms.{line_of, HaveLines}

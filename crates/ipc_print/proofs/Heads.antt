@@ -1,8 +1,8 @@
 -- A batch's rows behind its head.
-use Rattle.std.proofs.Common.{ℕ, List, [], ◌++◌, Option, Some, None, Result, Ok, Err}
+use Rattle.std.proofs.Common.{ℕ, List, [], Option, Some, None, Result, Ok, Err}
 use Rattle.ipc_model.specs.declared.schema.Field.{Field}
 use Rattle.ipc_model.specs.declared.value.Value.{Value}
-use Rattle.ipc_text.specs.declared.fault.TextFault.{TextFault}
+use Rattle.ipc_moments.specs.declared.fault.TextFault.{TextFault}
 use Rattle.ipc_print.specs.declared.form.Form.{Form}
 use Rattle.ipc_print.specs.declared.rows.PrintFault.{PrintFault}
 use Rattle.ipc_print.specs.Output.{Output, output, Puts}

@@ -7,7 +7,7 @@ use Rattle.std.specs.Str.Parse.{AllDigits}
 use Rattle.std.proofs.lemmas.Bool.Decides.{nat_tests}
 use Rattle.std.proofs.lemmas.Fmt.{decimal_is_IsNumeral}
 use Rattle.std.proofs.lemmas.Str.Parse.{digit_from_value}
-use Rattle.ipc_text.specs.ShortTexts.{IsPlain}
+use Rattle.ipc_moments.specs.ShortTexts.{IsPlain}
 use Rattle.csv.specs.Writing.{needs_quotes, needs_byte, field_text, default_writer}
 
 digit_plain : (c : ℕ) → IsInRange 48 57 c → needs_byte default_writer c ≡ false

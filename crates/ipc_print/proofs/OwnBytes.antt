@@ -3,7 +3,7 @@ use Rattle.std.proofs.Common.{◌≡◌, ◌<◌, ◌≤◌, ◌/◌, ◌%◌, r
 use Rattle.std.proofs.lemmas.Bool.{agree_below_at, or_parts}
 use Rattle.hex.specs.Hex.{IsBytes, encode_with, encode_lower, lower_digits}
 use Rattle.json.specs.Print.{escape, escape_byte}
-use Rattle.ipc_text.specs.ShortTexts.{IsPlain}
+use Rattle.ipc_moments.specs.ShortTexts.{IsPlain}
 use Rattle.std.proofs.lemmas.Bool.Decides.{nat_tests}
 use Rattle.ipc_print.specs.Escaped.{is_escaped, has_escaped}
 

@@ -4,8 +4,8 @@ use Rattle.std.proofs.lemmas.Bool.Decides.{nat_tests}
 use Rattle.csv.specs.Writing.{row_body, default_writer}
 use Rattle.ipc_model.specs.declared.schema.Field.{Field}
 use Rattle.ipc_model.specs.declared.value.Value.{Value}
-use Rattle.ipc_text.specs.declared.fault.TextFault.{TextFault}
-use Rattle.ipc_text.specs.RowCsv.{Ended, end_behind, flat_fault, put_texts, record_of, row_csv, row_texts, with_fields}
+use Rattle.ipc_moments.specs.declared.fault.TextFault.{TextFault}
+use Rattle.ipc_csv.specs.RowCsv.{Ended, end_behind, flat_fault, put_texts, record_of, row_csv, row_texts, with_fields}
 
 some_byte : (n : ℕ) → (suc n == 0) ≡ false
 some_byte n = grind (arith, nat_tests)

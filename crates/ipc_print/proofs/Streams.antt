@@ -7,7 +7,6 @@ use Rattle.std.specs.Io.KnownBytes.{Appends, Consumes, IsAtEnd, Keeps}
 use Rattle.std.proofs.KnownBytes.{Consumes-trans, Keeps-refl}
 use Rattle.ipc_model.specs.declared.fault.Fault.{Fault}
 use Rattle.ipc_model.specs.declared.table.Table.{Table}
-use Rattle.ipc_model.specs.declared.value.Value.{Value}
 use Rattle.ipc_stream.specs.declared.end.End.{End}
 use Rattle.ipc_stream.specs.declared.end.End.TheVariants.{Mark, Closed}
 use Rattle.ipc_stream.specs.Reader.{Reader, in_force_of, Opens, OpenFails}
@@ -15,7 +14,7 @@ use Rattle.ipc_stream.specs.Reasons.{Reads, Ends}
 use Rattle.ipc_stream.specs.Stream.{State, Event, schema, batch, Run, Denotes, events_of}
 use Rattle.ipc_model.specs.declared.fault.WriteFault.{WriteFault}
 use Rattle.ipc_model.specs.Numbering.{write_fault_status}
-use Rattle.ipc_text.specs.declared.fault.TextFault.{TextFault}
+use Rattle.ipc_moments.specs.declared.fault.TextFault.{TextFault}
 use Rattle.ipc_print.specs.declared.form.Form.{Form}
 use Rattle.ipc_print.specs.declared.rows.PrintFault.{PrintFault}
 use Rattle.ipc_print.specs.declared.rows.PrintFault.TheVariants as p

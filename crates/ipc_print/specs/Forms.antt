@@ -11,10 +11,10 @@ use Rattle.ipc_model.specs.declared.value.Value.{Value}
 use Rattle.ipc_stream.specs.declared.end.End.{End}
 use Rattle.ipc_stream.specs.declared.end.End.TheVariants.{Mark, Closed}
 use Rattle.ipc_stream.specs.Counts.{count_up}
-use Rattle.ipc_text.specs.RowJson.{row_text}
-use Rattle.ipc_text.specs.SchemaJson.{pairs_text, schema_text}
-use Rattle.ipc_text.specs.RowCsv.{flat_fault, header_text, row_csv}
-use Rattle.ipc_text.specs.declared.fault.TextFault.{TextFault}
+use Rattle.ipc_json.specs.RowJson.{row_text}
+use Rattle.ipc_json.specs.SchemaJson.{pairs_text, schema_text}
+use Rattle.ipc_csv.specs.RowCsv.{flat_fault, header_text, row_csv}
+use Rattle.ipc_moments.specs.declared.fault.TextFault.{TextFault}
 use Rattle.ipc_print.specs.declared.form.Form.{Form}
 use Rattle.ipc_print.specs.declared.form.Form.TheVariants.{Counts, Rows, Records}
 

@@ -20,8 +20,8 @@ use Rattle.ipc_stream.specs.Failures.{Tells}
 use Rattle.ipc_stream.specs.Reasons.{Reads}
 use Rattle.ipc_stream.specs.Reader.{Reader, in_force_of}
 use Rattle.ipc_stream.specs.Counts.{count_up}
-use Rattle.ipc_text.specs.declared.fault.TextFault.{TextFault}
-use Rattle.ipc_text.specs.declared.fault.TextFault.TheVariants as x
+use Rattle.ipc_moments.specs.declared.fault.TextFault.{TextFault}
+use Rattle.ipc_moments.specs.declared.fault.TextFault.TheVariants as x
 use Rattle.ipc_print.specs.declared.form.Form.{Form}
 use Rattle.ipc_print.specs.declared.rows.PrintFault.{PrintFault}
 use Rattle.ipc_print.specs.declared.rows.PrintFault.TheVariants as p

@@ -1,7 +1,7 @@
 //! The rows of a batch as text, in each form.
 ghost use Rattle.std.specs.Prelude.{◌≡◌, ◌≢◌, ◌≤◌, ◌<◌, [], length, take, Bool, IfErr, IfOk};
 ghost use Rattle.std.specs.Prelude.{slice_index_or, IsTrue, None};
-ghost use Rattle.ipc_text.specs.declared.fault.TextFault.TheVariants.{OutOfMemory};
+ghost use Rattle.ipc_moments.specs.declared.fault.TextFault.TheVariants.{OutOfMemory};
 ghost use Rattle.ipc_print.specs.Columns.{AreShownColumns};
 ghost use Rattle.ipc_print.specs.Forms as spec;
 ghost use Rattle.ipc_print.specs.Forms.{HasLine, Lacks, form_fault, head_of, pairs_line};
@@ -15,9 +15,10 @@ use crate::json_row::json_line;
 use crate::rows::{Lines, PrintFault};
 use crate::types::are_numbers;
 use ipc_column::Batch;
+use ipc_json::pairs_json;
 use ipc_model::{Field, Text};
+use ipc_moments::TextFault;
 use ipc_stream::Sink;
-use ipc_text::{TextFault, pairs_json};
 use std::alloc::Global;
 
 // Writes the line of a row to the front of a buffer, and returns where it ends.

@@ -3,10 +3,10 @@ ghost use Rattle.std.specs.Prelude.{◌≡◌, ◌≤◌, ◌<◌, ◌+◌, ◌+
 ghost use Rattle.std.specs.Prelude.{None, Ok, slice_index_or};
 ghost use Rattle.csv.specs.Writing.{default_writer, next_sep};
 ghost use Rattle.ipc_column.specs.Values.{cell_value};
-ghost use Rattle.ipc_text.specs.Moments.{moment_text};
-ghost use Rattle.ipc_text.specs.RowCsv.{Appended, IsRefusal, LacksText, flat_fault, int_text};
-ghost use Rattle.ipc_text.specs.RowCsv.{bool_text, null_text, put_texts, row_csv, text_in};
-ghost use Rattle.ipc_text.specs.RowCsv.{with_field};
+ghost use Rattle.ipc_moments.specs.Moments.{moment_text};
+ghost use Rattle.ipc_csv.specs.RowCsv.{Appended, IsRefusal, LacksText, flat_fault, int_text};
+ghost use Rattle.ipc_csv.specs.RowCsv.{bool_text, null_text, put_texts, row_csv, text_in};
+ghost use Rattle.ipc_csv.specs.RowCsv.{with_field};
 
 use crate::fields::{
     put_bytes_field, put_end, put_moment_field, put_signed_field, put_text_field,
@@ -15,7 +15,7 @@ use crate::fields::{
 use crate::room::{put, reserve};
 use ipc_column::{Batch, Cell};
 use ipc_model::{DataType, Field};
-use ipc_text::{TextFault, moment_text};
+use ipc_moments::{TextFault, moment_text};
 
 // More than a comma and any value but a text or bytes take.
 const ROOM: usize = 64;

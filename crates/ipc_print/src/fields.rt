@@ -4,13 +4,14 @@ ghost use Rattle.std.specs.Prelude.{IfOk};
 ghost use Rattle.std.specs.Fmt.{signed_decimal};
 ghost use Rattle.csv.specs.Writing.{default_writer};
 ghost use Rattle.hex.specs.Hex.{encode_lower};
-ghost use Rattle.ipc_text.specs.RowCsv.{backslashed, with_field, Ended};
+ghost use Rattle.ipc_csv.specs.RowCsv.{backslashed, with_field, Ended};
 
 use crate::digits::{put_signed, put_unsigned};
 use crate::hexadecimal::put_hexadecimal;
 use crate::room::{put, put_short, reserve};
 use crate::unquoted::needs_no_quotes;
-use ipc_text::{ShortText, push_field, push_text};
+use ipc_csv::{push_field, push_text};
+use ipc_moments::ShortText;
 use std::alloc::AllocError;
 
 // Appends a field behind the first `at` bytes, in quotes, and returns where it ends.

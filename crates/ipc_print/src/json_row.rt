@@ -6,7 +6,7 @@ ghost use Rattle.json.specs.Print.{quoted};
 ghost use Rattle.serde_json.specs.Data.{boolean, null};
 ghost use Rattle.serde_json.specs.Written.{comma_if, compact_text, items_text};
 ghost use Rattle.ipc_column.specs.Values.{cell_value};
-ghost use Rattle.ipc_text.specs.RowJson.{cell_json, each_json, int_json, row_text};
+ghost use Rattle.ipc_json.specs.RowJson.{cell_json, each_json, int_json, row_text};
 
 use crate::digits::{put_signed, put_unsigned};
 use crate::hexadecimal::put_hexadecimal;
@@ -14,7 +14,7 @@ use crate::room::{put, reserve};
 use crate::strings::{put_moment, put_string};
 use ipc_column::{Batch, Cell};
 use ipc_model::{DataType, Field};
-use ipc_text::moment_text;
+use ipc_moments::moment_text;
 use std::alloc::AllocError;
 
 // More than a comma and any value but a text or bytes take.

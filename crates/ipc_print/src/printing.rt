@@ -2,8 +2,8 @@
 ghost use Rattle.std.specs.Prelude.{◌≡◌, ◌++◌, ◌∷◌, [], Some, IfErr, IfOk, OnOk};
 ghost use Rattle.std.specs.Prelude.{decimal, None, Ok};
 ghost use Rattle.ipc_stream.specs.declared.phase.Phase.TheVariants.{Reading};
-ghost use Rattle.ipc_text.specs.RowCsv.{unless_fault};
-ghost use Rattle.ipc_text.specs.SchemaJson.{schema_text};
+ghost use Rattle.ipc_csv.specs.RowCsv.{unless_fault};
+ghost use Rattle.ipc_json.specs.SchemaJson.{schema_text};
 ghost use Rattle.ipc_print.specs.Forms.{counts_text, form_fault, front_text};
 ghost use Rattle.ipc_print.specs.Output.{output, PrintsAs};
 ghost use Rattle.ipc_print.specs.Streams.{IsWhole, Prints, PrintsAll, PrintsBatches};
@@ -14,9 +14,11 @@ use crate::batch_text::print_batch;
 use crate::form::Form;
 use crate::rows::{Lines, PrintFault};
 use crate::stop::{Outcome, Stop, Tally};
+use ipc_csv::{check_flat, csv_header};
+use ipc_json::schema_json;
 use ipc_model::{Limits, Schema, WriteFault};
+use ipc_moments::TextFault;
 use ipc_stream::{End, Sink, Source, StreamReader};
-use ipc_text::{TextFault, check_flat, csv_header, schema_json};
 use itoa::Buffer;
 use std::alloc::{AllocError, Global};
 

@@ -1,9 +1,9 @@
 //! Room for a text that is written at a place of a kept buffer.
-ghost use Rattle.ipc_text.specs.ShortTexts.{IsPlain};
+ghost use Rattle.ipc_moments.specs.ShortTexts.{IsPlain};
 ghost use Rattle.std.specs.Prelude.{◌≡◌, ◌≤◌, ◌<◌, ◌+◌, ◌++◌, length, take, OnOk};
 
 use crate::rows::put_word;
-use ipc_text::ShortText;
+use ipc_moments::ShortText;
 use std::alloc::AllocError;
 
 // Makes the buffer longer. It is called once for each length that a line never had before.

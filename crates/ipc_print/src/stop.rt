@@ -5,8 +5,8 @@ ghost use Rattle.ipc_stream.specs.Counts.{count_up};
 ghost use Rattle.ipc_print.specs.Streams.{stop_status};
 
 use ipc_model::{Fault, WriteFault};
+use ipc_moments::TextFault;
 use ipc_stream::End;
-use ipc_text::TextFault;
 
 /// Why printing stopped.
 #[derive(Debug, Drop)]

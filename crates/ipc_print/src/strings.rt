@@ -7,7 +7,7 @@ ghost use Rattle.json.specs.Print.{escape, escape_byte, quoted};
 use crate::plain::is_plain;
 use crate::room::{put, put_short, reserve};
 use crate::rows::put_word;
-use ipc_text::ShortText;
+use ipc_moments::ShortText;
 use std::alloc::AllocError;
 
 fn hex_digit(number: u8) -> u8

@@ -2,7 +2,7 @@ use Rattle.std.proofs.Common.{◌≡◌, ◌∙◌, ap, [], ◌∷◌, ◌++◌,
 use Rattle.std.specs.Result.{is_ok}
 use Rattle.std.proofs.lemmas.Result.{err_from_is_err_and}
 use Rattle.std.proofs.lemmas.List.{length_push}
-use Rattle.ipc_text.specs.RowCsv.{names}
+use Rattle.ipc_csv.specs.RowCsv.{names}
 use Rattle.ipc_from_csv.specs.Conversion.{behind, exhausted_behind}
 use Rattle.ipc_from_csv.proofs.Breaking.{batch_stops, last_stops, record_stops, stops_here, unread_stops}
 use Rattle.ipc_from_csv.proofs.Ending.{ends_full, ends_last, last_is, none_kept, some_kept}

@@ -1,6 +1,6 @@
 use Rattle.std.proofs.Common.{◌≡◌, ◌≤◌, [], drop, take, length}
 use Rattle.std.specs.Prelude.{slice_index_or}
-use Rattle.ipc_text.specs.RowCsv.{with_fields, all_texts, each_text}
+use Rattle.ipc_csv.specs.RowCsv.{with_fields, all_texts, each_text}
 use Rattle.ipc_print.proofs.csv_row.put_cells.Given as goal
 
 -- the first fields were written

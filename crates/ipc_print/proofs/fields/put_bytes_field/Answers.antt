@@ -1,4 +1,4 @@
-use Rattle.ipc_text.proofs.PlainDigits.{digits_as_they_stand}
+use Rattle.ipc_csv.proofs.PlainDigits.{digits_as_they_stand}
 use Rattle.ipc_print.proofs.fields.put_bytes_field.Goals as goal
 
 pub returns-clause-text : goal.returns-clause-text

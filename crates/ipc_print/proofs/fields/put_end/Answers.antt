@@ -1,6 +1,6 @@
 use Rattle.std.proofs.Common.{◌≡◌, ◌<◌, ◌∙◌, ◌++◌, refl, ap, sym, List, ℕ, [], ◌∷◌, length, take, arith}
 use Rattle.std.proofs.lemmas.List.{length-take-le}
-use Rattle.ipc_text.proofs.Records.{ended}
+use Rattle.ipc_csv.proofs.Records.{ended}
 use Rattle.ipc_print.proofs.RecordEnds.{end_of_none, end_of_some}
 use Rattle.ipc_print.proofs.fields.put_end.Goals as goal
 

@@ -1,7 +1,7 @@
 use Rattle.std.proofs.Common.{◌≡◌, ◌≤◌, ◌++◌, [], map, drop, take, length, false}
 use Rattle.std.specs.Prelude.{slice_index_or}
 use Rattle.serde_json.specs.Written.{items_text}
-use Rattle.ipc_text.specs.RowJson.{cell_json, each_json}
+use Rattle.ipc_json.specs.RowJson.{cell_json, each_json}
 use Rattle.ipc_print.proofs.json_row.put_cells.Given as goal
 
 -- the first cells were written

@@ -1,0 +1,7 @@
+pub mod CsvBack
+pub mod CsvFits
+pub mod CsvSteps
+pub mod NullText
+pub mod PlainDigits
+pub mod Quoted
+pub mod Records

@@ -1,0 +1,3 @@
+pub mod RowCsv
+pub mod CsvCells
+pub mod CsvRows

@@ -1,0 +1,87 @@
+//! Values from the texts of CSV fields: each in the one spelling that is written.
+ghost use Rattle.std.specs.Prelude.{◌≡◌, ℤ, ℕ, List, ◌<◌, ◌^◌, IfSome, Some, FitsSigned, decimal};
+ghost use Rattle.std.specs.Prelude.{Bool, IfOk, IfErr, IsSome, option_map};
+ghost use Rattle.std.specs.Int.{w64};
+ghost use Rattle.std.specs.Fmt.{signed_decimal};
+ghost use Rattle.ipc_csv.specs.RowCsv.{bool_text, backslashed};
+ghost use Rattle.ipc_csv.specs.CsvCells.{bytes_of};
+
+use hex::FromHexError;
+use ipc_moments::TextFault;
+use itoa::Buffer;
+use std::alloc::Global;
+
+/// The signed number, of an integer or a duration, whose decimal text this is: no plus sign, no
+/// leading zero, no `-0`. None for any other text.
+pub fn read_int(text: &str) -> Option<i64>
+    ensures only { IfSome result (λ z. signed_decimal z ≡ text.now) }
+    ensures all { (z : ℤ) → FitsSigned w64 z → signed_decimal z ≡ text.now → result ≡ Some z }
+{
+    let Ok(number) = text.parse::<i64>() else {
+        return None;
+    };
+    if Buffer::new().format(number) == text {
+        Some(number)
+    } else {
+        None
+    }
+}
+
+/// The unsigned number whose decimal text this is: no sign, no leading zero. None for any other
+/// text.
+pub fn read_uint(text: &str) -> Option<u64>
+    ensures only { IfSome result (λ n. decimal n ≡ text.now) }
+    ensures all { (n : ℕ) → n < 2 ^ 64 → decimal n ≡ text.now → result ≡ Some n }
+{
+    let Ok(count) = text.parse::<u64>() else {
+        return None;
+    };
+    let mut digits = Buffer::new();
+    if digits.format(count) == text {
+        Some(count)
+    } else {
+        None
+    }
+}
+
+/// The boolean whose text this is, `true` or `false`. None for any other text.
+pub fn read_bool(text: &str) -> Option<bool>
+    ensures only { IfSome result (λ truth. bool_text truth ≡ text.now) }
+    ensures all { (truth : Bool) → bool_text truth ≡ text.now → result ≡ Some truth }
+{
+    match text {
+        "true" => Some(true),
+        "false" => Some(false),
+        _ => None,
+    }
+}
+
+/// The text whose field of CSV this is, one backslash in front of another taken away. None for a
+/// field with one backslash in front, as that of null is.
+pub fn read_text(field: &[u8]) -> Option<&[u8]>
+    ensures only { IfSome result (λ text. backslashed text.now ≡ field.now) }
+    ensures all { (t : List ℕ) → backslashed t ≡ field.now → IsSome result }
+{
+    if field.first() != Some(&b'\\') {
+        return Some(field);
+    }
+    let text = &field[1..];
+    if text.first() == Some(&b'\\') {
+        Some(text)
+    } else {
+        None
+    }
+}
+
+/// The bytes whose hexadecimal digits these are, in either case. None for any other text. It
+/// refuses only where memory ran out.
+pub fn read_bytes(alloc: Global, text: &[u8]) -> Result<Option<Vec<u8>>, TextFault>
+    ensures bytes { IfOk result (λ read. option_map (λ b. b.items) read ≡ bytes_of text.now) }
+    ensures refused { IfErr result (λ fault. fault ≡ TextFault.OutOfMemory) }
+{
+    match hex::decode(alloc, text) {
+        Ok(bytes) => Ok(Some(bytes)),
+        Err(FromHexError::OutOfMemory) => Err(TextFault::OutOfMemory),
+        Err(_) => Ok(None),
+    }
+}

@@ -1,0 +1,3 @@
+pub mod RowJson
+pub mod SchemaJson
+pub mod SchemaTexts

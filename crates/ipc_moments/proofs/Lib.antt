@@ -1,0 +1,6 @@
+pub mod Ascii
+pub mod Dates
+pub mod Days
+pub mod Taken
+pub mod Times
+pub mod TwoDigits

@@ -1,0 +1,28 @@
+use Rattle.std.proofs.Common.{arith, append_assoc, FitsSigned, w16, w64}
+use Rattle.std.proofs.lemmas.Int.{to_z-of_z}
+use Rattle.jiff_core.proofs.SignedLemmas.{signed_arith}
+use Rattle.ipc_moments.proofs.Days.{same_day, printed}
+use Rattle.ipc_moments.proofs.calendar.day_text.Goals as goal
+
+pub returns-clause-text : goal.returns-clause-text
+returns-clause-text c =
+    let fits : FitsSigned w64 c.args.day = c.ranges.day in
+    let e = simp to_z-of_z at c.in-Ok.ensures.value in
+    let low = simp to_z-of_z at c.if-day-lt-FIRST_DAY.false in
+    let high = simp to_z-of_z at c.if-day-gt-LAST_DAY.false in
+    let s = same_day c.in-Ok.date c.args.day (omega (arith, signed_arith)) (omega (arith, signed_arith)) e in
+    let f16 : FitsSigned w16 c.in-Ok.date.year = let y = s.year in let four = s.four in omega (arith, signed_arith) in
+    let abs = simp to_z-of_z at c.unsigned_abs.ensures.value in
+    rw (
+      c.push_two_digits-2.ensures,
+      c.push-2.ensures,
+      c.push_two_digits.ensures,
+      c.push.ensures,
+      c.push_four_digits.ensures,
+      c.new-text.ensures,
+      c.from-3.ensures,
+      c.from-2.ensures,
+      c.from.ensures,
+      abs,
+    )
+    (simp append_assoc (printed c.in-Ok.date c.args.day low high s))

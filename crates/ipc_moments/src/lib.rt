@@ -1,0 +1,17 @@
+//! Texts of dates, times and points in time, both ways, and what else texts of JSON and CSV have in
+//! common: the digits of bytes, and why a text is not made or not read.
+#![tactic(auto)]
+
+mod calendar;
+mod digits;
+mod fault;
+mod moment;
+mod moment_reader;
+mod pairs;
+mod short_text;
+
+pub use digits::push_digits;
+pub use fault::TextFault;
+pub use moment::{date_text, moment_text, time_text, timestamp_text};
+pub use moment_reader::{read_date, read_time, read_timestamp};
+pub use short_text::ShortText;
