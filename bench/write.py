@@ -5,7 +5,7 @@ import sys
 import time
 
 TOP = pathlib.Path(__file__).resolve().parent.parent
-PROGRAM = TOP / "crates" / "write_numbers" / "out" / "write_numbers"
+PROGRAM = TOP / "crates" / "workbench" / "out" / "workbench"
 ROWS = 65_536
 BATCH = ROWS * 4 * 8
 
@@ -15,14 +15,14 @@ def best(batches, runs=5):
     least = float("inf")
     for _ in range(runs):
         start = time.perf_counter()
-        subprocess.run([PROGRAM, str(batches), str(ROWS)], stdout=subprocess.DEVNULL, check=True)
+        subprocess.run([PROGRAM, "write-numbers", str(batches), str(ROWS)], stdout=subprocess.DEVNULL, check=True)
         least = min(least, time.perf_counter() - start)
     return least
 
 
 def main():
     if not PROGRAM.exists():
-        subprocess.run(["rt", "run", "--", "2", "3"], cwd=PROGRAM.parent.parent, stdout=subprocess.DEVNULL, check=True)
+        subprocess.run(["rt", "run", "--", "write-numbers", "2", "3"], cwd=PROGRAM.parent.parent, stdout=subprocess.DEVNULL, check=True)
     megabytes = int(sys.argv[1]) if len(sys.argv) > 1 else 64
     batches = max(1, megabytes * 1_000_000 // BATCH)
     # The first batch pays for the rows, which are made once.

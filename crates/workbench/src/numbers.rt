@@ -1,33 +1,12 @@
-//! The program `write_numbers`: `write_numbers BATCHES ROWS` writes a stream of four required
-//! columns of signed 64-bit integers to standard output, with so many batches of so many rows. The
-//! writer is measured by it.
-#![tactic(auto)]
-
+//! A stream of four required columns of signed 64-bit integers, by which writing is measured.
 use ipc_model::{
     BatchRows, DataType, Field, IntBits, Items, Limits, Row, Schema, Text, Value, WriteFault,
 };
 use ipc_stream::{Device, StreamWriter};
 use std::alloc::{AllocError, Global};
-use std::env::Args;
 use std::io::Write;
-use std::process::ExitCode;
-use std::{env, io};
-
-const USAGE: &str = "usage: write_numbers BATCHES ROWS > STREAM";
 
 const NAMES: [&str; 4] = ["a", "b", "c", "d"];
-
-// How many batches and rows the words ask for, of which the first is the program's name.
-fn sizes(words: Args) -> Option<(u32, u32)> {
-    let mut words = words;
-    let _program = words.next();
-    let batches = words.next()?.as_str().parse::<u32>().ok()?;
-    let rows = words.next()?.as_str().parse::<u32>().ok()?;
-    if words.next().is_some() {
-        return None;
-    }
-    Some((batches, rows))
-}
 
 fn field(alloc: Global, name: &str) -> Result<Field, AllocError> {
     Ok(Field {
@@ -73,7 +52,8 @@ fn rows(alloc: Global, count: u32) -> Result<BatchRows, AllocError> {
     Ok(BatchRows::new(rows))
 }
 
-fn write<W: Write + Drop>(
+/// Writes so many batches of so many rows.
+pub fn write_numbers<W: Write + Drop>(
     alloc: Global,
     writer: W,
     batches: u32,
@@ -87,22 +67,4 @@ fn write<W: Write + Drop>(
     }
     let _device = stream.finish()?;
     Ok(())
-}
-
-fn main(rt: HostRuntime) -> ExitCode {
-    let asked = match env::args(&rt) {
-        Ok(words) => sizes(words),
-        Err(_) => None,
-    };
-    let Some((batches, count)) = asked else {
-        let _ = rt.eprintln(USAGE);
-        return ExitCode::from(2);
-    };
-    match write(rt.alloc(), io::writer(&rt), batches, count) {
-        Ok(()) => ExitCode::from(0),
-        Err(fault) => {
-            let _ = eprintln!(rt; "{fault}");
-            ExitCode::from(1)
-        }
-    }
 }

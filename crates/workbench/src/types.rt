@@ -1,29 +1,12 @@
-//! The program `write_types`: `write_types all` writes a stream with columns of every flat type to
-//! standard output. Whatever reads streams or their metadata can be tried on it.
-#![tactic(auto)]
-
+//! A stream with columns of every flat type. Whatever reads streams or their metadata can be tried
+//! on it.
 use ipc_model::{
     BatchRows, DataType, DateUnit, Field, IntBits, Items, Limits, Row, Schema, Text, TimeUnit,
     Value, WriteFault,
 };
 use ipc_stream::{Device, StreamWriter};
 use std::alloc::{AllocError, Global};
-use std::env::Args;
 use std::io::Write;
-use std::process::ExitCode;
-use std::{env, io};
-
-const USAGE: &str = "usage: write_types all > STREAM";
-
-// Whether the words, of which the first is the program's name, ask for the stream.
-fn asks_for_all(words: Args) -> bool {
-    let mut words = words;
-    let _program = words.next();
-    let Some(word) = words.next() else {
-        return false;
-    };
-    word.as_str() == "all" && words.next().is_none()
-}
 
 fn text(alloc: Global, bytes: &str) -> Result<Text, AllocError> {
     Text::copied(alloc, bytes)
@@ -190,8 +173,8 @@ fn parts(alloc: Global) -> Result<(Schema, Row, Row), AllocError> {
     Ok((schema, Items::from_vec(full), Items::from_vec(nulls)))
 }
 
-// Batches without rows, without nulls, with nulls alone, and with both.
-fn write<W: Write + Drop>(alloc: Global, writer: W) -> Result<(), WriteFault> {
+/// Writes batches without rows, without nulls, with nulls alone, and with both.
+pub fn write_types<W: Write + Drop>(alloc: Global, writer: W) -> Result<(), WriteFault> {
     let (schema, full, nulls) = parts(alloc)?;
     let first = vec![in alloc; full.clone()?]?;
     let second = vec![in alloc; nulls.clone()?]?;
@@ -203,22 +186,4 @@ fn write<W: Write + Drop>(alloc: Global, writer: W) -> Result<(), WriteFault> {
     stream.write_batch(&BatchRows::new(third))?;
     let _device = stream.finish()?;
     Ok(())
-}
-
-fn main(rt: HostRuntime) -> ExitCode {
-    let asked = match env::args(&rt) {
-        Ok(words) => asks_for_all(words),
-        Err(_) => false,
-    };
-    if !asked {
-        let _ = rt.eprintln(USAGE);
-        return ExitCode::from(2);
-    }
-    match write(rt.alloc(), io::writer(&rt)) {
-        Ok(()) => ExitCode::from(0),
-        Err(fault) => {
-            let _ = eprintln!(rt; "{fault}");
-            ExitCode::from(1)
-        }
-    }
 }

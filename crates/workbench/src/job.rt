@@ -1,0 +1,61 @@
+//! What a command line asks for.
+use crate::column::Kind;
+use std::env::Args;
+
+/// What is to be done.
+#[derive(Clone, Copy, Debug, PartialEq, Eq)]
+pub enum Job {
+    /// Writes a stream of numbers.
+    WriteNumbers {
+        /// How many batches it has.
+        batches: u32,
+        /// How many rows each of them has.
+        rows: u32,
+    },
+    /// Writes a stream with columns of every flat type.
+    WriteTypes,
+    /// Checks a record batch of one column.
+    CheckColumns {
+        /// What the column holds.
+        kind: Kind,
+        /// How many rows it has.
+        rows: u32,
+        /// How many times it is checked.
+        times: u32,
+    },
+}
+
+fn number(words: &mut Args) -> Option<u32> {
+    words.next()?.as_str().parse::<u32>().ok()
+}
+
+// The job of this name, whose numbers are the next words.
+fn named(name: &str, words: &mut Args) -> Option<Job> {
+    Some(match name {
+        "write-numbers" => Job::WriteNumbers {
+            batches: number(words)?,
+            rows: number(words)?,
+        },
+        "write-types" => Job::WriteTypes,
+        "check-columns" => Job::CheckColumns {
+            kind: Kind::of(words.next()?.as_str())?,
+            rows: number(words)?,
+            times: number(words)?,
+        },
+        _ => return None,
+    })
+}
+
+impl Job {
+    /// The job that the words ask for, of which the first is the program's name.
+    pub fn asked(words: Args) -> Option<Job> {
+        let mut words = words;
+        let _program = words.next();
+        let name = words.next()?;
+        let job = named(name.as_str(), &mut words)?;
+        if words.next().is_some() {
+            return None;
+        }
+        Some(job)
+    }
+}

@@ -1,0 +1,63 @@
+//! The program `workbench`, whose first word says the job:
+//!
+//!     workbench write-numbers BATCHES ROWS > STREAM
+//!     workbench write-types > STREAM
+//!     workbench check-columns numbers|nulls|bytes|texts ROWS TIMES
+//!
+//! `write-numbers` writes so many batches of so many rows of four required columns of signed 64-bit
+//! integers, `write-types` columns of every flat type. `check-columns` checks a record batch of one
+//! column and so many rows so many times, and prints how many bytes that were; the column holds
+//! required 64-bit integers, nullable ones of which each third is null, binary, or UTF-8.
+#![tactic(auto)]
+
+mod batch;
+mod checks;
+mod column;
+mod job;
+mod numbers;
+mod types;
+
+use anyhow::Result;
+use checks::check_columns;
+use job::Job;
+use numbers::write_numbers;
+use std::process::ExitCode;
+use std::{env, io};
+use types::write_types;
+
+const USAGE: &str = "\
+usage: workbench write-numbers BATCHES ROWS > STREAM
+       workbench write-types > STREAM
+       workbench check-columns numbers|nulls|bytes|texts ROWS TIMES";
+
+fn run(rt: &HostRuntime, job: Job) -> Result<()> {
+    match job {
+        Job::WriteNumbers { batches, rows } => {
+            write_numbers(rt.alloc(), io::writer(rt), batches, rows)?;
+        }
+        Job::WriteTypes => write_types(rt.alloc(), io::writer(rt))?,
+        Job::CheckColumns { kind, rows, times } => {
+            let bytes = check_columns(rt.alloc(), kind, rows, times)?;
+            println!(rt; "{bytes} bytes")?;
+        }
+    }
+    Ok(())
+}
+
+fn main(rt: HostRuntime) -> ExitCode {
+    let asked = match env::args(&rt) {
+        Ok(words) => Job::asked(words),
+        Err(_) => None,
+    };
+    let Some(job) = asked else {
+        let _ = rt.eprintln(USAGE);
+        return ExitCode::from(2);
+    };
+    match run(&rt, job) {
+        Ok(()) => ExitCode::from(0),
+        Err(fault) => {
+            let _ = eprintln!(rt; "{fault}");
+            ExitCode::from(1)
+        }
+    }
+}
