@@ -1,5 +1,6 @@
 //! What is looked at in the answer to a stream.
 use crate::answer::Answer;
+use crate::pushed::Cut;
 use crate::request::Request;
 use ipc_model::{Limits, Table};
 use ipc_stream::{Memory, RoundTripFault, read_table, write_and_read_back};
@@ -7,6 +8,9 @@ use std::alloc::{AllocError, Global};
 
 /// The sizes of the pieces in which a stream is read again.
 pub const PIECES: [usize; 5] = [1, 2, 3, 7, 64];
+
+/// The sizes of the pieces in which a stream is pushed.
+pub const PUSHED: [usize; 5] = [1, 3, 7, 8, 64];
 
 /// How the rows of a stream come back when they are written.
 #[derive(Drop)]
@@ -28,6 +32,8 @@ pub struct Report {
     pub answer: Answer,
     /// The first size of pieces in which something else is read, with that.
     pub in_pieces: Option<(usize, Answer)>,
+    /// The first cut at which something else is told where the stream is pushed, with that.
+    pub pushed: Option<(Cut, Answer)>,
     /// Whether `read_table` answers the same.
     pub same_table: bool,
     /// How its rows come back: none where it is refused.
@@ -47,6 +53,49 @@ fn in_pieces(
         }
     }
     Ok(None)
+}
+
+// What is told where the stream is pushed and cut so, if that differs.
+fn pushed_so(
+    alloc: Global,
+    request: &Request,
+    cut: Cut,
+    whole: &Answer,
+) -> Result<Option<(Cut, Answer)>, AllocError> {
+    let answer = Answer::pushed(alloc, request, cut, whole)?;
+    Ok(if answer == *whole {
+        None
+    } else {
+        Some((cut, answer))
+    })
+}
+
+// The first cut in two at which something else is told, with that.
+fn pushed_in_two(
+    alloc: Global,
+    request: &Request,
+    whole: &Answer,
+) -> Result<Option<(Cut, Answer)>, AllocError> {
+    for place in 0..=request.stream.len() {
+        if let Some(other) = pushed_so(alloc, request, Cut::At(place), whole)? {
+            return Ok(Some(other));
+        }
+    }
+    Ok(None)
+}
+
+// The same of pieces of each size, and then of two pieces.
+fn pushed(
+    alloc: Global,
+    request: &Request,
+    whole: &Answer,
+) -> Result<Option<(Cut, Answer)>, AllocError> {
+    for size in PUSHED {
+        if let Some(other) = pushed_so(alloc, request, Cut::Each(size), whole)? {
+            return Ok(Some(other));
+        }
+    }
+    pushed_in_two(alloc, request, whole)
 }
 
 // Whether `read_table` answers the same as a reader did, and takes the same bytes.
@@ -88,6 +137,7 @@ impl Report {
         Ok(Report {
             length: request.stream.len(),
             in_pieces: in_pieces(alloc, request, &answer)?,
+            pushed: pushed(alloc, request, &answer)?,
             same_table: is_same_table(alloc, request, &answer)?,
             answer,
             round_trip,

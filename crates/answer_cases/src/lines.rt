@@ -1,6 +1,7 @@
 //! The lines that say what is read in a stream.
 use crate::answer::Answer;
 use crate::checks::{PIECES, Report, RoundTrip};
+use crate::pushed::Cut;
 use crate::values::{write_dictionary, write_pairs, write_text, write_type, write_value};
 use ipc_model::{BatchRows, Field, Row, Schema, Table};
 use ipc_stream::{End, RoundTripFault};
@@ -142,11 +143,24 @@ fn write_pieces<W: fmt::Write>(
     f.write_str(" same\n")
 }
 
+// The cut at which something else was told where the stream was pushed, with that.
+fn write_pushed<W: fmt::Write>(
+    f: &mut fmt::Formatter<W>,
+    pushed: &Option<(Cut, Answer)>,
+) -> fmt::Result {
+    match pushed {
+        Some((Cut::Each(size), answer)) => write!(f, "pushed in pieces of {size} other\n{answer}"),
+        Some((Cut::At(place), answer)) => write!(f, "pushed and cut at {place} other\n{answer}"),
+        None => Ok(()),
+    }
+}
+
 impl fmt::Display for Report {
     fn fmt<W: fmt::Write>(&self, f: &mut fmt::Formatter<W>) -> fmt::Result {
         write!(f, "{}", self.answer)?;
         write_taken(f, &self.answer, self.length)?;
         write_pieces(f, &self.in_pieces)?;
+        write_pushed(f, &self.pushed)?;
         if !self.same_table {
             f.write_str("read_table other\n")?;
         }

@@ -1,0 +1,114 @@
+//! What a decoder tells of a stream whose bytes are pushed in pieces.
+use crate::answer::Answer;
+use crate::request::Request;
+use ipc_model::{BatchRows, Fault, Items, Schema, Table};
+use ipc_stream::{Decoder, End, Event};
+use std::alloc::{AllocError, Global};
+
+/// How a stream is cut into pieces.
+#[derive(Clone, Copy)]
+pub enum Cut {
+    /// Into pieces of so many bytes, and at least one.
+    Each(usize),
+    /// In two, behind so many bytes.
+    At(usize),
+}
+
+// What was told so far, and how many bytes were taken.
+#[derive(Drop)]
+struct Told {
+    batches: Vec<BatchRows>,
+    taken: usize,
+}
+
+impl Told {
+    // Pushes one piece, and what a call leaves of it again.
+    fn push(&mut self, alloc: Global, decoder: &mut Decoder, piece: &[u8]) -> Result<(), Fault> {
+        let mut piece = piece;
+        for _ in 0..=piece.len() {
+            let (count, event) = decoder.feed(piece)?;
+            self.taken = self.taken.saturating_add(count);
+            piece = piece.get(count..).unwrap_or(&[]);
+            match event {
+                Some(Event::Batch(batch, pairs)) => {
+                    let rows = batch.to_rows(alloc)?;
+                    self.batches.push(BatchRows { pairs, rows })?;
+                }
+                Some(_) => {}
+                None => return Ok(()),
+            }
+        }
+        Ok(())
+    }
+
+    // Pushes all pieces.
+    fn push_all(
+        &mut self,
+        alloc: Global,
+        decoder: &mut Decoder,
+        stream: &[u8],
+        cut: Cut,
+    ) -> Result<(), Fault> {
+        match cut {
+            Cut::Each(size) => {
+                for piece in stream.chunks(size.max(1)) {
+                    self.push(alloc, decoder, piece)?;
+                }
+                Ok(())
+            }
+            Cut::At(place) => {
+                let (front, behind) = stream.split_at(place.min(stream.len()));
+                self.push(alloc, decoder, front)?;
+                self.push(alloc, decoder, behind)
+            }
+        }
+    }
+}
+
+// A copy of the schema that is in force.
+fn schema_of(decoder: &Decoder) -> Result<Option<Schema>, AllocError> {
+    match decoder.schema() {
+        Some(schema) => Ok(Some(schema.clone()?)),
+        None => Ok(None),
+    }
+}
+
+// The end of the stream, or why it was refused.
+fn ending(pushed: Result<(), Fault>, decoder: &mut Decoder) -> Result<End, Fault> {
+    pushed?;
+    decoder.close()
+}
+
+impl Answer {
+    /// What is told where the stream is cut so. Where it is refused, the bytes that were taken are
+    /// those of `whole`: `feed` doesn't tell them.
+    pub fn pushed(
+        alloc: Global,
+        request: &Request,
+        cut: Cut,
+        whole: &Answer,
+    ) -> Result<Answer, AllocError> {
+        let mut decoder = Decoder::new(alloc, request.limits);
+        let mut told = Told {
+            batches: Vec::new(alloc),
+            taken: 0,
+        };
+        let pushed = told.push_all(alloc, &mut decoder, request.stream.as_slice(), cut);
+        let messages = decoder.messages();
+        let ended = ending(pushed, &mut decoder);
+        let schema = schema_of(&decoder)?;
+        let left = request.stream.len().saturating_sub(told.taken);
+        let batches = Items::from_vec(told.batches);
+        Ok(Answer {
+            table: schema.map(|schema| Table { schema, batches }),
+            end: ended.as_ref().ok().copied(),
+            taken: if ended.is_ok() {
+                Some(told.taken as u64)
+            } else {
+                whole.taken
+            },
+            left: if ended.is_ok() { left } else { whole.left },
+            refusal: ended.err().map(|fault| (fault, messages)),
+        })
+    }
+}
