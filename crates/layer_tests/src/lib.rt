@@ -1,5 +1,5 @@
 //! Tests of the crates below the stream: lists, FlatBuffers in place, rows, limits, printed words,
-//! and batches of one column.
+//! messages whose bytes come one by one, and batches of one column.
 #![tactic(auto)]
 
 #[cfg(test)]
@@ -8,6 +8,8 @@ mod columns;
 mod encoding;
 #[cfg(test)]
 mod flat;
+#[cfg(test)]
+mod frames;
 #[cfg(test)]
 mod items;
 #[cfg(test)]
