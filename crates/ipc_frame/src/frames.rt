@@ -32,11 +32,11 @@ fn phase_behind(frame: &Frame) -> Phase
 /// "Encapsulated message format" and "IPC Streaming Format").
 ///
 /// Bytes are pushed by `feed`, or pulled by `feed_from`; the two may be mixed. Of the message at
-/// hand all bytes that came are kept, and nothing else: no byte is copied twice, its metadata is
-/// looked at once it is whole and once more with the whole body, and the list of the body is the
-/// one that is handed out. The lists grow as bytes come, never by what a message states: together
-/// they take at most twice what came, and 64 KiB. Between two messages no list is left, nor behind
-/// the end mark, after a refusal, or after `close`.
+/// hand all bytes that came are kept, and nothing else: its metadata is looked at once it is whole
+/// and once more with the whole body, and the list of the body is the one that is handed out. The
+/// lists grow as bytes come, never by what a message states: together they take at most twice what
+/// came, and 64 KiB. Nothing is kept between two messages, and no list behind the end mark, after a
+/// refusal, or after `close`.
 ///
 /// After a refusal each call answers F35 (`Failed`) and takes nothing.
 #[derive(Drop)]

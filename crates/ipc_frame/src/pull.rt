@@ -1,4 +1,5 @@
-ghost use Rattle.std.specs.Prelude.{◌≡◌, ◌<◌, ◌≤◌, ◌+◌, length, IfOk, IfErr, OnOk, OnErr};
+ghost use Rattle.std.specs.Prelude.{◌≡◌, ◌<◌, ◌≤◌, ◌+◌, ◌*◌, max, length, vec_len, vec_capacity};
+ghost use Rattle.std.specs.Prelude.{IfOk, IfErr, OnOk, OnErr};
 ghost use Rattle.std.specs.Io.KnownBytes.{Keeps};
 ghost use Rattle.ipc_frame.specs.Failures.{FailsAs, IsOutside};
 ghost use Rattle.ipc_frame.specs.Parts.{Fits, Undecided, bytes_of, wanted_of};
@@ -8,7 +9,7 @@ use crate::parts::{Awaited, Parts, wanted};
 use crate::source::Source;
 use crate::step::{Step, conclude};
 use ipc_model::{Fault, Limits};
-use std::alloc::Global;
+use std::alloc::{AllocError, Global};
 
 // How many bytes are asked for at most at once.
 const PIECE: usize = 65_536;
@@ -30,8 +31,22 @@ fn read_behind<R: Source>(source: &mut R, list: &mut [u8], start: usize) -> Resu
     }
 }
 
-// Asks the source once, for no more than is wanted, and puts what comes behind what the list holds,
-// which grows by no more than is asked for.
+// Makes room behind what a full list holds, for some of what is wanted: for as much as it holds or
+// one piece, whichever is more.
+fn make_room(list: &mut Vec<u8>, wanted: usize) -> Result<(), AllocError>
+    requires { 0 < wanted }
+    ensures room { OnOk result (vec_len list.new < vec_capacity list.new) }
+    ensures items { list.new.items ≡ list.old.items }
+    ensures few { OnOk result (vec_capacity list.new
+        ≤ max (vec_capacity list.old) (2 * vec_len list.old + PIECE)) }
+{
+    if list.len() == list.capacity() {
+        list.reserve_exact(wanted.min(list.len().max(PIECE)))?;
+    }
+    Ok(())
+}
+
+// Asks the source once, for no more than is wanted, and puts what comes behind what the list holds.
 fn read_onto<R: Source>(source: &mut R, list: &mut Vec<u8>, wanted: usize) -> Result<usize, Fault>
     requires { 0 < wanted }
     ensures comes { IfOk result (λ k. Comes (R.remaining source.old)
@@ -41,8 +56,10 @@ fn read_onto<R: Source>(source: &mut R, list: &mut Vec<u8>, wanted: usize) -> Re
     ensures only { IfErr result IsOutside }
     ensures failures { FailsAs (R.failures source.old) (R.failures source.new) result }
 {
+    make_room(list, wanted)?;
     let start = list.len();
-    list.resize(start + wanted.min(PIECE), 0)?;
+    let room = (list.capacity() - start).min(PIECE).min(wanted);
+    list.resize(start + room, 0)?;
     let count = read_behind(source, list, start)?;
     list.truncate(start + count);
     Ok(count)

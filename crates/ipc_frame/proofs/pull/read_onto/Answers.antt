@@ -4,8 +4,9 @@ use Rattle.ipc_frame.proofs.pull.read_onto.Goals as goal
 
 pub returns-clause-comes : goal.returns-clause-comes
 returns-clause-comes g c =
-    rw c.truncate.ensures.items
-    (comes_behind _ _ c.args.list.now.items c.resize.new.self.items c.read_behind.new.list _ _ c.min.result _ c.args.wanted
-    c.in_ok-count.count c.args.list.now.ok.0 c.len-start.ensures c.in_ok-resize.ensures.items c.resize.new.self.ok.0
-    (c.in_ok-count.ensures.same ∙ ap length c.deref_mut.ensures.value) (omega (arith, c.min.ensures))
+    let list = c.make_room.new.list in
+    rw (c.truncate.ensures.items, ← c.in_ok-make_room.ensures.items)
+    (comes_behind _ _ list.items c.resize.new.self.items c.read_behind.new.list _ _ c.min-room.result _ c.args.wanted
+    c.in_ok-count.count list.ok.0 c.len-start.ensures c.in_ok-resize.ensures.items c.resize.new.self.ok.0
+    (c.in_ok-count.ensures.same ∙ ap length c.deref_mut.ensures.value) (omega (arith, c.min-room.ensures))
     (behind_at _ _ _ _ _ _ _ c.deref_mut.ensures.value c.in_ok-count.ensures.behind))
