@@ -1,7 +1,10 @@
 -- What the jobs read and send, and the exit statuses.
-use Rattle.std.specs.Prelude.{◌≡◌, ◌⊎◌, ◌≤◌, ◌^◌, ◌-◌, ℕ, List, Option, Some, Result, Ok, Err, ⊤}
-use Rattle.std.specs.Prelude.{IfSome, option_and_then}
+use Rattle.std.specs.Prelude.{◌≡◌, ◌⊎◌, ℕ, List, Option, Some, Result, Ok, Err, ⊤}
+use Rattle.std.specs.Prelude.{IfSome, None, option_and_then}
+use Rattle.std.specs.List.{AllByRecursion}
+use Rattle.std.specs.Str.{IsUtf8}
 use Rattle.serde_json.specs.Read.{read}
+use Rattle.ipc_model.specs.Entries.{entries}
 use Rattle.ipc_model.specs.Limits.{IsStandard}
 use Rattle.ipc_model.specs.Numbering.{fault_status, write_fault_status}
 use Rattle.ipc_model.specs.WellFormed.{WellFormed}
@@ -10,7 +13,7 @@ use Rattle.ipc_model.specs.declared.fault.WriteFault.TheVariants as w
 use Rattle.ipc_model.specs.declared.limits.Limits.{Limits}
 use Rattle.ipc_model.specs.declared.schema.Schema.{Schema}
 use Rattle.ipc_json.specs.SchemaJson.{schema_json}
-use Rattle.ipc_json.specs.SchemaTexts.{IsUnread}
+use Rattle.ipc_json.specs.SchemaTexts.{HasWideId}
 use Rattle.ipc_moments.specs.declared.fault.TextFault.{TextFault}
 use Rattle.ipc_moments.specs.declared.fault.TextFault.TheVariants as x
 use Rattle.ipc_print.specs.Streams.{Prints}
@@ -96,32 +99,55 @@ pub record IsSchemaOf (bytes : Option (List ℕ)) (s : Schema) : Type 0 where
   pub standard : IsStandard limits
   pub formed : WellFormed limits s
 
--- there is no schema: its file can't be read, or its text isn't
-abbrev pub HasNoSchema : Stop → Type 0
-HasNoSchema why = (why ≡ stop.Schema)
-    ⊎ ((fault : TextFault) × (why ≡ stop.Text fault) × IsUnread fault)
+-- a text is that of no schema: it isn't UTF-8 (RFC 8259, section 8.1), or reads as none that is
+-- well formed under the standard limits and has ids of 64 bits
+abbrev pub HoldsNoSchema : List ℕ → Type 0
+HoldsNoSchema text = (s : Schema) (limits : Limits) → IsUtf8 text → read text ≡ Some (schema_json s)
+    → IsStandard limits → WellFormed limits s
+    → AllByRecursion (λ e. HasWideId e.dictionary) (entries s.fields) → ⊥
+
+-- how many calls of a file failed; one, where it wasn't opened
+abbrev pub failures_of : {P : Type 0} → (P → ℕ) → Option P → ℕ
+failures_of failures None = 1
+failures_of failures (Some file) = failures file
+
+-- why a file whose failures are counted isn't read to its end: a call of it failed, or memory ran
+-- out
+abbrev pub IsUnreadable : ℕ → Stop → Type 0
+IsUnreadable failures why =
+    ((why ≡ stop.Schema) × (failures ≡ 1)) ⊎ (why ≡ stop.Text x.OutOfMemory)
+
+-- why there is no schema: the file wasn't opened or a call of it failed; none failed, and its text,
+-- where that is known, is that of no schema; or memory ran out
+abbrev pub HasNoSchema : Option (List ℕ) → ℕ → Stop → Type 0
+HasNoSchema bytes failures stop.Schema = failures ≡ 1
+HasNoSchema bytes failures (stop.Text x.BadSchemaJson) =
+    (failures ≡ 0) × IfSome bytes HoldsNoSchema
+HasNoSchema bytes failures (stop.Text x.OutOfMemory) = ⊤
+HasNoSchema bytes failures why = ⊥
 
 -- what an answer says of records of CSV: there was no schema, and nothing went out; or by the
 -- file's schema they became a stream of batches of so many rows, or it broke off
-abbrev pub AnswersCsv : Option (List ℕ) → ℕ → Option (List ℕ) → Option (List ℕ)
+abbrev pub AnswersCsv : Option (List ℕ) → ℕ → ℕ → Option (List ℕ) → Option (List ℕ)
     → Option (List ℕ) → ℕ → ℕ → Result ⊤ Stop → Type 0
-AnswersCsv bytes size input written_old written_new failures_old failures_new r =
-    ((why : Stop) × (r ≡ Err why) × HasNoSchema why × (written_new ≡ written_old)
+AnswersCsv bytes failures size input written_old written_new failures_old failures_new r =
+    ((why : Stop) × (r ≡ Err why) × HasNoSchema bytes failures why × (written_new ≡ written_old)
     × (failures_new ≡ failures_old))
-    ⊎ ((s : Schema) × IsSchemaOf bytes s × (p : Result ⊤ CsvStop) × (r ≡ lifted stop_of_csv p)
+    ⊎ ((s : Schema) × IsSchemaOf bytes s × (failures ≡ 0) × (p : Result ⊤ CsvStop)
+    × (r ≡ lifted stop_of_csv p)
     × csv.Answers input s size written_old written_new failures_old failures_new p)
 
--- what an answer says of a job, whose schema's file has these bytes: what was read of the input,
--- and what went out
-abbrev pub Answers : Job → Option (List ℕ) → Option (List ℕ) → Option (List ℕ) → Option (List ℕ)
-    → Option (List ℕ) → ℕ → ℕ → Result ⊤ Stop → Type 0
-Answers (job.Check limits) bytes old new written_old written_new failures_old failures_new r =
+-- what an answer says of a job, whose schema's file has these bytes and then so many failures: what
+-- was read of the input, and what went out
+abbrev pub Answers : Job → Option (List ℕ) → ℕ → Option (List ℕ) → Option (List ℕ)
+    → Option (List ℕ) → Option (List ℕ) → ℕ → ℕ → Result ⊤ Stop → Type 0
+Answers (job.Check limits) bytes failures old new written_old written_new failed_old failed_new r =
     AnswersPrint Counts limits old new written_old written_new r
-Answers (job.Show limits pairs) bytes old new written_old written_new failures_old failures_new r =
-    AnswersPrint (Rows pairs) limits old new written_old written_new r
-Answers (job.ToCsv limits) bytes old new written_old written_new failures_old failures_new r =
+Answers (job.Show limits pairs) bytes failures old new written_old written_new failed_old failed_new
+    r = AnswersPrint (Rows pairs) limits old new written_old written_new r
+Answers (job.ToCsv limits) bytes failures old new written_old written_new failed_old failed_new r =
     AnswersPrint Records limits old new written_old written_new r
-Answers (job.Rewrite limits) bytes old new written_old written_new failures_old failures_new r =
-    AnswersRewrite limits old new written_old written_new failures_old failures_new r
-Answers (job.FromCsv path size) bytes old new written_old written_new failures_old failures_new r =
-    AnswersCsv bytes size old written_old written_new failures_old failures_new r
+Answers (job.Rewrite limits) bytes failures old new written_old written_new failed_old failed_new
+    r = AnswersRewrite limits old new written_old written_new failed_old failed_new r
+Answers (job.FromCsv path size) bytes failures old new written_old written_new failed_old failed_new
+    r = AnswersCsv bytes failures size old written_old written_new failed_old failed_new r

@@ -6,6 +6,7 @@ ghost use Rattle.std.specs.Prelude.{IfOk};
 ghost use Rattle.arrowstream.specs.Words.{HasGoodSize};
 
 mod run;
+mod schema_file;
 mod stop;
 #[cfg(test)]
 mod tests;
@@ -42,19 +43,19 @@ fn read_job(rt: &HostRuntime) -> Result<Job, Usage>
 }
 
 // The file with the schema, where the job names one that can be opened.
-fn open_schema(rt: &HostRuntime, job: &Job) -> Result<Option<File>, Usage> {
+fn open_schema(rt: &HostRuntime, job: &Job) -> Result<Option<Device<File>>, Usage> {
     let Job::FromCsv { schema, .. } = job else {
         return Ok(None);
     };
     match File::open(rt, schema.as_str()) {
-        Ok(file) => Ok(Some(file)),
+        Ok(file) => Ok(Some(Device::new(file))),
         Err(error) if error.kind() == io::ErrorKind::OutOfMemory => Err(Usage::OutOfMemory),
         Err(_) => Ok(None),
     }
 }
 
 // The job of the command line, with its schema's file.
-fn read_job_and_schema(rt: &HostRuntime) -> Result<(Job, Option<File>), Usage>
+fn read_job_and_schema(rt: &HostRuntime) -> Result<(Job, Option<Device<File>>), Usage>
     ensures { IfOk result (λ read. HasGoodSize read.0) }
 {
     let job = read_job(rt)?;
@@ -87,7 +88,7 @@ fn main(rt: HostRuntime) -> ExitCode {
     };
     let output = Device::new(io::writer(&rt));
     let mut messages = rt.stderr();
-    let (status, _input, _output) = run(
+    let (status, _input, _output, _schema) = run(
         rt.alloc(),
         job,
         schema,

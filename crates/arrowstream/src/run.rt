@@ -1,22 +1,19 @@
 //! Jobs: each is done between an input and a sink.
 ghost use Rattle.std.specs.Prelude.{◌≡◌, ◌≢◌, ◌⊎◌, [], Result, Some, IfErr, IfOk, OnOk, ⊤};
 ghost use Rattle.arrowstream.specs.Jobs.{Answers, AnswersCsv, AnswersPrint, AnswersRewrite};
-ghost use Rattle.arrowstream.specs.Jobs.{HasNoSchema, IsSchemaOf, bytes_of, exit_status, lifted};
-ghost use Rattle.arrowstream.specs.Jobs.{stop_of_csv};
+ghost use Rattle.arrowstream.specs.Jobs.{bytes_of, exit_status, failures_of, lifted, stop_of_csv};
 ghost use Rattle.arrowstream.specs.Words.{HasGoodSize, IsBatchSize};
 ghost use Rattle.arrowstream.specs.declared.stop.Stop.{Stop};
 
+use crate::schema_file::read_schema;
 use crate::stop::Stop;
 use crate::words::Job;
 use ipc_from_csv::from_csv;
-use ipc_json::schema_from_json;
-use ipc_model::{Limits, Schema};
-use ipc_moments::TextFault;
+use ipc_model::Limits;
 use ipc_print::{Form, print};
 use ipc_rewrite::rewrite;
-use ipc_stream::{Device, Sink};
+use ipc_stream::{Device, Sink, Source};
 use std::alloc::Global;
-use std::io;
 use std::io::{Read, Write};
 
 // Prints a stream in a form.
@@ -61,24 +58,6 @@ fn rewrite_job<R: Read, W: Sink>(
     (result, source.into_inner(), sink)
 }
 
-// The schema whose JSON text a file holds.
-fn read_schema<P: Read + Drop>(alloc: Global, file: Option<P>) -> Result<Schema, Stop>
-    ensures read { IfOk result (IsSchemaOf (bytes_of P.remaining file)) }
-    ensures none { IfErr result HasNoSchema }
-{
-    let Some(file) = file else {
-        return Err(Stop::Schema);
-    };
-    match io::read_to_string(alloc, file) {
-        Ok(text) => Ok(schema_from_json(alloc, &text)?),
-        Err(error) => Err(match error.kind() {
-            io::ErrorKind::OutOfMemory => Stop::Text(TextFault::OutOfMemory),
-            io::ErrorKind::InvalidData => Stop::Text(TextFault::BadSchemaJson),
-            _ => Stop::Schema,
-        }),
-    }
-}
-
 // What became of records of CSV, as what became of the job.
 fn csv_result(answer: Result<(), ipc_from_csv::Stop>) -> Result<(), Stop>
     ensures { result ≡ lifted stop_of_csv answer }
@@ -90,51 +69,54 @@ fn csv_result(answer: Result<(), ipc_from_csv::Stop>) -> Result<(), Stop>
 }
 
 // Writes records of CSV as a stream, by the schema of a file.
-fn csv_job<P: Read + Drop, R: Read, W: Sink>(
+fn csv_job<P: Source, R: Read, W: Sink>(
     alloc: Global,
     file: Option<P>,
     batch: u64,
     input: R,
     sink: W,
-) -> (Result<(), Stop>, R, W)
+) -> (Result<(), Stop>, R, W, Option<P>)
     requires { IsBatchSize batch }
-    ensures answers { AnswersCsv (bytes_of P.remaining file) batch (R.remaining input)
-        (W.written sink) (W.written result.2) (W.failures sink) (W.failures result.2) result.0 }
+    ensures answers { AnswersCsv (bytes_of P.remaining file) (failures_of P.failures result.3)
+        batch (R.remaining input) (W.written sink) (W.written result.2) (W.failures sink)
+        (W.failures result.2) result.0 }
     ensures handed_on { OnOk result.0 (W.held_back result.2 ≡ Some []) }
     ensures works { exit_status result.0 ≢ 3 → W.failures sink ≡ 0 → W.failures result.2 ≡ 0 }
 {
-    let schema = match read_schema(alloc, file) {
+    let (schema, file) = read_schema(alloc, file);
+    let schema = match schema {
         Ok(schema) => schema,
-        Err(why) => return (Err(why), input, sink),
+        Err(why) => return (Err(why), input, sink, file),
     };
     let (result, input, sink) = from_csv(alloc, input, sink, &schema, batch);
-    (csv_result(result), input, sink)
+    (csv_result(result), input, sink, file)
 }
 
 // Does a job, as `run`.
-fn do_job<P: Read + Drop, R: Read, W: Sink>(
+fn do_job<P: Source, R: Read, W: Sink>(
     alloc: Global,
     job: Job,
     schema: Option<P>,
     input: R,
     sink: W,
-) -> (Result<(), Stop>, R, W)
+) -> (Result<(), Stop>, R, W, Option<P>)
     requires { HasGoodSize job }
-    ensures answers { Answers job (bytes_of P.remaining schema) (R.remaining input)
-        (R.remaining result.1) (W.written sink) (W.written result.2) (W.failures sink)
-        (W.failures result.2) result.0 }
+    ensures answers { Answers job (bytes_of P.remaining schema) (failures_of P.failures result.3)
+        (R.remaining input) (R.remaining result.1) (W.written sink) (W.written result.2)
+        (W.failures sink) (W.failures result.2) result.0 }
     ensures handed_on { OnOk result.0 (W.held_back result.2 ≡ Some []) }
     ensures works { exit_status result.0 ≢ 3 → W.failures sink ≡ 0 → W.failures result.2 ≡ 0 }
 {
-    match job {
+    let (result, input, sink) = match job {
         Job::Check(limits) => print_job(alloc, Form::Counts, limits, input, sink),
         Job::Show { limits, pairs } => {
             print_job(alloc, Form::Rows { pairs }, limits, input, sink)
         }
         Job::ToCsv(limits) => print_job(alloc, Form::Records, limits, input, sink),
         Job::Rewrite(limits) => rewrite_job(alloc, limits, input, sink),
-        Job::FromCsv { schema: _, batch } => csv_job(alloc, schema, batch, input, sink),
-    }
+        Job::FromCsv { schema: _, batch } => return csv_job(alloc, schema, batch, input, sink),
+    };
+    (result, input, sink, schema)
 }
 
 /// Does a job: reads `input` batch by batch and sends what the job makes of it to `sink`; on a
@@ -144,22 +126,23 @@ fn do_job<P: Read + Drop, R: Read, W: Sink>(
 /// `schema` is the file that the job names, or none where that can't be opened; only `FromCsv`
 /// reads it. The caller gives a batch size from 1 to 2^31 - 1, as `read_words` does.
 ///
-/// The answer is the exit status, and the input and the sink again: 0 where all was done, 1 where
-/// what was read is refused, 3 where the input, the schema's file or the sink failed, 4 where
-/// memory ran out. A failing `messages` changes nothing.
-pub fn run<P: Read + Drop, R: Read, W: Sink, E: Write>(
+/// The answer is the exit status, and the input, the sink and the schema's file again: 0 where all
+/// was done, 1 where what was read is refused, 3 where the input, the schema's file or the sink
+/// failed, 4 where memory ran out. A failing `messages` changes nothing.
+pub fn run<P: Source, R: Read, W: Sink, E: Write>(
     alloc: Global,
     job: Job,
     schema: Option<P>,
     input: R,
     sink: W,
     messages: &mut E,
-) -> (u8, R, W)
+) -> (u8, R, W, Option<P>)
     requires { HasGoodSize job }
     // The status is that of an answer, which says what was read and what went out.
     ensures answers { (r : Result ⊤ Stop) × (result.0 ≡ exit_status r)
-        × Answers job (bytes_of P.remaining schema) (R.remaining input) (R.remaining result.1)
-        (W.written sink) (W.written result.2) (W.failures sink) (W.failures result.2) r }
+        × Answers job (bytes_of P.remaining schema) (failures_of P.failures result.3)
+        (R.remaining input) (R.remaining result.1) (W.written sink) (W.written result.2)
+        (W.failures sink) (W.failures result.2) r }
     // Where all was done the sink holds nothing back.
     ensures handed_on { result.0 ≡ 0 → W.held_back result.2 ≡ Some [] }
     // A sink fails only at 3.
@@ -167,12 +150,12 @@ pub fn run<P: Read + Drop, R: Read, W: Sink, E: Write>(
     // There is no other status.
     ensures one { (result.0 ≡ 0) ⊎ (result.0 ≡ 1) ⊎ (result.0 ≡ 3) ⊎ (result.0 ≡ 4) }
 {
-    let (result, input, sink) = do_job(alloc, job, schema, input, sink);
+    let (result, input, sink, schema) = do_job(alloc, job, schema, input, sink);
     match result {
-        Ok(()) => (0, input, sink),
+        Ok(()) => (0, input, sink, schema),
         Err(stop) => {
             stop.tell(messages);
-            (stop.exit_status(), input, sink)
+            (stop.exit_status(), input, sink, schema)
         }
     }
 }

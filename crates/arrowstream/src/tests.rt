@@ -39,7 +39,14 @@ fn done_on<R: Read + Drop, W: Write>(
 {
     let mut messages = Vec::new(alloc);
     let sink = Device::new(writer);
-    let (status, _input, sink) = run(alloc, job, None::<&[u8]>, input, sink, &mut messages);
+    let (status, _input, sink, _) = run(
+        alloc,
+        job,
+        None::<Device<&[u8]>>,
+        input,
+        sink,
+        &mut messages,
+    );
     (status, sink.into_inner(), messages)
 }
 
@@ -106,10 +113,10 @@ fn tells_a_failed_device(rt: HostRuntime) {
     assert_eq!(rt; status, 3);
     assert_eq!(rt; messages.as_slice(), b"W9 Write\n".as_slice());
     let sink = Device::new(Vec::new(alloc));
-    let (status, _, _) = run(
+    let (status, _, _, _) = run(
         alloc,
         showing(),
-        None::<&[u8]>,
+        None::<Device<&[u8]>>,
         &NUMBERS_64[..47],
         sink,
         &mut Broken,

@@ -3,5 +3,7 @@ use Rattle.arrowstream.proofs.run.csv_job.Goals as goal
 
 pub returns-clause-answers : goal.returns-clause-answers
 returns-clause-answers g c =
-    csv_answers _ _ _ _ _ _ _ _ c.from_csv-result.result.0 _ c.in-Ok.ensures.read c.csv_result.ensures
+    let read = rw c.in-Ok.is at c.read_schema-schema.ensures.read in
+    let works = rw c.in-Ok.is at c.read_schema-schema.ensures.works in
+    csv_answers _ _ _ _ _ _ _ _ _ c.from_csv-result.result.0 _ read works c.csv_result.ensures
     c.from_csv-result.ensures.converts c.from_csv-result.ensures.stopped

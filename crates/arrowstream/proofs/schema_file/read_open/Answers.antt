@@ -1,0 +1,9 @@
+use Rattle.arrowstream.proofs.SchemaFiles.{known, none_of}
+use Rattle.arrowstream.proofs.schema_file.read_open.Goals as goal
+
+pub returns-in-Ok-clause-read : goal.returns-in-Ok-clause-read
+returns-in-Ok-clause-read g c = known _ _ _ _ c.in_ok-text.ensures.whole c.as_slice.ensures.value c.in-Ok.ensures.read
+
+pub returns-clause-none : goal.returns-clause-none
+returns-clause-none g c =
+    none_of _ _ _ _ _ c.in_ok-text.ensures.works c.in_ok-text.ensures.whole c.as_slice.ensures.value c.in-Err.ensures.none
