@@ -70,13 +70,18 @@ fn pushed_so(
     })
 }
 
-// The first cut in two at which something else is told, with that.
+// In how many places a stream is cut in two at most.
+const PLACES: usize = 2_048;
+
+// The first cut in two at which something else is told, with that: at every place, and in a stream
+// of more bytes than `PLACES` at places that lie evenly.
 fn pushed_in_two(
     alloc: Global,
     request: &Request,
     whole: &Answer,
 ) -> Result<Option<(Cut, Answer)>, AllocError> {
-    for place in 0..=request.stream.len() {
+    let length = request.stream.len();
+    for place in (0..=length).step_by(length / PLACES + 1) {
         if let Some(other) = pushed_so(alloc, request, Cut::At(place), whole)? {
             return Ok(Some(other));
         }
