@@ -3,24 +3,16 @@
 #![tactic(auto)]
 
 ghost use Rattle.std.specs.Prelude.{IfOk};
-ghost use Rattle.arrowstream.specs.Words.{HasGoodSize};
+ghost use Rattle.ipc_command.specs.Words.{HasGoodSize};
 
-mod run;
-mod schema_file;
-mod stop;
-#[cfg(test)]
-mod tests;
-mod words;
-
+use ipc_command::{Job, Usage, read_words, run};
 use ipc_stream::Device;
-use run::run;
 use std::alloc::{AllocError, Global};
 use std::env::Args;
 use std::fs::File;
 use std::io::Write;
 use std::process::ExitCode;
 use std::{env, io};
-use words::{Job, Usage, read_words};
 
 // The words of a command line as a list.
 fn collect_words(alloc: Global, words: Args) -> Result<Vec<String>, AllocError> {

@@ -1,5 +1,5 @@
-use Rattle.arrowstream.proofs.SchemaFiles.{given, unread}
-use Rattle.arrowstream.proofs.schema_file.schema_of.Goals as goal
+use Rattle.ipc_command.proofs.SchemaFiles.{given, unread}
+use Rattle.ipc_command.proofs.schema_file.schema_of.Goals as goal
 
 pub returns-clause-read : goal.returns-clause-read
 returns-clause-read c = given _ _ _ c.in-Ok.ensures.cases.0 c.schema_from_json.ensures.read

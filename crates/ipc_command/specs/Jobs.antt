@@ -27,10 +27,10 @@ use Rattle.ipc_rewrite.specs.declared.stop.Stop.TheVariants as rewrite
 use Rattle.ipc_from_csv.specs.Conversion as csv
 use Rattle.ipc_from_csv.specs.declared.stop.Stop.{Stop as CsvStop}
 use Rattle.ipc_from_csv.specs.declared.stop.Stop.TheVariants as from_csv
-use Rattle.arrowstream.specs.declared.stop.Stop.{Stop}
-use Rattle.arrowstream.specs.declared.stop.Stop.TheVariants as stop
-use Rattle.arrowstream.specs.declared.words.Job.{Job}
-use Rattle.arrowstream.specs.declared.words.Job.TheVariants as job
+use Rattle.ipc_command.specs.declared.stop.Stop.{Stop}
+use Rattle.ipc_command.specs.declared.stop.Stop.TheVariants as stop
+use Rattle.ipc_command.specs.declared.words.Job.{Job}
+use Rattle.ipc_command.specs.declared.words.Job.TheVariants as job
 
 -- the exit status of a refusal of texts
 abbrev pub text_status : TextFault → ℕ

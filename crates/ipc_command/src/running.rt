@@ -1,9 +1,9 @@
 //! Jobs: each is done between an input and a sink.
 ghost use Rattle.std.specs.Prelude.{◌≡◌, ◌≢◌, ◌⊎◌, [], Result, Some, IfErr, IfOk, OnOk, ⊤};
-ghost use Rattle.arrowstream.specs.Jobs.{Answers, AnswersCsv, AnswersPrint, AnswersRewrite};
-ghost use Rattle.arrowstream.specs.Jobs.{bytes_of, exit_status, failures_of, lifted, stop_of_csv};
-ghost use Rattle.arrowstream.specs.Words.{HasGoodSize, IsBatchSize};
-ghost use Rattle.arrowstream.specs.declared.stop.Stop.{Stop};
+ghost use Rattle.ipc_command.specs.Jobs.{Answers, AnswersCsv, AnswersPrint, AnswersRewrite};
+ghost use Rattle.ipc_command.specs.Jobs.{bytes_of, exit_status, failures_of, lifted, stop_of_csv};
+ghost use Rattle.ipc_command.specs.Words.{HasGoodSize, IsBatchSize};
+ghost use Rattle.ipc_command.specs.declared.stop.Stop.{Stop};
 
 use crate::schema_file::read_schema;
 use crate::stop::Stop;

@@ -2,8 +2,8 @@
 ghost use Rattle.std.specs.Prelude.{◌≡◌, ◌⊎◌, ◌++◌, ◌+◌, ◌≤◌, List, ℕ, Some, IfErr, IfOk, IfSome};
 ghost use Rattle.std.specs.Prelude.{OnOk};
 ghost use Rattle.std.specs.Io.KnownBytes.{Consumes, IsAtEnd};
-ghost use Rattle.arrowstream.specs.Jobs.{HasNoSchema, HoldsNoSchema, IsSchemaOf, IsUnreadable};
-ghost use Rattle.arrowstream.specs.Jobs.{bytes_of, failures_of};
+ghost use Rattle.ipc_command.specs.Jobs.{HasNoSchema, HoldsNoSchema, IsSchemaOf, IsUnreadable};
+ghost use Rattle.ipc_command.specs.Jobs.{bytes_of, failures_of};
 
 use crate::stop::Stop;
 use ipc_json::schema_from_json;

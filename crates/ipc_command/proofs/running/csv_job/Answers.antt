@@ -1,5 +1,5 @@
-use Rattle.arrowstream.proofs.Lifted.{csv_answers}
-use Rattle.arrowstream.proofs.run.csv_job.Goals as goal
+use Rattle.ipc_command.proofs.Lifted.{csv_answers}
+use Rattle.ipc_command.proofs.running.csv_job.Goals as goal
 
 pub returns-clause-answers : goal.returns-clause-answers
 returns-clause-answers g c =

@@ -1,5 +1,5 @@
-use Rattle.arrowstream.proofs.SchemaFiles.{known, none_of}
-use Rattle.arrowstream.proofs.schema_file.read_open.Goals as goal
+use Rattle.ipc_command.proofs.SchemaFiles.{known, none_of}
+use Rattle.ipc_command.proofs.schema_file.read_open.Goals as goal
 
 pub returns-in-Ok-clause-read : goal.returns-in-Ok-clause-read
 returns-in-Ok-clause-read g c = known _ _ _ _ c.in_ok-text.ensures.whole c.as_slice.ensures.value c.in-Ok.ensures.read

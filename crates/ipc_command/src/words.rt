@@ -1,7 +1,7 @@
 //! What a command line asks for.
 ghost use Rattle.std.specs.Prelude.{◌≡◌, IfOk, IfSome};
-ghost use Rattle.arrowstream.specs.Words.{AreAskedFor, HasGoodSize, HaveOptions, IsAsked};
-ghost use Rattle.arrowstream.specs.Words.{IsBatchSize};
+ghost use Rattle.ipc_command.specs.Words.{AreAskedFor, HasGoodSize, HaveOptions, IsAsked};
+ghost use Rattle.ipc_command.specs.Words.{IsBatchSize};
 
 use clap::builder::ValueParser;
 use clap::error::ErrorKind;

@@ -13,8 +13,8 @@ use Rattle.ipc_json.specs.SchemaJson.{schema_json}
 use Rattle.ipc_json.specs.SchemaTexts.{HasWideId, IsUnread}
 use Rattle.ipc_moments.specs.declared.fault.TextFault.{TextFault}
 use Rattle.ipc_moments.specs.declared.fault.TextFault.TheVariants.{OutOfMemory, BadSchemaJson}
-use Rattle.arrowstream.specs.declared.stop.Stop.TheVariants as stop
-use Rattle.arrowstream.specs.Jobs.{HasNoSchema, HoldsNoSchema, IsSchemaOf}
+use Rattle.ipc_command.specs.declared.stop.Stop.TheVariants as stop
+use Rattle.ipc_command.specs.Jobs.{HasNoSchema, HoldsNoSchema, IsSchemaOf}
 
 -- what is read of a text is a schema of it
 pub given : (r : Result Schema TextFault) (text seen : List ℕ) → seen ≡ text

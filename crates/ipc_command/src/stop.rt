@@ -1,6 +1,6 @@
 //! Why a job stopped, as an exit status and a line.
 ghost use Rattle.std.specs.Prelude.{◌≡◌};
-ghost use Rattle.arrowstream.specs.Jobs.{stop_of_csv, stop_of_print, stop_of_rewrite, stop_status};
+ghost use Rattle.ipc_command.specs.Jobs.{stop_of_csv, stop_of_print, stop_of_rewrite, stop_status};
 
 use ipc_model::{Fault, WriteFault};
 use ipc_moments::TextFault;
@@ -23,7 +23,7 @@ pub enum Stop {
 
 impl From<TextFault> for Stop {
     ghost use Rattle.std.specs.Prelude.{◌≡◌};
-    ghost use Rattle.arrowstream.specs.declared.stop.Stop.TheVariants.{Text};
+    ghost use Rattle.ipc_command.specs.declared.stop.Stop.TheVariants.{Text};
 
     ghost from_gives = { λ fault stop. stop ≡ Text fault };
 

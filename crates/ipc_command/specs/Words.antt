@@ -1,8 +1,8 @@
 -- What a command line asks for.
 use Rattle.std.specs.Prelude.{◌≡◌, ◌≤◌, ℕ, ◌^◌, ◌-◌, unwrap_or, Option, ⊤}
 use Rattle.ipc_model.specs.declared.limits.Limits.{Limits}
-use Rattle.arrowstream.specs.declared.words.Job.{Job}
-use Rattle.arrowstream.specs.declared.words.Job.TheVariants as job
+use Rattle.ipc_command.specs.declared.words.Job.{Job}
+use Rattle.ipc_command.specs.declared.words.Job.TheVariants as job
 
 -- limits with these values of three options, each the usual one where it isn't given; the others
 -- are the usual ones

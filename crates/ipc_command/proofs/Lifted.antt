@@ -4,8 +4,8 @@ use Rattle.std.specs.Prelude.{IfErr, OnOk, ⊤}
 use Rattle.ipc_model.specs.declared.schema.Schema.{Schema}
 use Rattle.ipc_from_csv.specs.Conversion.{Converts, StopsFor}
 use Rattle.ipc_from_csv.specs.declared.stop.Stop.{Stop as CsvStop}
-use Rattle.arrowstream.specs.declared.stop.Stop.{Stop}
-use Rattle.arrowstream.specs.Jobs.{AnswersCsv, IsSchemaOf, lifted, stop_of_csv}
+use Rattle.ipc_command.specs.declared.stop.Stop.{Stop}
+use Rattle.ipc_command.specs.Jobs.{AnswersCsv, IsSchemaOf, lifted, stop_of_csv}
 
 -- what becomes of records of CSV by a schema is what becomes of the job
 pub csv_answers : (bytes input old new : Option (List ℕ)) (s : Schema) (failures size failures_old failures_new : ℕ)
