@@ -6,8 +6,8 @@ use Rattle.std.specs.Int.{bit_at}
 use Rattle.std.proofs.lemmas.Nat.Bits.{bit_at-zero, bit_at_lowest, bit_at-suc}
 use Rattle.ipc_scalar.specs.Bytes.{bit, clear}
 use Rattle.ipc_model.specs.declared.value.Value.{Value}
-use Rattle.ipc_encode.specs.declared.pieces.Flag.{Flag}
-use Rattle.ipc_encode.specs.declared.pieces.Flag.TheVariants.{Valid}
+use Rattle.ipc_encode.specs.Pieces.{Flag}
+use Rattle.ipc_encode.specs.Pieces.{Valid}
 use Rattle.ipc_encode.specs.Bitmaps.{flags_number, flags_bytes, bitmap}
 use Rattle.ipc_encode.specs.Cells.{is_set, flags, nulls}
 

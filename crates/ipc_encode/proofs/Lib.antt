@@ -1,6 +1,11 @@
 pub mod Bits
 pub mod Steps
+pub mod Packing
+pub mod Sizes
+pub mod Pushes
 pub mod Adding
+pub mod Building
+pub mod Growing
 pub mod Leaves
 pub mod Ranges
 pub mod ReadbackParts

@@ -1,16 +1,11 @@
 -- What is read back of the buffers of a column.
-use Rattle.std.proofs.Common.{◌≡◌, ◌∙◌, refl, sym, ap, subst, ℕ, zero, suc, ◌+◌, ◌-◌, ◌*◌, ◌/◌, ◌%◌, ◌^◌, ◌<◌, ◌≤◌, Bool, true, false, cond}
-use Rattle.std.proofs.Common.{List, [], ◌∷◌, ◌++◌, length, take, drop, get_or, append_assoc, length-append, arith}
-use Rattle.std.specs.Prelude.{◌==◌, ℤ, pos, negsuc, unsigned_abs, ◌≤ℤ◌, slice_range, not, ⊤}
-use Rattle.std.specs.Int.{w8, w16, w32, w64, cast_signed, cast_unsigned, bytes_low_first}
-use Rattle.std.specs.List.{AllByRecursion}
-use Rattle.std.specs.Str.{IsUtf8}
+use Rattle.std.proofs.Common.{◌≡◌, ◌∙◌, refl, sym, ap, subst, ℕ, suc, ◌-◌, ◌*◌, ◌%◌, ◌^◌, ◌<◌, Bool, true, false, cond}
+use Rattle.std.proofs.Common.{List, length, get_or, arith}
+use Rattle.std.specs.Prelude.{ℤ, pos, negsuc, not}
+use Rattle.std.specs.Int.{w8, w16, w32, w64, cast_signed, cast_unsigned}
 use Rattle.std.proofs.Math.Nat.{mod-eq_of_lt}
-use Rattle.std.proofs.lemmas.Bool.{eqb-true, ne_eqb}
-use Rattle.std.proofs.lemmas.Int.{ints, to_z-of_z, to_z_pos}
-use Rattle.std.proofs.lemmas.List.{length-replicate}
-use Rattle.ipc_scalar.specs.Bytes.{num, clear}
-use Rattle.ipc_scalar.proofs.Places.{length_low_bytes, num_low}
+use Rattle.std.proofs.lemmas.Int.{ints, to_z-of_z}
+use Rattle.ipc_scalar.specs.Bytes.{num}
 use Rattle.ipc_model.specs.Ranges.{width, IsSignedWithin, IsUnsignedWithin}
 use Rattle.ipc_model.specs.declared.schema.IntBits.{IntBits}
 use Rattle.ipc_model.specs.declared.schema.IntBits.TheVariants.{B8, B16, B32, B64}
@@ -19,21 +14,15 @@ use Rattle.ipc_model.specs.declared.value.Value.TheOpen.{Value-F}
 use Rattle.ipc_model.specs.declared.value.Value.TheVariants as v
 use Rattle.ipc_model.specs.declared.layout.Layout.{Layout}
 use Rattle.ipc_model.specs.declared.layout.Layout.TheVariants as l
-use Rattle.ipc_model.specs.Layouts.{number_bytes, has_validity}
-use Rattle.ipc_column.specs.Columns.{Column}
-use Rattle.ipc_column.specs.Rules.{HoldValues, HoldOffsets, IsLongEnough, HasBits, CountsNulls, HasOffsets, SpellsTexts}
-use Rattle.ipc_column.specs.Values.{is_valid, signed_at, offset, place, between, own_value, value_of}
-use Rattle.ipc_encode.specs.declared.pieces.Flag.TheVariants.{Valid, True}
-use Rattle.ipc_encode.specs.declared.pieces.ValueSlot.{ValueSlot}
-use Rattle.ipc_encode.specs.declared.pieces.ValueSlot.TheVariants.{Number, Fixed, Content}
-use Rattle.ipc_encode.specs.declared.pieces.Piece.TheVariants as p
-use Rattle.ipc_encode.specs.Bitmaps.{bitmap}
-use Rattle.ipc_encode.specs.Cells.{is_null, is_true, is_set, flags, nulls, number_bits, bits_in, bytes_in, content, fixed, fixed_in}
-use Rattle.ipc_encode.specs.Cells.{slot_bytes, slots, ends, offsets}
-use Rattle.ipc_encode.specs.Buffers.{validity, piece_bytes}
-use Rattle.ipc_encode.proofs.Bits.{length_bytes, bit_of, flags_length, clear_is}
-use Rattle.ipc_encode.proofs.Ranges.{cut_behind}
-use Rattle.ipc_encode.proofs.ReadbackParts.{validity_bytes, validity_in, offsets_in, values_in, column_of, Holds, AllHeld, held_at}
+use Rattle.ipc_model.specs.Layouts.{number_bytes}
+use Rattle.ipc_column.specs.Values.{is_valid, signed_at, own_value, value_of}
+use Rattle.ipc_encode.specs.Pieces.{True}
+use Rattle.ipc_encode.specs.Pieces.{Number}
+use Rattle.ipc_encode.specs.Cells.{is_null, is_true, bits_in, bytes_in, fixed_in}
+use Rattle.ipc_encode.specs.Cells.{slots}
+use Rattle.ipc_encode.specs.Columns.{validity_bytes, validity_in, offsets_in, values_in}
+use Rattle.ipc_encode.proofs.Bits.{bit_of}
+use Rattle.ipc_encode.proofs.ReadbackParts.{column_of, Holds, AllHeld, held_at}
 use Rattle.ipc_encode.proofs.ReadbackParts.{valid_is, number_back, fixed_back, between_is, IsShort}
 
 -- ---- the values

@@ -1,20 +1,19 @@
 -- What is read back of the buffers of a column, buffer by buffer.
 use Rattle.std.proofs.Common.{◌≡◌, ◌∙◌, refl, sym, ap, subst, ℕ, zero, suc, ◌+◌, ◌-◌, ◌*◌, ◌/◌, ◌%◌, ◌^◌, ◌<◌, ◌≤◌, Bool, true, false, cond}
 use Rattle.std.proofs.Common.{List, [], ◌∷◌, ◌++◌, length, take, drop, get_or, append_assoc, length-append, arith}
-use Rattle.std.specs.Prelude.{◌==◌, ℤ, pos, negsuc, unsigned_abs, ◌≤ℤ◌, slice_range, not, ⊤}
-use Rattle.std.specs.Int.{w8, w16, w32, w64, cast_signed, cast_unsigned, bytes_low_first}
+use Rattle.std.specs.Prelude.{◌==◌, pos, unsigned_abs, ◌≤ℤ◌, slice_range, ⊤}
+use Rattle.std.specs.Int.{w32, cast_signed, bytes_low_first}
 use Rattle.std.specs.List.{AllByRecursion}
 use Rattle.std.specs.Str.{IsUtf8}
 use Rattle.std.proofs.Math.Nat.{mod-eq_of_lt}
 use Rattle.std.proofs.lemmas.Bool.{eqb-true, ne_eqb}
-use Rattle.std.proofs.lemmas.Int.{ints, to_z-of_z, to_z_pos}
+use Rattle.std.proofs.lemmas.Int.{ints, to_z_pos}
 use Rattle.std.proofs.lemmas.List.{length-replicate}
 use Rattle.ipc_scalar.specs.Bytes.{num, clear}
 use Rattle.ipc_scalar.proofs.Places.{length_low_bytes, num_low}
 use Rattle.ipc_model.specs.Ranges.{width, IsSignedWithin, IsUnsignedWithin}
 use Rattle.ipc_model.specs.declared.schema.IntBits.{IntBits}
-use Rattle.ipc_model.specs.declared.schema.IntBits.TheVariants.{B8, B16, B32, B64}
-use Rattle.ipc_model.specs.declared.value.Value.{Value, out-Value, roll-Value, roll-out-Value}
+use Rattle.ipc_model.specs.declared.value.Value.{Value, out-Value}
 use Rattle.ipc_model.specs.declared.value.Value.TheOpen.{Value-F}
 use Rattle.ipc_model.specs.declared.value.Value.TheVariants as v
 use Rattle.ipc_model.specs.declared.layout.Layout.{Layout}
@@ -22,42 +21,20 @@ use Rattle.ipc_model.specs.declared.layout.Layout.TheVariants as l
 use Rattle.ipc_model.specs.Layouts.{number_bytes, has_validity}
 use Rattle.ipc_column.specs.Columns.{Column}
 use Rattle.ipc_column.specs.Rules.{HoldValues, HoldOffsets, IsLongEnough, HasBits, CountsNulls, HasOffsets, SpellsTexts}
-use Rattle.ipc_column.specs.Values.{is_valid, signed_at, offset, place, between, own_value, value_of}
-use Rattle.ipc_encode.specs.declared.pieces.Flag.TheVariants.{Valid, True}
-use Rattle.ipc_encode.specs.declared.pieces.ValueSlot.{ValueSlot}
-use Rattle.ipc_encode.specs.declared.pieces.ValueSlot.TheVariants.{Number, Fixed, Content}
-use Rattle.ipc_encode.specs.declared.pieces.Piece.TheVariants as p
+use Rattle.ipc_column.specs.Values.{is_valid, offset, place, between}
+use Rattle.ipc_encode.specs.Pieces.{Valid, True}
+use Rattle.ipc_encode.specs.Pieces.{ValueSlot}
+use Rattle.ipc_encode.specs.Pieces.{Number, Fixed, Content}
+use Rattle.ipc_encode.specs.Pieces as p
 use Rattle.ipc_encode.specs.Bitmaps.{bitmap}
-use Rattle.ipc_encode.specs.Cells.{is_null, is_true, is_set, flags, nulls, number_bits, bits_in, bytes_in, content, fixed, fixed_in}
+use Rattle.ipc_encode.specs.Cells.{is_set, flags, nulls, number_bits, content, fixed}
 use Rattle.ipc_encode.specs.Cells.{slot_bytes, slots, ends, offsets}
-use Rattle.ipc_encode.specs.Buffers.{validity, piece_bytes}
+use Rattle.ipc_encode.specs.Buffers.{piece_bytes}
+use Rattle.ipc_encode.specs.Columns.{validity_bytes, validity_in, offsets_in, values_in}
 use Rattle.ipc_encode.proofs.Bits.{length_bytes, bit_of, flags_length, clear_is}
 use Rattle.ipc_encode.proofs.Ranges.{cut_behind}
 
 -- ---- a column as it is written
-
--- the bytes of the validity bitmap that is written, none where no value is null
-abbrev pub validity_bytes : List Value → List ℕ
-validity_bytes vs = piece_bytes (validity (nulls vs)) vs
-
--- the bytes of the validity bitmap in a column of this layout
-abbrev pub validity_in : Layout → List Value → List ℕ
-validity_in l.Null vs = []
-validity_in l.Unsupported vs = []
-validity_in _ vs = validity_bytes vs
-
--- the bytes of the offsets in a column of this layout
-abbrev pub offsets_in : Layout → List Value → List ℕ
-offsets_in (l.VariableBytes utf8) vs = offsets vs
-offsets_in _ vs = []
-
--- the bytes of the values in a column of this layout
-abbrev pub values_in : Layout → List Value → List ℕ
-values_in l.Bits vs = bitmap (flags True vs)
-values_in (l.Numbers bits signed) vs = slots (Number bits) vs
-values_in (l.FixedBytes width) vs = slots (Fixed width) vs
-values_in (l.VariableBytes utf8) vs = slots Content vs
-values_in _ vs = []
 
 -- the column of this layout that is written for these values
 abbrev pub column_of : Layout → List Value → Column

@@ -1,39 +1,32 @@
 -- The parts of rows give the rows back.
-use Rattle.std.proofs.Common.{◌≡◌, ◌∙◌, refl, sym, ap, subst, ℕ, zero, suc, ◌+◌, ◌-◌, ◌^◌, ◌<◌, ◌≤◌, Bool, true, false, List, [], ◌∷◌, ◌++◌}
+use Rattle.std.proofs.Common.{◌≡◌, ◌∙◌, refl, sym, ap, subst, ℕ, zero, suc, ◌+◌, ◌-◌, ◌^◌, ◌<◌, ◌≤◌, true, List, [], ◌∷◌}
 use Rattle.std.proofs.Common.{length, drop, get_or, add-one, drop-cons, length-append, arith, Option, inl, inr}
-use Rattle.std.specs.Prelude.{ℤ, pos, unsigned_abs, ⊤}
+use Rattle.std.specs.Prelude.{ℤ, pos}
 use Rattle.std.specs.List.{AllByRecursion}
 use Rattle.std.proofs.lemmas.Bool.{cases_lt}
 use Rattle.std.proofs.lemmas.Int.{ints}
-use Rattle.std.proofs.lemmas.List.{get_or-append_right}
-use Rattle.std.proofs.Math.ListN.{get_or-append}
 use Rattle.std.proofs.lemmas.List.Elements.{All-from_recursion}
-use Rattle.ipc_model.specs.Fits.{IsOwn, RowFits}
+use Rattle.ipc_model.specs.Fits.{RowFits}
 use Rattle.ipc_model.specs.WellFormed.{IsFieldWellFormed}
 use Rattle.ipc_model.specs.Entries.{entries}
-use Rattle.ipc_model.specs.declared.schema.DataType.{DataType}
-use Rattle.ipc_model.specs.declared.schema.DataType.TheVariants as t
-use Rattle.ipc_model.specs.declared.schema.DateUnit.TheVariants.{Day, Millisecond}
 use Rattle.ipc_model.specs.declared.schema.Dictionary.{Dictionary}
 use Rattle.ipc_model.specs.declared.schema.Field.{Field, out-Field}
 use Rattle.ipc_model.specs.declared.value.Value.{Value, out-Value}
-use Rattle.ipc_model.specs.declared.value.Value.TheOpen.{Value-F}
 use Rattle.ipc_model.specs.declared.value.Value.TheVariants as v
-use Rattle.ipc_meta.specs.Supported.{is_supported_type, are_supported}
+use Rattle.ipc_meta.specs.Supported.{are_supported}
 use Rattle.ipc_meta.specs.declared.head.BatchHead.{BatchHead}
 use Rattle.ipc_model.specs.declared.layout.Layout.{Layout}
 use Rattle.ipc_model.specs.declared.layout.Layout.TheVariants as l
 use Rattle.ipc_model.specs.Layouts.{layout, type_layout, own_buffers}
-use Rattle.ipc_column.specs.Columns.{Column, Columns, none, column, Each, EachTop}
-use Rattle.ipc_column.specs.Shapes.{Shape, field, shape_of, field_shape, nodes_in, buffers_in, node_at, buffer_at, column_at, cut}
+use Rattle.ipc_column.specs.Columns.{Column, Columns, Each, EachTop}
+use Rattle.ipc_column.specs.Shapes.{Shape, shape_of, field_shape, nodes_in, buffers_in, node_at, buffer_at}
 use Rattle.ipc_column.specs.Shapes.{columns_of}
 use Rattle.ipc_column.specs.Rules.{IsNode, LiesIn, IsLongEnough, CountsNulls, HasOffsets, SpellsTexts}
 use Rattle.ipc_column.specs.Values.{row}
 use Rattle.ipc_column.specs.Rows.{Rows}
-use Rattle.ipc_encode.specs.declared.pieces.ValueSlot.TheVariants.{Content}
-use Rattle.ipc_encode.specs.Cells.{cell, cells, nulls, slots, SpellsOut}
-use Rattle.ipc_encode.specs.Buffers as b
-use Rattle.ipc_encode.specs.Buffers.{layout_of, pieces, column_buffers, nodes_from, ranges_from, buffers_from, buffers_of, body_of, joined}
+use Rattle.ipc_encode.specs.Pieces.{Content}
+use Rattle.ipc_encode.specs.Cells.{cell, cells, nulls, slots}
+use Rattle.ipc_encode.specs.Buffers.{layout_of, column_buffers, nodes_from, ranges_from, buffers_from, buffers_of, body_of}
 use Rattle.ipc_encode.specs.Limits.{HasLongData, SomeLongData, IsWithin}
 use Rattle.ipc_encode.specs.Writing.{AreStored, AllStored}
 use Rattle.ipc_encode.proofs.Leaves.{IsFlat, IsOf, FitFrom, flats, fit_start, fit_step}

@@ -7,11 +7,9 @@ use Rattle.ipc_model.specs.declared.value.Value.{Value}
 use Rattle.ipc_model.specs.declared.layout.Layout.{Layout}
 use Rattle.ipc_model.specs.declared.layout.Layout.TheVariants as l
 use Rattle.ipc_model.specs.Layouts.{layout}
-use Rattle.ipc_encode.specs.declared.batch.Parts.{Parts}
-use Rattle.ipc_encode.specs.declared.pieces.Flag.TheVariants.{Valid, True}
-use Rattle.ipc_encode.specs.declared.pieces.ValueSlot.TheVariants.{Number, Fixed, Content}
-use Rattle.ipc_encode.specs.declared.pieces.Piece.{Piece}
-use Rattle.ipc_encode.specs.declared.pieces.Piece.TheVariants as p
+use Rattle.ipc_encode.specs.declared.parts.Parts.{Parts}
+use Rattle.ipc_encode.specs.Pieces.{Valid, True, Number, Fixed, Content, Piece}
+use Rattle.ipc_encode.specs.Pieces as p
 use Rattle.ipc_encode.specs.Bitmaps.{bitmap}
 use Rattle.ipc_encode.specs.Cells.{cells, flags, nulls, slots, offsets}
 

@@ -8,10 +8,8 @@ use Rattle.ipc_model.specs.declared.value.Value.{Value, out-Value}
 use Rattle.ipc_model.specs.declared.value.Value.TheOpen.{Value-F}
 use Rattle.ipc_model.specs.declared.value.Value.TheVariants as v
 use Rattle.ipc_model.specs.Layouts.{number_bytes}
-use Rattle.ipc_encode.specs.declared.pieces.Flag.{Flag}
-use Rattle.ipc_encode.specs.declared.pieces.Flag.TheVariants as flag
-use Rattle.ipc_encode.specs.declared.pieces.ValueSlot.{ValueSlot}
-use Rattle.ipc_encode.specs.declared.pieces.ValueSlot.TheVariants as slot
+use Rattle.ipc_encode.specs.Pieces.{Flag, ValueSlot}
+use Rattle.ipc_encode.specs.Pieces as p
 
 -- the value that a row has in column j
 abbrev pub cell : ℕ → List Value → Value
@@ -34,8 +32,8 @@ is_true _ = false
 
 -- a flag of a value: that it isn't null, or that it is true
 abbrev pub is_set : Flag → Value → Bool
-is_set flag.Valid value = not (is_null (out-Value value))
-is_set flag.True value = is_true (out-Value value)
+is_set p.Valid value = not (is_null (out-Value value))
+is_set p.True value = is_true (out-Value value)
 
 -- the flags of values
 abbrev pub flags : Flag → List Value → List Bool
@@ -45,7 +43,7 @@ flags which (value ∷ values) = is_set which value ∷ flags which values
 -- how many values are null
 abbrev pub nulls : List Value → ℕ
 nulls [] = 0
-nulls (value ∷ values) = (if is_set flag.Valid value then 0 else 1) + nulls values
+nulls (value ∷ values) = (if is_set p.Valid value then 0 else 1) + nulls values
 
 -- the bits of a number, in two's complement, as an unsigned number; 0 for a value that is no
 -- number
@@ -80,9 +78,9 @@ fixed width value = fixed_in width (out-Value value)
 -- a number's low bytes, the lowest first (Arrow Columnar Format, "Byte Order"), the bytes of one
 -- width, or those of any length
 abbrev pub slot_bytes : ValueSlot → Value → List ℕ
-slot_bytes (slot.Number bits) value = bytes_low_first 0 (number_bytes bits) (number_bits value)
-slot_bytes (slot.Fixed width) value = fixed width value
-slot_bytes slot.Content value = content value
+slot_bytes (p.Number bits) value = bytes_low_first 0 (number_bytes bits) (number_bits value)
+slot_bytes (p.Fixed width) value = fixed width value
+slot_bytes p.Content value = content value
 
 -- the slots of values, one after another
 abbrev pub slots : ValueSlot → List Value → List ℕ

@@ -1,5 +1,10 @@
+pub mod Pieces
 pub mod Cells
 pub mod Bitmaps
 pub mod Buffers
+pub mod Columns
 pub mod Limits
 pub mod Writing
+pub mod Built
+pub mod Numbers
+pub mod Faults

@@ -1,12 +1,12 @@
 -- When rows are too many or too long for one batch (Arrow Columnar Format, "Array lengths").
-use Rattle.std.specs.Prelude.{ℕ, ◌+◌, ◌-◌, ◌^◌, ◌<◌, List, [], ◌∷◌, length, ◌⊎◌, ⊤}
+use Rattle.std.specs.Prelude.{ℕ, ◌+◌, ◌<◌, List, [], ◌∷◌, length, ◌⊎◌, ⊤}
 use Rattle.ipc_model.specs.declared.fault.WriteFault.{WriteFault}
 use Rattle.ipc_model.specs.declared.fault.WriteFault.TheVariants as fault
 use Rattle.ipc_model.specs.declared.schema.Field.{Field}
 use Rattle.ipc_model.specs.declared.value.Value.{Value}
 use Rattle.ipc_model.specs.declared.layout.Layout.{Layout}
 use Rattle.ipc_model.specs.declared.layout.Layout.TheVariants as l
-use Rattle.ipc_encode.specs.declared.pieces.ValueSlot.TheVariants.{Content}
+use Rattle.ipc_encode.specs.Pieces.{Content}
 use Rattle.ipc_encode.specs.Cells.{cells, slots}
 use Rattle.ipc_encode.specs.Buffers.{layout_of, body_of}
 use Rattle.ipc_model.specs.Limits.{max_data}

@@ -1,25 +1,38 @@
-ghost use Rattle.std.specs.Prelude.{◌≡◌, ◌≤◌, length, slice_index_or};
-ghost use Rattle.std.specs.Str.{IsUtf8};
-ghost use Rattle.ipc_encode.specs.Cells.{cells, is_set, nulls, number_bits, content, HasUtf8};
+ghost use Rattle.std.specs.Prelude.{◌≡◌, ◌<◌, ◌+◌, ◌^◌, if◌then◌else◌};
+ghost use Rattle.ipc_model.specs.declared.value.Value.TheVariants.{Null};
+ghost use Rattle.ipc_encode.specs.Cells.{cell, is_set, number_bits, content, HasUtf8};
+ghost use Rattle.ipc_encode.specs.Pieces.{Valid, True};
 
-use crate::pieces::Flag;
-use ipc_model::{Row, Value};
+use ipc_model::Value;
 
-/// The value of a row in a column, or `other` where the row has no such column.
-pub(crate) fn value_at<'a>(row: &'a Row, column: usize, other: &'a Value) -> &'a Value
-    ensures { result.now ≡ slice_index_or row.now column other.now }
+/// The value of a row in a column, null where the row has no such column.
+pub(crate) fn value_at<'a>(row: &'a [Value], column: usize, null: &'a Value) -> &'a Value
+    requires { null.now ≡ Null }
+    ensures { result.now ≡ cell column row.now }
 {
-    row.as_slice().get(column).unwrap_or(other)
+    row.get(column).unwrap_or(null)
 }
 
-/// Whether the flag of a value is set.
-pub(crate) fn is_set(value: &Value, flag: Flag) -> bool
-    ensures { result ≡ is_set flag value.now }
+/// Whether a value isn't null.
+pub(crate) fn is_valid(value: &Value) -> bool
+    ensures { result ≡ is_set Valid value.now }
 {
-    match flag {
-        Flag::Valid => !matches!(value, Value::Null),
-        Flag::True => matches!(value, Value::Bool(true)),
-    }
+    !matches!(value, Value::Null)
+}
+
+/// How many values are null, with this one behind so many nulls.
+pub(crate) fn nulls_with(nulls: usize, value: &Value) -> usize
+    requires { nulls < 2 ^ 32 }
+    ensures { result ≡ nulls + (if is_set Valid value.now then 0 else 1) }
+{
+    nulls + usize::from(!is_valid(value))
+}
+
+/// Whether a value is true.
+pub(crate) fn is_true(value: &Value) -> bool
+    ensures { result ≡ is_set True value.now }
+{
+    matches!(value, Value::Bool(true))
 }
 
 /// The bits of a number, in two's complement where it is signed.
@@ -43,19 +56,4 @@ pub(crate) fn content(value: &Value) -> &[u8]
         Value::Text(text) => text.as_str().as_bytes(),
         _ => &[],
     }
-}
-
-/// How many values of a column are null.
-pub(crate) fn count_nulls(rows: &[Row], column: usize) -> usize
-    ensures count { result ≡ nulls (cells column rows.now) }
-    ensures most { result ≤ length rows.now }
-{
-    let null = Value::Null;
-    let mut count = 0;
-    for row in rows {
-        if !is_set(value_at(row, column, &null), Flag::Valid) {
-            count += 1;
-        }
-    }
-    count
 }

@@ -3,11 +3,17 @@
 #![tactic(auto)]
 
 mod batch;
+mod builder;
 mod cells;
-mod draft;
+mod column;
+mod fault;
+mod flags;
 mod index;
-mod pieces;
-mod slots;
+mod lengths;
+mod parts;
+mod pushing;
 
-pub use batch::{Parts, encode};
-pub use index::{IndexOf, NoIndices};
+pub use batch::encode;
+pub use builder::Builder;
+pub use index::{IndexOf, NoIndices, Renumber, SameNumbers};
+pub use parts::Parts;

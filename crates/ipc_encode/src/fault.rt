@@ -1,0 +1,35 @@
+ghost use Rattle.std.specs.Prelude.{◌≡◌};
+ghost use Rattle.ipc_encode.specs.Faults.{write_fault};
+
+use ipc_model::WriteFault;
+use std::alloc::AllocError;
+
+/// Why a value isn't taken.
+#[derive(Clone, Copy, Debug, PartialEq, Eq, Drop)]
+pub(crate) enum PushFault {
+    /// The column would have more slots than one may have, or more data than offsets reach.
+    TooLong,
+    /// A list can't grow.
+    OutOfMemory,
+}
+
+impl From<AllocError> for PushFault {
+    ghost use Rattle.ipc_encode.specs.declared.fault.PushFault.TheVariants.{OutOfMemory};
+
+    ghost from_gives = { λ error fault. fault ≡ OutOfMemory };
+
+    fn from(_error: AllocError) -> PushFault {
+        PushFault::OutOfMemory
+    }
+}
+
+impl From<PushFault> for WriteFault {
+    ghost from_gives = { λ error fault. fault ≡ write_fault error };
+
+    fn from(fault: PushFault) -> WriteFault {
+        match fault {
+            PushFault::TooLong => WriteFault::TooLong,
+            PushFault::OutOfMemory => WriteFault::OutOfMemory,
+        }
+    }
+}

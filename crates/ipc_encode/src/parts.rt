@@ -1,0 +1,85 @@
+ghost use Rattle.std.specs.Prelude.{◌≡◌, ℕ, ◌-◌, ◌%◌, ◌++◌, List, [], ◌∷◌, pos, length, replicate};
+ghost use Rattle.std.specs.Prelude.{OnOk};
+ghost use Rattle.ipc_model.specs.declared.layout.Layout.{Layout};
+ghost use Rattle.ipc_model.specs.declared.value.Value.{Value};
+ghost use Rattle.ipc_encode.specs.Cells.{nulls};
+ghost use Rattle.ipc_encode.specs.Columns.{layout_buffers};
+ghost use Rattle.ipc_encode.specs.Writing.{Adds};
+ghost use Rattle.ipc_encode.specs.Built.{IsColumn};
+
+use crate::column::Column;
+use ipc_model::{Items, Layout};
+use std::alloc::AllocError;
+
+/// What rows are written as (Message.fbs, RecordBatch).
+#[derive(Debug, Drop)]
+pub struct Parts {
+    /// For each field in pre-order how many slots it has, and how many of them are null (struct
+    /// FieldNode).
+    pub nodes: Items<(i64, i64)>,
+    /// For each buffer in pre-order at which byte of the body it begins, and how many bytes it has
+    /// without its padding (Schema.fbs, struct Buffer).
+    pub buffers: Items<(i64, i64)>,
+    /// The bytes of the buffers, each padded with zeros to a multiple of 8 bytes.
+    pub body: Vec<u8>,
+}
+
+/// A record batch as far as it is written.
+#[derive(Debug, Drop)]
+pub(crate) struct Draft {
+    /// The nodes of the columns so far.
+    pub(crate) nodes: Vec<(i64, i64)>,
+    /// The ranges of their buffers.
+    pub(crate) buffers: Vec<(i64, i64)>,
+    /// The bytes of their buffers, each padded.
+    pub(crate) body: Vec<u8>,
+}
+
+// Appends the zeros that bring so many bytes to a multiple of 8.
+fn pad(body: &mut Vec<u8>, len: usize) -> Result<(), AllocError>
+    ensures { OnOk result (body.new.items ≡ body.old.items ++ replicate ((8 - len % 8) % 8) 0) }
+{
+    body.extend_from_slice(&[0; 8][..(8 - len % 8) % 8])
+}
+
+// Adds one buffer of a column.
+fn add_buffer(draft: &mut Draft, bytes: &[u8]) -> Result<(), AllocError>
+    ensures nodes { OnOk result (draft.new.nodes.items ≡ draft.old.nodes.items) }
+    ensures adds { OnOk result (Adds draft.old draft.new (bytes.now ∷ [])) }
+{
+    let start = draft.body.len();
+    draft.body.extend_from_slice(bytes)?;
+    pad(&mut draft.body, bytes.len())?;
+    draft.buffers.push((start as i64, bytes.len() as i64))?;
+    Ok(())
+}
+
+// Adds the buffers of a column.
+fn add_buffers(draft: &mut Draft, column: &Column) -> Result<(), AllocError>
+    ensures nodes { OnOk result (draft.new.nodes.items ≡ draft.old.nodes.items) }
+    ensures adds { (layout : Layout) (values : List Value) → IsColumn layout values column.now
+        → OnOk result (Adds draft.old draft.new (layout_buffers layout values)) }
+{
+    if column.layout.own_buffers() == 0 {
+        return Ok(());
+    }
+    add_buffer(draft, &column.validity)?;
+    if let Layout::VariableBytes { .. } = column.layout {
+        add_buffer(draft, &column.offsets)?;
+    }
+    add_buffer(draft, &column.values)
+}
+
+/// Adds the node and the buffers of a column.
+pub(crate) fn add_column(draft: &mut Draft, column: &Column) -> Result<(), AllocError>
+    ensures nodes { (layout : Layout) (values : List Value) → IsColumn layout values column.now
+        → OnOk result (draft.new.nodes.items
+        ≡ draft.old.nodes.items ++ (pos (length values), pos (nulls values)) ∷ []) }
+    ensures adds { (layout : Layout) (values : List Value) → IsColumn layout values column.now
+        → OnOk result (Adds draft.old draft.new (layout_buffers layout values)) }
+{
+    draft
+        .nodes
+        .push((column.slots as i64, column.nulls as i64))?;
+    add_buffers(draft, column)
+}
