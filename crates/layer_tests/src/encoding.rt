@@ -111,6 +111,19 @@ fn bytes_and_a_null(rt: HostRuntime) -> Result<(), Fail> {
     Ok(())
 }
 
+// The bitmap that is begun at the tenth value has a bit for each of the nine before it.
+#[test]
+fn nine_numbers_and_a_null(rt: HostRuntime) -> Result<(), Fail> {
+    let kind = int(IntBits::B8, true);
+    let mut cells = [Cell::Int(7); 10];
+    cells[9] = Cell::Null;
+    let body = [
+        255, 1, 0, 0, 0, 0, 0, 0, 7, 7, 7, 7, 7, 7, 7, 7, 7, 0, 0, 0, 0, 0, 0, 0,
+    ];
+    assert!(rt; is_written(rt.alloc(), kind, &cells, (10, 1), &[(0, 2), (8, 10)], &body)?);
+    Ok(())
+}
+
 #[test]
 fn unsigned_numbers(rt: HostRuntime) -> Result<(), Fail> {
     let kind = int(IntBits::B16, false);

@@ -1,7 +1,9 @@
 //! Tests of the crates below the stream: lists, FlatBuffers in place, rows, limits, printed words,
-//! messages whose bytes come one by one, and batches of one column.
+//! messages whose bytes come one by one, batches of one column, and rows taken one at a time.
 #![tactic(auto)]
 
+#[cfg(test)]
+mod building;
 #[cfg(test)]
 mod columns;
 #[cfg(test)]
