@@ -7,6 +7,7 @@ pub mod Nexts
 pub mod Tables
 pub mod Reasons
 pub mod Verdicts
+pub mod Pieces
 pub mod Courses
 pub mod Decoders
 pub mod Answered

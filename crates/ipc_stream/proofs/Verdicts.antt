@@ -152,7 +152,7 @@ verdict_one limits σ x es fs o p u v =
     (sym u.reached.joined ∙ v.reached.joined) in
     record { same_events = same.same_events; same_out = same.same_out; same_state = same.same_state; same_rest = same.same_rest }
 
-all_both : (es fs : List Event) → AllByRecursion IsSupportedEvent es → AllByRecursion IsSupportedEvent fs
+pub all_both : (es fs : List Event) → AllByRecursion IsSupportedEvent es → AllByRecursion IsSupportedEvent fs
     → AllByRecursion IsSupportedEvent (es ++ fs)
 all_both [] fs a b = b
 all_both (e ∷ es) fs a b = (a.0, all_both es fs a.1 b)

@@ -6,6 +6,7 @@ pub mod Counts
 pub mod Reasons
 pub mod Verdicts
 pub mod Decoding
+pub mod Fed
 pub mod Scopes
 pub mod Courses
 pub mod Taken

@@ -1,4 +1,5 @@
 ghost use Rattle.ipc_stream.specs.Laws.{NoneBegins, OneFront, OneTable, Wider};
+ghost use Rattle.ipc_stream.specs.Fed.{AnyPieces, TablePieces};
 ghost use Rattle.ipc_stream.specs.Verdicts.{AnyCut, OneVerdict};
 
 /// The law: bytes denote one table with one end at most (Arrow Columnar Format, "IPC Streaming
@@ -34,4 +35,16 @@ pub fn one_verdict()
 /// cut lead to is all that the verdict about those behind it rests on.
 pub fn any_cut()
     ensures { AnyCut }
+{}
+
+/// The law: what a decoder tells of pieces is the verdict about their bytes. So the same bytes tell
+/// the same, into whatever pieces they are cut.
+pub fn any_pieces()
+    ensures { AnyPieces }
+{}
+
+/// The law: bytes that denote a table with the end-of-stream mark are told as that table, whatever
+/// follows them and into whatever pieces they are cut, and what follows them is left.
+pub fn table_pieces()
+    ensures { TablePieces }
 {}
