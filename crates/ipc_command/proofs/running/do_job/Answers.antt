@@ -1,0 +1,13 @@
+use Rattle.ipc_command.proofs.running.do_job.Goals.{in-Check, in-Show, in-ToCsv, in-Rewrite}
+use Rattle.ipc_command.proofs.running.do_job.Goals as goal
+
+pub returns-clause-answers : goal.returns-clause-answers
+returns-clause-answers g c = elim c.match-job.branch [
+  | in-Check w ↦ rw (w.in-Check.is, w.result-is) w.print_job.ensures.answers
+  | in-Show w ↦ rw (w.in-Show.is, w.result-is) w.print_job-in-Show.ensures.answers
+  | in-ToCsv w ↦ rw (w.in-ToCsv.is, w.result-is) w.print_job-in-ToCsv.ensures.answers
+  | in-Rewrite w ↦ rw (w.in-Rewrite.is, w.result-is) w.rewrite_job.ensures.answers
+]
+
+pub returns-in-FromCsv-clause-answers : goal.returns-in-FromCsv-clause-answers
+returns-in-FromCsv-clause-answers g c = rw c.in-FromCsv.is c.csv_job.ensures.answers
