@@ -1,7 +1,8 @@
 //! The program `answer_cases`: each line of standard input is a stream in hexadecimal digits, with
 //! the limits that are not the standard ones behind it, as in `, metadata 39, slots 3`. Each is
 //! answered by some lines and an empty one. They say what the library reads in it, whether it reads
-//! the same when the bytes come in small pieces, pulled or pushed, and whether the rows come back when they are
+//! the same when the bytes come in small pieces, pulled or pushed, and whether the rows come back
+//! when they are
 //! written. `cases/README.md` says how the lines look.
 #![tactic(auto)]
 

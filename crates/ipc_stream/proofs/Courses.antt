@@ -91,7 +91,12 @@ brought limits (Some o) τ x f.End (told.Batch found pairs) is read brings = abs
 brought limits (Some o) τ x (f.Message meta head body) told.Schema is read brings = absurd brings.1
 brought limits (Some o) τ x f.End told.Schema is read brings = absurd brings.1
 brought limits (Some o) τ x (f.Message meta head body) told.End is read brings = absurd brings.1
-brought limits (Some o) τ x f.End told.End is read brings = (is, brings.0, λ none. let bad : Some o ≡ None = sym brings.0 ∙ none in absurd (cc))
+brought limits (Some o) τ x f.End told.End is read brings = (
+  is,
+  brings.0,
+  λ none. let bad : Some o ≡ None = sym brings.0 ∙ none in absurd
+      (cc),
+)
 
 -- ---- what is refused
 

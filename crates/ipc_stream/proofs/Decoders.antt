@@ -23,7 +23,8 @@ use Rattle.ipc_stream.specs.declared.event.Event.{Event as Told}
 use Rattle.ipc_stream.specs.declared.event.Event.TheVariants as told
 use Rattle.ipc_stream.specs.Counts.{count_up}
 use Rattle.ipc_stream.specs.Courses.{Brings, IsReadableFrame, IsRefused, IsSound, Moves, decoding_of, stage_of}
-use Rattle.ipc_stream.specs.Decoding.{Decoding, taking, over, refused, Reaches, Waits, Tells, RefusesAt, FeedsOn, FeedsAt, Feeds, Gives, IsFew, EndsAt, Draws}
+use Rattle.ipc_stream.specs.Decoding.{Decoding, taking, over, refused, Reaches, Waits, Tells, RefusesAt, FeedsOn, FeedsAt, Feeds, Gives}
+use Rattle.ipc_stream.specs.Decoding.{IsFew, EndsAt, Draws}
 use Rattle.ipc_stream.specs.Scopes.{state_of}
 use Rattle.ipc_stream.specs.Stream.{State, Run, done}
 use Rattle.ipc_stream.specs.Verdicts.{Decision, Reason}
@@ -100,7 +101,16 @@ module _ (old new : Decoding) (fits : old.messages ≤ 2 ^ 64 - 1) where
     stage,
     elim (is_memory e) as (λ b. is_memory e ≡ b
         → (n : ℕ) × (n ≤ length piece) × RefusesAt old new (z ++ take n piece) e) [
-          | true ↦ λ h. (0, omega arith, (z ++ take 0 piece, still (z ++ take 0 piece) same count, λ other. absurd (other (memory_only e h))))
+          | true ↦ λ h. (
+            0,
+            omega arith,
+            (
+              z ++ take 0 piece,
+              still (z ++ take 0 piece) same count,
+              λ other. absurd (other (memory_only e
+                  h)),
+            ),
+          )
           | false ↦ λ h. let why = reason (other_fault e h) in (
             why.0,
             why.1,
@@ -165,8 +175,11 @@ module _ (before after : Framing) (c d : Course) (sound : IsSound before c) (rea
       let g = fed piece (Ok (n, found)) (Ok (n, None)) (ap (λ f. Ok (n, f)) is) h in
       let stage = ap (λ e. stage_of after.progress e.phase) same ∙ (ap (stage_of after.progress) reading
       ∙ ap (λ p. stage_of p phase.Reading) g.1) in
-      at_stage piece (Ok (n, None))
-      (g.0, waits (decoding_of before c) new fits (kept ++ piece) g.2.0 (ap (λ e. state_of e.scope) same) (ap (λ e. e.messages) same) stage g.2.1)
+      at_stage piece (Ok (n, None)) (
+        g.0,
+        waits (decoding_of before c) new fits (kept ++ piece) g.2.0 (ap (λ e. state_of e.scope) same) (ap (λ e. e.messages) same)
+            stage g.2.1,
+      )
 
   -- what the frames refuse is refused
   pub feeds_refused : (piece : List ℕ) (e f : Fault) → f ≡ e → FramesFeed piece (Err e) → IsRefused c d → Feeds old piece new (Err f)
@@ -206,7 +219,10 @@ module _ (before after : Framing) (c d : Course) (sound : IsSound before c) (rea
       )))
 
   -- a schema that the frames bring is readable
-  pub fed_readable : (n : ℕ) (piece : List ℕ) (found : Option Framed) (frame : Framed) → found ≡ Some frame → FramesFeed piece (Ok (n, found))
+  pub fed_readable : (n : ℕ) (piece : List ℕ) (found : Option Framed) (frame : Framed) → found ≡ Some frame → FramesFeed piece (Ok (
+    n,
+    found,
+  ))
       → IsReadableFrame c.limits frame
   fed_readable n piece found frame is h =
       let g = fed piece (Ok (n, found)) (Ok (n, Some frame)) (ap (λ f. Ok (n, f)) is) h in

@@ -1,5 +1,6 @@
 -- What is told of pieces is the verdict about their bytes.
-use Rattle.std.proofs.Common.{◌≡◌, ◌∙◌, refl, sym, ap, subst, ℕ, List, [], ◌∷◌, ◌++◌, Some, None, Ok, Result, Option, append_assoc, take, drop}
+use Rattle.std.proofs.Common.{◌≡◌, ◌∙◌, refl, sym, ap, subst, ℕ, List, [], ◌∷◌, ◌++◌, Some, None, Ok, Result, Option, append_assoc, take}
+use Rattle.std.proofs.Common.{drop}
 use Rattle.std.specs.List.{AllByRecursion, concat}
 use Rattle.std.proofs.lemmas.List.{append-nil, append_cancel_left, take-append-drop}
 use Rattle.ipc_model.specs.declared.fault.Fault.{Fault}
@@ -13,7 +14,8 @@ use Rattle.ipc_frame.proofs.OneFrame.{frame_one, no_frame_at_end}
 use Rattle.ipc_stream.specs.declared.event.Event.{Event as Told}
 use Rattle.ipc_stream.specs.declared.event.Event.TheVariants as told
 use Rattle.ipc_stream.specs.Decoding.{Decoding, FeedsAt, FeedsOn, Reaches, taking}
-use Rattle.ipc_stream.specs.Fed.{AnyPieces, AreTold, Call, EndsWithMark, GoesOn, HasVerdict, Leaves, TablePieces, none, kept, goes_on, ended}
+use Rattle.ipc_stream.specs.Fed.{AnyPieces, AreTold, Call, EndsWithMark, GoesOn, HasVerdict, Leaves, TablePieces, none, kept, goes_on}
+use Rattle.ipc_stream.specs.Fed.{ended}
 use Rattle.ipc_stream.specs.Found.{rows_of}
 use Rattle.ipc_stream.specs.Readable.{IsSupportedEvent}
 use Rattle.ipc_stream.specs.Stream.{Denotes, Event, Run, State, Step, batch, done, events_of, more as then, schema}

@@ -130,7 +130,8 @@ reach_one z w o p all every
 reach_one {limits} z w o p all every
     (then {σ = σ} {τ = τ} {υ = υ} {x = x} {metadata = m} {body = body} {y = y} {h = g} {es = es} {fs = fs} frame step rest)
     (then {τ = τ'} {υ = υ'} {x = x'} {metadata = m'} {body = body'} {y = y'} {h = g'} {es = es'} {fs = fs'} frame' step' rest') a b e =
-    let same = frame_one x x' m m' body body' (y ++ z) (y' ++ w) g g' frame frame' (sym (append_assoc x y z) ∙ (e ∙ append_assoc x' y' w)) in
+    let same = frame_one x x' m m' body body' (y ++ z) (y' ++ w) g g' frame frame' (sym (append_assoc x y z) ∙ (e ∙ append_assoc x' y' w))
+    in
     let other : Step limits σ g body es' τ' = subst (λ q. Step limits σ q body es' τ') (sym same.same_head)
     (subst (λ q. Step limits σ g' q es' τ') (sym same.same_body) step') in
     let one = step_one step other in
@@ -162,7 +163,8 @@ pub reached_then : {limits : Limits} → (σ τ υ : State) (x z w r : List ℕ)
     → Reached limits τ (z ++ w) fs υ r → Reached limits σ (x ++ w) (es ++ fs) υ r
 reached_then σ τ υ x z w r es fs a b = record {
   whole = a.whole ++ b.whole;
-  joined = ap (λ y. y ++ w) a.joined ∙ (append_assoc a.whole z w ∙ (ap (λ y. a.whole ++ y) b.joined ∙ sym (append_assoc a.whole b.whole r)));
+  joined = ap (λ y. y ++ w) a.joined ∙ (append_assoc a.whole z w ∙ (ap (λ y. a.whole ++ y) b.joined ∙ sym (append_assoc a.whole b.whole
+      r)));
   run = run_then σ τ υ a.whole b.whole es fs a.run b.run;
   read = all_both es fs a.read b.read;
 }

@@ -23,7 +23,8 @@ GoesOn told.End = ⊥
 GoesOn event = ⊤
 
 -- A decoder is fed these pieces in turn, and of each what a call left of it again, until the end
--- mark comes or no piece is left, without a refusal. It tells these events, and these bytes are left
+-- mark comes or no piece is left, without a refusal. It tells these events, and these bytes are
+-- left
 pub data Fed : Decoding → List (List ℕ) → List Told → Decoding → List ℕ → Type 0 where
   none : {d : Decoding} → Fed d [] [] d []
   kept : {d e g : Decoding} {piece left : List ℕ} {pieces : List (List ℕ)} {events : List Told}
