@@ -40,7 +40,7 @@ fn push<'a>(
     }
     Ok(rest)
 }
-// README: end
+// README ends.
 
 // Whether a schema, a batch of three rows and the end mark are told.
 fn is_told(events: &[Event]) -> bool {
