@@ -2,8 +2,7 @@
 //! the limits that are not the standard ones behind it, as in `, metadata 39, slots 3`. Each is
 //! answered by some lines and an empty one. They say what the library reads in it, whether it reads
 //! the same when the bytes come in small pieces, pulled or pushed, and whether the rows come back
-//! when they are
-//! written. `cases/README.md` says how the lines look.
+//! when they are written. `cases/README.md` says how the lines look.
 #![tactic(auto)]
 
 mod answer;
