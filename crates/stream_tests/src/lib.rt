@@ -1,5 +1,5 @@
-//! Tests of streams that need Rust: devices that fail, limits of calls, bytes in pieces, refusals of
-//! the writer, and what comes after a refusal. What the library answers to streams stands in
+//! Tests of streams that need Rust: devices that fail, limits of calls, bytes in pieces, refusals
+//! of the writer, and what comes after a refusal. What the library answers to streams stands in
 //! `cases/`.
 #![tactic(auto)]
 
