@@ -16,6 +16,10 @@ use Rattle.ipc_encode.specs.Cells.{cell, cells, nulls}
 use Rattle.ipc_encode.specs.Buffers.{layout_of, column_buffers, joined, buffers_from}
 use Rattle.ipc_encode.specs.Columns.{values_in, layout_buffers, bits_length, padded_length, validity_length, offsets_length, column_length}
 use Rattle.ipc_encode.specs.Limits.{HasLongData, SomeLongData, IsTooLong, IsRefused}
+use Rattle.ipc_encode.specs.Built.{IsRowRefused}
+use Rattle.ipc_encode.specs.Faults.{write_fault}
+use Rattle.ipc_encode.specs.declared.fault.PushFault.{PushFault}
+use Rattle.ipc_encode.specs.declared.fault.PushFault.TheVariants as push
 use Rattle.ipc_encode.proofs.Steps.{cells_push, nulls_push}
 use Rattle.ipc_encode.proofs.Adding.{joined_append}
 use Rattle.ipc_encode.proofs.Sizes.{bitmap_bytes, bits_more, numbers_more, fixed_more, content_more, column_size}
@@ -135,3 +139,32 @@ pub refused_first : (limits : Limits) (fields : List Field) (rows : List (List V
 refused_first limits fields rows i e h =
     subst (λ (rs : List (List Value)). IsRefused limits fields rs e) (take-append-drop i rows)
     (refused_more limits fields (take i rows) (drop i rows) e h)
+
+-- ---- rows that columns don't take
+
+row_refused_one : (fields : List Field) (rows : List (List Value)) (row : List Value) (e : PushFault) → IsRowRefused fields rows e
+    → IsRowRefused fields (rows ++ row ∷ []) e
+row_refused_one fields rows row push.TooLong (inl long) = inl (long_grows fields 0 rows row long)
+row_refused_one fields rows row push.TooLong (inr many) = let size = length-append rows (row ∷ []) in inr (omega (arith, size, many))
+row_refused_one fields rows row push.OutOfMemory h = h
+
+row_refused_more : (fields : List Field) (rows more : List (List Value)) (e : PushFault) → IsRowRefused fields rows e
+    → IsRowRefused fields (rows ++ more) e
+row_refused_more fields rows [] e h = subst (λ (rs : List (List Value)). IsRowRefused fields rs e) (sym (append-nil rows)) h
+row_refused_more fields rows (row ∷ more) e h =
+    subst (λ (rs : List (List Value)). IsRowRefused fields rs e) (append_assoc rows (row ∷ []) more)
+    (row_refused_more fields (rows ++ row ∷ []) more e (row_refused_one fields rows row e h))
+
+-- rows whose beginning isn't taken aren't
+pub row_refused_first : (fields : List Field) (rows : List (List Value)) (i : ℕ) (e : PushFault) → IsRowRefused fields (take i rows) e
+    → IsRowRefused fields rows e
+row_refused_first fields rows i e h =
+    subst (λ (rs : List (List Value)). IsRowRefused fields rs e) (take-append-drop i rows)
+    (row_refused_more fields (take i rows) (drop i rows) e h)
+
+-- where there are no more rows than the limits allow, what columns don't take is refused
+pub row_refusal : (limits : Limits) (fields : List Field) (rows : List (List Value)) (e : PushFault) → length rows ≤ limits.slots
+    → IsRowRefused fields rows e → IsRefused limits fields rows (write_fault e)
+row_refusal limits fields rows push.TooLong few (inl long) = inl long
+row_refusal limits fields rows push.TooLong few (inr many) = let most = limits.slots_fit in absurd (omega (arith, few, many, most))
+row_refusal limits fields rows push.OutOfMemory few h = tt

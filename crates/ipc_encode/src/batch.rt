@@ -34,7 +34,7 @@ pub fn encode<I: IndexOf>(
     limits: &Limits,
     fields: &[Field],
     rows: &[Row],
-    indices: &I,
+    _indices: &I,
 ) -> Result<Parts, WriteFault>
     requires fine { AllByRecursion (IsFieldWellFormed limits.now) (entries fields.now) }
     requires conform { AllByRecursion (RowFits fields.now) rows.now }
@@ -57,10 +57,5 @@ pub fn encode<I: IndexOf>(
         (λ fault. are_supported fields.now ≡ true
         → IsRefused limits.now fields.now rows.now fault) }
 {
-    let mut builder = Builder::new(alloc, fields, limits)?;
-    for row in rows {
-        builder.fits(row.as_slice())?;
-        builder.push(row.as_slice(), indices)?;
-    }
-    builder.finish(&SameNumbers)
+    Builder::of_rows(alloc, fields, limits, rows)?.finish(&SameNumbers)
 }

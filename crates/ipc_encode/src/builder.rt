@@ -21,7 +21,7 @@ use crate::column::Column;
 use crate::fault::PushFault;
 use crate::index::{IndexOf, Renumber};
 use crate::parts::{Draft, Parts, add_column};
-use ipc_model::{Field, Items, Limits, Value, WriteFault, layout_of};
+use ipc_model::{Field, Items, Limits, Row, Value, WriteFault, layout_of};
 use std::alloc::{AllocError, Global};
 use std::mem;
 
@@ -110,6 +110,19 @@ fn push_row(columns: &mut [Column], row: &[Value], null: &Value) -> Result<(), P
     Ok(())
 }
 
+// Takes rows, one after another, into columns without values.
+fn push_rows(columns: &mut [Column], rows: &[Row]) -> Result<(), PushFault>
+    ensures pushed { (fields : List Field) → AreColumns fields columns.old (λ j. [])
+        → OnOk result (AreColumns fields columns.new (λ j. cells j rows.now)) }
+    ensures refused { (fields : List Field) → AreColumns fields columns.old (λ j. [])
+        → IfErr result (IsRowRefused fields rows.now) }
+{
+    for row in rows {
+        push_row(columns, row.as_slice(), &Value::Null)?;
+    }
+    Ok(())
+}
+
 // The nodes and the buffers of the columns.
 fn join(alloc: Global, columns: &[Column]) -> Result<Draft, AllocError>
     ensures { (fields : List Field) (rows : List (List Value))
@@ -141,6 +154,30 @@ impl Builder {
         Ok(Builder {
             columns,
             rows: 0,
+            limits: *limits,
+            failed: false,
+        })
+    }
+
+    // These rows of these fields. Their lengths are looked at once, when all are taken.
+    pub(crate) fn of_rows(
+        alloc: Global,
+        fields: &[Field],
+        limits: &Limits,
+        rows: &[Row],
+    ) -> Result<Builder, WriteFault>
+        ensures rows { IfOk result (HasRows limits.now fields.now rows.now) }
+        ensures refused { IfErr result (IsRefused limits.now fields.now rows.now) }
+    {
+        if rows.len() > limits.slots as usize {
+            return Err(WriteFault::TooManyRows);
+        }
+        let mut columns = new_columns(alloc, fields)?;
+        push_rows(&mut columns, rows)?;
+        check_len(&columns, limits)?;
+        Ok(Builder {
+            columns,
+            rows: rows.len(),
             limits: *limits,
             failed: false,
         })
