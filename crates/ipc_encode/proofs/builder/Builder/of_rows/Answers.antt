@@ -10,7 +10,8 @@ use Rattle.ipc_encode.proofs.builder.Builder.of_rows.Goals as goal
 
 pub returns-in_err-check_len-clause-refused : goal.returns-in_err-check_len-clause-refused
 returns-in_err-check_len-clause-refused c =
-    let fresh = subst (λ (cs : List Column). AreColumns c.args.fields.now cs (λ j. [])) (sym c.deref_mut.ensures.value) c.in_ok-columns.ensures in
+    let fresh = subst (λ (cs : List Column). AreColumns c.args.fields.now cs (λ j. [])) (sym c.deref_mut.ensures.value)
+    c.in_ok-columns.ensures in
     let size : length c.push_rows.new.columns ≡ c.in_ok-columns.columns.len = c.push_rows.auto.columns ∙ c.deref_mut.ensures.len in
     let held = subst (λ (cs : List Column). AreColumns c.args.fields.now cs (λ j. cells j c.args.rows.now))
     (sym (c.deref.ensures.value ∙ with_items_is c.in_ok-columns.columns c.push_rows.new.columns size))
