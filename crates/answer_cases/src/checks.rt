@@ -70,18 +70,25 @@ fn pushed_so(
     })
 }
 
-// In how many places a stream is cut in two at most.
-const PLACES: usize = 2_048;
+// A stream of at most so many bytes is cut in two at every place, a longer one at so many places
+// that lie evenly: a few of those state so many fields that each reading of them takes a while.
+const EVERYWHERE: usize = 400;
 
-// The first cut in two at which something else is told, with that: at every place, and in a stream
-// of more bytes than `PLACES` at places that lie evenly.
+const PLACES: usize = 32;
+
+// The first cut in two at which something else is told, with that.
 fn pushed_in_two(
     alloc: Global,
     request: &Request,
     whole: &Answer,
 ) -> Result<Option<(Cut, Answer)>, AllocError> {
     let length = request.stream.len();
-    for place in (0..=length).step_by(length / PLACES + 1) {
+    let step = if length <= EVERYWHERE {
+        1
+    } else {
+        length / PLACES
+    };
+    for place in (0..=length).step_by(step.max(1)) {
         if let Some(other) = pushed_so(alloc, request, Cut::At(place), whole)? {
             return Ok(Some(other));
         }
