@@ -23,6 +23,11 @@ pub enum Job {
         /// How many times it is checked.
         times: u32,
     },
+    /// Pushes standard input in pieces.
+    Push {
+        /// How many bytes a piece has at most.
+        size: u32,
+    },
 }
 
 fn number(words: &mut Args) -> Option<u32> {
@@ -41,6 +46,9 @@ fn named(name: &str, words: &mut Args) -> Option<Job> {
             kind: Kind::of(words.next()?.as_str())?,
             rows: number(words)?,
             times: number(words)?,
+        },
+        "push" => Job::Push {
+            size: number(words)?,
         },
         _ => return None,
     })

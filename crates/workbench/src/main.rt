@@ -3,11 +3,13 @@
 //!     workbench write-numbers BATCHES ROWS > STREAM
 //!     workbench write-types > STREAM
 //!     workbench check-columns numbers|nulls|bytes|texts ROWS TIMES
+//!     workbench push SIZE < STREAM
 //!
 //! `write-numbers` writes so many batches of so many rows of four required columns of signed 64-bit
 //! integers, `write-types` columns of every flat type. `check-columns` checks a record batch of one
 //! column and so many rows so many times, and prints how many bytes that were; the column holds
-//! required 64-bit integers, nullable ones of which each third is null, binary, or UTF-8.
+//! required 64-bit integers, nullable ones of which each third is null, binary, or UTF-8. `push`
+//! reads standard input in pieces of at most so many bytes, pushes each to a decoder and counts.
 #![tactic(auto)]
 
 mod batch;
@@ -15,12 +17,14 @@ mod checks;
 mod column;
 mod job;
 mod numbers;
+mod pushes;
 mod types;
 
 use anyhow::Result;
 use checks::check_columns;
 use job::Job;
 use numbers::write_numbers;
+use pushes::push_stream;
 use std::process::ExitCode;
 use std::{env, io};
 use types::write_types;
@@ -28,7 +32,8 @@ use types::write_types;
 const USAGE: &str = "\
 usage: workbench write-numbers BATCHES ROWS > STREAM
        workbench write-types > STREAM
-       workbench check-columns numbers|nulls|bytes|texts ROWS TIMES";
+       workbench check-columns numbers|nulls|bytes|texts ROWS TIMES
+       workbench push SIZE < STREAM";
 
 fn run(rt: &HostRuntime, job: Job) -> Result<()> {
     match job {
@@ -39,6 +44,11 @@ fn run(rt: &HostRuntime, job: Job) -> Result<()> {
         Job::CheckColumns { kind, rows, times } => {
             let bytes = check_columns(rt.alloc(), kind, rows, times)?;
             println!(rt; "{bytes} bytes")?;
+        }
+        Job::Push { size } => {
+            let (counts, _end) = push_stream(rt.alloc(), rt.reader(), size as usize)?;
+            let (batches, rows) = (counts.batches, counts.rows);
+            println!(rt; "{batches} batches, {rows} rows")?;
         }
     }
     Ok(())

@@ -1,0 +1,56 @@
+//! A stream that is pushed in pieces, by which `Decoder` is measured.
+use ipc_model::{Fault, Limits};
+use ipc_stream::{Decoder, End, Event};
+use std::alloc::Global;
+use std::io::Read;
+
+/// What came of a stream.
+#[derive(Clone, Copy, Debug, PartialEq, Eq)]
+pub struct Counts {
+    /// How many batches.
+    pub batches: u64,
+    /// How many rows they have.
+    pub rows: u64,
+}
+
+// Pushes what was read, and adds what it tells.
+fn push(decoder: &mut Decoder, piece: &[u8], counts: &mut Counts) -> Result<(), Fault> {
+    let mut rest = piece;
+    for _ in 0..=piece.len() {
+        let (taken, event) = decoder.feed(rest)?;
+        rest = rest.get(taken..).unwrap_or(&[]);
+        match event {
+            Some(Event::Batch(batch, _pairs)) => {
+                counts.batches = counts.batches.saturating_add(1);
+                counts.rows = counts.rows.saturating_add(batch.rows() as u64);
+            }
+            Some(_) => {}
+            None => return Ok(()),
+        }
+    }
+    Ok(())
+}
+
+/// Reads standard input in pieces of so many bytes and pushes each, and says what came and how the
+/// stream ended. A failed read is `Read`.
+pub fn push_stream<R: Read + Drop>(
+    alloc: Global,
+    input: R,
+    size: usize,
+) -> Result<(Counts, End), Fault> {
+    let mut input = input;
+    let mut decoder = Decoder::new(alloc, Limits::standard());
+    let mut piece = vec![in alloc; 0u8; size]?;
+    let mut counts = Counts {
+        batches: 0,
+        rows: 0,
+    };
+    for _ in 0..u64::MAX {
+        match input.read(&mut piece) {
+            Ok(0) => break,
+            Ok(count) => push(&mut decoder, piece.get(..count).unwrap_or(&[]), &mut counts)?,
+            Err(_) => return Err(Fault::Read),
+        }
+    }
+    Ok((counts, decoder.close()?))
+}
