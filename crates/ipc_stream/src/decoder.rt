@@ -12,8 +12,9 @@ use std::marker::Model;
 ///
 /// Bytes are pushed by `feed`, or pulled by `feed_from`; the two may be mixed. Of the message at
 /// hand all bytes that came are kept, and behind a message nothing of it: the body of a record
-/// batch goes to the batch without a copy. No byte is looked at again from the message's start,
-/// however small the pieces are, and the lists grow as bytes come, never by what a message states.
+/// batch goes to the batch without a copy. However small the pieces are, metadata is read when it
+/// is whole and once more with the whole body, and the lists grow as bytes come, never by what a
+/// message states.
 ///
 /// After a refusal each call answers `Failed` (F35) and takes nothing; the events before it stand.
 /// After the end mark, or after a `close` that was `Ok`, nothing is taken either.
