@@ -1,6 +1,6 @@
 //! Texts whose right form is given.
 use csv::ByteRecord;
-use ipc_model::{DataType, DateUnit, Field, IntBits, Items, Schema, Text, TimeUnit, Value};
+use ipc_model::{DateUnit, Schema, TimeUnit, Value};
 use ipc_text::{
     TextFault, check_header, csv_header, csv_record, date_text, pairs_json, read_bool, read_bytes,
     read_date, read_int, read_text, read_time, read_timestamp, read_uint, row_from_csv, row_json,
@@ -9,343 +9,80 @@ use ipc_text::{
 use std::alloc::{AllocError, Global};
 use std::test::Fail;
 
-#[test]
-fn dates(rt: HostRuntime) -> Result<(), Fail> {
-    let cases = [
-        (-719_162, Some("0001-01-01")),
-        (-719_163, None),
-        (-1, Some("1969-12-31")),
-        (0, Some("1970-01-01")),
-        (11_016, Some("2000-02-29")),
-        (11_017, Some("2000-03-01")),
-        (47_540, Some("2100-02-28")),
-        (47_541, Some("2100-03-01")),
-        (2_932_896, Some("9999-12-31")),
-        (2_932_897, None),
-    ];
-    for (day, wanted) in cases {
-        let text = date_text(DateUnit::Day, day);
-        assert_eq!(rt; text.as_ref().map(|text| text.as_str()), wanted);
-        let text = date_text(DateUnit::Millisecond, day * 86_400_000);
-        assert_eq!(rt; text.as_ref().map(|text| text.as_str()), wanted);
-        assert!(rt; date_text(DateUnit::Millisecond, day * 86_400_000 + 1).is_none());
-    }
-    Ok(())
-}
+// A schema of five columns, and pairs.
+const FLAT: &str = "{\"fields\":[\
+{\"children\":0,\"dictionary\":null,\"metadata\":[],\"name\":\"id\",\"nullable\":true,\
+\"type\":[\"int\",32]},\
+{\"children\":0,\"dictionary\":null,\"metadata\":[],\"name\":\"\\\"n\\\"\",\"nullable\":true,\
+\"type\":[\"utf8\"]},\
+{\"children\":0,\"dictionary\":null,\"metadata\":[],\"name\":\"day\",\"nullable\":true,\
+\"type\":[\"date\",\"day\"]},\
+{\"children\":0,\"dictionary\":null,\"metadata\":[[\"a\",\"\"]],\"name\":\"raw\",\"nullable\":false,\
+\"type\":[\"fixed_size_binary\",2]},\
+{\"children\":0,\"dictionary\":null,\"metadata\":[],\"name\":\"at\",\"nullable\":true,\
+\"type\":[\"timestamp\",\"us\",\"UTC\"]}],\
+\"metadata\":[[\"k\",\"v\"]]}";
 
-#[test]
-fn points_in_time(rt: HostRuntime) -> Result<(), Fail> {
-    let cases = [
-        (
-            TimeUnit::Second,
-            None,
-            951_782_399,
-            Some("2000-02-28T23:59:59"),
-        ),
-        (
-            TimeUnit::Millisecond,
-            None,
-            0,
-            Some("1970-01-01T00:00:00.000"),
-        ),
-        (
-            TimeUnit::Microsecond,
-            Some("UTC"),
-            -1,
-            Some("1969-12-31T23:59:59.999999Z"),
-        ),
-        (
-            TimeUnit::Microsecond,
-            Some(""),
-            1,
-            Some("1970-01-01T00:00:00.000001"),
-        ),
-        (
-            TimeUnit::Nanosecond,
-            Some("+01:00"),
-            1_000_002_003,
-            Some("1970-01-01T00:00:01.000002003Z"),
-        ),
-        (
-            TimeUnit::Second,
-            None,
-            253_402_300_799,
-            Some("9999-12-31T23:59:59"),
-        ),
-        (TimeUnit::Second, None, 253_402_300_800, None),
-        (TimeUnit::Second, None, i64::MIN, None),
-    ];
-    for (unit, zone, number, wanted) in cases {
-        let text = timestamp_text(unit, zone, number);
-        assert_eq!(rt; text.as_ref().map(|text| text.as_str()), wanted);
-    }
-    Ok(())
-}
+// A list of structs, and a column whose values stand in a dictionary.
+const NESTED: &str = "{\"fields\":[\
+{\"children\":1,\"dictionary\":null,\"metadata\":[],\"name\":\"l\",\"nullable\":true,\
+\"type\":[\"list\"]},\
+{\"children\":2,\"dictionary\":null,\"metadata\":[],\"name\":\"s\",\"nullable\":false,\
+\"type\":[\"struct\"]},\
+{\"children\":0,\"dictionary\":null,\"metadata\":[],\"name\":\"t\",\"nullable\":true,\
+\"type\":[\"time\",\"ns\"]},\
+{\"children\":0,\"dictionary\":null,\"metadata\":[],\"name\":\"d\",\"nullable\":true,\
+\"type\":[\"duration\",\"s\"]},\
+{\"children\":0,\"dictionary\":[-3,[\"uint\",8],true],\"metadata\":[],\"name\":\"\",\
+\"nullable\":true,\"type\":[\"utf8\"]}],\
+\"metadata\":[]}";
 
-#[test]
-fn times(rt: HostRuntime) -> Result<(), Fail> {
-    let cases = [
-        (TimeUnit::Second, 0, Some("00:00:00")),
-        (TimeUnit::Second, 3_723, Some("01:02:03")),
-        (TimeUnit::Second, 86_399, Some("23:59:59")),
-        (TimeUnit::Second, 86_400, None),
-        (TimeUnit::Millisecond, 86_399_999, Some("23:59:59.999")),
-        (TimeUnit::Millisecond, 86_400_000, None),
-        (TimeUnit::Microsecond, 0, Some("00:00:00.000000")),
-        (
-            TimeUnit::Nanosecond,
-            45_296_000_000_007,
-            Some("12:34:56.000000007"),
-        ),
-        (TimeUnit::Nanosecond, -1, None),
-    ];
-    for (unit, number, wanted) in cases {
-        let text = time_text(unit, number);
-        assert_eq!(rt; text.as_ref().map(|text| text.as_str()), wanted);
-    }
-    Ok(())
-}
-
-fn text(alloc: Global, text: &str) -> Result<Text, AllocError> {
-    Ok(Text::from_string(String::from_str(alloc, text)?))
-}
-
-fn field(alloc: Global, name: &str, kind: DataType) -> Result<Field, AllocError> {
-    Ok(Field {
-        name: text(alloc, name)?,
-        nullable: true,
-        kind,
-        dictionary: None,
-        children: Items::from_vec(Vec::new(alloc)),
-        metadata: Items::from_vec(Vec::new(alloc)),
-    })
-}
-
-fn schema(alloc: Global) -> Result<Schema, AllocError> {
-    let mut fields = Vec::new(alloc);
-    let int = DataType::Int {
-        bits: IntBits::B32,
-        signed: true,
-    };
-    fields.push(field(alloc, "id", int)?)?;
-    fields.push(field(alloc, "\"n\"", DataType::Utf8)?)?;
-    fields.push(field(alloc, "day", DataType::Date(DateUnit::Day))?)?;
-    fields.push(field(alloc, "raw", DataType::FixedSizeBinary(2))?)?;
-    let zoned = DataType::Timestamp {
-        unit: TimeUnit::Microsecond,
-        timezone: Some(text(alloc, "UTC")?),
-    };
-    fields.push(field(alloc, "at", zoned)?)?;
-    let mut metadata = Vec::new(alloc);
-    metadata.push((text(alloc, "k")?, text(alloc, "v")?))?;
-    Ok(Schema {
-        fields: Items::from_vec(fields),
-        metadata: Items::from_vec(metadata),
-    })
+fn is_read_and_printed(alloc: Global, text: &str) -> Result<bool, TextFault> {
+    let schema = schema_from_json(alloc, text)?;
+    Ok(schema_json(alloc, &schema)?.as_str() == text)
 }
 
 #[test]
 fn schemas(rt: HostRuntime) -> Result<(), Fail> {
-    let alloc = rt.alloc();
-    let schema = schema(alloc)?;
-    let one = Schema {
-        fields: Items::from_vec(vec![in alloc; field(alloc, "a", DataType::Null)?]?),
-        metadata: Items::from_vec(Vec::new(alloc)),
-    };
-    let text = schema_json(alloc, &one)?;
-    let front = "{\"fields\":[{\"children\":0,\"dictionary\":null,\"metadata\":[],";
-    let end = "\"name\":\"a\",\"nullable\":true,\"type\":[\"null\"]}],\"metadata\":[]}";
-    assert!(rt; text.as_str().starts_with(front));
-    assert!(rt; text.as_str().ends_with(end));
-    assert_eq!(rt; text.as_str().len(), front.len() + end.len());
-    let text = pairs_json(alloc, schema.metadata.as_slice())?;
-    assert_eq!(rt; text.as_str(), "[[\"k\",\"v\"]]");
+    assert!(rt; matches!(is_read_and_printed(rt.alloc(), FLAT), Ok(true)));
+    assert!(rt; matches!(is_read_and_printed(rt.alloc(), NESTED), Ok(true)));
+    Ok(())
+}
+
+#[test]
+fn members_in_another_order(rt: HostRuntime) -> Result<(), Fail> {
+    let given = "{ \"metadata\":[], \"fields\":[\n] }";
+    let read = schema_from_json(rt.alloc(), given);
+    assert!(rt; read.is_ok_and(|schema| schema.fields.is_empty()));
+    Ok(())
+}
+
+fn pairs_of(alloc: Global, schema: &str) -> Result<String, TextFault> {
+    let schema = schema_from_json(alloc, schema)?;
+    pairs_json(alloc, schema.metadata.as_slice())
+}
+
+#[test]
+fn pairs(rt: HostRuntime) -> Result<(), Fail> {
+    let text = pairs_of(rt.alloc(), FLAT);
+    assert!(rt; text.is_ok_and(|text| text.as_str() == "[[\"k\",\"v\"]]"));
+    Ok(())
+}
+
+// The header of this schema's columns.
+fn header_of(alloc: Global, schema: &str) -> Result<Vec<u8>, TextFault> {
+    let schema = schema_from_json(alloc, schema)?;
+    csv_header(alloc, &schema)
+}
+
+#[test]
+fn headers_printed(rt: HostRuntime) -> Result<(), Fail> {
+    let header = header_of(rt.alloc(), FLAT);
     assert!(rt;
-        schema_json(alloc, &schema)?.as_str().ends_with(
-            "\"type\":[\"timestamp\",\"us\",\"UTC\"]}],\"metadata\":[[\"k\",\"v\"]]}"
-        )
+        header.is_ok_and(|text| text.as_slice() == b"id,\"\"\"n\"\"\",day,raw,at\n".as_slice())
     );
-    Ok(())
-}
-
-#[test]
-fn rows(rt: HostRuntime) -> Result<(), Fail> {
-    let alloc = rt.alloc();
-    let schema = schema(alloc)?;
-    let row = vec![in alloc;
-        Value::Int(-7),
-        Value::Text(text(alloc, "a\n\u{1}é")?),
-        Value::Int(-719_163),
-        Value::Bytes(Items::from_vec(vec![in alloc; 0u8, 171]?)),
-        Value::Int(-1),
-    ]?;
-    let text = row_json(alloc, &schema, row.as_slice())?;
-    assert_eq!(rt;
-        text.as_str(),
-        "[-7,\"a\\n\\u0001é\",-719163,\"00ab\",\"1969-12-31T23:59:59.999999Z\"]"
-    );
-    Ok(())
-}
-
-#[test]
-fn csv_texts(rt: HostRuntime) -> Result<(), Fail> {
-    let alloc = rt.alloc();
-    let int = DataType::Int {
-        bits: IntBits::B32,
-        signed: true,
-    };
-    let schema = Schema {
-        fields: Items::from_vec(vec![in alloc;
-            field(alloc, "id", int)?,
-            field(alloc, "t", DataType::Utf8)?,
-        ]?),
-        metadata: Items::from_vec(Vec::new(alloc)),
-    };
-    assert_eq!(rt;
-        csv_header(alloc, &schema)?.as_slice(),
-        b"id,t\n".as_slice()
-    );
-    let row = vec![in alloc; Value::Int(1), Value::Null]?;
-    assert_eq!(rt;
-        csv_record(alloc, &schema, row.as_slice())?.as_slice(),
-        b"1,\\N\n".as_slice()
-    );
-    let cases = [
-        ("", "2,\n"),
-        ("\\N", "2,\\\\N\n"),
-        ("\\\\x", "2,\\\\\\x\n"),
-        ("a,b\nc", "2,\"a,b\nc\"\n"),
-        ("\"", "2,\"\"\"\"\n"),
-    ];
-    for (given, wanted) in cases {
-        let row = vec![in alloc; Value::Int(2), Value::Text(text(alloc, given)?)]?;
-        let record = csv_record(alloc, &schema, row.as_slice())?;
-        assert_eq!(rt; record.as_slice(), wanted.as_bytes());
-    }
-    Ok(())
-}
-
-fn one_column(alloc: Global, kind: DataType) -> Result<Schema, AllocError> {
-    Ok(Schema {
-        fields: Items::from_vec(vec![in alloc; field(alloc, "a", kind)?]?),
-        metadata: Items::from_vec(Vec::new(alloc)),
-    })
-}
-
-#[test]
-fn csv_refusals(rt: HostRuntime) -> Result<(), Fail> {
-    let alloc = rt.alloc();
-    let texts = one_column(alloc, DataType::Utf8)?;
-    let row = vec![in alloc; Value::Text(text(alloc, "")?)]?;
-    assert_eq!(rt;
-        csv_record(alloc, &texts, row.as_slice())?.as_slice(),
-        b"\"\"\n".as_slice()
-    );
-    let dates = one_column(alloc, DataType::Date(DateUnit::Day))?;
-    let row = vec![in alloc; Value::Int(-719_162)]?;
-    assert_eq!(rt;
-        csv_record(alloc, &dates, row.as_slice())?.as_slice(),
-        b"0001-01-01\n".as_slice()
-    );
-    let row = vec![in alloc; Value::Int(-719_163)]?;
-    let refused = csv_record(alloc, &dates, row.as_slice());
-    assert!(rt; matches!(&refused, Err(TextFault::NoTextForm { column: 0 })));
-    let nested = one_column(alloc, DataType::Struct)?;
-    assert!(rt; matches!(&csv_header(alloc, &nested), Err(TextFault::NotFlat)));
-    Ok(())
-}
-
-#[test]
-fn csv_fields(rt: HostRuntime) -> Result<(), Fail> {
-    let alloc = rt.alloc();
-    assert_eq!(rt; read_int("-9223372036854775808"), Some(i64::MIN));
-    for text in ["+1", "01", "-0", "", " 1", "9223372036854775808"] {
-        assert_eq!(rt; read_int(text), None);
-    }
-    assert_eq!(rt; read_uint("18446744073709551615"), Some(u64::MAX));
-    assert_eq!(rt; read_uint("-1"), None);
-    assert_eq!(rt; read_bool("false"), Some(false));
-    assert_eq!(rt; read_bool("TRUE"), None);
-    assert_eq!(rt; read_text(b"\\\\x"), Some(b"\\x".as_slice()));
-    assert_eq!(rt; read_text(b"\\x"), None);
-    let bytes = read_bytes(alloc, b"00aB")?;
-    assert_eq!(rt;
-        bytes.as_ref().map(|bytes| bytes.as_slice()),
-        Some([0u8, 171].as_slice())
-    );
-    assert!(rt; read_bytes(alloc, b"0")?.is_none());
-    Ok(())
-}
-
-#[test]
-fn times_and_durations(rt: HostRuntime) -> Result<(), Fail> {
-    let alloc = rt.alloc();
-    let schema = Schema {
-        fields: Items::from_vec(vec![in alloc;
-            field(alloc, "t", DataType::Time(TimeUnit::Millisecond))?,
-            field(alloc, "d", DataType::Duration(TimeUnit::Microsecond))?,
-        ]?),
-        metadata: Items::from_vec(Vec::new(alloc)),
-    };
-    let text = schema_json(alloc, &schema)?;
-    assert!(rt; text.as_str().contains("\"type\":[\"time\",\"ms\"]}"));
-    assert!(rt; text.as_str().contains("\"type\":[\"duration\",\"us\"]}"));
-    let row = vec![in alloc; Value::Int(86_399_999), Value::Int(-90)]?;
-    assert_eq!(rt;
-        row_json(alloc, &schema, row.as_slice())?.as_str(),
-        "[\"23:59:59.999\",-90]"
-    );
-    assert_eq!(rt;
-        csv_record(alloc, &schema, row.as_slice())?.as_slice(),
-        b"23:59:59.999,-90\n".as_slice()
-    );
-    assert_eq!(rt; read_int("-90"), Some(-90));
-    let row = vec![in alloc; Value::Int(86_400_000), Value::Int(0)]?;
-    assert_eq!(rt;
-        row_json(alloc, &schema, row.as_slice())?.as_str(),
-        "[86400000,0]"
-    );
-    let refused = csv_record(alloc, &schema, row.as_slice());
-    assert!(rt; matches!(&refused, Err(TextFault::NoTextForm { column: 0 })));
-    Ok(())
-}
-
-#[test]
-fn moments_read_back(rt: HostRuntime) -> Result<(), Fail> {
-    for day in [-719_162, -1, 0, 11_016, 11_017, 47_541, 2_932_896] {
-        let text = date_text(DateUnit::Day, day).unwrap();
-        assert_eq!(rt;
-            read_date(DateUnit::Day, text.as_str().as_bytes()),
-            Some(day)
-        );
-        let milliseconds = day * 86_400_000;
-        let read = read_date(DateUnit::Millisecond, text.as_str().as_bytes());
-        assert_eq!(rt; read, Some(milliseconds));
-    }
-    for text in [
-        "10000-01-01",
-        "0000-12-31",
-        "2001-02-29",
-        "1970-1-01",
-        "+1970-01-01",
-        "",
-    ] {
-        assert_eq!(rt; read_date(DateUnit::Day, text.as_bytes()), None);
-    }
-    assert_eq!(rt;
-        read_time(TimeUnit::Millisecond, b"23:59:59.999"),
-        Some(86_399_999)
-    );
-    for text in ["24:00:00.000", "23:59:60.000", "00:00:00", "00:00:00.0000"] {
-        assert_eq!(rt; read_time(TimeUnit::Millisecond, text.as_bytes()), None);
-    }
-    for number in [i64::MIN, i64::MIN + 1, -1, 0, 1_000_002_003, i64::MAX] {
-        let text = timestamp_text(TimeUnit::Nanosecond, Some("UTC"), number).unwrap();
-        let read = read_timestamp(TimeUnit::Nanosecond, Some("UTC"), text.as_str().as_bytes());
-        assert_eq!(rt; read, Some(number));
-        let read = read_timestamp(TimeUnit::Nanosecond, None, text.as_str().as_bytes());
-        assert_eq!(rt; read, None);
-    }
+    let header = header_of(rt.alloc(), NESTED);
+    assert!(rt; matches!(&header, Err(TextFault::NotFlat)));
     Ok(())
 }
 
@@ -353,164 +90,133 @@ fn record(alloc: Global, fields: &[&[u8]]) -> Result<ByteRecord, AllocError> {
     ByteRecord::from_fields(alloc, fields)
 }
 
-#[test]
-fn rows_from_csv(rt: HostRuntime) -> Result<(), Fail> {
-    let alloc = rt.alloc();
-    let schema = schema(alloc)?;
-    let row = vec![in alloc;
-        Value::Int(-7),
-        Value::Text(text(alloc, "\\N")?),
-        Value::Int(11_016),
-        Value::Bytes(Items::from_vec(vec![in alloc; 0u8, 171]?)),
-        Value::Int(-1),
-    ]?;
-    let at = b"1969-12-31T23:59:59.999999Z".as_slice();
-    let fields: [&[u8]; 5] = [b"-7", b"\\\\N", b"2000-02-29", b"00Ab", at];
-    let read = row_from_csv(alloc, &schema, 3, &record(alloc, &fields)?)?;
-    assert_eq!(rt; read.as_slice(), row.as_slice());
-    let nulls: [&[u8]; 5] = [b"\\N", b"\\N", b"\\N", b"\\N", b"\\N"];
-    let read = row_from_csv(alloc, &schema, 3, &record(alloc, &nulls)?)?;
-    assert!(rt; read.iter().all(|value| *value == Value::Null));
-    let bad: [&[u8]; 5] = [b"-7", b"\\x", b"x", b"00ab", at];
-    let refused = row_from_csv(alloc, &schema, 3, &record(alloc, &bad)?);
-    assert!(rt;
-        matches!(
-            &refused,
-            Err(TextFault::BadField {
-                record: 3,
-                column: 1
-            })
-        )
-    );
-    let refused = row_from_csv(alloc, &schema, 3, &record(alloc, &bad[..4])?);
-    assert!(rt; matches!(&refused, Err(TextFault::WrongFieldCount { record: 3 })));
-    let nested = one_column(alloc, DataType::Struct)?;
-    let refused = row_from_csv(alloc, &nested, 3, &record(alloc, &bad)?);
-    assert!(rt; matches!(&refused, Err(TextFault::NotFlat)));
-    Ok(())
+fn judge_header(alloc: Global, fields: &[&[u8]]) -> Result<(), TextFault> {
+    let schema = schema_from_json(alloc, FLAT)?;
+    check_header(&schema, &record(alloc, fields)?)
 }
 
 #[test]
-fn headers(rt: HostRuntime) -> Result<(), Fail> {
-    let alloc = rt.alloc();
-    let schema = schema(alloc)?;
+fn headers_judged(rt: HostRuntime) -> Result<(), Fail> {
     let names: [&[u8]; 5] = [b"id", b"\"n\"", b"day", b"raw", b"at"];
-    assert!(rt; check_header(&schema, &record(alloc, &names)?).is_ok());
+    assert!(rt; judge_header(rt.alloc(), &names).is_ok());
     let other: [&[u8]; 5] = [b"id", b"\"n\"", b"Day", b"raw", b"At"];
-    let refused = check_header(&schema, &record(alloc, &other)?);
-    assert!(rt;
-        matches!(
-            &refused,
-            Err(TextFault::BadField {
-                record: 0,
-                column: 2
-            })
-        )
-    );
-    let refused = check_header(&schema, &record(alloc, &other[..4])?);
-    assert!(rt; matches!(&refused, Err(TextFault::WrongFieldCount { record: 0 })));
-    Ok(())
-}
-
-#[test]
-fn fields_that_are_no_values(rt: HostRuntime) -> Result<(), Fail> {
-    let alloc = rt.alloc();
-    let byte = DataType::Int {
-        bits: IntBits::B8,
-        signed: true,
+    let fault = TextFault::BadField {
+        record: 0,
+        column: 2,
     };
-    let cases = [
-        (byte, ["+1", "01", "-0", "128", "-129", ""]),
-        (DataType::Bool, ["True", "1", "", "truee", "\\n", "null"]),
-        (DataType::Null, ["", "null", "0", "\\", "\\\\N", "NULL"]),
-        (
-            DataType::FixedSizeBinary(1),
-            ["", "0", "0000", "0g", "\\x", "0x"],
-        ),
-        (
-            DataType::Date(DateUnit::Day),
-            [
-                "10000-01-01",
-                "0000-01-01",
-                "2001-02-29",
-                "0",
-                "",
-                "1970-1-1",
-            ],
-        ),
-    ];
-    for (kind, texts) in cases {
-        let schema = one_column(alloc, kind)?;
-        for text in texts {
-            let fields: [&[u8]; 1] = [text.as_bytes()];
-            let refused = row_from_csv(alloc, &schema, 1, &record(alloc, &fields)?);
-            assert!(rt;
-                matches!(
-                    &refused,
-                    Err(TextFault::BadField {
-                        record: 1,
-                        column: 0
-                    })
-                )
-            );
-        }
-    }
+    assert!(rt; judge_header(rt.alloc(), &other) == Err(fault));
+    let fault = TextFault::WrongFieldCount { record: 0 };
+    assert!(rt; judge_header(rt.alloc(), &other[..4]) == Err(fault));
     Ok(())
 }
 
-fn nested(alloc: Global) -> Result<Schema, AllocError> {
-    let mut inner = field(alloc, "n", DataType::Time(TimeUnit::Nanosecond))?;
-    for kind in [DataType::List, DataType::Struct, DataType::List] {
-        let children = vec![in alloc; inner]?;
-        inner = field(alloc, "above", kind)?.with_children(children);
-    }
-    let columns = vec![in alloc; inner, field(alloc, "last", DataType::Null)?]?;
-    Ok(Schema::new(columns))
+// What a record's row is as JSON.
+fn json_of(alloc: Global, fields: &[&[u8]]) -> Result<String, TextFault> {
+    let schema = schema_from_json(alloc, FLAT)?;
+    let row = row_from_csv(alloc, &schema, 3, &record(alloc, fields)?)?;
+    row_json(alloc, &schema, row.as_slice())
 }
 
+// What a record's row is as a record again.
+fn record_of(alloc: Global, fields: &[&[u8]]) -> Result<Vec<u8>, TextFault> {
+    let schema = schema_from_json(alloc, FLAT)?;
+    let row = row_from_csv(alloc, &schema, 3, &record(alloc, fields)?)?;
+    csv_record(alloc, &schema, row.as_slice())
+}
+
+const FIELDS: [&[u8]; 5] = [
+    b"-7",
+    b"\\\\N",
+    b"2000-02-29",
+    b"00Ab",
+    b"1969-12-31T23:59:59.999999Z",
+];
+
 #[test]
-fn schemas_from_json(rt: HostRuntime) -> Result<(), Fail> {
-    let alloc = rt.alloc();
-    for schema in [schema(alloc)?, nested(alloc)?] {
-        let text = schema_json(alloc, &schema)?;
-        assert!(rt; schema_from_json(alloc, text.as_str())? == schema);
-    }
-    let members = "\"children\":0,\"dictionary\":[-3,[\"uint\",8],true],\"metadata\":[]";
-    let given = format!(in alloc;
-        "{{\"metadata\":[], \"fields\":[\n{{\"name\":\"b\",\"name\":\"a\",{members},{}}}]}}",
-        "\"nullable\":true,\"type\":[\"utf8\"]"
-    )?;
-    let read = schema_from_json(alloc, given.as_str())?;
-    let first = read.fields.first().ok_or("a field")?;
-    assert_eq!(rt; first.name.as_str(), "a");
+fn rows_as_json(rt: HostRuntime) -> Result<(), Fail> {
+    let text = json_of(rt.alloc(), &FIELDS);
+    let wanted = "[-7,\"\\\\N\",\"2000-02-29\",\"00ab\",\"1969-12-31T23:59:59.999999Z\"]";
+    assert!(rt; text.is_ok_and(|text| text.as_str() == wanted));
     Ok(())
 }
 
 #[test]
-fn texts_that_are_no_schemas(rt: HostRuntime) -> Result<(), Fail> {
-    let alloc = rt.alloc();
-    let cases = [
-        ("[\"int\",32]", "0", true),
-        ("[\"int\",32.0]", "0", false),
-        ("[\"int\",24]", "0", false),
-        ("[\"int\",32]", "-0", false),
-        ("[\"int\",32]", "1", false),
-        ("[\"int\",32]", "0,\"more\":0", false),
-        ("[\"list\"]", "0", false),
-        ("[\"utf8\",null]", "0", false),
-        ("[\"fixed_size_binary\",2147483648]", "0", false),
-        ("[\"timestamp\",\"us\",\"\"]", "0", true),
-        ("[\"timestamp\",\"us\"]", "0", false),
-    ];
-    for (kind, children, wanted) in cases {
-        let front = "{\"fields\":[{\"children\":";
-        let middle =
-            ",\"dictionary\":null,\"metadata\":[],\"name\":\"\",\"nullable\":true,\"type\":";
-        let end = "}],\"metadata\":[]}";
-        let given = format!(in alloc; "{front}{children}{middle}{kind}{end}")?;
-        let read = schema_from_json(alloc, given.as_str());
-        assert_eq!(rt; read.is_ok(), wanted);
-        assert!(rt; wanted || matches!(&read, Err(TextFault::BadSchemaJson)));
-    }
+fn rows_as_records(rt: HostRuntime) -> Result<(), Fail> {
+    let text = record_of(rt.alloc(), &FIELDS);
+    let wanted = b"-7,\\\\N,2000-02-29,00ab,1969-12-31T23:59:59.999999Z\n".as_slice();
+    assert!(rt; text.is_ok_and(|text| text.as_slice() == wanted));
+    Ok(())
+}
+
+#[test]
+fn records_that_are_no_rows(rt: HostRuntime) -> Result<(), Fail> {
+    let bad: [&[u8]; 5] = [b"-7", b"\\x", b"x", b"00ab", b""];
+    let fault = TextFault::BadField {
+        record: 3,
+        column: 1,
+    };
+    assert!(rt; json_of(rt.alloc(), &bad) == Err(fault));
+    let fault = TextFault::WrongFieldCount { record: 3 };
+    assert!(rt; json_of(rt.alloc(), &bad[..4]) == Err(fault));
+    Ok(())
+}
+
+fn is_date(day: i64, wanted: &str) -> bool {
+    date_text(DateUnit::Day, day).is_some_and(|text| text.as_str() == wanted)
+        && read_date(DateUnit::Day, wanted.as_bytes()) == Some(day)
+}
+
+#[test]
+fn dates(rt: HostRuntime) -> Result<(), Fail> {
+    assert!(rt; is_date(-719_162, "0001-01-01") && is_date(2_932_896, "9999-12-31"));
+    assert!(rt; is_date(11_016, "2000-02-29") && is_date(47_541, "2100-03-01"));
+    assert!(rt; date_text(DateUnit::Day, -719_163).is_none());
+    assert!(rt; date_text(DateUnit::Millisecond, 1).is_none());
+    Ok(())
+}
+
+#[test]
+fn times(rt: HostRuntime) -> Result<(), Fail> {
+    let text = time_text(TimeUnit::Nanosecond, 45_296_000_000_007);
+    assert!(rt; text.is_some_and(|text| text.as_str() == "12:34:56.000000007"));
+    assert!(rt; time_text(TimeUnit::Second, 86_400).is_none());
+    let read = read_time(TimeUnit::Millisecond, b"23:59:59.999");
+    assert!(rt; read == Some(86_399_999));
+    Ok(())
+}
+
+fn is_point(unit: TimeUnit, zone: Option<&str>, number: i64, wanted: &str) -> bool {
+    timestamp_text(unit, zone, number).is_some_and(|text| text.as_str() == wanted)
+        && read_timestamp(unit, zone, wanted.as_bytes()) == Some(number)
+}
+
+#[test]
+fn points_in_time(rt: HostRuntime) -> Result<(), Fail> {
+    let last = "9999-12-31T23:59:59";
+    assert!(rt; is_point(TimeUnit::Second, None, 253_402_300_799, last));
+    assert!(rt; timestamp_text(TimeUnit::Second, None, 253_402_300_800).is_none());
+    let zone = Some("+01:00");
+    let wanted = "1970-01-01T00:00:01.000002003Z";
+    assert!(rt; is_point(TimeUnit::Nanosecond, zone, 1_000_002_003, wanted));
+    let first = "1677-09-21T00:12:43.145224192";
+    assert!(rt; is_point(TimeUnit::Nanosecond, Some(""), i64::MIN, first));
+    Ok(())
+}
+
+#[test]
+fn fields(rt: HostRuntime) -> Result<(), Fail> {
+    assert!(rt; read_int("-9223372036854775808") == Some(i64::MIN));
+    assert!(rt; read_int("-0").is_none());
+    assert!(rt; read_uint("18446744073709551615") == Some(u64::MAX));
+    assert!(rt; read_bool("false") == Some(false));
+    assert!(rt; read_text(b"\\\\x") == Some(b"\\x".as_slice()));
+    assert!(rt; read_text(b"\\x").is_none());
+    Ok(())
+}
+
+#[test]
+fn fields_of_bytes(rt: HostRuntime) -> Result<(), Fail> {
+    let bytes = read_bytes(rt.alloc(), b"00aB")?;
+    assert!(rt; bytes.is_some_and(|bytes| bytes.as_slice() == [0u8, 171].as_slice()));
     Ok(())
 }
