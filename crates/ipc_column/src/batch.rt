@@ -138,7 +138,7 @@ impl Batch {
         fields: Rc<Vec<Field>>,
         head: BatchHead,
         body: Vec<u8>,
-        _dictionaries: &BTreeMap<i64, Rc<Batch>>,
+        dictionaries: &BTreeMap<i64, Rc<Batch>>,
     ) -> Result<Batch, Fault>
         requires read { are_supported fields.value.items ≡ true }
         requires few { length (entries fields.value.items) ≤ limits.now.fields }
@@ -162,7 +162,44 @@ impl Batch {
             (λ batch. batch.tests ≤ texts_in (columns_of fields.value.items head body.items)) }
         ensures tests { IfOk result (λ batch. batch.tests ≤ slots_in head.nodes) }
     {
-        read(alloc, limits, fields.as_slice(), &head, body)
+        Batch::check_borrowed(alloc, limits, fields.as_slice(), head, body, dictionaries)
+    }
+
+    /// As `check`, of fields that are lent: a batch keeps none of them.
+    ///
+    /// A reader that has the schema lends its fields as they are, and keeps no second list of them.
+    /// What goes in, the limits, and each refusal with its cause are as of `check`.
+    pub fn check_borrowed(
+        alloc: Global,
+        limits: &Limits,
+        fields: &[Field],
+        head: BatchHead,
+        body: Vec<u8>,
+        _dictionaries: &BTreeMap<i64, Rc<Batch>>,
+    ) -> Result<Batch, Fault>
+        requires read { are_supported fields.now ≡ true }
+        requires few { length (entries fields.now) ≤ limits.now.fields }
+        // What is answered are the rows of the parts.
+        ensures rows { IfOk result (λ batch. Rows limits.now fields.now head body.items
+            batch.rows) }
+        // Where the parts give rows, these are answered, unless memory runs out.
+        ensures only { (rows : List (List Value))
+            → Rows limits.now fields.now head body.items rows
+            → MatchResult result (λ batch. batch.rows ≡ rows) (λ fault. fault ≡ Fault.OutOfMemory) }
+        // A refusal is true of the parts.
+        ensures refused { IfErr result
+            (λ fault. RefusesParts limits.now fault fields.now head body.items) }
+        ensures columns { IfOk result (λ batch. batch.columns ≡ length fields.now) }
+        // Lent as they lie are the columns of signed 64-bit numbers without a validity bitmap.
+        ensures lent { IfOk result (λ batch. batch.lent
+            ≡ lent_of (columns_of fields.now head body.items)) }
+        ensures body { IfOk result (λ batch. batch.body_len ≡ length body.items) }
+        // No slot is visited but those of texts, and each of them once at most.
+        ensures texts { IfOk result
+            (λ batch. batch.tests ≤ texts_in (columns_of fields.now head body.items)) }
+        ensures tests { IfOk result (λ batch. batch.tests ≤ slots_in head.nodes) }
+    {
+        read(alloc, limits, fields, &head, body)
     }
 
     /// How many rows there are.

@@ -134,8 +134,7 @@ next_refused limits o x (f.Message meta (h.Batch b pairs) body) e is read r = no
 
 brings_refused : (limits : Limits) (σ τ : State) (x : List ℕ) (frame : Framed) (e : Fault) → IsFrame limits x frame
     → IsSupportedFrame frame → Brings limits σ frame τ (Err e) → UnlessOutOfMemory e (Refuses limits σ x e)
-brings_refused limits None None x frame e is read (inl memory) = λ other. absurd (other memory)
-brings_refused limits None None x frame e is read (inr brings) = λ other. no_schema_refused limits x frame e is brings
+brings_refused limits None None x frame e is read brings = λ other. no_schema_refused limits x frame e is brings
 brings_refused limits None (Some o) x frame e is read brings = absurd brings
 brings_refused limits (Some o) τ x f.End e is read brings = absurd brings.1
 brings_refused limits (Some o) τ x (f.Message meta g body) e is read brings =

@@ -1,9 +1,9 @@
 -- What the frames of a stream bring, one after another (Arrow Columnar Format, "IPC Streaming
 -- Format").
-use Rattle.std.specs.Prelude.{◌≡◌, ◌⊎◌, ℕ, List, Some, None, Result, Ok, Err, ⊤}
+use Rattle.std.specs.Prelude.{◌≡◌, ℕ, List, Some, None, Result, Ok, Err, ⊤}
 use Rattle.ipc_model.specs.declared.fault.Fault.{Fault}
 use Rattle.ipc_model.specs.declared.fault.Fault.TheVariants.{MissingSchema, SecondSchema}
-use Rattle.ipc_model.specs.declared.fault.Fault.TheVariants.{OutOfMemory, UnknownDictionary}
+use Rattle.ipc_model.specs.declared.fault.Fault.TheVariants.{UnknownDictionary}
 use Rattle.ipc_model.specs.declared.limits.Limits.{Limits}
 use Rattle.ipc_model.specs.declared.schema.Schema.{Schema}
 use Rattle.ipc_meta.specs.declared.head.BatchHead.{BatchHead}
@@ -38,10 +38,10 @@ BringsSchema (f.Message meta head body) (Ok s) = head ≡ h.Schema s
 BringsSchema f.End (Ok s) = ⊥
 BringsSchema frame (Err fault) = (fault ≡ MissingSchema) × IsNoSchema frame
 
--- a message with the schema that is put in force, or none, or memory ran out
+-- a message with the schema that is put in force, or none
 abbrev pub BringsScope : Framed → Result Scope Fault → Type 0
 BringsScope frame (Ok scope) = BringsSchema frame (Ok scope.schema)
-BringsScope frame (Err fault) = (fault ≡ OutOfMemory) ⊎ BringsSchema frame (Err fault)
+BringsScope frame (Err fault) = BringsSchema frame (Err fault)
 
 -- why a frame behind the schema is refused
 abbrev pub RefusesNext : Limits → Schema → Framed → Fault → Type 0
@@ -63,7 +63,7 @@ BringsNext limits s frame found = ⊥
 -- what a frame before the schema brings: the schema that is in force then, or nothing
 abbrev pub BringsFirst : Framed → State → Result Event Fault → Type 0
 BringsFirst frame (Some o) (Ok event.Schema) = BringsSchema frame (Ok o.schema)
-BringsFirst frame None (Err fault) = (fault ≡ OutOfMemory) ⊎ BringsSchema frame (Err fault)
+BringsFirst frame None (Err fault) = BringsSchema frame (Err fault)
 BringsFirst frame state r = ⊥
 
 -- what a frame brings in a state, and the state that it leaves

@@ -36,7 +36,7 @@ fn scope_of(alloc: Global, limits: &Limits, frame: Frame) -> Result<Scope, Fault
     ensures scope { BringsScope frame result }
     ensures limits { IfOk result (λ scope. scope.limits ≡ limits.now) }
 {
-    Ok(Scope::new(alloc, *limits, schema_in(frame)?)?)
+    Ok(Scope::new(alloc, *limits, schema_in(frame)?))
 }
 
 // Why a dictionary with this id isn't taken: no field of types that are read names one.
@@ -57,11 +57,10 @@ fn next_of(alloc: Global, scope: &Scope, frame: Frame) -> Result<Event, Fault>
         Frame::End => Ok(Event::End),
         Frame::Message { meta, head, body } => match head {
             Head::Batch(head, pairs) => {
-                let fields = scope.fields.clone()?;
-                let batch = Batch::check(
+                let batch = Batch::check_borrowed(
                     alloc,
                     &scope.limits,
-                    fields,
+                    scope.schema.fields.as_slice(),
                     head,
                     body,
                     &scope.dictionaries,
