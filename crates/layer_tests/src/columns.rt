@@ -82,6 +82,20 @@ fn nulls(rt: HostRuntime) -> Result<(), Fail> {
     Ok(())
 }
 
+// The fields stay with whoever lends them.
+#[test]
+fn fields_that_are_lent(rt: HostRuntime) -> Result<(), Fail> {
+    let alloc = rt.alloc();
+    let fields = fields(alloc, DataType::Null)?;
+    let head = head_of(alloc, (3, 3), &[])?;
+    let body = Vec::new(alloc);
+    let none = BTreeMap::new(alloc);
+    let limits = Limits::standard();
+    let found = Batch::check_borrowed(alloc, &limits, fields.as_slice(), head, body, &none)?;
+    assert!(rt; found.rows() == 3 && fields.len() == found.columns());
+    Ok(())
+}
+
 #[test]
 fn one_null_too_many(rt: HostRuntime) -> Result<(), Fail> {
     let fault = batch(rt.alloc(), DataType::Null, (MOST + 1, 5), &[], &[]).err();

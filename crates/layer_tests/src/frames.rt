@@ -74,3 +74,35 @@ fn ended_inside_a_message(rt: HostRuntime) -> Result<(), Fail> {
     assert!(rt; frames.held() == 0 && frames.wants() == 0);
     Ok(())
 }
+
+// Feeds a piece to its end, or to the end mark.
+fn push(frames: &mut Frames, piece: &[u8]) -> Result<(), Fault> {
+    let mut rest = piece;
+    for _ in 0..=piece.len() {
+        let (taken, frame) = frames.feed(rest)?;
+        rest = rest.get(taken..).unwrap_or_default();
+        if frame.is_none() {
+            break;
+        }
+    }
+    Ok(())
+}
+
+// Whether a growth was refused, and nothing is taken from then on.
+fn is_out_of_memory(frames: &mut Frames, fault: Fault) -> bool {
+    let again = frames.feed(&STREAM).err();
+    fault == Fault::OutOfMemory && again == Some(Fault::Failed) && frames.held() == 0
+}
+
+#[test]
+fn grows_pushed_frames(rt: HostRuntime) -> Result<(), Fail> {
+    let mut frames = Frames::new(rt.alloc(), Limits::standard());
+    for piece in STREAM.chunks(3) {
+        if let Err(fault) = push(&mut frames, piece) {
+            assert!(rt; is_out_of_memory(&mut frames, fault));
+            return Err(fault.into());
+        }
+    }
+    assert!(rt; frames.close() == Ok(()));
+    Ok(())
+}
