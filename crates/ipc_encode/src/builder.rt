@@ -183,6 +183,14 @@ impl Builder {
         })
     }
 
+    /// How many rows are held.
+    pub fn row_count(&self) -> usize
+        ensures { (limits : Limits) (fields : List Field) (rows : List (List Value))
+            → HasRows limits fields rows self.now → result ≡ length rows }
+    {
+        self.rows
+    }
+
     // Whether there are as many rows as the limits allow.
     fn is_full(&self) -> bool
         ensures { IsTrue result ↔ (self.now.limits.slots ≤ self.now.rows) }

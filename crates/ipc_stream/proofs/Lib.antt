@@ -15,6 +15,7 @@ pub mod Readers
 pub mod Calls
 pub mod MessagesWritten
 pub mod SentBytes
+pub mod HeldRows
 pub mod TablesWritten
 pub mod RoundTrips
 pub mod Wider

@@ -15,4 +15,6 @@ pub mod Laws
 pub mod Writing
 pub mod Texts
 pub mod Writer
+pub mod Parts
+pub mod Pushed
 pub mod RoundTrip

@@ -1,0 +1,46 @@
+-- A batch whose rows are pushed one by one (Message.fbs, RecordBatch).
+use Rattle.std.specs.Prelude.{◌≡◌, ℕ, Bool, true, false, List, [], ◌∷◌, ◌++◌, Result, Ok, Err}
+use Rattle.ipc_model.specs.declared.fault.WriteFault.{WriteFault}
+use Rattle.ipc_model.specs.declared.fault.WriteFault.TheVariants as w
+use Rattle.ipc_model.specs.declared.limits.Limits.{Limits}
+use Rattle.ipc_model.specs.declared.schema.Schema.{Schema}
+use Rattle.ipc_model.specs.declared.table.BatchRows.{BatchRows}
+use Rattle.ipc_model.specs.declared.value.Value.{Value}
+use Rattle.ipc_encode.specs.Built.{HasRows}
+use Rattle.ipc_stream.specs.declared.pushed.PushedRows.{PushedRows}
+use Rattle.ipc_stream.specs.Writing.{AcceptsBatch, RefusesBatch}
+use Rattle.ipc_stream.specs.Writer.{Writer}
+
+-- a batch with these pairs and no rows
+abbrev pub no_rows : List (List ℕ × List ℕ) → BatchRows
+no_rows pairs = record { pairs = pairs; rows = [] }
+
+-- the batch with one row more
+abbrev pub with_row : BatchRows → List Value → BatchRows
+with_row b row = record { pairs = b.pairs; rows = b.rows ++ row ∷ [] }
+
+-- The rows and the pairs that are held are exactly this batch, and no argument is a cause of
+-- refusing it.
+pub record HoldsBatch (limits : Limits) (s : Schema) (b : BatchRows)
+    (held : PushedRows) : Type 0 where
+  pub rows : HasRows limits s.fields b.rows held.builder
+  pub pairs : held.pairs ≡ b.pairs
+  pub accepted : AcceptsBatch limits s b
+
+-- Why a batch isn't begun, or a row isn't taken into it: the batch would be refused, and W9 doesn't
+-- come, since the sink isn't asked. W10 is what a writer that fails answers.
+abbrev pub RefusesHeld : Limits → Schema → BatchRows → Bool → WriteFault → Type 0
+RefusesHeld limits s b failed w.Write = ⊥
+RefusesHeld limits s b failed w.Failed = failed ≡ true
+RefusesHeld limits s b failed fault = RefusesBatch limits s b fault
+
+-- What a refusal leaves of a writer of which nothing was to be sent: W11 makes it fail, after any
+-- other it is as it was.
+abbrev pub StaysAt : Writer → Writer → WriteFault → Type 0
+StaysAt old new w.OutOfMemory = (old.failed ≡ false) × (new ≡ record old { failed = true })
+StaysAt old new fault = new ≡ old
+
+-- what a call that sends nothing leaves of a writer
+abbrev pub Stays : {T : Type 0} → Writer → Writer → Result T WriteFault → Type 0
+Stays old new (Ok x) = (old.failed ≡ false) × (new ≡ old)
+Stays old new (Err fault) = StaysAt old new fault

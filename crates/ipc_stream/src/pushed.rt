@@ -1,0 +1,67 @@
+ghost use Rattle.std.specs.Prelude.{◌≡◌, ◌++◌, [], ◌∷◌, false, IfErr, IfOk, OnErr, OnOk};
+ghost use Rattle.std.specs.Prelude.{MatchResult};
+ghost use Rattle.ipc_model.specs.RowFaults.{HasShortPaths};
+ghost use Rattle.ipc_model.specs.declared.limits.Limits.{Limits};
+ghost use Rattle.ipc_model.specs.declared.table.BatchRows.{BatchRows};
+ghost use Rattle.ipc_stream.specs.Writing.{IsWritable, RefusesBatch};
+ghost use Rattle.ipc_stream.specs.Pushed.{HoldsBatch, RefusesHeld, no_rows, with_row};
+
+use crate::messages::batch_message;
+use ipc_encode::{Builder, NoIndices};
+use ipc_model::{BatchRows, Items, Limits, Schema, Text, Value, WriteFault, conforms};
+use std::alloc::Global;
+
+/// The rows of a batch that isn't sent yet, and its pairs (Message.fbs, RecordBatch).
+///
+/// It is told apart by the batch that it holds.
+#[derive(Debug, Drop)]
+pub struct PushedRows {
+    pub(crate) builder: Builder,
+    pub(crate) pairs: Items<(Text, Text)>,
+}
+
+impl PushedRows {
+    // No rows, with these pairs. The message of this batch is made and let go, so that what is too
+    // long whatever the rows is refused here.
+    pub(crate) fn new(
+        alloc: Global,
+        limits: &Limits,
+        schema: &Schema,
+        pairs: Items<(Text, Text)>,
+    ) -> Result<PushedRows, WriteFault>
+        requires { IsWritable limits.now schema.now }
+        ensures holds { IfOk result (HoldsBatch limits.now schema.now (no_rows pairs)) }
+        ensures refused { IfErr result
+            (RefusesHeld limits.now schema.now (no_rows pairs) false) }
+    {
+        let batch = BatchRows {
+            pairs,
+            rows: Items::new(alloc),
+        };
+        batch_message(alloc, limits, schema, &batch)?;
+        Ok(PushedRows {
+            builder: Builder::new(alloc, schema.fields.as_slice(), limits)?,
+            pairs: batch.pairs,
+        })
+    }
+
+    // Takes one row more. After W11 what is held is of no use, after any other refusal it is as it
+    // was.
+    pub(crate) fn push(&mut self, schema: &Schema, row: &[Value]) -> Result<(), WriteFault>
+        requires { HasShortPaths schema.now }
+        ensures holds { (limits : Limits) (b : BatchRows) → HoldsBatch limits schema.now b self.old
+            → OnOk result (HoldsBatch limits schema.now (with_row b row.now) self.new) }
+        ensures refused { (limits : Limits) (b : BatchRows)
+            → HoldsBatch limits schema.now b self.old
+            → IfErr result (RefusesHeld limits schema.now (with_row b row.now) false) }
+        ensures kept { (limits : Limits) (b : BatchRows)
+            → HoldsBatch limits schema.now b self.old
+            → IfErr result (λ fault. ¬ (fault ≡ WriteFault.OutOfMemory) → self.new ≡ self.old) }
+    {
+        if let Err(fault) = conforms(schema, row) {
+            return Err(fault.at_row(self.builder.row_count() as u64));
+        }
+        self.builder.fits(row)?;
+        self.builder.push(row, &NoIndices)
+    }
+}
