@@ -147,3 +147,11 @@ rows_at cs (suc n) i d l =
         | inr m ↦ absurd (omega arith)
       ]
     ]
+
+-- a place among the rows is one below their count
+pub row_in : (cs : Columns) (n i : ℕ) (rs : List (List Value)) → rows_of cs n ≡ rs → i < length rs → i < n
+row_in cs n i rs e h = let l = subst (λ (x : List (List Value)). i < length x) (sym e) h in rw (rows_length cs n) at l
+
+-- the row that a batch has at a place
+pub row_is : (cs : Columns) (n i : ℕ) (rs : List (List Value)) → rows_of cs n ≡ rs → i < length rs → slice_index_or rs i [] ≡ row cs i
+row_is cs n i rs e h = subst (λ (x : List (List Value)). slice_index_or x i [] ≡ row cs i) e (rows_at cs n i [] (row_in cs n i rs e h))

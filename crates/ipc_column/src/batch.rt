@@ -1,5 +1,5 @@
 ghost use Rattle.std.specs.Prelude.{◌≡◌, ◌≤◌, ◌<◌, length, true, false, List, [], IfOk, IfErr};
-ghost use Rattle.std.specs.Prelude.{IfSome, is_some, MatchResult, Some, slice_get, slice_index_or};
+ghost use Rattle.std.specs.Prelude.{IfSome, is_some, MatchResult, OnOk, Some, slice_get, slice_index_or};
 ghost use Rattle.std.specs.List.{AllByRecursion};
 ghost use Rattle.ipc_model.specs.declared.value.Value.{Value};
 ghost use Rattle.ipc_model.specs.Entries.{entries};
@@ -16,11 +16,11 @@ use crate::assign::{Cursor, assign_buffers};
 use crate::cell::{Cell, cell_in};
 use crate::head::check_head;
 use crate::ranges::ColumnRanges;
-use crate::rows::rows_in;
+use crate::rows::{read_row, rows_in};
 use crate::validate::check_columns;
 use crate::values::numbers_in;
 use ipc_meta::BatchHead;
-use ipc_model::{Fault, Field, Items, Limits, Row};
+use ipc_model::{Fault, Field, Items, Limits, Row, Value};
 use std::alloc::{AllocError, Global};
 use std::collections::BTreeMap;
 use std::marker::Model;
@@ -272,6 +272,26 @@ impl Batch {
         let shared = self.shared.as_ref();
         let rows = rows_in(alloc, &shared.body, &shared.parts, shared.count)?;
         Ok(rows)
+    }
+
+    /// Puts the values of one row in the place of all that `values` has, whose room is used again.
+    /// The caller gives a row below `rows`. Refused with `OutOfMemory` alone, where a list can't
+    /// grow; then what `values` has is of no use.
+    pub fn read_row(&self, alloc: Global, row: usize, values: &mut Vec<Value>) -> Result<(), Fault>
+        requires { row < length self.now.rows }
+        ensures values { OnOk result (values.new.items ≡ slice_index_or self.now.rows row []) }
+        ensures memory { IfErr result (λ fault. fault ≡ Fault.OutOfMemory) }
+    {
+        let shared = self.shared.as_ref();
+        read_row(
+            alloc,
+            &shared.body,
+            &shared.parts,
+            shared.count,
+            row,
+            values,
+        )?;
+        Ok(())
     }
 }
 

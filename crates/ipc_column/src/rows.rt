@@ -1,4 +1,4 @@
-ghost use Rattle.std.specs.Prelude.{◌≡◌, ◌<◌, IfOk};
+ghost use Rattle.std.specs.Prelude.{◌≡◌, ◌<◌, IfOk, OnOk};
 ghost use Rattle.ipc_column.specs.Checks.{Holds};
 ghost use Rattle.ipc_column.specs.Values.{cell_value, row, rows_of};
 ghost use Rattle.ipc_column.specs.Views.{columns};
@@ -22,6 +22,26 @@ fn value_of(alloc: Global, cell: Cell<'_>) -> Result<Value, AllocError>
     }
 }
 
+/// Puts the values of one row in the place of all that `values` has.
+pub(crate) fn read_row(
+    alloc: Global,
+    body: &[u8],
+    parts: &[ColumnRanges],
+    rows: usize,
+    at: usize,
+    values: &mut Vec<Value>,
+) -> Result<(), AllocError>
+    requires holds { Holds rows (columns body.now parts.now) }
+    requires row { at < rows }
+    ensures { OnOk result (values.new.items ≡ row (columns body.now parts.now) at) }
+{
+    values.clear();
+    for column in 0..parts.len() {
+        values.push(value_of(alloc, cell_in(body, parts, rows, at, column))?)?;
+    }
+    Ok(())
+}
+
 // The values of one row.
 fn row_at(
     alloc: Global,
@@ -35,9 +55,7 @@ fn row_at(
     ensures { IfOk result (λ values. values ≡ row (columns body.now parts.now) at) }
 {
     let mut values = Vec::with_capacity(alloc, parts.len())?;
-    for column in 0..parts.len() {
-        values.push(value_of(alloc, cell_in(body, parts, rows, at, column))?)?;
-    }
+    read_row(alloc, body, parts, rows, at, &mut values)?;
     Ok(Items::from_vec(values))
 }
 

@@ -4,16 +4,8 @@ use Rattle.ipc_model.specs.declared.value.Value.{Value}
 use Rattle.ipc_column.specs.Columns.{Columns}
 use Rattle.ipc_column.specs.Contents.{Contents}
 use Rattle.ipc_column.specs.Views.{columns}
-use Rattle.ipc_column.specs.Values.{row, rows_of}
-use Rattle.ipc_column.proofs.Cells.{rows_length, rows_at}
+use Rattle.ipc_column.proofs.Cells.{row_in, row_is}
 use Rattle.ipc_column.proofs.batch.Batch.cell.Goals as goal
-
-row_in : (cs : Columns) (n i : ℕ) (rs : List (List Value)) → rows_of cs n ≡ rs → i < length rs → i < n
-row_in cs n i rs e h = let l = subst (λ (x : List (List Value)). i < length x) (sym e) h in rw (rows_length cs n) at l
-
--- the row that a batch has at a place
-row_is : (cs : Columns) (n i : ℕ) (rs : List (List Value)) → rows_of cs n ≡ rs → i < length rs → slice_index_or rs i [] ≡ row cs i
-row_is cs n i rs e h = subst (λ (x : List (List Value)). slice_index_or x i [] ≡ row cs i) e (rows_at cs n i [] (row_in cs n i rs e h))
 
 pub cell_in-requires-clause-row : goal.cell_in-requires-clause-row
 cell_in-requires-clause-row c =

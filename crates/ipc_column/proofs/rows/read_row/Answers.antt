@@ -4,7 +4,7 @@ use Rattle.ipc_model.specs.declared.value.Value.{Value}
 use Rattle.ipc_column.specs.Values.{row}
 use Rattle.ipc_column.specs.Views.{columns}
 use Rattle.ipc_column.proofs.Cells.{row_more, row_length}
-use Rattle.ipc_column.proofs.rows.row_at.Goals as goal
+use Rattle.ipc_column.proofs.rows.read_row.Goals as goal
 
 pub loop-column-preserved : goal.loop-column-preserved
 loop-column-preserved c =
@@ -16,5 +16,5 @@ loop-column-preserved c =
 pub returns : goal.returns
 returns c =
     let size = row_length c.args.body.now c.args.parts.now c.args.at in
-    c.from_vec.ensures ∙ (c.loop-column.invariant
-    ∙ take_all c.loop-column.column (row (columns c.args.body.now c.args.parts.now) c.args.at) (omega (arith, size)))
+    c.loop-column.invariant
+    ∙ take_all c.loop-column.column (row (columns c.args.body.now c.args.parts.now) c.args.at) (omega (arith, size))
