@@ -16,6 +16,7 @@ pub mod Calls
 pub mod MessagesWritten
 pub mod SentBytes
 pub mod HeldRows
+pub mod FirstRows
 pub mod TablesWritten
 pub mod RoundTrips
 pub mod Wider
