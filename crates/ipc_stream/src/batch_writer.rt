@@ -16,10 +16,20 @@ use ipc_model::{Items, Text, Value, WriteFault};
 /// It holds the rows that were pushed and not refused, and the pairs of the batch. Nothing goes out
 /// before `send`. A batch that is dropped leaves the writer as it was, but for W11, after which
 /// each call of the writer answers W10.
-#[derive(Drop)]
 pub struct BatchWriter<'a, W: Sink, B = PushedRows> {
     writer: &'a mut StreamWriter<W>,
     batch: B,
+}
+
+impl<W: Sink, B: Drop> Drop for BatchWriter<'_, W, B> {
+    fn drop(self)
+        ensures { self.exit.0.now ≡ self.entry.writer.now }
+    {
+        let BatchWriter {
+            writer: _,
+            batch: _,
+        } = self;
+    }
 }
 
 impl<W: Sink> StreamWriter<W> {
