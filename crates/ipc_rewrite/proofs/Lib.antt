@@ -1,4 +1,5 @@
 pub mod Batches
+pub mod Pushing
 pub mod Beginnings
 pub mod Complete
 pub mod Whole

@@ -10,6 +10,7 @@ ghost use Rattle.ipc_stream.specs.Found.{rows_of};
 ghost use Rattle.ipc_stream.specs.Reader.{Opens};
 ghost use Rattle.ipc_stream.specs.Stream.{Denotes};
 ghost use Rattle.ipc_stream.specs.Writer.{Starts, StartFails};
+ghost use Rattle.ipc_stream.specs.Pushed.{HoldsBatch, no_rows};
 ghost use Rattle.ipc_stream.specs.Writing.{AcceptsBatch, AddsBatch, CutShort, EndsStream};
 ghost use Rattle.ipc_stream.specs.Writing.{RefusesBatch, Sends, Sent};
 ghost use Rattle.ipc_rewrite.specs.declared.stop.Stop.TheVariants.{Write};
@@ -19,15 +20,47 @@ ghost use Rattle.ipc_rewrite.specs.Rewriting.{TellsFailures};
 
 use crate::limits::raised;
 use crate::stop::Stop;
-use ipc_model::{BatchRows, Items, Limits, Schema, Text, WriteFault};
-use ipc_stream::{Batch, Sink, Source, StreamReader, StreamWriter};
+use ipc_model::{Items, Limits, Schema, Text, Value, WriteFault};
+use ipc_stream::{Batch, BatchWriter, Sink, Source, StreamReader, StreamWriter};
 use std::alloc::Global;
+
+// Pushes the rows of a batch, each from the values of one kept row.
+fn push_rows<W: Sink>(
+    alloc: Global,
+    batch: &Batch,
+    row: &mut Vec<Value>,
+    rows: &mut BatchWriter<'_, W>,
+) -> Result<(), WriteFault>
+    requires works { rows.old.writer.now.failed ≡ false }
+    ensures same_reference { rows.new.writer.ghost_name ≡ rows.old.writer.ghost_name }
+    ensures written { rows.new.writer.now.written ≡ rows.old.writer.now.written }
+    ensures failures { rows.new.writer.now.failures ≡ rows.old.writer.now.failures }
+    ensures same { OnOk result (rows.new.writer.now ≡ rows.old.writer.now) }
+    ensures judged { (pairs : List (List ℕ × List ℕ))
+        → HoldsBatch rows.old.writer.now.limits rows.old.writer.now.schema (no_rows pairs)
+        rows.old.batch
+        → MatchResult result
+        (λ _. HoldsBatch rows.old.writer.now.limits rows.old.writer.now.schema
+        (record { pairs = pairs; rows = batch.now.rows }) rows.new.batch)
+        (λ fault. ¬ (fault ≡ WriteFault.Write)
+        × RefusesBatch rows.old.writer.now.limits rows.old.writer.now.schema
+        (record { pairs = pairs; rows = batch.now.rows }) fault) }
+{
+    for at in 0..batch.rows() {
+        let Ok(()) = batch.read_row(alloc, at, row) else {
+            return Err(WriteFault::OutOfMemory);
+        };
+        rows.push(row.as_slice())?;
+    }
+    Ok(())
+}
 
 // Writes the rows of a batch, with these pairs.
 fn copy_batch<W: Sink>(
     alloc: Global,
     batch: &Batch,
     pairs: Items<(Text, Text)>,
+    row: &mut Vec<Value>,
     writer: &mut StreamWriter<W>,
 ) -> Result<(), WriteFault>
     requires works { writer.old.failed ≡ false }
@@ -42,10 +75,9 @@ fn copy_batch<W: Sink>(
     ensures schema { OnOk result (writer.new.schema ≡ writer.old.schema) }
     ensures works { OnOk result (writer.new.failed ≡ false) }
 {
-    let Ok(rows) = batch.to_rows(alloc) else {
-        return Err(WriteFault::OutOfMemory);
-    };
-    writer.write_batch(&BatchRows { pairs, rows })
+    let mut rows = writer.batch(pairs)?;
+    push_rows(alloc, batch, row, &mut rows)?;
+    rows.send()
 }
 
 // Writes each batch that is read, to the end of the stream.
@@ -65,9 +97,10 @@ fn copy_batches<R: Source, W: Sink>(
     ensures devices { TellsFailures stream.old.failures stream.new.failures writer.old.failures
         writer.new.failures result }
 {
+    let mut row = Vec::new(alloc);
     loop {
         match stream.next() {
-            Ok(Some((batch, pairs))) => copy_batch(alloc, &batch, pairs, writer)?,
+            Ok(Some((batch, pairs))) => copy_batch(alloc, &batch, pairs, &mut row, writer)?,
             Ok(None) => return Ok(()),
             Err(fault) => return Err(Stop::Read(fault, stream.messages())),
         }
