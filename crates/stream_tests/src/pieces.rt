@@ -195,3 +195,36 @@ fn takes_nothing_after_the_end(rt: HostRuntime) -> Result<(), Fail> {
     }
     Ok(())
 }
+
+// Feeds a piece to its end, or to the end of the stream.
+fn feed_all(decoder: &mut Decoder, piece: &[u8]) -> Result<(), Fault> {
+    let mut rest = piece;
+    for _ in 0..=piece.len() {
+        let (taken, event) = decoder.feed(rest)?;
+        rest = rest.get(taken..).unwrap_or_default();
+        if event.is_none() {
+            break;
+        }
+    }
+    Ok(())
+}
+
+// Whether a growth was refused, and nothing is taken from then on.
+fn is_out_of_memory(decoder: &mut Decoder, fault: Fault) -> bool {
+    let again = decoder.feed(&STREAM).err();
+    let closed = decoder.close();
+    fault == Fault::OutOfMemory && again == Some(Fault::Failed) && closed == Err(Fault::Failed)
+}
+
+#[test]
+fn grows_a_pushed_stream(rt: HostRuntime) -> Result<(), Fail> {
+    let mut decoder = Decoder::new(rt.alloc(), Limits::standard());
+    for piece in STREAM.chunks(3) {
+        if let Err(fault) = feed_all(&mut decoder, piece) {
+            assert!(rt; is_out_of_memory(&mut decoder, fault));
+            return Err(fault.into());
+        }
+    }
+    assert!(rt; decoder.messages() == 2 && decoder.close() == Ok(End::Mark));
+    Ok(())
+}
