@@ -1,4 +1,5 @@
 //! What is read in a stream.
+use crate::cut::{Cut, InTwo, source_of};
 use crate::request::Request;
 use ipc_model::{BatchRows, Fault, Items, Table};
 use ipc_stream::{End, Limited, Memory, Source, StreamReader};
@@ -32,8 +33,16 @@ fn read_batches<R: Source>(
     Ok(())
 }
 
+// How many bytes the source has left.
+fn left_in(source: Limited<InTwo<Memory>>) -> usize {
+    source.into_inner().into_inner().unread().len()
+}
+
 // What is read behind the schema.
-fn read_on(alloc: Global, reader: StreamReader<Limited<Memory>>) -> Result<Answer, AllocError> {
+fn read_on(
+    alloc: Global,
+    reader: StreamReader<Limited<InTwo<Memory>>>,
+) -> Result<Answer, AllocError> {
     let mut reader = reader;
     let schema = reader.schema().clone()?;
     let mut batches = Vec::new(alloc);
@@ -45,15 +54,14 @@ fn read_on(alloc: Global, reader: StreamReader<Limited<Memory>>) -> Result<Answe
         end: reader.end(),
         refusal: result.err().map(|fault| (fault, messages)),
         taken: Some(reader.taken()),
-        left: reader.into_inner().into_inner().unread().len(),
+        left: left_in(reader.into_inner()),
     })
 }
 
 impl Answer {
-    /// What is read where the source gives at most `step` bytes in a call, and at least one.
-    pub fn of(alloc: Global, request: &Request, step: usize) -> Result<Answer, AllocError> {
-        let memory = Memory::new(request.stream.clone()?);
-        let source = Limited::new(memory, step.max(1), u64::MAX);
+    /// What is read where the source's bytes are cut so.
+    pub fn pulled(alloc: Global, request: &Request, cut: Cut) -> Result<Answer, AllocError> {
+        let source = source_of(request.stream.clone()?, cut);
         match StreamReader::open(alloc, request.limits, source) {
             Ok(reader) => read_on(alloc, reader),
             Err((fault, source)) => Ok(Answer {
@@ -61,7 +69,7 @@ impl Answer {
                 end: None,
                 refusal: Some((fault, 0)),
                 taken: None,
-                left: source.into_inner().unread().len(),
+                left: left_in(source),
             }),
         }
     }

@@ -1,6 +1,6 @@
 //! What is looked at in the answer to a stream.
 use crate::answer::Answer;
-use crate::pushed::Cut;
+use crate::cut::Cut;
 use crate::request::Request;
 use ipc_model::{Limits, Table};
 use ipc_stream::{Memory, RoundTripFault, read_table, write_and_read_back};
@@ -9,8 +9,28 @@ use std::alloc::{AllocError, Global};
 /// The sizes of the pieces in which a stream is read again.
 pub const PIECES: [usize; 5] = [1, 2, 3, 7, 64];
 
-/// The sizes of the pieces in which a stream is pushed.
-pub const PUSHED: [usize; 5] = [1, 3, 7, 8, 64];
+// The sizes of the pieces in which it is read and pushed, of which nothing is said where all is the
+// same.
+const MORE_PIECES: [usize; 1] = [8];
+
+const PUSHED: [usize; 5] = [1, 3, 7, 8, 64];
+
+/// How the bytes of a stream go in.
+#[derive(Clone, Copy)]
+pub enum Way {
+    /// A reader asks a source for them.
+    Pulled,
+    /// They are pushed to a decoder.
+    Pushed,
+}
+
+/// What is answered where the bytes go in otherwise.
+#[derive(Drop)]
+pub struct Other {
+    pub way: Way,
+    pub cut: Cut,
+    pub answer: Answer,
+}
 
 /// How the rows of a stream come back when they are written.
 #[derive(Drop)]
@@ -32,8 +52,8 @@ pub struct Report {
     pub answer: Answer,
     /// The first size of pieces in which something else is read, with that.
     pub in_pieces: Option<(usize, Answer)>,
-    /// The first cut at which something else is told where the stream is pushed, with that.
-    pub pushed: Option<(Cut, Answer)>,
+    /// What is answered at the first other way and cut for which that differs.
+    pub other: Option<Other>,
     /// Whether `read_table` answers the same.
     pub same_table: bool,
     /// How its rows come back: none where it is refused.
@@ -47,7 +67,7 @@ fn in_pieces(
     whole: &Answer,
 ) -> Result<Option<(usize, Answer)>, AllocError> {
     for step in PIECES {
-        let answer = Answer::of(alloc, request, step)?;
+        let answer = Answer::pulled(alloc, request, Cut::Each(step))?;
         if answer != *whole {
             return Ok(Some((step, answer)));
         }
@@ -55,18 +75,21 @@ fn in_pieces(
     Ok(None)
 }
 
-// What is told where the stream is pushed and cut so, if that differs.
-fn pushed_so(
+// What is answered where the stream goes in and is cut so, if that differs.
+fn other_at(
     alloc: Global,
     request: &Request,
-    cut: Cut,
+    (way, cut): (Way, Cut),
     whole: &Answer,
-) -> Result<Option<(Cut, Answer)>, AllocError> {
-    let answer = Answer::pushed(alloc, request, cut, whole)?;
+) -> Result<Option<Other>, AllocError> {
+    let answer = match way {
+        Way::Pulled => Answer::pulled(alloc, request, cut)?,
+        Way::Pushed => Answer::pushed(alloc, request, cut, whole)?,
+    };
     Ok(if answer == *whole {
         None
     } else {
-        Some((cut, answer))
+        Some(Other { way, cut, answer })
     })
 }
 
@@ -76,12 +99,13 @@ const EVERYWHERE: usize = 400;
 
 const PLACES: usize = 32;
 
-// The first cut in two at which something else is told, with that.
-fn pushed_in_two(
+// The first cut in two at which something else is answered, with that.
+fn other_in_two(
     alloc: Global,
     request: &Request,
+    way: Way,
     whole: &Answer,
-) -> Result<Option<(Cut, Answer)>, AllocError> {
+) -> Result<Option<Other>, AllocError> {
     let length = request.stream.len();
     let step = if length <= EVERYWHERE {
         1
@@ -89,25 +113,38 @@ fn pushed_in_two(
         length / PLACES
     };
     for place in (0..=length).step_by(step.max(1)) {
-        if let Some(other) = pushed_so(alloc, request, Cut::At(place), whole)? {
+        if let Some(other) = other_at(alloc, request, (way, Cut::At(place)), whole)? {
             return Ok(Some(other));
         }
     }
     Ok(None)
 }
 
-// The same of pieces of each size, and then of two pieces.
-fn pushed(
+// The same of pieces of these sizes, and then of two pieces.
+fn other_cut(
     alloc: Global,
     request: &Request,
+    (way, sizes): (Way, &[usize]),
     whole: &Answer,
-) -> Result<Option<(Cut, Answer)>, AllocError> {
-    for size in PUSHED {
-        if let Some(other) = pushed_so(alloc, request, Cut::Each(size), whole)? {
+) -> Result<Option<Other>, AllocError> {
+    for size in sizes {
+        if let Some(other) = other_at(alloc, request, (way, Cut::Each(*size)), whole)? {
             return Ok(Some(other));
         }
     }
-    pushed_in_two(alloc, request, whole)
+    other_in_two(alloc, request, way, whole)
+}
+
+// The same of both ways.
+fn otherwise(
+    alloc: Global,
+    request: &Request,
+    whole: &Answer,
+) -> Result<Option<Other>, AllocError> {
+    match other_cut(alloc, request, (Way::Pulled, &MORE_PIECES), whole)? {
+        Some(other) => Ok(Some(other)),
+        None => other_cut(alloc, request, (Way::Pushed, &PUSHED), whole),
+    }
 }
 
 // Whether `read_table` answers the same as a reader did, and takes the same bytes.
@@ -141,7 +178,7 @@ fn round_trip(alloc: Global, table: &Table) -> RoundTrip {
 impl Report {
     /// What is said of the stream at the front of the bytes.
     pub fn of(alloc: Global, request: &Request) -> Result<Report, AllocError> {
-        let answer = Answer::of(alloc, request, usize::MAX)?;
+        let answer = Answer::pulled(alloc, request, Cut::Each(usize::MAX))?;
         let round_trip = match (&answer.table, answer.end) {
             (Some(table), Some(_)) => Some(round_trip(alloc, table)),
             _ => None,
@@ -149,7 +186,7 @@ impl Report {
         Ok(Report {
             length: request.stream.len(),
             in_pieces: in_pieces(alloc, request, &answer)?,
-            pushed: pushed(alloc, request, &answer)?,
+            other: otherwise(alloc, request, &answer)?,
             same_table: is_same_table(alloc, request, &answer)?,
             answer,
             round_trip,

@@ -1,7 +1,7 @@
 //! The lines that say what is read in a stream.
 use crate::answer::Answer;
-use crate::checks::{PIECES, Report, RoundTrip};
-use crate::pushed::Cut;
+use crate::checks::{Other, PIECES, Report, RoundTrip, Way};
+use crate::cut::Cut;
 use crate::values::{write_dictionary, write_pairs, write_text, write_type, write_value};
 use ipc_model::{BatchRows, Field, Row, Schema, Table};
 use ipc_stream::{End, RoundTripFault};
@@ -143,16 +143,20 @@ fn write_pieces<W: fmt::Write>(
     f.write_str(" same\n")
 }
 
-// The cut at which something else was told where the stream was pushed, with that.
-fn write_pushed<W: fmt::Write>(
-    f: &mut fmt::Formatter<W>,
-    pushed: &Option<(Cut, Answer)>,
-) -> fmt::Result {
-    match pushed {
-        Some((Cut::Each(size), answer)) => write!(f, "pushed in pieces of {size} other\n{answer}"),
-        Some((Cut::At(place), answer)) => write!(f, "pushed and cut at {place} other\n{answer}"),
-        None => Ok(()),
+// The way and the cut for which something else was answered, with that.
+fn write_other<W: fmt::Write>(f: &mut fmt::Formatter<W>, other: &Option<Other>) -> fmt::Result {
+    let Some(other) = other else {
+        return Ok(());
+    };
+    f.write_str(match other.way {
+        Way::Pulled => "pulled ",
+        Way::Pushed => "pushed ",
+    })?;
+    match other.cut {
+        Cut::Each(size) => writeln!(f, "in pieces of {size} other")?,
+        Cut::At(place) => writeln!(f, "and cut at {place} other")?,
     }
+    write!(f, "{}", other.answer)
 }
 
 impl fmt::Display for Report {
@@ -160,7 +164,7 @@ impl fmt::Display for Report {
         write!(f, "{}", self.answer)?;
         write_taken(f, &self.answer, self.length)?;
         write_pieces(f, &self.in_pieces)?;
-        write_pushed(f, &self.pushed)?;
+        write_other(f, &self.other)?;
         if !self.same_table {
             f.write_str("read_table other\n")?;
         }

@@ -7,6 +7,7 @@
 
 mod answer;
 mod checks;
+mod cut;
 mod lines;
 mod pushed;
 mod request;

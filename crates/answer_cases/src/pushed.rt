@@ -1,18 +1,10 @@
 //! What a decoder tells of a stream whose bytes are pushed in pieces.
 use crate::answer::Answer;
+use crate::cut::Cut;
 use crate::request::Request;
 use ipc_model::{BatchRows, Fault, Items, Schema, Table};
 use ipc_stream::{Decoder, End, Event};
 use std::alloc::{AllocError, Global};
-
-/// How a stream is cut into pieces.
-#[derive(Clone, Copy)]
-pub enum Cut {
-    /// Into pieces of so many bytes, and at least one.
-    Each(usize),
-    /// In two, behind so many bytes.
-    At(usize),
-}
 
 // What was told so far, and how many bytes were taken.
 #[derive(Drop)]
