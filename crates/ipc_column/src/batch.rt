@@ -264,6 +264,25 @@ impl Batch {
         numbers_in(&shared.body, &shared.parts, shared.count, column)
     }
 
+    /// The list with the body's bytes, for a use of its own: none where the batch has clones left,
+    /// which keep it.
+    pub fn into_body(self) -> Option<Vec<u8>>
+        ensures { IfSome result (λ body. length body.items ≡ self.body_len) }
+    {
+        let Batch { shared } = self;
+        match Rc::into_inner(shared) {
+            Some(
+                Shared {
+                    count: _,
+                    parts: _,
+                    body,
+                    slot_tests: _,
+                },
+            ) => Some(body),
+            None => None,
+        }
+    }
+
     /// The rows as values of their own. Refused with `OutOfMemory` alone, where a list can't grow.
     pub fn to_rows(&self, alloc: Global) -> Result<Items<Row>, Fault>
         ensures rows { IfOk result (λ rows. rows ≡ self.now.rows) }

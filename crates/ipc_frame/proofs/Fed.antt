@@ -1,6 +1,7 @@
 -- The calls of messages whose bytes are pushed.
 use Rattle.std.proofs.Common.{◌≡◌, refl, ap, subst, ℕ, ◌+◌, ◌≤◌, List, ◌++◌, length, length-append, arith, None, Some, Ok}
 use Rattle.ipc_model.specs.declared.limits.Limits.{Limits}
+use Rattle.ipc_frame.specs.Bodies.{came_in}
 use Rattle.ipc_frame.specs.Frames.{Pending}
 use Rattle.ipc_frame.specs.Parts.{bytes_of, wanted_of}
 use Rattle.ipc_frame.specs.Steps.{FeedsOn, IsWhole}
@@ -42,8 +43,8 @@ feeds_whole limits z piece p n frame h = (h.0, progress_behind limits _ p frame 
 
 -- ---- what is kept
 
-lengths : (p : Parts) → length (bytes_of p) ≡ length p.start.items + length p.meta.items + length p.body.items
-lengths p = omega (arith, length-append p.start.items (p.meta.items ++ p.body.items), length-append p.meta.items p.body.items)
+lengths : (p : Parts) → length (bytes_of p) ≡ length p.start.items + length p.meta.items + length (came_in p.body)
+lengths p = omega (arith, length-append p.start.items (p.meta.items ++ came_in p.body), length-append p.meta.items (came_in p.body))
 
 -- the parts in front of a body have few bytes
 pub front_fits : (limits : Limits) (p : Parts) (s : Phase) → IsSound limits p s
@@ -58,7 +59,7 @@ front_fits limits p phase.Refused h = omega (arith, ap length h, lengths p)
 
 -- the bytes that are kept are counted
 pub held_is : (limits : Limits) (p : Parts) (s : Phase) → IsSound limits p s
-    → length p.start.items + length p.meta.items + length p.body.items ≡ held_of (progress_of p s)
+    → length p.start.items + length p.meta.items + length (came_in p.body) ≡ held_of (progress_of p s)
 held_is limits p (phase.Reading a) h = omega (arith, lengths p)
 held_is limits p phase.Ended h = omega (arith, ap length h, lengths p)
 held_is limits p phase.Refused h = omega (arith, ap length h, lengths p)

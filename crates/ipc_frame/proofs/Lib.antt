@@ -6,5 +6,6 @@ pub mod Parted
 pub mod Stepped
 pub mod Fed
 pub mod Pulls
+pub mod Held
 pub mod Written
 pub mod Wider

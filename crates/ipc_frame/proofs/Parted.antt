@@ -10,6 +10,7 @@ use Rattle.ipc_meta.specs.declared.head.Head.{Head}
 use Rattle.ipc_meta.specs.Causes.{Cause}
 use Rattle.ipc_meta.specs.Heads.{HeadOf}
 use Rattle.ipc_meta.specs.Supported.{IsSupported, IsUnsupported}
+use Rattle.ipc_frame.specs.Bodies.{came_in}
 use Rattle.ipc_frame.specs.Frames.{eos, Frame, Begins, Pending, in_metadata, in_body}
 use Rattle.ipc_frame.specs.Sees.{RefusesMessage}
 use Rattle.ipc_frame.specs.Parts.{bytes_of, wanted_of, InSize, InMetadata, InBody, Undecided}
@@ -63,10 +64,10 @@ module _ (limits : Limits) (s m b : List ℕ) (eight : length s ≡ 8) where
 
 -- ---- the first eight bytes
 
-alone : (p : Parts) → p.meta.items ≡ [] → p.body.items ≡ [] → bytes_of p ≡ p.start.items
-alone p a b = ap (λ z. p.start.items ++ (z ++ p.body.items)) a ∙ (ap (λ z. p.start.items ++ z) b ∙ append-nil p.start.items)
+alone : (p : Parts) → p.meta.items ≡ [] → came_in p.body ≡ [] → bytes_of p ≡ p.start.items
+alone p a b = ap (λ z. p.start.items ++ (z ++ came_in p.body)) a ∙ (ap (λ z. p.start.items ++ z) b ∙ append-nil p.start.items)
 
-module _ (limits : Limits) (p : Parts) (h : InSize p.start.items p.meta.items p.body.items) where
+module _ (limits : Limits) (p : Parts) (h : InSize p.start.items p.meta.items (came_in p.body)) where
   module _ (whole : 8 ≤ length p.start.items) where
     begins : (n : ℕ) → int32 p.start.items 4 ≡ pos n → n ≤ limits.metadata → Begins limits p.start.items n
     begins n is fits = record { begun = whole; marked = h.marked; sized = is; fits = fits }
@@ -89,7 +90,7 @@ module _ (limits : Limits) (p : Parts) (h : InSize p.start.items p.meta.items p.
 
 -- ---- the metadata
 
-module _ (limits : Limits) (p : Parts) (n : ℕ) (h : InMetadata limits p.start.items p.meta.items p.body.items n) where
+module _ (limits : Limits) (p : Parts) (n : ℕ) (h : InMetadata limits p.start.items p.meta.items (came_in p.body) n) where
   pub metadata_short : length p.meta.items < n → Undecided limits p (awaited.Metadata n)
   metadata_short short = record {
     fits = h;
@@ -103,7 +104,7 @@ module _ (limits : Limits) (p : Parts) (n : ℕ) (h : InMetadata limits p.start.
     here : Begins limits p.start.items (length p.meta.items)
     here = subst (λ j. Begins limits p.start.items j) all h.begins
 
-    none : length p.body.items ≡ 0
+    none : length (came_in p.body) ≡ 0
     none = ap length h.no_body
 
     pub stated : (k : ℕ) (head : Head) → HeadOf limits p.meta.items head k → IsSupported head → 0 < k
@@ -113,7 +114,7 @@ module _ (limits : Limits) (p : Parts) (n : ℕ) (h : InMetadata limits p.start.
       pending = awaits_body limits _ _ _ h.eight k _ head here states read (omega (arith, none)) (omega (arith, none));
     }
 
-    pub empty_body : (head : Head) → HeadOf limits p.meta.items head 0 → Frame limits (bytes_of p) p.meta.items head p.body.items
+    pub empty_body : (head : Head) → HeadOf limits p.meta.items head 0 → Frame limits (bytes_of p) p.meta.items head (came_in p.body)
     empty_body head states =
         whole_frame limits _ _ _ h.eight head here (subst (λ j. HeadOf limits p.meta.items head j) (sym none) states)
 
@@ -123,23 +124,23 @@ module _ (limits : Limits) (p : Parts) (n : ℕ) (h : InMetadata limits p.start.
 
 -- ---- the body
 
-module _ (limits : Limits) (p : Parts) (n : ℕ) (h : InBody limits p.start.items p.meta.items p.body.items n) where
-  pub body_short : length p.body.items < n → Undecided limits p (awaited.Body n)
+module _ (limits : Limits) (p : Parts) (n : ℕ) (h : InBody limits p.start.items p.meta.items (came_in p.body) n) where
+  pub body_short : length (came_in p.body) < n → Undecided limits p (awaited.Body n)
   body_short short = record {
     fits = h;
     pending = awaits_body limits _ _ _ h.eight n _ h.head h.begins h.states h.read (omega arith) (omega arith);
   }
 
-  pub whole_body : (k : ℕ) (head : Head) → n ≤ length p.body.items → HeadOf limits p.meta.items head k → k ≡ n
-      → Frame limits (bytes_of p) p.meta.items head p.body.items
+  pub whole_body : (k : ℕ) (head : Head) → n ≤ length (came_in p.body) → HeadOf limits p.meta.items head k → k ≡ n
+      → Frame limits (bytes_of p) p.meta.items head (came_in p.body)
   whole_body k head whole states same =
-      let all : k ≡ length p.body.items = omega (arith, h.few) in
+      let all : k ≡ length (came_in p.body) = omega (arith, h.few) in
       whole_frame limits _ _ _ h.eight head h.begins (subst (λ j. HeadOf limits p.meta.items head j) all states)
 
 -- ---- no byte
 
 -- of a message of which nothing came four bytes are wanted
-pub nothing_came : (limits : Limits) (p : Parts) → p.start.items ≡ [] → p.meta.items ≡ [] → p.body.items ≡ []
+pub nothing_came : (limits : Limits) (p : Parts) → p.start.items ≡ [] → p.meta.items ≡ [] → came_in p.body ≡ []
     → (bytes_of p ≡ []) × Undecided limits p awaited.Mark
 nothing_came limits p a b d =
     let empty : bytes_of p ≡ [] = rw (a, b, d) refl in

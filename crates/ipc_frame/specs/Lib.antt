@@ -1,5 +1,6 @@
 pub mod Frames
 pub mod Sees
+pub mod Bodies
 pub mod Parts
 pub mod Steps
 pub mod Pieces

@@ -7,6 +7,7 @@ use Rattle.ipc_meta.specs.Supported.{IsSupported}
 use Rattle.ipc_model.specs.Answers.{UnlessOutOfMemory}
 use Rattle.ipc_model.specs.declared.fault.Fault.{Fault}
 use Rattle.ipc_model.specs.declared.limits.Limits.{Limits}
+use Rattle.ipc_frame.specs.Bodies.{came_in}
 use Rattle.ipc_frame.specs.Frames.{mark, eos, Frame, Begins, Pending}
 use Rattle.ipc_frame.specs.Sees.{RefusesMessage}
 use Rattle.ipc_frame.specs.declared.parts.Parts.{Parts}
@@ -17,14 +18,14 @@ use Rattle.ipc_frame.specs.declared.decision.Decision.TheVariants as decision
 
 -- all bytes that came
 abbrev pub bytes_of : Parts → List ℕ
-bytes_of p = p.start.items ++ (p.meta.items ++ p.body.items)
+bytes_of p = p.start.items ++ (p.meta.items ++ came_in p.body)
 
 -- how many bytes are needed before the next decision
 abbrev pub wanted_of : Parts → Awaited → ℕ
 wanted_of p awaited.Mark = 4 - length p.start.items
 wanted_of p awaited.Size = 8 - length p.start.items
 wanted_of p (awaited.Metadata size) = size - length p.meta.items
-wanted_of p (awaited.Body size) = size - length p.body.items
+wanted_of p (awaited.Body size) = size - length (came_in p.body)
 
 -- the mark comes: at most four bytes, and nothing behind them
 pub record InMark (start meta body : List ℕ) : Type 0 where
@@ -59,11 +60,11 @@ pub record InBody (limits : Limits) (start meta body : List ℕ) (size : ℕ) : 
 
 -- the parts in front of what is awaited are whole, and no more than that came of it
 abbrev pub Fits : Limits → Parts → Awaited → Type 0
-Fits limits p awaited.Mark = InMark p.start.items p.meta.items p.body.items
-Fits limits p awaited.Size = InSize p.start.items p.meta.items p.body.items
+Fits limits p awaited.Mark = InMark p.start.items p.meta.items (came_in p.body)
+Fits limits p awaited.Size = InSize p.start.items p.meta.items (came_in p.body)
 Fits limits p (awaited.Metadata size) =
-    InMetadata limits p.start.items p.meta.items p.body.items size
-Fits limits p (awaited.Body size) = InBody limits p.start.items p.meta.items p.body.items size
+    InMetadata limits p.start.items p.meta.items (came_in p.body) size
+Fits limits p (awaited.Body size) = InBody limits p.start.items p.meta.items (came_in p.body) size
 
 -- nothing is decided: more of what is awaited has to come
 pub record Undecided (limits : Limits) (p : Parts) (a : Awaited) : Type 0 where
@@ -75,6 +76,6 @@ abbrev pub Decides : Limits → Parts → Result Decision Fault → Type 0
 Decides limits p (Ok (decision.More a)) = Undecided limits p a
 Decides limits p (Ok decision.End) = bytes_of p ≡ eos
 Decides limits p (Ok (decision.Message head)) =
-    Frame limits (bytes_of p) p.meta.items head p.body.items × IsSupported head
+    Frame limits (bytes_of p) p.meta.items head (came_in p.body) × IsSupported head
 Decides limits p (Err fault) =
     UnlessOutOfMemory fault (RefusesMessage limits (bytes_of p) fault)

@@ -35,8 +35,8 @@ fn phase_behind(frame: &Frame) -> Phase
 /// hand all bytes that came are kept, and nothing else: its metadata is looked at once it is whole
 /// and once more with the whole body, and the list of the body is the one that is handed out. The
 /// lists grow as bytes come, never by what a message states: together they take at most twice what
-/// came, and 64 KiB. Nothing is kept between two messages, and no list behind the end mark, after a
-/// refusal, or after `close`.
+/// came, and 64 KiB. Nothing is kept between two messages but a list that was given to `reuse`, and
+/// no list behind the end mark, after a refusal, or after `close`.
 ///
 /// After a refusal each call answers F35 (`Failed`) and takes nothing.
 #[derive(Drop)]
@@ -160,6 +160,17 @@ impl Frames {
                     }
                 }
             }
+        }
+    }
+
+    /// Takes a list, to read the next body over its bytes: what it holds is never looked at, but no
+    /// memory is asked for and cleared up to its length. It is let go where bytes of a body came
+    /// already, where the list that is there is as long, behind the end mark and after a refusal.
+    pub fn reuse(&mut self, list: Vec<u8>)
+        ensures { self.new ≡ self.old }
+    {
+        if let Phase::Reading(_) = self.phase {
+            self.parts.body.reuse(list);
         }
     }
 

@@ -2,6 +2,7 @@
 //! Columnar Format, "Encapsulated message format").
 #![tactic(auto)]
 
+mod body;
 mod decision;
 mod frame;
 mod frames;

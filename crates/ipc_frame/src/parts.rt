@@ -1,6 +1,8 @@
 ghost use Rattle.std.specs.Prelude.{◌≡◌, ◌≤◌, ◌++◌, [], length, OnOk};
+ghost use Rattle.ipc_frame.specs.Bodies.{came_in};
 ghost use Rattle.ipc_frame.specs.Parts.{Fits, bytes_of, wanted_of};
 
+use crate::body::Body;
 use ipc_model::Limits;
 use std::alloc::{AllocError, Global};
 
@@ -10,7 +12,7 @@ use std::alloc::{AllocError, Global};
 pub struct Parts {
     pub start: Vec<u8>,
     pub meta: Vec<u8>,
-    pub body: Vec<u8>,
+    pub body: Body,
 }
 
 // What the next decision about a message waits for: its mark, the size of its metadata, or all
@@ -28,12 +30,12 @@ impl Parts {
     pub fn new(alloc: Global) -> Parts
         ensures start { result.start.items ≡ [] }
         ensures meta { result.meta.items ≡ [] }
-        ensures body { result.body.items ≡ [] }
+        ensures body { came_in result.body ≡ [] }
     {
         Parts {
             start: Vec::new(alloc),
             meta: Vec::new(alloc),
-            body: Vec::new(alloc),
+            body: Body::new(alloc),
         }
     }
 }
@@ -66,6 +68,6 @@ pub fn extend(
     match awaited {
         Awaited::Mark | Awaited::Size => parts.start.extend_from_slice(bytes),
         Awaited::Metadata(_) => parts.meta.extend_from_slice(bytes),
-        Awaited::Body(_) => parts.body.extend_from_slice(bytes),
+        Awaited::Body(_) => parts.body.extend(bytes),
     }
 }

@@ -11,12 +11,20 @@ use crate::step::{Step, conclude};
 use ipc_model::{Fault, Limits};
 use std::alloc::{AllocError, Global};
 
-// How many bytes are asked for at most at once.
-const PIECE: usize = 65_536;
+// For how many bytes room is made and cleared at most at once, where few came.
+pub const PIECE: usize = 65_536;
 
-// Asks the source once, for what finds room behind the first `start` bytes.
-fn read_behind<R: Source>(source: &mut R, list: &mut [u8], start: usize) -> Result<usize, Fault>
-    requires { start < length list.old }
+// Asks the source once, for at most `room` bytes, which are read over those behind the first
+// `start` bytes.
+fn read_behind<R: Source>(
+    source: &mut R,
+    list: &mut [u8],
+    start: usize,
+    room: usize,
+) -> Result<usize, Fault>
+    requires some { 0 < room }
+    requires within { start + room ≤ length list.old }
+    ensures few { IfOk result (λ k. k ≤ room) }
     ensures behind { IfOk result (λ k. Behind (R.remaining source.old)
         (R.remaining source.new) list.old list.new start k) }
     ensures same { length list.new ≡ length list.old }
@@ -25,15 +33,36 @@ fn read_behind<R: Source>(source: &mut R, list: &mut [u8], start: usize) -> Resu
     ensures only { IfErr result (λ fault. fault ≡ Fault.Read) }
     ensures failures { FailsAs (R.failures source.old) (R.failures source.new) result }
 {
-    match source.read(&mut list[start..]) {
+    match source.read(&mut list[start..start + room]) {
         Ok(count) => Ok(count),
         Err(_) => Err(Fault::Read),
     }
 }
 
+// The same of a list.
+pub fn read_over<R: Source>(
+    source: &mut R,
+    list: &mut Vec<u8>,
+    start: usize,
+    room: usize,
+) -> Result<usize, Fault>
+    requires some { 0 < room }
+    requires within { start + room ≤ vec_len list.old }
+    ensures behind { IfOk result (λ k. Behind (R.remaining source.old)
+        (R.remaining source.new) list.old.items list.new.items start k) }
+    ensures few { IfOk result (λ k. k ≤ room) }
+    ensures same { vec_len list.new ≡ vec_len list.old }
+    ensures fewer { IfOk result (λ k. (R.bound source.new + k) ≤ R.bound source.old) }
+    ensures lost { OnErr result (Keeps (R.remaining source.old) (R.remaining source.new)) }
+    ensures only { IfErr result (λ fault. fault ≡ Fault.Read) }
+    ensures failures { FailsAs (R.failures source.old) (R.failures source.new) result }
+{
+    read_behind(source, list, start, room)
+}
+
 // Makes room behind what a full list holds, for some of what is wanted: for as much as it holds or
 // one piece, whichever is more.
-fn make_room(list: &mut Vec<u8>, wanted: usize) -> Result<(), AllocError>
+pub fn make_room(list: &mut Vec<u8>, wanted: usize) -> Result<(), AllocError>
     requires { 0 < wanted }
     ensures room { OnOk result (vec_len list.new < vec_capacity list.new) }
     ensures items { list.new.items ≡ list.old.items }
@@ -60,7 +89,7 @@ fn read_onto<R: Source>(source: &mut R, list: &mut Vec<u8>, wanted: usize) -> Re
     let start = list.len();
     let room = (list.capacity() - start).min(PIECE).min(wanted);
     list.resize(start + room, 0)?;
-    let count = read_behind(source, list, start)?;
+    let count = read_behind(source, list, start, room)?;
     list.truncate(start + count);
     Ok(count)
 }
@@ -86,7 +115,7 @@ fn read_part<R: Source>(
     match awaited {
         Awaited::Mark | Awaited::Size => read_onto(source, &mut parts.start, wants),
         Awaited::Metadata(_) => read_onto(source, &mut parts.meta, wants),
-        Awaited::Body(_) => read_onto(source, &mut parts.body, wants),
+        Awaited::Body(_) => parts.body.read(source, wants),
     }
 }
 

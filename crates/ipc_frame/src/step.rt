@@ -1,6 +1,7 @@
 ghost use Rattle.ipc_frame.specs.Parts.{Fits, Undecided, bytes_of};
 ghost use Rattle.ipc_frame.specs.Steps.{Concludes, FeedsOn};
 
+use crate::body::Body;
 use crate::decision::{Decision, decide};
 use crate::frame::Frame;
 use crate::parts::{Awaited, Parts, extend, wanted};
@@ -35,7 +36,7 @@ pub fn conclude(
         Decision::Message(head) => {
             parts.start.clear();
             let meta = replace(&mut parts.meta, Vec::new(alloc));
-            let body = replace(&mut parts.body, Vec::new(alloc));
+            let body = replace(&mut parts.body, Body::new(alloc)).into_list();
             Ok(Step::Whole(Frame::Message { meta, head, body }))
         }
     }

@@ -2,6 +2,7 @@ use crate::course::Course;
 use crate::end::End;
 use crate::event::Event;
 use crate::phase::Phase;
+use ipc_column::Batch;
 use ipc_frame::{Frames, Source};
 use ipc_model::{Fault, Limits, Schema};
 use std::alloc::Global;
@@ -14,7 +15,7 @@ use std::marker::Model;
 /// hand all bytes that came are kept, and behind a message nothing of it: the body of a record
 /// batch goes to the batch without a copy. However small the pieces are, metadata is read when it
 /// is whole and once more with the whole body, and the lists grow as bytes come, never by what a
-/// message states.
+/// message states. A batch that is needed no more may be given back to `reuse`.
 ///
 /// After a refusal each call answers `Failed` (F35) and takes nothing; the events before it stand.
 /// After the end mark, or after a `close` that was `Ok`, nothing is taken either.
@@ -128,6 +129,17 @@ impl Decoder {
                     },
                 }
             }
+        }
+    }
+
+    /// Takes a batch back that is needed no more, so that the next body is read over its bytes: no
+    /// memory is asked for and cleared up to its length. Else nothing changes. It is let go where
+    /// it has clones left, where bytes of a body came already, at the end and after a refusal.
+    pub fn reuse(&mut self, batch: Batch)
+        ensures { self.new ≡ self.old }
+    {
+        if let Some(body) = batch.into_body() {
+            self.frames.reuse(body);
         }
     }
 

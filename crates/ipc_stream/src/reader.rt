@@ -170,6 +170,14 @@ impl<R: Source> StreamReader<R> {
         self.advance()
     }
 
+    /// Takes a batch back that is needed no more, so that the next body is read over its bytes, as
+    /// `Decoder::reuse` does. Else nothing changes.
+    pub fn reuse(&mut self, batch: Batch)
+        ensures { self.new ≡ self.old }
+    {
+        self.decoder.reuse(batch)
+    }
+
     /// How the stream ended: none until `next` has answered `Ok(None)`.
     pub fn end(&self) -> Option<End>
         ensures { result ≡ end_of self.now.phase }

@@ -1,0 +1,104 @@
+ghost use Rattle.std.specs.Prelude.{◌≤◌, vec_len};
+
+use crate::pull::{PIECE, make_room, read_over};
+use crate::source::Source;
+use ipc_model::Fault;
+use std::alloc::{AllocError, Global};
+
+// The bytes of a body that came, at the front of a list. What stands behind them, from before or
+// cleared, is read over.
+#[derive(Drop)]
+pub struct Body {
+    list: Vec<u8>,
+    len: usize,
+    ghost within: { len ≤ vec_len list },
+}
+
+impl Body {
+    ghost use Rattle.std.specs.Prelude.{◌≡◌, ◌<◌, ◌≤◌, ◌+◌, ◌^◌, ◌++◌, [], length};
+    ghost use Rattle.std.specs.Prelude.{IfErr, IfOk, OnErr, OnOk};
+    ghost use Rattle.std.specs.Io.KnownBytes.{Keeps};
+    ghost use Rattle.ipc_frame.specs.Bodies.{came_in};
+    ghost use Rattle.ipc_frame.specs.Failures.{FailsAs, IsOutside};
+    ghost use Rattle.ipc_frame.specs.Pulled.{Comes};
+
+    // With no byte.
+    pub fn new(alloc: Global) -> Body
+        ensures { came_in result ≡ [] }
+    {
+        Body {
+            list: Vec::new(alloc),
+            len: 0,
+        }
+    }
+
+    // How many bytes came.
+    pub fn len(&self) -> usize
+        ensures len { result ≡ length (came_in self.now) }
+        ensures small { result < 2 ^ 63 }
+    {
+        self.len
+    }
+
+    // Puts bytes behind those that came.
+    pub fn extend(&mut self, bytes: &[u8]) -> Result<(), AllocError>
+        ensures { OnOk result (came_in self.new ≡ came_in self.old ++ bytes.now) }
+    {
+        self.list.truncate(self.len);
+        self.list.extend_from_slice(bytes)?;
+        self.len = self.list.len();
+        Ok(())
+    }
+
+    // Sees that there are bytes to read over behind those that came: where there are none, room is
+    // cleared for some of what is wanted.
+    fn make_place(&mut self, wanted: usize) -> Result<(), AllocError>
+        requires { 0 < wanted }
+        ensures place { OnOk result (self.new.len < vec_len self.new.list) }
+        ensures came { came_in self.new ≡ came_in self.old }
+    {
+        if self.len < self.list.len() {
+            return Ok(());
+        }
+        make_room(&mut self.list, wanted)?;
+        let room = (self.list.capacity() - self.len).min(PIECE).min(wanted);
+        self.list.resize(self.len + room, 0)?;
+        Ok(())
+    }
+
+    // Asks the source once, for no more than is wanted, and puts what comes behind what came.
+    pub fn read<R: Source>(&mut self, source: &mut R, wanted: usize) -> Result<usize, Fault>
+        requires { 0 < wanted }
+        ensures comes { IfOk result (λ k. Comes (R.remaining source.old)
+            (R.remaining source.new) (came_in self.old) (came_in self.new) wanted k) }
+        ensures fewer { IfOk result (λ k. (R.bound source.new + k) ≤ R.bound source.old) }
+        ensures lost { OnErr result (Keeps (R.remaining source.old) (R.remaining source.new)) }
+        ensures only { IfErr result IsOutside }
+        ensures failures { FailsAs (R.failures source.old) (R.failures source.new) result }
+    {
+        self.make_place(wanted)?;
+        let room = (self.list.len() - self.len).min(wanted);
+        let count = read_over(source, &mut self.list, self.len, room)?;
+        self.len += count;
+        Ok(count)
+    }
+
+    // Takes a list to read over, where no byte came and it is longer than the one that is there.
+    pub fn reuse(&mut self, list: Vec<u8>)
+        ensures { came_in self.new ≡ came_in self.old }
+    {
+        if self.len == 0 && self.list.len() < list.len() {
+            self.list = list;
+        }
+    }
+
+    // The bytes that came.
+    pub fn into_list(self) -> Vec<u8>
+        ensures { result.items ≡ came_in self }
+    {
+        let Body { list, len } = self;
+        let mut list = list;
+        list.truncate(len);
+        list
+    }
+}
