@@ -28,6 +28,11 @@ pub enum Job {
         /// How many bytes a piece has at most.
         size: u32,
     },
+    /// Pulls the stream of standard input.
+    Pull {
+        /// Whether each batch is given back to the reader.
+        reuses: bool,
+    },
 }
 
 fn number(words: &mut Args) -> Option<u32> {
@@ -50,6 +55,8 @@ fn named(name: &str, words: &mut Args) -> Option<Job> {
         "push" => Job::Push {
             size: number(words)?,
         },
+        "pull" => Job::Pull { reuses: false },
+        "pull-over" => Job::Pull { reuses: true },
         _ => return None,
     })
 }

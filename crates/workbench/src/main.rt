@@ -4,12 +4,14 @@
 //!     workbench write-types > STREAM
 //!     workbench check-columns numbers|nulls|bytes|texts ROWS TIMES
 //!     workbench push SIZE < STREAM
+//!     workbench pull|pull-over < STREAM
 //!
 //! `write-numbers` writes so many batches of so many rows of four required columns of signed 64-bit
 //! integers, `write-types` columns of every flat type. `check-columns` checks a record batch of one
 //! column and so many rows so many times, and prints how many bytes that were; the column holds
 //! required 64-bit integers, nullable ones of which each third is null, binary, or UTF-8. `push`
 //! reads standard input in pieces of at most so many bytes, pushes each to a decoder and counts.
+//! `pull` reads it by a reader and counts; `pull-over` gives each batch back to the reader.
 #![tactic(auto)]
 
 mod batch;
@@ -17,6 +19,7 @@ mod checks;
 mod column;
 mod job;
 mod numbers;
+mod pulls;
 mod pushes;
 mod types;
 
@@ -24,6 +27,7 @@ use anyhow::Result;
 use checks::check_columns;
 use job::Job;
 use numbers::write_numbers;
+use pulls::pull_stream;
 use pushes::push_stream;
 use std::process::ExitCode;
 use std::{env, io};
@@ -33,7 +37,8 @@ const USAGE: &str = "\
 usage: workbench write-numbers BATCHES ROWS > STREAM
        workbench write-types > STREAM
        workbench check-columns numbers|nulls|bytes|texts ROWS TIMES
-       workbench push SIZE < STREAM";
+       workbench push SIZE < STREAM
+       workbench pull|pull-over < STREAM";
 
 fn run(rt: &HostRuntime, job: Job) -> Result<()> {
     match job {
@@ -47,6 +52,11 @@ fn run(rt: &HostRuntime, job: Job) -> Result<()> {
         }
         Job::Push { size } => {
             let (counts, _end) = push_stream(rt.alloc(), rt.reader(), size as usize)?;
+            let (batches, rows) = (counts.batches, counts.rows);
+            println!(rt; "{batches} batches, {rows} rows")?;
+        }
+        Job::Pull { reuses } => {
+            let (counts, _end) = pull_stream(rt.alloc(), rt.reader(), reuses)?;
             let (batches, rows) = (counts.batches, counts.rows);
             println!(rt; "{batches} batches, {rows} rows")?;
         }

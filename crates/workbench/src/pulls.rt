@@ -1,0 +1,28 @@
+//! A stream that is pulled, by which `StreamReader` is measured.
+use crate::pushes::Counts;
+use ipc_model::{Fault, Limits};
+use ipc_stream::{Device, End, StreamReader};
+use std::alloc::Global;
+use std::io::Read;
+
+/// Reads a stream to its end, and says what came and how it ended. Where `reuses` is said, each
+/// batch is given back to the reader.
+pub fn pull_stream<R: Read + Drop>(
+    alloc: Global,
+    input: R,
+    reuses: bool,
+) -> Result<(Counts, End), Fault> {
+    let mut reader = StreamReader::open(alloc, Limits::standard(), Device::new(input))?;
+    let mut counts = Counts {
+        batches: 0,
+        rows: 0,
+    };
+    while let Some((batch, _pairs)) = reader.next()? {
+        counts.batches = counts.batches.saturating_add(1);
+        counts.rows = counts.rows.saturating_add(batch.rows() as u64);
+        if reuses {
+            reader.reuse(batch);
+        }
+    }
+    Ok((counts, reader.end().unwrap_or(End::Closed)))
+}
