@@ -1,12 +1,12 @@
 //! Values from the texts of CSV fields: each in the one spelling that is written.
 ghost use Rattle.std.specs.Prelude.{◌≡◌, ℤ, ℕ, List, ◌<◌, ◌^◌, IfSome, Some, FitsSigned, decimal};
-ghost use Rattle.std.specs.Prelude.{Bool, IfOk, IfErr, IsSome, option_map};
+ghost use Rattle.std.specs.Prelude.{Bool, IfOk, IfErr, IsSome, None, option_map, false, IsTrue};
 ghost use Rattle.std.specs.Int.{w64};
 ghost use Rattle.std.specs.Fmt.{signed_decimal};
 ghost use Rattle.ipc_csv.specs.RowCsv.{bool_text, backslashed};
 ghost use Rattle.ipc_csv.specs.CsvCells.{bytes_of};
 
-use hex::FromHexError;
+use crate::hexadecimal::decode_pairs;
 use ipc_moments::TextFault;
 use itoa::Buffer;
 use std::alloc::Global;
@@ -79,9 +79,25 @@ pub fn read_bytes(alloc: Global, text: &[u8]) -> Result<Option<Vec<u8>>, TextFau
     ensures bytes { IfOk result (λ read. option_map (λ b. b.items) read ≡ bytes_of text.now) }
     ensures refused { IfErr result (λ fault. fault ≡ TextFault.OutOfMemory) }
 {
-    match hex::decode(alloc, text) {
-        Ok(bytes) => Ok(Some(bytes)),
-        Err(FromHexError::OutOfMemory) => Err(TextFault::OutOfMemory),
-        Err(_) => Ok(None),
+    let mut bytes = Vec::new(alloc);
+    if decode_bytes(&mut bytes, text)? {
+        Ok(Some(bytes))
+    } else {
+        Ok(None)
     }
+}
+
+/// Puts the bytes whose hexadecimal digits these are, in either case, in place of others, and says
+/// whether there are such. It refuses only where memory ran out.
+pub(crate) fn decode_bytes(bytes: &mut Vec<u8>, text: &[u8]) -> Result<bool, TextFault>
+    ensures bytes { IfOk result
+        (λ read. IsTrue read → bytes_of text.now ≡ Some bytes.new.items) }
+    ensures none { IfOk result (λ read. read ≡ false → bytes_of text.now ≡ None) }
+    ensures refused { IfErr result (λ fault. fault ≡ TextFault.OutOfMemory) }
+{
+    if text.len() % 2 != 0 {
+        return Ok(false);
+    }
+    bytes.resize(text.len() / 2, 0)?;
+    Ok(decode_pairs(text, bytes.as_mut_slice()))
 }

@@ -2,11 +2,12 @@
 #![tactic(auto)]
 
 mod cell;
+mod hexadecimal;
 mod reader;
 mod record;
 
 pub use cell::{read_bool, read_bytes, read_int, read_text, read_uint};
-pub use reader::{check_header, row_from_csv};
+pub use reader::{check_header, fill_row_from_csv, row_from_csv};
 pub use record::{
     check_flat, csv_header, csv_record, end_record, push_bool, push_bytes, push_comma, push_field,
     push_int, push_null, push_text, push_uint, push_value,

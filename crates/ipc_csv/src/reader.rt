@@ -1,7 +1,7 @@
 //! A row from the fields of a record of CSV.
 ghost use Rattle.std.specs.Prelude.{◌≡◌, ◌<◌, ◌^◌, ℕ, ℤ, List, IfOk, IfErr, IfSome, MatchResult};
 ghost use Rattle.std.specs.Prelude.{Some, Bool, FitsSigned, decimal, option_map, length, OnOk};
-ghost use Rattle.std.specs.Prelude.{None, Ok};
+ghost use Rattle.std.specs.Prelude.{None, Ok, [], string_bytes};
 ghost use Rattle.std.specs.Prelude.{IsTrue, ◌↔◌};
 ghost use Rattle.std.specs.List.{AllByRecursion};
 ghost use Rattle.std.specs.Fmt.{signed_decimal};
@@ -20,12 +20,13 @@ ghost use Rattle.ipc_moments.specs.Moments.{timestamp_text};
 ghost use Rattle.ipc_csv.specs.RowCsv.{int_text, bool_text, backslashed, names, flat_fault};
 ghost use Rattle.ipc_csv.specs.RowCsv.{row_texts};
 
-use crate::cell::{read_bool, read_bytes, read_int, read_text, read_uint};
+use crate::cell::{decode_bytes, read_bool, read_int, read_text, read_uint};
 use crate::record::check_flat;
 use csv::ByteRecord;
 use ipc_model::{DataType, Field, Items, Row, Schema, Text, TimeUnit, Value};
 use ipc_moments::{TextFault, read_date, read_time, read_timestamp};
-use std::alloc::Global;
+use std::alloc::{AllocError, Global};
+use std::mem;
 
 // The point in time whose text this is.
 fn read_zoned(unit: TimeUnit, timezone: &Option<Text>, text: &[u8]) -> Option<i64>
@@ -86,8 +87,22 @@ fn read_truth(text: &[u8]) -> Option<bool>
     }
 }
 
-// The text whose field this is, as a value.
-fn read_chars(alloc: Global, text: &[u8]) -> Result<Option<Value>, TextFault>
+// An empty text with the room of a value that is let go, where that is a text.
+fn room_for_text(alloc: Global, kept: Value) -> String
+    ensures { string_bytes result ≡ [] }
+{
+    match kept {
+        Value::Text(text) => {
+            let mut string = text.into_string();
+            string.clear();
+            string
+        }
+        _ => String::new(alloc),
+    }
+}
+
+// The text whose field this is, as a value in the room of one that is let go.
+fn read_chars(alloc: Global, text: &[u8], kept: Value) -> Result<Option<Value>, TextFault>
     ensures only { IfOk result (λ read. IfSome read (λ v. IsCharsOf text.now (out-Value v))) }
     ensures all { IfOk result (λ read. (chars : List ℕ) → IsUtf8 chars
         → backslashed chars ≡ text.now
@@ -97,26 +112,49 @@ fn read_chars(alloc: Global, text: &[u8]) -> Result<Option<Value>, TextFault>
     let Some(chars) = read_text(text) else {
         return Ok(None);
     };
-    match str::from_utf8(chars) {
-        Ok(chars) => Ok(Some(Value::Text(Text::copied(alloc, chars)?))),
-        Err(_) => Ok(None),
+    let Ok(chars) = str::from_utf8(chars) else {
+        return Ok(None);
+    };
+    let mut string = room_for_text(alloc, kept);
+    string.push_str(chars)?;
+    Ok(Some(Value::Text(Text::from_string(string))))
+}
+
+// An empty list of bytes with the room of a value that is let go, where that is bytes.
+fn room_for_bytes(alloc: Global, kept: Value) -> Vec<u8>
+    ensures { result.items ≡ [] }
+{
+    match kept {
+        Value::Bytes(bytes) => {
+            let mut bytes = bytes.into_vec();
+            bytes.clear();
+            bytes
+        }
+        _ => Vec::new(alloc),
     }
 }
 
-// The bytes whose digits these are, as a value.
-fn read_binary(alloc: Global, text: &[u8]) -> Result<Option<Value>, TextFault>
+// The bytes whose digits these are, as a value in the room of one that is let go.
+fn read_binary(alloc: Global, text: &[u8], kept: Value) -> Result<Option<Value>, TextFault>
     ensures bytes { IfOk result (λ read. option_map out-Value read
         ≡ option_map Value-F.Bytes (bytes_of text.now)) }
     ensures refused { IfErr result (λ fault. fault ≡ TextFault.OutOfMemory) }
 {
-    match read_bytes(alloc, text)? {
-        Some(bytes) => Ok(Some(Value::Bytes(Items::from_vec(bytes)))),
-        None => Ok(None),
+    let mut bytes = room_for_bytes(alloc, kept);
+    if decode_bytes(&mut bytes, text)? {
+        Ok(Some(Value::Bytes(Items::from_vec(bytes))))
+    } else {
+        Ok(None)
     }
 }
 
-// The value of this type whose text this is, null aside.
-fn read_own(alloc: Global, kind: &DataType, text: &[u8]) -> Result<Option<Value>, TextFault>
+// The value of this type whose text this is, null aside, in the room of one that is let go.
+fn read_own(
+    alloc: Global,
+    kind: &DataType,
+    text: &[u8],
+    kept: Value,
+) -> Result<Option<Value>, TextFault>
     ensures only { IfOk result (λ read.
         IfSome read (λ v. StandsFor kind.now text.now (out-Value v))) }
     ensures all { IfOk result (λ read. (children : ℕ) (v : Value)
@@ -128,14 +166,19 @@ fn read_own(alloc: Global, kind: &DataType, text: &[u8]) -> Result<Option<Value>
         DataType::Null | DataType::List | DataType::Struct => Ok(None),
         DataType::Bool => Ok(read_truth(text).map(Value::Bool)),
         DataType::Int { signed: false, .. } => Ok(read_count(text).map(Value::UInt)),
-        DataType::Utf8 => read_chars(alloc, text),
-        DataType::Binary | DataType::FixedSizeBinary(_) => read_binary(alloc, text),
+        DataType::Utf8 => read_chars(alloc, text, kept),
+        DataType::Binary | DataType::FixedSizeBinary(_) => read_binary(alloc, text, kept),
         _ => Ok(read_signed(kind, text).map(Value::Int)),
     }
 }
 
-// The value of this type whose text this is.
-fn read_value(alloc: Global, kind: &DataType, text: &[u8]) -> Result<Option<Value>, TextFault>
+// The value of this type whose text this is, in the room of one that is let go.
+fn read_value(
+    alloc: Global,
+    kind: &DataType,
+    text: &[u8],
+    kept: Value,
+) -> Result<Option<Value>, TextFault>
     ensures only { IfOk result (λ read.
         IfSome read (λ v. StandsFor kind.now text.now (out-Value v))) }
     ensures all { IfOk result (λ read. (nullable : Bool) (children : ℕ) (v : Value)
@@ -146,16 +189,21 @@ fn read_value(alloc: Global, kind: &DataType, text: &[u8]) -> Result<Option<Valu
     if text == b"\\N".as_slice() {
         return Ok(Some(Value::Null));
     }
-    read_own(alloc, kind, text)
+    read_own(alloc, kind, text, kept)
 }
 
-// The value of this field as which the text reads.
-fn read_field(alloc: Global, field: &Field, text: &[u8]) -> Result<Option<Value>, TextFault>
+// The value of this field as which the text reads, in the room of one that is let go.
+fn read_field(
+    alloc: Global,
+    field: &Field,
+    text: &[u8],
+    kept: Value,
+) -> Result<Option<Value>, TextFault>
     ensures only { IfOk result (λ read. IfSome read (λ v. ReadsAs field.now text.now v)) }
     ensures all { IfOk result (λ read. (v : Value) → ReadsAs field.now text.now v → read ≡ Some v) }
     ensures refused { IfErr result (λ fault. fault ≡ TextFault.OutOfMemory) }
 {
-    let Some(value) = read_value(alloc, &field.kind, text)? else {
+    let Some(value) = read_value(alloc, &field.kind, text, kept)? else {
         return Ok(None);
     };
     if field.is_own(&value) {
@@ -165,21 +213,35 @@ fn read_field(alloc: Global, field: &Field, text: &[u8]) -> Result<Option<Value>
     }
 }
 
-// The row, where there are as many fields as columns.
+// Makes so many values of a row, of which those that were there stay in front.
+fn resize(row: &mut Vec<Value>, count: usize) -> Result<(), AllocError>
+    ensures { OnOk result (length row.new.items ≡ count) }
+{
+    row.truncate(count);
+    for place in row.len()..count {
+        row.push(Value::Null)?;
+    }
+    Ok(())
+}
+
+// The values of a row, where there are as many fields as columns, each in the room of the one that
+// stood there.
 fn read_fields(
     alloc: Global,
     columns: &[Field],
     number: u64,
     fields: &ByteRecord,
-) -> Result<Row, TextFault>
-    requires { length columns.now ≡ length (fields_of fields.now) }
-    ensures read { IfOk result (λ row. EachReadsAs columns.now (fields_of fields.now) row) }
-    ensures all { IfOk result (λ read. (row : List Value)
-        → EachReadsAs columns.now (fields_of fields.now) row → read ≡ row) }
+    row: &mut Vec<Value>,
+) -> Result<(), TextFault>
+    requires fields { length columns.now ≡ length (fields_of fields.now) }
+    requires row { length columns.now ≡ length row.old.items }
+    ensures read { OnOk result
+        (EachReadsAs columns.now (fields_of fields.now) row.new.items) }
+    ensures all { OnOk result ((wanted : List Value)
+        → EachReadsAs columns.now (fields_of fields.now) wanted → row.new.items ≡ wanted) }
     ensures refused { IfErr result
         (IsBadField number columns.now (fields_of fields.now)) }
 {
-    let mut row = Vec::with_capacity(alloc, columns.len())?;
     for (column, field) in columns.iter().enumerate() {
         let bad = TextFault::BadField {
             record: number,
@@ -188,12 +250,13 @@ fn read_fields(
         let Some(text) = fields.get(column) else {
             return Err(bad);
         };
-        let Some(value) = read_field(alloc, field, text)? else {
+        let kept = mem::replace(&mut row[column], Value::Null);
+        let Some(value) = read_field(alloc, field, text, kept)? else {
             return Err(bad);
         };
-        row.push(value)?;
+        row[column] = value;
     }
-    Ok(Items::from_vec(row))
+    Ok(())
 }
 
 /// The row of this schema as which the fields of a record of CSV read, the record with this number.
@@ -221,11 +284,46 @@ pub fn row_from_csv(
     ensures refused { IfErr result
         (IsRecordFault number schema.now.fields (fields_of fields.now)) }
 {
+    let mut row = Items::from_vec(Vec::with_capacity(alloc, schema.fields.len())?);
+    fill_row_from_csv(alloc, schema, number, fields, &mut row)?;
+    Ok(row)
+}
+
+/// Reads a record of CSV, the record with this number, into a row of this schema: as
+/// `row_from_csv`, with the room that the row's values have. What the row holds before means
+/// nothing, and so does what it holds where the record is refused.
+///
+/// X1 and X2 as `check_flat`, then X5 where there are not as many fields as columns, then X4 with
+/// the first column whose field is not the text of a value that fits. It takes memory only where a
+/// text or bytes are longer than any that stood in their column before.
+pub fn fill_row_from_csv(
+    alloc: Global,
+    schema: &Schema,
+    number: u64,
+    fields: &ByteRecord,
+    row: &mut Row,
+) -> Result<(), TextFault>
+    ensures read { OnOk result
+        (RecordReadsAs schema.now.fields (fields_of fields.now) row.new) }
+    ensures all { (wanted : List Value)
+        → RecordReadsAs schema.now.fields (fields_of fields.now) wanted
+        → MatchResult result (λ _. row.new ≡ wanted) (λ fault. fault ≡ TextFault.OutOfMemory) }
+    ensures back { (wanted : List Value) → flat_fault schema.now.fields ≡ None
+        → RowFits schema.now.fields wanted → AllByRecursion (λ v. IsStored (out-Value v)) wanted
+        → row_texts schema.now.fields wanted ≡ Ok (fields_of fields.now)
+        → MatchResult result (λ _. row.new ≡ wanted) (λ fault. fault ≡ TextFault.OutOfMemory) }
+    ensures refused { IfErr result
+        (IsRecordFault number schema.now.fields (fields_of fields.now)) }
+{
     check_flat(schema)?;
     if fields.len() != schema.fields.len() {
         return Err(TextFault::WrongFieldCount { record: number });
     }
-    read_fields(alloc, schema.fields.as_slice(), number, fields)
+    let mut values = mem::replace(row, Items::new(alloc)).into_vec();
+    resize(&mut values, schema.fields.len())?;
+    read_fields(alloc, schema.fields.as_slice(), number, fields, &mut values)?;
+    *row = Items::from_vec(values);
+    Ok(())
 }
 
 fn is_name_of(field: &Field, name: &[u8]) -> bool

@@ -12,14 +12,15 @@ ghost use Rattle.ipc_from_csv.specs.Steps.{Begins, SendsRecords};
 use crate::records::{next_record, read_header, reader_of};
 use crate::stop::Stop;
 use csv::{ByteRecord, Reader};
-use ipc_csv::row_from_csv;
-use ipc_model::{BatchRows, Limits, Schema, WriteFault};
+use ipc_csv::fill_row_from_csv;
+use ipc_model::{BatchRows, Items, Limits, Row, Schema, WriteFault};
 use ipc_stream::{Sink, StreamWriter};
 use std::alloc::Global;
 use std::io::Read;
+use std::mem;
 
 // Sends the rows of all records behind the header, in batches of so many rows, of which the last
-// may have fewer.
+// may have fewer. The rows of a batch that was sent lend their room to those of the next.
 fn send_records<R: Read, W: Sink>(
     alloc: Global,
     reader: &mut Reader<R>,
@@ -35,6 +36,7 @@ fn send_records<R: Read, W: Sink>(
         → SendsRecords input schema.now batch old failures stream.new result }
 {
     let mut rows = Vec::new(alloc);
+    let mut sent: Vec<Row> = Vec::new(alloc);
     for number in 1..u64::MAX {
         if !next_record(reader, fields)? {
             if !rows.is_empty() {
@@ -42,11 +44,13 @@ fn send_records<R: Read, W: Sink>(
             }
             return Ok(());
         }
-        rows.push(row_from_csv(alloc, schema, number, fields)?)?;
+        let mut row = sent.pop().unwrap_or(Items::new(alloc));
+        fill_row_from_csv(alloc, schema, number, fields, &mut row)?;
+        rows.push(row)?;
         if rows.len() as u64 == batch {
             let full = BatchRows::new(rows);
             stream.write_batch(&full)?;
-            rows = full.rows.into_vec();
+            rows = mem::replace(&mut sent, full.rows.into_vec());
             rows.clear();
         }
     }

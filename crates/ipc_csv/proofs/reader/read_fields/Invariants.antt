@@ -1,4 +1,4 @@
-use Rattle.std.proofs.Common.{◌≡◌, ◌++◌, ℕ, List, drop}
+use Rattle.std.proofs.Common.{◌≡◌, ◌++◌, ℕ, List, drop, take, length}
 use Rattle.csv.specs.Records.{fields_of}
 use Rattle.ipc_model.specs.declared.value.Value.{Value}
 use Rattle.ipc_csv.specs.CsvRows.{EachReadsAs, IsFirstBad}
@@ -6,10 +6,11 @@ use Rattle.ipc_csv.proofs.reader.read_fields.Given as goal
 
 abbrev pub invariant-loop-column : goal.invariant-loop-column
 invariant-loop-column l = record {
+  long : length l.row.items ≡ length l.columns;
   read : (rest : List Value) → EachReadsAs (drop l.column l.columns) (drop l.column (fields_of l.fields)) rest
-      → EachReadsAs l.columns (fields_of l.fields) (l.row.items ++ rest);
+      → EachReadsAs l.columns (fields_of l.fields) (take l.column l.row.items ++ rest);
   all : (row : List Value) → EachReadsAs l.columns (fields_of l.fields) row
-      → (rest : List Value) × (row ≡ l.row.items ++ rest)
+      → (rest : List Value) × (row ≡ take l.column l.row.items ++ rest)
       × EachReadsAs (drop l.column l.columns) (drop l.column (fields_of l.fields)) rest;
   bad : (column : ℕ) → IsFirstBad l.column (drop l.column l.columns) (drop l.column (fields_of l.fields)) column
       → IsFirstBad 0 l.columns (fields_of l.fields) column;

@@ -48,15 +48,15 @@ returns-then-not-branch g c = record {
       ];
 }
 
-pub returns-in_err-row_from_csv : goal.returns-in_err-row_from_csv
-returns-in_err-row_from_csv g c = record {
+pub returns-in_err-fill_row_from_csv : goal.returns-in_err-fill_row_from_csv
+returns-in_err-fill_row_from_csv g c = record {
   sends = λ input old failures begins.
-      let p = err_from_is_err_and c.from_residual-in_err-row_from_csv.result c.from_residual-in_err-row_from_csv.ensures.1 in
+      let p = err_from_is_err_and c.from_residual-in_err-fill_row_from_csv.result c.from_residual-in_err-fill_row_from_csv.ensures.1 in
       let came = c.loop-number.invariant.2 input old failures begins in
       let stands = found_one g.R.Read.remaining input (names c.args.schema.now.fields ∷ came.records) c.next_record.new.reader _ _
       c.if-not-branch.false (c.in_ok-next_record.ensures.finds input _ came.stands) in
       rw (p.1, p.2) (record_stops _ _ _ _ _ _ _ _ _ _ came c.loop-number.invariant.1 c.next_record.new.reader _ _ stands
-      c.in_err-row_from_csv.ensures.refused);
+      c.in_err-fill_row_from_csv.ensures.refused);
 }
 
 pub returns-in_err-push : goal.returns-in_err-push
@@ -74,10 +74,10 @@ returns-in_err-write_batch-2 g c = record {
       let came = c.loop-number.invariant.2 input old failures begins in
       let stands = found_one g.R.Read.remaining input (names c.args.schema.now.fields ∷ came.records) c.next_record.new.reader _ _
       c.if-not-branch.false (c.in_ok-next_record.ensures.finds input _ came.stands) in
-      let more = came_more _ _ _ _ _ _ _ _ _ _ came c.next_record.new.reader _ c.in_ok-row_from_csv.field-0 stands
-      c.in_ok-row_from_csv.ensures.read in
+      let more = came_more _ _ _ _ _ _ _ _ _ _ came c.next_record.new.reader _ c.fill_row_from_csv.new.row stands
+      c.in_ok-fill_row_from_csv.ensures.read in
       let good : is_ok c.push.result ≡ true = search rules in
-      let items : c.push.new.self.items ≡ c.loop-number.rows.items ++ c.in_ok-row_from_csv.field-0 ∷ [] =
+      let items : c.push.new.self.items ≡ c.loop-number.rows.items ++ c.fill_row_from_csv.new.row ∷ [] =
       rw good at c.push.ensures.items in
       rw (p.1, p.2) (batch_stops _ _ _ _ _ _ _ _ _ _ more c.write_batch-then-len-batch.new.self c.in_err-write_batch-2.field-0.0
       c.new-full.result (c.new-full.ensures ∙ ap batch_of items) c.in_err-write_batch-2.ensures.sends c.in_err-write_batch-2.ensures.judged
@@ -94,10 +94,10 @@ loop-number-preserved g c =
             let came = c.loop-number.invariant.2 input old failures begins in
             let stands = found_one g.R.Read.remaining input (names c.args.schema.now.fields ∷ came.records) c.next_record.new.reader _ _
             c.if-not-branch.false (c.in_ok-next_record.ensures.finds input _ came.stands) in
-            let more = came_more _ _ _ _ _ _ _ _ _ _ came c.next_record.new.reader _ c.in_ok-row_from_csv.field-0 stands
-            c.in_ok-row_from_csv.ensures.read in
+            let more = came_more _ _ _ _ _ _ _ _ _ _ came c.next_record.new.reader _ c.fill_row_from_csv.new.row stands
+            c.in_ok-fill_row_from_csv.ensures.read in
             let good : is_ok c.push.result ≡ true = search rules in
-            let items : c.push.new.self.items ≡ c.loop-number.rows.items ++ c.in_ok-row_from_csv.field-0 ∷ [] =
+            let items : c.push.new.self.items ≡ c.loop-number.rows.items ++ c.fill_row_from_csv.new.row ∷ [] =
             rw good at c.push.ensures.items in
             rw (w.stream-is, w.rows-is, w.clear.ensures.items) (came_sent _ _ _ _ _ _ _ _ _ _ more w.write_batch-then-len-batch.new.self
             w.new-full.result (w.new-full.ensures ∙ ap batch_of items) c.requires.some
@@ -107,9 +107,9 @@ loop-number-preserved g c =
       | else-len-batch w ↦ (
         c.in_ok-next_record.ensures.set_up,
         let good : is_ok c.push.result ≡ true = search rules in
-            let items : c.push.new.self.items ≡ c.loop-number.rows.items ++ c.in_ok-row_from_csv.field-0 ∷ [] =
+            let items : c.push.new.self.items ≡ c.loop-number.rows.items ++ c.fill_row_from_csv.new.row ∷ [] =
             rw good at c.push.ensures.items in
-            let longer = length_push c.loop-number.rows.items c.in_ok-row_from_csv.field-0 in
+            let longer = length_push c.loop-number.rows.items c.fill_row_from_csv.new.row in
             rw w.rows-is (omega (
               arith,
               ap length items,
@@ -125,7 +125,7 @@ loop-number-preserved g c =
             c.if-not-branch.false (c.in_ok-next_record.ensures.finds input _ came.stands) in
             let good : is_ok c.push.result ≡ true = search rules in
             rw (w.stream-is, w.rows-is, rw good at c.push.ensures.items) (came_more _ _ _ _ _ _ _ _ _ _ came c.next_record.new.reader _
-            c.in_ok-row_from_csv.field-0 stands c.in_ok-row_from_csv.ensures.read),
+            c.fill_row_from_csv.new.row stands c.in_ok-fill_row_from_csv.ensures.read),
       )
     ]
 
