@@ -9,7 +9,7 @@ ghost use Rattle.ipc_csv.specs.RowCsv.{backslashed, with_field, Ended};
 use crate::digits::{put_signed, put_unsigned};
 use crate::hexadecimal::put_hexadecimal;
 use crate::room::{put, put_short, reserve};
-use crate::unquoted::needs_no_quotes;
+use crate::unquoted::put_if_unquoted;
 use ipc_csv::{push_field, push_text};
 use ipc_moments::ShortText;
 use std::alloc::AllocError;
@@ -36,9 +36,9 @@ pub(crate) fn put_field(text: &mut Vec<u8>, at: usize, field: &[u8]) -> Result<u
     ensures text { IfOk result
         (λ end. take end text.new.items ≡ with_field (take at text.old.items) field.now) }
 {
-    if needs_no_quotes(field) {
-        reserve(text, at, field.len())?;
-        return Ok(put(text, at, field));
+    reserve(text, at, field.len())?;
+    if put_if_unquoted(text.as_mut_slice(), at, field) {
+        return Ok(at + field.len());
     }
     put_quoted(text, at, field)
 }

@@ -2,6 +2,7 @@
 #![tactic(auto)]
 
 mod batch_text;
+mod copies;
 mod csv_row;
 mod digits;
 mod fields;

@@ -1,10 +1,13 @@
-//! Whether each byte of a text stands for itself in JSON, looked at many bytes at a time. A text
-//! that is shorter than two looks is covered by two that overlap.
-ghost use Rattle.std.specs.Prelude.{◌≡◌, ◌≤◌, ◌<◌, ◌+◌, length};
+//! Texts that are written where each of their bytes stands for itself in JSON, looked at many bytes
+//! at a time as they are copied. A text that is shorter than two looks is covered by two that
+//! overlap.
+ghost use Rattle.std.specs.Prelude.{◌≡◌, ◌≤◌, ◌<◌, ◌+◌, ◌++◌, length, take};
 ghost use Rattle.std.specs.Bool.{OnTrue};
 ghost use Rattle.json.specs.Print.{escape};
 ghost use Rattle.json.specs.Written.{PlainBetween};
 
+use crate::copies::{put_ends, put_few};
+use crate::rows::put_word;
 use std::simd::prelude::*;
 
 // Four bytes from a place on.
@@ -75,30 +78,76 @@ fn many_are_plain(text: &[u8]) -> bool
     sixteen_are_plain(text, text.len() - 16)
 }
 
+// Writes a text from `at` on, and says whether it is plain. It has three bytes at most.
 #[inline(always)]
-fn up_to_sixteen_are_plain(text: &[u8]) -> bool
-    requires { length text.now ≤ 16 }
-    ensures { OnTrue result (PlainBetween text.now 0 (length text.now)) }
+fn put_up_to_three(text: &mut [u8], at: usize, chars: &[u8]) -> bool
+    requires fits { at + length chars.now ≤ length text.old }
+    requires few { length chars.now < 4 }
+    ensures plain { OnTrue result (PlainBetween chars.now 0 (length chars.now)) }
+    ensures text { take (at + length chars.now) text.new ≡ take at text.old ++ chars.now }
 {
-    let len = text.len();
-    if len >= 8 {
-        eight_are_plain(text, 0) && eight_are_plain(text, len - 8)
-    } else if len >= 4 {
-        four_are_plain(text, 0) && four_are_plain(text, len - 4)
-    } else {
-        few_are_plain(text)
+    put_few(text, at, chars);
+    few_are_plain(chars)
+}
+
+// The same of four to eight.
+#[inline(always)]
+fn put_up_to_eight(text: &mut [u8], at: usize, chars: &[u8]) -> bool
+    requires fits { at + length chars.now ≤ length text.old }
+    requires covers { (4 ≤ length chars.now) × (length chars.now ≤ 8) }
+    ensures plain { OnTrue result (PlainBetween chars.now 0 (length chars.now)) }
+    ensures text { take (at + length chars.now) text.new ≡ take at text.old ++ chars.now }
+{
+    put_ends::<4>(text, at, chars);
+    four_are_plain(chars, 0) && four_are_plain(chars, chars.len() - 4)
+}
+
+// The same of eight to sixteen.
+#[inline(always)]
+fn put_up_to_sixteen(text: &mut [u8], at: usize, chars: &[u8]) -> bool
+    requires fits { at + length chars.now ≤ length text.old }
+    requires covers { (8 ≤ length chars.now) × (length chars.now ≤ 16) }
+    ensures plain { OnTrue result (PlainBetween chars.now 0 (length chars.now)) }
+    ensures text { take (at + length chars.now) text.new ≡ take at text.old ++ chars.now }
+{
+    put_ends::<8>(text, at, chars);
+    eight_are_plain(chars, 0) && eight_are_plain(chars, chars.len() - 8)
+}
+
+// The same of sixteen and more.
+#[inline(always)]
+fn put_many(text: &mut [u8], at: usize, chars: &[u8]) -> bool
+    requires fits { at + length chars.now ≤ length text.old }
+    requires covers { 16 ≤ length chars.now }
+    ensures plain { OnTrue result (PlainBetween chars.now 0 (length chars.now)) }
+    ensures text { take (at + length chars.now) text.new ≡ take at text.old ++ chars.now }
+{
+    put_word(text, at, chars);
+    many_are_plain(chars)
+}
+
+// The same of any length.
+#[inline(always)]
+fn put_and_look(text: &mut [u8], at: usize, chars: &[u8]) -> bool
+    requires fits { at + length chars.now ≤ length text.old }
+    ensures plain { OnTrue result (PlainBetween chars.now 0 (length chars.now)) }
+    ensures text { take (at + length chars.now) text.new ≡ take at text.old ++ chars.now }
+{
+    match chars.len() {
+        0..4 => put_up_to_three(text, at, chars),
+        4..8 => put_up_to_eight(text, at, chars),
+        8..=16 => put_up_to_sixteen(text, at, chars),
+        _ => put_many(text, at, chars),
     }
 }
 
-/// Whether a text has each of its bytes as it stands in JSON. Where it answers false, one may have
-/// another form.
+/// Writes a text from `at` on, and says whether each of its bytes stands as it is in JSON. Where it
+/// answers false, one may have another form.
 #[inline(always)]
-pub fn is_plain(text: &[u8]) -> bool
-    ensures { OnTrue result (escape text.now ≡ text.now) }
+pub fn put_if_plain(text: &mut [u8], at: usize, chars: &[u8]) -> bool
+    requires fits { at + length chars.now ≤ length text.old }
+    ensures plain { OnTrue result (escape chars.now ≡ chars.now) }
+    ensures text { take (at + length chars.now) text.new ≡ take at text.old ++ chars.now }
 {
-    if text.len() <= 16 {
-        up_to_sixteen_are_plain(text)
-    } else {
-        many_are_plain(text)
-    }
+    put_and_look(text, at, chars)
 }

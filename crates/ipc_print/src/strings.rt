@@ -1,10 +1,11 @@
 //! Texts of JSON at a place: one look at the bytes and one copy, where none has another form.
 ghost use Rattle.std.specs.Prelude.{◌≡◌, ◌≤◌, ◌<◌, ◌+◌, ◌++◌, ◌∷◌, [], length, take, OnOk};
 ghost use Rattle.std.specs.Prelude.{IfOk};
+ghost use Rattle.std.specs.Bool.{OnTrue};
 ghost use Rattle.std.specs.Char.{digit_char};
 ghost use Rattle.json.specs.Print.{escape, escape_byte, quoted};
 
-use crate::plain::is_plain;
+use crate::plain::put_if_plain;
 use crate::room::{put, put_short, reserve};
 use crate::rows::put_word;
 use ipc_moments::ShortText;
@@ -68,17 +69,18 @@ fn put_escaped(text: &mut Vec<u8>, at: usize, chars: &[u8]) -> Result<usize, All
     Ok(text.len())
 }
 
-// Writes a text as it stands between two quotation marks, and returns where it ends.
+// Writes a text between two quotation marks, and says whether each of its bytes stands as it is.
 #[inline(always)]
-fn put_plain(text: &mut [u8], at: usize, chars: &[u8]) -> usize
-    requires room { at + length chars.now + 2 ≤ length text.old }
-    requires plain { escape chars.now ≡ chars.now }
-    ensures end { result ≡ at + length chars.now + 2 }
-    ensures text { take result text.new ≡ take at text.old ++ quoted chars.now }
+fn put_plain(text: &mut [u8], at: usize, chars: &[u8]) -> bool
+    requires { at + length chars.now + 2 ≤ length text.old }
+    ensures text { OnTrue result (take (at + length chars.now + 2) text.new
+        ≡ take at text.old ++ quoted chars.now) }
+    ensures front { take at text.new ≡ take at text.old }
 {
-    let at = put_word(text, at, b"\"");
-    let at = put_word(text, at, chars);
-    put_word(text, at, b"\"")
+    let start = put_word(text, at, b"\"");
+    let plain = put_if_plain(text, start, chars);
+    put_word(text, start + chars.len(), b"\"");
+    plain
 }
 
 /// Writes the text of a date, a time or a point in time from `at` on, and returns where it ends.
@@ -101,9 +103,9 @@ pub fn put_string(text: &mut Vec<u8>, at: usize, chars: &[u8]) -> Result<usize, 
     ensures text { IfOk result
         (λ end. take end text.new.items ≡ take at text.old.items ++ quoted chars.now) }
 {
-    if !is_plain(chars) {
-        return put_escaped(text, at, chars);
-    }
     reserve(text, at, chars.len() + 2)?;
-    Ok(put_plain(text.as_mut_slice(), at, chars))
+    if put_plain(text.as_mut_slice(), at, chars) {
+        return Ok(at + chars.len() + 2);
+    }
+    put_escaped(text, at, chars)
 }

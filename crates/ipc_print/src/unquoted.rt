@@ -1,10 +1,12 @@
-//! Whether a field of CSV needs no quotes, looked at many bytes at a time. A field that is shorter
-//! than two looks is covered by two that overlap.
-ghost use Rattle.std.specs.Prelude.{◌≡◌, ◌≤◌, ◌<◌, ◌+◌, false, length};
+//! Fields of CSV that are written where they need no quotes, looked at many bytes at a time as they
+//! are copied. A field that is shorter than two looks is covered by two that overlap.
+ghost use Rattle.std.specs.Prelude.{◌≡◌, ◌≤◌, ◌<◌, ◌+◌, ◌++◌, false, length, take};
 ghost use Rattle.std.specs.Bool.{OnTrue};
 ghost use Rattle.csv.specs.Writing.{default_writer, needs_quotes};
 ghost use Rattle.ipc_print.specs.Unquoted.{NeedNone};
 
+use crate::copies::{put_ends, put_few};
+use crate::rows::put_word;
 use std::simd::prelude::*;
 
 // Four bytes from a place on.
@@ -78,29 +80,76 @@ fn many_need_none(field: &[u8]) -> bool
     sixteen_need_none(field, field.len() - 16)
 }
 
+// Writes a field from `at` on, and says whether it needs no quotes. It has three bytes at most.
 #[inline(always)]
-fn up_to_sixteen_need_none(field: &[u8]) -> bool
-    requires { length field.now ≤ 16 }
-    ensures { OnTrue result (NeedNone field.now 0 (length field.now)) }
+fn put_up_to_three(text: &mut [u8], at: usize, field: &[u8]) -> bool
+    requires fits { at + length field.now ≤ length text.old }
+    requires few { length field.now < 4 }
+    ensures none { OnTrue result (NeedNone field.now 0 (length field.now)) }
+    ensures text { take (at + length field.now) text.new ≡ take at text.old ++ field.now }
 {
-    let len = field.len();
-    if len >= 8 {
-        eight_need_none(field, 0) && eight_need_none(field, len - 8)
-    } else if len >= 4 {
-        four_need_none(field, 0) && four_need_none(field, len - 4)
-    } else {
-        few_need_none(field)
+    put_few(text, at, field);
+    few_need_none(field)
+}
+
+// The same of four to eight.
+#[inline(always)]
+fn put_up_to_eight(text: &mut [u8], at: usize, field: &[u8]) -> bool
+    requires fits { at + length field.now ≤ length text.old }
+    requires covers { (4 ≤ length field.now) × (length field.now ≤ 8) }
+    ensures none { OnTrue result (NeedNone field.now 0 (length field.now)) }
+    ensures text { take (at + length field.now) text.new ≡ take at text.old ++ field.now }
+{
+    put_ends::<4>(text, at, field);
+    four_need_none(field, 0) && four_need_none(field, field.len() - 4)
+}
+
+// The same of eight to sixteen.
+#[inline(always)]
+fn put_up_to_sixteen(text: &mut [u8], at: usize, field: &[u8]) -> bool
+    requires fits { at + length field.now ≤ length text.old }
+    requires covers { (8 ≤ length field.now) × (length field.now ≤ 16) }
+    ensures none { OnTrue result (NeedNone field.now 0 (length field.now)) }
+    ensures text { take (at + length field.now) text.new ≡ take at text.old ++ field.now }
+{
+    put_ends::<8>(text, at, field);
+    eight_need_none(field, 0) && eight_need_none(field, field.len() - 8)
+}
+
+// The same of sixteen and more.
+#[inline(always)]
+fn put_many(text: &mut [u8], at: usize, field: &[u8]) -> bool
+    requires fits { at + length field.now ≤ length text.old }
+    requires covers { 16 ≤ length field.now }
+    ensures none { OnTrue result (NeedNone field.now 0 (length field.now)) }
+    ensures text { take (at + length field.now) text.new ≡ take at text.old ++ field.now }
+{
+    put_word(text, at, field);
+    many_need_none(field)
+}
+
+// The same of any length.
+#[inline(always)]
+fn put_and_look(text: &mut [u8], at: usize, field: &[u8]) -> bool
+    requires fits { at + length field.now ≤ length text.old }
+    ensures none { OnTrue result (NeedNone field.now 0 (length field.now)) }
+    ensures text { take (at + length field.now) text.new ≡ take at text.old ++ field.now }
+{
+    match field.len() {
+        0..4 => put_up_to_three(text, at, field),
+        4..8 => put_up_to_eight(text, at, field),
+        8..=16 => put_up_to_sixteen(text, at, field),
+        _ => put_many(text, at, field),
     }
 }
 
-/// Whether a field needs no quotes.
+/// Writes a field from `at` on, and says whether it needs no quotes.
 #[inline(always)]
-pub fn needs_no_quotes(field: &[u8]) -> bool
-    ensures { OnTrue result (needs_quotes default_writer field.now ≡ false) }
+pub fn put_if_unquoted(text: &mut [u8], at: usize, field: &[u8]) -> bool
+    requires fits { at + length field.now ≤ length text.old }
+    ensures none { OnTrue result (needs_quotes default_writer field.now ≡ false) }
+    ensures front { take at text.new ≡ take at text.old }
+    ensures text { take (at + length field.now) text.new ≡ take at text.old ++ field.now }
 {
-    if field.len() <= 16 {
-        up_to_sixteen_need_none(field)
-    } else {
-        many_need_none(field)
-    }
+    put_and_look(text, at, field)
 }
