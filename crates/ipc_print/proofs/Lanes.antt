@@ -93,7 +93,7 @@ module _ {X : Type 0} (numbers : X → List (List ℕ)) where
         lent.same i h ∙ take_all count (slice_index_or rows i []) (omega (arith, size));
   }
 
-  got_map : (columns : List X) (row i : ℕ) (x d : X) → i < length columns → x ≡ get_or columns i d
+  pub got_map : (columns : List X) (row i : ℕ) (x d : X) → i < length columns → x ≡ get_or columns i d
       → slice_get (row_in numbers columns row) i ≡ Some (number_in (slice_index_or (numbers x) row []))
   got_map [] row i x d inside is = absurd (omega (arith, inside))
   got_map (y ∷ ys) row zero x d inside is = ap (λ (c : X). Some (number_in (slice_index_or (numbers c) row []))) (sym is)

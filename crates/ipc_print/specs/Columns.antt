@@ -8,6 +8,8 @@ use Rattle.ipc_model.specs.declared.schema.IntBits.TheVariants.{B64}
 use Rattle.ipc_model.specs.declared.schema.Field.{Field, out-Field}
 use Rattle.ipc_model.specs.declared.value.Value.{Value}
 use Rattle.ipc_model.specs.declared.value.Value.TheVariants.{Int}
+use Rattle.csv.specs.Writing.{default_writer, row_text}
+use Rattle.ipc_print.specs.Rows.{cell_text}
 
 -- a column of signed 64-bit numbers, without a dictionary (Schema.fbs, table Int)
 pub record IsShownColumn (f : Field) : Type 0 where
@@ -22,6 +24,10 @@ AreShownColumns fields = AllByRecursion IsShownColumn fields
 -- Order")
 abbrev pub number_in : List ℕ → Value
 number_in bytes = Int (cast_signed w64 (from_le_bytes w64 bytes))
+
+-- a record of CSV of signed numbers (RFC 4180)
+abbrev pub number_record : List Value → List ℕ
+number_record row = row_text default_writer (map cell_text row)
 
 module _ {X : Type 0} (numbers : X → List (List ℕ)) where
   -- the numbers that columns have in a row

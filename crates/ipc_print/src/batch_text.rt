@@ -2,6 +2,7 @@
 ghost use Rattle.std.specs.Prelude.{◌≡◌, ◌≢◌, ◌≤◌, ◌<◌, [], length, take, Bool, IfErr, IfOk};
 ghost use Rattle.std.specs.Prelude.{slice_index_or, IsTrue, None};
 ghost use Rattle.ipc_moments.specs.declared.fault.TextFault.TheVariants.{OutOfMemory};
+ghost use Rattle.ipc_csv.specs.RowCsv.{flat_fault};
 ghost use Rattle.ipc_print.specs.Columns.{AreShownColumns};
 ghost use Rattle.ipc_print.specs.Forms as spec;
 ghost use Rattle.ipc_print.specs.Forms.{HasLine, Lacks, form_fault, head_of, pairs_line};
@@ -12,7 +13,7 @@ ghost use Rattle.ipc_print.specs.Rows.{AreShownRows};
 use crate::csv_row::csv_line;
 use crate::form::Form;
 use crate::json_row::json_line;
-use crate::rows::{Lines, PrintFault};
+use crate::rows::{Lines, PrintFault, numbers_of};
 use crate::types::are_numbers;
 use ipc_column::Batch;
 use ipc_json::pairs_json;
@@ -100,6 +101,40 @@ fn line_of_pairs(alloc: Global, pairs: &[(Text, Text)]) -> Result<Vec<u8>, TextF
     Ok(line)
 }
 
+// Whether rows of these columns are printed as records of numbers.
+fn is_recorded(form: Form, fields: &[Field]) -> bool
+    ensures form { IsTrue result → form ≡ Form.Records }
+    ensures shown { IsTrue result → AreShownColumns fields.now }
+{
+    matches!(form, Form::Records) && are_numbers(fields)
+}
+
+// Adds the rows of a batch of numbers as records of CSV: at once where each column lends its
+// numbers.
+fn print_records<W: Sink>(
+    alloc: Global,
+    fields: &[Field],
+    batch: &Batch,
+    lines: &mut Lines,
+    sink: &mut W,
+) -> Result<Option<TextFault>, PrintFault>
+    requires columns { batch.now.columns ≡ length fields.now }
+    requires fits { flat_fault fields.now ≡ None }
+    requires shown { AreShownColumns fields.now }
+    ensures { PutsRows Form.Records fields.now [] batch.now.rows
+        (output (W.written sink.old) (W.failures sink.old) lines.old) (W.written sink.new)
+        (W.failures sink.new) lines.new result }
+{
+    let _columns = batch.columns();
+    match numbers_of(alloc, batch)? {
+        Some(columns) => {
+            lines.put_records(sink, &columns, batch)?;
+            Ok(None)
+        }
+        None => print_lines(alloc, Form::Records, fields, batch, lines, sink),
+    }
+}
+
 // Adds what stands in front of a batch's rows.
 fn print_head<W: Sink>(
     alloc: Global,
@@ -143,6 +178,9 @@ fn print_rows<W: Sink>(
         let _columns = batch.columns();
         lines.put_numbers(alloc, sink, batch)?;
         return Ok(None);
+    }
+    if is_recorded(form, fields) {
+        return print_records(alloc, fields, batch, lines, sink);
     }
     print_lines(alloc, form, fields, batch, lines, sink)
 }

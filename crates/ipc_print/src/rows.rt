@@ -5,7 +5,7 @@ ghost use Rattle.std.specs.Prelude.{slice_index_or, IfErr, IfOk, IfSome, MatchRe
 ghost use Rattle.std.specs.Fmt.{signed_decimal};
 ghost use Rattle.std.specs.Int.{cast_signed, from_le_bytes, w64};
 ghost use Rattle.ipc_column.specs.Values.{cell_value};
-ghost use Rattle.ipc_print.specs.Columns.{AreLent, row_in, AreLong};
+ghost use Rattle.ipc_print.specs.Columns.{AreLent, row_in, AreLong, number_record};
 ghost use Rattle.ipc_print.specs.Output.{PrintsAs, PrintsAt, output};
 ghost use Rattle.ipc_print.specs.Rows.{AreShownRows, IsShown, cell_text, closed, comma, line};
 ghost use Rattle.ipc_print.specs.Rows.{lines};
@@ -240,8 +240,11 @@ fn print_cells<W: Sink>(
     Ok(at)
 }
 
-// The numbers of each column, where there is a column and each lends its numbers.
-fn numbers_of<'a>(alloc: Global, batch: &'a Batch) -> Result<Option<Vec<&'a [[u8; 8]]>>, AllocError>
+/// The numbers of each column, where there is a column and each lends its numbers.
+pub(crate) fn numbers_of<'a>(
+    alloc: Global,
+    batch: &'a Batch,
+) -> Result<Option<Vec<&'a [[u8; 8]]>>, AllocError>
     ensures { IfOk result (λ lent. IfSome lent
         (λ columns. AreLent (λ c. c.now) columns.items batch.now.rows)) }
 {
@@ -340,6 +343,78 @@ fn print_numbers<W: Sink>(
     Ok(at)
 }
 
+// Prints a number from `start` on, behind a comma where it isn't the first, and returns where it
+// ends.
+#[inline(always)]
+fn print_next<W: Sink>(
+    sink: &mut W,
+    text: &mut [u8],
+    start: usize,
+    column: usize,
+    number: i64,
+) -> Result<usize, PrintFault>
+    requires start { start ≤ length text.old }
+    requires room { 32 ≤ length text.old }
+    ensures inside { IfOk result (λ end. end ≤ length text.new) }
+    ensures puts { PrintsAt (output (W.written sink.old) (W.failures sink.old)
+        (take start text.old)) (W.written sink.new) (W.failures sink.new) text.new
+        (comma column ++ signed_decimal number) result }
+{
+    let at = make_room(sink, text, start)?;
+    let at = put_comma(text, at, column);
+    Ok(put_i64(text, at, number))
+}
+
+// Prints a row of numbers as a record of CSV from `start` on, and returns where it ends.
+#[inline(always)]
+fn print_number_record<W: Sink>(
+    sink: &mut W,
+    text: &mut [u8],
+    start: usize,
+    columns: &[&[[u8; 8]]],
+    row: usize,
+) -> Result<usize, PrintFault>
+    requires some { 0 < length columns.now }
+    requires long { AreLong (λ c. c.now) columns.now (row + 1) }
+    requires start { start ≤ length text.old }
+    requires room { 32 ≤ length text.old }
+    ensures inside { IfOk result (λ end. end ≤ length text.new) }
+    ensures puts { PrintsAt (output (W.written sink.old) (W.failures sink.old)
+        (take start text.old)) (W.written sink.new) (W.failures sink.new) text.new
+        (number_record (row_in (λ c. c.now) columns.now row)) result }
+{
+    let mut at = start;
+    for (column, numbers) in columns.iter().enumerate() {
+        at = print_next(sink, text, at, column, number_at(numbers, row))?;
+    }
+    print_word(sink, text, at, b"\n")
+}
+
+// Prints the rows of a batch as records of CSV, given its columns' numbers, from `start` on, and
+// returns where the last one ends.
+#[inline(never)]
+fn print_number_records<W: Sink>(
+    sink: &mut W,
+    text: &mut [u8],
+    start: usize,
+    columns: &[&[[u8; 8]]],
+    batch: &Batch,
+) -> Result<usize, PrintFault>
+    requires lent { AreLent (λ c. c.now) columns.now batch.now.rows }
+    requires start { start ≤ length text.old }
+    requires room { 32 ≤ length text.old }
+    ensures inside { IfOk result (λ end. end ≤ length text.new) }
+    ensures puts { PrintsAt (output (W.written sink.old) (W.failures sink.old)
+        (take start text.old)) (W.written sink.new) (W.failures sink.new) text.new
+        (lines number_record batch.now.rows) result }
+{
+    let mut at = start;
+    for row in 0..batch.rows() {
+        at = print_number_record(sink, text, at, columns, row)?;
+    }
+    Ok(at)
+}
+
 // Prints the rows of a batch from `start` on, and returns where the last one ends.
 fn print_batch<W: Sink>(
     alloc: Global,
@@ -420,6 +495,24 @@ impl Lines {
             (W.written sink.new) (W.failures sink.new) self.new (lines line batch.now.rows) result }
     {
         self.at = print_batch(alloc, sink, &mut self.text, self.at, batch)?;
+        Ok(())
+    }
+
+    /// Adds each row of a batch, whose columns have these numbers, as a record of CSV. Full text
+    /// goes to the sink. `Write` is answered where the sink failed, and nothing else; then a
+    /// beginning of the records went out, and what was kept is lost.
+    pub fn put_records<W: Sink>(
+        &mut self,
+        sink: &mut W,
+        columns: &[&[[u8; 8]]],
+        batch: &Batch,
+    ) -> Result<(), PrintFault>
+        requires { AreLent (λ c. c.now) columns.now batch.now.rows }
+        ensures { PrintsAs (output (W.written sink.old) (W.failures sink.old) self.old)
+            (W.written sink.new) (W.failures sink.new) self.new
+            (lines number_record batch.now.rows) result }
+    {
+        self.at = print_number_records(sink, &mut self.text, self.at, columns, batch)?;
         Ok(())
     }
 
