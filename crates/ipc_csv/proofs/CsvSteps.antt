@@ -1,5 +1,6 @@
 -- One field of a record more.
-use Rattle.std.proofs.Common.{◌≡◌, ◌≢◌, ◌∙◌, ◌<◌, ◌+◌, ℕ, zero, suc, List, [], ◌∷◌, ◌++◌, length, take, set, drop, drop-cons, get_or, Some, None}
+use Rattle.std.proofs.Common.{◌≡◌, ◌≢◌, ◌∙◌, ◌<◌, ◌+◌, ℕ, zero, suc, List, [], ◌∷◌, ◌++◌, length, take, set, drop, drop-cons, get_or}
+use Rattle.std.proofs.Common.{Some, None}
 use Rattle.std.proofs.Common.{Result, Ok, Err, refl, sym, ap, subst, inl, inr, append_assoc, add-one, arith}
 use Rattle.std.specs.Prelude.{IfOk, IfErr, MatchResult}
 use Rattle.std.proofs.lemmas.List.{append-nil, length-set, take-set, take_more_set}
@@ -128,7 +129,8 @@ memory_alone number fs ts fault (inl memory) row h = memory
 memory_alone number fs ts fault (inr bad) row h = absurd (none_bad 0 fs ts row bad.0 h bad.2)
 
 -- the first values, of which the last was taken out of its place and put anew
-pub front_more : (row : List Value) (i : ℕ) (kept v : Value) → i < length row → take (i + 1) (set (set row i kept) i v) ≡ take i row ++ v ∷ []
+pub front_more : (row : List Value) (i : ℕ) (kept v : Value) → i < length row
+    → take (i + 1) (set (set row i kept) i v) ≡ take i row ++ v ∷ []
 front_more row i kept v inside =
     let size = length-set row i kept in
     take_more_set (set row i kept) i v (omega (arith, size, inside)) ∙ ap (λ l. l ++ v ∷ []) (take-set row i kept)

@@ -1,6 +1,7 @@
 -- Rows of signed 64-bit numbers as records of CSV.
 use Rattle.std.proofs.Common.{◌≡◌, ◌∙◌, refl, sym, ap, subst, ℕ, suc, ◌+◌, ◌<◌, ◌==◌, List, [], ◌∷◌, ◌++◌, length, map, take, drop}
-use Rattle.std.proofs.Common.{Option, Some, None, Result, Ok, Err, true, false, FitsSigned, if◌then◌else◌, w64, append_assoc, append-nil, take-append-drop, arith}
+use Rattle.std.proofs.Common.{Option, Some, None, Result, Ok, Err, true, false, FitsSigned, if◌then◌else◌, w64, append_assoc, append-nil}
+use Rattle.std.proofs.Common.{take-append-drop, arith}
 use Rattle.std.specs.Prelude.{ℤ, pos, negsuc, decimal, slice_get, slice_index_or}
 use Rattle.std.specs.List.{AllByRecursion}
 use Rattle.std.specs.Fmt.{signed_decimal}
@@ -45,7 +46,8 @@ fields_append : (ts us : List (List ℕ)) → fields (ts ++ us) ≡ fields ts ++
 unfolding fields_text
 fields_append [] us = refl
 fields_append (t ∷ ts) us =
-    ap (λ (x : List ℕ). 44 ∷ (field t ++ x)) (fields_append ts us) ∙ ap (λ (x : List ℕ). 44 ∷ x) (sym (append_assoc (field t) (fields ts) (fields us)))
+    ap (λ (x : List ℕ). 44 ∷ (field t ++ x)) (fields_append ts us)
+    ∙ ap (λ (x : List ℕ). 44 ∷ x) (sym (append_assoc (field t) (fields ts) (fields us)))
 
 one_field : (u : List ℕ) → fields (u ∷ []) ≡ 44 ∷ field u
 unfolding fields_text
@@ -82,7 +84,8 @@ module _ (row : List Value) where
       let size : length (texts c) ≡ c = length-map (take c row) cell_text ∙ length-take-le c row (omega (arith, inside)) in
       let plain : field (cell_text (Int z)) ≡ signed_decimal z = ap field (int_text z) ∙ signed_as_it_stands z fits in
       let last : take c row ++ Int z ∷ [] ≡ take (c + 1) row =
-      ap (λ (w : Value). take c row ++ w ∷ []) (sym (get_or_from_slice_get row c (Int z) (Int z) at)) ∙ sym (take_more row c (Int z) inside) in
+      ap (λ (w : Value). take c row ++ w ∷ []) (sym (get_or_from_slice_get row c (Int z) (Int z) at))
+      ∙ sym (take_more row c (Int z) inside) in
       ap (λ (x : List ℕ). body (texts c) ++ (comma c ++ x)) (sym plain)
       ∙ (ap (λ (n : ℕ). body (texts c) ++ (comma n ++ field (cell_text (Int z)))) (sym size)
       ∙ (body_push (texts c) (cell_text (Int z))
@@ -135,7 +138,8 @@ module _ (row : List Value) where
 
   -- the line feed behind all numbers
   pub record_ends : (a b : Output) (w : Option (List ℕ)) (n c : ℕ) (kept : List ℕ) (r : Result ℕ PrintFault) → length row ≡ c
-      → 0 < length (body (texts c)) → Puts a b (body (texts c)) → PrintsAt b w n kept (10 ∷ []) r → PrintsAt a w n kept (number_record row) r
+      → 0 < length (body (texts c)) → Puts a b (body (texts c)) → PrintsAt b w n kept (10 ∷ []) r
+      → PrintsAt a w n kept (number_record row) r
   record_ends a b w n c kept (Ok end) size some p q =
       put_at a (output w n (take end kept)) _ _ (not_blank c size some)
       (puts_then a b (output w n (take end kept)) (body (texts c)) (10 ∷ []) p q)
@@ -162,7 +166,8 @@ module _ {X : Type 0} (numbers : X → List (List ℕ)) (i : ℕ) where
 row_has : {X : Type 0} (numbers : X → List (List ℕ)) (columns : List X) (fs : List Field) (row : List Value) (i : ℕ) → flat_fault fs ≡ None
     → AreShownColumns fs → length row ≡ length fs → row_in numbers columns i ≡ row → row_csv fs row ≡ Ok (number_record row)
 row_has numbers columns fs row i flat shown size is =
-    let wide : length columns ≡ length fs = sym (length-map columns (λ c. number_in (slice_index_or (numbers c) i []))) ∙ (ap length is ∙ size) in
+    let wide : length columns ≡ length fs =
+    sym (length-map columns (λ c. number_in (slice_index_or (numbers c) i []))) ∙ (ap length is ∙ size) in
     let whole : row_texts fs row ≡ Ok (map cell_text row) =
     subst (λ (r : List Value). row_texts fs r ≡ Ok (map cell_text r)) is (all_numbers numbers i 0 fs columns shown wide) in
     rw (flat, whole) refl
