@@ -10,6 +10,8 @@ mod limits;
 #[cfg(test)]
 mod pieces;
 #[cfg(test)]
+mod pushed;
+#[cfg(test)]
 mod streams;
 #[cfg(test)]
 mod tables;
