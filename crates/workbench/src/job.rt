@@ -1,5 +1,6 @@
 //! What a command line asks for.
 use crate::column::Kind;
+use crate::pushed::Data;
 use std::env::Args;
 
 /// What is to be done.
@@ -22,6 +23,15 @@ pub enum Job {
         rows: u32,
         /// How many times it is checked.
         times: u32,
+    },
+    /// Writes a stream of rows that are pushed one by one.
+    PushRows {
+        /// What the rows hold.
+        data: Data,
+        /// How many batches there are.
+        batches: u32,
+        /// How many rows each of them has.
+        rows: u32,
     },
     /// Pushes standard input in pieces.
     Push {
@@ -51,6 +61,11 @@ fn named(name: &str, words: &mut Args) -> Option<Job> {
             kind: Kind::of(words.next()?.as_str())?,
             rows: number(words)?,
             times: number(words)?,
+        },
+        "push-rows" => Job::PushRows {
+            data: Data::of(words.next()?.as_str())?,
+            batches: number(words)?,
+            rows: number(words)?,
         },
         "push" => Job::Push {
             size: number(words)?,

@@ -22,7 +22,8 @@ fn field(alloc: Global, name: &str) -> Result<Field, AllocError> {
     })
 }
 
-fn schema(alloc: Global) -> Result<Schema, AllocError> {
+/// The schema of four columns.
+pub fn schema(alloc: Global) -> Result<Schema, AllocError> {
     let mut fields = Vec::with_capacity(alloc, NAMES.len())?;
     for name in NAMES {
         fields.push(field(alloc, name)?)?;
@@ -33,8 +34,8 @@ fn schema(alloc: Global) -> Result<Schema, AllocError> {
     })
 }
 
-// A row of numbers that are spread over all lengths.
-fn row(alloc: Global, number: u32) -> Result<Row, AllocError> {
+/// A row of numbers that are spread over all lengths.
+pub fn row(alloc: Global, number: u32) -> Result<Row, AllocError> {
     let mut values = Vec::with_capacity(alloc, NAMES.len())?;
     let mut value = i64::from(number);
     for _ in NAMES {
