@@ -1,5 +1,6 @@
 ghost use Rattle.std.specs.Prelude.{◌≡◌, ◌≤◌, ◌<◌, length, true, false, List, [], IfOk, IfErr};
-ghost use Rattle.std.specs.Prelude.{IfSome, is_some, MatchResult, OnOk, Some, slice_get, slice_index_or};
+ghost use Rattle.std.specs.Prelude.{IfSome, is_some, MatchResult, OnOk, Some, slice_get};
+ghost use Rattle.std.specs.Prelude.{slice_index_or};
 ghost use Rattle.std.specs.List.{AllByRecursion};
 ghost use Rattle.ipc_model.specs.declared.value.Value.{Value};
 ghost use Rattle.ipc_model.specs.Entries.{entries};

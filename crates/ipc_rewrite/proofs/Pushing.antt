@@ -1,5 +1,6 @@
 -- A batch's rows that are pushed one by one, and sent.
-use Rattle.std.proofs.Common.{◌≡◌, ◌∙◌, refl, sym, ap, subst, ℕ, ◌+◌, ◌<◌, ◌++◌, ◌∷◌, List, [], take, length, Option, Result, Ok, Err, false}
+use Rattle.std.proofs.Common.{◌≡◌, ◌∙◌, refl, sym, ap, subst, ℕ, ◌+◌, ◌<◌, ◌++◌, ◌∷◌, List, [], take, length, Option, Result, Ok}
+use Rattle.std.proofs.Common.{Err, false}
 use Rattle.std.specs.Prelude.{slice_index_or, MatchResult, OnOk}
 use Rattle.std.proofs.lemmas.Bool.{false≢true}
 use Rattle.std.proofs.lemmas.List.{take_more}

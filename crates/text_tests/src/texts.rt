@@ -17,8 +17,8 @@ const FLAT: &str = "{\"fields\":[\
 \"type\":[\"utf8\"]},\
 {\"children\":0,\"dictionary\":null,\"metadata\":[],\"name\":\"day\",\"nullable\":true,\
 \"type\":[\"date\",\"day\"]},\
-{\"children\":0,\"dictionary\":null,\"metadata\":[[\"a\",\"\"]],\"name\":\"raw\",\"nullable\":false,\
-\"type\":[\"fixed_size_binary\",2]},\
+{\"children\":0,\"dictionary\":null,\"metadata\":[[\"a\",\"\"]],\"name\":\"raw\",\
+\"nullable\":false,\"type\":[\"fixed_size_binary\",2]},\
 {\"children\":0,\"dictionary\":null,\"metadata\":[],\"name\":\"at\",\"nullable\":true,\
 \"type\":[\"timestamp\",\"us\",\"UTC\"]}],\
 \"metadata\":[[\"k\",\"v\"]]}";
