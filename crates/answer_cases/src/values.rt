@@ -72,6 +72,7 @@ pub fn write_type<W: fmt::Write>(f: &mut fmt::Formatter<W>, kind: &DataType) -> 
         DataType::Timestamp { unit, timezone } => write_timestamp(f, *unit, timezone),
         DataType::Duration(unit) => write!(f, "duration({})", unit_text(*unit)),
         DataType::List => f.write_str("list"),
+        DataType::FixedSizeList(size) => write!(f, "fixed_size_list({size})"),
         DataType::Struct => f.write_str("struct"),
     }
 }

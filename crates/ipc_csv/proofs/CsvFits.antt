@@ -12,6 +12,7 @@ use Rattle.ipc_csv.specs.CsvRows.{StandsFor, ReadsAs}
 -- what a text stands for has no values inside it
 inner_fits : (kind : DataType) (fs : List Field) (text : List ℕ) (w : Value-F Value) → StandsFor kind text w → InnerFit Fits kind fs w
 inner_fits t.List (f ∷ fs) text (Value-F.List vs) s = absurd cc
+inner_fits (t.FixedSizeList size) (f ∷ fs) text (Value-F.List vs) s = absurd cc
 inner_fits t.Struct fs text (Value-F.Struct vs) s = absurd cc
 inner_fits _ [] text w s = tt
 inner_fits _ (f ∷ fs) text w s = tt

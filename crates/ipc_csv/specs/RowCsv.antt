@@ -71,6 +71,7 @@ IsRefusal wanted fault = (fault ≡ OutOfMemory) ⊎ (wanted ≡ Err fault)
 -- whether a type has other values inside its own
 abbrev pub is_nested : DataType → Bool
 is_nested t.List = true
+is_nested (t.FixedSizeList size) = true
 is_nested t.Struct = true
 is_nested t.Null = false
 is_nested t.Bool = false

@@ -163,7 +163,7 @@ fn read_own(
     ensures refused { IfErr result (λ fault. fault ≡ TextFault.OutOfMemory) }
 {
     match kind {
-        DataType::Null | DataType::List | DataType::Struct => Ok(None),
+        DataType::Null | DataType::List | DataType::FixedSizeList(_) | DataType::Struct => Ok(None),
         DataType::Bool => Ok(read_truth(text).map(Value::Bool)),
         DataType::Int { signed: false, .. } => Ok(read_count(text).map(Value::UInt)),
         DataType::Utf8 => read_chars(alloc, text, kept),

@@ -274,7 +274,10 @@ fn push_values(out: &mut Vec<u8>, fields: &[Field], row: &[Value]) -> Result<(),
 fn is_nested(kind: &DataType) -> bool
     ensures { result ≡ spec.is_nested kind.now }
 {
-    matches!(kind, DataType::List | DataType::Struct)
+    matches!(
+        kind,
+        DataType::List | DataType::FixedSizeList(_) | DataType::Struct
+    )
 }
 
 fn has_nested(fields: &[Field]) -> bool

@@ -206,6 +206,7 @@ time_fits u.Nanosecond z h = let from = h.0 in let to = h.1 in (omega (arith, in
 pub held : (kind : DataType) (nullable : Bool) (n : ℕ) (w : Value-F Value) → is_supported_type kind ≡ true → IsOwn kind nullable n w
     → Known (type_layout kind) w → Holds (type_layout kind) w
 held t.List nullable n w o h m = absurd (cc)
+held (t.FixedSizeList size) nullable n w o h m = absurd (cc)
 held t.Struct nullable n w o h m = absurd (cc)
 held t.Null nullable n Value-F.Null o h m = tt
 held t.Null nullable n _ o h m = absurd h

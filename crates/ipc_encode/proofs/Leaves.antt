@@ -30,6 +30,7 @@ pub record IsFlat (f : Field) : Type 0 where
 
 no_children : (kind : DataType) (n : ℕ) → is_supported_type kind ≡ true → HasFittingChildren kind n → n ≡ 0
 no_children t.List n o h = absurd (cc)
+no_children (t.FixedSizeList size) n o h = absurd (cc)
 no_children t.Struct n o h = absurd (cc)
 no_children t.Null n o h = h
 no_children t.Bool n o h = h

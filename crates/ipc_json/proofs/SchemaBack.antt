@@ -68,6 +68,7 @@ type_back (t.Timestamp unit zone) good =
     with_two_back (codes "timestamp") _ _ (string_back 0 (unit_name unit)) (text_or_null_back 0 zone)
 type_back (t.Duration unit) good = with_one_back (codes "duration") _ (string_back 0 (unit_name unit))
 type_back t.List good = alone_back (codes "list")
+type_back (t.FixedSizeList size) good = with_one_back (codes "fixed_size_list") _ (unsigned_back 0 size (omega (arith, good)))
 type_back t.Struct good = alone_back (codes "struct")
 
 deeper : {n m : ℕ} (d : Data) → n ≤ m → IsBack n d → IsBack m d

@@ -65,6 +65,7 @@ type_json (t.Timestamp unit zone) =
     named (codes "timestamp") (string (unit_name unit) ∷ text_or_null zone ∷ [])
 type_json (t.Duration unit) = named (codes "duration") (string (unit_name unit) ∷ [])
 type_json t.List = named (codes "list") []
+type_json (t.FixedSizeList size) = named (codes "fixed_size_list") (number (unsigned size) ∷ [])
 type_json t.Struct = named (codes "struct") []
 
 -- a field's dictionary (Schema.fbs, table DictionaryEncoding): its id, the type of its indices, and

@@ -127,6 +127,9 @@ fn put_type(out: &mut Writer, kind: &DataType) -> Result<(), AllocError>
         DataType::Timestamp { unit, timezone } => put_timestamp(out, *unit, timezone),
         DataType::Duration(unit) => put_name_and_text(out, "duration", unit_name(*unit)),
         DataType::List => put_name(out, "list"),
+        DataType::FixedSizeList(size) => {
+            put_name_and_number(out, "fixed_size_list", u64::from(*size))
+        }
         DataType::Struct => put_name(out, "struct"),
     }
 }

@@ -116,6 +116,10 @@ fn sized_type(name: &str, size: u64) -> Option<DataType>
             Ok(size) => Some(DataType::FixedSizeBinary(size)),
             Err(_) => None,
         },
+        "fixed_size_list" => match u32::try_from(size) {
+            Ok(size) => Some(DataType::FixedSizeList(size)),
+            Err(_) => None,
+        },
         _ => None,
     }
 }

@@ -19,7 +19,7 @@ use Rattle.ipc_model.specs.declared.schema.DataType.TheVariants as type
 use Rattle.ipc_model.specs.declared.schema.DateUnit.TheVariants as date
 use Rattle.ipc_meta.specs.Lifts.{lift}
 use Rattle.ipc_meta.specs.Tables.{ok_or, unit_of, int_at, fixed_at, date_at, timestamp_at, type_of, type_in, is_type_code, code_at, type_at}
-use Rattle.ipc_meta.specs.Tables.{time_at, duration_at}
+use Rattle.ipc_meta.specs.Tables.{fixed_list_at, time_at, duration_at}
 use Rattle.ipc_meta.proofs.Sound.{bind_ok, lift_ok}
 use Rattle.ipc_meta.proofs.Refused.{choose}
 
@@ -35,19 +35,32 @@ stated_small : (b : List ℕ) (o : Option ℕ) (n : ℕ) → or_default (int32 b
 stated_small b None n h = let e : 0 ≡ n = cc in omega (arith, e)
 stated_small b (Some p) n h = signed_small _ n h
 
-fixed_good : (t : TableView) (κ : DataType) → (lift (scalar t 0 4 int32 (pos 0)) >>= fixed_at) ≡ Ok κ → HasGoodType κ
+-- a number of 32 bits that a table states in its first field is not above the greatest, where it isn't negative
+stated : (t : TableView) (n : ℕ) → scalar t 0 4 int32 (pos 0) ≡ Ok (pos n) → n ≤ 2 ^ 31 - 1
 unfolding scalar
+stated t n i = within (slot_of t.bytes t.at 0 4) i
+  where
+    within : (r : Result (Option ℕ) FlatFault) → (r flat_then (λ o. Ok (or_default (int32 t.bytes) (pos 0) o))) ≡ Ok (pos n)
+        → n ≤ 2 ^ 31 - 1
+    within (Ok o) e = stated_small t.bytes o n (cc)
+    within (Err d) e = absurd (cc)
+
+fixed_good : (t : TableView) (κ : DataType) → (lift (scalar t 0 4 int32 (pos 0)) >>= fixed_at) ≡ Ok κ → HasGoodType κ
 fixed_good t κ h =
     let w = bind_ok (lift (scalar t 0 4 int32 (pos 0))) _ κ h in
     go w.0 (lift_ok (scalar t 0 4 int32 (pos 0)) w.0 w.1) w.2
   where
-    stated : (r : Result (Option ℕ) FlatFault) (n : ℕ) → (r flat_then (λ o. Ok (or_default (int32 t.bytes) (pos 0) o))) ≡ Ok (pos n)
-        → n ≤ 2 ^ 31 - 1
-    stated (Ok o) n e = stated_small t.bytes o n (cc)
-    stated (Err d) n e = absurd (cc)
-
     go : (z : ℤ) → scalar t 0 4 int32 (pos 0) ≡ Ok z → fixed_at z ≡ Ok κ → HasGoodType κ
-    go (pos n) i e = let same : type.FixedSizeBinary n ≡ κ = cc in subst HasGoodType same (stated (slot_of t.bytes t.at 0 4) n i)
+    go (pos n) i e = let same : type.FixedSizeBinary n ≡ κ = cc in subst HasGoodType same (stated t n i)
+    go (negsuc n) i e = absurd (cc)
+
+fixed_list_good : (t : TableView) (κ : DataType) → (lift (scalar t 0 4 int32 (pos 0)) >>= fixed_list_at) ≡ Ok κ → HasGoodType κ
+fixed_list_good t κ h =
+    let w = bind_ok (lift (scalar t 0 4 int32 (pos 0))) _ κ h in
+    go w.0 (lift_ok (scalar t 0 4 int32 (pos 0)) w.0 w.1) w.2
+  where
+    go : (z : ℤ) → scalar t 0 4 int32 (pos 0) ≡ Ok z → fixed_list_at z ≡ Ok κ → HasGoodType κ
+    go (pos n) i e = let same : type.FixedSizeList n ≡ κ = cc in subst HasGoodType same (stated t n i)
     go (negsuc n) i e = absurd (cc)
 
 -- a type that is no fixed width is of a good width
@@ -95,9 +108,10 @@ type_good code t κ h =
     choose (code == 12) _ _ _ h (λ i h. other_good κ type.List tt (cc)) (λ n12 h.
     choose (code == 13) _ _ _ h (λ i h. other_good κ type.Struct tt (cc)) (λ n13 h.
     choose (code == 15) _ _ _ h (λ i h. fixed_good t κ h) (λ n15 h.
-    choose (code == 18) _ _ _ h (λ i h. duration_good t κ h) (λ n18 h. absurd (cc)))))))))))))
+    choose (code == 16) _ _ _ h (λ i h. fixed_list_good t κ h) (λ n16 h.
+    choose (code == 18) _ _ _ h (λ i h. duration_good t κ h) (λ n18 h. absurd (cc))))))))))))))
 
--- a type that a Field table states is a good one: no fixed width of it is above 2^31 - 1
+-- a type that a Field table states is a good one: no fixed width or size of it is above 2^31 - 1
 pub good_type : (t : TableView) (κ : DataType) → type_at t ≡ Ok κ → HasGoodType κ
 unfolding type_at
 good_type t κ h =

@@ -42,15 +42,18 @@ is_false false h = refl
 
 good_test : (κ : DataType) → has_good_type κ ≡ false → HasGoodType κ → ⊥
 good_test (t.FixedSizeBinary n) h good = let fits : nat_le n (2 ^ 31 - 1) ≡ true = grind (arith, nat_tests) in cc
+good_test (t.FixedSizeList n) h good = let fits : nat_le n (2 ^ 31 - 1) ≡ true = grind (arith, nat_tests) in cc
 good_test _ h good = cc
 
 fitting_test : (κ : DataType) (n : ℕ) → has_fitting_children κ n ≡ false → HasFittingChildren κ n → ⊥
 fitting_test t.List n h fit = let is = (Decides-eqb n 1).1 fit in cc
+fitting_test (t.FixedSizeList size) n h fit = let is = (Decides-eqb n 1).1 fit in cc
 fitting_test t.Struct n h fit = cc
 fitting_test _ n h fit = let is = (Decides-eqb n 0).1 fit in cc
 
 leaf_test : (κ : DataType) → is_leaf κ ≡ false → IsLeaf κ → ⊥
 leaf_test t.List h leaf = leaf
+leaf_test (t.FixedSizeList n) h leaf = leaf
 leaf_test t.Struct h leaf = leaf
 leaf_test _ h leaf = cc
 

@@ -14,13 +14,13 @@ use Rattle.ipc_model.specs.declared.fault.Fault.{Fault}
 use Rattle.ipc_model.specs.declared.fault.Fault.TheVariants as f
 use Rattle.ipc_meta.specs.Lifts.{lift}
 use Rattle.ipc_meta.specs.Tables.{flag_at, bits_of, ok_or, unit_of, int_at, date_at, fixed_at, timestamp_at, type_of, type_in, is_type_code}
-use Rattle.ipc_meta.specs.Tables.{time_in, time_at, duration_at}
+use Rattle.ipc_meta.specs.Tables.{fixed_list_at, time_in, time_at, duration_at}
 use Rattle.ipc_meta.specs.Tables.{code_at, type_at, index_in, index_at, dictionary_in, dictionary_at}
 use Rattle.ipc_meta.specs.Reached as r
 use Rattle.ipc_meta.specs.Reached.{Kind, schema, column, type_value, dictionary_encoding, index_type, number, tables, LooksAt, HasTable}
 use Rattle.ipc_meta.specs.Reached.{Element}
 use Rattle.ipc_meta.specs.Causes.{Cause, IsNoType, other_width, other_date_unit, other_time_unit, negative_width, no_table, no_type}
-use Rattle.ipc_meta.specs.Causes.{other_time_of_day_unit, other_time_of_day_width, other_duration_unit}
+use Rattle.ipc_meta.specs.Causes.{negative_size, other_time_of_day_unit, other_time_of_day_width, other_duration_unit}
 use Rattle.ipc_meta.proofs.Sound.{lift_ok}
 use Rattle.ipc_meta.proofs.Refused.{step, choose, bad_number, bad_flag, bad_table, bad_value, bad_text}
 use Rattle.ipc_model.specs.declared.limits.Limits.{Limits}
@@ -49,6 +49,10 @@ date_refused (negsuc n) e h = (cc, (λ i. cc, λ i. cc))
 fixed_refused : (z : ℤ) (e : Fault) → fixed_at z ≡ Err e → (f.BadType ≡ e) × (int_lt z (pos 0) ≡ true)
 fixed_refused (pos n) e h = absurd (cc)
 fixed_refused (negsuc n) e h = (cc, refl)
+
+fixed_list_refused : (z : ℤ) (e : Fault) → fixed_list_at z ≡ Err e → (f.BadType ≡ e) × (int_lt z (pos 0) ≡ true)
+fixed_list_refused (pos n) e h = absurd (cc)
+fixed_list_refused (negsuc n) e h = (cc, refl)
 
 timestamp_refused : (limits : Limits) (b : List ℕ) (t : TableView) (e : Fault) → HasTable b (type_value 10) t → timestamp_at t ≡ Err e
     → (f.BadType ≡ e → IsNoType 10 t → Cause limits b e) → Cause limits b e
@@ -94,10 +98,11 @@ duration_refused limits b t e has h bad =
 -- one code that a type has
 type_code_is : (code : ℕ) → is_type_code code ≡ true → (code == 1) ≡ false → (code == 2) ≡ false → (code == 4) ≡ false → (code == 5) ≡ false
     → (code == 6) ≡ false → (code == 8) ≡ false → (code == 9) ≡ false
-    → (code == 10) ≡ false → (code == 12) ≡ false → (code == 13) ≡ false → (code == 15) ≡ false → (code == 18) ≡ false → ⊥
+    → (code == 10) ≡ false → (code == 12) ≡ false → (code == 13) ≡ false → (code == 15) ≡ false → (code == 16) ≡ false
+    → (code == 18) ≡ false → ⊥
 unfolding is_type_code
-type_code_is code h n1 n2 n4 n5 n6 n8 n9 n10 n12 n13 n15 n18 =
-    let none : false ≡ true = rw (n1, n2, n4, n5, n6, n8, n9, n10, n12, n13, n15, n18) at h in cc
+type_code_is code h n1 n2 n4 n5 n6 n8 n9 n10 n12 n13 n15 n16 n18 =
+    let none : false ≡ true = rw (n1, n2, n4, n5, n6, n8, n9, n10, n12, n13, n15, n16, n18) at h in cc
 
 type_of_refused : (limits : Limits) (b : List ℕ) (code : ℕ) (t : TableView) (e : Fault) → is_type_code code ≡ true
     → HasTable b (type_value code) t
@@ -122,8 +127,12 @@ type_of_refused limits b code t e known has h =
     (bad_number limits b (type_value 15) t 0 4 int32 (pos 0) e (at 15 i) r.byte_width)
     (λ z j h. let p = fixed_refused z e h in bad 15 i p.0 (negative_width (z, lift_ok (scalar t 0 4 int32 (pos 0)) z j, p.1))))
     (λ n15 h.
+    choose (code == 16) _ _ _ h (λ i h. step (lift (scalar t 0 4 int32 (pos 0))) _ e h
+    (bad_number limits b (type_value 16) t 0 4 int32 (pos 0) e (at 16 i) r.list_size)
+    (λ z j h. let p = fixed_list_refused z e h in bad 16 i p.0 (negative_size (z, lift_ok (scalar t 0 4 int32 (pos 0)) z j, p.1))))
+    (λ n16 h.
     choose (code == 18) _ _ _ h (λ i h. duration_refused limits b t e (at 18 i) h (bad 18 i))
-    (λ n18 h. absurd (type_code_is code known n1 n2 n4 n5 n6 n8 n9 n10 n12 n13 n15 n18)))))))))))))
+    (λ n18 h. absurd (type_code_is code known n1 n2 n4 n5 n6 n8 n9 n10 n12 n13 n15 n16 n18))))))))))))))
   where
     at : (n : ℕ) → (code == n) ≡ true → HasTable b (type_value n) t
     at n i = let same : code ≡ n = eqb-true code n i in subst (λ k. HasTable b (type_value k) t) same has

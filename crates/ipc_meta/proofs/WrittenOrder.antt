@@ -59,6 +59,7 @@ type_in_order (t.Timestamp unit None) = (omega arith, omega arith, tt, tt)
 type_in_order (t.Timestamp unit (Some zone)) = (omega arith, omega arith, tt, (omega arith, omega arith, tt, tt))
 type_in_order (t.Time unit) = (omega arith, omega arith, tt, (omega arith, omega arith, tt, tt))
 type_in_order (t.Duration unit) = (omega arith, omega arith, tt, tt)
+type_in_order (t.FixedSizeList n) = (omega arith, omega arith, tt, tt)
 type_in_order t.List = tt
 type_in_order t.Struct = tt
 

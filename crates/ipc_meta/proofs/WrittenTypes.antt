@@ -27,7 +27,7 @@ use Rattle.ipc_build.specs.Encodes.{EncodesTable, HasField}
 use Rattle.ipc_meta.specs.Lifts.{lift}
 use Rattle.ipc_meta.specs.Tables.{bits_of, ok_or, int_at, fixed_at, date_at, unit_of, timestamp_at, type_of, type_in, is_type_code}
 use Rattle.ipc_meta.specs.Tables.{when_type, code_at, type_at, flag_at, index_in, index_at, dictionary_in, dictionary_at}
-use Rattle.ipc_meta.specs.Tables.{time_in, time_at, duration_at}
+use Rattle.ipc_meta.specs.Tables.{fixed_list_at, time_in, time_at, duration_at}
 use Rattle.ipc_meta.specs.Written.{int_tree, date_code, time_code, type_tree, dictionary_tree}
 use Rattle.ipc_model.specs.TypeCodes.{type_code}
 use Rattle.ipc_meta.proofs.Standing.{tab, Holds, scalar_there, field_there, field_absent, table_there}
@@ -59,6 +59,12 @@ fixed_there : (b : List ℕ) (u n p : ℕ) → slot_of b u 0 4 ≡ Ok (Some p) �
 fixed_there b u n p s e h =
     ap (λ (r : Result ℤ FlatFault). lift r >>= fixed_at) (scalar_there b u 0 4 p int32 (pos 0) s)
     ∙ (ap fixed_at e ∙ ap fixed_at (to_z_pos w32 (omega (arith, h))))
+
+fixed_list_there : (b : List ℕ) (u n p : ℕ) → slot_of b u 0 4 ≡ Ok (Some p) → int32 b p ≡ cast_signed w32 n → n ≤ 2 ^ 31 - 1
+    → (lift (scalar (tab b u) 0 4 int32 (pos 0)) >>= fixed_list_at) ≡ Ok (t.FixedSizeList n)
+fixed_list_there b u n p s e h =
+    ap (λ (r : Result ℤ FlatFault). lift r >>= fixed_list_at) (scalar_there b u 0 4 p int32 (pos 0) s)
+    ∙ (ap fixed_list_at e ∙ ap fixed_list_at (to_z_pos w32 (omega (arith, h))))
 
 date_read : (unit : DateUnit) → date_at (date_code unit) ≡ Ok (t.Date unit)
 date_read date.Day = refl
@@ -135,6 +141,7 @@ type_table b u (t.Int bits signed) g h =
 type_table b u t.Binary g h = refl
 type_table b u t.Utf8 g h = refl
 type_table b u (t.FixedSizeBinary n) g h = let place = h.lies.0 in fixed_there b u n place.0 place.1.0 place.3 g
+type_table b u (t.FixedSizeList n) g h = let place = h.lies.0 in fixed_list_there b u n place.0 place.1.0 place.3 g
 type_table b u (t.Date unit) g h = let place = h.lies.0 in date_there b u place.0 unit place.1.0 place.3
 type_table b u (t.Timestamp unit zone) g h = timestamp_there b u unit zone h
 type_table b u (t.Time unit) g h = time_there b u unit h
@@ -150,6 +157,7 @@ coded (t.Int bits signed) = refl
 coded t.Binary = refl
 coded t.Utf8 = refl
 coded (t.FixedSizeBinary n) = refl
+coded (t.FixedSizeList n) = refl
 coded (t.Date unit) = refl
 coded (t.Timestamp unit timezone) = refl
 coded (t.Time unit) = refl

@@ -40,9 +40,10 @@ pub data HasNoHeader (b : List ℕ) : Type 0 where
   absent : Has b message (λ t. field t 2 table_from ≡ Ok None) → HasNoHeader b
   no_data : Has b dictionary_batch (λ t. field t 1 table_from ≡ Ok None) → HasNoHeader b
 
--- a type's table with this code in union Type has a width or a unit that no type has, or a time's
--- has another width than its unit's (Schema.fbs, tables Int, Date, Time, Timestamp, FixedSizeBinary
--- and Duration; Null, Binary, Utf8, Bool, List and Struct_ have no fields)
+-- a type's table with this code in union Type has a width, a size or a unit that no type has, or a
+-- time's has another width than its unit's (Schema.fbs, tables Int, Date, Time, Timestamp,
+-- FixedSizeBinary, FixedSizeList and Duration; Null, Binary, Utf8, Bool, List and Struct_ have no
+-- fields)
 pub data IsNoType : ℕ → TableView → Type 0 where
   other_width : {v : TableView} → Is (scalar v 0 4 int32 (pos 0)) (λ width. bits_of width ≡ None)
       → IsNoType 2 v
@@ -58,6 +59,8 @@ pub data IsNoType : ℕ → TableView → Type 0 where
       → IsNoType 10 v
   negative_width : {v : TableView}
       → Is (scalar v 0 4 int32 (pos 0)) (λ width. int_lt width (pos 0) ≡ true) → IsNoType 15 v
+  negative_size : {v : TableView}
+      → Is (scalar v 0 4 int32 (pos 0)) (λ size. int_lt size (pos 0) ≡ true) → IsNoType 16 v
   other_duration_unit : {v : TableView}
       → Is (scalar v 0 2 int16 (pos 1)) (λ unit. unit_of unit ≡ None) → IsNoType 18 v
 

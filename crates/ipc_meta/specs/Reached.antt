@@ -61,6 +61,7 @@ pub data LooksAt : Kind → ℕ → Held → Type 0 where
   time_unit : LooksAt (type_value 10) 0 (number 2)
   timezone : LooksAt (type_value 10) 1 text
   byte_width : LooksAt (type_value 15) 0 (number 4)
+  list_size : LooksAt (type_value 16) 0 (number 4)
   duration_unit : LooksAt (type_value 18) 0 (number 2)
   dictionary_id : LooksAt dictionary_encoding 0 (number 8)
   indices : LooksAt dictionary_encoding 1 table

@@ -27,6 +27,7 @@ is_supported_type (t.Timestamp unit timezone) = true
 is_supported_type (t.Time unit) = true
 is_supported_type (t.Duration unit) = true
 is_supported_type t.List = false
+is_supported_type (t.FixedSizeList size) = false
 is_supported_type t.Struct = false
 
 -- a field's type with its dictionary: columns without a dictionary are read

@@ -72,6 +72,11 @@ abbrev pub fixed_at : ℤ → Result DataType Fault
 fixed_at (pos n) = Ok (t.FixedSizeBinary n)
 fixed_at (negsuc n) = Err BadType
 
+-- Schema.fbs, table FixedSizeList, 0 listSize: this many values, which is not negative
+abbrev pub fixed_list_at : ℤ → Result DataType Fault
+fixed_list_at (pos n) = Ok (t.FixedSizeList n)
+fixed_list_at (negsuc n) = Err BadType
+
 -- Schema.fbs, table Date, 0 unit: enum DateUnit, DAY is 0 and MILLISECOND 1
 abbrev pub date_at : ℤ → Result DataType Fault
 date_at (pos n) = if n == 0 then Ok (t.Date date.Day) else
@@ -108,8 +113,8 @@ duration_at v = lift (scalar v 0 2 int16 (pos 1)) >>= λ u. ok_or BadType (unit_
     >>= λ u. Ok (t.Duration u)
 
 -- Schema.fbs, union Type: Null 1, Int 2, Binary 4, Utf8 5, Bool 6, Date 8 (its unit is MILLISECOND
--- where absent), Time 9, Timestamp 10, List 12, Struct_ 13, FixedSizeBinary 15, Duration 18; other
--- codes are not read
+-- where absent), Time 9, Timestamp 10, List 12, Struct_ 13, FixedSizeBinary 15, FixedSizeList 16,
+-- Duration 18; other codes are not read
 unfoldable pub type_of : ℕ → TableView → Result DataType Fault
 type_of code v =
     if code == 1 then Ok t.Null
@@ -123,8 +128,9 @@ type_of code v =
     else (if code == 12 then Ok t.List
     else (if code == 13 then Ok t.Struct
     else (if code == 15 then (lift (scalar v 0 4 int32 (pos 0)) >>= fixed_at)
+    else (if code == 16 then (lift (scalar v 0 4 int32 (pos 0)) >>= fixed_list_at)
     else (if code == 18 then duration_at v
-    else Err (UnsupportedType code))))))))))))
+    else Err (UnsupportedType code)))))))))))))
 
 -- a field without a table for its type has none
 abbrev pub type_in : ℕ → Option TableView → Result DataType Fault
@@ -141,7 +147,8 @@ is_type_code code =
     code == 1 || (code == 2 || (code == 4
     || (code == 5 || (code == 6
     || (code == 8 || (code == 9 || (code == 10
-    || (code == 12 || (code == 13 || (code == 15 || code == 18))))))))))
+    || (code == 12 || (code == 13 || (code == 15
+    || (code == 16 || code == 18)))))))))))
 
 -- what is read where the code is such a type's
 abbrev pub when_type : {X : Type 0} → ℕ → Result X Fault → Result X Fault

@@ -95,6 +95,7 @@ time_tree unit =
 abbrev pub type_tree : DataType → Tree
 type_tree (t.Int bits sign) = int_tree bits sign
 type_tree (t.FixedSizeBinary n) = with_signed 0 w32 (cast_signed w32 n) none
+type_tree (t.FixedSizeList n) = with_signed 0 w32 (cast_signed w32 n) none
 type_tree (t.Date unit) = with_signed 0 w16 (date_code unit) none
 type_tree (t.Timestamp unit timezone) = with_signed 0 w16 (time_code unit) (with_timezone timezone)
 type_tree (t.Time unit) = time_tree unit

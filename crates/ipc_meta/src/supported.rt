@@ -21,7 +21,7 @@ fn is_supported(kind: &DataType, dictionary: Option<Dictionary>) -> bool
             | DataType::Timestamp { .. }
             | DataType::Time(_)
             | DataType::Duration(_) => true,
-            DataType::List | DataType::Struct => false,
+            DataType::List | DataType::FixedSizeList(_) | DataType::Struct => false,
         }
 }
 
@@ -54,7 +54,7 @@ fn unsupported_in(fields: &[Field]) -> Option<u8>
 }
 
 /// Whether columns of these fields, their descendants included, are read and written here: neither
-/// a list nor a struct, and without a dictionary (Schema.fbs, union Type and table
+/// a list of either kind nor a struct, and without a dictionary (Schema.fbs, union Type and table
 /// DictionaryEncoding). It takes no memory.
 pub fn are_supported(fields: &[Field]) -> bool
     ensures { result ≡ are_supported fields.now }

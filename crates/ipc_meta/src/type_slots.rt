@@ -72,8 +72,8 @@ pub(crate) fn type_slots(alloc: Global, kind: &DataType) -> Result<Slots, AllocE
 {
     match kind {
         DataType::Int { bits, signed } => int_slots(alloc, *bits, *signed),
-        DataType::FixedSizeBinary(width) => {
-            Ok(vec![in alloc; (0, Slot::I32(width.cast_signed()))]?)
+        DataType::FixedSizeBinary(size) | DataType::FixedSizeList(size) => {
+            Ok(vec![in alloc; (0, Slot::I32(size.cast_signed()))]?)
         }
         DataType::Date(unit) => Ok(vec![in alloc; (0, Slot::I16(date_number(*unit)))]?),
         DataType::Timestamp { unit, timezone } => timestamp_slots(alloc, *unit, timezone),

@@ -2,7 +2,7 @@ ghost use Rattle.std.specs.Prelude.{◌≡◌, ℤ, Ok, option_map, pos};
 ghost use Rattle.ipc_model.specs.Answers.{AnswersUnlessOutOfMemory};
 ghost use Rattle.ipc_model.specs.Entries.{kind_text};
 ghost use Rattle.ipc_meta.specs.Tables.{bits_of, unit_of, int_at, fixed_at, date_at, timestamp_at};
-ghost use Rattle.ipc_meta.specs.Tables.{time_at, duration_at};
+ghost use Rattle.ipc_meta.specs.Tables.{fixed_list_at, time_at, duration_at};
 ghost use Rattle.ipc_meta.specs.Tables.{type_of, is_type_code, type_at, code_at, flag_at, index_at};
 ghost use Rattle.ipc_meta.specs.Tables.{dictionary_in, dictionary_at, map_ok};
 ghost use Rattle.ipc_meta.specs.Reading.{type_read};
@@ -69,6 +69,16 @@ fn fixed_of(width: i32) -> Result<DataType, Fault>
         return Err(Fault::BadType);
     }
     Ok(DataType::FixedSizeBinary(width.unsigned_abs()))
+}
+
+// The type of lists of a fixed size (Schema.fbs, table FixedSizeList, listSize).
+fn fixed_list_of(size: i32) -> Result<DataType, Fault>
+    ensures { result ≡ fixed_list_at size }
+{
+    if size < 0 {
+        return Err(Fault::BadType);
+    }
+    Ok(DataType::FixedSizeList(size.unsigned_abs()))
 }
 
 // The type of dates (Schema.fbs, table Date, unit).
@@ -143,6 +153,7 @@ fn type_of(alloc: Global, code: u8, table: &TableRef<'_>) -> Result<DataType, Fa
         12 => Ok(DataType::List),
         13 => Ok(DataType::Struct),
         15 => fixed_of(lifted(table.scalar_i32(0, 0))?),
+        16 => fixed_list_of(lifted(table.scalar_i32(0, 0))?),
         18 => read_duration(table),
         _ => Err(Fault::UnsupportedType(code)),
     }
@@ -161,7 +172,10 @@ fn read_code(field: &TableRef<'_>) -> Result<u8, Fault>
 fn is_type_code(code: u8) -> bool
     ensures { result ≡ is_type_code code }
 {
-    matches!(code, 1 | 2 | 4 | 5 | 6 | 8 | 9 | 10 | 12 | 13 | 15 | 18)
+    matches!(
+        code,
+        1 | 2 | 4 | 5 | 6 | 8 | 9 | 10 | 12 | 13 | 15 | 16 | 18
+    )
 }
 
 // The type of a field (Schema.fbs, table Field, 2 and 3). A code that no type here has is

@@ -44,6 +44,7 @@ kind_text t.Utf8 = 0
 kind_text (t.FixedSizeBinary n) = 0
 kind_text (t.Date unit) = 0
 kind_text t.List = 0
+kind_text (t.FixedSizeList n) = 0
 kind_text t.Struct = 0
 
 -- the entry of a field at this depth

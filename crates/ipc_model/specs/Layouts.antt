@@ -35,6 +35,7 @@ type_layout (t.Timestamp unit timezone) = l.Numbers B64 true
 type_layout (t.Time unit) = l.Numbers (time_bits unit) true
 type_layout (t.Duration unit) = l.Numbers B64 true
 type_layout t.List = l.Unsupported
+type_layout (t.FixedSizeList size) = l.Unsupported
 type_layout t.Struct = l.Unsupported
 
 -- the layout of a field's slots

@@ -17,3 +17,4 @@ type_code (t.Duration unit) = 18
 type_code t.List = 12
 type_code t.Struct = 13
 type_code (t.FixedSizeBinary n) = 15
+type_code (t.FixedSizeList n) = 16

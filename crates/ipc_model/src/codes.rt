@@ -22,6 +22,7 @@ impl DataType {
             DataType::List => 12,
             DataType::Struct => 13,
             DataType::FixedSizeBinary(_) => 15,
+            DataType::FixedSizeList(_) => 16,
         }
     }
 }

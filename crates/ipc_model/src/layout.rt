@@ -62,7 +62,7 @@ fn type_layout(kind: &DataType) -> Layout
             bits: IntBits::B64,
             signed: true,
         },
-        DataType::List | DataType::Struct => Layout::Unsupported,
+        DataType::List | DataType::FixedSizeList(_) | DataType::Struct => Layout::Unsupported,
     }
 }
 

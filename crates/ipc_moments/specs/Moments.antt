@@ -90,6 +90,7 @@ moment_or other t.Binary z = other
 moment_or other t.Utf8 z = other
 moment_or other (t.FixedSizeBinary width) z = other
 moment_or other t.List z = other
+moment_or other (t.FixedSizeList size) z = other
 moment_or other t.Struct z = other
 
 -- the text of a number of this type that is a date, a time or a point in time, where it has one
