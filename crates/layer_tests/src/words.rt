@@ -3,7 +3,7 @@
 use ipc_build::BuildFault;
 use ipc_flat::FlatFault;
 use ipc_model::{
-    DataType, Dictionary, Fault, Field, IndexType, IntBits, Limits, RowCause, RowFault, Schema,
+    DataType, DateUnit, Dictionary, Fault, Field, IndexType, IntBits, Limits, RowCause, RowFault, Schema,
     SchemaFault, Text, Value, WriteFault, conforms,
 };
 use std::alloc::{AllocError, Global};
@@ -56,6 +56,15 @@ fn fault_below(alloc: Global) -> Result<Option<RowFault>, Fault> {
     fault_of(alloc, column, Value::Struct(values.into()))
 }
 
+// One number where each list has two.
+fn fault_of_a_length(alloc: Global) -> Result<Option<RowFault>, Fault> {
+    let number = Field::new(alloc, "number", DataType::Date(DateUnit::Day))?;
+    let children = vec![in alloc; number]?;
+    let column = Field::new(alloc, "pairs", DataType::FixedSizeList(2))?.with_children(children);
+    let values = vec![in alloc; Value::Int(1)]?;
+    fault_of(alloc, column, Value::List(values.into()))
+}
+
 #[test]
 fn faults_of_rows(rt: HostRuntime) -> Result<(), Fail> {
     let alloc = rt.alloc();
@@ -64,6 +73,8 @@ fn faults_of_rows(rt: HostRuntime) -> Result<(), Fail> {
     assert!(rt; prints(alloc, &fault.path, "0.0")?);
     assert!(rt; prints(alloc, &fault.at_row(7), "W3 WrongKind at row 7 path 0.0")?);
     assert!(rt; prints(alloc, &RowCause::NullNotAllowed, "W5 NullNotAllowed")?);
+    let fault = fault_of_a_length(alloc)?.ok_or("a refusal")?;
+    assert!(rt; prints(alloc, &fault, "W4 OutOfRange path 0")?);
     Ok(())
 }
 
