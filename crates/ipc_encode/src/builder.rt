@@ -21,6 +21,7 @@ use crate::column::Column;
 use crate::fault::PushFault;
 use crate::index::{IndexOf, Renumber};
 use crate::parts::{Draft, Parts, add_column};
+use crate::room::Room;
 use ipc_model::{Field, Items, Limits, Row, Value, WriteFault, layout_of};
 use std::alloc::{AllocError, Global};
 use std::mem;
@@ -35,15 +36,17 @@ pub struct Builder {
     rows: usize,
     limits: Limits,
     failed: bool,
+    // What it holds has no meaning; the body takes its room.
+    body: Vec<u8>,
 }
 
-// Columns of these fields without values.
-fn new_columns(alloc: Global, fields: &[Field]) -> Result<Vec<Column>, AllocError>
+// Columns of these fields without values, in this room.
+fn new_columns(alloc: Global, fields: &[Field], room: &mut Room) -> Result<Vec<Column>, AllocError>
     ensures { IfOk result (λ columns. AreColumns fields.now columns.items (λ j. [])) }
 {
     let mut columns = Vec::with_capacity(alloc, fields.len())?;
     for field in fields {
-        columns.push(Column::new(alloc, layout_of(&field.kind, field.dictionary))?)?;
+        columns.push(room.next_column(alloc, layout_of(&field.kind, field.dictionary))?)?;
     }
     Ok(columns)
 }
@@ -73,21 +76,21 @@ fn check_len_with(
     row: &[Value],
     null: &Value,
     limits: &Limits,
-) -> Result<(), WriteFault>
+) -> Result<(), PushFault>
     requires { null.now ≡ Null }
     ensures within { (fields : List Field) (rows : List (List Value))
         → AreColumns fields columns.now (λ j. cells j rows)
         → OnOk result (¬ IsTooLong limits.now fields (rows ++ row.now ∷ [])) }
     ensures refused { (fields : List Field) (rows : List (List Value))
         → AreColumns fields columns.now (λ j. cells j rows)
-        → IfErr result (λ fault. (fault ≡ WriteFault.TooLong)
+        → IfErr result (λ fault. (fault ≡ PushFault.TooLong)
         × IsTooLong limits.now fields (rows ++ row.now ∷ [])) }
 {
     let mut left = limits.body;
     for (index, column) in columns.iter().enumerate() {
         match column.len_with(value_at(row, index, null), left) {
             Some(len) => left -= len,
-            None => return Err(WriteFault::TooLong),
+            None => return Err(PushFault::TooLong),
         }
     }
     Ok(())
@@ -123,16 +126,17 @@ fn push_rows(columns: &mut [Column], rows: &[Row]) -> Result<(), PushFault>
     Ok(())
 }
 
-// The nodes and the buffers of the columns.
-fn join(alloc: Global, columns: &[Column]) -> Result<Draft, AllocError>
+// The nodes and the buffers of the columns. The body takes the room of a list.
+fn join(alloc: Global, columns: &[Column], mut body: Vec<u8>) -> Result<Draft, AllocError>
     ensures { (fields : List Field) (rows : List (List Value))
         → AreColumns fields columns.now (λ j. cells j rows)
         → IfOk result (IsDrafted fields rows) }
 {
+    body.clear();
     let mut draft = Draft {
         nodes: Vec::with_capacity(alloc, columns.len())?,
         buffers: Vec::new(alloc),
-        body: Vec::new(alloc),
+        body,
     };
     for column in columns {
         add_column(&mut draft, column)?;
@@ -149,13 +153,30 @@ impl Builder {
         ensures rows { IfOk result (HasRows limits.now fields.now []) }
         ensures refused { IfErr result (IsRefused limits.now fields.now []) }
     {
-        let columns = new_columns(alloc, fields)?;
+        Builder::with_room(alloc, fields, limits, Room::new(alloc))
+    }
+
+    /// No rows of these fields, in the room of a batch that was finished before. Its rows are none
+    /// of this one's.
+    ///
+    /// Refused as `new` is.
+    pub fn with_room(
+        alloc: Global,
+        fields: &[Field],
+        limits: &Limits,
+        mut room: Room,
+    ) -> Result<Builder, WriteFault>
+        ensures rows { IfOk result (HasRows limits.now fields.now []) }
+        ensures refused { IfErr result (IsRefused limits.now fields.now []) }
+    {
+        let columns = new_columns(alloc, fields, &mut room)?;
         check_len(&columns, limits)?;
         Ok(Builder {
             columns,
             rows: 0,
             limits: *limits,
             failed: false,
+            body: room.into_body(),
         })
     }
 
@@ -172,7 +193,7 @@ impl Builder {
         if rows.len() > limits.slots as usize {
             return Err(WriteFault::TooManyRows);
         }
-        let mut columns = new_columns(alloc, fields)?;
+        let mut columns = new_columns(alloc, fields, &mut Room::new(alloc))?;
         push_rows(&mut columns, rows)?;
         check_len(&columns, limits)?;
         Ok(Builder {
@@ -180,6 +201,7 @@ impl Builder {
             rows: rows.len(),
             limits: *limits,
             failed: false,
+            body: Vec::new(alloc),
         })
     }
 
@@ -220,7 +242,8 @@ impl Builder {
         if self.is_full() {
             return Err(WriteFault::TooManyRows);
         }
-        check_len_with(&self.columns, row, &Value::Null, &self.limits)
+        check_len_with(&self.columns, row, &Value::Null, &self.limits)?;
+        Ok(())
     }
 
     /// Takes one row more. The caller has asked `fits`.
@@ -283,16 +306,19 @@ impl Builder {
         let Builder {
             columns,
             failed,
+            body,
             ..
         } = self;
         if failed {
             return Err(WriteFault::Failed);
         }
-        let draft = join(*columns.allocator(), &columns)?;
+        let alloc = *columns.allocator();
+        let draft = join(alloc, &columns, body)?;
         Ok(Parts {
             nodes: Items::from_vec(draft.nodes),
             buffers: Items::from_vec(draft.buffers),
             body: draft.body,
+            room: Room::of_columns(alloc, columns),
         })
     }
 }

@@ -12,8 +12,10 @@ mod index;
 mod lengths;
 mod parts;
 mod pushing;
+mod room;
 
 pub use batch::encode;
 pub use builder::Builder;
 pub use index::{IndexOf, NoIndices, Renumber, SameNumbers};
 pub use parts::Parts;
+pub use room::Room;

@@ -8,6 +8,7 @@ ghost use Rattle.ipc_encode.specs.Writing.{Adds};
 ghost use Rattle.ipc_encode.specs.Built.{IsColumn};
 
 use crate::column::Column;
+use crate::room::Room;
 use ipc_model::{Items, Layout};
 use std::alloc::AllocError;
 
@@ -22,6 +23,8 @@ pub struct Parts {
     pub buffers: Items<(i64, i64)>,
     /// The bytes of the buffers, each padded with zeros to a multiple of 8 bytes.
     pub body: Vec<u8>,
+    /// The lists of the columns, whose room `Builder::with_room` takes for the next batch.
+    pub room: Room,
 }
 
 /// A record batch as far as it is written.

@@ -134,23 +134,50 @@ fn push_value(
     }
 }
 
+// A column of this layout without values, over lists that may hold others.
+fn empty_column(
+    layout: Layout,
+    mut validity: Vec<u8>,
+    mut offsets: Vec<u8>,
+    mut values: Vec<u8>,
+) -> Result<Column, AllocError>
+    ensures { IfOk result (IsColumn layout []) }
+{
+    validity.clear();
+    offsets.clear();
+    values.clear();
+    if let Layout::VariableBytes { .. } = layout {
+        offsets.extend_from_slice(&0u32.to_le_bytes())?;
+    }
+    Ok(Column {
+        layout,
+        slots: 0,
+        nulls: 0,
+        validity,
+        offsets,
+        values,
+    })
+}
+
 impl Column {
     /// A column of this layout without values.
     pub(crate) fn new(alloc: Global, layout: Layout) -> Result<Column, AllocError>
         ensures { IfOk result (IsColumn layout []) }
     {
-        let mut offsets = Vec::new(alloc);
-        if let Layout::VariableBytes { .. } = layout {
-            offsets.extend_from_slice(&0u32.to_le_bytes())?;
-        }
-        Ok(Column {
-            layout,
-            slots: 0,
-            nulls: 0,
-            validity: Vec::new(alloc),
+        empty_column(layout, Vec::new(alloc), Vec::new(alloc), Vec::new(alloc))
+    }
+
+    /// A column of this layout without values, in the room of this one.
+    pub(crate) fn emptied(self, layout: Layout) -> Result<Column, AllocError>
+        ensures { IfOk result (IsColumn layout []) }
+    {
+        let Column {
+            validity,
             offsets,
-            values: Vec::new(alloc),
-        })
+            values,
+            ..
+        } = self;
+        empty_column(layout, validity, offsets, values)
     }
 
     /// Takes one value more. After a refusal the column is of no use.

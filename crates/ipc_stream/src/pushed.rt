@@ -7,7 +7,7 @@ ghost use Rattle.ipc_stream.specs.Writing.{IsWritable, RefusesBatch};
 ghost use Rattle.ipc_stream.specs.Pushed.{HoldsBatch, RefusesHeld, no_rows, with_row};
 
 use crate::messages::batch_message;
-use ipc_encode::{Builder, NoIndices};
+use ipc_encode::{Builder, NoIndices, Room};
 use ipc_model::{BatchRows, Items, Limits, Schema, Text, Value, WriteFault, conforms};
 use std::alloc::Global;
 
@@ -21,13 +21,14 @@ pub struct PushedRows {
 }
 
 impl PushedRows {
-    // No rows, with these pairs. The message of this batch is made and let go, so that what is too
-    // long whatever the rows is refused here.
+    // No rows, with these pairs, in the room of a batch that was sent. The message of this batch is
+    // made and let go, so that what is too long whatever the rows is refused here.
     pub(crate) fn new(
         alloc: Global,
         limits: &Limits,
         schema: &Schema,
         pairs: Items<(Text, Text)>,
+        room: Room,
     ) -> Result<PushedRows, WriteFault>
         requires { IsWritable limits.now schema.now }
         ensures holds { IfOk result (HoldsBatch limits.now schema.now (no_rows pairs)) }
@@ -40,7 +41,7 @@ impl PushedRows {
         };
         batch_message(alloc, limits, schema, &batch)?;
         Ok(PushedRows {
-            builder: Builder::new(alloc, schema.fields.as_slice(), limits)?,
+            builder: Builder::with_room(alloc, schema.fields.as_slice(), limits, room)?,
             pairs: batch.pairs,
         })
     }

@@ -10,8 +10,8 @@ pub loop-column-init : goal.loop-column-init
 loop-column-init c = λ fields rows h.
     record {
       nodes = ap (λ (ns : List (ℤ × ℤ)). ns ++ nodes_from 0 fields rows) c.in_ok-with_capacity.ensures.items;
-      ranged = rw (c.new.ensures.items, c.new-2.ensures.items) refl;
-      bytes = ap (λ (bs : List ℕ). bs ++ body_of fields rows) c.new-2.ensures.items;
+      ranged = rw (c.new.ensures.items, c.clear.ensures.items) refl;
+      bytes = ap (λ (bs : List ℕ). bs ++ body_of fields rows) c.clear.ensures.items;
     }
 
 pub loop-column-preserved : goal.loop-column-preserved

@@ -11,4 +11,4 @@ loop-field-preserved c =
       ← c.field-item.is,
       c.in_ok-push.ensures.items,
     ) (columns_push _ c.loop-field.columns.items c.field-item.result _ c.loop-field.invariant
-    (laid_as _ _ [] c.layout_of.ensures c.in_ok-new.ensures))
+    (laid_as _ _ [] c.layout_of.ensures c.in_ok-next_column.ensures))

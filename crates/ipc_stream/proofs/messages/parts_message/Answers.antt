@@ -1,11 +1,9 @@
 use Rattle.std.proofs.Common.{◌≡◌, ◌∙◌, ◌++◌, sym, ap, subst, List, ℕ, length, ◌<◌, ◌≤◌, of_z, arith}
 use Rattle.std.specs.Prelude.{pos, ℤ}
 use Rattle.std.specs.Int.{w64, cast_signed}
-use Rattle.std.proofs.lemmas.Result.{IfOk-weaker}
 use Rattle.ipc_meta.specs.declared.head.Head.TheVariants as h
 use Rattle.ipc_meta.specs.declared.head.BatchHead.{BatchHead}
 use Rattle.ipc_meta.specs.Heads.{HeadOf}
-use Rattle.ipc_meta.specs.Rooms.{long_body}
 use Rattle.ipc_column.specs.Rows.{Rows}
 use Rattle.ipc_frame.specs.Written.{padded_metadata}
 use Rattle.ipc_frame.proofs.Written.{length-padded_metadata}
@@ -17,29 +15,22 @@ returns-clause-message c = λ s values found.
     let pairs = c.args.pairs.now in
     let parts = c.args.parts in
     let of_length : ℤ → BatchHead = λ z. record { length = z; nodes = parts.nodes; buffers = parts.buffers } in
-    let body : c.deref-2.result.now ≡ parts.body.items = c.deref-2.ensures.value in
-    let size : c.len.result ≡ length c.deref-2.result.now = c.len.ensures ∙ sym c.deref-2.ensures.len in
+    let len = length c.as_slice.result.now in
+    let size : len ≡ length parts.body.items = ap length c.as_slice.ensures.value in
     let states = subst (λ (m : List ℕ). (rest : List ℕ)
-    → HeadOf c.args.limits.now (m ++ rest) (h.Batch (of_length (cast_signed w64 (of_z w64 c.cast_signed.result))) pairs) c.len.result)
+    → HeadOf c.args.limits.now (m ++ rest) (h.Batch (of_length (cast_signed w64 (of_z w64 c.cast_signed.result))) pairs) len)
     (sym c.deref.ensures.value) c.in_ok-meta.ensures.states in
     let short : length (padded_metadata c.deref.result.now) ≤ c.args.limits.now.metadata =
     omega (arith, length-padded_metadata c.deref.result.now, ap length c.deref.ensures.value, c.in_ok-meta.ensures.short) in
     let count = signed_count c.args.count (few_slots c.args.limits.now c.args.count found.lengths.batch) in
     let signed : cast_signed w64 (of_z w64 c.cast_signed.result) ≡ pos c.args.count =
     ap (λ (z : ℤ). cast_signed w64 (of_z w64 z)) (c.cast_signed.ensures ∙ count) ∙ count in
-    IfOk-weaker c.message.result _ _
-    (λ x framed. adds c.deref.result.now c.deref-2.result.now x.items (λ head stated. framed c.args.limits.now head short stated)
+    adds c.deref.result.now parts.body.items _
+    (λ head stated. c.in_ok-front.ensures.framed c.args.limits.now head parts.body.items short stated)
     s (of_length (pos c.args.count)) (record { pairs = pairs; rows = values })
     (subst (λ (n : ℕ). (rest : List ℕ)
     → HeadOf c.args.limits.now (c.deref.result.now ++ rest) (h.Batch (of_length (pos c.args.count)) pairs) n)
     size
-    (subst (λ (z : ℤ). (rest : List ℕ) → HeadOf c.args.limits.now (c.deref.result.now ++ rest) (h.Batch (of_length z) pairs) c.len.result)
+    (subst (λ (z : ℤ). (rest : List ℕ) → HeadOf c.args.limits.now (c.deref.result.now ++ rest) (h.Batch (of_length z) pairs) len)
     signed states))
-    (subst (λ (b : List ℕ). Rows c.args.limits.now s.fields (of_length (pos c.args.count)) b values) (sym body) found))
-    c.message.ensures.framed
-
-pub message-requires-clause-short_body : goal.message-requires-clause-short_body
-message-requires-clause-short_body c =
-    let size : c.len.result ≡ length c.deref-2.result.now = c.len.ensures ∙ sym c.deref-2.ensures.len in
-    let inside : ¬ (c.args.limits.now.body < c.len.result) = λ l. c.in_ok-meta.ensures.room (long_body l) in
-    omega (arith, size, inside, c.args.limits.now.body_fits)
+    found

@@ -4,7 +4,7 @@ use Rattle.ipc_model.specs.declared.fault.WriteFault.{WriteFault}
 use Rattle.ipc_encode.specs.declared.column.Column.{Column}
 use Rattle.ipc_encode.specs.Built.{AreColumns}
 use Rattle.ipc_encode.specs.Limits.{IsRefused}
-use Rattle.ipc_encode.proofs.builder.Builder.new.Goals as goal
+use Rattle.ipc_encode.proofs.builder.Builder.with_room.Goals as goal
 
 pub returns-in_err-check_len-clause-refused : goal.returns-in_err-check_len-clause-refused
 returns-in_err-check_len-clause-refused c =
