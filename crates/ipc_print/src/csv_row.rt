@@ -9,13 +9,13 @@ ghost use Rattle.ipc_csv.specs.RowCsv.{bool_text, null_text, put_texts, row_csv,
 ghost use Rattle.ipc_csv.specs.RowCsv.{with_field};
 
 use crate::fields::{
-    put_bytes_field, put_end, put_moment_field, put_signed_field, put_text_field,
-    put_unsigned_field,
+    put_bytes_field, put_end, put_signed_field, put_text_field, put_unsigned_field,
 };
+use crate::moments;
 use crate::room::{put, reserve};
 use ipc_column::{Batch, Cell};
 use ipc_model::{DataType, Field};
-use ipc_moments::{TextFault, moment_text};
+use ipc_moments::TextFault;
 
 // More than a comma and any value but a text or bytes take.
 const ROOM: usize = 64;
@@ -50,10 +50,10 @@ fn put_moment(
         (moment_text kind.now number) (take end text.new.items)) }
     ensures refused { IfErr result (LacksText column (moment_text kind.now number)) }
 {
-    let Some(moment) = moment_text(kind, number) else {
-        return Err(TextFault::NoTextForm { column });
-    };
-    Ok(put_moment_field(text, at, &moment))
+    match moments::put_moment(text, at, kind, number) {
+        Some(end) => Ok(end),
+        None => Err(TextFault::NoTextForm { column }),
+    }
 }
 
 // A signed number of this type.
@@ -126,25 +126,17 @@ fn put_cell(
     }
 }
 
-// A value of a column of this type, behind a comma where it isn't the first.
+// Sees to the room of a value, and writes the comma in front of the column with this number.
 #[inline(always)]
-fn put_next(
-    text: &mut Vec<u8>,
-    start: usize,
-    column: usize,
-    kind: &DataType,
-    cell: Cell<'_>,
-) -> Result<usize, TextFault>
+fn start_field(text: &mut Vec<u8>, start: usize, column: usize) -> Result<usize, TextFault>
     requires { start ≤ length text.old.items }
-    ensures inside { IfOk result (λ end. end ≤ length text.new.items) }
-    ensures ok { IfOk result (λ end. Appended
-        (take start text.old.items ++ next_sep default_writer column)
-        (text_in kind.now (cell_value cell.entry)) (take end text.new.items)) }
-    ensures refused { IfErr result (LacksText column (text_in kind.now (cell_value cell.entry))) }
+    ensures room { IfOk result (λ at. at + 32 ≤ length text.new.items) }
+    ensures text { IfOk result (λ at. take at text.new.items
+        ≡ take start text.old.items ++ next_sep default_writer column) }
+    ensures refused { IfErr result (λ fault. fault ≡ TextFault.OutOfMemory) }
 {
     reserve(text, start, ROOM)?;
-    let at = put_comma(text, start, column);
-    put_cell(text, at, column as u64, kind, cell)
+    Ok(put_comma(text, start, column))
 }
 
 // The fields of a row of a batch with a column for each field, from the front of the buffer on.
@@ -164,7 +156,14 @@ fn put_cells(
 {
     let mut at = 0;
     for (column, field) in fields.iter().enumerate() {
-        at = put_next(text, at, column, &field.kind, batch.cell(row, column))?;
+        let place = start_field(text, at, column)?;
+        at = put_cell(
+            text,
+            place,
+            column as u64,
+            &field.kind,
+            batch.cell(row, column),
+        )?;
     }
     Ok(at)
 }

@@ -8,10 +8,9 @@ ghost use Rattle.ipc_csv.specs.RowCsv.{backslashed, with_field, Ended};
 
 use crate::digits::{put_signed, put_unsigned};
 use crate::hexadecimal::put_hexadecimal;
-use crate::room::{put, put_short, reserve};
+use crate::room::{put, reserve};
 use crate::unquoted::put_if_unquoted;
 use ipc_csv::{push_field, push_text};
-use ipc_moments::ShortText;
 use std::alloc::AllocError;
 
 // Appends a field behind the first `at` bytes, in quotes, and returns where it ends.
@@ -41,18 +40,6 @@ pub(crate) fn put_field(text: &mut Vec<u8>, at: usize, field: &[u8]) -> Result<u
         return Ok(at + field.len());
     }
     put_quoted(text, at, field)
-}
-
-// Writes the text of a date, a time or a point in time as a field of CSV from `at` on, and returns
-// where it ends.
-#[inline(always)]
-pub(crate) fn put_moment_field(text: &mut Vec<u8>, at: usize, moment: &ShortText) -> usize
-    requires { at + 32 ≤ length text.old.items }
-    ensures inside { result ≤ length text.new.items }
-    ensures text { take result text.new.items
-        ≡ with_field (take at text.old.items) moment.now }
-{
-    put_short(text, at, moment)
 }
 
 // Appends a text behind the first `at` bytes, with one more backslash in front.

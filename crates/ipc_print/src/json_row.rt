@@ -10,11 +10,11 @@ ghost use Rattle.ipc_json.specs.RowJson.{cell_json, each_json, int_json, row_tex
 
 use crate::digits::{put_signed, put_unsigned};
 use crate::hexadecimal::put_hexadecimal;
+use crate::moments::put_moment;
 use crate::room::{put, reserve};
-use crate::strings::{put_moment, put_string};
+use crate::strings::put_string;
 use ipc_column::{Batch, Cell};
 use ipc_model::{DataType, Field};
-use ipc_moments::moment_text;
 use std::alloc::AllocError;
 
 // More than a comma and any value but a text or bytes take.
@@ -64,8 +64,9 @@ fn put_int(text: &mut Vec<u8>, at: usize, kind: &DataType, number: i64) -> usize
     ensures text { take result text.new.items
         ≡ take at text.old.items ++ compact_text (int_json kind.now number) }
 {
-    match moment_text(kind, number) {
-        Some(moment) => put_moment(text, at, &moment),
+    let start = put(text, at, b"\"");
+    match put_moment(text, start, kind, number) {
+        Some(end) => put(text, end, b"\""),
         None => put_signed(text, at, number),
     }
 }
@@ -107,23 +108,16 @@ fn put_cell(
     }
 }
 
-// The value of a field, behind a comma where something stands before.
+// Sees to the room of a value, and writes a comma where something stands before it.
 #[inline(always)]
-fn put_item(
-    text: &mut Vec<u8>,
-    start: usize,
-    later: bool,
-    field: &Field,
-    cell: Cell<'_>,
-) -> Result<usize, AllocError>
+fn start_item(text: &mut Vec<u8>, start: usize, later: bool) -> Result<usize, AllocError>
     requires { start ≤ length text.old.items }
-    ensures inside { IfOk result (λ end. end ≤ length text.new.items) }
-    ensures text { IfOk result (λ end. take end text.new.items ≡ take start text.old.items
-        ++ comma_if later ++ compact_text (cell_json field.now (cell_value cell.entry))) }
+    ensures room { IfOk result (λ at. at + 34 ≤ length text.new.items) }
+    ensures text { IfOk result
+        (λ at. take at text.new.items ≡ take start text.old.items ++ comma_if later) }
 {
     reserve(text, start, ROOM)?;
-    let at = put_comma(text, start, later);
-    put_cell(text, at, field, cell)
+    Ok(put_comma(text, start, later))
 }
 
 // The cells of a row and the closing bracket.
@@ -145,7 +139,8 @@ fn put_cells(
     let mut at = start;
     let mut later = false;
     for (column, field) in fields.iter().enumerate() {
-        at = put_item(text, at, later, field, batch.cell(row, column))?;
+        let place = start_item(text, at, later)?;
+        at = put_cell(text, place, field, batch.cell(row, column))?;
         later = true;
     }
     reserve(text, at, 1)?;

@@ -9,6 +9,7 @@ mod fields;
 mod form;
 mod hexadecimal;
 mod json_row;
+mod moments;
 mod plain;
 mod printing;
 mod room;

@@ -48,6 +48,7 @@ fn print_rows<R: Source, W: Sink>(
                     return Ok(Outcome::Refused(fault));
                 }
                 tally = tally.with_batch(batch.rows());
+                stream.reuse(batch);
             }
             // The reader has an end now, so none is made up.
             Ok(None) => {

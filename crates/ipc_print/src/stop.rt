@@ -2,7 +2,6 @@
 
 ghost use Rattle.std.specs.Prelude.{◌≡◌};
 ghost use Rattle.ipc_stream.specs.Counts.{count_up};
-ghost use Rattle.ipc_print.specs.Streams.{stop_status};
 
 use ipc_model::{Fault, WriteFault};
 use ipc_moments::TextFault;
@@ -17,21 +16,6 @@ pub enum Stop {
     Write(WriteFault),
     /// What was read has no text.
     Text(TextFault),
-}
-
-impl Stop {
-    /// The exit status of a program that stopped so: 1 where the stream or a row is refused, 3
-    /// where the source or the sink failed, 4 where memory ran out.
-    pub fn exit_status(&self) -> u8
-        ensures { result ≡ stop_status self.now }
-    {
-        match self {
-            Stop::Read(fault, _) => fault.exit_status(),
-            Stop::Write(fault) => fault.exit_status(),
-            Stop::Text(TextFault::OutOfMemory) => WriteFault::OutOfMemory.exit_status(),
-            Stop::Text(_) => 1,
-        }
-    }
 }
 
 /// How many batches were read, and how many rows they have. A count stops at 2^64 - 1.

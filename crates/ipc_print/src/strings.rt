@@ -6,9 +6,8 @@ ghost use Rattle.std.specs.Char.{digit_char};
 ghost use Rattle.json.specs.Print.{escape, escape_byte, quoted};
 
 use crate::plain::put_if_plain;
-use crate::room::{put, put_short, reserve};
+use crate::room::reserve;
 use crate::rows::put_word;
-use ipc_moments::ShortText;
 use std::alloc::AllocError;
 
 fn hex_digit(number: u8) -> u8
@@ -81,18 +80,6 @@ fn put_plain(text: &mut [u8], at: usize, chars: &[u8]) -> bool
     let plain = put_if_plain(text, start, chars);
     put_word(text, start + chars.len(), b"\"");
     plain
-}
-
-/// Writes the text of a date, a time or a point in time from `at` on, and returns where it ends.
-#[inline(always)]
-pub fn put_moment(text: &mut Vec<u8>, at: usize, moment: &ShortText) -> usize
-    requires { at + 34 ≤ length text.old.items }
-    ensures inside { result ≤ length text.new.items }
-    ensures text { take result text.new.items ≡ take at text.old.items ++ quoted moment.now }
-{
-    let at = put(text, at, b"\"");
-    let at = put_short(text, at, moment);
-    put(text, at, b"\"")
 }
 
 /// Writes a text of JSON from `at` on, and returns where it ends.

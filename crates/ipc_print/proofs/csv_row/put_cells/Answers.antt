@@ -1,4 +1,4 @@
-use Rattle.std.proofs.Common.{[], sym, ◌∙◌, refl}
+use Rattle.std.proofs.Common.{[], inl, sym, ◌∙◌, refl}
 use Rattle.std.specs.Prelude.{slice_index_or}
 use Rattle.std.proofs.lemmas.Result.{err_from_is_err_and}
 use Rattle.ipc_column.specs.Values.{cell_value}
@@ -11,10 +11,15 @@ pub returns-in_err-at-clause-refused : goal.returns-in_err-at-clause-refused
 returns-in_err-at-clause-refused c =
     let row = slice_index_or c.args.batch.now.rows c.args.row [] in
     let value = cell_value c.cell.result in
-    let p = err_from_is_err_and c.from_residual.result c.from_residual.ensures.1 in
+    let p = err_from_is_err_and c.from_residual-in_err-at.result c.from_residual-in_err-at.ensures.1 in
     rw (p.1, p.2) (cell_refused c.args.fields.now row c.loop-column.column c.index-fields-column.result value _ _ _ c.loop-column-test.true
     c.index-fields-column.is (got_inside row c.loop-column.column value c.cell.ensures) c.cell.ensures c.loop-column.invariant.text
     c.in_err-at.ensures.refused)
+
+pub returns-in_err-place-clause-refused : goal.returns-in_err-place-clause-refused
+returns-in_err-place-clause-refused c =
+    let p = err_from_is_err_and c.from_residual.result c.from_residual.ensures.1 in
+    rw (p.1, p.2) (inl c.in_err-place.ensures.refused)
 
 pub loop-column-preserved : goal.loop-column-preserved
 loop-column-preserved c =
@@ -24,7 +29,7 @@ loop-column-preserved c =
       inside = c.in_ok-at.ensures.inside;
       text = cell_appended c.args.fields.now row c.loop-column.column c.index-fields-column.result value _ _ _ _ c.loop-column-test.true
           c.index-fields-column.is (got_inside row c.loop-column.column value c.cell.ensures) c.cell.ensures c.loop-column.invariant.text
-          refl c.in_ok-at.ensures.ok;
+          c.in_ok-place.ensures.text c.in_ok-at.ensures.ok;
     }
 
 pub returns-clause-ok : goal.returns-clause-ok

@@ -9,5 +9,5 @@ loop-column-preserved c = record {
   inside = c.in_ok-at.ensures.inside;
   text = cell_written c.args.fields.now (slice_index_or c.args.batch.now.rows c.args.row []) c.loop-column.column
       c.index-fields-column.result (cell_value c.cell.result) c.loop-column.later _ _ _ c.loop-column-test.true c.index-fields-column.is
-      c.cell.ensures c.loop-column.invariant.text c.in_ok-at.ensures.text;
+      c.cell.ensures c.loop-column.invariant.text (rw c.in_ok-place.ensures.text at c.in_ok-at.ensures.text);
 }

@@ -40,11 +40,12 @@ loop-batch-preserved g c =
     let next = rw c.in-Ok-Some.field-0-is at c.in-Ok-Some.ensures.next in
     let is : c.fields-fields.result.now ≡ c.args.stream.now.schema.fields =
     c.fields-fields.ensures ∙ ap (λ (s : Schema). s.fields) (next.same_schema ∙ c.loop-batch.invariant.same) in
-    batches_more c.args.form _ _ _ _ _ _ c.loop-batch.invariant c.fields-fields.result.now (c.in-Ok-Some.batch, c.in-Ok-Some.pairs)
+    rw c.reuse.ensures
+    (batches_more c.args.form _ _ _ _ _ _ c.loop-batch.invariant c.fields-fields.result.now (c.in-Ok-Some.batch, c.in-Ok-Some.pairs)
     c.with_batch-tally.result
     (g.W.Sink.written c.print_batch.new.sink) (g.W.Sink.failures c.print_batch.new.sink) c.print_batch.new.lines
     c.with_batch-tally.ensures.batches (rw c.rows.ensures at c.with_batch-tally.ensures.rows) is next c.in-Ok-Some.ensures.failures
-    (rw (c.in_default.is, c.deref.ensures) at c.in_ok-refused-in-Ok-Some.ensures)
+    (rw (c.in_default.is, c.deref.ensures) at c.in_ok-refused-in-Ok-Some.ensures))
 
 pub returns-in-Ok-None-clause-prints : goal.returns-in-Ok-None-clause-prints
 returns-in-Ok-None-clause-prints g c =
