@@ -17,6 +17,7 @@ mod rows;
 mod texts;
 mod validate;
 mod values;
+mod visit;
 
 pub use batch::{Batch, one_list_of_rows};
-pub use cell::Cell;
+pub use cell::{Cell, ListCell, StructCell};
