@@ -110,7 +110,8 @@ child_range c children h n i j a b p = of_layout c.layout refl n
 pub slots_in_one : (c : Column) (children : Columns) (i j : ℕ) → AreSlots (column c children none) i j → j ≤ c.slots
 slots_in_one c children i j h = leb-true j c.slots (and_parts _ _ h.within).0
 
-pub own_in_one : (c : Column) (children : Columns) (i j : ℕ) → AreSlots (column c children none) i j → (why : Cause) → passes why c children ≡ true
+pub own_in_one : (c : Column) (children : Columns) (i j : ℕ) → AreSlots (column c children none) i j
+    → (why : Cause) → passes why c children ≡ true
 own_in_one c children i j h why = (and_parts _ _ (h.sound why)).0
 
 pub below_in_one : (c : Column) (children : Columns) (i j : ℕ) → AreSlots (column c children none) i j

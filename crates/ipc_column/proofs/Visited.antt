@@ -36,13 +36,15 @@ pub list_bytes : (body : List ℕ) (p : ColumnRanges) (i j k : ℕ) → AreSlots
     → (out-ColumnRanges p).layout ≡ l.Lists → 4 * (k + 1) ≤ length (own_column body p).offsets
 list_bytes body p i j k h m n e =
     let most = part_most body p i j h in
-    let parts = list_parts (own_column body p) (columns body (out-ColumnRanges p).children.items) (part_long body p i j h) e (omega arith) in
+    let parts = list_parts (own_column body p) (columns body (out-ColumnRanges p).children.items) (part_long body p i j h) e
+    (omega arith) in
     let bytes = parts.bytes in
     omega (arith, most, bytes)
 
 -- the slots that lists hold
 pub list_slots : (body : List ℕ) (p : ColumnRanges) (i j : ℕ) → AreSlots (one body p) i j → i < j → (out-ColumnRanges p).layout ≡ l.Lists
-    → AreSlots (columns body (out-ColumnRanges p).children.items) (place (own_column body p).offsets i) (place (own_column body p).offsets j)
+    → AreSlots (columns body (out-ColumnRanges p).children.items) (place (own_column body p).offsets i)
+    (place (own_column body p).offsets j)
 list_slots body p i j h m e =
     let nested : is_nested (own_column body p).layout ≡ true = ap is_nested e in
     subst (λ (x : Layout). AreSlots (columns body (out-ColumnRanges p).children.items) (child_slot x (own_column body p).offsets i)
@@ -145,7 +147,8 @@ pub texts_is : (body : List ℕ) (p : ColumnRanges)
 texts_is body p =
     ap (λ (x : Layout). is_texts x || (have_texts (children_of body p) || false)) (layout_is body p)
     ∙ (ap (λ (cs : Columns). is_texts (out-ColumnRanges p).layout || (have_texts cs || false)) (children_out body p)
-    ∙ ap (λ (b : Bool). is_texts (out-ColumnRanges p).layout || b) (or_false (have_texts (columns body (out-ColumnRanges p).children.items))))
+    ∙ ap (λ (b : Bool). is_texts (out-ColumnRanges p).layout || b)
+    (or_false (have_texts (columns body (out-ColumnRanges p).children.items))))
   where
     or_false : (a : Bool) → (a || false) ≡ a
     or_false true = refl

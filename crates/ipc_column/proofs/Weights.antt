@@ -92,8 +92,8 @@ below_add c children i j k own a b add =
               let z = below_is c.layout (weight children) c.offsets i k n in
               let all = slots_below c children i k own s n in
               let up = ordered n s in
-              let sum = add (child_slot c.layout c.offsets i) (child_slot c.layout c.offsets j) (child_slot c.layout c.offsets k) all up.0 up.1
-              in
+              let sum = add (child_slot c.layout c.offsets i) (child_slot c.layout c.offsets j) (child_slot c.layout c.offsets k) all
+              up.0 up.1 in
               omega (arith, x, y, z, sum)
           | inr s ↦
               let e : j ≡ i = omega arith in
@@ -126,7 +126,8 @@ weight_most (column c children rest) i j h =
     let own = own_most (is_visited c children) c.slots i j (slots_in_one c children i j parts.0) in
     let others = weight_most rest i j parts.1 in
     let below : weight_below c.layout (weight children) c.offsets i j ≤ visits_in children =
-    elim (is_nested c.layout) as (λ b. is_nested c.layout ≡ b → weight_below c.layout (weight children) c.offsets i j ≤ visits_in children) [
+    elim (is_nested c.layout) as (λ b. is_nested c.layout ≡ b
+    → weight_below c.layout (weight children) c.offsets i j ≤ visits_in children) [
       | true ↦ λ n. elim (cases_lt i j) as (λ _. weight_below c.layout (weight children) c.offsets i j ≤ visits_in children) [
         | inl s ↦
             let x = below_is c.layout (weight children) c.offsets i j n in

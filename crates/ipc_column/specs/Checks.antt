@@ -127,7 +127,8 @@ are_long _ n children = true
 abbrev pub all_slots : (ℕ → Bool) → ℕ → ℕ → Bool
 all_slots test i n = all_below (λ k. test (i + k)) n
 
--- what valid slot i holds is UTF-8 where it is a text; `below` tests a range of the children's slots
+-- what valid slot i holds is UTF-8 where it is a text; `below` tests a range of the children's
+-- slots
 abbrev pub good_below : Layout → (ℕ → ℕ → Bool) → List ℕ → List ℕ → ℕ → Bool
 good_below (l.VariableBytes true) below offsets values i = is_utf8 (between offsets values i)
 good_below l.Lists below offsets values i = below (place offsets i) (place offsets (i + 1))

@@ -77,7 +77,8 @@ own_value (l.FixedBytes width) below offsets values i =
 own_value (l.VariableBytes true) below offsets values i = v.Text (between offsets values i)
 own_value (l.VariableBytes false) below offsets values i = v.Bytes (between offsets values i)
 own_value l.Lists below offsets values i =
-    v.List (items (λ j. first_of (below j)) (place offsets i) (place offsets (i + 1) - place offsets i))
+    v.List (items (λ j. first_of (below j)) (place offsets i)
+    (place offsets (i + 1) - place offsets i))
 own_value l.Structs below offsets values i = v.Struct (below i)
 own_value l.Unsupported below offsets values i = v.Null
 

@@ -1,4 +1,4 @@
-ghost use Rattle.std.specs.Prelude.{◌≡◌, ◌≤◌, ◌<◌, ◌+◌, ◌-◌, ◌*◌, ◌==◌, length, true, false, Some};
+ghost use Rattle.std.specs.Prelude.{◌≡◌, ◌≤◌, ◌<◌, ◌+◌, ◌-◌, ◌*◌, length, true, false, Some};
 ghost use Rattle.std.specs.Prelude.{slice_get};
 ghost use Rattle.ipc_column.specs.declared.cause.Cause.{Cause};
 ghost use Rattle.ipc_column.specs.Cells.{cell_value, is_leaf};
@@ -76,13 +76,6 @@ impl<'a> ListCell<'a> {
         self.to - self.from
     }
 
-    /// Whether there are none: the list is empty, and not null.
-    pub fn is_empty(&self) -> bool
-        ensures { result ≡ (length self.now == 0) }
-    {
-        self.len() == 0
-    }
-
     /// Value `i`, lent by the batch. The caller gives an `i` below `len`.
     pub fn at(&self, i: usize) -> Cell<'a>
         requires { i < length self.now }
@@ -126,13 +119,6 @@ impl<'a> StructCell<'a> {
         ensures { result ≡ length self.now }
     {
         self.parts.len()
-    }
-
-    /// Whether there are none: the field has no children, and the struct isn't null.
-    pub fn is_empty(&self) -> bool
-        ensures { result ≡ (length self.now == 0) }
-    {
-        self.len() == 0
     }
 
     /// The value of child `i`, lent by the batch. The caller gives an `i` below `len`.

@@ -14,6 +14,7 @@ mod offsets;
 mod range_bytes;
 mod ranges;
 mod rows;
+mod slot_visit;
 mod texts;
 mod validate;
 mod values;

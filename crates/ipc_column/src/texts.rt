@@ -4,8 +4,8 @@ ghost use Rattle.std.specs.Str.{is_utf8, IsCharBoundary};
 ghost use Rattle.ipc_column.specs.Checks.{AreCuts, all_slots, has_bitmap, are_ascending, text_good};
 ghost use Rattle.ipc_column.specs.Values.{place};
 
-use crate::cell::is_valid;
 use crate::offsets::{bytes_between, place_at};
+use crate::slot_visit::visit;
 
 /// The text of bytes that were found UTF-8.
 #[inline(always)]
@@ -61,8 +61,8 @@ fn is_whole(offsets: &[u8], values: &[u8], slots: usize, from: usize, to: usize)
     is_text(text) && are_cuts(offsets, text, slots, from, to)
 }
 
-// Whether a slot, one of so many, is null or holds UTF-8. The visit is counted.
-fn visit(
+// Whether a slot, one of so many, is null or holds UTF-8. The slot is visited.
+fn visit_text(
     validity: &[u8],
     offsets: &[u8],
     values: &[u8],
@@ -78,8 +78,7 @@ fn visit(
     ensures good { result ≡ text_good validity.now offsets.now values.now slot }
     ensures counted { tests.new ≡ tests.old + 1 }
 {
-    *tests += 1;
-    !is_valid(validity, slot) || is_text(bytes_between(offsets, values, slots, slot))
+    !visit(validity, slot, tests) || is_text(bytes_between(offsets, values, slots, slot))
 }
 
 /// Whether the slots from one up to another, of so many, are each null or hold UTF-8. They are
@@ -107,7 +106,7 @@ pub(crate) fn visit_texts(
         return true;
     }
     for slot in from..to {
-        if !visit(validity, offsets, values, slots, slot, tests) {
+        if !visit_text(validity, offsets, values, slots, slot, tests) {
             return false;
         }
     }

@@ -6,10 +6,10 @@ ghost use Rattle.ipc_model.specs.Layouts.{is_texts};
 ghost use Rattle.ipc_column.specs.Views.{columns, column_of, children_of, one};
 ghost use Rattle.ipc_column.specs.Weights.{weight, weight_below};
 
-use crate::cell::is_valid;
 use crate::offsets::place_at;
 use crate::range_bytes::bytes_at;
 use crate::ranges::ColumnRanges;
+use crate::slot_visit::visit;
 use crate::texts::visit_texts;
 use ipc_model::Layout;
 
@@ -59,8 +59,8 @@ fn visit_below(body: &[u8], part: &ColumnRanges, from: usize, to: usize, tests: 
     }
 }
 
-// Whether a slot of a part that texts stand below is null, or what it leads to is good. The visit
-// is counted.
+// Whether a slot of a part that texts stand below is null, or what it leads to is good. The slot
+// is visited.
 #[cycle(visit)]
 fn visit_slot(body: &[u8], part: &ColumnRanges, slot: usize, tests: &mut u64) -> bool
     requires slots { AreSlots (one body.now part.now) slot (slot + 1) }
@@ -73,8 +73,8 @@ fn visit_slot(body: &[u8], part: &ColumnRanges, slot: usize, tests: &mut u64) ->
         (column_of body.now part.now) slot }
     ensures cost { tests.new ≤ tests.old + weight (one body.now part.now) slot (slot + 1) }
 {
-    *tests += 1;
-    !is_valid(bytes_at(body, part.validity), slot) || visit_below(body, part, slot, slot + 1, tests)
+    !visit(bytes_at(body, part.validity), slot, tests)
+        || visit_below(body, part, slot, slot + 1, tests)
 }
 
 // The same of the slots from one up to another.

@@ -8,7 +8,8 @@ use Rattle.ipc_column.proofs.cell.item_at.Goals as goal
 pub cell_at-requires : goal.cell_at-requires
 cell_at-requires c =
     let some : 0 < length c.args.parts.now = search rules in
-    slot_value c.args.body.now c.args.parts.now c.args.from c.args.to (c.args.from + c.args.i) 0 c.index-parts-0.result some c.index-parts-0.is
+    slot_value c.args.body.now c.args.parts.now c.args.from c.args.to (c.args.from + c.args.i) 0 c.index-parts-0.result some
+    c.index-parts-0.is
     (omega arith) (omega (arith, c.requires.inside)) c.requires.range
 
 pub returns-then-is_empty : goal.returns-then-is_empty

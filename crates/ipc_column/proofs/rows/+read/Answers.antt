@@ -54,14 +54,16 @@ read_slot-read_values-requires t c =
     c.in_default.not-Lists in (
       search (rules, the_lemmas),
       rw c.deref-in_default.ensures.value
-          (struct_values (columns c.args.body.now (out-ColumnRanges c.args.part.now).children.items) (out-ColumnRanges c.args.part.now).slots
+          (struct_values (columns c.args.body.now (out-ColumnRanges c.args.part.now).children.items)
+          (out-ColumnRanges c.args.part.now).slots
           c.args.slot s.slot (rw e at s.long.long) s.sound (rw e at (s.good (sym c.is_valid_in.ensures ∙ c.if-not-is_valid_in.false)))),
     )
 
 pub read_values-read_slot-requires : goal.read_values-read_slot-requires
 read_values-read_slot-requires t c = (
   search (rules, the_lemmas),
-  slot_value c.args.body.now c.args.parts.now c.args.slot (c.args.slot + 1) c.args.slot c.loop-part.part-index c.part-item.result (omega arith)
+  slot_value c.args.body.now c.args.parts.now c.args.slot (c.args.slot + 1) c.args.slot c.loop-part.part-index c.part-item.result
+      (omega arith)
       c.part-item.is (omega arith) (omega arith) c.requires,
 )
 

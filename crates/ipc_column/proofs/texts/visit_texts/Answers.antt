@@ -3,14 +3,15 @@ use Rattle.ipc_column.specs.Checks.{text_good}
 use Rattle.ipc_column.proofs.Goods.{slots_more, slots_fail}
 use Rattle.ipc_column.proofs.texts.visit_texts.Goals as goal
 
-pub returns-then-not-visit-clause-good : goal.returns-then-not-visit-clause-good
-returns-then-not-visit-clause-good c =
-    sym (slots_fail (text_good c.args.validity.now c.args.offsets.now c.args.values.now) c.args.from c.args.to c.loop-slot.slot (omega arith)
-    (omega arith) (sym c.visit.ensures.good ∙ c.if-not-visit.true))
+pub returns-then-not-visit_text-clause-good : goal.returns-then-not-visit_text-clause-good
+returns-then-not-visit_text-clause-good c =
+    sym (slots_fail (text_good c.args.validity.now c.args.offsets.now c.args.values.now) c.args.from c.args.to c.loop-slot.slot
+    (omega arith)
+    (omega arith) (sym c.visit_text.ensures.good ∙ c.if-not-visit_text.true))
 
 pub loop-slot-preserved : goal.loop-slot-preserved
 loop-slot-preserved c = record {
-  visited = omega (arith, c.visit.ensures.counted, c.loop-slot.invariant.visited);
+  visited = omega (arith, c.visit_text.ensures.counted, c.loop-slot.invariant.visited);
   good = slots_more (text_good c.args.validity.now c.args.offsets.now c.args.values.now) c.args.from c.loop-slot.slot (omega arith)
-      c.loop-slot.invariant.good (sym c.visit.ensures.good ∙ c.if-not-visit.false);
+      c.loop-slot.invariant.good (sym c.visit_text.ensures.good ∙ c.if-not-visit_text.false);
 }

@@ -6,20 +6,22 @@ use Rattle.ipc_column.specs.Views.{columns, one, column_of, children_of}
 use Rattle.ipc_column.proofs.Goods.{slots_more, slots_fail, good_one, good_first}
 use Rattle.ipc_column.proofs.Parts.{columns_from}
 use Rattle.ipc_column.proofs.Slots.{slots_first, slots_within, part_long, part_most, bitmap_front}
-use Rattle.ipc_column.proofs.Visited.{layout_is, list_bytes, list_slots, struct_slots, list_weight, struct_weight, whole_part, visited_below}
-use Rattle.ipc_column.proofs.Visited.{visited_texts, quiet_part, texts_part, texts_of, good_done}
+use Rattle.ipc_column.proofs.Visited.{layout_is, list_bytes, list_slots, struct_slots, list_weight, struct_weight, whole_part}
+use Rattle.ipc_column.proofs.Visited.{visited_below, visited_texts, quiet_part, texts_part, texts_of, good_done}
 use Rattle.ipc_column.proofs.Weights.{weight_first, room_next, cost_next, cost_all, visited_weight, below_weight, texts_weight}
 use Rattle.ipc_column.proofs.visit.+visit.Goals as goal
 
 pub visit_below-place_at-first-requires : goal.visit_below-place_at-first-requires
 visit_below-place_at-first-requires t c =
     rw c.bytes_at-offsets.ensures
-    (list_bytes c.args.body.now c.args.part.now c.args.from c.args.to c.args.from c.requires.slots c.requires.some (omega arith) c.in-Lists.is)
+    (list_bytes c.args.body.now c.args.part.now c.args.from c.args.to c.args.from c.requires.slots c.requires.some
+    (omega arith) c.in-Lists.is)
 
 pub visit_below-place_at-end-requires : goal.visit_below-place_at-end-requires
 visit_below-place_at-end-requires t c =
     rw c.bytes_at-offsets.ensures
-    (list_bytes c.args.body.now c.args.part.now c.args.from c.args.to c.args.to c.requires.slots c.requires.some (omega arith) c.in-Lists.is)
+    (list_bytes c.args.body.now c.args.part.now c.args.from c.args.to c.args.to c.requires.slots c.requires.some
+    (omega arith) c.in-Lists.is)
 
 pub visit_below-visit_all-requires : goal.visit_below-visit_all-requires
 visit_below-visit_all-requires t c =
@@ -41,14 +43,14 @@ visit_below-visit_all-requires-in-Structs t c =
       ),
     )
 
-pub visit_slot-overflow_add-tests : goal.visit_slot-overflow_add-tests
-visit_slot-overflow_add-tests t c =
+pub visit_slot-visit-requires-clause-fits : goal.visit_slot-visit-requires-clause-fits
+visit_slot-visit-requires-clause-fits t c =
     let w = visited_weight (column_of c.args.body.now c.args.part.now) (children_of c.args.body.now c.args.part.now) c.args.slot
     c.requires.visited in
     omega (arith, w, c.requires.room)
 
-pub visit_slot-is_valid-requires : goal.visit_slot-is_valid-requires
-visit_slot-is_valid-requires t c =
+pub visit_slot-visit-requires-clause-bitmap : goal.visit_slot-visit-requires-clause-bitmap
+visit_slot-visit-requires-clause-bitmap t c =
     let most = part_most c.args.body.now c.args.part.now c.args.slot (c.args.slot + 1) c.requires.slots in
     rw c.bytes_at.ensures (bitmap_front (out-ColumnRanges c.args.part.now).slots c.args.slot _
     (part_long c.args.body.now c.args.part.now c.args.slot (c.args.slot + 1) c.requires.slots).bitmap (omega (arith, most)))
@@ -59,14 +61,14 @@ visit_slot-visit_below-requires t c =
     c.requires.visited in
     (search (rules, the_lemmas), (omega arith, (c.requires.slots, omega (arith, w, c.requires.room))))
 
-pub visit_slot-returns-then-not-is_valid-clause-cost : goal.visit_slot-returns-then-not-is_valid-clause-cost
-visit_slot-returns-then-not-is_valid-clause-cost t c =
+pub visit_slot-returns-then-not-visit-clause-cost : goal.visit_slot-returns-then-not-visit-clause-cost
+visit_slot-returns-then-not-visit-clause-cost t c =
     let w = visited_weight (column_of c.args.body.now c.args.part.now) (children_of c.args.body.now c.args.part.now) c.args.slot
     c.requires.visited in
     omega (arith, w)
 
-pub visit_slot-returns-else-not-is_valid-clause-cost : goal.visit_slot-returns-else-not-is_valid-clause-cost
-visit_slot-returns-else-not-is_valid-clause-cost t c =
+pub visit_slot-returns-else-not-visit-clause-cost : goal.visit_slot-returns-else-not-visit-clause-cost
+visit_slot-returns-else-not-visit-clause-cost t c =
     let w = visited_weight (column_of c.args.body.now c.args.part.now) (children_of c.args.body.now c.args.part.now) c.args.slot
     c.requires.visited in
     omega (arith, w, c.visit_below.ensures.cost)
