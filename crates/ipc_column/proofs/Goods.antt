@@ -1,5 +1,6 @@
 -- Ranges of slots that are good.
-use Rattle.std.proofs.Common.{◌≡◌, ◌∙◌, refl, sym, ap, subst, ℕ, zero, suc, ◌+◌, ◌-◌, ◌<◌, ◌≤◌, Bool, true, false, List, length, arith, le-leb}
+use Rattle.std.proofs.Common.{◌≡◌, ◌∙◌, refl, sym, ap, subst, ℕ, zero, suc, ◌+◌, ◌-◌, ◌<◌, ◌≤◌, Bool, true, false, List, length, arith}
+use Rattle.std.proofs.Common.{le-leb}
 use Rattle.std.specs.Prelude.{◌&&◌, ◌||◌, not, nat_le}
 use Rattle.std.proofs.lemmas.Bool.{false≢true, and_parts, and_from, leb-true}
 use Rattle.ipc_model.specs.declared.layout.Layout.{Layout}
@@ -88,7 +89,8 @@ good_within cs a b i j h l m n =
     (and_parts (good cs i j) (good cs j b) (sym (good_add cs i j b m n) ∙ p.1)).0
 
 -- one column alone
-pub good_one : (c : Column) (children : Columns) (i j : ℕ) → good (column c children none) i j ≡ all_slots (good_slot (good children) c) i (j - i)
+pub good_one : (c : Column) (children : Columns) (i j : ℕ)
+    → good (column c children none) i j ≡ all_slots (good_slot (good children) c) i (j - i)
 good_one c children i j = and_true _
 
 -- the first column and those behind it

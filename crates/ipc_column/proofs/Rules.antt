@@ -235,7 +235,8 @@ of_good none a b = (λ e i l m. tt, λ h. refl)
 of_good (column c children rest) a b =
     Decides-like _ (λ h i l m. (h.0 i l m, h.1 i l m)) (λ h. (λ i l m. (h i l m).0, λ i l m. (h i l m).1))
     (Decides-and _ _
-    (decides_slots (good_slot (good children) c) (λ i. is_valid c.validity i ≡ true → IsText c.layout (SpellsTexts children) c.offsets c.values i)
+    (decides_slots (good_slot (good children) c) (λ i. is_valid c.validity i ≡ true
+    → IsText c.layout (SpellsTexts children) c.offsets c.values i)
     (λ i. of_when (is_valid c.validity i) _ (λ e. e, λ e. e)
     (of_text c.layout (good children) (SpellsTexts children) (of_good children) c.offsets c.values i)) a b)
     (of_good rest a b))

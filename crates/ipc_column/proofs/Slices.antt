@@ -127,5 +127,6 @@ whole_good o w v n a b h ab bn u cuts = below_from (λ k. text_good v o w (a + k
         let p = places o n (length w) i (i + 1) h (omega arith) (omega arith) in
         let q = places o n (length w) a i h f (omega arith) in
         let r = places o n (length w) (i + 1) b h (omega arith) bn in
-        cut_text w (place o a) (place o b - place o a) (place o i) (place o (i + 1)) q.order p.order (omega (arith, q.order, p.order, r.order))
+        cut_text w (place o a) (place o b - place o a) (place o i) (place o (i + 1)) q.order p.order
+        (omega (arith, q.order, p.order, r.order))
         (IsUtf8-from_is_utf8 _ u) (cut_at i f (omega arith)) (cut_at (i + 1) (omega arith) (omega arith))
