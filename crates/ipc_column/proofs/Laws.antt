@@ -9,7 +9,6 @@ use Rattle.ipc_model.specs.declared.fault.Fault.TheVariants as fault
 use Rattle.ipc_model.specs.declared.schema.Field.{Field}
 use Rattle.ipc_model.specs.declared.value.Value.{Value}
 use Rattle.ipc_meta.specs.declared.head.BatchHead.{BatchHead}
-use Rattle.ipc_meta.specs.Supported.{are_supported}
 use Rattle.ipc_column.specs.declared.cause.Cause.{Cause}
 use Rattle.ipc_column.specs.declared.cause.Cause.TheVariants as cause
 use Rattle.ipc_column.specs.Contents.{Contents}
@@ -18,7 +17,7 @@ use Rattle.ipc_column.specs.Shapes.{Shape, shape_of, columns_of, cut}
 use Rattle.ipc_column.specs.Values.{row, rows_of}
 use Rattle.ipc_column.specs.Checks.{fits, head_passes, all, is_slot_count, is_node, CountsHold, IsCounted, Holds, Passing, Failing}
 use Rattle.ipc_column.specs.Checks.{HeadHolds, passes, all_pass, fault_of}
-use Rattle.ipc_column.specs.Rows.{Rows, RefusesParts, IsOneList, HasCounts, HasParts}
+use Rattle.ipc_column.specs.Rows.{Rows, RefusesParts, IsOneList, HasCounts, HasParts, are_plain}
 use Rattle.ipc_column.proofs.Cells.{rows_length, rows_at}
 use Rattle.ipc_column.proofs.Rules.{decides, length_is, of_nodes, of_ranges, of_slot_count, every_top_true}
 use Rattle.ipc_model.specs.declared.limits.Limits.{Limits}
@@ -33,12 +32,12 @@ rows_values rows fields head body n e i l =
 
 -- the rows found where every test passes are the rows of the parts
 pub rows_from : {limits : Limits} → (fields : List Field) (head : BatchHead) (body : List ℕ) (rows : List (List Value))
-    → are_supported fields ≡ true
+    → are_plain fields ≡ true
     → Passing limits (shape_of fields) head body rows → Rows limits fields head body rows
 rows_from {limits} fields head body rows o p =
     let lengths = (decides limits cause.BadNode fields head body).0 (p.sound cause.BadNode) in
     record {
-      types = o;
+      plain = o;
       nodes = (decides limits cause.WrongNodeCount fields head body).0 (p.sound cause.WrongNodeCount);
       buffers = (decides limits cause.WrongBufferCount fields head body).0 (p.sound cause.WrongBufferCount);
       lengths = lengths;
@@ -137,7 +136,7 @@ only_rows {limits} fields head body (Err f) a r rows w = no_rows f fields head b
 
 -- where the call answers what passes every test, it answers the rows of the parts
 pub ok_rows : (limits : Limits) (fields : List Field) (head : BatchHead) (body : List ℕ) (r : Result Contents Fault)
-    → are_supported fields ≡ true
+    → are_plain fields ≡ true
     → IfOk r (λ b. Passing limits (shape_of fields) head body b.rows) → IfOk r (λ b. Rows limits fields head body b.rows)
 ok_rows limits fields head body (Ok b) o h = rows_from fields head body b.rows o h
 ok_rows limits fields head body (Err f) o h = h
@@ -183,9 +182,9 @@ columns_failing limits why shape head body n cs en ec h f t =
     counts : CountsHold limits shape head (length body)
     counts = record { nodes = h cause.WrongNodeCount; buffers = h cause.WrongBufferCount }
 
-    holds : (test : Column → Bool) → every test (cut shape head body 0 0) ≡ true
-        → (true && (every test (cut shape head body 0 0) && every_top (λ c. true) (cut shape head body 0 0))) ≡ true
-    holds test e = and_from (every test (cut shape head body 0 0)) _ e (every_top_true (cut shape head body 0 0))
+    holds : (test : Column → Columns → Bool) → every test (cut shape head body 0 0) ≡ true
+        → (true && (every test (cut shape head body 0 0) && (every_top (λ c. true) (cut shape head body 0 0) && true))) ≡ true
+    holds test e = and_from (every test (cut shape head body 0 0)) _ e (and_from _ _ (every_top_true (cut shape head body 0 0)) refl)
 
     of_cause : (why : Cause) → fits limits shape head body why ≡ false
         → (why ≡ cause.ValueNotUtf8 → (other : Cause) → every (passes other) (cut shape head body 0 0) ≡ true)

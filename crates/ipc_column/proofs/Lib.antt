@@ -2,12 +2,16 @@ pub mod Fields
 pub mod Parts
 pub mod Entries
 pub mod Cells
+pub mod Goods
+pub mod Slots
 pub mod Rules
-pub mod SameCells
 pub mod Laws
 pub mod Numbers
 pub mod Below
 pub mod Slices
 pub mod Visits
 pub mod Lent
+pub mod Weights
+pub mod Visited
 pub mod Wider
+pub mod Plain

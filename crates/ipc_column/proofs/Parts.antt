@@ -1,16 +1,18 @@
 -- Parts as columns, and calls that judge one after another.
-use Rattle.std.proofs.Common.{◌≡◌, refl, ap, ℕ, ◌+◌, ◌<◌, Bool, true, false, List, length, drop, get_or, add-one, drop-cons, Result, Ok}
+use Rattle.std.proofs.Common.{◌≡◌, refl, ap, ℕ, zero, suc, ◌+◌, ◌<◌, Bool, true, false, List, [], ◌∷◌, length, drop, get_or, add-one}
+use Rattle.std.proofs.Common.{drop-cons, arith, Result, Ok}
 use Rattle.std.proofs.Common.{Err}
-use Rattle.std.specs.Prelude.{◌&&◌}
-use Rattle.std.proofs.lemmas.Bool.{and_from, and_right}
+use Rattle.std.specs.Prelude.{◌&&◌, ◌||◌}
+use Rattle.std.proofs.lemmas.Bool.{and_parts, and_from, and_right}
 use Rattle.ipc_column.specs.declared.ranges.ColumnRanges.{ColumnRanges}
 use Rattle.ipc_column.specs.declared.ranges.ColumnRanges.TheViews.{out-ColumnRanges}
 use Rattle.ipc_column.specs.declared.ranges.ColumnRanges.TheFolds.{fold_out-ColumnRanges}
 use Rattle.ipc_column.specs.declared.cause.Cause.{Cause}
+use Rattle.ipc_model.specs.Layouts.{is_texts}
 use Rattle.ipc_column.specs.Columns.{Column, Columns, column, every, every_top}
-use Rattle.ipc_column.specs.Rules.{text_slots, texts_in}
+use Rattle.ipc_column.specs.Rules.{have_texts}
 use Rattle.ipc_column.specs.Checks.{Judges}
-use Rattle.ipc_column.specs.Views.{columns, part_step, column_of, children_of, own_column}
+use Rattle.ipc_column.specs.Views.{columns, part_step, column_of, children_of, own_column, one}
 
 -- the columns below a part are those of its children
 pub children_out : (body : List ℕ) (p : ColumnRanges) → children_of body p ≡ columns body (out-ColumnRanges p).children.items
@@ -30,12 +32,12 @@ regroup true b c = refl
 regroup false b c = refl
 
 -- all columns from a part on pass a test where its own does, those below it do and those behind it do
-pub every_from : (test : Column → Bool) (body : List ℕ) (ps : List ColumnRanges) (i : ℕ) (p : ColumnRanges) → i < length ps
+pub every_from : (test : Column → Columns → Bool) (body : List ℕ) (ps : List ColumnRanges) (i : ℕ) (p : ColumnRanges) → i < length ps
     → p ≡ get_or ps i p
     → every test (columns body (drop i ps))
-    ≡ ((test (column_of body p) && every test (children_of body p)) && every test (columns body (drop (i + 1) ps)))
+    ≡ ((test (column_of body p) (children_of body p) && every test (children_of body p)) && every test (columns body (drop (i + 1) ps)))
 every_from test body ps i p h e = rw (columns_from body ps i p h e)
-    (regroup (test (column_of body p)) (every test (children_of body p)) (every test (columns body (drop (i + 1) ps))))
+    (regroup (test (column_of body p) (children_of body p)) (every test (children_of body p)) (every test (columns body (drop (i + 1) ps))))
 
 -- the top columns from a part on pass a test where its own does and those behind it do
 pub every_top_from : (test : Column → Bool) (body : List ℕ) (ps : List ColumnRanges) (i : ℕ) (p : ColumnRanges) → i < length ps
@@ -43,10 +45,31 @@ pub every_top_from : (test : Column → Bool) (body : List ℕ) (ps : List Colum
     → every_top test (columns body (drop i ps)) ≡ (test (column_of body p) && every_top test (columns body (drop (i + 1) ps)))
 every_top_from test body ps i p h e = rw (columns_from body ps i p h e) refl
 
--- the slots of texts from a part on are its own and those behind it
+-- texts stand in the columns from a part on where they stand in it, below it or behind it
 pub texts_from : (body : List ℕ) (ps : List ColumnRanges) (i : ℕ) (p : ColumnRanges) → i < length ps → p ≡ get_or ps i p
-    → texts_in (columns body (drop i ps)) ≡ text_slots (column_of body p) + texts_in (columns body (drop (i + 1) ps))
-texts_from body ps i p h e = rw (columns_from body ps i p h e) refl
+    → have_texts (columns body (drop i ps)) ≡ (have_texts (one body p) || have_texts (columns body (drop (i + 1) ps)))
+texts_from body ps i p h e = rw (columns_from body ps i p h e)
+    (shift (is_texts (column_of body p).layout) (have_texts (children_of body p)) (have_texts (columns body (drop (i + 1) ps))))
+  where
+    shift : (a b c : Bool) → (a || (b || c)) ≡ ((a || (b || false)) || c)
+    shift true b c = refl
+    shift false true c = refl
+    shift false false c = refl
+
+-- a test of every part of a list is one of the parts
+pub every_at : (test : Column → Columns → Bool) (body : List ℕ) (ps : List ColumnRanges) (j : ℕ) (p : ColumnRanges) → j < length ps
+    → p ≡ get_or ps j p → every test (columns body ps) ≡ true
+    → (test (column_of body p) (children_of body p) ≡ true) × (every test (children_of body p) ≡ true)
+every_at test body [] j p l e h = absurd (omega arith)
+every_at test body (q ∷ ps) zero p l e h = rw e (let a = and_parts _ _ h in (a.0, (and_parts _ _ a.1).0))
+every_at test body (q ∷ ps) (suc j) p l e h = every_at test body ps j p (omega arith) e (and_parts _ _ (and_parts _ _ h).1).1
+
+-- and so is one of the top columns alone
+pub every_top_at : (test : Column → Bool) (body : List ℕ) (ps : List ColumnRanges) (j : ℕ) (p : ColumnRanges) → j < length ps
+    → p ≡ get_or ps j p → every_top test (columns body ps) ≡ true → test (column_of body p) ≡ true
+every_top_at test body [] j p l e h = absurd (omega arith)
+every_top_at test body (q ∷ ps) zero p l e h = rw e (and_parts _ _ h).0
+every_top_at test body (q ∷ ps) (suc j) p l e h = every_top_at test body ps j p (omega arith) e (and_parts _ _ h).1
 
 -- a family whose first part holds is judged by its second
 pub then_judges : {X : Type 0} (s t : Cause → Bool) (r : Result X Cause) → ((c : Cause) → s c ≡ true) → Judges r t

@@ -1,7 +1,7 @@
 -- Each test says what the standard asks.
 use Rattle.std.proofs.Common.{◌≡◌, refl, ap, ℕ, zero, suc, ◌+◌, ◌*◌, ◌/◌, ◌<◌, ◌≤◌, Bool, true, false, cond, not, List, length, arith}
-use Rattle.std.proofs.Common.{le-leb}
-use Rattle.std.specs.Prelude.{◌&&◌, ◌||◌, ◌==◌, nat_le, ◌^◌, ℤ, ◌+ℤ◌, pos, negsuc, int_le, int_lt, ◌≤ℤ◌, ◌<ℤ◌, unsigned_abs, T}
+use Rattle.std.proofs.Common.{◌-◌, le-leb, subst}
+use Rattle.std.specs.Prelude.{◌&&◌, ◌||◌, ◌==◌, nat_le, ℤ, ◌+ℤ◌, pos, negsuc, int_le, ◌≤ℤ◌, ◌<ℤ◌, unsigned_abs, T, ⊤}
 use Rattle.std.specs.Bool.{Decides}
 use Rattle.std.specs.List.{All}
 use Rattle.std.proofs.lemmas.Bool.{and_parts, and_from, ne_eqb, leb-true}
@@ -19,11 +19,13 @@ use Rattle.ipc_column.specs.Columns.{Column, Columns, none, column, Each, EachTo
 use Rattle.ipc_column.specs.Shapes.{shape_of, columns_of}
 use Rattle.ipc_column.specs.Rules.{HasNodes, HasBuffers, HasLengths, HasRanges, HasBytes, HasNullCounts, HasOrder, HasTexts, IsSlotCount}
 use Rattle.ipc_column.specs.Rules.{IsNode, LiesIn, HoldValues, HoldOffsets, IsLongEnough, CountsNulls, AreOffsets, HasOffsets, IsText}
-use Rattle.ipc_column.specs.Rules.{SpellsTexts}
+use Rattle.ipc_column.specs.Rules.{SpellsTexts, HasLongChildren}
 use Rattle.ipc_column.specs.Checks.{is_slot_count, is_node, lies_in, all, all_below, holds_values, holds_offsets, is_ascending_at}
-use Rattle.ipc_column.specs.Checks.{are_ascending, in_order, is_text, is_good, passes, top_passes, fits}
+use Rattle.ipc_column.specs.Checks.{are_ascending, in_order, passes, top_passes, fits, have_slots, are_long, all_slots, good, good_slot}
+use Rattle.ipc_column.specs.Checks.{good_below}
 use Rattle.ipc_column.specs.Values.{offset, place, is_valid}
-use Rattle.ipc_column.proofs.Below.{decides_below}
+use Rattle.ipc_column.proofs.Below.{below_from, decides_below}
+use Rattle.ipc_column.proofs.Goods.{slots_at, slots_from}
 use Rattle.ipc_column.proofs.Slices.{above}
 use Rattle.ipc_model.specs.declared.limits.Limits.{Limits}
 
@@ -100,11 +102,12 @@ of_some (suc n) b d =
 
 of_offsets_bytes : (l : Layout) (n bytes : ℕ) → Decides (holds_offsets l n bytes) (HoldOffsets l n bytes)
 of_offsets_bytes (l.VariableBytes utf8) n bytes = of_some n _ (of_bound (4 * (n + 1)) bytes)
+of_offsets_bytes l.Lists n bytes = of_some n _ (of_bound (4 * (n + 1)) bytes)
 of_offsets_bytes _ n bytes = (λ e. tt, λ h. refl)
 
-of_bytes : (c : Column) → Decides (passes cause.BufferTooShort c) (IsLongEnough c)
-of_bytes c =
-    Decides-like (passes cause.BufferTooShort c) (λ p. record { bitmap = p.0; values = p.1.0; offsets = p.1.1 })
+of_bytes : (c : Column) (children : Columns) → Decides (passes cause.BufferTooShort c children) (IsLongEnough c)
+of_bytes c children =
+    Decides-like (passes cause.BufferTooShort c children) (λ p. record { bitmap = p.0; values = p.1.0; offsets = p.1.1 })
     (λ h. (h.bitmap, (h.values, h.offsets)))
     (Decides-and _ _ (of_least (length c.validity) _ (length c.validity))
     (Decides-and _ _ (of_values c.layout c.slots (length c.values)) (of_offsets_bytes c.layout c.slots (length c.offsets))))
@@ -125,14 +128,19 @@ of_nulls nulls (suc bytes) least clear =
     (Decides-like _ (λ f. (λ l m. f m, λ z. absurd (omega arith))) (λ h. h.0 (omega arith))
     (of_when _ _ (of_bound least (suc bytes)) (Decides-eqb nulls clear)))
 
-of_null_count : (c : Column) → Decides (passes cause.BadNullCount c) (CountsNulls c)
-of_null_count c =
-    Decides-like (passes cause.BadNullCount c) (λ f. record { with_bitmap = λ v. (f v).0; without_bitmap = λ v. (f v).1 })
+of_null_count : (c : Column) (children : Columns) → Decides (passes cause.BadNullCount c children) (CountsNulls c)
+of_null_count c children =
+    Decides-like (passes cause.BadNullCount c children) (λ f. record { with_bitmap = λ v. (f v).0; without_bitmap = λ v. (f v).1 })
     (λ h v. (h.with_bitmap v, h.without_bitmap v))
     (of_when (has_validity c.layout) _ (λ e. e, λ e. e) (of_nulls c.nulls (length c.validity) _ _))
 
+-- a number that isn't negative is its absolute value
+of_last : (z : ℤ) (size : ℕ) → int_le (pos 0) z ≡ true → Decides (nat_le (unsigned_abs z) size) (z ≤ℤ pos size)
+of_last (pos m) size h = of_le (pos m) (pos size)
+of_last (negsuc m) size h = absurd (cc)
+
 -- offsets in order
-of_ascending : (o : List ℕ) (n size : ℕ) → Decides (are_ascending o n size) (AreOffsets o n size)
+of_ascending : (o : List ℕ) (n size : ℕ) → Decides (are_ascending o n size) (AreOffsets o n (λ end. end ≤ℤ pos size))
 of_ascending o n size = (
   λ e.
       let p = and_parts (int_le (pos 0) (offset o 0)) (all_below (is_ascending_at o) n && nat_le (place o n) size) e in
@@ -152,38 +160,98 @@ of_ascending o n size = (
     of_ascending_at o n = decides_below (is_ascending_at o) (λ i. offset o i ≤ℤ offset o (i + 1))
         (λ i. of_le (offset o i) (offset o (i + 1))) n
 
-    of_last : (z : ℤ) (size : ℕ) → int_le (pos 0) z ≡ true → Decides (nat_le (unsigned_abs z) size) (z ≤ℤ pos size)
-    of_last (pos m) size h = of_le (pos m) (pos size)
-    of_last (negsuc m) size h = absurd (cc)
-
-of_order : (l : Layout) (n : ℕ) (o : List ℕ) (size : ℕ) → Decides (in_order l n o size) (HasOffsets l n o size)
-of_order (l.VariableBytes utf8) n o size = of_some n _ (of_when _ _ (of_bound (4 * (n + 1)) (length o)) (of_ascending o n size))
-of_order _ n o size = (λ e. tt, λ h. refl)
-
--- texts
-of_text : (l : Layout) (o w : List ℕ) (i : ℕ) → Decides (is_text l o w i) (IsText l o w i)
-of_text (l.VariableBytes true) o w i = (λ e. IsUtf8-from_is_utf8 _ e, λ h. is_utf8-from_IsUtf8 _ h)
-of_text _ o w i = (λ e. tt, λ h. refl)
-
-of_texts : (c : Column) → Decides (all_below (is_good c) c.slots) (SpellsTexts c)
-of_texts c =
-    decides_below (is_good c) (λ i. is_valid c.validity i ≡ true → IsText c.layout c.offsets c.values i)
-    (λ i. of_when (is_valid c.validity i) _ (λ e. e, λ e. e) (of_text c.layout c.offsets c.values i)) c.slots
-
-of_each : (test : Column → Bool) (P : Column → Type 0) → ((c : Column) → Decides (test c) (P c)) → (cs : Columns)
-    → Decides (every test cs) (Each P cs)
-of_each test P d none = (λ e. tt, λ h. refl)
-of_each test P d (column c children rest) = Decides-and _ _ (d c) (Decides-and _ _ (of_each test P d children) (of_each test P d rest))
-
 of_each_top : (test : Column → Bool) (P : Column → Type 0) → ((c : Column) → Decides (test c) (P c)) → (cs : Columns)
     → Decides (every_top test cs) (EachTop P cs)
 of_each_top test P d none = (λ e. tt, λ h. refl)
 of_each_top test P d (column c children rest) = Decides-and _ _ (d c) (of_each_top test P d rest)
 
+of_have_slots : (n : ℕ) (cs : Columns) → Decides (have_slots n cs) (EachTop (λ c. n ≤ c.slots) cs)
+of_have_slots n cs = of_each_top (λ c. nat_le n c.slots) (λ c. n ≤ c.slots) (λ c. of_bound n c.slots) cs
+
+-- offsets into the slots of a child
+of_lists : (o : List ℕ) (n : ℕ) (cs : Columns) → Decides (are_ascending o n (place o n) && have_slots (place o n) cs)
+    (AreOffsets o n (λ end. EachTop (λ c. end ≤ℤ pos c.slots) cs))
+of_lists o n cs = (
+  λ e.
+      let p = and_parts (are_ascending o n (place o n)) (have_slots (place o n) cs) e in
+      let h = (of_ascending o n (place o n)).0 p.0 in
+      record { from = h.from; order = h.order; to = (ends p.0).0 p.1 },
+  λ h.
+      let both : are_ascending o n (place o n) ≡ true = (of_ascending o n (place o n)).1 (record {
+        from = h.from;
+        order = h.order;
+        to = last h.from h.order;
+      }) in
+      and_from _ _ both ((ends both).1 h.to),
+)
+  where
+    last : pos 0 ≤ℤ offset o 0 → ((i : ℕ) → i < n → offset o i ≤ℤ offset o (i + 1)) → offset o n ≤ℤ pos (place o n)
+    last from order =
+        let start = (of_le (pos 0) (offset o 0)).1 from in
+        let rise : all_below (is_ascending_at o) n ≡ true = below_from (is_ascending_at o) n
+        (λ i l. (of_le (offset o i) (offset o (i + 1))).1 (order i l)) in
+        (of_last (offset o n) (place o n) (above o n n start rise (omega arith))).0 (le-leb (place o n) (place o n) (omega arith))
+
+    ends : are_ascending o n (place o n) ≡ true → Decides (have_slots (place o n) cs) (EachTop (λ c. offset o n ≤ℤ pos c.slots) cs)
+    ends h =
+        let p = and_parts (int_le (pos 0) (offset o 0)) (all_below (is_ascending_at o) n && nat_le (place o n) (place o n)) h in
+        let q = and_parts (all_below (is_ascending_at o) n) (nat_le (place o n) (place o n)) p.1 in
+        of_each_top (λ c. nat_le (place o n) c.slots) (λ c. offset o n ≤ℤ pos c.slots)
+        (λ c. of_last (offset o n) c.slots (above o n n p.0 q.0 (omega arith))) cs
+
+of_order : (l : Layout) (n : ℕ) (o : List ℕ) (size : ℕ) (cs : Columns) → Decides (in_order l n o size cs) (HasOffsets l n o size cs)
+of_order (l.VariableBytes utf8) n o size cs = of_some n _ (of_when _ _ (of_bound (4 * (n + 1)) (length o)) (of_ascending o n size))
+of_order l.Lists n o size cs = of_some n _ (of_when _ _ (of_bound (4 * (n + 1)) (length o)) (of_lists o n cs))
+of_order _ n o size cs = (λ e. tt, λ h. refl)
+
+of_long : (l : Layout) (n : ℕ) (cs : Columns) → Decides (are_long l n cs) (HasLongChildren l n cs)
+of_long l.Structs n cs = of_have_slots n cs
+of_long _ n cs = (λ e. tt, λ h. refl)
+
+-- ---- texts
+
+-- a test of each slot of a range
+decides_slots : (f : ℕ → Bool) (P : ℕ → Type 0) → ((i : ℕ) → Decides (f i) (P i)) → (a b : ℕ)
+    → Decides (all_slots f a (b - a)) ((i : ℕ) → a ≤ i → i < b → P i)
+decides_slots f P d a b = (
+  λ e i l m. (d i).0 (slots_at f a b i e l m),
+  λ h. slots_from f a b (λ i l m. (d i).1 (h i l m)),
+)
+
+of_text : (l : Layout) (below : ℕ → ℕ → Bool) (P : ℕ → Type 0)
+    → ((a b : ℕ) → Decides (below a b) ((i : ℕ) → a ≤ i → i < b → P i)) → (o w : List ℕ) (i : ℕ)
+    → Decides (good_below l below o w i) (IsText l P o w i)
+of_text (l.VariableBytes true) below P d o w i = (λ e. IsUtf8-from_is_utf8 _ e, λ h. is_utf8-from_IsUtf8 _ h)
+of_text l.Lists below P d o w i = d (place o i) (place o (i + 1))
+of_text l.Structs below P d o w i = (
+  λ e. (d i (i + 1)).0 e i (omega arith) (omega arith),
+  λ h. (d i (i + 1)).1 (λ k a b. let e : i ≡ k = omega arith in subst P e h),
+)
+of_text _ below P d o w i = (λ e. tt, λ h. refl)
+
+-- the test of a range of slots decides whether what is visible in each is UTF-8
+of_good : (cs : Columns) (a b : ℕ) → Decides (good cs a b) ((i : ℕ) → a ≤ i → i < b → SpellsTexts cs i)
+of_good none a b = (λ e i l m. tt, λ h. refl)
+of_good (column c children rest) a b =
+    Decides-like _ (λ h i l m. (h.0 i l m, h.1 i l m)) (λ h. (λ i l m. (h i l m).0, λ i l m. (h i l m).1))
+    (Decides-and _ _
+    (decides_slots (good_slot (good children) c) (λ i. is_valid c.validity i ≡ true
+    → IsText c.layout (SpellsTexts children) c.offsets c.values i)
+    (λ i. of_when (is_valid c.validity i) _ (λ e. e, λ e. e)
+    (of_text c.layout (good children) (SpellsTexts children) (of_good children) c.offsets c.values i)) a b)
+    (of_good rest a b))
+
+of_each : (test : Column → Columns → Bool) (P : Column → Columns → Type 0)
+    → ((c : Column) (children : Columns) → Decides (test c children) (P c children)) → (cs : Columns)
+    → Decides (every test cs) (Each P cs)
+of_each test P d none = (λ e. tt, λ h. refl)
+of_each test P d (column c children rest) = Decides-and _ _ (d c children) (Decides-and _ _ (of_each test P d children)
+    (of_each test P d rest))
+
 -- ---- the parts
 
 -- all columns pass a test that asks nothing
-pub every_true : (cs : Columns) → every (λ c. true) cs ≡ true
+pub every_true : (cs : Columns) → every (λ c children. true) cs ≡ true
 every_true none = refl
 every_true (column c children rest) = rw (every_true children, every_true rest) refl
 
@@ -207,20 +275,23 @@ Asked limits cause.BadNullCount fields head body = HasNullCounts fields head bod
 Asked limits cause.BadOffsets fields head body = HasOrder fields head body
 Asked limits cause.ValueNotUtf8 fields head body = HasTexts fields head body
 
+of_nothing : (cs : Columns) → Decides (every_top (λ c. true) cs && true) ⊤
+of_nothing cs = (λ e. tt, λ h. and_from _ _ (every_top_true cs) refl)
+
 of_head : (test : Bool) (P : Type 0) (cs : Columns) → Decides test P
-    → Decides (test && (every (λ c. true) cs && every_top (λ c. true) cs)) P
-of_head test P cs d = Decides-like _ (λ p. p.0) (λ h. (h, (every_true cs, every_top_true cs)))
-    (Decides-and _ _ d (Decides-and _ _ (λ e. e, λ e. e) (λ e. e, λ e. e)))
+    → Decides (test && (every (λ c children. true) cs && (every_top (λ c. true) cs && true))) P
+of_head test P cs d = Decides-like _ (λ p. p.0) (λ h. (h, (every_true cs, tt)))
+    (Decides-and _ _ d (Decides-and _ _ (λ e. e, λ e. e) (of_nothing cs)))
 
-of_columns : (test : Column → Bool) (P : Column → Type 0) (cs : Columns) → ((c : Column) → Decides (test c) (P c))
-    → Decides (true && (every test cs && every_top (λ c. true) cs)) (Each P cs)
-of_columns test P cs d = Decides-like _ (λ p. p.1.0) (λ h. (refl, (h, every_top_true cs)))
-    (Decides-and _ _ (λ e. e, λ e. e) (Decides-and _ _ (of_each test P d cs) (λ e. e, λ e. e)))
+of_columns : (test : Column → Columns → Bool) (P : Column → Columns → Type 0) (cs : Columns)
+    → ((c : Column) (children : Columns) → Decides (test c children) (P c children))
+    → Decides (true && (every test cs && (every_top (λ c. true) cs && true))) (Each P cs)
+of_columns test P cs d = Decides-like _ (λ p. p.0) (λ h. (h, tt)) (Decides-and _ _ (of_each test P d cs) (of_nothing cs))
 
-of_tops : (test : Column → Bool) (P : Column → Type 0) (cs : Columns) → ((c : Column) → Decides (test c) (P c))
-    → Decides (true && (every (λ c. true) cs && every_top test cs)) (EachTop P cs)
-of_tops test P cs d = Decides-like _ (λ p. p.1.1) (λ h. (refl, (every_true cs, h)))
-    (Decides-and _ _ (λ e. e, λ e. e) (Decides-and _ _ (λ e. e, λ e. e) (of_each_top test P d cs)))
+of_visible : (test : Bool) (P : Type 0) (cs : Columns) → Decides test P
+    → Decides (true && (every (λ c children. true) cs && (every_top (λ c. true) cs && test))) P
+of_visible test P cs d = Decides-like _ (λ p. p.1.1) (λ h. (every_true cs, (every_top_true cs, h)))
+    (Decides-and _ _ (λ e. e, λ e. e) (Decides-and _ _ (λ e. e, λ e. e) d))
 
 of_lengths : {limits : Limits} → (fields : List Field) (head : BatchHead) (body : List ℕ)
     → Decides (fits limits (shape_of fields) head body cause.BadNode) (HasLengths limits fields head body)
@@ -228,24 +299,32 @@ of_lengths {limits} fields head body =
     let cs = columns_of fields head body in
     let n = unsigned_abs head.length in
     let top : Column → Bool = top_passes cause.BadNode n in
+    let below = of_each (passes cause.BadNode) (λ c children. HasLongChildren c.layout c.slots children)
+    (λ c children. of_long c.layout c.slots children) cs in
     let nodes = of_nodes head.nodes in (
       λ e.
-          let p = and_parts (is_slot_count limits head.length && all (is_node limits) head.nodes) (every (λ c. true) cs
-          && every_top top cs) e in
+          let p = and_parts (is_slot_count limits head.length && all (is_node limits) head.nodes) (every (passes cause.BadNode) cs
+          && (every_top top cs && true)) e in
           let q = and_parts (is_slot_count limits head.length) (all (is_node limits) head.nodes) p.0 in
-          let r = and_parts (every (λ c. true) cs) (every_top top cs) p.1 in
+          let r = and_parts (every (passes cause.BadNode) cs) (every_top top cs && true) p.1 in
+          let t = and_parts (every_top top cs) true r.1 in
           let batch = (of_slot_count head.length).0 q.0 in
           record {
             batch = batch;
             nodes = nodes.0 q.1;
-            columns = (of_each_top top (λ c. pos c.slots ≡ head.length) (λ c. of_slots head.length batch.from c.slots) cs).0 r.1;
+            columns = (of_each_top top (λ c. pos c.slots ≡ head.length) (λ c. of_slots head.length batch.from c.slots) cs).0 t.0;
+            children = below.0 r.0;
           },
       λ h.
-          and_from (is_slot_count limits head.length && all (is_node limits) head.nodes) (every (λ c. true) cs && every_top top cs)
+          and_from (is_slot_count limits head.length && all (is_node limits) head.nodes) (every (passes cause.BadNode) cs
+          && (every_top top cs && true))
           (and_from _ _ ((of_slot_count head.length).1 h.batch) (nodes.1 h.nodes))
-          (and_from _ _ (every_true cs) ((of_each_top top (λ c. pos c.slots ≡ head.length)
-          (λ c. of_slots head.length h.batch.from c.slots) cs).1 h.columns)),
+          (and_from _ _ (below.1 h.children) (and_from _ _ ((of_each_top top (λ c. pos c.slots ≡ head.length)
+          (λ c. of_slots head.length h.batch.from c.slots) cs).1 h.columns) refl)),
     )
+
+of_rows : (cs : Columns) (n : ℕ) → Decides (good cs 0 n) ((i : ℕ) → i < n → SpellsTexts cs i)
+of_rows cs n = Decides-like _ (λ h i l. h i (omega arith) l) (λ h i z l. h i l) (of_good cs 0 n)
 
 -- the test of the buffers' ranges decides whether each lies in the body
 pub of_ranges : (head : BatchHead) (body : List ℕ) → Decides (all (lies_in (length body)) head.buffers) (HasRanges head body)
@@ -262,8 +341,9 @@ decides limits cause.BufferOutOfBody fields head body = of_head _ _ (columns_of 
 decides limits cause.BufferTooShort fields head body = of_columns _ _ (columns_of fields head body) of_bytes
 decides limits cause.BadNullCount fields head body = of_columns _ _ (columns_of fields head body) of_null_count
 decides limits cause.BadOffsets fields head body =
-    of_columns _ _ (columns_of fields head body) (λ c. of_order c.layout c.slots c.offsets (length c.values))
-decides limits cause.ValueNotUtf8 fields head body = of_tops _ _ (columns_of fields head body) of_texts
+    of_columns _ _ (columns_of fields head body) (λ c children. of_order c.layout c.slots c.offsets (length c.values) children)
+decides limits cause.ValueNotUtf8 fields head body = of_visible _ _ (columns_of fields head body)
+    (of_rows (columns_of fields head body) (unsigned_abs head.length))
 
 -- a length that isn't negative is its absolute value
 pub length_is : {limits : Limits} → (z : ℤ) → IsSlotCount limits z → z ≡ pos (unsigned_abs z)

@@ -1,18 +1,13 @@
 -- Where the bytes of slots lie, and when they are texts.
 use Rattle.std.proofs.Common.{◌≡◌, ◌∙◌, refl, sym, ap, ℕ, zero, suc, ◌+◌, ◌-◌, ◌<◌, ◌≤◌, Bool, true, false, List, length, take, drop}
-use Rattle.std.proofs.Common.{add-one, arith, ◌↔◌, subst, inl, inr, length-drop}
+use Rattle.std.proofs.Common.{add-one, arith, ◌↔◌, subst, inl, inr, length-drop, le-leb}
 use Rattle.std.specs.Prelude.{◌&&◌, ◌||◌, not, ℤ, pos, negsuc, int_le, nat_le, unsigned_abs, slice_range, IsTrue}
 use Rattle.std.specs.Str.{is_utf8, IsUtf8, IsCharBoundary}
 use Rattle.std.proofs.lemmas.Str.{IsUtf8-from_is_utf8, is_utf8-from_IsUtf8, IsUtf8-between, IsCharBoundary-end}
 use Rattle.std.proofs.lemmas.List.{drop-take, take-take, drop-drop, length-take-le}
-use Rattle.std.proofs.lemmas.Bool.{and_parts, leb-true, cases_order}
-use Rattle.ipc_model.specs.declared.layout.Layout.{Layout}
-use Rattle.ipc_model.specs.declared.layout.Layout.TheVariants.{VariableBytes}
-use Rattle.ipc_model.specs.declared.layout.Layout.TheVariants as l
-use Rattle.ipc_model.specs.Layouts.{is_texts}
-use Rattle.ipc_column.specs.Columns.{Column}
+use Rattle.std.proofs.lemmas.Bool.{and_parts, and_from, leb-true, cases_order}
 use Rattle.ipc_column.specs.Values.{offset, place, between, is_valid}
-use Rattle.ipc_column.specs.Checks.{all_below, is_ascending_at, are_ascending, is_text, slot_good, is_good, AreCuts}
+use Rattle.ipc_column.specs.Checks.{all_below, all_slots, is_ascending_at, are_ascending, text_good, AreCuts}
 use Rattle.ipc_column.proofs.Below.{below_at, below_from}
 
 -- two tests of one fact
@@ -91,48 +86,47 @@ cut_text w b l i j p q r u ci cj =
     subst IsUtf8 (e ∙ ap (λ (k : ℕ). take (j - i) (drop k w)) start)
     (subst (λ (k : ℕ). IsUtf8 (take k (drop (i - b) (take l (drop b w))))) size t)
 
+-- offsets that ascend within some data end where they end
+pub ascending_self : (o : List ℕ) (n size : ℕ) → are_ascending o n size ≡ true → are_ascending o n (place o n) ≡ true
+ascending_self o n size h =
+    let p = and_parts (int_le (pos 0) (offset o 0)) (all_below (is_ascending_at o) n && nat_le (place o n) size) h in
+    let q = and_parts (all_below (is_ascending_at o) n) (nat_le (place o n) size) p.1 in
+    and_from _ _ p.0 (and_from _ _ q.0 (le-leb (place o n) (place o n) (omega arith)))
+
 -- slots of one text that may be cut where they begin are texts
-pub whole_good : (o w v : List ℕ) (n : ℕ) → are_ascending o n (length w) ≡ true → is_utf8 (slice_range w (place o 0) (place o n)) ≡ true
-    → AreCuts o (slice_range w (place o 0) (place o n)) n
-    → all_below (slot_good (VariableBytes true) v o w) n ≡ true
-whole_good o w v n h u cuts = below_from (slot_good (VariableBytes true) v o w) n
-    (λ i l. or_true (not (is_valid v i)) _ (is_utf8-from_IsUtf8 _ (spelled i l)))
+pub whole_good : (o w v : List ℕ) (n a b : ℕ) → are_ascending o n (length w) ≡ true → a ≤ b → b ≤ n
+    → is_utf8 (slice_range w (place o a) (place o b)) ≡ true
+    → AreCuts o (slice_range w (place o a) (place o b)) a b
+    → all_slots (text_good v o w) a (b - a) ≡ true
+whole_good o w v n a b h ab bn u cuts = below_from (λ k. text_good v o w (a + k)) (b - a)
+    (λ k l. or_true (not (is_valid v (a + k))) _ (is_utf8-from_IsUtf8 _ (spelled (a + k) (omega arith) (omega (arith, l)))))
   where
-    or_true : (a b : Bool) → b ≡ true → (a || b) ≡ true
-    or_true true b e = refl
-    or_true false b e = e
+    or_true : (x y : Bool) → y ≡ true → (x || y) ≡ true
+    or_true true y e = refl
+    or_true false y e = e
 
-    end : place o 0 ≤ place o n → place o n ≤ length w → IsCharBoundary (slice_range w (place o 0) (place o n)) (place o n - place o 0)
+    end : place o a ≤ place o b → place o b ≤ length w → IsCharBoundary (slice_range w (place o a) (place o b)) (place o b - place o a)
     end p q =
-        let size : length (slice_range w (place o 0) (place o n)) ≡ place o n - place o 0 =
-        length-take-le (place o n - place o 0) (drop (place o 0) w) (omega (arith, length-drop (place o 0) w)) in
-        subst (λ (k : ℕ). IsCharBoundary (slice_range w (place o 0) (place o n)) k) size
-        (IsCharBoundary-end (slice_range w (place o 0) (place o n)))
+        let size : length (slice_range w (place o a) (place o b)) ≡ place o b - place o a =
+        length-take-le (place o b - place o a) (drop (place o a) w) (omega (arith, length-drop (place o a) w)) in
+        subst (λ (k : ℕ). IsCharBoundary (slice_range w (place o a) (place o b)) k) size
+        (IsCharBoundary-end (slice_range w (place o a) (place o b)))
 
-    cut_at : (j : ℕ) → j ≤ n → IsCharBoundary (slice_range w (place o 0) (place o n)) (place o j - place o 0)
-    cut_at j m =
-        elim (cases_order j n) as (λ _. IsCharBoundary (slice_range w (place o 0) (place o n)) (place o j - place o 0)) [
-          | inl e ↦ let p = places o n (length w) 0 n h (omega arith) (omega arith) in subst
-              (λ (k : ℕ). IsCharBoundary (slice_range w (place o 0) (place o n)) (place o k - place o 0)) (sym e) (end p.order p.inside)
-          | inr r ↦ elim r as (λ _. IsCharBoundary (slice_range w (place o 0) (place o n)) (place o j - place o 0))
-              [ inl k ↦ cuts j k | inr k ↦ absurd (omega arith) ]
+    cut_at : (j : ℕ) → a ≤ j → j ≤ b → IsCharBoundary (slice_range w (place o a) (place o b)) (place o j - place o a)
+    cut_at j f m =
+        elim (cases_order j b) as (λ _. IsCharBoundary (slice_range w (place o a) (place o b)) (place o j - place o a)) [
+          | inl e ↦ let p = places o n (length w) a b h ab bn in subst
+              (λ (k : ℕ). IsCharBoundary (slice_range w (place o a) (place o b)) (place o k - place o a)) (sym e)
+              (end p.order (omega (arith, p.last, p.inside)))
+          | inr r ↦ elim r as (λ _. IsCharBoundary (slice_range w (place o a) (place o b)) (place o j - place o a))
+              [ inl k ↦ cuts j f k | inr k ↦ absurd (omega arith) ]
         ]
 
-    spelled : (i : ℕ) → i < n → IsUtf8 (between o w i)
-    spelled i l =
+    spelled : (i : ℕ) → a ≤ i → i < b → IsUtf8 (between o w i)
+    spelled i f l =
         let p = places o n (length w) i (i + 1) h (omega arith) (omega arith) in
-        cut_text w (place o 0) (place o n - place o 0) (place o i) (place o (i + 1)) p.first p.order (omega arith) (IsUtf8-from_is_utf8 _ u)
-        (cut_at i (omega arith)) (cut_at (i + 1) (omega arith))
-
--- what holds no text asks for nothing
-pub other_good : (c : Column) → is_texts c.layout ≡ false → all_below (is_good c) c.slots ≡ true
-other_good c h = below_from (is_good c) c.slots
-    (λ i l. ap (λ (b : Bool). not (is_valid c.validity i) || b) (other c.layout h i) ∙ or_at (not (is_valid c.validity i)))
-  where
-    or_at : (a : Bool) → (a || true) ≡ true
-    or_at true = refl
-    or_at false = refl
-
-    other : (l : Layout) → is_texts l ≡ false → (i : ℕ) → is_text l c.offsets c.values i ≡ true
-    other (l.VariableBytes true) e i = absurd (cc)
-    other _ e i = refl
+        let q = places o n (length w) a i h f (omega arith) in
+        let r = places o n (length w) (i + 1) b h (omega arith) bn in
+        cut_text w (place o a) (place o b - place o a) (place o i) (place o (i + 1)) q.order p.order
+        (omega (arith, q.order, p.order, r.order))
+        (IsUtf8-from_is_utf8 _ u) (cut_at i f (omega arith)) (cut_at (i + 1) (omega arith) (omega arith))

@@ -4,11 +4,10 @@ use Rattle.std.proofs.Common.{arith, add-one, drop-cons}
 use Rattle.std.specs.Prelude.{◌^◌, ℤ, pos, negsuc, unsigned_abs}
 use Rattle.std.proofs.lemmas.Bool.{and_parts, leb-true}
 use Rattle.ipc_meta.specs.declared.head.BatchHead.{BatchHead}
-use Rattle.ipc_column.specs.Columns.{Column}
-use Rattle.ipc_column.specs.Rules.{text_slots, texts_in, count_of, slots_in}
+use Rattle.ipc_column.specs.Rules.{is_visited, visits_in, count_of, slots_in}
 use Rattle.ipc_column.specs.Shapes.{Shape, bare, field, cut, column_at, nodes_in, buffers_in, node_at}
 use Rattle.ipc_column.specs.Checks.{all, is_node, is_slot_count}
-use Rattle.ipc_model.specs.Layouts.{is_texts, own_buffers}
+use Rattle.ipc_model.specs.Layouts.{own_buffers}
 use Rattle.ipc_model.specs.declared.limits.Limits.{Limits}
 
 all_at : {X : Type 0} (f : X → Bool) (xs : List X) (i : ℕ) (d : X) → all f xs ≡ true → i < length xs → f (get_or xs i d) ≡ true
@@ -29,38 +28,32 @@ slots_from : (nodes : List (ℤ × ℤ)) (n : ℕ) → n < length nodes
     → slots_in (drop n nodes) ≡ count_of (get_or nodes n (pos 0, pos 0)).0 + slots_in (drop (n + 1) nodes)
 slots_from nodes n l = rw (drop-cons nodes n (pos 0, pos 0), add-one) refl
 
-slots_less : (nodes : List (ℤ × ℤ)) (n d : ℕ) → n + d ≤ length nodes → slots_in (drop (n + d) nodes) ≤ slots_in (drop n nodes)
-slots_less nodes n zero l = let e : n + 0 ≡ n = omega arith in rw e (omega arith)
-slots_less nodes n (suc d) l =
-    let before = slots_less nodes n d (omega arith) in
-    let step = slots_from nodes (n + d) (omega arith) in
-    let e : n + suc d ≡ n + d + 1 = omega arith in
-    rw e (omega (arith, before, step))
+own_most : (b : Bool) (n : ℕ) → cond b n 0 ≤ n
+own_most true n = omega arith
+own_most false n = omega arith
 
-text_most : (c : Column) → text_slots c ≤ c.slots
-text_most c = elim (is_texts c.layout) as (λ b. cond b c.slots 0 ≤ c.slots) [ true ↦ omega arith | false ↦ omega arith ]
-
-texts_cut : (limits : Limits) (s : Shape) (head : BatchHead) (body : List ℕ) (n b : ℕ) → all (is_node limits) head.nodes ≡ true
+visits_cut : (limits : Limits) (s : Shape) (head : BatchHead) (body : List ℕ) (n b : ℕ) → all (is_node limits) head.nodes ≡ true
     → n + nodes_in s ≤ length head.nodes
-    → texts_in (cut s head body n b) + slots_in (drop (n + nodes_in s) head.nodes) ≤ slots_in (drop n head.nodes)
+    → visits_in (cut s head body n b) + slots_in (drop (n + nodes_in s) head.nodes) ≤ slots_in (drop n head.nodes)
 unfolding cut nodes_in
-texts_cut limits bare head body n b h l = let e : n + 0 ≡ n = omega arith in rw e (omega arith)
-texts_cut limits (field layout children rest) head body n b h l =
+visits_cut limits bare head body n b h l = let e : n + 0 ≡ n = omega arith in rw e (omega arith)
+visits_cut limits (field layout children rest) head body n b h l =
     let here = slots_from head.nodes n (omega arith) in
     let node = (and_parts _ _ (all_at (is_node limits) head.nodes n (pos 0, pos 0) h (omega arith))).0 in
-    let own = text_most (column_at layout head body n b) in
+    let own = own_most (is_visited (column_at layout head body n b) (cut children head body (n + 1) (b + own_buffers layout)))
+    (unsigned_abs (node_at head n).0) in
     let count = count_is limits (node_at head n).0 node in
-    let below = slots_less head.nodes (n + 1) (nodes_in children) (omega arith) in
-    let after = texts_cut limits rest head body (n + 1 + nodes_in children) (b + own_buffers layout + buffers_in children) h (omega arith)
+    let below = visits_cut limits children head body (n + 1) (b + own_buffers layout) h (omega arith) in
+    let after = visits_cut limits rest head body (n + 1 + nodes_in children) (b + own_buffers layout + buffers_in children) h (omega arith)
     in
     let end : n + (1 + nodes_in children + nodes_in rest) ≡ n + 1 + nodes_in children + nodes_in rest = omega arith in
     rw end (omega (arith, here, own, count, below, after))
 
 -- the slots of the nodes
-pub texts_most : (limits : Limits) (s : Shape) (head : BatchHead) (body : List ℕ) → all (is_node limits) head.nodes ≡ true
+pub visits_most : (limits : Limits) (s : Shape) (head : BatchHead) (body : List ℕ) → all (is_node limits) head.nodes ≡ true
     → nodes_in s ≤ length head.nodes
-    → texts_in (cut s head body 0 0) ≤ slots_in head.nodes
-texts_most limits s head body h l = omega (arith, texts_cut limits s head body 0 0 h (omega arith))
+    → visits_in (cut s head body 0 0) ≤ slots_in head.nodes
+visits_most limits s head body h l = omega (arith, visits_cut limits s head body 0 0 h (omega arith))
 
 -- nodes have at most 2^31 slots each
 pub slots_most : (limits : Limits) (nodes : List (ℤ × ℤ)) → all (is_node limits) nodes ≡ true → slots_in nodes ≤ 2 ^ 31 * length nodes

@@ -1,5 +1,5 @@
 -- What is a record batch under some limits is one under all that cover them.
-use Rattle.std.proofs.Common.{◌≤◌, ℕ, ℤ, pos, ◌≤ℤ◌, List, arith}
+use Rattle.std.proofs.Common.{ℕ, ℤ, List, arith}
 use Rattle.std.proofs.lemmas.Int.{ints}
 use Rattle.std.proofs.lemmas.List.Elements.{All-weaker}
 use Rattle.ipc_model.specs.Limits.{Covers}
@@ -24,13 +24,14 @@ node_wider limits others node c h = record {
 pub rows_wider : (limits others : Limits) (fields : List Field) (head : BatchHead) (body : List ℕ) (rows : List (List Value))
     → Covers others limits → Rows limits fields head body rows → Rows others fields head body rows
 rows_wider limits others fields head body rows c r = record {
-  types = r.types;
+  plain = r.plain;
   nodes = r.nodes;
   buffers = r.buffers;
   lengths = record {
     batch = count_wider limits others head.length c r.lengths.batch;
     nodes = All-weaker (IsNode limits) (IsNode others) (λ node. node_wider limits others node c) head.nodes r.lengths.nodes;
     columns = r.lengths.columns;
+    children = r.lengths.children;
   };
   ranges = r.ranges;
   bytes = r.bytes;

@@ -1,7 +1,7 @@
 -- The same facts as tests that compute, by the cause that is answered where one fails (Arrow
 -- Columnar Format, "Physical Memory Layout").
-use Rattle.std.specs.Prelude.{◌≡◌, ⊤, ℕ, zero, suc, ◌+◌, ◌-◌, ◌*◌, ◌/◌, ◌^◌, ◌<◌, Bool, true, false}
-use Rattle.std.specs.Prelude.{◌&&◌, ◌||◌, not, ◌==◌, nat_le, ℤ, pos, int_le, int_lt, unsigned_abs}
+use Rattle.std.specs.Prelude.{◌≡◌, ⊤, ℕ, zero, suc, ◌+◌, ◌-◌, ◌*◌, ◌/◌, ◌<◌, ◌≤◌, Bool, true}
+use Rattle.std.specs.Prelude.{false, ◌&&◌, ◌||◌, not, ◌==◌, nat_le, ℤ, pos, int_le, unsigned_abs}
 use Rattle.std.specs.Prelude.{List, [], ◌∷◌, length, if◌then◌else◌, Result, Ok, Err}
 use Rattle.std.specs.Str.{is_utf8, IsCharBoundary}
 use Rattle.ipc_scalar.specs.Bytes.{clear}
@@ -13,7 +13,7 @@ use Rattle.ipc_model.specs.declared.layout.Layout.TheVariants as l
 use Rattle.ipc_model.specs.Layouts.{number_bytes, has_validity}
 use Rattle.ipc_column.specs.declared.cause.Cause.{Cause}
 use Rattle.ipc_column.specs.declared.cause.Cause.TheVariants as cause
-use Rattle.ipc_column.specs.Columns.{Column, Columns, every, every_top}
+use Rattle.ipc_column.specs.Columns.{Column, Columns, none, column, every, every_top}
 use Rattle.ipc_column.specs.Shapes.{Shape, nodes_in, buffers_in, cut}
 use Rattle.ipc_column.specs.Values.{rows_of, offset, place, between, is_valid}
 use Rattle.ipc_model.specs.declared.value.Value.{Value}
@@ -93,6 +93,7 @@ holds_values _ n bytes = true
 -- so many bytes hold the offsets of n slots
 abbrev pub holds_offsets : Layout → ℕ → ℕ → Bool
 holds_offsets (l.VariableBytes utf8) n bytes = n == 0 || nat_le (4 * (n + 1)) bytes
+holds_offsets l.Lists n bytes = n == 0 || nat_le (4 * (n + 1)) bytes
 holds_offsets _ n bytes = true
 
 -- offset i isn't above the next
@@ -104,53 +105,93 @@ abbrev pub are_ascending : List ℕ → ℕ → ℕ → Bool
 are_ascending offsets n size = int_le (pos 0) (offset offsets 0)
     && (all_below (is_ascending_at offsets) n && nat_le (place offsets n) size)
 
--- the same of a column's, where they are there
-abbrev pub in_order : Layout → ℕ → List ℕ → ℕ → Bool
-in_order (l.VariableBytes utf8) n offsets size =
+-- each of the columns has n slots at least
+abbrev pub have_slots : ℕ → Columns → Bool
+have_slots n cs = every_top (λ c. nat_le n c.slots) cs
+
+-- the offsets that a column's slots need, where they are there: those of texts and bytes end within
+-- so many bytes, those of lists within the slots of the child
+abbrev pub in_order : Layout → ℕ → List ℕ → ℕ → Columns → Bool
+in_order (l.VariableBytes utf8) n offsets size children =
     n == 0 || (not (nat_le (4 * (n + 1)) (length offsets)) || are_ascending offsets n size)
-in_order _ n offsets size = true
+in_order l.Lists n offsets size children = n == 0 || (not (nat_le (4 * (n + 1)) (length offsets))
+    || (are_ascending offsets n (place offsets n) && have_slots (place offsets n) children))
+in_order _ n offsets size children = true
 
--- what slot i holds is UTF-8, where it is a text
-abbrev pub is_text : Layout → List ℕ → List ℕ → ℕ → Bool
-is_text (l.VariableBytes true) offsets values i = is_utf8 (between offsets values i)
-is_text _ offsets values i = true
+-- the children of n structs have n slots at least
+abbrev pub are_long : Layout → ℕ → Columns → Bool
+are_long l.Structs n children = have_slots n children
+are_long _ n children = true
 
--- the n slots of one text begin where that may be cut
-abbrev pub AreCuts : List ℕ → List ℕ → ℕ → Type 0
-AreCuts offsets text n = (i : ℕ) → i < n → IsCharBoundary text (place offsets i - place offsets 0)
+-- a test of n slots from slot i on
+abbrev pub all_slots : (ℕ → Bool) → ℕ → ℕ → Bool
+all_slots test i n = all_below (λ k. test (i + k)) n
+
+-- what valid slot i holds is UTF-8 where it is a text; `below` tests a range of the children's
+-- slots
+abbrev pub good_below : Layout → (ℕ → ℕ → Bool) → List ℕ → List ℕ → ℕ → Bool
+good_below (l.VariableBytes true) below offsets values i = is_utf8 (between offsets values i)
+good_below l.Lists below offsets values i = below (place offsets i) (place offsets (i + 1))
+good_below l.Structs below offsets values i = below i (i + 1)
+good_below _ below offsets values i = true
+
+-- what the slots from i up to j of a list or struct lead to is good
+abbrev pub range_good : Layout → (ℕ → ℕ → Bool) → List ℕ → ℕ → ℕ → Bool
+range_good l.Lists below offsets i j = below (place offsets i) (place offsets j)
+range_good l.Structs below offsets i j = below i j
+range_good _ below offsets i j = true
 
 -- slot i is null, or holds what its type asks for
-abbrev pub slot_good : Layout → List ℕ → List ℕ → List ℕ → ℕ → Bool
-slot_good layout validity offsets values i =
-    not (is_valid validity i) || is_text layout offsets values i
+abbrev pub good_slot : (ℕ → ℕ → Bool) → Column → ℕ → Bool
+good_slot below c i =
+    not (is_valid c.validity i) || good_below c.layout below c.offsets c.values i
 
--- the same of a column's slots
-abbrev pub is_good : Column → ℕ → Bool
-is_good c = slot_good c.layout c.validity c.offsets c.values
+-- the slots from i up to j are good in each column; nothing is asked below a null slot
+abbrev pub good : Columns → ℕ → ℕ → Bool
+good none i j = true
+good (column c children rest) i j =
+    all_slots (good_slot (good children) c) i (j - i) && good rest i j
+
+-- slot i is null, or holds a text
+abbrev pub text_good : List ℕ → List ℕ → List ℕ → ℕ → Bool
+text_good validity offsets values i =
+    not (is_valid validity i) || is_utf8 (between offsets values i)
+
+-- the slots of one text, from slot i up to slot j, begin where that may be cut
+abbrev pub AreCuts : List ℕ → List ℕ → ℕ → ℕ → Type 0
+AreCuts offsets text i j = (k : ℕ) → i ≤ k → k < j
+    → IsCharBoundary text (place offsets k - place offsets i)
 
 -- the nulls among the first n slots
 abbrev pub nulls_in : List ℕ → ℕ → ℕ
 nulls_in validity n = if length validity == 0 then 0 else clear validity n
 
--- the tests of a column
-abbrev pub passes : Cause → Column → Bool
-passes cause.BufferTooShort c = has_bitmap c.slots (length c.validity)
+-- the tests of a column and the columns of its children
+abbrev pub passes : Cause → Column → Columns → Bool
+passes cause.BadNode c children = are_long c.layout c.slots children
+passes cause.BufferTooShort c children = has_bitmap c.slots (length c.validity)
     && (holds_values c.layout c.slots (length c.values)
     && holds_offsets c.layout c.slots (length c.offsets))
-passes cause.BadNullCount c = not (has_validity c.layout)
+passes cause.BadNullCount c children = not (has_validity c.layout)
     || (not (has_bitmap c.slots (length c.validity)) || (c.nulls == nulls_in c.validity c.slots))
-passes cause.BadOffsets c = in_order c.layout c.slots c.offsets (length c.values)
-passes _ c = true
+passes cause.BadOffsets c children =
+    in_order c.layout c.slots c.offsets (length c.values) children
+passes _ c children = true
 
 -- the tests of a column that has one slot for each of n rows
 abbrev pub top_passes : Cause → ℕ → Column → Bool
 top_passes cause.BadNode n c = c.slots == n
-top_passes cause.ValueNotUtf8 n c = all_below (is_good c) c.slots
 top_passes _ n c = true
+
+-- the test of what n rows of columns show
+abbrev pub visible_passes : Cause → ℕ → Columns → Bool
+visible_passes cause.ValueNotUtf8 n cs = good cs 0 n
+visible_passes _ n cs = true
 
 -- the tests of n rows of columns
 abbrev pub all_pass : Cause → ℕ → Columns → Bool
-all_pass why n cs = every (passes why) cs && every_top (top_passes why n) cs
+all_pass why n cs = every (passes why) cs
+    && (every_top (top_passes why n) cs && visible_passes why n cs)
 
 -- the tests of the parts
 abbrev pub fits : Limits → Shape → BatchHead → List ℕ → Cause → Bool

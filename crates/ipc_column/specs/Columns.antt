@@ -17,20 +17,21 @@ pub data Columns : Type 0 where
   none : Columns
   column : Column → Columns → Columns → Columns
 
--- a fact of each column, children included
-abbrev pub Each : (Column → Type 0) → Columns → Type 0
+-- a fact of each column and the columns of its children, and of all below it
+abbrev pub Each : (Column → Columns → Type 0) → Columns → Type 0
 Each P none = ⊤
-Each P (column c children rest) = P c × (Each P children × Each P rest)
+Each P (column c children rest) = P c children × (Each P children × Each P rest)
 
 -- a fact of each column, without the children
 abbrev pub EachTop : (Column → Type 0) → Columns → Type 0
 EachTop P none = ⊤
 EachTop P (column c children rest) = P c × EachTop P rest
 
--- a test of each column, children included
-abbrev pub every : (Column → Bool) → Columns → Bool
+-- a test of each column and the columns of its children, and of all below it
+abbrev pub every : (Column → Columns → Bool) → Columns → Bool
 every test none = true
-every test (column c children rest) = test c && (every test children && every test rest)
+every test (column c children rest) =
+    test c children && (every test children && every test rest)
 
 -- a test of each column, without the children
 abbrev pub every_top : (Column → Bool) → Columns → Bool

@@ -1,9 +1,12 @@
 pub mod Columns
 pub mod Shapes
 pub mod Values
+pub mod Cells
 pub mod Rules
 pub mod Rows
 pub mod Checks
+pub mod Weights
+pub mod Lent
 pub mod Views
 pub mod Contents
 pub mod Sharing

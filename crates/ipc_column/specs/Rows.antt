@@ -1,26 +1,55 @@
 -- When the parts of a record batch give rows, and what a refusal says of them (Arrow Columnar
 -- Format, "RecordBatch message").
-use Rattle.std.specs.Prelude.{◌≡◌, ℕ, ◌<◌, true, pos, List, [], length, slice_index_or, ⊤}
+use Rattle.std.specs.Prelude.{◌≡◌, ℕ, ◌<◌, Bool, true, false, ◌&&◌, pos, List, [], ◌∷◌, length, ⊤}
+use Rattle.std.specs.Prelude.{map, slice_index_or}
 use Rattle.std.specs.List.{All}
 use Rattle.ipc_model.specs.declared.fault.Fault.{Fault}
 use Rattle.ipc_model.specs.declared.fault.Fault.TheVariants as fault
-use Rattle.ipc_model.specs.declared.schema.Field.{Field}
+use Rattle.ipc_model.specs.declared.layout.Layout.{Layout}
+use Rattle.ipc_model.specs.declared.layout.Layout.TheVariants as l
+use Rattle.ipc_model.specs.Layouts.{layout}
+use Rattle.ipc_model.specs.declared.schema.Field.{Field, fold-Field}
+use Rattle.ipc_model.specs.declared.schema.Field.TheOpen.{Field-F}
 use Rattle.ipc_model.specs.declared.value.Value.{Value}
 use Rattle.ipc_meta.specs.declared.head.BatchHead.{BatchHead}
-use Rattle.ipc_meta.specs.Supported.{are_supported}
 use Rattle.ipc_column.specs.Shapes.{columns_of}
 use Rattle.ipc_column.specs.Values.{row}
 use Rattle.ipc_column.specs.Rules.{HasNodes, HasBuffers, HasLengths, HasRanges, HasBytes}
 use Rattle.ipc_column.specs.Rules.{HasNullCounts, HasOrder, HasTexts, IsSlotCount, IsNode}
 use Rattle.ipc_model.specs.declared.limits.Limits.{Limits}
 
+-- columns of this layout are read; dictionary-encoded ones and lists of a fixed size aren't yet
+abbrev pub is_read : Layout → Bool
+is_read l.Unsupported = false
+is_read l.Null = true
+is_read l.Bits = true
+is_read (l.Numbers bits signed) = true
+is_read (l.FixedBytes width) = true
+is_read (l.VariableBytes utf8) = true
+is_read l.Lists = true
+is_read l.Structs = true
+
+-- all of these hold
+abbrev pub all_true : List Bool → Bool
+all_true [] = true
+all_true (b ∷ bs) = b && all_true bs
+
+-- columns of a field are read, and of those below it
+abbrev pub plain_step : Field-F Bool → Bool
+plain_step f = is_read (layout f.kind f.dictionary) && all_true f.children
+
+-- columns of each field, and of each below, are read (Schema.fbs, union Type and table
+-- DictionaryEncoding)
+abbrev pub are_plain : List Field → Bool
+are_plain fields = all_true (map (fold-Field Bool plain_step) fields)
+
 -- The head and the body are a record batch of the fields (Arrow Columnar Format, "RecordBatch
 -- message"), and these are its rows: in row i stand the values of slot i, a column beside the
 -- other.
 pub record Rows (limits : Limits) (fields : List Field) (head : BatchHead) (body : List ℕ)
     (rows : List (List Value)) : Type 0 where
-  -- each field is of a type that is read
-  pub types : are_supported fields ≡ true
+  -- each column has a layout that is read
+  pub plain : are_plain fields ≡ true
   -- the head has the nodes and the buffers of the fields, and no others
   pub nodes : HasNodes fields head
   pub buffers : HasBuffers fields head

@@ -1,7 +1,8 @@
 -- What the standard asks of a record batch's parts (Arrow Columnar Format, "Physical Memory
 -- Layout").
-use Rattle.std.specs.Prelude.{◌≡◌, ℕ, ◌+◌, ◌*◌, ◌/◌, ◌^◌, ◌<◌, ◌≤◌, ℤ, pos, ◌+ℤ◌, ◌≤ℤ◌, ◌<ℤ◌}
-use Rattle.std.specs.Prelude.{negsuc, true, List, [], ◌∷◌, length, if◌then◌else◌, ⊤}
+use Rattle.std.specs.Prelude.{◌≡◌, ℕ, ◌+◌, ◌*◌, ◌/◌, ◌<◌, ◌≤◌, ℤ, pos, ◌+ℤ◌, ◌≤ℤ◌, ◌<ℤ◌}
+use Rattle.std.specs.Prelude.{negsuc, unsigned_abs, Bool, true, false, ◌&&◌, ◌||◌, not, ◌==◌, ⊤}
+use Rattle.std.specs.Prelude.{List, [], ◌∷◌, length, if◌then◌else◌}
 use Rattle.std.specs.List.{All}
 use Rattle.std.specs.Str.{IsUtf8}
 use Rattle.ipc_scalar.specs.Bytes.{clear}
@@ -11,7 +12,7 @@ use Rattle.ipc_model.specs.declared.layout.Layout.{Layout}
 use Rattle.ipc_model.specs.declared.layout.Layout.TheVariants as l
 use Rattle.ipc_model.specs.Layouts.{number_bytes, has_validity, is_texts}
 use Rattle.ipc_column.specs.Columns.{Column, Columns, none, column, Each, EachTop}
-use Rattle.ipc_column.specs.Values.{offset, between, is_valid}
+use Rattle.ipc_column.specs.Values.{offset, place, between, is_valid}
 use Rattle.ipc_column.specs.Shapes.{shape_of, nodes_in, buffers_in, columns_of}
 use Rattle.ipc_model.specs.declared.limits.Limits.{Limits}
 
@@ -34,13 +35,27 @@ pub record IsNode (limits : Limits) (node : ℤ × ℤ) : Type 0 where
   pub nulls_from : pos 0 ≤ℤ node.1
   pub nulls_to : node.1 ≤ℤ node.0
 
+-- each child of n structs has n slots at least; of the children of others nothing is asked (Arrow
+-- Columnar Format, "Struct Layout")
+abbrev pub HasLongChildren : Layout → ℕ → Columns → Type 0
+HasLongChildren l.Structs n children = EachTop (λ c. n ≤ c.slots) children
+HasLongChildren l.Lists n children = ⊤
+HasLongChildren l.Null n children = ⊤
+HasLongChildren l.Bits n children = ⊤
+HasLongChildren (l.Numbers bits signed) n children = ⊤
+HasLongChildren (l.FixedBytes width) n children = ⊤
+HasLongChildren (l.VariableBytes utf8) n children = ⊤
+HasLongChildren l.Unsupported n children = ⊤
+
 -- the batch's length and those of its nodes; the columns are as long as the batch (Message.fbs,
--- RecordBatch, "length")
+-- RecordBatch, "length"), and the children of structs as long as these
 pub record HasLengths (limits : Limits) (fields : List Field) (head : BatchHead)
     (body : List ℕ) : Type 0 where
   pub batch : IsSlotCount limits head.length
   pub nodes : All (IsNode limits) head.nodes
   pub columns : EachTop (λ c. pos c.slots ≡ head.length) (columns_of fields head body)
+  pub children : Each (λ c children. HasLongChildren c.layout c.slots children)
+      (columns_of fields head body)
 
 -- a range that begins at 0 or above and that, unless it is empty, ends within so many bytes
 -- (Schema.fbs, Buffer)
@@ -60,12 +75,16 @@ HoldValues (l.Numbers bits signed) n bytes = number_bytes bits * n ≤ bytes
 HoldValues (l.FixedBytes width) n bytes = width * n ≤ bytes
 HoldValues l.Null n bytes = ⊤
 HoldValues (l.VariableBytes utf8) n bytes = ⊤
+HoldValues l.Lists n bytes = ⊤
+HoldValues l.Structs n bytes = ⊤
 HoldValues l.Unsupported n bytes = ⊤
 
 -- so many bytes hold the offsets of n slots, one more than there are slots, or none for no slots
--- (Arrow Columnar Format, "Variable-size Binary Layout")
+-- (Arrow Columnar Format, "Variable-size Binary Layout", "Variable-size List Layout")
 abbrev pub HoldOffsets : Layout → ℕ → ℕ → Type 0
 HoldOffsets (l.VariableBytes utf8) n bytes = 0 < n → 4 * (n + 1) ≤ bytes
+HoldOffsets l.Lists n bytes = 0 < n → 4 * (n + 1) ≤ bytes
+HoldOffsets l.Structs n bytes = ⊤
 HoldOffsets l.Null n bytes = ⊤
 HoldOffsets l.Bits n bytes = ⊤
 HoldOffsets (l.Numbers bits signed) n bytes = ⊤
@@ -85,7 +104,7 @@ pub record IsLongEnough (c : Column) : Type 0 where
 
 -- each column is long enough
 abbrev pub HasBytes : List Field → BatchHead → List ℕ → Type 0
-HasBytes fields head body = Each IsLongEnough (columns_of fields head body)
+HasBytes fields head body = Each (λ c children. IsLongEnough c) (columns_of fields head body)
 
 -- the null count is that of a bitmap's clear bits, and 0 without a bitmap (Arrow Columnar Format,
 -- "Null count"); a column of the null layout may have any
@@ -96,58 +115,75 @@ pub record CountsNulls (c : Column) : Type 0 where
 
 -- each column counts its nulls
 abbrev pub HasNullCounts : List Field → BatchHead → List ℕ → Type 0
-HasNullCounts fields head body = Each CountsNulls (columns_of fields head body)
+HasNullCounts fields head body = Each (λ c children. CountsNulls c) (columns_of fields head body)
 
--- the offsets of n slots begin at 0 or above, don't decrease and end within so many bytes (Arrow
--- Columnar Format, "Variable-size Binary Layout")
-pub record AreOffsets (offsets : List ℕ) (n size : ℕ) : Type 0 where
+-- the offsets of n slots begin at 0 or above, don't decrease and end within a bound (Arrow Columnar
+-- Format, "Variable-size Binary Layout", "Variable-size List Layout")
+pub record AreOffsets (offsets : List ℕ) (n : ℕ) (Within : ℤ → Type 0) : Type 0 where
   pub from : pos 0 ≤ℤ offset offsets 0
   pub order : (i : ℕ) → i < n → offset offsets i ≤ℤ offset offsets (i + 1)
-  pub to : offset offsets n ≤ℤ pos size
+  pub to : Within (offset offsets n)
 
--- the offsets that a column's slots need, where they are there
-abbrev pub HasOffsets : Layout → ℕ → List ℕ → ℕ → Type 0
-HasOffsets (l.VariableBytes utf8) n offsets size = 0 < n → 4 * (n + 1) ≤ length offsets
-    → AreOffsets offsets n size
-HasOffsets l.Null n offsets size = ⊤
-HasOffsets l.Bits n offsets size = ⊤
-HasOffsets (l.Numbers bits signed) n offsets size = ⊤
-HasOffsets (l.FixedBytes width) n offsets size = ⊤
-HasOffsets l.Unsupported n offsets size = ⊤
+-- the offsets that a column's slots need, where they are there: those of texts and bytes end within
+-- so many bytes, those of lists within the slots of the child
+abbrev pub HasOffsets : Layout → ℕ → List ℕ → ℕ → Columns → Type 0
+HasOffsets (l.VariableBytes utf8) n offsets size children = 0 < n → 4 * (n + 1) ≤ length offsets
+    → AreOffsets offsets n (λ end. end ≤ℤ pos size)
+HasOffsets l.Lists n offsets size children = 0 < n → 4 * (n + 1) ≤ length offsets
+    → AreOffsets offsets n (λ end. EachTop (λ c. end ≤ℤ pos c.slots) children)
+HasOffsets l.Structs n offsets size children = ⊤
+HasOffsets l.Null n offsets size children = ⊤
+HasOffsets l.Bits n offsets size children = ⊤
+HasOffsets (l.Numbers bits signed) n offsets size children = ⊤
+HasOffsets (l.FixedBytes width) n offsets size children = ⊤
+HasOffsets l.Unsupported n offsets size children = ⊤
 
--- each column has them, within its values
+-- each column has them, within its values or its child
 abbrev pub HasOrder : List Field → BatchHead → List ℕ → Type 0
-HasOrder fields head body = Each (λ c. HasOffsets c.layout c.slots c.offsets (length c.values))
+HasOrder fields head body =
+    Each (λ c children. HasOffsets c.layout c.slots c.offsets (length c.values) children)
     (columns_of fields head body)
 
--- what slot i holds is UTF-8, where it is a text (Schema.fbs, Utf8)
-abbrev pub IsText : Layout → List ℕ → List ℕ → ℕ → Type 0
-IsText (l.VariableBytes true) offsets values i = IsUtf8 (between offsets values i)
-IsText (l.VariableBytes utf8) offsets values i = ⊤
-IsText l.Null offsets values i = ⊤
-IsText l.Bits offsets values i = ⊤
-IsText (l.Numbers bits signed) offsets values i = ⊤
-IsText (l.FixedBytes width) offsets values i = ⊤
-IsText l.Unsupported offsets values i = ⊤
+-- what slot i holds is UTF-8, where it is a text (Schema.fbs, Utf8); of a list that is asked of the
+-- slots that it holds, of a struct of its slot in each child
+abbrev pub IsText : Layout → (ℕ → Type 0) → List ℕ → List ℕ → ℕ → Type 0
+IsText (l.VariableBytes true) below offsets values i = IsUtf8 (between offsets values i)
+IsText (l.VariableBytes utf8) below offsets values i = ⊤
+IsText l.Lists below offsets values i = (j : ℕ) → place offsets i ≤ j
+    → j < place offsets (i + 1) → below j
+IsText l.Structs below offsets values i = below i
+IsText l.Null below offsets values i = ⊤
+IsText l.Bits below offsets values i = ⊤
+IsText (l.Numbers bits signed) below offsets values i = ⊤
+IsText (l.FixedBytes width) below offsets values i = ⊤
+IsText l.Unsupported below offsets values i = ⊤
 
--- each valid slot of a column's
-abbrev pub SpellsTexts : Column → Type 0
-SpellsTexts c = (i : ℕ) → i < c.slots → is_valid c.validity i ≡ true
-    → IsText c.layout c.offsets c.values i
+-- slot i of each column, where it is valid: what stands at a null slot or below it isn't looked at
+abbrev pub SpellsTexts : Columns → ℕ → Type 0
+SpellsTexts none i = ⊤
+SpellsTexts (column c children rest) i = (is_valid c.validity i ≡ true
+    → IsText c.layout (SpellsTexts children) c.offsets c.values i) × SpellsTexts rest i
 
--- each column, whose slots are the rows', spells its texts; what stands at a null slot isn't looked
--- at
+-- each row spells its texts
 abbrev pub HasTexts : List Field → BatchHead → List ℕ → Type 0
-HasTexts fields head body = EachTop SpellsTexts (columns_of fields head body)
+HasTexts fields head body = (i : ℕ) → i < unsigned_abs head.length
+    → SpellsTexts (columns_of fields head body) i
 
--- the slots that may be visited one by one: those of texts
-abbrev pub text_slots : Column → ℕ
-text_slots c = if is_texts c.layout then c.slots else 0
+-- texts stand in one of the columns, or below it
+abbrev pub have_texts : Columns → Bool
+have_texts none = false
+have_texts (column c children rest) = is_texts c.layout || (have_texts children || have_texts rest)
 
--- the same of columns side by side
-abbrev pub texts_in : Columns → ℕ
-texts_in none = 0
-texts_in (column c children rest) = text_slots c + texts_in rest
+-- the slots of a column may be visited one by one: it holds texts, or it has a validity bitmap and
+-- texts stand below it
+abbrev pub is_visited : Column → Columns → Bool
+is_visited c children = is_texts c.layout || (not (length c.validity == 0) && have_texts children)
+
+-- how many slots may be visited one by one
+abbrev pub visits_in : Columns → ℕ
+visits_in none = 0
+visits_in (column c children rest) = (if is_visited c children then c.slots else 0)
+    + visits_in children + visits_in rest
 
 -- a number, or 0 where it is negative
 abbrev pub count_of : ℤ → ℕ

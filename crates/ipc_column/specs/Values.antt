@@ -1,5 +1,5 @@
 -- The values of slots, and the rows of columns (Arrow Columnar Format, "Physical Memory Layout").
-use Rattle.std.specs.Prelude.{ℕ, zero, suc, ◌+◌, ◌*◌, ℤ, unsigned_abs, Bool, true, false, ◌==◌}
+use Rattle.std.specs.Prelude.{ℕ, zero, suc, ◌+◌, ◌-◌, ◌*◌, ℤ, unsigned_abs, Bool, true, false, ◌==◌}
 use Rattle.std.specs.Prelude.{slice_range, List, [], ◌∷◌, ◌++◌, length, if◌then◌else◌}
 use Rattle.std.specs.Int.{w8, cast_signed}
 use Rattle.ipc_scalar.specs.Bytes.{bit, num, byte, int16, int32, int64}
@@ -10,8 +10,6 @@ use Rattle.ipc_model.specs.declared.value.Value.TheVariants as v
 use Rattle.ipc_model.specs.declared.layout.Layout.{Layout}
 use Rattle.ipc_model.specs.declared.layout.Layout.TheVariants as l
 use Rattle.ipc_model.specs.Layouts.{number_bytes}
-use Rattle.ipc_column.specs.declared.cell.Cell.{Cell}
-use Rattle.ipc_column.specs.declared.cell.Cell.TheVariants as cell
 use Rattle.ipc_column.specs.Columns.{Column, Columns, none, column}
 
 -- a slot is valid where its bit is set, or where there is no bitmap (Arrow Columnar Format,
@@ -38,40 +36,67 @@ place offsets i = unsigned_abs (offset offsets i)
 abbrev pub between : List ℕ → List ℕ → ℕ → List ℕ
 between offsets values i = slice_range values (place offsets i) (place offsets (i + 1))
 
--- what a valid slot holds (Arrow Columnar Format, "Null Layout", "Fixed-size Primitive Layout",
--- "Variable-size Binary Layout")
-abbrev pub own_value : Layout → List ℕ → List ℕ → ℕ → Value
-own_value l.Null offsets values i = v.Null
-own_value l.Bits offsets values i = v.Bool (bit values i)
-own_value (l.Numbers bits true) offsets values i =
+-- where the slots of the children begin that belong to slot i: in a list at offset i, in a struct
+-- at slot i (Arrow Columnar Format, "Variable-size List Layout", "Struct Layout")
+abbrev pub child_slot : Layout → List ℕ → ℕ → ℕ
+child_slot l.Lists offsets i = place offsets i
+child_slot _ offsets i = i
+
+-- the values of a slot are values of the children
+abbrev pub is_nested : Layout → Bool
+is_nested l.Lists = true
+is_nested l.Structs = true
+is_nested _ = false
+
+-- the values of a list or of a struct
+abbrev pub Cells : Type 0
+Cells = List Value
+
+-- the first of the values, or null where there is none
+abbrev pub first_of : List Value → Value
+first_of [] = v.Null
+first_of (value ∷ values) = value
+
+-- the values of n slots from slot i on
+abbrev pub items : (ℕ → Value) → ℕ → ℕ → List Value
+items value i zero = []
+items value i (suc n) = value i ∷ items value (i + 1) n
+
+-- what a valid slot holds, where `below` gives the values of a slot of the children (Arrow Columnar
+-- Format, "Null Layout", "Fixed-size Primitive Layout", "Variable-size Binary Layout"): in a list
+-- the values of its slots of the one child, in a struct the value of its slot in each child
+abbrev pub own_value : Layout → (ℕ → List Value) → List ℕ → List ℕ → ℕ → Value
+own_value l.Null below offsets values i = v.Null
+own_value l.Bits below offsets values i = v.Bool (bit values i)
+own_value (l.Numbers bits true) below offsets values i =
     v.Int (signed_at bits values (number_bytes bits * i))
-own_value (l.Numbers bits false) offsets values i =
+own_value (l.Numbers bits false) below offsets values i =
     v.UInt (num values (number_bytes bits * i) (number_bytes bits))
-own_value (l.FixedBytes width) offsets values i =
+own_value (l.FixedBytes width) below offsets values i =
     v.Bytes (slice_range values (width * i) (width * i + width))
-own_value (l.VariableBytes true) offsets values i = v.Text (between offsets values i)
-own_value (l.VariableBytes false) offsets values i = v.Bytes (between offsets values i)
-own_value l.Unsupported offsets values i = v.Null
+own_value (l.VariableBytes true) below offsets values i = v.Text (between offsets values i)
+own_value (l.VariableBytes false) below offsets values i = v.Bytes (between offsets values i)
+own_value l.Lists below offsets values i =
+    v.List (items (λ j. first_of (below j)) (place offsets i)
+    (place offsets (i + 1) - place offsets i))
+own_value l.Structs below offsets values i = v.Struct (below i)
+own_value l.Unsupported below offsets values i = v.Null
 
 -- the value of slot i
-abbrev pub value_of : Column → ℕ → Value
-value_of c i = if is_valid c.validity i then own_value c.layout c.offsets c.values i else v.Null
+abbrev pub value_of : (ℕ → List Value) → Column → ℕ → Value
+value_of below c i =
+    if is_valid c.validity i then own_value c.layout below c.offsets c.values i else v.Null
 
--- the values of slot i in each column
+-- the values of slot i in each column; nothing is asked below a null slot
 abbrev pub row : Columns → ℕ → List Value
 row none i = []
-row (column c children rest) i = value_of c i ∷ row rest i
+row (column c children rest) i = value_of (row children) c i ∷ row rest i
+
+-- the value of slot i in the first column
+abbrev pub first_at : Columns → ℕ → Value
+first_at cs i = first_of (row cs i)
 
 -- the first n rows
 abbrev pub rows_of : Columns → ℕ → List (List Value)
 rows_of cs zero = []
 rows_of cs (suc n) = rows_of cs n ++ (row cs n ∷ [])
-
--- the value that a cell shows
-abbrev pub cell_value : Cell → Value
-cell_value cell.Null = v.Null
-cell_value (cell.Bool truth) = v.Bool truth
-cell_value (cell.Int number) = v.Int number
-cell_value (cell.UInt number) = v.UInt number
-cell_value (cell.Bytes bytes) = v.Bytes bytes.now
-cell_value (cell.Text text) = v.Text text.now

@@ -5,7 +5,7 @@ use Rattle.ipc_column.specs.declared.ranges.BufferRange.{BufferRange}
 use Rattle.ipc_column.specs.declared.ranges.ColumnRanges.TheOpen.{ColumnRanges-F}
 use Rattle.ipc_column.specs.declared.ranges.ColumnRanges.TheFolds.{fold-ColumnRanges}
 use Rattle.ipc_column.specs.declared.ranges.ColumnRanges.TheViews.{out-ColumnRanges}
-use Rattle.ipc_column.specs.Columns.{Column, Columns, forest, bytes_of}
+use Rattle.ipc_column.specs.Columns.{Column, Columns, none, column, forest, bytes_of}
 
 -- the bytes in the range of a buffer
 abbrev pub span_bytes : List ℕ → BufferRange → List ℕ
@@ -55,3 +55,7 @@ own_column body p = record {
   values =
       span_bytes body (out-ColumnRanges p).values;
 }
+
+-- a part's column and its children's, with no column beside it
+abbrev pub one : List ℕ → ColumnRanges → Columns
+one body p = column (column_of body p) (children_of body p) none

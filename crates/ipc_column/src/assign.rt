@@ -81,7 +81,7 @@ fn offsets_span(layout: Layout, head: &BatchHead, first: usize) -> BufferRange
     ensures { (body : List ℕ) → span_bytes body result ≡ offsets_at layout head.now body first }
 {
     match layout {
-        Layout::VariableBytes { .. } => span_at(head, first + 1),
+        Layout::VariableBytes { .. } | Layout::Lists => span_at(head, first + 1),
         _ => BufferRange { start: 0, len: 0 },
     }
 }
@@ -94,7 +94,9 @@ fn values_span(layout: Layout, head: &BatchHead, first: usize) -> BufferRange
     ensures { (body : List ℕ) → span_bytes body result ≡ values_at layout head.now body first }
 {
     match layout {
-        Layout::Null | Layout::Unsupported => BufferRange { start: 0, len: 0 },
+        Layout::Null | Layout::Lists | Layout::Structs | Layout::Unsupported => {
+            BufferRange { start: 0, len: 0 }
+        }
         Layout::VariableBytes { .. } => span_at(head, first + 2),
         _ => span_at(head, first + 1),
     }

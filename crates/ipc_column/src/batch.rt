@@ -4,14 +4,13 @@ ghost use Rattle.std.specs.Prelude.{slice_index_or};
 ghost use Rattle.std.specs.List.{AllByRecursion};
 ghost use Rattle.ipc_model.specs.declared.value.Value.{Value};
 ghost use Rattle.ipc_model.specs.Entries.{entries};
-ghost use Rattle.ipc_meta.specs.Supported.{are_supported};
-ghost use Rattle.ipc_column.specs.Rules.{texts_in, slots_in};
+ghost use Rattle.ipc_column.specs.Rules.{visits_in, slots_in};
 ghost use Rattle.ipc_column.specs.Shapes.{shape_of, nodes_in, columns_of, cut};
-ghost use Rattle.ipc_column.specs.Rows.{Rows, RefusesParts, IsOneList};
+ghost use Rattle.ipc_column.specs.Rows.{Rows, RefusesParts, IsOneList, are_plain};
 ghost use Rattle.ipc_column.specs.Sharing.{contents_of, HasRows};
 ghost use Rattle.ipc_column.specs.Checks.{Passing, Failing};
 ghost use Rattle.ipc_column.specs.Lending.{AreNumbers, lent_of};
-ghost use Rattle.ipc_column.specs.Values.{cell_value};
+ghost use Rattle.ipc_column.specs.Cells.{cell_value};
 
 use crate::assign::{Cursor, assign_buffers};
 use crate::cell::{Cell, cell_in};
@@ -86,8 +85,8 @@ fn read(
     ensures lent { IfOk result (λ batch. batch.lent
         ≡ lent_of (cut (shape_of fields.now) head.now body.items 0 0)) }
     ensures body { IfOk result (λ batch. batch.body_len ≡ length body.items) }
-    ensures texts { IfOk result (λ batch. batch.tests
-        ≤ texts_in (cut (shape_of fields.now) head.now body.items 0 0)) }
+    ensures visits { IfOk result (λ batch. batch.tests
+        ≤ visits_in (cut (shape_of fields.now) head.now body.items 0 0)) }
     ensures slots { IfOk result (λ batch. batch.tests ≤ slots_in head.now.nodes) }
     ensures failing { IfErr result
         (λ fault. Failing limits.now fault (shape_of fields.now) head.now body.items) }
@@ -122,8 +121,8 @@ impl Clone for Batch {
 impl Batch {
     /// The rows that a batch's metadata and body give for the fields of its schema.
     ///
-    /// The caller has the fields from a schema that passes its check, and each is of a type that is
-    /// read so far: any but lists and structs, without a dictionary. The dictionaries are those in
+    /// The caller has the fields from a schema that passes its check, and none of them, nor a field
+    /// below one, has a dictionary or is a list of a fixed size. The dictionaries are those in
     /// force, by their ids. They aren't looked at, since no field that is read can name one yet.
     ///
     /// Refused with F26 `WrongNodeCount`, F27 `WrongBufferCount`, F28 `BadNode`, F29
@@ -141,7 +140,7 @@ impl Batch {
         body: Vec<u8>,
         dictionaries: &BTreeMap<i64, Rc<Batch>>,
     ) -> Result<Batch, Fault>
-        requires read { are_supported fields.value.items ≡ true }
+        requires read { are_plain fields.value.items ≡ true }
         requires few { length (entries fields.value.items) ≤ limits.now.fields }
         // What is answered are the rows of the parts.
         ensures rows { IfOk result (λ batch. Rows limits.now fields.value.items head body.items
@@ -158,9 +157,10 @@ impl Batch {
         ensures lent { IfOk result (λ batch. batch.lent
             ≡ lent_of (columns_of fields.value.items head body.items)) }
         ensures body { IfOk result (λ batch. batch.body_len ≡ length body.items) }
-        // No slot is visited but those of texts, and each of them once at most.
-        ensures texts { IfOk result
-            (λ batch. batch.tests ≤ texts_in (columns_of fields.value.items head body.items)) }
+        // No slot is visited but those of texts, and those of lists and structs with a validity
+        // bitmap that texts stand below; each of them once at most.
+        ensures visits { IfOk result
+            (λ batch. batch.tests ≤ visits_in (columns_of fields.value.items head body.items)) }
         ensures tests { IfOk result (λ batch. batch.tests ≤ slots_in head.nodes) }
     {
         Batch::check_borrowed(alloc, limits, fields.as_slice(), head, body, dictionaries)
@@ -178,7 +178,7 @@ impl Batch {
         body: Vec<u8>,
         _dictionaries: &BTreeMap<i64, Rc<Batch>>,
     ) -> Result<Batch, Fault>
-        requires read { are_supported fields.now ≡ true }
+        requires read { are_plain fields.now ≡ true }
         requires few { length (entries fields.now) ≤ limits.now.fields }
         // What is answered are the rows of the parts.
         ensures rows { IfOk result (λ batch. Rows limits.now fields.now head body.items
@@ -195,9 +195,10 @@ impl Batch {
         ensures lent { IfOk result (λ batch. batch.lent
             ≡ lent_of (columns_of fields.now head body.items)) }
         ensures body { IfOk result (λ batch. batch.body_len ≡ length body.items) }
-        // No slot is visited but those of texts, and each of them once at most.
-        ensures texts { IfOk result
-            (λ batch. batch.tests ≤ texts_in (columns_of fields.now head body.items)) }
+        // No slot is visited but those of texts, and those of lists and structs with a validity
+        // bitmap that texts stand below; each of them once at most.
+        ensures visits { IfOk result
+            (λ batch. batch.tests ≤ visits_in (columns_of fields.now head body.items)) }
         ensures tests { IfOk result (λ batch. batch.tests ≤ slots_in head.nodes) }
     {
         read(alloc, limits, fields, &head, body)
@@ -238,7 +239,7 @@ impl Batch {
     ///
     /// The column's field says what it means. Signed integers, dates and timestamps are `Int`, in
     /// the field's unit from 1970-01-01 on; unsigned integers are `UInt`; binary and fixed-size
-    /// binary are `Bytes`.
+    /// binary are `Bytes`; lists and structs lend their own values.
     #[inline(always)]
     pub fn cell(&self, row: usize, column: usize) -> Cell<'_>
         requires row { row < length self.now.rows }

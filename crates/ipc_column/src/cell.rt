@@ -1,21 +1,26 @@
-ghost use Rattle.std.specs.Prelude.{◌≡◌, ◌+◌, ◌<◌, ◌↔◌, length, true, slice_get, Some, IfOk};
-ghost use Rattle.std.specs.Prelude.{IsTrue};
+ghost use Rattle.std.specs.Prelude.{◌≡◌, ◌≤◌, ◌<◌, ◌+◌, ◌-◌, ◌*◌, length, true, false, Some};
+ghost use Rattle.std.specs.Prelude.{slice_get};
 ghost use Rattle.ipc_column.specs.declared.cause.Cause.{Cause};
+ghost use Rattle.ipc_column.specs.Cells.{cell_value, is_leaf};
 ghost use Rattle.ipc_column.specs.Checks.{Holds, has_bitmap, holds_values, holds_offsets, in_order};
-ghost use Rattle.ipc_column.specs.Checks.{is_text, is_good, passes};
-ghost use Rattle.ipc_column.specs.Values.{cell_value, is_valid, own_value, value_of, row};
-ghost use Rattle.ipc_column.specs.Views.{columns, column_of, span_bytes};
+ghost use Rattle.ipc_column.specs.Checks.{are_long, good, good_below, passes};
+ghost use Rattle.ipc_column.specs.Columns.{every};
+ghost use Rattle.ipc_column.specs.Lent.{HaveValues, HasValue};
+ghost use Rattle.ipc_column.specs.Values.{is_valid, own_value, value_of, row, items, first_at};
+ghost use Rattle.ipc_column.specs.Values.{is_nested, place};
+ghost use Rattle.ipc_column.specs.Views.{columns, column_of, children_of, span_bytes};
 
 use crate::fixed::{bytes_of, signed_at, unsigned_at};
-use crate::offsets::bytes_between;
+use crate::offsets::{bytes_between, place_at};
 use crate::range_bytes::bytes_at;
 use crate::ranges::{BufferRange, ColumnRanges};
 use crate::texts::text_of;
 use ipc_model::{IntBits, Layout};
 use ipc_scalar::bit;
+use std::marker::Model;
 
 /// What a slot of a column holds, lent by its batch.
-#[derive(Clone, Copy, Debug, PartialEq, Eq, Drop)]
+#[derive(Debug, Drop)]
 pub enum Cell<'a> {
     /// The slot is null.
     Null,
@@ -29,16 +34,144 @@ pub enum Cell<'a> {
     Bytes(&'a [u8]),
     /// Bytes of the body that are UTF-8.
     Text(&'a str),
+    /// The values of a list.
+    List(ListCell<'a>),
+    /// A value for each child of a struct.
+    Struct(StructCell<'a>),
 }
 
-impl Cell<'_> {
-    /// Whether the two show one value: what `==` answers, with a contract that says so. Which batch
-    /// lends them doesn't matter.
-    pub fn is_same(&self, other: &Cell<'_>) -> bool
-        ensures { IsTrue result ↔ (cell_value self.now ≡ cell_value other.now) }
+/// The values of a list, lent by its batch: contracts see them as a list. It takes no memory.
+#[derive(Debug, Drop)]
+pub struct ListCell<'a> {
+    body: &'a [u8],
+    parts: &'a [ColumnRanges],
+    from: usize,
+    to: usize,
+}
+
+impl<'a> Model for ListCell<'a> {
+    ghost use Rattle.std.specs.Prelude.{◌-◌};
+    ghost use Rattle.std.specs.Coded.{codes};
+    ghost use Rattle.ipc_model.specs.contracts.value.Value as value;
+    ghost use Rattle.ipc_column.specs.Values.{Cells};
+
+    ghost Value = { Cells };
+
+    ghost coded = { Prim.hlevel (codes, value.the_row.coded) };
+
+    ghost use Rattle.ipc_column.specs.Lent.{HaveValues};
+    ghost use Rattle.ipc_column.specs.Values.{items, first_at};
+    ghost use Rattle.ipc_column.specs.Views.{columns};
+
+    ghost view = { λ s. items (first_at (columns s.body.now s.parts.now)) s.from (s.to - s.from) };
+
+    ghost invariant = { λ s. HaveValues (columns s.body.now s.parts.now) s.from s.to };
+}
+
+impl<'a> ListCell<'a> {
+    /// How many values there are.
+    pub fn len(&self) -> usize
+        ensures { result ≡ length self.now }
     {
-        *self == *other
+        self.to - self.from
     }
+
+    /// Value `i`, lent by the batch. The caller gives an `i` below `len`.
+    pub fn at(&self, i: usize) -> Cell<'a>
+        requires { i < length self.now }
+        ensures { slice_get self.now i ≡ Some (cell_value result) }
+    {
+        item_at(self.body, self.parts, self.from, self.to, i)
+    }
+}
+
+/// The values of a struct, one for each child of its field, lent by its batch: contracts see them
+/// as a list. It takes no memory.
+#[derive(Debug, Drop)]
+pub struct StructCell<'a> {
+    body: &'a [u8],
+    parts: &'a [ColumnRanges],
+    slot: usize,
+}
+
+impl<'a> Model for StructCell<'a> {
+    ghost use Rattle.std.specs.Prelude.{◌+◌};
+    ghost use Rattle.std.specs.Coded.{codes};
+    ghost use Rattle.ipc_model.specs.contracts.value.Value as value;
+    ghost use Rattle.ipc_column.specs.Values.{Cells};
+
+    ghost Value = { Cells };
+
+    ghost coded = { Prim.hlevel (codes, value.the_row.coded) };
+
+    ghost use Rattle.ipc_column.specs.Lent.{HaveValues};
+    ghost use Rattle.ipc_column.specs.Values.{row};
+    ghost use Rattle.ipc_column.specs.Views.{columns};
+
+    ghost view = { λ s. row (columns s.body.now s.parts.now) s.slot };
+
+    ghost invariant = { λ s. HaveValues (columns s.body.now s.parts.now) s.slot (s.slot + 1) };
+}
+
+impl<'a> StructCell<'a> {
+    /// How many values there are: one for each child.
+    pub fn len(&self) -> usize
+        ensures { result ≡ length self.now }
+    {
+        self.parts.len()
+    }
+
+    /// The value of child `i`, lent by the batch. The caller gives an `i` below `len`.
+    pub fn at(&self, i: usize) -> Cell<'a>
+        requires { i < length self.now }
+        ensures { slice_get self.now i ≡ Some (cell_value result) }
+    {
+        value_at(self.body, self.parts, self.slot, i)
+    }
+}
+
+// The values of a range of slots of the first of the parts.
+fn list_of<'a>(body: &'a [u8], parts: &'a [ColumnRanges], from: usize, to: usize) -> ListCell<'a>
+    requires { HaveValues (columns body.now parts.now) from to }
+    ensures { result ≡ items (first_at (columns body.now parts.now)) from (to - from) }
+{
+    ListCell {
+        body,
+        parts,
+        from,
+        to,
+    }
+}
+
+// The values of a slot of each part.
+fn struct_of<'a>(body: &'a [u8], parts: &'a [ColumnRanges], slot: usize) -> StructCell<'a>
+    requires { HaveValues (columns body.now parts.now) slot (slot + 1) }
+    ensures { result ≡ row (columns body.now parts.now) slot }
+{
+    StructCell { body, parts, slot }
+}
+
+// The values of a list, one of so many.
+fn list_between<'a>(
+    body: &'a [u8],
+    parts: &'a [ColumnRanges],
+    offsets: &[u8],
+    slots: usize,
+    slot: usize,
+) -> ListCell<'a>
+    requires slot { slot < slots }
+    requires bytes { 4 * (slots + 1) ≤ length offsets.now }
+    requires values { HaveValues (columns body.now parts.now) (place offsets.now slot)
+        (place offsets.now (slot + 1)) }
+    ensures { result ≡ items (first_at (columns body.now parts.now)) (place offsets.now slot)
+        (place offsets.now (slot + 1) - place offsets.now slot) }
+{
+    list_of(
+        body,
+        parts,
+        place_at(offsets, slot),
+        place_at(offsets, slot + 1),
+    )
 }
 
 /// Whether a slot isn't null.
@@ -50,23 +183,30 @@ pub(crate) fn is_valid(validity: &[u8], slot: usize) -> bool
     validity.is_empty() || bit(validity, slot)
 }
 
-// What a valid slot holds, one of the first `slots`.
+// What a valid slot holds, one of the first `slots`, over the parts of the children.
 #[tactic(auto, using(crate::proofs::Numbers::slot_inside))]
 #[inline(always)]
 fn own_cell<'a>(
     layout: Layout,
-    body: &[u8],
+    body: &'a [u8],
     offsets: BufferRange,
     values: &'a [u8],
     slots: usize,
     slot: usize,
+    children: &'a [ColumnRanges],
 ) -> Cell<'a>
     requires slot { slot < slots }
     requires values { holds_values layout slots (length values.now) ≡ true }
     requires offsets { holds_offsets layout slots (length (span_bytes body.now offsets)) ≡ true }
-    requires rise { in_order layout slots (span_bytes body.now offsets) (length values.now) ≡ true }
-    requires text { is_text layout (span_bytes body.now offsets) values.now slot ≡ true }
-    ensures { cell_value result ≡ own_value layout (span_bytes body.now offsets) values.now slot }
+    requires rise { in_order layout slots (span_bytes body.now offsets) (length values.now)
+        (columns body.now children.now) ≡ true }
+    requires long { are_long layout slots (columns body.now children.now) ≡ true }
+    requires sound { (why : Cause) → every (passes why) (columns body.now children.now) ≡ true }
+    requires good { good_below layout (good (columns body.now children.now))
+        (span_bytes body.now offsets) values.now slot ≡ true }
+    ensures value { cell_value result ≡ own_value layout (row (columns body.now children.now))
+        (span_bytes body.now offsets) values.now slot }
+    ensures leaf { is_nested layout ≡ false → is_leaf result ≡ true }
 {
     // The widest numbers come first, without a table of jumps.
     if let Layout::Numbers {
@@ -97,26 +237,34 @@ fn own_cell<'a>(
             slots,
             slot,
         )),
+        Layout::Lists => Cell::List(list_between(
+            body,
+            children,
+            bytes_at(body, offsets),
+            slots,
+            slot,
+        )),
+        Layout::Structs => Cell::Struct(struct_of(body, children, slot)),
     }
 }
 
-// Whether a slot isn't null, where its bitmap is this span. A span of no bytes isn't looked up.
+/// Whether a slot isn't null, where its bitmap is this span. A span of no bytes isn't looked up.
 #[tactic(auto, unfolding(crate::specs::Columns::bytes_of))]
 #[inline(always)]
-fn is_valid_in(body: &[u8], validity: BufferRange, slot: usize) -> bool
+pub(crate) fn is_valid_in(body: &[u8], validity: BufferRange, slot: usize) -> bool
     requires { has_bitmap (slot + 1) (length (span_bytes body.now validity)) ≡ true }
     ensures { result ≡ is_valid (span_bytes body.now validity) slot }
 {
     validity.len == 0 || is_valid(bytes_at(body, validity), slot)
 }
 
-// What a slot of a part holds.
+/// What a slot of a part holds.
 #[inline(always)]
-fn cell_at<'a>(body: &'a [u8], part: &'a ColumnRanges, slot: usize) -> Cell<'a>
-    requires sound { (why : Cause) → passes why (column_of body.now part.now) ≡ true }
-    requires slot { slot < (column_of body.now part.now).slots }
-    requires good { is_good (column_of body.now part.now) slot ≡ true }
-    ensures { cell_value result ≡ value_of (column_of body.now part.now) slot }
+pub(crate) fn cell_at<'a>(body: &'a [u8], part: &'a ColumnRanges, slot: usize) -> Cell<'a>
+    requires { HasValue (column_of body.now part.now) (children_of body.now part.now) slot }
+    ensures value { cell_value result ≡ value_of (row (children_of body.now part.now))
+        (column_of body.now part.now) slot }
+    ensures leaf { is_nested (column_of body.now part.now).layout ≡ false → is_leaf result ≡ true }
 {
     if !is_valid_in(body, part.validity, slot) {
         return Cell::Null;
@@ -128,7 +276,38 @@ fn cell_at<'a>(body: &'a [u8], part: &'a ColumnRanges, slot: usize) -> Cell<'a>
         bytes_at(body, part.values),
         part.slots,
         slot,
+        &part.children,
     )
+}
+
+// Value `i` of a range of slots of the first of the parts.
+fn item_at<'a>(
+    body: &'a [u8],
+    parts: &'a [ColumnRanges],
+    from: usize,
+    to: usize,
+    i: usize,
+) -> Cell<'a>
+    requires range { HaveValues (columns body.now parts.now) from to }
+    requires inside { i < to - from }
+    ensures { slice_get (items (first_at (columns body.now parts.now)) from (to - from)) i
+        ≡ Some (cell_value result) }
+{
+    if parts.is_empty() {
+        Cell::Null
+    } else {
+        cell_at(body, &parts[0], from + i)
+    }
+}
+
+// What a slot of part `i` holds.
+#[inline(always)]
+fn value_at<'a>(body: &'a [u8], parts: &'a [ColumnRanges], slot: usize, i: usize) -> Cell<'a>
+    requires values { HaveValues (columns body.now parts.now) slot (slot + 1) }
+    requires inside { i < length parts.now }
+    ensures { slice_get (row (columns body.now parts.now) slot) i ≡ Some (cell_value result) }
+{
+    cell_at(body, &parts[i], slot)
 }
 
 /// What stands in a row and a column of parts that give so many rows.
@@ -145,5 +324,5 @@ pub(crate) fn cell_in<'a>(
     requires column { column < length parts.now }
     ensures { slice_get (row (columns body.now parts.now) at) column ≡ Some (cell_value result) }
 {
-    cell_at(body, &parts[column], at)
+    value_at(body, parts, at, column)
 }

@@ -14,9 +14,11 @@ mod offsets;
 mod range_bytes;
 mod ranges;
 mod rows;
+mod slot_visit;
 mod texts;
 mod validate;
 mod values;
+mod visit;
 
 pub use batch::{Batch, one_list_of_rows};
-pub use cell::Cell;
+pub use cell::{Cell, ListCell, StructCell};

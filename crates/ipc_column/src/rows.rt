@@ -1,25 +1,128 @@
-ghost use Rattle.std.specs.Prelude.{◌≡◌, ◌<◌, IfOk, OnOk};
+ghost use Rattle.std.specs.Prelude.{◌≡◌, ◌<◌, ◌+◌, ◌-◌, true, IfOk, OnOk};
+ghost use Rattle.ipc_column.specs.Cells.{cell_value, is_leaf};
 ghost use Rattle.ipc_column.specs.Checks.{Holds};
-ghost use Rattle.ipc_column.specs.Values.{cell_value, row, rows_of};
-ghost use Rattle.ipc_column.specs.Views.{columns};
+ghost use Rattle.ipc_column.specs.Lent.{HaveValues, HasValue};
+ghost use Rattle.ipc_column.specs.Values.{row, rows_of, value_of, items, first_at, is_nested};
+ghost use Rattle.ipc_column.specs.Views.{columns, column_of, children_of};
 
-use crate::cell::{Cell, cell_in};
+use crate::cell::{Cell, cell_at, is_valid_in};
+use crate::offsets::place_at;
+use crate::range_bytes::bytes_at;
 use crate::ranges::ColumnRanges;
-use ipc_model::{Items, Row, Text, Value};
+use ipc_model::{Items, Layout, Row, Text, Value};
 use std::alloc::{AllocError, Global};
 
-// The value that a cell shows.
-fn value_of(alloc: Global, cell: Cell<'_>) -> Result<Value, AllocError>
+fn is_nested(layout: Layout) -> bool
+    ensures { result ≡ is_nested layout }
+{
+    match layout {
+        Layout::Lists | Layout::Structs => true,
+        _ => false,
+    }
+}
+
+// The value that a cell shows, which is neither a list nor a struct.
+fn leaf_value(alloc: Global, cell: Cell<'_>) -> Result<Value, AllocError>
+    requires { is_leaf cell ≡ true }
     ensures { IfOk result (λ value. value ≡ cell_value cell.entry) }
 {
     match cell {
-        Cell::Null => Ok(Value::Null),
+        Cell::Null | Cell::List(_) | Cell::Struct(_) => Ok(Value::Null),
         Cell::Bool(truth) => Ok(Value::Bool(truth)),
         Cell::Int(number) => Ok(Value::Int(number)),
         Cell::UInt(number) => Ok(Value::UInt(number)),
         Cell::Bytes(bytes) => Ok(Value::Bytes(Items::copied(alloc, bytes)?)),
         Cell::Text(text) => Ok(Value::Text(Text::copied(alloc, text)?)),
     }
+}
+
+// The value of a slot of a part.
+#[cycle(read)]
+fn read_slot(
+    alloc: Global,
+    body: &[u8],
+    part: &ColumnRanges,
+    slot: usize,
+) -> Result<Value, AllocError>
+    requires { HasValue (column_of body.now part.now) (children_of body.now part.now) slot }
+    ensures { IfOk result (λ value. value
+        ≡ value_of (row (children_of body.now part.now)) (column_of body.now part.now) slot) }
+{
+    if !is_nested(part.layout) {
+        return leaf_value(alloc, cell_at(body, part, slot));
+    }
+    if !is_valid_in(body, part.validity, slot) {
+        return Ok(Value::Null);
+    }
+    match part.layout {
+        Layout::Lists => {
+            let offsets = bytes_at(body, part.offsets);
+            let first = place_at(offsets, slot);
+            let end = place_at(offsets, slot + 1);
+            let values = read_items(alloc, body, &part.children, first, end)?;
+            Ok(Value::List(values))
+        }
+        _ => Ok(Value::Struct(read_values(alloc, body, &part.children, slot)?)),
+    }
+}
+
+// The value of a slot of the first of the parts.
+#[cycle(read)]
+fn read_first(
+    alloc: Global,
+    body: &[u8],
+    parts: &[ColumnRanges],
+    from: usize,
+    to: usize,
+    at: usize,
+) -> Result<Value, AllocError>
+    requires range { HaveValues (columns body.now parts.now) from to }
+    requires inside { at < to - from }
+    ensures { IfOk result (λ value. value ≡ first_at (columns body.now parts.now) (from + at)) }
+{
+    if parts.is_empty() {
+        Ok(Value::Null)
+    } else {
+        read_slot(alloc, body, &parts[0], from + at)
+    }
+}
+
+// The values of a range of slots of the first of the parts.
+#[cycle(read)]
+fn read_items(
+    alloc: Global,
+    body: &[u8],
+    parts: &[ColumnRanges],
+    from: usize,
+    to: usize,
+) -> Result<Items<Value>, AllocError>
+    requires { HaveValues (columns body.now parts.now) from to }
+    ensures { IfOk result
+        (λ values. values ≡ items (first_at (columns body.now parts.now)) from (to - from)) }
+{
+    let mut values = Vec::with_capacity(alloc, to - from)?;
+    for at in 0..to - from {
+        values.push(read_first(alloc, body, parts, from, to, at)?)?;
+    }
+    Ok(Items::from_vec(values))
+}
+
+// The values of a slot of each part.
+#[cycle(read)]
+fn read_values(
+    alloc: Global,
+    body: &[u8],
+    parts: &[ColumnRanges],
+    slot: usize,
+) -> Result<Items<Value>, AllocError>
+    requires { HaveValues (columns body.now parts.now) slot (slot + 1) }
+    ensures { IfOk result (λ values. values ≡ row (columns body.now parts.now) slot) }
+{
+    let mut values = Vec::with_capacity(alloc, parts.len())?;
+    for part in parts {
+        values.push(read_slot(alloc, body, part, slot)?)?;
+    }
+    Ok(Items::from_vec(values))
 }
 
 /// Puts the values of one row in the place of all that `values` has.
@@ -36,8 +139,8 @@ pub(crate) fn read_row(
     ensures { OnOk result (values.new.items ≡ row (columns body.now parts.now) at) }
 {
     values.clear();
-    for column in 0..parts.len() {
-        values.push(value_of(alloc, cell_in(body, parts, rows, at, column))?)?;
+    for part in parts {
+        values.push(read_slot(alloc, body, part, at)?)?;
     }
     Ok(())
 }

@@ -1,16 +1,18 @@
-ghost use Rattle.std.specs.Prelude.{◌≡◌, ◌≤◌, ◌<◌, ◌*◌, ◌^◌, ◌&&◌, nat_le, length, true, IfOk};
-ghost use Rattle.std.specs.Prelude.{IfErr};
+ghost use Rattle.std.specs.Prelude.{◌≡◌, ◌≤◌, ◌<◌, ◌+◌, ◌*◌, ◌^◌, ◌&&◌, ℕ, List, nat_le, length};
+ghost use Rattle.std.specs.Prelude.{true, IfOk, IfErr};
 ghost use Rattle.ipc_column.specs.Checks.{Judges, has_bitmap, holds_values, holds_offsets};
 ghost use Rattle.ipc_column.specs.Checks.{in_order, nulls_in, passes, top_passes, all_pass};
+ghost use Rattle.ipc_column.specs.Checks.{have_slots, are_long, are_ascending};
 ghost use Rattle.ipc_column.specs.Columns.{every, every_top};
-ghost use Rattle.ipc_column.specs.Rules.{text_slots, texts_in};
+ghost use Rattle.ipc_column.specs.Rules.{visits_in};
+ghost use Rattle.ipc_column.specs.Values.{place};
 ghost use Rattle.ipc_column.specs.Views.{columns, column_of, children_of};
 
 use crate::cause::Cause;
-use crate::offsets::are_in_order;
+use crate::offsets::{are_in_order, place_at};
 use crate::range_bytes::bytes_at;
 use crate::ranges::ColumnRanges;
-use crate::texts::visit_texts;
+use crate::visit::visit_all;
 use ipc_model::Layout;
 use ipc_scalar::count_clear;
 
@@ -32,7 +34,11 @@ fn holds_values(layout: Layout, slots: usize, bytes: usize) -> bool
     ensures { result ≡ holds_values layout slots bytes }
 {
     match layout {
-        Layout::Null | Layout::VariableBytes { .. } | Layout::Unsupported => true,
+        Layout::Null
+        | Layout::VariableBytes { .. }
+        | Layout::Lists
+        | Layout::Structs
+        | Layout::Unsupported => true,
         Layout::Bits => slots.div_ceil(8) <= bytes,
         Layout::Numbers { bits, .. } => holds_width(bits.bytes(), slots, bytes),
         Layout::FixedBytes(width) => holds_width(width as usize, slots, bytes),
@@ -43,18 +49,59 @@ fn holds_offsets(layout: Layout, slots: usize, bytes: usize) -> bool
     ensures { result ≡ holds_offsets layout slots bytes }
 {
     match layout {
-        Layout::VariableBytes { .. } => slots == 0 || slots < bytes / 4,
+        Layout::VariableBytes { .. } | Layout::Lists => slots == 0 || slots < bytes / 4,
         _ => true,
     }
 }
 
-// Whether the offsets of so many slots are in order, within so many bytes of values.
-fn in_order(layout: Layout, slots: usize, offsets: &[u8], size: usize) -> bool
+// Whether each of the parts has so many slots at least.
+fn have_slots(parts: &[ColumnRanges], slots: usize) -> bool
+    ensures { (body : List ℕ) → result ≡ have_slots slots (columns body parts.now) }
+{
+    let mut long = true;
+    for part in parts {
+        long = long && slots <= part.slots;
+    }
+    long
+}
+
+// Whether the offsets of so many lists are in order, within the slots of the child.
+fn are_lists(offsets: &[u8], slots: usize, children: &[ColumnRanges]) -> bool
+    requires { 4 * (slots + 1) ≤ length offsets.now }
+    ensures { (body : List ℕ)
+        → result ≡ (are_ascending offsets.now slots (place offsets.now slots)
+        && have_slots (place offsets.now slots) (columns body children.now)) }
+{
+    let end = place_at(offsets, slots);
+    are_in_order(offsets, slots, end) && have_slots(children, end)
+}
+
+// Whether the offsets of so many slots are in order, within so many bytes of values or within the
+// slots of the child.
+fn in_order(
+    layout: Layout,
+    slots: usize,
+    offsets: &[u8],
+    size: usize,
+    children: &[ColumnRanges],
+) -> bool
     requires { holds_offsets layout slots (length offsets.now) ≡ true }
-    ensures { result ≡ in_order layout slots offsets.now size }
+    ensures { (body : List ℕ)
+        → result ≡ in_order layout slots offsets.now size (columns body children.now) }
 {
     match layout {
         Layout::VariableBytes { .. } => slots == 0 || are_in_order(offsets, slots, size),
+        Layout::Lists => slots == 0 || are_lists(offsets, slots, children),
+        _ => true,
+    }
+}
+
+// Whether the children of so many slots have as many, where these are structs.
+fn are_long(layout: Layout, slots: usize, children: &[ColumnRanges]) -> bool
+    ensures { (body : List ℕ) → result ≡ are_long layout slots (columns body children.now) }
+{
+    match layout {
+        Layout::Structs => have_slots(children, slots),
         _ => true,
     }
 }
@@ -71,10 +118,11 @@ fn nulls_in(validity: &[u8], slots: usize) -> usize
     }
 }
 
-// Whether a part's buffers have the bytes that its slots need, its null count is right and its
-// offsets are in order.
+// Whether a part's buffers have the bytes that its slots need, its null count is right, its offsets
+// are in order and its children are long enough.
 fn check_part(body: &[u8], part: &ColumnRanges) -> Result<(), Cause>
-    ensures { Judges result (λ why. passes why (column_of body.now part.now)) }
+    ensures { Judges result
+        (λ why. passes why (column_of body.now part.now) (children_of body.now part.now)) }
 {
     let validity = bytes_at(body, part.validity);
     let offsets = bytes_at(body, part.offsets);
@@ -88,8 +136,17 @@ fn check_part(body: &[u8], part: &ColumnRanges) -> Result<(), Cause>
     if part.layout.has_validity() && part.nulls != nulls_in(validity, part.slots) {
         return Err(Cause::BadNullCount);
     }
-    if !in_order(part.layout, part.slots, offsets, values.len()) {
+    if !in_order(
+        part.layout,
+        part.slots,
+        offsets,
+        values.len(),
+        &part.children,
+    ) {
         return Err(Cause::BadOffsets);
+    }
+    if !are_long(part.layout, part.slots, &part.children) {
+        return Err(Cause::BadNode);
     }
     Ok(())
 }
@@ -107,53 +164,40 @@ fn check_all(body: &[u8], parts: &[ColumnRanges]) -> Result<(), Cause>
 
 #[cycle(check_all)]
 fn check_tree(body: &[u8], part: &ColumnRanges) -> Result<(), Cause>
-    ensures { Judges result (λ why. passes why (column_of body.now part.now)
+    ensures { Judges result
+        (λ why. passes why (column_of body.now part.now) (children_of body.now part.now)
         && every (passes why) (children_of body.now part.now)) }
 {
     check_part(body, part)?;
     check_all(body, &part.children)
 }
 
-// Whether a part has a slot for each row, and its texts are UTF-8; how many slots were visited to
-// find that.
-fn check_top(body: &[u8], part: &ColumnRanges, rows: usize) -> Result<u64, Cause>
-    requires { (why : Cause) → passes why (column_of body.now part.now) ≡ true }
-    ensures judged { Judges result (λ why. top_passes why rows (column_of body.now part.now)) }
-    ensures visited { IfOk result (λ tests. tests ≤ text_slots (column_of body.now part.now)) }
+// Whether each part has a slot for each row.
+fn check_tops(body: &[u8], parts: &[ColumnRanges], rows: usize) -> Result<(), Cause>
+    ensures { Judges result (λ why. every_top (top_passes why rows) (columns body.now parts.now)) }
 {
-    if part.slots != rows {
-        return Err(Cause::BadNode);
-    }
-    match visit_texts(body, part) {
-        Some(tests) => Ok(tests),
-        None => Err(Cause::ValueNotUtf8),
-    }
-}
-
-// The same of each part.
-fn check_tops(body: &[u8], parts: &[ColumnRanges], rows: usize) -> Result<u64, Cause>
-    requires sound { (why : Cause) → every (passes why) (columns body.now parts.now) ≡ true }
-    requires few { texts_in (columns body.now parts.now) < 2 ^ 64 }
-    ensures judged { Judges result
-        (λ why. every_top (top_passes why rows) (columns body.now parts.now)) }
-    ensures visited { IfOk result (λ tests. tests ≤ texts_in (columns body.now parts.now)) }
-{
-    let mut tests = 0;
+    let mut same = true;
     for part in parts {
-        tests += check_top(body, part, rows)?;
+        same = same && part.slots == rows;
     }
-    Ok(tests)
+    if same { Ok(()) } else { Err(Cause::BadNode) }
 }
 
 /// Whether the parts, which are the columns of a batch, give so many rows; how many slots were
 /// visited to find that.
 pub(crate) fn check_columns(body: &[u8], parts: &[ColumnRanges], rows: usize) -> Result<u64, Cause>
-    requires { texts_in (columns body.now parts.now) < 2 ^ 64 }
+    requires { visits_in (columns body.now parts.now) < 2 ^ 64 }
     ensures judged { Judges result (λ why. all_pass why rows (columns body.now parts.now)) }
     ensures texts_last { IfErr result (λ why. why ≡ Cause.ValueNotUtf8 → (other : Cause)
         → every (passes other) (columns body.now parts.now) ≡ true) }
-    ensures visited { IfOk result (λ tests. tests ≤ texts_in (columns body.now parts.now)) }
+    ensures visited { IfOk result (λ tests. tests ≤ visits_in (columns body.now parts.now)) }
 {
     check_all(body, parts)?;
-    check_tops(body, parts, rows)
+    check_tops(body, parts, rows)?;
+    let mut tests = 0;
+    if visit_all(body, parts, 0, rows, &mut tests) {
+        Ok(tests)
+    } else {
+        Err(Cause::ValueNotUtf8)
+    }
 }

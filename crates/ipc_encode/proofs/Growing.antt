@@ -29,6 +29,8 @@ use Rattle.ipc_encode.proofs.Sizes.{bitmap_bytes, bits_more, numbers_more, fixed
 long_more : (layout : Layout) (vs : List Value) (v : Value) → HasLongData layout vs → HasLongData layout (vs ++ v ∷ [])
 long_more l.Null vs v h = h
 long_more l.Unsupported vs v h = h
+long_more l.Lists vs v h = h
+long_more l.Structs vs v h = h
 long_more l.Bits vs v h = h
 long_more (l.Numbers bits signed) vs v h = h
 long_more (l.FixedBytes width) vs v h = h
@@ -37,6 +39,8 @@ long_more (l.VariableBytes utf8) vs v h = let more = content_more vs v in omega 
 values_grow : (layout : Layout) (vs : List Value) (v : Value) → length (values_in layout vs) ≤ length (values_in layout (vs ++ v ∷ []))
 values_grow l.Null vs v = omega arith
 values_grow l.Unsupported vs v = omega arith
+values_grow l.Lists vs v = omega arith
+values_grow l.Structs vs v = omega arith
 values_grow l.Bits vs v = let old = bitmap_bytes True vs in let more = bits_more vs v in omega (arith, old, more)
 values_grow (l.Numbers bits signed) vs v = let more = numbers_more bits vs v in omega (arith, more)
 values_grow (l.FixedBytes width) vs v = let more = fixed_more width vs v in omega (arith, more)
@@ -57,6 +61,8 @@ bitmap_grow n (suc c) (suc d) h =
 validity_grow : (layout : Layout) (n c d : ℕ) → c ≤ d → validity_length layout n c ≤ validity_length layout (n + 1) d
 validity_grow l.Null n c d h = omega arith
 validity_grow l.Unsupported n c d h = omega arith
+validity_grow l.Lists n c d h = bitmap_grow n c d h
+validity_grow l.Structs n c d h = bitmap_grow n c d h
 validity_grow l.Bits n c d h = bitmap_grow n c d h
 validity_grow (l.Numbers bits signed) n c d h = bitmap_grow n c d h
 validity_grow (l.FixedBytes width) n c d h = bitmap_grow n c d h
@@ -65,6 +71,8 @@ validity_grow (l.VariableBytes utf8) n c d h = bitmap_grow n c d h
 offsets_grow : (layout : Layout) (n : ℕ) → offsets_length layout n ≤ offsets_length layout (n + 1)
 offsets_grow l.Null n = omega arith
 offsets_grow l.Unsupported n = omega arith
+offsets_grow l.Lists n = omega arith
+offsets_grow l.Structs n = omega arith
 offsets_grow l.Bits n = omega arith
 offsets_grow (l.Numbers bits signed) n = omega arith
 offsets_grow (l.FixedBytes width) n = omega arith

@@ -45,6 +45,8 @@ own_length l.Bits vs = refl
 own_length (l.Numbers bits signed) vs = refl
 own_length (l.FixedBytes width) vs = refl
 own_length (l.VariableBytes utf8) vs = refl
+own_length l.Lists vs = refl
+own_length l.Structs vs = refl
 own_length l.Unsupported vs = refl
 
 -- the buffers of a batch from the n-th on have these bytes
@@ -63,6 +65,27 @@ column_back l.Unsupported vs head body n m e h =
       slots = unsigned_abs (e i).0;
       nulls = unsigned_abs (e i).1;
       validity = [];
+      offsets = [];
+      values = [];
+    }
+column_back l.Lists vs head body n m e h =
+    let first = ap (λ (k : ℕ). buffer_at head body k) (let z : m ≡ m + 0 = omega arith in z) ∙ h 0 (omega arith) in
+    let second = h 1 (omega arith) in
+    λ i. record {
+      layout = l.Lists;
+      slots = unsigned_abs (e i).0;
+      nulls = unsigned_abs (e i).1;
+      validity = first i;
+      offsets = second i;
+      values = [];
+    }
+column_back l.Structs vs head body n m e h =
+    let first = ap (λ (k : ℕ). buffer_at head body k) (let z : m ≡ m + 0 = omega arith in z) ∙ h 0 (omega arith) in
+    λ i. record {
+      layout = l.Structs;
+      slots = unsigned_abs (e i).0;
+      nulls = unsigned_abs (e i).1;
+      validity = first i;
       offsets = [];
       values = [];
     }
@@ -193,6 +216,8 @@ known (l.Numbers bits signed) vs h = all_top vs
 known l.Null vs h = all_top vs
 known l.Bits vs h = all_top vs
 known (l.FixedBytes width) vs h = all_top vs
+known l.Lists vs h = all_top vs
+known l.Structs vs h = all_top vs
 known l.Unsupported vs h = all_top vs
 
 -- a time of day fits the bits of its unit

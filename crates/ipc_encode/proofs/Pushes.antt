@@ -63,6 +63,8 @@ has_bitmap l.Bits vs some = refl
 has_bitmap (l.Numbers bits signed) vs some = refl
 has_bitmap (l.FixedBytes width) vs some = refl
 has_bitmap (l.VariableBytes utf8) vs some = refl
+has_bitmap l.Lists vs some = refl
+has_bitmap l.Structs vs some = refl
 
 pub no_bitmap : (layout : Layout) (vs : List Value) → own_buffers layout ≡ 0 → validity_in layout vs ≡ []
 no_bitmap l.Null vs none = refl
@@ -71,6 +73,8 @@ no_bitmap l.Bits vs none = absurd (omega arith)
 no_bitmap (l.Numbers bits signed) vs none = absurd (omega arith)
 no_bitmap (l.FixedBytes width) vs none = absurd (omega arith)
 no_bitmap (l.VariableBytes utf8) vs none = absurd (omega arith)
+no_bitmap l.Lists vs none = absurd (omega arith)
+no_bitmap l.Structs vs none = absurd (omega arith)
 
 -- a column of one layout is one of the same layout
 pub laid_as : {column : Column} → (lay layout : Layout) (vs : List Value) → lay ≡ layout → IsColumn lay vs column

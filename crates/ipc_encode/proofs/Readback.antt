@@ -82,62 +82,68 @@ null_from value Value-F.Null e h = null_is value e
 null_from value _ e h = absurd (cc)
 
 -- what a slot holds is the value, unless it is null
-own_is : (l : Layout) (vs : List Value) (i : ℕ) (w : Value-F Value) → i < length vs → AllHeld l vs → IsShort l vs
+own_is : (below : ℕ → List Value) (l : Layout) (vs : List Value) (i : ℕ) (w : Value-F Value) → i < length vs → AllHeld l vs → IsShort l vs
     → out-Value (get_or vs i v.Null) ≡ w → Holds l w → is_null w ≡ false
-    → own_value l (offsets_in l vs) (values_in l vs) i ≡ get_or vs i v.Null
-own_is _ vs i Value-F.Null k all short e h valid = absurd (cc)
-own_is l.Bits vs i (Value-F.Bool truth) k all short e h valid =
+    → own_value l below (offsets_in l vs) (values_in l vs) i ≡ get_or vs i v.Null
+own_is below _ vs i Value-F.Null k all short e h valid = absurd (cc)
+own_is below l.Bits vs i (Value-F.Bool truth) k all short e h valid =
     ap (λ (b : Bool). v.Bool b) (bit_of True vs i v.Null k ∙ ap is_true e)
     ∙ (sym (v.rolls-Bool truth) ∙ back_to (get_or vs i v.Null) (Value-F.Bool truth) e)
-own_is (l.Numbers bits true) vs i (Value-F.Int z) k all short e h valid =
+own_is below (l.Numbers bits true) vs i (Value-F.Int z) k all short e h valid =
     ap (λ (n : ℤ). v.Int n) (signed_is bits (slots (Number bits) vs) (number_bytes bits * i) z h
     (number_back bits vs i v.Null k ∙ ap (λ (x : Value-F Value). bits_in x % 256 ^ number_bytes bits) e))
     ∙ (sym (v.rolls-Int z) ∙ back_to (get_or vs i v.Null) (Value-F.Int z) e)
-own_is (l.Numbers bits false) vs i (Value-F.UInt n) k all short e h valid =
+own_is below (l.Numbers bits false) vs i (Value-F.UInt n) k all short e h valid =
     ap (λ (n : ℕ). v.UInt n) (number_back bits vs i v.Null k
     ∙ (ap (λ (x : Value-F Value). bits_in x % 256 ^ number_bytes bits) e ∙ number_is bits n h))
     ∙ (sym (v.rolls-UInt n) ∙ back_to (get_or vs i v.Null) (Value-F.UInt n) e)
-own_is (l.FixedBytes size) vs i (Value-F.Bytes bytes) k all short e h valid =
+own_is below (l.FixedBytes size) vs i (Value-F.Bytes bytes) k all short e h valid =
     ap (λ (b : List ℕ). v.Bytes b) (fixed_back size vs i v.Null all k ∙ ap (λ (x : Value-F Value). fixed_in size x) e)
     ∙ (sym (v.rolls-Bytes bytes) ∙ back_to (get_or vs i v.Null) (Value-F.Bytes bytes) e)
-own_is (l.VariableBytes false) vs i (Value-F.Bytes bytes) k all short e h valid =
+own_is below (l.VariableBytes false) vs i (Value-F.Bytes bytes) k all short e h valid =
     ap (λ (b : List ℕ). v.Bytes b) (between_is vs i v.Null k short ∙ ap bytes_in e)
     ∙ (sym (v.rolls-Bytes bytes) ∙ back_to (get_or vs i v.Null) (Value-F.Bytes bytes) e)
-own_is (l.VariableBytes true) vs i (Value-F.Text text) k all short e h valid =
+own_is below (l.VariableBytes true) vs i (Value-F.Text text) k all short e h valid =
     ap (λ (b : List ℕ). v.Text b) (between_is vs i v.Null k short ∙ ap bytes_in e)
     ∙ (sym (v.rolls-Text text) ∙ back_to (get_or vs i v.Null) (Value-F.Text text) e)
-own_is l.Null vs i _ k all short e h valid = absurd h
-own_is l.Unsupported vs i _ k all short e h valid = absurd h
-own_is l.Bits vs i _ k all short e h valid = absurd h
-own_is (l.Numbers bits true) vs i _ k all short e h valid = absurd h
-own_is (l.Numbers bits false) vs i _ k all short e h valid = absurd h
-own_is (l.FixedBytes size) vs i _ k all short e h valid = absurd h
-own_is (l.VariableBytes false) vs i _ k all short e h valid = absurd h
-own_is (l.VariableBytes true) vs i _ k all short e h valid = absurd h
+own_is below l.Null vs i _ k all short e h valid = absurd h
+own_is below l.Unsupported vs i _ k all short e h valid = absurd h
+own_is below l.Lists vs i _ k all short e h valid = absurd h
+own_is below l.Structs vs i _ k all short e h valid = absurd h
+own_is below l.Bits vs i _ k all short e h valid = absurd h
+own_is below (l.Numbers bits true) vs i _ k all short e h valid = absurd h
+own_is below (l.Numbers bits false) vs i _ k all short e h valid = absurd h
+own_is below (l.FixedBytes size) vs i _ k all short e h valid = absurd h
+own_is below (l.VariableBytes false) vs i _ k all short e h valid = absurd h
+own_is below (l.VariableBytes true) vs i _ k all short e h valid = absurd h
 
 -- slot i holds value i
-slot_is : (l : Layout) (vs : List Value) (i : ℕ) → i < length vs → AllHeld l vs → IsShort l vs → validity_in l vs ≡ validity_bytes vs
-    → value_of (column_of l vs) i ≡ get_or vs i v.Null
-slot_is lay vs i k all short same =
-    subst (λ (b : Bool). cond b (own_value lay (offsets_in lay vs) (values_in lay vs) i) v.Null ≡ get_or vs i v.Null)
+slot_is : (below : ℕ → List Value) (l : Layout) (vs : List Value) (i : ℕ) → i < length vs → AllHeld l vs → IsShort l vs
+    → validity_in l vs ≡ validity_bytes vs
+    → value_of below (column_of l vs) i ≡ get_or vs i v.Null
+slot_is below lay vs i k all short same =
+    subst (λ (b : Bool). cond b (own_value lay below (offsets_in lay vs) (values_in lay vs) i) v.Null ≡ get_or vs i v.Null)
     (sym (ap (λ (bytes : List ℕ). is_valid bytes i) same ∙ valid_is vs i v.Null k))
     (by_null (is_null (out-Value (get_or vs i v.Null))) refl)
   where
     by_null : (b : Bool) → is_null (out-Value (get_or vs i v.Null)) ≡ b
-        → cond (not b) (own_value lay (offsets_in lay vs) (values_in lay vs) i) v.Null ≡ get_or vs i v.Null
+        → cond (not b) (own_value lay below (offsets_in lay vs) (values_in lay vs) i) v.Null ≡ get_or vs i v.Null
     by_null true e = null_from (get_or vs i v.Null) (out-Value (get_or vs i v.Null)) refl e
-    by_null false e = own_is lay vs i (out-Value (get_or vs i v.Null)) k all short refl (held_at lay vs i v.Null all k) e
+    by_null false e = own_is below lay vs i (out-Value (get_or vs i v.Null)) k all short refl (held_at lay vs i v.Null all k) e
 
 null_held : (value : Value) (w : Value-F Value) → out-Value value ≡ w → Holds l.Null w → v.Null ≡ value
 null_held value Value-F.Null e h = null_is value e
 null_held value _ e h = absurd h
 
 -- slot i of a column that was written has the i-th of its values
-pub value_is : (l : Layout) (vs : List Value) (i : ℕ) → i < length vs → AllHeld l vs → IsShort l vs
-    → value_of (column_of l vs) i ≡ get_or vs i v.Null
-value_is l.Null vs i k all short = null_held (get_or vs i v.Null) (out-Value (get_or vs i v.Null)) refl (held_at l.Null vs i v.Null all k)
-value_is l.Unsupported vs i k all short = absurd (held_at l.Unsupported vs i v.Null all k)
-value_is l.Bits vs i k all short = slot_is l.Bits vs i k all short refl
-value_is (l.Numbers bits signed) vs i k all short = slot_is (l.Numbers bits signed) vs i k all short refl
-value_is (l.FixedBytes width) vs i k all short = slot_is (l.FixedBytes width) vs i k all short refl
-value_is (l.VariableBytes utf8) vs i k all short = slot_is (l.VariableBytes utf8) vs i k all short refl
+pub value_is : (below : ℕ → List Value) (l : Layout) (vs : List Value) (i : ℕ) → i < length vs → AllHeld l vs → IsShort l vs
+    → value_of below (column_of l vs) i ≡ get_or vs i v.Null
+value_is below l.Null vs i k all short =
+    null_held (get_or vs i v.Null) (out-Value (get_or vs i v.Null)) refl (held_at l.Null vs i v.Null all k)
+value_is below l.Unsupported vs i k all short = absurd (held_at l.Unsupported vs i v.Null all k)
+value_is below l.Lists vs i k all short = absurd (held_at l.Lists vs i v.Null all k)
+value_is below l.Structs vs i k all short = absurd (held_at l.Structs vs i v.Null all k)
+value_is below l.Bits vs i k all short = slot_is below l.Bits vs i k all short refl
+value_is below (l.Numbers bits signed) vs i k all short = slot_is below (l.Numbers bits signed) vs i k all short refl
+value_is below (l.FixedBytes width) vs i k all short = slot_is below (l.FixedBytes width) vs i k all short refl
+value_is below (l.VariableBytes utf8) vs i k all short = slot_is below (l.VariableBytes utf8) vs i k all short refl

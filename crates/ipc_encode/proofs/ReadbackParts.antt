@@ -19,8 +19,8 @@ use Rattle.ipc_model.specs.declared.value.Value.TheVariants as v
 use Rattle.ipc_model.specs.declared.layout.Layout.{Layout}
 use Rattle.ipc_model.specs.declared.layout.Layout.TheVariants as l
 use Rattle.ipc_model.specs.Layouts.{number_bytes, has_validity}
-use Rattle.ipc_column.specs.Columns.{Column}
-use Rattle.ipc_column.specs.Rules.{HoldValues, HoldOffsets, IsLongEnough, HasBits, CountsNulls, HasOffsets, SpellsTexts}
+use Rattle.ipc_column.specs.Columns.{Column, none as no_columns}
+use Rattle.ipc_column.specs.Rules.{HoldValues, HoldOffsets, IsLongEnough, HasBits, CountsNulls, HasOffsets, IsText, SpellsTexts}
 use Rattle.ipc_column.specs.Values.{is_valid, offset, place, between}
 use Rattle.ipc_encode.specs.Pieces.{Valid, True}
 use Rattle.ipc_encode.specs.Pieces.{ValueSlot}
@@ -50,6 +50,8 @@ column_of l vs = record {
 -- a value that a layout holds
 abbrev pub Holds : Layout → Value-F Value → Type 0
 Holds l.Unsupported w = ⊥
+Holds l.Lists w = ⊥
+Holds l.Structs w = ⊥
 Holds _ Value-F.Null = ⊤
 Holds l.Bits (Value-F.Bool truth) = ⊤
 Holds (l.Numbers bits true) (Value-F.Int z) = IsSignedWithin (width bits) z
@@ -263,7 +265,7 @@ between_is vs i d k short =
 
 -- the buffers that are written are long enough for their slots
 pub long_enough : (l : Layout) (vs : List Value) → AllHeld l vs → IsLongEnough (column_of l vs)
-long_enough lay vs h = record { bitmap = bitmap_there lay; values = values_there lay h; offsets = offsets_there lay }
+long_enough lay vs h = record { bitmap = bitmap_there lay; values = values_there lay h; offsets = offsets_there lay h }
   where
     some : 0 < length (validity_bytes vs) → (length vs + 7) / 8 ≤ length (validity_bytes vs)
     some = validity_cases (λ bytes. 0 < length bytes → (length vs + 7) / 8 ≤ length bytes) vs (λ none h. absurd (omega arith))
@@ -272,6 +274,8 @@ long_enough lay vs h = record { bitmap = bitmap_there lay; values = values_there
     bitmap_there : (l : Layout) → 0 < length (validity_in l vs) → (length vs + 7) / 8 ≤ length (validity_in l vs)
     bitmap_there l.Null h = absurd (omega arith)
     bitmap_there l.Unsupported h = absurd (omega arith)
+    bitmap_there l.Lists h = some h
+    bitmap_there l.Structs h = some h
     bitmap_there l.Bits h = some h
     bitmap_there (l.Numbers bits signed) h = some h
     bitmap_there (l.FixedBytes width) h = some h
@@ -285,9 +289,14 @@ long_enough lay vs h = record { bitmap = bitmap_there lay; values = values_there
     values_there (l.FixedBytes width) h = let e = wide_length (Fixed width) width vs (fixed_wide width vs h) in omega (arith, e)
     values_there _ h = tt
 
-    offsets_there : (l : Layout) → HoldOffsets l (length vs) (length (offsets_in l vs))
-    offsets_there (l.VariableBytes utf8) = λ some. let e = ends_length 0 vs in omega (arith, e)
-    offsets_there _ = tt
+    none_listed : (vs : List Value) → AllHeld l.Lists vs → 0 < length vs → 4 * (length vs + 1) ≤ 0
+    none_listed [] h some = absurd (omega arith)
+    none_listed (v ∷ vs) h some = absurd h.0
+
+    offsets_there : (l : Layout) → AllHeld l vs → HoldOffsets l (length vs) (length (offsets_in l vs))
+    offsets_there l.Lists h = none_listed vs h
+    offsets_there (l.VariableBytes utf8) h = λ some. let e = ends_length 0 vs in omega (arith, e)
+    offsets_there _ h = tt
 
 -- the null count that is written is the number of the bitmap's clear bits
 pub counts_nulls : (l : Layout) (vs : List Value) → AllHeld l vs → CountsNulls (column_of l vs)
@@ -305,6 +314,8 @@ counts_nulls lay vs h = record { with_bitmap = there lay; without_bitmap = absen
         → nulls vs ≡ clear (validity_in l vs) (length vs)
     there l.Null e h b = absurd (omega arith)
     there l.Unsupported e h b = absurd (omega arith)
+    there l.Lists e h b = some h
+    there l.Structs e h b = some h
     there l.Bits e h b = some h
     there (l.Numbers bits signed) e h b = some h
     there (l.FixedBytes width) e h b = some h
@@ -317,6 +328,8 @@ counts_nulls lay vs h = record { with_bitmap = there lay; without_bitmap = absen
     absent : (l : Layout) → AllHeld l vs → has_validity l ≡ true → length (validity_in l vs) ≡ 0 → nulls vs ≡ 0
     absent l.Null h e z = absurd (cc)
     absent l.Unsupported h e z = unread vs h
+    absent l.Lists h e z = none z
+    absent l.Structs h e z = none z
     absent l.Bits h e z = none z
     absent (l.Numbers bits signed) h e z = none z
     absent (l.FixedBytes width) h e z = none z
@@ -328,7 +341,9 @@ IsShort (l.VariableBytes utf8) vs = length (slots Content vs) ≤ 2 ^ 31 - 1
 IsShort _ vs = ⊤
 
 -- the offsets that are written begin at 0 and ascend within the data
-pub in_order : (l : Layout) (vs : List Value) → IsShort l vs → HasOffsets l (length vs) (offsets_in l vs) (length (values_in l vs))
+pub in_order : (l : Layout) (vs : List Value) → IsShort l vs
+    → HasOffsets l (length vs) (offsets_in l vs) (length (values_in l vs)) no_columns
+in_order l.Lists vs short = λ some there. absurd (omega (arith, there))
 in_order (l.VariableBytes utf8) vs short = λ some there. record { from = first; order = λ i k. next i k; to = last }
   where
     first : pos 0 ≤ℤ offset (offsets vs) 0
@@ -362,9 +377,11 @@ spelled (Value-F.Text text) v e h s = rw e h
 spelled _ v e h s = absurd h
 
 -- each slot of texts that is written is UTF-8
-pub spells_texts : (l : Layout) (vs : List Value) → AllHeld l vs → IsShort l vs → SpellsTexts (column_of l vs)
-spells_texts (l.VariableBytes true) vs h short = λ i k valid.
+pub spells_texts : (l : Layout) (vs : List Value) → AllHeld l vs → IsShort l vs → (i : ℕ) → i < length vs
+    → is_valid (validity_in l vs) i ≡ true → IsText l (SpellsTexts no_columns) (offsets_in l vs) (values_in l vs) i
+spells_texts (l.VariableBytes true) vs h short i k valid =
     let value = get_or vs i v.Null in
     let own = held_at (l.VariableBytes true) vs i v.Null h k in
     subst IsUtf8 (sym (between_is vs i v.Null k short)) (spelled (out-Value value) value refl own (sym (valid_is vs i v.Null k) ∙ valid))
-spells_texts _ vs h short = λ i k valid. tt
+spells_texts l.Lists vs h short i k valid = absurd (held_at l.Lists vs i v.Null h k)
+spells_texts _ vs h short i k valid = tt

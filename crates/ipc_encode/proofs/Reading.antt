@@ -18,12 +18,13 @@ use Rattle.ipc_meta.specs.declared.head.BatchHead.{BatchHead}
 use Rattle.ipc_model.specs.declared.layout.Layout.{Layout}
 use Rattle.ipc_model.specs.declared.layout.Layout.TheVariants as l
 use Rattle.ipc_model.specs.Layouts.{layout, type_layout, own_buffers}
-use Rattle.ipc_column.specs.Columns.{Column, Columns, Each, EachTop}
+use Rattle.ipc_column.specs.Columns.{Column, Columns, none, Each, EachTop}
 use Rattle.ipc_column.specs.Shapes.{Shape, shape_of, field_shape, nodes_in, buffers_in, node_at, buffer_at}
 use Rattle.ipc_column.specs.Shapes.{columns_of}
-use Rattle.ipc_column.specs.Rules.{IsNode, LiesIn, IsLongEnough, CountsNulls, HasOffsets, SpellsTexts}
+use Rattle.ipc_column.specs.Rules.{IsNode, LiesIn, IsLongEnough, CountsNulls, HasOffsets, HasLongChildren, SpellsTexts}
 use Rattle.ipc_column.specs.Values.{row}
 use Rattle.ipc_column.specs.Rows.{Rows}
+use Rattle.ipc_column.proofs.Plain.{plain_from_supported}
 use Rattle.ipc_encode.specs.Pieces.{Content}
 use Rattle.ipc_encode.specs.Cells.{cell, cells, nulls, slots}
 use Rattle.ipc_encode.specs.Buffers.{layout_of, column_buffers, nodes_from, ranges_from, buffers_from, buffers_of, body_of}
@@ -55,6 +56,8 @@ short_is l.Bits vs h = tt
 short_is (l.Numbers bits signed) vs h = tt
 short_is (l.FixedBytes width) vs h = tt
 short_is l.Unsupported vs h = tt
+short_is l.Lists vs h = tt
+short_is l.Structs vs h = tt
 
 goods : (fs : List Field) (j : ℕ) (rows : List (List Value)) → AllByRecursion IsFlat fs → FitFrom j fs rows → AllStored j fs rows
     → ¬ SomeLongData j fs rows → AllGood j fs rows
@@ -68,18 +71,33 @@ goods (f ∷ fs) j rows flat fits spells short =
       goods fs (j + 1) rows flat.1 step.1 spells.1 (λ x. short (inr x)),
     )
 
+abbrev Ordered : Column → Columns → Type 0
+Ordered c children = HasOffsets c.layout c.slots c.offsets (length c.values) children
+
 abbrev OfGood : (Column → Type 0) → Type 0
 OfGood P = (l : Layout) (vs : List Value) → AllHeld l vs → IsShort l vs → P (column_of l vs)
 
-each_written : (P : Column → Type 0) → OfGood P → (fs : List Field) (j : ℕ) (rows : List (List Value)) → AllGood j fs rows
-    → Each P (written j fs rows)
+each_written : (P : Column → Columns → Type 0) → OfGood (λ c. P c none) → (fs : List Field) (j : ℕ) (rows : List (List Value))
+    → AllGood j fs rows → Each P (written j fs rows)
 each_written P p [] j rows g = tt
 each_written P p (f ∷ fs) j rows g = (p (layout_of f) (cells j rows) g.0.held g.0.short, (tt, each_written P p fs (j + 1) rows g.1))
 
-each_top : (P : Column → Type 0) → OfGood P → (fs : List Field) (j : ℕ) (rows : List (List Value)) → AllGood j fs rows
-    → EachTop P (written j fs rows)
-each_top P p [] j rows g = tt
-each_top P p (f ∷ fs) j rows g = (p (layout_of f) (cells j rows) g.0.held g.0.short, each_top P p fs (j + 1) rows g.1)
+spelled_written : (fs : List Field) (j : ℕ) (rows : List (List Value)) → AllGood j fs rows → (i : ℕ) → i < length rows
+    → SpellsTexts (written j fs rows) i
+spelled_written [] j rows g i k = tt
+spelled_written (f ∷ fs) j rows g i k =
+    let size = cells_length j rows in
+    (spells_texts (layout_of f) (cells j rows) g.0.held g.0.short i (omega (arith, size)), spelled_written fs (j + 1) rows g.1 i k)
+
+long_children : (l : Layout) (n : ℕ) → HasLongChildren l n none
+long_children l.Structs n = tt
+long_children l.Lists n = tt
+long_children l.Null n = tt
+long_children l.Bits n = tt
+long_children (l.Numbers bits signed) n = tt
+long_children (l.FixedBytes width) n = tt
+long_children (l.VariableBytes utf8) n = tt
+long_children l.Unsupported n = tt
 
 slots_top : (fs : List Field) (j : ℕ) (rows : List (List Value)) → EachTop (λ c. pos c.slots ≡ pos (length rows)) (written j fs rows)
 slots_top [] j rows = tt
@@ -110,7 +128,7 @@ row_back [] j rows i g k e = sym (drop_past (get_or rows i []) j (omega (arith, 
 row_back (f ∷ fs) j rows i g k e =
     let size = cells_length j rows in
     let inside : j < length (get_or rows i []) = omega (arith, e) in
-    let here = value_is (layout_of f) (cells j rows) i (omega (arith, k, size)) g.0.held g.0.short ∙ cell_at j rows i k in
+    let here = value_is (row none) (layout_of f) (cells j rows) i (omega (arith, k, size)) g.0.held g.0.short ∙ cell_at j rows i k in
     let rest = row_back fs (j + 1) rows i g.1 k (omega (arith, e)) in
     let from : drop j (get_or rows i []) ≡ cell j (get_or rows i []) ∷ drop (j + 1) (get_or rows i []) =
     rw (drop-cons (get_or rows i []) j v.Null inside, add-one) refl in
@@ -174,24 +192,27 @@ rows_back {limits} fields rows o fine fits within spells =
     (λ k h. ap (λ (q : ℕ). node_at head q) (let z : 0 + k ≡ k = omega arith in z))
     (λ k h. ap (λ (q : ℕ). buffer_at head body q) (let z : 0 + k ≡ k = omega arith in z) ∙ buffer_back (buffers_of fields rows) [] k h) in
     record {
-      types = o;
+      plain = plain_from_supported fields o;
       nodes = nodes_length fields 0 rows ∙ sym (nodes_count fields flat);
       buffers = ranges_length (buffers_of fields rows) 0 ∙ sym (buffers_count fields 0 rows flat);
       lengths = record {
         batch = record { from = omega (arith, ints); to = omega (arith, ints, few) };
         nodes = All-from_recursion (IsNode limits) (nodes_from 0 fields rows) (are_nodes limits fields 0 rows few);
         columns = subst (λ (cs : Columns). EachTop (λ c. pos c.slots ≡ pos (length rows)) cs) (sym e) (slots_top fields 0 rows);
+        children = subst (λ (cs : Columns). Each (λ c children. HasLongChildren c.layout c.slots children) cs) (sym e)
+            (each_written (λ c children. HasLongChildren c.layout c.slots children) (λ l vs h s. long_children l (length vs)) fields 0
+            rows good);
       };
       ranges = All-from_recursion (LiesIn (length body)) (ranges_from 0 (buffers_of fields rows))
           (ranges_inside (buffers_of fields rows) 0 (length body) (omega arith));
-      bytes = subst (λ (cs : Columns). Each IsLongEnough cs) (sym e)
-          (each_written IsLongEnough (λ l vs h s. long_enough l vs h) fields 0 rows good);
-      null_counts = subst (λ (cs : Columns). Each CountsNulls cs) (sym e)
-          (each_written CountsNulls (λ l vs h s. counts_nulls l vs h) fields 0 rows good);
-      order = subst (λ (cs : Columns). Each (λ c. HasOffsets c.layout c.slots c.offsets (length c.values)) cs) (sym e)
-          (each_written (λ c. HasOffsets c.layout c.slots c.offsets (length c.values)) (λ l vs h s. in_order l vs s) fields 0 rows good);
-      texts = subst (λ (cs : Columns). EachTop SpellsTexts cs) (sym e)
-          (each_top SpellsTexts (λ l vs h s. spells_texts l vs h s) fields 0 rows good);
+      bytes = subst (λ (cs : Columns). Each (λ c children. IsLongEnough c) cs) (sym e)
+          (each_written (λ c children. IsLongEnough c) (λ l vs h s. long_enough l vs h) fields 0 rows good);
+      null_counts = subst (λ (cs : Columns). Each (λ c children. CountsNulls c) cs) (sym e)
+          (each_written (λ c children. CountsNulls c) (λ l vs h s. counts_nulls l vs h) fields 0 rows good);
+      order = subst (λ (cs : Columns). Each Ordered cs) (sym e)
+          (each_written Ordered (λ l vs h s. in_order l vs s) fields 0
+          rows good);
+      texts = λ i k. subst (λ (cs : Columns). SpellsTexts cs i) (sym e) (spelled_written fields 0 rows good i k);
       count = refl;
       values = λ i k. sym (ap (λ (cs : Columns). row cs i) e
           ∙ row_back fields 0 rows i good k

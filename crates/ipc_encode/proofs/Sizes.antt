@@ -59,6 +59,10 @@ pub column_size : (layout : Layout) (vs : List Value)
     → length (joined (layout_buffers layout vs)) ≡ column_length layout (length vs) (nulls vs) (length (values_in layout vs))
 column_size l.Null vs = refl
 column_size l.Unsupported vs = refl
+column_size l.Lists vs = joined_two (validity_bytes vs) []
+    ∙ ap (λ (n : ℕ). padded_length n + padded_length 0 + padded_length 0) (validity_is vs)
+column_size l.Structs vs = joined_two (validity_bytes vs) []
+    ∙ ap (λ (n : ℕ). padded_length n + padded_length 0 + padded_length 0) (validity_is vs)
 column_size l.Bits vs = joined_two (validity_bytes vs) (values_in l.Bits vs)
     ∙ ap (λ (n : ℕ). padded_length n + padded_length 0 + padded_length (length (values_in l.Bits vs))) (validity_is vs)
 column_size (l.Numbers bits signed) vs = joined_two (validity_bytes vs) (slots (Number bits) vs)
@@ -76,6 +80,8 @@ column_size (l.VariableBytes utf8) vs =
 pub long_is : (layout : Layout) (vs : List Value) → PassesOffsets layout (length (values_in layout vs)) → HasLongData layout vs
 long_is l.Null vs h = h
 long_is l.Unsupported vs h = h
+long_is l.Lists vs h = h
+long_is l.Structs vs h = h
 long_is l.Bits vs h = h
 long_is (l.Numbers bits signed) vs h = h
 long_is (l.FixedBytes width) vs h = h
@@ -84,6 +90,8 @@ long_is (l.VariableBytes utf8) vs h = h
 pub long_from : (layout : Layout) (vs : List Value) → HasLongData layout vs → PassesOffsets layout (length (values_in layout vs))
 long_from l.Null vs h = h
 long_from l.Unsupported vs h = h
+long_from l.Lists vs h = h
+long_from l.Structs vs h = h
 long_from l.Bits vs h = h
 long_from (l.Numbers bits signed) vs h = h
 long_from (l.FixedBytes width) vs h = h

@@ -23,13 +23,15 @@ abbrev pub validity : ℕ → Piece
 validity count = if count == 0 then p.Absent else p.Flags Valid
 
 -- what the buffers of a column hold, in their order (Arrow Columnar Format, "Buffer Listing for
--- Each Layout")
+-- Each Layout"); lists aren't written yet
 abbrev pub pieces : Layout → ℕ → List Piece
 pieces l.Null count = []
 pieces l.Bits count = validity count ∷ p.Flags True ∷ []
 pieces (l.Numbers bits signed) count = validity count ∷ p.Slots (Number bits) ∷ []
 pieces (l.FixedBytes width) count = validity count ∷ p.Slots (Fixed width) ∷ []
 pieces (l.VariableBytes utf8) count = validity count ∷ p.Offsets ∷ p.Slots Content ∷ []
+pieces l.Lists count = validity count ∷ p.Absent ∷ []
+pieces l.Structs count = validity count ∷ []
 pieces l.Unsupported count = []
 
 -- the bytes of a buffer for these values

@@ -23,14 +23,18 @@ validity_in l.Bits values = validity_bytes values
 validity_in (l.Numbers bits signed) values = validity_bytes values
 validity_in (l.FixedBytes width) values = validity_bytes values
 validity_in (l.VariableBytes utf8) values = validity_bytes values
+validity_in l.Lists values = validity_bytes values
+validity_in l.Structs values = validity_bytes values
 
--- the bytes of the offsets in a column of this layout
+-- the bytes of the offsets in a column of this layout; lists aren't written yet
 abbrev pub offsets_in : Layout → List Value → List ℕ
 offsets_in (l.VariableBytes utf8) values = offsets values
 offsets_in l.Null values = []
 offsets_in l.Bits values = []
 offsets_in (l.Numbers bits signed) values = []
 offsets_in (l.FixedBytes width) values = []
+offsets_in l.Lists values = []
+offsets_in l.Structs values = []
 offsets_in l.Unsupported values = []
 
 -- the bytes of the values in a column of this layout
@@ -40,6 +44,8 @@ values_in l.Bits values = bitmap (flags True values)
 values_in (l.Numbers bits signed) values = slots (Number bits) values
 values_in (l.FixedBytes width) values = slots (Fixed width) values
 values_in (l.VariableBytes utf8) values = slots Content values
+values_in l.Lists values = []
+values_in l.Structs values = []
 values_in l.Unsupported values = []
 
 -- the buffers of a column of this layout, each without padding

@@ -24,6 +24,8 @@ HasLongData l.Null values = ⊥
 HasLongData l.Bits values = ⊥
 HasLongData (l.Numbers bits signed) values = ⊥
 HasLongData (l.FixedBytes width) values = ⊥
+HasLongData l.Lists values = ⊥
+HasLongData l.Structs values = ⊥
 HasLongData l.Unsupported values = ⊥
 
 -- one of the columns from column j on has

@@ -18,6 +18,8 @@ AreStored l.Null values = ⊤
 AreStored l.Bits values = ⊤
 AreStored (l.Numbers bits signed) values = ⊤
 AreStored (l.FixedBytes width) values = ⊤
+AreStored l.Lists values = ⊤
+AreStored l.Structs values = ⊤
 AreStored l.Unsupported values = ⊤
 
 -- the same of the columns from column j on

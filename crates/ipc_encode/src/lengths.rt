@@ -83,7 +83,7 @@ impl Column {
             → result ≡ length (values_in layout (values ++ value.now ∷ [])) }
     {
         match self.layout {
-            Layout::Null | Layout::Unsupported => 0,
+            Layout::Null | Layout::Lists | Layout::Structs | Layout::Unsupported => 0,
             Layout::Bits => (self.slots + 1).div_ceil(8),
             Layout::Numbers { bits, .. } => self.values.len() + bits.bytes(),
             Layout::FixedBytes(width) => self.values.len() + fixed_len(value, width),

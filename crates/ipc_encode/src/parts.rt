@@ -67,8 +67,10 @@ fn add_buffers(draft: &mut Draft, column: &Column) -> Result<(), AllocError>
         return Ok(());
     }
     add_buffer(draft, &column.validity)?;
-    if let Layout::VariableBytes { .. } = column.layout {
-        add_buffer(draft, &column.offsets)?;
+    match column.layout {
+        Layout::Structs => return Ok(()),
+        Layout::VariableBytes { .. } => add_buffer(draft, &column.offsets)?,
+        _ => (),
     }
     add_buffer(draft, &column.values)
 }

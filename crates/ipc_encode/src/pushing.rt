@@ -126,7 +126,7 @@ fn push_value(
         → HasLongData layout (vs ++ value.now ∷ [])) }
 {
     match layout {
-        Layout::Null | Layout::Unsupported => Ok(()),
+        Layout::Null | Layout::Lists | Layout::Structs | Layout::Unsupported => Ok(()),
         Layout::Bits => Ok(push_bit(values, slots, is_true(value))?),
         Layout::Numbers { bits, .. } => Ok(push_number(values, value, bits)?),
         Layout::FixedBytes(width) => Ok(push_fixed(values, value, width)?),

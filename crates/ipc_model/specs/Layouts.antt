@@ -34,9 +34,9 @@ type_layout (t.Date Millisecond) = l.Numbers B64 true
 type_layout (t.Timestamp unit timezone) = l.Numbers B64 true
 type_layout (t.Time unit) = l.Numbers (time_bits unit) true
 type_layout (t.Duration unit) = l.Numbers B64 true
-type_layout t.List = l.Unsupported
+type_layout t.List = l.Lists
 type_layout (t.FixedSizeList size) = l.Unsupported
-type_layout t.Struct = l.Unsupported
+type_layout t.Struct = l.Structs
 
 -- the layout of a field's slots
 abbrev pub layout : DataType → Option Dictionary → Layout
@@ -52,6 +52,8 @@ own_buffers (l.VariableBytes utf8) = 3
 own_buffers l.Bits = 2
 own_buffers (l.Numbers bits signed) = 2
 own_buffers (l.FixedBytes width) = 2
+own_buffers l.Lists = 2
+own_buffers l.Structs = 1
 
 -- a null count is that of a validity bitmap; a column of the null layout has none (Arrow Columnar
 -- Format, "Null Layout")
@@ -61,6 +63,8 @@ has_validity l.Bits = true
 has_validity (l.Numbers bits signed) = true
 has_validity (l.FixedBytes width) = true
 has_validity (l.VariableBytes utf8) = true
+has_validity l.Lists = true
+has_validity l.Structs = true
 has_validity l.Unsupported = true
 
 -- each slot holds a text
@@ -70,6 +74,8 @@ is_texts l.Null = false
 is_texts l.Bits = false
 is_texts (l.Numbers bits signed) = false
 is_texts (l.FixedBytes width) = false
+is_texts l.Lists = false
+is_texts l.Structs = false
 is_texts l.Unsupported = false
 
 -- each slot holds a signed number of 64 bits
@@ -80,6 +86,8 @@ is_signed_64 l.Null = false
 is_signed_64 l.Bits = false
 is_signed_64 (l.FixedBytes width) = false
 is_signed_64 (l.VariableBytes utf8) = false
+is_signed_64 l.Lists = false
+is_signed_64 l.Structs = false
 is_signed_64 l.Unsupported = false
 
 -- the bytes of a number

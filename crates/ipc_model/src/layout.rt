@@ -28,7 +28,12 @@ pub enum Layout {
         /// Whether the bytes of a slot are UTF-8.
         utf8: bool,
     },
-    /// A type whose columns are neither read nor written yet.
+    /// A validity bitmap, and offsets of 32 bits into the slots of the one child ("Variable-size
+    /// List Layout").
+    Lists,
+    /// A validity bitmap; the values of a slot stand in that slot of each child ("Struct Layout").
+    Structs,
+    /// A dictionary-encoded field, whose columns are neither read nor written yet.
     Unsupported,
 }
 
@@ -62,12 +67,14 @@ fn type_layout(kind: &DataType) -> Layout
             bits: IntBits::B64,
             signed: true,
         },
-        DataType::List | DataType::FixedSizeList(_) | DataType::Struct => Layout::Unsupported,
+        DataType::List => Layout::Lists,
+        DataType::FixedSizeList(_) => Layout::Unsupported,
+        DataType::Struct => Layout::Structs,
     }
 }
 
 /// The layout of the slots of a field of this type with this dictionary: `Unsupported` where there
-/// is one, and for lists and structs.
+/// is one.
 pub fn layout_of(kind: &DataType, dictionary: Option<Dictionary>) -> Layout
     ensures { result ≡ layout kind.now dictionary }
 {
@@ -85,7 +92,8 @@ impl Layout {
     {
         match self {
             Layout::Null | Layout::Unsupported => 0,
-            Layout::Bits | Layout::Numbers { .. } | Layout::FixedBytes(_) => 2,
+            Layout::Structs => 1,
+            Layout::Bits | Layout::Numbers { .. } | Layout::FixedBytes(_) | Layout::Lists => 2,
             Layout::VariableBytes { .. } => 3,
         }
     }

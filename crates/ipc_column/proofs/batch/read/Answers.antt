@@ -4,7 +4,7 @@ use Rattle.ipc_column.specs.declared.cause.Cause.TheVariants as cause
 use Rattle.ipc_column.specs.Shapes.{shape_of}
 use Rattle.ipc_column.proofs.Fields.{buffers_most}
 use Rattle.ipc_column.specs.Checks.{all, is_node, is_slot_count}
-use Rattle.ipc_column.proofs.Visits.{texts_most, slots_most}
+use Rattle.ipc_column.proofs.Visits.{visits_most, slots_most}
 use Rattle.ipc_column.proofs.Laws.{passing, exits, head_failing, columns_failing}
 use Rattle.ipc_column.proofs.batch.read.Goals as goal
 
@@ -57,7 +57,7 @@ check_columns-requires c =
     let good : all (is_node c.args.limits.now) c.args.head.now.nodes ≡ true =
     (and_parts (is_slot_count c.args.limits.now c.args.head.now.length) (all (is_node c.args.limits.now) c.args.head.now.nodes)
     (c.in_ok-check_head.ensures.judged cause.BadNode)).1 in
-    let most = texts_most c.args.limits.now (shape_of c.args.fields.now) c.args.head.now c.args.body.items good (omega (arith, nodes)) in
+    let most = visits_most c.args.limits.now (shape_of c.args.fields.now) c.args.head.now c.args.body.items good (omega (arith, nodes)) in
     let few = slots_most c.args.limits.now c.args.head.now.nodes good in
     rw (c.deref.ensures.value, c.deref-2.ensures.value, c.in_ok-parts.ensures.parts c.args.body.items) (omega (arith, most, few, nodes))
 
@@ -67,7 +67,7 @@ returns-clause-slots c =
     let good : all (is_node c.args.limits.now) c.args.head.now.nodes ≡ true =
     (and_parts (is_slot_count c.args.limits.now c.args.head.now.length) (all (is_node c.args.limits.now) c.args.head.now.nodes)
     (c.in_ok-check_head.ensures.judged cause.BadNode)).1 in
-    let most = texts_most c.args.limits.now (shape_of c.args.fields.now) c.args.head.now c.args.body.items good (omega (arith, nodes)) in
+    let most = visits_most c.args.limits.now (shape_of c.args.fields.now) c.args.head.now c.args.body.items good (omega (arith, nodes)) in
     let visited = rw (c.deref.ensures.value, c.deref-2.ensures.value, c.in_ok-parts.ensures.parts c.args.body.items) at
     c.in_ok-slot_tests.ensures.visited in
     rw c.in_ok-share.ensures (omega (arith, visited, most))

@@ -1,16 +1,18 @@
-use Rattle.ipc_column.proofs.Cells.{bitmap_front, part_long, part_slot}
+use Rattle.ipc_column.proofs.Slots.{part_stands}
 use Rattle.ipc_column.proofs.cell.cell_at.Goals as goal
 
 pub is_valid_in-requires : goal.is_valid_in-requires
-is_valid_in-requires c =
-    bitmap_front _ _ _ (part_long c.args.body.now c.args.part.now c.requires.sound).bitmap
-    (part_slot c.args.body.now c.args.part.now c.args.slot c.requires.slot)
+is_valid_in-requires c = (part_stands c.args.body.now c.args.part.now c.args.slot c.requires).bitmap
 
 pub own_cell-requires-clause-values : goal.own_cell-requires-clause-values
-own_cell-requires-clause-values c = rw c.bytes_at.ensures (part_long c.args.body.now c.args.part.now c.requires.sound).values
+own_cell-requires-clause-values c = rw c.bytes_at.ensures (part_stands c.args.body.now c.args.part.now c.args.slot c.requires).long.values
 
 pub own_cell-requires-clause-offsets : goal.own_cell-requires-clause-offsets
-own_cell-requires-clause-offsets c = (part_long c.args.body.now c.args.part.now c.requires.sound).offsets
+own_cell-requires-clause-offsets c = (part_stands c.args.body.now c.args.part.now c.args.slot c.requires).long.offsets
 
 pub own_cell-requires-clause-rise : goal.own_cell-requires-clause-rise
-own_cell-requires-clause-rise c = rw c.bytes_at.ensures (part_long c.args.body.now c.args.part.now c.requires.sound).order
+own_cell-requires-clause-rise c =
+    rw (c.bytes_at.ensures, c.deref.ensures.value) (part_stands c.args.body.now c.args.part.now c.args.slot c.requires).long.order
+
+pub own_cell-requires-clause-long : goal.own_cell-requires-clause-long
+own_cell-requires-clause-long c = rw c.deref.ensures.value (part_stands c.args.body.now c.args.part.now c.args.slot c.requires).long.long

@@ -1,16 +1,16 @@
-use Rattle.std.proofs.Common.{length, arith, ◌+◌}
+use Rattle.std.proofs.Common.{arith}
 use Rattle.ipc_column.specs.Values.{place}
 use Rattle.ipc_column.proofs.Slices.{places}
 use Rattle.ipc_column.proofs.texts.are_cuts.Goals as goal
 
 pub overflow_sub-place_at : goal.overflow_sub-place_at
 overflow_sub-place_at c =
-    let p = places c.args.offsets.now c.args.slots
-    (place c.args.offsets.now 0 + length c.args.text.now) c.loop-slot.slot c.args.slots c.requires.order (omega arith) (omega arith) in
-    omega arith
+    let p = places c.args.offsets.now c.args.slots (place c.args.offsets.now c.args.slots) c.args.from c.loop-slot.slot c.requires.order
+    (omega arith) (omega arith) in
+    omega (arith, p.order)
 
 pub may_cut-requires : goal.may_cut-requires
 may_cut-requires c =
-    let p = places c.args.offsets.now c.args.slots
-    (place c.args.offsets.now 0 + length c.args.text.now) c.loop-slot.slot c.args.slots c.requires.order (omega arith) (omega arith) in
-    omega arith
+    let p = places c.args.offsets.now c.args.slots (place c.args.offsets.now c.args.slots) c.loop-slot.slot c.args.to c.requires.order
+    (omega arith) (omega arith) in
+    omega (arith, p.order)

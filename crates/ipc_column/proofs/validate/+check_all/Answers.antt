@@ -10,7 +10,7 @@ use Rattle.ipc_column.proofs.validate.+check_all.Goals as goal
 pub check_tree-returns : goal.check_tree-returns
 check_tree-returns t c =
     let children = ap (columns c.args.body.now) c.deref.ensures.value ∙ sym (children_out c.args.body.now c.args.part.now) in
-    then_judges (λ why. passes why (column_of c.args.body.now c.args.part.now))
+    then_judges (λ why. passes why (column_of c.args.body.now c.args.part.now) (children_of c.args.body.now c.args.part.now))
     (λ why. every (passes why) (children_of c.args.body.now c.args.part.now)) c.check_all.result
     c.in_ok-check_part.ensures (rw children at c.check_all.ensures)
 

@@ -1,18 +1,36 @@
-use Rattle.std.proofs.Common.{◌∙◌, sym}
+use Rattle.std.proofs.Common.{◌∙◌, sym, arith}
 use Rattle.std.proofs.lemmas.Bool.{false≢true}
 use Rattle.std.proofs.lemmas.Result.{err_from_is_err_and}
-use Rattle.ipc_column.specs.Columns.{every, every_top}
-use Rattle.ipc_column.specs.Checks.{passes, top_passes}
+use Rattle.ipc_column.specs.declared.cause.Cause.TheVariants as cause
 use Rattle.ipc_column.specs.Views.{columns}
 use Rattle.ipc_column.proofs.Rules.{every_true}
-use Rattle.ipc_column.proofs.Parts.{then_judges}
+use Rattle.ipc_column.proofs.Slots.{row_slots, all_judged}
+use Rattle.ipc_column.proofs.Weights.{weight_most}
 use Rattle.ipc_column.proofs.validate.check_columns.Goals as goal
 
-pub returns-clause-judged : goal.returns-clause-judged
-returns-clause-judged c =
-    then_judges (λ why. every (passes why) (columns c.args.body.now c.args.parts.now))
-    (λ why. every_top (top_passes why c.args.rows) (columns c.args.body.now c.args.parts.now)) c.check_tops.result
-    c.in_ok-check_all.ensures c.check_tops.ensures.judged
+pub visit_all-requires-clause-slots : goal.visit_all-requires-clause-slots
+visit_all-requires-clause-slots c =
+    row_slots (columns c.args.body.now c.args.parts.now) c.args.rows 0 c.args.rows (omega arith) (omega arith) c.in_ok-check_all.ensures
+    (c.in_ok-check_tops.ensures cause.BadNode)
+
+pub visit_all-requires-clause-room : goal.visit_all-requires-clause-room
+visit_all-requires-clause-room c =
+    let most = weight_most (columns c.args.body.now c.args.parts.now) 0 c.args.rows
+    (row_slots (columns c.args.body.now c.args.parts.now) c.args.rows 0 c.args.rows (omega arith) (omega arith) c.in_ok-check_all.ensures
+    (c.in_ok-check_tops.ensures cause.BadNode)) in
+    omega (arith, most, c.requires)
+
+pub returns-then-visit_all-clause-judged : goal.returns-then-visit_all-clause-judged
+returns-then-visit_all-clause-judged c =
+    all_judged (columns c.args.body.now c.args.parts.now) c.args.rows c.in_ok-check_all.ensures c.in_ok-check_tops.ensures
+    (sym c.visit_all.ensures.good ∙ c.if-visit_all.true)
+
+pub returns-then-visit_all-clause-visited : goal.returns-then-visit_all-clause-visited
+returns-then-visit_all-clause-visited c =
+    let most = weight_most (columns c.args.body.now c.args.parts.now) 0 c.args.rows
+    (row_slots (columns c.args.body.now c.args.parts.now) c.args.rows 0 c.args.rows (omega arith) (omega arith) c.in_ok-check_all.ensures
+    (c.in_ok-check_tops.ensures cause.BadNode)) in
+    omega (arith, most, c.visit_all.ensures.cost)
 
 pub returns-in_err-check_all-clause-texts_last : goal.returns-in_err-check_all-clause-texts_last
 returns-in_err-check_all-clause-texts_last c =

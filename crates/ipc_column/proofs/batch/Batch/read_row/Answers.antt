@@ -1,5 +1,4 @@
-use Rattle.std.proofs.Common.{◌∙◌, sym, ap, List}
-use Rattle.ipc_model.specs.declared.value.Value.{Value}
+use Rattle.std.proofs.Common.{◌∙◌, sym, ap}
 use Rattle.ipc_column.specs.Contents.{Contents}
 use Rattle.ipc_column.specs.Views.{columns}
 use Rattle.ipc_column.proofs.Cells.{row_in, row_is}

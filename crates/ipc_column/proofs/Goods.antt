@@ -1,0 +1,203 @@
+-- Ranges of slots that are good.
+use Rattle.std.proofs.Common.{◌≡◌, ◌∙◌, refl, sym, ap, subst, ℕ, zero, suc, ◌+◌, ◌-◌, ◌<◌, ◌≤◌, Bool, true, false, List, length, arith}
+use Rattle.std.proofs.Common.{le-leb}
+use Rattle.std.specs.Prelude.{◌&&◌, ◌||◌, not, nat_le}
+use Rattle.std.proofs.lemmas.Bool.{false≢true, and_parts, and_from, leb-true}
+use Rattle.ipc_model.specs.declared.layout.Layout.{Layout}
+use Rattle.ipc_model.specs.declared.layout.Layout.TheVariants as l
+use Rattle.ipc_model.specs.Layouts.{is_texts}
+use Rattle.ipc_column.specs.Columns.{Column, Columns, none, column}
+use Rattle.ipc_column.specs.Values.{place, is_valid, child_slot}
+use Rattle.ipc_column.specs.Rules.{have_texts}
+use Rattle.ipc_column.specs.Checks.{all_below, all_slots, have_slots, good, good_slot, good_below, range_good, text_good}
+use Rattle.ipc_column.proofs.Below.{below_at, below_from, below_fails}
+
+-- a slot of a range that passes
+pub slots_at : (f : ℕ → Bool) (a b i : ℕ) → all_slots f a (b - a) ≡ true → a ≤ i → i < b → f i ≡ true
+slots_at f a b i h l m =
+    let e : a + (i - a) ≡ i = omega arith in
+    subst (λ (k : ℕ). f k ≡ true) e (below_at (λ k. f (a + k)) (b - a) (i - a) h (omega arith))
+
+-- a range whose slots pass
+pub slots_from : (f : ℕ → Bool) (a b : ℕ) → ((i : ℕ) → a ≤ i → i < b → f i ≡ true) → all_slots f a (b - a) ≡ true
+slots_from f a b h = below_from (λ k. f (a + k)) (b - a) (λ k l. h (a + k) (omega arith) (omega (arith, l)))
+
+-- a range with a slot that fails
+pub slots_fail : (f : ℕ → Bool) (a b i : ℕ) → a ≤ i → i < b → f i ≡ false → all_slots f a (b - a) ≡ false
+slots_fail f a b i l m e =
+    let p : i ≡ a + (i - a) = omega arith in
+    below_fails (λ k. f (a + k)) (b - a) (i - a) (omega arith) (subst (λ (k : ℕ). f k ≡ false) p e)
+
+-- one slot more
+pub slots_more : (f : ℕ → Bool) (a i : ℕ) → a ≤ i → all_slots f a (i - a) ≡ true → f i ≡ true → all_slots f a (i + 1 - a) ≡ true
+slots_more f a i l h g =
+    let n : i + 1 - a ≡ suc (i - a) = omega arith in
+    let p : a + (i - a) ≡ i = omega arith in
+    rw (n, h, p, g) refl
+
+none_below : (f : ℕ → Bool) (k : ℕ) → all_below f (k - k) ≡ true
+none_below f k = let e : k - k ≡ 0 = omega arith in rw e refl
+
+and_swap : (x y z w : Bool) → ((x && y) && (z && w)) ≡ ((x && z) && (y && w))
+and_swap true true z w = refl
+and_swap true false true w = refl
+and_swap true false false w = refl
+and_swap false y z w = refl
+
+and_shift : (x y z : Bool) → ((x && y) && z) ≡ (x && (y && z))
+and_shift true y z = refl
+and_shift false y z = refl
+
+pub and_true : (b : Bool) → (b && true) ≡ b
+and_true true = refl
+and_true false = refl
+
+below_add : (f : ℕ → Bool) (m n : ℕ) → all_below f (m + n) ≡ (all_below f m && all_below (λ k. f (m + k)) n)
+below_add f m zero = let e : m + 0 ≡ m = omega arith in rw e (sym (and_true (all_below f m)))
+below_add f m (suc n) =
+    let e : m + suc n ≡ suc (m + n) = omega arith in
+    rw (e, below_add f m n) (and_shift (all_below f m) (all_below (λ k. f (m + k)) n) (f (m + n)))
+
+below_same : (f g : ℕ → Bool) (n : ℕ) → ((k : ℕ) → f k ≡ g k) → all_below f n ≡ all_below g n
+below_same f g zero e = refl
+below_same f g (suc n) e = rw (below_same f g n e, e n) refl
+
+slots_add : (f : ℕ → Bool) (a b c : ℕ) → a ≤ b → b ≤ c → all_slots f a (c - a) ≡ (all_slots f a (b - a) && all_slots f b (c - b))
+slots_add f a b c l m =
+    let e : c - a ≡ b - a + (c - b) = omega arith in
+    let same = below_same (λ k. f (a + (b - a + k))) (λ k. f (b + k)) (c - b)
+    (λ k. let p : a + (b - a + k) ≡ b + k = omega arith in ap f p) in
+    rw (e, below_add (λ k. f (a + k)) (b - a) (c - b), same) refl
+
+-- no slots are good
+pub good_none : (cs : Columns) (k : ℕ) → good cs k k ≡ true
+good_none none k = refl
+good_none (column c children rest) k = and_from _ _ (none_below (λ i. good_slot (good children) c (k + i)) k) (good_none rest k)
+
+-- neighbouring ranges are good where the whole is
+pub good_add : (cs : Columns) (a b c : ℕ) → a ≤ b → b ≤ c → good cs a c ≡ (good cs a b && good cs b c)
+good_add none a b c l m = refl
+good_add (column d children rest) a b c l m =
+    rw (slots_add (good_slot (good children) d) a b c l m, good_add rest a b c l m)
+    (and_swap (all_slots (good_slot (good children) d) a (b - a)) (all_slots (good_slot (good children) d) b (c - b)) (good rest a b)
+    (good rest b c))
+
+-- a range within a good one
+pub good_within : (cs : Columns) (a b i j : ℕ) → good cs a b ≡ true → a ≤ i → i ≤ j → j ≤ b → good cs i j ≡ true
+good_within cs a b i j h l m n =
+    let p = and_parts (good cs a i) (good cs i b) (sym (good_add cs a i b l (omega arith)) ∙ h) in
+    (and_parts (good cs i j) (good cs j b) (sym (good_add cs i j b m n) ∙ p.1)).0
+
+-- one column alone
+pub good_one : (c : Column) (children : Columns) (i j : ℕ)
+    → good (column c children none) i j ≡ all_slots (good_slot (good children) c) i (j - i)
+good_one c children i j = and_true _
+
+-- the first column and those behind it
+pub good_first : (c : Column) (children rest : Columns) (i j : ℕ)
+    → good (column c children rest) i j ≡ (good (column c children none) i j && good rest i j)
+good_first c children rest i j = ap (λ (b : Bool). b && good rest i j) (sym (and_true _))
+
+or_parts : (a b : Bool) → (a || b) ≡ false → (a ≡ false) × (b ≡ false)
+or_parts true b e = absurd (false≢true (sym e))
+or_parts false b e = (refl, e)
+
+or_true : (a : Bool) → (a || true) ≡ true
+or_true true = refl
+or_true false = refl
+
+-- where no text stands in the columns or below them, nothing is asked
+pub quiet_good : (cs : Columns) (i j : ℕ) → have_texts cs ≡ false → good cs i j ≡ true
+quiet_good none i j h = refl
+quiet_good (column c children rest) i j h =
+    let p = or_parts (is_texts c.layout) (have_texts children || have_texts rest) h in
+    let q = or_parts (have_texts children) (have_texts rest) p.1 in
+    and_from _ _ (below_from (λ k. good_slot (good children) c (i + k)) (j - i)
+    (λ k m. ap (λ (b : Bool). not (is_valid c.validity (i + k)) || b)
+    (below c.layout c.offsets c.values (i + k) p.0 (λ a b. quiet_good children a b q.0)) ∙ or_true (not (is_valid c.validity (i + k)))))
+    (quiet_good rest i j q.1)
+  where
+    below : (layout : Layout) (o w : List ℕ) (k : ℕ) → is_texts layout ≡ false → ((a b : ℕ) → good children a b ≡ true)
+        → good_below layout (good children) o w k ≡ true
+    below (l.VariableBytes true) o w k e all = absurd (false≢true (sym e))
+    below l.Lists o w k e all = all (place o k) (place o (k + 1))
+    below l.Structs o w k e all = all k (k + 1)
+    below _ o w k e all = refl
+
+-- what the slots of several rows lead to
+run_good : (layout : Layout) (children : Columns) (o w : List ℕ) (a m : ℕ) → is_texts layout ≡ false
+    → ((i : ℕ) → a ≤ i → i < a + m → child_slot layout o i ≤ child_slot layout o (i + 1))
+    → all_slots (good_below layout (good children) o w) a m ≡ range_good layout (good children) o a (a + m)
+run_good (l.VariableBytes true) children o w a m t up = absurd (false≢true (sym t))
+run_good l.Lists children o w a zero t up =
+    let e : a + 0 ≡ a = omega arith in
+    rw e (sym (good_none children (place o a)))
+run_good l.Lists children o w a (suc m) t up =
+    let e : a + suc m ≡ a + m + 1 = omega arith in
+    rw (e, run_good l.Lists children o w a m t (λ i h k. up i h (omega (arith, k))))
+    (sym (good_add children (place o a) (place o (a + m)) (place o (a + m + 1)) (far m up) (up (a + m) (omega arith) (omega arith))))
+  where
+    far : (d : ℕ) → ((i : ℕ) → a ≤ i → i < a + suc d → place o i ≤ place o (i + 1)) → place o a ≤ place o (a + d)
+    far zero h = let e : a + 0 ≡ a = omega arith in rw e (omega arith)
+    far (suc d) h =
+        let e : a + suc d ≡ a + d + 1 = omega arith in
+        let before = far d (λ i f k. h i f (omega (arith, k))) in
+        let step = h (a + d) (omega arith) (omega arith) in
+        rw e (omega (arith, before, step))
+run_good l.Structs children o w a zero t up = let e : a + 0 ≡ a = omega arith in rw e (sym (good_none children a))
+run_good l.Structs children o w a (suc m) t up =
+    let e : a + suc m ≡ a + m + 1 = omega arith in
+    rw (e, run_good l.Structs children o w a m t (λ i h k. omega arith))
+    (sym (good_add children a (a + m) (a + m + 1) (omega arith) (omega arith)))
+run_good l.Null children o w a m t up = below_from (λ k. true) m (λ k h. refl)
+run_good l.Bits children o w a m t up = below_from (λ k. true) m (λ k h. refl)
+run_good (l.Numbers bits signed) children o w a m t up = below_from (λ k. true) m (λ k h. refl)
+run_good (l.FixedBytes width) children o w a m t up = below_from (λ k. true) m (λ k h. refl)
+run_good (l.VariableBytes false) children o w a m t up = below_from (λ k. true) m (λ k h. refl)
+run_good l.Unsupported children o w a m t up = below_from (λ k. true) m (λ k h. refl)
+
+-- without a bitmap, what the slots of a range lead to is what the range leads to
+pub range_whole : (c : Column) (children : Columns) (i j : ℕ) → is_texts c.layout ≡ false → length c.validity ≡ 0 → i ≤ j
+    → ((k : ℕ) → i ≤ k → k < j → child_slot c.layout c.offsets k ≤ child_slot c.layout c.offsets (k + 1))
+    → range_good c.layout (good children) c.offsets i j ≡ good (column c children none) i j
+range_whole c children i j t v l up =
+    let e : i + (j - i) ≡ j = omega arith in
+    let run = run_good c.layout children c.offsets c.values i (j - i) t (λ k a b. up k a (omega (arith, b))) in
+    let valid : (k : ℕ) → is_valid c.validity k ≡ true = λ k. rw v refl in
+    let same = below_same (λ k. good_slot (good children) c (i + k)) (λ k. good_below c.layout (good children) c.offsets c.values (i + k))
+    (j - i) (λ k. ap (λ (b : Bool). not b || good_below c.layout (good children) c.offsets c.values (i + k)) (valid (i + k))) in
+    sym (good_one c children i j ∙ (same ∙ (run ∙ ap (λ (k : ℕ). range_good c.layout (good children) c.offsets i k) e)))
+
+-- what one slot leads to
+pub slot_range : (layout : Layout) (below : ℕ → ℕ → Bool) (o w : List ℕ) (i : ℕ) → is_texts layout ≡ false
+    → range_good layout below o i (i + 1) ≡ good_below layout below o w i
+slot_range (l.VariableBytes true) below o w i t = absurd (false≢true (sym t))
+slot_range (l.VariableBytes false) below o w i t = refl
+slot_range l.Lists below o w i t = refl
+slot_range l.Structs below o w i t = refl
+slot_range l.Null below o w i t = refl
+slot_range l.Bits below o w i t = refl
+slot_range (l.Numbers bits signed) below o w i t = refl
+slot_range (l.FixedBytes width) below o w i t = refl
+slot_range l.Unsupported below o w i t = refl
+
+-- columns with so many slots have fewer
+pub fewer_slots : (cs : Columns) (m n : ℕ) → m ≤ n → have_slots n cs ≡ true → have_slots m cs ≡ true
+fewer_slots none m n l h = refl
+fewer_slots (column c children rest) m n l h =
+    let p = and_parts (nat_le n c.slots) (have_slots n rest) h in
+    let k = leb-true n c.slots p.0 in
+    and_from (nat_le m c.slots) (have_slots m rest) (le-leb m c.slots (omega arith)) (fewer_slots rest m n l p.1)
+
+texts_layout : (layout : Layout) → is_texts layout ≡ true → layout ≡ l.VariableBytes true
+texts_layout (l.VariableBytes true) e = refl
+texts_layout _ e = absurd (false≢true e)
+
+-- texts, by themselves
+pub texts_good : (c : Column) (children : Columns) (i j : ℕ) → is_texts c.layout ≡ true
+    → all_slots (text_good c.validity c.offsets c.values) i (j - i) ≡ good (column c children none) i j
+texts_good c children i j t =
+    let e = texts_layout c.layout t in
+    let same = below_same (λ k. text_good c.validity c.offsets c.values (i + k)) (λ k. good_slot (good children) c (i + k)) (j - i)
+    (λ k. rw e refl) in
+    same ∙ sym (good_one c children i j)

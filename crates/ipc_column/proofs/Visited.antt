@@ -1,0 +1,191 @@
+-- What the visits of a part stand on.
+use Rattle.std.proofs.Common.{◌≡◌, ◌∙◌, refl, sym, ap, subst, ℕ, ◌+◌, ◌-◌, ◌*◌, ◌<◌, ◌≤◌, Bool, true, false, List, length, arith, drop}
+use Rattle.std.specs.Prelude.{◌||◌, ◌==◌}
+use Rattle.std.proofs.lemmas.Bool.{false≢true}
+use Rattle.std.proofs.lemmas.List.{drop_all}
+use Rattle.ipc_model.specs.declared.layout.Layout.{Layout}
+use Rattle.ipc_model.specs.declared.layout.Layout.TheVariants as l
+use Rattle.ipc_model.specs.Layouts.{is_texts}
+use Rattle.ipc_column.specs.declared.ranges.ColumnRanges.{ColumnRanges}
+use Rattle.ipc_column.specs.declared.ranges.ColumnRanges.TheViews.{out-ColumnRanges}
+use Rattle.ipc_column.specs.Columns.{Column, Columns, none, column}
+use Rattle.ipc_column.specs.Values.{place, child_slot, is_nested}
+use Rattle.ipc_column.specs.Rules.{have_texts, is_visited}
+use Rattle.ipc_column.specs.declared.cause.Cause.{Cause}
+use Rattle.ipc_column.specs.declared.cause.Cause.TheVariants as cause
+use Rattle.ipc_column.specs.Checks.{good, range_good, all_slots, text_good, passes}
+use Rattle.ipc_column.specs.Lent.{AreSlots}
+use Rattle.ipc_column.specs.Views.{columns, column_of, children_of, own_column, one}
+use Rattle.ipc_column.specs.Weights.{weight, weight_below}
+use Rattle.ipc_column.proofs.Parts.{children_out, column_is}
+use Rattle.ipc_column.proofs.Slots.{TextParts, list_parts, text_parts, slots_below, slots_within, part_slots, part_long, part_most}
+use Rattle.ipc_column.proofs.Goods.{range_whole, quiet_good, texts_good}
+
+-- what holds of a part's own fields holds of its column and its children
+pub part_back : (P : Column → Columns → Type 0) (body : List ℕ) (p : ColumnRanges)
+    → P (own_column body p) (columns body (out-ColumnRanges p).children.items) → P (column_of body p) (children_of body p)
+part_back P body p h =
+    subst (λ (c : Column). P c (children_of body p)) (sym (column_is body p))
+    (subst (λ (cs : Columns). P (own_column body p) cs) (sym (children_out body p)) h)
+
+pub layout_is : (body : List ℕ) (p : ColumnRanges) → (column_of body p).layout ≡ (out-ColumnRanges p).layout
+layout_is body p = ap (λ (c : Column). c.layout) (column_is body p)
+
+-- the offsets of a list's slots are there
+pub list_bytes : (body : List ℕ) (p : ColumnRanges) (i j k : ℕ) → AreSlots (one body p) i j → i < j → k ≤ j
+    → (out-ColumnRanges p).layout ≡ l.Lists → 4 * (k + 1) ≤ length (own_column body p).offsets
+list_bytes body p i j k h m n e =
+    let most = part_most body p i j h in
+    let parts = list_parts (own_column body p) (columns body (out-ColumnRanges p).children.items) (part_long body p i j h) e
+    (omega arith) in
+    let bytes = parts.bytes in
+    omega (arith, most, bytes)
+
+-- the slots that lists hold
+pub list_slots : (body : List ℕ) (p : ColumnRanges) (i j : ℕ) → AreSlots (one body p) i j → i < j → (out-ColumnRanges p).layout ≡ l.Lists
+    → AreSlots (columns body (out-ColumnRanges p).children.items) (place (own_column body p).offsets i)
+    (place (own_column body p).offsets j)
+list_slots body p i j h m e =
+    let nested : is_nested (own_column body p).layout ≡ true = ap is_nested e in
+    subst (λ (x : Layout). AreSlots (columns body (out-ColumnRanges p).children.items) (child_slot x (own_column body p).offsets i)
+    (child_slot x (own_column body p).offsets j)) e
+    (slots_below (own_column body p) (columns body (out-ColumnRanges p).children.items) i j (part_slots body p i j h) m nested)
+
+-- the slots of the children of structs
+pub struct_slots : (body : List ℕ) (p : ColumnRanges) (i j : ℕ) → AreSlots (one body p) i j → i < j
+    → (out-ColumnRanges p).layout ≡ l.Structs
+    → AreSlots (columns body (out-ColumnRanges p).children.items) i j
+struct_slots body p i j h m e =
+    let nested : is_nested (own_column body p).layout ≡ true = ap is_nested e in
+    subst (λ (x : Layout). AreSlots (columns body (out-ColumnRanges p).children.items) (child_slot x (own_column body p).offsets i)
+    (child_slot x (own_column body p).offsets j)) e
+    (slots_below (own_column body p) (columns body (out-ColumnRanges p).children.items) i j (part_slots body p i j h) m nested)
+
+-- what is below a part, by its fields
+pub weight_is : (body : List ℕ) (p : ColumnRanges) (i j : ℕ)
+    → weight_below (column_of body p).layout (weight (children_of body p)) (column_of body p).offsets i j
+    ≡ weight_below (out-ColumnRanges p).layout (weight (columns body (out-ColumnRanges p).children.items)) (own_column body p).offsets i j
+weight_is body p i j =
+    ap (λ (c : Column). weight_below c.layout (weight (children_of body p)) c.offsets i j) (column_is body p)
+    ∙ ap (λ (cs : Columns). weight_below (out-ColumnRanges p).layout (weight cs) (own_column body p).offsets i j) (children_out body p)
+
+pub list_weight : (body : List ℕ) (p : ColumnRanges) (i j : ℕ) → (out-ColumnRanges p).layout ≡ l.Lists
+    → weight_below (column_of body p).layout (weight (children_of body p)) (column_of body p).offsets i j
+    ≡ weight (columns body (out-ColumnRanges p).children.items) (place (own_column body p).offsets i) (place (own_column body p).offsets j)
+list_weight body p i j e = weight_is body p i j
+    ∙ ap (λ (x : Layout). weight_below x (weight (columns body (out-ColumnRanges p).children.items)) (own_column body p).offsets i j) e
+
+pub struct_weight : (body : List ℕ) (p : ColumnRanges) (i j : ℕ) → (out-ColumnRanges p).layout ≡ l.Structs
+    → weight_below (column_of body p).layout (weight (children_of body p)) (column_of body p).offsets i j
+    ≡ weight (columns body (out-ColumnRanges p).children.items) i j
+struct_weight body p i j e = weight_is body p i j
+    ∙ ap (λ (x : Layout). weight_below x (weight (columns body (out-ColumnRanges p).children.items)) (own_column body p).offsets i j) e
+
+pub range_is : (body : List ℕ) (p : ColumnRanges) (i j : ℕ)
+    → range_good (column_of body p).layout (good (children_of body p)) (column_of body p).offsets i j
+    ≡ range_good (out-ColumnRanges p).layout (good (columns body (out-ColumnRanges p).children.items)) (own_column body p).offsets i j
+range_is body p i j =
+    ap (λ (c : Column). range_good c.layout (good (children_of body p)) c.offsets i j) (column_is body p)
+    ∙ ap (λ (cs : Columns). range_good (out-ColumnRanges p).layout (good cs) (own_column body p).offsets i j) (children_out body p)
+
+pub list_good : (body : List ℕ) (p : ColumnRanges) (i j : ℕ) → (out-ColumnRanges p).layout ≡ l.Lists
+    → range_good (column_of body p).layout (good (children_of body p)) (column_of body p).offsets i j
+    ≡ good (columns body (out-ColumnRanges p).children.items) (place (own_column body p).offsets i) (place (own_column body p).offsets j)
+list_good body p i j e = range_is body p i j
+    ∙ ap (λ (x : Layout). range_good x (good (columns body (out-ColumnRanges p).children.items)) (own_column body p).offsets i j) e
+
+pub struct_good : (body : List ℕ) (p : ColumnRanges) (i j : ℕ) → (out-ColumnRanges p).layout ≡ l.Structs
+    → range_good (column_of body p).layout (good (children_of body p)) (column_of body p).offsets i j
+    ≡ good (columns body (out-ColumnRanges p).children.items) i j
+struct_good body p i j e = range_is body p i j
+    ∙ ap (λ (x : Layout). range_good x (good (columns body (out-ColumnRanges p).children.items)) (own_column body p).offsets i j) e
+
+leaf_slot : (layout : Layout) (o : List ℕ) (k : ℕ) → is_nested layout ≡ false → child_slot layout o k ≡ k
+leaf_slot l.Lists o k n = absurd (false≢true (sym n))
+leaf_slot _ o k n = refl
+
+-- the slots below those of a range rise with them
+pub rising : (c : Column) (children : Columns) (i j : ℕ) → AreSlots (column c children none) i j → (k : ℕ) → i ≤ k → k < j
+    → child_slot c.layout c.offsets k ≤ child_slot c.layout c.offsets (k + 1)
+rising c children i j h k a b =
+    elim (is_nested c.layout) as (λ v. is_nested c.layout ≡ v → child_slot c.layout c.offsets k ≤ child_slot c.layout c.offsets (k + 1)) [
+      | true ↦ λ n. (slots_below c children k (k + 1) (slots_within (column c children none) i j k (k + 1) h (omega arith) (omega arith))
+          (omega arith) n).order
+      | false ↦ λ n.
+          let x = leaf_slot c.layout c.offsets k n in
+          let y = leaf_slot c.layout c.offsets (k + 1) n in
+          omega (arith, x, y)
+    ] refl
+
+-- without a bitmap, what a part's slots lead to is what they are
+pub whole_part : (body : List ℕ) (p : ColumnRanges) (i j : ℕ) → AreSlots (one body p) i j → is_texts (out-ColumnRanges p).layout ≡ false
+    → length (own_column body p).validity ≡ 0
+    → range_good (column_of body p).layout (good (children_of body p)) (column_of body p).offsets i j ≡ good (one body p) i j
+whole_part body p i j h t v =
+    range_whole (column_of body p) (children_of body p) i j (ap is_texts (layout_is body p) ∙ t)
+    (ap (λ (c : Column). length c.validity) (column_is body p) ∙ v) h.order (rising (column_of body p) (children_of body p) i j h)
+
+or_true : (a : Bool) → (a || true) ≡ true
+or_true true = refl
+or_true false = refl
+
+-- a part with a bitmap that texts stand below is visited
+pub visited_below : (body : List ℕ) (p : ColumnRanges) → (length (own_column body p).validity == 0) ≡ false
+    → have_texts (columns body (out-ColumnRanges p).children.items) ≡ true
+    → is_visited (column_of body p) (children_of body p) ≡ true
+visited_below body p v t =
+    part_back (λ c cs. is_visited c cs ≡ true) body p (rw (v, t) (or_true (is_texts (out-ColumnRanges p).layout)))
+
+-- a part of texts is visited
+pub visited_texts : (body : List ℕ) (p : ColumnRanges) → is_texts (out-ColumnRanges p).layout ≡ true
+    → is_visited (column_of body p) (children_of body p) ≡ true
+visited_texts body p t = part_back (λ c cs. is_visited c cs ≡ true) body p (rw t refl)
+
+-- texts stand in a part or below it as its own layout and its children say
+pub texts_is : (body : List ℕ) (p : ColumnRanges)
+    → have_texts (one body p) ≡ (is_texts (out-ColumnRanges p).layout || have_texts (columns body (out-ColumnRanges p).children.items))
+texts_is body p =
+    ap (λ (x : Layout). is_texts x || (have_texts (children_of body p) || false)) (layout_is body p)
+    ∙ (ap (λ (cs : Columns). is_texts (out-ColumnRanges p).layout || (have_texts cs || false)) (children_out body p)
+    ∙ ap (λ (b : Bool). is_texts (out-ColumnRanges p).layout || b)
+    (or_false (have_texts (columns body (out-ColumnRanges p).children.items))))
+  where
+    or_false : (a : Bool) → (a || false) ≡ a
+    or_false true = refl
+    or_false false = refl
+
+-- a part without texts in it or below it is good
+pub quiet_part : (body : List ℕ) (p : ColumnRanges) (i j : ℕ) → is_texts (out-ColumnRanges p).layout ≡ false
+    → have_texts (columns body (out-ColumnRanges p).children.items) ≡ false → good (one body p) i j ≡ true
+quiet_part body p i j t h = quiet_good (one body p) i j (texts_is body p ∙ rw (t, h) refl)
+
+-- the slots of a part of texts
+pub texts_part : (body : List ℕ) (p : ColumnRanges) (i j : ℕ) → is_texts (out-ColumnRanges p).layout ≡ true
+    → all_slots (text_good (own_column body p).validity (own_column body p).offsets (own_column body p).values) i (j - i)
+    ≡ good (one body p) i j
+texts_part body p i j t =
+    texts_good (own_column body p) (children_of body p) i j t
+    ∙ ap (λ (c : Column). good (column c (children_of body p) none) i j) (sym (column_is body p))
+
+pub texts_of : (body : List ℕ) (p : ColumnRanges) (i j : ℕ) → AreSlots (one body p) i j → i < j
+    → is_texts (out-ColumnRanges p).layout ≡ true → TextParts (own_column body p)
+texts_of body p i j h m t =
+    let most = part_most body p i j h in
+    text_parts (own_column body p) (columns body (out-ColumnRanges p).children.items) (part_long body p i j h) t (omega arith)
+
+-- behind the last part all is good
+pub good_done : (body : List ℕ) (ps : List ColumnRanges) (i a b : ℕ) → length ps ≤ i → good (columns body (drop i ps)) a b ≡ true
+good_done body ps i a b h = rw (drop_all i ps h) refl
+
+-- each test of a column
+pub all_pass_from : (c : Column) (children : Columns) → passes cause.BufferTooShort c children ≡ true
+    → passes cause.BadNullCount c children ≡ true → passes cause.BadOffsets c children ≡ true → passes cause.BadNode c children ≡ true
+    → (why : Cause) → passes why c children ≡ true
+all_pass_from c children a b d e cause.BufferTooShort = a
+all_pass_from c children a b d e cause.BadNullCount = b
+all_pass_from c children a b d e cause.BadOffsets = d
+all_pass_from c children a b d e cause.BadNode = e
+all_pass_from c children a b d e cause.WrongNodeCount = refl
+all_pass_from c children a b d e cause.WrongBufferCount = refl
+all_pass_from c children a b d e cause.BufferOutOfBody = refl
+all_pass_from c children a b d e cause.ValueNotUtf8 = refl

@@ -1,0 +1,153 @@
+ghost use Rattle.std.specs.Prelude.{◌≡◌, ◌≤◌, ◌<◌, ◌+◌, ◌^◌, ℕ, List, length, true, false};
+ghost use Rattle.ipc_column.specs.Checks.{good, good_slot, range_good};
+ghost use Rattle.ipc_column.specs.Lent.{AreSlots};
+ghost use Rattle.ipc_column.specs.Rules.{have_texts, is_visited};
+ghost use Rattle.ipc_model.specs.Layouts.{is_texts};
+ghost use Rattle.ipc_column.specs.Views.{columns, column_of, children_of, one};
+ghost use Rattle.ipc_column.specs.Weights.{weight, weight_below};
+
+use crate::offsets::place_at;
+use crate::range_bytes::bytes_at;
+use crate::ranges::ColumnRanges;
+use crate::slot_visit::visit;
+use crate::texts::visit_texts;
+use ipc_model::Layout;
+
+// Whether texts stand in a part or below it.
+#[cycle(have_texts)]
+fn has_texts(part: &ColumnRanges) -> bool
+    ensures { (body : List ℕ) → result ≡ have_texts (one body part.now) }
+{
+    part.layout.is_texts() || have_texts(&part.children)
+}
+
+// Whether they stand in one of the parts or below it.
+#[cycle(have_texts)]
+fn have_texts(parts: &[ColumnRanges]) -> bool
+    ensures { (body : List ℕ) → result ≡ have_texts (columns body parts.now) }
+{
+    let mut found = false;
+    for part in parts {
+        found = found || has_texts(part);
+    }
+    found
+}
+
+// Whether what a part's slots from one up to another lead to is good: in a list the slots between
+// its offsets, in a struct the same slots of each child.
+#[cycle(visit)]
+fn visit_below(body: &[u8], part: &ColumnRanges, from: usize, to: usize, tests: &mut u64) -> bool
+    requires some { from < to }
+    requires slots { AreSlots (one body.now part.now) from to }
+    requires room { tests.old + weight_below (column_of body.now part.now).layout
+        (weight (children_of body.now part.now)) (column_of body.now part.now).offsets from to
+        < 2 ^ 64 }
+    ensures good { result ≡ range_good (column_of body.now part.now).layout
+        (good (children_of body.now part.now)) (column_of body.now part.now).offsets from to }
+    ensures cost { tests.new ≤ tests.old + weight_below (column_of body.now part.now).layout
+        (weight (children_of body.now part.now)) (column_of body.now part.now).offsets from to }
+{
+    match part.layout {
+        Layout::Lists => {
+            let offsets = bytes_at(body, part.offsets);
+            let first = place_at(offsets, from);
+            let end = place_at(offsets, to);
+            visit_all(body, &part.children, first, end, tests)
+        }
+        Layout::Structs => visit_all(body, &part.children, from, to, tests),
+        _ => true,
+    }
+}
+
+// Whether a slot of a part that texts stand below is null, or what it leads to is good. The slot
+// is visited.
+#[cycle(visit)]
+fn visit_slot(body: &[u8], part: &ColumnRanges, slot: usize, tests: &mut u64) -> bool
+    requires slots { AreSlots (one body.now part.now) slot (slot + 1) }
+    requires below { is_texts (column_of body.now part.now).layout ≡ false }
+    requires visited { is_visited (column_of body.now part.now) (children_of body.now part.now)
+        ≡ true }
+    requires room { tests.old + weight (one body.now part.now) slot (slot + 1) < 2 ^ 64 }
+    requires small { slot + 1 < 2 ^ 64 }
+    ensures good { result ≡ good_slot (good (children_of body.now part.now))
+        (column_of body.now part.now) slot }
+    ensures cost { tests.new ≤ tests.old + weight (one body.now part.now) slot (slot + 1) }
+{
+    !visit(bytes_at(body, part.validity), slot, tests)
+        || visit_below(body, part, slot, slot + 1, tests)
+}
+
+// The same of the slots from one up to another.
+#[cycle(visit)]
+fn visit_slots(body: &[u8], part: &ColumnRanges, from: usize, to: usize, tests: &mut u64) -> bool
+    requires slots { AreSlots (one body.now part.now) from to }
+    requires below { is_texts (column_of body.now part.now).layout ≡ false }
+    requires visited { is_visited (column_of body.now part.now) (children_of body.now part.now)
+        ≡ true }
+    requires room { tests.old + weight (one body.now part.now) from to < 2 ^ 64 }
+    ensures good { result ≡ good (one body.now part.now) from to }
+    ensures cost { tests.new ≤ tests.old + weight (one body.now part.now) from to }
+{
+    for slot in from..to {
+        if !visit_slot(body, part, slot, tests) {
+            return false;
+        }
+    }
+    true
+}
+
+// Whether the slots of a part from one up to another are good: each is null, or what stands in it
+// and below it is UTF-8 where it is a text. Where there is no bitmap, all that the slots lead to is
+// looked at together; where no text stands below, nothing is.
+#[cycle(visit)]
+fn visit_part(body: &[u8], part: &ColumnRanges, from: usize, to: usize, tests: &mut u64) -> bool
+    requires slots { AreSlots (one body.now part.now) from to }
+    requires room { tests.old + weight (one body.now part.now) from to < 2 ^ 64 }
+    ensures good { result ≡ good (one body.now part.now) from to }
+    ensures cost { tests.new ≤ tests.old + weight (one body.now part.now) from to }
+{
+    if from == to {
+        return true;
+    }
+    if part.layout.is_texts() {
+        return visit_texts(
+            bytes_at(body, part.validity),
+            bytes_at(body, part.offsets),
+            bytes_at(body, part.values),
+            part.slots,
+            from,
+            to,
+            tests,
+        );
+    }
+    if bytes_at(body, part.validity).is_empty() {
+        return visit_below(body, part, from, to, tests);
+    }
+    if !have_texts(&part.children) {
+        return true;
+    }
+    visit_slots(body, part, from, to, tests)
+}
+
+/// Whether the slots of each part from one up to another are good: no text is visible in them that
+/// isn't UTF-8. Each slot that is visited is counted.
+#[cycle(visit)]
+pub(crate) fn visit_all(
+    body: &[u8],
+    parts: &[ColumnRanges],
+    from: usize,
+    to: usize,
+    tests: &mut u64,
+) -> bool
+    requires slots { AreSlots (columns body.now parts.now) from to }
+    requires room { tests.old + weight (columns body.now parts.now) from to < 2 ^ 64 }
+    ensures good { result ≡ good (columns body.now parts.now) from to }
+    ensures cost { tests.new ≤ tests.old + weight (columns body.now parts.now) from to }
+{
+    for part in parts {
+        if !visit_part(body, part, from, to, tests) {
+            return false;
+        }
+    }
+    true
+}
