@@ -34,10 +34,10 @@ shape_is f shown =
     ∙ ap (λ (d : Option Dictionary). layout (t.Int B64 true) d) shown.plain)
 
 -- the values of such a column
-column_shown : (c : Column) (i : ℕ) → c.layout ≡ Numbers B64 true → IsShown (value_of c i)
-column_shown c i is = elim (is_valid c.validity i) as
-    (λ (b : Bool). IsShown (if b then own_value c.layout c.offsets c.values i else v.Null)) [
-      | true ↦ subst (λ (l : Layout). IsShown (own_value l c.offsets c.values i)) (sym is)
+column_shown : (below : ℕ → List Value) (c : Column) (i : ℕ) → c.layout ≡ Numbers B64 true → IsShown (value_of below c i)
+column_shown below c i is = elim (is_valid c.validity i) as
+    (λ (b : Bool). IsShown (if b then own_value c.layout below c.offsets c.values i else v.Null)) [
+      | true ↦ subst (λ (l : Layout). IsShown (own_value l below c.offsets c.values i)) (sym is)
           (int_shown (signed_at B64 c.values (number_bytes B64 * i)))
       | false ↦ null_shown
     ]
@@ -47,7 +47,7 @@ row_shown : (fs : List Field) (h : BatchHead) (body : List ℕ) (n b i : ℕ) �
 unfolding cut
 row_shown [] h body n b i all = tt
 row_shown (f ∷ fs) h body n b i all =
-    (column_shown (column_at (field_shape f).0 h body n b) i (shape_is f all.0), row_shown fs h body _ _ i all.1)
+    (column_shown _ (column_at (field_shape f).0 h body n b) i (shape_is f all.0), row_shown fs h body _ _ i all.1)
 
 by_index : {X : Type 0} (P : X → Type 0) (xs : List X) (d : X) → ((i : ℕ) → i < length xs → P (slice_index_or xs i d)) → AllByRecursion P xs
 by_index P [] d all = tt

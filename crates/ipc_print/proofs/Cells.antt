@@ -19,7 +19,7 @@ use Rattle.ipc_model.specs.declared.value.Value.TheOpen.{Value-F}
 use Rattle.ipc_model.specs.declared.value.Value.TheVariants as v
 use Rattle.ipc_column.specs.declared.cell.Cell.{Cell}
 use Rattle.ipc_column.specs.declared.cell.Cell.TheVariants as cell
-use Rattle.ipc_column.specs.Values.{cell_value}
+use Rattle.ipc_column.specs.Cells.{cell_value}
 use Rattle.ipc_json.specs.RowJson.{Printed, cell_json, each_json, field_json, value_json, row_text}
 use Rattle.csv.specs.Writing.{next_sep, default_writer}
 use Rattle.ipc_moments.specs.declared.fault.TextFault.{TextFault}
@@ -39,6 +39,8 @@ open_value (cell.Int number) = Value-F.Int number
 open_value (cell.UInt number) = Value-F.UInt number
 open_value (cell.Bytes bytes) = Value-F.Bytes bytes.now
 open_value (cell.Text text) = Value-F.Text text.now
+open_value (cell.List values) = Value-F.List values
+open_value (cell.Struct values) = Value-F.Struct values
 
 out_cell : (c : Cell) → out-Value (cell_value c) ≡ open_value c
 out_cell cell.Null = ap out-Value (sym v.rolls-Null) ∙ out-roll-Value Value-F.Null
@@ -47,6 +49,8 @@ out_cell (cell.Int number) = ap out-Value (sym (v.rolls-Int number)) ∙ out-rol
 out_cell (cell.UInt number) = ap out-Value (sym (v.rolls-UInt number)) ∙ out-roll-Value (Value-F.UInt number)
 out_cell (cell.Bytes bytes) = ap out-Value (sym (v.rolls-Bytes bytes.now)) ∙ out-roll-Value (Value-F.Bytes bytes.now)
 out_cell (cell.Text text) = ap out-Value (sym (v.rolls-Text text.now)) ∙ out-roll-Value (Value-F.Text text.now)
+out_cell (cell.List values) = ap out-Value (sym (v.rolls-List values)) ∙ out-roll-Value (Value-F.List values)
+out_cell (cell.Struct values) = ap out-Value (sym (v.rolls-Struct values)) ∙ out-roll-Value (Value-F.Struct values)
 
 value_in : (f : Field) (w : Value) → cell_json f w ≡ value_json (out-Field f).kind (map cell_json (out-Field f).children) (out-Value w)
 value_in f w = ap (λ (print : Printed). print w) (fold_out-Field Printed field_json f)

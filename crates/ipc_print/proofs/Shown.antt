@@ -8,7 +8,7 @@ use Rattle.ipc_model.specs.declared.value.Value.TheOpen.{Value-F}
 use Rattle.ipc_model.specs.declared.value.Value.TheVariants as v
 use Rattle.ipc_column.specs.declared.cell.Cell.{Cell}
 use Rattle.ipc_column.specs.declared.cell.Cell.TheVariants as cell
-use Rattle.ipc_column.specs.Values.{cell_value}
+use Rattle.ipc_column.specs.Cells.{cell_value}
 use Rattle.ipc_print.specs.Rows.{IsShown, IsShownIn, text_in, cell_text}
 
 -- the null value is the null of the open form of values
@@ -70,3 +70,7 @@ other_null (cell.Bytes bytes) other shown =
     absurd (subst IsShownIn (ap out-Value (sym (v.rolls-Bytes bytes.now)) ∙ out-roll-Value (Value-F.Bytes bytes.now)) shown)
 other_null (cell.Text text) other shown =
     absurd (subst IsShownIn (ap out-Value (sym (v.rolls-Text text.now)) ∙ out-roll-Value (Value-F.Text text.now)) shown)
+other_null (cell.List values) other shown =
+    absurd (subst IsShownIn (ap out-Value (sym (v.rolls-List values)) ∙ out-roll-Value (Value-F.List values)) shown)
+other_null (cell.Struct values) other shown =
+    absurd (subst IsShownIn (ap out-Value (sym (v.rolls-Struct values)) ∙ out-roll-Value (Value-F.Struct values)) shown)

@@ -2,7 +2,7 @@
 ghost use Rattle.std.specs.Prelude.{◌≡◌, ◌≤◌, ◌<◌, ◌+◌, ◌++◌, [], length, take, IfErr, IfOk};
 ghost use Rattle.std.specs.Prelude.{None, Ok, slice_index_or};
 ghost use Rattle.csv.specs.Writing.{default_writer, next_sep};
-ghost use Rattle.ipc_column.specs.Values.{cell_value};
+ghost use Rattle.ipc_column.specs.Cells.{cell_value};
 ghost use Rattle.ipc_moments.specs.Moments.{moment_text};
 ghost use Rattle.ipc_csv.specs.RowCsv.{Appended, IsRefusal, LacksText, flat_fault, int_text};
 ghost use Rattle.ipc_csv.specs.RowCsv.{bool_text, null_text, put_texts, row_csv, text_in};
@@ -123,6 +123,7 @@ fn put_cell(
         Cell::UInt(number) => Ok(put_unsigned_field(text, at, number)),
         Cell::Bytes(bytes) => Ok(put_bytes_field(text, at, bytes)?),
         Cell::Text(chars) => Ok(put_text_field(text, at, chars)?),
+        Cell::List(_) | Cell::Struct(_) => Err(TextFault::NoTextForm { column }),
     }
 }
 

@@ -3,17 +3,18 @@ ghost use Rattle.std.specs.Prelude.{◌≡◌, ◌≤◌, ◌<◌, ◌+◌, ◌+
 ghost use Rattle.std.specs.Prelude.{IfOk, slice_index_or};
 ghost use Rattle.hex.specs.Hex.{encode_lower};
 ghost use Rattle.json.specs.Print.{quoted};
-ghost use Rattle.serde_json.specs.Data.{boolean, null};
+ghost use Rattle.serde_json.specs.Data.{array, boolean, null};
 ghost use Rattle.serde_json.specs.Written.{comma_if, compact_text, items_text};
-ghost use Rattle.ipc_column.specs.Values.{cell_value};
-ghost use Rattle.ipc_json.specs.RowJson.{cell_json, each_json, int_json, row_text};
+ghost use Rattle.ipc_column.specs.Cells.{cell_value};
+ghost use Rattle.ipc_json.specs.RowJson.{cell_json, each_json, int_json, items_json, list_json};
+ghost use Rattle.ipc_json.specs.RowJson.{row_text};
 
 use crate::digits::{put_signed, put_unsigned};
 use crate::hexadecimal::put_hexadecimal;
 use crate::moments::put_moment;
 use crate::room::{put, reserve};
 use crate::strings::put_string;
-use ipc_column::{Batch, Cell};
+use ipc_column::{Batch, Cell, ListCell, StructCell};
 use ipc_model::{DataType, Field};
 use std::alloc::AllocError;
 
@@ -85,7 +86,32 @@ fn put_bytes(text: &mut Vec<u8>, at: usize, bytes: &[u8]) -> Result<usize, Alloc
     Ok(put(text, at, b"\""))
 }
 
+// Sees to the room of a value, and writes a comma where something stands before it.
+#[inline(always)]
+fn start_item(text: &mut Vec<u8>, start: usize, later: bool) -> Result<usize, AllocError>
+    requires { start ≤ length text.old.items }
+    ensures room { IfOk result (λ at. at + 34 ≤ length text.new.items) }
+    ensures text { IfOk result
+        (λ at. take at text.new.items ≡ take start text.old.items ++ comma_if later) }
+{
+    reserve(text, start, ROOM)?;
+    Ok(put_comma(text, start, later))
+}
+
+// The closing bracket.
+#[inline(always)]
+fn put_end(text: &mut Vec<u8>, at: usize) -> Result<usize, AllocError>
+    requires { at ≤ length text.old.items }
+    ensures inside { IfOk result (λ end. end ≤ length text.new.items) }
+    ensures text { IfOk result
+        (λ end. take end text.new.items ≡ take at text.old.items ++ 93 ∷ []) }
+{
+    reserve(text, at, 1)?;
+    Ok(put(text, at, b"]"))
+}
+
 // The value of a field.
+#[cycle(cell)]
 #[inline(always)]
 fn put_cell(
     text: &mut Vec<u8>,
@@ -105,19 +131,95 @@ fn put_cell(
         Cell::UInt(number) => Ok(put_unsigned(text, at, number)),
         Cell::Bytes(bytes) => put_bytes(text, at, bytes),
         Cell::Text(chars) => put_string(text, at, chars.as_bytes()),
+        Cell::List(values) => put_list(text, at, field.children.as_slice(), &values),
+        Cell::Struct(values) => put_struct(text, at, field.children.as_slice(), &values),
     }
 }
 
-// Sees to the room of a value, and writes a comma where something stands before it.
-#[inline(always)]
-fn start_item(text: &mut Vec<u8>, start: usize, later: bool) -> Result<usize, AllocError>
-    requires { start ≤ length text.old.items }
-    ensures room { IfOk result (λ at. at + 34 ≤ length text.new.items) }
-    ensures text { IfOk result
-        (λ at. take at text.new.items ≡ take start text.old.items ++ comma_if later) }
+// The values of a list, by its field's one child.
+#[cycle(cell)]
+fn put_list(
+    text: &mut Vec<u8>,
+    at: usize,
+    children: &[Field],
+    values: &ListCell<'_>,
+) -> Result<usize, AllocError>
+    requires { at + 34 ≤ length text.old.items }
+    ensures inside { IfOk result (λ end. end ≤ length text.new.items) }
+    ensures text { IfOk result (λ end. take end text.new.items ≡ take at text.old.items
+        ++ compact_text (array (list_json (map cell_json children.now) values.now))) }
 {
-    reserve(text, start, ROOM)?;
-    Ok(put_comma(text, start, later))
+    let start = put(text, at, b"[");
+    match children.first() {
+        Some(child) => put_items(text, start, child, values),
+        None => put_end(text, start),
+    }
+}
+
+// The values of a list and the closing bracket.
+#[cycle(cell)]
+fn put_items(
+    text: &mut Vec<u8>,
+    start: usize,
+    child: &Field,
+    values: &ListCell<'_>,
+) -> Result<usize, AllocError>
+    requires { start ≤ length text.old.items }
+    ensures inside { IfOk result (λ end. end ≤ length text.new.items) }
+    ensures text { IfOk result (λ end. take end text.new.items ≡ take start text.old.items
+        ++ items_text false (items_json (cell_json child.now) values.now)) }
+{
+    let mut at = start;
+    let mut later = false;
+    for number in 0..values.len() {
+        let place = start_item(text, at, later)?;
+        at = put_cell(text, place, child, values.at(number))?;
+        later = true;
+    }
+    put_end(text, at)
+}
+
+// The values of a struct, each by its child of the field.
+#[cycle(cell)]
+fn put_struct(
+    text: &mut Vec<u8>,
+    at: usize,
+    children: &[Field],
+    values: &StructCell<'_>,
+) -> Result<usize, AllocError>
+    requires { at + 34 ≤ length text.old.items }
+    ensures inside { IfOk result (λ end. end ≤ length text.new.items) }
+    ensures text { IfOk result (λ end. take end text.new.items ≡ take at text.old.items
+        ++ compact_text (array (each_json (map cell_json children.now) values.now))) }
+{
+    let start = put(text, at, b"[");
+    put_each(text, start, children, values)
+}
+
+// Values beside their fields and the closing bracket.
+#[cycle(cell)]
+fn put_each(
+    text: &mut Vec<u8>,
+    start: usize,
+    fields: &[Field],
+    values: &StructCell<'_>,
+) -> Result<usize, AllocError>
+    requires { start ≤ length text.old.items }
+    ensures inside { IfOk result (λ end. end ≤ length text.new.items) }
+    ensures text { IfOk result (λ end. take end text.new.items ≡ take start text.old.items
+        ++ items_text false (each_json (map cell_json fields.now) values.now)) }
+{
+    let mut at = start;
+    let mut later = false;
+    for (number, field) in fields.iter().enumerate() {
+        if number >= values.len() {
+            return put_end(text, at);
+        }
+        let place = start_item(text, at, later)?;
+        at = put_cell(text, place, field, values.at(number))?;
+        later = true;
+    }
+    put_end(text, at)
 }
 
 // The cells of a row and the closing bracket.
@@ -143,8 +245,7 @@ fn put_cells(
         at = put_cell(text, place, field, batch.cell(row, column))?;
         later = true;
     }
-    reserve(text, at, 1)?;
-    Ok(put(text, at, b"]"))
+    put_end(text, at)
 }
 
 /// Writes the JSON text of a row and a line feed to the front of a buffer, and returns where it

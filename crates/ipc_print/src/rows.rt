@@ -4,7 +4,7 @@ ghost use Rattle.std.specs.Prelude.{◌≡◌, ◌≤◌, ◌<◌, ◌+◌, ◌+
 ghost use Rattle.std.specs.Prelude.{slice_index_or, IfErr, IfOk, IfSome, MatchResult, Some, OnOk};
 ghost use Rattle.std.specs.Fmt.{signed_decimal};
 ghost use Rattle.std.specs.Int.{cast_signed, from_le_bytes, w64};
-ghost use Rattle.ipc_column.specs.Values.{cell_value};
+ghost use Rattle.ipc_column.specs.Cells.{cell_value};
 ghost use Rattle.ipc_print.specs.Columns.{AreLent, row_in, AreLong, number_record};
 ghost use Rattle.ipc_print.specs.Output.{PrintsAs, PrintsAt, output};
 ghost use Rattle.ipc_print.specs.Rows.{AreShownRows, IsShown, cell_text, closed, comma, line};

@@ -52,6 +52,7 @@ fn head_of(
     })
 }
 
+#[tactic(auto, using(ipc_column::proofs::Plain::plain_from_supported))]
 fn batch(
     alloc: Global,
     kind: DataType,
@@ -68,15 +69,20 @@ fn batch(
     Batch::check(alloc, &Limits::standard(), fields, head, body, &none)
 }
 
-fn has_cell(batch: &Batch, row: usize, wanted: Cell<'_>) -> bool {
-    row < batch.rows() && 0 < batch.columns() && batch.cell(row, 0) == wanted
+// What a row has in its one column.
+fn cell_of(batch: &Batch, row: usize) -> Option<Cell<'_>> {
+    if row < batch.rows() && 0 < batch.columns() {
+        Some(batch.cell(row, 0))
+    } else {
+        None
+    }
 }
 
 #[test]
 fn nulls(rt: HostRuntime) -> Result<(), Fail> {
     let found = batch(rt.alloc(), DataType::Null, (MOST, 5), &[], &[])?;
     assert!(rt; found.rows() == 2_147_483_647 && found.tests() == 0);
-    assert!(rt; has_cell(&found, 2_147_483_646, Cell::Null));
+    assert!(rt; matches!(cell_of(&found, 2_147_483_646), Some(Cell::Null)));
     let copy = found.clone()?;
     assert!(rt; copy.rows() == 2_147_483_647 && copy.body_len() == 0);
     Ok(())
@@ -84,6 +90,7 @@ fn nulls(rt: HostRuntime) -> Result<(), Fail> {
 
 // The fields stay with whoever lends them.
 #[test]
+#[tactic(auto, using(ipc_column::proofs::Plain::plain_from_supported))]
 fn fields_that_are_lent(rt: HostRuntime) -> Result<(), Fail> {
     let alloc = rt.alloc();
     let fields = fields(alloc, DataType::Null)?;
@@ -107,7 +114,7 @@ fn one_null_too_many(rt: HostRuntime) -> Result<(), Fail> {
 fn most_rows_of_no_bytes(rt: HostRuntime) -> Result<(), Fail> {
     let kind = DataType::FixedSizeBinary(0);
     let found = batch(rt.alloc(), kind, (MOST, 0), &[(0, 0), (0, 0)], &[])?;
-    assert!(rt; has_cell(&found, 2_147_483_646, Cell::Bytes(b"")));
+    assert!(rt; matches!(cell_of(&found, 2_147_483_646), Some(Cell::Bytes([]))));
     Ok(())
 }
 
@@ -119,14 +126,8 @@ fn null_texts(rt: HostRuntime) -> Result<(), Fail> {
     ];
     let buffers = [(0, 1), (4, 12), (16, 2)];
     let found = batch(rt.alloc(), DataType::Utf8, (2, 1), &buffers, &body)?;
-    assert!(rt; has_cell(&found, 0, Cell::Null) && has_cell(&found, 1, Cell::Text("z")));
+    assert!(rt; matches!(cell_of(&found, 0), Some(Cell::Null)));
+    assert!(rt; matches!(cell_of(&found, 1), Some(Cell::Text("z"))));
     assert!(rt; found.tests() == 2);
-    Ok(())
-}
-
-#[test]
-fn cells_that_are_the_same(rt: HostRuntime) -> Result<(), Fail> {
-    assert!(rt; Cell::Text("a").is_same(&Cell::Text("a")));
-    assert!(rt; !Cell::Text("a").is_same(&Cell::Bytes(b"a")));
     Ok(())
 }

@@ -4,7 +4,6 @@ ghost use Rattle.std.specs.List.{AllByRecursion};
 ghost use Rattle.ipc_model.specs.Fits.{RowFits};
 ghost use Rattle.ipc_model.specs.RowFaults.{HasShortPaths};
 
-use ipc_column::Cell;
 use ipc_encode::{IndexOf, NoIndices, Parts, encode};
 use ipc_model::{
     DataType, DateUnit, Field, IntBits, Items, Limits, Row, Schema, TimeUnit, Value, WriteFault,
@@ -13,25 +12,36 @@ use ipc_model::{
 use std::alloc::{AllocError, Global};
 use std::test::Fail;
 
+// A value that is written.
+#[derive(Clone, Copy)]
+enum Given<'a> {
+    Null,
+    Bool(bool),
+    Int(i64),
+    UInt(u64),
+    Bytes(&'a [u8]),
+    Text(&'a str),
+}
+
 // A column of this type, which may be null.
 fn schema_of(alloc: Global, kind: DataType) -> Result<Schema, AllocError> {
     let field = Field::new(alloc, "a", kind)?.nullable();
     Ok(Schema::new(vec![in alloc; field]?))
 }
 
-fn value_of(alloc: Global, cell: Cell<'_>) -> Result<Value, AllocError> {
-    match cell {
-        Cell::Null => Ok(Value::Null),
-        Cell::Bool(truth) => Ok(Value::Bool(truth)),
-        Cell::Int(number) => Ok(Value::Int(number)),
-        Cell::UInt(number) => Ok(Value::UInt(number)),
-        Cell::Bytes(bytes) => Ok(Value::Bytes(Items::copied(alloc, bytes)?)),
-        Cell::Text(text) => Value::text(alloc, text),
+fn value_of(alloc: Global, given: Given<'_>) -> Result<Value, AllocError> {
+    match given {
+        Given::Null => Ok(Value::Null),
+        Given::Bool(truth) => Ok(Value::Bool(truth)),
+        Given::Int(number) => Ok(Value::Int(number)),
+        Given::UInt(number) => Ok(Value::UInt(number)),
+        Given::Bytes(bytes) => Ok(Value::Bytes(Items::copied(alloc, bytes)?)),
+        Given::Text(text) => Value::text(alloc, text),
     }
 }
 
 // A row for each of these values.
-fn rows_of(alloc: Global, cells: &[Cell<'_>]) -> Result<Vec<Row>, AllocError> {
+fn rows_of(alloc: Global, cells: &[Given<'_>]) -> Result<Vec<Row>, AllocError> {
     let mut rows = Vec::new(alloc);
     for cell in cells {
         let mut row = Vec::new(alloc);
@@ -55,7 +65,7 @@ fn fit(schema: &Schema, rows: &[Row]) -> bool
 
 // The parts of a column of these values, where they fit it.
 #[tactic(auto, using(ipc_model::proofs::Depths::short_paths))]
-fn column(alloc: Global, kind: DataType, cells: &[Cell<'_>]) -> Result<Option<Parts>, WriteFault> {
+fn column(alloc: Global, kind: DataType, cells: &[Given<'_>]) -> Result<Option<Parts>, WriteFault> {
     let schema = schema_of(alloc, kind)?;
     let limits = Limits::standard();
     schema.check(alloc, &limits)?;
@@ -71,7 +81,7 @@ fn column(alloc: Global, kind: DataType, cells: &[Cell<'_>]) -> Result<Option<Pa
 fn is_written(
     alloc: Global,
     kind: DataType,
-    cells: &[Cell<'_>],
+    cells: &[Given<'_>],
     node: (i64, i64),
     buffers: &[(i64, i64)],
     body: &[u8],
@@ -93,7 +103,7 @@ fn int(bits: IntBits, signed: bool) -> DataType {
 #[test]
 fn signed_numbers(rt: HostRuntime) -> Result<(), Fail> {
     let kind = int(IntBits::B64, true);
-    let cells = [Cell::Int(1), Cell::Int(-2), Cell::Int(i64::MAX)];
+    let cells = [Given::Int(1), Given::Int(-2), Given::Int(i64::MAX)];
     let body = [
         1, 0, 0, 0, 0, 0, 0, 0, 254, 255, 255, 255, 255, 255, 255, 255, 255, 255, 255, 255, 255,
         255, 255, 127,
@@ -105,7 +115,7 @@ fn signed_numbers(rt: HostRuntime) -> Result<(), Fail> {
 #[test]
 fn bytes_and_a_null(rt: HostRuntime) -> Result<(), Fail> {
     let kind = int(IntBits::B8, true);
-    let cells = [Cell::Int(-128), Cell::Null, Cell::Int(127)];
+    let cells = [Given::Int(-128), Given::Null, Given::Int(127)];
     let body = [5, 0, 0, 0, 0, 0, 0, 0, 128, 0, 127, 0, 0, 0, 0, 0];
     assert!(rt; is_written(rt.alloc(), kind, &cells, (3, 1), &[(0, 1), (8, 3)], &body)?);
     Ok(())
@@ -115,8 +125,8 @@ fn bytes_and_a_null(rt: HostRuntime) -> Result<(), Fail> {
 #[test]
 fn nine_numbers_and_a_null(rt: HostRuntime) -> Result<(), Fail> {
     let kind = int(IntBits::B8, true);
-    let mut cells = [Cell::Int(7); 10];
-    cells[9] = Cell::Null;
+    let mut cells = [Given::Int(7); 10];
+    cells[9] = Given::Null;
     let body = [
         255, 1, 0, 0, 0, 0, 0, 0, 7, 7, 7, 7, 7, 7, 7, 7, 7, 0, 0, 0, 0, 0, 0, 0,
     ];
@@ -127,7 +137,7 @@ fn nine_numbers_and_a_null(rt: HostRuntime) -> Result<(), Fail> {
 #[test]
 fn unsigned_numbers(rt: HostRuntime) -> Result<(), Fail> {
     let kind = int(IntBits::B16, false);
-    let cells = [Cell::UInt(1), Cell::UInt(65535)];
+    let cells = [Given::UInt(1), Given::UInt(65535)];
     let body = [1, 0, 255, 255, 0, 0, 0, 0];
     assert!(rt; is_written(rt.alloc(), kind, &cells, (2, 0), &[(0, 0), (0, 4)], &body)?);
     Ok(())
@@ -136,7 +146,7 @@ fn unsigned_numbers(rt: HostRuntime) -> Result<(), Fail> {
 #[test]
 fn the_greatest_number(rt: HostRuntime) -> Result<(), Fail> {
     let kind = int(IntBits::B64, false);
-    let cells = [Cell::UInt(u64::MAX)];
+    let cells = [Given::UInt(u64::MAX)];
     let body = [255; 8];
     assert!(rt; is_written(rt.alloc(), kind, &cells, (1, 0), &[(0, 0), (0, 8)], &body)?);
     Ok(())
@@ -145,7 +155,7 @@ fn the_greatest_number(rt: HostRuntime) -> Result<(), Fail> {
 #[test]
 fn truth_values(rt: HostRuntime) -> Result<(), Fail> {
     let kind = DataType::Bool;
-    let cells = [Cell::Bool(true), Cell::Null, Cell::Bool(false)];
+    let cells = [Given::Bool(true), Given::Null, Given::Bool(false)];
     let body = [5, 0, 0, 0, 0, 0, 0, 0, 1, 0, 0, 0, 0, 0, 0, 0];
     assert!(rt; is_written(rt.alloc(), kind, &cells, (3, 1), &[(0, 1), (8, 1)], &body)?);
     Ok(())
@@ -155,9 +165,9 @@ fn truth_values(rt: HostRuntime) -> Result<(), Fail> {
 #[test]
 fn nine_truth_values(rt: HostRuntime) -> Result<(), Fail> {
     let kind = DataType::Bool;
-    let mut cells = [Cell::Bool(false); 9];
-    cells[0] = Cell::Bool(true);
-    cells[8] = Cell::Bool(true);
+    let mut cells = [Given::Bool(false); 9];
+    cells[0] = Given::Bool(true);
+    cells[8] = Given::Bool(true);
     let body = [1, 1, 0, 0, 0, 0, 0, 0];
     assert!(rt; is_written(rt.alloc(), kind, &cells, (9, 0), &[(0, 0), (0, 2)], &body)?);
     Ok(())
@@ -165,7 +175,7 @@ fn nine_truth_values(rt: HostRuntime) -> Result<(), Fail> {
 
 #[test]
 fn texts(rt: HostRuntime) -> Result<(), Fail> {
-    let cells = [Cell::Text("é"), Cell::Null, Cell::Text("")];
+    let cells = [Given::Text("é"), Given::Null, Given::Text("")];
     let buffers = [(0, 1), (8, 16), (24, 2)];
     let body = [
         5, 0, 0, 0, 0, 0, 0, 0, 0, 0, 0, 0, 2, 0, 0, 0, 2, 0, 0, 0, 2, 0, 0, 0, 0xc3, 0xa9, 0, 0,
@@ -185,7 +195,7 @@ fn no_texts(rt: HostRuntime) -> Result<(), Fail> {
 #[test]
 fn fixed_sizes(rt: HostRuntime) -> Result<(), Fail> {
     let kind = DataType::FixedSizeBinary(3);
-    let cells = [Cell::Null, Cell::Bytes(&[7, 8, 9])];
+    let cells = [Given::Null, Given::Bytes(&[7, 8, 9])];
     let body = [2, 0, 0, 0, 0, 0, 0, 0, 0, 0, 0, 7, 8, 9, 0, 0];
     assert!(rt; is_written(rt.alloc(), kind, &cells, (2, 1), &[(0, 1), (8, 6)], &body)?);
     Ok(())
@@ -194,7 +204,7 @@ fn fixed_sizes(rt: HostRuntime) -> Result<(), Fail> {
 #[test]
 fn dates(rt: HostRuntime) -> Result<(), Fail> {
     let kind = DataType::Date(DateUnit::Millisecond);
-    let cells = [Cell::Int(86_400_000)];
+    let cells = [Given::Int(86_400_000)];
     let body = [0, 0x5c, 0x26, 5, 0, 0, 0, 0];
     assert!(rt; is_written(rt.alloc(), kind, &cells, (1, 0), &[(0, 0), (0, 8)], &body)?);
     Ok(())
@@ -203,7 +213,7 @@ fn dates(rt: HostRuntime) -> Result<(), Fail> {
 #[test]
 fn times(rt: HostRuntime) -> Result<(), Fail> {
     let kind = DataType::Time(TimeUnit::Millisecond);
-    let cells = [Cell::Int(1)];
+    let cells = [Given::Int(1)];
     let body = [1, 0, 0, 0, 0, 0, 0, 0];
     assert!(rt; is_written(rt.alloc(), kind, &cells, (1, 0), &[(0, 0), (0, 4)], &body)?);
     Ok(())
@@ -211,7 +221,7 @@ fn times(rt: HostRuntime) -> Result<(), Fail> {
 
 #[test]
 fn nulls(rt: HostRuntime) -> Result<(), Fail> {
-    let cells = [Cell::Null, Cell::Null];
+    let cells = [Given::Null, Given::Null];
     assert!(rt; is_written(rt.alloc(), DataType::Null, &cells, (2, 2), &[], &[])?);
     assert!(rt; NoIndices.index_of(1, &Value::Null).is_none());
     Ok(())

@@ -1,7 +1,7 @@
 use Rattle.std.proofs.Common.{[], inl, sym, ◌∙◌, refl}
 use Rattle.std.specs.Prelude.{slice_index_or}
 use Rattle.std.proofs.lemmas.Result.{err_from_is_err_and}
-use Rattle.ipc_column.specs.Values.{cell_value}
+use Rattle.ipc_column.specs.Cells.{cell_value}
 use Rattle.ipc_csv.proofs.Records.{no_columns}
 use Rattle.ipc_print.proofs.Cells.{cell_refused, cell_appended}
 use Rattle.ipc_print.proofs.Shown.{got_inside}

@@ -1,6 +1,6 @@
 use Rattle.std.proofs.Common.{[]}
 use Rattle.std.specs.Prelude.{slice_index_or}
-use Rattle.ipc_column.specs.Values.{cell_value}
+use Rattle.ipc_column.specs.Cells.{cell_value}
 use Rattle.ipc_print.proofs.CellTexts.{cell_written}
 use Rattle.ipc_print.proofs.json_row.put_cells.Goals as goal
 

@@ -1,6 +1,6 @@
 use Rattle.std.proofs.Common.{◌++◌, []}
 use Rattle.std.proofs.lemmas.Result.{err_from_is_err_and}
-use Rattle.ipc_column.specs.Values.{cell_value}
+use Rattle.ipc_column.specs.Cells.{cell_value}
 use Rattle.ipc_print.specs.Rows.{cell_text, comma}
 use Rattle.ipc_print.proofs.Puts.{puts_not_more}
 use Rattle.ipc_print.proofs.rows.print_cell.Goals as goal

@@ -2,7 +2,7 @@ use Rattle.std.proofs.Common.{◌≡◌, [], length, arith}
 use Rattle.std.specs.Prelude.{slice_index_or}
 use Rattle.std.specs.List.{AllByRecursion}
 use Rattle.std.proofs.lemmas.Result.{err_from_is_err_and}
-use Rattle.ipc_column.specs.Values.{cell_value}
+use Rattle.ipc_column.specs.Cells.{cell_value}
 use Rattle.ipc_print.specs.Rows.{IsShown}
 use Rattle.ipc_print.proofs.Shown.{all_at, all_got, got_inside}
 use Rattle.ipc_print.proofs.Lines.{row_unopened, row_next, row_cut, row_ends}

@@ -1,7 +1,7 @@
 use Rattle.std.proofs.Common.{◌∙◌, ◌++◌, sym, ap, List, ℕ, take, arith, rules, FitsSigned, w64}
 use Rattle.std.proofs.lemmas.Int.{to_z-of_z}
 use Rattle.ipc_column.specs.declared.cell.Cell.{Cell}
-use Rattle.ipc_column.specs.Values.{cell_value}
+use Rattle.ipc_column.specs.Cells.{cell_value}
 use Rattle.ipc_print.specs.Rows.{cell_text}
 use Rattle.ipc_print.proofs.Shown.{int_text, other_null}
 use Rattle.ipc_print.proofs.rows.put_cell.Goals as goal
