@@ -7,8 +7,8 @@ pub enum Cause {
     WrongNodeCount,
     /// F27: not as many buffers as the fields need.
     WrongBufferCount,
-    /// F28: a length or a null count out of its bounds, or a column that isn't as long as the
-    /// batch.
+    /// F28: a length or a null count out of its bounds, a column that isn't as long as the batch,
+    /// or a child that is shorter than its struct.
     BadNode,
     /// F29: a buffer that doesn't lie in the body.
     BufferOutOfBody,
@@ -16,9 +16,9 @@ pub enum Cause {
     BufferTooShort,
     /// F31: a null count unlike the clear bits.
     BadNullCount,
-    /// F32: offsets that are negative, decrease or pass the values.
+    /// F32: offsets that are negative, decrease or pass the values, or the slots of the child.
     BadOffsets,
-    /// F33: a text that isn't UTF-8.
+    /// F33: a text that a row shows and that isn't UTF-8.
     ValueNotUtf8,
 }
 
