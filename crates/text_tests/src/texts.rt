@@ -2,9 +2,9 @@
 use csv::ByteRecord;
 use ipc_model::{DateUnit, Schema, TimeUnit, Value};
 use ipc_text::{
-    TextFault, check_header, csv_header, csv_record, date_text, pairs_json, read_bool, read_bytes,
-    read_date, read_int, read_text, read_time, read_timestamp, read_uint, row_from_csv, row_json,
-    schema_from_json, schema_json, time_text, timestamp_text,
+    TextFault, check_header, csv_header, csv_record, date_text, fill_row_from_csv, pairs_json,
+    read_bool, read_bytes, read_date, read_int, read_text, read_time, read_timestamp, read_uint,
+    row_from_csv, row_json, schema_from_json, schema_json, time_text, timestamp_text,
 };
 use std::alloc::{AllocError, Global};
 use std::test::Fail;
@@ -145,6 +145,22 @@ fn rows_as_records(rt: HostRuntime) -> Result<(), Fail> {
     let text = record_of(rt.alloc(), &FIELDS);
     let wanted = b"-7,\\\\N,2000-02-29,00ab,1969-12-31T23:59:59.999999Z\n".as_slice();
     assert!(rt; text.is_ok_and(|text| text.as_slice() == wanted));
+    Ok(())
+}
+
+// What a record's row is as JSON, read over the row of another record.
+fn json_over(alloc: Global, first: &[&[u8]], fields: &[&[u8]]) -> Result<String, TextFault> {
+    let schema = schema_from_json(alloc, FLAT)?;
+    let mut row = row_from_csv(alloc, &schema, 3, &record(alloc, first)?)?;
+    fill_row_from_csv(alloc, &schema, 4, &record(alloc, fields)?, &mut row)?;
+    row_json(alloc, &schema, row.as_slice())
+}
+
+#[test]
+fn rows_over_others(rt: HostRuntime) -> Result<(), Fail> {
+    let next: [&[u8]; 5] = [b"\\N", b"n", b"\\N", b"0000", b"\\N"];
+    let text = json_over(rt.alloc(), &FIELDS, &next);
+    assert!(rt; text.is_ok_and(|text| text.as_str() == "[null,\"n\",null,\"0000\",null]"));
     Ok(())
 }
 
