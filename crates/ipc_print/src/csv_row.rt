@@ -123,7 +123,9 @@ fn put_cell(
         Cell::UInt(number) => Ok(put_unsigned_field(text, at, number)),
         Cell::Bytes(bytes) => Ok(put_bytes_field(text, at, bytes)?),
         Cell::Text(chars) => Ok(put_text_field(text, at, chars)?),
-        Cell::List(_) | Cell::Struct(_) => Err(TextFault::NoTextForm { column }),
+        // A record has no place for the values of a list or of a struct.
+        Cell::List(_values) => Err(TextFault::NoTextForm { column }),
+        Cell::Struct(_values) => Err(TextFault::NoTextForm { column }),
     }
 }
 

@@ -1,4 +1,4 @@
-use Rattle.std.proofs.Common.{rules, ap, Some, FitsSigned, w64}
+use Rattle.std.proofs.Common.{rules, ap, inr, refl, Some, FitsSigned, w64}
 use Rattle.std.proofs.lemmas.Int.{to_z-of_z}
 use Rattle.ipc_column.specs.declared.cell.Cell.TheVariants as cell
 use Rattle.ipc_print.proofs.Cells.{csv_of}
@@ -32,3 +32,9 @@ returns-in_ok-put_bytes_field-in-Bytes-clause-ok c = rw (c.in-Bytes.is, csv_of c
 pub returns-in_ok-put_text_field-in-Text-clause-ok : goal.returns-in_ok-put_text_field-in-Text-clause-ok
 returns-in_ok-put_text_field-in-Text-clause-ok c = rw (c.in-Text.is, csv_of c.args.kind.now (cell.Text c.in-Text.chars))
     (ap Some c.in_ok-put_text_field-in-Text.ensures.text)
+
+pub returns-in-List-clause-refused : goal.returns-in-List-clause-refused
+returns-in-List-clause-refused c = inr (refl, rw (c.in-List.is, csv_of c.args.kind.now (cell.List c.in-List._values)) refl)
+
+pub returns-in-Struct-clause-refused : goal.returns-in-Struct-clause-refused
+returns-in-Struct-clause-refused c = inr (refl, rw (c.in-Struct.is, csv_of c.args.kind.now (cell.Struct c.in-Struct._values)) refl)
