@@ -50,7 +50,8 @@ step_plain y = λ h.
     let z : Field-F Field = map-Field Plain Field (λ c. c.0) y in
     let all : supported_step (map-Field Field Bool is_supported_field z) ≡ true = sym (fold-roll-Field Bool supported_step z) ∙ h in
     let p = and_parts (is_supported z.kind z.dictionary) (all_supported (map is_supported_field z.children)) all in
-    fold-roll-Field Bool plain_step z ∙ and_from (is_read (layout z.kind z.dictionary)) (all_true (map (fold-Field Bool plain_step) z.children))
+    fold-roll-Field Bool plain_step z ∙ and_from (is_read (layout z.kind z.dictionary))
+    (all_true (map (fold-Field Bool plain_step) z.children))
     (own_plain z.kind z.dictionary p.0) (all_plain y.children p.1)
 
 field_plain : (f : Field) → IsPlain f

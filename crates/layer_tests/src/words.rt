@@ -3,8 +3,8 @@
 use ipc_build::BuildFault;
 use ipc_flat::FlatFault;
 use ipc_model::{
-    DataType, DateUnit, Dictionary, Fault, Field, IndexType, IntBits, Limits, RowCause, RowFault, Schema,
-    SchemaFault, Text, Value, WriteFault, conforms,
+    DataType, DateUnit, Dictionary, Fault, Field, IndexType, IntBits, Limits, RowCause, RowFault,
+    Schema, SchemaFault, Text, Value, WriteFault, conforms,
 };
 use std::alloc::{AllocError, Global};
 use std::fmt::Display;

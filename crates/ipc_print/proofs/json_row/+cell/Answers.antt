@@ -19,10 +19,12 @@ put_cell-returns-in-Int-clause-text t c =
     (rw (to_z-of_z w64 c.in-Int.number fits) at c.put_int.ensures.text)
 
 pub put_cell-returns-in-UInt-clause-text : goal.put_cell-returns-in-UInt-clause-text
-put_cell-returns-in-UInt-clause-text t c = rw (c.in-UInt.is, json_of c.args.field.now (cell.UInt c.in-UInt.number)) c.put_unsigned.ensures.text
+put_cell-returns-in-UInt-clause-text t c =
+    rw (c.in-UInt.is, json_of c.args.field.now (cell.UInt c.in-UInt.number)) c.put_unsigned.ensures.text
 
 pub put_cell-returns-in-Bytes-clause-text : goal.put_cell-returns-in-Bytes-clause-text
-put_cell-returns-in-Bytes-clause-text t c = rw (c.in-Bytes.is, json_of c.args.field.now (cell.Bytes c.in-Bytes.bytes)) c.put_bytes.ensures.text
+put_cell-returns-in-Bytes-clause-text t c =
+    rw (c.in-Bytes.is, json_of c.args.field.now (cell.Bytes c.in-Bytes.bytes)) c.put_bytes.ensures.text
 
 pub put_cell-returns-in-Text-clause-text : goal.put_cell-returns-in-Text-clause-text
 put_cell-returns-in-Text-clause-text t c =
@@ -39,8 +41,8 @@ put_cell-returns-in-Struct-clause-text t c =
 pub put_items-loop-number-preserved : goal.put_items-loop-number-preserved
 put_items-loop-number-preserved t c = record {
   inside = c.in_ok-at.ensures.inside;
-  text = item_written c.args.child.now c.args.values.now c.loop-number.number (cell_value c.at.result) c.loop-number.later _ _ _ c.at.ensures
-      c.loop-number.invariant.text (rw c.in_ok-place.ensures.text at c.in_ok-at.ensures.text);
+  text = item_written c.args.child.now c.args.values.now c.loop-number.number (cell_value c.at.result) c.loop-number.later _ _ _
+      c.at.ensures c.loop-number.invariant.text (rw c.in_ok-place.ensures.text at c.in_ok-at.ensures.text);
 }
 
 pub put_each-loop-number-preserved : goal.put_each-loop-number-preserved
