@@ -10,6 +10,7 @@ use std::collections::BTreeMap;
 
 /// Checks a record batch of one column of this kind and so many rows so many times, and says how
 /// many bytes of bodies that were.
+#[tactic(auto, using(ipc_column::proofs::Plain::plain_from_supported))]
 pub fn check_columns(alloc: Global, kind: Kind, count: u32, times: u32) -> Result<u64, Fault> {
     let limits = Limits::standard();
     let fields = fields(alloc, kind)?;
