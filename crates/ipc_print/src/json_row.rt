@@ -1,10 +1,11 @@
 //! A row of lent cells as a line of JSON.
 ghost use Rattle.std.specs.Prelude.{◌≡◌, ◌≤◌, ◌<◌, ◌+◌, ◌++◌, ◌∷◌, [], length, map, take, false};
-ghost use Rattle.std.specs.Prelude.{IfOk, slice_index_or};
+ghost use Rattle.std.specs.Prelude.{IfOk, Some, slice_get, slice_index_or};
 ghost use Rattle.hex.specs.Hex.{encode_lower};
 ghost use Rattle.json.specs.Print.{quoted};
 ghost use Rattle.serde_json.specs.Data.{array, boolean, null};
 ghost use Rattle.serde_json.specs.Written.{comma_if, compact_text, items_text};
+ghost use Rattle.ipc_model.specs.declared.value.Value.{Value};
 ghost use Rattle.ipc_column.specs.Cells.{cell_value};
 ghost use Rattle.ipc_json.specs.RowJson.{cell_json, each_json, int_json, items_json, list_json};
 ghost use Rattle.ipc_json.specs.RowJson.{row_text};
@@ -110,10 +111,9 @@ fn put_end(text: &mut Vec<u8>, at: usize) -> Result<usize, AllocError>
     Ok(put(text, at, b"]"))
 }
 
-// The value of a field.
+// A value of a field, which may have values of its own.
 #[cycle(cell)]
-#[inline(always)]
-fn put_cell(
+fn put_value(
     text: &mut Vec<u8>,
     at: usize,
     field: &Field,
@@ -126,7 +126,7 @@ fn put_cell(
 {
     match cell {
         Cell::Null => Ok(put_null(text, at)),
-        Cell::Bool(truth) => Ok(put_bool(text, at, truth)),
+        Cell::Bool(is_true) => Ok(put_bool(text, at, is_true)),
         Cell::Int(number) => Ok(put_int(text, at, &field.kind, number)),
         Cell::UInt(number) => Ok(put_unsigned(text, at, number)),
         Cell::Bytes(bytes) => put_bytes(text, at, bytes),
@@ -173,7 +173,7 @@ fn put_items(
     let mut later = false;
     for number in 0..values.len() {
         let place = start_item(text, at, later)?;
-        at = put_cell(text, place, child, values.at(number))?;
+        at = put_value(text, place, child, values.at(number))?;
         later = true;
     }
     put_end(text, at)
@@ -216,10 +216,66 @@ fn put_each(
             return put_end(text, at);
         }
         let place = start_item(text, at, later)?;
-        at = put_cell(text, place, field, values.at(number))?;
+        at = put_value(text, place, field, values.at(number))?;
         later = true;
     }
     put_end(text, at)
+}
+
+// A list or a struct of a row, lent once more, so that the loop over the columns carries nothing
+// of it.
+#[cold]
+#[inline(never)]
+fn put_nested(
+    text: &mut Vec<u8>,
+    at: usize,
+    field: &Field,
+    batch: &Batch,
+    row: usize,
+    column: usize,
+) -> Result<usize, AllocError>
+    requires room { at + 34 ≤ length text.old.items }
+    requires row { row < length batch.now.rows }
+    requires column { column < batch.now.columns }
+    ensures inside { IfOk result (λ end. end ≤ length text.new.items) }
+    ensures text { (value : Value)
+        → slice_get (slice_index_or batch.now.rows row []) column ≡ Some value
+        → IfOk result (λ end. take end text.new.items ≡ take at text.old.items
+        ++ compact_text (cell_json field.now value)) }
+{
+    put_value(text, at, field, batch.cell(row, column))
+}
+
+// What stands in a row and a column, where that is this cell.
+#[inline(always)]
+fn put_cell(
+    text: &mut Vec<u8>,
+    at: usize,
+    field: &Field,
+    cell: Cell<'_>,
+    batch: &Batch,
+    row: usize,
+    column: usize,
+) -> Result<usize, AllocError>
+    requires room { at + 34 ≤ length text.old.items }
+    requires row { row < length batch.now.rows }
+    requires column { column < batch.now.columns }
+    requires cell { slice_get (slice_index_or batch.now.rows row []) column
+        ≡ Some (cell_value cell) }
+    ensures inside { IfOk result (λ end. end ≤ length text.new.items) }
+    ensures text { IfOk result (λ end. take end text.new.items ≡ take at text.old.items
+        ++ compact_text (cell_json field.now (cell_value cell.entry))) }
+{
+    match cell {
+        Cell::Null => Ok(put_null(text, at)),
+        Cell::Bool(truth) => Ok(put_bool(text, at, truth)),
+        Cell::Int(number) => Ok(put_int(text, at, &field.kind, number)),
+        Cell::UInt(number) => Ok(put_unsigned(text, at, number)),
+        Cell::Bytes(bytes) => put_bytes(text, at, bytes),
+        Cell::Text(chars) => put_string(text, at, chars.as_bytes()),
+        Cell::List(_) => put_nested(text, at, field, batch, row, column),
+        Cell::Struct(_) => put_nested(text, at, field, batch, row, column),
+    }
 }
 
 // The cells of a row and the closing bracket.
@@ -242,7 +298,15 @@ fn put_cells(
     let mut later = false;
     for (column, field) in fields.iter().enumerate() {
         let place = start_item(text, at, later)?;
-        at = put_cell(text, place, field, batch.cell(row, column))?;
+        at = put_cell(
+            text,
+            place,
+            field,
+            batch.cell(row, column),
+            batch,
+            row,
+            column,
+        )?;
         later = true;
     }
     put_end(text, at)
