@@ -15,3 +15,4 @@ pub mod Weights
 pub mod Visited
 pub mod Wider
 pub mod Plain
+pub mod Found

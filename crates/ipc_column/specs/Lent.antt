@@ -1,8 +1,13 @@
 -- What is known of slots that were found good.
-use Rattle.std.specs.Prelude.{◌≡◌, ℕ, ◌≤◌, ◌<◌, true}
+use Rattle.std.specs.Prelude.{◌≡◌, ℕ, ◌≤◌, ◌<◌, true, List, [], length, slice_get}
+use Rattle.std.specs.Prelude.{slice_index_or}
 use Rattle.ipc_column.specs.declared.cause.Cause.{Cause}
+use Rattle.ipc_model.specs.declared.layout.Layout.{Layout}
+use Rattle.ipc_model.specs.declared.value.Value.{Value}
 use Rattle.ipc_column.specs.Columns.{Column, Columns, every}
 use Rattle.ipc_column.specs.Checks.{passes, have_slots, good, good_slot}
+use Rattle.ipc_column.specs.Checks.{has_bitmap, holds_values, holds_offsets, in_order, are_long}
+use Rattle.ipc_column.specs.Values.{Cells, items, value_of, row}
 
 -- each column has the slots from one place up to another, and what its slots need
 pub record AreSlots (cs : Columns) (from to : ℕ) : Type 0 where
@@ -25,3 +30,34 @@ pub record IsSlot (c : Column) (children : Columns) (i : ℕ) : Type 0 where
 pub record HasValue (c : Column) (children : Columns) (i : ℕ) : Type 0 where
   pub slot : IsSlot c children i
   pub good : good_slot (good children) c i ≡ true
+
+-- a column's buffers have what its slots need, and so have those of its children
+pub record HoldSlots (c : Column) (children : Columns) : Type 0 where
+  pub bitmap : has_bitmap c.slots (length c.validity) ≡ true
+  pub values : holds_values c.layout c.slots (length c.values) ≡ true
+  pub offsets : holds_offsets c.layout c.slots (length c.offsets) ≡ true
+  pub order : in_order c.layout c.slots c.offsets (length c.values) children ≡ true
+  pub long : are_long c.layout c.slots children ≡ true
+  pub sound : (why : Cause) → every (passes why) children ≡ true
+  pub good : (i : ℕ) → i < c.slots → good_slot (good children) c i ≡ true
+
+-- a column of these buffers; its null count isn't looked at
+abbrev pub found : Layout → ℕ → List ℕ → List ℕ → List ℕ → Column
+found layout slots validity offsets values = record {
+  layout = layout;
+  slots = slots;
+  nulls = 0;
+  validity = validity;
+  offsets = offsets;
+  values = values;
+}
+
+-- the values of a column with these children
+abbrev pub values_in : Column → Columns → Cells
+values_in c children = items (value_of (row children) c) 0 c.slots
+
+-- these are the values of one of the columns, row by row
+pub record AreOfColumn (rows : List (List Value)) (column : ℕ) (values : List Value) : Type 0 where
+  pub size : length values ≡ length rows
+  pub each : (i : ℕ) → i < length rows
+      → slice_get (slice_index_or rows i []) column ≡ slice_get values i

@@ -10,6 +10,7 @@ ghost use Rattle.ipc_column.specs.Rows.{Rows, RefusesParts, IsOneList, are_plain
 ghost use Rattle.ipc_column.specs.Sharing.{contents_of, HasRows};
 ghost use Rattle.ipc_column.specs.Checks.{Passing, Failing};
 ghost use Rattle.ipc_column.specs.Lending.{AreNumbers, lent_of};
+ghost use Rattle.ipc_column.specs.Lent.{AreOfColumn};
 ghost use Rattle.ipc_column.specs.Cells.{cell_value};
 
 use crate::assign::{Cursor, assign_buffers};
@@ -19,6 +20,7 @@ use crate::ranges::ColumnRanges;
 use crate::rows::{read_row, rows_in};
 use crate::validate::check_columns;
 use crate::values::numbers_in;
+use crate::view::{ColumnView, view_in};
 use ipc_meta::BatchHead;
 use ipc_model::{Fault, Field, Items, Limits, Row, Value};
 use std::alloc::{AllocError, Global};
@@ -249,6 +251,17 @@ impl Batch {
     {
         let shared = self.shared.as_ref();
         cell_in(&shared.body, &shared.parts, shared.count, row, column)
+    }
+
+    /// A column, found once for all its rows. The caller gives a column below `columns`.
+    ///
+    /// It lends what `cell` lends, without looking its buffers up anew for each row.
+    pub fn column(&self, column: usize) -> ColumnView<'_>
+        requires { column < self.now.columns }
+        ensures { AreOfColumn self.now.rows column result }
+    {
+        let shared = self.shared.as_ref();
+        view_in(&shared.body, &shared.parts, shared.count, column)
     }
 
     /// The values of a column of signed 64-bit integers that has no validity bitmap, lent as they

@@ -183,13 +183,13 @@ pub(crate) fn is_valid(validity: &[u8], slot: usize) -> bool
     validity.is_empty() || bit(validity, slot)
 }
 
-// What a valid slot holds, one of the first `slots`, over the parts of the children.
+/// What a valid slot holds, one of the first `slots`, over the parts of the children.
 #[tactic(auto, using(crate::proofs::Numbers::slot_inside))]
 #[inline(always)]
-fn own_cell<'a>(
+pub(crate) fn own_cell<'a>(
     layout: Layout,
     body: &'a [u8],
-    offsets: BufferRange,
+    offsets: &'a [u8],
     values: &'a [u8],
     slots: usize,
     slot: usize,
@@ -197,15 +197,15 @@ fn own_cell<'a>(
 ) -> Cell<'a>
     requires slot { slot < slots }
     requires values { holds_values layout slots (length values.now) ≡ true }
-    requires offsets { holds_offsets layout slots (length (span_bytes body.now offsets)) ≡ true }
-    requires rise { in_order layout slots (span_bytes body.now offsets) (length values.now)
+    requires offsets { holds_offsets layout slots (length offsets.now) ≡ true }
+    requires rise { in_order layout slots offsets.now (length values.now)
         (columns body.now children.now) ≡ true }
     requires long { are_long layout slots (columns body.now children.now) ≡ true }
     requires sound { (why : Cause) → every (passes why) (columns body.now children.now) ≡ true }
     requires good { good_below layout (good (columns body.now children.now))
-        (span_bytes body.now offsets) values.now slot ≡ true }
+        offsets.now values.now slot ≡ true }
     ensures value { cell_value result ≡ own_value layout (row (columns body.now children.now))
-        (span_bytes body.now offsets) values.now slot }
+        offsets.now values.now slot }
     ensures leaf { is_nested layout ≡ false → is_leaf result ≡ true }
 {
     // The widest numbers come first, without a table of jumps.
@@ -225,25 +225,13 @@ fn own_cell<'a>(
             signed: false,
         } => Cell::UInt(unsigned_at(bits, values, slot)),
         Layout::FixedBytes(width) => Cell::Bytes(bytes_of(width, values, slot)),
-        Layout::VariableBytes { utf8: true } => Cell::Text(text_of(bytes_between(
-            bytes_at(body, offsets),
-            values,
-            slots,
-            slot,
-        ))),
-        Layout::VariableBytes { utf8: false } => Cell::Bytes(bytes_between(
-            bytes_at(body, offsets),
-            values,
-            slots,
-            slot,
-        )),
-        Layout::Lists => Cell::List(list_between(
-            body,
-            children,
-            bytes_at(body, offsets),
-            slots,
-            slot,
-        )),
+        Layout::VariableBytes { utf8: true } => {
+            Cell::Text(text_of(bytes_between(offsets, values, slots, slot)))
+        }
+        Layout::VariableBytes { utf8: false } => {
+            Cell::Bytes(bytes_between(offsets, values, slots, slot))
+        }
+        Layout::Lists => Cell::List(list_between(body, children, offsets, slots, slot)),
         Layout::Structs => Cell::Struct(struct_of(body, children, slot)),
     }
 }
@@ -272,7 +260,7 @@ pub(crate) fn cell_at<'a>(body: &'a [u8], part: &'a ColumnRanges, slot: usize) -
     own_cell(
         part.layout,
         body,
-        part.offsets,
+        bytes_at(body, part.offsets),
         bytes_at(body, part.values),
         part.slots,
         slot,

@@ -18,7 +18,9 @@ mod slot_visit;
 mod texts;
 mod validate;
 mod values;
+mod view;
 mod visit;
 
 pub use batch::{Batch, one_list_of_rows};
 pub use cell::{Cell, ListCell, StructCell};
+pub use view::ColumnView;

@@ -2,7 +2,7 @@
 use Rattle.std.proofs.Common.{◌≡◌, ◌∙◌, refl, sym, ap, subst, ℕ, suc, ◌+◌, ◌<◌, ◌==◌, List, [], ◌∷◌, ◌++◌, length, map, take, drop}
 use Rattle.std.proofs.Common.{Option, Some, None, Result, Ok, Err, true, false, FitsSigned, if◌then◌else◌, w64, append_assoc, append-nil}
 use Rattle.std.proofs.Common.{take-append-drop, arith}
-use Rattle.std.specs.Prelude.{ℤ, pos, negsuc, decimal, slice_get, slice_index_or}
+use Rattle.std.specs.Prelude.{ℤ, pos, negsuc, slice_get, slice_index_or}
 use Rattle.std.specs.List.{AllByRecursion}
 use Rattle.std.specs.Fmt.{signed_decimal}
 use Rattle.std.proofs.lemmas.Bool.Decides.{nat_tests}
@@ -16,8 +16,7 @@ use Rattle.ipc_model.specs.declared.schema.Field.{Field, out-Field}
 use Rattle.ipc_model.specs.declared.value.Value.{Value}
 use Rattle.ipc_model.specs.declared.value.Value.TheVariants.{Int}
 use Rattle.ipc_column.specs.declared.cell.Cell.TheVariants as cell
-use Rattle.ipc_moments.specs.declared.fault.TextFault.{TextFault}
-use Rattle.ipc_csv.specs.RowCsv.{all_texts, each_text, flat_fault, in_front, row_csv, record_of, row_texts, text_in}
+use Rattle.ipc_csv.specs.RowCsv.{all_texts, each_text, flat_fault, in_front, row_csv, row_texts, text_in}
 use Rattle.ipc_csv.proofs.Records.{blank_is}
 use Rattle.ipc_print.specs.declared.rows.PrintFault.{PrintFault}
 use Rattle.ipc_print.specs.declared.form.Form.TheVariants.{Records}

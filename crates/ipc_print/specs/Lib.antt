@@ -1,4 +1,5 @@
 pub mod Columns
+pub mod LentRows
 pub mod Digits
 pub mod Escaped
 pub mod Forms

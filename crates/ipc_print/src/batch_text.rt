@@ -1,9 +1,10 @@
 //! The rows of a batch as text, in each form.
 ghost use Rattle.std.specs.Prelude.{◌≡◌, ◌≢◌, ◌≤◌, ◌<◌, [], length, take, Bool, IfErr, IfOk};
-ghost use Rattle.std.specs.Prelude.{slice_index_or, IsTrue, None};
+ghost use Rattle.std.specs.Prelude.{IsTrue, None};
 ghost use Rattle.ipc_moments.specs.declared.fault.TextFault.TheVariants.{OutOfMemory};
 ghost use Rattle.ipc_csv.specs.RowCsv.{flat_fault};
 ghost use Rattle.ipc_print.specs.Columns.{AreShownColumns};
+ghost use Rattle.ipc_print.specs.LentRows.{AreColumns, HaveRow, row_at};
 ghost use Rattle.ipc_print.specs.Forms as spec;
 ghost use Rattle.ipc_print.specs.Forms.{HasLine, Lacks, form_fault, head_of, pairs_line};
 ghost use Rattle.ipc_print.specs.Streams.{PutsRows};
@@ -15,37 +16,48 @@ use crate::form::Form;
 use crate::json_row::json_line;
 use crate::rows::{Lines, PrintFault, numbers_of};
 use crate::types::are_numbers;
-use ipc_column::Batch;
+use ipc_column::{Batch, ColumnView};
 use ipc_json::pairs_json;
 use ipc_model::{Field, Text};
 use ipc_moments::TextFault;
 use ipc_stream::Sink;
-use std::alloc::Global;
+use std::alloc::{AllocError, Global};
 
 // Writes the line of a row to the front of a buffer, and returns where it ends.
 fn line_of(
     form: Form,
     text: &mut Vec<u8>,
     fields: &[Field],
-    batch: &Batch,
+    columns: &[ColumnView<'_>],
     row: usize,
 ) -> Result<usize, TextFault>
-    requires row { row < length batch.now.rows }
-    requires columns { batch.now.columns ≡ length fields.now }
+    requires columns { length columns.now ≡ length fields.now }
+    requires row { HaveRow columns.now row }
     requires fits { form_fault form fields.now ≡ None }
     ensures inside { IfOk result (λ end. end ≤ length text.new.items) }
     ensures text { IfOk result (λ end. take end text.new.items
-        ≡ spec.line_of form fields.now (slice_index_or batch.now.rows row [])) }
-    ensures ok { IfOk result
-        (λ end. HasLine form fields.now (slice_index_or batch.now.rows row [])) }
+        ≡ spec.line_of form fields.now (row_at columns.now row)) }
+    ensures ok { IfOk result (λ end. HasLine form fields.now (row_at columns.now row)) }
     ensures refused { IfErr result (λ fault. fault ≢ OutOfMemory
-        → Lacks form fields.now (slice_index_or batch.now.rows row []) fault) }
+        → Lacks form fields.now (row_at columns.now row) fault) }
 {
     match form {
         Form::Counts => Ok(0),
-        Form::Rows { .. } => Ok(json_line(text, fields, batch, row)?),
-        Form::Records => csv_line(text, fields, batch, row),
+        Form::Rows { .. } => Ok(json_line(text, fields, columns, row)?),
+        Form::Records => csv_line(text, fields, columns, row),
     }
+}
+
+// The columns of a batch, each found once for all rows.
+fn columns_of(alloc: Global, batch: &Batch) -> Result<Vec<ColumnView<'_>>, AllocError>
+    ensures count { IfOk result (λ columns. length columns.items ≡ batch.now.columns) }
+    ensures same { IfOk result (λ columns. AreColumns batch.now.rows columns.items) }
+{
+    let mut columns = Vec::with_capacity(alloc, batch.columns())?;
+    for number in 0..batch.columns() {
+        columns.push(batch.column(number))?;
+    }
+    Ok(columns)
 }
 
 // Adds the rows of a batch, line by line, as `print_batch`.
@@ -63,9 +75,10 @@ fn print_lines<W: Sink>(
         (output (W.written sink.old) (W.failures sink.old) lines.old) (W.written sink.new)
         (W.failures sink.new) lines.new result }
 {
+    let columns = columns_of(alloc, batch)?;
     let mut text = Vec::new(alloc);
     for row in 0..batch.rows() {
-        let end = match line_of(form, &mut text, fields, batch, row) {
+        let end = match line_of(form, &mut text, fields, &columns, row) {
             Ok(end) => end,
             Err(TextFault::OutOfMemory) => return Err(PrintFault::OutOfMemory),
             Err(fault) => return Ok(Some(fault)),

@@ -1,8 +1,9 @@
 //! A row of lent cells as a record of CSV.
 ghost use Rattle.std.specs.Prelude.{◌≡◌, ◌≤◌, ◌<◌, ◌+◌, ◌++◌, [], length, take, IfErr, IfOk};
-ghost use Rattle.std.specs.Prelude.{None, Ok, slice_index_or};
+ghost use Rattle.std.specs.Prelude.{None, Ok};
 ghost use Rattle.csv.specs.Writing.{default_writer, next_sep};
 ghost use Rattle.ipc_column.specs.Cells.{cell_value};
+ghost use Rattle.ipc_print.specs.LentRows.{HaveRow, row_at};
 ghost use Rattle.ipc_moments.specs.Moments.{moment_text};
 ghost use Rattle.ipc_csv.specs.RowCsv.{Appended, IsRefusal, LacksText, flat_fault, int_text};
 ghost use Rattle.ipc_csv.specs.RowCsv.{bool_text, null_text, put_texts, row_csv, text_in};
@@ -13,7 +14,7 @@ use crate::fields::{
 };
 use crate::moments;
 use crate::room::{put, reserve};
-use ipc_column::{Batch, Cell};
+use ipc_column::{Cell, ColumnView};
 use ipc_model::{DataType, Field};
 use ipc_moments::TextFault;
 
@@ -142,31 +143,26 @@ fn start_field(text: &mut Vec<u8>, start: usize, column: usize) -> Result<usize,
     Ok(put_comma(text, start, column))
 }
 
-// The fields of a row of a batch with a column for each field, from the front of the buffer on.
+// The fields of a row of a batch, of which each column is lent, from the front of the buffer on.
 fn put_cells(
     text: &mut Vec<u8>,
     fields: &[Field],
-    batch: &Batch,
+    columns: &[ColumnView<'_>],
     row: usize,
 ) -> Result<usize, TextFault>
-    requires row { row < length batch.now.rows }
-    requires columns { batch.now.columns ≡ length fields.now }
+    requires columns { length columns.now ≡ length fields.now }
+    requires row { HaveRow columns.now row }
     ensures inside { IfOk result (λ end. end ≤ length text.new.items) }
     ensures ok { IfOk result (λ end. put_texts [] fields.now
-        (slice_index_or batch.now.rows row []) ≡ Ok (take end text.new.items)) }
+        (row_at columns.now row) ≡ Ok (take end text.new.items)) }
     ensures refused { IfErr result (IsRefusal (put_texts [] fields.now
-        (slice_index_or batch.now.rows row []))) }
+        (row_at columns.now row))) }
 {
     let mut at = 0;
     for (column, field) in fields.iter().enumerate() {
         let place = start_field(text, at, column)?;
-        at = put_cell(
-            text,
-            place,
-            column as u64,
-            &field.kind,
-            batch.cell(row, column),
-        )?;
+        let lent = &columns[column];
+        at = put_cell(text, place, column as u64, &field.kind, lent.at(row))?;
     }
     Ok(at)
 }
@@ -175,23 +171,23 @@ fn put_cells(
 /// where it ends. What the buffer holds before means nothing: it is room to be used again. X3 with
 /// the first column whose value has no text. What memory refuses is `OutOfMemory`.
 ///
-/// The caller gives a row below the batch's `rows`, and the fields of its columns, which CSV has a
-/// place for.
+/// The caller gives the columns of a batch, a row below its `rows`, and the fields of the columns,
+/// which CSV has a place for.
 pub fn csv_line(
     text: &mut Vec<u8>,
     fields: &[Field],
-    batch: &Batch,
+    columns: &[ColumnView<'_>],
     row: usize,
 ) -> Result<usize, TextFault>
-    requires row { row < length batch.now.rows }
-    requires columns { batch.now.columns ≡ length fields.now }
+    requires columns { length columns.now ≡ length fields.now }
+    requires row { HaveRow columns.now row }
     requires fits { flat_fault fields.now ≡ None }
     ensures inside { IfOk result (λ end. end ≤ length text.new.items) }
-    ensures ok { IfOk result (λ end. row_csv fields.now (slice_index_or batch.now.rows row [])
+    ensures ok { IfOk result (λ end. row_csv fields.now (row_at columns.now row)
         ≡ Ok (take end text.new.items)) }
     ensures refused { IfErr result
-        (IsRefusal (row_csv fields.now (slice_index_or batch.now.rows row []))) }
+        (IsRefusal (row_csv fields.now (row_at columns.now row))) }
 {
-    let at = put_cells(text, fields, batch, row)?;
+    let at = put_cells(text, fields, columns, row)?;
     Ok(put_end(text, at)?)
 }

@@ -1,12 +1,13 @@
 //! A row of lent cells as a line of JSON.
 ghost use Rattle.std.specs.Prelude.{◌≡◌, ◌≤◌, ◌<◌, ◌+◌, ◌++◌, ◌∷◌, [], length, map, take, false};
-ghost use Rattle.std.specs.Prelude.{IfOk, Some, slice_get, slice_index_or};
+ghost use Rattle.std.specs.Prelude.{IfOk, Some, slice_get};
 ghost use Rattle.hex.specs.Hex.{encode_lower};
 ghost use Rattle.json.specs.Print.{quoted};
 ghost use Rattle.serde_json.specs.Data.{array, boolean, null};
 ghost use Rattle.serde_json.specs.Written.{comma_if, compact_text, items_text};
 ghost use Rattle.ipc_model.specs.declared.value.Value.{Value};
 ghost use Rattle.ipc_column.specs.Cells.{cell_value};
+ghost use Rattle.ipc_print.specs.LentRows.{HaveRow, row_at};
 ghost use Rattle.ipc_json.specs.RowJson.{cell_json, each_json, int_json, items_json, list_json};
 ghost use Rattle.ipc_json.specs.RowJson.{row_text};
 
@@ -15,7 +16,7 @@ use crate::hexadecimal::put_hexadecimal;
 use crate::moments::put_moment;
 use crate::room::{put, reserve};
 use crate::strings::put_string;
-use ipc_column::{Batch, Cell, ListCell, StructCell};
+use ipc_column::{Cell, ColumnView, ListCell, StructCell};
 use ipc_model::{DataType, Field};
 use std::alloc::AllocError;
 
@@ -230,38 +231,32 @@ fn put_nested(
     text: &mut Vec<u8>,
     at: usize,
     field: &Field,
-    batch: &Batch,
+    column: &ColumnView<'_>,
     row: usize,
-    column: usize,
 ) -> Result<usize, AllocError>
     requires room { at + 34 ≤ length text.old.items }
-    requires row { row < length batch.now.rows }
-    requires column { column < batch.now.columns }
+    requires row { row < length column.now }
     ensures inside { IfOk result (λ end. end ≤ length text.new.items) }
-    ensures text { (value : Value)
-        → slice_get (slice_index_or batch.now.rows row []) column ≡ Some value
+    ensures text { (value : Value) → slice_get column.now row ≡ Some value
         → IfOk result (λ end. take end text.new.items ≡ take at text.old.items
         ++ compact_text (cell_json field.now value)) }
 {
-    put_value(text, at, field, batch.cell(row, column))
+    put_value(text, at, field, column.at(row))
 }
 
-// What stands in a row and a column, where that is this cell.
+// What a column has in a row, where that is this cell.
 #[inline(always)]
 fn put_cell(
     text: &mut Vec<u8>,
     at: usize,
     field: &Field,
     cell: Cell<'_>,
-    batch: &Batch,
+    column: &ColumnView<'_>,
     row: usize,
-    column: usize,
 ) -> Result<usize, AllocError>
     requires room { at + 34 ≤ length text.old.items }
-    requires row { row < length batch.now.rows }
-    requires column { column < batch.now.columns }
-    requires cell { slice_get (slice_index_or batch.now.rows row []) column
-        ≡ Some (cell_value cell) }
+    requires row { row < length column.now }
+    requires cell { slice_get column.now row ≡ Some (cell_value cell) }
     ensures inside { IfOk result (λ end. end ≤ length text.new.items) }
     ensures text { IfOk result (λ end. take end text.new.items ≡ take at text.old.items
         ++ compact_text (cell_json field.now (cell_value cell.entry))) }
@@ -273,8 +268,8 @@ fn put_cell(
         Cell::UInt(number) => Ok(put_unsigned(text, at, number)),
         Cell::Bytes(bytes) => put_bytes(text, at, bytes),
         Cell::Text(chars) => put_string(text, at, chars.as_bytes()),
-        Cell::List(_) => put_nested(text, at, field, batch, row, column),
-        Cell::Struct(_) => put_nested(text, at, field, batch, row, column),
+        Cell::List(_) => put_nested(text, at, field, column, row),
+        Cell::Struct(_) => put_nested(text, at, field, column, row),
     }
 }
 
@@ -283,30 +278,23 @@ fn put_cells(
     text: &mut Vec<u8>,
     start: usize,
     fields: &[Field],
-    batch: &Batch,
+    columns: &[ColumnView<'_>],
     row: usize,
 ) -> Result<usize, AllocError>
-    requires row { row < length batch.now.rows }
-    requires columns { batch.now.columns ≡ length fields.now }
+    requires columns { length columns.now ≡ length fields.now }
+    requires row { HaveRow columns.now row }
     requires start { start ≤ length text.old.items }
     ensures inside { IfOk result (λ end. end ≤ length text.new.items) }
     ensures text { IfOk result (λ end. take end text.new.items ≡ take start text.old.items
         ++ items_text false (each_json (map cell_json fields.now)
-        (slice_index_or batch.now.rows row []))) }
+        (row_at columns.now row))) }
 {
     let mut at = start;
     let mut later = false;
     for (column, field) in fields.iter().enumerate() {
         let place = start_item(text, at, later)?;
-        at = put_cell(
-            text,
-            place,
-            field,
-            batch.cell(row, column),
-            batch,
-            row,
-            column,
-        )?;
+        let lent = &columns[column];
+        at = put_cell(text, place, field, lent.at(row), lent, row)?;
         later = true;
     }
     put_end(text, at)
@@ -316,22 +304,22 @@ fn put_cells(
 /// ends. What the buffer holds before means nothing: it is room to be used again. It refuses only
 /// where memory ran out.
 ///
-/// The caller gives a row below the batch's `rows`, and the fields of its columns.
+/// The caller gives the columns of a batch, a row below its `rows`, and the fields of the columns.
 pub fn json_line(
     text: &mut Vec<u8>,
     fields: &[Field],
-    batch: &Batch,
+    columns: &[ColumnView<'_>],
     row: usize,
 ) -> Result<usize, AllocError>
-    requires row { row < length batch.now.rows }
-    requires columns { batch.now.columns ≡ length fields.now }
+    requires columns { length columns.now ≡ length fields.now }
+    requires row { HaveRow columns.now row }
     ensures inside { IfOk result (λ end. end ≤ length text.new.items) }
     ensures text { IfOk result (λ end. take end text.new.items
-        ≡ row_text fields.now (slice_index_or batch.now.rows row []) ++ 10 ∷ []) }
+        ≡ row_text fields.now (row_at columns.now row) ++ 10 ∷ []) }
 {
     reserve(text, 0, 1)?;
     let at = put(text, 0, b"[");
-    let at = put_cells(text, at, fields, batch, row)?;
+    let at = put_cells(text, at, fields, columns, row)?;
     reserve(text, at, 1)?;
     Ok(put(text, at, b"\n"))
 }

@@ -1,15 +1,13 @@
 use Rattle.std.proofs.Common.{length}
-use Rattle.ipc_column.specs.Views.{columns, span_bytes}
+use Rattle.ipc_column.specs.Views.{columns}
 use Rattle.ipc_column.proofs.Slots.{list_have, struct_values}
 use Rattle.ipc_column.proofs.cell.own_cell.Goals as goal
 
 pub list_between-requires-clause-values : goal.list_between-requires-clause-values
 list_between-requires-clause-values c =
-    rw c.bytes_at-in-Lists.ensures
-    (list_have (span_bytes c.args.body.now c.args.offsets) (columns c.args.body.now c.args.children.now) c.args.slots c.args.slot
-    (length c.args.values.now)
+    list_have c.args.offsets.now (columns c.args.body.now c.args.children.now) c.args.slots c.args.slot (length c.args.values.now)
     c.requires.slot (rw c.in-Lists.is at c.requires.offsets) (rw c.in-Lists.is at c.requires.rise) c.requires.sound
-    (rw c.in-Lists.is at c.requires.good))
+    (rw c.in-Lists.is at c.requires.good)
 
 pub struct_of-requires : goal.struct_of-requires
 struct_of-requires c =

@@ -15,20 +15,32 @@ returns-in-Err-OutOfMemory g c =
     rows_cut (line_of c.args.form c.args.fields.now) c.args.batch.now.rows _ _ _ _ c.loop-row.row OutOfMemory (omega arith)
     c.loop-row.invariant.put (puts_never _ _)
 
+pub line_of-requires-clause-row : goal.line_of-requires-clause-row
+line_of-requires-clause-row g c = rw c.deref.ensures.value (c.in_ok-columns.ensures.same.have c.loop-row.row (omega arith))
+
+pub returns-in_err-columns : goal.returns-in_err-columns
+returns-in_err-columns g c =
+    let p = err_from_is_err_and c.from_residual.result c.from_residual.ensures.1 in
+    rw (p.1, p.2) (puts_never _ _)
+
 pub returns-in_err-put : goal.returns-in_err-put
 returns-in_err-put g c =
-    let p = err_from_is_err_and c.from_residual.result c.from_residual.ensures.1 in
+    let p = err_from_is_err_and c.from_residual-in_err-put.result c.from_residual-in_err-put.ensures.1 in
+    let same = c.in_ok-columns.ensures.same.same c.loop-row.row (omega arith) in
     rw (p.1, p.2) (rows_cut (line_of c.args.form c.args.fields.now) c.args.batch.now.rows _ _ _ _ c.loop-row.row _ (omega arith)
-    c.loop-row.invariant.put (rw (c.deref.ensures.value, c.in-Ok.ensures.text) at c.in_err-put.ensures))
+    c.loop-row.invariant.put
+    (rw (c.deref-in-loop-row.ensures.value, c.in-Ok.ensures.text, c.deref.ensures.value, same) at c.in_err-put.ensures))
 
 pub loop-row-preserved : goal.loop-row-preserved
 loop-row-preserved g c =
     let rows = c.args.batch.now.rows in
     let row = slice_index_or rows c.loop-row.row [] in
+    let same = c.in_ok-columns.ensures.same.same c.loop-row.row (omega arith) in
     record {
       have = subst (λ (rs : List (List Value)). HaveLines c.args.form c.args.fields.now rs)
           (sym (take_more rows c.loop-row.row [] (omega arith)))
-          (all_more (HasLine c.args.form c.args.fields.now) (take c.loop-row.row rows) row c.loop-row.invariant.have c.in-Ok.ensures.ok);
+          (all_more (HasLine c.args.form c.args.fields.now) (take c.loop-row.row rows) row c.loop-row.invariant.have
+          (rw (c.deref.ensures.value, same) at c.in-Ok.ensures.ok));
       put = rows_next (line_of c.args.form c.args.fields.now) rows _ _ _ c.loop-row.row (omega arith) c.loop-row.invariant.put
-          (rw (c.deref.ensures.value, c.in-Ok.ensures.text) at c.in_ok-put.ensures);
+          (rw (c.deref-in-loop-row.ensures.value, c.in-Ok.ensures.text, c.deref.ensures.value, same) at c.in_ok-put.ensures);
     }

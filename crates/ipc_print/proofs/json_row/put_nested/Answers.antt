@@ -8,7 +8,7 @@ use Rattle.ipc_print.proofs.json_row.put_nested.Goals as goal
 
 pub returns-clause-text : goal.returns-clause-text
 returns-clause-text c = λ value at.
-    let both : Some (cell_value c.cell.result) ≡ Some value = sym c.cell.ensures ∙ at in
-    let same : cell_value c.cell.result ≡ value = cc in
+    let both : Some (cell_value c.at.result) ≡ Some value = sym c.at.ensures ∙ at in
+    let same : cell_value c.at.result ≡ value = cc in
     subst (λ (v : Value). IfOk c.put_value.result (λ end. take end c.put_value.new.text.items
     ≡ take c.args.at c.args.text.now.items ++ compact_text (cell_json c.args.field.now v))) same c.put_value.ensures.text

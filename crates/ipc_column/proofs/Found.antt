@@ -1,0 +1,97 @@
+-- Columns whose buffers were found.
+use Rattle.std.proofs.Common.{◌≡◌, ◌∙◌, sym, ap, subst, ℕ, ◌+◌, ◌<◌, true, List, length, get_or, arith, Some, refl, []}
+use Rattle.std.specs.Prelude.{slice_get}
+use Rattle.std.proofs.lemmas.Bool.{and_parts, eqb-true}
+use Rattle.ipc_model.specs.declared.value.Value.{Value}
+use Rattle.ipc_column.specs.declared.cause.Cause.TheVariants as cause
+use Rattle.ipc_column.specs.declared.ranges.ColumnRanges.{ColumnRanges}
+use Rattle.ipc_column.specs.declared.ranges.ColumnRanges.TheViews.{out-ColumnRanges}
+use Rattle.ipc_column.specs.Columns.{Column, Columns}
+use Rattle.ipc_column.specs.Checks.{passes, top_passes, good, good_slot, Holds}
+use Rattle.ipc_column.specs.Lent.{HoldSlots, AreOfColumn, found, values_in}
+use Rattle.ipc_column.specs.Values.{row, rows_of, value_of, items}
+use Rattle.ipc_column.specs.Views.{columns, column_of, children_of, own_column, span_bytes}
+use Rattle.ipc_column.proofs.Cells.{row_cell, rows_at, rows_length}
+use Rattle.ipc_column.proofs.Parts.{children_out, column_is, every_at, every_top_at}
+use Rattle.ipc_column.proofs.Slots.{long, slot_value, row_values, items_length, items_at}
+
+from_zero : (i : ℕ) → 0 + i ≡ i
+from_zero i = omega arith
+
+-- the values of slots from the first on
+pub items_first : (f : ℕ → Value) (n k : ℕ) → k < n → slice_get (items f 0 n) k ≡ Some (f k)
+items_first f n k l = items_at f 0 n k l ∙ ap (λ (j : ℕ). Some (f j)) (from_zero k)
+
+-- a column of parts that give n rows has n slots
+column_slots : (body : List ℕ) (ps : List ColumnRanges) (n j : ℕ) (p : ColumnRanges) → j < length ps → p ≡ get_or ps j p
+    → Holds n (columns body ps) → (column_of body p).slots ≡ n
+column_slots body ps n j p l e h =
+    eqb-true _ _ (every_top_at (top_passes cause.BadNode n) body ps j p l e (and_parts _ _ (and_parts _ _ (h cause.BadNode)).1).0)
+
+-- its buffers have what its slots need
+pub column_holds : (body : List ℕ) (ps : List ColumnRanges) (n j : ℕ) (p : ColumnRanges) → j < length ps → p ≡ get_or ps j p
+    → Holds n (columns body ps) → HoldSlots (column_of body p) (children_of body p)
+column_holds body ps n j p l e h =
+    let own = long (column_of body p) (children_of body p) (λ why. (every_at (passes why) body ps j p l e (and_parts _ _ (h why)).0).0) in
+    let size = column_slots body ps n j p l e h in
+    record {
+      bitmap = own.bitmap;
+      values = own.values;
+      offsets = own.offsets;
+      order = own.order;
+      long = own.long;
+      sound = λ why. (every_at (passes why) body ps j p l e (and_parts _ _ (h why)).0).1;
+      good = λ i m.
+          (slot_value body ps i (i + 1) i j p l e (omega arith) (omega arith)
+          (row_values (columns body ps) n i (omega (arith, m, size)) h)).good;
+    }
+
+-- its values are those of its place in the rows
+pub column_rows : (body : List ℕ) (ps : List ColumnRanges) (n j : ℕ) (p : ColumnRanges) → j < length ps → p ≡ get_or ps j p
+    → Holds n (columns body ps) → AreOfColumn (rows_of (columns body ps) n) j (values_in (column_of body p) (children_of body p))
+column_rows body ps n j p l e h =
+    let size = column_slots body ps n j p l e h in
+    let all = rows_length (columns body ps) n in
+    record {
+      size = items_length (value_of (row (children_of body p)) (column_of body p)) 0 (column_of body p).slots ∙ (size ∙ sym all);
+      each = λ i m.
+          ap (λ (r : List Value). slice_get r j) (rows_at (columns body ps) n i [] (omega (arith, m, all)))
+          ∙ (row_cell body ps i j p l e
+          ∙ sym (items_first (value_of (row (children_of body p)) (column_of body p)) (column_of body p).slots i (omega (arith, m, all, size))));
+    }
+
+-- the same column, whatever its null count
+abbrev refound : Column → Column
+refound c = found c.layout c.slots c.validity c.offsets c.values
+
+-- a part's column by the bytes that were found
+found_is : (body : List ℕ) (p : ColumnRanges) (v o w : List ℕ) → v ≡ span_bytes body (out-ColumnRanges p).validity
+    → o ≡ span_bytes body (out-ColumnRanges p).offsets → w ≡ span_bytes body (out-ColumnRanges p).values
+    → (P : Column → Columns → Type 0)
+    → P (refound (column_of body p)) (children_of body p)
+    → P (found (out-ColumnRanges p).layout (out-ColumnRanges p).slots v o w) (columns body (out-ColumnRanges p).children.items)
+found_is body p v o w ev eo ew P h =
+    rw (ev, eo, ew)
+    (subst (λ (cs : Columns). P (refound (own_column body p)) cs) (children_out body p)
+    (subst (λ (c : Column). P (refound c) (children_of body p)) (column_is body p) h))
+
+pub found_holds : (body : List ℕ) (p : ColumnRanges) (v o w : List ℕ) → v ≡ span_bytes body (out-ColumnRanges p).validity
+    → o ≡ span_bytes body (out-ColumnRanges p).offsets → w ≡ span_bytes body (out-ColumnRanges p).values
+    → HoldSlots (column_of body p) (children_of body p)
+    → HoldSlots (found (out-ColumnRanges p).layout (out-ColumnRanges p).slots v o w) (columns body (out-ColumnRanges p).children.items)
+found_holds body p v o w ev eo ew h = found_is body p v o w ev eo ew HoldSlots (record {
+  bitmap = h.bitmap;
+  values = h.values;
+  offsets = h.offsets;
+  order = h.order;
+  long = h.long;
+  sound = h.sound;
+  good = h.good;
+})
+
+pub found_values : (body : List ℕ) (p : ColumnRanges) (v o w : List ℕ) → v ≡ span_bytes body (out-ColumnRanges p).validity
+    → o ≡ span_bytes body (out-ColumnRanges p).offsets → w ≡ span_bytes body (out-ColumnRanges p).values
+    → values_in (found (out-ColumnRanges p).layout (out-ColumnRanges p).slots v o w) (columns body (out-ColumnRanges p).children.items)
+    ≡ values_in (column_of body p) (children_of body p)
+found_values body p v o w ev eo ew =
+    found_is body p v o w ev eo ew (λ c cs. values_in c cs ≡ values_in (column_of body p) (children_of body p)) refl

@@ -1,0 +1,129 @@
+//! A column, found in its body once for all its slots.
+ghost use Rattle.std.specs.Prelude.{◌≡◌, ◌<◌, length, slice_get, Some};
+ghost use Rattle.ipc_column.specs.Cells.{cell_value};
+ghost use Rattle.ipc_column.specs.Checks.{Holds};
+ghost use Rattle.ipc_column.specs.Lent.{AreOfColumn, HoldSlots, found, values_in};
+ghost use Rattle.ipc_column.specs.Values.{row, rows_of, value_of};
+ghost use Rattle.ipc_column.specs.Views.{columns, column_of, children_of};
+
+use crate::cell::{Cell, is_valid, own_cell};
+use crate::range_bytes::bytes_at;
+use crate::ranges::ColumnRanges;
+use ipc_model::Layout;
+use std::marker::Model;
+
+/// A column of a batch, lent, whose buffers were found in the body: contracts see it as the list of
+/// its values. It takes no memory.
+#[derive(Debug, Drop)]
+pub struct ColumnView<'a> {
+    layout: Layout,
+    slots: usize,
+    validity: &'a [u8],
+    offsets: &'a [u8],
+    values: &'a [u8],
+    body: &'a [u8],
+    children: &'a [ColumnRanges],
+}
+
+impl<'a> Model for ColumnView<'a> {
+    ghost use Rattle.std.specs.Coded.{codes};
+    ghost use Rattle.ipc_model.specs.contracts.value.Value as value;
+    ghost use Rattle.ipc_column.specs.Lent.{HoldSlots, found, values_in};
+    ghost use Rattle.ipc_column.specs.Values.{Cells};
+    ghost use Rattle.ipc_column.specs.Views.{columns};
+
+    ghost Value = { Cells };
+
+    ghost coded = { Prim.hlevel (codes, value.the_row.coded) };
+
+    ghost view = { λ s. values_in (found s.layout s.slots s.validity.now s.offsets.now s.values.now)
+        (columns s.body.now s.children.now) };
+
+    ghost invariant = { λ s. HoldSlots
+        (found s.layout s.slots s.validity.now s.offsets.now s.values.now)
+        (columns s.body.now s.children.now) };
+}
+
+impl<'a> ColumnView<'a> {
+    /// How many values there are: one for each row of the batch.
+    #[inline(always)]
+    pub fn len(&self) -> usize
+        ensures { result ≡ length self.now }
+    {
+        self.slots
+    }
+
+    /// The value in a slot, lent by the batch. The caller gives a slot below `len`.
+    ///
+    /// It is what `Batch::cell` lends for the slot's row and the column.
+    #[inline(always)]
+    pub fn at(&self, slot: usize) -> Cell<'a>
+        requires { slot < length self.now }
+        ensures { slice_get self.now slot ≡ Some (cell_value result) }
+    {
+        cell_found(
+            self.layout,
+            self.slots,
+            self.validity,
+            self.offsets,
+            self.values,
+            self.body,
+            self.children,
+            slot,
+        )
+    }
+}
+
+// What a slot holds, by the buffers of its column.
+#[inline(always)]
+fn cell_found<'a>(
+    layout: Layout,
+    slots: usize,
+    validity: &'a [u8],
+    offsets: &'a [u8],
+    values: &'a [u8],
+    body: &'a [u8],
+    children: &'a [ColumnRanges],
+    slot: usize,
+) -> Cell<'a>
+    requires slot { slot < slots }
+    requires holds { HoldSlots (found layout slots validity.now offsets.now values.now)
+        (columns body.now children.now) }
+    ensures { cell_value result ≡ value_of (row (columns body.now children.now))
+        (found layout slots validity.now offsets.now values.now) slot }
+{
+    if !is_valid(validity, slot) {
+        return Cell::Null;
+    }
+    own_cell(layout, body, offsets, values, slots, slot, children)
+}
+
+// A part, found.
+fn view_of<'a>(body: &'a [u8], part: &'a ColumnRanges) -> ColumnView<'a>
+    requires { HoldSlots (column_of body.now part.now) (children_of body.now part.now) }
+    ensures { result ≡ values_in (column_of body.now part.now) (children_of body.now part.now) }
+{
+    ColumnView {
+        layout: part.layout,
+        slots: part.slots,
+        validity: bytes_at(body, part.validity),
+        offsets: bytes_at(body, part.offsets),
+        values: bytes_at(body, part.values),
+        body,
+        children: &part.children,
+    }
+}
+
+/// A column of parts that give so many rows, found.
+pub(crate) fn view_in<'a>(
+    body: &'a [u8],
+    parts: &'a [ColumnRanges],
+    rows: usize,
+    column: usize,
+) -> ColumnView<'a>
+    requires holds { Holds rows (columns body.now parts.now) }
+    requires column { column < length parts.now }
+    ensures { AreOfColumn (rows_of (columns body.now parts.now) rows) column result }
+{
+    view_of(body, &parts[column])
+}
