@@ -1,35 +1,35 @@
 -- Where a conversion breaks off.
-use Rattle.std.proofs.Common.{◌≡◌, ◌⊎◌, ◌∙◌, refl, sym, ap, subst, ℕ, suc, ◌<◌, inl, inr, List, [], ◌∷◌, ◌++◌, length}
-use Rattle.std.proofs.Common.{map, take, Option, Some}
-use Rattle.std.proofs.Common.{None, Err, false}
+use Rattle.std.proofs.Common.{◌≡◌, ◌⊎◌, ◌∙◌, refl, sym, ap, subst, ℕ, suc, ◌+◌, ◌<◌, ◌≤◌, inl, inr, List, [], ◌∷◌, ◌++◌, length}
+use Rattle.std.proofs.Common.{map, take, Option, Some, None, Err, false, arith}
 use Rattle.std.specs.List.{AllByRecursion}
+use Rattle.std.proofs.Math.Nat.{eq-or-lt_of_le}
 use Rattle.std.proofs.Math.Seq.{drop-append_seam, take-append_seam}
 use Rattle.std.proofs.lemmas.Bool.{false≢true}
-use Rattle.std.proofs.lemmas.List.{append-nil}
-use Rattle.csv.specs.declared.reader.Reader.{Reader}
+use Rattle.std.proofs.lemmas.List.{append-nil, length_push}
 use Rattle.ipc_model.specs.declared.fault.WriteFault.{WriteFault}
 use Rattle.ipc_model.specs.declared.fault.WriteFault.TheVariants as w
+use Rattle.ipc_model.specs.declared.limits.Limits.{Limits}
 use Rattle.ipc_model.specs.declared.schema.Schema.{Schema}
 use Rattle.ipc_model.specs.declared.table.BatchRows.{BatchRows}
 use Rattle.ipc_model.specs.declared.value.Value.{Value}
+use Rattle.ipc_stream.specs.Pushed.{RefusesHeld, StaysAt, no_rows}
 use Rattle.ipc_stream.specs.Stream.{Event, Run, batch, schema}
 use Rattle.ipc_stream.specs.Writer.{Leaves, Writer}
-use Rattle.ipc_stream.specs.Writing.{AcceptsBatch, AddsBatch, AddsNext, BreaksOff, NotSentWhole, RefusesBatch, RefusesFirst}
-use Rattle.ipc_csv.specs.CsvRows.{IsRecordFault}
+use Rattle.ipc_stream.specs.Writing.{AcceptsBatch, AddsBatch, AddsNext, BreaksOff, IsBatchTooLong, NotSentWhole, RefusesBatch, RefusesFirst}
+use Rattle.ipc_stream.specs.Writing.{long_columns, long_metadata, other_pairs}
+use Rattle.ipc_stream.proofs.FirstRows.{refused_at_first}
 use Rattle.ipc_csv.specs.RowCsv.{names}
-use Rattle.ipc_moments.specs.declared.fault.TextFault.{TextFault}
-use Rattle.ipc_moments.specs.declared.fault.TextFault.TheVariants.{OutOfMemory}
-use Rattle.ipc_from_csv.specs.Batches.{last_batch}
-use Rattle.ipc_from_csv.specs.Conversion.{RefusesText, SendsFull, StopsBehind, StopsFor, StopsWriting, table_of}
+use Rattle.ipc_from_csv.specs.Batches.{batch_of, last_batch}
+use Rattle.ipc_from_csv.specs.Conversion.{AreAccepted, SendsFull, StopsBehind, StopsFor, StopsWriting, table_of}
 use Rattle.ipc_from_csv.specs.Conversion.{in_record, exhausted_behind, behind}
-use Rattle.ipc_from_csv.specs.Records.{AreRecordsOf, Stands}
-use Rattle.ipc_from_csv.specs.Steps.{IsOut}
+use Rattle.ipc_from_csv.specs.Records.{AreRecordsOf}
+use Rattle.ipc_from_csv.specs.Steps.{Came, IsOut, RefusesNext}
+use Rattle.ipc_from_csv.specs.declared.rows.RowReader.{RowReader}
 use Rattle.ipc_from_csv.specs.declared.stop.Stop.{Stop}
-use Rattle.ipc_from_csv.specs.declared.stop.Stop.TheVariants as stop
 use Rattle.ipc_from_csv.proofs.Reading.{are_first}
-use Rattle.ipc_from_csv.proofs.Sending.{Came, batch_of, came_fill, came_filled}
+use Rattle.ipc_from_csv.proofs.Sending.{all_accepted, came_before, came_fill, came_filled}
 
--- ---- a batch that is refused
+-- ---- what isn't sent of a batch that is refused
 
 -- a writer that works doesn't answer that it failed before
 pub not_failed : (IsWhole : List ℕ → Type 0) (old new : Writer) (fault : WriteFault) → old.failed ≡ false
@@ -50,6 +50,49 @@ leaves_unsent IsWhole old new w.Write works leaves = leaves.1
 leaves_unsent IsWhole old new w.Failed works leaves = absurd (false≢true (sym works ∙ leaves.0))
 leaves_unsent IsWhole old new w.OutOfMemory works leaves = (ap (λ v. v.written) leaves.1, ap (λ v. v.failures) leaves.1)
 
+module _ (IsWhole : List ℕ → Type 0) (limits : Limits) (s : Schema) (b : BatchRows) (old new : Writer) where
+  -- nothing is out where a row isn't taken
+  pub held_unsent : (fault : WriteFault) → RefusesHeld limits s b old.failed fault → StaysAt old new fault
+      → NotSentWhole IsWhole old.written new.written old.failures new.failures fault
+  held_unsent w.BadSchema refuses stays = (ap (λ v. v.written) stays, ap (λ v. v.failures) stays)
+  held_unsent (w.Row row cause) refuses stays = (ap (λ v. v.written) stays, ap (λ v. v.failures) stays)
+  held_unsent w.TooLong refuses stays = (ap (λ v. v.written) stays, ap (λ v. v.failures) stays)
+  held_unsent w.DictionaryFull refuses stays = (ap (λ v. v.written) stays, ap (λ v. v.failures) stays)
+  held_unsent w.TooManyRows refuses stays = (ap (λ v. v.written) stays, ap (λ v. v.failures) stays)
+  held_unsent w.Write refuses stays = absurd refuses
+  held_unsent w.Failed refuses stays = (ap (λ v. v.written) stays, ap (λ v. v.failures) stays)
+  held_unsent w.OutOfMemory refuses stays = (ap (λ v. v.written) stays.1, ap (λ v. v.failures) stays.1)
+
+-- the batch of a row that isn't taken is refused
+pub held_refused : (limits : Limits) (s : Schema) (rows : List (List Value)) (fault : WriteFault)
+    → RefusesHeld limits s (batch_of rows) false fault → RefusesBatch limits s (batch_of rows) fault
+held_refused limits s rows w.BadSchema refuses = refuses
+held_refused limits s rows (w.Row row cause) refuses = refuses
+held_refused limits s rows w.TooLong refuses = refuses
+held_refused limits s rows w.DictionaryFull refuses = refuses
+held_refused limits s rows w.TooManyRows refuses = refuses
+held_refused limits s rows w.Write refuses = absurd refuses
+held_refused limits s rows w.Failed refuses = absurd (false≢true refuses)
+held_refused limits s rows w.OutOfMemory refuses = refuses
+
+-- it isn't refused for a sink that failed
+pub held_unwritten : (limits : Limits) (s : Schema) (b : BatchRows) (failed : _) (fault : WriteFault)
+    → RefusesHeld limits s b failed fault → ¬ (fault ≡ w.Write)
+held_unwritten limits s b failed fault refuses = λ is. subst (λ f. RefusesHeld limits s b failed f) is refuses
+
+-- a batch that is accepted isn't too long
+accepted_short : (limits : Limits) (s : Schema) (b : BatchRows) → AcceptsBatch limits s b → IsBatchTooLong limits s b → ⊥
+accepted_short limits s b accepts (long_columns long) = accepts.within.lengths.short long
+accepted_short limits s b accepts (long_metadata long) = omega (arith, long, accepts.within.short_metadata)
+accepted_short limits s b accepts (other_pairs other) = other accepts.within.allowed_pairs
+
+-- so one that is refused all the same is refused for another cause
+pub accepted_other : (limits : Limits) (s : Schema) (b : BatchRows) (fault : WriteFault) → AcceptsBatch limits s b
+    → RefusesBatch limits s b fault → ¬ (fault ≡ w.TooLong)
+accepted_other limits s b fault accepts refuses = λ is. accepted_short limits s b accepts (subst (RefusesBatch limits s b) is refuses)
+
+-- ---- the table with the batch that is refused
+
 -- the events of the first batches
 pub take_events : (batches more : List BatchRows) → take (length batches) (map batch (batches ++ more)) ≡ map batch batches
 take_events [] more = refl
@@ -57,13 +100,10 @@ take_events (b ∷ batches) more = ap (λ es. batch b ∷ es) (take_events batch
 
 -- where the batch behind those that are out is refused, writing the table with it broke off before it
 pub batch_breaks : (s : Schema) (batches : List BatchRows) (old : Option (List ℕ)) (failures : ℕ) (writer new : Writer) (b : BatchRows)
-    (fault : WriteFault) → IsOut s batches old failures writer → Leaves (AddsBatch writer.limits writer.schema b) writer new (Err fault)
-    → (¬ (fault ≡ w.Failed) → RefusesBatch writer.limits writer.schema b fault)
+    (fault : WriteFault) → IsOut s batches old failures writer → RefusesBatch writer.limits s b fault
+    → NotSentWhole (AddsBatch writer.limits s b) writer.written new.written writer.failures new.failures fault
     → BreaksOff writer.limits (table_of s (batches ++ b ∷ [])) old new.written failures new.failures fault
-batch_breaks s batches old failures writer new b fault out leaves judged =
-    let same = subst (λ z. Leaves (AddsBatch writer.limits z b) writer new (Err fault)) out.same_schema leaves in
-    let refuses = subst (λ z. RefusesBatch writer.limits z b fault) out.same_schema
-    (judged (not_failed _ writer new fault out.works same)) in
+batch_breaks s batches old failures writer new b fault out refuses unsent =
     let next = sym (drop-append_seam batches (b ∷ [])) in
     record {
       count = suc (length batches);
@@ -80,93 +120,179 @@ batch_breaks s batches old failures writer new b fault out leaves judged =
       bytes = out.sent.bytes;
       unsent = subst (λ l. NotSentWhole (AddsNext writer.limits s l) writer.written new.written failures new.failures fault) next
           (subst (λ n. NotSentWhole (AddsBatch writer.limits s b) writer.written new.written n new.failures fault)
-          (out.sent.works ∙ sym out.sent.worked) (leaves_unsent _ writer new fault out.works same));
+          (out.sent.works ∙ sym out.sent.worked) unsent);
     }
 
--- ---- between two batches
+-- where rows are left over they are the last batch
+pub last_is : (left : List (List Value)) → 0 < length left → last_batch left ≡ batch_of left ∷ []
+last_is [] some = absurd (omega (arith, some))
+last_is (r ∷ left) some = refl
 
 module _ {R : Type 0} (remaining : R → Option (List ℕ)) (input : Option (List ℕ)) (s : Schema) (size : ℕ) (old : Option (List ℕ))
-    (failures : ℕ) (reader : Reader R) (writer : Writer) (number : ℕ) (kept : List (List Value))
-    (came : Came remaining input s size old failures reader writer number kept) where
-  -- the full batches are out
-  pub full_sent : length kept < size → SendsFull s size came.records old writer.written failures writer.failures
-  full_sent few = record {
-    limits = writer.limits;
-    standard = came.out.standard;
-    batches = came.batches;
-    left = kept;
-    batched = came_fill remaining input s size old failures reader writer number kept came few;
-    sent = record {
-      x = came.out.sent.x;
-      whole = (Some (record { schema = s }), came.out.sent.whole);
-      bytes = came.out.sent.bytes;
-      worked = came.out.sent.worked;
-      works = came.out.sent.works;
-    };
-  }
+    (failures : ℕ) (now : RowReader R) (writer : Writer) where
+  module _ (left : List (List Value)) (came : Came remaining input s size old failures now writer left)
+      (accepts : 0 < length left → AcceptsBatch writer.limits s (batch_of left)) (few : length left < size) where
+    -- ---- the next record isn't read as a row
 
-  -- a conversion that stops here stops behind these records
-  pub stops_here : length kept < size → StopsBehind input s size old writer.written failures writer.failures
-  stops_here few = record {
-    records = came.records;
-    there = are_first remaining input (names s.fields ∷ came.records) reader came.stands;
-    sent = full_sent few;
-  }
-
-  -- it stops where the next record isn't read
-  pub unread_stops : length kept < size → (why : Stop) → (why ≡ stop.Input) ⊎ (why ≡ stop.Text OutOfMemory)
-      → StopsFor input s size old writer.written failures writer.failures why
-  unread_stops few why (inl is) =
-      subst (λ z. StopsFor input s size old writer.written failures writer.failures z) (sym is) (behind (stops_here few))
-  unread_stops few why (inr is) =
-      subst (λ z. StopsFor input s size old writer.written failures writer.failures z) (sym is) (exhausted_behind refl (stops_here few))
-
-  -- it stops where the next record reads as no row
-  pub record_stops : length kept < size → (new : Reader R) (texts : List (List ℕ)) (fault : TextFault)
-      → Stands remaining input (names s.fields ∷ came.records ++ texts ∷ []) new → IsRecordFault number s.fields texts fault
-      → RefusesText input s size old writer.written failures writer.failures fault
-  record_stops few new texts fault stands cause = in_record (record {
-    before = came.records;
-    texts = texts;
-    there = are_first remaining input _ new stands;
-    cause = subst (λ n. IsRecordFault n s.fields texts fault) (sym came.numbered) cause;
-    sent = full_sent few;
-  })
-
-  module _ (new : Writer) (fault : WriteFault) (b : BatchRows) (is : b ≡ batch_of kept)
-      (leaves : Leaves (AddsBatch writer.limits writer.schema b) writer new (Err fault))
-      (judged : ¬ (fault ≡ w.Failed) → RefusesBatch writer.limits writer.schema b fault) where
-    breaks_here : BreaksOff writer.limits (table_of s (came.batches ++ batch_of kept ∷ [])) old new.written failures new.failures fault
-    breaks_here = subst (λ z. BreaksOff writer.limits (table_of s (came.batches ++ z ∷ [])) old new.written failures new.failures fault) is
-        (batch_breaks s came.batches old failures writer new b fault came.out leaves judged)
-
-    -- it stops where a full batch is refused
-    pub batch_stops : 0 < size → length kept ≡ size → StopsWriting input s size old new.written failures new.failures fault
-    batch_stops some full = record {
+    -- the full batches are out
+    full_sent : SendsFull s size came.records old writer.written failures writer.failures
+    full_sent = record {
       limits = writer.limits;
       standard = came.out.standard;
-      records = came.records;
-      there = are_first remaining input (names s.fields ∷ came.records) reader came.stands;
-      batches = came.batches ++ batch_of kept ∷ [];
-      left = [];
-      batched = came_filled remaining input s size old failures reader writer number kept came some full;
-      all = λ some_left. absurd (some_left refl);
-      breaks = subst (λ bs. BreaksOff writer.limits (table_of s bs) old new.written failures new.failures fault)
-          (sym (append-nil (came.batches ++ batch_of kept ∷ []))) breaks_here;
-    }
-
-    -- it stops where the last batch is refused
-    pub last_stops : length kept < size → last_batch kept ≡ batch_of kept ∷ [] → AreRecordsOf input (names s.fields ∷ came.records)
-        → StopsWriting input s size old new.written failures new.failures fault
-    last_stops few last all = record {
-      limits = writer.limits;
-      standard = came.out.standard;
-      records = came.records;
-      there = are_first remaining input (names s.fields ∷ came.records) reader came.stands;
       batches = came.batches;
-      left = kept;
-      batched = came_fill remaining input s size old failures reader writer number kept came few;
-      all = λ _. all;
-      breaks = subst (λ bs. BreaksOff writer.limits (table_of s (came.batches ++ bs)) old new.written failures new.failures fault)
-          (sym last) breaks_here;
+      left = left;
+      batched = came_fill remaining input s size old failures now writer left came few;
+      accepts = record {
+        schema = came.out.accepts_schema;
+        batches = all_accepted (AcceptsBatch writer.limits s) came.batches left came.out.accepts accepts;
+      };
+      sent = record {
+        x = came.out.sent.x;
+        whole = (Some (record { schema = s }), came.out.sent.whole);
+        bytes = came.out.sent.bytes;
+        worked = came.out.sent.worked;
+        works = came.out.sent.works;
+      };
     }
+
+    stops_here : StopsBehind input s size old writer.written failures writer.failures
+    stops_here = record {
+      records = came.records;
+      there = are_first remaining input (names s.fields ∷ came.records) now.reader came.read.stands;
+      sent = full_sent;
+    }
+
+    -- a conversion stops where no next row is read
+    pub next_stops : (why : Stop) → RefusesNext input s came.records why
+        → StopsFor input s size old writer.written failures writer.failures why
+    next_stops why (inl is) =
+        subst (λ z. StopsFor input s size old writer.written failures writer.failures z) (sym is) (behind stops_here)
+    next_stops why (inr (inl is)) =
+        subst (λ z. StopsFor input s size old writer.written failures writer.failures z) (sym is) (exhausted_behind refl stops_here)
+    next_stops why (inr (inr (texts, fault, is, there, cause))) =
+        subst (λ z. StopsFor input s size old writer.written failures writer.failures z) (sym is) (in_record (record {
+          before = came.records;
+          texts = texts;
+          there = there;
+          cause = cause;
+          sent = full_sent;
+        }))
+
+  -- ---- the batch is refused
+
+  module _ (left : List (List Value)) (came : Came remaining input s size old failures now writer left) (new : Writer) (fault : WriteFault)
+      (refuses : RefusesBatch writer.limits s (batch_of left) fault)
+      (unsent : NotSentWhole (AddsBatch writer.limits s (batch_of left)) writer.written new.written writer.failures new.failures fault)
+      (first : fault ≡ w.TooLong → (before : List (List (List ℕ))) (texts : List (List ℕ)) → came.records ≡ before ++ texts ∷ []
+      → AreAccepted writer.limits s size before) where
+    breaks_here : BreaksOff writer.limits (table_of s (came.batches ++ batch_of left ∷ [])) old new.written failures new.failures fault
+    breaks_here = batch_breaks s came.batches old failures writer new (batch_of left) fault came.out refuses unsent
+
+    -- a conversion stops where a full batch is refused
+    pub full_stops : 0 < size → length left ≡ size → StopsWriting input s size old new.written failures new.failures fault
+    full_stops some full = record {
+      limits = writer.limits;
+      standard = came.out.standard;
+      records = came.records;
+      there = are_first remaining input (names s.fields ∷ came.records) now.reader came.read.stands;
+      batches = came.batches ++ batch_of left ∷ [];
+      left = [];
+      batched = came_filled remaining input s size old failures now writer left came some full;
+      breaks = subst (λ bs. BreaksOff writer.limits (table_of s bs) old new.written failures new.failures fault)
+          (sym (append-nil (came.batches ++ batch_of left ∷ []))) breaks_here;
+      all = λ _ some_left. absurd (some_left refl);
+      first = first;
+    }
+
+    -- and where one with fewer rows is
+    pub few_stops : 0 < length left → length left < size
+        → (fault ≡ w.Write → AreRecordsOf input (names s.fields ∷ came.records))
+        → StopsWriting input s size old new.written failures new.failures fault
+    few_stops some few all = record {
+      limits = writer.limits;
+      standard = came.out.standard;
+      records = came.records;
+      there = are_first remaining input (names s.fields ∷ came.records) now.reader came.read.stands;
+      batches = came.batches;
+      left = left;
+      batched = came_fill remaining input s size old failures now writer left came few;
+      breaks = subst (λ bs. BreaksOff writer.limits (table_of s (came.batches ++ bs)) old new.written failures new.failures fault)
+          (sym (last_is left some)) breaks_here;
+      all = λ written _. all written;
+      first = first;
+    }
+
+  module _ (left : List (List Value)) (row : List Value) (came : Came remaining input s size old failures now writer (left ++ row ∷ []))
+      (accepts : 0 < length left → AcceptsBatch writer.limits s (batch_of left)) (room : length left < size) where
+    -- without the last record the table is accepted
+    accepts_before : (before : List (List (List ℕ))) (texts : List (List ℕ)) → came.records ≡ before ++ texts ∷ []
+        → AreAccepted writer.limits s size before
+    accepts_before before texts is = record {
+      batches = came.batches;
+      left = left;
+      batched = came_before remaining input s size old failures now writer left row came room before texts is;
+      accepts = record {
+        schema = came.out.accepts_schema;
+        batches = all_accepted (AcceptsBatch writer.limits s) came.batches left came.out.accepts accepts;
+      };
+    }
+
+    row_refused : (new : Writer) (fault : WriteFault) → RefusesBatch writer.limits s (batch_of (left ++ row ∷ [])) fault
+        → NotSentWhole (AddsBatch writer.limits s (batch_of (left ++ row ∷ []))) writer.written new.written writer.failures new.failures
+        fault → ¬ (fault ≡ w.Write) → (length left + 1 ≡ size) ⊎ (length left + 1 < size)
+        → StopsWriting input s size old new.written failures new.failures fault
+    row_refused new fault refuses unsent other (inl full) =
+        let longer = length_push left row in
+        full_stops (left ++ row ∷ []) came new fault refuses unsent (λ _. accepts_before) (omega (arith, full))
+        (omega (arith, full, longer))
+    row_refused new fault refuses unsent other (inr few) =
+        let longer = length_push left row in
+        few_stops (left ++ row ∷ []) came new fault refuses unsent (λ _. accepts_before) (omega (arith, longer))
+        (omega (arith, few, longer)) (λ is. absurd (other is))
+
+    at_size : (length left + 1 ≡ size) ⊎ (length left + 1 < size)
+    at_size =
+        let more : length left + 1 ≤ size = omega (arith, room) in
+        eq-or-lt_of_le more
+
+    -- a conversion stops where the last row isn't taken
+    pub row_stops : (new : Writer) (fault : WriteFault) → RefusesHeld writer.limits writer.schema (batch_of (left ++ row ∷ []))
+        writer.failed fault → StaysAt writer new fault → StopsWriting input s size old new.written failures new.failures fault
+    row_stops new fault refuses stays =
+        let same = subst (λ z. RefusesHeld writer.limits z (batch_of (left ++ row ∷ [])) writer.failed fault) came.out.same_schema
+        refuses in
+        row_refused new fault (held_refused writer.limits s (left ++ row ∷ []) fault
+        (subst (λ f. RefusesHeld writer.limits s (batch_of (left ++ row ∷ [])) f fault) came.out.works same))
+        (held_unsent _ writer.limits s (batch_of (left ++ row ∷ [])) writer new fault same stays)
+        (held_unwritten writer.limits s (batch_of (left ++ row ∷ [])) writer.failed fault same) at_size
+
+  -- a conversion stops where no batch is begun for the first row
+  pub begin_stops : (row : List Value) → Came remaining input s size old failures now writer (row ∷ []) → 0 < size → (new : Writer)
+      (fault : WriteFault) → RefusesHeld writer.limits writer.schema (no_rows []) writer.failed fault → StaysAt writer new fault
+      → StopsWriting input s size old new.written failures new.failures fault
+  begin_stops row came some new fault refuses stays =
+      let same = subst (λ z. RefusesHeld writer.limits z (no_rows []) writer.failed fault) came.out.same_schema refuses in
+      row_refused [] row came (λ none. absurd (omega (arith, none))) some new fault
+      (refused_at_first writer.limits s [] (row ∷ []) 0 fault
+      (subst (λ f. RefusesHeld writer.limits s (no_rows []) f fault) came.out.works same))
+      (held_unsent _ writer.limits s (no_rows []) writer new fault same stays)
+      (held_unwritten writer.limits s (no_rows []) writer.failed fault same) (eq-or-lt_of_le (omega (arith, some)))
+
+  -- a conversion stops where an accepted batch isn't sent
+  pub send_stops : (left : List (List Value)) (came : Came remaining input s size old failures now writer left) (new : Writer)
+      (fault : WriteFault) → 0 < size → AcceptsBatch writer.limits s (batch_of left)
+      → Leaves (AddsBatch writer.limits writer.schema (batch_of left)) writer new (Err fault)
+      → (¬ (fault ≡ w.Failed) → RefusesBatch writer.limits writer.schema (batch_of left) fault)
+      → (length left ≡ size)
+      ⊎ ((0 < length left) × (length left < size) × AreRecordsOf input (names s.fields ∷ came.records))
+      → StopsWriting input s size old new.written failures new.failures fault
+  send_stops left came new fault some accepts leaves judged whole =
+      let same = subst (λ z. Leaves (AddsBatch writer.limits z (batch_of left)) writer new (Err fault)) came.out.same_schema leaves in
+      let refuses = subst (λ z. RefusesBatch writer.limits z (batch_of left) fault) came.out.same_schema
+      (judged (not_failed _ writer new fault came.out.works same)) in
+      let unsent = leaves_unsent _ writer new fault came.out.works same in
+      let other = accepted_other writer.limits s (batch_of left) fault accepts refuses in
+      elim whole [
+        | inl full ↦ full_stops left came new fault refuses unsent (λ is. absurd (other is)) some full
+        | inr last ↦ few_stops left came new fault refuses unsent (λ is. absurd (other is)) last.0 last.1 (λ _. last.2)
+      ]

@@ -1,11 +1,11 @@
 -- How a conversion ends.
 use Rattle.std.proofs.Common.{◌≡◌, ◌∙◌, refl, sym, ap, subst, ℕ, suc, ◌<◌, List, [], ◌∷◌, ◌++◌, length, map, take, Option, Some, None}
-use Rattle.std.proofs.Common.{Ok, Err, true, false, arith}
-use Rattle.std.specs.Prelude.{◌==◌, Bool, IfErr, OnOk, Result}
+use Rattle.std.proofs.Common.{Ok, Err, inl, inr, true, false}
+use Rattle.std.specs.Prelude.{Bool, IfErr, OnOk, Result}
 use Rattle.std.specs.List.{AllByRecursion}
 use Rattle.std.proofs.KnownBytes.{Appends-nil, Appends-trans}
 use Rattle.std.proofs.Math.Seq.{drop-length, take-length}
-use Rattle.std.proofs.lemmas.Bool.{eqb-true, false≢true}
+use Rattle.std.proofs.lemmas.Bool.{false≢true}
 use Rattle.std.proofs.lemmas.List.{append-nil}
 use Rattle.csv.specs.declared.reader.Reader.{Reader}
 use Rattle.ipc_model.specs.Limits.{IsStandard}
@@ -15,69 +15,86 @@ use Rattle.ipc_model.specs.declared.limits.Limits.{Limits}
 use Rattle.ipc_model.specs.declared.schema.Schema.{Schema}
 use Rattle.ipc_model.specs.declared.table.BatchRows.{BatchRows}
 use Rattle.ipc_model.specs.declared.value.Value.{Value}
+use Rattle.ipc_stream.specs.declared.pushed.PushedRows.{PushedRows}
+use Rattle.ipc_stream.specs.Pushed.{HoldsBatch}
 use Rattle.ipc_stream.specs.Stream.{Event, Run, batch, done, schema}
 use Rattle.ipc_stream.specs.Writer.{Finishes, FinishFails, Leaves, StartFails, Writer}
-use Rattle.ipc_stream.specs.Writing.{AcceptsBatch, AddsBatch, AddsNext, BreaksOff, CutShort, EndsStream, NotSentWhole, RefusesFirst}
+use Rattle.ipc_stream.specs.Writing.{AcceptsBatch, AddsBatch, AddsNext, BreaksOff, CutShort, EndsStream, NotSentWhole, RefusesBatch}
+use Rattle.ipc_stream.specs.Writing.{RefusesFirst}
 use Rattle.ipc_csv.specs.RowCsv.{flat_fault, names}
-use Rattle.ipc_from_csv.specs.Batches.{last_batch}
+use Rattle.ipc_from_csv.specs.Batches.{batch_of, last_batch}
 use Rattle.ipc_from_csv.specs.Conversion.{Answers, AnswersHeader, Converts, StopsFor, StopsWriting, before, in_header, table_of}
 use Rattle.ipc_from_csv.specs.Records.{AreRecordsOf, Stands}
-use Rattle.ipc_from_csv.specs.Steps.{IsOut, SendsAll}
+use Rattle.ipc_from_csv.specs.Steps.{Came, HoldsLast, IsOut, SendsAll, SendsBatch}
+use Rattle.ipc_from_csv.specs.declared.rows.RowReader.{RowReader}
 use Rattle.ipc_from_csv.specs.declared.stop.Stop.{Stop}
 use Rattle.ipc_from_csv.specs.declared.stop.Stop.TheVariants as stop
-use Rattle.ipc_from_csv.proofs.Breaking.{take_events}
+use Rattle.ipc_from_csv.proofs.Breaking.{last_is, send_stops, take_events}
+use Rattle.ipc_from_csv.proofs.Pushing.{holds_accepted}
 use Rattle.ipc_from_csv.proofs.Reading.{are_first}
-use Rattle.ipc_from_csv.proofs.Sending.{Came, batch_of, batch_out, came_fill}
-
--- some rows are kept where a vector of so many is not empty
-pub some_kept : (len : ℕ) (kept : List (List Value)) (empty : Bool) → len ≡ length kept → empty ≡ (len == 0) → empty ≡ false
-    → 0 < length kept
-some_kept len [] empty is told some = absurd (false≢true (sym some ∙ (told ∙ ap (λ n. n == 0) is)))
-some_kept len (r ∷ kept) empty is told some = omega arith
-
--- none is kept where it is empty
-pub none_kept : (len : ℕ) (kept : List (List Value)) (empty : Bool) → len ≡ length kept → empty ≡ (len == 0) → empty ≡ true
-    → length kept ≡ 0
-none_kept len kept empty is told none = sym is ∙ eqb-true len 0 (sym told ∙ none)
-
--- where rows are left over they are the last batch
-pub last_is : (kept : List (List Value)) → 0 < length kept → last_batch kept ≡ batch_of kept ∷ []
-last_is [] some = absurd (omega (arith, some))
-last_is (r ∷ kept) some = refl
-
--- where none is left over there is no last batch
-pub no_last : (kept : List (List Value)) → length kept ≡ 0 → last_batch kept ≡ []
-no_last [] none = refl
-no_last (r ∷ kept) none = absurd (omega (arith, none))
+use Rattle.ipc_from_csv.proofs.Sending.{batch_out, came_fill, came_sent}
 
 module _ {R : Type 0} (remaining : R → Option (List ℕ)) (input : Option (List ℕ)) (s : Schema) (size : ℕ) (old : Option (List ℕ))
-    (failures : ℕ) (reader : Reader R) (writer : Writer) (number : ℕ) (kept : List (List Value))
-    (came : Came remaining input s size old failures reader writer number kept) (few : length kept < size)
+    (failures : ℕ) (now : RowReader R) (writer : Writer) (left : List (List Value))
+    (came : Came remaining input s size old failures now writer left) (few : length left < size)
     (all : AreRecordsOf input (names s.fields ∷ came.records)) where
-  all_sent : (new : Writer) → IsOut s (came.batches ++ last_batch kept) old failures new → SendsAll input s size old failures new
+  all_sent : (new : Writer) → IsOut s (came.batches ++ last_batch left) old failures new → SendsAll input s size old failures new
   all_sent new out = record {
     records = came.records;
     all = all;
-    there = are_first remaining input (names s.fields ∷ came.records) reader came.stands;
+    there = are_first remaining input (names s.fields ∷ came.records) now.reader came.read.stands;
     batches = came.batches;
-    left = kept;
-    batched = came_fill remaining input s size old failures reader writer number kept came few;
+    left = left;
+    batched = came_fill remaining input s size old failures now writer left came few;
     out = out;
   }
 
   -- where no row is left over, all is out
-  pub ends_full : length kept ≡ 0 → SendsAll input s size old failures writer
+  pub ends_full : left ≡ [] → SendsAll input s size old failures writer
   ends_full none = all_sent writer (subst (λ bs. IsOut s bs old failures writer)
-      (sym (ap (λ bs. came.batches ++ bs) (no_last kept none) ∙ append-nil came.batches)) came.out)
+      (sym (ap (λ l. came.batches ++ last_batch l) none ∙ append-nil came.batches)) came.out)
 
   -- where the last batch was sent, all is out
-  pub ends_last : (new : Writer) (b : BatchRows) → b ≡ batch_of kept → 0 < length kept
-      → Leaves (AddsBatch writer.limits writer.schema b) writer new (Ok tt) → AcceptsBatch writer.limits writer.schema b
-      → SendsAll input s size old failures new
-  ends_last new b is some leaves accepts = all_sent new (subst (λ bs. IsOut s (came.batches ++ bs) old failures new)
-      (ap (λ z. z ∷ []) is ∙ sym (last_is kept some)) (batch_out s came.batches old failures writer new came.out b leaves accepts))
+  pub ends_last : (new : Writer) → 0 < length left → Leaves (AddsBatch writer.limits writer.schema (batch_of left)) writer new (Ok tt)
+      → AcceptsBatch writer.limits writer.schema (batch_of left) → SendsAll input s size old failures new
+  ends_last new some leaves accepts = all_sent new (subst (λ bs. IsOut s (came.batches ++ bs) old failures new)
+      (sym (last_is left some)) (batch_out s came.batches old failures writer new came.out (batch_of left) leaves accepts))
+
+module _ {R : Type 0} (remaining : R → Option (List ℕ)) (input : Option (List ℕ)) (s : Schema) (size : ℕ) (old : Option (List ℕ))
+    (failures : ℕ) (now : RowReader R) (writer new : Writer) (held : PushedRows) where
+  -- how far a conversion came where the rows that are held went out
+  pub held_sent : (full : Bool) → HoldsLast remaining input s size old failures now writer held full → 0 < size
+      → ((b : BatchRows) → HoldsBatch writer.limits writer.schema b held
+      → Leaves (AddsBatch writer.limits writer.schema b) writer new (Ok tt))
+      → ((b : BatchRows) → HoldsBatch writer.limits writer.schema b held → AcceptsBatch writer.limits writer.schema b)
+      → SendsBatch remaining input s size old failures now new (Ok full)
+  held_sent true (left, holds, full) some leaves accepts =
+      came_sent remaining input s size old failures now writer left holds.came new some full (leaves _ holds.held_rows)
+      (accepts _ holds.held_rows)
+  held_sent false (last, left, holds, some_left, few, all) some leaves accepts =
+      ends_last remaining input s size old failures last writer left holds.came few all new some_left (leaves _ holds.held_rows)
+      (accepts _ holds.held_rows)
+
+  -- and why it stops where they did not
+  pub held_unsent : (full : Bool) → HoldsLast remaining input s size old failures now writer held full → 0 < size → (fault : WriteFault)
+      → ((b : BatchRows) → HoldsBatch writer.limits writer.schema b held
+      → Leaves (AddsBatch writer.limits writer.schema b) writer new (Err fault))
+      → ((b : BatchRows) → HoldsBatch writer.limits writer.schema b held → ¬ (fault ≡ w.Failed)
+      → RefusesBatch writer.limits writer.schema b fault) → StopsWriting input s size old new.written failures new.failures fault
+  held_unsent true (left, holds, full) some fault leaves judged =
+      send_stops remaining input s size old failures now writer left holds.came new fault some
+      (holds_accepted remaining input s size old failures now writer held left holds) (leaves _ holds.held_rows)
+      (judged _ holds.held_rows) (inl full)
+  held_unsent false (last, left, holds, some_left, few, all) some fault leaves judged =
+      send_stops remaining input s size old failures last writer left holds.came new fault some
+      (holds_accepted remaining input s size old failures last writer held left holds) (leaves _ holds.held_rows)
+      (judged _ holds.held_rows) (inr (some_left, few, all))
 
 -- ---- the start and the end of the stream
+
+none_last : {X : Type 0} (front : List X) (x : X) → ¬ ([] ≡ front ++ x ∷ [])
+none_last [] x is = cc
+none_last (y ∷ front) x is = cc
 
 -- a conversion stops where the schema is refused
 pub start_stops : {R : Type 0} (remaining : R → Option (List ℕ)) (input : Option (List ℕ)) (s : Schema) (size : ℕ)
@@ -92,7 +109,6 @@ start_stops remaining input s size old new f0 f1 reader limits fault standard so
   batches = [];
   left = [];
   batched = record { flat = flat; rows = []; read = tt; fill = record { full = tt; few = some; joined = refl } };
-  all = λ some_left. absurd (some_left refl);
   breaks = record {
     count = 0;
     accepts = tt;
@@ -104,6 +120,8 @@ start_stops remaining input s size old new f0 f1 reader limits fault standard so
     bytes = Appends-nil old;
     unsent = fails.unsent;
   };
+  all = λ _ some_left. absurd (some_left refl);
+  first = λ _ front texts is. absurd (none_last front texts is);
 }
 
 module _ (input : Option (List ℕ)) (s : Schema) (size : ℕ) (old : Option (List ℕ)) (failures : ℕ) (writer : Writer)
@@ -154,6 +172,9 @@ module _ (input : Option (List ℕ)) (s : Schema) (size : ℕ) (old : Option (Li
         unsent = subst (λ l. NotSentWhole (AddsNext writer.limits s l) writer.written new failures failures_new w.Write) none cut;
       }
 
+  written_whole : ¬ (w.Write ≡ w.TooLong)
+  written_whole is = cc
+
   cut_stops : (new : Option (List ℕ)) (failures_new : ℕ) → CutShort EndsStream writer.written new failures_new
       → StopsWriting input s size old new failures failures_new w.Write
   cut_stops new failures_new cut = record {
@@ -164,8 +185,9 @@ module _ (input : Option (List ℕ)) (s : Schema) (size : ℕ) (old : Option (Li
     batches = sends.batches;
     left = sends.left;
     batched = sends.batched;
-    all = λ _. sends.all;
     breaks = cut_breaks new failures_new cut;
+    all = λ _ _. sends.all;
+    first = λ is. absurd (written_whole is);
   }
 
   -- a conversion stops where the end mark isn't out whole

@@ -1,12 +1,11 @@
 -- Rows gathered in batches, and batches sent.
-use Rattle.std.proofs.Common.{◌≡◌, ◌∙◌, refl, sym, ap, subst, ℕ, ◌+◌, ◌<◌, List, [], ◌∷◌, ◌++◌, length, map}
+use Rattle.std.proofs.Common.{◌≡◌, ◌∙◌, refl, sym, ap, subst, ℕ, ◌<◌, List, [], ◌∷◌, ◌++◌, length, map}
 use Rattle.std.proofs.Common.{Option, Some, None, append_assoc, arith}
-use Rattle.std.specs.Prelude.{flat_map, Ok}
+use Rattle.std.specs.Prelude.{flat_map, Ok, true}
 use Rattle.std.specs.List.{AllByRecursion}
 use Rattle.std.proofs.KnownBytes.{Appends-trans}
-use Rattle.std.proofs.lemmas.List.{append-nil, map-append, length_push}
+use Rattle.std.proofs.lemmas.List.{append-nil, map-append}
 use Rattle.std.proofs.lemmas.List.Concat.{flat_map-append}
-use Rattle.csv.specs.declared.reader.Reader.{Reader}
 use Rattle.ipc_model.specs.declared.schema.Field.{Field}
 use Rattle.ipc_model.specs.declared.schema.Schema.{Schema}
 use Rattle.ipc_model.specs.declared.table.BatchRows.{BatchRows}
@@ -17,10 +16,10 @@ use Rattle.ipc_stream.specs.Writing.{AcceptsBatch, AcceptsSchema, AddsBatch, Ope
 use Rattle.ipc_stream.proofs.Runs.{run_then}
 use Rattle.ipc_model.specs.Limits.{IsStandard}
 use Rattle.ipc_csv.specs.CsvRows.{RecordReadsAs}
-use Rattle.ipc_csv.specs.RowCsv.{flat_fault, names}
-use Rattle.ipc_from_csv.specs.Batches.{AreBatched, IsFull}
-use Rattle.ipc_from_csv.specs.Records.{EachRecordReadsAs, Stands}
-use Rattle.ipc_from_csv.specs.Steps.{Begins, IsOut}
+use Rattle.ipc_from_csv.specs.Batches.{AreBatched, IsFull, batch_of, last_batch}
+use Rattle.ipc_from_csv.specs.Records.{EachRecordReadsAs}
+use Rattle.ipc_from_csv.specs.Steps.{Begins, Came, FindsRow, IsOut}
+use Rattle.ipc_from_csv.specs.declared.rows.RowReader.{RowReader}
 
 -- ---- lists
 
@@ -38,9 +37,15 @@ each_push fields [] (r ∷ rows) texts row each one = absurd each
 each_push fields (t ∷ records) [] texts row each one = absurd each
 each_push fields (t ∷ records) (r ∷ rows) texts row each one = (each.0, each_push fields records rows texts row each.1 one)
 
--- the batch of these rows, without pairs
-abbrev pub batch_of : List (List Value) → BatchRows
-batch_of rows = record { pairs = []; rows = rows }
+-- the records but for the last read as the rows but for the last
+pub each_front : (fields : List Field) (records : List (List (List ℕ))) (rows : List (List Value)) (texts : List (List ℕ))
+    (row : List Value) → EachRecordReadsAs fields (records ++ texts ∷ []) (rows ++ row ∷ []) → EachRecordReadsAs fields records rows
+each_front fields [] [] texts row each = tt
+each_front fields [] (r ∷ []) texts row each = absurd each.1
+each_front fields [] (r ∷ q ∷ rows) texts row each = absurd each.1
+each_front fields (t ∷ []) [] texts row each = absurd each.1
+each_front fields (t ∷ u ∷ records) [] texts row each = absurd each.1
+each_front fields (t ∷ records) (r ∷ rows) texts row each = (each.0, each_front fields records rows texts row each.1)
 
 -- ---- the messages that are out
 
@@ -89,97 +94,93 @@ module _ (s : Schema) (batches : List BatchRows) (old : Option (List ℕ)) (fail
             (all_push (AcceptsBatch writer.limits s) batches b out.accepts fits);
       }
 
+-- where the rows that are left over are accepted as a batch, all batches are
+pub all_accepted : (P : BatchRows → Type 0) (batches : List BatchRows) (left : List (List Value)) → AllByRecursion P batches
+    → (0 < length left → P (batch_of left)) → AllByRecursion P (batches ++ last_batch left)
+all_accepted P batches [] all one = subst (AllByRecursion P) (sym (append-nil batches)) all
+all_accepted P batches (row ∷ left) all one = all_push P batches (batch_of (row ∷ left)) all (one (omega arith))
+
 -- ---- the records so far
 
--- these records were read, the header aside; their rows fill the batches that are out, and the others are kept
-pub record Came {R : Type 0} (remaining : R → Option (List ℕ)) (input : Option (List ℕ)) (s : Schema) (size : ℕ) (old : Option (List ℕ))
-    (failures : ℕ) (reader : Reader R) (writer : Writer) (number : ℕ) (kept : List (List Value)) : Type 0 where
-  pub flat : flat_fault s.fields ≡ None
-  pub records : List (List (List ℕ))
-  pub numbered : length records + 1 ≡ number
-  pub stands : Stands remaining input (names s.fields ∷ records) reader
-  pub rows : List (List Value)
-  pub read : EachRecordReadsAs s.fields records rows
-  pub batches : List BatchRows
-  pub full : AllByRecursion (IsFull size) batches
-  pub joined : flat_map (λ b. b.rows) batches ++ kept ≡ rows
-  pub out : IsOut s batches old failures writer
-
--- at first none was read
-pub came_none : {R : Type 0} (remaining : R → Option (List ℕ)) (input : Option (List ℕ)) (s : Schema) (size : ℕ) (old : Option (List ℕ))
-    (failures : ℕ) (reader : Reader R) (writer : Writer) → Begins remaining input s old failures reader writer
-    → Came remaining input s size old failures reader writer 1 []
-came_none remaining input s size old failures reader writer begins = record {
-  flat = begins.0;
-  records = [];
-  numbered = refl;
-  stands = begins.1;
-  rows = [];
-  read = tt;
-  batches = [];
-  full = tt;
-  joined = refl;
-  out = begins.2;
-}
-
 module _ {R : Type 0} (remaining : R → Option (List ℕ)) (input : Option (List ℕ)) (s : Schema) (size : ℕ) (old : Option (List ℕ))
-    (failures : ℕ) (reader : Reader R) (writer : Writer) (number : ℕ) (kept : List (List Value))
-    (came : Came remaining input s size old failures reader writer number kept) where
-  -- one record more, whose row is kept
-  pub came_more : (new : Reader R) (texts : List (List ℕ)) (row : List Value)
-      → Stands remaining input (names s.fields ∷ came.records ++ texts ∷ []) new → RecordReadsAs s.fields texts row
-      → Came remaining input s size old failures new writer (number + 1) (kept ++ row ∷ [])
-  came_more new texts row stands reads = record {
-    flat = came.flat;
-    records = came.records ++ texts ∷ [];
-    numbered = omega (arith, came.numbered, length_push came.records texts);
-    stands = stands;
-    rows = came.rows ++ row ∷ [];
-    read = each_push s.fields came.records came.rows texts row came.read reads;
-    batches = came.batches;
-    full = came.full;
-    joined = sym (append_assoc (flat_map (λ b. b.rows) came.batches) kept (row ∷ [])) ∙ ap (λ z. z ++ row ∷ []) came.joined;
-    out = came.out;
+    (failures : ℕ) (now : RowReader R) (writer : Writer) where
+  -- at first none was read
+  pub came_none : Begins remaining input s old failures now writer → Came remaining input s size old failures now writer []
+  came_none begins = record {
+    records = [];
+    rows = [];
+    read = begins.0;
+    batches = [];
+    full = tt;
+    joined = refl;
+    out = begins.1;
   }
 
-  -- where as many rows are kept as a batch has, they are one full batch more
-  pub came_filled : 0 < size → length kept ≡ size → AreBatched s size came.records (came.batches ++ batch_of kept ∷ []) []
-  came_filled some full = record {
-    flat = came.flat;
-    rows = came.rows;
-    read = came.read;
-    fill = record {
-      full = all_push (IsFull size) came.batches (batch_of kept) came.full (record { pairs = refl; rows = full });
-      few = some;
-      joined = append-nil (flat_map (λ b. b.rows) (came.batches ++ batch_of kept ∷ []))
-          ∙ (flat_map-append (λ b. b.rows) came.batches (batch_of kept ∷ [])
-          ∙ (ap (λ z. flat_map (λ b. b.rows) came.batches ++ z) (append-nil kept) ∙ came.joined));
-    };
-  }
+  module _ (left : List (List Value)) (came : Came remaining input s size old failures now writer left) where
+    -- one record more, whose row is kept
+    pub came_more : (new : RowReader R) → FindsRow remaining input s came.records came.rows new true
+        → Came remaining input s size old failures new writer (left ++ new.row ∷ [])
+    came_more new finds = record {
+      records = came.records ++ finds.0 ∷ [];
+      rows = came.rows ++ new.row ∷ [];
+      read = finds.1;
+      batches = came.batches;
+      full = came.full;
+      joined = sym (append_assoc (flat_map (λ b. b.rows) came.batches) left (new.row ∷ [])) ∙ ap (λ z. z ++ new.row ∷ []) came.joined;
+      out = came.out;
+    }
 
-  -- the rows that were kept went out as a full batch
-  pub came_sent : (new : Writer) (b : BatchRows) → b ≡ batch_of kept → 0 < size → length kept ≡ size
-      → Leaves (AddsBatch writer.limits writer.schema b) writer new (Ok tt) → AcceptsBatch writer.limits writer.schema b
-      → Came remaining input s size old failures reader new number []
-  came_sent new b is some full leaves accepts = record {
-    flat = came.flat;
-    records = came.records;
-    numbered = came.numbered;
-    stands = came.stands;
-    rows = (came_filled some full).rows;
-    read = (came_filled some full).read;
-    batches = came.batches ++ batch_of kept ∷ [];
-    full = (came_filled some full).fill.full;
-    joined = (came_filled some full).fill.joined;
-    out = subst (λ z. IsOut s (came.batches ++ z ∷ []) old failures new) is
-        (batch_out s came.batches old failures writer new came.out b leaves accepts);
-  }
+    -- where as many rows are left as a batch has, they are one full batch more
+    pub came_filled : 0 < size → length left ≡ size → AreBatched s size came.records (came.batches ++ batch_of left ∷ []) []
+    came_filled some full = record {
+      flat = came.read.flat;
+      rows = came.rows;
+      read = came.read.read;
+      fill = record {
+        full = all_push (IsFull size) came.batches (batch_of left) came.full (record { pairs = refl; rows = full });
+        few = some;
+        joined = append-nil (flat_map (λ b. b.rows) (came.batches ++ batch_of left ∷ []))
+            ∙ (flat_map-append (λ b. b.rows) came.batches (batch_of left ∷ [])
+            ∙ (ap (λ z. flat_map (λ b. b.rows) came.batches ++ z) (append-nil left) ∙ came.joined));
+      };
+    }
 
-  -- where fewer rows are kept than a batch has, the rows fill the batches that are out
-  pub came_fill : length kept < size → AreBatched s size came.records came.batches kept
-  came_fill few = record {
-    flat = came.flat;
-    rows = came.rows;
-    read = came.read;
-    fill = record { full = came.full; few = few; joined = came.joined };
-  }
+    -- the rows that were left went out as a full batch
+    pub came_sent : (new : Writer) → 0 < size → length left ≡ size
+        → Leaves (AddsBatch writer.limits writer.schema (batch_of left)) writer new (Ok tt)
+        → AcceptsBatch writer.limits writer.schema (batch_of left) → Came remaining input s size old failures now new []
+    unfolding came_filled
+    came_sent new some full leaves accepts = record {
+      records = came.records;
+      rows = came.rows;
+      read = came.read;
+      batches = came.batches ++ batch_of left ∷ [];
+      full = (came_filled some full).fill.full;
+      joined = (came_filled some full).fill.joined;
+      out = batch_out s came.batches old failures writer new came.out (batch_of left) leaves accepts;
+    }
+
+    -- where fewer rows are left than a batch has, the rows fill the batches that are out
+    pub came_fill : length left < size → AreBatched s size came.records came.batches left
+    came_fill few = record {
+      flat = came.read.flat;
+      rows = came.rows;
+      read = came.read.read;
+      fill = record { full = came.full; few = few; joined = came.joined };
+    }
+
+  -- without the last record, the rows without the last fill the batches that are out
+  pub came_before : (left : List (List Value)) (row : List Value) (came : Came remaining input s size old failures now writer
+      (left ++ row ∷ [])) → length left < size → (before : List (List (List ℕ))) (texts : List (List ℕ))
+      → came.records ≡ before ++ texts ∷ [] → AreBatched s size before came.batches left
+  came_before left row came few before texts is =
+      let rows : came.rows ≡ (flat_map (λ b. b.rows) came.batches ++ left) ++ row ∷ [] =
+      sym came.joined ∙ sym (append_assoc (flat_map (λ b. b.rows) came.batches) left (row ∷ [])) in
+      record {
+        flat = came.read.flat;
+        rows = flat_map (λ b. b.rows) came.batches ++ left;
+        read = each_front s.fields before (flat_map (λ b. b.rows) came.batches ++ left) texts row
+            (subst (λ z. EachRecordReadsAs s.fields (before ++ texts ∷ []) z) rows
+            (subst (λ z. EachRecordReadsAs s.fields z came.rows) is came.read.read));
+        fill = record { full = came.full; few = few; joined = refl };
+      }

@@ -30,7 +30,11 @@ pub record AreBatched (s : Schema) (size : ℕ) (records : List (List (List ℕ)
   pub read : EachRecordReadsAs s.fields records rows
   pub fill : Fill size rows batches left
 
+-- the batch of these rows, without pairs
+abbrev pub batch_of : List (List Value) → BatchRows
+batch_of rows = record { pairs = []; rows = rows }
+
 -- the last batch, of the rows that are left over, where there are some
 abbrev pub last_batch : List (List Value) → List BatchRows
 last_batch [] = []
-last_batch (row ∷ rows) = record { pairs = []; rows = row ∷ rows } ∷ []
+last_batch (row ∷ rows) = batch_of (row ∷ rows) ∷ []

@@ -13,7 +13,7 @@ use Rattle.ipc_model.specs.declared.table.Table.{Table}
 use Rattle.ipc_model.specs.declared.value.Value.{Value}
 use Rattle.ipc_stream.specs.declared.end.End.TheVariants.{Closed, Mark}
 use Rattle.ipc_stream.specs.Stream.{Denotes}
-use Rattle.ipc_stream.specs.Writing.{BreaksOff, Sent}
+use Rattle.ipc_stream.specs.Writing.{AcceptsTable, BreaksOff, Sent}
 use Rattle.ipc_csv.specs.CsvRows.{IsHeaderFault, IsRecordFault}
 use Rattle.ipc_csv.specs.RowCsv.{flat_fault, names}
 use Rattle.ipc_moments.specs.declared.fault.TextFault.{TextFault}
@@ -42,7 +42,8 @@ pub record Converts (input : Option (List ℕ)) (s : Schema) (size : ℕ) (old n
   pub sent : Sent (λ x. Denotes limits x (table_of s (batches ++ last_batch left)) Mark) old new
       failures_old failures_new
 
--- the schema and the batches that the rows of these records fill went out, and no more
+-- the rows of these records make a table that is accepted; its schema and the batches that they
+-- fill went out, and no more
 pub record SendsFull (s : Schema) (size : ℕ) (records : List (List (List ℕ)))
     (old new : Option (List ℕ)) (failures_old failures_new : ℕ) : Type 0 where
   pub limits : Limits
@@ -50,6 +51,7 @@ pub record SendsFull (s : Schema) (size : ℕ) (records : List (List (List ℕ))
   pub batches : List BatchRows
   pub left : List (List Value)
   pub batched : AreBatched s size records batches left
+  pub accepts : AcceptsTable limits (table_of s (batches ++ last_batch left))
   pub sent : Sent (λ x. Denotes limits x (table_of s batches) Closed) old new failures_old
       failures_new
 
@@ -104,8 +106,16 @@ pub data StopsReading (input : Option (List ℕ)) (s : Schema) (size : ℕ) (old
   behind : StopsBehind input s size old new failures_old failures_new
       → StopsReading input s size old new failures_old failures_new
 
--- writing the table of some first records broke off: the rows that fill no batch are part of it
--- only behind the last record
+-- the rows of these records make a table that is accepted
+pub record AreAccepted (limits : Limits) (s : Schema) (size : ℕ)
+    (records : List (List (List ℕ))) : Type 0 where
+  pub batches : List BatchRows
+  pub left : List (List Value)
+  pub batched : AreBatched s size records batches left
+  pub accepts : AcceptsTable limits (table_of s (batches ++ last_batch left))
+
+-- Writing the table of some first records broke off. W6 comes at the last of these: the table of
+-- those before it is accepted. W9 comes only where the last batch is full, or all records were read
 pub record StopsWriting (input : Option (List ℕ)) (s : Schema) (size : ℕ) (old new : Option
     (List ℕ))
     (failures_old failures_new : ℕ) (fault : WriteFault) : Type 0 where
@@ -116,9 +126,11 @@ pub record StopsWriting (input : Option (List ℕ)) (s : Schema) (size : ℕ) (o
   pub batches : List BatchRows
   pub left : List (List Value)
   pub batched : AreBatched s size records batches left
-  pub all : left ≢ [] → AreRecordsOf input (names s.fields ∷ records)
   pub breaks : BreaksOff limits (table_of s (batches ++ last_batch left)) old new failures_old
       failures_new fault
+  pub all : fault ≡ write.Write → left ≢ [] → AreRecordsOf input (names s.fields ∷ records)
+  pub first : fault ≡ write.TooLong → (before : List (List (List ℕ))) (texts : List (List ℕ))
+      → records ≡ before ++ texts ∷ [] → AreAccepted limits s size before
 
 -- what the writer may refuse of rows that fit, in batches that aren't too large: the schema (W1,
 -- W6), a batch that is too long (W6), for a sink that failed (W9) or for want of memory (W11)

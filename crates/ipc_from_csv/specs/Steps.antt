@@ -1,20 +1,53 @@
 -- How far a conversion came.
-use Rattle.std.specs.Prelude.{◌≡◌, ℕ, false, List, [], ◌∷◌, ◌++◌, map, Option, Some, None, Result}
-use Rattle.std.specs.Prelude.{Ok, Err}
+use Rattle.std.specs.Prelude.{◌≡◌, ◌⊎◌, ℕ, ◌<◌, ◌+◌, Bool, true, false, List, [], ◌∷◌, ◌++◌}
+use Rattle.std.specs.Prelude.{flat_map, length, map, Option, Some, None, Result, Ok, Err}
 use Rattle.std.specs.List.{AllByRecursion}
-use Rattle.csv.specs.declared.reader.Reader.{Reader}
 use Rattle.ipc_model.specs.Limits.{IsStandard}
 use Rattle.ipc_model.specs.declared.schema.Schema.{Schema}
 use Rattle.ipc_model.specs.declared.table.BatchRows.{BatchRows}
 use Rattle.ipc_model.specs.declared.value.Value.{Value}
+use Rattle.ipc_moments.specs.declared.fault.TextFault.TheVariants.{OutOfMemory}
+use Rattle.ipc_stream.specs.declared.pushed.PushedRows.{PushedRows}
+use Rattle.ipc_stream.specs.Pushed.{HoldsBatch}
 use Rattle.ipc_stream.specs.Stream.{Run, batch, schema}
 use Rattle.ipc_stream.specs.Writer.{Writer}
 use Rattle.ipc_stream.specs.Writing.{AcceptsBatch, AcceptsSchema, Sent}
+use Rattle.ipc_csv.specs.CsvRows.{IsRecordFault}
 use Rattle.ipc_csv.specs.RowCsv.{flat_fault, names}
-use Rattle.ipc_from_csv.specs.Batches.{AreBatched, last_batch}
+use Rattle.ipc_from_csv.specs.Batches.{AreBatched, IsFull, batch_of, last_batch}
 use Rattle.ipc_from_csv.specs.Conversion.{StopsFor}
-use Rattle.ipc_from_csv.specs.Records.{AreFirstRecordsOf, AreRecordsOf, Stands}
+use Rattle.ipc_from_csv.specs.Records.{AreFirstRecordsOf, AreRecordsOf, EachRecordReadsAs, Stands}
+use Rattle.ipc_from_csv.specs.declared.rows.RowReader.{RowReader}
 use Rattle.ipc_from_csv.specs.declared.stop.Stop.{Stop}
+use Rattle.ipc_from_csv.specs.declared.stop.Stop.TheVariants as stop
+
+-- ---- records read as rows
+
+-- these records behind the header were read and counted, and read as these rows
+pub record HasRead {R : Type 0} (remaining : R → Option (List ℕ)) (input : Option (List ℕ))
+    (s : Schema) (records : List (List (List ℕ))) (rows : List (List Value))
+    (now : RowReader R) : Type 0 where
+  pub flat : flat_fault s.fields ≡ None
+  pub stands : Stands remaining input (names s.fields ∷ records) now.reader
+  pub counted : now.count ≡ length records
+  pub read : EachRecordReadsAs s.fields records rows
+
+-- behind these records there was one more, whose row is kept; or these are all
+abbrev pub FindsRow : {R : Type 0} → (R → Option (List ℕ)) → Option (List ℕ) → Schema
+    → List (List (List ℕ)) → List (List Value) → RowReader R → Bool → Type 0
+FindsRow remaining input s records rows now true = (texts : List (List ℕ))
+    × HasRead remaining input s (records ++ texts ∷ []) (rows ++ now.row ∷ []) now
+FindsRow remaining input s records rows now false = AreRecordsOf input (names s.fields ∷ records)
+
+-- why behind these records no row is read: the reader stopped, memory ran out, or the next record
+-- reads as no row
+abbrev pub RefusesNext : Option (List ℕ) → Schema → List (List (List ℕ)) → Stop → Type 0
+RefusesNext input s records why = (why ≡ stop.Input) ⊎ (why ≡ stop.Text OutOfMemory)
+    ⊎ ((texts : List (List ℕ)) × (fault : _) × (why ≡ stop.Text fault)
+    × AreFirstRecordsOf input (names s.fields ∷ records ++ texts ∷ [])
+    × IsRecordFault (length records + 1) s.fields texts fault)
+
+-- ---- rows sent in batches
 
 -- the schema and these batches went out to a sink, each of them accepted, and its writer goes on
 pub record IsOut (s : Schema) (batches : List BatchRows) (old : Option (List ℕ)) (failures : ℕ)
@@ -29,10 +62,48 @@ pub record IsOut (s : Schema) (batches : List BatchRows) (old : Option (List ℕ
 
 -- the header was read and the schema went out, and nothing else
 abbrev pub Begins : {R : Type 0} → (R → Option (List ℕ)) → Option (List ℕ) → Schema
-    → Option (List ℕ) → ℕ → Reader R → Writer → Type 0
-Begins remaining input s old failures reader writer =
-    (flat_fault s.fields ≡ None) × Stands remaining input (names s.fields ∷ []) reader
-    × IsOut s [] old failures writer
+    → Option (List ℕ) → ℕ → RowReader R → Writer → Type 0
+Begins remaining input s old failures now writer =
+    HasRead remaining input s [] [] now × IsOut s [] old failures writer
+
+-- records were read; their rows fill the batches that are out, but for these rows
+pub record Came {R : Type 0} (remaining : R → Option (List ℕ)) (input : Option (List ℕ))
+    (s : Schema) (size : ℕ) (old : Option (List ℕ)) (failures : ℕ) (now : RowReader R)
+    (writer : Writer) (left : List (List Value)) : Type 0 where
+  pub records : List (List (List ℕ))
+  pub rows : List (List Value)
+  pub read : HasRead remaining input s records rows now
+  pub batches : List BatchRows
+  pub full : AllByRecursion (IsFull size) batches
+  pub joined : flat_map (λ b. b.rows) batches ++ left ≡ rows
+  pub out : IsOut s batches old failures writer
+
+-- the rows that are in no batch that is out are held for the next
+pub record Holds {R : Type 0} (remaining : R → Option (List ℕ)) (input : Option (List ℕ))
+    (s : Schema) (size : ℕ) (old : Option (List ℕ)) (failures : ℕ) (now : RowReader R)
+    (writer : Writer) (held : PushedRows) (left : List (List Value)) : Type 0 where
+  pub came : Came remaining input s size old failures now writer left
+  pub held_rows : HoldsBatch writer.limits writer.schema (batch_of left) held
+
+-- so many rows are held that the batch is full, or those of all records are, and they are fewer
+abbrev pub HoldsLast : {R : Type 0} → (R → Option (List ℕ)) → Option (List ℕ) → Schema → ℕ
+    → Option (List ℕ) → ℕ → RowReader R → Writer → PushedRows → Bool → Type 0
+HoldsLast remaining input s size old failures now writer held true =
+    (left : List (List Value)) × Holds remaining input s size old failures now writer held left
+    × (length left ≡ size)
+HoldsLast {R} remaining input s size old failures now writer held false =
+    (before : RowReader R) × (left : List (List Value))
+    × (holds : Holds remaining input s size old failures before writer held left)
+    × (0 < length left) × (length left < size)
+    × AreRecordsOf input (names s.fields ∷ holds.came.records)
+
+-- the same, or why not
+abbrev pub PushesRows : {R : Type 0} → (R → Option (List ℕ)) → Option (List ℕ) → Schema → ℕ
+    → Option (List ℕ) → ℕ → RowReader R → Writer → PushedRows → Result Bool Stop → Type 0
+PushesRows remaining input s size old failures now writer held (Ok more) =
+    HoldsLast remaining input s size old failures now writer held more
+PushesRows remaining input s size old failures now writer held (Err why) =
+    StopsFor input s size old writer.written failures writer.failures why
 
 -- all records behind the header were read, and their rows went out in batches
 pub record SendsAll (input : Option (List ℕ)) (s : Schema) (size : ℕ) (old : Option (List ℕ))
@@ -45,7 +116,18 @@ pub record SendsAll (input : Option (List ℕ)) (s : Schema) (size : ℕ) (old :
   pub batched : AreBatched s size records batches left
   pub out : IsOut s (batches ++ last_batch left) old failures writer
 
--- the same, or why not
+-- a batch went out, with which no row is left: there may be more records, or these were all; or why
+-- it did not
+abbrev pub SendsBatch : {R : Type 0} → (R → Option (List ℕ)) → Option (List ℕ) → Schema → ℕ
+    → Option (List ℕ) → ℕ → RowReader R → Writer → Result Bool Stop → Type 0
+SendsBatch remaining input s size old failures now writer (Ok true) =
+    Came remaining input s size old failures now writer []
+SendsBatch remaining input s size old failures now writer (Ok false) =
+    SendsAll input s size old failures writer
+SendsBatch remaining input s size old failures now writer (Err why) =
+    StopsFor input s size old writer.written failures writer.failures why
+
+-- all rows went out, or why not
 abbrev pub SendsRecords : Option (List ℕ) → Schema → ℕ → Option (List ℕ) → ℕ → Writer
     → Result Unit Stop → Type 0
 SendsRecords input s size old failures writer (Ok x) = SendsAll input s size old failures writer

@@ -2,59 +2,99 @@
 ghost use Rattle.std.specs.Prelude.{◌≡◌, ◌≢◌, ◌<◌, ◌≤◌, ◌-◌, ◌^◌, ◌∷◌, ℕ, List, [], Option, None};
 ghost use Rattle.std.specs.Prelude.{Some, Err, IfErr, OnOk};
 ghost use Rattle.ipc_model.specs.declared.fault.WriteFault.{WriteFault};
+ghost use Rattle.ipc_stream.specs.Pushed.{HoldsBatch, no_rows};
 ghost use Rattle.ipc_stream.specs.Writer.{Finishes, FinishFails};
-ghost use Rattle.ipc_csv.specs.RowCsv.{flat_fault, names};
 ghost use Rattle.ipc_from_csv.specs.declared.stop.Stop.TheVariants as stop;
-ghost use Rattle.ipc_from_csv.specs.Records.{IsSetUp, Stands};
+ghost use Rattle.ipc_from_csv.specs.Records.{IsSetUp};
 ghost use Rattle.ipc_from_csv.specs.Conversion.{Answers, Converts, IsLeftToRefuse, StopsFor};
-ghost use Rattle.ipc_from_csv.specs.Steps.{Begins, SendsRecords};
+ghost use Rattle.ipc_from_csv.specs.Steps.{Begins, Came, HasRead, PushesRows, SendsBatch};
+ghost use Rattle.ipc_from_csv.specs.Steps.{SendsRecords};
 
-use crate::records::{next_record, read_header, reader_of};
+use crate::records::{read_header, reader_of};
+use crate::rows::RowReader;
 use crate::stop::Stop;
-use csv::{ByteRecord, Reader};
-use ipc_csv::fill_row_from_csv;
-use ipc_model::{BatchRows, Items, Limits, Row, Schema, WriteFault};
-use ipc_stream::{Sink, StreamWriter};
+use csv::ByteRecord;
+use ipc_model::{Items, Limits, Schema, WriteFault};
+use ipc_stream::{BatchWriter, Sink, StreamWriter};
 use std::alloc::Global;
 use std::io::Read;
-use std::mem;
 
-// Sends the rows of all records behind the header, in batches of so many rows, of which the last
-// may have fewer. The rows of a batch that was sent lend their room to those of the next.
-fn send_records<R: Read, W: Sink>(
+// Pushes the kept row and those of the next records, until the batch has so many rows or no record
+// is left, and says whether it is full.
+fn push_rows<R: Read, W: Sink>(
     alloc: Global,
-    reader: &mut Reader<R>,
-    fields: &mut ByteRecord,
+    rows: &mut RowReader<R>,
+    schema: &Schema,
+    size: u64,
+    batch: &mut BatchWriter<'_, W>,
+) -> Result<bool, Stop>
+    requires some { 0 < size }
+    requires set_up { IsSetUp rows.old.reader }
+    ensures set_up { OnOk result (IsSetUp rows.new.reader) }
+    ensures counted { OnOk result (rows.old.count ≤ rows.new.count) }
+    ensures same_reference { batch.new.writer.ghost_name ≡ batch.old.writer.ghost_name }
+    ensures pushes { (input old : Option (List ℕ)) (failures : ℕ)
+        → Came R.remaining input schema.now size old failures rows.old batch.old.writer.now
+        (rows.old.row ∷ [])
+        → HoldsBatch batch.old.writer.now.limits batch.old.writer.now.schema (no_rows [])
+        batch.old.batch
+        → PushesRows R.remaining input schema.now size old failures rows.new batch.new.writer.now
+        batch.new.batch result }
+{
+    batch.push(rows.row.as_slice())?;
+    for _ in 1..size {
+        if !rows.next(alloc, schema)? {
+            return Ok(false);
+        }
+        batch.push(rows.row.as_slice())?;
+    }
+    Ok(true)
+}
+
+// Sends a batch of the kept row and those of the next records, and says whether it was full.
+fn send_batch<R: Read, W: Sink>(
+    alloc: Global,
+    rows: &mut RowReader<R>,
     stream: &mut StreamWriter<W>,
     schema: &Schema,
-    batch: u64,
-) -> Result<(), Stop>
-    requires some { 0 < batch }
-    requires set_up { IsSetUp reader.old }
+    size: u64,
+) -> Result<bool, Stop>
+    requires some { 0 < size }
+    requires set_up { IsSetUp rows.old.reader }
+    ensures set_up { OnOk result (IsSetUp rows.new.reader) }
+    ensures counted { OnOk result (rows.old.count ≤ rows.new.count) }
     ensures sends { (input old : Option (List ℕ)) (failures : ℕ)
-        → Begins R.remaining input schema.now old failures reader.old stream.old
-        → SendsRecords input schema.now batch old failures stream.new result }
+        → Came R.remaining input schema.now size old failures rows.old stream.old
+        (rows.old.row ∷ [])
+        → SendsBatch R.remaining input schema.now size old failures rows.new stream.new result }
 {
-    let mut rows = Vec::new(alloc);
-    let mut sent: Vec<Row> = Vec::new(alloc);
-    for number in 1..u64::MAX {
-        if !next_record(reader, fields)? {
-            if !rows.is_empty() {
-                stream.write_batch(&BatchRows::new(rows))?;
-            }
+    let mut batch = stream.batch(Items::new(alloc))?;
+    let full = push_rows(alloc, rows, schema, size, &mut batch)?;
+    batch.send()?;
+    Ok(full)
+}
+
+// Sends the rows of all records behind the header, in batches of so many rows, of which the last
+// may have fewer.
+fn send_records<R: Read, W: Sink>(
+    alloc: Global,
+    rows: &mut RowReader<R>,
+    stream: &mut StreamWriter<W>,
+    schema: &Schema,
+    size: u64,
+) -> Result<(), Stop>
+    requires some { 0 < size }
+    requires set_up { IsSetUp rows.old.reader }
+    ensures sends { (input old : Option (List ℕ)) (failures : ℕ)
+        → Begins R.remaining input schema.now old failures rows.old stream.old
+        → SendsRecords input schema.now size old failures stream.new result }
+{
+    while rows.next(alloc, schema)? {
+        if !send_batch(alloc, rows, stream, schema, size)? {
             return Ok(());
         }
-        let mut row = sent.pop().unwrap_or(Items::new(alloc));
-        fill_row_from_csv(alloc, schema, number, fields, &mut row)?;
-        rows.push(row)?;
-        if rows.len() as u64 == batch {
-            let full = BatchRows::new(rows);
-            stream.write_batch(&full)?;
-            rows = mem::replace(&mut sent, full.rows.into_vec());
-            rows.clear();
-        }
     }
-    Err(Stop::Input)
+    Ok(())
 }
 
 // Ends a stream, and gives its sink back.
@@ -73,16 +113,15 @@ fn end_stream<W: Sink>(stream: StreamWriter<W>) -> (Result<(), Stop>, W)
 // Sends the stream of the records behind the header, and gives its sink back.
 fn send_stream<R: Read, W: Sink>(
     alloc: Global,
-    reader: &mut Reader<R>,
-    fields: &mut ByteRecord,
+    rows: &mut RowReader<R>,
     sink: W,
     schema: &Schema,
     batch: u64,
 ) -> (Result<(), Stop>, W)
     requires some { 0 < batch }
-    requires set_up { IsSetUp reader.old }
-    ensures converts { (input : Option (List ℕ)) → flat_fault schema.now.fields ≡ None
-        → Stands R.remaining input (names schema.now.fields ∷ []) reader.old
+    requires set_up { IsSetUp rows.old.reader }
+    ensures converts { (input : Option (List ℕ))
+        → HasRead R.remaining input schema.now [] [] rows.old
         → Answers input schema.now batch (W.written sink) (W.written result.1) (W.failures sink)
         (W.failures result.1) result.0 }
     ensures handed_on { OnOk result.0 (W.held_back result.1 ≡ Some []) }
@@ -90,7 +129,7 @@ fn send_stream<R: Read, W: Sink>(
     match StreamWriter::start(alloc, Limits::standard(), sink, schema) {
         Ok(stream) => {
             let mut stream = stream;
-            match send_records(alloc, reader, fields, &mut stream, schema, batch) {
+            match send_records(alloc, rows, &mut stream, schema, batch) {
                 Ok(()) => end_stream(stream),
                 Err(why) => (Err(why), stream.into_inner()),
             }
@@ -106,17 +145,18 @@ fn send_stream<R: Read, W: Sink>(
 /// the header, with the names of the columns in their order. Each record behind it becomes a row by
 /// `ipc_text::row_from_csv`. No record makes a stream without batches. Under `Limits::standard()`
 /// the schema goes out once the header is right, each batch as soon as its last record is read, and
-/// at the end the end-of-stream mark; then the sink is flushed. One record and at most `batch` rows
-/// are kept.
+/// at the end the end-of-stream mark; then the sink is flushed. One record is kept, one row, and
+/// the buffers of one batch.
 ///
 /// `batch` is from 1 to 2^31 - 1. What went out before a refusal stands: the full batches of the
 /// records before it. Text X1 and X2 come before anything is read; X5 and X4 of record 0, the
 /// header, before anything goes out, and so X5 where there is no record; X5 and X4 of a record
 /// behind it, counted from 1, where it reads as no row. Write has the refusals of
-/// `StreamWriter::start`, `write_batch` and `finish`: W1 and W6 for the schema, W6 for a batch, W9
-/// where the sink failed, W11 where memory was refused. Input is returned where the reader failed
-/// or gave more than 2^64 - 2 records behind the header, and Text OutOfMemory where memory for a
-/// record or its row was refused.
+/// `StreamWriter::start` and `finish` and of `BatchWriter`: W1 and W6 for the schema, W6 at the
+/// record with which its batch is too long, before the next is read, W9 where the sink failed, W11
+/// where memory was refused. Input is returned where the reader failed or gave more than 2^64 - 1
+/// records behind the header, and Text OutOfMemory where memory for a record or its row was
+/// refused.
 pub fn from_csv<R: Read, W: Sink>(
     alloc: Global,
     input: R,
@@ -148,6 +188,7 @@ pub fn from_csv<R: Read, W: Sink>(
     if let Err(why) = read_header(&mut reader, &mut fields, schema) {
         return (Err(why), reader.into_inner(), sink);
     }
-    let (result, sink) = send_stream(alloc, &mut reader, &mut fields, sink, schema, batch);
-    (result, reader.into_inner(), sink)
+    let mut rows = RowReader::new(alloc, reader, fields);
+    let (result, sink) = send_stream(alloc, &mut rows, sink, schema, batch);
+    (result, rows.into_inner(), sink)
 }

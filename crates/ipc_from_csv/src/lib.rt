@@ -3,6 +3,7 @@
 
 mod convert;
 mod records;
+mod rows;
 mod stop;
 
 pub use convert::from_csv;

@@ -11,7 +11,7 @@ use std::alloc::AllocFailed;
 /// Why no whole stream was made of an input.
 #[derive(Debug, PartialEq, Eq, Drop)]
 pub enum Stop {
-    /// The input's reader failed, or gave more than 2^64 - 2 records behind the header.
+    /// The input's reader failed, or gave more than 2^64 - 1 records behind the header.
     Input,
     /// The stream could not be written: W1 to W9, or W11.
     Write(WriteFault),

@@ -1,4 +1,5 @@
 use Rattle.ipc_from_csv.proofs.Ending.{header_stops}
+use Rattle.ipc_from_csv.proofs.NextRow.{header_read}
 use Rattle.ipc_from_csv.proofs.Refusing.{answers_left}
 use Rattle.ipc_from_csv.proofs.convert.from_csv.Goals as goal
 
@@ -10,4 +11,4 @@ pub returns-clause-left : goal.returns-clause-left
 returns-clause-left g c =
     let header = c.in_default.ensures.answers _ c.reader_of-reader.ensures.stands in
     answers_left _ _ _ _ _ _ _ c.send_stream-result.result.0 c.requires.within
-    (c.send_stream-result.ensures.converts _ header.0 header.1)
+    (c.send_stream-result.ensures.converts _ (header_read _ _ _ _ _ header.0 header.1 c.new-rows.ensures.reader c.new-rows.ensures.count))

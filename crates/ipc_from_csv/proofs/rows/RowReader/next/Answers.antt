@@ -1,0 +1,12 @@
+use Rattle.std.proofs.Common.{◌∷◌, rules}
+use Rattle.ipc_csv.specs.RowCsv.{names}
+use Rattle.ipc_from_csv.proofs.Reading.{found_one}
+use Rattle.ipc_from_csv.proofs.NextRow.{finds_row}
+use Rattle.ipc_from_csv.proofs.rows.RowReader.next.Goals as goal
+
+pub returns-clause-finds : goal.returns-clause-finds
+returns-clause-finds g c = λ input records rows has.
+    let stands = found_one g.R.Read.remaining input (names c.args.schema.now.fields ∷ records) c.next_record.new.reader _ _
+    c.if-not-branch.false (c.in_ok-next_record.ensures.finds input _ has.stands) in
+    finds_row g.R.Read.remaining input c.args.schema.now records rows c.args.self.now _ _ has stands (search rules)
+    c.in_ok-fill_row_from_csv.ensures.read

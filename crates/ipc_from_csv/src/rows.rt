@@ -1,0 +1,77 @@
+//! The rows of an input's records, one after the other.
+ghost use Rattle.std.specs.Prelude.{◌≡◌, ◌<◌, ◌+◌, ◌^◌, ℕ, List, Option, IfErr, IfOk, OnOk, true};
+ghost use Rattle.std.specs.Prelude.{false};
+ghost use Rattle.ipc_model.specs.declared.value.Value.{Value};
+ghost use Rattle.ipc_from_csv.specs.Records.{IsSetUp};
+ghost use Rattle.ipc_from_csv.specs.Steps.{FindsRow, HasRead, RefusesNext};
+
+use crate::records::next_record;
+use crate::stop::Stop;
+use csv::{ByteRecord, Reader};
+use ipc_csv::fill_row_from_csv;
+use ipc_model::{Items, Row, Schema};
+use std::alloc::Global;
+use std::io::Read;
+
+// The rows of the records behind a header. One record is kept, and one row.
+pub struct RowReader<R> {
+    pub reader: Reader<R>,
+    pub fields: ByteRecord,
+    pub row: Row,
+    // How many records behind the header were read.
+    pub count: u64,
+}
+
+impl<R: Read> RowReader<R> {
+    // The rows behind the header, which `reader` gave as its first record.
+    pub fn new(alloc: Global, reader: Reader<R>, fields: ByteRecord) -> RowReader<R>
+        ensures reader { result.reader ≡ reader }
+        ensures count { result.count ≡ 0 }
+    {
+        RowReader {
+            reader,
+            fields,
+            row: Items::new(alloc),
+            count: 0,
+        }
+    }
+
+    // Reads the next record and makes the kept row the one as which it reads, and says whether
+    // there was a record.
+    pub fn next(&mut self, alloc: Global, schema: &Schema) -> Result<bool, Stop>
+        requires set_up { IsSetUp self.old.reader }
+        ensures set_up { OnOk result (IsSetUp self.new.reader) }
+        ensures finds { IfOk result (λ found. (input : Option (List ℕ))
+            (records : List (List (List ℕ))) (rows : List (List Value))
+            → HasRead R.remaining input schema.now records rows self.old
+            → FindsRow R.remaining input schema.now records rows self.new found) }
+        ensures refused { IfErr result (λ why. (input : Option (List ℕ))
+            (records : List (List (List ℕ))) (rows : List (List Value))
+            → HasRead R.remaining input schema.now records rows self.old
+            → RefusesNext input schema.now records why) }
+        ensures counted { IfOk result (λ found. found ≡ true
+            → (self.new.count ≡ self.old.count + 1) × (self.new.count < 2 ^ 64)) }
+        ensures stayed { IfOk result (λ found. found ≡ false → self.new.count ≡ self.old.count) }
+    {
+        if !next_record(&mut self.reader, &mut self.fields)? {
+            return Ok(false);
+        }
+        let Some(count) = self.count.checked_add(1) else {
+            return Err(Stop::Input);
+        };
+        self.count = count;
+        fill_row_from_csv(alloc, schema, count, &self.fields, &mut self.row)?;
+        Ok(true)
+    }
+
+    // The input.
+    pub fn into_inner(self) -> R {
+        let RowReader {
+            reader,
+            fields: _,
+            row: _,
+            count: _,
+        } = self;
+        reader.into_inner()
+    }
+}
