@@ -35,6 +35,7 @@ impl Model for ShortText {
 }
 
 impl ShortText {
+    #[inline(always)]
     pub(crate) fn new() -> ShortText
         ensures { result ≡ [] }
     {
@@ -44,6 +45,7 @@ impl ShortText {
         }
     }
 
+    #[inline(always)]
     pub(crate) fn push(&mut self, byte: u8)
         requires room { length self.old < 32 }
         requires plain { (45 ≤ byte) × (byte ≤ 90) }
@@ -54,6 +56,7 @@ impl ShortText {
     }
 
     // A number below 100.
+    #[inline(always)]
     pub(crate) fn push_two_digits(&mut self, number: u32)
         requires small { number < 100 }
         requires room { length self.old + 2 ≤ 32 }
@@ -64,6 +67,7 @@ impl ShortText {
     }
 
     // A number below 1,000.
+    #[inline(always)]
     pub(crate) fn push_three_digits(&mut self, number: u32)
         requires small { number < 1_000 }
         requires room { length self.old + 3 ≤ 32 }
@@ -74,6 +78,7 @@ impl ShortText {
     }
 
     // A number below 10,000.
+    #[inline(always)]
     pub(crate) fn push_four_digits(&mut self, number: u32)
         requires small { number < 10_000 }
         requires room { length self.old + 4 ≤ 32 }
