@@ -57,7 +57,8 @@ column_rows body ps n j p l e h =
       each = λ i m.
           ap (λ (r : List Value). slice_get r j) (rows_at (columns body ps) n i [] (omega (arith, m, all)))
           ∙ (row_cell body ps i j p l e
-          ∙ sym (items_first (value_of (row (children_of body p)) (column_of body p)) (column_of body p).slots i (omega (arith, m, all, size))));
+          ∙ sym (items_first (value_of (row (children_of body p)) (column_of body p)) (column_of body p).slots i
+          (omega (arith, m, all, size))));
     }
 
 -- the same column, whatever its null count
