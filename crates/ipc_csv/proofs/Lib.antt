@@ -6,3 +6,4 @@ pub mod NullText
 pub mod PlainDigits
 pub mod Quoted
 pub mod Records
+pub mod ShortDigits

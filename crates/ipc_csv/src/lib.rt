@@ -2,6 +2,7 @@
 #![tactic(auto)]
 
 mod cell;
+mod digits;
 mod hexadecimal;
 mod reader;
 mod record;

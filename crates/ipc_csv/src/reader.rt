@@ -20,7 +20,8 @@ ghost use Rattle.ipc_moments.specs.Moments.{timestamp_text};
 ghost use Rattle.ipc_csv.specs.RowCsv.{int_text, bool_text, backslashed, names, flat_fault};
 ghost use Rattle.ipc_csv.specs.RowCsv.{row_texts};
 
-use crate::cell::{decode_bytes, read_bool, read_int, read_text, read_uint};
+use crate::cell::{decode_bytes, read_int, read_text, read_uint};
+use crate::digits::{read_short, read_short_signed};
 use crate::record::check_flat;
 use csv::ByteRecord;
 use ipc_model::{DataType, Field, Items, Row, Schema, Text, TimeUnit, Value};
@@ -59,6 +60,9 @@ fn read_decimal(text: &[u8]) -> Option<i64>
     ensures only { IfSome result (λ z. signed_decimal z ≡ text.now) }
     ensures all { (z : ℤ) → FitsSigned w64 z → signed_decimal z ≡ text.now → result ≡ Some z }
 {
+    if let Some(number) = read_short_signed(text) {
+        return Some(number);
+    }
     match str::from_utf8(text) {
         Ok(text) => read_int(text),
         Err(_) => None,
@@ -70,6 +74,9 @@ fn read_count(text: &[u8]) -> Option<u64>
     ensures only { IfSome result (λ n. decimal n ≡ text.now) }
     ensures all { (n : ℕ) → n < 2 ^ 64 → decimal n ≡ text.now → result ≡ Some n }
 {
+    if let Some(count) = read_short(text) {
+        return Some(count);
+    }
     match str::from_utf8(text) {
         Ok(text) => read_uint(text),
         Err(_) => None,
@@ -81,9 +88,12 @@ fn read_truth(text: &[u8]) -> Option<bool>
     ensures only { IfSome result (λ truth. bool_text truth ≡ text.now) }
     ensures all { (truth : Bool) → bool_text truth ≡ text.now → result ≡ Some truth }
 {
-    match str::from_utf8(text) {
-        Ok(text) => read_bool(text),
-        Err(_) => None,
+    if text == b"true".as_slice() {
+        Some(true)
+    } else if text == b"false".as_slice() {
+        Some(false)
+    } else {
+        None
     }
 }
 

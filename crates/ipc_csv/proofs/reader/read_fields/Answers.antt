@@ -1,4 +1,4 @@
-use Rattle.std.proofs.Common.{◌≡◌, ◌∙◌, ◌<◌, sym, refl, inr, arith, length, take, subst}
+use Rattle.std.proofs.Common.{◌∙◌, ◌<◌, sym, refl, inr, arith, length, take, subst}
 use Rattle.std.proofs.lemmas.List.{drop_all, length-set, take_all}
 use Rattle.csv.specs.Records.{fields_of}
 use Rattle.ipc_csv.specs.CsvRows.{EachReadsAs}

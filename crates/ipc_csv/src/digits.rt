@@ -1,0 +1,49 @@
+//! Numbers of few decimal digits, read in one pass.
+ghost use Rattle.std.specs.Prelude.{◌≡◌, ◌<◌, ◌≤◌, ◌^◌, IfSome, decimal, length};
+ghost use Rattle.std.specs.Prelude.{get_or, true, FitsSigned};
+ghost use Rattle.std.specs.Fmt.{signed_decimal};
+ghost use Rattle.std.specs.Int.{w64};
+
+// Whether these can be the digits of a number below 10^18: some, at most 18, and no zero in front
+// of others.
+fn are_few(digits: &[u8]) -> bool
+    ensures { result ≡ true → (0 < length digits.now) × (length digits.now ≤ 18)
+        × (get_or digits.now 0 0 ≡ 48 → length digits.now ≡ 1) }
+{
+    match digits {
+        [] | [b'0', _, ..] => false,
+        _ => digits.len() <= 18,
+    }
+}
+
+/// The number below 10^18 whose decimal digits these are. None for any other text.
+pub(crate) fn read_short(digits: &[u8]) -> Option<u64>
+    ensures only { IfSome result (λ n. decimal n ≡ digits.now) }
+    ensures small { IfSome result (λ n. n < 10 ^ 18) }
+{
+    if !are_few(digits) {
+        return None;
+    }
+    let mut number = 0u64;
+    for digit in digits {
+        if !digit.is_ascii_digit() {
+            return None;
+        }
+        number = number * 10 + u64::from(*digit - b'0');
+    }
+    Some(number)
+}
+
+/// The number of at most 18 digits whose decimal text this is. None for any other text.
+pub(crate) fn read_short_signed(text: &[u8]) -> Option<i64>
+    ensures only { IfSome result (λ z. signed_decimal z ≡ text.now) }
+    ensures fits { IfSome result (λ z. FitsSigned w64 z) }
+{
+    match text {
+        [b'-', digits @ ..] => match read_short(digits)? {
+            0 => None,
+            number => Some(-(number as i64)),
+        },
+        _ => Some(read_short(text)? as i64),
+    }
+}
