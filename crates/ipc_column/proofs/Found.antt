@@ -1,5 +1,5 @@
 -- Columns whose buffers were found.
-use Rattle.std.proofs.Common.{◌≡◌, ◌∙◌, sym, ap, subst, ℕ, ◌+◌, ◌<◌, true, List, length, get_or, arith, Some, refl, []}
+use Rattle.std.proofs.Common.{◌≡◌, ◌∙◌, sym, ap, subst, ℕ, ◌+◌, ◌<◌, List, length, get_or, arith, Some, refl, []}
 use Rattle.std.specs.Prelude.{slice_get}
 use Rattle.std.proofs.lemmas.Bool.{and_parts, eqb-true}
 use Rattle.ipc_model.specs.declared.value.Value.{Value}
@@ -7,7 +7,7 @@ use Rattle.ipc_column.specs.declared.cause.Cause.TheVariants as cause
 use Rattle.ipc_column.specs.declared.ranges.ColumnRanges.{ColumnRanges}
 use Rattle.ipc_column.specs.declared.ranges.ColumnRanges.TheViews.{out-ColumnRanges}
 use Rattle.ipc_column.specs.Columns.{Column, Columns}
-use Rattle.ipc_column.specs.Checks.{passes, top_passes, good, good_slot, Holds}
+use Rattle.ipc_column.specs.Checks.{passes, top_passes, Holds}
 use Rattle.ipc_column.specs.Lent.{HoldSlots, AreOfColumn, found, values_in}
 use Rattle.ipc_column.specs.Values.{row, rows_of, value_of, items}
 use Rattle.ipc_column.specs.Views.{columns, column_of, children_of, own_column, span_bytes}

@@ -1,7 +1,8 @@
 -- Ranges of slots that are good.
-use Rattle.std.proofs.Common.{◌≡◌, ◌∙◌, refl, sym, ap, subst, ℕ, zero, suc, ◌+◌, ◌-◌, ◌<◌, ◌≤◌, Bool, true, false, List, length, arith}
-use Rattle.std.proofs.Common.{le-leb}
+use Rattle.std.proofs.Common.{◌≡◌, ◌∙◌, refl, sym, ap, subst, ℕ, zero, suc, ◌+◌, ◌-◌, ◌*◌, ◌<◌, ◌≤◌, Bool, true, false, List, length}
+use Rattle.std.proofs.Common.{le-leb, arith}
 use Rattle.std.specs.Prelude.{◌&&◌, ◌||◌, not, nat_le}
+use Rattle.std.proofs.Math.Nat.{mul-le-mul_left}
 use Rattle.std.proofs.lemmas.Bool.{false≢true, and_parts, and_from, leb-true}
 use Rattle.ipc_model.specs.declared.layout.Layout.{Layout}
 use Rattle.ipc_model.specs.declared.layout.Layout.TheVariants as l
@@ -121,6 +122,7 @@ quiet_good (column c children rest) i j h =
         → good_below layout (good children) o w k ≡ true
     below (l.VariableBytes true) o w k e all = absurd (false≢true (sym e))
     below l.Lists o w k e all = all (place o k) (place o (k + 1))
+    below (l.FixedLists size) o w k e all = all (size * k) (size * (k + 1))
     below l.Structs o w k e all = all k (k + 1)
     below _ o w k e all = refl
 
@@ -144,6 +146,15 @@ run_good l.Lists children o w a (suc m) t up =
         let before = far d (λ i f k. h i f (omega (arith, k))) in
         let step = h (a + d) (omega arith) (omega arith) in
         rw e (omega (arith, before, step))
+run_good (l.FixedLists size) children o w a zero t up =
+    let e : a + 0 ≡ a = omega arith in
+    rw e (sym (good_none children (size * a)))
+run_good (l.FixedLists size) children o w a (suc m) t up =
+    let e : a + suc m ≡ a + m + 1 = omega arith in
+    let far : size * a ≤ size * (a + m) = mul-le-mul_left size (let k : a ≤ a + m = omega arith in k) in
+    let next : size * (a + m) ≤ size * (a + m + 1) = mul-le-mul_left size (let k : a + m ≤ a + m + 1 = omega arith in k) in
+    rw (e, run_good (l.FixedLists size) children o w a m t (λ i h k. up i h (omega (arith, k))))
+    (sym (good_add children (size * a) (size * (a + m)) (size * (a + m + 1)) far next))
 run_good l.Structs children o w a zero t up = let e : a + 0 ≡ a = omega arith in rw e (sym (good_none children a))
 run_good l.Structs children o w a (suc m) t up =
     let e : a + suc m ≡ a + m + 1 = omega arith in
@@ -174,6 +185,7 @@ pub slot_range : (layout : Layout) (below : ℕ → ℕ → Bool) (o w : List �
 slot_range (l.VariableBytes true) below o w i t = absurd (false≢true (sym t))
 slot_range (l.VariableBytes false) below o w i t = refl
 slot_range l.Lists below o w i t = refl
+slot_range (l.FixedLists size) below o w i t = refl
 slot_range l.Structs below o w i t = refl
 slot_range l.Null below o w i t = refl
 slot_range l.Bits below o w i t = refl

@@ -4,6 +4,7 @@ pub mod Entries
 pub mod Cells
 pub mod Goods
 pub mod Slots
+pub mod FixedLists
 pub mod Rules
 pub mod Laws
 pub mod Numbers

@@ -206,6 +206,7 @@ of_order _ n o size cs = (λ e. tt, λ h. refl)
 
 of_long : (l : Layout) (n : ℕ) (cs : Columns) → Decides (are_long l n cs) (HasLongChildren l n cs)
 of_long l.Structs n cs = of_have_slots n cs
+of_long (l.FixedLists size) n cs = of_have_slots (size * n) cs
 of_long _ n cs = (λ e. tt, λ h. refl)
 
 -- ---- texts
@@ -223,6 +224,7 @@ of_text : (l : Layout) (below : ℕ → ℕ → Bool) (P : ℕ → Type 0)
     → Decides (good_below l below o w i) (IsText l P o w i)
 of_text (l.VariableBytes true) below P d o w i = (λ e. IsUtf8-from_is_utf8 _ e, λ h. is_utf8-from_IsUtf8 _ h)
 of_text l.Lists below P d o w i = d (place o i) (place o (i + 1))
+of_text (l.FixedLists size) below P d o w i = d (size * i) (size * (i + 1))
 of_text l.Structs below P d o w i = (
   λ e. (d i (i + 1)).0 e i (omega arith) (omega arith),
   λ h. (d i (i + 1)).1 (λ k a b. let e : i ≡ k = omega arith in subst P e h),

@@ -2,6 +2,7 @@
 use Rattle.std.proofs.Common.{◌≡◌, ◌∙◌, refl, ap, subst, ℕ, zero, suc, ◌+◌, ◌*◌, ◌<◌, ◌≤◌, Bool, true, false, List, [], ◌∷◌}
 use Rattle.std.proofs.Common.{length, get_or, arith, le-leb, Some, nat_le}
 use Rattle.std.specs.Prelude.{◌&&◌, ◌||◌, ◌==◌, not, slice_get}
+use Rattle.std.proofs.Math.Nat.{mul-le-mul_left}
 use Rattle.std.proofs.lemmas.Bool.{false≢true, and_parts, and_from, leb-true, eqb-true}
 use Rattle.ipc_model.specs.declared.value.Value.{Value}
 use Rattle.ipc_model.specs.declared.value.Value.TheVariants as v
@@ -96,6 +97,14 @@ list_range c children h i j a b =
     let p = places c.offsets c.slots (place c.offsets c.slots) i j h.order a b in
     record { order = p.order; within = fewer_slots children (place c.offsets j) (place c.offsets c.slots) p.last h.within }
 
+-- the slots of the child that lists of a fixed size hold
+pub fixed_range : (o : List ℕ) (children : Columns) (size n : ℕ) → are_long (l.FixedLists size) n children ≡ true → (i j : ℕ) → i ≤ j
+    → j ≤ n → ChildRange (l.FixedLists size) o children i j
+fixed_range o children size n h i j a b = record {
+  order = mul-le-mul_left size a;
+  within = fewer_slots children (size * j) (size * n) (mul-le-mul_left size b) h;
+}
+
 -- the children of a list or a struct have the slots that belong to its own
 pub child_range : (c : Column) (children : Columns) → Long c children → is_nested c.layout ≡ true → (i j : ℕ) → i ≤ j → j ≤ c.slots
     → 0 < c.slots → ChildRange c.layout c.offsets children i j
@@ -103,6 +112,7 @@ child_range c children h n i j a b p = of_layout c.layout refl n
   where
     of_layout : (layout : Layout) → c.layout ≡ layout → is_nested layout ≡ true → ChildRange layout c.offsets children i j
     of_layout l.Lists e n = list_range c children (list_parts c children h e p) i j a b
+    of_layout (l.FixedLists size) e n = fixed_range c.offsets children size c.slots (rw e at h.long) i j a b
     of_layout l.Structs e n = record { order = a; within = fewer_slots children j c.slots b (rw e at h.long) }
     of_layout _ e n = absurd (false≢true n)
 
@@ -234,6 +244,14 @@ list_values c children i h e v =
       good = rw e at (h.good v);
     }
 
+-- the slots that a list of a fixed size holds have values
+pub fixed_values : (children : Columns) (size n i : ℕ) → i < n → are_long (l.FixedLists size) n children ≡ true
+    → ((why : Cause) → every (passes why) children ≡ true) → good_below (l.FixedLists size) (good children) [] [] i ≡ true
+    → HaveValues children (size * i) (size * (i + 1))
+fixed_values children size n i l h s g =
+    let r = fixed_range [] children size n h i (i + 1) (omega arith) (omega arith) in
+    record { slots = record { order = r.order; within = r.within; sound = s }; good = g }
+
 -- a struct's slot has values in its children
 pub struct_values : (children : Columns) (n i : ℕ) → i < n → are_long l.Structs n children ≡ true
     → ((why : Cause) → every (passes why) children ≡ true) → good_below l.Structs (good children) [] [] i ≡ true
@@ -316,10 +334,12 @@ stands_bytes body p i k h m e =
     omega (arith, inside, bytes)
 
 -- what is nested and no list is a struct
-pub nested_struct : (layout : Layout) → is_nested layout ≡ true → ¬ (layout ≡ l.Lists) → layout ≡ l.Structs
-nested_struct l.Structs n h = refl
-nested_struct l.Lists n h = absurd (h refl)
-nested_struct _ n h = absurd (false≢true n)
+pub nested_struct : (layout : Layout) → is_nested layout ≡ true → ¬ (layout ≡ l.Lists)
+    → ((size : ℕ) → ¬ (layout ≡ l.FixedLists size)) → layout ≡ l.Structs
+nested_struct l.Structs n h k = refl
+nested_struct l.Lists n h k = absurd (h refl)
+nested_struct (l.FixedLists size) n h k = absurd (k size refl)
+nested_struct _ n h k = absurd (false≢true n)
 
 -- a test of no top column but those of another length
 pub tops_judged : (cs : Columns) (n : ℕ) → every_top (top_passes cause.BadNode n) cs ≡ true → (why : Cause)

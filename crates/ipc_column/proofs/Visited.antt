@@ -1,5 +1,6 @@
 -- What the visits of a part stand on.
-use Rattle.std.proofs.Common.{◌≡◌, ◌∙◌, refl, sym, ap, subst, ℕ, ◌+◌, ◌-◌, ◌*◌, ◌<◌, ◌≤◌, Bool, true, false, List, length, arith, drop}
+use Rattle.std.proofs.Common.{◌≡◌, ◌∙◌, refl, sym, ap, subst, ℕ, ◌+◌, ◌-◌, ◌*◌, ◌<◌, ◌≤◌, Bool, true, false, List, [], ◌∷◌, length}
+use Rattle.std.proofs.Common.{arith, drop}
 use Rattle.std.specs.Prelude.{◌||◌, ◌==◌}
 use Rattle.std.proofs.lemmas.Bool.{false≢true}
 use Rattle.std.proofs.lemmas.List.{drop_all}
@@ -19,6 +20,7 @@ use Rattle.ipc_column.specs.Views.{columns, column_of, children_of, own_column, 
 use Rattle.ipc_column.specs.Weights.{weight, weight_below}
 use Rattle.ipc_column.proofs.Parts.{children_out, column_is}
 use Rattle.ipc_column.proofs.Slots.{TextParts, list_parts, text_parts, slots_below, slots_within, part_slots, part_long, part_most}
+use Rattle.ipc_column.proofs.FixedLists.{fixed_end}
 use Rattle.ipc_column.proofs.Goods.{range_whole, quiet_good, texts_good}
 
 -- what holds of a part's own fields holds of its column and its children
@@ -51,6 +53,16 @@ list_slots body p i j h m e =
     (child_slot x (own_column body p).offsets j)) e
     (slots_below (own_column body p) (columns body (out-ColumnRanges p).children.items) i j (part_slots body p i j h) m nested)
 
+-- the slots that lists of a fixed size hold
+pub fixed_slots : (body : List ℕ) (p : ColumnRanges) (i j size : ℕ) → AreSlots (one body p) i j → i < j
+    → (out-ColumnRanges p).layout ≡ l.FixedLists size
+    → AreSlots (columns body (out-ColumnRanges p).children.items) (size * i) (size * j)
+fixed_slots body p i j size h m e =
+    let nested : is_nested (own_column body p).layout ≡ true = ap is_nested e in
+    subst (λ (x : Layout). AreSlots (columns body (out-ColumnRanges p).children.items) (child_slot x (own_column body p).offsets i)
+    (child_slot x (own_column body p).offsets j)) e
+    (slots_below (own_column body p) (columns body (out-ColumnRanges p).children.items) i j (part_slots body p i j h) m nested)
+
 -- the slots of the children of structs
 pub struct_slots : (body : List ℕ) (p : ColumnRanges) (i j : ℕ) → AreSlots (one body p) i j → i < j
     → (out-ColumnRanges p).layout ≡ l.Structs
@@ -75,6 +87,30 @@ pub list_weight : (body : List ℕ) (p : ColumnRanges) (i j : ℕ) → (out-Colu
 list_weight body p i j e = weight_is body p i j
     ∙ ap (λ (x : Layout). weight_below x (weight (columns body (out-ColumnRanges p).children.items)) (own_column body p).offsets i j) e
 
+pub fixed_weight : (body : List ℕ) (p : ColumnRanges) (i j size : ℕ) → (out-ColumnRanges p).layout ≡ l.FixedLists size
+    → weight_below (column_of body p).layout (weight (children_of body p)) (column_of body p).offsets i j
+    ≡ weight (columns body (out-ColumnRanges p).children.items) (size * i) (size * j)
+fixed_weight body p i j size e = weight_is body p i j
+    ∙ ap (λ (x : Layout). weight_below x (weight (columns body (out-ColumnRanges p).children.items)) (own_column body p).offsets i j) e
+
+-- what is below lists of a fixed size, from where the slots of the first begin to where those of the last end
+pub fixed_weight_between : (body : List ℕ) (p : ColumnRanges) (i j size first last : ℕ)
+    → (out-ColumnRanges p).layout ≡ l.FixedLists size → i < j
+    → (0 < length (out-ColumnRanges p).children.items → first ≡ size * i)
+    → (0 < length (out-ColumnRanges p).children.items → last ≡ size * (j - 1))
+    → weight_below (column_of body p).layout (weight (children_of body p)) (column_of body p).offsets i j
+    ≡ weight (columns body (out-ColumnRanges p).children.items) first (last + size)
+unfolding weight
+fixed_weight_between body p i j size first last e l f g =
+    fixed_weight body p i j size e ∙ between_weight (out-ColumnRanges p).children.items f g
+  where
+    between_weight : (ps : List ColumnRanges) → (0 < length ps → first ≡ size * i) → (0 < length ps → last ≡ size * (j - 1))
+        → weight (columns body ps) (size * i) (size * j) ≡ weight (columns body ps) first (last + size)
+    between_weight [] f g = refl
+    between_weight (q ∷ qs) f g =
+        let some : 0 < length (q ∷ qs) = omega arith in
+        rw (f some, fixed_end size j last i l (g some)) refl
+
 pub struct_weight : (body : List ℕ) (p : ColumnRanges) (i j : ℕ) → (out-ColumnRanges p).layout ≡ l.Structs
     → weight_below (column_of body p).layout (weight (children_of body p)) (column_of body p).offsets i j
     ≡ weight (columns body (out-ColumnRanges p).children.items) i j
@@ -87,6 +123,25 @@ pub range_is : (body : List ℕ) (p : ColumnRanges) (i j : ℕ)
 range_is body p i j =
     ap (λ (c : Column). range_good c.layout (good (children_of body p)) c.offsets i j) (column_is body p)
     ∙ ap (λ (cs : Columns). range_good (out-ColumnRanges p).layout (good cs) (own_column body p).offsets i j) (children_out body p)
+
+-- what lists of a fixed size lead to, the same
+pub fixed_good_between : (body : List ℕ) (p : ColumnRanges) (i j size first last : ℕ)
+    → (out-ColumnRanges p).layout ≡ l.FixedLists size → i < j
+    → (0 < length (out-ColumnRanges p).children.items → first ≡ size * i)
+    → (0 < length (out-ColumnRanges p).children.items → last ≡ size * (j - 1))
+    → good (columns body (out-ColumnRanges p).children.items) first (last + size)
+    ≡ range_good (column_of body p).layout (good (children_of body p)) (column_of body p).offsets i j
+fixed_good_between body p i j size first last e l f g =
+    between_good (out-ColumnRanges p).children.items f g
+    ∙ sym (range_is body p i j
+    ∙ ap (λ (x : Layout). range_good x (good (columns body (out-ColumnRanges p).children.items)) (own_column body p).offsets i j) e)
+  where
+    between_good : (ps : List ColumnRanges) → (0 < length ps → first ≡ size * i) → (0 < length ps → last ≡ size * (j - 1))
+        → good (columns body ps) first (last + size) ≡ good (columns body ps) (size * i) (size * j)
+    between_good [] f g = refl
+    between_good (q ∷ qs) f g =
+        let some : 0 < length (q ∷ qs) = omega arith in
+        rw (f some, fixed_end size j last i l (g some)) refl
 
 pub list_good : (body : List ℕ) (p : ColumnRanges) (i j : ℕ) → (out-ColumnRanges p).layout ≡ l.Lists
     → range_good (column_of body p).layout (good (children_of body p)) (column_of body p).offsets i j
@@ -102,6 +157,7 @@ struct_good body p i j e = range_is body p i j
 
 leaf_slot : (layout : Layout) (o : List ℕ) (k : ℕ) → is_nested layout ≡ false → child_slot layout o k ≡ k
 leaf_slot l.Lists o k n = absurd (false≢true (sym n))
+leaf_slot (l.FixedLists size) o k n = absurd (false≢true (sym n))
 leaf_slot _ o k n = refl
 
 -- the slots below those of a range rise with them

@@ -1,5 +1,5 @@
 -- Weights of neighbouring ranges add up, and no weight passes the slots that may be visited.
-use Rattle.std.proofs.Common.{◌≡◌, refl, sym, ℕ, ◌+◌, ◌-◌, ◌<◌, ◌≤◌, Bool, true, false, cond, List, arith}
+use Rattle.std.proofs.Common.{◌≡◌, refl, sym, ℕ, ◌+◌, ◌-◌, ◌*◌, ◌<◌, ◌≤◌, Bool, true, false, cond, List, arith}
 use Rattle.std.proofs.Common.{inl, inr}
 use Rattle.std.proofs.lemmas.Bool.{false≢true, cases_lt}
 use Rattle.ipc_model.specs.declared.layout.Layout.{Layout}
@@ -17,6 +17,7 @@ none_own false k = refl
 
 none_below : (layout : Layout) (w : ℕ → ℕ → ℕ) (o : List ℕ) (k : ℕ) → ((j : ℕ) → w j j ≡ 0) → weight_below layout w o k k ≡ 0
 none_below l.Lists w o k h = h (place o k)
+none_below (l.FixedLists size) w o k h = h (size * k)
 none_below l.Structs w o k h = h k
 none_below _ w o k h = refl
 
@@ -38,11 +39,13 @@ own_add false i j k l m = refl
 below_is : (layout : Layout) (w : ℕ → ℕ → ℕ) (o : List ℕ) (i j : ℕ) → is_nested layout ≡ true
     → weight_below layout w o i j ≡ w (child_slot layout o i) (child_slot layout o j)
 below_is l.Lists w o i j n = refl
+below_is (l.FixedLists size) w o i j n = refl
 below_is l.Structs w o i j n = refl
 below_is _ w o i j n = absurd (false≢true n)
 
 below_leaf : (layout : Layout) (w : ℕ → ℕ → ℕ) (o : List ℕ) (i j : ℕ) → is_nested layout ≡ false → weight_below layout w o i j ≡ 0
 below_leaf l.Lists w o i j n = absurd (false≢true (sym n))
+below_leaf (l.FixedLists size) w o i j n = absurd (false≢true (sym n))
 below_leaf l.Structs w o i j n = absurd (false≢true (sym n))
 below_leaf _ w o i j n = refl
 

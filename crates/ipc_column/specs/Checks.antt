@@ -118,9 +118,11 @@ in_order l.Lists n offsets size children = n == 0 || (not (nat_le (4 * (n + 1)) 
     || (are_ascending offsets n (place offsets n) && have_slots (place offsets n) children))
 in_order _ n offsets size children = true
 
--- the children of n structs have n slots at least
+-- the children of n structs have n slots at least, and the child of n lists of a fixed size has
+-- that many for each of them
 abbrev pub are_long : Layout → ℕ → Columns → Bool
 are_long l.Structs n children = have_slots n children
+are_long (l.FixedLists size) n children = have_slots (size * n) children
 are_long _ n children = true
 
 -- a test of n slots from slot i on
@@ -132,12 +134,14 @@ all_slots test i n = all_below (λ k. test (i + k)) n
 abbrev pub good_below : Layout → (ℕ → ℕ → Bool) → List ℕ → List ℕ → ℕ → Bool
 good_below (l.VariableBytes true) below offsets values i = is_utf8 (between offsets values i)
 good_below l.Lists below offsets values i = below (place offsets i) (place offsets (i + 1))
+good_below (l.FixedLists size) below offsets values i = below (size * i) (size * (i + 1))
 good_below l.Structs below offsets values i = below i (i + 1)
 good_below _ below offsets values i = true
 
 -- what the slots from i up to j of a list or struct lead to is good
 abbrev pub range_good : Layout → (ℕ → ℕ → Bool) → List ℕ → ℕ → ℕ → Bool
 range_good l.Lists below offsets i j = below (place offsets i) (place offsets j)
+range_good (l.FixedLists size) below offsets i j = below (size * i) (size * j)
 range_good l.Structs below offsets i j = below i j
 range_good _ below offsets i j = true
 

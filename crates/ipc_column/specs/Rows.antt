@@ -18,7 +18,7 @@ use Rattle.ipc_column.specs.Rules.{HasNodes, HasBuffers, HasLengths, HasRanges, 
 use Rattle.ipc_column.specs.Rules.{HasNullCounts, HasOrder, HasTexts, IsSlotCount, IsNode}
 use Rattle.ipc_model.specs.declared.limits.Limits.{Limits}
 
--- columns of this layout are read; dictionary-encoded ones and lists of a fixed size aren't yet
+-- columns of this layout are read; dictionary-encoded ones aren't yet
 abbrev pub is_read : Layout → Bool
 is_read l.Unsupported = false
 is_read l.Null = true
@@ -27,6 +27,7 @@ is_read (l.Numbers bits signed) = true
 is_read (l.FixedBytes width) = true
 is_read (l.VariableBytes utf8) = true
 is_read l.Lists = true
+is_read (l.FixedLists size) = true
 is_read l.Structs = true
 
 -- all of these hold

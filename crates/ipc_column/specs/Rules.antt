@@ -35,10 +35,12 @@ pub record IsNode (limits : Limits) (node : ℤ × ℤ) : Type 0 where
   pub nulls_from : pos 0 ≤ℤ node.1
   pub nulls_to : node.1 ≤ℤ node.0
 
--- each child of n structs has n slots at least; of the children of others nothing is asked (Arrow
--- Columnar Format, "Struct Layout")
+-- each child of n structs has n slots at least, and the child of n lists of a fixed size has that
+-- many for each of them; of the children of others nothing is asked (Arrow Columnar Format, "Struct
+-- Layout", "Fixed-Size List Layout")
 abbrev pub HasLongChildren : Layout → ℕ → Columns → Type 0
 HasLongChildren l.Structs n children = EachTop (λ c. n ≤ c.slots) children
+HasLongChildren (l.FixedLists size) n children = EachTop (λ c. size * n ≤ c.slots) children
 HasLongChildren l.Lists n children = ⊤
 HasLongChildren l.Null n children = ⊤
 HasLongChildren l.Bits n children = ⊤
@@ -48,7 +50,8 @@ HasLongChildren (l.VariableBytes utf8) n children = ⊤
 HasLongChildren l.Unsupported n children = ⊤
 
 -- the batch's length and those of its nodes; the columns are as long as the batch (Message.fbs,
--- RecordBatch, "length"), and the children of structs as long as these
+-- RecordBatch, "length"), and the children of structs and of lists of a fixed size as long as these
+-- ask
 pub record HasLengths (limits : Limits) (fields : List Field) (head : BatchHead)
     (body : List ℕ) : Type 0 where
   pub batch : IsSlotCount limits head.length
@@ -76,6 +79,7 @@ HoldValues (l.FixedBytes width) n bytes = width * n ≤ bytes
 HoldValues l.Null n bytes = ⊤
 HoldValues (l.VariableBytes utf8) n bytes = ⊤
 HoldValues l.Lists n bytes = ⊤
+HoldValues (l.FixedLists size) n bytes = ⊤
 HoldValues l.Structs n bytes = ⊤
 HoldValues l.Unsupported n bytes = ⊤
 
@@ -84,6 +88,7 @@ HoldValues l.Unsupported n bytes = ⊤
 abbrev pub HoldOffsets : Layout → ℕ → ℕ → Type 0
 HoldOffsets (l.VariableBytes utf8) n bytes = 0 < n → 4 * (n + 1) ≤ bytes
 HoldOffsets l.Lists n bytes = 0 < n → 4 * (n + 1) ≤ bytes
+HoldOffsets (l.FixedLists size) n bytes = ⊤
 HoldOffsets l.Structs n bytes = ⊤
 HoldOffsets l.Null n bytes = ⊤
 HoldOffsets l.Bits n bytes = ⊤
@@ -131,6 +136,7 @@ HasOffsets (l.VariableBytes utf8) n offsets size children = 0 < n → 4 * (n + 1
     → AreOffsets offsets n (λ end. end ≤ℤ pos size)
 HasOffsets l.Lists n offsets size children = 0 < n → 4 * (n + 1) ≤ length offsets
     → AreOffsets offsets n (λ end. EachTop (λ c. end ≤ℤ pos c.slots) children)
+HasOffsets (l.FixedLists width) n offsets size children = ⊤
 HasOffsets l.Structs n offsets size children = ⊤
 HasOffsets l.Null n offsets size children = ⊤
 HasOffsets l.Bits n offsets size children = ⊤
@@ -151,6 +157,8 @@ IsText (l.VariableBytes true) below offsets values i = IsUtf8 (between offsets v
 IsText (l.VariableBytes utf8) below offsets values i = ⊤
 IsText l.Lists below offsets values i = (j : ℕ) → place offsets i ≤ j
     → j < place offsets (i + 1) → below j
+IsText (l.FixedLists size) below offsets values i = (j : ℕ) → size * i ≤ j → j < size * (i + 1)
+    → below j
 IsText l.Structs below offsets values i = below i
 IsText l.Null below offsets values i = ⊤
 IsText l.Bits below offsets values i = ⊤

@@ -60,12 +60,14 @@ validity_at (l.Numbers bits signed) head body b = buffer_at head body b
 validity_at (l.FixedBytes width) head body b = buffer_at head body b
 validity_at (l.VariableBytes utf8) head body b = buffer_at head body b
 validity_at l.Lists head body b = buffer_at head body b
+validity_at (l.FixedLists size) head body b = buffer_at head body b
 validity_at l.Structs head body b = buffer_at head body b
 
 -- its offsets
 abbrev pub offsets_at : Layout → BatchHead → List ℕ → ℕ → List ℕ
 offsets_at (l.VariableBytes utf8) head body b = buffer_at head body (b + 1)
 offsets_at l.Lists head body b = buffer_at head body (b + 1)
+offsets_at (l.FixedLists size) head body b = []
 offsets_at l.Structs head body b = []
 offsets_at l.Null head body b = []
 offsets_at l.Bits head body b = []
@@ -82,6 +84,7 @@ values_at l.Bits head body b = buffer_at head body (b + 1)
 values_at (l.Numbers bits signed) head body b = buffer_at head body (b + 1)
 values_at (l.FixedBytes width) head body b = buffer_at head body (b + 1)
 values_at l.Lists head body b = []
+values_at (l.FixedLists size) head body b = []
 values_at l.Structs head body b = []
 
 -- the column of a field whose node is n and whose first buffer is b

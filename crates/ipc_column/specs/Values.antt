@@ -36,15 +36,18 @@ place offsets i = unsigned_abs (offset offsets i)
 abbrev pub between : List ℕ → List ℕ → ℕ → List ℕ
 between offsets values i = slice_range values (place offsets i) (place offsets (i + 1))
 
--- where the slots of the children begin that belong to slot i: in a list at offset i, in a struct
--- at slot i (Arrow Columnar Format, "Variable-size List Layout", "Struct Layout")
+-- where the slots of the children begin that belong to slot i: in a list at offset i, in a list of
+-- a fixed size at i times the size, in a struct at slot i (Arrow Columnar Format, "Variable-size
+-- List Layout", "Fixed-Size List Layout", "Struct Layout")
 abbrev pub child_slot : Layout → List ℕ → ℕ → ℕ
 child_slot l.Lists offsets i = place offsets i
+child_slot (l.FixedLists size) offsets i = size * i
 child_slot _ offsets i = i
 
 -- the values of a slot are values of the children
 abbrev pub is_nested : Layout → Bool
 is_nested l.Lists = true
+is_nested (l.FixedLists size) = true
 is_nested l.Structs = true
 is_nested _ = false
 
@@ -79,6 +82,8 @@ own_value (l.VariableBytes false) below offsets values i = v.Bytes (between offs
 own_value l.Lists below offsets values i =
     v.List (items (λ j. first_of (below j)) (place offsets i)
     (place offsets (i + 1) - place offsets i))
+own_value (l.FixedLists size) below offsets values i =
+    v.List (items (λ j. first_of (below j)) (size * i) size)
 own_value l.Structs below offsets values i = v.Struct (below i)
 own_value l.Unsupported below offsets values i = v.Null
 

@@ -1,5 +1,5 @@
 -- How many slots a range of rows leads to that may be visited one by one.
-use Rattle.std.specs.Prelude.{ℕ, ◌+◌, ◌-◌, List, if◌then◌else◌}
+use Rattle.std.specs.Prelude.{ℕ, ◌+◌, ◌-◌, ◌*◌, List, if◌then◌else◌}
 use Rattle.ipc_model.specs.declared.layout.Layout.{Layout}
 use Rattle.ipc_model.specs.declared.layout.Layout.TheVariants as l
 use Rattle.ipc_column.specs.Columns.{Columns, none, column}
@@ -10,6 +10,7 @@ use Rattle.ipc_column.specs.Values.{child_slot}
 abbrev pub weight_below : Layout → (ℕ → ℕ → ℕ) → List ℕ → ℕ → ℕ → ℕ
 weight_below l.Lists below offsets i j =
     below (child_slot l.Lists offsets i) (child_slot l.Lists offsets j)
+weight_below (l.FixedLists size) below offsets i j = below (size * i) (size * j)
 weight_below l.Structs below offsets i j = below i j
 weight_below _ below offsets i j = 0
 

@@ -94,9 +94,11 @@ fn values_span(layout: Layout, head: &BatchHead, first: usize) -> BufferRange
     ensures { (body : List ℕ) → span_bytes body result ≡ values_at layout head.now body first }
 {
     match layout {
-        Layout::Null | Layout::Lists | Layout::Structs | Layout::Unsupported => {
-            BufferRange { start: 0, len: 0 }
-        }
+        Layout::Null
+        | Layout::Lists
+        | Layout::FixedLists(_)
+        | Layout::Structs
+        | Layout::Unsupported => BufferRange { start: 0, len: 0 },
         Layout::VariableBytes { .. } => span_at(head, first + 2),
         _ => span_at(head, first + 1),
     }

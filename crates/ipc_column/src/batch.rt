@@ -124,8 +124,8 @@ impl Batch {
     /// The rows that a batch's metadata and body give for the fields of its schema.
     ///
     /// The caller has the fields from a schema that passes its check, and none of them, nor a field
-    /// below one, has a dictionary or is a list of a fixed size. The dictionaries are those in
-    /// force, by their ids. They aren't looked at, since no field that is read can name one yet.
+    /// below one, has a dictionary. The dictionaries are those in force, by their ids. They aren't
+    /// looked at, since no field that is read can name one yet.
     ///
     /// Refused with F26 `WrongNodeCount`, F27 `WrongBufferCount`, F28 `BadNode`, F29
     /// `BufferOutOfBody`, F30 `BufferTooShort`, F31 `BadNullCount`, F32 `BadOffsets` or F33

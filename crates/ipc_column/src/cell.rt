@@ -11,7 +11,7 @@ ghost use Rattle.ipc_column.specs.Values.{is_nested, place};
 ghost use Rattle.ipc_column.specs.Views.{columns, column_of, children_of, span_bytes};
 
 use crate::fixed::{bytes_of, signed_at, unsigned_at};
-use crate::offsets::{bytes_between, place_at};
+use crate::offsets::{bytes_between, fixed_place, place_at};
 use crate::range_bytes::bytes_at;
 use crate::ranges::{BufferRange, ColumnRanges};
 use crate::texts::text_of;
@@ -174,6 +174,15 @@ fn list_between<'a>(
     )
 }
 
+// The values of a list of a fixed size.
+fn fixed_list<'a>(body: &'a [u8], parts: &'a [ColumnRanges], size: u32, slot: usize) -> ListCell<'a>
+    requires { HaveValues (columns body.now parts.now) (size * slot) (size * (slot + 1)) }
+    ensures { result ≡ items (first_at (columns body.now parts.now)) (size * slot) size }
+{
+    let first = fixed_place(size, parts, slot);
+    list_of(body, parts, first, first + size as usize)
+}
+
 /// Whether a slot isn't null.
 #[inline(always)]
 pub(crate) fn is_valid(validity: &[u8], slot: usize) -> bool
@@ -232,6 +241,7 @@ pub(crate) fn own_cell<'a>(
             Cell::Bytes(bytes_between(offsets, values, slots, slot))
         }
         Layout::Lists => Cell::List(list_between(body, children, offsets, slots, slot)),
+        Layout::FixedLists(size) => Cell::List(fixed_list(body, children, size, slot)),
         Layout::Structs => Cell::Struct(struct_of(body, children, slot)),
     }
 }

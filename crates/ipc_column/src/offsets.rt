@@ -1,7 +1,9 @@
-ghost use Rattle.std.specs.Prelude.{◌≡◌, ◌≤◌, ◌<◌, ◌+◌, ◌*◌, length, true};
-ghost use Rattle.ipc_column.specs.Checks.{are_ascending};
+ghost use Rattle.std.specs.Prelude.{◌≡◌, ◌≤◌, ◌<◌, ◌+◌, ◌*◌, ◌^◌, ℕ, List, length, true};
+ghost use Rattle.ipc_column.specs.Checks.{are_ascending, have_slots};
 ghost use Rattle.ipc_column.specs.Values.{offset, place, between};
+ghost use Rattle.ipc_column.specs.Views.{columns};
 
+use crate::ranges::ColumnRanges;
 use ipc_scalar::get_i32;
 
 // Offset `i`.
@@ -20,6 +22,24 @@ pub(crate) fn place_at(offsets: &[u8], i: usize) -> usize
     ensures { result ≡ place offsets.now i }
 {
     offset_at(offsets, i).unsigned_abs() as usize
+}
+
+/// Where the slots of the child begin that belong to a slot of lists of a fixed size; 0 where there
+/// is no child. The child has all slots up to the end of that list.
+#[inline(always)]
+pub(crate) fn fixed_place(size: u32, children: &[ColumnRanges], slot: usize) -> usize
+    requires { (body : List ℕ)
+        → have_slots (size * (slot + 1)) (columns body children.now) ≡ true }
+    ensures some { 0 < length children.now → result ≡ size * slot }
+    ensures none { length children.now ≡ 0 → result ≡ 0 }
+    ensures room { result + size < 2 ^ 64 }
+{
+    if children.is_empty() {
+        return 0;
+    }
+    // The child's own number of slots bounds the product.
+    let _slots = children[0].slots;
+    size as usize * slot
 }
 
 /// Whether the offsets of so many slots begin at 0 or above, don't decrease and end within so many

@@ -6,7 +6,7 @@ ghost use Rattle.ipc_column.specs.Values.{row, rows_of, value_of, items, first_a
 ghost use Rattle.ipc_column.specs.Views.{columns, column_of, children_of};
 
 use crate::cell::{Cell, cell_at, is_valid_in};
-use crate::offsets::place_at;
+use crate::offsets::{fixed_place, place_at};
 use crate::range_bytes::bytes_at;
 use crate::ranges::ColumnRanges;
 use ipc_model::{Items, Layout, Row, Text, Value};
@@ -16,7 +16,7 @@ fn is_nested(layout: Layout) -> bool
     ensures { result ≡ is_nested layout }
 {
     match layout {
-        Layout::Lists | Layout::Structs => true,
+        Layout::Lists | Layout::FixedLists(_) | Layout::Structs => true,
         _ => false,
     }
 }
@@ -61,6 +61,12 @@ fn read_slot(
             let end = place_at(offsets, slot + 1);
             let values = read_items(alloc, body, &part.children, first, end)?;
             Ok(Value::List(values))
+        }
+        Layout::FixedLists(size) => {
+            let first = fixed_place(size, &part.children, slot);
+            let end = first + size as usize;
+            let list = read_items(alloc, body, &part.children, first, end)?;
+            Ok(Value::List(list))
         }
         _ => Ok(Value::Struct(read_values(alloc, body, &part.children, slot)?)),
     }

@@ -22,7 +22,7 @@ fn has_bitmap(slots: usize, bytes: usize) -> bool
     bytes == 0 || slots.div_ceil(8) <= bytes
 }
 
-// Whether so many bytes hold slots of a width in bytes.
+// Whether so many bytes hold slots of a width in bytes, or the slots of a child lists of a size.
 #[tactic(auto, using(crate::proofs::Numbers::holds_by_quotient))]
 fn holds_width(width: usize, slots: usize, bytes: usize) -> bool
     ensures { result ≡ nat_le (width * slots) bytes }
@@ -37,6 +37,7 @@ fn holds_values(layout: Layout, slots: usize, bytes: usize) -> bool
         Layout::Null
         | Layout::VariableBytes { .. }
         | Layout::Lists
+        | Layout::FixedLists(_)
         | Layout::Structs
         | Layout::Unsupported => true,
         Layout::Bits => slots.div_ceil(8) <= bytes,
@@ -61,6 +62,17 @@ fn have_slots(parts: &[ColumnRanges], slots: usize) -> bool
     let mut long = true;
     for part in parts {
         long = long && slots <= part.slots;
+    }
+    long
+}
+
+// Whether each of the parts has the slots at least of so many lists of a size.
+fn have_lists(parts: &[ColumnRanges], size: usize, lists: usize) -> bool
+    ensures { (body : List ℕ) → result ≡ have_slots (size * lists) (columns body parts.now) }
+{
+    let mut long = true;
+    for part in parts {
+        long = long && holds_width(size, lists, part.slots);
     }
     long
 }
@@ -96,12 +108,14 @@ fn in_order(
     }
 }
 
-// Whether the children of so many slots have as many, where these are structs.
+// Whether the children of so many slots have as many, where these are structs, and the slots of
+// that many lists, where these are lists of a fixed size.
 fn are_long(layout: Layout, slots: usize, children: &[ColumnRanges]) -> bool
     ensures { (body : List ℕ) → result ≡ are_long layout slots (columns body children.now) }
 {
     match layout {
         Layout::Structs => have_slots(children, slots),
+        Layout::FixedLists(size) => have_lists(children, size as usize, slots),
         _ => true,
     }
 }

@@ -6,7 +6,7 @@ ghost use Rattle.ipc_model.specs.Layouts.{is_texts};
 ghost use Rattle.ipc_column.specs.Views.{columns, column_of, children_of, one};
 ghost use Rattle.ipc_column.specs.Weights.{weight, weight_below};
 
-use crate::offsets::place_at;
+use crate::offsets::{fixed_place, place_at};
 use crate::range_bytes::bytes_at;
 use crate::ranges::ColumnRanges;
 use crate::slot_visit::visit;
@@ -34,7 +34,8 @@ fn have_texts(parts: &[ColumnRanges]) -> bool
 }
 
 // Whether what a part's slots from one up to another lead to is good: in a list the slots between
-// its offsets, in a struct the same slots of each child.
+// its offsets, in a list of a fixed size that many for each, in a struct the same slots of each
+// child.
 #[cycle(visit)]
 fn visit_below(body: &[u8], part: &ColumnRanges, from: usize, to: usize, tests: &mut u64) -> bool
     requires some { from < to }
@@ -53,6 +54,11 @@ fn visit_below(body: &[u8], part: &ColumnRanges, from: usize, to: usize, tests: 
             let first = place_at(offsets, from);
             let end = place_at(offsets, to);
             visit_all(body, &part.children, first, end, tests)
+        }
+        Layout::FixedLists(size) => {
+            let first = fixed_place(size, &part.children, from);
+            let last = fixed_place(size, &part.children, to - 1) + size as usize;
+            visit_all(body, &part.children, first, last, tests)
         }
         Layout::Structs => visit_all(body, &part.children, from, to, tests),
         _ => true,

@@ -35,7 +35,7 @@ type_layout (t.Timestamp unit timezone) = l.Numbers B64 true
 type_layout (t.Time unit) = l.Numbers (time_bits unit) true
 type_layout (t.Duration unit) = l.Numbers B64 true
 type_layout t.List = l.Lists
-type_layout (t.FixedSizeList size) = l.Unsupported
+type_layout (t.FixedSizeList size) = l.FixedLists size
 type_layout t.Struct = l.Structs
 
 -- the layout of a field's slots
@@ -53,6 +53,7 @@ own_buffers l.Bits = 2
 own_buffers (l.Numbers bits signed) = 2
 own_buffers (l.FixedBytes width) = 2
 own_buffers l.Lists = 2
+own_buffers (l.FixedLists size) = 1
 own_buffers l.Structs = 1
 
 -- a null count is that of a validity bitmap; a column of the null layout has none (Arrow Columnar
@@ -64,6 +65,7 @@ has_validity (l.Numbers bits signed) = true
 has_validity (l.FixedBytes width) = true
 has_validity (l.VariableBytes utf8) = true
 has_validity l.Lists = true
+has_validity (l.FixedLists size) = true
 has_validity l.Structs = true
 has_validity l.Unsupported = true
 
@@ -75,6 +77,7 @@ is_texts l.Bits = false
 is_texts (l.Numbers bits signed) = false
 is_texts (l.FixedBytes width) = false
 is_texts l.Lists = false
+is_texts (l.FixedLists size) = false
 is_texts l.Structs = false
 is_texts l.Unsupported = false
 
@@ -87,6 +90,7 @@ is_signed_64 l.Bits = false
 is_signed_64 (l.FixedBytes width) = false
 is_signed_64 (l.VariableBytes utf8) = false
 is_signed_64 l.Lists = false
+is_signed_64 (l.FixedLists size) = false
 is_signed_64 l.Structs = false
 is_signed_64 l.Unsupported = false
 

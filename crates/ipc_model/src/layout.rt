@@ -31,6 +31,9 @@ pub enum Layout {
     /// A validity bitmap, and offsets of 32 bits into the slots of the one child ("Variable-size
     /// List Layout").
     Lists,
+    /// A validity bitmap; slot i holds so many slots of the one child, from i times as many on
+    /// ("Fixed-Size List Layout").
+    FixedLists(u32),
     /// A validity bitmap; the values of a slot stand in that slot of each child ("Struct Layout").
     Structs,
     /// A dictionary-encoded field, whose columns are neither read nor written yet.
@@ -68,7 +71,7 @@ fn type_layout(kind: &DataType) -> Layout
             signed: true,
         },
         DataType::List => Layout::Lists,
-        DataType::FixedSizeList(_) => Layout::Unsupported,
+        DataType::FixedSizeList(size) => Layout::FixedLists(*size),
         DataType::Struct => Layout::Structs,
     }
 }
@@ -92,7 +95,7 @@ impl Layout {
     {
         match self {
             Layout::Null | Layout::Unsupported => 0,
-            Layout::Structs => 1,
+            Layout::FixedLists(_) | Layout::Structs => 1,
             Layout::Bits | Layout::Numbers { .. } | Layout::FixedBytes(_) | Layout::Lists => 2,
             Layout::VariableBytes { .. } => 3,
         }

@@ -5,7 +5,9 @@ use Rattle.ipc_column.specs.declared.ranges.ColumnRanges.TheViews.{the_lemmas, o
 use Rattle.ipc_column.specs.Values.{row, items, first_at}
 use Rattle.ipc_column.specs.Views.{columns, own_column}
 use Rattle.ipc_column.proofs.Cells.{row_cell, row_more, row_length, items_more}
-use Rattle.ipc_column.proofs.Slots.{slot_value, part_stands, stands_bytes, list_values, struct_values, nested_struct}
+use Rattle.ipc_column.proofs.Slots.{slot_value, part_stands, stands_bytes, list_values, fixed_values, struct_values}
+use Rattle.ipc_column.proofs.Slots.{nested_struct}
+use Rattle.ipc_column.proofs.FixedLists.{fixed_have, fixed_items, fixed_place_have, fixed_value}
 use Rattle.ipc_column.proofs.rows.+read.Goals as goal
 
 pub read_first-read_slot-requires : goal.read_first-read_slot-requires
@@ -47,11 +49,37 @@ read_slot-read_items-requires t c = (
       (sym c.is_valid_in.ensures ∙ c.if-not-is_valid_in.false)),
 )
 
+pub read_slot-fixed_place-first-requires : goal.read_slot-fixed_place-first-requires
+read_slot-fixed_place-first-requires t c =
+    let s = part_stands c.args.body.now c.args.part.now c.args.slot c.requires in
+    rw c.deref-in-FixedLists.ensures.value (fixed_place_have c.args.body.now (out-ColumnRanges c.args.part.now).children.items
+    c.in-FixedLists.size (out-ColumnRanges c.args.part.now).slots c.args.slot s.slot (rw c.in-FixedLists.is at s.long.long))
+
+pub read_slot-read_items-requires-in-FixedLists : goal.read_slot-read_items-requires-in-FixedLists
+read_slot-read_items-requires-in-FixedLists t c =
+    let s = part_stands c.args.body.now c.args.part.now c.args.slot c.requires in (
+      search (rules, the_lemmas),
+      rw c.deref-in-FixedLists-2.ensures.value
+          (fixed_have c.args.body.now (out-ColumnRanges c.args.part.now).children.items c.in-FixedLists.size c.args.slot
+          c.fixed_place-first.result (rw c.deref-in-FixedLists.ensures.value at c.fixed_place-first.ensures.some)
+          (fixed_values (columns c.args.body.now (out-ColumnRanges c.args.part.now).children.items) c.in-FixedLists.size
+          (out-ColumnRanges c.args.part.now).slots c.args.slot s.slot (rw c.in-FixedLists.is at s.long.long) s.sound
+          (rw c.in-FixedLists.is at (s.good (sym c.is_valid_in.ensures ∙ c.if-not-is_valid_in.false))))),
+    )
+
+pub read_slot-returns-in_ok-list-in-FixedLists : goal.read_slot-returns-in_ok-list-in-FixedLists
+read_slot-returns-in_ok-list-in-FixedLists t c =
+    fixed_value c.args.body.now c.args.part.now c.in-FixedLists.size c.args.slot _ c.in-FixedLists.is
+    (sym c.is_valid_in.ensures ∙ c.if-not-is_valid_in.false)
+    ((rw c.deref-in-FixedLists-2.ensures.value at c.in_ok-list-in-FixedLists.ensures)
+    ∙ fixed_items c.args.body.now (out-ColumnRanges c.args.part.now).children.items c.in-FixedLists.size c.args.slot
+    c.fixed_place-first.result (rw c.deref-in-FixedLists.ensures.value at c.fixed_place-first.ensures.some))
+
 pub read_slot-read_values-requires : goal.read_slot-read_values-requires
 read_slot-read_values-requires t c =
     let s = part_stands c.args.body.now c.args.part.now c.args.slot c.requires in
     let e = nested_struct (out-ColumnRanges c.args.part.now).layout (sym c.is_nested.ensures ∙ c.if-not-is_nested.false)
-    c.in_default.not-Lists in (
+    c.in_default.not-Lists c.in_default.not-FixedLists in (
       search (rules, the_lemmas),
       rw c.deref-in_default.ensures.value
           (struct_values (columns c.args.body.now (out-ColumnRanges c.args.part.now).children.items)

@@ -1,4 +1,4 @@
-use Rattle.std.proofs.Common.{◌≡◌, ◌∙◌, sym, ap, rules, arith, ◌+◌, drop, length}
+use Rattle.std.proofs.Common.{◌≡◌, ◌∙◌, sym, ap, rules, arith, ◌+◌, ◌-◌, drop, length}
 use Rattle.ipc_column.specs.declared.ranges.ColumnRanges.TheViews.{the_lemmas, out-ColumnRanges}
 use Rattle.ipc_column.specs.Checks.{good, good_slot}
 use Rattle.ipc_model.specs.Layouts.{is_texts}
@@ -6,7 +6,9 @@ use Rattle.ipc_column.specs.Views.{columns, one, column_of, children_of}
 use Rattle.ipc_column.proofs.Goods.{slots_more, slots_fail, good_one, good_first}
 use Rattle.ipc_column.proofs.Parts.{columns_from}
 use Rattle.ipc_column.proofs.Slots.{slots_first, slots_within, part_long, part_most, bitmap_front}
-use Rattle.ipc_column.proofs.Visited.{layout_is, list_bytes, list_slots, struct_slots, list_weight, struct_weight, whole_part}
+use Rattle.ipc_column.proofs.FixedLists.{fixed_place_have, fixed_child}
+use Rattle.ipc_column.proofs.Visited.{layout_is, list_bytes, list_slots, fixed_slots, struct_slots, list_weight, fixed_weight_between}
+use Rattle.ipc_column.proofs.Visited.{fixed_good_between, struct_weight, whole_part}
 use Rattle.ipc_column.proofs.Visited.{visited_below, visited_texts, quiet_part, texts_part, texts_of, good_done}
 use Rattle.ipc_column.proofs.Weights.{weight_first, room_next, cost_next, cost_all, visited_weight, below_weight, texts_weight}
 use Rattle.ipc_column.proofs.visit.+visit.Goals as goal
@@ -32,6 +34,57 @@ visit_below-visit_all-requires t c =
         omega (arith, w, c.requires.room),
       ),
     )
+
+pub visit_below-fixed_place-first-requires : goal.visit_below-fixed_place-first-requires
+visit_below-fixed_place-first-requires t c =
+    let most = part_most c.args.body.now c.args.part.now c.args.from c.args.to c.requires.slots in
+    let long = (part_long c.args.body.now c.args.part.now c.args.from c.args.to c.requires.slots).long in
+    rw c.deref-in-FixedLists.ensures.value (fixed_place_have c.args.body.now (out-ColumnRanges c.args.part.now).children.items
+    c.in-FixedLists.size (out-ColumnRanges c.args.part.now).slots c.args.from (omega (arith, most, c.requires.some))
+    (rw c.in-FixedLists.is at long))
+
+pub visit_below-fixed_place-requires : goal.visit_below-fixed_place-requires
+visit_below-fixed_place-requires t c =
+    let most = part_most c.args.body.now c.args.part.now c.args.from c.args.to c.requires.slots in
+    let long = (part_long c.args.body.now c.args.part.now c.args.from c.args.to c.requires.slots).long in
+    rw c.deref-in-FixedLists-2.ensures.value (fixed_place_have c.args.body.now (out-ColumnRanges c.args.part.now).children.items
+    c.in-FixedLists.size (out-ColumnRanges c.args.part.now).slots (c.args.to - 1) (omega (arith, most, c.requires.some))
+    (rw c.in-FixedLists.is at long))
+
+pub visit_below-visit_all-requires-in-FixedLists : goal.visit_below-visit_all-requires-in-FixedLists
+visit_below-visit_all-requires-in-FixedLists t c =
+    let children = (out-ColumnRanges c.args.part.now).children.items in
+    let first = rw c.deref-in-FixedLists.ensures.value at c.fixed_place-first.ensures.some in
+    let none = rw c.deref-in-FixedLists.ensures.value at c.fixed_place-first.ensures.none in
+    let last = rw c.deref-in-FixedLists-2.ensures.value at c.fixed_place.ensures.some in
+    let w = fixed_weight_between c.args.body.now c.args.part.now c.args.from c.args.to c.in-FixedLists.size c.fixed_place-first.result
+    c.fixed_place.result c.in-FixedLists.is c.requires.some first last in
+    let slots = fixed_slots c.args.body.now c.args.part.now c.args.from c.args.to c.in-FixedLists.size c.requires.slots c.requires.some
+    c.in-FixedLists.is in (
+      search (rules, the_lemmas),
+      rw c.deref-in-FixedLists-3.ensures.value (
+        fixed_child c.args.body.now children c.in-FixedLists.size c.args.from c.args.to c.fixed_place-first.result c.fixed_place.result
+            first none last c.requires.some slots,
+        omega (arith, w, c.requires.room),
+      ),
+    )
+
+pub visit_below-returns-in-FixedLists-clause-good : goal.visit_below-returns-in-FixedLists-clause-good
+visit_below-returns-in-FixedLists-clause-good t c =
+    let first = rw c.deref-in-FixedLists.ensures.value at c.fixed_place-first.ensures.some in
+    let last = rw c.deref-in-FixedLists-2.ensures.value at c.fixed_place.ensures.some in
+    (rw c.deref-in-FixedLists-3.ensures.value at c.visit_all-in-FixedLists.ensures.good)
+    ∙ fixed_good_between c.args.body.now c.args.part.now c.args.from c.args.to c.in-FixedLists.size c.fixed_place-first.result
+    c.fixed_place.result c.in-FixedLists.is c.requires.some first last
+
+pub visit_below-returns-in-FixedLists-clause-cost : goal.visit_below-returns-in-FixedLists-clause-cost
+visit_below-returns-in-FixedLists-clause-cost t c =
+    let first = rw c.deref-in-FixedLists.ensures.value at c.fixed_place-first.ensures.some in
+    let last = rw c.deref-in-FixedLists-2.ensures.value at c.fixed_place.ensures.some in
+    let w = fixed_weight_between c.args.body.now c.args.part.now c.args.from c.args.to c.in-FixedLists.size c.fixed_place-first.result
+    c.fixed_place.result c.in-FixedLists.is c.requires.some first last in
+    let cost = rw c.deref-in-FixedLists-3.ensures.value at c.visit_all-in-FixedLists.ensures.cost in
+    omega (arith, w, cost)
 
 pub visit_below-visit_all-requires-in-Structs : goal.visit_below-visit_all-requires-in-Structs
 visit_below-visit_all-requires-in-Structs t c =
