@@ -1,6 +1,7 @@
 -- Buffers that are added one after another.
-use Rattle.std.proofs.Common.{◌≡◌, ◌∙◌, refl, sym, ap, ℕ, ◌+◌, List, [], ◌∷◌, ◌++◌, length, append_assoc, length-append, arith}
+use Rattle.std.proofs.Common.{◌≡◌, ◌∙◌, refl, sym, ap, subst, ℕ, ◌+◌, List, [], ◌∷◌, ◌++◌, length, append_assoc, length-append, arith}
 use Rattle.std.specs.Prelude.{ℤ, pos}
+use Rattle.std.proofs.lemmas.List.{append-nil}
 use Rattle.ipc_encode.specs.declared.parts.Draft.{Draft}
 use Rattle.ipc_encode.specs.Buffers.{padded_buffer, joined, ranges_from}
 use Rattle.ipc_encode.specs.Writing.{Adds}
@@ -22,22 +23,25 @@ ranges_append (x ∷ xs) ys start =
     (ranges_append xs ys (start + length (padded_buffer x))
     ∙ ap (λ (n : ℕ). ranges_from (start + length (padded_buffer x)) xs ++ ranges_from n ys) e)
 
--- what is added beside what is left
-pub adds_body : (d e : Draft) (xs ys : List (List ℕ)) (whole : List ℕ) → Adds d e xs → d.body.items ++ joined (xs ++ ys) ≡ whole
-    → e.body.items ++ joined ys ≡ whole
-adds_body d e xs ys whole a before =
-    ap (λ (bs : List ℕ). bs ++ joined ys) a.body
-    ∙ (append_assoc d.body.items (joined xs) (joined ys)
-    ∙ (ap (λ (bs : List ℕ). d.body.items ++ bs) (sym (joined_append xs ys)) ∙ before))
+-- nothing more
+pub adds_none : (d : Draft) → Adds d d []
+adds_none d = record { buffers = sym (append-nil d.buffers.items); body = sym (append-nil d.body.items) }
 
--- what is added of ranges beside what is left
-pub adds_ranges : (d e : Draft) (xs ys : List (List ℕ)) (whole : List (ℤ × ℤ)) → Adds d e xs
-    → d.buffers.items ++ ranges_from (length d.body.items) (xs ++ ys) ≡ whole
-    → e.buffers.items ++ ranges_from (length e.body.items) ys ≡ whole
-adds_ranges d e xs ys whole a before =
+-- some buffers and then others
+pub adds_both : (d e f : Draft) (xs ys : List (List ℕ)) → Adds d e xs → Adds e f ys → Adds d f (xs ++ ys)
+adds_both d e f xs ys a b =
     let size : length e.body.items ≡ length d.body.items + length (joined xs) =
     ap (λ (bs : List ℕ). length bs) a.body ∙ length-append d.body.items (joined xs) in
-    ap (λ (n : ℕ). e.buffers.items ++ ranges_from n ys) size
-    ∙ (ap (λ (rs : List (ℤ × ℤ)). rs ++ ranges_from (length d.body.items + length (joined xs)) ys) a.buffers
-    ∙ (append_assoc d.buffers.items (ranges_from (length d.body.items) xs) (ranges_from (length d.body.items + length (joined xs)) ys)
-    ∙ (ap (λ (rs : List (ℤ × ℤ)). d.buffers.items ++ rs) (sym (ranges_append xs ys (length d.body.items))) ∙ before)))
+    record {
+      buffers = b.buffers ∙ (ap (λ (n : ℕ). e.buffers.items ++ ranges_from n ys) size
+          ∙ (ap (λ (rs : List (ℤ × ℤ)). rs ++ ranges_from (length d.body.items + length (joined xs)) ys) a.buffers
+          ∙ (append_assoc d.buffers.items (ranges_from (length d.body.items) xs) (ranges_from (length d.body.items + length
+          (joined xs)) ys)
+          ∙ ap (λ (rs : List (ℤ × ℤ)). d.buffers.items ++ rs) (sym (ranges_append xs ys (length d.body.items))))));
+      body = b.body ∙ (ap (λ (bs : List ℕ). bs ++ joined ys) a.body
+          ∙ (append_assoc d.body.items (joined xs) (joined ys) ∙ ap (λ (bs : List ℕ). d.body.items ++ bs) (sym (joined_append xs ys))));
+    }
+
+-- the buffers that are added may be written in another way
+pub adds_as : (d e : Draft) (xs ys : List (List ℕ)) → xs ≡ ys → Adds d e xs → Adds d e ys
+adds_as d e xs ys same a = subst (λ (bs : List (List ℕ)). Adds d e bs) same a

@@ -1,50 +1,61 @@
--- What is refused of some rows is refused of them with more.
-use Rattle.std.proofs.Common.{◌≡◌, sym, ap, subst, ℕ, zero, suc, ◌+◌, ◌≤◌, false, cond}
-use Rattle.std.proofs.Common.{List, [], ◌∷◌, ◌++◌, length, take, drop, append_assoc, length-append, arith, inl, inr}
+-- What is refused of some values is refused of them with more.
+use Rattle.std.proofs.Common.{◌≡◌, ◌∙◌, sym, ap, subst, ℕ, zero, suc, ◌+◌, ◌<◌, ◌≤◌, false, cond}
+use Rattle.std.proofs.Common.{List, [], ◌∷◌, ◌++◌, length, take, drop, get_or, append_assoc, length-append, arith, inl, inr}
 use Rattle.std.specs.Prelude.{◌==◌}
 use Rattle.std.proofs.lemmas.Bool.{ne_eqb}
 use Rattle.std.proofs.lemmas.List.{append-nil, take-append-drop}
-use Rattle.ipc_model.specs.declared.fault.WriteFault.{WriteFault}
-use Rattle.ipc_model.specs.declared.fault.WriteFault.TheVariants as fault
 use Rattle.ipc_model.specs.declared.limits.Limits.{Limits}
-use Rattle.ipc_model.specs.declared.schema.Field.{Field}
 use Rattle.ipc_model.specs.declared.value.Value.{Value}
 use Rattle.ipc_model.specs.declared.layout.Layout.{Layout}
 use Rattle.ipc_model.specs.declared.layout.Layout.TheVariants as l
-use Rattle.ipc_encode.specs.Pieces.{True}
-use Rattle.ipc_encode.specs.Cells.{cell, cells, nulls}
-use Rattle.ipc_encode.specs.Buffers.{layout_of, column_buffers, joined, buffers_from}
-use Rattle.ipc_encode.specs.Columns.{values_in, layout_buffers, bits_length, padded_length, validity_length, offsets_length, column_length}
-use Rattle.ipc_encode.specs.Limits.{HasLongData, SomeLongData, IsTooLong, IsRefused}
-use Rattle.ipc_encode.specs.Built.{IsRowRefused}
-use Rattle.ipc_encode.specs.Faults.{write_fault}
+use Rattle.ipc_model.specs.declared.fault.WriteFault.{WriteFault}
+use Rattle.ipc_model.specs.declared.fault.WriteFault.TheVariants as fault
+use Rattle.ipc_model.specs.declared.schema.Field.{Field}
+use Rattle.ipc_column.specs.Shapes.{Shape, bare, field, shape_of}
+use Rattle.ipc_encode.specs.declared.column.Column.{Column}
+use Rattle.ipc_encode.specs.declared.node.Node.{Node}
+use Rattle.ipc_encode.specs.Cells.{nulls}
+use Rattle.ipc_encode.specs.Buffers.{below, columns, column_buffers, joined, buffers_of, body_of}
+use Rattle.ipc_encode.specs.Columns.{bits_length, padded_length, validity_length, offsets_length, values_length, column_length, data_in}
+use Rattle.ipc_encode.specs.Columns.{PassesOffsets}
+use Rattle.ipc_encode.specs.Limits.{HasLongData, HasLongNode, SomeLongData, IsRefused}
+use Rattle.ipc_encode.specs.Built.{IsNode, IsPushRefused, ArePushesRefused}
 use Rattle.ipc_encode.specs.declared.fault.PushFault.{PushFault}
 use Rattle.ipc_encode.specs.declared.fault.PushFault.TheVariants as push
-use Rattle.ipc_encode.proofs.Steps.{cells_push, nulls_push}
+use Rattle.ipc_encode.proofs.Steps.{nulls_push, data_push, below_append, cells_append}
 use Rattle.ipc_encode.proofs.Adding.{joined_append}
-use Rattle.ipc_encode.proofs.Sizes.{bitmap_bytes, bits_more, numbers_more, fixed_more, content_more, column_size}
+use Rattle.ipc_encode.proofs.Nodes.{AreMixed}
+use Rattle.ipc_encode.proofs.Sizes.{column_size, long_is, long_from}
 
 -- ---- one value more
 
-long_more : (layout : Layout) (vs : List Value) (v : Value) → HasLongData layout vs → HasLongData layout (vs ++ v ∷ [])
-long_more l.Null vs v h = h
-long_more l.Unsupported vs v h = h
-long_more l.Lists vs v h = h
-long_more l.Structs vs v h = h
-long_more l.Bits vs v h = h
-long_more (l.Numbers bits signed) vs v h = h
-long_more (l.FixedBytes width) vs v h = h
-long_more (l.VariableBytes utf8) vs v h = let more = content_more vs v in omega (arith, more, h)
+passes_more : (layout : Layout) (m n : ℕ) → m ≤ n → PassesOffsets layout m → PassesOffsets layout n
+passes_more l.Null m n e h = h
+passes_more l.Unsupported m n e h = h
+passes_more l.Lists m n e h = omega (arith, e, h)
+passes_more l.Structs m n e h = h
+passes_more (l.FixedLists size) m n e h = h
+passes_more l.Bits m n e h = h
+passes_more (l.Numbers bits signed) m n e h = h
+passes_more (l.FixedBytes width) m n e h = h
+passes_more (l.VariableBytes utf8) m n e h = omega (arith, e, h)
 
-values_grow : (layout : Layout) (vs : List Value) (v : Value) → length (values_in layout vs) ≤ length (values_in layout (vs ++ v ∷ []))
-values_grow l.Null vs v = omega arith
-values_grow l.Unsupported vs v = omega arith
-values_grow l.Lists vs v = omega arith
-values_grow l.Structs vs v = omega arith
-values_grow l.Bits vs v = let old = bitmap_bytes True vs in let more = bits_more vs v in omega (arith, old, more)
-values_grow (l.Numbers bits signed) vs v = let more = numbers_more bits vs v in omega (arith, more)
-values_grow (l.FixedBytes width) vs v = let more = fixed_more width vs v in omega (arith, more)
-values_grow (l.VariableBytes utf8) vs v = let more = content_more vs v in omega (arith, more)
+long_more : (layout : Layout) (vs : List Value) (v : Value) → HasLongData layout vs → HasLongData layout (vs ++ v ∷ [])
+long_more layout vs v h =
+    let more = data_push layout vs v in
+    long_is layout (vs ++ v ∷ []) (passes_more layout (data_in layout vs) (data_in layout (vs ++ v ∷ [])) (omega (arith, more))
+    (long_from layout vs h))
+
+values_grow : (layout : Layout) (n a b : ℕ) → a ≤ b → values_length layout n a ≤ values_length layout (n + 1) b
+values_grow l.Null n a b h = omega arith
+values_grow l.Unsupported n a b h = omega arith
+values_grow l.Lists n a b h = omega arith
+values_grow l.Structs n a b h = omega arith
+values_grow (l.FixedLists size) n a b h = omega arith
+values_grow l.Bits n a b h = omega arith
+values_grow (l.Numbers bits signed) n a b h = h
+values_grow (l.FixedBytes width) n a b h = h
+values_grow (l.VariableBytes utf8) n a b h = h
 
 padded_grow : (a b : ℕ) → a ≤ b → padded_length a ≤ padded_length b
 padded_grow a b h = omega arith
@@ -63,6 +74,7 @@ validity_grow l.Null n c d h = omega arith
 validity_grow l.Unsupported n c d h = omega arith
 validity_grow l.Lists n c d h = bitmap_grow n c d h
 validity_grow l.Structs n c d h = bitmap_grow n c d h
+validity_grow (l.FixedLists size) n c d h = bitmap_grow n c d h
 validity_grow l.Bits n c d h = bitmap_grow n c d h
 validity_grow (l.Numbers bits signed) n c d h = bitmap_grow n c d h
 validity_grow (l.FixedBytes width) n c d h = bitmap_grow n c d h
@@ -73,6 +85,7 @@ offsets_grow l.Null n = omega arith
 offsets_grow l.Unsupported n = omega arith
 offsets_grow l.Lists n = omega arith
 offsets_grow l.Structs n = omega arith
+offsets_grow (l.FixedLists size) n = omega arith
 offsets_grow l.Bits n = omega arith
 offsets_grow (l.Numbers bits signed) n = omega arith
 offsets_grow (l.FixedBytes width) n = omega arith
@@ -87,92 +100,168 @@ column_grow layout n c d a b h g =
 
 -- the buffers of a column with one value more are no shorter
 buffers_grow : (layout : Layout) (vs : List Value) (v : Value)
-    → length (joined (layout_buffers layout vs)) ≤ length (joined (layout_buffers layout (vs ++ v ∷ [])))
+    → length (joined (column_buffers layout vs)) ≤ length (joined (column_buffers layout (vs ++ v ∷ [])))
 buffers_grow layout vs v =
     let size = length-append vs (v ∷ []) in
     let count : length (vs ++ v ∷ []) ≡ length vs + 1 = omega (arith, size) in
     let none = nulls_push vs v in
-    let more = column_grow layout (length vs) (nulls vs) (nulls (vs ++ v ∷ [])) _ _ (omega (arith, none)) (values_grow layout vs v) in
+    let amount = data_push layout vs v in
+    let more = column_grow layout (length vs) (nulls vs) (nulls (vs ++ v ∷ [])) _ _ (omega (arith, none))
+    (values_grow layout (length vs) (data_in layout vs) (data_in layout (vs ++ v ∷ [])) (omega (arith, amount))) in
     rw (column_size layout vs, column_size layout (vs ++ v ∷ []), count) more
 
--- ---- one row more
+-- ---- more values
 
-body_grows : (fs : List Field) (j : ℕ) (rows : List (List Value)) (row : List Value)
-    → length (joined (buffers_from j fs rows)) ≤ length (joined (buffers_from j fs (rows ++ row ∷ [])))
-body_grows [] j rows row = omega arith
-body_grows (f ∷ fs) j rows row =
-    let one = rw (← cells_push j rows row) at (buffers_grow (layout_of f) (cells j rows) (cell j row)) in
-    let more = body_grows fs (j + 1) rows row in
-    let old = ap (λ (bs : List ℕ). length bs) (joined_append (column_buffers f (cells j rows)) (buffers_from (j + 1) fs rows)) in
-    let new = ap (λ (bs : List ℕ). length bs)
-    (joined_append (column_buffers f (cells j (rows ++ row ∷ []))) (buffers_from (j + 1) fs (rows ++ row ∷ []))) in
-    let old_parts = length-append (joined (column_buffers f (cells j rows))) (joined (buffers_from (j + 1) fs rows)) in
-    let new_parts = length-append (joined (column_buffers f (cells j (rows ++ row ∷ []))))
-    (joined (buffers_from (j + 1) fs (rows ++ row ∷ []))) in
-    omega (arith, one, more, old, new, old_parts, new_parts)
+-- a property that one value more leaves is one that more values leave
+always_more : (P : List Value → Type 0) → ((vs : List Value) (v : Value) → P vs → P (vs ++ v ∷ [])) → (vs more : List Value) → P vs
+    → P (vs ++ more)
+always_more P step vs [] h = subst P (sym (append-nil vs)) h
+always_more P step vs (v ∷ more) h = subst P (append_assoc vs (v ∷ []) more) (always_more P step (vs ++ v ∷ []) more (step vs v h))
 
-long_grows : (fs : List Field) (j : ℕ) (rows : List (List Value)) (row : List Value) → SomeLongData j fs rows
-    → SomeLongData j fs (rows ++ row ∷ [])
-long_grows [] j rows row h = h
-long_grows (f ∷ fs) j rows row (inl long) =
-    inl (subst (λ (vs : List Value). HasLongData (layout_of f) vs) (sym (cells_push j rows row))
-    (long_more (layout_of f) (cells j rows) (cell j row) long))
-long_grows (f ∷ fs) j rows row (inr more) = inr (long_grows fs (j + 1) rows row more)
+pub long_data_more : (layout : Layout) (vs more : List Value) → HasLongData layout vs → HasLongData layout (vs ++ more)
+long_data_more layout vs more h = always_more (HasLongData layout) (long_more layout) vs more h
 
-too_long_grows : (limits : Limits) (fields : List Field) (rows : List (List Value)) (row : List Value) → IsTooLong limits fields rows
-    → IsTooLong limits fields (rows ++ row ∷ [])
-too_long_grows limits fields rows row (inl long) = inl (long_grows fields 0 rows row long)
-too_long_grows limits fields rows row (inr more) = let grown = body_grows fields 0 rows row in inr (omega (arith, grown, more))
+pub column_more : (layout : Layout) (vs more : List Value)
+    → length (joined (column_buffers layout vs)) ≤ length (joined (column_buffers layout (vs ++ more)))
+column_more layout vs more =
+    always_more (λ (ws : List Value). length (joined (column_buffers layout vs)) ≤ length (joined (column_buffers layout ws)))
+    (λ ws v h. let grown = buffers_grow layout ws v in omega (arith, grown, h)) vs more (omega arith)
 
-refused_one : (limits : Limits) (fields : List Field) (rows : List (List Value)) (row : List Value) (e : WriteFault)
-    → IsRefused limits fields rows e
-    → IsRefused limits fields (rows ++ row ∷ []) e
-refused_one limits fields rows row fault.TooLong h = too_long_grows limits fields rows row h
-refused_one limits fields rows row fault.TooManyRows h = let size = length-append rows (row ∷ []) in omega (arith, size, h)
-refused_one limits fields rows row fault.OutOfMemory h = h
-refused_one limits fields rows row _ h = h
+-- ---- more values in each column
+
+pub long_nodes_grow : (most : ℕ) (shape : Shape) (given more : ℕ → List Value) → HasLongNode most shape given
+    → HasLongNode most shape (λ j. given j ++ more j)
+long_nodes_grow most bare given more h = absurd h
+long_nodes_grow most (field l c rest) given more (inl own) = let size = length-append (given 0) (more 0) in inl (omega (arith, size, own))
+long_nodes_grow most (field l c rest) given more (inr (inl child)) =
+    inr (inl (subst (λ (inner : ℕ → List Value). HasLongNode most c inner) (λ d j. sym (below_append l (given 0) (more 0) j) d)
+    (long_nodes_grow most c (below l (given 0)) (below l (more 0)) child)))
+long_nodes_grow most (field l c rest) given more (inr (inr later)) =
+    inr (inr (long_nodes_grow most rest (λ j. given (suc j)) (λ j. more (suc j)) later))
+
+pub long_data_grow : (shape : Shape) (given more : ℕ → List Value) → SomeLongData shape given → SomeLongData shape
+    (λ j. given j ++ more j)
+long_data_grow bare given more h = absurd h
+long_data_grow (field l c rest) given more (inl own) = inl (long_data_more l (given 0) (more 0) own)
+long_data_grow (field l c rest) given more (inr (inl child)) =
+    inr (inl (subst (λ (inner : ℕ → List Value). SomeLongData c inner) (λ d j. sym (below_append l (given 0) (more 0) j) d)
+    (long_data_grow c (below l (given 0)) (below l (more 0)) child)))
+long_data_grow (field l c rest) given more (inr (inr later)) =
+    inr (inr (long_data_grow rest (λ j. given (suc j)) (λ j. more (suc j)) later))
+
+-- a column's buffers, those below it, and the others
+pub parts_length : (l : Layout) (c rest : Shape) (given : ℕ → List Value)
+    → length (joined (buffers_of (field l c rest) given))
+    ≡ length (joined (column_buffers l (given 0))) + length (joined (buffers_of c (below l (given 0))))
+    + length (joined (buffers_of rest (λ j. given (suc j))))
+parts_length l c rest given =
+    let own = column_buffers l (given 0) in
+    let inner = buffers_of c (below l (given 0)) in
+    let others = buffers_of rest (λ j. given (suc j)) in
+    let whole = ap (λ (bs : List ℕ). length bs) (joined_append own (inner ++ others)) in
+    let last = ap (λ (bs : List ℕ). length bs) (joined_append inner others) in
+    let a = length-append (joined own) (joined (inner ++ others)) in
+    let b = length-append (joined inner) (joined others) in
+    omega (arith, whole, last, a, b)
+
+pub body_grows : (shape : Shape) (given more : ℕ → List Value)
+    → length (joined (buffers_of shape given)) ≤ length (joined (buffers_of shape (λ j. given j ++ more j)))
+body_grows bare given more = omega arith
+body_grows (field l c rest) given more =
+    let own = column_more l (given 0) (more 0) in
+    let inner = subst (λ (g : ℕ → List Value). length (joined (buffers_of c (below l (given 0)))) ≤ length (joined (buffers_of c g)))
+    (λ d j. sym (below_append l (given 0) (more 0) j) d) (body_grows c (below l (given 0)) (below l (more 0))) in
+    let later = body_grows rest (λ j. given (suc j)) (λ j. more (suc j)) in
+    let old = parts_length l c rest given in
+    let new = parts_length l c rest (λ j. given j ++ more j) in
+    omega (arith, own, inner, later, old, new)
+
+-- why values aren't taken is why they aren't with more
+pub refused_grow : (limits : Limits) (shape : Shape) (given more : ℕ → List Value) (e : PushFault) → ArePushesRefused limits shape given e
+    → ArePushesRefused limits shape (λ j. given j ++ more j) e
+refused_grow limits shape given more push.TooLong (inl long) = inl (long_data_grow shape given more long)
+refused_grow limits shape given more push.TooLong (inr body) = let grown = body_grows shape given more in inr (omega (arith, grown, body))
+refused_grow limits shape given more push.TooMany h = long_nodes_grow limits.slots shape given more h
+refused_grow limits shape given more push.OutOfMemory h = h
+
+-- ---- one of several columns
+
+pub own_refused : (limits : Limits) (l : Layout) (c rest : Shape) (given : ℕ → List Value) (e : PushFault)
+    → IsPushRefused limits l (given 0) e
+    → ArePushesRefused limits (field l c rest) given e
+own_refused limits l c rest given push.TooLong (inl long) = inl (inl long)
+own_refused limits l c rest given push.TooLong (inr body) = let size = parts_length l c rest given in inr (omega (arith, size, body))
+own_refused limits l c rest given push.TooMany h = inl h
+own_refused limits l c rest given push.OutOfMemory h = h
+
+pub child_refused : (limits : Limits) (l : Layout) (c rest : Shape) (given : ℕ → List Value) (e : PushFault)
+    → ArePushesRefused limits c (below l (given 0)) e → ArePushesRefused limits (field l c rest) given e
+child_refused limits l c rest given push.TooLong (inl long) = inl (inr (inl long))
+child_refused limits l c rest given push.TooLong (inr body) = let size = parts_length l c rest given in inr (omega (arith, size, body))
+child_refused limits l c rest given push.TooMany h = inr (inl h)
+child_refused limits l c rest given push.OutOfMemory h = h
+
+later_refused : (limits : Limits) (l : Layout) (c rest : Shape) (given : ℕ → List Value) (e : PushFault)
+    → ArePushesRefused limits rest (λ j. given (suc j)) e → ArePushesRefused limits (field l c rest) given e
+later_refused limits l c rest given push.TooLong (inl long) = inl (inr (inr long))
+later_refused limits l c rest given push.TooLong (inr body) = let size = parts_length l c rest given in inr (omega (arith, size, body))
+later_refused limits l c rest given push.TooMany h = inr (inr h)
+later_refused limits l c rest given push.OutOfMemory h = h
+
+first_refused : (limits : Limits) (l : Layout) (c rest : Shape) (given : ℕ → List Value) (e : PushFault)
+    → ArePushesRefused limits (field l c bare) (λ j. given 0) e → ArePushesRefused limits (field l c rest) given e
+first_refused limits l c rest given push.TooLong (inl (inl long)) = inl (inl long)
+first_refused limits l c rest given push.TooLong (inl (inr (inl long))) = inl (inr (inl long))
+first_refused limits l c rest given push.TooLong (inl (inr (inr none))) = absurd none
+first_refused limits l c rest given push.TooLong (inr body) =
+    let size = parts_length l c rest given in
+    let alone = parts_length l c bare (λ j. given 0) in
+    inr (omega (arith, size, alone, body))
+first_refused limits l c rest given push.TooMany (inl own) = inl own
+first_refused limits l c rest given push.TooMany (inr (inl child)) = inr (inl child)
+first_refused limits l c rest given push.TooMany (inr (inr none)) = absurd none
+first_refused limits l c rest given push.OutOfMemory h = h
+
+-- why node i doesn't take its values is why all nodes don't take theirs
+pub mixed_refused : (limits : Limits) (Q P : Layout → List Value → Column → Type 0) (i : ℕ) (shape : Shape) (nodes : List Node)
+    (old new : ℕ → List Value) (d : Node) (e : PushFault) → i < length nodes
+    → ((l : Layout) (c : Shape) → IsNode P l c (get_or nodes i d) (old i) → ArePushesRefused limits (field l c bare) (λ j. new i) e)
+    → AreMixed Q P i shape nodes old new → ArePushesRefused limits shape new e
+mixed_refused limits Q P i bare [] old new d e l step h = absurd (omega arith)
+mixed_refused limits Q P zero bare (m ∷ ms) old new d e l step h = absurd h
+mixed_refused limits Q P (suc i) bare (m ∷ ms) old new d e l step h = absurd h
+mixed_refused limits Q P zero (field k c rest) [] old new d e l step h = absurd h
+mixed_refused limits Q P (suc i) (field k c rest) [] old new d e l step h = absurd h
+mixed_refused limits Q P zero (field k c rest) (m ∷ ms) old new d e l step h = first_refused limits k c rest new e (step k c h.0)
+mixed_refused limits Q P (suc i) (field k c rest) (m ∷ ms) old new d e l step h =
+    later_refused limits k c rest new e
+    (mixed_refused limits Q P i rest ms (λ j. old (suc j)) (λ j. new (suc j)) d e (omega arith) step h.1)
+
+-- why the first of some values aren't taken is why they all aren't
+pub all_refused : (limits : Limits) (l : Layout) (c : Shape) (before values : List Value) (i : ℕ) (e : PushFault)
+    → ArePushesRefused limits (field l c bare) (λ j. before ++ take i values) e
+    → ArePushesRefused limits (field l c bare) (λ j. before ++ values) e
+all_refused limits l c before values i e h =
+    let whole : (before ++ take i values) ++ drop i values ≡ before ++ values =
+    append_assoc before (take i values) (drop i values) ∙ ap (λ (vs : List Value). before ++ vs) (take-append-drop i values) in
+    subst (λ (vs : List Value). ArePushesRefused limits (field l c bare) (λ j. vs) e) whole
+    (refused_grow limits (field l c bare) (λ j. before ++ take i values) (λ j. drop i values) e h)
+
+-- ---- more rows
 
 -- what is refused of some rows is refused of them with others behind them
 pub refused_more : (limits : Limits) (fields : List Field) (rows more : List (List Value)) (e : WriteFault) → IsRefused limits fields rows e
     → IsRefused limits fields (rows ++ more) e
-refused_more limits fields rows [] e h = subst (λ (rs : List (List Value)). IsRefused limits fields rs e) (sym (append-nil rows)) h
-refused_more limits fields rows (row ∷ more) e h =
-    subst (λ (rs : List (List Value)). IsRefused limits fields rs e) (append_assoc rows (row ∷ []) more)
-    (refused_more limits fields (rows ++ row ∷ []) more e (refused_one limits fields rows row e h))
-
--- what is refused of the first rows is refused of all
-pub refused_first : (limits : Limits) (fields : List Field) (rows : List (List Value)) (i : ℕ) (e : WriteFault)
-    → IsRefused limits fields (take i rows) e
-    → IsRefused limits fields rows e
-refused_first limits fields rows i e h =
-    subst (λ (rs : List (List Value)). IsRefused limits fields rs e) (take-append-drop i rows)
-    (refused_more limits fields (take i rows) (drop i rows) e h)
-
--- ---- rows that columns don't take
-
-row_refused_one : (fields : List Field) (rows : List (List Value)) (row : List Value) (e : PushFault) → IsRowRefused fields rows e
-    → IsRowRefused fields (rows ++ row ∷ []) e
-row_refused_one fields rows row push.TooLong (inl long) = inl (long_grows fields 0 rows row long)
-row_refused_one fields rows row push.TooLong (inr many) = let size = length-append rows (row ∷ []) in inr (omega (arith, size, many))
-row_refused_one fields rows row push.OutOfMemory h = h
-
-row_refused_more : (fields : List Field) (rows more : List (List Value)) (e : PushFault) → IsRowRefused fields rows e
-    → IsRowRefused fields (rows ++ more) e
-row_refused_more fields rows [] e h = subst (λ (rs : List (List Value)). IsRowRefused fields rs e) (sym (append-nil rows)) h
-row_refused_more fields rows (row ∷ more) e h =
-    subst (λ (rs : List (List Value)). IsRowRefused fields rs e) (append_assoc rows (row ∷ []) more)
-    (row_refused_more fields (rows ++ row ∷ []) more e (row_refused_one fields rows row e h))
-
--- rows whose beginning isn't taken aren't
-pub row_refused_first : (fields : List Field) (rows : List (List Value)) (i : ℕ) (e : PushFault) → IsRowRefused fields (take i rows) e
-    → IsRowRefused fields rows e
-row_refused_first fields rows i e h =
-    subst (λ (rs : List (List Value)). IsRowRefused fields rs e) (take-append-drop i rows)
-    (row_refused_more fields (take i rows) (drop i rows) e h)
-
--- where there are no more rows than the limits allow, what columns don't take is refused
-pub row_refusal : (limits : Limits) (fields : List Field) (rows : List (List Value)) (e : PushFault) → length rows ≤ limits.slots
-    → IsRowRefused fields rows e → IsRefused limits fields rows (write_fault e)
-row_refusal limits fields rows push.TooLong few (inl long) = inl long
-row_refusal limits fields rows push.TooLong few (inr many) = let most = limits.slots_fit in absurd (omega (arith, few, many, most))
-row_refusal limits fields rows push.OutOfMemory few h = tt
+refused_more limits fields rows more fault.TooLong (inl long) =
+    inl (subst (λ (given : ℕ → List Value). SomeLongData (shape_of fields) given) (λ d j. sym (cells_append j rows more) d)
+    (long_data_grow (shape_of fields) (columns rows) (columns more) long))
+refused_more limits fields rows more fault.TooLong (inr body) =
+    let grown = subst (λ (given : ℕ → List Value). length (body_of fields rows) ≤ length (joined (buffers_of (shape_of fields) given)))
+    (λ d j. sym (cells_append j rows more) d) (body_grows (shape_of fields) (columns rows) (columns more)) in
+    inr (omega (arith, grown, body))
+refused_more limits fields rows more fault.TooManyRows (inl many) = let size = length-append rows more in inl (omega (arith, size, many))
+refused_more limits fields rows more fault.TooManyRows (inr long) =
+    inr (subst (λ (given : ℕ → List Value). HasLongNode limits.slots (shape_of fields) given) (λ d j. sym (cells_append j rows more) d)
+    (long_nodes_grow limits.slots (shape_of fields) (columns rows) (columns more) long))
+refused_more limits fields rows more fault.OutOfMemory h = h
+refused_more limits fields rows more _ h = h

@@ -2,6 +2,7 @@
 use Rattle.std.proofs.Common.{◌≡◌, ◌∙◌, refl, sym, ap, subst, ℕ, ◌+◌, Bool, true, false, cond}
 use Rattle.std.proofs.Common.{List, [], ◌∷◌, ◌++◌, length, replicate, arith}
 use Rattle.std.proofs.lemmas.Bool.{ne_eqb}
+use Rattle.ipc_model.specs.declared.limits.Limits.{Limits}
 use Rattle.ipc_model.specs.declared.value.Value.{Value}
 use Rattle.ipc_model.specs.declared.layout.Layout.{Layout}
 use Rattle.ipc_model.specs.declared.layout.Layout.TheVariants as l
@@ -9,7 +10,8 @@ use Rattle.ipc_model.specs.Layouts.{own_buffers}
 use Rattle.ipc_encode.specs.Pieces.{Valid}
 use Rattle.ipc_encode.specs.Bitmaps.{bitmap}
 use Rattle.ipc_encode.specs.Cells.{is_set, flags, nulls}
-use Rattle.ipc_encode.specs.Columns.{validity_bytes, validity_in}
+use Rattle.ipc_encode.specs.Columns.{validity_bytes, validity_in, values_in}
+use Rattle.ipc_encode.specs.Writing.{AreStored}
 use Rattle.ipc_encode.specs.declared.column.Column.{Column}
 use Rattle.ipc_encode.specs.Built.{IsColumn}
 use Rattle.ipc_encode.proofs.Steps.{flags_push, nulls_push}
@@ -65,6 +67,7 @@ has_bitmap (l.FixedBytes width) vs some = refl
 has_bitmap (l.VariableBytes utf8) vs some = refl
 has_bitmap l.Lists vs some = refl
 has_bitmap l.Structs vs some = refl
+has_bitmap (l.FixedLists size) vs some = refl
 
 pub no_bitmap : (layout : Layout) (vs : List Value) → own_buffers layout ≡ 0 → validity_in layout vs ≡ []
 no_bitmap l.Null vs none = refl
@@ -75,8 +78,46 @@ no_bitmap (l.FixedBytes width) vs none = absurd (omega arith)
 no_bitmap (l.VariableBytes utf8) vs none = absurd (omega arith)
 no_bitmap l.Lists vs none = absurd (omega arith)
 no_bitmap l.Structs vs none = absurd (omega arith)
+no_bitmap (l.FixedLists size) vs none = absurd (omega arith)
 
 -- a column of one layout is one of the same layout
-pub laid_as : {column : Column} → (lay layout : Layout) (vs : List Value) → lay ≡ layout → IsColumn lay vs column
-    → IsColumn layout vs column
-laid_as {column} lay layout vs e h = subst (λ (x : Layout). IsColumn x vs column) e h
+pub laid_as : {column : Column} → (limits : Limits) (lay layout : Layout) (vs : List Value) → lay ≡ layout
+    → IsColumn limits lay vs column
+    → IsColumn limits layout vs column
+laid_as {column} limits lay layout vs e h = subst (λ (x : Layout). IsColumn limits x vs column) e h
+
+-- ---- a column without values
+
+pub validity_none : (layout : Layout) → validity_in layout [] ≡ []
+validity_none l.Null = refl
+validity_none l.Unsupported = refl
+validity_none l.Bits = refl
+validity_none (l.Numbers bits signed) = refl
+validity_none (l.FixedBytes width) = refl
+validity_none (l.VariableBytes utf8) = refl
+validity_none l.Lists = refl
+validity_none l.Structs = refl
+validity_none (l.FixedLists size) = refl
+
+pub values_none : (layout : Layout) → values_in layout [] ≡ []
+values_none l.Null = refl
+values_none l.Unsupported = refl
+values_none l.Bits = refl
+values_none (l.Numbers bits signed) = refl
+values_none (l.FixedBytes width) = refl
+values_none (l.VariableBytes utf8) = refl
+values_none l.Lists = refl
+values_none l.Structs = refl
+values_none (l.FixedLists size) = refl
+
+pub stored_none : (layout : Layout) → AreStored layout []
+stored_none l.Null = tt
+stored_none l.Unsupported = tt
+stored_none l.Bits = tt
+stored_none (l.Numbers bits signed) = tt
+stored_none (l.FixedBytes width) = tt
+stored_none l.Lists = tt
+stored_none l.Structs = tt
+stored_none (l.FixedLists size) = tt
+stored_none (l.VariableBytes false) = tt
+stored_none (l.VariableBytes true) = tt

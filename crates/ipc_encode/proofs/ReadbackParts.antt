@@ -1,7 +1,7 @@
 -- What is read back of the buffers of a column, buffer by buffer.
 use Rattle.std.proofs.Common.{◌≡◌, ◌∙◌, refl, sym, ap, subst, ℕ, zero, suc, ◌+◌, ◌-◌, ◌*◌, ◌/◌, ◌%◌, ◌^◌, ◌<◌, ◌≤◌, Bool, true, false, cond}
-use Rattle.std.proofs.Common.{List, [], ◌∷◌, ◌++◌, length, take, drop, get_or, append_assoc, length-append, arith}
-use Rattle.std.specs.Prelude.{◌==◌, pos, unsigned_abs, ◌≤ℤ◌, slice_range, ⊤}
+use Rattle.std.proofs.Common.{List, [], ◌∷◌, ◌++◌, length, take, take_all, drop, get_or, append_assoc, length-append, arith}
+use Rattle.std.specs.Prelude.{◌==◌, ℤ, pos, unsigned_abs, ◌≤ℤ◌, slice_range, ⊤}
 use Rattle.std.specs.Int.{w32, cast_signed, bytes_low_first}
 use Rattle.std.specs.List.{AllByRecursion}
 use Rattle.std.specs.Str.{IsUtf8}
@@ -19,16 +19,16 @@ use Rattle.ipc_model.specs.declared.value.Value.TheVariants as v
 use Rattle.ipc_model.specs.declared.layout.Layout.{Layout}
 use Rattle.ipc_model.specs.declared.layout.Layout.TheVariants as l
 use Rattle.ipc_model.specs.Layouts.{number_bytes, has_validity}
-use Rattle.ipc_column.specs.Columns.{Column, none as no_columns}
-use Rattle.ipc_column.specs.Rules.{HoldValues, HoldOffsets, IsLongEnough, HasBits, CountsNulls, HasOffsets, IsText, SpellsTexts}
+use Rattle.ipc_column.specs.Columns.{Column}
+use Rattle.ipc_column.specs.Rules.{HoldValues, HoldOffsets, IsLongEnough, HasBits, CountsNulls, AreOffsets}
 use Rattle.ipc_column.specs.Values.{is_valid, offset, place, between}
 use Rattle.ipc_encode.specs.Pieces.{Valid, True}
-use Rattle.ipc_encode.specs.Pieces.{ValueSlot}
+use Rattle.ipc_encode.specs.Pieces.{Run, ValueSlot}
 use Rattle.ipc_encode.specs.Pieces.{Number, Fixed, Content}
 use Rattle.ipc_encode.specs.Pieces as p
 use Rattle.ipc_encode.specs.Bitmaps.{bitmap}
-use Rattle.ipc_encode.specs.Cells.{is_set, flags, nulls, number_bits, content, fixed}
-use Rattle.ipc_encode.specs.Cells.{slot_bytes, slots, ends, offsets}
+use Rattle.ipc_encode.specs.Cells.{is_set, flags, nulls, number_bits, content, fixed, SpellsOut}
+use Rattle.ipc_encode.specs.Cells.{slot_bytes, slots, extent, ends, offsets, items, all_items}
 use Rattle.ipc_encode.specs.Buffers.{piece_bytes}
 use Rattle.ipc_encode.specs.Columns.{validity_bytes, validity_in, offsets_in, values_in}
 use Rattle.ipc_encode.proofs.Bits.{length_bytes, bit_of, flags_length, clear_is}
@@ -47,29 +47,40 @@ column_of l vs = record {
   values = values_in l vs;
 }
 
--- a value that a layout holds
-abbrev pub Holds : Layout → Value-F Value → Type 0
-Holds l.Unsupported w = ⊥
-Holds l.Lists w = ⊥
-Holds l.Structs w = ⊥
-Holds _ Value-F.Null = ⊤
-Holds l.Bits (Value-F.Bool truth) = ⊤
-Holds (l.Numbers bits true) (Value-F.Int z) = IsSignedWithin (width bits) z
-Holds (l.Numbers bits false) (Value-F.UInt n) = IsUnsignedWithin (width bits) n
-Holds (l.FixedBytes width) (Value-F.Bytes bytes) = length bytes ≡ width
-Holds (l.VariableBytes false) (Value-F.Bytes bytes) = ⊤
-Holds (l.VariableBytes true) (Value-F.Text text) = IsUtf8 text
-Holds _ w = ⊥
+-- a value that a layout with so many children holds
+abbrev pub Holds : Layout → ℕ → Value-F Value → Type 0
+Holds l.Unsupported n w = ⊥
+Holds _ n Value-F.Null = ⊤
+Holds l.Bits n (Value-F.Bool truth) = ⊤
+Holds (l.Numbers bits true) n (Value-F.Int z) = IsSignedWithin (width bits) z
+Holds (l.Numbers bits false) n (Value-F.UInt k) = IsUnsignedWithin (width bits) k
+Holds (l.FixedBytes width) n (Value-F.Bytes bytes) = length bytes ≡ width
+Holds (l.VariableBytes false) n (Value-F.Bytes bytes) = ⊤
+Holds (l.VariableBytes true) n (Value-F.Text text) = ⊤
+Holds l.Lists n (Value-F.List values) = n ≡ 1
+Holds (l.FixedLists size) n (Value-F.List values) = (length values ≡ size) × (n ≡ 1)
+Holds l.Structs n (Value-F.Struct values) = length values ≡ n
+Holds _ n w = ⊥
 
 -- each of the values is held by the layout
-abbrev pub AllHeld : Layout → List Value → Type 0
-AllHeld l vs = AllByRecursion (λ v. Holds l (out-Value v)) vs
+abbrev pub AllHeld : Layout → ℕ → List Value → Type 0
+AllHeld l n vs = AllByRecursion (λ v. Holds l n (out-Value v)) vs
+
+-- a list of a fixed size has one child, also where there are no values
+abbrev pub HasItsChild : Layout → ℕ → Type 0
+HasItsChild (l.FixedLists size) n = n ≡ 1
+HasItsChild _ n = ⊤
+
+-- what holds of all values holds of the i-th
+pub each_at : (P : Value → Type 0) (vs : List Value) (i : ℕ) (d : Value) → AllByRecursion P vs → i < length vs → P (get_or vs i d)
+each_at P [] i d h k = absurd (omega arith)
+each_at P (v ∷ vs) zero d h k = h.0
+each_at P (v ∷ vs) (suc i) d h k = each_at P vs i d h.1 (omega arith)
 
 -- where a layout holds all values, it holds the i-th
-pub held_at : (l : Layout) (vs : List Value) (i : ℕ) (d : Value) → AllHeld l vs → i < length vs → Holds l (out-Value (get_or vs i d))
-held_at l [] i d h k = absurd (omega arith)
-held_at l (v ∷ vs) zero d h k = h.0
-held_at l (v ∷ vs) (suc i) d h k = held_at l vs i d h.1 (omega arith)
+pub held_at : (l : Layout) (n : ℕ) (vs : List Value) (i : ℕ) (d : Value) → AllHeld l n vs → i < length vs
+    → Holds l n (out-Value (get_or vs i d))
+held_at l n vs i d h k = each_at (λ v. Holds l n (out-Value v)) vs i d h k
 
 -- ---- validity
 
@@ -148,16 +159,16 @@ numbers_wide bits [] = tt
 numbers_wide bits (v ∷ vs) = (length_low_bytes 0 (number_bytes bits) (number_bits v), numbers_wide bits vs)
 
 -- a value of fixed-size binary has as many bytes as its width
-pub fixed_length : (width : ℕ) (v : Value) (w : Value-F Value) → out-Value v ≡ w → Holds (l.FixedBytes width) w
+pub fixed_length : (width n : ℕ) (v : Value) (w : Value-F Value) → out-Value v ≡ w → Holds (l.FixedBytes width) n w
     → length (fixed width v) ≡ width
-fixed_length width v Value-F.Null e h = rw e (length-replicate width 0)
-fixed_length width v (Value-F.Bytes bytes) e h = rw e h
-fixed_length width v _ e h = absurd h
+fixed_length width n v Value-F.Null e h = rw e (length-replicate width 0)
+fixed_length width n v (Value-F.Bytes bytes) e h = rw e h
+fixed_length width n v _ e h = absurd h
 
 -- each slot of fixed-size binary has as many bytes as its width
-pub fixed_wide : (width : ℕ) (vs : List Value) → AllHeld (l.FixedBytes width) vs → Wide (Fixed width) width vs
-fixed_wide width [] h = tt
-fixed_wide width (v ∷ vs) h = (fixed_length width v (out-Value v) refl h.0, fixed_wide width vs h.1)
+pub fixed_wide : (width n : ℕ) (vs : List Value) → AllHeld (l.FixedBytes width) n vs → Wide (Fixed width) width vs
+fixed_wide width n [] h = tt
+fixed_wide width n (v ∷ vs) h = (fixed_length width n v (out-Value v) refl h.0, fixed_wide width n vs h.1)
 
 -- the number of slot i
 pub number_back : (bits : IntBits) (vs : List Value) (i : ℕ) (d : Value) → i < length vs
@@ -170,14 +181,14 @@ number_back bits vs i d k =
     ∙ num_low (slots (Number bits) (take i vs)) rest (w * i) w x (wide_front (Number bits) w vs i (numbers_wide bits vs) (omega arith))
 
 -- the bytes of slot i, of one width
-pub fixed_back : (width : ℕ) (vs : List Value) (i : ℕ) (d : Value) → AllHeld (l.FixedBytes width) vs → i < length vs
+pub fixed_back : (width n : ℕ) (vs : List Value) (i : ℕ) (d : Value) → AllHeld (l.FixedBytes width) n vs → i < length vs
     → slice_range (slots (Fixed width) vs) (width * i) (width * i + width) ≡ fixed width (get_or vs i d)
-fixed_back width vs i d h k =
+fixed_back width n vs i d h k =
     let front = slots (Fixed width) (take i vs) in
     let own = fixed width (get_or vs i d) in
-    let start : width * i ≡ length front = sym (wide_front (Fixed width) width vs i (fixed_wide width vs h) (omega arith)) in
-    let size : width ≡ length own = sym (fixed_length width (get_or vs i d) (out-Value (get_or vs i d)) refl
-    (held_at (l.FixedBytes width) vs i d h k)) in
+    let start : width * i ≡ length front = sym (wide_front (Fixed width) width vs i (fixed_wide width n vs h) (omega arith)) in
+    let size : width ≡ length own = sym (fixed_length width n (get_or vs i d) (out-Value (get_or vs i d)) refl
+    (held_at (l.FixedBytes width) n vs i d h k)) in
     let end : width * i + width ≡ length front + length own = omega (arith, start, size) in
     ap (λ (bs : List ℕ). slice_range bs (width * i) (width * i + width)) (slots_split (Fixed width) vs i d k)
     ∙ (ap (λ (m : ℕ). slice_range (front ++ (own ++ slots (Fixed width) (drop (suc i) vs))) (width * i) m) end
@@ -186,86 +197,104 @@ fixed_back width vs i d h k =
 
 -- ---- offsets
 
+-- how long the runs of values are together
+abbrev pub reach : Run → List Value → ℕ
+reach run [] = 0
+reach run (v ∷ vs) = extent run v + reach run vs
+
+-- the runs of bytes are as long as the data
+pub reach_bytes : (vs : List Value) → reach p.Bytes vs ≡ length (slots Content vs)
+reach_bytes [] = refl
+reach_bytes (v ∷ vs) = let rest = reach_bytes vs in omega (arith, rest, length-append (content v) (slots Content vs))
+
+-- the runs of items are as long as the items of all lists
+pub reach_items : (vs : List Value) → reach p.Items vs ≡ length (all_items vs)
+reach_items [] = refl
+reach_items (v ∷ vs) = let rest = reach_items vs in omega (arith, rest, length-append (items v) (all_items vs))
+
 -- the end of each slot is a number of 4 bytes
-pub ends_length : (start : ℕ) (vs : List Value) → length (ends start vs) ≡ 4 * length vs
-ends_length start [] = omega arith
-ends_length start (v ∷ vs) =
-    let rest = ends_length (start + length (content v)) vs in
+pub ends_length : (run : Run) (start : ℕ) (vs : List Value) → length (ends run start vs) ≡ 4 * length vs
+ends_length run start [] = omega arith
+ends_length run start (v ∷ vs) =
+    let rest = ends_length run (start + extent run v) vs in
     omega (arith, rest)
 
 -- the number at offset i, behind a front
-pub ends_back : (vs : List Value) (front : List ℕ) (start i : ℕ) → i ≤ length vs
-    → num (front ++ (bytes_low_first 0 4 start ++ ends start vs)) (length front + 4 * i) 4
-    ≡ (start + length (slots Content (take i vs))) % 2 ^ 32
-ends_back vs front start zero k =
+pub ends_back : (run : Run) (vs : List Value) (front : List ℕ) (start i : ℕ) → i ≤ length vs
+    → num (front ++ (bytes_low_first 0 4 start ++ ends run start vs)) (length front + 4 * i) 4 ≡ (start + reach run (take i vs)) % 2 ^ 32
+ends_back run vs front start zero k =
     let at : length front ≡ length front + 4 * 0 = omega arith in
     let more : start ≡ start + 0 = omega arith in
     let same : start % 256 ^ 4 ≡ (start + 0) % 2 ^ 32 = ap (λ (n : ℕ). n % 4294967296) more in
-    num_low front (ends start vs) (length front + 4 * 0) 4 start at ∙ same
-ends_back [] front start (suc i) k = absurd (omega arith)
-ends_back (v ∷ vs) front start (suc i) k =
+    num_low front (ends run start vs) (length front + 4 * 0) 4 start at ∙ same
+ends_back run [] front start (suc i) k = absurd (omega arith)
+ends_back run (v ∷ vs) front start (suc i) k =
     let own = bytes_low_first 0 4 start in
-    let next = start + length (content v) in
-    let later = ends_back vs (front ++ own) next i (omega arith) in
+    let next = start + extent run v in
+    let later = ends_back run vs (front ++ own) next i (omega arith) in
     let size = length-append front own in
     let place : length front + 4 * suc i ≡ length (front ++ own) + 4 * i = omega (arith, size) in
-    let sum : next + length (slots Content (take i vs)) ≡ start + length (content v ++ slots Content (take i vs)) =
-    omega (arith, length-append (content v) (slots Content (take i vs))) in
-    ap (λ (bs : List ℕ). num bs (length front + 4 * suc i) 4) (sym (append_assoc front own (bytes_low_first 0 4 next ++ ends next vs)))
-    ∙ (ap (λ (m : ℕ). num ((front ++ own) ++ (bytes_low_first 0 4 next ++ ends next vs)) m 4) place
+    let sum : next + reach run (take i vs) ≡ start + (extent run v + reach run (take i vs)) = omega arith in
+    ap (λ (bs : List ℕ). num bs (length front + 4 * suc i) 4) (sym (append_assoc front own (bytes_low_first 0 4 next ++ ends run next vs)))
+    ∙ (ap (λ (m : ℕ). num ((front ++ own) ++ (bytes_low_first 0 4 next ++ ends run next vs)) m 4) place
     ∙ (later ∙ ap (λ (m : ℕ). m % 2 ^ 32) sum))
 
--- the data before slot i is no longer than all data
-pub front_most : (vs : List Value) (i : ℕ) → length (slots Content (take i vs)) ≤ length (slots Content vs)
-front_most vs zero = omega arith
-front_most [] (suc i) = omega arith
-front_most (v ∷ vs) (suc i) =
-    omega (arith, front_most vs i, length-append (content v) (slots Content (take i vs)), length-append (content v) (slots Content vs))
+-- the runs before slot i reach no further than all
+pub front_most : (run : Run) (vs : List Value) (i : ℕ) → reach run (take i vs) ≤ reach run vs
+front_most run vs zero = omega arith
+front_most run [] (suc i) = omega arith
+front_most run (v ∷ vs) (suc i) = let rest = front_most run vs i in omega (arith, rest)
 
--- offset i is the length of the data before slot i
-pub offset_is : (vs : List Value) (i : ℕ) → i ≤ length vs → length (slots Content vs) ≤ 2 ^ 31 - 1
-    → offset (offsets vs) i ≡ pos (length (slots Content (take i vs)))
-offset_is vs i k short =
-    let most = front_most vs i in
-    let n = length (slots Content (take i vs)) in
-    let back : num (offsets vs) (4 * i) 4 ≡ n % 2 ^ 32 =
-    ap (λ (m : ℕ). num (offsets vs) m 4) (let e : 4 * i ≡ 0 + 4 * i = omega arith in e)
-    ∙ (ends_back vs [] 0 i k ∙ ap (λ (m : ℕ). m % 2 ^ 32) (let e : 0 + n ≡ n = omega arith in e)) in
+-- with the run of value i they reach to where the next one begins
+pub front_more : (run : Run) (vs : List Value) (i : ℕ) (d : Value) → i < length vs
+    → reach run (take (suc i) vs) ≡ reach run (take i vs) + extent run (get_or vs i d)
+front_more run [] i d k = absurd (omega arith)
+front_more run (v ∷ vs) zero d k = omega arith
+front_more run (v ∷ vs) (suc i) d k = let rest = front_more run vs i d (omega arith) in omega (arith, rest)
+
+-- offset i is where the runs before slot i reach
+pub offset_is : (run : Run) (vs : List Value) (i : ℕ) → i ≤ length vs → reach run vs ≤ 2 ^ 31 - 1
+    → offset (offsets run vs) i ≡ pos (reach run (take i vs))
+offset_is run vs i k short =
+    let most = front_most run vs i in
+    let n = reach run (take i vs) in
+    let back : num (offsets run vs) (4 * i) 4 ≡ n % 2 ^ 32 =
+    ap (λ (m : ℕ). num (offsets run vs) m 4) (let e : 4 * i ≡ 0 + 4 * i = omega arith in e)
+    ∙ (ends_back run vs [] 0 i k ∙ ap (λ (m : ℕ). m % 2 ^ 32) (let e : 0 + n ≡ n = omega arith in e)) in
     ap (cast_signed w32) (back ∙ mod-eq_of_lt (omega (arith, most, short))) ∙ to_z_pos w32 n (omega (arith, most, short))
 
+-- slot i begins where the runs before it reach
+pub place_is : (run : Run) (vs : List Value) (i : ℕ) → i ≤ length vs → reach run vs ≤ 2 ^ 31 - 1
+    → place (offsets run vs) i ≡ reach run (take i vs)
+place_is run vs i k short = ap unsigned_abs (offset_is run vs i k short)
+
+-- slot i ends behind its run
+pub place_next : (run : Run) (vs : List Value) (i : ℕ) (d : Value) → i < length vs → reach run vs ≤ 2 ^ 31 - 1
+    → place (offsets run vs) (i + 1) ≡ reach run (take i vs) + extent run (get_or vs i d)
+place_next run vs i d k short =
+    let more : i + 1 ≡ suc i = omega arith in
+    place_is run vs (i + 1) (omega arith) short ∙ (ap (λ (n : ℕ). reach run (take n vs)) more ∙ front_more run vs i d k)
+
 -- the data between offset i and the next one is the content of value i
-pub between_is : (vs : List Value) (i : ℕ) (d : Value) → i < length vs → length (slots Content vs) ≤ 2 ^ 31 - 1
-    → between (offsets vs) (slots Content vs) i ≡ content (get_or vs i d)
+pub between_is : (vs : List Value) (i : ℕ) (d : Value) → i < length vs → reach p.Bytes vs ≤ 2 ^ 31 - 1
+    → between (offsets p.Bytes vs) (slots Content vs) i ≡ content (get_or vs i d)
 between_is vs i d k short =
     let front = slots Content (take i vs) in
     let own = content (get_or vs i d) in
-    let more : i + 1 ≡ suc i = omega arith in
-    let start : place (offsets vs) i ≡ length front = ap unsigned_abs (offset_is vs i (omega arith) short) in
-    let end : place (offsets vs) (i + 1) ≡ length front + length own =
-    ap unsigned_abs (offset_is vs (i + 1) (omega arith) short)
-    ∙ (ap (λ (n : ℕ). length (slots Content (take n vs))) more ∙ front_more vs i d k) in
-    ap (λ (bs : List ℕ). slice_range bs (place (offsets vs) i) (place (offsets vs) (i + 1))) (slots_split Content vs i d k)
-    ∙ (ap (λ (m : ℕ). slice_range (front ++ (own ++ slots Content (drop (suc i) vs))) (place (offsets vs) i) m) end
+    let before : reach p.Bytes (take i vs) ≡ length front = reach_bytes (take i vs) in
+    let start : place (offsets p.Bytes vs) i ≡ length front = place_is p.Bytes vs i (omega arith) short ∙ before in
+    let end : place (offsets p.Bytes vs) (i + 1) ≡ length front + length own =
+    place_next p.Bytes vs i d k short ∙ ap (λ (n : ℕ). n + length own) before in
+    ap (λ (bs : List ℕ). slice_range bs (place (offsets p.Bytes vs) i) (place (offsets p.Bytes vs) (i + 1))) (slots_split Content vs i d k)
+    ∙ (ap (λ (m : ℕ). slice_range (front ++ (own ++ slots Content (drop (suc i) vs))) (place (offsets p.Bytes vs) i) m) end
     ∙ (ap (λ (m : ℕ). slice_range (front ++ (own ++ slots Content (drop (suc i) vs))) m (length front + length own)) start
     ∙ cut_behind front own (slots Content (drop (suc i) vs))))
-  where
-    front_more : (vs : List Value) (i : ℕ) (d : Value) → i < length vs
-        → length (slots Content (take (suc i) vs)) ≡ length (slots Content (take i vs)) + length (content (get_or vs i d))
-    front_more [] i d k = absurd (omega arith)
-    front_more (v ∷ vs) zero d k = let e = length-append (content v) [] in omega (arith, e)
-    front_more (v ∷ vs) (suc i) d k =
-        omega (
-          arith,
-          front_more vs i d (omega arith),
-          length-append (content v) (slots Content (take i vs)),
-          length-append (content v) (slots Content (take (suc i) vs)),
-        )
 
 -- ---- the facts of a column
 
 -- the buffers that are written are long enough for their slots
-pub long_enough : (l : Layout) (vs : List Value) → AllHeld l vs → IsLongEnough (column_of l vs)
-long_enough lay vs h = record { bitmap = bitmap_there lay; values = values_there lay h; offsets = offsets_there lay h }
+pub long_enough : (l : Layout) (n : ℕ) (vs : List Value) → AllHeld l n vs → IsLongEnough (column_of l vs)
+long_enough lay n vs h = record { bitmap = bitmap_there lay; values = values_there lay h; offsets = offsets_there lay }
   where
     some : 0 < length (validity_bytes vs) → (length vs + 7) / 8 ≤ length (validity_bytes vs)
     some = validity_cases (λ bytes. 0 < length bytes → (length vs + 7) / 8 ≤ length bytes) vs (λ none h. absurd (omega arith))
@@ -276,31 +305,28 @@ long_enough lay vs h = record { bitmap = bitmap_there lay; values = values_there
     bitmap_there l.Unsupported h = absurd (omega arith)
     bitmap_there l.Lists h = some h
     bitmap_there l.Structs h = some h
+    bitmap_there (l.FixedLists size) h = some h
     bitmap_there l.Bits h = some h
     bitmap_there (l.Numbers bits signed) h = some h
     bitmap_there (l.FixedBytes width) h = some h
     bitmap_there (l.VariableBytes utf8) h = some h
 
-    values_there : (l : Layout) → AllHeld l vs → HoldValues l (length vs) (length (values_in l vs))
+    values_there : (l : Layout) → AllHeld l n vs → HoldValues l (length vs) (length (values_in l vs))
     values_there l.Bits h = let e = length_bytes ((length (flags True vs) + 7) / 8) (flags True vs) in let f =
         flags_length True vs in omega (arith, e, f)
     values_there (l.Numbers bits signed) h = let e =
         wide_length (Number bits) (number_bytes bits) vs (numbers_wide bits vs) in omega (arith, e)
-    values_there (l.FixedBytes width) h = let e = wide_length (Fixed width) width vs (fixed_wide width vs h) in omega (arith, e)
+    values_there (l.FixedBytes width) h = let e = wide_length (Fixed width) width vs (fixed_wide width n vs h) in omega (arith, e)
     values_there _ h = tt
 
-    none_listed : (vs : List Value) → AllHeld l.Lists vs → 0 < length vs → 4 * (length vs + 1) ≤ 0
-    none_listed [] h some = absurd (omega arith)
-    none_listed (v ∷ vs) h some = absurd h.0
-
-    offsets_there : (l : Layout) → AllHeld l vs → HoldOffsets l (length vs) (length (offsets_in l vs))
-    offsets_there l.Lists h = none_listed vs h
-    offsets_there (l.VariableBytes utf8) h = λ some. let e = ends_length 0 vs in omega (arith, e)
-    offsets_there _ h = tt
+    offsets_there : (l : Layout) → HoldOffsets l (length vs) (length (offsets_in l vs))
+    offsets_there l.Lists = λ some. let e = ends_length p.Items 0 vs in omega (arith, e)
+    offsets_there (l.VariableBytes utf8) = λ some. let e = ends_length p.Bytes 0 vs in omega (arith, e)
+    offsets_there _ = tt
 
 -- the null count that is written is the number of the bitmap's clear bits
-pub counts_nulls : (l : Layout) (vs : List Value) → AllHeld l vs → CountsNulls (column_of l vs)
-counts_nulls lay vs h = record { with_bitmap = there lay; without_bitmap = absent lay h }
+pub counts_nulls : (l : Layout) (n : ℕ) (vs : List Value) → AllHeld l n vs → CountsNulls (column_of l vs)
+counts_nulls lay n vs h = record { with_bitmap = there lay; without_bitmap = absent lay h }
   where
     some : 0 < length (validity_bytes vs) → nulls vs ≡ clear (validity_bytes vs) (length vs)
     some = validity_cases (λ bytes. 0 < length bytes → nulls vs ≡ clear bytes (length vs)) vs (λ none h. absurd (omega arith))
@@ -316,72 +342,56 @@ counts_nulls lay vs h = record { with_bitmap = there lay; without_bitmap = absen
     there l.Unsupported e h b = absurd (omega arith)
     there l.Lists e h b = some h
     there l.Structs e h b = some h
+    there (l.FixedLists size) e h b = some h
     there l.Bits e h b = some h
     there (l.Numbers bits signed) e h b = some h
     there (l.FixedBytes width) e h b = some h
     there (l.VariableBytes utf8) e h b = some h
 
-    unread : (vs : List Value) → AllHeld l.Unsupported vs → nulls vs ≡ 0
+    unread : (vs : List Value) → AllHeld l.Unsupported n vs → nulls vs ≡ 0
     unread [] h = refl
     unread (v ∷ vs) h = absurd h.0
 
-    absent : (l : Layout) → AllHeld l vs → has_validity l ≡ true → length (validity_in l vs) ≡ 0 → nulls vs ≡ 0
+    absent : (l : Layout) → AllHeld l n vs → has_validity l ≡ true → length (validity_in l vs) ≡ 0 → nulls vs ≡ 0
     absent l.Null h e z = absurd (cc)
     absent l.Unsupported h e z = unread vs h
     absent l.Lists h e z = none z
     absent l.Structs h e z = none z
+    absent (l.FixedLists size) h e z = none z
     absent l.Bits h e z = none z
     absent (l.Numbers bits signed) h e z = none z
     absent (l.FixedBytes width) h e z = none z
     absent (l.VariableBytes utf8) h e z = none z
 
--- the data is within the reach of offsets
+-- the runs of the slots are within the reach of offsets
 abbrev pub IsShort : Layout → List Value → Type 0
-IsShort (l.VariableBytes utf8) vs = length (slots Content vs) ≤ 2 ^ 31 - 1
+IsShort (l.VariableBytes utf8) vs = reach p.Bytes vs ≤ 2 ^ 31 - 1
+IsShort l.Lists vs = reach p.Items vs ≤ 2 ^ 31 - 1
 IsShort _ vs = ⊤
 
--- the offsets that are written begin at 0 and ascend within the data
-pub in_order : (l : Layout) (vs : List Value) → IsShort l vs
-    → HasOffsets l (length vs) (offsets_in l vs) (length (values_in l vs)) no_columns
-in_order l.Lists vs short = λ some there. absurd (omega (arith, there))
-in_order (l.VariableBytes utf8) vs short = λ some there. record { from = first; order = λ i k. next i k; to = last }
+-- the offsets that are written begin at 0 and ascend to a bound that all runs keep
+pub in_order : (run : Run) (vs : List Value) (Within : ℤ → Type 0) → reach run vs ≤ 2 ^ 31 - 1 → Within (pos (reach run vs))
+    → AreOffsets (offsets run vs) (length vs) Within
+in_order run vs Within short inside = record { from = first; order = λ i k. next i k; to = last }
   where
-    first : pos 0 ≤ℤ offset (offsets vs) 0
-    first = let e = offset_is vs 0 (omega arith) short in rw e (omega (arith, ints))
+    first : pos 0 ≤ℤ offset (offsets run vs) 0
+    first = let e = offset_is run vs 0 (omega arith) short in rw e (omega (arith, ints))
 
-    grows : (vs : List Value) (i : ℕ) → length (slots Content (take i vs)) ≤ length (slots Content (take (suc i) vs))
-    grows vs zero = omega arith
-    grows [] (suc i) = omega arith
-    grows (v ∷ vs) (suc i) = omega (
-      arith,
-      grows vs i,
-      length-append (content v) (slots Content (take i vs)),
-      length-append (content v) (slots Content (take (suc i) vs)),
-    )
-
-    next : (i : ℕ) → i < length vs → offset (offsets vs) i ≤ℤ offset (offsets vs) (i + 1)
+    next : (i : ℕ) → i < length vs → offset (offsets run vs) i ≤ℤ offset (offsets run vs) (i + 1)
     next i k =
         let more : i + 1 ≡ suc i = omega arith in
-        let up : length (slots Content (take i vs)) ≤ length (slots Content (take (i + 1) vs)) = rw more (grows vs i) in
-        rw (offset_is vs i (omega arith) short, offset_is vs (i + 1) (omega arith) short) (omega (arith, ints, up))
+        let sum : reach run (take (i + 1) vs) ≡ reach run (take i vs) + extent run (get_or vs i v.Null) =
+        ap (λ (n : ℕ). reach run (take n vs)) more ∙ front_more run vs i v.Null k in
+        let up : reach run (take i vs) ≤ reach run (take (i + 1) vs) = omega (arith, sum) in
+        rw (offset_is run vs i (omega arith) short, offset_is run vs (i + 1) (omega arith) short) (omega (arith, ints, up))
 
-    last : offset (offsets vs) (length vs) ≤ℤ pos (length (slots Content vs))
-    last = let most = front_most vs (length vs) in rw (offset_is vs (length vs) (omega arith) short) (omega (arith, ints, most))
-in_order _ vs short = tt
+    last : Within (offset (offsets run vs) (length vs))
+    last = subst Within (ap (λ (ws : List Value). pos (reach run ws)) (sym (take_all (length vs) vs (omega arith)))
+        ∙ sym (offset_is run vs (length vs) (omega arith) short)) inside
 
 -- the content of a text that is not null is UTF-8
-pub spelled : (w : Value-F Value) (v : Value) → out-Value v ≡ w → Holds (l.VariableBytes true) w → is_set Valid v ≡ true
-    → IsUtf8 (content v)
-spelled Value-F.Null v e h s = absurd (let f : is_set Valid v ≡ false = rw e refl in cc)
-spelled (Value-F.Text text) v e h s = rw e h
-spelled _ v e h s = absurd h
-
--- each slot of texts that is written is UTF-8
-pub spells_texts : (l : Layout) (vs : List Value) → AllHeld l vs → IsShort l vs → (i : ℕ) → i < length vs
-    → is_valid (validity_in l vs) i ≡ true → IsText l (SpellsTexts no_columns) (offsets_in l vs) (values_in l vs) i
-spells_texts (l.VariableBytes true) vs h short i k valid =
-    let value = get_or vs i v.Null in
-    let own = held_at (l.VariableBytes true) vs i v.Null h k in
-    subst IsUtf8 (sym (between_is vs i v.Null k short)) (spelled (out-Value value) value refl own (sym (valid_is vs i v.Null k) ∙ valid))
-spells_texts l.Lists vs h short i k valid = absurd (held_at l.Lists vs i v.Null h k)
-spells_texts _ vs h short i k valid = tt
+pub spelled : (n : ℕ) (w : Value-F Value) (v : Value) → out-Value v ≡ w → Holds (l.VariableBytes true) n w → SpellsOut w
+    → is_set Valid v ≡ true → IsUtf8 (content v)
+spelled n Value-F.Null v e h text s = absurd (let f : is_set Valid v ≡ false = rw e refl in cc)
+spelled n (Value-F.Text bytes) v e h text s = rw e text
+spelled n _ v e h text s = absurd h

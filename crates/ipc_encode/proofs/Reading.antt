@@ -1,232 +1,308 @@
 -- The parts of rows give the rows back.
-use Rattle.std.proofs.Common.{◌≡◌, ◌∙◌, refl, sym, ap, subst, ℕ, zero, suc, ◌+◌, ◌-◌, ◌^◌, ◌<◌, ◌≤◌, true, List, [], ◌∷◌}
-use Rattle.std.proofs.Common.{length, drop, get_or, add-one, drop-cons, length-append, arith, Option, inl, inr}
-use Rattle.std.specs.Prelude.{ℤ, pos}
+use Rattle.std.proofs.Common.{◌≡◌, ◌∙◌, refl, sym, ap, subst, ℕ, zero, suc, ◌+◌, ◌-◌, ◌*◌, ◌^◌, ◌<◌, ◌≤◌, true, false, List, [], ◌∷◌}
+use Rattle.std.proofs.Common.{length, get_or, arith, inl, inr}
+use Rattle.std.specs.Prelude.{ℤ, pos, ◌≤ℤ◌, ⊤}
 use Rattle.std.specs.List.{AllByRecursion}
+use Rattle.std.specs.Str.{IsUtf8}
+use Rattle.std.proofs.Math.Nat.{mul-le-mul_left}
 use Rattle.std.proofs.lemmas.Bool.{cases_lt}
 use Rattle.std.proofs.lemmas.Int.{ints}
 use Rattle.std.proofs.lemmas.List.Elements.{All-from_recursion}
 use Rattle.ipc_model.specs.Fits.{RowFits}
 use Rattle.ipc_model.specs.WellFormed.{IsFieldWellFormed}
 use Rattle.ipc_model.specs.Entries.{entries}
-use Rattle.ipc_model.specs.declared.schema.Dictionary.{Dictionary}
-use Rattle.ipc_model.specs.declared.schema.Field.{Field, out-Field}
+use Rattle.ipc_model.specs.declared.schema.Field.{Field}
 use Rattle.ipc_model.specs.declared.value.Value.{Value, out-Value}
+use Rattle.ipc_model.specs.declared.value.Value.TheOpen.{Value-F}
 use Rattle.ipc_model.specs.declared.value.Value.TheVariants as v
-use Rattle.ipc_meta.specs.Supported.{are_supported}
-use Rattle.ipc_meta.specs.declared.head.BatchHead.{BatchHead}
+use Rattle.ipc_model.specs.declared.limits.Limits.{Limits}
 use Rattle.ipc_model.specs.declared.layout.Layout.{Layout}
 use Rattle.ipc_model.specs.declared.layout.Layout.TheVariants as l
-use Rattle.ipc_model.specs.Layouts.{layout, type_layout, own_buffers}
-use Rattle.ipc_column.specs.Columns.{Column, Columns, none, Each, EachTop}
-use Rattle.ipc_column.specs.Shapes.{Shape, shape_of, field_shape, nodes_in, buffers_in, node_at, buffer_at}
-use Rattle.ipc_column.specs.Shapes.{columns_of}
-use Rattle.ipc_column.specs.Rules.{IsNode, LiesIn, IsLongEnough, CountsNulls, HasOffsets, HasLongChildren, SpellsTexts}
-use Rattle.ipc_column.specs.Values.{row}
-use Rattle.ipc_column.specs.Rows.{Rows}
-use Rattle.ipc_column.proofs.Plain.{plain_from_supported}
-use Rattle.ipc_encode.specs.Pieces.{Content}
-use Rattle.ipc_encode.specs.Cells.{cell, cells, nulls, slots}
-use Rattle.ipc_encode.specs.Buffers.{layout_of, column_buffers, nodes_from, ranges_from, buffers_from, buffers_of, body_of}
-use Rattle.ipc_encode.specs.Limits.{HasLongData, SomeLongData, IsWithin}
+use Rattle.ipc_meta.specs.declared.head.BatchHead.{BatchHead}
+use Rattle.ipc_column.specs.Columns.{Column, Columns, Each, EachTop}
+use Rattle.ipc_column.specs.Shapes.{Shape, bare, field, shape_of, node_at, buffer_at, columns_of}
+use Rattle.ipc_column.specs.Rules.{IsNode, LiesIn, IsLongEnough, CountsNulls, HasOffsets, HasLongChildren, IsText, SpellsTexts}
+use Rattle.ipc_column.specs.Values.{is_valid, place, row}
+use Rattle.ipc_column.specs.Rows.{Rows, are_plain}
+use Rattle.ipc_encode.specs.Pieces.{Valid, Content}
+use Rattle.ipc_encode.specs.Pieces as p
+use Rattle.ipc_encode.specs.Cells.{cell, cells, slots, extent, all_items, HasUtf8}
+use Rattle.ipc_encode.specs.Buffers.{below, nodes_of, columns, row_nodes, row_buffers, ranges_from, body_of}
+use Rattle.ipc_encode.specs.Columns.{validity_in, offsets_in, values_in}
+use Rattle.ipc_encode.specs.Limits.{HasLongData, HasLongNode, SomeLongData, IsWithin}
 use Rattle.ipc_encode.specs.Writing.{AreStored, AllStored}
-use Rattle.ipc_encode.proofs.Leaves.{IsFlat, IsOf, FitFrom, flats, fit_start, fit_step}
 use Rattle.ipc_encode.proofs.Ranges.{buffer_back, ranges_length, ranges_inside}
 use Rattle.ipc_encode.proofs.Steps.{cells_length}
-use Rattle.ipc_encode.proofs.Readback.{value_is}
-use Rattle.ipc_encode.proofs.ReadbackParts.{column_of, Holds, AllHeld, IsShort, nulls_most, long_enough, counts_nulls, in_order}
-use Rattle.ipc_encode.proofs.ReadbackParts.{spells_texts}
-use Rattle.ipc_encode.proofs.HeldValues.{written, own_length, nodes_length, cut_back, AllGood, all_both, Known, known, held}
-use Rattle.ipc_model.specs.declared.limits.Limits.{Limits}
+use Rattle.ipc_encode.proofs.ReadbackParts.{column_of, Holds, AllHeld, HasItsChild, IsShort, reach, reach_bytes, reach_items, place_next}
+use Rattle.ipc_encode.proofs.ReadbackParts.{front_most, front_more, each_at, held_at, valid_is, between_is, nulls_most}
+use Rattle.ipc_encode.proofs.ReadbackParts.{long_enough, counts_nulls, in_order, spelled}
+use Rattle.ipc_encode.proofs.Readback.{picked, picked_row, parts_length, all_fixed_length, value_is}
+use Rattle.ipc_encode.proofs.Cutting.{written, slots_written, nodes_length, buffers_length, cut_back}
+use Rattle.ipc_encode.proofs.HeldValues.{across, across_is, ColumnsHeld, all_both}
+use Rattle.ipc_encode.proofs.NestedValues.{rows_held}
 
-all_held : (f : Field) (vs : List Value) → IsFlat f → AllByRecursion (IsOf f) vs → AreStored (layout_of f) vs → AllHeld (layout_of f) vs
-all_held f vs flat fits spells =
-    let kind = (out-Field f).kind in
-    let e : layout_of f ≡ type_layout kind = ap (λ (d : Option Dictionary). layout kind d) flat.plain in
-    let more = known (type_layout kind) vs (subst (λ (l : Layout). AreStored l vs) e spells) in
-    subst (λ (l : Layout). AllHeld l vs) (sym e)
-    (all_both (IsOf f) (λ v. Known (type_layout kind) (out-Value v)) (λ v. Holds (type_layout kind) (out-Value v))
-    (λ v own m. held kind (out-Field f).nullable (length (out-Field f).children) (out-Value v) flat.open_type own m) vs fits more)
+-- ---- what is known of the columns
 
-short_is : (l : Layout) (vs : List Value) → ¬ HasLongData l vs → IsShort l vs
-short_is (l.VariableBytes utf8) vs h = elim (cases_lt (2 ^ 31 - 1) (length (slots Content vs))) as
-    (λ _. length (slots Content vs) ≤ 2 ^ 31 - 1) [ inl x ↦ absurd (h x) | inr g ↦ g ]
-short_is l.Null vs h = tt
-short_is l.Bits vs h = tt
-short_is (l.Numbers bits signed) vs h = tt
-short_is (l.FixedBytes width) vs h = tt
-short_is l.Unsupported vs h = tt
-short_is l.Lists vs h = tt
-short_is l.Structs vs h = tt
+-- what is known of a column with so many children, where a column may have so many slots
+record IsGood (most : ℕ) (l : Layout) (n : ℕ) (vs : List Value) : Type 0 where
+  pub child : HasItsChild l n
+  pub held : AllHeld l n vs
+  pub short : IsShort l vs
+  pub few : length vs ≤ most
+  pub stored : AreStored l vs
 
-goods : (fs : List Field) (j : ℕ) (rows : List (List Value)) → AllByRecursion IsFlat fs → FitFrom j fs rows → AllStored j fs rows
-    → ¬ SomeLongData j fs rows → AllGood j fs rows
-goods [] j rows flat fits spells short = tt
-goods (f ∷ fs) j rows flat fits spells short =
-    let step = fit_step f fs j rows fits in (
+-- the same of each column, and of each below it
+abbrev AllGood : ℕ → Shape → (ℕ → List Value) → Type 0
+AllGood most bare given = ⊤
+AllGood most (field l children rest) given = IsGood most l (across children) (given 0)
+    × (AllGood most children (below l (given 0)) × AllGood most rest (λ j. given (suc j)))
+
+not_above : (n most : ℕ) → ((most < n) → ⊥) → n ≤ most
+not_above n most h = elim (cases_lt most n) as (λ _. n ≤ most) [ inl x ↦ absurd (h x) | inr g ↦ omega (arith, g) ]
+
+-- a list stands only where there is a child
+no_items : (vs : List Value) → AllHeld l.Lists 0 vs → reach p.Items vs ≡ 0
+no_items [] h = refl
+no_items (value ∷ vs) h =
+    let first = none_in value (out-Value value) refl h.0 in
+    let rest = no_items vs h.1 in
+    omega (arith, first, rest)
+  where
+    none_in : (x : Value) (w : Value-F Value) → out-Value x ≡ w → Holds l.Lists 0 w → extent p.Items x ≡ 0
+    none_in x Value-F.Null e h = rw e refl
+    none_in x (Value-F.List values) e h = absurd (omega (arith, h))
+    none_in x _ e h = absurd h
+
+short_is : (most : ℕ) (l : Layout) (children : Shape) (vs : List Value) → most ≤ 2 ^ 31 - 1 → AllHeld l (across children) vs
+    → ¬ HasLongData l vs → ¬ HasLongNode most children (below l vs) → IsShort l vs
+short_is most (l.VariableBytes utf8) children vs m held short few =
+    let size = reach_bytes vs in
+    let within : length (slots Content vs) ≤ 2 ^ 31 - 1 = not_above (length (slots Content vs)) (2 ^ 31 - 1) short in
+    omega (arith, size, within)
+short_is most l.Lists bare vs m held short few = let none = no_items vs held in omega (arith, none)
+short_is most l.Lists (field l children rest) vs m held short few =
+    let size = reach_items vs in
+    let within : length (all_items vs) ≤ most = not_above (length (all_items vs)) most (λ x. few (inl x)) in
+    omega (arith, size, within, m)
+short_is most l.Null children vs m held short few = tt
+short_is most l.Bits children vs m held short few = tt
+short_is most (l.Numbers bits signed) children vs m held short few = tt
+short_is most (l.FixedBytes width) children vs m held short few = tt
+short_is most l.Unsupported children vs m held short few = tt
+short_is most l.Structs children vs m held short few = tt
+short_is most (l.FixedLists size) children vs m held short few = tt
+
+goods : (most : ℕ) (s : Shape) (given : ℕ → List Value) → most ≤ 2 ^ 31 - 1 → ColumnsHeld s given → AllStored s given
+    → ¬ SomeLongData s given → ¬ HasLongNode most s given → AllGood most s given
+goods most bare given m held stored short few = tt
+goods most (field l children rest) given m held stored short few = (
+  record {
+    child = held.0.0;
+    held = held.0.1;
+    short = short_is most l children (given 0) m held.0.1 (λ x. short (inl x)) (λ x. few (inr (inl x)));
+    few = not_above (length (given 0)) most (λ x. few (inl x));
+    stored = stored.0;
+  },
+  (
+    goods most children (below l (given 0)) m held.1.0 stored.1.0 (λ x. short (inr (inl x))) (λ x. few (inr (inl x))),
+    goods most rest (λ j. given (suc j)) m held.1.1 stored.1.1 (λ x. short (inr (inr x))) (λ x. few (inr (inr x))),
+  ),
+)
+
+-- ---- the facts of each column
+
+-- what holds of a column and the columns of its children, where good values are written
+abbrev OfGood : ℕ → (Column → Columns → Type 0) → Type 0
+OfGood most P = (l : Layout) (children : Shape) (vs : List Value) → IsGood most l (across children) vs
+    → P (column_of l vs) (written children (below l vs))
+
+each_written : (most : ℕ) (P : Column → Columns → Type 0) → OfGood most P → (s : Shape) (given : ℕ → List Value) → AllGood most s given
+    → Each P (written s given)
+each_written most P p bare given g = tt
+each_written most P p (field l children rest) given g = (
+  p l children (given 0) g.0,
+  (each_written most P p children (below l (given 0)) g.1.0, each_written most P p rest (λ j. given (suc j)) g.1.1),
+)
+
+long_children : (l : Layout) (children : Shape) (vs : List Value) → HasItsChild l (across children) → AllHeld l (across children) vs
+    → HasLongChildren l (length vs) (written children (below l vs))
+long_children l.Structs children vs child held =
+    slots_written (λ n. length vs ≤ n) children (below l.Structs vs) (λ j. omega (arith, parts_length j vs))
+long_children (l.FixedLists size) bare vs child held = absurd (omega (arith, child))
+long_children (l.FixedLists size) (field first inner rest) vs child held =
+    let children = field first inner rest in
+    let many = all_fixed_length size (across children) vs held in
+    slots_written (λ n. size * length vs ≤ n) children (below (l.FixedLists size) vs) (λ j. omega (arith, many))
+long_children l.Lists children vs child held = tt
+long_children l.Null children vs child held = tt
+long_children l.Bits children vs child held = tt
+long_children (l.Numbers bits signed) children vs child held = tt
+long_children (l.FixedBytes width) children vs child held = tt
+long_children (l.VariableBytes utf8) children vs child held = tt
+long_children l.Unsupported children vs child held = tt
+
+ordered : (l : Layout) (children : Shape) (vs : List Value) → IsShort l vs
+    → HasOffsets l (length vs) (offsets_in l vs) (length (values_in l vs)) (written children (below l vs))
+ordered (l.VariableBytes utf8) children vs short = λ some there.
+    in_order p.Bytes vs (λ end. end ≤ℤ pos (length (slots Content vs))) short (omega (arith, ints, reach_bytes vs))
+ordered l.Lists children vs short = λ some there.
+    in_order p.Items vs (λ end. EachTop (λ c. end ≤ℤ pos c.slots) (written children (below l.Lists vs))) short
+    (slots_written (λ n. pos (reach p.Items vs) ≤ℤ pos n) children (below l.Lists vs) (λ j. omega (arith, ints, reach_items vs)))
+ordered l.Structs children vs short = tt
+ordered (l.FixedLists size) children vs short = tt
+ordered l.Null children vs short = tt
+ordered l.Bits children vs short = tt
+ordered (l.Numbers bits signed) children vs short = tt
+ordered (l.FixedBytes width) children vs short = tt
+ordered l.Unsupported children vs short = tt
+
+-- ---- texts
+
+-- what a slot holds is UTF-8 where it is valid, and where what its children hold is
+text_is : (most : ℕ) (l : Layout) (n : ℕ) (vs : List Value) (i : ℕ) (under : ℕ → Type 0) → IsGood most l n vs → i < length vs
+    → is_valid (validity_in l vs) i ≡ true → ((k : ℕ) → ((j : ℕ) → k < length (below l vs j)) → under k)
+    → IsText l under (offsets_in l vs) (values_in l vs) i
+text_is most (l.VariableBytes true) n vs i under g k valid more =
+    let value = get_or vs i v.Null in
+    let own = held_at (l.VariableBytes true) n vs i v.Null g.held k in
+    let text = each_at HasUtf8 vs i v.Null g.stored k in
+    subst IsUtf8 (sym (between_is vs i v.Null k g.short))
+    (spelled n (out-Value value) value refl own text (sym (valid_is vs i v.Null k) ∙ valid))
+text_is most (l.VariableBytes false) n vs i under g k valid more = tt
+text_is most l.Lists n vs i under g k valid more = λ j from to.
+    let next = place_next p.Items vs i v.Null k g.short in
+    let within : place (offsets_in l.Lists vs) (i + 1) ≤ reach p.Items vs =
+    let most = front_most p.Items vs (suc i) in let sum = front_more p.Items vs i v.Null k in omega (arith, next, most, sum) in
+    more j (λ c. omega (arith, to, within, reach_items vs))
+text_is most (l.FixedLists size) n vs i under g k valid more = λ j from to.
+    let many = all_fixed_length size n vs g.held in
+    let within : size * (i + 1) ≤ size * length vs = mul-le-mul_left size (omega (arith, k)) in
+    more j (λ c. omega (arith, to, within, many))
+text_is most l.Structs n vs i under g k valid more = more i (λ j. omega (arith, k, parts_length j vs))
+text_is most l.Null n vs i under g k valid more = tt
+text_is most l.Bits n vs i under g k valid more = tt
+text_is most (l.Numbers bits signed) n vs i under g k valid more = tt
+text_is most (l.FixedBytes width) n vs i under g k valid more = tt
+text_is most l.Unsupported n vs i under g k valid more = tt
+
+spelled_written : (most : ℕ) (s : Shape) (given : ℕ → List Value) → AllGood most s given → (i : ℕ) → ((j : ℕ) → i < length (given j))
+    → SpellsTexts (written s given) i
+spelled_written most bare given g i k = tt
+spelled_written most (field l children rest) given g i k = (
+  λ valid. text_is most l (across children) (given 0) i (SpellsTexts (written children (below l (given 0)))) g.0 (k 0) valid
+      (λ m inside. spelled_written most children (below l (given 0)) g.1.0 m inside),
+  spelled_written most rest (λ j. given (suc j)) g.1.1 i (λ j. k (suc j)),
+)
+
+-- ---- nodes
+
+are_nodes : (limits : Limits) (s : Shape) (given : ℕ → List Value) → AllGood limits.slots s given
+    → AllByRecursion (IsNode limits) (nodes_of s given)
+are_nodes limits bare given g = tt
+are_nodes limits (field l children rest) given g =
+    let few = g.0.few in
+    let most = nulls_most (given 0) in (
       record {
-        held = all_held f (cells j rows) flat.0 step.0 spells.0;
-        short = short_is (layout_of f) (cells j rows) (λ x. short (inl x));
+        slots = record { from = omega (arith, ints); to = omega (arith, ints, few) };
+        nulls_from = omega (arith, ints);
+        nulls_to = omega (arith, ints, most);
       },
-      goods fs (j + 1) rows flat.1 step.1 spells.1 (λ x. short (inr x)),
+      all_both (IsNode limits) (nodes_of children (below l (given 0))) (nodes_of rest (λ j. given (suc j)))
+          (are_nodes limits children (below l (given 0)) g.1.0) (are_nodes limits rest (λ j. given (suc j)) g.1.1),
     )
 
-abbrev Ordered : Column → Columns → Type 0
-Ordered c children = HasOffsets c.layout c.slots c.offsets (length c.values) children
-
-abbrev OfGood : (Column → Type 0) → Type 0
-OfGood P = (l : Layout) (vs : List Value) → AllHeld l vs → IsShort l vs → P (column_of l vs)
-
-each_written : (P : Column → Columns → Type 0) → OfGood (λ c. P c none) → (fs : List Field) (j : ℕ) (rows : List (List Value))
-    → AllGood j fs rows → Each P (written j fs rows)
-each_written P p [] j rows g = tt
-each_written P p (f ∷ fs) j rows g = (p (layout_of f) (cells j rows) g.0.held g.0.short, (tt, each_written P p fs (j + 1) rows g.1))
-
-spelled_written : (fs : List Field) (j : ℕ) (rows : List (List Value)) → AllGood j fs rows → (i : ℕ) → i < length rows
-    → SpellsTexts (written j fs rows) i
-spelled_written [] j rows g i k = tt
-spelled_written (f ∷ fs) j rows g i k =
-    let size = cells_length j rows in
-    (spells_texts (layout_of f) (cells j rows) g.0.held g.0.short i (omega (arith, size)), spelled_written fs (j + 1) rows g.1 i k)
-
-long_children : (l : Layout) (n : ℕ) → HasLongChildren l n none
-long_children l.Structs n = tt
-long_children l.Lists n = tt
-long_children l.Null n = tt
-long_children l.Bits n = tt
-long_children (l.Numbers bits signed) n = tt
-long_children (l.FixedBytes width) n = tt
-long_children (l.VariableBytes utf8) n = tt
-long_children l.Unsupported n = tt
-
-slots_top : (fs : List Field) (j : ℕ) (rows : List (List Value)) → EachTop (λ c. pos c.slots ≡ pos (length rows)) (written j fs rows)
-slots_top [] j rows = tt
-slots_top (f ∷ fs) j rows = (ap (λ (n : ℕ). pos n) (cells_length j rows), slots_top fs (j + 1) rows)
-
 -- ---- the rows
+
+-- the i-th row of the columns is the i-th of their values
+row_back : (most : ℕ) (s : Shape) (given : ℕ → List Value) → AllGood most s given → (i : ℕ) → ((j : ℕ) → i < length (given j))
+    → row (written s given) i ≡ picked (across s) given i
+row_back most bare given g i k = refl
+row_back most (field l children rest) given g i k =
+    let here = value_is (row (written children (below l (given 0)))) l (across children) (given 0) i (k 0) g.0.held g.0.short
+    (λ m inside. row_back most children (below l (given 0)) g.1.0 m inside) in
+    let others = row_back most rest (λ j. given (suc j)) g.1.1 i (λ j. k (suc j)) in
+    λ q. here q ∷ others q
 
 cell_at : (j : ℕ) (rows : List (List Value)) (i : ℕ) → i < length rows → get_or (cells j rows) i v.Null ≡ cell j (get_or rows i [])
 cell_at j [] i k = absurd (omega arith)
 cell_at j (row ∷ rows) zero k = refl
 cell_at j (row ∷ rows) (suc i) k = cell_at j rows i (omega arith)
 
-width_at : (n : ℕ) (fs : List Field) (rows : List (List Value)) (i : ℕ) → AllByRecursion (RowFits fs) rows → i < length rows
+width_at : (fs : List Field) (rows : List (List Value)) (i : ℕ) → AllByRecursion (RowFits fs) rows → i < length rows
     → length (get_or rows i []) ≡ length fs
-width_at n fs [] i h k = absurd (omega arith)
-width_at n fs (row ∷ rows) zero h k = h.0.0
-width_at n fs (row ∷ rows) (suc i) h k = width_at n fs rows i h.1 (omega arith)
+width_at fs [] i h k = absurd (omega arith)
+width_at fs (row ∷ rows) zero h k = h.0.0
+width_at fs (row ∷ rows) (suc i) h k = width_at fs rows i h.1 (omega arith)
 
-row_back : (fs : List Field) (j : ℕ) (rows : List (List Value)) (i : ℕ) → AllGood j fs rows → i < length rows
-    → length (get_or rows i []) ≡ j + length fs → row (written j fs rows) i ≡ drop j (get_or rows i [])
-row_back [] j rows i g k e = sym (drop_past (get_or rows i []) j (omega (arith, e)))
-  where
-    drop_past : (xs : List Value) (j : ℕ) → length xs ≤ j → drop j xs ≡ []
-    drop_past [] zero h = refl
-    drop_past [] (suc j) h = refl
-    drop_past (x ∷ xs) zero h = absurd (omega arith)
-    drop_past (x ∷ xs) (suc j) h = drop_past xs j (omega arith)
-row_back (f ∷ fs) j rows i g k e =
-    let size = cells_length j rows in
-    let inside : j < length (get_or rows i []) = omega (arith, e) in
-    let here = value_is (row none) (layout_of f) (cells j rows) i (omega (arith, k, size)) g.0.held g.0.short ∙ cell_at j rows i k in
-    let rest = row_back fs (j + 1) rows i g.1 k (omega (arith, e)) in
-    let from : drop j (get_or rows i []) ≡ cell j (get_or rows i []) ∷ drop (j + 1) (get_or rows i []) =
-    rw (drop-cons (get_or rows i []) j v.Null inside, add-one) refl in
-    (λ q. here q ∷ rest q) ∙ sym from
-
-nodes_count : (fs : List Field) → AllByRecursion IsFlat fs → nodes_in (shape_of fs) ≡ length fs
-unfolding nodes_in
-nodes_count [] flat = refl
-nodes_count (f ∷ fs) flat =
-    let rest = nodes_count fs flat.1 in
-    let none : nodes_in (field_shape f).1 ≡ 0 = ap (λ (s : Layout × Shape). nodes_in s.1) flat.0.shape in
-    omega (arith, rest, none)
-
-buffers_count : (fs : List Field) (j : ℕ) (rows : List (List Value)) → AllByRecursion IsFlat fs
-    → buffers_in (shape_of fs) ≡ length (buffers_from j fs rows)
-unfolding buffers_in
-buffers_count [] j rows flat = refl
-buffers_count (f ∷ fs) j rows flat =
-    let rest = buffers_count fs (j + 1) rows flat.1 in
-    let own : own_buffers (field_shape f).0 ≡ own_buffers (layout_of f) = ap (λ (s : Layout × Shape). own_buffers s.0) flat.0.shape in
-    let none : buffers_in (field_shape f).1 ≡ 0 = ap (λ (s : Layout × Shape). buffers_in s.1) flat.0.shape in
-    let size = own_length (layout_of f) (cells j rows) in
-    omega (arith, rest, own, none, size, length-append (column_buffers f (cells j rows)) (buffers_from (j + 1) fs rows))
-
-are_nodes : (limits : Limits) (fs : List Field) (j : ℕ) (rows : List (List Value)) → length rows ≤ limits.slots
-    → AllByRecursion (IsNode limits) (nodes_from j fs rows)
-are_nodes limits [] j rows few = tt
-are_nodes limits (f ∷ fs) j rows few =
-    let most = nulls_most (cells j rows) in
-    let size = cells_length j rows in
-    let inside : nulls (cells j rows) ≤ length rows = omega (arith, most, size) in (
-      record {
-        slots = record { from = omega (arith, ints); to = omega (arith, ints, few) };
-        nulls_from = omega (arith, ints);
-        nulls_to = omega (arith, ints, inside);
-      },
-      are_nodes limits fs (j + 1) rows few,
-    )
+rows_picked : (fs : List Field) (rows : List (List Value)) (i : ℕ) → AllByRecursion (RowFits fs) rows → i < length rows
+    → picked (across (shape_of fs)) (columns rows) i ≡ get_or rows i []
+rows_picked fs rows i fits k =
+    ap (λ (n : ℕ). picked n (columns rows) i) (across_is fs ∙ sym (width_at fs rows i fits k))
+    ∙ picked_row (get_or rows i []) (columns rows) i (λ j. cell_at j rows i k)
 
 abbrev head_of : List Field → List (List Value) → BatchHead
 head_of fields rows = record {
   length = pos (length rows);
-  nodes = nodes_from 0 fields rows;
-  buffers = ranges_from 0 (buffers_of fields rows);
+  nodes = row_nodes fields rows;
+  buffers = ranges_from 0 (row_buffers fields rows);
 }
 
 -- the parts that rows are written as give the rows
-pub rows_back : {limits : Limits} → (fields : List Field) (rows : List (List Value)) → are_supported fields ≡ true
+pub rows_back : {limits : Limits} → (fields : List Field) (rows : List (List Value)) → are_plain fields ≡ true
     → AllByRecursion (IsFieldWellFormed limits) (entries fields) → AllByRecursion (RowFits fields) rows → IsWithin limits fields rows
-    → AllStored 0 fields rows
+    → AllStored (shape_of fields) (columns rows)
     → Rows limits fields (head_of fields rows) (body_of fields rows) rows
-rows_back {limits} fields rows o fine fits within spells =
+rows_back {limits} fields rows o fine fits within stored =
     let head = head_of fields rows in
     let body = body_of fields rows in
-    let flat = flats limits fields o fine in
-    let few : length rows ≤ limits.slots = elim (cases_lt limits.slots (length rows)) as (λ _. length rows ≤ limits.slots)
-    [ inl x ↦ absurd (within.few x) | inr g ↦ omega (arith, g) ] in
-    let good = goods fields 0 rows flat (fit_start fields rows fits) spells (λ x. within.short (inl x)) in
-    let e : columns_of fields head body ≡ written 0 fields rows =
-    cut_back fields 0 rows head body 0 0 flat
+    let s = shape_of fields in
+    let given = columns rows in
+    let most = limits.slots in
+    let few : length rows ≤ limits.slots = not_above (length rows) limits.slots (λ x. within.few (inl x)) in
+    let good = goods most s given limits.slots_fit (rows_held limits fields rows o fine fits) stored (λ x. within.short (inl x))
+    (λ x. within.few (inr x)) in
+    let e : columns_of fields head body ≡ written s given =
+    cut_back s given head body 0 0
     (λ k h. ap (λ (q : ℕ). node_at head q) (let z : 0 + k ≡ k = omega arith in z))
-    (λ k h. ap (λ (q : ℕ). buffer_at head body q) (let z : 0 + k ≡ k = omega arith in z) ∙ buffer_back (buffers_of fields rows) [] k h) in
+    (λ k h. ap (λ (q : ℕ). buffer_at head body q) (let z : 0 + k ≡ k = omega arith in z)
+    ∙ buffer_back (row_buffers fields rows) [] k h) in
+    let inside : (i : ℕ) → i < length rows → (j : ℕ) → i < length (columns rows j) = λ i k j. omega (arith, k, cells_length j rows) in
     record {
-      plain = plain_from_supported fields o;
-      nodes = nodes_length fields 0 rows ∙ sym (nodes_count fields flat);
-      buffers = ranges_length (buffers_of fields rows) 0 ∙ sym (buffers_count fields 0 rows flat);
+      plain = o;
+      nodes = nodes_length s given;
+      buffers = ranges_length (row_buffers fields rows) 0 ∙ buffers_length s given;
       lengths = record {
         batch = record { from = omega (arith, ints); to = omega (arith, ints, few) };
-        nodes = All-from_recursion (IsNode limits) (nodes_from 0 fields rows) (are_nodes limits fields 0 rows few);
-        columns = subst (λ (cs : Columns). EachTop (λ c. pos c.slots ≡ pos (length rows)) cs) (sym e) (slots_top fields 0 rows);
+        nodes = All-from_recursion (IsNode limits) (row_nodes fields rows) (are_nodes limits s given good);
+        columns = subst (λ (cs : Columns). EachTop (λ c. pos c.slots ≡ pos (length rows)) cs) (sym e)
+            (slots_written (λ n. pos n ≡ pos (length rows)) s given (λ j. ap (λ (n : ℕ). pos n) (cells_length j rows)));
         children = subst (λ (cs : Columns). Each (λ c children. HasLongChildren c.layout c.slots children) cs) (sym e)
-            (each_written (λ c children. HasLongChildren c.layout c.slots children) (λ l vs h s. long_children l (length vs)) fields 0
-            rows good);
+            (each_written most (λ c children. HasLongChildren c.layout c.slots children)
+            (λ l children vs g. long_children l children vs g.child g.held) s given good);
       };
-      ranges = All-from_recursion (LiesIn (length body)) (ranges_from 0 (buffers_of fields rows))
-          (ranges_inside (buffers_of fields rows) 0 (length body) (omega arith));
+      ranges = All-from_recursion (LiesIn (length body)) (ranges_from 0 (row_buffers fields rows))
+          (ranges_inside (row_buffers fields rows) 0 (length body) (omega arith));
       bytes = subst (λ (cs : Columns). Each (λ c children. IsLongEnough c) cs) (sym e)
-          (each_written (λ c children. IsLongEnough c) (λ l vs h s. long_enough l vs h) fields 0 rows good);
+          (each_written most (λ c children. IsLongEnough c) (λ l children vs g. long_enough l (across children) vs g.held) s given good);
       null_counts = subst (λ (cs : Columns). Each (λ c children. CountsNulls c) cs) (sym e)
-          (each_written (λ c children. CountsNulls c) (λ l vs h s. counts_nulls l vs h) fields 0 rows good);
-      order = subst (λ (cs : Columns). Each Ordered cs) (sym e)
-          (each_written Ordered (λ l vs h s. in_order l vs s) fields 0
-          rows good);
-      texts = λ i k. subst (λ (cs : Columns). SpellsTexts cs i) (sym e) (spelled_written fields 0 rows good i k);
+          (each_written most (λ c children. CountsNulls c) (λ l children vs g. counts_nulls l (across children) vs g.held) s given good);
+      order = subst (λ (cs : Columns). Each (λ c children. HasOffsets c.layout c.slots c.offsets (length c.values) children) cs) (sym e)
+          (each_written most (λ c children. HasOffsets c.layout c.slots c.offsets (length c.values) children)
+          (λ l children vs g. ordered l children vs g.short) s given good);
+      texts = λ i k. subst (λ (cs : Columns). SpellsTexts cs i) (sym e) (spelled_written most s given good i (inside i k));
       count = refl;
       values = λ i k. sym (ap (λ (cs : Columns). row cs i) e
-          ∙ row_back fields 0 rows i good k
-          (width_at 0 fields rows i fits k ∙ (let z : length fields ≡ 0 + length fields = omega arith in z)));
+          ∙ (row_back most s given good i (inside i k) ∙ rows_picked fields rows i fits k));
     }
 
 -- the same of any parts that are these lists
 pub rows_of_parts : {limits : Limits} → (fields : List Field) (rows : List (List Value)) (nodes buffers : List (ℤ × ℤ)) (body : List ℕ)
-    → are_supported fields ≡ true → AllByRecursion (IsFieldWellFormed limits) (entries fields) → AllByRecursion (RowFits fields) rows
+    → are_plain fields ≡ true → AllByRecursion (IsFieldWellFormed limits) (entries fields) → AllByRecursion (RowFits fields) rows
     → IsWithin limits fields rows
-    → AllStored 0 fields rows → nodes ≡ nodes_from 0 fields rows → buffers ≡ ranges_from 0 (buffers_of fields rows)
+    → AllStored (shape_of fields) (columns rows) → nodes ≡ row_nodes fields rows → buffers ≡ ranges_from 0 (row_buffers fields rows)
     → body ≡ body_of fields rows
     → Rows limits fields (record { length = pos (length rows); nodes = nodes; buffers = buffers }) body rows
-rows_of_parts {limits} fields rows nodes buffers body o fine fits within spells n r b =
+rows_of_parts {limits} fields rows nodes buffers body o fine fits within stored n r b =
     subst (λ (bytes : List ℕ). Rows limits fields (record {
       length = pos (length rows);
       nodes = nodes;
@@ -235,4 +311,4 @@ rows_of_parts {limits} fields rows nodes buffers body o fine fits within spells 
     }) bytes rows) (sym b)
     (subst (λ (head : BatchHead). Rows limits fields head (body_of fields rows) rows)
     (λ i. record { length = pos (length rows); nodes = (sym n) i; buffers = (sym r) i })
-    (rows_back fields rows o fine fits within spells))
+    (rows_back fields rows o fine fits within stored))

@@ -1,31 +1,40 @@
 -- How long the buffers of a column are.
-use Rattle.std.proofs.Common.{◌≡◌, ◌∙◌, refl, sym, ap, ℕ, ◌+◌, ◌-◌, ◌*◌, ◌/◌, ◌%◌, true, false, cond}
+use Rattle.std.proofs.Common.{◌≡◌, ◌∙◌, refl, sym, ap, ℕ, ◌+◌, ◌-◌, ◌*◌, ◌/◌, ◌%◌, ◌≤◌, Bool, true, false, cond}
 use Rattle.std.proofs.Common.{List, [], ◌∷◌, ◌++◌, length, length-append, replicate, arith}
 use Rattle.std.specs.Prelude.{◌==◌}
+use Rattle.std.specs.Int.{bytes_low_first}
 use Rattle.std.proofs.lemmas.List.{length-replicate}
 use Rattle.ipc_scalar.proofs.Places.{length_low_bytes}
+use Rattle.ipc_model.specs.declared.limits.Limits.{Limits}
 use Rattle.ipc_model.specs.declared.schema.IntBits.{IntBits}
 use Rattle.ipc_model.specs.Layouts.{number_bytes}
 use Rattle.ipc_model.specs.declared.value.Value.{Value}
 use Rattle.ipc_model.specs.declared.layout.Layout.{Layout}
 use Rattle.ipc_model.specs.declared.layout.Layout.TheVariants as l
-use Rattle.ipc_encode.specs.declared.column.Column.{Column}
+use Rattle.ipc_encode.specs.declared.counts.Counts.{Counts}
 use Rattle.ipc_encode.specs.Pieces.{Valid, True, Number, Fixed, Content}
 use Rattle.ipc_encode.specs.Pieces as p
 use Rattle.ipc_encode.specs.Bitmaps.{bitmap}
-use Rattle.ipc_encode.specs.Cells.{is_set, flags, nulls, content, fixed, slot_bytes, slots, number_bits}
-use Rattle.ipc_encode.specs.Buffers.{padded_buffer, joined, piece_bytes}
-use Rattle.ipc_encode.specs.Columns.{validity_bytes, offsets_in, values_in, layout_buffers, bits_length, padded_length}
+use Rattle.ipc_encode.specs.Cells.{flags, nulls, content, fixed, items, slot_bytes, slots, ends, offsets, extent, number_bits, all_items}
+use Rattle.ipc_encode.specs.Buffers.{padded_buffer, joined, piece_bytes, column_buffers}
+use Rattle.ipc_encode.specs.Columns.{validity_bytes, values_in, bits_length, padded_length, data_in, values_length}
 use Rattle.ipc_encode.specs.Columns.{column_length, PassesOffsets}
 use Rattle.ipc_encode.specs.Limits.{HasLongData}
-use Rattle.ipc_encode.specs.Built.{IsColumn}
+use Rattle.ipc_encode.specs.Built.{IsCounted}
 use Rattle.ipc_encode.proofs.Bits.{length_bytes, flags_length}
-use Rattle.ipc_encode.proofs.ReadbackParts.{ends_length}
-use Rattle.ipc_encode.proofs.Steps.{nulls_push, slots_push}
 
 pub padded_is : (b : List ℕ) → length (padded_buffer b) ≡ padded_length (length b)
 padded_is b = length-append b (replicate {A = ℕ} ((8 - length b % 8) % 8) 0)
     ∙ ap (λ (n : ℕ). length b + n) (length-replicate ((8 - length b % 8) % 8) 0)
+
+joined_one : (a : List ℕ) → length (joined (a ∷ [])) ≡ padded_length (length a) + padded_length 0 + padded_length 0
+joined_one a = let size = length-append (padded_buffer a) [] in omega (arith, size, padded_is a)
+
+joined_run : (a b : List ℕ) → length (joined (a ∷ b ∷ [])) ≡ padded_length (length a) + padded_length (length b) + padded_length 0
+joined_run a b =
+    let size = length-append (padded_buffer a) (padded_buffer b ++ []) in
+    let last = length-append (padded_buffer b) [] in
+    omega (arith, size, last, padded_is a, padded_is b)
 
 joined_two : (a b : List ℕ) → length (joined (a ∷ b ∷ [])) ≡ padded_length (length a) + padded_length 0 + padded_length (length b)
 joined_two a b =
@@ -51,90 +60,144 @@ validity_is vs =
       | false ↦ bitmap_bytes Valid vs
     ]
 
-offsets_size : (vs : List Value) → length (offsets_in (l.VariableBytes true) vs) ≡ 4 * (length vs + 1)
-offsets_size vs = let size = ends_length 0 vs in omega (arith, size)
+pub ends_length : (run : p.Run) (start : ℕ) (vs : List Value) → length (ends run start vs) ≡ 4 * length vs
+ends_length run start [] = omega arith
+ends_length run start (v ∷ vs) =
+    let rest = ends_length run (start + extent run v) vs in
+    let here = length_low_bytes 0 4 (start + extent run v) in
+    let size = length-append (bytes_low_first 0 4 (start + extent run v)) (ends run (start + extent run v) vs) in
+    omega (arith, rest, here, size)
+
+offsets_size : (run : p.Run) (vs : List Value) → length (offsets run vs) ≡ 4 * (length vs + 1)
+offsets_size run vs = let size = ends_length run 0 vs in omega (arith, size)
+
+-- ---- the data of a column
+
+numbers_data : (bits : IntBits) (signed : Bool) (vs : List Value) → length (slots (Number bits) vs) ≡ data_in (l.Numbers bits signed) vs
+numbers_data bits signed [] = refl
+numbers_data bits signed (v ∷ vs) =
+    let more = numbers_data bits signed vs in
+    let here = length_low_bytes 0 (number_bytes bits) (number_bits v) in
+    let size = length-append (slot_bytes (Number bits) v) (slots (Number bits) vs) in
+    omega (arith, more, here, size)
+
+fixed_data : (width : ℕ) (vs : List Value) → length (slots (Fixed width) vs) ≡ data_in (l.FixedBytes width) vs
+fixed_data width [] = refl
+fixed_data width (v ∷ vs) =
+    let more = fixed_data width vs in
+    let size = length-append (fixed width v) (slots (Fixed width) vs) in
+    omega (arith, more, size)
+
+content_data : (utf8 : Bool) (vs : List Value) → length (slots Content vs) ≡ data_in (l.VariableBytes utf8) vs
+content_data utf8 [] = refl
+content_data utf8 (v ∷ vs) =
+    let more = content_data utf8 vs in
+    let size = length-append (content v) (slots Content vs) in
+    omega (arith, more, size)
+
+items_data : (vs : List Value) → length (all_items vs) ≡ data_in l.Lists vs
+items_data [] = refl
+items_data (v ∷ vs) =
+    let more = items_data vs in
+    let size = length-append (items v) (all_items vs) in
+    omega (arith, more, size)
+
+no_data : (layout : Layout) (vs : List Value) → ((v : Value) → data_in layout (v ∷ []) ≡ 0) → data_in layout vs ≡ 0
+no_data layout [] none = refl
+no_data layout (v ∷ vs) none = let more = no_data layout vs none in let here = none v in omega (arith, more, here)
+
+-- the buffer of values has the length that slots and data give
+pub values_size : (layout : Layout) (vs : List Value) → length (values_in layout vs) ≡ values_length layout (length vs)
+    (data_in layout vs)
+values_size l.Null vs = refl
+values_size l.Unsupported vs = refl
+values_size l.Lists vs = refl
+values_size l.Structs vs = refl
+values_size (l.FixedLists size) vs = refl
+values_size l.Bits vs = bitmap_bytes True vs
+values_size (l.Numbers bits signed) vs = numbers_data bits signed vs
+values_size (l.FixedBytes width) vs = fixed_data width vs
+values_size (l.VariableBytes utf8) vs = content_data utf8 vs
 
 -- the buffers of a column have the length that its counts give
 pub column_size : (layout : Layout) (vs : List Value)
-    → length (joined (layout_buffers layout vs)) ≡ column_length layout (length vs) (nulls vs) (length (values_in layout vs))
+    → length (joined (column_buffers layout vs)) ≡ column_length layout (length vs) (nulls vs) (values_length layout (length vs)
+    (data_in layout vs))
 column_size l.Null vs = refl
 column_size l.Unsupported vs = refl
-column_size l.Lists vs = joined_two (validity_bytes vs) []
+column_size l.Lists vs = joined_run (validity_bytes vs) (offsets p.Items vs)
+    ∙ (ap (λ (n : ℕ). padded_length n + padded_length (length (offsets p.Items vs)) + padded_length 0) (validity_is vs)
+    ∙ ap (λ (n : ℕ). padded_length (cond (nulls vs == 0) 0 (bits_length (length vs))) + padded_length n + padded_length 0)
+    (offsets_size p.Items vs))
+column_size l.Structs vs = joined_one (validity_bytes vs)
     ∙ ap (λ (n : ℕ). padded_length n + padded_length 0 + padded_length 0) (validity_is vs)
-column_size l.Structs vs = joined_two (validity_bytes vs) []
+column_size (l.FixedLists size) vs = joined_one (validity_bytes vs)
     ∙ ap (λ (n : ℕ). padded_length n + padded_length 0 + padded_length 0) (validity_is vs)
 column_size l.Bits vs = joined_two (validity_bytes vs) (values_in l.Bits vs)
-    ∙ ap (λ (n : ℕ). padded_length n + padded_length 0 + padded_length (length (values_in l.Bits vs))) (validity_is vs)
+    ∙ (ap (λ (n : ℕ). padded_length n + padded_length 0 + padded_length (length (values_in l.Bits vs))) (validity_is vs)
+    ∙ ap (λ (n : ℕ). padded_length (cond (nulls vs == 0) 0 (bits_length (length vs))) + padded_length 0 + padded_length n)
+    (values_size l.Bits vs))
 column_size (l.Numbers bits signed) vs = joined_two (validity_bytes vs) (slots (Number bits) vs)
-    ∙ ap (λ (n : ℕ). padded_length n + padded_length 0 + padded_length (length (slots (Number bits) vs))) (validity_is vs)
+    ∙ (ap (λ (n : ℕ). padded_length n + padded_length 0 + padded_length (length (slots (Number bits) vs))) (validity_is vs)
+    ∙ ap (λ (n : ℕ). padded_length (cond (nulls vs == 0) 0 (bits_length (length vs))) + padded_length 0 + padded_length n)
+    (numbers_data bits signed vs))
 column_size (l.FixedBytes width) vs = joined_two (validity_bytes vs) (slots (Fixed width) vs)
-    ∙ ap (λ (n : ℕ). padded_length n + padded_length 0 + padded_length (length (slots (Fixed width) vs))) (validity_is vs)
+    ∙ (ap (λ (n : ℕ). padded_length n + padded_length 0 + padded_length (length (slots (Fixed width) vs))) (validity_is vs)
+    ∙ ap (λ (n : ℕ). padded_length (cond (nulls vs == 0) 0 (bits_length (length vs))) + padded_length 0 + padded_length n)
+    (fixed_data width vs))
 column_size (l.VariableBytes utf8) vs =
-    joined_three (validity_bytes vs) (offsets_in (l.VariableBytes true) vs) (slots Content vs)
-    ∙ (ap (λ (n : ℕ). padded_length n + padded_length (length (offsets_in (l.VariableBytes true) vs)) + padded_length
-    (length (slots Content vs))) (validity_is vs)
-    ∙ ap (λ (n : ℕ). padded_length (cond (nulls vs == 0) 0 (bits_length (length vs))) + padded_length n + padded_length
-    (length (slots Content vs))) (offsets_size vs))
+    joined_three (validity_bytes vs) (offsets p.Bytes vs) (slots Content vs)
+    ∙ (ap (λ (n : ℕ). padded_length n + padded_length (length (offsets p.Bytes vs)) + padded_length (length (slots Content vs)))
+    (validity_is vs)
+    ∙ (ap (λ (n : ℕ). padded_length (cond (nulls vs == 0) 0 (bits_length (length vs))) + padded_length n + padded_length
+    (length (slots Content vs))) (offsets_size p.Bytes vs)
+    ∙ ap (λ (n : ℕ). padded_length (cond (nulls vs == 0) 0 (bits_length (length vs))) + padded_length (4 *
+    (length vs + 1)) + padded_length n)
+    (content_data utf8 vs)))
+
+-- a buffer of values is among the others
+last_within : (layout : Layout) (vs : List Value) → values_length layout (length vs) (data_in layout vs) ≡ data_in layout vs
+    → data_in layout vs ≤ length (joined (column_buffers layout vs))
+last_within layout vs e = let size = column_size layout vs in omega (arith, size, e)
+
+-- the bytes of data are among those of the buffers
+pub data_within : (layout : Layout) (vs : List Value) → (layout ≡ l.Lists → ⊥) → data_in layout vs ≤ length (joined
+    (column_buffers layout vs))
+data_within l.Null vs other = let none = no_data l.Null vs (λ v. refl) in omega (arith, none)
+data_within l.Unsupported vs other = let none = no_data l.Unsupported vs (λ v. refl) in omega (arith, none)
+data_within l.Lists vs other = absurd (other refl)
+data_within l.Structs vs other = let none = no_data l.Structs vs (λ v. refl) in omega (arith, none)
+data_within (l.FixedLists size) vs other = let none = no_data (l.FixedLists size) vs (λ v. refl) in omega (arith, none)
+data_within l.Bits vs other = let none = no_data l.Bits vs (λ v. refl) in omega (arith, none)
+data_within (l.Numbers bits signed) vs other = last_within (l.Numbers bits signed) vs refl
+data_within (l.FixedBytes width) vs other = last_within (l.FixedBytes width) vs refl
+data_within (l.VariableBytes utf8) vs other = last_within (l.VariableBytes utf8) vs refl
 
 -- data is long exactly where it passes its offsets
-pub long_is : (layout : Layout) (vs : List Value) → PassesOffsets layout (length (values_in layout vs)) → HasLongData layout vs
+pub long_is : (layout : Layout) (vs : List Value) → PassesOffsets layout (data_in layout vs) → HasLongData layout vs
 long_is l.Null vs h = h
 long_is l.Unsupported vs h = h
-long_is l.Lists vs h = h
+long_is l.Lists vs h = let size = items_data vs in omega (arith, size, h)
 long_is l.Structs vs h = h
+long_is (l.FixedLists size) vs h = h
 long_is l.Bits vs h = h
 long_is (l.Numbers bits signed) vs h = h
 long_is (l.FixedBytes width) vs h = h
-long_is (l.VariableBytes utf8) vs h = h
+long_is (l.VariableBytes utf8) vs h = let size = content_data utf8 vs in omega (arith, size, h)
 
-pub long_from : (layout : Layout) (vs : List Value) → HasLongData layout vs → PassesOffsets layout (length (values_in layout vs))
+pub long_from : (layout : Layout) (vs : List Value) → HasLongData layout vs → PassesOffsets layout (data_in layout vs)
 long_from l.Null vs h = h
 long_from l.Unsupported vs h = h
-long_from l.Lists vs h = h
+long_from l.Lists vs h = let size = items_data vs in omega (arith, size, h)
 long_from l.Structs vs h = h
+long_from (l.FixedLists size) vs h = h
 long_from l.Bits vs h = h
 long_from (l.Numbers bits signed) vs h = h
 long_from (l.FixedBytes width) vs h = h
-long_from (l.VariableBytes utf8) vs h = h
+long_from (l.VariableBytes utf8) vs h = let size = content_data utf8 vs in omega (arith, size, h)
 
--- ---- the length of a column's values with one more
-
-pub bits_more : (vs : List Value) (v : Value) → length (values_in l.Bits (vs ++ v ∷ [])) ≡ bits_length (length vs + 1)
-bits_more vs v = bitmap_bytes True (vs ++ v ∷ []) ∙ ap bits_length (length-append vs (v ∷ []))
-
-slots_more : (which : p.ValueSlot) (vs : List Value) (v : Value)
-    → length (slots which (vs ++ v ∷ [])) ≡ length (slots which vs) + length (slot_bytes which v)
-slots_more which vs v = ap (λ (bs : List ℕ). length bs) (slots_push which vs v) ∙ length-append (slots which vs) (slot_bytes which v)
-
-pub numbers_more : (bits : IntBits) (vs : List Value) (v : Value)
-    → length (slots (Number bits) (vs ++ v ∷ [])) ≡ length (slots (Number bits) vs) + number_bytes bits
-numbers_more bits vs v = slots_more (Number bits) vs v
-    ∙ ap (λ (n : ℕ). length (slots (Number bits) vs) + n) (length_low_bytes 0 (number_bytes bits) (number_bits v))
-
-pub fixed_more : (width : ℕ) (vs : List Value) (v : Value)
-    → length (slots (Fixed width) (vs ++ v ∷ [])) ≡ length (slots (Fixed width) vs) + length (fixed width v)
-fixed_more width vs v = slots_more (Fixed width) vs v
-
-pub content_more : (vs : List Value) (v : Value) → length (slots Content (vs ++ v ∷ [])) ≡ length (slots Content vs) + length (content v)
-content_more vs v = slots_more Content vs v
-
--- ---- of a column as it is built
-
--- its buffers have the length of its counts
-pub built_size : (layout : Layout) (vs : List Value) (column : Column) (bytes : ℕ) → bytes ≡ length column.values.items
-    → IsColumn layout vs column
-    → column_length column.layout column.slots column.nulls bytes ≡ length (joined (layout_buffers layout vs))
-built_size layout vs column bytes e h =
-    rw (e, h.values_are, h.laid, h.count, h.null_count) (sym (column_size layout vs))
-
--- the same with one value more
-pub next_size : (layout : Layout) (vs : List Value) (v : Value) (column : Column) (null_count bytes : ℕ)
-    → null_count ≡ column.nulls + cond (is_set Valid v) 0 1
-    → bytes ≡ length (values_in layout (vs ++ v ∷ [])) → IsColumn layout vs column
-    → column_length column.layout (column.slots + 1) null_count bytes ≡ length (joined (layout_buffers layout (vs ++ v ∷ [])))
-next_size layout vs v column null_count bytes n b h =
-    let size = length-append vs (v ∷ []) in
-    let count : column.slots + 1 ≡ length (vs ++ v ∷ []) = omega (arith, size, h.count) in
-    let none : null_count ≡ nulls (vs ++ v ∷ []) = n
-    ∙ (ap (λ (k : ℕ). k + cond (is_set Valid v) 0 1) h.null_count ∙ sym (nulls_push vs v)) in
-    rw (count, none, b, h.laid) (sym (column_size layout (vs ++ v ∷ [])))
+-- the numbers of a column give the length of its buffers
+pub counted_size : (limits : Limits) (layout : Layout) (vs : List Value) (counts : Counts) → IsCounted limits layout vs counts
+    → column_length layout counts.slots counts.nulls (values_length layout counts.slots counts.amount)
+    ≡ length (joined (column_buffers layout vs))
+counted_size limits layout vs counts h = rw (h.slots_are, h.nulls_are, h.amount_is) (sym (column_size layout vs))

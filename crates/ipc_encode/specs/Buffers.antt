@@ -1,21 +1,18 @@
 -- The nodes, the buffers and the body that rows are written as (Arrow Columnar Format, "RecordBatch
 -- message").
-use Rattle.std.specs.Prelude.{◌≡◌, ℕ, ◌+◌, ◌-◌, ◌%◌, ◌==◌, ℤ, pos, List, [], ◌∷◌, ◌++◌, length}
+use Rattle.std.specs.Prelude.{◌≡◌, ℕ, suc, ◌+◌, ◌-◌, ◌%◌, ◌==◌, ℤ, pos, List, [], ◌∷◌, ◌++◌, length}
 use Rattle.std.specs.Prelude.{replicate, if◌then◌else◌}
-use Rattle.ipc_model.specs.declared.schema.Field.{Field, out-Field}
+use Rattle.ipc_model.specs.declared.schema.Field.{Field}
 use Rattle.ipc_model.specs.declared.value.Value.{Value}
 use Rattle.ipc_model.specs.declared.layout.Layout.{Layout}
 use Rattle.ipc_model.specs.declared.layout.Layout.TheVariants as l
-use Rattle.ipc_model.specs.Layouts.{layout}
+use Rattle.ipc_column.specs.Shapes.{Shape, bare, field, shape_of}
 use Rattle.ipc_encode.specs.declared.parts.Parts.{Parts}
 use Rattle.ipc_encode.specs.Pieces.{Valid, True, Number, Fixed, Content, Piece}
 use Rattle.ipc_encode.specs.Pieces as p
 use Rattle.ipc_encode.specs.Bitmaps.{bitmap}
 use Rattle.ipc_encode.specs.Cells.{cells, flags, nulls, slots, offsets}
-
--- the layout of a field's slots
-abbrev pub layout_of : Field → Layout
-layout_of f = layout (out-Field f).kind (out-Field f).dictionary
+use Rattle.ipc_encode.specs.Cells.{all_items, all_fixed_items, all_parts}
 
 -- the validity bitmap of values of which so many are null (Arrow Columnar Format, "Validity
 -- bitmaps")
@@ -23,15 +20,17 @@ abbrev pub validity : ℕ → Piece
 validity count = if count == 0 then p.Absent else p.Flags Valid
 
 -- what the buffers of a column hold, in their order (Arrow Columnar Format, "Buffer Listing for
--- Each Layout"); lists aren't written yet
+-- Each Layout")
 abbrev pub pieces : Layout → ℕ → List Piece
 pieces l.Null count = []
 pieces l.Bits count = validity count ∷ p.Flags True ∷ []
 pieces (l.Numbers bits signed) count = validity count ∷ p.Slots (Number bits) ∷ []
 pieces (l.FixedBytes width) count = validity count ∷ p.Slots (Fixed width) ∷ []
-pieces (l.VariableBytes utf8) count = validity count ∷ p.Offsets ∷ p.Slots Content ∷ []
-pieces l.Lists count = validity count ∷ p.Absent ∷ []
+pieces (l.VariableBytes utf8) count =
+    validity count ∷ p.Offsets p.Bytes ∷ p.Slots Content ∷ []
+pieces l.Lists count = validity count ∷ p.Offsets p.Items ∷ []
 pieces l.Structs count = validity count ∷ []
+pieces (l.FixedLists size) count = validity count ∷ []
 pieces l.Unsupported count = []
 
 -- the bytes of a buffer for these values
@@ -39,28 +38,47 @@ abbrev pub piece_bytes : Piece → List Value → List ℕ
 piece_bytes p.Absent values = []
 piece_bytes (p.Flags which) values = bitmap (flags which values)
 piece_bytes (p.Slots which) values = slots which values
-piece_bytes p.Offsets values = offsets values
+piece_bytes (p.Offsets run) values = offsets run values
 
--- the buffers of a column
+-- buffers that hold these
 abbrev pub buffers_in : List Piece → List Value → List (List ℕ)
 buffers_in [] values = []
 buffers_in (piece ∷ more) values = piece_bytes piece values ∷ buffers_in more values
 
--- the buffers of a field's column with these values, each without padding
-abbrev pub column_buffers : Field → List Value → List (List ℕ)
-column_buffers f values = buffers_in (pieces (layout_of f) (nulls values)) values
+-- the buffers of a column of this layout with these values, each without padding
+abbrev pub column_buffers : Layout → List Value → List (List ℕ)
+column_buffers layout values = buffers_in (pieces layout (nulls values)) values
 
--- a length and a null count for each field, whose columns begin with column j (Message.fbs,
--- FieldNode)
-abbrev pub nodes_from : ℕ → List Field → List (List Value) → List (ℤ × ℤ)
-nodes_from j [] rows = []
-nodes_from j (f ∷ fs) rows =
-    (pos (length rows), pos (nulls (cells j rows))) ∷ nodes_from (j + 1) fs rows
+-- the values of child j of a column (Arrow Columnar Format, "Variable-size List Layout",
+-- "Fixed-Size List Layout", "Struct Layout"): a list's slots hold its items, and a null list has
+-- none, but so many nulls where all have so many items; a struct has a slot in each child, which is
+-- null where the struct is
+abbrev pub below : Layout → List Value → ℕ → List Value
+below l.Lists values j = all_items values
+below (l.FixedLists size) values j = all_fixed_items size values
+below l.Structs values j = all_parts j values
+below _ values j = []
 
--- the buffers of the fields, whose columns begin with column j
-abbrev pub buffers_from : ℕ → List Field → List (List Value) → List (List ℕ)
-buffers_from j [] rows = []
-buffers_from j (f ∷ fs) rows = column_buffers f (cells j rows) ++ buffers_from (j + 1) fs rows
+-- how many nulls a null gives to each child
+abbrev pub nulls_below : Layout → ℕ
+nulls_below (l.FixedLists size) = size
+nulls_below l.Structs = 1
+nulls_below _ = 0
+
+-- a length and a null count for each field and for each below it, in pre-order (Message.fbs,
+-- FieldNode), where `given` has the values of each column
+abbrev pub nodes_of : Shape → (ℕ → List Value) → List (ℤ × ℤ)
+nodes_of bare given = []
+nodes_of (field l children rest) given =
+    (pos (length (given 0)), pos (nulls (given 0))) ∷ (nodes_of children (below l (given 0))
+    ++ nodes_of rest (λ j. given (suc j)))
+
+-- the buffers of each field, and of each below it
+abbrev pub buffers_of : Shape → (ℕ → List Value) → List (List ℕ)
+buffers_of bare given = []
+buffers_of (field l children rest) given =
+    column_buffers l (given 0) ++ (buffers_of children (below l (given 0))
+    ++ buffers_of rest (λ j. given (suc j)))
 
 -- a buffer, and zero bytes up to a multiple of 8 (Arrow Columnar Format, "Buffer Alignment and
 -- Padding")
@@ -79,17 +97,25 @@ ranges_from start [] = []
 ranges_from start (b ∷ bs) =
     (pos start, pos (length b)) ∷ ranges_from (start + length (padded_buffer b)) bs
 
--- the buffers of the fields' columns, and the body that they make
-abbrev pub buffers_of : List Field → List (List Value) → List (List ℕ)
-buffers_of fields rows = buffers_from 0 fields rows
+-- the columns of rows
+abbrev pub columns : List (List Value) → ℕ → List Value
+columns rows j = cells j rows
 
--- the body of these rows (Arrow Columnar Format, "RecordBatch message"): all buffers, each padded
+-- the nodes of these rows
+abbrev pub row_nodes : List Field → List (List Value) → List (ℤ × ℤ)
+row_nodes fields rows = nodes_of (shape_of fields) (columns rows)
+
+-- their buffers
+abbrev pub row_buffers : List Field → List (List Value) → List (List ℕ)
+row_buffers fields rows = buffers_of (shape_of fields) (columns rows)
+
+-- their body (Arrow Columnar Format, "RecordBatch message"): all buffers, each padded
 abbrev pub body_of : List Field → List (List Value) → List ℕ
-body_of fields rows = joined (buffers_of fields rows)
+body_of fields rows = joined (row_buffers fields rows)
 
 -- The parts are these lists, so that equal rows are written as equal bytes.
 pub record AreLaidOut (fields : List Field) (rows : List (List Value))
     (parts : Parts) : Type 0 where
-  pub nodes : parts.nodes ≡ nodes_from 0 fields rows
-  pub buffers : parts.buffers ≡ ranges_from 0 (buffers_of fields rows)
+  pub nodes : parts.nodes ≡ row_nodes fields rows
+  pub buffers : parts.buffers ≡ ranges_from 0 (row_buffers fields rows)
   pub body : parts.body.items ≡ body_of fields rows

@@ -1,39 +1,77 @@
 -- The rows that a builder holds (Message.fbs, RecordBatch).
-use Rattle.std.specs.Prelude.{◌≡◌, ℕ, suc, ◌<◌, true, false, List, [], ◌∷◌, length, ◌⊎◌, ⊤}
-use Rattle.ipc_model.specs.Greatest.{greatest_slots}
+use Rattle.std.specs.Prelude.{◌≡◌, ℕ, suc, ◌+◌, ◌<◌, ◌≤◌, true, false}
+use Rattle.std.specs.Prelude.{List, [], ◌∷◌, length, ◌⊎◌, ⊤}
 use Rattle.ipc_model.specs.declared.limits.Limits.{Limits}
 use Rattle.ipc_model.specs.declared.schema.Field.{Field}
 use Rattle.ipc_model.specs.declared.value.Value.{Value}
 use Rattle.ipc_model.specs.declared.layout.Layout.{Layout}
 use Rattle.ipc_encode.specs.declared.builder.Builder.{Builder}
 use Rattle.ipc_encode.specs.declared.column.Column.{Column}
+use Rattle.ipc_encode.specs.declared.counts.Counts.{Counts}
 use Rattle.ipc_encode.specs.declared.fault.PushFault.{PushFault}
 use Rattle.ipc_encode.specs.declared.fault.PushFault.TheVariants as fault
-use Rattle.ipc_encode.specs.Buffers.{layout_of}
-use Rattle.ipc_encode.specs.Cells.{cells, nulls}
-use Rattle.ipc_encode.specs.Columns.{validity_in, offsets_in, values_in}
-use Rattle.ipc_encode.specs.Limits.{HasLongData, SomeLongData, IsWithin}
+use Rattle.ipc_encode.specs.declared.node.Node.{Node, out-Node}
+use Rattle.ipc_encode.specs.declared.column.Purpose.{Purpose}
+use Rattle.ipc_encode.specs.declared.column.Purpose.TheVariants as purpose
+use Rattle.ipc_column.specs.Shapes.{Shape, bare, field, shape_of}
+use Rattle.ipc_encode.specs.Buffers.{below, columns, joined, column_buffers, buffers_of}
+use Rattle.ipc_encode.specs.Cells.{nulls}
+use Rattle.ipc_encode.specs.Columns.{validity_in, offsets_in, values_in, data_in}
+use Rattle.ipc_encode.specs.Limits.{HasLongData, HasLongNode, SomeLongData, IsWithin}
 use Rattle.ipc_encode.specs.Writing.{AreStored}
+
+-- These are the numbers of a column of this layout with these values, which are within the limits.
+pub record IsCounted (limits : Limits) (layout : Layout) (values : List Value)
+    (counts : Counts) : Type 0 where
+  pub slots_are : counts.slots ≡ length values
+  pub nulls_are : counts.nulls ≡ nulls values
+  pub amount_is : counts.amount ≡ data_in layout values
+  pub few : ¬ (limits.slots < length values)
+  pub short : ¬ HasLongData layout values
 
 -- These are the buffers of a column of this layout with these values (Arrow Columnar Format,
 -- "Buffer Listing for Each Layout").
-pub record IsColumn (layout : Layout) (values : List Value) (column : Column) : Type 0 where
+pub record IsColumn (limits : Limits) (layout : Layout) (values : List Value)
+    (column : Column) : Type 0 where
   pub laid : column.layout ≡ layout
-  pub count : column.slots ≡ length values
-  pub null_count : column.nulls ≡ nulls values
-  pub validity_is : column.validity.items ≡ validity_in layout values
+  pub counted : IsCounted limits layout values column.counts
+  pub validity_are : column.validity.items ≡ validity_in layout values
   pub offsets_are : column.offsets.items ≡ offsets_in layout values
   pub values_are : column.values.items ≡ values_in layout values
-  pub short : ¬ HasLongData layout values
   pub stored : AreStored layout values
 
--- columns of these fields, each with the values that are given for its number
-abbrev pub AreColumns : List Field → List Column → (ℕ → List Value) → Type 0
-AreColumns [] [] given = ⊤
-AreColumns [] (column ∷ columns) given = ⊥
-AreColumns (f ∷ fs) [] given = ⊥
-AreColumns (f ∷ fs) (column ∷ columns) given =
-    IsColumn (layout_of f) (given 0) column × AreColumns fs columns (λ j. given (suc j))
+-- The column is of this layout, and the numbers with the next row are those of these values.
+pub record IsNext (limits : Limits) (layout : Layout) (values : List Value)
+    (column : Column) : Type 0 where
+  pub laid : column.layout ≡ layout
+  pub counted : IsCounted limits layout values column.next
+
+-- nodes of this shape, whose columns with the values that are given for their numbers have a
+-- property, and so have those below them
+abbrev pub AreNodes : (Layout → List Value → Column → Type 0) → Shape → List Node
+    → (ℕ → List Value) → Type 0
+AreNodes Property bare [] given = ⊤
+AreNodes Property bare (node ∷ nodes) given = ⊥
+AreNodes Property (field l children rest) [] given = ⊥
+AreNodes Property (field l children rest) (node ∷ nodes) given =
+    (Property l (given 0) (out-Node node).column
+    × AreNodes Property children (out-Node node).children.items (below l (given 0)))
+    × AreNodes Property rest nodes (λ j. given (suc j))
+
+-- the same of one node
+abbrev pub IsNode : (Layout → List Value → Column → Type 0) → Layout → Shape → Node → List Value
+    → Type 0
+IsNode Property l children node values = Property l values (out-Node node).column
+    × AreNodes Property children (out-Node node).children.items (below l values)
+
+-- columns of this shape, each with the values that are given for its number
+abbrev pub AreColumns : Limits → Shape → List Node → (ℕ → List Value) → Type 0
+AreColumns limits = AreNodes (IsColumn limits)
+
+-- what a column has taken: values into its buffers, or their numbers alone
+abbrev pub HasTaken : Purpose → Limits → Layout → List Value → Column → Type 0
+HasTaken purpose.Keep limits = IsColumn limits
+HasTaken purpose.Count limits = IsNext limits
 
 -- The builder holds exactly these rows of these fields, which are within the limits.
 pub record HasRows (limits : Limits) (fields : List Field) (rows : List (List Value))
@@ -41,21 +79,44 @@ pub record HasRows (limits : Limits) (fields : List Field) (rows : List (List Va
   pub limits_are : builder.limits ≡ limits
   pub works : builder.failed ≡ false
   pub count : builder.rows ≡ length rows
-  pub columns_are : AreColumns fields builder.columns.items (λ j. cells j rows)
+  pub columns_are : AreColumns limits (shape_of fields) builder.nodes.items (columns rows)
   pub within : IsWithin limits fields rows
 
--- why a column doesn't take the last of these values: they are more than a column has, or their
--- data is more than offsets reach
-abbrev pub IsPushRefused : Layout → List Value → PushFault → Type 0
-IsPushRefused layout values fault.TooLong =
-    HasLongData layout values ⊎ (greatest_slots < length values)
-IsPushRefused layout values fault.OutOfMemory = ⊤
+-- why a column doesn't take the last of these values: it would have too many slots, more data than
+-- its offsets reach, or more than a body may have
+abbrev pub IsPushRefused : Limits → Layout → List Value → PushFault → Type 0
+IsPushRefused limits layout values fault.TooLong =
+    HasLongData layout values ⊎ (limits.body < length (joined (column_buffers layout values)))
+IsPushRefused limits layout values fault.TooMany = limits.slots < length values
+IsPushRefused limits layout values fault.OutOfMemory = ⊤
 
--- the same of a row, the last of these
-abbrev pub IsRowRefused : List Field → List (List Value) → PushFault → Type 0
-IsRowRefused fields rows fault.TooLong =
-    SomeLongData 0 fields rows ⊎ (greatest_slots < length rows)
-IsRowRefused fields rows fault.OutOfMemory = ⊤
+-- the same of columns of this shape, and of those below them
+abbrev pub ArePushesRefused : Limits → Shape → (ℕ → List Value) → PushFault → Type 0
+ArePushesRefused limits shape given fault.TooLong = SomeLongData shape given
+    ⊎ (limits.body < length (joined (buffers_of shape given)))
+ArePushesRefused limits shape given fault.TooMany = HasLongNode limits.slots shape given
+ArePushesRefused limits shape given fault.OutOfMemory = ⊤
+
+-- Columns of this shape with these values are within the limits.
+pub record AreWithin (limits : Limits) (shape : Shape) (given : ℕ → List Value) : Type 0 where
+  pub few : ¬ HasLongNode limits.slots shape given
+  pub short : ¬ SomeLongData shape given
+  pub body : length (joined (buffers_of shape given)) ≤ limits.body
+
+-- Of so many bytes these are left behind the buffers of columns, each of which is within the
+-- limits.
+pub record LeavesOf (limits : Limits) (shape : Shape) (given : ℕ → List Value)
+    (bytes left : ℕ) : Type 0 where
+  pub few : ¬ HasLongNode limits.slots shape given
+  pub short : ¬ SomeLongData shape given
+  pub rest : length (joined (buffers_of shape given)) + left ≡ bytes
+
+-- why columns aren't within the limits, or their buffers not within so many bytes
+abbrev pub AreTooMuch : Limits → ℕ → Shape → (ℕ → List Value) → PushFault → Type 0
+AreTooMuch limits bytes shape given fault.TooLong = SomeLongData shape given
+    ⊎ (bytes < length (joined (buffers_of shape given)))
+AreTooMuch limits bytes shape given fault.TooMany = HasLongNode limits.slots shape given
+AreTooMuch limits bytes shape given fault.OutOfMemory = ⊥
 
 -- the builder was refused memory
 abbrev pub HasFailed : Builder → Type 0

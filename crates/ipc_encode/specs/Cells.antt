@@ -8,7 +8,7 @@ use Rattle.ipc_model.specs.declared.value.Value.{Value, out-Value}
 use Rattle.ipc_model.specs.declared.value.Value.TheOpen.{Value-F}
 use Rattle.ipc_model.specs.declared.value.Value.TheVariants as v
 use Rattle.ipc_model.specs.Layouts.{number_bytes}
-use Rattle.ipc_encode.specs.Pieces.{Flag, ValueSlot}
+use Rattle.ipc_encode.specs.Pieces.{Flag, Run, ValueSlot}
 use Rattle.ipc_encode.specs.Pieces as p
 
 -- the value that a row has in column j
@@ -63,6 +63,48 @@ abbrev pub fixed_in : ℕ → Value-F Value → List ℕ
 fixed_in width (Value-F.Bytes bytes) = bytes
 fixed_in width _ = replicate width 0
 
+-- the items of a list; none of any other value
+abbrev pub items_in : Value-F Value → List Value
+items_in (Value-F.List items) = items
+items_in _ = []
+
+-- part j of a struct; null for any other value
+abbrev pub part_in : ℕ → Value-F Value → Value
+part_in j (Value-F.Struct parts) = cell j parts
+part_in j _ = v.Null
+
+-- the items of a list; none of any other value
+abbrev pub items : Value → List Value
+items value = items_in (out-Value value)
+
+-- part j of a struct; null where there is none
+abbrev pub part : ℕ → Value → Value
+part j value = part_in j (out-Value value)
+
+-- the items of each list, one after another
+abbrev pub all_items : List Value → List Value
+all_items [] = []
+all_items (value ∷ values) = items value ++ all_items values
+
+-- the items of a list; so many nulls of any other value
+abbrev pub fixed_items_in : ℕ → Value-F Value → List Value
+fixed_items_in size (Value-F.List items) = items
+fixed_items_in size _ = replicate size v.Null
+
+-- the items of a list; so many nulls of any other value
+abbrev pub fixed_items : ℕ → Value → List Value
+fixed_items size value = fixed_items_in size (out-Value value)
+
+-- the items of each list of a fixed size, one after another
+abbrev pub all_fixed_items : ℕ → List Value → List Value
+all_fixed_items size [] = []
+all_fixed_items size (value ∷ values) = fixed_items size value ++ all_fixed_items size values
+
+-- part j of each struct
+abbrev pub all_parts : ℕ → List Value → List Value
+all_parts j [] = []
+all_parts j (value ∷ values) = part j value ∷ all_parts j values
+
 -- the bits of a number, in two's complement where it is signed; of any other value none is set
 abbrev pub number_bits : Value → ℕ
 number_bits value = bits_in (out-Value value)
@@ -87,15 +129,21 @@ abbrev pub slots : ValueSlot → List Value → List ℕ
 slots which [] = []
 slots which (value ∷ values) = slot_bytes which value ++ slots which values
 
--- where the slots of values end, the first of them beginning at a start: numbers of 32 bits
-abbrev pub ends : ℕ → List Value → List ℕ
-ends start [] = []
-ends start (value ∷ values) = bytes_low_first 0 4 (start + length (content value))
-    ++ ends (start + length (content value)) values
+-- how long the run of a value is
+abbrev pub extent : Run → Value → ℕ
+extent p.Bytes value = length (content value)
+extent p.Items value = length (items value)
 
--- 0, and where each slot ends (Arrow Columnar Format, "Variable-size Binary Layout")
-abbrev pub offsets : List Value → List ℕ
-offsets values = bytes_low_first 0 4 0 ++ ends 0 values
+-- where the slots of values end, the first of them beginning at a start: numbers of 32 bits
+abbrev pub ends : Run → ℕ → List Value → List ℕ
+ends run start [] = []
+ends run start (value ∷ values) = bytes_low_first 0 4 (start + extent run value)
+    ++ ends run (start + extent run value) values
+
+-- 0, and where each slot ends (Arrow Columnar Format, "Variable-size Binary Layout",
+-- "Variable-size List Layout")
+abbrev pub offsets : Run → List Value → List ℕ
+offsets run values = bytes_low_first 0 4 0 ++ ends run 0 values
 
 -- a text is UTF-8; other values aren't asked
 abbrev pub SpellsOut : Value-F Value → Type 0

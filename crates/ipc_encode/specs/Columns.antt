@@ -1,15 +1,17 @@
 -- The buffers of one column as it is built (Arrow Columnar Format, "Buffer Listing for Each
 -- Layout").
-use Rattle.std.specs.Prelude.{ℕ, ◌+◌, ◌-◌, ◌*◌, ◌/◌, ◌%◌, ◌<◌, ◌==◌, List, []}
+use Rattle.std.specs.Prelude.{ℕ, ◌+◌, ◌-◌, ◌*◌, ◌/◌, ◌%◌, ◌<◌, ◌==◌, List, [], ◌∷◌, length}
 use Rattle.std.specs.Prelude.{if◌then◌else◌}
 use Rattle.ipc_model.specs.Limits.{max_data}
 use Rattle.ipc_model.specs.declared.value.Value.{Value}
 use Rattle.ipc_model.specs.declared.layout.Layout.{Layout}
 use Rattle.ipc_model.specs.declared.layout.Layout.TheVariants as l
+use Rattle.ipc_model.specs.Layouts.{number_bytes}
 use Rattle.ipc_encode.specs.Pieces.{True, Number, Fixed, Content}
+use Rattle.ipc_encode.specs.Pieces as p
 use Rattle.ipc_encode.specs.Bitmaps.{bitmap}
-use Rattle.ipc_encode.specs.Cells.{flags, nulls, slots, offsets}
-use Rattle.ipc_encode.specs.Buffers.{validity, pieces, piece_bytes, buffers_in}
+use Rattle.ipc_encode.specs.Cells.{flags, nulls, content, fixed, items, slots, offsets}
+use Rattle.ipc_encode.specs.Buffers.{validity, piece_bytes}
 
 -- the bytes of a validity bitmap, none where no value is null
 abbrev pub validity_bytes : List Value → List ℕ
@@ -25,16 +27,18 @@ validity_in (l.FixedBytes width) values = validity_bytes values
 validity_in (l.VariableBytes utf8) values = validity_bytes values
 validity_in l.Lists values = validity_bytes values
 validity_in l.Structs values = validity_bytes values
+validity_in (l.FixedLists size) values = validity_bytes values
 
--- the bytes of the offsets in a column of this layout; lists aren't written yet
+-- the bytes of the offsets in a column of this layout
 abbrev pub offsets_in : Layout → List Value → List ℕ
-offsets_in (l.VariableBytes utf8) values = offsets values
+offsets_in (l.VariableBytes utf8) values = offsets p.Bytes values
 offsets_in l.Null values = []
 offsets_in l.Bits values = []
 offsets_in (l.Numbers bits signed) values = []
 offsets_in (l.FixedBytes width) values = []
-offsets_in l.Lists values = []
+offsets_in l.Lists values = offsets p.Items values
 offsets_in l.Structs values = []
+offsets_in (l.FixedLists size) values = []
 offsets_in l.Unsupported values = []
 
 -- the bytes of the values in a column of this layout
@@ -46,13 +50,28 @@ values_in (l.FixedBytes width) values = slots (Fixed width) values
 values_in (l.VariableBytes utf8) values = slots Content values
 values_in l.Lists values = []
 values_in l.Structs values = []
+values_in (l.FixedLists size) values = []
 values_in l.Unsupported values = []
 
--- the buffers of a column of this layout, each without padding
-abbrev pub layout_buffers : Layout → List Value → List (List ℕ)
-layout_buffers layout values = buffers_in (pieces layout (nulls values)) values
-
 -- ---- lengths
+
+-- how much one value adds to the data of a column: bytes, or items of a list
+abbrev pub datum : Layout → Value → ℕ
+datum (l.Numbers bits signed) value = number_bytes bits
+datum (l.FixedBytes width) value = length (fixed width value)
+datum (l.VariableBytes utf8) value = length (content value)
+datum l.Lists value = length (items value)
+datum l.Null value = 0
+datum l.Bits value = 0
+datum l.Structs value = 0
+datum (l.FixedLists size) value = 0
+datum l.Unsupported value = 0
+
+-- how much the values of a column are: so many bytes, or so many items of lists; bits and slots
+-- without data are counted by their slots alone
+abbrev pub data_in : Layout → List Value → ℕ
+data_in layout [] = 0
+data_in layout (value ∷ values) = datum layout value + data_in layout values
 
 -- the bytes that packed bits take
 abbrev pub bits_length : ℕ → ℕ
@@ -71,6 +90,7 @@ validity_length _ count null_count = if null_count == 0 then 0 else bits_length 
 -- the bytes of the offsets of so many slots
 abbrev pub offsets_length : Layout → ℕ → ℕ
 offsets_length (l.VariableBytes utf8) count = 4 * (count + 1)
+offsets_length l.Lists count = 4 * (count + 1)
 offsets_length _ count = 0
 
 -- the bytes of a column's buffers in a body: so many slots, of which so many are null, and so many
@@ -80,7 +100,20 @@ column_length layout count null_count value_bytes =
     padded_length (validity_length layout count null_count)
     + padded_length (offsets_length layout count) + padded_length value_bytes
 
--- so many bytes of values are more than offsets reach
+-- the bytes of a column's values: so many slots, with so much data
+abbrev pub values_length : Layout → ℕ → ℕ → ℕ
+values_length (l.Numbers bits signed) count amount = amount
+values_length (l.FixedBytes width) count amount = amount
+values_length (l.VariableBytes utf8) count amount = amount
+values_length l.Bits count amount = bits_length count
+values_length l.Null count amount = 0
+values_length l.Lists count amount = 0
+values_length l.Structs count amount = 0
+values_length (l.FixedLists size) count amount = 0
+values_length l.Unsupported count amount = 0
+
+-- so much data is more than offsets reach
 abbrev pub PassesOffsets : Layout → ℕ → Type 0
-PassesOffsets (l.VariableBytes utf8) value_bytes = max_data < value_bytes
-PassesOffsets _ value_bytes = ⊥
+PassesOffsets (l.VariableBytes utf8) amount = max_data < amount
+PassesOffsets l.Lists amount = max_data < amount
+PassesOffsets _ amount = ⊥

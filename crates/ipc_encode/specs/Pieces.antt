@@ -14,10 +14,15 @@ pub data ValueSlot : Type 0 where
   Fixed : ℕ → ValueSlot
   Content : ValueSlot
 
+-- what a slot of any length is a run of: bytes, or values of the one child
+pub data Run : Type 0 where
+  Bytes : Run
+  Items : Run
+
 -- what one buffer of a column holds: nothing, as a validity bitmap where no value is null; a bit of
 -- each value; a slot for each value; or where slots of different lengths begin and end
 pub data Piece : Type 0 where
   Absent : Piece
   Flags : Flag → Piece
   Slots : ValueSlot → Piece
-  Offsets : Piece
+  Offsets : Run → Piece

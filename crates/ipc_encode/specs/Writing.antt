@@ -1,15 +1,15 @@
 -- What writing says of columns, and of buffers that are joined (Arrow Columnar Format, "Physical
 -- Memory Layout").
-use Rattle.std.specs.Prelude.{◌≡◌, ℕ, ◌+◌, List, [], ◌∷◌, ◌++◌, length, ⊤}
+use Rattle.std.specs.Prelude.{◌≡◌, ℕ, suc, List, ◌++◌, length, ⊤}
 use Rattle.std.specs.List.{AllByRecursion}
 use Rattle.ipc_model.specs.declared.schema.Field.{Field}
 use Rattle.ipc_model.specs.declared.value.Value.{Value}
 use Rattle.ipc_model.specs.declared.layout.Layout.{Layout}
 use Rattle.ipc_model.specs.declared.layout.Layout.TheVariants as l
 use Rattle.ipc_encode.specs.declared.parts.Draft.{Draft}
-use Rattle.ipc_encode.specs.Cells.{cells, HasUtf8}
-use Rattle.ipc_encode.specs.Buffers.{layout_of, joined, nodes_from, ranges_from, buffers_of}
-use Rattle.ipc_encode.specs.Buffers.{body_of}
+use Rattle.ipc_column.specs.Shapes.{Shape, bare, field}
+use Rattle.ipc_encode.specs.Cells.{HasUtf8}
+use Rattle.ipc_encode.specs.Buffers.{below, joined, ranges_from, row_nodes, row_buffers, body_of}
 
 -- the texts of a column are UTF-8
 abbrev pub AreStored : Layout → List Value → Type 0
@@ -20,12 +20,15 @@ AreStored (l.Numbers bits signed) values = ⊤
 AreStored (l.FixedBytes width) values = ⊤
 AreStored l.Lists values = ⊤
 AreStored l.Structs values = ⊤
+AreStored (l.FixedLists size) values = ⊤
 AreStored l.Unsupported values = ⊤
 
--- the same of the columns from column j on
-abbrev pub AllStored : ℕ → List Field → List (List Value) → Type 0
-AllStored j [] rows = ⊤
-AllStored j (f ∷ fs) rows = AreStored (layout_of f) (cells j rows) × AllStored (j + 1) fs rows
+-- the same of each column, and of each below it
+abbrev pub AllStored : Shape → (ℕ → List Value) → Type 0
+AllStored bare given = ⊤
+AllStored (field l children rest) given =
+    AreStored l (given 0) × (AllStored children (below l (given 0))
+    × AllStored rest (λ j. given (suc j)))
 
 -- these buffers came behind the others
 pub record Adds (old new : Draft) (bs : List (List ℕ)) : Type 0 where
@@ -34,6 +37,6 @@ pub record Adds (old new : Draft) (bs : List (List ℕ)) : Type 0 where
 
 -- these are the nodes, the buffers and the body of the rows
 pub record IsDrafted (fields : List Field) (rows : List (List Value)) (draft : Draft) : Type 0 where
-  pub nodes : draft.nodes.items ≡ nodes_from 0 fields rows
-  pub buffers : draft.buffers.items ≡ ranges_from 0 (buffers_of fields rows)
+  pub nodes : draft.nodes.items ≡ row_nodes fields rows
+  pub buffers : draft.buffers.items ≡ ranges_from 0 (row_buffers fields rows)
   pub body : draft.body.items ≡ body_of fields rows

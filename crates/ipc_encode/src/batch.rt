@@ -18,17 +18,19 @@ use std::alloc::Global;
 /// Format, "RecordBatch message").
 ///
 /// The caller has the fields from a schema that passes its check, and rows that fit them. Fields of
-/// any type but lists and structs are written, without a dictionary; nothing is said of the parts
-/// where there is another. The indices aren't looked at, since no field that is written can name a
-/// dictionary yet.
+/// any type are written, without a dictionary; nothing is said of the parts where one has another,
+/// or is of a type that isn't supported yet. The indices aren't looked at, since no field that is
+/// written can name a dictionary yet.
 ///
-/// Buffers stand in the order of the fields, each padded with zeros to a multiple of 8
-/// bytes; a buffer's length is without its padding. There is a validity bitmap only where a value
-/// is null. A null slot is zeros, false or an empty range, and offsets begin at 0.
+/// Buffers stand in the order of the fields, those of a field's children right behind its own, each
+/// padded with zeros to a multiple of 8 bytes; a buffer's length is without its padding. There is a
+/// validity bitmap only where a value is null. A null slot is zeros, false or an empty range, and
+/// offsets begin at 0. Below a null struct stands a null in each child.
 ///
-/// Refused with W8 `TooManyRows` where there are more than `limits.slots` rows; with W6 `TooLong`
-/// where a binary or UTF-8 column has more than 2^31 - 1 bytes of data, whatever the limits, or the
-/// body would have more than `limits.body` bytes; with W11 `OutOfMemory` where a list can't grow.
+/// Refused with W8 `TooManyRows` where there are more than `limits.slots` rows, or as many items
+/// in all lists of a column; with W6 `TooLong` where a binary or UTF-8 column has more than
+/// 2^31 - 1 bytes of data, whatever the limits, or the body would have more than `limits.body`
+/// bytes; with W11 `OutOfMemory` where a list can't grow.
 pub fn encode<I: IndexOf>(
     alloc: Global,
     limits: &Limits,

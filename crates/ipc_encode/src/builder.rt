@@ -10,29 +10,33 @@ ghost use Rattle.ipc_model.specs.declared.value.Value.{Value};
 ghost use Rattle.ipc_model.specs.declared.value.Value.TheVariants.{Null};
 ghost use Rattle.ipc_meta.specs.Supported.{are_supported};
 ghost use Rattle.ipc_column.specs.Rows.{Rows};
-ghost use Rattle.ipc_encode.specs.Buffers.{AreLaidOut};
-ghost use Rattle.ipc_encode.specs.Cells.{cell, cells};
+ghost use Rattle.ipc_column.specs.Shapes.{Shape, shape_of};
+ghost use Rattle.ipc_encode.specs.Buffers.{AreLaidOut, columns};
 ghost use Rattle.ipc_encode.specs.Writing.{IsDrafted};
 ghost use Rattle.ipc_encode.specs.Limits.{IsRefused, IsTooLong, IsWithin};
-ghost use Rattle.ipc_encode.specs.Built.{AreColumns, HasFailed, HasRows, IsRowRefused};
+ghost use Rattle.ipc_encode.specs.Built.{AreColumns, ArePushesRefused, HasFailed, HasRows};
 
-use crate::cells::value_at;
-use crate::column::Column;
+use crate::column::Purpose;
 use crate::fault::PushFault;
+use crate::fitting::{fit, left_behind_all};
+use crate::fresh::new_nodes;
 use crate::index::{IndexOf, Renumber};
-use crate::parts::{Draft, Parts, add_column};
+use crate::node::Node;
+use crate::parts::{Draft, Parts, add_nodes};
 use crate::room::Room;
-use ipc_model::{Field, Items, Limits, Row, Value, WriteFault, layout_of};
+use crate::tree::take_parts;
+use ipc_model::{Field, Items, Limits, Row, Value, WriteFault};
 use std::alloc::{AllocError, Global};
 use std::mem;
 
 /// The rows of a record batch, taken one at a time (Message.fbs, RecordBatch).
 ///
-/// A builder has the buffers of each column as they grow. It is told apart by the rows that it
-/// holds: `new` has none, `push` adds one, and `finish` gives the parts of all.
+/// A builder has the buffers of each column as they grow, in a tree of the fields' shape. It is
+/// told apart by the rows that it holds: `new` has none, `push` adds one, and `finish` gives the
+/// parts of all.
 #[derive(Debug, Drop)]
 pub struct Builder {
-    columns: Vec<Column>,
+    nodes: Vec<Node>,
     rows: usize,
     limits: Limits,
     failed: bool,
@@ -40,107 +44,47 @@ pub struct Builder {
     body: Vec<u8>,
 }
 
-// Columns of these fields without values, in this room.
-fn new_columns(alloc: Global, fields: &[Field], room: &mut Room) -> Result<Vec<Column>, AllocError>
-    ensures { IfOk result (λ columns. AreColumns fields.now columns.items (λ j. [])) }
-{
-    let mut columns = Vec::with_capacity(alloc, fields.len())?;
-    for field in fields {
-        columns.push(room.next_column(alloc, layout_of(&field.kind, field.dictionary))?)?;
-    }
-    Ok(columns)
-}
-
 // Whether the buffers of the columns are within a body.
-fn check_len(columns: &[Column], limits: &Limits) -> Result<(), WriteFault>
+fn check_len(nodes: &[Node], limits: &Limits) -> Result<(), WriteFault>
     ensures within { (fields : List Field) (rows : List (List Value))
-        → AreColumns fields columns.now (λ j. cells j rows)
+        → AreColumns limits.now (shape_of fields) nodes.now (columns rows)
         → OnOk result (¬ IsTooLong limits.now fields rows) }
     ensures refused { (fields : List Field) (rows : List (List Value))
-        → AreColumns fields columns.now (λ j. cells j rows)
+        → AreColumns limits.now (shape_of fields) nodes.now (columns rows)
         → IfErr result (λ fault. (fault ≡ WriteFault.TooLong) × IsTooLong limits.now fields rows) }
 {
-    let mut left = limits.body;
-    for column in columns {
-        match column.len(left) {
-            Some(len) => left -= len,
-            None => return Err(WriteFault::TooLong),
-        }
+    match left_behind_all(nodes, Purpose::Keep, limits.body) {
+        Some(_) => Ok(()),
+        None => Err(WriteFault::TooLong),
     }
-    Ok(())
-}
-
-// The same with one row more.
-fn check_len_with(
-    columns: &[Column],
-    row: &[Value],
-    null: &Value,
-    limits: &Limits,
-) -> Result<(), PushFault>
-    requires { null.now ≡ Null }
-    ensures within { (fields : List Field) (rows : List (List Value))
-        → AreColumns fields columns.now (λ j. cells j rows)
-        → OnOk result (¬ IsTooLong limits.now fields (rows ++ row.now ∷ [])) }
-    ensures refused { (fields : List Field) (rows : List (List Value))
-        → AreColumns fields columns.now (λ j. cells j rows)
-        → IfErr result (λ fault. (fault ≡ PushFault.TooLong)
-        × IsTooLong limits.now fields (rows ++ row.now ∷ [])) }
-{
-    let mut left = limits.body;
-    for (index, column) in columns.iter().enumerate() {
-        match column.len_with(value_at(row, index, null), left) {
-            Some(len) => left -= len,
-            None => return Err(PushFault::TooLong),
-        }
-    }
-    Ok(())
-}
-
-// Takes the value of each column, null where the row has none.
-fn push_row(columns: &mut [Column], row: &[Value], null: &Value) -> Result<(), PushFault>
-    requires { null.now ≡ Null }
-    ensures pushed { (fields : List Field) (given : ℕ → List Value)
-        → AreColumns fields columns.old given
-        → OnOk result (AreColumns fields columns.new
-        (λ j. given j ++ cell j row.now ∷ [])) }
-    ensures refused { (fields : List Field) (rows : List (List Value))
-        → AreColumns fields columns.old (λ j. cells j rows)
-        → IfErr result (IsRowRefused fields (rows ++ row.now ∷ [])) }
-{
-    for i in 0..columns.len() {
-        columns[i].push(value_at(row, i, null))?;
-    }
-    Ok(())
 }
 
 // Takes rows, one after another, into columns without values.
-fn push_rows(columns: &mut [Column], rows: &[Row]) -> Result<(), PushFault>
-    ensures pushed { (fields : List Field) → AreColumns fields columns.old (λ j. [])
-        → OnOk result (AreColumns fields columns.new (λ j. cells j rows.now)) }
-    ensures refused { (fields : List Field) → AreColumns fields columns.old (λ j. [])
-        → IfErr result (IsRowRefused fields rows.now) }
+fn push_rows(nodes: &mut [Node], rows: &[Row], limits: &Limits) -> Result<(), PushFault>
+    ensures pushed { (shape : Shape) → AreColumns limits.now shape nodes.old (λ j. [])
+        → OnOk result (AreColumns limits.now shape nodes.new (columns rows.now)) }
+    ensures refused { (shape : Shape) → AreColumns limits.now shape nodes.old (λ j. [])
+        → IfErr result (ArePushesRefused limits.now shape (columns rows.now)) }
 {
     for row in rows {
-        push_row(columns, row.as_slice(), &Value::Null)?;
+        take_parts(row.as_slice(), nodes, Purpose::Keep, limits)?;
     }
     Ok(())
 }
 
 // The nodes and the buffers of the columns. The body takes the room of a list.
-fn join(alloc: Global, columns: &[Column], mut body: Vec<u8>) -> Result<Draft, AllocError>
-    ensures { (fields : List Field) (rows : List (List Value))
-        → AreColumns fields columns.now (λ j. cells j rows)
+fn join(alloc: Global, nodes: &[Node], mut body: Vec<u8>) -> Result<Draft, AllocError>
+    ensures { (limits : Limits) (fields : List Field) (rows : List (List Value))
+        → AreColumns limits (shape_of fields) nodes.now (columns rows)
         → IfOk result (IsDrafted fields rows) }
 {
     body.clear();
     let mut draft = Draft {
-        nodes: Vec::with_capacity(alloc, columns.len())?,
+        nodes: Vec::with_capacity(alloc, nodes.len())?,
         buffers: Vec::new(alloc),
         body,
     };
-    for column in columns {
-        add_column(&mut draft, column)?;
-    }
+    add_nodes(nodes, &mut draft)?;
     Ok(draft)
 }
 
@@ -164,23 +108,24 @@ impl Builder {
         alloc: Global,
         fields: &[Field],
         limits: &Limits,
-        mut room: Room,
+        room: Room,
     ) -> Result<Builder, WriteFault>
         ensures rows { IfOk result (HasRows limits.now fields.now []) }
         ensures refused { IfErr result (IsRefused limits.now fields.now []) }
     {
-        let columns = new_columns(alloc, fields, &mut room)?;
-        check_len(&columns, limits)?;
+        let Room { nodes, body } = room;
+        let nodes = new_nodes(fields, nodes, alloc)?;
+        check_len(&nodes, limits)?;
         Ok(Builder {
-            columns,
+            nodes,
             rows: 0,
             limits: *limits,
             failed: false,
-            body: room.into_body(),
+            body,
         })
     }
 
-    // These rows of these fields. Their lengths are looked at once, when all are taken.
+    // These rows of these fields. The length of the body is looked at once, when all are taken.
     pub(crate) fn of_rows(
         alloc: Global,
         fields: &[Field],
@@ -193,11 +138,11 @@ impl Builder {
         if rows.len() > limits.slots as usize {
             return Err(WriteFault::TooManyRows);
         }
-        let mut columns = new_columns(alloc, fields, &mut Room::new(alloc))?;
-        push_rows(&mut columns, rows)?;
-        check_len(&columns, limits)?;
+        let mut nodes = new_nodes(fields, Vec::new(alloc), alloc)?;
+        push_rows(&mut nodes, rows, limits)?;
+        check_len(&nodes, limits)?;
         Ok(Builder {
-            columns,
+            nodes,
             rows: rows.len(),
             limits: *limits,
             failed: false,
@@ -223,18 +168,22 @@ impl Builder {
     /// Whether the rows with this one more are within the limits. It takes no memory, and the rows
     /// that are held stay as they are.
     ///
-    /// Refused with W8 `TooManyRows` where they would be more than `limits.slots`; with W6
-    /// `TooLong` where a binary or UTF-8 column would have more than 2^31 - 1 bytes of data,
-    /// whatever the limits, or the body more than `limits.body` bytes; with W10 `Failed` after W11.
-    pub fn fits(&self, row: &[Value]) -> Result<(), WriteFault>
+    /// Refused with W8 `TooManyRows` where they would be more than `limits.slots`, or as many items
+    /// in all lists of a column; with W6 `TooLong` where a binary or UTF-8 column would have more
+    /// than 2^31 - 1 bytes of data, whatever the limits, or the body more than `limits.body` bytes;
+    /// with W10 `Failed` after W11.
+    pub fn fits(&mut self, row: &[Value]) -> Result<(), WriteFault>
         ensures within { (limits : Limits) (fields : List Field) (rows : List (List Value))
-            → HasRows limits fields rows self.now
+            → HasRows limits fields rows self.old
             → OnOk result (IsWithin limits fields (rows ++ row.now ∷ [])) }
         ensures refused { (limits : Limits) (fields : List Field) (rows : List (List Value))
-            → HasRows limits fields rows self.now
+            → HasRows limits fields rows self.old
             → IfErr result (λ fault. IsRefused limits fields (rows ++ row.now ∷ []) fault
             × ¬ (fault ≡ WriteFault.OutOfMemory)) }
-        ensures failed { HasFailed self.now → result ≡ Err WriteFault.Failed }
+        ensures kept { (limits : Limits) (fields : List Field) (rows : List (List Value))
+            → HasRows limits fields rows self.old → HasRows limits fields rows self.new }
+        ensures failed { HasFailed self.old → result ≡ Err WriteFault.Failed }
+        ensures still_failed { HasFailed self.old → HasFailed self.new }
     {
         if self.failed {
             return Err(WriteFault::Failed);
@@ -242,7 +191,7 @@ impl Builder {
         if self.is_full() {
             return Err(WriteFault::TooManyRows);
         }
-        check_len_with(&self.columns, row, &Value::Null, &self.limits)?;
+        fit(&mut self.nodes, row, &self.limits)?;
         Ok(())
     }
 
@@ -270,7 +219,7 @@ impl Builder {
         if self.is_full() {
             return Err(WriteFault::TooManyRows);
         }
-        push_row(&mut self.columns, row, &Value::Null)?;
+        take_parts(row, &mut self.nodes, Purpose::Keep, &self.limits)?;
         self.rows += 1;
         self.failed = false;
         Ok(())
@@ -304,7 +253,7 @@ impl Builder {
         ensures failed { HasFailed self → result ≡ Err WriteFault.Failed }
     {
         let Builder {
-            columns,
+            nodes,
             failed,
             body,
             ..
@@ -312,13 +261,13 @@ impl Builder {
         if failed {
             return Err(WriteFault::Failed);
         }
-        let alloc = *columns.allocator();
-        let draft = join(alloc, &columns, body)?;
+        let alloc = *nodes.allocator();
+        let draft = join(alloc, &nodes, body)?;
         Ok(Parts {
             nodes: Items::from_vec(draft.nodes),
             buffers: Items::from_vec(draft.buffers),
             body: draft.body,
-            room: Room::of_columns(alloc, columns),
+            room: Room::of_nodes(alloc, nodes),
         })
     }
 }

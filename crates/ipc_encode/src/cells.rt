@@ -1,6 +1,7 @@
-ghost use Rattle.std.specs.Prelude.{◌≡◌, ◌<◌, ◌+◌, ◌^◌, if◌then◌else◌};
+ghost use Rattle.std.specs.Prelude.{◌≡◌, ◌<◌, ◌+◌, ◌^◌, length, if◌then◌else◌};
 ghost use Rattle.ipc_model.specs.declared.value.Value.TheVariants.{Null};
-ghost use Rattle.ipc_encode.specs.Cells.{cell, is_set, number_bits, content, HasUtf8};
+ghost use Rattle.ipc_encode.specs.Cells.{cell, is_set, number_bits, content, fixed, items};
+ghost use Rattle.ipc_encode.specs.Cells.{HasUtf8};
 ghost use Rattle.ipc_encode.specs.Pieces.{Valid, True};
 
 use ipc_model::Value;
@@ -14,6 +15,7 @@ pub(crate) fn value_at<'a>(row: &'a [Value], column: usize, null: &'a Value) -> 
 }
 
 /// Whether a value isn't null.
+#[inline(always)]
 pub(crate) fn is_valid(value: &Value) -> bool
     ensures { result ≡ is_set Valid value.now }
 {
@@ -21,6 +23,7 @@ pub(crate) fn is_valid(value: &Value) -> bool
 }
 
 /// How many values are null, with this one behind so many nulls.
+#[inline(always)]
 pub(crate) fn nulls_with(nulls: usize, value: &Value) -> usize
     requires { nulls < 2 ^ 32 }
     ensures { result ≡ nulls + (if is_set Valid value.now then 0 else 1) }
@@ -36,6 +39,7 @@ pub(crate) fn is_true(value: &Value) -> bool
 }
 
 /// The bits of a number, in two's complement where it is signed.
+#[inline(always)]
 pub(crate) fn number_bits(value: &Value) -> u64
     ensures { result ≡ number_bits value.now }
 {
@@ -47,6 +51,7 @@ pub(crate) fn number_bits(value: &Value) -> u64
 }
 
 /// The bytes of a binary value or a text.
+#[inline(always)]
 pub(crate) fn content(value: &Value) -> &[u8]
     ensures bytes { result.now ≡ content value.now }
     ensures text { HasUtf8 value.now }
@@ -55,5 +60,29 @@ pub(crate) fn content(value: &Value) -> &[u8]
         Value::Bytes(bytes) => bytes.as_slice(),
         Value::Text(text) => text.as_str().as_bytes(),
         _ => &[],
+    }
+}
+
+/// The bytes that a value takes of a fixed width.
+#[inline(always)]
+pub(crate) fn fixed_len(value: &Value, width: u32) -> usize
+    ensures len { result ≡ length (fixed width value.now) }
+    ensures few { result < 2 ^ 63 }
+{
+    match value {
+        Value::Bytes(bytes) => bytes.as_slice().len(),
+        _ => width as usize,
+    }
+}
+
+/// How many items a list has; none has any other value.
+#[inline(always)]
+pub(crate) fn item_count(value: &Value) -> usize
+    ensures count { result ≡ length (items value.now) }
+    ensures few { result < 2 ^ 63 }
+{
+    match value {
+        Value::List(items) => items.as_slice().len(),
+        _ => 0,
     }
 }

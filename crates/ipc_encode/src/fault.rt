@@ -7,8 +7,10 @@ use std::alloc::AllocError;
 /// Why a value isn't taken.
 #[derive(Clone, Copy, Debug, PartialEq, Eq, Drop)]
 pub(crate) enum PushFault {
-    /// The column would have more slots than one may have, or more data than offsets reach.
+    /// A column would have more data than offsets reach or than a body may have.
     TooLong,
+    /// A column would have more slots than the limits allow.
+    TooMany,
     /// A list can't grow.
     OutOfMemory,
 }
@@ -29,6 +31,7 @@ impl From<PushFault> for WriteFault {
     fn from(fault: PushFault) -> WriteFault {
         match fault {
             PushFault::TooLong => WriteFault::TooLong,
+            PushFault::TooMany => WriteFault::TooManyRows,
             PushFault::OutOfMemory => WriteFault::OutOfMemory,
         }
     }

@@ -1,13 +1,17 @@
 ghost use Rattle.std.specs.Prelude.{◌≡◌, ℕ, ◌-◌, ◌%◌, ◌++◌, List, [], ◌∷◌, pos, length, replicate};
 ghost use Rattle.std.specs.Prelude.{OnOk};
 ghost use Rattle.ipc_model.specs.declared.layout.Layout.{Layout};
+ghost use Rattle.ipc_model.specs.declared.limits.Limits.{Limits};
 ghost use Rattle.ipc_model.specs.declared.value.Value.{Value};
+ghost use Rattle.ipc_column.specs.Shapes.{Shape, bare, field};
+ghost use Rattle.ipc_encode.specs.Buffers.{column_buffers, nodes_of, buffers_of};
 ghost use Rattle.ipc_encode.specs.Cells.{nulls};
-ghost use Rattle.ipc_encode.specs.Columns.{layout_buffers};
 ghost use Rattle.ipc_encode.specs.Writing.{Adds};
-ghost use Rattle.ipc_encode.specs.Built.{IsColumn};
+ghost use Rattle.ipc_encode.specs.Built.{AreColumns, IsColumn, IsNode};
 
 use crate::column::Column;
+use crate::counts::Counts;
+use crate::node::Node;
 use crate::room::Room;
 use ipc_model::{Items, Layout};
 use std::alloc::AllocError;
@@ -60,31 +64,68 @@ fn add_buffer(draft: &mut Draft, bytes: &[u8]) -> Result<(), AllocError>
 // Adds the buffers of a column.
 fn add_buffers(draft: &mut Draft, column: &Column) -> Result<(), AllocError>
     ensures nodes { OnOk result (draft.new.nodes.items ≡ draft.old.nodes.items) }
-    ensures adds { (layout : Layout) (values : List Value) → IsColumn layout values column.now
-        → OnOk result (Adds draft.old draft.new (layout_buffers layout values)) }
+    ensures adds { (limits : Limits) (layout : Layout) (values : List Value)
+        → IsColumn limits layout values column.now
+        → OnOk result (Adds draft.old draft.new (column_buffers layout values)) }
 {
     if column.layout.own_buffers() == 0 {
         return Ok(());
     }
     add_buffer(draft, &column.validity)?;
     match column.layout {
-        Layout::Structs => return Ok(()),
+        Layout::FixedLists(_) | Layout::Structs => return Ok(()),
+        Layout::Lists => return add_buffer(draft, &column.offsets),
         Layout::VariableBytes { .. } => add_buffer(draft, &column.offsets)?,
         _ => (),
     }
     add_buffer(draft, &column.values)
 }
 
-/// Adds the node and the buffers of a column.
-pub(crate) fn add_column(draft: &mut Draft, column: &Column) -> Result<(), AllocError>
-    ensures nodes { (layout : Layout) (values : List Value) → IsColumn layout values column.now
+// Adds the node and the buffers of a column.
+fn add_column(draft: &mut Draft, column: &Column) -> Result<(), AllocError>
+    ensures nodes { (limits : Limits) (layout : Layout) (values : List Value)
+        → IsColumn limits layout values column.now
         → OnOk result (draft.new.nodes.items
         ≡ draft.old.nodes.items ++ (pos (length values), pos (nulls values)) ∷ []) }
-    ensures adds { (layout : Layout) (values : List Value) → IsColumn layout values column.now
-        → OnOk result (Adds draft.old draft.new (layout_buffers layout values)) }
+    ensures adds { (limits : Limits) (layout : Layout) (values : List Value)
+        → IsColumn limits layout values column.now
+        → OnOk result (Adds draft.old draft.new (column_buffers layout values)) }
 {
-    draft
-        .nodes
-        .push((column.slots as i64, column.nulls as i64))?;
+    let Counts { slots, nulls, .. } = column.counts;
+    draft.nodes.push((slots as i64, nulls as i64))?;
     add_buffers(draft, column)
+}
+
+// Adds the nodes and the buffers of a column, and then those of the columns below it.
+#[cycle(add)]
+fn add_node(node: &Node, draft: &mut Draft) -> Result<(), AllocError>
+    ensures nodes { (limits : Limits) (layout : Layout) (children : Shape) (values : List Value)
+        → IsNode (IsColumn limits) layout children node.now values
+        → OnOk result (draft.new.nodes.items
+        ≡ draft.old.nodes.items ++ nodes_of (field layout children bare) (λ j. values)) }
+    ensures adds { (limits : Limits) (layout : Layout) (children : Shape) (values : List Value)
+        → IsNode (IsColumn limits) layout children node.now values
+        → OnOk result
+        (Adds draft.old draft.new (buffers_of (field layout children bare) (λ j. values))) }
+{
+    add_column(draft, &node.column)?;
+    add_nodes(&node.children, draft)
+}
+
+/// Adds the nodes and the buffers of columns, each with those below it behind it.
+///
+/// Refused where a list can't grow.
+#[cycle(add)]
+pub(crate) fn add_nodes(nodes: &[Node], draft: &mut Draft) -> Result<(), AllocError>
+    ensures nodes { (limits : Limits) (shape : Shape) (given : ℕ → List Value)
+        → AreColumns limits shape nodes.now given
+        → OnOk result (draft.new.nodes.items ≡ draft.old.nodes.items ++ nodes_of shape given) }
+    ensures adds { (limits : Limits) (shape : Shape) (given : ℕ → List Value)
+        → AreColumns limits shape nodes.now given
+        → OnOk result (Adds draft.old draft.new (buffers_of shape given)) }
+{
+    for node in nodes {
+        add_node(node, draft)?;
+    }
+    Ok(())
 }

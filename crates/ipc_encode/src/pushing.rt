@@ -1,21 +1,21 @@
-ghost use Rattle.std.specs.Prelude.{◌≡◌, ◌≤◌, ◌<◌, ◌+◌, ◌++◌, List, [], ◌∷◌, length, IfOk, IfErr};
-ghost use Rattle.std.specs.Prelude.{OnOk};
+ghost use Rattle.std.specs.Prelude.{◌≡◌, ◌++◌, List, [], ◌∷◌, length, IfOk, IfErr, OnOk};
 ghost use Rattle.std.specs.Int.{bytes_low_first};
-ghost use Rattle.ipc_model.specs.Limits.{max_data};
 ghost use Rattle.ipc_model.specs.declared.layout.Layout.{Layout};
+ghost use Rattle.ipc_model.specs.declared.limits.Limits.{Limits};
 ghost use Rattle.ipc_model.specs.declared.value.Value.{Value};
 ghost use Rattle.ipc_encode.specs.Pieces.{Number, Fixed};
 ghost use Rattle.ipc_encode.specs.Cells.{nulls, slot_bytes, content, HasUtf8};
 ghost use Rattle.ipc_encode.specs.Columns.{validity_bytes, validity_in, offsets_in, values_in};
-ghost use Rattle.ipc_encode.specs.Limits.{HasLongData};
+ghost use Rattle.ipc_encode.specs.Columns.{data_in};
 ghost use Rattle.ipc_encode.specs.Writing.{AreStored};
 ghost use Rattle.ipc_encode.specs.Built.{IsColumn, IsPushRefused};
 
-use crate::cells::{content, is_true, is_valid, nulls_with, number_bits};
-use crate::column::{Column, MAX_DATA, MAX_SLOTS};
+use crate::cells::{content, is_true, is_valid, number_bits};
+use crate::column::Column;
+use crate::counts::Counts;
 use crate::fault::PushFault;
 use crate::flags::{push_bit, set_bits};
-use ipc_model::{IntBits, Layout, Value};
+use ipc_model::{IntBits, Layout, Limits, Value};
 use std::alloc::{AllocError, Global};
 
 // Notes whether one more slot is valid, behind so many slots with so many nulls.
@@ -40,6 +40,7 @@ fn push_validity_bit(
 }
 
 // The same in a column of this layout, which may have no validity bitmap.
+#[inline(always)]
 fn push_validity(
     layout: Layout,
     validity: &mut Vec<u8>,
@@ -58,6 +59,7 @@ fn push_validity(
 }
 
 // Appends the low bytes of a value's number.
+#[inline(always)]
 fn push_number(values: &mut Vec<u8>, value: &Value, bits: IntBits) -> Result<(), AllocError>
     ensures { OnOk result (values.new.items
         ≡ values.old.items ++ slot_bytes (Number bits) value.now) }
@@ -82,55 +84,69 @@ fn push_fixed(values: &mut Vec<u8>, value: &Value, width: u32) -> Result<(), All
     }
 }
 
-// Appends the bytes of a binary value or a text, and where they end.
-fn push_content(values: &mut Vec<u8>, offsets: &mut Vec<u8>, value: &Value) -> Result<(), PushFault>
+// Appends the bytes of a binary value or a text.
+fn push_content(values: &mut Vec<u8>, value: &Value) -> Result<(), AllocError>
     ensures values { OnOk result (values.new.items ≡ values.old.items ++ content value.now) }
-    ensures offsets { OnOk result (offsets.new.items ≡ offsets.old.items
-        ++ bytes_low_first 0 4 (length values.old.items + length (content value.now))) }
-    ensures short { OnOk result
-        (length values.old.items + length (content value.now) ≤ max_data) }
     ensures text { HasUtf8 value.now }
-    ensures refused { IfErr result (λ fault. fault ≡ PushFault.TooLong
-        → max_data < length values.old.items + length (content value.now)) }
 {
-    let bytes = content(value);
-    let end = values.len() + bytes.len();
-    if end > MAX_DATA {
-        return Err(PushFault::TooLong);
-    }
-    values.extend_from_slice(bytes)?;
-    offsets.extend_from_slice(&(end as u32).to_le_bytes())?;
-    Ok(())
+    values.extend_from_slice(content(value))
 }
 
-// Appends what a value gives to the buffers of values and of offsets of a column with so many
-// slots.
+// Appends where a slot ends.
+#[inline(always)]
+fn push_offset(offsets: &mut Vec<u8>, end: usize) -> Result<(), AllocError>
+    ensures { OnOk result (offsets.new.items ≡ offsets.old.items ++ bytes_low_first 0 4 end) }
+{
+    offsets.extend_from_slice(&end.to_le_bytes()[..4])
+}
+
+// Appends what a value gives to the buffer of values of a column with so many slots.
+#[inline(always)]
 fn push_value(
     layout: Layout,
     slots: usize,
     values: &mut Vec<u8>,
-    offsets: &mut Vec<u8>,
     value: &Value,
-) -> Result<(), PushFault>
+) -> Result<(), AllocError>
     ensures values { (vs : List Value) → length vs ≡ slots → values.old.items ≡ values_in layout vs
         → OnOk result (values.new.items ≡ values_in layout (vs ++ value.now ∷ [])) }
-    ensures offsets { (vs : List Value) → values.old.items ≡ values_in layout vs
-        → offsets.old.items ≡ offsets_in layout vs
-        → OnOk result (offsets.new.items ≡ offsets_in layout (vs ++ value.now ∷ [])) }
-    ensures short { (vs : List Value) → values.old.items ≡ values_in layout vs
-        → OnOk result (¬ HasLongData layout (vs ++ value.now ∷ [])) }
     ensures stored { (vs : List Value) → AreStored layout vs
         → OnOk result (AreStored layout (vs ++ value.now ∷ [])) }
-    ensures refused { (vs : List Value) → values.old.items ≡ values_in layout vs
-        → IfErr result (λ fault. fault ≡ PushFault.TooLong
-        → HasLongData layout (vs ++ value.now ∷ [])) }
 {
     match layout {
-        Layout::Null | Layout::Lists | Layout::Structs | Layout::Unsupported => Ok(()),
-        Layout::Bits => Ok(push_bit(values, slots, is_true(value))?),
-        Layout::Numbers { bits, .. } => Ok(push_number(values, value, bits)?),
-        Layout::FixedBytes(width) => Ok(push_fixed(values, value, width)?),
-        Layout::VariableBytes { .. } => push_content(values, offsets, value),
+        Layout::Null
+        | Layout::Lists
+        | Layout::FixedLists(_)
+        | Layout::Structs
+        | Layout::Unsupported => Ok(()),
+        Layout::Bits => push_bit(values, slots, is_true(value)),
+        Layout::Numbers { bits, .. } => push_number(values, value, bits),
+        Layout::FixedBytes(width) => push_fixed(values, value, width),
+        Layout::VariableBytes { .. } => push_content(values, value),
+    }
+}
+
+// Appends where the data of a column ends, if it has offsets.
+#[inline(always)]
+fn push_end(layout: Layout, offsets: &mut Vec<u8>, end: usize) -> Result<(), AllocError>
+    ensures { (vs : List Value) (value : Value) → end ≡ data_in layout (vs ++ value ∷ [])
+        → offsets.old.items ≡ offsets_in layout vs
+        → OnOk result (offsets.new.items ≡ offsets_in layout (vs ++ value ∷ [])) }
+{
+    match layout {
+        Layout::VariableBytes { .. } | Layout::Lists => push_offset(offsets, end),
+        _ => Ok(()),
+    }
+}
+
+// Begins the offsets of a column without values, if it has any.
+fn begin_offsets(layout: Layout, offsets: &mut Vec<u8>) -> Result<(), AllocError>
+    ensures { offsets.old.items ≡ []
+        → OnOk result (offsets.new.items ≡ offsets_in layout []) }
+{
+    match layout {
+        Layout::VariableBytes { .. } | Layout::Lists => push_offset(offsets, 0),
+        _ => Ok(()),
     }
 }
 
@@ -141,18 +157,16 @@ fn empty_column(
     mut offsets: Vec<u8>,
     mut values: Vec<u8>,
 ) -> Result<Column, AllocError>
-    ensures { IfOk result (IsColumn layout []) }
+    ensures { (limits : Limits) → IfOk result (IsColumn limits layout []) }
 {
     validity.clear();
     offsets.clear();
     values.clear();
-    if let Layout::VariableBytes { .. } = layout {
-        offsets.extend_from_slice(&0u32.to_le_bytes())?;
-    }
+    begin_offsets(layout, &mut offsets)?;
     Ok(Column {
         layout,
-        slots: 0,
-        nulls: 0,
+        counts: Counts::none(),
+        next: Counts::none(),
         validity,
         offsets,
         values,
@@ -162,14 +176,14 @@ fn empty_column(
 impl Column {
     /// A column of this layout without values.
     pub(crate) fn new(alloc: Global, layout: Layout) -> Result<Column, AllocError>
-        ensures { IfOk result (IsColumn layout []) }
+        ensures { (limits : Limits) → IfOk result (IsColumn limits layout []) }
     {
         empty_column(layout, Vec::new(alloc), Vec::new(alloc), Vec::new(alloc))
     }
 
     /// A column of this layout without values, in the room of this one.
     pub(crate) fn emptied(self, layout: Layout) -> Result<Column, AllocError>
-        ensures { IfOk result (IsColumn layout []) }
+        ensures { (limits : Limits) → IfOk result (IsColumn limits layout []) }
     {
         let Column {
             validity,
@@ -181,25 +195,24 @@ impl Column {
     }
 
     /// Takes one value more. After a refusal the column is of no use.
-    pub(crate) fn push(&mut self, value: &Value) -> Result<(), PushFault>
-        ensures pushed { (layout : Layout) (values : List Value) → IsColumn layout values self.old
-            → OnOk result (IsColumn layout (values ++ value.now ∷ []) self.new) }
-        ensures refused { (layout : Layout) (values : List Value) → IsColumn layout values self.old
-            → IfErr result (IsPushRefused layout (values ++ value.now ∷ [])) }
+    ///
+    /// Refused as `Counts::with`, and with `OutOfMemory` where a buffer can't grow.
+    #[inline(always)]
+    pub(crate) fn push(&mut self, value: &Value, limits: &Limits) -> Result<(), PushFault>
+        ensures pushed { (layout : Layout) (values : List Value)
+            → IsColumn limits.now layout values self.old
+            → OnOk result (IsColumn limits.now layout (values ++ value.now ∷ []) self.new) }
+        ensures refused { (layout : Layout) (values : List Value)
+            → IsColumn limits.now layout values self.old
+            → IfErr result (IsPushRefused limits.now layout (values ++ value.now ∷ [])) }
     {
-        let Column {
-            layout,
-            slots,
-            nulls,
-            ..
-        } = *self;
-        if slots >= MAX_SLOTS {
-            return Err(PushFault::TooLong);
-        }
+        let layout = self.layout;
+        let Counts { slots, nulls, .. } = self.counts;
+        let counts = self.counts.with(layout, value, limits)?;
         push_validity(layout, &mut self.validity, slots, nulls, value)?;
-        push_value(layout, slots, &mut self.values, &mut self.offsets, value)?;
-        self.slots += 1;
-        self.nulls = nulls_with(nulls, value);
+        push_value(layout, slots, &mut self.values, value)?;
+        push_end(layout, &mut self.offsets, counts.amount)?;
+        self.counts = counts;
         Ok(())
     }
 }

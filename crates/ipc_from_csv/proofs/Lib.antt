@@ -5,3 +5,4 @@ pub mod Breaking
 pub mod Pushing
 pub mod Ending
 pub mod Refusing
+pub mod FlatNodes

@@ -18,6 +18,7 @@ use Rattle.ipc_from_csv.specs.Conversion.{Answers, IsLeftToRefuse, StopsFor, Sto
 use Rattle.ipc_from_csv.specs.Records.{EachRecordReadsAs}
 use Rattle.ipc_from_csv.specs.declared.stop.Stop.{Stop}
 use Rattle.ipc_from_csv.specs.declared.stop.Stop.TheVariants as stop
+use Rattle.ipc_from_csv.proofs.FlatNodes.{AreFlat, are_flat, flat_rows}
 
 -- ---- rows that were read fit
 
@@ -95,7 +96,8 @@ schema_left limits s w.DictionaryFull r = absurd r
 schema_left limits s w.TooManyRows r = absurd r
 schema_left limits s w.Failed r = absurd r
 
-module _ (limits : Limits) (s : Schema) (size : ℕ) (within : size ≤ limits.slots) (b : BatchRows) (good : IsGood s.fields size b) where
+module _ (limits : Limits) (s : Schema) (size : ℕ) (flat : AreFlat s.fields) (within : size ≤ limits.slots) (b : BatchRows)
+    (good : IsGood s.fields size b) where
   none_misfits : (fault : WriteFault) → Misfits s.fields b.rows fault → ⊥
   none_misfits fault m = m.misfit (all_at (RowFits s.fields) b.rows [] m.number m.inside good.fit)
 
@@ -106,20 +108,20 @@ module _ (limits : Limits) (s : Schema) (size : ℕ) (within : size ≤ limits.s
   batch_left w.OutOfMemory r = tt
   batch_left (w.Row row cause) r = absurd (none_misfits (w.Row row cause) r)
   batch_left w.DictionaryFull r = absurd (none_misfits w.DictionaryFull r)
-  batch_left w.TooManyRows r = absurd (omega (arith, r, within, good.few))
+  batch_left w.TooManyRows r = absurd (flat_rows limits s.fields b.rows flat (omega (arith, within, good.few)) r)
   batch_left w.Failed r = absurd (none_misfits w.Failed r)
 
-first_left : (limits : Limits) (s : Schema) (size : ℕ) → size ≤ limits.slots → (batches : List BatchRows)
+first_left : (limits : Limits) (s : Schema) (size : ℕ) → AreFlat s.fields → size ≤ limits.slots → (batches : List BatchRows)
     → AllByRecursion (IsGood s.fields size) batches → (fault : WriteFault) → RefusesFirst limits s batches fault → IsLeftToRefuse fault
-first_left limits s size within [] good fault r = subst IsLeftToRefuse (sym r) tt
-first_left limits s size within (b ∷ batches) good fault r = batch_left limits s size within b good.0 fault r
+first_left limits s size flat within [] good fault r = subst IsLeftToRefuse (sym r) tt
+first_left limits s size flat within (b ∷ batches) good fault r = batch_left limits s size flat within b good.0 fault r
 
-next_left : (limits : Limits) (s : Schema) (size : ℕ) → size ≤ limits.slots → (batches : List BatchRows)
+next_left : (limits : Limits) (s : Schema) (size : ℕ) → AreFlat s.fields → size ≤ limits.slots → (batches : List BatchRows)
     → AllByRecursion (IsGood s.fields size) batches → (count : ℕ) (fault : WriteFault) → RefusesNext limits (table_of s batches) count fault
     → IsLeftToRefuse fault
-next_left limits s size within batches good zero fault r = schema_left limits s fault r
-next_left limits s size within batches good (suc count) fault r =
-    first_left limits s size within (drop count batches) (all_drop (IsGood s.fields size) batches count good) fault r
+next_left limits s size flat within batches good zero fault r = schema_left limits s fault r
+next_left limits s size flat within batches good (suc count) fault r =
+    first_left limits s size flat within (drop count batches) (all_drop (IsGood s.fields size) batches count good) fault r
 
 -- of the rows of records the writer refuses only what is left
 pub left_to_refuse : (input : Option (List ℕ)) (s : Schema) (size : ℕ) (old new : Option (List ℕ)) (f0 f1 : ℕ) (fault : WriteFault)
@@ -129,8 +131,8 @@ left_to_refuse input s size old new f0 f1 fault within stops =
     let fit = rows_fit s.fields stops.records stops.batched.rows stops.batched.read in
     let good = good_batches s.fields size stops.batches stops.left (omega (arith, fill.few)) fill.full
     (subst (AllByRecursion (RowFits s.fields)) (sym fill.joined) fit) in
-    next_left stops.limits s size (omega (arith, within, stops.standard.slots)) (stops.batches ++ last_batch stops.left) good
-    stops.breaks.count fault stops.breaks.refuses
+    next_left stops.limits s size (are_flat s.fields stops.batched.flat) (omega (arith, within, stops.standard.slots))
+    (stops.batches ++ last_batch stops.left) good stops.breaks.count fault stops.breaks.refuses
 
 -- the same of an answer
 pub answers_left : (input : Option (List ℕ)) (s : Schema) (size : ℕ) (old new : Option (List ℕ)) (f0 f1 : ℕ) (r : Result Unit Stop)

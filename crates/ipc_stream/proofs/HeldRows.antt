@@ -70,6 +70,17 @@ held_more limits s b row old new (Ok x) held fits within rows same = record {
 }
 held_more limits s b row old new (Err fault) held fits within rows same = tt
 
+-- where the builder has the rows that it had, the batch is still held
+pub held_still : (limits : Limits) (s : Schema) (b : BatchRows) (old new : PushedRows) → HoldsBatch limits s b old
+    → HasRows limits s.fields b.rows new.builder → new.pairs ≡ old.pairs → HoldsBatch limits s b new
+held_still limits s b old new held rows same = record { rows = rows; pairs = same ∙ held.pairs; accepted = held.accepted }
+
+-- a batch that is held is held at any refusal
+pub refused_kept : (limits : Limits) (s : Schema) (b : BatchRows) (held : PushedRows) (r : Result Unit WriteFault)
+    → HoldsBatch limits s b held → IfErr r (λ fault. ¬ (fault ≡ w.OutOfMemory) → HoldsBatch limits s b held)
+refused_kept limits s b held (Ok x) h = tt
+refused_kept limits s b held (Err fault) h = λ other. h
+
 -- rows within the limits are refused for memory alone
 pub refused_within : (limits : Limits) (fields : List Field) (rows : List (List Value)) (r : Result Unit WriteFault) (P : Type 0)
     → IsWithin limits fields rows → IfErr r (IsRefused limits fields rows) → IfErr r (λ fault. ¬ (fault ≡ w.OutOfMemory) → P)

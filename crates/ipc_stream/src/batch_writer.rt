@@ -66,7 +66,8 @@ impl<W: Sink> BatchWriter<'_, W> {
     /// W2 to W5 are returned where `conforms` refuses the row, with the number that it would have
     /// and the path in it; W6 where with this row a binary or UTF-8 column would have more than
     /// 2^31 - 1 bytes of data, or the body more than `limits.body`; W8 where there would be more
-    /// than `limits.slots` rows. Such a row isn't kept, and the next may come. W10 is returned
+    /// than `limits.slots` rows, or as many items in all lists of a column. Such a row isn't kept,
+    /// and the next may come. W10 is returned
     /// after W9 or W11, and W11 where memory was refused.
     pub fn push(&mut self, row: &[Value]) -> Result<(), WriteFault>
         ensures same_reference { self.new.writer.ghost_name ≡ self.old.writer.ghost_name }
@@ -80,8 +81,9 @@ impl<W: Sink> BatchWriter<'_, W> {
             (with_row b row.now) self.old.writer.now.failed fault) }
         ensures kept { (b : BatchRows)
             → HoldsBatch self.old.writer.now.limits self.old.writer.now.schema b self.old.batch
-            → IfErr result
-            (λ fault. ¬ (fault ≡ WriteFault.OutOfMemory) → self.new.batch ≡ self.old.batch) }
+            → IfErr result (λ fault. ¬ (fault ≡ WriteFault.OutOfMemory)
+            → HoldsBatch self.old.writer.now.limits self.old.writer.now.schema b
+            self.new.batch) }
         ensures failed { self.old.writer.now.failed ≡ true → result ≡ Err WriteFault.Failed }
     {
         self.writer.push_row(&mut self.batch, row)

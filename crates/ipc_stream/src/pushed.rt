@@ -46,8 +46,8 @@ impl PushedRows {
         })
     }
 
-    // Takes one row more. After W11 what is held is of no use, after any other refusal it is as it
-    // was.
+    // Takes one row more. After W11 what is held is of no use, after any other refusal it is the
+    // batch that it was.
     pub(crate) fn push(&mut self, schema: &Schema, row: &[Value]) -> Result<(), WriteFault>
         requires { HasShortPaths schema.now }
         ensures holds { (limits : Limits) (b : BatchRows) → HoldsBatch limits schema.now b self.old
@@ -57,7 +57,8 @@ impl PushedRows {
             → IfErr result (RefusesHeld limits schema.now (with_row b row.now) false) }
         ensures kept { (limits : Limits) (b : BatchRows)
             → HoldsBatch limits schema.now b self.old
-            → IfErr result (λ fault. ¬ (fault ≡ WriteFault.OutOfMemory) → self.new ≡ self.old) }
+            → IfErr result (λ fault. ¬ (fault ≡ WriteFault.OutOfMemory)
+            → HoldsBatch limits schema.now b self.new) }
     {
         if let Err(fault) = conforms(schema, row) {
             return Err(fault.at_row(self.builder.row_count() as u64));

@@ -1,5 +1,6 @@
 //! Tests of the crates below the stream: lists, FlatBuffers in place, rows, limits, printed words,
-//! messages whose bytes come one by one, batches of one column, and rows taken one at a time.
+//! messages whose bytes come one by one, batches of one column, and rows taken one at a time,
+//! nested ones too.
 #![tactic(auto)]
 
 #[cfg(test)]
@@ -18,6 +19,8 @@ mod items;
 mod limits;
 #[cfg(test)]
 mod model;
+#[cfg(test)]
+mod nested;
 #[cfg(test)]
 mod trees;
 #[cfg(test)]

@@ -2,10 +2,9 @@ use Rattle.std.proofs.Common.{◌≡◌, ◌∙◌, sym, ap, subst, ℕ, ◌+◌
 use Rattle.std.proofs.lemmas.Result.{err_from_is_err_and}
 use Rattle.std.proofs.lemmas.List.{take_more}
 use Rattle.ipc_model.specs.declared.value.Value.{Value}
-use Rattle.ipc_encode.specs.Built.{AreColumns, IsRowRefused}
-use Rattle.ipc_encode.specs.Cells.{cells}
-use Rattle.ipc_encode.proofs.Growing.{row_refused_first}
-use Rattle.ipc_encode.proofs.Steps.{cells_push}
+use Rattle.ipc_encode.specs.Buffers.{columns}
+use Rattle.ipc_encode.specs.Built.{AreColumns, ArePushesRefused}
+use Rattle.ipc_encode.proofs.Held.{columns_push, first_rows_refused}
 use Rattle.ipc_encode.proofs.builder.push_rows.Goals as goal
 
 -- the rows so far and the next
@@ -13,22 +12,25 @@ rows_next : (rows : List (List Value)) (i : ℕ) (row item : List Value) → tak
     → take i rows ++ row ∷ [] ≡ take (i + 1) rows
 rows_next rows i row item more same = ap (λ (r : List Value). take i rows ++ r ∷ []) same ∙ sym more
 
-pub returns-in_err-push_row-clause-refused : goal.returns-in_err-push_row-clause-refused
-returns-in_err-push_row-clause-refused c = λ fields fresh.
+pub returns-in_err-take_parts-clause-refused : goal.returns-in_err-take_parts-clause-refused
+returns-in_err-take_parts-clause-refused c = λ shape fresh.
+    let limits = c.args.limits.now in
+    let so_far = take c.loop-row.row-index c.args.rows.now in
+    let fault = c.in_err-take_parts.field-0.0 in
+    let next = columns_push so_far c.as_slice.result.now ∙ ap (λ (rs : List (List Value)). columns rs)
+    (rows_next c.args.rows.now c.loop-row.row-index c.as_slice.result.now _
+    (take_more c.args.rows.now c.loop-row.row-index c.row-item.result c.loop-row-test.true) (c.as_slice.ensures ∙ c.row-item.is)) in
+    let told = c.in_err-take_parts.ensures.refused shape (columns so_far) (c.loop-row.invariant shape fresh) in
     let p = err_from_is_err_and c.from_residual.result c.from_residual.ensures.1 in
-    let next = rows_next c.args.rows.now c.loop-row.row-index c.as_slice.result.now _
-    (take_more c.args.rows.now c.loop-row.row-index c.row-item.result c.loop-row-test.true) (c.as_slice.ensures ∙ c.row-item.is) in
-    let told = c.in_err-push_row.ensures.refused fields (take c.loop-row.row-index c.args.rows.now) (c.loop-row.invariant fields fresh) in
-    rw (p.1, p.2)
-    (row_refused_first fields c.args.rows.now (c.loop-row.row-index + 1) c.in_err-push_row.field-0.0
-    (subst (λ (rs : List (List Value)). IsRowRefused fields rs c.in_err-push_row.field-0.0) next told))
+    rw (p.1, p.2) (first_rows_refused limits shape c.args.rows.now (c.loop-row.row-index + 1) fault
+    (subst (λ (given : ℕ → List Value). ArePushesRefused limits shape given fault) next told))
 
 pub loop-row-preserved : goal.loop-row-preserved
-loop-row-preserved c = λ fields fresh.
+loop-row-preserved c = λ shape fresh.
+    let limits = c.args.limits.now in
     let so_far = take c.loop-row.row-index c.args.rows.now in
-    let next = rows_next c.args.rows.now c.loop-row.row-index c.as_slice.result.now _
-    (take_more c.args.rows.now c.loop-row.row-index c.row-item.result c.loop-row-test.true) (c.as_slice.ensures ∙ c.row-item.is) in
-    let more = c.in_ok-push_row.ensures.pushed fields (λ j. cells j so_far) (c.loop-row.invariant fields fresh) in
-    subst (λ (rs : List (List Value)). AreColumns fields c.push_row.new.columns (λ j. cells j rs)) next
-    (subst (λ (given : ℕ → List Value). AreColumns fields c.push_row.new.columns given)
-    (λ d j. sym (cells_push j so_far c.as_slice.result.now) d) more)
+    let next = columns_push so_far c.as_slice.result.now ∙ ap (λ (rs : List (List Value)). columns rs)
+    (rows_next c.args.rows.now c.loop-row.row-index c.as_slice.result.now _
+    (take_more c.args.rows.now c.loop-row.row-index c.row-item.result c.loop-row-test.true) (c.as_slice.ensures ∙ c.row-item.is)) in
+    subst (λ (given : ℕ → List Value). AreColumns limits shape c.take_parts.new.nodes given) next
+    (c.in_ok-take_parts.ensures.taken shape (columns so_far) (c.loop-row.invariant shape fresh))

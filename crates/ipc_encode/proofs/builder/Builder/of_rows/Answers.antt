@@ -1,21 +1,57 @@
-use Rattle.std.proofs.Common.{◌≡◌, ◌∙◌, sym, subst, List, [], length}
+use Rattle.std.proofs.Common.{◌≡◌, ◌∙◌, refl, sym, subst, List, [], length, arith}
 use Rattle.std.proofs.lemmas.List.{with_items_is}
 use Rattle.std.proofs.lemmas.Result.{err_from_is_err_and}
 use Rattle.ipc_model.specs.declared.fault.WriteFault.{WriteFault}
-use Rattle.ipc_encode.specs.declared.column.Column.{Column}
+use Rattle.ipc_column.specs.Shapes.{shape_of}
+use Rattle.ipc_encode.specs.declared.node.Node.{Node}
+use Rattle.ipc_encode.specs.Buffers.{columns}
 use Rattle.ipc_encode.specs.Built.{AreColumns}
-use Rattle.ipc_encode.specs.Cells.{cells}
 use Rattle.ipc_encode.specs.Limits.{IsRefused}
+use Rattle.ipc_encode.proofs.Held.{built_within, rows_refused}
 use Rattle.ipc_encode.proofs.builder.Builder.of_rows.Goals as goal
+
+pub returns-in_err-push_rows-clause-refused : goal.returns-in_err-push_rows-clause-refused
+returns-in_err-push_rows-clause-refused c =
+    let limits = c.args.limits.now in
+    let fields = c.args.fields.now in
+    let fresh = subst (λ (ns : List Node). AreColumns limits (shape_of fields) ns (λ j. [])) (sym c.deref_mut.ensures.value)
+    (c.in_ok-nodes.ensures limits) in
+    let told = c.in_err-push_rows.ensures.refused (shape_of fields) fresh in
+    let p = err_from_is_err_and c.from_residual-in_err-push_rows.result c.from_residual-in_err-push_rows.ensures.1 in
+    rw (p.1, p.2) (rows_refused limits fields c.args.rows.now c.in_err-push_rows.field-0.0 told)
 
 pub returns-in_err-check_len-clause-refused : goal.returns-in_err-check_len-clause-refused
 returns-in_err-check_len-clause-refused c =
-    let fresh = subst (λ (cs : List Column). AreColumns c.args.fields.now cs (λ j. [])) (sym c.deref_mut.ensures.value)
-    c.in_ok-columns.ensures in
-    let size : length c.push_rows.new.columns ≡ c.in_ok-columns.columns.len = c.push_rows.auto.columns ∙ c.deref_mut.ensures.len in
-    let held = subst (λ (cs : List Column). AreColumns c.args.fields.now cs (λ j. cells j c.args.rows.now))
-    (sym (c.deref.ensures.value ∙ with_items_is c.in_ok-columns.columns c.push_rows.new.columns size))
-    (c.in_ok-push_rows.ensures.pushed c.args.fields.now fresh) in
-    let told = c.in_err-check_len.ensures.refused c.args.fields.now c.args.rows.now held in
+    let limits = c.args.limits.now in
+    let fields = c.args.fields.now in
+    let rows = c.args.rows.now in
+    let fresh = subst (λ (ns : List Node). AreColumns limits (shape_of fields) ns (λ j. [])) (sym c.deref_mut.ensures.value)
+    (c.in_ok-nodes.ensures limits) in
+    let size : length c.push_rows.new.nodes ≡ c.in_ok-nodes.nodes.len = c.push_rows.auto.nodes ∙ c.deref_mut.ensures.len in
+    let held = subst (λ (ns : List Node). AreColumns limits (shape_of fields) ns (columns rows))
+    (sym (c.deref.ensures.value ∙ with_items_is c.in_ok-nodes.nodes c.push_rows.new.nodes size))
+    (c.in_ok-push_rows.ensures.pushed (shape_of fields) fresh) in
+    let told = c.in_err-check_len.ensures.refused fields rows held in
     let p = err_from_is_err_and c.from_residual-in_err-check_len.result c.from_residual-in_err-check_len.ensures.1 in
-    rw (p.1, p.2) (subst (λ (fault : WriteFault). IsRefused c.args.limits.now c.args.fields.now c.args.rows.now fault) (sym told.0) told.1)
+    rw (p.1, p.2) (subst (λ (fault : WriteFault). IsRefused limits fields rows fault) (sym told.0) told.1)
+
+pub returns-clause-rows : goal.returns-clause-rows
+returns-clause-rows c =
+    let limits = c.args.limits.now in
+    let fields = c.args.fields.now in
+    let rows = c.args.rows.now in
+    let fresh = subst (λ (ns : List Node). AreColumns limits (shape_of fields) ns (λ j. [])) (sym c.deref_mut.ensures.value)
+    (c.in_ok-nodes.ensures limits) in
+    let size : length c.push_rows.new.nodes ≡ c.in_ok-nodes.nodes.len = c.push_rows.auto.nodes ∙ c.deref_mut.ensures.len in
+    let same = with_items_is c.in_ok-nodes.nodes c.push_rows.new.nodes size in
+    let pushed = c.in_ok-push_rows.ensures.pushed (shape_of fields) fresh in
+    let held = subst (λ (ns : List Node). AreColumns limits (shape_of fields) ns (columns rows)) (sym (c.deref.ensures.value
+    ∙ same)) pushed in
+    record {
+      limits_are = refl;
+      works = refl;
+      count = refl;
+      columns_are = subst (λ (ns : List Node). AreColumns limits (shape_of fields) ns (columns rows)) (sym same) pushed;
+      within = built_within limits fields rows c.deref.result.now (omega (arith, c.if-rows-limits.false)) held
+          (c.in_ok-check_len.ensures.within fields rows held);
+    }

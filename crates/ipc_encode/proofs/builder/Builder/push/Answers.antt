@@ -1,26 +1,40 @@
 use Rattle.std.proofs.Common.{◌≡◌, ◌∙◌, refl, sym, subst, ℕ, ◌++◌, List, [], ◌∷◌, length, length-append, arith}
 use Rattle.std.proofs.lemmas.List.{with_items_is}
+use Rattle.std.proofs.lemmas.Result.{err_from_is_err_and}
+use Rattle.ipc_model.specs.declared.limits.Limits.{Limits}
 use Rattle.ipc_model.specs.declared.value.Value.{Value}
-use Rattle.ipc_encode.specs.declared.column.Column.{Column}
-use Rattle.ipc_encode.specs.Cells.{cells}
-use Rattle.ipc_encode.specs.Built.{AreColumns}
-use Rattle.ipc_encode.proofs.Steps.{cells_push}
+use Rattle.ipc_column.specs.Shapes.{shape_of}
+use Rattle.ipc_encode.specs.declared.node.Node.{Node}
+use Rattle.ipc_encode.specs.Buffers.{columns}
+use Rattle.ipc_encode.specs.Built.{AreColumns, ArePushesRefused}
+use Rattle.ipc_encode.proofs.Held.{columns_push, rows_refused}
 use Rattle.ipc_encode.proofs.builder.Builder.push.Goals as goal
 
 pub returns-clause-pushed : goal.returns-clause-pushed
 returns-clause-pushed g c = λ limits fields rows h within.
-    let held : AreColumns fields c.deref_mut.result.now (λ j. cells j rows) =
-    subst (λ (cs : List Column). AreColumns fields cs (λ j. cells j rows)) (sym c.deref_mut.ensures.value) h.columns_are in
-    let more = c.in_ok-push_row.ensures.pushed fields (λ j. cells j rows) held in
-    let size : length c.push_row.new.columns ≡ c.args.self.now.columns.len = c.push_row.auto.columns ∙ c.deref_mut.ensures.len in
+    let held = subst (λ (l : Limits). AreColumns l (shape_of fields) c.deref_mut.result.now (columns rows)) (sym h.limits_are)
+    (subst (λ (ns : List Node). AreColumns limits (shape_of fields) ns (columns rows)) (sym c.deref_mut.ensures.value) h.columns_are) in
+    let more = subst (λ (l : Limits). AreColumns l (shape_of fields) c.take_parts.new.nodes (columns (rows ++ c.args.row.now ∷ [])))
+    h.limits_are (subst (λ (given : ℕ → List Value). AreColumns c.args.self.now.limits (shape_of fields) c.take_parts.new.nodes given)
+    (columns_push rows c.args.row.now) (c.in_ok-take_parts.ensures.taken (shape_of fields) (columns rows) held)) in
+    let size : length c.take_parts.new.nodes ≡ c.args.self.now.nodes.len = c.take_parts.auto.nodes ∙ c.deref_mut.ensures.len in
     let count = length-append rows (c.args.row.now ∷ []) in
     record {
       limits_are = h.limits_are;
       works = refl;
       count = omega (arith, count, h.count);
-      columns_are = subst (λ (cs : List Column). AreColumns fields cs (λ j. cells j (rows ++ c.args.row.now ∷ [])))
-          (sym (with_items_is c.args.self.now.columns c.push_row.new.columns size))
-          (subst (λ (given : ℕ → List Value). AreColumns fields c.push_row.new.columns given)
-          (λ d j. sym (cells_push j rows c.args.row.now) d) more);
+      columns_are = subst (λ (ns : List Node). AreColumns limits (shape_of fields) ns (columns (rows ++ c.args.row.now ∷ [])))
+          (sym (with_items_is c.args.self.now.nodes c.take_parts.new.nodes size)) more;
       within = within;
     }
+
+pub returns-in_err-take_parts-clause-refused : goal.returns-in_err-take_parts-clause-refused
+returns-in_err-take_parts-clause-refused g c = λ limits fields rows h.
+    let held = subst (λ (l : Limits). AreColumns l (shape_of fields) c.deref_mut.result.now (columns rows)) (sym h.limits_are)
+    (subst (λ (ns : List Node). AreColumns limits (shape_of fields) ns (columns rows)) (sym c.deref_mut.ensures.value) h.columns_are) in
+    let fault = c.in_err-take_parts.field-0.0 in
+    let told = subst (λ (l : Limits). ArePushesRefused l (shape_of fields) (columns (rows ++ c.args.row.now ∷ [])) fault) h.limits_are
+    (subst (λ (given : ℕ → List Value). ArePushesRefused c.args.self.now.limits (shape_of fields) given fault)
+    (columns_push rows c.args.row.now) (c.in_err-take_parts.ensures.refused (shape_of fields) (columns rows) held)) in
+    let p = err_from_is_err_and c.from_residual.result c.from_residual.ensures.1 in
+    rw (p.1, p.2) (rows_refused limits fields (rows ++ c.args.row.now ∷ []) fault told)

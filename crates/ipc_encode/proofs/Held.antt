@@ -1,0 +1,107 @@
+-- The columns of the rows that a builder holds.
+use Rattle.std.proofs.Common.{◌≡◌, ◌∙◌, sym, ap, subst, ℕ, suc, ◌+◌, ◌<◌, ◌≤◌, List, [], ◌∷◌, ◌++◌, length, take, drop, arith}
+use Rattle.std.proofs.Common.{inl, inr}
+use Rattle.std.proofs.lemmas.Bool.{cases_lt}
+use Rattle.std.proofs.lemmas.List.{take-append-drop}
+use Rattle.ipc_model.specs.declared.limits.Limits.{Limits}
+use Rattle.ipc_model.specs.declared.schema.Field.{Field}
+use Rattle.ipc_model.specs.declared.value.Value.{Value}
+use Rattle.ipc_column.specs.Shapes.{Shape, bare, field, shape_of}
+use Rattle.ipc_model.specs.declared.fault.WriteFault.TheVariants as fault
+use Rattle.ipc_encode.specs.declared.fault.PushFault.{PushFault}
+use Rattle.ipc_encode.specs.declared.fault.PushFault.TheVariants as push
+use Rattle.ipc_encode.specs.declared.node.Node.{Node}
+use Rattle.ipc_encode.specs.declared.column.Purpose.TheVariants as purpose
+use Rattle.ipc_encode.specs.Buffers.{below, columns, body_of}
+use Rattle.ipc_encode.specs.Cells.{cell, cells}
+use Rattle.ipc_encode.specs.Faults.{write_fault}
+use Rattle.ipc_encode.specs.Limits.{IsTooMany, IsTooLong, IsWithin, IsRefused}
+use Rattle.ipc_encode.specs.Writing.{AllStored}
+use Rattle.ipc_encode.specs.Built.{AreColumns, AreWithin, AreTooMuch, ArePushesRefused}
+use Rattle.ipc_encode.proofs.Growing.{refused_grow}
+use Rattle.ipc_encode.proofs.Siblings.{taken_few, taken_short}
+use Rattle.ipc_encode.proofs.Steps.{cells_append}
+
+-- the columns of one row more
+pub columns_push : (rows : List (List Value)) (row : List Value)
+    → ◌≡◌ {A = ℕ → List Value} (λ j. columns rows j ++ cell j row ∷ []) (columns (rows ++ row ∷ []))
+columns_push rows row = λ d j. sym (cells_append j rows (row ∷ [])) d
+
+-- the texts of all columns are UTF-8
+pub all_stored : (limits : Limits) (shape : Shape) (nodes : List Node) (given : ℕ → List Value) → AreColumns limits shape nodes given
+    → AllStored shape given
+all_stored limits bare nodes given h = tt
+all_stored limits (field l c rest) [] given h = absurd h
+all_stored limits (field l c rest) (m ∷ ms) given h =
+    (h.0.0.stored, (all_stored limits c _ (below l (given 0)) h.0.1, all_stored limits rest ms (λ j. given (suc j)) h.1))
+
+-- a body within the limits
+pub body_within : (limits : Limits) (fields : List Field) (rows : List (List Value)) (body : List ℕ) → body ≡ body_of fields rows
+    → IsWithin limits fields rows → length body ≤ limits.body
+body_within limits fields rows body e h =
+    let size = ap (λ (bs : List ℕ). length bs) e in
+    elim (cases_lt limits.body (length body)) as (λ _. length body ≤ limits.body)
+    [ inl x ↦ absurd (h.short (inr (omega (arith, x, size)))) | inr g ↦ omega (arith, g) ]
+
+-- rows that are few enough, and whose columns are within the limits, are within them
+pub rows_within : (limits : Limits) (fields : List Field) (rows : List (List Value)) → length rows ≤ limits.slots
+    → AreWithin limits (shape_of fields) (columns rows) → IsWithin limits fields rows
+rows_within limits fields rows few h = record { few = not_many; short = not_long }
+  where
+    not_many : IsTooMany limits fields rows → ⊥
+    not_many (inl many) = omega (arith, few, many)
+    not_many (inr long) = h.few long
+
+    not_long : IsTooLong limits fields rows → ⊥
+    not_long (inl long) = h.short long
+    not_long (inr more) = let body = h.body in omega (arith, body, more)
+
+-- columns that are built, whose body isn't too long
+pub built_within : (limits : Limits) (fields : List Field) (rows : List (List Value)) (nodes : List Node) → length rows ≤ limits.slots
+    → AreColumns limits (shape_of fields) nodes (columns rows) → (IsTooLong limits fields rows → ⊥) → IsWithin limits fields rows
+built_within limits fields rows nodes few h short = record { few = not_many; short = short }
+  where
+    not_many : IsTooMany limits fields rows → ⊥
+    not_many (inl many) = omega (arith, few, many)
+    not_many (inr long) = taken_few purpose.Keep limits (shape_of fields) nodes (columns rows) h long
+
+-- columns that are built leave so much of a body
+pub not_too_long : (limits : Limits) (fields : List Field) (rows : List (List Value)) (nodes : List Node) (left : ℕ)
+    → AreColumns limits (shape_of fields) nodes (columns rows) → length (body_of fields rows) + left ≡ limits.body
+    → IsTooLong limits fields rows → ⊥
+not_too_long limits fields rows nodes left h e (inl long) = taken_short purpose.Keep limits (shape_of fields) nodes (columns rows) h long
+not_too_long limits fields rows nodes left h e (inr more) = omega (arith, e, more)
+
+-- why columns don't take rows is why the rows are refused
+pub rows_refused : (limits : Limits) (fields : List Field) (rows : List (List Value)) (e : PushFault)
+    → ArePushesRefused limits (shape_of fields) (columns rows) e → IsRefused limits fields rows (write_fault e)
+rows_refused limits fields rows push.TooLong h = h
+rows_refused limits fields rows push.TooMany h = inr h
+rows_refused limits fields rows push.OutOfMemory h = h
+
+-- the same of columns that aren't within the limits
+pub rows_too_much : (limits : Limits) (fields : List Field) (rows : List (List Value)) (e : PushFault)
+    → AreTooMuch limits limits.body (shape_of fields) (columns rows) e → IsRefused limits fields rows (write_fault e)
+rows_too_much limits fields rows push.TooLong h = h
+rows_too_much limits fields rows push.TooMany h = inr h
+rows_too_much limits fields rows push.OutOfMemory h = absurd h
+
+-- why the first rows aren't taken is why all aren't
+pub first_rows_refused : (limits : Limits) (shape : Shape) (rows : List (List Value)) (i : ℕ) (e : PushFault)
+    → ArePushesRefused limits shape (columns (take i rows)) e → ArePushesRefused limits shape (columns rows) e
+first_rows_refused limits shape rows i e h =
+    subst (λ (given : ℕ → List Value). ArePushesRefused limits shape given e)
+    (λ d j. (sym (cells_append j (take i rows) (drop i rows)) ∙ ap (λ (rs : List (List Value)). cells j rs) (take-append-drop i rows)) d)
+    (refused_grow limits shape (columns (take i rows)) (columns (drop i rows)) e h)
+
+-- a refusal for what rows are isn't one for memory
+pub no_memory : (limits : Limits) (bytes : ℕ) (shape : Shape) (given : ℕ → List Value) (e : PushFault)
+    → AreTooMuch limits bytes shape given e
+    → write_fault e ≡ fault.OutOfMemory → ⊥
+no_memory limits bytes shape given push.TooLong h e = cc
+no_memory limits bytes shape given push.TooMany h e = cc
+no_memory limits bytes shape given push.OutOfMemory h e = h
+
+-- there is room for a row where there are not as many as there may be
+pub not_full : (rows slots : ℕ) → (slots ≤ rows → ⊥) → rows < slots
+not_full rows slots h = elim (cases_lt rows slots) as (λ _. rows < slots) [ inl x ↦ x | inr g ↦ absurd (h g) ]

@@ -1,0 +1,291 @@
+use Rattle.std.proofs.Common.{◌≡◌, ◌∙◌, refl, sym, ap, subst, ℕ, ◌+◌, ◌++◌, List, [], ◌∷◌, take, replicate, add-one, append_assoc, arith}
+use Rattle.std.proofs.Common.{rules}
+use Rattle.std.proofs.lemmas.Result.{err_from_is_err_and, on_ok_weaker, IfErr-weaker}
+use Rattle.std.proofs.lemmas.List.{take_more}
+use Rattle.ipc_model.specs.declared.layout.Layout.{Layout}
+use Rattle.ipc_model.specs.declared.value.Value.{Value}
+use Rattle.ipc_model.specs.declared.value.Value.TheVariants.{Null}
+use Rattle.ipc_column.specs.Shapes.{bare, field}
+use Rattle.ipc_encode.specs.declared.node.Node.{Node, out-Node}
+use Rattle.ipc_encode.specs.Buffers.{below}
+use Rattle.ipc_encode.specs.Cells.{cell, fixed_items}
+use Rattle.ipc_encode.specs.Built.{AreNodes, IsNode, HasTaken, IsColumn, ArePushesRefused}
+use Rattle.ipc_encode.proofs.Below.{other_gives, items_are, fixed_are, parts_are, no_fixed, no_struct}
+use Rattle.ipc_encode.proofs.Below.{lists_more, fixed_more, structs_more}
+use Rattle.ipc_encode.proofs.Growing.{own_refused, child_refused, mixed_refused, all_refused}
+use Rattle.ipc_encode.proofs.Nodes.{node_is, lent_column, lent_node, nothing_below, taken_laid, mixed_more, mixed_all, kept_at}
+use Rattle.ipc_encode.proofs.tree.+take.Goals.{take_parts-in-Some+in_ok-take-in-Some, take_parts-in-None+in_ok-take_null-in-None}
+use Rattle.ipc_encode.proofs.tree.+take.Goals as goal
+
+pub take-returns-in_err-take_below-clause-refused : goal.take-returns-in_err-take_below-clause-refused
+take-returns-in_err-take_below-clause-refused t c = λ layout children values h.
+    let P = HasTaken c.args.purpose c.args.limits.now in
+    let laid = taken_laid c.args.purpose c.args.limits.now layout values (out-Node c.args.node.now).column h.0 in
+    let held = subst (λ (l : Layout). AreNodes P children c.deref_mut.result.now (below l values)) (sym laid)
+    (subst (λ (ns : List Node). AreNodes P children ns (below layout values)) (sym c.deref_mut.ensures.value) h.1) in
+    let told = subst (λ (l : Layout). ArePushesRefused c.args.limits.now children (below l (values ++ c.args.value.now ∷ []))
+    c.in_err-take_below.field-0.0) laid (c.in_err-take_below.ensures.refused children values held) in
+    let p = err_from_is_err_and c.from_residual.result c.from_residual.ensures.1 in
+    rw (p.1, p.2) (child_refused c.args.limits.now layout children bare (λ j. values ++ c.args.value.now ∷ [])
+    c.in_err-take_below.field-0.0 told)
+
+pub take-returns-in_err-take_below-clause-kept : goal.take-returns-in_err-take_below-clause-kept
+take-returns-in_err-take_below-clause-kept t c = λ limits layout children values e h.
+    lent_node (IsColumn limits) layout children values values c.args.node.now c.deref_mut.result.now c.take_below.new.nodes
+    c.deref_mut.ensures.value c.take_below.auto.nodes h (c.in_err-take_below.ensures.kept limits children (below layout values) e)
+
+pub take-returns-clause-taken : goal.take-returns-clause-taken
+take-returns-clause-taken t c = λ layout children values h.
+    let P = HasTaken c.args.purpose c.args.limits.now in
+    let laid = taken_laid c.args.purpose c.args.limits.now layout values (out-Node c.args.node.now).column h.0 in
+    let lent = lent_node P layout children values (values ++ c.args.value.now ∷ []) c.args.node.now
+    c.deref_mut.result.now c.take_below.new.nodes c.deref_mut.ensures.value c.take_below.auto.nodes h
+    (λ held. subst (λ (l : Layout). AreNodes P children c.take_below.new.nodes (below l (values ++ c.args.value.now ∷ []))) laid
+    (c.in_ok-take_below.ensures.taken children values
+    (subst (λ (l : Layout). AreNodes P children c.deref_mut.result.now (below l values)) (sym laid) held))) in
+    on_ok_weaker c.take.result (λ own. node_is P layout children (values ++ c.args.value.now ∷ []) _ own lent.1)
+    (c.take.ensures.taken layout values lent.0)
+
+pub take-returns-clause-refused : goal.take-returns-clause-refused
+take-returns-clause-refused t c = λ layout children values h.
+    let P = HasTaken c.args.purpose c.args.limits.now in
+    IfErr-weaker c.take.result _ _
+    (λ fault told. own_refused c.args.limits.now layout children bare (λ j. values ++ c.args.value.now ∷ []) fault told)
+    (c.take.ensures.refused layout values (lent_column P layout values c.args.node.now c.take_below.new.nodes h.0))
+
+pub take-returns-clause-kept : goal.take-returns-clause-kept
+take-returns-clause-kept t c = λ limits layout children values e h.
+    let P = IsColumn limits in
+    let lent = lent_node P layout children values values c.args.node.now c.deref_mut.result.now c.take_below.new.nodes
+    c.deref_mut.ensures.value c.take_below.auto.nodes h (c.in_ok-take_below.ensures.kept limits children (below layout values) e) in
+    node_is P layout children values _ (c.take.ensures.kept limits layout values e lent.0) lent.1
+
+-- ---- below a column
+
+pub take_below-returns-in-List-clause-taken : goal.take_below-returns-in-List-clause-taken
+take_below-returns-in-List-clause-taken t c = λ shape values h.
+    let P = HasTaken c.args.purpose c.args.limits.now in
+    let is = items_are c.args.value.now c.in-List.items c.in-List.is ∙ sym c.as_slice.ensures in
+    on_ok_weaker c.take_items.result
+    (λ more. subst (λ (given : ℕ → List Value). AreNodes P shape c.take_items.new.nodes given)
+    (lists_more c.args.layout values c.args.value.now c.as_slice.result.now c.in-Lists.is is) more)
+    (c.take_items.ensures.taken shape (below c.args.layout values) h)
+
+pub take_below-returns-in-List-clause-refused : goal.take_below-returns-in-List-clause-refused
+take_below-returns-in-List-clause-refused t c = λ shape values h.
+    let is = items_are c.args.value.now c.in-List.items c.in-List.is ∙ sym c.as_slice.ensures in
+    IfErr-weaker c.take_items.result _ _
+    (λ fault told. subst (λ (given : ℕ → List Value). ArePushesRefused c.args.limits.now shape given fault)
+    (lists_more c.args.layout values c.args.value.now c.as_slice.result.now c.in-Lists.is is) told)
+    (c.take_items.ensures.refused shape (below c.args.layout values) h)
+
+pub take_below-returns-in_default-value : goal.take_below-returns-in_default-value
+take_below-returns-in_default-value t c = record {
+  taken = λ shape values h. nothing_below
+      (HasTaken c.args.purpose c.args.limits.now) c.args.layout shape values c.args.value.now c.args.nodes.now
+      (other_gives c.args.layout c.args.value.now c.in-Lists.is c.in_default-value.not-List) h;
+  refused = λ shape values h. tt;
+  kept = λ limits shape given e h. h;
+  memory = λ e. tt;
+}
+
+pub take_below-returns-in-Struct-clause-taken : goal.take_below-returns-in-Struct-clause-taken
+take_below-returns-in-Struct-clause-taken t c = λ shape values h.
+    let P = HasTaken c.args.purpose c.args.limits.now in
+    on_ok_weaker c.take_parts.result
+    (λ more. subst (λ (given : ℕ → List Value). AreNodes P shape c.take_parts.new.nodes given)
+    (structs_more c.args.layout values c.args.value.now (λ j. cell j c.as_slice-in-Struct.result.now) c.in-Structs.is
+    (λ j. parts_are c.args.value.now c.in-Struct.parts c.in-Struct.is j ∙ ap (λ (ps : List Value). cell j ps)
+    (sym c.as_slice-in-Struct.ensures)))
+    more)
+    (c.take_parts.ensures.taken shape (below c.args.layout values) h)
+
+pub take_below-returns-in-Struct-clause-refused : goal.take_below-returns-in-Struct-clause-refused
+take_below-returns-in-Struct-clause-refused t c = λ shape values h.
+    IfErr-weaker c.take_parts.result _ _
+    (λ fault told. subst (λ (given : ℕ → List Value). ArePushesRefused c.args.limits.now shape given fault)
+    (structs_more c.args.layout values c.args.value.now (λ j. cell j c.as_slice-in-Struct.result.now) c.in-Structs.is
+    (λ j. parts_are c.args.value.now c.in-Struct.parts c.in-Struct.is j ∙ ap (λ (ps : List Value). cell j ps)
+    (sym c.as_slice-in-Struct.ensures)))
+    told)
+    (c.take_parts.ensures.refused shape (below c.args.layout values) h)
+
+pub take_below-returns-in-List-value-clause-taken : goal.take_below-returns-in-List-value-clause-taken
+take_below-returns-in-List-value-clause-taken t c = λ shape values h.
+    let P = HasTaken c.args.purpose c.args.limits.now in
+    let is = fixed_are c.in-FixedLists.size c.args.value.now c.in-List-value.items c.in-List-value.is
+    ∙ sym c.as_slice-in-List-value.ensures in
+    on_ok_weaker c.take_items-in-List-value.result
+    (λ more. subst (λ (given : ℕ → List Value). AreNodes P shape c.take_items-in-List-value.new.nodes given)
+    (fixed_more c.args.layout c.in-FixedLists.size values c.args.value.now c.as_slice-in-List-value.result.now c.in-FixedLists.is is) more)
+    (c.take_items-in-List-value.ensures.taken shape (below c.args.layout values) h)
+
+pub take_below-returns-in-List-value-clause-refused : goal.take_below-returns-in-List-value-clause-refused
+take_below-returns-in-List-value-clause-refused t c = λ shape values h.
+    let is = fixed_are c.in-FixedLists.size c.args.value.now c.in-List-value.items c.in-List-value.is
+    ∙ sym c.as_slice-in-List-value.ensures in
+    IfErr-weaker c.take_items-in-List-value.result _ _
+    (λ fault told. subst (λ (given : ℕ → List Value). ArePushesRefused c.args.limits.now shape given fault)
+    (fixed_more c.args.layout c.in-FixedLists.size values c.args.value.now c.as_slice-in-List-value.result.now c.in-FixedLists.is is) told)
+    (c.take_items-in-List-value.ensures.refused shape (below c.args.layout values) h)
+
+pub take_below-returns-in_default-value-2 : goal.take_below-returns-in_default-value-2
+take_below-returns-in_default-value-2 t c =
+    let is : fixed_items c.in-FixedLists.size c.args.value.now ≡ replicate c.in-FixedLists.size Null =
+    no_fixed c.in-FixedLists.size c.args.value.now c.in_default-value-2.not-List in
+    record {
+      taken = λ shape values h. on_ok_weaker c.take_nulls.result
+          (λ more. subst (λ (given : ℕ → List Value). AreNodes (HasTaken c.args.purpose c.args.limits.now) shape
+          c.take_nulls.new.nodes given)
+          (fixed_more c.args.layout c.in-FixedLists.size values c.args.value.now (replicate c.in-FixedLists.size Null)
+          c.in-FixedLists.is is) more)
+          (c.take_nulls.ensures.taken shape (below c.args.layout values) h);
+      refused = λ shape values h. IfErr-weaker c.take_nulls.result _ _
+          (λ fault told. subst (λ (given : ℕ → List Value). ArePushesRefused c.args.limits.now shape given fault)
+          (fixed_more c.args.layout c.in-FixedLists.size values c.args.value.now (replicate c.in-FixedLists.size Null)
+          c.in-FixedLists.is is) told)
+          (c.take_nulls.ensures.refused shape (below c.args.layout values) h);
+      kept = c.take_nulls.ensures.kept;
+      memory = c.take_nulls.ensures.memory;
+    }
+
+pub take_below-returns-in_default-value-3 : goal.take_below-returns-in_default-value-3
+take_below-returns-in_default-value-3 t c = record {
+  taken = λ shape values h. on_ok_weaker c.take_nulls-in_default-value-3.result
+      (λ more. subst (λ (given : ℕ → List Value). AreNodes (HasTaken c.args.purpose c.args.limits.now) shape
+      c.take_nulls-in_default-value-3.new.nodes given)
+      (structs_more c.args.layout values c.args.value.now (λ j. Null) c.in-Structs.is
+      (no_struct c.args.value.now c.in_default-value-3.not-Struct))
+      more)
+      (c.take_nulls-in_default-value-3.ensures.taken shape (below c.args.layout values) h);
+  refused = λ shape values h. IfErr-weaker c.take_nulls-in_default-value-3.result _ _
+      (λ fault told. subst (λ (given : ℕ → List Value). ArePushesRefused c.args.limits.now shape given fault)
+      (structs_more c.args.layout values c.args.value.now (λ j. Null) c.in-Structs.is
+      (no_struct c.args.value.now c.in_default-value-3.not-Struct))
+      told)
+      (c.take_nulls-in_default-value-3.ensures.refused shape (below c.args.layout values) h);
+  kept = c.take_nulls-in_default-value-3.ensures.kept;
+  memory = c.take_nulls-in_default-value-3.ensures.memory;
+}
+
+-- ---- several columns
+
+pub take_items-returns-in_err-take_all-clause-refused : goal.take_items-returns-in_err-take_all-clause-refused
+take_items-returns-in_err-take_all-clause-refused t c = λ shape given h.
+    let P = HasTaken c.args.purpose c.args.limits.now in
+    let p = err_from_is_err_and c.from_residual.result c.from_residual.ensures.1 in
+    rw (p.1, p.2) (mixed_refused c.args.limits.now P P c.loop-i.i shape c.loop-i.nodes given (λ j. given j ++ c.args.items.now)
+    c.index-nodes-i.result c.in_err-take_all.field-0.0 (omega (arith, c.loop-i.invariant.unvisited.0, c.loop-i-test.true))
+    (λ l below held. c.in_err-take_all.ensures.refused l below (given c.loop-i.i) held) (c.loop-i.invariant.taken shape given h))
+
+pub take_items-returns-in_err-take_all-clause-kept : goal.take_items-returns-in_err-take_all-clause-kept
+take_items-returns-in_err-take_all-clause-kept t c = λ limits shape given e h.
+    kept_at (IsColumn limits) c.loop-i.i shape c.loop-i.nodes given c.take_all.new.node c.index-nodes-i.result
+    (omega (arith, c.loop-i.invariant.unvisited.0, c.loop-i-test.true))
+    (λ l below vs held. c.in_err-take_all.ensures.kept limits l below vs e held) (c.loop-i.invariant.kept limits shape given e h)
+
+pub take_items-loop-i-preserved : goal.take_items-loop-i-preserved
+take_items-loop-i-preserved t c = record {
+  unvisited = search rules;
+  taken = λ shape given h. rw add-one (mixed_more (HasTaken c.args.purpose c.args.limits.now)
+      (HasTaken c.args.purpose c.args.limits.now) c.loop-i.i shape c.loop-i.nodes given (λ j. given j ++ c.args.items.now)
+      c.take_all.new.node c.index-nodes-i.result (omega (arith, c.loop-i.invariant.unvisited.0, c.loop-i-test.true))
+      (λ l below held. c.in_ok-take_all.ensures.taken l below (given c.loop-i.i) held) (c.loop-i.invariant.taken shape given h));
+  kept = λ limits shape given e h. kept_at (IsColumn limits) c.loop-i.i shape c.loop-i.nodes given c.take_all.new.node
+      c.index-nodes-i.result (omega (arith, c.loop-i.invariant.unvisited.0, c.loop-i-test.true))
+      (λ l below vs held. c.in_ok-take_all.ensures.kept limits l below vs e held) (c.loop-i.invariant.kept limits shape given e h);
+}
+
+pub take_items-returns-clause-taken : goal.take_items-returns-clause-taken
+take_items-returns-clause-taken t c = λ shape given h.
+    mixed_all (HasTaken c.args.purpose c.args.limits.now)
+    (HasTaken c.args.purpose c.args.limits.now) c.loop-i.i shape c.loop-i.nodes given (λ j. given j ++ c.args.items.now)
+    (omega (arith, c.loop-i.invariant.unvisited.0, c.loop-i-test.false, c.loop-i.auto.i-end)) (c.loop-i.invariant.taken shape given h)
+
+pub take_parts-returns-in_err-take-in-Some-clause-refused : goal.take_parts-returns-in_err-take-in-Some-clause-refused
+take_parts-returns-in_err-take-in-Some-clause-refused t c = λ shape given h.
+    let P = HasTaken c.args.purpose c.args.limits.now in
+    let p = err_from_is_err_and c.from_residual.result c.from_residual.ensures.1 in
+    rw (p.1, p.2) (mixed_refused c.args.limits.now P P c.loop-i.i shape c.loop-i.nodes given
+    (λ j. given j ++ cell j c.args.parts.now ∷ [])
+    c.index-nodes-i.result c.in_err-take-in-Some.field-0.0 (omega (arith, c.loop-i.invariant.unvisited.0, c.loop-i-test.true))
+    (λ l below held. subst (λ (v : Value). ArePushesRefused c.args.limits.now (field l below bare) (λ j. given c.loop-i.i ++ v ∷ [])
+    c.in_err-take-in-Some.field-0.0) (search rules) (c.in_err-take-in-Some.ensures.refused l below (given c.loop-i.i) held))
+    (c.loop-i.invariant.taken shape given h))
+
+pub take_parts-returns-in_err-take-in-Some-clause-kept : goal.take_parts-returns-in_err-take-in-Some-clause-kept
+take_parts-returns-in_err-take-in-Some-clause-kept t c = λ limits shape given e h.
+    kept_at (IsColumn limits) c.loop-i.i shape c.loop-i.nodes given c.take.new.node c.index-nodes-i.result
+    (omega (arith, c.loop-i.invariant.unvisited.0, c.loop-i-test.true))
+    (λ l below vs held. c.in_err-take-in-Some.ensures.kept limits l below vs e held) (c.loop-i.invariant.kept limits shape given e h)
+
+pub take_parts-returns-in_err-take_null-in-None-clause-refused : goal.take_parts-returns-in_err-take_null-in-None-clause-refused
+take_parts-returns-in_err-take_null-in-None-clause-refused t c = λ shape given h.
+    let P = HasTaken c.args.purpose c.args.limits.now in
+    let p = err_from_is_err_and c.from_residual-in_err-take_null-in-None.result c.from_residual-in_err-take_null-in-None.ensures.1 in
+    rw (p.1, p.2) (mixed_refused c.args.limits.now P P c.loop-i.i shape c.loop-i.nodes given
+    (λ j. given j ++ cell j c.args.parts.now ∷ [])
+    c.index-nodes-i-in-None.result c.in_err-take_null-in-None.field-0.0 (omega
+    (arith, c.loop-i.invariant.unvisited.0, c.loop-i-test.true))
+    (λ l below held. subst (λ (v : Value). ArePushesRefused c.args.limits.now (field l below bare) (λ j. given c.loop-i.i ++ v ∷ [])
+    c.in_err-take_null-in-None.field-0.0) (search rules) (c.in_err-take_null-in-None.ensures.refused l below (given c.loop-i.i) held))
+    (c.loop-i.invariant.taken shape given h))
+
+pub take_parts-returns-in_err-take_null-in-None-clause-kept : goal.take_parts-returns-in_err-take_null-in-None-clause-kept
+take_parts-returns-in_err-take_null-in-None-clause-kept t c = λ limits shape given e h.
+    kept_at (IsColumn limits) c.loop-i.i shape c.loop-i.nodes given c.take_null.new.node c.index-nodes-i-in-None.result
+    (omega (arith, c.loop-i.invariant.unvisited.0, c.loop-i-test.true))
+    (λ l below vs held. c.in_err-take_null-in-None.ensures.kept limits l below vs e held) (c.loop-i.invariant.kept limits shape given e h)
+
+pub take_parts-loop-i-preserved : goal.take_parts-loop-i-preserved
+take_parts-loop-i-preserved t c = elim c.match-get.branch [
+  | take_parts-in-Some+in_ok-take-in-Some w ↦ record {
+    unvisited = rw w.nodes-is (search rules);
+    taken = λ shape given h. rw (w.nodes-is, add-one) (mixed_more (HasTaken c.args.purpose c.args.limits.now)
+        (HasTaken c.args.purpose c.args.limits.now) c.loop-i.i shape c.loop-i.nodes given
+        (λ j. given j ++ cell j c.args.parts.now ∷ []) w.take.new.node w.index-nodes-i.result
+        (omega (arith, c.loop-i.invariant.unvisited.0, c.loop-i-test.true))
+        (λ l below held. subst (λ (v : Value). IsNode (HasTaken c.args.purpose c.args.limits.now) l below w.take.new.node
+        (given c.loop-i.i ++ v ∷ [])) (search rules)
+        (w.in_ok-take-in-Some.ensures.taken l below (given c.loop-i.i) held)) (c.loop-i.invariant.taken shape given h));
+    kept = λ limits shape given e h. rw w.nodes-is (kept_at (IsColumn limits) c.loop-i.i shape c.loop-i.nodes given w.take.new.node
+        w.index-nodes-i.result (omega (arith, c.loop-i.invariant.unvisited.0, c.loop-i-test.true))
+        (λ l below vs held. w.in_ok-take-in-Some.ensures.kept limits l below vs e held) (c.loop-i.invariant.kept limits shape given e h));
+  }
+  | take_parts-in-None+in_ok-take_null-in-None w ↦ record {
+    unvisited = rw w.nodes-is (search rules);
+    taken = λ shape given h. rw (w.nodes-is, add-one) (mixed_more (HasTaken c.args.purpose c.args.limits.now)
+        (HasTaken c.args.purpose c.args.limits.now) c.loop-i.i shape c.loop-i.nodes given
+        (λ j. given j ++ cell j c.args.parts.now ∷ []) w.take_null.new.node w.index-nodes-i-in-None.result
+        (omega (arith, c.loop-i.invariant.unvisited.0, c.loop-i-test.true))
+        (λ l below held. subst (λ (v : Value). IsNode (HasTaken c.args.purpose c.args.limits.now) l below w.take_null.new.node
+        (given c.loop-i.i ++ v ∷ [])) (search rules)
+        (w.in_ok-take_null-in-None.ensures.taken l below (given c.loop-i.i) held)) (c.loop-i.invariant.taken shape given h));
+    kept = λ limits shape given e h. rw w.nodes-is (kept_at (IsColumn limits) c.loop-i.i shape c.loop-i.nodes given w.take_null.new.node
+        w.index-nodes-i-in-None.result (omega (arith, c.loop-i.invariant.unvisited.0, c.loop-i-test.true))
+        (λ l below vs held. w.in_ok-take_null-in-None.ensures.kept limits l below vs e held)
+        (c.loop-i.invariant.kept limits shape given e h));
+  }
+]
+
+pub take_parts-returns-clause-taken : goal.take_parts-returns-clause-taken
+take_parts-returns-clause-taken t c = λ shape given h.
+    mixed_all (HasTaken c.args.purpose c.args.limits.now)
+    (HasTaken c.args.purpose c.args.limits.now) c.loop-i.i shape c.loop-i.nodes given (λ j. given j ++ cell j c.args.parts.now ∷ [])
+    (omega (arith, c.loop-i.invariant.unvisited.0, c.loop-i-test.false, c.loop-i.auto.i-end)) (c.loop-i.invariant.taken shape given h)
+
+-- ---- several values
+
+pub take_all-returns-in_err-take-clause-refused : goal.take_all-returns-in_err-take-clause-refused
+take_all-returns-in_err-take-clause-refused t c = λ layout children before h.
+    let p = err_from_is_err_and c.from_residual.result c.from_residual.ensures.1 in
+    let so_far = take c.loop-value.value-index c.args.values.now in
+    let told = c.in_err-take.ensures.refused layout children (before ++ so_far) (c.loop-value.invariant.taken layout children before h) in
+    let next : (before ++ so_far) ++ c.value-item.result ∷ [] ≡ before ++ take (c.loop-value.value-index + 1) c.args.values.now =
+    append_assoc before so_far (c.value-item.result ∷ [])
+    ∙ ap (λ (vs : List Value). before ++ vs)
+    (rw (take_more c.args.values.now c.loop-value.value-index c.value-item.result c.loop-value-test.true, ← c.value-item.is) refl) in
+    rw (p.1, p.2) (all_refused c.args.limits.now layout children before c.args.values.now
+    (c.loop-value.value-index + 1) c.in_err-take.field-0.0
+    (subst (λ (vs : List Value). ArePushesRefused c.args.limits.now (field layout children bare)
+    (λ j. vs) c.in_err-take.field-0.0) next told))

@@ -1,0 +1,174 @@
+ghost use Rattle.std.specs.Prelude.{◌≡◌, ◌≤◌, ◌<◌, ◌^◌, ◌++◌, ◌⊎◌, List, [], ◌∷◌, IfOk, IfErr};
+ghost use Rattle.std.specs.Prelude.{OnOk, IsTrue};
+ghost use Rattle.ipc_model.specs.Greatest.{greatest_body};
+ghost use Rattle.ipc_model.specs.declared.layout.Layout.{Layout};
+ghost use Rattle.ipc_model.specs.declared.layout.Layout.TheVariants.{Lists};
+ghost use Rattle.ipc_model.specs.declared.limits.Limits.{Limits};
+ghost use Rattle.ipc_model.specs.declared.value.Value.{Value};
+ghost use Rattle.ipc_encode.specs.declared.column.Purpose.TheVariants.{Count};
+ghost use Rattle.ipc_encode.specs.Columns.{datum, PassesOffsets};
+ghost use Rattle.ipc_encode.specs.Built.{HasTaken, IsColumn, IsCounted, IsNext, IsPushRefused};
+
+use crate::cells::{content, fixed_len, item_count, nulls_with};
+use crate::column::{Column, MAX_DATA, Purpose};
+use crate::counts::Counts;
+use crate::fault::PushFault;
+use ipc_model::{Layout, Limits, Value};
+
+// How much a value adds to the data of a column.
+#[inline(always)]
+fn datum(layout: Layout, value: &Value) -> usize
+    ensures is { result ≡ datum layout value.now }
+    ensures few { result < 2 ^ 63 }
+{
+    match layout {
+        Layout::Null
+        | Layout::Bits
+        | Layout::FixedLists(_)
+        | Layout::Structs
+        | Layout::Unsupported => 0,
+        Layout::Numbers { bits, .. } => bits.bytes(),
+        Layout::FixedBytes(width) => fixed_len(value, width),
+        Layout::VariableBytes { .. } => content(value).len(),
+        Layout::Lists => item_count(value),
+    }
+}
+
+// Whether so much data is more than offsets reach.
+#[inline(always)]
+fn passes_offsets(layout: Layout, amount: usize) -> bool
+    ensures passes { IsTrue result → PassesOffsets layout amount }
+    ensures reached { ¬ IsTrue result → ¬ PassesOffsets layout amount }
+    ensures few { ¬ IsTrue result → layout ≡ Lists → amount ≤ greatest_body }
+{
+    match layout {
+        Layout::VariableBytes { .. } | Layout::Lists => amount > MAX_DATA,
+        _ => false,
+    }
+}
+
+// Whether so many bytes of data are more than a body may have.
+#[inline(always)]
+fn passes_body(layout: Layout, amount: usize, limits: &Limits) -> bool
+    ensures passes { IsTrue result → (limits.now.body < amount) × ¬ (layout ≡ Lists) }
+    ensures within { ¬ IsTrue result → ¬ (layout ≡ Lists) → amount ≤ greatest_body }
+{
+    match layout {
+        Layout::Lists => false,
+        _ => amount as u64 > limits.body,
+    }
+}
+
+impl Counts {
+    /// The numbers of a column without values.
+    pub(crate) fn none() -> Counts
+        ensures { (limits : Limits) (layout : Layout) → IsCounted limits layout [] result }
+    {
+        Counts {
+            slots: 0,
+            nulls: 0,
+            amount: 0,
+        }
+    }
+
+    /// The numbers with one value more.
+    ///
+    /// Refused with `TooMany` where the slots would be more than the limits allow, and with
+    /// `TooLong` where the data would be more than offsets reach, or its bytes more than a body.
+    #[inline(always)]
+    pub(crate) fn with(
+        self,
+        layout: Layout,
+        value: &Value,
+        limits: &Limits,
+    ) -> Result<Counts, PushFault>
+        ensures counted { (values : List Value) → IsCounted limits.now layout values self
+            → IfOk result (IsCounted limits.now layout (values ++ value.now ∷ [])) }
+        ensures refused { (values : List Value) → IsCounted limits.now layout values self
+            → IfErr result (IsPushRefused limits.now layout (values ++ value.now ∷ [])) }
+        ensures memory { IfErr result (λ fault. ¬ (fault ≡ PushFault.OutOfMemory)) }
+    {
+        if self.slots >= limits.slots as usize {
+            return Err(PushFault::TooMany);
+        }
+        let amount = self.amount + datum(layout, value);
+        if passes_offsets(layout, amount) || passes_body(layout, amount, limits) {
+            return Err(PushFault::TooLong);
+        }
+        Ok(Counts {
+            slots: self.slots + 1,
+            nulls: nulls_with(self.nulls, value),
+            amount,
+        })
+    }
+}
+
+impl Column {
+    /// Its numbers: of the values that it has, or with those of the next row.
+    pub(crate) fn counts(&self, purpose: Purpose) -> Counts
+        ensures { (limits : Limits) (layout : Layout) (values : List Value)
+            → HasTaken purpose limits layout values self.now
+            → IsCounted limits self.now.layout values result }
+    {
+        match purpose {
+            Purpose::Keep => self.counts,
+            Purpose::Count => self.next,
+        }
+    }
+
+    /// The next row is counted from the numbers of the values.
+    pub(crate) fn start(&mut self)
+        ensures started { (limits : Limits) (layout : Layout) (values : List Value)
+            → IsColumn limits layout values self.old → IsNext limits layout values self.new }
+        ensures kept { (limits : Limits) (layout : Layout) (values : List Value)
+            → IsColumn limits layout values self.old → IsColumn limits layout values self.new }
+    {
+        self.next = self.counts;
+    }
+
+    // Counts one value of the next row.
+    fn count(&mut self, value: &Value, limits: &Limits) -> Result<(), PushFault>
+        ensures counted { (layout : Layout) (values : List Value)
+            → HasTaken Count limits.now layout values self.old
+            → OnOk result (HasTaken Count limits.now layout (values ++ value.now ∷ []) self.new) }
+        ensures refused { (layout : Layout) (values : List Value)
+            → HasTaken Count limits.now layout values self.old
+            → IfErr result (IsPushRefused limits.now layout (values ++ value.now ∷ [])) }
+        ensures kept { (limits : Limits) (layout : Layout) (values : List Value)
+            → IsColumn limits layout values self.old → IsColumn limits layout values self.new }
+        ensures memory { IfErr result (λ fault. ¬ (fault ≡ PushFault.OutOfMemory)) }
+    {
+        self.next = self.next.with(self.layout, value, limits)?;
+        Ok(())
+    }
+
+    /// Takes one value more, or counts it among those of the next row. After a refusal the buffers
+    /// or the next numbers are of no use.
+    ///
+    /// Refused as `Counts::with`, and with `OutOfMemory` where a buffer can't grow.
+    #[inline(always)]
+    pub(crate) fn take(
+        &mut self,
+        value: &Value,
+        purpose: Purpose,
+        limits: &Limits,
+    ) -> Result<(), PushFault>
+        ensures taken { (layout : Layout) (values : List Value)
+            → HasTaken purpose limits.now layout values self.old
+            → OnOk result
+            (HasTaken purpose limits.now layout (values ++ value.now ∷ []) self.new) }
+        ensures refused { (layout : Layout) (values : List Value)
+            → HasTaken purpose limits.now layout values self.old
+            → IfErr result (IsPushRefused limits.now layout (values ++ value.now ∷ [])) }
+        ensures kept { (limits : Limits) (layout : Layout) (values : List Value)
+            → purpose ≡ Count
+            → IsColumn limits layout values self.old → IsColumn limits layout values self.new }
+        ensures memory { purpose ≡ Count
+            → IfErr result (λ fault. ¬ (fault ≡ PushFault.OutOfMemory)) }
+    {
+        match purpose {
+            Purpose::Keep => self.push(value, limits),
+            Purpose::Count => self.count(value, limits),
+        }
+    }
+}

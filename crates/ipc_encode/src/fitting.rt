@@ -1,0 +1,190 @@
+ghost use Rattle.std.specs.Prelude.{◌≡◌, ◌≤◌, ◌<◌, ◌+◌, ◌++◌, ℕ, List, [], ◌∷◌, length};
+ghost use Rattle.std.specs.Prelude.{None, IfSome, IfOk, IfErr, OnOk};
+ghost use Rattle.ipc_model.specs.declared.layout.Layout.{Layout};
+ghost use Rattle.ipc_model.specs.declared.limits.Limits.{Limits};
+ghost use Rattle.ipc_model.specs.declared.value.Value.{Value};
+ghost use Rattle.ipc_column.specs.Shapes.{Shape, bare, field};
+ghost use Rattle.ipc_encode.specs.Buffers.{buffers_of, joined};
+ghost use Rattle.ipc_encode.specs.Cells.{cell};
+ghost use Rattle.ipc_encode.specs.Built.{AreColumns, AreNodes, IsNode, HasTaken, IsColumn, IsNext};
+ghost use Rattle.ipc_encode.specs.Built.{AreTooMuch, AreWithin, LeavesOf};
+
+use crate::cells::value_at;
+use crate::column::{Column, Purpose};
+use crate::fault::PushFault;
+use crate::node::Node;
+use crate::tree::take;
+use ipc_model::{Limits, Value};
+
+// The next row is counted from the numbers of a column, and of those below it.
+#[cycle(start)]
+fn start_node(node: &mut Node)
+    ensures started { (limits : Limits) (layout : Layout) (children : Shape) (values : List Value)
+        → IsNode (IsColumn limits) layout children node.old values
+        → IsNode (IsNext limits) layout children node.new values }
+    ensures kept { (limits : Limits) (layout : Layout) (children : Shape) (values : List Value)
+        → IsNode (IsColumn limits) layout children node.old values
+        → IsNode (IsColumn limits) layout children node.new values }
+{
+    start_nodes(&mut node.children);
+    node.column.start();
+}
+
+// The same of each column.
+#[cycle(start)]
+fn start_nodes(nodes: &mut [Node])
+    ensures started { (limits : Limits) (shape : Shape) (given : ℕ → List Value)
+        → AreNodes (IsColumn limits) shape nodes.old given
+        → AreNodes (IsNext limits) shape nodes.new given }
+    ensures kept { (limits : Limits) (shape : Shape) (given : ℕ → List Value)
+        → AreNodes (IsColumn limits) shape nodes.old given
+        → AreNodes (IsColumn limits) shape nodes.new given }
+{
+    for i in 0..nodes.len() {
+        start_node(&mut nodes[i]);
+    }
+}
+
+// What is left of so many bytes behind the buffers of a column and of those below it. None where
+// they are too few.
+#[cycle(left)]
+fn left_behind(node: &Node, purpose: Purpose, bytes: u64) -> Option<u64>
+    ensures left { (limits : Limits) (layout : Layout) (children : Shape) (values : List Value)
+        → IsNode (HasTaken purpose limits) layout children node.now values
+        → IfSome result (λ left.
+        length (joined (buffers_of (field layout children bare) (λ j. values))) + left ≡ bytes) }
+    ensures none { (limits : Limits) (layout : Layout) (children : Shape) (values : List Value)
+        → IsNode (HasTaken purpose limits) layout children node.now values → result ≡ None
+        → bytes < length (joined (buffers_of (field layout children bare) (λ j. values))) }
+    ensures fewer { IfSome result (λ left. left ≤ bytes) }
+{
+    let len = node.column.counts(purpose).len(node.column.layout);
+    if len > bytes {
+        return None;
+    }
+    left_behind_all(&node.children, purpose, bytes - len)
+}
+
+/// What is left of so many bytes behind the buffers of columns, each padded, and of those below
+/// them: those that they have, or with the next row. None where they are too few.
+#[cycle(left)]
+pub(crate) fn left_behind_all(nodes: &[Node], purpose: Purpose, bytes: u64) -> Option<u64>
+    ensures left { (limits : Limits) (shape : Shape) (given : ℕ → List Value)
+        → AreNodes (HasTaken purpose limits) shape nodes.now given
+        → IfSome result (λ left. length (joined (buffers_of shape given)) + left ≡ bytes) }
+    ensures none { (limits : Limits) (shape : Shape) (given : ℕ → List Value)
+        → AreNodes (HasTaken purpose limits) shape nodes.now given → result ≡ None
+        → bytes < length (joined (buffers_of shape given)) }
+    ensures fewer { IfSome result (λ left. left ≤ bytes) }
+{
+    let mut left = bytes;
+    for node in nodes {
+        left = left_behind(node, purpose, left)?;
+    }
+    Some(left)
+}
+
+// What is left of so many bytes behind the buffers of a column without children, with one value
+// more.
+fn left_behind_leaf(
+    value: &Value,
+    column: &Column,
+    limits: &Limits,
+    bytes: u64,
+) -> Result<u64, PushFault>
+    requires { bytes ≤ limits.now.body }
+    ensures fit { (layout : Layout) (values : List Value)
+        → IsColumn limits.now layout values column.now
+        → IfOk result (LeavesOf limits.now (field layout bare bare)
+        (λ j. values ++ value.now ∷ []) bytes) }
+    ensures refused { (layout : Layout) (values : List Value)
+        → IsColumn limits.now layout values column.now
+        → IfErr result (AreTooMuch limits.now bytes (field layout bare bare)
+        (λ j. values ++ value.now ∷ [])) }
+    ensures fewer { IfOk result (λ left. left ≤ bytes) }
+{
+    let counts = column.counts.with(column.layout, value, limits)?;
+    let len = counts.len(column.layout);
+    if len > bytes {
+        return Err(PushFault::TooLong);
+    }
+    Ok(bytes - len)
+}
+
+// The same of a column with those below it. It counts the value in the numbers for the next row.
+fn left_behind_tree(
+    value: &Value,
+    node: &mut Node,
+    limits: &Limits,
+    bytes: u64,
+) -> Result<u64, PushFault>
+    requires { bytes ≤ limits.now.body }
+    ensures fit { (layout : Layout) (children : Shape) (values : List Value)
+        → IsNode (IsColumn limits.now) layout children node.old values
+        → IfOk result (LeavesOf limits.now (field layout children bare)
+        (λ j. values ++ value.now ∷ []) bytes) }
+    ensures refused { (layout : Layout) (children : Shape) (values : List Value)
+        → IsNode (IsColumn limits.now) layout children node.old values
+        → IfErr result (AreTooMuch limits.now bytes (field layout children bare)
+        (λ j. values ++ value.now ∷ [])) }
+    ensures fewer { IfOk result (λ left. left ≤ bytes) }
+    ensures kept { (limits : Limits) (layout : Layout) (children : Shape) (values : List Value)
+        → IsNode (IsColumn limits) layout children node.old values
+        → IsNode (IsColumn limits) layout children node.new values }
+{
+    start_node(node);
+    take(value, node, Purpose::Count, limits)?;
+    match left_behind(node, Purpose::Count, bytes) {
+        Some(left) => Ok(left),
+        None => Err(PushFault::TooLong),
+    }
+}
+
+// The same of any column.
+fn left_behind_with(
+    value: &Value,
+    node: &mut Node,
+    limits: &Limits,
+    bytes: u64,
+) -> Result<u64, PushFault>
+    requires { bytes ≤ limits.now.body }
+    ensures fit { (layout : Layout) (children : Shape) (values : List Value)
+        → IsNode (IsColumn limits.now) layout children node.old values
+        → IfOk result (LeavesOf limits.now (field layout children bare)
+        (λ j. values ++ value.now ∷ []) bytes) }
+    ensures refused { (layout : Layout) (children : Shape) (values : List Value)
+        → IsNode (IsColumn limits.now) layout children node.old values
+        → IfErr result (AreTooMuch limits.now bytes (field layout children bare)
+        (λ j. values ++ value.now ∷ [])) }
+    ensures fewer { IfOk result (λ left. left ≤ bytes) }
+    ensures kept { (limits : Limits) (layout : Layout) (children : Shape) (values : List Value)
+        → IsNode (IsColumn limits) layout children node.old values
+        → IsNode (IsColumn limits) layout children node.new values }
+{
+    if node.children.is_empty() {
+        return left_behind_leaf(value, &node.column, limits, bytes);
+    }
+    left_behind_tree(value, node, limits, bytes)
+}
+
+/// Whether columns with the values of one row more are within the limits. It takes no memory.
+///
+/// Refused with `TooMany` where one would have too many slots, and with `TooLong` where one would
+/// have more data than offsets reach, or their buffers more bytes than a body.
+pub(crate) fn fit(nodes: &mut [Node], row: &[Value], limits: &Limits) -> Result<(), PushFault>
+    ensures fit { (shape : Shape) (given : ℕ → List Value)
+        → AreColumns limits.now shape nodes.old given
+        → OnOk result (AreWithin limits.now shape (λ j. given j ++ cell j row.now ∷ [])) }
+    ensures refused { (shape : Shape) (given : ℕ → List Value)
+        → AreColumns limits.now shape nodes.old given
+        → IfErr result (AreTooMuch limits.now limits.now.body shape
+        (λ j. given j ++ cell j row.now ∷ [])) }
+    ensures kept { (limits : Limits) (shape : Shape) (given : ℕ → List Value)
+        → AreColumns limits shape nodes.old given → AreColumns limits shape nodes.new given }
+{
+    let mut left = limits.body;
+    for i in 0..nodes.len() {
+        left = left_behind_with(value_at(row, i, &Value::Null), &mut nodes[i], limits, left)?;
+    }
+    Ok(())
+}

@@ -1,0 +1,44 @@
+ghost use Rattle.std.specs.Prelude.{[], IfOk};
+ghost use Rattle.ipc_model.specs.declared.limits.Limits.{Limits};
+ghost use Rattle.ipc_column.specs.Shapes.{field_shape, shape_of};
+ghost use Rattle.ipc_encode.specs.Built.{AreColumns, IsColumn, IsNode};
+
+use crate::column::Column;
+use crate::node::Node;
+use ipc_model::{Field, layout_of};
+use std::alloc::{AllocError, Global};
+
+// A column of this field without values, with those of its children, in the room of a node.
+#[cycle(new)]
+fn new_node(field: &Field, kept: Option<Node>, alloc: Global) -> Result<Node, AllocError>
+    ensures { (limits : Limits) → IfOk result (λ node. IsNode (IsColumn limits)
+        (field_shape field.now).0 (field_shape field.now).1 node []) }
+{
+    let layout = layout_of(&field.kind, field.dictionary);
+    let (column, children) = match kept {
+        Some(Node { column, children }) => (column.emptied(layout)?, children),
+        None => (Column::new(alloc, layout)?, Vec::new(alloc)),
+    };
+    let children = new_nodes(field.children.as_slice(), children, alloc)?;
+    Ok(Node { column, children })
+}
+
+/// Columns of these fields without values, in the room of nodes that held others.
+///
+/// Refused where a list can't grow.
+#[cycle(new)]
+pub(crate) fn new_nodes(
+    fields: &[Field],
+    kept: Vec<Node>,
+    alloc: Global,
+) -> Result<Vec<Node>, AllocError>
+    ensures { (limits : Limits)
+        → IfOk result (λ nodes. AreColumns limits (shape_of fields.now) nodes.items (λ j. [])) }
+{
+    let mut kept = kept.into_iter();
+    let mut nodes = Vec::with_capacity(alloc, fields.len())?;
+    for field in fields {
+        nodes.push(new_node(field, kept.next(), alloc)?)?;
+    }
+    Ok(nodes)
+}
