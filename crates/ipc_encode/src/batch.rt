@@ -3,8 +3,7 @@ ghost use Rattle.std.specs.List.{AllByRecursion};
 ghost use Rattle.ipc_model.specs.Fits.{RowFits};
 ghost use Rattle.ipc_model.specs.WellFormed.{IsFieldWellFormed};
 ghost use Rattle.ipc_model.specs.Entries.{entries};
-ghost use Rattle.ipc_meta.specs.Supported.{are_supported};
-ghost use Rattle.ipc_column.specs.Rows.{Rows};
+ghost use Rattle.ipc_column.specs.Rows.{Rows, are_plain};
 ghost use Rattle.ipc_encode.specs.Buffers.{AreLaidOut};
 ghost use Rattle.ipc_encode.specs.Limits.{IsWithin, IsRefused};
 
@@ -18,9 +17,9 @@ use std::alloc::Global;
 /// Format, "RecordBatch message").
 ///
 /// The caller has the fields from a schema that passes its check, and rows that fit them. Fields of
-/// any type are written, without a dictionary; nothing is said of the parts where one has another,
-/// or is of a type that isn't supported yet. The indices aren't looked at, since no field that is
-/// written can name a dictionary yet.
+/// any type are written; that the parts give the rows back isn't said where a field, or one below
+/// it, has a dictionary. The indices aren't looked at, since no schema that is written can name a
+/// dictionary yet.
 ///
 /// Buffers stand in the order of the fields, those of a field's children right behind its own, each
 /// padded with zeros to a multiple of 8 bytes; a buffer's length is without its padding. There is a
@@ -41,23 +40,19 @@ pub fn encode<I: IndexOf>(
     requires fine { AllByRecursion (IsFieldWellFormed limits.now) (entries fields.now) }
     requires conform { AllByRecursion (RowFits fields.now) rows.now }
     // The parts give these rows back.
-    ensures rows { IfOk result (λ parts. are_supported fields.now ≡ true
+    ensures rows { IfOk result (λ parts. are_plain fields.now ≡ true
         → Rows limits.now fields.now (record {
           length = pos (length rows.now);
           nodes = parts.nodes;
           buffers = parts.buffers;
         }) parts.body.items rows.now) }
     // They are one list of nodes, buffers and bytes.
-    ensures laid_out { IfOk result
-        (λ parts. are_supported fields.now ≡ true → AreLaidOut fields.now rows.now parts) }
+    ensures laid_out { IfOk result (AreLaidOut fields.now rows.now) }
     // What is written is within the limits.
-    ensures within { IfOk result
-        (λ parts. are_supported fields.now ≡ true → IsWithin limits.now fields.now rows.now) }
+    ensures within { IfOk result (λ parts. IsWithin limits.now fields.now rows.now) }
     ensures body { IfOk result (λ parts. length parts.body.items ≤ limits.now.body) }
     // A refusal is true of the rows.
-    ensures refused { IfErr result
-        (λ fault. are_supported fields.now ≡ true
-        → IsRefused limits.now fields.now rows.now fault) }
+    ensures refused { IfErr result (IsRefused limits.now fields.now rows.now) }
 {
     Builder::of_rows(alloc, fields, limits, rows)?.finish(&SameNumbers)
 }

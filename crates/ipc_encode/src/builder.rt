@@ -8,8 +8,7 @@ ghost use Rattle.ipc_model.specs.declared.limits.Limits.{Limits};
 ghost use Rattle.ipc_model.specs.declared.schema.Field.{Field};
 ghost use Rattle.ipc_model.specs.declared.value.Value.{Value};
 ghost use Rattle.ipc_model.specs.declared.value.Value.TheVariants.{Null};
-ghost use Rattle.ipc_meta.specs.Supported.{are_supported};
-ghost use Rattle.ipc_column.specs.Rows.{Rows};
+ghost use Rattle.ipc_column.specs.Rows.{Rows, are_plain};
 ghost use Rattle.ipc_column.specs.Shapes.{Shape, shape_of};
 ghost use Rattle.ipc_encode.specs.Buffers.{AreLaidOut, columns};
 ghost use Rattle.ipc_encode.specs.Writing.{IsDrafted};
@@ -235,7 +234,7 @@ impl Builder {
             → HasRows limits fields rows self
             → AllByRecursion (IsFieldWellFormed limits) (entries fields)
             → AllByRecursion (RowFits fields) rows
-            → IfOk result (λ parts. are_supported fields ≡ true
+            → IfOk result (λ parts. are_plain fields ≡ true
             → Rows limits fields (record {
               length = pos (length rows);
               nodes = parts.nodes;
@@ -243,7 +242,7 @@ impl Builder {
             }) parts.body.items rows) }
         ensures laid_out { (limits : Limits) (fields : List Field) (rows : List (List Value))
             → HasRows limits fields rows self
-            → IfOk result (λ parts. are_supported fields ≡ true → AreLaidOut fields rows parts) }
+            → IfOk result (AreLaidOut fields rows) }
         ensures body { (limits : Limits) (fields : List Field) (rows : List (List Value))
             → HasRows limits fields rows self
             → IfOk result (λ parts. length parts.body.items ≤ limits.body) }

@@ -3,7 +3,6 @@ use Rattle.ipc_column.specs.Shapes.{shape_of}
 use Rattle.ipc_encode.specs.declared.node.Node.{Node}
 use Rattle.ipc_encode.specs.Buffers.{columns}
 use Rattle.ipc_encode.specs.Built.{AreColumns}
-use Rattle.ipc_column.proofs.Plain.{plain_from_supported}
 use Rattle.ipc_encode.proofs.Reading.{rows_of_parts}
 use Rattle.ipc_encode.proofs.Held.{all_stored, body_within}
 use Rattle.ipc_encode.proofs.builder.Builder.finish.Goals as goal
@@ -15,7 +14,7 @@ returns-clause-rows g c = λ limits fields rows h fine fits o.
     let drafted = c.in_ok-draft.ensures limits fields rows held in
     let stored = all_stored limits (shape_of fields) c.args.self.nodes.items (columns rows) h.columns_are in
     rows_of_parts fields rows c.from_vec.result c.from_vec-2.result c.in_ok-draft.draft.body.items
-    (plain_from_supported fields o) fine fits h.within stored
+    o fine fits h.within stored
     (c.from_vec.ensures ∙ drafted.nodes) (c.from_vec-2.ensures ∙ drafted.buffers) drafted.body
 
 pub returns-clause-body : goal.returns-clause-body
