@@ -1,4 +1,4 @@
--- Fields whose types are all read have layouts that are read.
+-- Fields without a dictionary have layouts that are read.
 use Rattle.std.proofs.Common.{◌≡◌, ◌∙◌, refl, sym, subst, Bool, true, List, [], ◌∷◌, map, Option, Some, None}
 use Rattle.std.proofs.lemmas.Bool.{false≢true, and_parts, and_from}
 use Rattle.ipc_model.specs.declared.schema.DataType.{DataType}
@@ -21,7 +21,7 @@ Plain = (f : Field) × IsPlain f
 abbrev fields_of : List Plain → List Field
 fields_of cs = map (λ c. c.0) cs
 
-own_plain : (kind : DataType) (d : Option Dictionary) → is_supported kind d ≡ true → is_read (layout kind d) ≡ true
+own_plain : (kind : DataType) (d : Option Dictionary) → is_supported d ≡ true → is_read (layout kind d) ≡ true
 own_plain t.Null None h = refl
 own_plain t.Bool None h = refl
 own_plain (t.Int bits signed) None h = refl
@@ -34,7 +34,7 @@ own_plain (t.Timestamp unit zone) None h = refl
 own_plain (t.Time unit) None h = refl
 own_plain (t.Duration unit) None h = refl
 own_plain t.List None h = refl
-own_plain (t.FixedSizeList size) None h = absurd (false≢true h)
+own_plain (t.FixedSizeList size) None h = refl
 own_plain t.Struct None h = refl
 own_plain kind (Some d) h = absurd (false≢true h)
 
@@ -49,7 +49,7 @@ step_plain : (y : Field-F Plain) → IsPlain (roll-Field (map-Field Plain Field 
 step_plain y = λ h.
     let z : Field-F Field = map-Field Plain Field (λ c. c.0) y in
     let all : supported_step (map-Field Field Bool is_supported_field z) ≡ true = sym (fold-roll-Field Bool supported_step z) ∙ h in
-    let p = and_parts (is_supported z.kind z.dictionary) (all_supported (map is_supported_field z.children)) all in
+    let p = and_parts (is_supported z.dictionary) (all_supported (map is_supported_field z.children)) all in
     fold-roll-Field Bool plain_step z ∙ and_from (is_read (layout z.kind z.dictionary))
     (all_true (map (fold-Field Bool plain_step) z.children))
     (own_plain z.kind z.dictionary p.0) (all_plain y.children p.1)
@@ -57,7 +57,7 @@ step_plain y = λ h.
 field_plain : (f : Field) → IsPlain f
 field_plain = ind-Field IsPlain (λ x y is. subst (λ z. IsPlain (roll-Field z)) is (step_plain y))
 
--- fields of types that are read have layouts that are read, and so have those below them
+-- fields without a dictionary have layouts that are read, and so have those below them
 pub plain_from_supported : (fs : List Field) → are_supported fs ≡ true → are_plain fs ≡ true
 plain_from_supported [] h = refl
 plain_from_supported (f ∷ fs) h =

@@ -11,11 +11,11 @@ all_open : (fields : List Field) → all_true (map is_supported_field fields) �
 all_open [] = refl
 all_open (f ∷ fs) = ap (λ b. is_supported_field f && b) (all_open fs)
 
--- a field is open where its own type is and its children are
+-- a field is open where it has no dictionary and its children are open
 pub field_out : (f : Field) → is_supported_field f
-    ≡ (is_supported (out-Field f).kind (out-Field f).dictionary && are_supported (out-Field f).children)
+    ≡ (is_supported (out-Field f).dictionary && are_supported (out-Field f).children)
 field_out f = fold_out-Field Bool supported_step f
-    ∙ ap (λ b. is_supported (out-Field f).kind (out-Field f).dictionary && b) (all_open (out-Field f).children)
+    ∙ ap (λ b. is_supported (out-Field f).dictionary && b) (all_open (out-Field f).children)
 
 -- what is told of fields, whose type's code is this where one of them is not read
 abbrev pub Judged : Option ℕ → List Field → Type 0
@@ -25,16 +25,16 @@ abbrev pub JudgedAt : Option ℕ → Field → Type 0
 JudgedAt o f = MatchOption o (is_supported_field f ≡ true)
     (λ code. (is_supported_field f ≡ false) × ((fs : List Field) → HasUnsupported code (f ∷ fs)))
 
--- a field whose own type or dictionary is not supported is not supported
-pub closed_itself : (f : Field) → is_supported (out-Field f).kind (out-Field f).dictionary ≡ false → is_supported_field f ≡ false
+-- a field with a dictionary is not supported
+pub closed_itself : (f : Field) → is_supported (out-Field f).dictionary ≡ false → is_supported_field f ≡ false
 closed_itself f h = field_out f ∙ ap (λ b. b && are_supported (out-Field f).children) h
 
 and_false : (b c : Bool) → c ≡ false → (b && c) ≡ false
 and_false true c h = h
 and_false false c h = refl
 
--- a field whose own type and dictionary are supported is judged as its children are
-pub by_children : (f : Field) (o : Option ℕ) (cs : List Field) → is_supported (out-Field f).kind (out-Field f).dictionary ≡ true
+-- a field without a dictionary is judged as its children are
+pub by_children : (f : Field) (o : Option ℕ) (cs : List Field) → is_supported (out-Field f).dictionary ≡ true
     → cs ≡ (out-Field f).children → Judged o cs → JudgedAt o f
 by_children f o cs h e j = go o (subst (λ xs. Judged o xs) e j)
   where

@@ -1,10 +1,8 @@
--- Which columns are read and written (Schema.fbs, union Type and table DictionaryEncoding). No
--- other definition speaks of this: what metadata states, it states of all types.
+-- Which columns are read and written: those without a dictionary (Schema.fbs, table
+-- DictionaryEncoding). No other definition speaks of this: what metadata states, it states of all.
 use Rattle.std.specs.Prelude.{◌≡◌, ℕ, Bool, true, false, ◌&&◌, List, [], ◌∷◌, Option, Some, None, ⊤}
 use Rattle.ipc_model.specs.declared.fault.Fault.{Fault}
 use Rattle.ipc_model.specs.declared.fault.Fault.TheVariants.{UnsupportedType}
-use Rattle.ipc_model.specs.declared.schema.DataType.{DataType}
-use Rattle.ipc_model.specs.declared.schema.DataType.TheVariants as t
 use Rattle.ipc_model.specs.declared.schema.Dictionary.{Dictionary}
 use Rattle.ipc_model.specs.declared.schema.Field.{Field, fold-Field, out-Field}
 use Rattle.ipc_model.specs.declared.schema.Field.TheOpen.{Field-F}
@@ -14,26 +12,10 @@ use Rattle.ipc_meta.specs.Heads.{HeadOf}
 use Rattle.ipc_model.specs.TypeCodes.{type_code}
 use Rattle.ipc_model.specs.declared.limits.Limits.{Limits}
 
--- the types whose columns are read
-abbrev pub is_supported_type : DataType → Bool
-is_supported_type t.Null = true
-is_supported_type t.Bool = true
-is_supported_type (t.Int bits signed) = true
-is_supported_type t.Binary = true
-is_supported_type t.Utf8 = true
-is_supported_type (t.FixedSizeBinary width) = true
-is_supported_type (t.Date unit) = true
-is_supported_type (t.Timestamp unit timezone) = true
-is_supported_type (t.Time unit) = true
-is_supported_type (t.Duration unit) = true
-is_supported_type t.List = false
-is_supported_type (t.FixedSizeList size) = false
-is_supported_type t.Struct = false
-
--- a field's type with its dictionary: columns without a dictionary are read
-abbrev pub is_supported : DataType → Option Dictionary → Bool
-is_supported kind None = is_supported_type kind
-is_supported kind (Some d) = false
+-- a field's dictionary: columns of every type are read that have none
+abbrev pub is_supported : Option Dictionary → Bool
+is_supported None = true
+is_supported (Some d) = false
 
 -- all of these hold
 abbrev pub all_true : List Bool → Bool
@@ -42,7 +24,7 @@ all_true (b ∷ bs) = b && all_true bs
 
 -- a field is open, and so are its children
 abbrev pub supported_step : Field-F Bool → Bool
-supported_step f = is_supported f.kind f.dictionary && all_true f.children
+supported_step f = is_supported f.dictionary && all_true f.children
 
 -- the field and all its descendants are open
 abbrev pub is_supported_field : Field → Bool
@@ -59,11 +41,11 @@ IsSupported (head.Schema s) = are_supported s.fields ≡ true
 IsSupported (head.Dictionary id batch) = ⊤
 IsSupported (head.Batch batch pairs) = ⊤
 
--- one of these fields, or of those below them, has a type with this code (Schema.fbs, union Type),
--- and columns of it, with its dictionary, are not read
+-- one of these fields, or of those below them, has a type with this code (Schema.fbs, union Type)
+-- and a dictionary, so that its columns are not read
 pub data HasUnsupported (code : ℕ) : List Field → Type 0 where
   here : {f : Field} {fs : List Field} → type_code (out-Field f).kind ≡ code
-      → is_supported (out-Field f).kind (out-Field f).dictionary ≡ false
+      → is_supported (out-Field f).dictionary ≡ false
       → HasUnsupported code (f ∷ fs)
   below : {f : Field} {fs : List Field} → HasUnsupported code (out-Field f).children
       → HasUnsupported code (f ∷ fs)

@@ -3,26 +3,13 @@ ghost use Rattle.ipc_meta.specs.Supported.{is_supported, is_supported_field, are
 ghost use Rattle.ipc_meta.specs.Supported.{IsSupported, HasUnsupported, NamesUnsupported};
 
 use crate::head::Head;
-use ipc_model::{DataType, Dictionary, Fault, Field};
+use ipc_model::{Dictionary, Fault, Field};
 
-// Whether columns of this type with this dictionary are read.
-fn is_supported(kind: &DataType, dictionary: Option<Dictionary>) -> bool
-    ensures { result ≡ is_supported kind.now dictionary }
+// Whether columns with this dictionary are read.
+fn is_supported(dictionary: Option<Dictionary>) -> bool
+    ensures { result ≡ is_supported dictionary }
 {
     dictionary.is_none()
-        && match kind {
-            DataType::Null
-            | DataType::Bool
-            | DataType::Int { .. }
-            | DataType::Binary
-            | DataType::Utf8
-            | DataType::FixedSizeBinary(_)
-            | DataType::Date(_)
-            | DataType::Timestamp { .. }
-            | DataType::Time(_)
-            | DataType::Duration(_) => true,
-            DataType::List | DataType::FixedSizeList(_) | DataType::Struct => false,
-        }
 }
 
 // The type's code (Schema.fbs, union Type) of this field, or of the first below it, whose columns
@@ -33,7 +20,7 @@ fn unsupported_at(field: &Field) -> Option<u8>
         (λ code. (is_supported_field field.now ≡ false)
         × ((behind : List Field) → HasUnsupported code (field.now ∷ behind))) }
 {
-    if !is_supported(&field.kind, field.dictionary) {
+    if !is_supported(field.dictionary) {
         return Some(field.kind.code());
     }
     unsupported_in(field.children.as_slice())
@@ -53,9 +40,8 @@ fn unsupported_in(fields: &[Field]) -> Option<u8>
     None
 }
 
-/// Whether columns of these fields, their descendants included, are read and written here: neither
-/// a list of either kind nor a struct, and without a dictionary (Schema.fbs, union Type and table
-/// DictionaryEncoding). It takes no memory.
+/// Whether columns of these fields, their descendants included, are read and written here: those of
+/// every type are, without a dictionary (Schema.fbs, table DictionaryEncoding). It takes no memory.
 pub fn are_supported(fields: &[Field]) -> bool
     ensures { result ≡ are_supported fields.now }
 {

@@ -5,7 +5,6 @@ use Rattle.std.specs.Prelude.{ℤ}
 use Rattle.std.proofs.lemmas.Bool.{and_parts}
 use Rattle.ipc_model.specs.WellFormed.{IsAmong}
 use Rattle.ipc_model.specs.Entries.{Entry, Listing, all_at, entries, preorder, preorder_step}
-use Rattle.ipc_model.specs.declared.schema.DataType.{DataType}
 use Rattle.ipc_model.specs.declared.schema.Dictionary.{Dictionary}
 use Rattle.ipc_model.specs.declared.schema.Field.{Field, fold-roll-Field, ind-Field, map-Field, roll-Field}
 use Rattle.ipc_model.specs.declared.schema.Field.TheOpen.{Field-F}
@@ -30,9 +29,9 @@ plain_both : (xs ys : List Entry) → Plain xs → Plain ys → Plain (xs ++ ys)
 plain_both [] ys p q = q
 plain_both (x ∷ xs) ys p q = plain_first x (xs ++ ys) (p x (inl refl)) (plain_both xs ys (λ a among. p a (inr among)) q)
 
-no_dictionary : (kind : DataType) (d : Option Dictionary) → is_supported kind d ≡ true → d ≡ None
-no_dictionary kind None h = refl
-no_dictionary kind (Some d) h = absurd (cc)
+no_dictionary : (d : Option Dictionary) → is_supported d ≡ true → d ≡ None
+no_dictionary None h = refl
+no_dictionary (Some d) h = absurd (cc)
 
 abbrev IsPlain : Field → Type 0
 IsPlain f = is_supported_field f ≡ true → (d : ℕ) → Plain (preorder f d)
@@ -50,12 +49,12 @@ children_plain d (c ∷ cs) h =
 roll_plain : (x : Field-F Field) (y : Field-F Shown) → map-Field Shown Field (λ c. c.0) y ≡ x → IsPlain (roll-Field x)
 roll_plain x y is = subst (λ z. IsPlain (roll-Field z)) is (λ h d.
     let z = map-Field Shown Field (λ c. c.0) y in
-    let parts = and_parts (is_supported z.kind z.dictionary) (all_true (map is_supported_field z.children))
+    let parts = and_parts (is_supported z.dictionary) (all_true (map is_supported_field z.children))
     (sym (fold-roll-Field Bool supported_step z) ∙ h) in
     let layer = map-Field Field Listing preorder z in
     let below = children_plain (d + 1) y.children parts.1 in
     subst (λ (l : Listing). Plain (l d)) (sym (fold-roll-Field Listing preorder_step z))
-    (plain_first _ _ (no_dictionary z.kind z.dictionary parts.0) below))
+    (plain_first _ _ (no_dictionary z.dictionary parts.0) below))
 
 field_plain : (f : Field) → IsPlain f
 field_plain = ind-Field IsPlain roll_plain

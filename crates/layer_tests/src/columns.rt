@@ -2,7 +2,7 @@
 //! and how many slots are tested.
 ghost use Rattle.std.specs.Prelude.{◌≡◌, ◌≤◌, ◌∷◌, [], length, true, IfOk};
 ghost use Rattle.ipc_model.specs.Entries.{entries};
-ghost use Rattle.ipc_meta.specs.Supported.{are_supported, is_supported_type};
+ghost use Rattle.ipc_meta.specs.Supported.{are_supported};
 
 use ipc_column::{Batch, Cell};
 use ipc_meta::BatchHead;
@@ -15,7 +15,6 @@ use std::test::Fail;
 const MOST: i64 = 2_147_483_647;
 
 fn field(alloc: Global, kind: DataType) -> Result<Field, AllocError>
-    requires { is_supported_type kind ≡ true }
     ensures open { IfOk result (λ f. are_supported (f ∷ []) ≡ true) }
     ensures few { IfOk result (λ f. length (entries (f ∷ [])) ≤ 1) }
 {
@@ -30,7 +29,6 @@ fn field(alloc: Global, kind: DataType) -> Result<Field, AllocError>
 }
 
 fn fields(alloc: Global, kind: DataType) -> Result<Rc<Vec<Field>>, AllocError>
-    requires { is_supported_type kind ≡ true }
     ensures open { IfOk result (λ all. are_supported all.value.items ≡ true) }
     ensures few { IfOk result (λ all. length (entries all.value.items) ≤ 1) }
 {
@@ -60,7 +58,6 @@ fn batch(
     buffers: &[(i64, i64)],
     body: &[u8],
 ) -> Result<Batch, Fault>
-    requires { is_supported_type kind ≡ true }
 {
     let fields = fields(alloc, kind)?;
     let head = head_of(alloc, node, buffers)?;

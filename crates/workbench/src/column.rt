@@ -1,7 +1,7 @@
 //! Columns of each kind.
 ghost use Rattle.std.specs.Prelude.{◌≡◌, ◌≤◌, ◌∷◌, [], length, true, IfOk};
 ghost use Rattle.ipc_model.specs.Entries.{entries};
-ghost use Rattle.ipc_meta.specs.Supported.{are_supported, is_supported_type};
+ghost use Rattle.ipc_meta.specs.Supported.{are_supported};
 
 use ipc_model::{DataType, Field, IntBits, Items, Row, Text, Value};
 use std::alloc::{AllocError, Global};
@@ -33,9 +33,7 @@ impl Kind {
     }
 }
 
-fn data_type(kind: Kind) -> DataType
-    ensures { is_supported_type result ≡ true }
-{
+fn data_type(kind: Kind) -> DataType {
     match kind {
         Kind::Numbers | Kind::Nulls => DataType::Int {
             bits: IntBits::B64,
