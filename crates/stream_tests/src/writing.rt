@@ -202,14 +202,20 @@ fn writes_on_after_a_refused_row(rt: HostRuntime) -> Result<(), Fail> {
     Ok(())
 }
 
-// A width that no column has; a list, which is well formed and not written yet; a list without its
-// child.
+// A width that no column has; a dictionary, which is well formed and not written yet; a list
+// without its child.
 fn refused_columns(alloc: Global) -> Result<Vec<Field>, AllocError> {
-    let child = Field::new(alloc, "b", DataType::Utf8)?;
-    let children = vec![in alloc; child]?;
+    let index = Dictionary {
+        id: 7,
+        index: IndexType {
+            bits: IntBits::B32,
+            signed: true,
+        },
+        ordered: false,
+    };
     Ok(vec![in alloc;
         Field::new(alloc, "a", DataType::FixedSizeBinary(1 << 31))?,
-        Field::new(alloc, "a", DataType::List)?.with_children(children),
+        Field::new(alloc, "a", DataType::Utf8)?.with_dictionary(index),
         Field::new(alloc, "a", DataType::List)?,
     ]?)
 }
