@@ -5,8 +5,8 @@ use crate::tables::{
 };
 use ipc_meta::{BatchHead, Head, read_message};
 use ipc_model::{
-    BatchRows, DataType, Fault, Field, IntBits, Items, Limits, Row, Schema, Table, Value,
-    WriteFault,
+    BatchRows, DataType, Dictionary, Fault, Field, IndexType, IntBits, Items, Limits, Row, Schema,
+    Table, Value, WriteFault,
 };
 use ipc_stream::{Limited, Memory, Sink, StreamWriter, write_table};
 use std::alloc::{AllocError, Global};
