@@ -111,6 +111,12 @@ Examples:
   arrowstream from-csv --schema trades.json < trades.csv > trades.arrows
   arrowstream from-csv --schema trades.json --batch 1000 < trades.csv > trades.arrows";
 
+// An option of this name with a value, which it has where it isn't given.
+fn option<'a>(alloc: Global, name: &'a str, usual: &'a str) -> Arg<'a> {
+    let option = Arg::new(alloc, name).long(name);
+    option.value_name("N").default_value(usual)
+}
+
 // An option with a number up to a greatest one.
 fn limit<'a>(
     alloc: Global,
@@ -119,13 +125,9 @@ fn limit<'a>(
     usual: &'a str,
     help: &'a str,
 ) -> Arg<'a> {
-    Arg::new(alloc, name)
-        .long(name)
-        .value_name("N")
-        .action(ArgAction::Set)
-        .default_value(usual)
-        .value_parser(ValueParser::unsigned(0, greatest))
-        .help(help)
+    let number = option(alloc, name, usual).action(ArgAction::Set);
+    let parser = ValueParser::unsigned(0, greatest);
+    number.value_parser(parser).help(help)
 }
 
 // The options that say how much a stream may hold.
