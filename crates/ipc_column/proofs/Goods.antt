@@ -213,3 +213,16 @@ texts_good c children i j t =
     let same = below_same (λ k. text_good c.validity c.offsets c.values (i + k)) (λ k. good_slot (good children) c (i + k)) (j - i)
     (λ k. rw e refl) in
     same ∙ sym (good_one c children i j)
+
+-- what the slots of a range lead to is enough, null or not
+pub range_enough : (c : Column) (children : Columns) (i j : ℕ) → is_texts c.layout ≡ false → i ≤ j
+    → ((k : ℕ) → i ≤ k → k < j → child_slot c.layout c.offsets k ≤ child_slot c.layout c.offsets (k + 1))
+    → range_good c.layout (good children) c.offsets i j ≡ true → good (column c children none) i j ≡ true
+range_enough c children i j t l up h =
+    let e : i + (j - i) ≡ j = omega arith in
+    let run = run_good c.layout children c.offsets c.values i (j - i) t (λ k a b. up k a (omega (arith, b))) in
+    let all : all_slots (good_below c.layout (good children) c.offsets c.values) i (j - i) ≡ true =
+    run ∙ (ap (λ (k : ℕ). range_good c.layout (good children) c.offsets i k) e ∙ h) in
+    good_one c children i j ∙ slots_from (good_slot (good children) c) i j
+    (λ k a b. ap (λ (x : Bool). not (is_valid c.validity k) || x)
+    (slots_at (good_below c.layout (good children) c.offsets c.values) i j k all a b) ∙ or_true (not (is_valid c.validity k)))

@@ -21,7 +21,7 @@ use Rattle.ipc_column.specs.Weights.{weight, weight_below}
 use Rattle.ipc_column.proofs.Parts.{children_out, column_is}
 use Rattle.ipc_column.proofs.Slots.{TextParts, list_parts, text_parts, slots_below, slots_within, part_slots, part_long, part_most}
 use Rattle.ipc_column.proofs.FixedLists.{fixed_end}
-use Rattle.ipc_column.proofs.Goods.{range_whole, quiet_good, texts_good}
+use Rattle.ipc_column.proofs.Goods.{range_enough, range_whole, quiet_good, texts_good}
 
 -- what holds of a part's own fields holds of its column and its children
 pub part_back : (P : Column → Columns → Type 0) (body : List ℕ) (p : ColumnRanges)
@@ -245,3 +245,10 @@ all_pass_from c children a b d e cause.WrongNodeCount = refl
 all_pass_from c children a b d e cause.WrongBufferCount = refl
 all_pass_from c children a b d e cause.BufferOutOfBody = refl
 all_pass_from c children a b d e cause.ValueNotUtf8 = refl
+
+-- where what a part's slots lead to is good, they are
+pub enough_part : (body : List ℕ) (p : ColumnRanges) (i j : ℕ) → AreSlots (one body p) i j → is_texts (out-ColumnRanges p).layout ≡ false
+    → range_good (column_of body p).layout (good (children_of body p)) (column_of body p).offsets i j ≡ true → good (one body p) i j ≡ true
+enough_part body p i j h t =
+    range_enough (column_of body p) (children_of body p) i j (ap is_texts (layout_is body p) ∙ t) h.order
+    (rising (column_of body p) (children_of body p) i j h)

@@ -20,6 +20,7 @@ mod validate;
 mod values;
 mod view;
 mod visit;
+mod whole;
 
 pub use batch::{Batch, one_list_of_rows};
 pub use cell::{Cell, ListCell, StructCell};

@@ -48,8 +48,8 @@ fn are_cuts(offsets: &[u8], text: &[u8], slots: usize, from: usize, to: usize) -
     true
 }
 
-// Whether the slots from one up to another are one text that may be cut where they begin.
-fn is_whole(offsets: &[u8], values: &[u8], slots: usize, from: usize, to: usize) -> bool
+/// Whether the slots from one up to another are one text that may be cut where they begin.
+pub(crate) fn is_whole(offsets: &[u8], values: &[u8], slots: usize, from: usize, to: usize) -> bool
     requires range { from ≤ to }
     requires inside { to ≤ slots }
     requires bytes { 4 * (slots + 1) ≤ length offsets.now }

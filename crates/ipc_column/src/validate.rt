@@ -12,7 +12,7 @@ use crate::cause::Cause;
 use crate::offsets::{are_in_order, place_at};
 use crate::range_bytes::bytes_at;
 use crate::ranges::ColumnRanges;
-use crate::visit::visit_all;
+use crate::visit::visit_columns;
 use ipc_model::Layout;
 use ipc_scalar::count_clear;
 
@@ -209,7 +209,7 @@ pub(crate) fn check_columns(body: &[u8], parts: &[ColumnRanges], rows: usize) ->
     check_all(body, parts)?;
     check_tops(body, parts, rows)?;
     let mut tests = 0;
-    if visit_all(body, parts, 0, rows, &mut tests) {
+    if visit_columns(body, parts, 0, rows, &mut tests) {
         Ok(tests)
     } else {
         Err(Cause::ValueNotUtf8)

@@ -11,6 +11,7 @@ use crate::range_bytes::bytes_at;
 use crate::ranges::ColumnRanges;
 use crate::slot_visit::visit;
 use crate::texts::visit_texts;
+use crate::whole::is_whole_part;
 use ipc_model::Layout;
 
 // Whether texts stand in a part or below it.
@@ -135,10 +136,35 @@ fn visit_part(body: &[u8], part: &ColumnRanges, from: usize, to: usize, tests: &
     visit_slots(body, part, from, to, tests)
 }
 
+// The same of each part.
+#[cycle(visit)]
+fn visit_all(body: &[u8], parts: &[ColumnRanges], from: usize, to: usize, tests: &mut u64) -> bool
+    requires slots { AreSlots (columns body.now parts.now) from to }
+    requires room { tests.old + weight (columns body.now parts.now) from to < 2 ^ 64 }
+    ensures good { result ≡ good (columns body.now parts.now) from to }
+    ensures cost { tests.new ≤ tests.old + weight (columns body.now parts.now) from to }
+{
+    for part in parts {
+        if !visit_part(body, part, from, to, tests) {
+            return false;
+        }
+    }
+    true
+}
+
+// The same of a part, of which no slot is visited where all its texts are UTF-8.
+fn visit_column(body: &[u8], part: &ColumnRanges, from: usize, to: usize, tests: &mut u64) -> bool
+    requires slots { AreSlots (one body.now part.now) from to }
+    requires room { tests.old + weight (one body.now part.now) from to < 2 ^ 64 }
+    ensures good { result ≡ good (one body.now part.now) from to }
+    ensures cost { tests.new ≤ tests.old + weight (one body.now part.now) from to }
+{
+    is_whole_part(body, part, from, to) || visit_part(body, part, from, to, tests)
+}
+
 /// Whether the slots of each part from one up to another are good: no text is visible in them that
 /// isn't UTF-8. Each slot that is visited is counted.
-#[cycle(visit)]
-pub(crate) fn visit_all(
+pub(crate) fn visit_columns(
     body: &[u8],
     parts: &[ColumnRanges],
     from: usize,
@@ -151,7 +177,7 @@ pub(crate) fn visit_all(
     ensures cost { tests.new ≤ tests.old + weight (columns body.now parts.now) from to }
 {
     for part in parts {
-        if !visit_part(body, part, from, to, tests) {
+        if !visit_column(body, part, from, to, tests) {
             return false;
         }
     }

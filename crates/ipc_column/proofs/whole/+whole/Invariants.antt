@@ -1,0 +1,11 @@
+use Rattle.std.proofs.Common.{◌≡◌, drop}
+use Rattle.ipc_column.specs.Checks.{good}
+use Rattle.ipc_column.specs.Lent.{AreSlots}
+use Rattle.ipc_column.specs.Views.{columns}
+use Rattle.ipc_column.proofs.whole.+whole.Given as goal
+
+abbrev pub invariant-are_whole-loop-part : goal.invariant-are_whole-loop-part
+invariant-are_whole-loop-part l = record {
+  good : good (columns l.body (drop l.part-index l.parts)) l.from l.to ≡ good (columns l.body l.parts) l.from l.to;
+  slots : AreSlots (columns l.body (drop l.part-index l.parts)) l.from l.to;
+}
