@@ -13,9 +13,9 @@ use Rattle.ipc_model.specs.declared.schema.Schema.{Schema}
 use Rattle.ipc_model.specs.declared.table.BatchRows.{BatchRows}
 use Rattle.ipc_model.specs.declared.value.Value.{Value}
 use Rattle.ipc_stream.specs.Pushed.{RefusesHeld, StaysAt, no_rows}
-use Rattle.ipc_stream.specs.Stream.{Event, Run, batch, schema}
+use Rattle.ipc_decode.specs.Stream.{Event, Run, batch, schema, AddsBatch}
 use Rattle.ipc_stream.specs.Writer.{Leaves, Writer}
-use Rattle.ipc_stream.specs.Writing.{AcceptsBatch, AddsBatch, AddsNext, BreaksOff, IsBatchTooLong, NotSentWhole, RefusesBatch, RefusesFirst}
+use Rattle.ipc_stream.specs.Writing.{AcceptsBatch, AddsNext, BreaksOff, IsBatchTooLong, NotSentWhole, RefusesBatch, RefusesFirst}
 use Rattle.ipc_stream.specs.Writing.{long_columns, long_metadata, other_pairs}
 use Rattle.ipc_stream.proofs.FirstRows.{refused_at_first}
 use Rattle.ipc_csv.specs.RowCsv.{names}

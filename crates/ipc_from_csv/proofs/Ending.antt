@@ -17,9 +17,9 @@ use Rattle.ipc_model.specs.declared.table.BatchRows.{BatchRows}
 use Rattle.ipc_model.specs.declared.value.Value.{Value}
 use Rattle.ipc_stream.specs.declared.pushed.PushedRows.{PushedRows}
 use Rattle.ipc_stream.specs.Pushed.{HoldsBatch}
-use Rattle.ipc_stream.specs.Stream.{Event, Run, batch, done, schema}
+use Rattle.ipc_decode.specs.Stream.{Event, Run, batch, done, schema, AddsBatch, EndsStream}
 use Rattle.ipc_stream.specs.Writer.{Finishes, FinishFails, Leaves, StartFails, Writer}
-use Rattle.ipc_stream.specs.Writing.{AcceptsBatch, AddsBatch, AddsNext, BreaksOff, CutShort, EndsStream, NotSentWhole, RefusesBatch}
+use Rattle.ipc_stream.specs.Writing.{AcceptsBatch, AddsNext, BreaksOff, CutShort, NotSentWhole, RefusesBatch}
 use Rattle.ipc_stream.specs.Writing.{RefusesFirst}
 use Rattle.ipc_csv.specs.RowCsv.{flat_fault, names}
 use Rattle.ipc_from_csv.specs.Batches.{batch_of, last_batch}

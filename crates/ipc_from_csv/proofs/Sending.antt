@@ -10,10 +10,10 @@ use Rattle.ipc_model.specs.declared.schema.Field.{Field}
 use Rattle.ipc_model.specs.declared.schema.Schema.{Schema}
 use Rattle.ipc_model.specs.declared.table.BatchRows.{BatchRows}
 use Rattle.ipc_model.specs.declared.value.Value.{Value}
-use Rattle.ipc_stream.specs.Stream.{Event, Run, batch, schema}
+use Rattle.ipc_decode.specs.Stream.{Event, Run, batch, schema, AddsBatch, OpensStream}
 use Rattle.ipc_stream.specs.Writer.{Leaves, Starts, Writer}
-use Rattle.ipc_stream.specs.Writing.{AcceptsBatch, AcceptsSchema, AddsBatch, OpensStream, Sent}
-use Rattle.ipc_stream.proofs.Runs.{run_then}
+use Rattle.ipc_stream.specs.Writing.{AcceptsBatch, AcceptsSchema, Sent}
+use Rattle.ipc_decode.proofs.Runs.{run_then}
 use Rattle.ipc_model.specs.Limits.{IsStandard}
 use Rattle.ipc_csv.specs.CsvRows.{RecordReadsAs}
 use Rattle.ipc_from_csv.specs.Batches.{AreBatched, IsFull, batch_of, last_batch}

@@ -11,8 +11,8 @@ use Rattle.ipc_model.specs.declared.schema.Schema.{Schema}
 use Rattle.ipc_model.specs.declared.table.BatchRows.{BatchRows}
 use Rattle.ipc_model.specs.declared.table.Table.{Table}
 use Rattle.ipc_model.specs.declared.value.Value.{Value}
-use Rattle.ipc_stream.specs.declared.end.End.TheVariants.{Closed, Mark}
-use Rattle.ipc_stream.specs.Stream.{Denotes}
+use Rattle.ipc_decode.specs.declared.end.End.TheVariants.{Closed, Mark}
+use Rattle.ipc_decode.specs.Stream.{Denotes}
 use Rattle.ipc_stream.specs.Writing.{AcceptsTable, BreaksOff, Sent}
 use Rattle.ipc_csv.specs.CsvRows.{IsHeaderFault, IsRecordFault}
 use Rattle.ipc_csv.specs.RowCsv.{flat_fault, names}

@@ -9,7 +9,7 @@ use Rattle.ipc_model.specs.declared.value.Value.{Value}
 use Rattle.ipc_moments.specs.declared.fault.TextFault.TheVariants.{OutOfMemory}
 use Rattle.ipc_stream.specs.declared.pushed.PushedRows.{PushedRows}
 use Rattle.ipc_stream.specs.Pushed.{HoldsBatch}
-use Rattle.ipc_stream.specs.Stream.{Run, batch, schema}
+use Rattle.ipc_decode.specs.Stream.{Run, batch, schema}
 use Rattle.ipc_stream.specs.Writer.{Writer}
 use Rattle.ipc_stream.specs.Writing.{AcceptsBatch, AcceptsSchema, Sent}
 use Rattle.ipc_csv.specs.CsvRows.{IsRecordFault}

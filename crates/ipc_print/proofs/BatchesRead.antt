@@ -7,15 +7,15 @@ use Rattle.std.proofs.KnownBytes.{Consumes-nil, Consumes-trans}
 use Rattle.std.proofs.lemmas.List.{map-append}
 use Rattle.ipc_model.specs.declared.fault.Fault.{Fault}
 use Rattle.ipc_model.specs.declared.value.Value.{Value}
-use Rattle.ipc_stream.specs.Found.{Found, rows_of}
-use Rattle.ipc_stream.specs.declared.end.End.{End}
-use Rattle.ipc_stream.specs.declared.phase.Phase.{Phase}
-use Rattle.ipc_stream.specs.declared.phase.Phase.TheVariants.{Reading, Ended, Refused}
-use Rattle.ipc_stream.specs.Failures.{Tells}
-use Rattle.ipc_stream.specs.Reader.{Reader, in_force_of, NextAnswer, NextCall, end_of}
-use Rattle.ipc_stream.specs.Reasons.{Reads}
-use Rattle.ipc_stream.specs.Stream.{InForce, batch, Run, done}
-use Rattle.ipc_stream.proofs.Runs.{run_then, reads_after}
+use Rattle.ipc_decode.specs.Found.{Found, rows_of}
+use Rattle.ipc_decode.specs.declared.end.End.{End}
+use Rattle.ipc_decode.specs.declared.phase.Phase.{Phase}
+use Rattle.ipc_decode.specs.declared.phase.Phase.TheVariants.{Reading, Ended, Refused}
+use Rattle.ipc_decode.specs.Failures.{Tells}
+use Rattle.ipc_decode.specs.Reader.{Reader, in_force_of, NextAnswer, NextCall, end_of}
+use Rattle.ipc_decode.specs.Reasons.{Reads}
+use Rattle.ipc_decode.specs.Stream.{InForce, batch, Run, done}
+use Rattle.ipc_decode.proofs.Runs.{run_then, reads_after}
 use Rattle.ipc_print.specs.declared.rows.PrintFault.{PrintFault}
 use Rattle.ipc_model.specs.declared.schema.Field.{Field}
 use Rattle.ipc_moments.specs.declared.fault.TextFault.{TextFault}
@@ -35,9 +35,9 @@ use Rattle.ipc_model.specs.declared.limits.Limits.{Limits}
 use Rattle.std.proofs.Common.{◌+◌, length, inl, arith}
 use Rattle.std.specs.Prelude.{unwrap_or}
 use Rattle.std.proofs.lemmas.List.{length-append}
-use Rattle.ipc_stream.specs.declared.end.End.TheVariants.{Closed}
-use Rattle.ipc_stream.specs.Reader.{end_of}
-use Rattle.ipc_stream.specs.Counts.{count_up}
+use Rattle.ipc_decode.specs.declared.end.End.TheVariants.{Closed}
+use Rattle.ipc_decode.specs.Reader.{end_of}
+use Rattle.ipc_decode.specs.Counts.{count_up}
 use Rattle.ipc_print.specs.declared.stop.Tally.{Tally}
 use Rattle.ipc_print.specs.Forms.{row_count}
 use Rattle.ipc_print.specs.Streams.{IsTally}

@@ -20,7 +20,7 @@ use Rattle.ipc_model.specs.Layouts.{layout, number_bytes}
 use Rattle.ipc_column.specs.Shapes.{Shape, shapes, field_shape, field_step, cut, column_at}
 use Rattle.ipc_column.specs.Values.{is_valid, own_value, value_of, signed_at, row}
 use Rattle.ipc_column.specs.Rows.{Rows}
-use Rattle.ipc_stream.specs.Stream.{State, Event, InForce, schema, batch, Step, first, came, Run, done, more}
+use Rattle.ipc_decode.specs.Stream.{State, Event, InForce, schema, batch, Step, first, came, Run, done, more}
 use Rattle.ipc_print.specs.Columns.{AreShownColumns, IsShownColumn}
 use Rattle.ipc_print.specs.Rows.{AreShownRows, IsShown}
 use Rattle.ipc_print.proofs.Shown.{null_shown, int_shown}

@@ -5,9 +5,9 @@ use Rattle.std.proofs.Common.{Result, Ok, Err, append_assoc, append-nil}
 use Rattle.std.proofs.KnownBytes.{Consumes-nil}
 use Rattle.ipc_model.specs.declared.fault.Fault.{Fault}
 use Rattle.ipc_model.specs.declared.value.Value.{Value}
-use Rattle.ipc_stream.specs.declared.end.End.{End}
-use Rattle.ipc_stream.specs.Reader.{Reader, in_force_of}
-use Rattle.ipc_stream.specs.Stream.{done}
+use Rattle.ipc_decode.specs.declared.end.End.{End}
+use Rattle.ipc_decode.specs.Reader.{Reader, in_force_of}
+use Rattle.ipc_decode.specs.Stream.{done}
 use Rattle.ipc_print.specs.declared.rows.PrintFault.{PrintFault}
 use Rattle.ipc_print.specs.declared.rows.PrintFault.TheVariants.{Write, OutOfMemory}
 use Rattle.ipc_print.specs.declared.form.Form.{Form}
@@ -21,7 +21,7 @@ use Rattle.ipc_print.proofs.Puts.{puts_then, puts_not_then, puts_not_more, puts_
 use Rattle.ipc_print.proofs.Lines.{put_at, not_at}
 use Rattle.ipc_print.proofs.Texts.{batch_lines_more, head_rest}
 use Rattle.std.proofs.Common.{length, inl, inr}
-use Rattle.ipc_stream.specs.Counts.{count_up}
+use Rattle.ipc_decode.specs.Counts.{count_up}
 use Rattle.ipc_print.specs.declared.stop.Tally.{Tally}
 use Rattle.ipc_print.specs.Forms.{tail_of, tail_text}
 use Rattle.ipc_print.specs.Streams.{IsTally, IsWhole, PrintsAll, outcome_tail}

@@ -7,11 +7,11 @@ use Rattle.std.specs.Io.KnownBytes.{Appends, Consumes, IsAtEnd, Keeps}
 use Rattle.std.proofs.KnownBytes.{Consumes-trans, Keeps-refl}
 use Rattle.ipc_model.specs.declared.fault.Fault.{Fault}
 use Rattle.ipc_model.specs.declared.table.Table.{Table}
-use Rattle.ipc_stream.specs.declared.end.End.{End}
-use Rattle.ipc_stream.specs.declared.end.End.TheVariants.{Mark, Closed}
-use Rattle.ipc_stream.specs.Reader.{Reader, in_force_of, Opens, OpenFails}
-use Rattle.ipc_stream.specs.Reasons.{Reads, Ends}
-use Rattle.ipc_stream.specs.Stream.{State, Event, schema, batch, Run, Denotes, events_of}
+use Rattle.ipc_decode.specs.declared.end.End.{End}
+use Rattle.ipc_decode.specs.declared.end.End.TheVariants.{Mark, Closed}
+use Rattle.ipc_decode.specs.Reader.{Reader, in_force_of, Opens, OpenFails}
+use Rattle.ipc_decode.specs.Reasons.{Reads, Ends}
+use Rattle.ipc_decode.specs.Stream.{State, Event, schema, batch, Run, Denotes, events_of}
 use Rattle.ipc_model.specs.declared.fault.WriteFault.{WriteFault}
 use Rattle.ipc_model.specs.Numbering.{write_fault_status}
 use Rattle.ipc_moments.specs.declared.fault.TextFault.{TextFault}
@@ -21,7 +21,7 @@ use Rattle.ipc_print.specs.declared.rows.PrintFault.TheVariants as p
 use Rattle.ipc_print.specs.declared.stop.Stop.{Stop}
 use Rattle.ipc_print.specs.declared.stop.Stop.TheVariants as stop
 use Rattle.ipc_print.specs.Forms.{front_text, head_of, line_of, tail_text}
-use Rattle.ipc_stream.specs.Counts.{count_up}
+use Rattle.ipc_decode.specs.Counts.{count_up}
 use Rattle.std.specs.Prelude.{length}
 use Rattle.ipc_print.specs.Output.{Output, output, Grows}
 use Rattle.ipc_print.specs.Rows.{lines, batch_lines}
@@ -31,7 +31,7 @@ use Rattle.ipc_print.specs.Streams.{printed}
 use Rattle.ipc_print.proofs.Puts.{grows_more, grows_then}
 use Rattle.ipc_print.proofs.Texts.{batch_lines_more, head_rest}
 use Rattle.std.proofs.lemmas.List.{map-append, length-append}
-use Rattle.ipc_stream.proofs.Runs.{run_then, reads_after}
+use Rattle.ipc_decode.proofs.Runs.{run_then, reads_after}
 use Rattle.ipc_model.specs.declared.limits.Limits.{Limits}
 
 -- where nothing is kept, the sink holds all of the text

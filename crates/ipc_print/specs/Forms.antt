@@ -8,9 +8,9 @@ use Rattle.std.specs.List.{AllByRecursion}
 use Rattle.ipc_model.specs.declared.schema.Field.{Field}
 use Rattle.ipc_model.specs.declared.schema.Schema.{Schema}
 use Rattle.ipc_model.specs.declared.value.Value.{Value}
-use Rattle.ipc_stream.specs.declared.end.End.{End}
-use Rattle.ipc_stream.specs.declared.end.End.TheVariants.{Mark, Closed}
-use Rattle.ipc_stream.specs.Counts.{count_up}
+use Rattle.ipc_decode.specs.declared.end.End.{End}
+use Rattle.ipc_decode.specs.declared.end.End.TheVariants.{Mark, Closed}
+use Rattle.ipc_decode.specs.Counts.{count_up}
 use Rattle.ipc_json.specs.RowJson.{row_text}
 use Rattle.ipc_json.specs.SchemaJson.{pairs_text, schema_text}
 use Rattle.ipc_csv.specs.RowCsv.{flat_fault, header_text, row_csv}

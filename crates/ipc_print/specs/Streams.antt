@@ -13,13 +13,13 @@ use Rattle.ipc_model.specs.declared.schema.Field.{Field}
 use Rattle.ipc_model.specs.declared.schema.Schema.{Schema}
 use Rattle.ipc_model.specs.declared.table.Table.{Table}
 use Rattle.ipc_model.specs.declared.value.Value.{Value}
-use Rattle.ipc_stream.specs.declared.end.End.{End}
-use Rattle.ipc_stream.specs.declared.end.End.TheVariants.{Closed}
-use Rattle.ipc_stream.specs.Stream.{State, schema, batch, Run, events_of, Denotes}
-use Rattle.ipc_stream.specs.Failures.{Tells}
-use Rattle.ipc_stream.specs.Reasons.{Reads}
-use Rattle.ipc_stream.specs.Reader.{Reader, in_force_of}
-use Rattle.ipc_stream.specs.Counts.{count_up}
+use Rattle.ipc_decode.specs.declared.end.End.{End}
+use Rattle.ipc_decode.specs.declared.end.End.TheVariants.{Closed}
+use Rattle.ipc_decode.specs.Stream.{State, schema, batch, Run, events_of, Denotes}
+use Rattle.ipc_decode.specs.Failures.{Tells}
+use Rattle.ipc_decode.specs.Reasons.{Reads}
+use Rattle.ipc_decode.specs.Reader.{Reader, in_force_of}
+use Rattle.ipc_decode.specs.Counts.{count_up}
 use Rattle.ipc_moments.specs.declared.fault.TextFault.{TextFault}
 use Rattle.ipc_moments.specs.declared.fault.TextFault.TheVariants as x
 use Rattle.ipc_print.specs.declared.form.Form.{Form}

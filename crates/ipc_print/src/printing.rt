@@ -1,7 +1,7 @@
 //! A stream is read, and its rows are printed as they come.
 ghost use Rattle.std.specs.Prelude.{◌≡◌, ◌++◌, ◌∷◌, [], Some, IfErr, IfOk, OnOk};
 ghost use Rattle.std.specs.Prelude.{decimal, None, Ok};
-ghost use Rattle.ipc_stream.specs.declared.phase.Phase.TheVariants.{Reading};
+ghost use Rattle.ipc_decode.specs.declared.phase.Phase.TheVariants.{Reading};
 ghost use Rattle.ipc_csv.specs.RowCsv.{unless_fault};
 ghost use Rattle.ipc_json.specs.SchemaJson.{schema_text};
 ghost use Rattle.ipc_print.specs.Forms.{counts_text, form_fault, front_text};

@@ -1,7 +1,7 @@
 //! How printing ended.
 
 ghost use Rattle.std.specs.Prelude.{◌≡◌};
-ghost use Rattle.ipc_stream.specs.Counts.{count_up};
+ghost use Rattle.ipc_decode.specs.Counts.{count_up};
 
 use ipc_model::{Fault, WriteFault};
 use ipc_moments::TextFault;

@@ -10,17 +10,17 @@ use Rattle.ipc_model.specs.declared.fault.WriteFault.{WriteFault}
 use Rattle.ipc_model.specs.declared.limits.Limits.{Limits}
 use Rattle.ipc_model.specs.declared.schema.Schema.{Schema}
 use Rattle.ipc_model.specs.declared.table.BatchRows.{BatchRows}
-use Rattle.ipc_stream.specs.declared.end.End.{End}
-use Rattle.ipc_stream.specs.declared.phase.Phase.{Phase}
-use Rattle.ipc_stream.specs.declared.phase.Phase.TheVariants.{Reading, Ended, Refused}
-use Rattle.ipc_stream.specs.Found.{Found, rows_of}
-use Rattle.ipc_stream.specs.Reader.{Reader, in_force_of, NextAnswer, NextCall}
-use Rattle.ipc_stream.specs.Reasons.{Reads}
-use Rattle.ipc_stream.specs.Stream.{InForce, Event, batch, Run, done}
-use Rattle.ipc_stream.specs.Counts.{count_up}
+use Rattle.ipc_decode.specs.declared.end.End.{End}
+use Rattle.ipc_decode.specs.declared.phase.Phase.{Phase}
+use Rattle.ipc_decode.specs.declared.phase.Phase.TheVariants.{Reading, Ended, Refused}
+use Rattle.ipc_decode.specs.Found.{Found, rows_of}
+use Rattle.ipc_decode.specs.Reader.{Reader, in_force_of, NextAnswer, NextCall}
+use Rattle.ipc_decode.specs.Reasons.{Reads}
+use Rattle.ipc_decode.specs.Stream.{InForce, Event, batch, Run, done, AddsBatch}
+use Rattle.ipc_decode.specs.Counts.{count_up}
 use Rattle.ipc_stream.specs.Writer.{Writer}
-use Rattle.ipc_stream.specs.Writing.{AcceptsBatch, AddsBatch, RefusesBatch, Sent, NotSentWhole}
-use Rattle.ipc_stream.proofs.Runs.{run_then, reads_after}
+use Rattle.ipc_stream.specs.Writing.{AcceptsBatch, RefusesBatch, Sent, NotSentWhole}
+use Rattle.ipc_decode.proofs.Runs.{run_then, reads_after}
 use Rattle.ipc_rewrite.specs.Rewriting.{AddsBatches, CopiesRest, RefusesLast}
 
 -- these batches were read behind the schema, and sent

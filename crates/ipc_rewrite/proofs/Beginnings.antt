@@ -7,9 +7,9 @@ use Rattle.ipc_model.specs.declared.table.BatchRows.{BatchRows}
 use Rattle.ipc_model.specs.declared.table.Table.{Table}
 use Rattle.ipc_frame.specs.Frames.{eos}
 use Rattle.ipc_frame.proofs.OneFrame.{frame_one}
-use Rattle.ipc_stream.specs.declared.end.End.TheVariants.{Mark, Closed}
-use Rattle.ipc_stream.specs.Stream.{State, Event, schema, batch, Step, Run, done, more, events_of, Denotes}
-use Rattle.ipc_stream.proofs.OneReading.{IsStop, at_eos, frame_stop, step_one}
+use Rattle.ipc_decode.specs.declared.end.End.TheVariants.{Mark, Closed}
+use Rattle.ipc_decode.specs.Stream.{State, Event, schema, batch, Step, Run, done, more, events_of, Denotes}
+use Rattle.ipc_decode.proofs.OneReading.{IsStop, at_eos, frame_stop, step_one}
 
 -- of two runs of messages over the same bytes, one up to where a run may stop, the other tells the first events of it
 pub run_begins : {limits : Limits} → {σ τ υ : State} {x y : List ℕ} {es fs : List Event} (a b : List ℕ) → Run limits σ x es τ

@@ -16,17 +16,16 @@ use Rattle.ipc_model.specs.declared.table.BatchRows.{BatchRows}
 use Rattle.ipc_model.specs.declared.table.Table.{Table}
 use Rattle.ipc_meta.specs.Supported.{are_supported}
 use Rattle.ipc_frame.specs.Frames.{eos}
-use Rattle.ipc_stream.specs.declared.end.End.{End}
-use Rattle.ipc_stream.specs.declared.end.End.TheVariants.{Mark, Closed}
-use Rattle.ipc_stream.specs.Failures.{Tells}
-use Rattle.ipc_stream.specs.Reasons.{Reads}
-use Rattle.ipc_stream.specs.Stream.{schema, batch, Run, events_of, Denotes}
-use Rattle.ipc_stream.specs.Taken.{TakesTable}
-use Rattle.ipc_stream.specs.Writing.{AcceptsBatch, AcceptsTable, AddsBatch, BreaksOff, CutShort, EndsStream, IsTableOf, NotSentWhole}
-use Rattle.ipc_stream.specs.Writing.{OpensStream}
+use Rattle.ipc_decode.specs.declared.end.End.{End}
+use Rattle.ipc_decode.specs.declared.end.End.TheVariants.{Mark, Closed}
+use Rattle.ipc_decode.specs.Failures.{Tells}
+use Rattle.ipc_decode.specs.Reasons.{Reads}
+use Rattle.ipc_decode.specs.Stream.{schema, batch, Run, events_of, Denotes, AddsBatch, EndsStream, IsTableOf, OpensStream}
+use Rattle.ipc_decode.specs.Taken.{TakesTable}
+use Rattle.ipc_stream.specs.Writing.{AcceptsBatch, AcceptsTable, BreaksOff, CutShort, NotSentWhole}
 use Rattle.ipc_stream.specs.Writing.{RefusesBatch, RefusesSchema, Sent}
-use Rattle.ipc_stream.proofs.Answered.{answers_marked, answers_closed}
-use Rattle.ipc_stream.proofs.Reasons.{run_told}
+use Rattle.ipc_decode.proofs.Answered.{answers_marked, answers_closed}
+use Rattle.ipc_decode.proofs.Reasons.{run_told}
 use Rattle.ipc_stream.proofs.TablesWritten.{IsOut, batch_breaks, end_broken, start_breaks}
 use Rattle.ipc_rewrite.specs.declared.stop.Stop.{Stop}
 use Rattle.ipc_rewrite.specs.declared.stop.Stop.TheVariants as stop

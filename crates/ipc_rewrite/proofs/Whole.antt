@@ -12,16 +12,16 @@ use Rattle.ipc_model.specs.declared.fault.WriteFault.TheVariants as w
 use Rattle.ipc_model.specs.declared.limits.Limits.{Limits}
 use Rattle.ipc_model.specs.declared.table.BatchRows.{BatchRows}
 use Rattle.ipc_model.specs.declared.table.Table.{Table}
-use Rattle.ipc_stream.specs.declared.end.End.{End}
-use Rattle.ipc_stream.specs.Reader.{Reader, in_force_of, Opens, OpenFails}
-use Rattle.ipc_stream.specs.Reasons.{Reads}
-use Rattle.ipc_stream.specs.Stream.{schema, batch, Run, events_of}
-use Rattle.ipc_stream.specs.Counts.{count_up}
+use Rattle.ipc_decode.specs.declared.end.End.{End}
+use Rattle.ipc_decode.specs.Reader.{Reader, in_force_of, Opens, OpenFails}
+use Rattle.ipc_decode.specs.Reasons.{Reads}
+use Rattle.ipc_decode.specs.Stream.{schema, batch, Run, events_of, AddsBatch, EndsStream}
+use Rattle.ipc_decode.specs.Counts.{count_up}
 use Rattle.ipc_stream.specs.Writer.{Writer, Starts, StartFails}
-use Rattle.ipc_stream.specs.Writing.{AcceptsBatch, AcceptsSchema, AcceptsTable, AddsBatch, CutShort, EndsStream, NotSentWhole}
+use Rattle.ipc_stream.specs.Writing.{AcceptsBatch, AcceptsSchema, AcceptsTable, CutShort, NotSentWhole}
 use Rattle.ipc_stream.specs.Writing.{RefusesBatch, Sent}
-use Rattle.ipc_stream.proofs.Answered.{taken_denotes}
-use Rattle.ipc_stream.proofs.Runs.{run_then, reads_after}
+use Rattle.ipc_decode.proofs.Answered.{taken_denotes}
+use Rattle.ipc_decode.proofs.Runs.{run_then, reads_after}
 use Rattle.ipc_rewrite.specs.declared.stop.Stop.{Stop}
 use Rattle.ipc_rewrite.specs.declared.stop.Stop.TheVariants as stop
 use Rattle.ipc_rewrite.specs.Raised.{raised_of}

@@ -11,16 +11,17 @@ use Rattle.ipc_model.specs.declared.limits.Limits.{Limits}
 use Rattle.ipc_model.specs.declared.schema.Schema.{Schema}
 use Rattle.ipc_model.specs.declared.table.BatchRows.{BatchRows}
 use Rattle.ipc_model.specs.declared.table.Table.{Table}
-use Rattle.ipc_stream.specs.declared.end.End.{End}
-use Rattle.ipc_stream.specs.declared.end.End.TheVariants.{Closed}
-use Rattle.ipc_stream.specs.Failures.{Tells}
-use Rattle.ipc_stream.specs.Reader.{Reader, in_force_of}
-use Rattle.ipc_stream.specs.Reasons.{Reads}
-use Rattle.ipc_stream.specs.Stream.{batch, Run, events_of, Denotes}
-use Rattle.ipc_stream.specs.Counts.{count_up}
+use Rattle.ipc_decode.specs.declared.end.End.{End}
+use Rattle.ipc_decode.specs.declared.end.End.TheVariants.{Closed}
+use Rattle.ipc_decode.specs.Failures.{Tells}
+use Rattle.ipc_decode.specs.Reader.{Reader, in_force_of}
+use Rattle.ipc_decode.specs.Reasons.{Reads}
+use Rattle.ipc_decode.specs.Stream.{batch, Run, events_of, Denotes, AddsBatch}
+use Rattle.ipc_decode.specs.Counts.{count_up}
 use Rattle.ipc_stream.specs.Writer.{Writer}
-use Rattle.ipc_stream.specs.Writing.{AcceptsBatch, AcceptsTable, AddsBatch, BreaksOff, CutShort}
-use Rattle.ipc_stream.specs.Writing.{EndsStream, IsTableOf, NotSentWhole, OpensStream}
+use Rattle.ipc_stream.specs.Writing.{AcceptsBatch, AcceptsTable, BreaksOff, CutShort}
+use Rattle.ipc_decode.specs.Stream.{EndsStream, IsTableOf, OpensStream}
+use Rattle.ipc_stream.specs.Writing.{NotSentWhole}
 use Rattle.ipc_stream.specs.Writing.{RefusesBatch, RefusesSchema, Sent}
 use Rattle.ipc_rewrite.specs.declared.stop.Stop.{Stop}
 use Rattle.ipc_rewrite.specs.declared.stop.Stop.TheVariants as stop

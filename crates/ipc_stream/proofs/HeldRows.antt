@@ -19,7 +19,8 @@ use Rattle.ipc_encode.specs.Limits.{IsRefused, IsWithin}
 use Rattle.ipc_encode.specs.Built.{HasRows}
 use Rattle.ipc_stream.specs.declared.pushed.PushedRows.{PushedRows}
 use Rattle.ipc_stream.specs.Writing.{AcceptsBatch, RefusesBatch, Misfits, long_columns, long_metadata, other_pairs}
-use Rattle.ipc_stream.specs.Writing.{AddsBatch, NotSentWhole}
+use Rattle.ipc_decode.specs.Stream.{AddsBatch}
+use Rattle.ipc_stream.specs.Writing.{NotSentWhole}
 use Rattle.ipc_stream.specs.Parts.{AcceptsPairs, RefusesPairs}
 use Rattle.ipc_stream.specs.Writer.{Writer, Leaves}
 use Rattle.ipc_stream.specs.Pushed.{HoldsBatch, RefusesHeld, with_row}

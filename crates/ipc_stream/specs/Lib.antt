@@ -1,17 +1,4 @@
 pub mod Failures
-pub mod Stream
-pub mod Found
-pub mod Readable
-pub mod Counts
-pub mod Reasons
-pub mod Verdicts
-pub mod Decoding
-pub mod Fed
-pub mod Scopes
-pub mod Courses
-pub mod Taken
-pub mod Reader
-pub mod Laws
 pub mod Writing
 pub mod Texts
 pub mod Writer

@@ -3,7 +3,8 @@ ghost use Rattle.ipc_model.specs.declared.table.BatchRows.{BatchRows};
 ghost use Rattle.ipc_stream.specs.Pushed.{HoldsBatch, RefusesHeld, Stays, StaysAt};
 ghost use Rattle.ipc_stream.specs.Pushed.{no_rows, with_row};
 ghost use Rattle.ipc_stream.specs.Writer.{Leaves};
-ghost use Rattle.ipc_stream.specs.Writing.{AcceptsBatch, AddsBatch, RefusesBatch};
+ghost use Rattle.ipc_decode.specs.Stream.{AddsBatch};
+ghost use Rattle.ipc_stream.specs.Writing.{AcceptsBatch, RefusesBatch};
 
 use crate::pushed::PushedRows;
 use crate::sink::Sink;

@@ -4,7 +4,7 @@ use Rattle.ipc_column.proofs.Plain.{plain_from_supported}
 use Rattle.ipc_column.specs.Rows.{Rows}
 use Rattle.ipc_stream.specs.Parts.{AcceptsPairs, RefusesPairs, head_of}
 use Rattle.ipc_stream.specs.Messages.{bytes_of}
-use Rattle.ipc_stream.specs.Writing.{AddsBatch}
+use Rattle.ipc_decode.specs.Stream.{AddsBatch}
 use Rattle.ipc_stream.proofs.HeldRows.{accepted_pairs}
 use Rattle.ipc_stream.proofs.messages.held_message.Goals as goal
 

@@ -1,10 +1,9 @@
-use Rattle.std.proofs.Common.{◌≡◌, ◌∙◌, ◌++◌, sym, ap, subst, List, ℕ, length, ◌<◌, ◌≤◌, of_z, arith}
+use Rattle.std.proofs.Common.{◌≡◌, ◌∙◌, ◌++◌, sym, ap, subst, List, ℕ, length, ◌≤◌, of_z, arith}
 use Rattle.std.specs.Prelude.{pos, ℤ}
 use Rattle.std.specs.Int.{w64, cast_signed}
 use Rattle.ipc_meta.specs.declared.head.Head.TheVariants as h
 use Rattle.ipc_meta.specs.declared.head.BatchHead.{BatchHead}
 use Rattle.ipc_meta.specs.Heads.{HeadOf}
-use Rattle.ipc_column.specs.Rows.{Rows}
 use Rattle.ipc_frame.specs.Written.{padded_metadata}
 use Rattle.ipc_frame.proofs.Written.{length-padded_metadata}
 use Rattle.ipc_stream.proofs.MessagesWritten.{adds, few_slots, signed_count}

@@ -1,7 +1,8 @@
 use Rattle.std.proofs.Common.{◌∙◌, ap, subst, arith, get_or, length}
 use Rattle.std.proofs.lemmas.Result.{err_from_is_err_and}
 use Rattle.ipc_model.specs.declared.schema.Schema.{Schema}
-use Rattle.ipc_stream.specs.Writing.{Sent, NotSentWhole, AddsBatch, AcceptsBatch, RefusesBatch}
+use Rattle.ipc_decode.specs.Stream.{AddsBatch}
+use Rattle.ipc_stream.specs.Writing.{Sent, NotSentWhole, AcceptsBatch, RefusesBatch}
 use Rattle.ipc_stream.proofs.TablesWritten.{opened, batch_out, start_breaks, batch_breaks, end_denotes, all_accepted, end_broken}
 use Rattle.ipc_stream.proofs.table.write_messages.Goals as goal
 

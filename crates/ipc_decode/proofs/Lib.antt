@@ -1,0 +1,15 @@
+pub mod Runs
+pub mod Dictionaries
+pub mod OneReading
+pub mod PulledEvents
+pub mod Nexts
+pub mod Tables
+pub mod Reasons
+pub mod Verdicts
+pub mod Pieces
+pub mod Courses
+pub mod Decoders
+pub mod Answered
+pub mod Readers
+pub mod Calls
+pub mod Wider

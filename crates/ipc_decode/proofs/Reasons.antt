@@ -1,0 +1,207 @@
+-- Where a stream denotes a table, reading it breaks off only because memory ran out or for a failure of the source.
+use Rattle.std.proofs.Common.{◌≡◌, ◌≢◌, ◌∙◌, refl, sym, ap, subst, ℕ, ◌⊎◌, inl, inr, List, [], ◌++◌, length, append_assoc, arith, Some}
+use Rattle.std.proofs.Common.{None}
+use Rattle.std.specs.Io.KnownBytes.{IsAtEnd}
+use Rattle.std.specs.Prelude.{ℤ}
+use Rattle.std.specs.List.{AllByRecursion}
+use Rattle.std.proofs.lemmas.List.{append-nil}
+use Rattle.ipc_model.specs.declared.fault.Fault.{Fault}
+use Rattle.ipc_model.specs.declared.fault.Fault.TheVariants.{OutOfMemory}
+use Rattle.ipc_model.specs.declared.schema.Schema.{Schema}
+use Rattle.ipc_model.specs.declared.value.Value.{Value}
+use Rattle.ipc_meta.specs.declared.head.Head.{Head}
+use Rattle.ipc_meta.specs.declared.head.Head.TheVariants as h
+use Rattle.ipc_meta.specs.declared.head.BatchHead.{BatchHead}
+use Rattle.ipc_meta.specs.Supported.{IsSupported}
+use Rattle.ipc_frame.specs.Frames.{Frame, Pending}
+use Rattle.ipc_frame.specs.Sees.{IsFrame, RefusesStart, StatesNoHead}
+use Rattle.ipc_frame.specs.Decisions.{RefusesNow}
+use Rattle.ipc_frame.specs.Laws.{SameFrame}
+use Rattle.ipc_frame.specs.declared.frame.Frame.{Frame as Framed}
+use Rattle.ipc_frame.specs.declared.frame.Frame.TheVariants as f
+use Rattle.ipc_frame.proofs.OneFrame.{frame_one, no_frame_at_end}
+use Rattle.ipc_frame.proofs.Decided.{start_not_end, start_not_frame, no_head_not_end, no_head_not_frame, pending_not_end, pending_not_frame}
+use Rattle.ipc_frame.proofs.Decided.{start_not_empty}
+use Rattle.ipc_frame.proofs.Exact.{start_longer, no_head_longer}
+use Rattle.ipc_column.specs.Rows.{Rows, RefusesParts}
+use Rattle.ipc_column.proofs.Laws.{no_rows as none_refused}
+use Rattle.ipc_decode.specs.Stream.{InForce, State, Event, Step, first, came, Run, done, more}
+use Rattle.ipc_decode.specs.Reasons.{Breaks, refused, truncated, aside, Refuses, early, no_schema, second_schema, dictionary, no_rows}
+use Rattle.ipc_decode.specs.Reasons.{IsOutside, IsNoSchema}
+use Rattle.ipc_decode.specs.Readable.{IsSupportedEvent}
+use Rattle.ipc_decode.proofs.OneReading.{IsStop, frame_stop, step_one}
+use Rattle.ipc_model.specs.declared.limits.Limits.{Limits}
+
+-- ---- a state after a step has a schema
+
+step_open : {limits : Limits} → {σ τ : State} {g : Head} {body : List ℕ} {es : List Event} → Step limits σ g body es τ → τ ≢ None
+step_open first e = absurd (cc)
+step_open (came r) e = absurd (cc)
+
+-- behind a schema in force messages leave one in force
+pub run_open : {limits : Limits} → {σ τ : State} {x : List ℕ} {es : List Event} → Run limits σ x es τ → σ ≢ None → τ ≢ None
+run_open done o = o
+run_open (more frame step rest) o = run_open rest (step_open step)
+
+-- messages that tell anything leave a schema in force
+pub run_told : {limits : Limits} → {σ τ : State} {x : List ℕ} {es : List Event} → Run limits σ x es τ → es ≢ [] → τ ≢ None
+run_told done o = absurd (o refl)
+run_told (more frame step rest) o = run_open rest (step_open step)
+
+-- ---- where a run may stop, no message is refused; z is what was taken there and b what is left
+
+module _ (limits : Limits) (z b : List ℕ) (stop : IsStop (z ++ b)) where
+  stop_start : (e : Fault) → RefusesStart limits z e → ⊥
+  stop_start e r = go stop
+    where
+      go : IsStop (z ++ b) → ⊥
+      go (inl none) = start_not_empty limits e (subst (λ x. RefusesStart limits x e) none (start_longer limits z b e r))
+      go (inr (c, is)) = start_not_end limits c e (subst (λ x. RefusesStart limits x e) is (start_longer limits z b e r))
+
+  stop_head : (e : Fault) → StatesNoHead limits z e → ⊥
+  stop_head e r = go stop
+    where
+      go : IsStop (z ++ b) → ⊥
+      go (inl none) = omega (arith, (no_head_longer z b e r).begins.begun, ap length none)
+      go (inr (c, is)) = no_head_not_end c e (subst (λ x. StatesNoHead limits x e) is (no_head_longer z b e r))
+
+  stop_early : (e : Fault) → RefusesNow limits z e → ⊥
+  stop_early e (inl r) = stop_start e r.0
+  stop_early e (inr r) = stop_head e r.0
+
+  stop_frame : (m body : List ℕ) (g : Head) → Frame limits z m g body → ⊥
+  stop_frame m body g frame = frame_stop z m body b (z ++ b) g frame refl stop
+
+stop_pending : {limits : Limits} → (σ : State) (z : List ℕ) (k : ℕ) → σ ≢ None → IsStop z → Pending limits z k → (σ ≡ None) ⊎ (z ≢ []) → ⊥
+stop_pending {limits} σ z k o s p (inl none) = o none
+stop_pending {limits} σ z k o (inl none) p (inr some) = some none
+stop_pending {limits} σ z k o (inr (c, is)) p (inr some) = pending_not_end c k (subst (λ x. Pending limits x k) is p)
+
+stop_refused : {limits : Limits} → (σ : State) (z b : List ℕ) (e : Fault) → σ ≢ None → IsStop (z ++ b) → Refuses limits σ z e → ⊥
+stop_refused {limits} σ z b e o s (early r) = stop_early limits z b s e r
+stop_refused {limits} σ z b e o s (no_schema fr q none is other) = o none
+stop_refused {limits} σ z b e o s (second_schema p t m body q is frame read) = stop_frame limits z b s m body (h.Schema t) frame
+stop_refused {limits} σ z b e o s (dictionary p id d m body q is none frame) = stop_frame limits z b s m body (h.Dictionary id d) frame
+stop_refused {limits} σ z b e o s (no_rows p d ps m body is frame refuses) = stop_frame limits z b s m body (h.Batch d ps) frame
+
+-- where a stream may stop, reading breaks off only because memory ran out or the source failed
+pub stop_breaks : {limits : Limits} → (σ : State) (z b : List ℕ) (e : Fault) → σ ≢ None → IsStop (z ++ b) → Breaks limits σ z (Some b) e
+    → IsOutside e
+stop_breaks σ z b e o s (refused r) = absurd (stop_refused σ z b e o s r)
+stop_breaks σ z b e o s (truncated k is p short none) =
+    absurd (stop_pending σ z k o (subst IsStop (ap (λ x. z ++ x) none ∙ append-nil z) s) p short)
+stop_breaks σ z b e o s (aside why wanted) = why
+
+-- ---- where a message takes a step, nothing is refused
+
+schema_step : {limits : Limits} → {σ τ : State} {g : Head} {body : List ℕ} {es : List Event} → Step limits σ g body es τ → σ ≡ None
+    → (s : Schema) × (g ≡ h.Schema s)
+schema_step (first {s = s}) e = (s, refl)
+schema_step (came r) e = absurd (cc)
+
+-- a batch that takes a step gives rows
+pub record StepsByRows (limits : Limits) (o : InForce) (g : Head) (body : List ℕ) : Type 0 where
+  pub batch_head : BatchHead
+  pub its_pairs : List (List ℕ × List ℕ)
+  pub is_batch : g ≡ h.Batch batch_head its_pairs
+  pub its_rows : List (List Value)
+  pub gives : Rows limits o.schema.fields batch_head body its_rows
+
+batch_step : {limits : Limits} → {σ τ : State} {g : Head} {body : List ℕ} {es : List Event} (o : InForce) → Step limits σ g body es τ
+    → σ ≡ Some o
+    → StepsByRows limits o g body
+batch_step {limits} o first e = absurd (cc)
+batch_step {limits} o (came {o = p} {b = b} {pairs = pairs} {body = body} {rows = rows} r) e =
+    let same : p ≡ o = cc in
+    record {
+      batch_head = b;
+      its_pairs = pairs;
+      is_batch = refl;
+      its_rows = rows;
+      gives =
+          subst (λ (q : InForce). Rows limits q.schema.fields b body rows) same r;
+    }
+
+no_schema_batch : {limits : Limits} → (o : InForce) (s : Schema) (body : List ℕ) → StepsByRows limits o (h.Schema s) body → ⊥
+no_schema_batch o s body b = let bad : h.Schema s ≡ h.Batch b.batch_head b.its_pairs = b.is_batch in cc
+
+no_dictionary_batch : {limits : Limits} → (o : InForce) (id : ℤ) (d : BatchHead) (body : List ℕ)
+    → StepsByRows limits o (h.Dictionary id d) body → ⊥
+no_dictionary_batch o id d body b = let bad : h.Dictionary id d ≡ h.Batch b.batch_head b.its_pairs = b.is_batch in cc
+
+batch_refused : {limits : Limits} → (o : InForce) (d : BatchHead) (ps : List (List ℕ × List ℕ)) (body : List ℕ) (e : Fault)
+    → StepsByRows limits o (h.Batch d ps) body → RefusesParts limits e o.schema.fields d body → e ≡ OutOfMemory
+batch_refused {limits} o d ps body e b r =
+    let same : d ≡ b.batch_head = (let eq : h.Batch d ps ≡ h.Batch b.batch_head b.its_pairs = b.is_batch in cc) in
+    none_refused e o.schema.fields d body b.its_rows r (subst (λ z. Rows limits o.schema.fields z body b.its_rows) (sym same) b.gives)
+
+-- where all schemas that a run tells are of types that are read, so is its first head
+pub step_read : {limits : Limits} → {σ τ : State} {g : Head} {body : List ℕ} {es : List Event} (fs : List Event) → Step limits σ g body es τ
+    → AllByRecursion IsSupportedEvent (es ++ fs) → IsSupported g × AllByRecursion IsSupportedEvent fs
+step_read fs first all = (all.0, all.1)
+step_read fs (came r) all = (tt, all.1)
+
+-- a message x and what follows are the bytes z that were taken and those that are left
+module _ {limits : Limits} (σ τ : State) (x m body u z b : List ℕ) (g : Head) (es : List Event) (frame : Frame limits x m g body) (step :
+    Step limits σ g body es τ)
+    (read : IsSupported g) (joined : x ++ u ≡ z ++ b) where
+  message_early : (e : Fault) → RefusesNow limits z e → ⊥
+  message_early e (inl r) = start_not_frame x m body u g e frame (subst (λ y. RefusesStart limits y e) (sym joined) (start_longer limits z
+      b e r.0))
+  message_early e (inr r) = no_head_not_frame x m body u g e frame read
+      (subst (λ y. StatesNoHead limits y e) (sym joined) (no_head_longer z b e r.0))
+
+  same_frame : (k : Head) (l other : List ℕ) → Frame limits z l k other → SameFrame x z body other u b g k
+  same_frame k l other q = frame_one x z m l body other u b g k frame q joined
+
+  message_schema : (fr : Framed) → σ ≡ None → IsFrame limits z fr → IsNoSchema fr → ⊥
+  message_schema f.End none is other = no_frame_at_end x m body u b g frame (joined ∙ ap (λ y. y ++ b) is)
+  message_schema (f.Message meta k body') none is other =
+      let s = schema_step step none in
+      subst (λ q. IsNoSchema (f.Message meta q body')) (sym (same_frame k meta.items body'.items is).same_head ∙ s.1) other
+
+  message_batch : (k : Head) (l other : List ℕ) (o : InForce) → σ ≡ Some o → Frame limits z l k other → StepsByRows limits o k other
+  message_batch k l other o some q =
+      let same = same_frame k l other q in
+      subst (λ y. StepsByRows limits o y other) same.same_head (subst (λ y. StepsByRows limits o g y) same.same_body (batch_step o step
+      some))
+
+  pub message_refused : (e : Fault) → Refuses limits σ z e → e ≡ OutOfMemory
+  message_refused e (early r) = absurd (message_early e r)
+  message_refused e (no_schema fr q none is other) = absurd (message_schema fr none is other)
+  message_refused e (second_schema o s l c q is k read) = absurd (no_schema_batch o s c (message_batch (h.Schema s) l c o is k))
+  message_refused e (dictionary o id d l c q is none k) =
+      absurd (no_dictionary_batch o id d c (message_batch (h.Dictionary id d) l c o is k))
+  message_refused e (no_rows o d ps l c is k r) = batch_refused o d ps c e (message_batch (h.Batch d ps) l c o is k) r
+
+  message_pending : (k : ℕ) → IsAtEnd (Some b) → Pending limits z k → ⊥
+  message_pending k none p =
+      let all : x ++ u ≡ z = joined ∙ (ap (λ y. z ++ y) none ∙ append-nil z) in
+      pending_not_frame x m body u g k frame (subst (λ y. Pending limits y k) (sym all) p)
+
+  -- where a whole message of the stream is next, reading breaks off only because memory ran out or the source failed
+  pub message_breaks : (e : Fault) → Breaks limits σ z (Some b) e → IsOutside e
+  message_breaks e (refused r) = inr (message_refused e r)
+  message_breaks e (truncated k is p short none) = absurd (message_pending k none p)
+  message_breaks e (aside why wanted) = why
+
+-- two readings of the same bytes: one to where a run may stop, the other to where it breaks off
+pub run_breaks : {limits : Limits} → {σ τ υ : State} {x y : List ℕ} {es fs : List Event} (a z b : List ℕ) (e : Fault)
+    → AllByRecursion IsSupportedEvent es
+    → Run limits σ x es τ → Run limits σ y fs υ → τ ≢ None → IsStop a → Breaks limits υ z (Some b) e → x ++ a ≡ y ++ (z ++ b) → IsOutside e
+run_breaks {limits} {σ = σ} a z b e all done done o s r eq = stop_breaks σ z b e o (subst IsStop eq s) r
+run_breaks {limits} a z b e all done (more {x = x} {metadata = m} {body = body} {y = y} {h = g} frame step rest) o s r eq =
+    absurd (frame_stop x m body (y ++ (z ++ b)) a g frame (sym (append_assoc x y (z ++ b)) ∙ sym eq) s)
+run_breaks {limits} {σ = σ} a z b e all (more {τ = τ} {x = x} {metadata = m} {body = body} {y = y} {h = g} {es = es} {fs =
+    gs} frame step rest) done
+    o s r eq =
+    message_breaks σ τ x m body (y ++ a) z b g es frame step (step_read gs step all).0 (sym (append_assoc x y a) ∙ eq) e r
+run_breaks {limits} a z b e all (more {σ = σ} {τ = τ} {υ = υ} {x = x} {metadata = m} {body = body} {y = y} {h = g} {es = es}
+    {fs = fs} frame step rest) (more {τ = τ'} {υ = υ'} {x = x'} {metadata = m'} {body = body'} {y = y'} {h = g'} {es = es'}
+    {fs = fs'} frame' step' rest') o s r eq =
+    let same = frame_one x x' m m' body body' (y ++ a) (y' ++ (z ++ b)) g g' frame frame'
+    (sym (append_assoc x y a) ∙ (eq ∙ append_assoc x' y' (z ++ b))) in
+    let other : Step limits σ g body es' τ' = subst (λ q. Step limits σ q body es' τ') (sym same.same_head)
+    (subst (λ q. Step limits σ g' q es' τ') (sym same.same_body) step') in
+    let one = step_one step other in
+    run_breaks a z b e (step_read fs step all).1 rest (subst (λ q. Run limits q y' fs' υ') (sym one.1) rest') o s r same.same_rest

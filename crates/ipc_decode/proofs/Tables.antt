@@ -1,0 +1,220 @@
+-- The batches of a table, one after another.
+use Rattle.std.proofs.Common.{◌≡◌, ◌≢◌, ◌∙◌, refl, sym, subst, ℕ, ◌≤◌, ◌-◌, ◌^◌, inr, arith, List, [], ◌∷◌, ◌++◌, map, Option, Some, None}
+use Rattle.std.proofs.Common.{Ok, Err, Result, ap}
+use Rattle.std.specs.Io.KnownBytes.{Consumes}
+use Rattle.std.proofs.KnownBytes.{Consumes-nil, Consumes-trans}
+use Rattle.std.proofs.lemmas.List.{append-nil, map-append}
+use Rattle.ipc_model.specs.declared.fault.Fault.{Fault}
+use Rattle.ipc_model.specs.declared.fault.Fault.TheVariants.{OutOfMemory}
+use Rattle.ipc_model.specs.declared.limits.Limits.{Limits}
+use Rattle.ipc_model.specs.declared.schema.Schema.{Schema}
+use Rattle.ipc_model.specs.declared.table.BatchRows.{BatchRows}
+use Rattle.ipc_column.specs.Contents.{Contents}
+use Rattle.ipc_frame.proofs.Exact.{pending_none}
+use Rattle.ipc_decode.specs.declared.end.End.{End}
+use Rattle.ipc_decode.specs.declared.pulling.Next.{Next}
+use Rattle.ipc_decode.specs.declared.pulling.Next.TheVariants as next
+use Rattle.ipc_decode.specs.Decoding.{Decoding, schema_of, taking}
+use Rattle.ipc_decode.specs.Found.{rows_of}
+use Rattle.ipc_decode.specs.Stream.{InForce, State, Event, schema, batch, Run, done}
+use Rattle.ipc_decode.specs.Reasons as reasons
+use Rattle.ipc_decode.specs.Reasons.{Reads, Wanted}
+use Rattle.ipc_decode.specs.Taken.{ReadsNext, TakesBatches, TakesSchema, TakesTable}
+use Rattle.ipc_decode.proofs.Runs.{run_then, reads_after}
+
+-- no bytes are no more than were wanted
+pub wanted_none : {limits : Limits} → Wanted limits []
+wanted_none = record { front = []; behind = []; wants = 4; joined = refl; undecided = pending_none; few = omega arith }
+
+-- memory ran out behind whole messages
+no_memory : {limits : Limits} → (σ τ : State) (x : List ℕ) (left : Option (List ℕ)) (es : List Event) → Run limits σ x es τ
+    → Reads limits σ x left es (Err OutOfMemory)
+no_memory σ τ x left es run = record {
+  state = τ;
+  whole = x;
+  rest = [];
+  joined = sym (append-nil x);
+  run = run;
+  ends = reasons.aside (inr refl) wanted_none;
+}
+
+-- what is in force where something is
+pub in_force_now : (σ : State) → σ ≢ None → (o : InForce) × (σ ≡ Some o)
+in_force_now None some = absurd (some refl)
+in_force_now (Some o) some = (o, refl)
+
+-- these batches were read
+pub record Batches (old now : Option (List ℕ)) (failed_old failed taken : ℕ) (before decoder : Decoding) (batches : List BatchRows)
+    : Type 0 where
+  pub o : InForce
+  pub in_force : before.state ≡ Some o
+  pub same_limits : decoder.limits ≡ before.limits
+  pub same_state : decoder.state ≡ before.state
+  pub between : decoder.stage ≡ taking []
+  pub counted : decoder.messages ≤ 2 ^ 64 - 1
+  pub within : taken ≤ 2 ^ 64 - 1
+  pub x : List ℕ
+  pub bytes : Consumes old now x
+  pub run : Run before.limits (Some o) x (map batch batches) (Some o)
+  pub same : failed ≡ failed_old
+
+-- behind the schema no batch was read yet
+pub batches_none : (source : Option (List ℕ)) (failed taken : ℕ) (decoder : Decoding) (batches : List BatchRows) → decoder.state ≢ None
+    → decoder.stage ≡ taking [] → decoder.messages ≤ 2 ^ 64 - 1
+    → taken ≤ 2 ^ 64 - 1 → batches ≡ [] → Batches source source failed failed taken decoder decoder batches
+batches_none source failed taken decoder batches some between counted within none =
+    let now = in_force_now decoder.state some in
+    subst (Batches source source failed failed taken decoder decoder) (sym none) (record {
+      o = now.0;
+      in_force = now.1;
+      same_limits = refl;
+      same_state = refl;
+      between = between;
+      counted = counted;
+      within = within;
+      x = [];
+      bytes = Consumes-nil source;
+      run = done;
+      same = refl;
+    })
+
+-- what was read next is what an equal answer says
+pub next_at : (old new : Option (List ℕ)) (n0 n1 : ℕ) (before after : Decoding) (a b : Result Next Fault) → a ≡ b
+    → ReadsNext old new n0 n1 before after a → ReadsNext old new n0 n1 before after b
+next_at old new n0 n1 before after a b is t = subst (ReadsNext old new n0 n1 before after) is t
+
+module _ (old now new : Option (List ℕ)) (f0 f1 n1 n2 : ℕ) (before decoder after : Decoding) (batches : List BatchRows)
+    (b : Batches old now f0 f1 n1 before decoder batches) where
+  module _ (r : Result Next Fault) (t : ReadsNext now new n1 n2 decoder after r) where
+    -- what is in force there is what was in force
+    here : t.o ≡ b.o
+    here = let same : Some t.o ≡ Some b.o = sym t.in_force ∙ (b.same_state ∙ b.in_force) in cc
+
+  reads_here : (end : Result End Fault) (o : InForce) (x : List ℕ) → o ≡ b.o → Reads decoder.limits (Some o) x new [] end
+      → Reads before.limits (Some b.o) (b.x ++ x) new (map batch batches ++ []) end
+  reads_here end o x same reads =
+      reads_after (Some b.o) (Some b.o) b.x x new (map batch batches) [] end b.run
+      (subst (λ l. Reads l (Some b.o) x new [] end) b.same_limits (subst (λ p. Reads decoder.limits (Some p) x new [] end) same reads))
+
+  -- where a fault is read behind some batches, it is answered
+  pub batches_broken : (e : Fault) → ReadsNext now new n1 n2 decoder after (Err e) → TakesBatches old new before (Err e)
+  batches_broken e t = record {
+    o = b.o;
+    in_force = b.in_force;
+    x = b.x ++ t.x;
+    bytes = Consumes-trans old now new b.x t.x b.bytes t.takes.bytes;
+    gives = (map batch batches ++ [], reads_here (Err e) t.o t.x (here (Err e) t) t.gives.0);
+  }
+
+  -- where the end is read behind some batches, they are all
+  pub batches_ended : (end : End) → ReadsNext now new n1 n2 decoder after (Ok (next.Ended end))
+      → TakesBatches old new before (Ok (batches, end))
+  batches_ended end t = record {
+    o = b.o;
+    in_force = b.in_force;
+    x = b.x ++ t.x;
+    bytes = Consumes-trans old now new b.x t.x b.bytes t.takes.bytes;
+    gives = subst (λ es. Reads before.limits (Some b.o) (b.x ++ t.x) new es (Ok end)) (append-nil (map batch batches))
+        (reads_here (Ok end) t.o t.x (here (Ok (next.Ended end)) t) t.gives.0);
+  }
+
+  -- the end leaves what is in force
+  pub ended_stays : (end : End) → ReadsNext now new n1 n2 decoder after (Ok (next.Ended end)) → after.state ≡ before.state
+  ended_stays end t = ap (λ d. d.state) t.gives.1 ∙ b.same_state
+
+  module _ (found : Contents) (pairs : List (List ℕ × List ℕ)) (t : ReadsNext now new n1 n2 decoder after (Ok (next.Batch found pairs)))
+    where
+      -- the batches so far, and one more
+      abbrev all : List BatchRows
+      all = batches ++ (rows_of (found, pairs) ∷ [])
+
+      run_here : Run before.limits (Some b.o) t.x (batch (rows_of (found, pairs)) ∷ []) (Some b.o)
+      run_here =
+          subst (λ l. Run l (Some b.o) t.x (batch (rows_of (found, pairs)) ∷ []) (Some b.o)) b.same_limits
+          (subst (λ p. Run decoder.limits (Some p) t.x (batch (rows_of (found, pairs)) ∷ []) (Some p)) (here _ t)
+          t.gives.0)
+
+      run_all : Run before.limits (Some b.o) (b.x ++ t.x) (map batch all) (Some b.o)
+      run_all =
+          subst (λ es. Run before.limits (Some b.o) (b.x ++ t.x) es (Some b.o))
+          (sym (map-append batch batches (rows_of (found, pairs) ∷ [])))
+          (run_then (Some b.o) (Some b.o) (Some b.o) b.x t.x (map batch batches) (batch (rows_of (found, pairs)) ∷ []) b.run run_here)
+
+      -- memory ran out for the rows of a batch that was read
+      pub batches_full : TakesBatches old new before (Err OutOfMemory)
+      batches_full = record {
+        o = b.o;
+        in_force = b.in_force;
+        x = b.x ++ t.x;
+        bytes = Consumes-trans old now new b.x t.x b.bytes t.takes.bytes;
+        gives = (map batch all, no_memory (Some b.o) (Some b.o) (b.x ++ t.x) new (map batch all) run_all);
+      }
+
+      -- where one batch more is read, the batches that were read are those from before and it
+      pub batches_more : (f2 : ℕ) (kept : List BatchRows) → (f1 ≡ 0) × (f2 ≡ 0) → kept ≡ all → Batches old new f0 f2 n2 before after kept
+      batches_more f2 kept works is = subst (Batches old new f0 f2 n2 before after) (sym is) (record {
+        o = b.o;
+        in_force = b.in_force;
+        same_limits = ap (λ d. d.limits) t.gives.1 ∙ b.same_limits;
+        same_state = ap (λ d. d.state) t.gives.1 ∙ b.same_state;
+        between = ap (λ d. d.stage) t.gives.1;
+        counted = omega (arith, ap (λ d. d.messages) t.gives.1);
+        within = omega (arith, t.takes.counted);
+        x = b.x ++ t.x;
+        bytes = Consumes-trans old now new b.x t.x b.bytes t.takes.bytes;
+        run = run_all;
+        same = works.1 ∙ (sym works.0 ∙ b.same);
+      })
+
+-- ---- the whole table
+
+-- where no schema is read, no table is, for the same fault
+pub table_unopened : (old new : Option (List ℕ)) (n0 n1 : ℕ) (before after : Decoding) (limits : Limits) (e : Fault)
+    → before.limits ≡ limits → TakesSchema old new n0 n1 before after (Err e) → TakesTable limits old new (Err e)
+table_unopened old new n0 n1 before after limits e same t = record {
+  x = t.x;
+  bytes = t.takes.bytes;
+  gives = ([], subst (λ l. Reads l None t.x new [] (Err e)) same t.gives);
+}
+
+module _ (old now new : Option (List ℕ)) (n0 n1 : ℕ) (before opened : Decoding) (limits : Limits) (same : before.limits ≡ limits)
+    (t : TakesSchema old now n0 n1 before opened (Ok tt)) where
+  abbrev s : Schema
+  s = t.gives.0
+
+  abbrev in_force : InForce
+  in_force = record { schema = s }
+
+  at_schema : (o : InForce) → opened.state ≡ Some o → o ≡ in_force
+  at_schema o is = let both : Some o ≡ Some in_force = sym is ∙ ap (λ d. d.state) t.gives.2 in cc
+
+  -- what is in force is the schema
+  pub schema_is : (σ : State) (u : Schema) → schema_of σ ≡ Some u → σ ≡ opened.state → u ≡ t.gives.0
+  schema_is σ u found stays =
+      let both : Some u ≡ Some t.gives.0 = sym found ∙ ap schema_of (stays ∙ ap (λ d. d.state) t.gives.2) in cc
+
+  reads_all : (o : InForce) (x : List ℕ) (es : List Event) (end : Result End Fault) → opened.state ≡ Some o
+      → Reads opened.limits (Some o) x new es end → Reads limits None (t.x ++ x) new (schema s ∷ es) end
+  reads_all o x es end is reads =
+      subst (λ l. Reads l None (t.x ++ x) new (schema s ∷ es) end) same
+      (reads_after None (Some in_force) t.x x new (schema s ∷ []) es end t.gives.1
+      (subst (λ l. Reads l (Some in_force) x new es end) (ap (λ d. d.limits) t.gives.2)
+      (subst (λ p. Reads opened.limits (Some p) x new es end) (at_schema o is) reads)))
+
+  -- behind the schema reading broke off
+  pub table_broken : (e : Fault) → TakesBatches now new opened (Err e) → TakesTable limits old new (Err e)
+  table_broken e b = record {
+    x = t.x ++ b.x;
+    bytes = Consumes-trans old now new t.x b.x t.takes.bytes b.bytes;
+    gives = (schema s ∷ b.gives.0, reads_all b.o b.x b.gives.0 (Err e) b.in_force b.gives.1);
+  }
+
+  -- the schema and its batches are the table
+  pub table_read : (batches : List BatchRows) (end : End) (u : Schema) → u ≡ s → TakesBatches now new opened (Ok (batches, end))
+      → TakesTable limits old new (Ok (record { schema = u; batches = batches }, end))
+  table_read batches end u is b = record {
+    x = t.x ++ b.x;
+    bytes = Consumes-trans old now new t.x b.x t.takes.bytes b.bytes;
+    gives = subst (λ v. Reads limits None (t.x ++ b.x) new (schema v ∷ map batch batches) (Ok end)) (sym is)
+        (reads_all b.o b.x (map batch batches) (Ok end) b.in_force b.gives);
+  }

@@ -1,0 +1,152 @@
+-- A stream whose bytes come in pieces, call by call (Arrow Columnar Format, "IPC Streaming
+-- Format").
+use Rattle.std.specs.Prelude.{◌≡◌, ◌≢◌, ◌⊎◌, ℕ, ◌≤◌, List, [], ◌∷◌, ◌++◌, length, take}
+use Rattle.std.specs.Prelude.{Option, Some, None, Result, Ok, Err, ⊤}
+use Rattle.std.specs.Io.KnownBytes.{Consumes, IsAtEnd}
+use Rattle.ipc_model.specs.Answers.{UnlessOutOfMemory}
+use Rattle.ipc_model.specs.declared.fault.Fault.{Fault}
+use Rattle.ipc_model.specs.declared.fault.Fault.TheVariants.{Failed, Truncated}
+use Rattle.ipc_model.specs.declared.limits.Limits.{Limits}
+use Rattle.ipc_model.specs.declared.schema.Schema.{Schema}
+use Rattle.ipc_frame.specs.Failures.{FailsAs, UnlessOutside}
+use Rattle.ipc_frame.specs.Frames.{eos, Pending}
+use Rattle.ipc_decode.specs.declared.end.End.{End}
+use Rattle.ipc_decode.specs.declared.end.End.TheVariants.{Mark, Closed}
+use Rattle.ipc_decode.specs.declared.event.Event.{Event as Told}
+use Rattle.ipc_decode.specs.declared.event.Event.TheVariants as told
+use Rattle.ipc_decode.specs.Counts.{count_up, messages_in}
+use Rattle.ipc_decode.specs.Found.{rows_of}
+use Rattle.ipc_decode.specs.Stream.{State, Event, schema, batch}
+use Rattle.ipc_decode.specs.Verdicts.{Decision, Reached, Reason}
+
+-- how far a stream is: these bytes of an unfinished message came, or it ended so, or what came was
+-- refused
+pub data Stage : Type 0 where
+  taking : List ℕ → Stage
+  over : End → Stage
+  refused : Stage
+
+-- what the callers of a decoder see of it: its limits, what is in force, how far the stream is, and
+-- how many messages came
+pub record Decoding : Type 0 where
+  pub limits : Limits
+  pub state : State
+  pub stage : Stage
+  pub messages : ℕ
+
+-- the bytes x are whole messages, which tell these events and lead a decoder from what it was to
+-- what it is, and then `rest`
+pub record Reaches (old new : Decoding) (x : List ℕ) (events : List Event)
+    (rest : List ℕ) : Type 0 where
+  pub reached : Reached old.limits old.state x events new.state rest
+  pub counted : new.messages ≡ count_up old.messages (messages_in reached.run)
+
+-- the bytes x tell nothing, and what follows their whole messages is kept, undecided
+abbrev pub Waits : Decoding → Decoding → List ℕ → Type 0
+Waits old new x = (rest : List ℕ) × Reaches old new x [] rest × (new.stage ≡ taking rest)
+    × ((k : ℕ) × Pending old.limits rest k)
+
+-- the last message of the bytes x, or the end mark, tells this
+abbrev pub Tells : Decoding → Decoding → List ℕ → Told → Type 0
+Tells old new x told.Schema =
+    ((s : Schema) × Reaches old new x (schema s ∷ []) []) × (new.stage ≡ taking [])
+Tells old new x (told.Batch found pairs) =
+    Reaches old new x (batch (rows_of (found, pairs)) ∷ []) [] × (new.stage ≡ taking [])
+Tells old new x told.End =
+    Reaches old new x [] eos × (new.state ≢ None) × (new.stage ≡ over Mark)
+
+-- what follows the whole messages of the bytes x, which tell nothing, is refused for this fault
+-- when its last byte comes
+abbrev pub RefusesAt : Decoding → Decoding → List ℕ → Fault → Type 0
+RefusesAt old new x fault = (rest : List ℕ) × Reaches old new x [] rest
+    × UnlessOutOfMemory fault ((d : Decision) × Reason old.limits fault d new.state rest)
+
+-- With the bytes z that were kept, a beginning of the piece ends with an event or is refused at its
+-- last byte; or all of the piece is taken
+abbrev pub FeedsOn : Decoding → List ℕ → List ℕ → Decoding → Result (ℕ × Option Told) Fault
+    → Type 0
+FeedsOn old z piece new (Ok (n, None)) = (n ≡ length piece) × Waits old new (z ++ piece)
+FeedsOn old z piece new (Ok (n, Some event)) =
+    (n ≤ length piece) × Tells old new (z ++ take n piece) event
+FeedsOn old z piece new (Err fault) = (new.stage ≡ refused)
+    × ((n : ℕ) × (n ≤ length piece) × RefusesAt old new (z ++ take n piece) fault)
+
+-- at this stage a piece is taken so: after the end none of it, and after a refusal nothing is
+-- answered but F35
+abbrev pub FeedsAt : Decoding → Stage → List ℕ → Decoding → Result (ℕ × Option Told) Fault
+    → Type 0
+FeedsAt old (taking z) piece new r = FeedsOn old z piece new r
+FeedsAt old (over end) piece new r = (new ≡ old) × (r ≡ Ok (0, None))
+FeedsAt old refused piece new r = (new ≡ old) × (r ≡ Err Failed)
+
+-- what a call does with a piece
+abbrev pub Feeds : Decoding → List ℕ → Decoding → Result (ℕ × Option Told) Fault → Type 0
+Feeds old piece new r = FeedsAt old old.stage piece new r
+
+-- of the bytes that came from a source `feed` would answer this; a refusal comes with the last one
+abbrev pub Gives : Decoding → Stage → List ℕ → Decoding → Result (Option Told) Fault → Type 0
+Gives old stage came new (Ok found) = FeedsAt old stage came new (Ok (length came, found))
+Gives old (taking z) came new (Err fault) = (new.stage ≡ refused)
+    × ((rest : List ℕ) × Reaches old new (z ++ came) [] rest
+    × UnlessOutside fault ((d : Decision) × Reason old.limits fault d new.state rest))
+Gives old stage came new (Err fault) = FeedsAt old stage came new (Err fault)
+
+-- no more bytes came than are wanted before the next decision
+abbrev pub IsFew : Limits → Stage → List ℕ → Type 0
+IsFew limits (taking z) came = (k : ℕ) × Pending limits z k × (length came ≤ k)
+IsFew limits stage came = came ≡ []
+
+-- while messages come, none comes only at the source's end
+abbrev pub EndsAt : Stage → List ℕ → Option (List ℕ) → Result (Option Told) Fault → Type 0
+EndsAt (taking z) came left (Ok None) = came ≡ [] → IsAtEnd left
+EndsAt stage came left r = ⊤
+
+-- so many bytes were taken of a source, none that was not wanted, and what they make
+pub record Draws (old new : Option (List ℕ)) (before after : Decoding) (count : ℕ)
+    (r : Result (Option Told) Fault) : Type 0 where
+  pub came : List ℕ
+  pub counted : length came ≡ count
+  pub bytes : Consumes old new came
+  pub few : IsFew before.limits before.stage came
+  pub at_end : EndsAt before.stage came new r
+  pub gives : Gives before before.stage came after r
+
+-- the source is asked while messages come, and not behind their end or a refusal
+abbrev pub FailsWhile : Stage → ℕ → ℕ → Result (Option Told) Fault → Type 0
+FailsWhile (taking z) old new r = FailsAs old new r
+FailsWhile stage old new r = new ≡ old
+
+-- k more bytes reach the next decision; none are wanted where no message comes
+abbrev pub Wants : Limits → Stage → ℕ → Type 0
+Wants limits (taking z) k = Pending limits z k
+Wants limits stage k = k ≡ 0
+
+-- how many bytes are kept: all that came of the message at hand
+abbrev pub held_of : Stage → ℕ
+held_of (taking z) = length z
+held_of stage = 0
+
+-- the same decoder, at this stage
+abbrev pub at_stage : Decoding → Stage → Decoding
+at_stage d stage =
+    record { limits = d.limits; state = d.state; stage = stage; messages = d.messages }
+
+-- no more bytes come: behind a schema, and where no byte of an unfinished message came, the stream
+-- ended, and else it is cut off, which is F4; an end or a refusal stays
+abbrev pub ClosesAt : Decoding → Stage → Decoding → Result End Fault → Type 0
+ClosesAt old (taking z) new (Ok end) = (z ≡ []) × (old.state ≢ None) × (end ≡ Closed)
+    × (new ≡ at_stage old (over Closed))
+ClosesAt old (taking z) new (Err fault) = ((z ≢ []) ⊎ (old.state ≡ None)) × (fault ≡ Truncated)
+    × (new ≡ at_stage old refused)
+ClosesAt old (over end) new r = (new ≡ old) × (r ≡ Ok end)
+ClosesAt old refused new r = (new ≡ old) × (r ≡ Err Failed)
+
+-- a batch has a column for each field of the schema in force
+abbrev pub HasColumns : State → Told → Type 0
+HasColumns (Some o) (told.Batch found pairs) = found.columns ≡ length o.schema.fields
+HasColumns state event = ⊤
+
+-- the schema in force, if one came
+abbrev pub schema_of : State → Option Schema
+schema_of None = None
+schema_of (Some o) = Some o.schema

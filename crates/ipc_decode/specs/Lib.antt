@@ -1,0 +1,14 @@
+pub mod Failures
+pub mod Stream
+pub mod Found
+pub mod Readable
+pub mod Counts
+pub mod Reasons
+pub mod Verdicts
+pub mod Decoding
+pub mod Fed
+pub mod Scopes
+pub mod Courses
+pub mod Taken
+pub mod Reader
+pub mod Laws

@@ -1,0 +1,92 @@
+-- How reading a stream ends, and why it breaks off (Arrow Columnar Format, "IPC Streaming Format").
+use Rattle.std.specs.Prelude.{◌≢◌, ◌⊎◌, [], ◌≡◌, ℤ, ℕ, ◌≤◌, List, ◌++◌, length, Option, Some, None}
+use Rattle.std.specs.Prelude.{Result, Ok, Err, ⊤}
+use Rattle.std.specs.Io.KnownBytes.{IsAtEnd}
+use Rattle.ipc_model.specs.declared.fault.Fault.{Fault}
+use Rattle.ipc_model.specs.declared.fault.Fault.TheVariants.{Truncated}
+use Rattle.ipc_model.specs.declared.fault.Fault.TheVariants.{MissingSchema, SecondSchema}
+use Rattle.ipc_model.specs.declared.fault.Fault.TheVariants.{UnknownDictionary}
+use Rattle.ipc_model.specs.WellFormed.{IsAmong}
+use Rattle.ipc_model.specs.Entries.{Entry, entries}
+use Rattle.ipc_model.specs.declared.schema.Dictionary.{Dictionary}
+use Rattle.ipc_model.specs.declared.schema.Schema.{Schema}
+use Rattle.ipc_meta.specs.declared.head.BatchHead.{BatchHead}
+use Rattle.ipc_meta.specs.declared.head.Head.TheVariants as h
+use Rattle.ipc_meta.specs.Supported.{IsSupported}
+use Rattle.ipc_frame.specs.declared.frame.Frame.{Frame as Framed}
+use Rattle.ipc_frame.specs.declared.frame.Frame.TheVariants as f
+use Rattle.ipc_frame.specs.Frames.{eos, Frame, Pending}
+use Rattle.ipc_frame.specs.Sees.{IsFrame}
+use Rattle.ipc_frame.specs.Decisions.{RefusesNow}
+use Rattle.ipc_column.specs.Rows.{RefusesParts}
+use Rattle.ipc_decode.specs.declared.end.End.{End}
+use Rattle.ipc_decode.specs.declared.end.End.TheVariants.{Mark, Closed}
+use Rattle.ipc_decode.specs.Stream.{InForce, State, Event, Run}
+use Rattle.ipc_model.specs.declared.limits.Limits.{Limits}
+pub use Rattle.ipc_frame.specs.Failures.{IsOutside}
+
+-- the end mark, or a message that isn't a schema's
+abbrev pub IsNoSchema : Framed → Type 0
+IsNoSchema f.End = ⊤
+IsNoSchema (f.Message meta (h.Schema s) body) = ⊥
+IsNoSchema (f.Message meta head body) = ⊤
+
+-- no field of the schema, and none below one, has this dictionary (Schema.fbs, table
+-- DictionaryEncoding, id)
+pub record NamesNone (id : ℤ) (s : Schema) : Type 0 where
+  pub none : (e : Entry) → IsAmong e (entries s.fields) → (d : Dictionary) → e.dictionary ≡ Some d
+      → d.id ≢ id
+
+-- in this state the message z is refused for this fault when its last byte comes: at its start or
+-- its metadata, or as a whole
+pub data Refuses (limits : Limits) (σ : State) (z : List ℕ) (fault : Fault) : Type 0 where
+  early : RefusesNow limits z fault → Refuses limits σ z fault
+  no_schema : (frame : Framed) → fault ≡ MissingSchema → σ ≡ None → IsFrame limits z frame
+      → IsNoSchema frame → Refuses limits σ z fault
+  second_schema : (o : InForce) (s : Schema) (metadata body : List ℕ) → fault ≡ SecondSchema
+      → σ ≡ Some o → Frame limits z metadata (h.Schema s) body → IsSupported (h.Schema s)
+      → Refuses limits σ z fault
+  dictionary : (o : InForce) (id : ℤ) (b : BatchHead) (metadata body : List ℕ)
+      → fault ≡ UnknownDictionary → σ ≡ Some o → NamesNone id o.schema
+      → Frame limits z metadata (h.Dictionary id b) body → Refuses limits σ z fault
+  no_rows : (o : InForce) (b : BatchHead) (pairs : List (List ℕ × List ℕ)) (metadata body : List ℕ)
+      → σ ≡ Some o → Frame limits z metadata (h.Batch b pairs) body
+      → RefusesParts limits fault o.schema.fields b body
+      → Refuses limits σ z fault
+
+-- z has no byte that wasn't wanted: an undecided beginning of a message, and no more behind it than
+-- it wanted
+pub record Wanted (limits : Limits) (z : List ℕ) : Type 0 where
+  pub front : List ℕ
+  pub behind : List ℕ
+  pub wants : ℕ
+  pub joined : z ≡ front ++ behind
+  pub undecided : Pending limits front wants
+  pub few : length behind ≤ wants
+
+-- why reading breaks off in this state: z was taken behind the last message that was read, and
+-- `left` is still to come
+pub data Breaks (limits : Limits) (σ : State) (z : List ℕ) (left : Option (List ℕ))
+    (fault : Fault) : Type 0 where
+  refused : Refuses limits σ z fault → Breaks limits σ z left fault
+  truncated : (k : ℕ) → fault ≡ Truncated → Pending limits z k → (σ ≡ None) ⊎ (z ≢ [])
+      → IsAtEnd left
+      → Breaks limits σ z left fault
+  aside : IsOutside fault → Wanted limits z → Breaks limits σ z left fault
+
+-- how reading ends in this state: by the mark, or where nothing more comes, or it breaks off
+abbrev pub Ends : Limits → State → List ℕ → Option (List ℕ) → Result End Fault → Type 0
+Ends limits σ z left (Ok Mark) = (z ≡ eos) × (σ ≢ None)
+Ends limits σ z left (Ok Closed) = (z ≡ []) × (σ ≢ None) × IsAtEnd left
+Ends limits σ z left (Err fault) = Breaks limits σ z left fault
+
+-- the bytes x are messages that tell these events, and then reading ends, with `left` still to come
+pub record Reads (limits : Limits) (σ : State) (x : List ℕ) (left : Option (List ℕ)) (events : List
+    Event)
+    (answer : Result End Fault) : Type 0 where
+  pub state : State
+  pub whole : List ℕ
+  pub rest : List ℕ
+  pub joined : x ≡ whole ++ rest
+  pub run : Run limits σ whole events state
+  pub ends : Ends limits state rest left answer

@@ -1,0 +1,21 @@
+//! Streams that are read, in pieces, batch by batch or as a whole table (Arrow Columnar Format,
+//! "IPC Streaming Format").
+#![tactic(auto)]
+
+mod course;
+mod decoder;
+mod end;
+mod event;
+mod events;
+pub mod laws;
+mod phase;
+mod pulling;
+mod reader;
+mod scope;
+mod table;
+
+pub use decoder::Decoder;
+pub use end::End;
+pub use event::Event;
+pub use reader::StreamReader;
+pub use table::read_table;

@@ -1,0 +1,219 @@
+ghost use Rattle.std.specs.Prelude.{◌≡◌, ◌≢◌, ◌≤◌, ◌-◌, ◌^◌, ◌<◌, ◌++◌, ℕ, List, None, Some};
+ghost use Rattle.std.specs.Prelude.{IfOk, IfErr, IfSome, IsSome, MatchResult, length, true};
+ghost use Rattle.ipc_model.specs.declared.schema.Schema.{Schema};
+ghost use Rattle.ipc_model.specs.declared.table.BatchRows.{BatchRows};
+ghost use Rattle.ipc_meta.specs.Supported.{are_supported};
+ghost use Rattle.ipc_decode.specs.declared.end.End.{End};
+ghost use Rattle.ipc_decode.specs.Failures.{StaysOrFails, Tells};
+ghost use Rattle.ipc_decode.specs.Reader.{BeginsEnd, GivesBatch, NextCall, Opens, OpenFails};
+ghost use Rattle.ipc_decode.specs.Reader.{KeepsNone, WorksWhile, end_of};
+ghost use Rattle.ipc_decode.specs.Reasons.{IsOutside};
+ghost use Rattle.ipc_decode.specs.Stream.{AddsBatch, OpensStream};
+
+use crate::decoder::Decoder;
+use crate::end::End;
+use crate::phase::Phase;
+use crate::pulling::{Next, read_next, read_schema};
+use ipc_column::Batch;
+use ipc_frame::Source;
+use ipc_model::{Fault, Field, Items, Limits, Schema, Text};
+use std::alloc::Global;
+use std::marker::Model;
+
+/// A stream that is read batch by batch.
+#[derive(Drop)]
+pub struct StreamReader<R: Source> {
+    source: R,
+    decoder: Decoder,
+    taken: u64,
+    ghost open: { decoder.state ≢ None },
+    ghost between: { KeepsNone decoder.stage },
+    ghost works: { WorksWhile decoder.stage (R.failures source) },
+    ghost counted: { decoder.messages ≤ 2 ^ 64 - 1 },
+    ghost taken_counted: { taken ≤ 2 ^ 64 - 1 },
+}
+
+impl<R: Source> Model for StreamReader<R> {
+    ghost use Rattle.std.specs.Coded.{codes};
+    ghost use Rattle.ipc_model.specs.contracts.schema.Field as field;
+    ghost use Rattle.ipc_decode.specs.Reader.{Reader, phase_of, schema_in};
+
+    ghost Value = { Reader };
+
+    ghost coded = { Prim.hlevel (codes, field.the_row.coded) };
+
+    ghost view = { λ s. record {
+      remaining = R.remaining s.source;
+      failures = R.failures s.source;
+      bound = R.bound s.source;
+      limits = s.decoder.limits;
+      schema = schema_in s.decoder.state;
+      phase = phase_of s.decoder.stage;
+      messages = s.decoder.messages;
+      taken = s.taken;
+    } };
+}
+
+// A reader that took a schema's message, or the source again with the fault.
+fn open_with<R: Source>(
+    alloc: Global,
+    limits: Limits,
+    source: R,
+) -> Result<StreamReader<R>, (Fault, R)>
+    ensures opened { IfOk result (λ s. Opens limits (R.remaining source) s) }
+    ensures refused { IfErr result (λ e. OpenFails limits (R.remaining source)
+        (R.remaining e.1) e.0) }
+    ensures failures { MatchResult result (λ s. (R.failures source ≡ 0) × (s.failures ≡ 0))
+        (λ e. Tells (R.failures source) (R.failures e.1) e.0) }
+    ensures fewer { IfOk result (λ s. s.bound < R.bound source) }
+{
+    let mut source = source;
+    let mut decoder = Decoder::new(alloc, limits);
+    let mut taken = 0;
+    match read_schema(&mut source, &mut decoder, &mut taken) {
+        Ok(()) => Ok(StreamReader {
+            source,
+            decoder,
+            taken,
+        }),
+        Err(fault) => Err((fault, source)),
+    }
+}
+
+impl<R: Source> StreamReader<R> {
+    /// Reads the first message, which is the schema's. What is read, from here on, is within the
+    /// limits. At a refusal the source comes back with the fault. A source that failed before is
+    /// returned as F36 at its first use.
+    pub fn open(alloc: Global, limits: Limits, source: R) -> Result<StreamReader<R>, (Fault, R)>
+        ensures opened { IfOk result (λ s. Opens limits (R.remaining source) s) }
+        ensures refused { IfErr result (λ e. OpenFails limits (R.remaining source)
+            (R.remaining e.1) e.0) }
+        ensures failures { MatchResult result (λ s. (R.failures source ≡ 0) × (s.failures ≡ 0))
+            (λ e. Tells (R.failures source) (R.failures e.1) e.0) }
+        ensures fewer { IfOk result (λ s. s.bound < R.bound source) }
+        // The message of a schema of types that are read, at the front of the source, is read,
+        // whatever follows it, unless memory runs out or the source fails.
+        ensures schema { (x rest : List ℕ) (s : Schema) → are_supported s.fields ≡ true
+            → R.remaining source ≡ Some (x ++ rest) → OpensStream limits s x
+            → MatchResult result (λ reader. reader.schema ≡ s) (λ e. IsOutside e.0) }
+    {
+        open_with(alloc, limits, source)
+    }
+
+    /// The limits that it was opened with.
+    pub fn limits(&self) -> Limits
+        ensures { result ≡ self.now.limits }
+    {
+        self.decoder.limits()
+    }
+
+    /// The schema of the stream.
+    pub fn schema(&self) -> &Schema
+        ensures { result.now ≡ self.now.schema }
+    {
+        self.decoder.schema().unwrap()
+    }
+
+    /// The columns of the stream: the field with a number says what the cells of a batch's column
+    /// with this number mean. Of an `Int` its type says whether it is a number, a date or a
+    /// timestamp, and in which unit.
+    pub fn fields(&self) -> &[Field]
+        ensures { result.now ≡ self.now.schema.fields }
+    {
+        self.schema().fields.as_slice()
+    }
+
+    // Reads on, which `next` says in more words.
+    fn advance(&mut self) -> Result<Option<(Batch, Items<(Text, Text)>)>, Fault>
+        ensures next { NextCall self.old self.new result }
+        ensures columns { IfOk result
+            (λ next. IfSome next (λ found. found.0.columns ≡ length self.old.schema.fields)) }
+        ensures fewer { IfOk result (λ next. IsSome next → self.new.bound < self.old.bound) }
+        ensures failures { StaysOrFails self.old.failures self.new.failures result }
+        ensures rose { IfErr result (λ fault. fault ≡ Fault.Read → self.old.failures ≡ 0) }
+    {
+        match self.decoder.phase() {
+            Phase::Refused => Err(Fault::Failed),
+            Phase::Ended(_) => Ok(None),
+            Phase::Reading => {
+                match read_next(&mut self.source, &mut self.decoder, &mut self.taken)? {
+                    Next::Batch(batch, pairs) => Ok(Some((batch, pairs))),
+                    Next::Ended(_) => Ok(None),
+                }
+            }
+        }
+    }
+
+    /// The next batch with the pairs of key and value of its message (Message.fbs, table Message,
+    /// `custom_metadata`; in their order, with keys that are repeated), or none at the end of the
+    /// stream and from then on. After a refusal every call answers F35 and takes nothing.
+    pub fn next(&mut self) -> Result<Option<(Batch, Items<(Text, Text)>)>, Fault>
+        ensures next { NextCall self.old self.new result }
+        // A batch has a column for each field of the schema.
+        ensures columns { IfOk result
+            (λ next. IfSome next (λ found. found.0.columns ≡ length self.old.schema.fields)) }
+        ensures fewer { IfOk result (λ next. IsSome next → self.new.bound < self.old.bound) }
+        ensures failures { StaysOrFails self.old.failures self.new.failures result }
+        // F36 is answered only where the source had not failed before.
+        ensures rose { IfErr result (λ fault. fault ≡ Fault.Read → self.old.failures ≡ 0) }
+        // A batch's message at the front of the source is read, whatever follows it, unless memory
+        // runs out or the source fails.
+        ensures batch { (x rest : List ℕ) (b : BatchRows)
+            → self.old.phase ≡ Phase.Reading → self.old.remaining ≡ Some (x ++ rest)
+            → AddsBatch self.old.limits self.old.schema b x
+            → MatchResult result (λ next. GivesBatch next b) IsOutside }
+        // So is an end, by the mark or where nothing is left.
+        ensures ended { (z : List ℕ) (end : End) → self.old.phase ≡ Phase.Reading
+            → self.old.remaining ≡ Some z → BeginsEnd end z
+            → MatchResult result (λ next. self.new.phase ≡ Phase.Ended end) IsOutside }
+    {
+        self.advance()
+    }
+
+    /// Takes a batch back that is needed no more, so that the next body is read over its bytes, as
+    /// `Decoder::reuse` does. Else nothing changes.
+    pub fn reuse(&mut self, batch: Batch)
+        ensures { self.new ≡ self.old }
+    {
+        self.decoder.reuse(batch)
+    }
+
+    /// How the stream ended: none until `next` has answered `Ok(None)`.
+    pub fn end(&self) -> Option<End>
+        ensures { result ≡ end_of self.now.phase }
+    {
+        match self.decoder.phase() {
+            Phase::Ended(end) => Some(end),
+            _ => None,
+        }
+    }
+
+    /// How many messages were read, the schema's included; a refused one isn't counted. The count
+    /// stops at 2^64 - 1.
+    pub fn messages(&self) -> u64
+        ensures { result ≡ self.now.messages }
+    {
+        self.decoder.messages()
+    }
+
+    /// How many bytes were taken of the source, an end mark included. The count stops at 2^64 - 1.
+    pub fn taken(&self) -> u64
+        ensures { result ≡ self.now.taken }
+    {
+        self.taken
+    }
+
+    /// The source, which has left what was not taken.
+    pub fn into_inner(self) -> R
+        ensures remaining { R.remaining result ≡ self.remaining }
+        ensures bound { R.bound result ≡ self.bound }
+        ensures failures { R.failures result ≡ self.failures }
+    {
+        let StreamReader {
+            source,
+            decoder: _,
+            taken: _,
+        } = self;
+        source
+    }
+}

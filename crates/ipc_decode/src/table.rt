@@ -1,0 +1,119 @@
+ghost use Rattle.std.specs.Prelude.{◌≡◌, ◌≢◌, ◌≤◌, ◌-◌, ◌^◌, ◌++◌, ℕ, List, [], ◌∷◌};
+ghost use Rattle.std.specs.Prelude.{IfErr, IfOk, MatchResult, None, OnOk, Some, true};
+ghost use Rattle.std.specs.Io.KnownBytes.{Consumes, IsAtEnd};
+ghost use Rattle.ipc_model.specs.declared.table.Table.{Table};
+ghost use Rattle.ipc_meta.specs.Supported.{are_supported};
+ghost use Rattle.ipc_decode.specs.declared.end.End.TheVariants.{Closed, Mark};
+ghost use Rattle.ipc_decode.specs.Failures.{FailsAs};
+ghost use Rattle.ipc_decode.specs.Found.{rows_of};
+ghost use Rattle.ipc_decode.specs.Stream.{Denotes};
+ghost use Rattle.ipc_decode.specs.Decoding.{taking};
+ghost use Rattle.ipc_decode.specs.Taken.{TakesBatches, TakesTable};
+
+use crate::decoder::Decoder;
+use crate::end::End;
+use crate::pulling::{Next, read_next, read_schema};
+use ipc_column::Batch;
+use ipc_frame::Source;
+use ipc_model::{BatchRows, Batches, Fault, Items, Limits, Table, Text};
+use std::alloc::Global;
+
+// Puts the pairs and rows of a batch behind those of the batches before.
+fn keep_batch(
+    alloc: Global,
+    batches: &mut Vec<BatchRows>,
+    batch: &Batch,
+    pairs: Items<(Text, Text)>,
+) -> Result<(), Fault>
+    ensures kept { OnOk result
+        (batches.new.items ≡ batches.old.items ++ (rows_of (batch.now, pairs) ∷ [])) }
+    ensures memory { IfErr result (λ fault. fault ≡ Fault.OutOfMemory) }
+{
+    let rows = batch.to_rows(alloc)?;
+    batches.push(BatchRows { pairs, rows })?;
+    Ok(())
+}
+
+// The batches behind the schema, and how the stream ends.
+fn read_batches<R: Source>(
+    alloc: Global,
+    source: &mut R,
+    decoder: &mut Decoder,
+    taken: &mut u64,
+) -> Result<(Batches, End), Fault>
+    requires between { decoder.old.stage ≡ taking [] }
+    requires open { decoder.old.state ≢ None }
+    requires counted { decoder.old.messages ≤ 2 ^ 64 - 1 }
+    requires within { taken.old ≤ 2 ^ 64 - 1 }
+    ensures batches { TakesBatches (R.remaining source.old) (R.remaining source.new) decoder.old
+        result }
+    ensures schema { IfOk result (λ all. decoder.new.state ≡ decoder.old.state) }
+    ensures failures { FailsAs (R.failures source.old) (R.failures source.new) result }
+{
+    let mut batches = Vec::new(alloc);
+    loop {
+        match read_next(source, decoder, taken)? {
+            Next::Batch(batch, pairs) => keep_batch(alloc, &mut batches, &batch, pairs)?,
+            Next::Ended(end) => return Ok((Items::from_vec(batches), end)),
+        }
+    }
+}
+
+// The table at the front of the source, and how the stream ends.
+fn read_messages<R: Source>(
+    alloc: Global,
+    limits: &Limits,
+    source: &mut R,
+) -> Result<(Table, End), Fault>
+    ensures table { TakesTable limits.now (R.remaining source.old) (R.remaining source.new) result }
+    ensures failures { FailsAs (R.failures source.old) (R.failures source.new) result }
+{
+    let mut decoder = Decoder::new(alloc, *limits);
+    let mut taken = 0;
+    read_schema(source, &mut decoder, &mut taken)?;
+    let (batches, end) = read_batches(alloc, source, &mut decoder, &mut taken)?;
+    match decoder.into_schema() {
+        Some(schema) => Ok((Table { schema, batches }, end)),
+        None => Err(Fault::MissingSchema),
+    }
+}
+
+/// The table that a source gives, and how the stream ends (Arrow Columnar Format, "IPC Streaming
+/// Format").
+///
+/// Exactly the bytes through the end-of-stream mark are taken, or all that the source has where the
+/// stream ends without a mark. After a refusal the bytes through the one that decides it were
+/// taken: the fourth of a message (F1), its eighth (F2, F3, and F10 for an end mark), the last of
+/// its metadata (F5 to F9, F12 to F24) or of its body (F10, F11, F25 to F34). F4 comes where the
+/// source ends elsewhere than after the schema and between two messages, F36 exactly where the
+/// source failed in this call, and F37 where a growth was refused.
+pub fn read_table<R: Source>(
+    alloc: Global,
+    limits: &Limits,
+    source: &mut R,
+) -> Result<(Table, End), Fault>
+    // What was taken denotes the answer. Where no mark ended it, nothing is left.
+    ensures denotes { IfOk result (λ a. (x : List ℕ)
+        × Consumes (R.remaining source.old) (R.remaining source.new) x
+        × Denotes limits.now x a.0 a.1
+        × (a.1 ≡ Closed → IsAtEnd (R.remaining source.new))) }
+    // A table of types that are read, with its mark, is answered, whatever follows, unless memory
+    // runs out or the source fails.
+    ensures marked { (x rest : List ℕ) (t : Table) → are_supported t.schema.fields ≡ true
+        → R.remaining source.old ≡ Some (x ++ rest) → Denotes limits.now x t Mark
+        → R.failures source.new ≡ 0
+        → MatchResult result (λ a. (a.0 ≡ t) × (a.1 ≡ Mark)) (λ fault. fault ≡ Fault.OutOfMemory) }
+    // One without a mark is answered where nothing follows, unless memory runs out or the source
+    // fails.
+    ensures closed { (x : List ℕ) (t : Table) → are_supported t.schema.fields ≡ true
+        → R.remaining source.old ≡ Some x → Denotes limits.now x t Closed
+        → R.failures source.new ≡ 0
+        → MatchResult result (λ a. (a.0 ≡ t) × (a.1 ≡ Closed))
+        (λ fault. fault ≡ Fault.OutOfMemory) }
+    // Whatever the answer, what was taken, and why reading ended there.
+    ensures exact { TakesTable limits.now (R.remaining source.old) (R.remaining source.new) result }
+    // F36 is answered exactly where the source failed in this call.
+    ensures failures { FailsAs (R.failures source.old) (R.failures source.new) result }
+{
+    read_messages(alloc, limits, source)
+}

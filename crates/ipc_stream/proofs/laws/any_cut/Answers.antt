@@ -1,5 +1,0 @@
-use Rattle.ipc_stream.proofs.Verdicts.{cut_any}
-use Rattle.ipc_stream.proofs.laws.any_cut.Goals as goal
-
-pub returns : goal.returns
-returns c = cut_any

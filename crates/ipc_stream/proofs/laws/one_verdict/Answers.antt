@@ -1,5 +1,0 @@
-use Rattle.ipc_stream.proofs.Verdicts.{verdict_one}
-use Rattle.ipc_stream.proofs.laws.one_verdict.Goals as goal
-
-pub returns : goal.returns
-returns c = verdict_one

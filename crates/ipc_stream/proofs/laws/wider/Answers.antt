@@ -1,5 +1,0 @@
-use Rattle.ipc_stream.proofs.Wider.{denotes_wider}
-use Rattle.ipc_stream.proofs.laws.wider.Goals as goal
-
-pub returns : goal.returns
-returns c = denotes_wider
