@@ -8,7 +8,7 @@ use Rattle.ipc_column.specs.declared.ranges.ColumnRanges.{ColumnRanges}
 use Rattle.ipc_column.specs.declared.ranges.ColumnRanges.TheViews.{out-ColumnRanges}
 use Rattle.ipc_column.specs.Columns.{Column, Columns}
 use Rattle.ipc_column.specs.Checks.{passes, top_passes, Holds}
-use Rattle.ipc_column.specs.Lent.{HoldSlots, AreOfColumn, found, values_in}
+use Rattle.ipc_column.specs.Lent.{HoldSlots, AreOfColumn, found, refound, values_in}
 use Rattle.ipc_column.specs.Values.{row, rows_of, value_of, items}
 use Rattle.ipc_column.specs.Views.{columns, column_of, children_of, own_column, span_bytes}
 use Rattle.ipc_column.proofs.Cells.{row_cell, rows_at, rows_length}
@@ -61,12 +61,8 @@ column_rows body ps n j p l e h =
           (omega (arith, m, all, size))));
     }
 
--- the same column, whatever its null count
-abbrev refound : Column → Column
-refound c = found c.layout c.slots c.validity c.offsets c.values
-
 -- a part's column by the bytes that were found
-found_is : (body : List ℕ) (p : ColumnRanges) (v o w : List ℕ) → v ≡ span_bytes body (out-ColumnRanges p).validity
+pub found_is : (body : List ℕ) (p : ColumnRanges) (v o w : List ℕ) → v ≡ span_bytes body (out-ColumnRanges p).validity
     → o ≡ span_bytes body (out-ColumnRanges p).offsets → w ≡ span_bytes body (out-ColumnRanges p).values
     → (P : Column → Columns → Type 0)
     → P (refound (column_of body p)) (children_of body p)

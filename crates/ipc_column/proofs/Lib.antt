@@ -17,3 +17,5 @@ pub mod Visited
 pub mod Wider
 pub mod Plain
 pub mod Found
+pub mod Leads
+pub mod CellIters

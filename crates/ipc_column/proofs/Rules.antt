@@ -160,12 +160,12 @@ of_ascending o n size = (
     of_ascending_at o n = decides_below (is_ascending_at o) (λ i. offset o i ≤ℤ offset o (i + 1))
         (λ i. of_le (offset o i) (offset o (i + 1))) n
 
-of_each_top : (test : Column → Bool) (P : Column → Type 0) → ((c : Column) → Decides (test c) (P c)) → (cs : Columns)
+pub of_each_top : (test : Column → Bool) (P : Column → Type 0) → ((c : Column) → Decides (test c) (P c)) → (cs : Columns)
     → Decides (every_top test cs) (EachTop P cs)
 of_each_top test P d none = (λ e. tt, λ h. refl)
 of_each_top test P d (column c children rest) = Decides-and _ _ (d c) (of_each_top test P d rest)
 
-of_have_slots : (n : ℕ) (cs : Columns) → Decides (have_slots n cs) (EachTop (λ c. n ≤ c.slots) cs)
+pub of_have_slots : (n : ℕ) (cs : Columns) → Decides (have_slots n cs) (EachTop (λ c. n ≤ c.slots) cs)
 of_have_slots n cs = of_each_top (λ c. nat_le n c.slots) (λ c. n ≤ c.slots) (λ c. of_bound n c.slots) cs
 
 -- offsets into the slots of a child
@@ -232,7 +232,7 @@ of_text l.Structs below P d o w i = (
 of_text _ below P d o w i = (λ e. tt, λ h. refl)
 
 -- the test of a range of slots decides whether what is visible in each is UTF-8
-of_good : (cs : Columns) (a b : ℕ) → Decides (good cs a b) ((i : ℕ) → a ≤ i → i < b → SpellsTexts cs i)
+pub of_good : (cs : Columns) (a b : ℕ) → Decides (good cs a b) ((i : ℕ) → a ≤ i → i < b → SpellsTexts cs i)
 of_good none a b = (λ e i l m. tt, λ h. refl)
 of_good (column c children rest) a b =
     Decides-like _ (λ h i l m. (h.0 i l m, h.1 i l m)) (λ h. (λ i l m. (h i l m).0, λ i l m. (h i l m).1))

@@ -51,10 +51,10 @@ part_by P body p h =
     (subst (λ (cs : Columns). P (column_of body p) cs) (children_out body p) h)
 
 -- offsets of 32 bits, of so many slots
-bytes_from : (n bytes : ℕ) → (n == 0 || nat_le (4 * (n + 1)) bytes) ≡ true → 0 < n → 4 * (n + 1) ≤ bytes
+pub bytes_from : (n bytes : ℕ) → (n == 0 || nat_le (4 * (n + 1)) bytes) ≡ true → 0 < n → 4 * (n + 1) ≤ bytes
 bytes_from n bytes h p = (of_some n _ (of_bound (4 * (n + 1)) bytes)).0 h p
 
-order_from : (n : ℕ) (o : List ℕ) (b : Bool) → (n == 0 || (not (nat_le (4 * (n + 1)) (length o)) || b)) ≡ true → 0 < n
+pub order_from : (n : ℕ) (o : List ℕ) (b : Bool) → (n == 0 || (not (nat_le (4 * (n + 1)) (length o)) || b)) ≡ true → 0 < n
     → 4 * (n + 1) ≤ length o → b ≡ true
 order_from n o b h p k = (of_some n _ (of_when _ b (of_bound (4 * (n + 1)) (length o)) (λ e. e, λ e. e))).0 h p k
 

@@ -41,6 +41,16 @@ pub record HoldSlots (c : Column) (children : Columns) : Type 0 where
   pub sound : (why : Cause) → every (passes why) children ≡ true
   pub good : (i : ℕ) → i < c.slots → good_slot (good children) c i ≡ true
 
+-- a column's buffers have what its slots need, and so have those of its children; whether texts are
+-- UTF-8 isn't asked
+pub record AreFound (c : Column) (children : Columns) : Type 0 where
+  pub bitmap : has_bitmap c.slots (length c.validity) ≡ true
+  pub values : holds_values c.layout c.slots (length c.values) ≡ true
+  pub offsets : holds_offsets c.layout c.slots (length c.offsets) ≡ true
+  pub order : in_order c.layout c.slots c.offsets (length c.values) children ≡ true
+  pub long : are_long c.layout c.slots children ≡ true
+  pub sound : (why : Cause) → every (passes why) children ≡ true
+
 -- a column of these buffers; its null count isn't looked at
 abbrev pub found : Layout → ℕ → List ℕ → List ℕ → List ℕ → Column
 found layout slots validity offsets values = record {
@@ -51,6 +61,10 @@ found layout slots validity offsets values = record {
   offsets = offsets;
   values = values;
 }
+
+-- the same column, whatever its null count
+abbrev pub refound : Column → Column
+refound c = found c.layout c.slots c.validity c.offsets c.values
 
 -- the values of a column with these children
 abbrev pub values_in : Column → Columns → Cells

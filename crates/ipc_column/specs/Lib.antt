@@ -8,6 +8,8 @@ pub mod Checks
 pub mod Weights
 pub mod Lent
 pub mod Views
+pub mod Nested
+pub mod Slots
 pub mod Contents
 pub mod Sharing
 pub mod Lending

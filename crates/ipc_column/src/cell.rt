@@ -10,6 +10,7 @@ ghost use Rattle.ipc_column.specs.Values.{is_valid, own_value, value_of, row, it
 ghost use Rattle.ipc_column.specs.Values.{is_nested, place};
 ghost use Rattle.ipc_column.specs.Views.{columns, column_of, children_of, span_bytes};
 
+use crate::cell_iter::{ListIter, StructIter, list_values, struct_values};
 use crate::fixed::{bytes_of, signed_at, unsigned_at};
 use crate::offsets::{bytes_between, fixed_place, place_at};
 use crate::range_bytes::bytes_at;
@@ -83,6 +84,13 @@ impl<'a> ListCell<'a> {
     {
         item_at(self.body, self.parts, self.from, self.to, i)
     }
+
+    /// The values in order, each lent by the batch.
+    pub fn iter(&self) -> ListIter<'a>
+        ensures { result ≡ self.now }
+    {
+        list_values(self.body, self.parts, self.from, self.to)
+    }
 }
 
 /// The values of a struct, one for each child of its field, lent by its batch: contracts see them
@@ -127,6 +135,13 @@ impl<'a> StructCell<'a> {
         ensures { slice_get self.now i ≡ Some (cell_value result) }
     {
         value_at(self.body, self.parts, self.slot, i)
+    }
+
+    /// The values in order, one of each child, each lent by the batch.
+    pub fn iter(&self) -> StructIter<'a>
+        ensures { result ≡ self.now }
+    {
+        struct_values(self.body, self.parts, self.slot)
     }
 }
 
@@ -278,8 +293,8 @@ pub(crate) fn cell_at<'a>(body: &'a [u8], part: &'a ColumnRanges, slot: usize) -
     )
 }
 
-// Value `i` of a range of slots of the first of the parts.
-fn item_at<'a>(
+/// Value `i` of a range of slots of the first of the parts.
+pub(crate) fn item_at<'a>(
     body: &'a [u8],
     parts: &'a [ColumnRanges],
     from: usize,

@@ -1,14 +1,17 @@
 //! A column, found in its body once for all its slots.
-ghost use Rattle.std.specs.Prelude.{◌≡◌, ◌<◌, length, slice_get, Some};
+ghost use Rattle.std.specs.Prelude.{◌≡◌, ◌<◌, ℕ, length, slice_get, Some};
 ghost use Rattle.ipc_column.specs.Cells.{cell_value};
 ghost use Rattle.ipc_column.specs.Checks.{Holds};
 ghost use Rattle.ipc_column.specs.Lent.{AreOfColumn, HoldSlots, found, values_in};
+ghost use Rattle.ipc_column.specs.Nested.{alone, slot_values};
+ghost use Rattle.ipc_column.specs.Rules.{SpellsTexts};
 ghost use Rattle.ipc_column.specs.Values.{row, rows_of, value_of};
 ghost use Rattle.ipc_column.specs.Views.{columns, column_of, children_of};
 
 use crate::cell::{Cell, is_valid, own_cell};
 use crate::range_bytes::bytes_at;
 use crate::ranges::ColumnRanges;
+use crate::slot_view::{SlotView, slots_found};
 use ipc_model::Layout;
 use std::marker::Model;
 
@@ -70,6 +73,25 @@ impl<'a> ColumnView<'a> {
             self.body,
             self.children,
             slot,
+        )
+    }
+
+    /// The slots of the column, by which those of its children are reached: a whole column of lists
+    /// or structs is read so, without a `Cell` for each of its lists.
+    #[inline(always)]
+    pub fn slots(&self) -> SlotView<'a>
+        ensures values { slot_values result ≡ self.now }
+        // Each text that they lead to is UTF-8.
+        ensures texts { (i : ℕ) → i < length self.now → SpellsTexts (alone result) i }
+    {
+        slots_found(
+            self.layout,
+            self.slots,
+            self.validity,
+            self.offsets,
+            self.values,
+            self.body,
+            self.children,
         )
     }
 }

@@ -57,8 +57,7 @@ fn batch(
     node: (i64, i64),
     buffers: &[(i64, i64)],
     body: &[u8],
-) -> Result<Batch, Fault>
-{
+) -> Result<Batch, Fault> {
     let fields = fields(alloc, kind)?;
     let head = head_of(alloc, node, buffers)?;
     let body = Vec::from_slice(alloc, body)?;

@@ -1,6 +1,6 @@
 //! Tests of the crates below the stream: lists, FlatBuffers in place, rows, limits, printed words,
 //! messages whose bytes come one by one, batches of one column, and rows taken one at a time,
-//! nested ones too.
+//! nested ones too, and columns of lists and structs.
 #![tactic(auto)]
 
 #[cfg(test)]
@@ -17,6 +17,8 @@ mod frames;
 mod items;
 #[cfg(test)]
 mod limits;
+#[cfg(test)]
+mod lists;
 #[cfg(test)]
 mod model;
 #[cfg(test)]

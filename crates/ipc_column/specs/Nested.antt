@@ -1,0 +1,26 @@
+-- A column over a body, with those of its children (Arrow Columnar Format, "Physical Memory
+-- Layout").
+use Rattle.std.specs.Prelude.{ℕ, List}
+use Rattle.ipc_column.specs.declared.ranges.ColumnRanges.{ColumnRanges}
+use Rattle.ipc_column.specs.Columns.{Column, Columns, column, none}
+use Rattle.ipc_column.specs.Lent.{values_in}
+use Rattle.ipc_column.specs.Values.{Cells}
+use Rattle.ipc_column.specs.Views.{columns}
+
+-- a column, and where in the body those of its children lie
+pub record Nested : Type 0 where
+  pub column : Column
+  pub body : List ℕ
+  pub children : List ColumnRanges
+
+-- the columns of the children
+abbrev pub below : Nested → Columns
+below n = columns n.body n.children
+
+-- the column alone, with no other beside it
+abbrev pub alone : Nested → Columns
+alone n = column n.column (below n) none
+
+-- the values of all its slots, also of those that no row leads to
+abbrev pub slot_values : Nested → Cells
+slot_values n = values_in n.column (below n)

@@ -1,0 +1,53 @@
+-- What slots hold by themselves (Arrow Columnar Format, "Physical Memory Layout").
+use Rattle.std.specs.Prelude.{ℕ, ◌-◌, ◌<◌, ◌≤◌, Bool, true, false, List, map, ⊤}
+use Rattle.ipc_model.specs.declared.value.Value.{Value}
+use Rattle.ipc_model.specs.declared.value.Value.TheVariants as v
+use Rattle.ipc_column.specs.declared.ranges.ColumnRanges.{ColumnRanges}
+use Rattle.ipc_column.specs.declared.ranges.ColumnRanges.TheViews.{out-ColumnRanges}
+use Rattle.ipc_column.specs.declared.slot_view.Slot.{Slot}
+use Rattle.ipc_column.specs.declared.slot_view.Slot.TheVariants as slot
+use Rattle.ipc_column.specs.Columns.{Columns, EachTop}
+use Rattle.ipc_column.specs.Lent.{refound}
+use Rattle.ipc_column.specs.Nested.{Nested}
+use Rattle.ipc_column.specs.Values.{items, first_of}
+use Rattle.ipc_column.specs.Views.{column_of}
+
+-- the value that slot i shows, where `below` gives the values of a slot of the children: of a list
+-- those of its slots of the first child, of a struct that of its slot in each
+abbrev pub shown : (ℕ → List Value) → ℕ → Slot → Value
+shown below i slot.Null = v.Null
+shown below i (slot.Bool truth) = v.Bool truth
+shown below i (slot.Int number) = v.Int number
+shown below i (slot.UInt number) = v.UInt number
+shown below i (slot.Bytes bytes) = v.Bytes bytes.now
+shown below i (slot.Text bytes) = v.Text bytes.now
+shown below i (slot.List from to) = v.List (items (λ j. first_of (below j)) from (to - from))
+shown below i slot.Struct = v.Struct (below i)
+
+-- null, which stands in no valid slot but those of columns without values
+abbrev pub is_null : Value → Bool
+is_null v.Null = true
+is_null _ = false
+
+-- each of the children has the slots that slot i leads to
+abbrev pub LeadsInside : Columns → ℕ → Slot → Type 0
+LeadsInside children i (slot.List from to) = (from ≤ to) × EachTop (λ c. to ≤ c.slots) children
+LeadsInside children i slot.Struct = EachTop (λ c. i < c.slots) children
+LeadsInside children i slot.Null = ⊤
+LeadsInside children i (slot.Bool truth) = ⊤
+LeadsInside children i (slot.Int number) = ⊤
+LeadsInside children i (slot.UInt number) = ⊤
+LeadsInside children i (slot.Bytes bytes) = ⊤
+LeadsInside children i (slot.Text bytes) = ⊤
+
+-- a part's column over the body
+abbrev pub nested : List ℕ → ColumnRanges → Nested
+nested body p = record {
+  column = refound (column_of body p);
+  body = body;
+  children = (out-ColumnRanges p).children.items;
+}
+
+-- the columns of the children, one by one
+abbrev pub nested_in : Nested → List Nested
+nested_in n = map (nested n.body) n.children

@@ -1,0 +1,234 @@
+//! The slots of a column and of the columns below it, whose buffers are found in the body once.
+ghost use Rattle.std.specs.Prelude.{◌≡◌, ◌<◌, ℕ, List, length, slice_get, Some, true};
+ghost use Rattle.ipc_model.specs.declared.value.Value.{Value};
+ghost use Rattle.ipc_column.specs.Checks.{are_long, holds_offsets, holds_values, in_order};
+ghost use Rattle.ipc_column.specs.Lent.{AreFound, found};
+ghost use Rattle.ipc_column.specs.Slots.{LeadsInside, is_null, nested, nested_in, shown};
+ghost use Rattle.ipc_column.specs.Nested.{Nested, below, slot_values};
+ghost use Rattle.ipc_column.specs.Values.{own_value, row};
+ghost use Rattle.ipc_column.specs.Views.{columns, column_of, children_of};
+
+use crate::cell::is_valid;
+use crate::fixed::{bytes_of, signed_at, unsigned_at};
+use crate::offsets::{bytes_between, fixed_place, place_at};
+use crate::range_bytes::bytes_at;
+use crate::ranges::ColumnRanges;
+use ipc_model::Layout;
+use ipc_scalar::bit;
+use std::marker::Model;
+
+/// What a slot of a column holds by itself, lent by its batch.
+#[derive(Clone, Copy, Debug, Drop)]
+pub enum Slot<'a> {
+    /// The slot is null.
+    Null,
+    /// A truth value.
+    Bool(bool),
+    /// A signed number.
+    Int(i64),
+    /// An unsigned number.
+    UInt(u64),
+    /// Bytes of the body.
+    Bytes(&'a [u8]),
+    /// The bytes of a text, which are UTF-8 where a row shows the slot.
+    Text(&'a [u8]),
+    /// A list: its values are those of the child from one slot up to another.
+    List {
+        /// The slot of its first value.
+        from: usize,
+        /// The slot behind that of its last value.
+        to: usize,
+    },
+    /// A struct: its values are those of each child in the same slot.
+    Struct,
+}
+
+/// The slots of a column, lent, whose buffers were found in the body, and the columns of its
+/// children. It takes no memory.
+///
+/// Contracts see its buffers and those of its children. Slots that no row leads to are among them.
+#[derive(Debug, Drop)]
+pub struct SlotView<'a> {
+    layout: Layout,
+    slots: usize,
+    validity: &'a [u8],
+    offsets: &'a [u8],
+    values: &'a [u8],
+    body: &'a [u8],
+    children: &'a [ColumnRanges],
+}
+
+impl<'a> Model for SlotView<'a> {
+    ghost use Rattle.std.specs.Coded.{codes};
+    ghost use Rattle.ipc_column.specs.contracts.ranges.ColumnRanges as ranges;
+    ghost use Rattle.ipc_column.specs.Lent.{AreFound, found};
+    ghost use Rattle.ipc_column.specs.Nested.{Nested};
+    ghost use Rattle.ipc_column.specs.Views.{columns};
+
+    ghost Value = { Nested };
+
+    ghost coded = { Prim.hlevel (codes, ranges.the_row.coded) };
+
+    ghost view = { λ s. record {
+      column = found s.layout s.slots s.validity.now s.offsets.now s.values.now;
+      body = s.body.now;
+      children = s.children.now;
+    } };
+
+    ghost invariant = { λ s. AreFound
+        (found s.layout s.slots s.validity.now s.offsets.now s.values.now)
+        (columns s.body.now s.children.now) };
+}
+
+impl<'a> SlotView<'a> {
+    /// How many slots there are.
+    #[inline(always)]
+    pub fn len(&self) -> usize
+        ensures { result ≡ length (slot_values self.now) }
+    {
+        self.slots
+    }
+
+    /// What a slot holds. The caller gives a slot below `len`.
+    ///
+    /// A list, or a struct, tells the slots of the children where its values are.
+    #[inline(always)]
+    pub fn at(&self, slot: usize) -> Slot<'a>
+        requires { slot < length (slot_values self.now) }
+        ensures value { slice_get (slot_values self.now) slot
+            ≡ Some (shown (row (below self.now)) slot result) }
+        // The children have the slots that are told.
+        ensures inside { LeadsInside (below self.now) slot result }
+    {
+        if !is_valid(self.validity, slot) {
+            return Slot::Null;
+        }
+        own_slot(
+            self.layout,
+            self.offsets,
+            self.values,
+            self.slots,
+            slot,
+            self.children,
+        )
+    }
+
+    /// Whether a slot is null. The caller gives a slot below `len`.
+    pub fn is_null(&self, slot: usize) -> bool
+        requires { slot < length (slot_values self.now) }
+        ensures { (value : Value) → slice_get (slot_values self.now) slot ≡ Some value
+            → result ≡ is_null value }
+    {
+        match self.layout {
+            Layout::Null | Layout::Unsupported => true,
+            _ => !is_valid(self.validity, slot),
+        }
+    }
+
+    /// How many children there are: one of a list, one for each part of a struct, else none.
+    pub fn children(&self) -> usize
+        ensures { result ≡ length self.now.children }
+    {
+        self.children.len()
+    }
+
+    /// The slots of child `i`. The caller gives an `i` below `children`.
+    pub fn child(&self, i: usize) -> SlotView<'a>
+        requires { i < length self.now.children }
+        ensures { slice_get (nested_in self.now) i ≡ Some result }
+    {
+        slots_of(self.body, &self.children[i])
+    }
+}
+
+// What a valid slot holds, one of the first `slots`.
+#[tactic(auto, using(crate::proofs::Numbers::slot_inside))]
+#[inline(always)]
+fn own_slot<'a>(
+    layout: Layout,
+    offsets: &[u8],
+    values: &'a [u8],
+    slots: usize,
+    slot: usize,
+    children: &[ColumnRanges],
+) -> Slot<'a>
+    requires slot { slot < slots }
+    requires values { holds_values layout slots (length values.now) ≡ true }
+    requires offsets { holds_offsets layout slots (length offsets.now) ≡ true }
+    requires rise { (body : List ℕ) → in_order layout slots offsets.now (length values.now)
+        (columns body children.now) ≡ true }
+    requires long { (body : List ℕ) → are_long layout slots (columns body children.now) ≡ true }
+    ensures value { (body : List ℕ) → shown (row (columns body children.now)) slot result
+        ≡ own_value layout (row (columns body children.now)) offsets.now values.now slot }
+    ensures inside { (body : List ℕ) → LeadsInside (columns body children.now) slot result }
+{
+    match layout {
+        Layout::Null | Layout::Unsupported => Slot::Null,
+        Layout::Bits => Slot::Bool(bit(values, slot)),
+        Layout::Numbers { bits, signed: true } => Slot::Int(signed_at(bits, values, slot)),
+        Layout::Numbers {
+            bits,
+            signed: false,
+        } => Slot::UInt(unsigned_at(bits, values, slot)),
+        Layout::FixedBytes(width) => Slot::Bytes(bytes_of(width, values, slot)),
+        Layout::VariableBytes { utf8: true } => {
+            Slot::Text(bytes_between(offsets, values, slots, slot))
+        }
+        Layout::VariableBytes { utf8: false } => {
+            Slot::Bytes(bytes_between(offsets, values, slots, slot))
+        }
+        Layout::Lists => Slot::List {
+            from: place_at(offsets, slot),
+            to: place_at(offsets, slot + 1),
+        },
+        Layout::FixedLists(size) => {
+            let from = fixed_place(size, children, slot);
+            let to = from + size as usize;
+            Slot::List { from, to }
+        }
+        Layout::Structs => Slot::Struct,
+    }
+}
+
+/// The slots of a column whose buffers these are.
+pub(crate) fn slots_found<'a>(
+    layout: Layout,
+    slots: usize,
+    validity: &'a [u8],
+    offsets: &'a [u8],
+    values: &'a [u8],
+    body: &'a [u8],
+    children: &'a [ColumnRanges],
+) -> SlotView<'a>
+    requires { AreFound (found layout slots validity.now offsets.now values.now)
+        (columns body.now children.now) }
+    ensures column { result.column ≡ found layout slots validity.now offsets.now values.now }
+    ensures body { result.body ≡ body.now }
+    ensures children { result.children ≡ children.now }
+{
+    SlotView {
+        layout,
+        slots,
+        validity,
+        offsets,
+        values,
+        body,
+        children,
+    }
+}
+
+// The slots of a part's column.
+fn slots_of<'a>(body: &'a [u8], part: &'a ColumnRanges) -> SlotView<'a>
+    requires { AreFound (column_of body.now part.now) (children_of body.now part.now) }
+    ensures { result ≡ nested body.now part.now }
+{
+    SlotView {
+        layout: part.layout,
+        slots: part.slots,
+        validity: bytes_at(body, part.validity),
+        offsets: bytes_at(body, part.offsets),
+        values: bytes_at(body, part.values),
+        body,
+        children: &part.children,
+    }
+}
