@@ -19,6 +19,7 @@ use ipc_model::{IntBits, Layout, Limits, Value};
 use std::alloc::{AllocError, Global};
 
 // Notes whether one more slot is valid, behind so many slots with so many nulls.
+#[inline(always)]
 fn push_validity_bit(
     validity: &mut Vec<u8>,
     slots: usize,

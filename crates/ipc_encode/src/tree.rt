@@ -118,6 +118,7 @@ fn take_nulls(
 ///
 /// Refused as `Column::take`, whichever column refuses it.
 #[cycle(take)]
+#[inline(always)]
 pub(crate) fn take(
     value: &Value,
     node: &mut Node,
