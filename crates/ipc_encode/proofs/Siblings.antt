@@ -60,6 +60,15 @@ leaf_is P bare nodes given e h = refl
 leaf_is P (field k c rest) [] given e h = absurd h
 leaf_is P (field k c rest) (m ∷ ms) given e h = absurd (omega arith)
 
+-- it has whatever values are given to its children
+pub leaf_has : (P : Layout → List Value → Column → Type 0) (c : Shape) (nodes : List Node) (given other : ℕ → List Value)
+    → length nodes ≡ 0
+    → AreNodes P c nodes given → AreNodes P c nodes other
+leaf_has P bare [] given other e h = tt
+leaf_has P bare (m ∷ ms) given other e h = absurd h
+leaf_has P (field k c rest) [] given other e h = absurd h
+leaf_has P (field k c rest) (m ∷ ms) given other e h = absurd (omega arith)
+
 -- ---- one field more
 
 -- the buffers of one field more

@@ -7,14 +7,15 @@ ghost use Rattle.ipc_column.specs.Shapes.{Shape, bare, field};
 ghost use Rattle.ipc_encode.specs.Buffers.{buffers_of, joined};
 ghost use Rattle.ipc_encode.specs.Cells.{cell};
 ghost use Rattle.ipc_encode.specs.Built.{AreColumns, AreNodes, IsNode, HasTaken, IsColumn, IsNext};
-ghost use Rattle.ipc_encode.specs.Built.{AreTooMuch, AreWithin, LeavesOf};
+ghost use Rattle.ipc_encode.specs.Built.{AreTooMuch, AreWithin, IsCounted, LeavesOf};
 
 use crate::cells::value_at;
 use crate::column::{Column, Purpose};
+use crate::counts::Counts;
 use crate::fault::PushFault;
 use crate::node::Node;
 use crate::tree::take;
-use ipc_model::{Limits, Value};
+use ipc_model::{Layout, Limits, Value};
 
 // The next row is counted from the numbers of a column, and of those below it.
 #[cycle(start)]
@@ -84,8 +85,34 @@ pub(crate) fn left_behind_all(nodes: &[Node], purpose: Purpose, bytes: u64) -> O
     Some(left)
 }
 
-// What is left of so many bytes behind the buffers of a column without children, with one value
-// more.
+// What is left of so many bytes behind the buffers of a column of this layout without children,
+// with one value more. Where the caller has matched the layout, nothing below it asks again.
+#[inline(always)]
+fn left_behind_laid(
+    layout: Layout,
+    value: &Value,
+    counts: Counts,
+    limits: &Limits,
+    bytes: u64,
+) -> Result<u64, PushFault>
+    requires { bytes ≤ limits.now.body }
+    ensures fit { (values : List Value) → IsCounted limits.now layout values counts
+        → IfOk result (LeavesOf limits.now (field layout bare bare)
+        (λ j. values ++ value.now ∷ []) bytes) }
+    ensures refused { (values : List Value) → IsCounted limits.now layout values counts
+        → IfErr result (AreTooMuch limits.now bytes (field layout bare bare)
+        (λ j. values ++ value.now ∷ [])) }
+    ensures fewer { IfOk result (λ left. left ≤ bytes) }
+{
+    let len = counts.with(layout, value, limits)?.len(layout);
+    if len > bytes {
+        return Err(PushFault::TooLong);
+    }
+    Ok(bytes - len)
+}
+
+// The same of a column of any layout.
+#[inline(always)]
 fn left_behind_leaf(
     value: &Value,
     column: &Column,
@@ -103,12 +130,19 @@ fn left_behind_leaf(
         (λ j. values ++ value.now ∷ [])) }
     ensures fewer { IfOk result (λ left. left ≤ bytes) }
 {
-    let counts = column.counts.with(column.layout, value, limits)?;
-    let len = counts.len(column.layout);
-    if len > bytes {
-        return Err(PushFault::TooLong);
+    let counts = column.counts;
+    match column.layout {
+        Layout::Numbers { bits, signed } => {
+            let layout = Layout::Numbers { bits, signed };
+            left_behind_laid(layout, value, counts, limits, bytes)
+        }
+        Layout::Bits => left_behind_laid(Layout::Bits, value, counts, limits, bytes),
+        Layout::VariableBytes { utf8 } => {
+            let layout = Layout::VariableBytes { utf8 };
+            left_behind_laid(layout, value, counts, limits, bytes)
+        }
+        layout => left_behind_laid(layout, value, counts, limits, bytes),
     }
-    Ok(bytes - len)
 }
 
 // The same of a column with those below it. It counts the value in the numbers for the next row.
@@ -141,6 +175,7 @@ fn left_behind_tree(
 }
 
 // The same of any column.
+#[inline(always)]
 fn left_behind_with(
     value: &Value,
     node: &mut Node,

@@ -12,6 +12,7 @@ use ipc_model::Layout;
 use ipc_scalar::pad8;
 
 // The bytes of a validity bitmap of so many slots, of which so many are null.
+#[inline(always)]
 fn validity_len(layout: Layout, slots: usize, nulls: usize) -> usize
     requires { slots ≤ greatest_slots }
     ensures is { result ≡ validity_length layout slots nulls }
@@ -25,6 +26,7 @@ fn validity_len(layout: Layout, slots: usize, nulls: usize) -> usize
 }
 
 // The bytes of the offsets of so many slots.
+#[inline(always)]
 fn offsets_len(layout: Layout, slots: usize) -> usize
     requires { slots ≤ greatest_slots }
     ensures is { result ≡ offsets_length layout slots }
@@ -37,6 +39,7 @@ fn offsets_len(layout: Layout, slots: usize) -> usize
 }
 
 // The bytes of the values of so many slots with so much data.
+#[inline(always)]
 fn values_len(layout: Layout, slots: usize, amount: usize) -> usize
     requires few { slots ≤ greatest_slots }
     requires small { amount ≤ greatest_body }
@@ -56,6 +59,7 @@ fn values_len(layout: Layout, slots: usize, amount: usize) -> usize
 
 // The bytes of a column's buffers in a body: so many slots, of which so many are null, with so much
 // data.
+#[inline(always)]
 fn column_len(layout: Layout, slots: usize, nulls: usize, amount: usize) -> u64
     requires few { slots ≤ greatest_slots }
     requires small { amount ≤ greatest_body }
@@ -68,6 +72,7 @@ fn column_len(layout: Layout, slots: usize, nulls: usize, amount: usize) -> u64
 
 impl Counts {
     /// The bytes that the buffers of a column with these numbers take in a body, each padded.
+    #[inline(always)]
     pub(crate) fn len(self, layout: Layout) -> u64
         ensures { (limits : Limits) (values : List Value) → IsCounted limits layout values self
             → result ≡ length (joined (column_buffers layout values)) }

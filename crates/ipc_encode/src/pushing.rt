@@ -19,6 +19,7 @@ use ipc_model::{IntBits, Layout, Limits, Value};
 use std::alloc::{AllocError, Global};
 
 // Notes whether one more slot is valid, behind so many slots with so many nulls.
+#[inline(always)]
 fn push_validity_bit(
     validity: &mut Vec<u8>,
     slots: usize,
@@ -194,6 +195,24 @@ impl Column {
         empty_column(layout, validity, offsets, values)
     }
 
+    // Takes one value more into a column of this layout, as `push` does. Where the caller has matched
+    // the layout, nothing below it asks again.
+    #[inline(always)]
+    fn push_laid(&mut self, layout: Layout, value: &Value, limits: &Limits) -> Result<(), PushFault>
+        ensures pushed { (values : List Value) → IsColumn limits.now layout values self.old
+            → OnOk result (IsColumn limits.now layout (values ++ value.now ∷ []) self.new) }
+        ensures refused { (values : List Value) → IsColumn limits.now layout values self.old
+            → IfErr result (IsPushRefused limits.now layout (values ++ value.now ∷ [])) }
+    {
+        let Counts { slots, nulls, .. } = self.counts;
+        let counts = self.counts.with(layout, value, limits)?;
+        push_validity(layout, &mut self.validity, slots, nulls, value)?;
+        push_value(layout, slots, &mut self.values, value)?;
+        push_end(layout, &mut self.offsets, counts.amount)?;
+        self.counts = counts;
+        Ok(())
+    }
+
     /// Takes one value more. After a refusal the column is of no use.
     ///
     /// Refused as `Counts::with`, and with `OutOfMemory` where a buffer can't grow.
@@ -206,13 +225,25 @@ impl Column {
             → IsColumn limits.now layout values self.old
             → IfErr result (IsPushRefused limits.now layout (values ++ value.now ∷ [])) }
     {
-        let layout = self.layout;
-        let Counts { slots, nulls, .. } = self.counts;
-        let counts = self.counts.with(layout, value, limits)?;
-        push_validity(layout, &mut self.validity, slots, nulls, value)?;
-        push_value(layout, slots, &mut self.values, value)?;
-        push_end(layout, &mut self.offsets, counts.amount)?;
-        self.counts = counts;
-        Ok(())
+        match self.layout {
+            Layout::Numbers {
+                bits: IntBits::B64,
+                signed,
+            } => {
+                let layout = Layout::Numbers {
+                    bits: IntBits::B64,
+                    signed,
+                };
+                self.push_laid(layout, value, limits)
+            }
+            Layout::Numbers { bits, signed } => {
+                self.push_laid(Layout::Numbers { bits, signed }, value, limits)
+            }
+            Layout::Bits => self.push_laid(Layout::Bits, value, limits),
+            Layout::VariableBytes { utf8 } => {
+                self.push_laid(Layout::VariableBytes { utf8 }, value, limits)
+            }
+            layout => self.push_laid(layout, value, limits),
+        }
     }
 }

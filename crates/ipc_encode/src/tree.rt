@@ -118,7 +118,36 @@ fn take_nulls(
 ///
 /// Refused as `Column::take`, whichever column refuses it.
 #[cycle(take)]
+#[inline(always)]
 pub(crate) fn take(
+    value: &Value,
+    node: &mut Node,
+    purpose: Purpose,
+    limits: &Limits,
+) -> Result<(), PushFault>
+    ensures taken { (layout : Layout) (children : Shape) (values : List Value)
+        → IsNode (HasTaken purpose limits.now) layout children node.old values
+        → OnOk result (IsNode (HasTaken purpose limits.now) layout children node.new
+        (values ++ value.now ∷ [])) }
+    ensures refused { (layout : Layout) (children : Shape) (values : List Value)
+        → IsNode (HasTaken purpose limits.now) layout children node.old values
+        → IfErr result (ArePushesRefused limits.now (field layout children bare)
+        (λ j. values ++ value.now ∷ [])) }
+    ensures kept { (limits : Limits) (layout : Layout) (children : Shape) (values : List Value)
+        → purpose ≡ Count → IsNode (IsColumn limits) layout children node.old values
+        → IsNode (IsColumn limits) layout children node.new values }
+    ensures memory { purpose ≡ Count
+        → IfErr result (λ fault. ¬ (fault ≡ PushFault.OutOfMemory)) }
+{
+    if node.children.is_empty() {
+        return node.column.take(value, purpose, limits);
+    }
+    take_deep(value, node, purpose, limits)
+}
+
+// The same of a column with children: theirs first.
+#[cycle(take)]
+fn take_deep(
     value: &Value,
     node: &mut Node,
     purpose: Purpose,

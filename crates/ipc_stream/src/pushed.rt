@@ -1,5 +1,6 @@
 ghost use Rattle.std.specs.Prelude.{◌≡◌, ◌++◌, [], ◌∷◌, false, IfErr, IfOk, OnErr, OnOk};
 ghost use Rattle.std.specs.Prelude.{MatchResult};
+ghost use Rattle.ipc_model.specs.Fits.{RowFits};
 ghost use Rattle.ipc_model.specs.RowFaults.{HasShortPaths};
 ghost use Rattle.ipc_model.specs.declared.limits.Limits.{Limits};
 ghost use Rattle.ipc_model.specs.declared.table.BatchRows.{BatchRows};
@@ -8,7 +9,9 @@ ghost use Rattle.ipc_stream.specs.Pushed.{HoldsBatch, RefusesHeld, no_rows, with
 
 use crate::messages::batch_message;
 use ipc_encode::{Builder, NoIndices, Room};
-use ipc_model::{BatchRows, Items, Limits, Schema, Text, Value, WriteFault, conforms};
+use ipc_model::{
+    BatchRows, Items, Limits, Schema, Text, Value, WriteFault, conforms, is_conforming,
+};
 use std::alloc::Global;
 
 /// The rows of a batch that isn't sent yet, and its pairs (Message.fbs, RecordBatch).
@@ -46,6 +49,37 @@ impl PushedRows {
         })
     }
 
+    // What is wrong with a row that doesn't conform, with the number that it would have.
+    #[cold]
+    #[inline(never)]
+    fn judge(&self, schema: &Schema, row: &[Value]) -> Result<(), WriteFault>
+        requires { HasShortPaths schema.now }
+        ensures fits { OnOk result (RowFits schema.now.fields row.now) }
+        ensures refused { (limits : Limits) (b : BatchRows)
+            → HoldsBatch limits schema.now b self.now
+            → IfErr result (RefusesHeld limits schema.now (with_row b row.now) false) }
+    {
+        if let Err(fault) = conforms(schema, row) {
+            return Err(fault.at_row(self.builder.row_count() as u64));
+        }
+        Ok(())
+    }
+
+    // The same of any row. What `judge` takes to tell a fault isn't asked for where there is none.
+    #[inline(always)]
+    fn check(&self, schema: &Schema, row: &[Value]) -> Result<(), WriteFault>
+        requires { HasShortPaths schema.now }
+        ensures fits { OnOk result (RowFits schema.now.fields row.now) }
+        ensures refused { (limits : Limits) (b : BatchRows)
+            → HoldsBatch limits schema.now b self.now
+            → IfErr result (RefusesHeld limits schema.now (with_row b row.now) false) }
+    {
+        if is_conforming(schema, row) {
+            return Ok(());
+        }
+        self.judge(schema, row)
+    }
+
     // Takes one row more. After W11 what is held is of no use, after any other refusal it is the
     // batch that it was.
     pub(crate) fn push(&mut self, schema: &Schema, row: &[Value]) -> Result<(), WriteFault>
@@ -60,9 +94,7 @@ impl PushedRows {
             → IfErr result (λ fault. ¬ (fault ≡ WriteFault.OutOfMemory)
             → HoldsBatch limits schema.now b self.new) }
     {
-        if let Err(fault) = conforms(schema, row) {
-            return Err(fault.at_row(self.builder.row_count() as u64));
-        }
+        self.check(schema, row)?;
         self.builder.fits(row)?;
         self.builder.push(row, &NoIndices)
     }

@@ -14,11 +14,24 @@ use Rattle.ipc_encode.proofs.Below.{other_gives, items_are, fixed_are, parts_are
 use Rattle.ipc_encode.proofs.Below.{lists_more, fixed_more, structs_more}
 use Rattle.ipc_encode.proofs.Growing.{own_refused, child_refused, mixed_refused, all_refused}
 use Rattle.ipc_encode.proofs.Nodes.{node_is, lent_column, lent_node, nothing_below, taken_laid, mixed_more, mixed_all, kept_at}
+use Rattle.ipc_encode.proofs.Siblings.{leaf_has}
 use Rattle.ipc_encode.proofs.tree.+take.Goals.{take_parts-in-Some+in_ok-take-in-Some, take_parts-in-None+in_ok-take_null-in-None}
 use Rattle.ipc_encode.proofs.tree.+take.Goals as goal
 
-pub take-returns-in_err-take_below-clause-refused : goal.take-returns-in_err-take_below-clause-refused
-take-returns-in_err-take_below-clause-refused t c = λ layout children values h.
+pub take-returns-then-is_empty-clause-taken : goal.take-returns-then-is_empty-clause-taken
+take-returns-then-is_empty-clause-taken t c = λ layout children values h.
+    let P = HasTaken c.args.purpose c.args.limits.now in
+    let more = values ++ c.args.value.now ∷ [] in
+    let inner = leaf_has P children (out-Node c.args.node.now).children.items (below layout values) (below layout more)
+    (search rules) h.1 in
+    on_ok_weaker c.take.result (λ own. node_is P layout children more _ own inner) (c.take.ensures.taken layout values h.0)
+
+pub take-returns-then-is_empty-clause-kept : goal.take-returns-then-is_empty-clause-kept
+take-returns-then-is_empty-clause-kept t c = λ limits layout children values e h.
+    node_is (IsColumn limits) layout children values _ (c.take.ensures.kept limits layout values e h.0) h.1
+
+pub take_deep-returns-in_err-take_below-clause-refused : goal.take_deep-returns-in_err-take_below-clause-refused
+take_deep-returns-in_err-take_below-clause-refused t c = λ layout children values h.
     let P = HasTaken c.args.purpose c.args.limits.now in
     let laid = taken_laid c.args.purpose c.args.limits.now layout values (out-Node c.args.node.now).column h.0 in
     let held = subst (λ (l : Layout). AreNodes P children c.deref_mut.result.now (below l values)) (sym laid)
@@ -29,13 +42,13 @@ take-returns-in_err-take_below-clause-refused t c = λ layout children values h.
     rw (p.1, p.2) (child_refused c.args.limits.now layout children bare (λ j. values ++ c.args.value.now ∷ [])
     c.in_err-take_below.field-0.0 told)
 
-pub take-returns-in_err-take_below-clause-kept : goal.take-returns-in_err-take_below-clause-kept
-take-returns-in_err-take_below-clause-kept t c = λ limits layout children values e h.
+pub take_deep-returns-in_err-take_below-clause-kept : goal.take_deep-returns-in_err-take_below-clause-kept
+take_deep-returns-in_err-take_below-clause-kept t c = λ limits layout children values e h.
     lent_node (IsColumn limits) layout children values values c.args.node.now c.deref_mut.result.now c.take_below.new.nodes
     c.deref_mut.ensures.value c.take_below.auto.nodes h (c.in_err-take_below.ensures.kept limits children (below layout values) e)
 
-pub take-returns-clause-taken : goal.take-returns-clause-taken
-take-returns-clause-taken t c = λ layout children values h.
+pub take_deep-returns-clause-taken : goal.take_deep-returns-clause-taken
+take_deep-returns-clause-taken t c = λ layout children values h.
     let P = HasTaken c.args.purpose c.args.limits.now in
     let laid = taken_laid c.args.purpose c.args.limits.now layout values (out-Node c.args.node.now).column h.0 in
     let lent = lent_node P layout children values (values ++ c.args.value.now ∷ []) c.args.node.now
@@ -46,15 +59,15 @@ take-returns-clause-taken t c = λ layout children values h.
     on_ok_weaker c.take.result (λ own. node_is P layout children (values ++ c.args.value.now ∷ []) _ own lent.1)
     (c.take.ensures.taken layout values lent.0)
 
-pub take-returns-clause-refused : goal.take-returns-clause-refused
-take-returns-clause-refused t c = λ layout children values h.
+pub take_deep-returns-clause-refused : goal.take_deep-returns-clause-refused
+take_deep-returns-clause-refused t c = λ layout children values h.
     let P = HasTaken c.args.purpose c.args.limits.now in
     IfErr-weaker c.take.result _ _
     (λ fault told. own_refused c.args.limits.now layout children bare (λ j. values ++ c.args.value.now ∷ []) fault told)
     (c.take.ensures.refused layout values (lent_column P layout values c.args.node.now c.take_below.new.nodes h.0))
 
-pub take-returns-clause-kept : goal.take-returns-clause-kept
-take-returns-clause-kept t c = λ limits layout children values e h.
+pub take_deep-returns-clause-kept : goal.take_deep-returns-clause-kept
+take_deep-returns-clause-kept t c = λ limits layout children values e h.
     let P = IsColumn limits in
     let lent = lent_node P layout children values values c.args.node.now c.deref_mut.result.now c.take_below.new.nodes
     c.deref_mut.ensures.value c.take_below.auto.nodes h (c.in_ok-take_below.ensures.kept limits children (below layout values) e) in

@@ -4,16 +4,9 @@ use Rattle.std.proofs.lemmas.Result.{IfErr-weaker}
 use Rattle.ipc_model.specs.Refusals.{refusal_of}
 use Rattle.ipc_stream.proofs.pushed.PushedRows.push.Goals as goal
 
-pub returns-in-Err-clause-refused : goal.returns-in-Err-clause-refused
-returns-in-Err-clause-refused c = λ limits b h.
-    rw c.at_row.ensures
-    (misfit_last c.args.schema.now.fields b.rows c.args.row.now c.in-Err.fault c.conforms.result _ h.accepted.fit c.conforms.ensures.fits.1
-    c.conforms.ensures.first c.in-Err.is
-    (ap (refusal_of c.in-Err.fault) (c.row_count.ensures limits c.args.schema.now.fields b.rows h.rows)))
-
 pub returns-in_err-fits-clause-kept : goal.returns-in_err-fits-clause-kept
 returns-in_err-fits-clause-kept c = λ limits b h.
-    refused_kept limits c.args.schema.now b _ c.from_residual.result
+    refused_kept limits c.args.schema.now b _ c.from_residual-in_err-fits.result
     (held_still limits c.args.schema.now b c.args.self.now _ h
     (c.in_err-fits.ensures.kept limits c.args.schema.now.fields b.rows h.rows) refl)
 
@@ -21,7 +14,7 @@ pub returns-clause-holds : goal.returns-clause-holds
 returns-clause-holds c = λ limits b h.
     let fields = c.args.schema.now.fields in
     let within = c.in_ok-fits.ensures.within limits fields b.rows h.rows in
-    held_more limits c.args.schema.now b c.args.row.now c.args.self.now _ c.push.result h (c.in_default.ensures.fits.0 refl) within
+    held_more limits c.args.schema.now b c.args.row.now c.args.self.now _ c.push.result h c.in_ok-check.ensures.fits within
     (c.push.ensures.pushed limits fields b.rows (c.in_ok-fits.ensures.kept limits fields b.rows h.rows) within) refl
 
 pub returns-clause-refused : goal.returns-clause-refused
