@@ -195,8 +195,8 @@ impl Column {
         empty_column(layout, validity, offsets, values)
     }
 
-    // Takes one value more into a column of this layout, as `push` does. Where the caller has matched
-    // the layout, nothing below it asks again.
+    // Takes one value more into a column of this layout, as `push` does. Where the caller has
+    // matched the layout, nothing below it asks again.
     #[inline(always)]
     fn push_laid(&mut self, layout: Layout, value: &Value, limits: &Limits) -> Result<(), PushFault>
         ensures pushed { (values : List Value) → IsColumn limits.now layout values self.old
