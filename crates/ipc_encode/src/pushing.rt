@@ -59,18 +59,33 @@ fn push_validity(
     push_validity_bit(validity, slots, null_count, value)
 }
 
+// Appends a number of 64 bits. It isn't `inline(always)`, and neither is `push_four`: so the length
+// is known where the list's own code is taken in, and what is left is one store.
+fn push_eight(values: &mut Vec<u8>, number: u64) -> Result<(), AllocError>
+    ensures { OnOk result (values.new.items ≡ values.old.items ++ bytes_low_first 0 8 number) }
+{
+    values.extend_from_slice(&number.to_le_bytes())
+}
+
+// Appends the low 32 bits of a number.
+fn push_four(values: &mut Vec<u8>, number: u64) -> Result<(), AllocError>
+    ensures { OnOk result (values.new.items ≡ values.old.items ++ bytes_low_first 0 4 number) }
+{
+    values.extend_from_slice(&number.to_le_bytes()[..4])
+}
+
 // Appends the low bytes of a value's number.
 #[inline(always)]
 fn push_number(values: &mut Vec<u8>, value: &Value, bits: IntBits) -> Result<(), AllocError>
     ensures { OnOk result (values.new.items
         ≡ values.old.items ++ slot_bytes (Number bits) value.now) }
 {
-    let bytes = number_bits(value).to_le_bytes();
+    let number = number_bits(value);
     match bits {
-        IntBits::B8 => values.extend_from_slice(&bytes[..1]),
-        IntBits::B16 => values.extend_from_slice(&bytes[..2]),
-        IntBits::B32 => values.extend_from_slice(&bytes[..4]),
-        IntBits::B64 => values.extend_from_slice(&bytes),
+        IntBits::B8 => values.extend_from_slice(&number.to_le_bytes()[..1]),
+        IntBits::B16 => values.extend_from_slice(&number.to_le_bytes()[..2]),
+        IntBits::B32 => push_four(values, number),
+        IntBits::B64 => push_eight(values, number),
     }
 }
 
@@ -98,7 +113,7 @@ fn push_content(values: &mut Vec<u8>, value: &Value) -> Result<(), AllocError>
 fn push_offset(offsets: &mut Vec<u8>, end: usize) -> Result<(), AllocError>
     ensures { OnOk result (offsets.new.items ≡ offsets.old.items ++ bytes_low_first 0 4 end) }
 {
-    offsets.extend_from_slice(&end.to_le_bytes()[..4])
+    push_four(offsets, end as u64)
 }
 
 // Appends what a value gives to the buffer of values of a column with so many slots.
