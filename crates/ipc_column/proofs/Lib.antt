@@ -14,6 +14,7 @@ pub mod Visits
 pub mod Lent
 pub mod Weights
 pub mod Visited
+pub mod Marks
 pub mod Wider
 pub mod Plain
 pub mod Found

@@ -51,8 +51,8 @@ returns-in_err-slot_tests-clause-failing c =
     (rw (c.deref.ensures.value, c.deref-2.ensures.value) at c.in_err-slot_tests.ensures.judged)
     (rw (c.deref.ensures.value, c.deref-2.ensures.value) at c.in_err-slot_tests.ensures.texts_last))
 
-pub check_columns-requires : goal.check_columns-requires
-check_columns-requires c =
+pub check_columns-requires-clause-few : goal.check_columns-requires-clause-few
+check_columns-requires-clause-few c =
     let nodes = eqb-true _ _ (c.in_ok-check_head.ensures.judged cause.WrongNodeCount) in
     let good : all (is_node c.args.limits.now) c.args.head.now.nodes ≡ true =
     (and_parts (is_slot_count c.args.limits.now c.args.head.now.length) (all (is_node c.args.limits.now) c.args.head.now.nodes)
