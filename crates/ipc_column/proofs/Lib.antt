@@ -7,7 +7,7 @@ pub mod Slots
 pub mod FixedLists
 pub mod Rules
 pub mod Laws
-pub mod Numbers
+pub mod Widths
 pub mod Below
 pub mod Slices
 pub mod Visits

@@ -24,7 +24,7 @@ fn has_bitmap(slots: usize, bytes: usize) -> bool
 }
 
 // Whether so many bytes hold slots of a width in bytes, or the slots of a child lists of a size.
-#[tactic(auto, using(crate::proofs::Numbers::holds_by_quotient))]
+#[tactic(auto, using(crate::proofs::Widths::holds_by_quotient))]
 fn holds_width(width: usize, slots: usize, bytes: usize) -> bool
     ensures { result ≡ nat_le (width * slots) bytes }
 {

@@ -5,13 +5,14 @@ ghost use Rattle.std.specs.Prelude.{slice_index_or, IfErr, IfOk, IfSome, MatchRe
 ghost use Rattle.std.specs.Fmt.{signed_decimal};
 ghost use Rattle.std.specs.Int.{cast_signed, from_le_bytes, w64};
 ghost use Rattle.ipc_column.specs.Cells.{cell_value};
-ghost use Rattle.ipc_print.specs.Columns.{AreLent, row_in, AreLong, number_record};
+ghost use Rattle.ipc_print.specs.Columns.{AreLent, IsLane, row_in, AreLong, number_record};
 ghost use Rattle.ipc_print.specs.Output.{PrintsAs, PrintsAt, output};
 ghost use Rattle.ipc_print.specs.Rows.{AreShownRows, IsShown, cell_text, closed, comma, line};
 ghost use Rattle.ipc_print.specs.Rows.{lines};
 
 use crate::digits::put_i64;
-use ipc_column::{Batch, Cell};
+use ipc_column::{Batch, Cell, Numbers};
+use ipc_model::IntBits;
 use ipc_stream::Sink;
 use std::alloc::{AllocError, Global};
 use std::marker::Model;
@@ -240,7 +241,26 @@ fn print_cells<W: Sink>(
     Ok(at)
 }
 
-/// The numbers of each column, where there is a column and each lends its numbers.
+// The numbers of a column, eight bytes each, where they are signed and of 64 bits and none is null.
+fn lane_of<'a>(batch: &'a Batch, column: usize) -> Option<&'a [[u8; 8]]>
+    requires { column < batch.now.columns }
+    ensures { IfSome result (λ lane. IsLane batch.now.rows column lane.now) }
+{
+    match batch.slots(column).numbers() {
+        Some(
+            Numbers {
+                bits: IntBits::B64,
+                signed: true,
+                validity,
+                values,
+            },
+        ) if validity.is_empty() => Some(values.as_chunks::<8>().0),
+        _ => None,
+    }
+}
+
+/// The numbers of each column, where there is a column and each has signed numbers of 64 bits, of
+/// which none is null.
 pub(crate) fn numbers_of<'a>(
     alloc: Global,
     batch: &'a Batch,
@@ -250,8 +270,8 @@ pub(crate) fn numbers_of<'a>(
 {
     let mut columns = Vec::with_capacity(alloc, batch.columns())?;
     for column in 0..batch.columns() {
-        match batch.numbers(column) {
-            Some(values) => columns.push(values.as_chunks::<8>().0)?,
+        match lane_of(batch, column) {
+            Some(lane) => columns.push(lane)?,
             None => return Ok(None),
         }
     }
