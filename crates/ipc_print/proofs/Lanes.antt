@@ -1,6 +1,6 @@
 -- Columns whose numbers are lent, and the rows that they make.
 use Rattle.std.proofs.Common.{◌≡◌, ◌∙◌, refl, sym, ap, subst, ℕ, zero, suc, ◌+◌, ◌*◌, ◌/◌, ◌<◌, ◌≤◌, List, [], ◌∷◌, ◌++◌, length, take, true}
-use Rattle.std.proofs.Common.{drop, get_or, Some, arith}
+use Rattle.std.proofs.Common.{drop, get_or, Some, arith, Bool, if◌then◌else◌, ◌==◌}
 use Rattle.std.specs.Prelude.{ℤ, slice_get, slice_index_or}
 use Rattle.std.specs.Fmt.{signed_decimal}
 use Rattle.std.specs.Int.{w64, cast_signed, from_le_bytes}
@@ -9,9 +9,10 @@ use Rattle.std.specs.Simd.{first_chunks}
 use Rattle.std.proofs.lemmas.List.{map-append, length-map, take_more, take_all, drop-drop, length-append}
 use Rattle.std.proofs.lemmas.Option.{get_or_from_slice_get}
 use Rattle.std.proofs.lemmas.Simd.{get_or-chunk}
-use Rattle.ipc_scalar.specs.Bytes.{num, int64}
+use Rattle.ipc_scalar.specs.Bytes.{bit, num, int64}
 use Rattle.ipc_model.specs.declared.value.Value.{Value}
-use Rattle.ipc_model.specs.declared.value.Value.TheVariants.{Int}
+use Rattle.ipc_model.specs.declared.value.Value.TheVariants.{Null, Int}
+use Rattle.ipc_model.specs.declared.layout.Layout.TheVariants as l
 use Rattle.ipc_model.specs.declared.schema.IntBits.{IntBits}
 use Rattle.ipc_model.specs.declared.schema.IntBits.TheVariants.{B64}
 use Rattle.ipc_model.specs.Layouts.{number_bytes}
@@ -19,6 +20,7 @@ use Rattle.ipc_column.specs.declared.numbers.Numbers.{Numbers}
 use Rattle.ipc_column.specs.Lending.{AreNumbers}
 use Rattle.ipc_column.specs.Lent.{AreOfColumn}
 use Rattle.ipc_column.specs.Nested.{Nested, slot_values}
+use Rattle.ipc_column.specs.Values.{is_valid, own_value}
 use Rattle.ipc_print.specs.Columns.{number_in, row_in, AreLong, AreLent, IsLane}
 use Rattle.ipc_print.specs.Output.{Output, Puts}
 use Rattle.ipc_print.specs.Rows.{comma, opened}
@@ -57,10 +59,23 @@ number_at xs numbers all i is inside =
     ap (λ (c : List (List ℕ)). number_in (get_or c i [])) is
     ∙ (ap number_in (chunk_at (length xs / 8) i xs [] inside) ∙ ap (λ (n : ℕ). Int (cast_signed w64 n)) (chunk_number xs (8 * i)))
 
+-- what is lent of slot i of signed 64-bit numbers without a bitmap
+lane_value : (bits : IntBits) (signed : Bool) (bitmap values : List ℕ) (i : ℕ) → bits ≡ B64 → signed ≡ true
+    → (length bitmap == 0) ≡ true
+    → (if is_valid bitmap i then own_value (l.Numbers bits signed) (λ _. []) [] values i else Null) ≡ Int (int64 values (8 * i))
+lane_value bits signed bitmap values i wide sign none =
+    subst (λ (b : IntBits). (if is_valid bitmap i then own_value (l.Numbers b signed) (λ _. []) [] values i else Null)
+    ≡ Int (int64 values (8 * i))) (sym wide)
+    (subst (λ (s : Bool). (if is_valid bitmap i then own_value (l.Numbers B64 s) (λ _. []) [] values i else Null)
+    ≡ Int (int64 values (8 * i))) (sym sign)
+    (subst (λ (e : Bool). (if (if e then true else bit bitmap i)
+    then own_value (l.Numbers B64 true) (λ _. []) [] values i else Null)
+    ≡ Int (int64 values (8 * i))) (sym none) refl))
+
 -- the numbers that a column of signed 64-bit numbers without a bitmap lends, in chunks of eight bytes
 pub lane_from : (rows : List (List Value)) (column : ℕ) (slots : Nested) (numbers : Numbers) (lane : List (List ℕ))
     → AreOfColumn rows column (slot_values slots) → AreNumbers slots numbers → numbers.bits ≡ B64 → numbers.signed ≡ true
-    → numbers.validity.now ≡ [] → lane ≡ first_chunks 8 (length numbers.values.now / 8) numbers.values.now
+    → (length numbers.validity.now == 0) ≡ true → lane ≡ first_chunks 8 (length numbers.values.now / 8) numbers.values.now
     → length lane ≡ length numbers.values.now / 8 → IsLane rows column lane
 lane_from rows column slots numbers lane of are bits signed whole chunks size =
     let wide : 8 * length (slot_values slots) ≤ length numbers.values.now =
@@ -70,8 +85,9 @@ lane_from rows column slots numbers lane of are bits signed whole chunks size =
       each = λ i h.
           of.each i h
           ∙ (are.each i (omega (arith, of.size, h))
-          ∙ ap (λ (w : Value). Some w) (rw (bits, signed, whole)
-          (sym (number_at numbers.values.now [] lane i chunks (omega (arith, wide, of.size, h))))));
+          ∙ ap (λ (w : Value). Some w)
+          (lane_value numbers.bits numbers.signed numbers.validity.now numbers.values.now i bits signed whole
+          ∙ sym (number_at numbers.values.now [] lane i chunks (omega (arith, wide, of.size, h)))));
     }
 
 module _ {X : Type 0} (numbers : X → List (List ℕ)) where

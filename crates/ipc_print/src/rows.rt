@@ -2,9 +2,14 @@
 //! line of its own.
 ghost use Rattle.std.specs.Prelude.{◌≡◌, ◌≤◌, ◌<◌, ◌+◌, ◌++◌, ◌∷◌, [], length, take, vec_len};
 ghost use Rattle.std.specs.Prelude.{slice_index_or, IfErr, IfOk, IfSome, MatchResult, Some, OnOk};
+ghost use Rattle.std.specs.Prelude.{ℕ, List};
 ghost use Rattle.std.specs.Fmt.{signed_decimal};
 ghost use Rattle.std.specs.Int.{cast_signed, from_le_bytes, w64};
+ghost use Rattle.ipc_model.specs.declared.value.Value.{Value};
 ghost use Rattle.ipc_column.specs.Cells.{cell_value};
+ghost use Rattle.ipc_column.specs.Lending.{AreNumbers};
+ghost use Rattle.ipc_column.specs.Lent.{AreOfColumn};
+ghost use Rattle.ipc_column.specs.Nested.{Nested, slot_values};
 ghost use Rattle.ipc_print.specs.Columns.{AreLent, IsLane, row_in, AreLong, number_record};
 ghost use Rattle.ipc_print.specs.Output.{PrintsAs, PrintsAt, output};
 ghost use Rattle.ipc_print.specs.Rows.{AreShownRows, IsShown, cell_text, closed, comma, line};
@@ -241,22 +246,27 @@ fn print_cells<W: Sink>(
     Ok(at)
 }
 
-// The numbers of a column, eight bytes each, where they are signed and of 64 bits and none is null.
-fn lane_of<'a>(batch: &'a Batch, column: usize) -> Option<&'a [[u8; 8]]>
+// Numbers that were lent, eight bytes each, where they are signed and of 64 bits and none is null.
+fn long_numbers(numbers: Numbers<'_>) -> Option<&[[u8; 8]]>
+    ensures { (rows : List (List Value)) (column : ℕ) (slots : Nested)
+        → AreOfColumn rows column (slot_values slots) → AreNumbers slots numbers.entry
+        → IfSome result (λ lane. IsLane rows column lane.now) }
+{
+    if !numbers.signed || !numbers.validity.is_empty() {
+        return None;
+    }
+    match numbers.bits {
+        IntBits::B64 => Some(numbers.values.as_chunks::<8>().0),
+        _ => None,
+    }
+}
+
+// The numbers of a column, where they are such.
+fn lane_of(batch: &Batch, column: usize) -> Option<&[[u8; 8]]>
     requires { column < batch.now.columns }
     ensures { IfSome result (λ lane. IsLane batch.now.rows column lane.now) }
 {
-    match batch.slots(column).numbers() {
-        Some(
-            Numbers {
-                bits: IntBits::B64,
-                signed: true,
-                validity,
-                values,
-            },
-        ) if validity.is_empty() => Some(values.as_chunks::<8>().0),
-        _ => None,
-    }
+    long_numbers(batch.slots(column).numbers()?)
 }
 
 /// The numbers of each column, where there is a column and each has signed numbers of 64 bits, of
