@@ -1,73 +1,94 @@
--- Numbers that are lent are those of the rows.
-use Rattle.std.proofs.Common.{◌≡◌, ◌∙◌, refl, sym, ap, subst, ℕ, zero, suc, ◌*◌, ◌<◌, true, false, List, [], ◌∷◌, length, get_or, arith}
-use Rattle.std.proofs.Common.{Option, None, Some}
-use Rattle.std.specs.Prelude.{slice_get, slice_index_or, IfSome}
-use Rattle.std.proofs.lemmas.Bool.{false≢true, and_parts, eqb-true, leb-true}
-use Rattle.ipc_scalar.specs.Bytes.{int64}
+-- Numbers that are lent are those of the slots.
+use Rattle.std.proofs.Common.{◌≡◌, ◌∙◌, refl, sym, ap, subst, ℕ, zero, suc, ◌+◌, ◌*◌, ◌<◌, Bool, true, false, List, [], ◌∷◌, length, map}
+use Rattle.std.proofs.Common.{get_or, arith, Some}
+use Rattle.std.specs.Prelude.{slice_get}
+use Rattle.std.proofs.lemmas.Bool.{leb-true}
+use Rattle.ipc_meta.specs.declared.head.BatchHead.{BatchHead}
+use Rattle.ipc_model.specs.declared.schema.Field.{Field}
+use Rattle.ipc_model.specs.declared.schema.IntBits.{IntBits}
 use Rattle.ipc_model.specs.declared.value.Value.{Value}
-use Rattle.ipc_model.specs.declared.value.Value.TheVariants.{Int}
-use Rattle.ipc_model.specs.declared.schema.IntBits.TheVariants.{B64}
 use Rattle.ipc_model.specs.declared.layout.Layout.{Layout}
-use Rattle.ipc_model.specs.declared.layout.Layout.TheVariants.{Numbers}
+use Rattle.ipc_model.specs.declared.layout.Layout.TheVariants as l
+use Rattle.ipc_model.specs.Layouts.{own_buffers}
+use Rattle.ipc_column.specs.declared.numbers.Numbers.{Numbers}
 use Rattle.ipc_column.specs.declared.ranges.ColumnRanges.{ColumnRanges}
-use Rattle.ipc_column.specs.Columns.{Column}
-use Rattle.ipc_model.specs.Layouts.{is_signed_64}
-use Rattle.ipc_column.specs.Lending.{AreNumbers, AreValues, is_lent, lent_of}
+use Rattle.ipc_column.specs.Checks.{Holds, holds_values}
+use Rattle.ipc_column.specs.Columns.{Column, Columns}
+use Rattle.ipc_column.specs.Lending.{AreNumbers, layouts_of, number_of}
+use Rattle.ipc_column.specs.Lent.{AreFound, AreOfColumn, HoldSlots, refound, values_in}
+use Rattle.ipc_column.specs.Nested.{Nested, alone, slot_values}
+use Rattle.ipc_column.specs.Rules.{SpellsTexts}
+use Rattle.ipc_column.specs.Shapes.{shape_of, cut, field_layout, field_children, nodes_in, buffers_in}
+use Rattle.ipc_column.specs.Slots.{nested}
+use Rattle.ipc_column.specs.Values.{own_value, row, rows_of, value_of}
+use Rattle.ipc_column.specs.Views.{columns, column_of, children_of}
 use Rattle.ipc_column.specs.declared.ranges.ColumnRanges.TheViews.{out-ColumnRanges}
-use Rattle.ipc_column.specs.declared.cause.Cause.TheVariants as cause
-use Rattle.ipc_column.specs.Checks.{Holds, holds_values, passes, top_passes}
-use Rattle.ipc_column.specs.Values.{row, rows_of, value_of}
-use Rattle.ipc_column.specs.Views.{columns, own_column, children_of}
-use Rattle.ipc_column.proofs.Cells.{row_cell, rows_at, rows_length}
-use Rattle.ipc_column.proofs.Parts.{column_is, every_at, every_top_at}
-use Rattle.ipc_column.proofs.Slots.{Long, long, part_by}
+use Rattle.ipc_column.proofs.Found.{column_holds, column_rows}
+use Rattle.ipc_column.proofs.Leads.{found_from, slot_shows, slots_spell}
+use Rattle.ipc_column.proofs.Parts.{children_out}
+use Rattle.ipc_column.proofs.Slots.{items_length}
 
--- what follows of what is lent
-pub some_lent : {A : Type 0} {P Q : A → Type 0} (o : Option A) → ((a : A) → P a → Q a) → IfSome o P → IfSome o Q
-some_lent None f h = tt
-some_lent (Some a) f h = f a h
+-- columns that fields cut out lie as these say
+pub layouts_cut : (fs : List Field) (h : BatchHead) (body : List ℕ) (n b : ℕ) → layouts_of (cut (shape_of fs) h body n b) ≡ map field_layout fs
+unfolding cut
+layouts_cut [] h body n b = refl
+layouts_cut (f ∷ fs) h body n b =
+    ap (λ (ls : List Layout). field_layout f ∷ ls) (layouts_cut fs h body (n + 1 + nodes_in (field_children f))
+    (b + own_buffers (field_layout f) + buffers_in (field_children f)))
 
--- a layout whose numbers are signed and of 64 bits is that of Int with this width
-pub wide : (l : Layout) → is_signed_64 l ≡ true → l ≡ Numbers B64 true
-wide (Numbers B64 true) h = refl
-wide _ h = absurd (false≢true h)
+-- how the column of a part lies
+pub layout_at : (body : List ℕ) (ps : List ColumnRanges) (j : ℕ) (p : ColumnRanges) → j < length ps → p ≡ get_or ps j p
+    → slice_get (layouts_of (columns body ps)) j ≡ Some (column_of body p).layout
+layout_at body [] j p l e = absurd (omega arith)
+layout_at body (q ∷ ps) zero p l e = ap (λ (x : ColumnRanges). Some (column_of body x).layout) (sym e)
+layout_at body (q ∷ ps) (suc j) p l e = layout_at body ps j p (omega arith) e
 
--- bytes of the length 0 are none
-pub no_bytes : (bytes : List ℕ) → length bytes ≡ 0 → bytes ≡ []
-no_bytes [] h = refl
-no_bytes (b ∷ bs) h = absurd (omega arith)
+-- nothing but its bytes is asked for a number
+alike : (bits : IntBits) (signed : Bool) (below : ℕ → List Value) (o w : List ℕ) (i : ℕ)
+    → own_value (l.Numbers bits signed) below o w i ≡ own_value (l.Numbers bits signed) (λ _. []) [] w i
+alike bits true below o w i = refl
+alike bits false below o w i = refl
 
--- what is said of a column's place
-pub lent_at : (body : List ℕ) (ps : List ColumnRanges) (j : ℕ) (p : ColumnRanges) → j < length ps → p ≡ get_or ps j p
-    → slice_index_or (lent_of (columns body ps)) j false ≡ is_lent (own_column body p)
-lent_at body [] j p l e = absurd (omega arith)
-lent_at body (q ∷ ps) zero p l e = rw (sym e) (ap is_lent (column_is body p))
-lent_at body (q ∷ ps) (suc j) p l e = lent_at body ps j p (omega arith) e
+-- the numbers of a column that is seen so
+pub lent_numbers : (c : Column) (body : List ℕ) (ps : List ColumnRanges) (n : Nested) (numbers : Numbers)
+    → record { column = c; body = body; children = ps } ≡ n → c.layout ≡ l.Numbers numbers.bits numbers.signed
+    → c.validity ≡ numbers.validity.now → c.values ≡ numbers.values.now → holds_values c.layout c.slots (length c.values) ≡ true
+    → AreNumbers n numbers
+lent_numbers c body ps n numbers e el ev ew h =
+    let size : length (slot_values n) ≡ c.slots =
+    ap (λ (n : Nested). length (slot_values n)) (sym e) ∙ items_length (value_of (row (columns body ps)) c) 0 c.slots in
+    record {
+      layout = ap (λ (n : Nested). n.column.layout) (sym e) ∙ el;
+      long = rw (size, ← ew) (leb-true _ _ (subst (λ (x : Layout). holds_values x c.slots (length c.values) ≡ true) el h));
+      each = λ i m. slot_shows c body ps n i e m ∙ ap (λ (x : Value). Some x) (value i);
+    }
+  where
+    value : (i : ℕ) → value_of (row (columns body ps)) c i ≡ number_of numbers i
+    value i = rw (el, ev, ew, alike numbers.bits numbers.signed (row (columns body ps)) c.offsets numbers.values.now i) refl
 
-module _ (body : List ℕ) (ps : List ColumnRanges) (n j : ℕ) (p : ColumnRanges) (values : List ℕ) (inside : j < length ps)
-    (is : p ≡ get_or ps j p) (holds : Holds n (columns body ps)) (lent : AreValues body p values) where
-  number_at : (below : ℕ → List Value) (i : ℕ) → value_of below (own_column body p) i ≡ Int (int64 values (8 * i))
-  number_at below i = rw (lent.no_bitmap, lent.wide, lent.same) refl
+module _ (body : List ℕ) (ps : List ColumnRanges) (n j : ℕ) (p : ColumnRanges) (inside : j < length ps) (is : p ≡ get_or ps j p)
+    (holds : Holds n (columns body ps)) where
+  pub slots_found : AreFound (column_of body p) (children_of body p)
+  slots_found = found_from _ _ (column_holds body ps n j p inside is holds)
 
-  -- a column that is lent has exactly the numbers that stand in its place in the rows
-  pub lent_numbers : AreNumbers (rows_of (columns body ps) n) j values
-  lent_numbers =
-      let top = every_top_at (top_passes cause.BadNode n) body ps j p inside is
-      (and_parts _ _ (and_parts _ _ (holds cause.BadNode)).1).0 in
-      let own : Long (own_column body p) (columns body (out-ColumnRanges p).children.items) =
-      long (own_column body p) (columns body (out-ColumnRanges p).children.items)
-      (λ why. part_by (λ c cs. passes why c cs ≡ true) body p (every_at (passes why) body ps j p inside is
-      (and_parts _ _ (holds why)).0).0) in
-      let size : (own_column body p).slots ≡ n = sym (ap (λ (c : Column). c.slots) (column_is body p)) ∙ eqb-true _ _ top in
-      let fits : holds_values (Numbers B64 true) (own_column body p).slots (length (own_column body p).values) ≡ true =
-      subst (λ (l : Layout). holds_values l (own_column body p).slots (length (own_column body p).values) ≡ true) lent.wide
-      own.values in
-      record {
-        long = omega (arith, leb-true _ _ fits, size, rows_length (columns body ps) n, ap length lent.same);
-        each = λ i l.
-            let at : i < n = omega (arith, rows_length (columns body ps) n) in
-            ap (λ (r : List Value). slice_get r j) (rows_at (columns body ps) n i [] at)
-            ∙ (row_cell body ps i j p inside is
-            ∙ ap (λ (v : Value). Some v) (ap (λ (c : Column). value_of (row (children_of body p)) c i) (column_is body p)
-            ∙ number_at (row (children_of body p)) i));
+  pub slots_values : AreOfColumn (rows_of (columns body ps) n) j (slot_values (nested body p))
+  slots_values =
+      subst (λ (cs : Columns). AreOfColumn (rows_of (columns body ps) n) j (values_in (refound (column_of body p)) cs))
+      (children_out body p) (column_rows body ps n j p inside is holds)
+
+  pub slots_texts : (i : ℕ) → i < length (slot_values (nested body p)) → SpellsTexts (alone (nested body p)) i
+  slots_texts =
+      slots_spell (refound (column_of body p)) body (out-ColumnRanges p).children.items (nested body p) (slot_values (nested body p)) refl refl refl
+      (subst (λ (cs : Columns). HoldSlots (refound (column_of body p)) cs) (children_out body p)
+      (again (column_holds body ps n j p inside is holds))) refl
+    where
+      again : HoldSlots (column_of body p) (children_of body p) → HoldSlots (refound (column_of body p)) (children_of body p)
+      again h = record {
+        bitmap = h.bitmap;
+        values = h.values;
+        offsets = h.offsets;
+        order = h.order;
+        long = h.long;
+        sound = h.sound;
+        good = h.good;
       }

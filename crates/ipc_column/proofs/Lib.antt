@@ -7,13 +7,14 @@ pub mod Slots
 pub mod FixedLists
 pub mod Rules
 pub mod Laws
-pub mod Numbers
+pub mod Widths
 pub mod Below
 pub mod Slices
 pub mod Visits
 pub mod Lent
 pub mod Weights
 pub mod Visited
+pub mod Marks
 pub mod Wider
 pub mod Plain
 pub mod Found

@@ -1,34 +1,34 @@
 -- Columns whose numbers are lent as they lie (Arrow Columnar Format, "Fixed-size Primitive
 -- Layout").
-use Rattle.std.specs.Prelude.{◌≡◌, ℕ, ◌*◌, ◌<◌, ◌≤◌, Bool, ◌&&◌, ◌==◌, true, List, [], ◌∷◌, length}
-use Rattle.std.specs.Prelude.{Some, slice_get, slice_index_or}
-use Rattle.ipc_scalar.specs.Bytes.{int64}
-use Rattle.ipc_model.specs.declared.schema.IntBits.TheVariants.{B64}
+use Rattle.std.specs.Prelude.{◌≡◌, ℕ, ◌*◌, ◌<◌, ◌≤◌, Bool, true, false, List, [], ◌∷◌, length}
+use Rattle.std.specs.Prelude.{Some, slice_get, if◌then◌else◌}
 use Rattle.ipc_model.specs.declared.value.Value.{Value}
-use Rattle.ipc_model.specs.declared.value.Value.TheVariants.{Int}
-use Rattle.ipc_model.specs.declared.layout.Layout.TheVariants.{Numbers}
-use Rattle.ipc_column.specs.declared.ranges.ColumnRanges.{ColumnRanges}
-use Rattle.ipc_column.specs.Columns.{Column, Columns, none, column}
-use Rattle.ipc_model.specs.Layouts.{is_signed_64}
-use Rattle.ipc_column.specs.Views.{own_column}
+use Rattle.ipc_model.specs.declared.value.Value.TheVariants as v
+use Rattle.ipc_model.specs.declared.layout.Layout.{Layout}
+use Rattle.ipc_model.specs.declared.layout.Layout.TheVariants as l
+use Rattle.ipc_model.specs.Layouts.{number_bytes}
+use Rattle.ipc_column.specs.declared.numbers.Numbers.{Numbers}
+use Rattle.ipc_column.specs.Columns.{Columns, none, column}
+use Rattle.ipc_column.specs.Nested.{Nested, slot_values}
+use Rattle.ipc_column.specs.Values.{is_valid, own_value}
 
--- a column of signed 64-bit numbers without a validity bitmap is lent as it lies
-abbrev pub is_lent : Column → Bool
-is_lent c = is_signed_64 c.layout && (length c.validity == 0)
+-- how each of the columns lies
+abbrev pub layouts_of : Columns → List Layout
+layouts_of none = []
+layouts_of (column c children rest) = c.layout ∷ layouts_of rest
 
--- which of the columns are
-abbrev pub lent_of : Columns → List Bool
-lent_of none = []
-lent_of (column c children rest) = is_lent c ∷ lent_of rest
+-- the slots have numbers
+abbrev pub are_numbers : Layout → Bool
+are_numbers (l.Numbers bits signed) = true
+are_numbers _ = false
 
--- row i has the signed number at byte 8 * i in this column
-pub record AreNumbers (rows : List (List Value)) (column : ℕ) (values : List ℕ) : Type 0 where
-  pub long : 8 * length rows ≤ length values
-  pub each : (i : ℕ) → i < length rows
-      → slice_get (slice_index_or rows i []) column ≡ Some (Int (int64 values (8 * i)))
+-- what is lent of slot i: a number of so many bits, or null where the bitmap says so
+abbrev pub number_of : Numbers → ℕ → Value
+number_of n i = if is_valid n.validity.now i then own_value (l.Numbers n.bits n.signed) (λ _. []) []
+    n.values.now i else v.Null
 
--- the values of a part of signed 64-bit numbers without a bitmap
-pub record AreValues (body : List ℕ) (p : ColumnRanges) (values : List ℕ) : Type 0 where
-  pub wide : (own_column body p).layout ≡ Numbers B64 true
-  pub no_bitmap : (own_column body p).validity ≡ []
-  pub same : values ≡ (own_column body p).values
+-- these are the numbers of a column: of its bits and its sign, and one for each of its slots
+pub record AreNumbers (s : Nested) (n : Numbers) : Type 0 where
+  pub layout : s.column.layout ≡ l.Numbers n.bits n.signed
+  pub long : number_bytes n.bits * length (slot_values s) ≤ length n.values.now
+  pub each : (i : ℕ) → i < length (slot_values s) → slice_get (slot_values s) i ≡ Some (number_of n i)

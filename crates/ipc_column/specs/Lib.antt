@@ -8,6 +8,7 @@ pub mod Checks
 pub mod Weights
 pub mod Lent
 pub mod Views
+pub mod Marks
 pub mod Nested
 pub mod Slots
 pub mod Contents

@@ -2,17 +2,17 @@
 use Rattle.std.specs.Prelude.{length}
 use Rattle.ipc_column.specs.declared.batch.Shared.{Shared}
 use Rattle.ipc_column.specs.Contents.{Contents}
-use Rattle.ipc_column.specs.Lending.{lent_of}
+use Rattle.ipc_column.specs.Lending.{layouts_of}
 use Rattle.ipc_column.specs.Checks.{Holds}
 use Rattle.ipc_column.specs.Values.{rows_of}
 use Rattle.ipc_column.specs.Views.{columns}
 
--- the rows of its columns, and its numbers
+-- the rows of its columns, how these lie, and its numbers
 abbrev pub contents_of : Shared → Contents
 contents_of s = record {
   rows = rows_of (columns s.body.items s.parts.items) s.count;
   columns = length s.parts.items;
-  lent = lent_of (columns s.body.items s.parts.items);
+  layouts = layouts_of (columns s.body.items s.parts.items);
   body_len =
       length s.body.items;
   tests = s.slot_tests;

@@ -3,7 +3,9 @@ ghost use Rattle.ipc_model.specs.Layouts.{own_buffers};
 ghost use Rattle.ipc_column.specs.Shapes.{cut, shape_of, field_layout, field_children, nodes_in};
 ghost use Rattle.ipc_column.specs.Shapes.{buffers_in, column_at, buffer_at, validity_at};
 ghost use Rattle.ipc_column.specs.Shapes.{offsets_at, values_at};
-ghost use Rattle.ipc_column.specs.Views.{columns, column_of, children_of, span_bytes};
+ghost use Rattle.ipc_column.specs.Marks.{AreMarked, IsMarked};
+ghost use Rattle.ipc_column.specs.Rules.{have_texts};
+ghost use Rattle.ipc_column.specs.Views.{columns, column_of, children_of, one, span_bytes};
 
 use crate::ranges::{BufferRange, ColumnRanges};
 use ipc_meta::BatchHead;
@@ -104,6 +106,26 @@ fn values_span(layout: Layout, head: &BatchHead, first: usize) -> BufferRange
     }
 }
 
+// Whether texts stand in a part or below it.
+fn has_texts(part: &ColumnRanges) -> bool
+    requires { IsMarked part.now }
+    ensures { (body : List ℕ) → result ≡ have_texts (one body part.now) }
+{
+    part.layout.is_texts() || part.texts_below
+}
+
+// Whether they stand in one of the parts or below it.
+fn have_texts(parts: &[ColumnRanges]) -> bool
+    requires { AreMarked parts.now }
+    ensures { (body : List ℕ) → result ≡ have_texts (columns body parts.now) }
+{
+    let mut found = false;
+    for part in parts {
+        found = found || has_texts(part);
+    }
+    found
+}
+
 // The part of a field with this node and this first buffer, and the place after it.
 #[cycle(cut)]
 fn assign_field(
@@ -122,6 +144,8 @@ fn assign_field(
     ensures children { IfOk result (λ r. (body : List ℕ)
         → children_of body r.0 ≡ cut (field_children field.now) head.now body (at.node + 1)
         (at.buffer + own_buffers (field_layout field.now))) }
+    // It says rightly whether texts stand below it, and so do those below it.
+    ensures marks { IfOk result (λ r. IsMarked r.0) }
     ensures node { IfOk result (λ r. r.1.node ≡ at.node + 1 + nodes_in (field_children field.now)) }
     ensures buffer { IfOk result (λ r. r.1.buffer
         ≡ at.buffer + own_buffers (field_layout field.now)
@@ -134,6 +158,7 @@ fn assign_field(
         buffer: at.buffer + layout.own_buffers(),
     };
     let (children, next) = assign_buffers(alloc, field.children.as_slice(), head, below)?;
+    let texts_below = have_texts(&children);
     let part = ColumnRanges {
         layout,
         slots: slots.unsigned_abs() as usize,
@@ -142,6 +167,7 @@ fn assign_field(
         offsets: offsets_span(layout, head, at.buffer),
         values: values_span(layout, head, at.buffer),
         children,
+        texts_below,
     };
     Ok((part, next))
 }
@@ -160,6 +186,7 @@ pub(crate) fn assign_buffers(
     requires few_buffers { length head.now.buffers < 2 ^ 60 }
     ensures parts { IfOk result (λ r. (body : List ℕ)
         → columns body r.0.items ≡ cut (shape_of fields.now) head.now body at.node at.buffer) }
+    ensures marks { IfOk result (λ r. AreMarked r.0.items) }
     ensures number { IfOk result (λ r. length r.0.items ≡ length fields.now) }
     ensures node { IfOk result (λ r. r.1.node ≡ at.node + nodes_in (shape_of fields.now)) }
     ensures buffer { IfOk result (λ r. r.1.buffer ≡ at.buffer + buffers_in (shape_of fields.now)) }

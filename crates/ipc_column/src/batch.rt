@@ -1,15 +1,15 @@
-ghost use Rattle.std.specs.Prelude.{◌≡◌, ◌≤◌, ◌<◌, length, true, false, List, [], IfOk, IfErr};
-ghost use Rattle.std.specs.Prelude.{IfSome, is_some, MatchResult, OnOk, Some, slice_get};
+ghost use Rattle.std.specs.Prelude.{◌≡◌, ◌≤◌, ◌<◌, ℕ, length, map, true, List, [], IfOk, IfErr};
+ghost use Rattle.std.specs.Prelude.{IfSome, MatchResult, OnOk, Some, slice_get};
 ghost use Rattle.std.specs.Prelude.{slice_index_or};
 ghost use Rattle.std.specs.List.{AllByRecursion};
 ghost use Rattle.ipc_model.specs.declared.value.Value.{Value};
 ghost use Rattle.ipc_model.specs.Entries.{entries};
-ghost use Rattle.ipc_column.specs.Rules.{visits_in, slots_in};
-ghost use Rattle.ipc_column.specs.Shapes.{shape_of, nodes_in, columns_of, cut};
+ghost use Rattle.ipc_column.specs.Nested.{alone, slot_values};
+ghost use Rattle.ipc_column.specs.Rules.{SpellsTexts, visits_in, slots_in};
+ghost use Rattle.ipc_column.specs.Shapes.{shape_of, nodes_in, columns_of, cut, field_layout};
 ghost use Rattle.ipc_column.specs.Rows.{Rows, RefusesParts, IsOneList, are_plain};
 ghost use Rattle.ipc_column.specs.Sharing.{contents_of, HasRows};
 ghost use Rattle.ipc_column.specs.Checks.{Passing, Failing};
-ghost use Rattle.ipc_column.specs.Lending.{AreNumbers, lent_of};
 ghost use Rattle.ipc_column.specs.Lent.{AreOfColumn};
 ghost use Rattle.ipc_column.specs.Cells.{cell_value};
 
@@ -18,8 +18,8 @@ use crate::cell::{Cell, cell_in};
 use crate::head::check_head;
 use crate::ranges::ColumnRanges;
 use crate::rows::{read_row, rows_in};
+use crate::slot_view::{SlotView, slots_in};
 use crate::validate::check_columns;
-use crate::values::numbers_in;
 use crate::view::{ColumnView, view_in};
 use ipc_meta::BatchHead;
 use ipc_model::{Fault, Field, Items, Limits, Row, Value};
@@ -84,8 +84,7 @@ fn read(
     ensures passing { IfOk result
         (λ batch. Passing limits.now (shape_of fields.now) head.now body.items batch.rows) }
     ensures columns { IfOk result (λ batch. batch.columns ≡ length fields.now) }
-    ensures lent { IfOk result (λ batch. batch.lent
-        ≡ lent_of (cut (shape_of fields.now) head.now body.items 0 0)) }
+    ensures layouts { IfOk result (λ batch. batch.layouts ≡ map field_layout fields.now) }
     ensures body { IfOk result (λ batch. batch.body_len ≡ length body.items) }
     ensures visits { IfOk result (λ batch. batch.tests
         ≤ visits_in (cut (shape_of fields.now) head.now body.items 0 0)) }
@@ -155,9 +154,9 @@ impl Batch {
         ensures refused { IfErr result
             (λ fault. RefusesParts limits.now fault fields.value.items head body.items) }
         ensures columns { IfOk result (λ batch. batch.columns ≡ length fields.value.items) }
-        // Lent as they lie are the columns of signed 64-bit numbers without a validity bitmap.
-        ensures lent { IfOk result (λ batch. batch.lent
-            ≡ lent_of (columns_of fields.value.items head body.items)) }
+        // Each column lies as its field's type does.
+        ensures layouts { IfOk result
+            (λ batch. batch.layouts ≡ map field_layout fields.value.items) }
         ensures body { IfOk result (λ batch. batch.body_len ≡ length body.items) }
         // No slot is visited but those of texts, and those of lists and structs with a validity
         // bitmap that texts stand below; each of them once at most.
@@ -193,9 +192,8 @@ impl Batch {
         ensures refused { IfErr result
             (λ fault. RefusesParts limits.now fault fields.now head body.items) }
         ensures columns { IfOk result (λ batch. batch.columns ≡ length fields.now) }
-        // Lent as they lie are the columns of signed 64-bit numbers without a validity bitmap.
-        ensures lent { IfOk result (λ batch. batch.lent
-            ≡ lent_of (columns_of fields.now head body.items)) }
+        // Each column lies as its field's type does.
+        ensures layouts { IfOk result (λ batch. batch.layouts ≡ map field_layout fields.now) }
         ensures body { IfOk result (λ batch. batch.body_len ≡ length body.items) }
         // No slot is visited but those of texts, and those of lists and structs with a validity
         // bitmap that texts stand below; each of them once at most.
@@ -264,19 +262,20 @@ impl Batch {
         view_in(&shared.body, &shared.parts, shared.count, column)
     }
 
-    /// The values of a column of signed 64-bit integers that has no validity bitmap, lent as they
-    /// lie in the body: eight bytes for each row, the lowest first (Arrow Columnar Format,
-    /// "Fixed-size Primitive Layout"). Dates in milliseconds and timestamps are such integers too.
-    /// None for every other column: it is read by `cell`. The caller gives a column below
-    /// `columns`.
-    pub fn numbers(&self, column: usize) -> Option<&[u8]>
+    /// The slots of a column and of the columns below it, found once for all its rows. The caller
+    /// gives a column below `columns`.
+    ///
+    /// A whole column is read so: its numbers as they lie, or the lists and structs in it without a
+    /// `Cell` for each.
+    pub fn slots(&self, column: usize) -> SlotView<'_>
         requires { column < self.now.columns }
-        // It lends exactly the columns that `check` found so.
-        ensures lent { is_some result ≡ slice_index_or self.now.lent column false }
-        ensures numbers { IfSome result (λ values. AreNumbers self.now.rows column values.now) }
+        ensures layout { slice_get self.now.layouts column ≡ Some result.column.layout }
+        ensures values { AreOfColumn self.now.rows column (slot_values result) }
+        // Each text that they lead to is UTF-8.
+        ensures texts { (i : ℕ) → i < length (slot_values result) → SpellsTexts (alone result) i }
     {
         let shared = self.shared.as_ref();
-        numbers_in(&shared.body, &shared.parts, shared.count, column)
+        slots_in(&shared.body, &shared.parts, shared.count, column)
     }
 
     /// The list with the body's bytes, for a use of its own: none where the batch has clones left,

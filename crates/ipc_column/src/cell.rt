@@ -208,7 +208,7 @@ pub(crate) fn is_valid(validity: &[u8], slot: usize) -> bool
 }
 
 /// What a valid slot holds, one of the first `slots`, over the parts of the children.
-#[tactic(auto, using(crate::proofs::Numbers::slot_inside))]
+#[tactic(auto, using(crate::proofs::Widths::slot_inside))]
 #[inline(always)]
 pub(crate) fn own_cell<'a>(
     layout: Layout,

@@ -26,4 +26,6 @@ pub struct ColumnRanges {
     pub values: BufferRange,
     /// The parts of the field's children.
     pub children: Vec<ColumnRanges>,
+    /// Whether texts stand in one of the children or below it.
+    pub texts_below: bool,
 }

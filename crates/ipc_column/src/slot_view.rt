@@ -1,15 +1,19 @@
 //! The slots of a column and of the columns below it, whose buffers are found in the body once.
-ghost use Rattle.std.specs.Prelude.{◌≡◌, ◌<◌, ℕ, List, length, slice_get, Some, true};
+ghost use Rattle.std.specs.Prelude.{◌≡◌, ◌<◌, ℕ, List, length, slice_get, Some, true, IfSome};
+ghost use Rattle.std.specs.Prelude.{is_some};
 ghost use Rattle.ipc_model.specs.declared.value.Value.{Value};
-ghost use Rattle.ipc_column.specs.Checks.{are_long, holds_offsets, holds_values, in_order};
-ghost use Rattle.ipc_column.specs.Lent.{AreFound, found};
+ghost use Rattle.ipc_column.specs.Checks.{Holds, are_long, holds_offsets, holds_values, in_order};
+ghost use Rattle.ipc_column.specs.Lending.{AreNumbers, are_numbers, layouts_of};
+ghost use Rattle.ipc_column.specs.Lent.{AreFound, AreOfColumn, found};
 ghost use Rattle.ipc_column.specs.Slots.{LeadsInside, is_null, nested, nested_in, shown};
-ghost use Rattle.ipc_column.specs.Nested.{Nested, below, slot_values};
-ghost use Rattle.ipc_column.specs.Values.{own_value, row};
+ghost use Rattle.ipc_column.specs.Nested.{Nested, alone, below, slot_values};
+ghost use Rattle.ipc_column.specs.Rules.{SpellsTexts};
+ghost use Rattle.ipc_column.specs.Values.{own_value, row, rows_of};
 ghost use Rattle.ipc_column.specs.Views.{columns, column_of, children_of};
 
 use crate::cell::is_valid;
 use crate::fixed::{bytes_of, signed_at, unsigned_at};
+use crate::numbers::Numbers;
 use crate::offsets::{bytes_between, fixed_place, place_at};
 use crate::range_bytes::bytes_at;
 use crate::ranges::ColumnRanges;
@@ -125,6 +129,25 @@ impl<'a> SlotView<'a> {
         }
     }
 
+    /// The numbers of the column as they lie in the body, with their validity bitmap: none where the
+    /// column has anything else.
+    #[inline(always)]
+    pub fn numbers(&self) -> Option<Numbers<'a>>
+        // It lends exactly the columns of numbers.
+        ensures lent { is_some result ≡ are_numbers self.now.column.layout }
+        ensures numbers { IfSome result (λ numbers. AreNumbers self.now numbers) }
+    {
+        match self.layout {
+            Layout::Numbers { bits, signed } => Some(Numbers {
+                bits,
+                signed,
+                validity: self.validity,
+                values: self.values,
+            }),
+            _ => None,
+        }
+    }
+
     /// How many children there are: one of a list, one for each part of a struct, else none.
     pub fn children(&self) -> usize
         ensures { result ≡ length self.now.children }
@@ -142,7 +165,7 @@ impl<'a> SlotView<'a> {
 }
 
 // What a valid slot holds, one of the first `slots`.
-#[tactic(auto, using(crate::proofs::Numbers::slot_inside))]
+#[tactic(auto, using(crate::proofs::Widths::slot_inside))]
 #[inline(always)]
 fn own_slot<'a>(
     layout: Layout,
@@ -231,4 +254,22 @@ fn slots_of<'a>(body: &'a [u8], part: &'a ColumnRanges) -> SlotView<'a>
         body,
         children: &part.children,
     }
+}
+
+/// The slots of a column of parts that give so many rows.
+pub(crate) fn slots_in<'a>(
+    body: &'a [u8],
+    parts: &'a [ColumnRanges],
+    rows: usize,
+    column: usize,
+) -> SlotView<'a>
+    requires holds { Holds rows (columns body.now parts.now) }
+    requires column { column < length parts.now }
+    ensures layout { slice_get (layouts_of (columns body.now parts.now)) column
+        ≡ Some result.column.layout }
+    ensures values { AreOfColumn (rows_of (columns body.now parts.now) rows) column
+        (slot_values result) }
+    ensures texts { (i : ℕ) → i < length (slot_values result) → SpellsTexts (alone result) i }
+{
+    slots_of(body, &parts[column])
 }

@@ -4,6 +4,7 @@ ghost use Rattle.ipc_column.specs.Checks.{Judges, has_bitmap, holds_values, hold
 ghost use Rattle.ipc_column.specs.Checks.{in_order, nulls_in, passes, top_passes, all_pass};
 ghost use Rattle.ipc_column.specs.Checks.{have_slots, are_long, are_ascending};
 ghost use Rattle.ipc_column.specs.Columns.{every, every_top};
+ghost use Rattle.ipc_column.specs.Marks.{AreMarked};
 ghost use Rattle.ipc_column.specs.Rules.{visits_in};
 ghost use Rattle.ipc_column.specs.Values.{place};
 ghost use Rattle.ipc_column.specs.Views.{columns, column_of, children_of};
@@ -23,7 +24,7 @@ fn has_bitmap(slots: usize, bytes: usize) -> bool
 }
 
 // Whether so many bytes hold slots of a width in bytes, or the slots of a child lists of a size.
-#[tactic(auto, using(crate::proofs::Numbers::holds_by_quotient))]
+#[tactic(auto, using(crate::proofs::Widths::holds_by_quotient))]
 fn holds_width(width: usize, slots: usize, bytes: usize) -> bool
     ensures { result ≡ nat_le (width * slots) bytes }
 {
@@ -200,7 +201,8 @@ fn check_tops(body: &[u8], parts: &[ColumnRanges], rows: usize) -> Result<(), Ca
 /// Whether the parts, which are the columns of a batch, give so many rows; how many slots were
 /// visited to find that.
 pub(crate) fn check_columns(body: &[u8], parts: &[ColumnRanges], rows: usize) -> Result<u64, Cause>
-    requires { visits_in (columns body.now parts.now) < 2 ^ 64 }
+    requires few { visits_in (columns body.now parts.now) < 2 ^ 64 }
+    requires marks { AreMarked parts.now }
     ensures judged { Judges result (λ why. all_pass why rows (columns body.now parts.now)) }
     ensures texts_last { IfErr result (λ why. why ≡ Cause.ValueNotUtf8 → (other : Cause)
         → every (passes other) (columns body.now parts.now) ≡ true) }

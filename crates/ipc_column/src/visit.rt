@@ -1,7 +1,8 @@
-ghost use Rattle.std.specs.Prelude.{◌≡◌, ◌≤◌, ◌<◌, ◌+◌, ◌^◌, ℕ, List, length, true, false};
+ghost use Rattle.std.specs.Prelude.{◌≡◌, ◌≤◌, ◌<◌, ◌+◌, ◌^◌, length, true, false};
 ghost use Rattle.ipc_column.specs.Checks.{good, good_slot, range_good};
 ghost use Rattle.ipc_column.specs.Lent.{AreSlots};
-ghost use Rattle.ipc_column.specs.Rules.{have_texts, is_visited};
+ghost use Rattle.ipc_column.specs.Marks.{AreMarked, IsMarked};
+ghost use Rattle.ipc_column.specs.Rules.{is_visited};
 ghost use Rattle.ipc_model.specs.Layouts.{is_texts};
 ghost use Rattle.ipc_column.specs.Views.{columns, column_of, children_of, one};
 ghost use Rattle.ipc_column.specs.Weights.{weight, weight_below};
@@ -14,26 +15,6 @@ use crate::texts::visit_texts;
 use crate::whole::is_whole_part;
 use ipc_model::Layout;
 
-// Whether texts stand in a part or below it.
-#[cycle(have_texts)]
-fn has_texts(part: &ColumnRanges) -> bool
-    ensures { (body : List ℕ) → result ≡ have_texts (one body part.now) }
-{
-    part.layout.is_texts() || have_texts(&part.children)
-}
-
-// Whether they stand in one of the parts or below it.
-#[cycle(have_texts)]
-fn have_texts(parts: &[ColumnRanges]) -> bool
-    ensures { (body : List ℕ) → result ≡ have_texts (columns body parts.now) }
-{
-    let mut found = false;
-    for part in parts {
-        found = found || has_texts(part);
-    }
-    found
-}
-
 // Whether what a part's slots from one up to another lead to is good: in a list the slots between
 // its offsets, in a list of a fixed size that many for each, in a struct the same slots of each
 // child.
@@ -44,6 +25,7 @@ fn visit_below(body: &[u8], part: &ColumnRanges, from: usize, to: usize, tests: 
     requires room { tests.old + weight_below (column_of body.now part.now).layout
         (weight (children_of body.now part.now)) (column_of body.now part.now).offsets from to
         < 2 ^ 64 }
+    requires marks { IsMarked part.now }
     ensures good { result ≡ range_good (column_of body.now part.now).layout
         (good (children_of body.now part.now)) (column_of body.now part.now).offsets from to }
     ensures cost { tests.new ≤ tests.old + weight_below (column_of body.now part.now).layout
@@ -76,6 +58,7 @@ fn visit_slot(body: &[u8], part: &ColumnRanges, slot: usize, tests: &mut u64) ->
         ≡ true }
     requires room { tests.old + weight (one body.now part.now) slot (slot + 1) < 2 ^ 64 }
     requires small { slot + 1 < 2 ^ 64 }
+    requires marks { IsMarked part.now }
     ensures good { result ≡ good_slot (good (children_of body.now part.now))
         (column_of body.now part.now) slot }
     ensures cost { tests.new ≤ tests.old + weight (one body.now part.now) slot (slot + 1) }
@@ -92,6 +75,7 @@ fn visit_slots(body: &[u8], part: &ColumnRanges, from: usize, to: usize, tests: 
     requires visited { is_visited (column_of body.now part.now) (children_of body.now part.now)
         ≡ true }
     requires room { tests.old + weight (one body.now part.now) from to < 2 ^ 64 }
+    requires marks { IsMarked part.now }
     ensures good { result ≡ good (one body.now part.now) from to }
     ensures cost { tests.new ≤ tests.old + weight (one body.now part.now) from to }
 {
@@ -110,6 +94,7 @@ fn visit_slots(body: &[u8], part: &ColumnRanges, from: usize, to: usize, tests: 
 fn visit_part(body: &[u8], part: &ColumnRanges, from: usize, to: usize, tests: &mut u64) -> bool
     requires slots { AreSlots (one body.now part.now) from to }
     requires room { tests.old + weight (one body.now part.now) from to < 2 ^ 64 }
+    requires marks { IsMarked part.now }
     ensures good { result ≡ good (one body.now part.now) from to }
     ensures cost { tests.new ≤ tests.old + weight (one body.now part.now) from to }
 {
@@ -127,11 +112,11 @@ fn visit_part(body: &[u8], part: &ColumnRanges, from: usize, to: usize, tests: &
             tests,
         );
     }
+    if !part.texts_below {
+        return true;
+    }
     if bytes_at(body, part.validity).is_empty() {
         return visit_below(body, part, from, to, tests);
-    }
-    if !have_texts(&part.children) {
-        return true;
     }
     visit_slots(body, part, from, to, tests)
 }
@@ -141,6 +126,7 @@ fn visit_part(body: &[u8], part: &ColumnRanges, from: usize, to: usize, tests: &
 fn visit_all(body: &[u8], parts: &[ColumnRanges], from: usize, to: usize, tests: &mut u64) -> bool
     requires slots { AreSlots (columns body.now parts.now) from to }
     requires room { tests.old + weight (columns body.now parts.now) from to < 2 ^ 64 }
+    requires marks { AreMarked parts.now }
     ensures good { result ≡ good (columns body.now parts.now) from to }
     ensures cost { tests.new ≤ tests.old + weight (columns body.now parts.now) from to }
 {
@@ -156,6 +142,7 @@ fn visit_all(body: &[u8], parts: &[ColumnRanges], from: usize, to: usize, tests:
 fn visit_column(body: &[u8], part: &ColumnRanges, from: usize, to: usize, tests: &mut u64) -> bool
     requires slots { AreSlots (one body.now part.now) from to }
     requires room { tests.old + weight (one body.now part.now) from to < 2 ^ 64 }
+    requires marks { IsMarked part.now }
     ensures good { result ≡ good (one body.now part.now) from to }
     ensures cost { tests.new ≤ tests.old + weight (one body.now part.now) from to }
 {
@@ -173,6 +160,7 @@ pub(crate) fn visit_columns(
 ) -> bool
     requires slots { AreSlots (columns body.now parts.now) from to }
     requires room { tests.old + weight (columns body.now parts.now) from to < 2 ^ 64 }
+    requires marks { AreMarked parts.now }
     ensures good { result ≡ good (columns body.now parts.now) from to }
     ensures cost { tests.new ≤ tests.old + weight (columns body.now parts.now) from to }
 {

@@ -4,6 +4,7 @@ ghost use Rattle.ipc_model.specs.declared.layout.Layout.{Layout};
 ghost use Rattle.ipc_model.specs.declared.limits.Limits.{Limits};
 ghost use Rattle.ipc_model.specs.declared.value.Value.{Value};
 ghost use Rattle.ipc_column.specs.Shapes.{Shape, bare, field};
+ghost use Rattle.ipc_encode.specs.declared.node.Node.{out-Node};
 ghost use Rattle.ipc_encode.specs.Buffers.{column_buffers, nodes_of, buffers_of};
 ghost use Rattle.ipc_encode.specs.Cells.{nulls};
 ghost use Rattle.ipc_encode.specs.Writing.{Adds};
@@ -96,6 +97,32 @@ fn add_column(draft: &mut Draft, column: &Column) -> Result<(), AllocError>
     add_buffers(draft, column)
 }
 
+// Adds the node and the buffers of a node's own column.
+fn add_own(node: &Node, draft: &mut Draft) -> Result<(), AllocError>
+    ensures nodes { (limits : Limits) (layout : Layout) (values : List Value)
+        → IsColumn limits layout values (out-Node node.now).column
+        → OnOk result (draft.new.nodes.items
+        ≡ draft.old.nodes.items ++ (pos (length values), pos (nulls values)) ∷ []) }
+    ensures adds { (limits : Limits) (layout : Layout) (values : List Value)
+        → IsColumn limits layout values (out-Node node.now).column
+        → OnOk result (Adds draft.old draft.new (column_buffers layout values)) }
+{
+    add_column(draft, &node.column)
+}
+
+// Adds the nodes and the buffers of the columns below a node.
+#[cycle(add)]
+fn add_below(node: &Node, draft: &mut Draft) -> Result<(), AllocError>
+    ensures nodes { (limits : Limits) (children : Shape) (given : ℕ → List Value)
+        → AreColumns limits children (out-Node node.now).children.items given
+        → OnOk result (draft.new.nodes.items ≡ draft.old.nodes.items ++ nodes_of children given) }
+    ensures adds { (limits : Limits) (children : Shape) (given : ℕ → List Value)
+        → AreColumns limits children (out-Node node.now).children.items given
+        → OnOk result (Adds draft.old draft.new (buffers_of children given)) }
+{
+    add_nodes(&node.children, draft)
+}
+
 // Adds the nodes and the buffers of a column, and then those of the columns below it.
 #[cycle(add)]
 fn add_node(node: &Node, draft: &mut Draft) -> Result<(), AllocError>
@@ -108,8 +135,8 @@ fn add_node(node: &Node, draft: &mut Draft) -> Result<(), AllocError>
         → OnOk result
         (Adds draft.old draft.new (buffers_of (field layout children bare) (λ j. values))) }
 {
-    add_column(draft, &node.column)?;
-    add_nodes(&node.children, draft)
+    add_own(node, draft)?;
+    add_below(node, draft)
 }
 
 /// Adds the nodes and the buffers of columns, each with those below it behind it.

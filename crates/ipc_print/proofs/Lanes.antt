@@ -1,6 +1,6 @@
 -- Columns whose numbers are lent, and the rows that they make.
-use Rattle.std.proofs.Common.{◌≡◌, ◌∙◌, refl, sym, ap, subst, ℕ, zero, suc, ◌+◌, ◌*◌, ◌/◌, ◌<◌, ◌≤◌, List, [], ◌∷◌, ◌++◌, length, take}
-use Rattle.std.proofs.Common.{drop, get_or, Some, arith}
+use Rattle.std.proofs.Common.{◌≡◌, ◌∙◌, refl, sym, ap, subst, ℕ, zero, suc, ◌+◌, ◌*◌, ◌/◌, ◌<◌, ◌≤◌, List, [], ◌∷◌, ◌++◌, length, take, true}
+use Rattle.std.proofs.Common.{drop, get_or, Some, arith, Bool, if◌then◌else◌, ◌==◌}
 use Rattle.std.specs.Prelude.{ℤ, slice_get, slice_index_or}
 use Rattle.std.specs.Fmt.{signed_decimal}
 use Rattle.std.specs.Int.{w64, cast_signed, from_le_bytes}
@@ -9,11 +9,19 @@ use Rattle.std.specs.Simd.{first_chunks}
 use Rattle.std.proofs.lemmas.List.{map-append, length-map, take_more, take_all, drop-drop, length-append}
 use Rattle.std.proofs.lemmas.Option.{get_or_from_slice_get}
 use Rattle.std.proofs.lemmas.Simd.{get_or-chunk}
-use Rattle.ipc_scalar.specs.Bytes.{num, int64}
+use Rattle.ipc_scalar.specs.Bytes.{bit, num, int64}
 use Rattle.ipc_model.specs.declared.value.Value.{Value}
-use Rattle.ipc_model.specs.declared.value.Value.TheVariants.{Int}
+use Rattle.ipc_model.specs.declared.value.Value.TheVariants.{Null, Int}
+use Rattle.ipc_model.specs.declared.layout.Layout.TheVariants as l
+use Rattle.ipc_model.specs.declared.schema.IntBits.{IntBits}
+use Rattle.ipc_model.specs.declared.schema.IntBits.TheVariants.{B64}
+use Rattle.ipc_model.specs.Layouts.{number_bytes}
+use Rattle.ipc_column.specs.declared.numbers.Numbers.{Numbers}
 use Rattle.ipc_column.specs.Lending.{AreNumbers}
-use Rattle.ipc_print.specs.Columns.{number_in, row_in, AreLong, AreLent}
+use Rattle.ipc_column.specs.Lent.{AreOfColumn}
+use Rattle.ipc_column.specs.Nested.{Nested, slot_values}
+use Rattle.ipc_column.specs.Values.{is_valid, own_value}
+use Rattle.ipc_print.specs.Columns.{number_in, row_in, AreLong, AreLent, IsLane}
 use Rattle.ipc_print.specs.Output.{Output, Puts}
 use Rattle.ipc_print.specs.Rows.{comma, opened}
 use Rattle.ipc_print.proofs.Puts.{puts_then}
@@ -51,6 +59,37 @@ number_at xs numbers all i is inside =
     ap (λ (c : List (List ℕ)). number_in (get_or c i [])) is
     ∙ (ap number_in (chunk_at (length xs / 8) i xs [] inside) ∙ ap (λ (n : ℕ). Int (cast_signed w64 n)) (chunk_number xs (8 * i)))
 
+-- what is lent of slot i of signed 64-bit numbers without a bitmap
+lane_value : (bits : IntBits) (signed : Bool) (bitmap values : List ℕ) (i : ℕ) → bits ≡ B64 → signed ≡ true
+    → (length bitmap == 0) ≡ true
+    → (if is_valid bitmap i then own_value (l.Numbers bits signed) (λ _. []) [] values i else Null) ≡ Int (int64 values (8 * i))
+lane_value bits signed bitmap values i wide sign none =
+    subst (λ (b : IntBits). (if is_valid bitmap i then own_value (l.Numbers b signed) (λ _. []) [] values i else Null)
+    ≡ Int (int64 values (8 * i))) (sym wide)
+    (subst (λ (s : Bool). (if is_valid bitmap i then own_value (l.Numbers B64 s) (λ _. []) [] values i else Null)
+    ≡ Int (int64 values (8 * i))) (sym sign)
+    (subst (λ (e : Bool). (if (if e then true else bit bitmap i)
+    then own_value (l.Numbers B64 true) (λ _. []) [] values i else Null)
+    ≡ Int (int64 values (8 * i))) (sym none) refl))
+
+-- the numbers that a column of signed 64-bit numbers without a bitmap lends, in chunks of eight bytes
+pub lane_from : (rows : List (List Value)) (column : ℕ) (slots : Nested) (numbers : Numbers) (lane : List (List ℕ))
+    → AreOfColumn rows column (slot_values slots) → AreNumbers slots numbers → numbers.bits ≡ B64 → numbers.signed ≡ true
+    → (length numbers.validity.now == 0) ≡ true → lane ≡ first_chunks 8 (length numbers.values.now / 8) numbers.values.now
+    → length lane ≡ length numbers.values.now / 8 → IsLane rows column lane
+lane_from rows column slots numbers lane of are bits signed whole chunks size =
+    let wide : 8 * length (slot_values slots) ≤ length numbers.values.now =
+    subst (λ (b : IntBits). number_bytes b * length (slot_values slots) ≤ length numbers.values.now) bits are.long in
+    record {
+      long = omega (arith, wide, of.size, size);
+      each = λ i h.
+          of.each i h
+          ∙ (are.each i (omega (arith, of.size, h))
+          ∙ ap (λ (w : Value). Some w)
+          (lane_value numbers.bits numbers.signed numbers.validity.now numbers.values.now i bits signed whole
+          ∙ sym (number_at numbers.values.now [] lane i chunks (omega (arith, wide, of.size, h)))));
+    }
+
 module _ {X : Type 0} (numbers : X → List (List ℕ)) where
   -- the first columns lend their numbers
   pub record LentSome (columns : List X) (rows : List (List Value)) (count : ℕ) : Type 0 where
@@ -63,22 +102,20 @@ module _ {X : Type 0} (numbers : X → List (List ℕ)) where
   lent_none columns rows none = subst (λ (c : List X). LentSome c rows 0) (sym none) (record { size = refl; long = tt; same = λ i h. refl })
 
   -- where one column more lends its numbers, the first columns and it lend theirs
-  pub lent_more : (columns more : List X) (x : X) (rows : List (List Value)) (count : ℕ) (values : List ℕ) → LentSome columns rows count
-      → AreNumbers rows count values
-      → numbers x ≡ first_chunks 8 (length values / 8) values → length (numbers x) ≡ length values / 8 → more ≡ columns ++ x ∷ []
-      → LentSome more rows (count + 1)
-  lent_more columns more x rows count values lent are chunks size is =
+  pub lent_more : (columns more : List X) (x : X) (rows : List (List Value)) (count : ℕ) → LentSome columns rows count
+      → IsLane rows count (numbers x) → more ≡ columns ++ x ∷ [] → LentSome more rows (count + 1)
+  lent_more columns more x rows count lent lane is =
       subst (λ (c : List X). LentSome c rows (count + 1)) (sym is) (record {
         size = omega (arith, lent.size, length-append columns (x ∷ []));
-        long = all_more (λ c. length rows ≤ length (numbers c)) columns x lent.long (omega (arith, are.long, size));
+        long = all_more (λ c. length rows ≤ length (numbers c)) columns x lent.long lane.long;
         same = λ i h.
             let row = slice_index_or rows i [] in
-            let at = are.each i h in
-            let wide : count < length row = got_inside row count (Int (int64 values (8 * i))) at in
-            let last : number_in (slice_index_or (numbers x) i []) ≡ get_or row count (Int (int64 values (8 * i))) =
-            number_at values [] (numbers x) i chunks (omega (arith, are.long, h)) ∙ sym (get_or_from_slice_get row count _ _ at) in
+            let at = lane.each i h in
+            let value = number_in (slice_index_or (numbers x) i []) in
+            let wide : count < length row = got_inside row count value at in
+            let last : value ≡ get_or row count value = sym (get_or_from_slice_get row count _ _ at) in
             map-append (λ c. number_in (slice_index_or (numbers c) i [])) columns (x ∷ [])
-            ∙ (ap (λ (vs : List Value). vs ++ number_in (slice_index_or (numbers x) i []) ∷ []) (lent.same i h)
+            ∙ (ap (λ (vs : List Value). vs ++ value ∷ []) (lent.same i h)
             ∙ (ap (λ (w : Value). take count row ++ w ∷ []) last ∙ sym (take_more row count _ wide)));
       })
 

@@ -1,6 +1,6 @@
 -- Columns of signed 64-bit numbers, whose rows are printed in bulk.
 use Rattle.std.specs.Prelude.{◌≡◌, ℕ, ◌<◌, ◌≤◌, true, List, [], length, map, None}
-use Rattle.std.specs.Prelude.{slice_index_or}
+use Rattle.std.specs.Prelude.{Some, slice_get, slice_index_or}
 use Rattle.std.specs.List.{AllByRecursion}
 use Rattle.std.specs.Int.{w64, cast_signed, from_le_bytes}
 use Rattle.ipc_model.specs.declared.schema.DataType.TheVariants as t
@@ -28,6 +28,12 @@ number_in bytes = Int (cast_signed w64 (from_le_bytes w64 bytes))
 -- a record of CSV of signed numbers (RFC 4180)
 abbrev pub number_record : List Value → List ℕ
 number_record row = row_text default_writer (map cell_text row)
+
+-- the numbers of a column of rows, eight bytes each
+pub record IsLane (rows : List (List Value)) (column : ℕ) (lane : List (List ℕ)) : Type 0 where
+  pub long : length rows ≤ length lane
+  pub each : (i : ℕ) → i < length rows
+      → slice_get (slice_index_or rows i []) column ≡ Some (number_in (slice_index_or lane i []))
 
 module _ {X : Type 0} (numbers : X → List (List ℕ)) where
   -- the numbers that columns have in a row

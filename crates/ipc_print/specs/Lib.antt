@@ -7,3 +7,4 @@ pub mod Output
 pub mod Rows
 pub mod Streams
 pub mod Unquoted
+pub mod LentSlots

@@ -1,13 +1,19 @@
 //! A row of lent cells as a line of JSON.
 ghost use Rattle.std.specs.Prelude.{◌≡◌, ◌≤◌, ◌<◌, ◌+◌, ◌++◌, ◌∷◌, [], length, map, take, false};
-ghost use Rattle.std.specs.Prelude.{IfOk, Some, slice_get};
+ghost use Rattle.std.specs.Prelude.{IfOk, Some, replicate, slice_get};
 ghost use Rattle.hex.specs.Hex.{encode_lower};
 ghost use Rattle.json.specs.Print.{quoted};
 ghost use Rattle.serde_json.specs.Data.{array, boolean, null};
 ghost use Rattle.serde_json.specs.Written.{comma_if, compact_text, items_text};
+ghost use Rattle.ipc_model.specs.declared.schema.Field.{Field};
 ghost use Rattle.ipc_model.specs.declared.value.Value.{Value};
+ghost use Rattle.ipc_model.specs.declared.value.Value.TheVariants as v;
 ghost use Rattle.ipc_column.specs.Cells.{cell_value};
+ghost use Rattle.ipc_column.specs.Nested.{below, slot_values};
+ghost use Rattle.ipc_column.specs.Values.{row};
 ghost use Rattle.ipc_print.specs.LentRows.{HaveRow, row_at};
+ghost use Rattle.ipc_print.specs.LentSlots.{HaveSlot, LeadsTo, list_values, slot_value};
+ghost use Rattle.ipc_print.specs.LentSlots.{values_between};
 ghost use Rattle.ipc_json.specs.RowJson.{cell_json, each_json, int_json, items_json, list_json};
 ghost use Rattle.ipc_json.specs.RowJson.{row_text};
 
@@ -16,7 +22,7 @@ use crate::hexadecimal::put_hexadecimal;
 use crate::moments::put_moment;
 use crate::room::{put, reserve};
 use crate::strings::put_string;
-use ipc_column::{Cell, ColumnView, ListCell, StructCell};
+use ipc_column::{Cell, ColumnView, Slot, SlotView};
 use ipc_model::{DataType, Field};
 use std::alloc::AllocError;
 
@@ -112,118 +118,174 @@ fn put_end(text: &mut Vec<u8>, at: usize) -> Result<usize, AllocError>
     Ok(put(text, at, b"]"))
 }
 
-// A value of a field, which may have values of its own.
-#[cycle(cell)]
-fn put_value(
+// What a slot of a column holds, by the column's field.
+#[cycle(slot)]
+fn put_slot(
     text: &mut Vec<u8>,
     at: usize,
     field: &Field,
-    cell: Cell<'_>,
+    column: &SlotView<'_>,
+    slot: usize,
 ) -> Result<usize, AllocError>
-    requires { at + 34 ≤ length text.old.items }
+    requires room { at + 34 ≤ length text.old.items }
+    requires slot { slot < length (slot_values column.now) }
     ensures inside { IfOk result (λ end. end ≤ length text.new.items) }
     ensures text { IfOk result (λ end. take end text.new.items ≡ take at text.old.items
-        ++ compact_text (cell_json field.now (cell_value cell.entry))) }
+        ++ compact_text (cell_json field.now (slot_value column.now slot))) }
 {
-    match cell {
-        Cell::Null => Ok(put_null(text, at)),
-        Cell::Bool(is_true) => Ok(put_bool(text, at, is_true)),
-        Cell::Int(number) => Ok(put_int(text, at, &field.kind, number)),
-        Cell::UInt(number) => Ok(put_unsigned(text, at, number)),
-        Cell::Bytes(bytes) => put_bytes(text, at, bytes),
-        Cell::Text(chars) => put_string(text, at, chars.as_bytes()),
-        Cell::List(values) => put_list(text, at, field.children.as_slice(), &values),
-        Cell::Struct(values) => put_struct(text, at, field.children.as_slice(), &values),
+    match column.at(slot) {
+        Slot::Null => Ok(put_null(text, at)),
+        Slot::Bool(truth) => Ok(put_bool(text, at, truth)),
+        Slot::Int(number) => Ok(put_int(text, at, &field.kind, number)),
+        Slot::UInt(number) => Ok(put_unsigned(text, at, number)),
+        Slot::Bytes(bytes) => put_bytes(text, at, bytes),
+        Slot::Text(chars) => put_string(text, at, chars),
+        Slot::List { from, to } => {
+            put_list(text, at, field.children.as_slice(), column, from, to)
+        }
+        Slot::Struct => put_struct(text, at, field.children.as_slice(), column, slot),
     }
 }
 
-// The values of a list, by its field's one child.
-#[cycle(cell)]
+// The values of a list, which stand in slots of the first child, by its field's one child.
+#[cycle(slot)]
 fn put_list(
     text: &mut Vec<u8>,
     at: usize,
     children: &[Field],
-    values: &ListCell<'_>,
+    column: &SlotView<'_>,
+    from: usize,
+    to: usize,
 ) -> Result<usize, AllocError>
-    requires { at + 34 ≤ length text.old.items }
+    requires room { at + 34 ≤ length text.old.items }
+    requires slots { LeadsTo column.now from to }
     ensures inside { IfOk result (λ end. end ≤ length text.new.items) }
     ensures text { IfOk result (λ end. take end text.new.items ≡ take at text.old.items
-        ++ compact_text (array (list_json (map cell_json children.now) values.now))) }
+        ++ compact_text (array (list_json (map cell_json children.now)
+        (list_values column.now from to)))) }
 {
     let start = put(text, at, b"[");
     match children.first() {
-        Some(child) => put_items(text, start, child, values),
+        Some(child) => put_items(text, start, child, column, from, to),
         None => put_end(text, start),
     }
 }
 
 // The values of a list and the closing bracket.
-#[cycle(cell)]
+#[cycle(slot)]
 fn put_items(
     text: &mut Vec<u8>,
     start: usize,
     child: &Field,
-    values: &ListCell<'_>,
+    column: &SlotView<'_>,
+    from: usize,
+    to: usize,
 ) -> Result<usize, AllocError>
-    requires { start ≤ length text.old.items }
+    requires start { start ≤ length text.old.items }
+    requires slots { LeadsTo column.now from to }
     ensures inside { IfOk result (λ end. end ≤ length text.new.items) }
     ensures text { IfOk result (λ end. take end text.new.items ≡ take start text.old.items
-        ++ items_text false (items_json (cell_json child.now) values.now)) }
+        ++ items_text false (items_json (cell_json child.now) (list_values column.now from to))) }
+{
+    if column.children() == 0 {
+        return put_nulls(text, start, to - from);
+    }
+    put_slots(text, start, child, &column.child(0), from, to - from)
+}
+
+// So many nulls and the closing bracket.
+fn put_nulls(text: &mut Vec<u8>, start: usize, count: usize) -> Result<usize, AllocError>
+    requires start { start ≤ length text.old.items }
+    ensures inside { IfOk result (λ end. end ≤ length text.new.items) }
+    ensures text { (field : Field) → IfOk result
+        (λ end. take end text.new.items ≡ take start text.old.items
+        ++ items_text false (items_json (cell_json field) (replicate count v.Null))) }
 {
     let mut at = start;
+    for number in 0..count {
+        let place = start_item(text, at, 0 < number)?;
+        at = put_null(text, place);
+    }
+    put_end(text, at)
+}
+
+// What so many slots of a column hold, and the closing bracket.
+#[cycle(slot)]
+fn put_slots(
+    text: &mut Vec<u8>,
+    start: usize,
+    field: &Field,
+    column: &SlotView<'_>,
+    from: usize,
+    count: usize,
+) -> Result<usize, AllocError>
+    requires start { start ≤ length text.old.items }
+    requires slots { from + count ≤ length (slot_values column.now) }
+    ensures inside { IfOk result (λ end. end ≤ length text.new.items) }
+    ensures text { IfOk result (λ end. take end text.new.items ≡ take start text.old.items
+        ++ items_text false (items_json (cell_json field.now)
+        (values_between column.now from count))) }
+{
+    let _slots = column.len();
+    let mut at = start;
     let mut later = false;
-    for number in 0..values.len() {
+    for number in 0..count {
         let place = start_item(text, at, later)?;
-        at = put_value(text, place, child, values.at(number))?;
+        at = put_slot(text, place, field, column, from + number)?;
         later = true;
     }
     put_end(text, at)
 }
 
 // The values of a struct, each by its child of the field.
-#[cycle(cell)]
+#[cycle(slot)]
 fn put_struct(
     text: &mut Vec<u8>,
     at: usize,
     children: &[Field],
-    values: &StructCell<'_>,
+    column: &SlotView<'_>,
+    slot: usize,
 ) -> Result<usize, AllocError>
-    requires { at + 34 ≤ length text.old.items }
+    requires room { at + 34 ≤ length text.old.items }
+    requires slot { HaveSlot column.now slot }
     ensures inside { IfOk result (λ end. end ≤ length text.new.items) }
     ensures text { IfOk result (λ end. take end text.new.items ≡ take at text.old.items
-        ++ compact_text (array (each_json (map cell_json children.now) values.now))) }
+        ++ compact_text (array (each_json (map cell_json children.now)
+        (row (below column.now) slot)))) }
 {
     let start = put(text, at, b"[");
-    put_each(text, start, children, values)
+    put_each(text, start, children, column, slot)
 }
 
 // Values beside their fields and the closing bracket.
-#[cycle(cell)]
+#[cycle(slot)]
 fn put_each(
     text: &mut Vec<u8>,
     start: usize,
     fields: &[Field],
-    values: &StructCell<'_>,
+    column: &SlotView<'_>,
+    slot: usize,
 ) -> Result<usize, AllocError>
-    requires { start ≤ length text.old.items }
+    requires start { start ≤ length text.old.items }
+    requires slot { HaveSlot column.now slot }
     ensures inside { IfOk result (λ end. end ≤ length text.new.items) }
     ensures text { IfOk result (λ end. take end text.new.items ≡ take start text.old.items
-        ++ items_text false (each_json (map cell_json fields.now) values.now)) }
+        ++ items_text false (each_json (map cell_json fields.now) (row (below column.now) slot))) }
 {
     let mut at = start;
     let mut later = false;
     for (number, field) in fields.iter().enumerate() {
-        if number >= values.len() {
+        if number >= column.children() {
             return put_end(text, at);
         }
         let place = start_item(text, at, later)?;
-        at = put_value(text, place, field, values.at(number))?;
+        at = put_slot(text, place, field, &column.child(number), slot)?;
         later = true;
     }
     put_end(text, at)
 }
 
-// A list or a struct of a row, lent once more, so that the loop over the columns carries nothing
+// A list or a struct of a row, read by its slots, so that the loop over the columns carries nothing
 // of it.
 #[cold]
 #[inline(never)]
@@ -241,7 +303,7 @@ fn put_nested(
         → IfOk result (λ end. take end text.new.items ≡ take at text.old.items
         ++ compact_text (cell_json field.now value)) }
 {
-    put_value(text, at, field, column.at(row))
+    put_slot(text, at, field, &column.slots(), row)
 }
 
 // What a column has in a row, where that is this cell.

@@ -2,16 +2,22 @@
 //! line of its own.
 ghost use Rattle.std.specs.Prelude.{◌≡◌, ◌≤◌, ◌<◌, ◌+◌, ◌++◌, ◌∷◌, [], length, take, vec_len};
 ghost use Rattle.std.specs.Prelude.{slice_index_or, IfErr, IfOk, IfSome, MatchResult, Some, OnOk};
+ghost use Rattle.std.specs.Prelude.{ℕ, List};
 ghost use Rattle.std.specs.Fmt.{signed_decimal};
 ghost use Rattle.std.specs.Int.{cast_signed, from_le_bytes, w64};
+ghost use Rattle.ipc_model.specs.declared.value.Value.{Value};
 ghost use Rattle.ipc_column.specs.Cells.{cell_value};
-ghost use Rattle.ipc_print.specs.Columns.{AreLent, row_in, AreLong, number_record};
+ghost use Rattle.ipc_column.specs.Lending.{AreNumbers};
+ghost use Rattle.ipc_column.specs.Lent.{AreOfColumn};
+ghost use Rattle.ipc_column.specs.Nested.{Nested, slot_values};
+ghost use Rattle.ipc_print.specs.Columns.{AreLent, IsLane, row_in, AreLong, number_record};
 ghost use Rattle.ipc_print.specs.Output.{PrintsAs, PrintsAt, output};
 ghost use Rattle.ipc_print.specs.Rows.{AreShownRows, IsShown, cell_text, closed, comma, line};
 ghost use Rattle.ipc_print.specs.Rows.{lines};
 
 use crate::digits::put_i64;
-use ipc_column::{Batch, Cell};
+use ipc_column::{Batch, Cell, Numbers};
+use ipc_model::IntBits;
 use ipc_stream::Sink;
 use std::alloc::{AllocError, Global};
 use std::marker::Model;
@@ -240,7 +246,31 @@ fn print_cells<W: Sink>(
     Ok(at)
 }
 
-/// The numbers of each column, where there is a column and each lends its numbers.
+// Numbers that were lent, eight bytes each, where they are signed and of 64 bits and none is null.
+fn long_numbers(numbers: Numbers<'_>) -> Option<&[[u8; 8]]>
+    ensures { (rows : List (List Value)) (column : ℕ) (slots : Nested)
+        → AreOfColumn rows column (slot_values slots) → AreNumbers slots numbers.entry
+        → IfSome result (λ lane. IsLane rows column lane.now) }
+{
+    if !numbers.signed || !numbers.validity.is_empty() {
+        return None;
+    }
+    match numbers.bits {
+        IntBits::B64 => Some(numbers.values.as_chunks::<8>().0),
+        _ => None,
+    }
+}
+
+// The numbers of a column, where they are such.
+fn lane_of(batch: &Batch, column: usize) -> Option<&[[u8; 8]]>
+    requires { column < batch.now.columns }
+    ensures { IfSome result (λ lane. IsLane batch.now.rows column lane.now) }
+{
+    long_numbers(batch.slots(column).numbers()?)
+}
+
+/// The numbers of each column, where there is a column and each has signed numbers of 64 bits, of
+/// which none is null.
 pub(crate) fn numbers_of<'a>(
     alloc: Global,
     batch: &'a Batch,
@@ -250,8 +280,8 @@ pub(crate) fn numbers_of<'a>(
 {
     let mut columns = Vec::with_capacity(alloc, batch.columns())?;
     for column in 0..batch.columns() {
-        match batch.numbers(column) {
-            Some(values) => columns.push(values.as_chunks::<8>().0)?,
+        match lane_of(batch, column) {
+            Some(lane) => columns.push(lane)?,
             None => return Ok(None),
         }
     }

@@ -1,8 +1,10 @@
-use Rattle.std.proofs.Common.{◌≡◌, ◌∙◌, true, arith, rules}
+use Rattle.std.proofs.Common.{◌≡◌, ◌∙◌, ap, true, arith, rules}
 use Rattle.std.proofs.lemmas.Bool.{and_parts, eqb-true}
 use Rattle.ipc_column.specs.declared.cause.Cause.TheVariants as cause
 use Rattle.ipc_column.specs.Shapes.{shape_of}
+use Rattle.ipc_column.specs.Lending.{layouts_of}
 use Rattle.ipc_column.proofs.Fields.{buffers_most}
+use Rattle.ipc_column.proofs.Lent.{layouts_cut}
 use Rattle.ipc_column.specs.Checks.{all, is_node, is_slot_count}
 use Rattle.ipc_column.proofs.Visits.{visits_most, slots_most}
 use Rattle.ipc_column.proofs.Laws.{passing, exits, head_failing, columns_failing}
@@ -51,8 +53,8 @@ returns-in_err-slot_tests-clause-failing c =
     (rw (c.deref.ensures.value, c.deref-2.ensures.value) at c.in_err-slot_tests.ensures.judged)
     (rw (c.deref.ensures.value, c.deref-2.ensures.value) at c.in_err-slot_tests.ensures.texts_last))
 
-pub check_columns-requires : goal.check_columns-requires
-check_columns-requires c =
+pub check_columns-requires-clause-few : goal.check_columns-requires-clause-few
+check_columns-requires-clause-few c =
     let nodes = eqb-true _ _ (c.in_ok-check_head.ensures.judged cause.WrongNodeCount) in
     let good : all (is_node c.args.limits.now) c.args.head.now.nodes ≡ true =
     (and_parts (is_slot_count c.args.limits.now c.args.head.now.length) (all (is_node c.args.limits.now) c.args.head.now.nodes)
@@ -71,3 +73,9 @@ returns-clause-slots c =
     let visited = rw (c.deref.ensures.value, c.deref-2.ensures.value, c.in_ok-parts.ensures.parts c.args.body.items) at
     c.in_ok-slot_tests.ensures.visited in
     rw c.in_ok-share.ensures (omega (arith, visited, most))
+
+pub returns-clause-layouts : goal.returns-clause-layouts
+returns-clause-layouts c =
+    rw c.in_ok-share.ensures
+    (ap layouts_of (c.in_ok-parts.ensures.parts c.args.body.items)
+    ∙ layouts_cut c.args.fields.now c.args.head.now c.args.body.items 0 0)

@@ -2,7 +2,7 @@ use Rattle.std.proofs.Common.{◌≤◌, ◌+◌, ◌*◌, length, ◌∙◌, sy
 use Rattle.std.specs.Prelude.{unwrap_or}
 use Rattle.std.proofs.lemmas.Int.{to_z-of_z}
 use Rattle.ipc_scalar.specs.Bytes.{int64}
-use Rattle.ipc_column.proofs.Numbers.{byte_is, eight_bytes, read_or}
+use Rattle.ipc_column.proofs.Widths.{byte_is, eight_bytes, read_or}
 use Rattle.ipc_column.proofs.fixed.unsigned_at.Goals as goal
 
 pub returns-in-B8 : goal.returns-in-B8

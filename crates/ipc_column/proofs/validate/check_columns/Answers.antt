@@ -18,7 +18,7 @@ visit_columns-requires-clause-room c =
     let most = weight_most (columns c.args.body.now c.args.parts.now) 0 c.args.rows
     (row_slots (columns c.args.body.now c.args.parts.now) c.args.rows 0 c.args.rows (omega arith) (omega arith) c.in_ok-check_all.ensures
     (c.in_ok-check_tops.ensures cause.BadNode)) in
-    omega (arith, most, c.requires)
+    omega (arith, most, c.requires.few)
 
 pub returns-then-visit_columns-clause-judged : goal.returns-then-visit_columns-clause-judged
 returns-then-visit_columns-clause-judged c =

@@ -4,6 +4,7 @@ use Rattle.ipc_column.specs.Checks.{good, good_slot}
 use Rattle.ipc_model.specs.Layouts.{is_texts}
 use Rattle.ipc_column.specs.Views.{columns, one, column_of, children_of}
 use Rattle.ipc_column.proofs.Goods.{slots_more, slots_fail, good_one, good_first}
+use Rattle.ipc_column.proofs.Marks.{says_texts, marked_below, marked_at}
 use Rattle.ipc_column.proofs.Parts.{columns_from}
 use Rattle.ipc_column.proofs.Slots.{slots_first, slots_within, part_long, part_most, bitmap_front}
 use Rattle.ipc_column.proofs.FixedLists.{fixed_place_have, fixed_child}
@@ -31,7 +32,7 @@ visit_below-visit_all-requires t c =
       search (rules, the_lemmas),
       rw (c.deref.ensures.value, c.place_at-first.ensures, c.place_at-end.ensures, c.bytes_at-offsets.ensures) (
         list_slots c.args.body.now c.args.part.now c.args.from c.args.to c.requires.slots c.requires.some c.in-Lists.is,
-        omega (arith, w, c.requires.room),
+        (omega (arith, w, c.requires.room), marked_below c.args.part.now c.requires.marks),
       ),
     )
 
@@ -65,7 +66,7 @@ visit_below-visit_all-requires-in-FixedLists t c =
       rw c.deref-in-FixedLists-3.ensures.value (
         fixed_child c.args.body.now children c.in-FixedLists.size c.args.from c.args.to c.fixed_place-first.result c.fixed_place.result
             first none last c.requires.some slots,
-        omega (arith, w, c.requires.room),
+        (omega (arith, w, c.requires.room), marked_below c.args.part.now c.requires.marks),
       ),
     )
 
@@ -92,7 +93,7 @@ visit_below-visit_all-requires-in-Structs t c =
       search (rules, the_lemmas),
       rw c.deref-in-Structs.ensures.value (
         struct_slots c.args.body.now c.args.part.now c.args.from c.args.to c.requires.slots c.requires.some c.in-Structs.is,
-        omega (arith, w, c.requires.room),
+        (omega (arith, w, c.requires.room), marked_below c.args.part.now c.requires.marks),
       ),
     )
 
@@ -112,7 +113,7 @@ pub visit_slot-visit_below-requires : goal.visit_slot-visit_below-requires
 visit_slot-visit_below-requires t c =
     let w = visited_weight (column_of c.args.body.now c.args.part.now) (children_of c.args.body.now c.args.part.now) c.args.slot
     c.requires.visited in
-    (search (rules, the_lemmas), (omega arith, (c.requires.slots, omega (arith, w, c.requires.room))))
+    (search (rules, the_lemmas), (omega arith, (c.requires.slots, (omega (arith, w, c.requires.room), c.requires.marks))))
 
 pub visit_slot-returns-then-not-visit-clause-cost : goal.visit_slot-returns-then-not-visit-clause-cost
 visit_slot-returns-then-not-visit-clause-cost t c =
@@ -139,7 +140,7 @@ visit_slots-visit_slot-requires t c = (
         (
           room_next (one c.args.body.now c.args.part.now) c.args.from c.loop-slot.slot c.args.to c.args.tests.now c.loop-slot.tests _
               c.requires.slots (omega arith) (omega arith) c.loop-slot.invariant.cost c.requires.room,
-          omega arith,
+          (omega arith, c.requires.marks),
         ),
       ),
     ),
@@ -216,7 +217,7 @@ pub visit_part-visit_below-requires : goal.visit_part-visit_below-requires
 visit_part-visit_below-requires t c =
     let order = c.requires.slots.order in
     let w = below_weight (column_of c.args.body.now c.args.part.now) (children_of c.args.body.now c.args.part.now) c.args.from c.args.to in
-    (search (rules, the_lemmas), (omega arith, (c.requires.slots, omega (arith, w, c.requires.room))))
+    (search (rules, the_lemmas), (omega arith, (c.requires.slots, (omega (arith, w, c.requires.room), c.requires.marks))))
 
 pub visit_part-returns-then-is_empty-clause-good : goal.visit_part-returns-then-is_empty-clause-good
 visit_part-returns-then-is_empty-clause-good t c =
@@ -230,10 +231,10 @@ visit_part-returns-then-is_empty-clause-cost t c =
     let w = below_weight (column_of c.args.body.now c.args.part.now) (children_of c.args.body.now c.args.part.now) c.args.from c.args.to in
     omega (arith, w, c.visit_below.ensures.cost)
 
-pub visit_part-returns-then-not-have_texts-clause-good : goal.visit_part-returns-then-not-have_texts-clause-good
-visit_part-returns-then-not-have_texts-clause-good t c =
+pub visit_part-returns-then-not-part-clause-good : goal.visit_part-returns-then-not-part-clause-good
+visit_part-returns-then-not-part-clause-good t c =
     sym (quiet_part c.args.body.now c.args.part.now c.args.from c.args.to (sym c.is_texts.ensures ∙ c.if-is_texts.false)
-    (rw c.deref.ensures.value at (sym (c.have_texts.ensures c.args.body.now) ∙ c.if-not-have_texts.true)))
+    (sym (says_texts c.args.body.now c.args.part.now c.requires.marks) ∙ c.if-not-part.true))
 
 pub visit_part-visit_slots-requires : goal.visit_part-visit_slots-requires
 visit_part-visit_slots-requires t c = (
@@ -244,8 +245,8 @@ visit_part-visit_slots-requires t c = (
       ap is_texts (layout_is c.args.body.now c.args.part.now) ∙ (sym c.is_texts.ensures ∙ c.if-is_texts.false),
       (
         visited_below c.args.body.now c.args.part.now (rw c.bytes_at-2.ensures at (sym c.is_empty.ensures ∙ c.if-is_empty.false))
-            (rw c.deref.ensures.value at (sym (c.have_texts.ensures c.args.body.now) ∙ c.if-not-have_texts.false)),
-        c.requires.room,
+            (sym (says_texts c.args.body.now c.args.part.now c.requires.marks) ∙ c.if-not-part.false),
+        (c.requires.room, c.requires.marks),
       ),
     ),
   ),
@@ -258,7 +259,8 @@ visit_all-visit_part-requires t c =
     let w = weight_first (column_of c.args.body.now c.part-item.result) (children_of c.args.body.now c.part-item.result)
     (columns c.args.body.now (drop (c.loop-part.part-index + 1) c.args.parts.now)) c.args.from c.args.to in
     let k = rw (e, w) at c.loop-part.invariant.cost in
-    (search (rules, the_lemmas), (s.0, omega (arith, k, c.requires.room)))
+    let m = marked_at c.args.parts.now c.loop-part.part-index c.part-item.result (omega arith) c.part-item.is c.requires.marks in
+    (search (rules, the_lemmas), (s.0, (omega (arith, k, c.requires.room), m)))
 
 pub visit_all-returns-then-not-visit_part-clause-good : goal.visit_all-returns-then-not-visit_part-clause-good
 visit_all-returns-then-not-visit_part-clause-good t c =

@@ -1,6 +1,7 @@
 use Rattle.std.proofs.Common.{◌∙◌, sym, arith, ◌+◌, drop}
 use Rattle.ipc_column.specs.Views.{columns, column_of, children_of}
 use Rattle.ipc_column.proofs.Goods.{good_first}
+use Rattle.ipc_column.proofs.Marks.{marked_at}
 use Rattle.ipc_column.proofs.Parts.{columns_from}
 use Rattle.ipc_column.proofs.Slots.{slots_first}
 use Rattle.ipc_column.proofs.Visited.{good_done}
@@ -14,7 +15,8 @@ visit_column-requires c =
     let w = weight_first (column_of c.args.body.now c.part-item.result) (children_of c.args.body.now c.part-item.result)
     (columns c.args.body.now (drop (c.loop-part.part-index + 1) c.args.parts.now)) c.args.from c.args.to in
     let k = rw (e, w) at c.loop-part.invariant.cost in
-    record { slots = s.0; room = omega (arith, k, c.requires.room) }
+    let m = marked_at c.args.parts.now c.loop-part.part-index c.part-item.result (omega arith) c.part-item.is c.requires.marks in
+    record { slots = s.0; room = omega (arith, k, c.requires.room); marks = m }
 
 pub returns-then-not-visit_column-clause-good : goal.returns-then-not-visit_column-clause-good
 returns-then-not-visit_column-clause-good c =

@@ -7,31 +7,29 @@ use Rattle.ipc_encode.specs.declared.node.Node.{Node}
 use Rattle.ipc_encode.specs.Cells.{nulls}
 use Rattle.ipc_encode.specs.Buffers.{below, column_buffers, nodes_of, buffers_of}
 use Rattle.ipc_encode.specs.Writing.{Adds}
-use Rattle.ipc_encode.specs.Built.{AreColumns, IsNode, IsColumn}
+use Rattle.ipc_encode.specs.Built.{IsNode, IsColumn}
 use Rattle.ipc_encode.proofs.Adding.{adds_both, adds_as}
 use Rattle.ipc_encode.proofs.Siblings.{at_node, first_all, buffers_next, nodes_next}
 use Rattle.ipc_encode.proofs.parts.+add.Goals as goal
 
 pub add_node-returns-clause-nodes : goal.add_node-returns-clause-nodes
 add_node-returns-clause-nodes t c = λ limits layout children values h.
-    let held = subst (λ (ns : List Node). AreColumns limits children ns (below layout values)) (sym c.deref.ensures.value) h.1 in
     let node : ℤ × ℤ = (pos (length values), pos (nulls values)) in
     let inner = nodes_of children (below layout values) in
-    on_ok_weaker c.add_nodes.result
-    (λ e. e ∙ (ap (λ (ns : List (ℤ × ℤ)). ns ++ inner) (c.in_ok-add_column.ensures.nodes limits layout values h.0)
+    on_ok_weaker c.add_below.result
+    (λ e. e ∙ (ap (λ (ns : List (ℤ × ℤ)). ns ++ inner) (c.in_ok-add_own.ensures.nodes limits layout values h.0)
     ∙ (append_assoc c.args.draft.now.nodes.items (node ∷ []) inner
     ∙ ap (λ (ns : List (ℤ × ℤ)). c.args.draft.now.nodes.items ++ node ∷ ns) (sym (append-nil inner)))))
-    (c.add_nodes.ensures.nodes limits children (below layout values) held)
+    (c.add_below.ensures.nodes limits children (below layout values) h.1)
 
 pub add_node-returns-clause-adds : goal.add_node-returns-clause-adds
 add_node-returns-clause-adds t c = λ limits layout children values h.
-    let held = subst (λ (ns : List Node). AreColumns limits children ns (below layout values)) (sym c.deref.ensures.value) h.1 in
     let own = column_buffers layout values in
     let inner = buffers_of children (below layout values) in
-    on_ok_weaker c.add_nodes.result
+    on_ok_weaker c.add_below.result
     (λ a. adds_as _ _ (own ++ inner) _ (ap (λ (bs : List (List ℕ)). own ++ bs) (sym (append-nil inner)))
-    (adds_both _ _ _ own inner (c.in_ok-add_column.ensures.adds limits layout values h.0) a))
-    (c.add_nodes.ensures.adds limits children (below layout values) held)
+    (adds_both _ _ _ own inner (c.in_ok-add_own.ensures.adds limits layout values h.0) a))
+    (c.add_below.ensures.adds limits children (below layout values) h.1)
 
 pub add_nodes-loop-node-preserved : goal.add_nodes-loop-node-preserved
 add_nodes-loop-node-preserved t c = record {

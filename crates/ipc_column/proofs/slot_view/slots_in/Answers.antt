@@ -1,0 +1,31 @@
+use Rattle.std.proofs.Common.{sym, subst, ap, ◌∙◌, ℕ, Some, ◌<◌, length}
+use Rattle.ipc_column.specs.Lent.{AreOfColumn}
+use Rattle.ipc_column.specs.Nested.{Nested, alone, slot_values}
+use Rattle.ipc_column.specs.Rules.{SpellsTexts}
+use Rattle.ipc_column.specs.Values.{rows_of}
+use Rattle.ipc_column.specs.Views.{columns}
+use Rattle.ipc_column.proofs.Lent.{layout_at, slots_found, slots_texts, slots_values}
+use Rattle.ipc_column.proofs.slot_view.slots_in.Goals as goal
+
+pub slots_of-requires : goal.slots_of-requires
+slots_of-requires c =
+    slots_found c.args.body.now c.args.parts.now c.args.rows c.args.column c.index-parts-column.result c.requires.column
+    c.index-parts-column.is c.requires.holds
+
+pub returns-clause-layout : goal.returns-clause-layout
+returns-clause-layout c =
+    layout_at c.args.body.now c.args.parts.now c.args.column c.index-parts-column.result c.requires.column c.index-parts-column.is
+    ∙ ap (λ (n : Nested). Some n.column.layout) (sym c.slots_of.ensures)
+
+pub returns-clause-values : goal.returns-clause-values
+returns-clause-values c =
+    subst (λ (n : Nested). AreOfColumn (rows_of (columns c.args.body.now c.args.parts.now) c.args.rows) c.args.column (slot_values n))
+    (sym c.slots_of.ensures)
+    (slots_values c.args.body.now c.args.parts.now c.args.rows c.args.column c.index-parts-column.result c.requires.column
+    c.index-parts-column.is c.requires.holds)
+
+pub returns-clause-texts : goal.returns-clause-texts
+returns-clause-texts c =
+    subst (λ (n : Nested). (i : ℕ) → i < length (slot_values n) → SpellsTexts (alone n) i) (sym c.slots_of.ensures)
+    (slots_texts c.args.body.now c.args.parts.now c.args.rows c.args.column c.index-parts-column.result c.requires.column
+    c.index-parts-column.is c.requires.holds)
