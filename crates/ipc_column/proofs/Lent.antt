@@ -29,7 +29,8 @@ use Rattle.ipc_column.proofs.Parts.{children_out}
 use Rattle.ipc_column.proofs.Slots.{items_length}
 
 -- columns that fields cut out lie as these say
-pub layouts_cut : (fs : List Field) (h : BatchHead) (body : List ℕ) (n b : ℕ) → layouts_of (cut (shape_of fs) h body n b) ≡ map field_layout fs
+pub layouts_cut : (fs : List Field) (h : BatchHead) (body : List ℕ) (n b : ℕ)
+    → layouts_of (cut (shape_of fs) h body n b) ≡ map field_layout fs
 unfolding cut
 layouts_cut [] h body n b = refl
 layouts_cut (f ∷ fs) h body n b =
@@ -78,7 +79,8 @@ module _ (body : List ℕ) (ps : List ColumnRanges) (n j : ℕ) (p : ColumnRange
 
   pub slots_texts : (i : ℕ) → i < length (slot_values (nested body p)) → SpellsTexts (alone (nested body p)) i
   slots_texts =
-      slots_spell (refound (column_of body p)) body (out-ColumnRanges p).children.items (nested body p) (slot_values (nested body p)) refl refl refl
+      slots_spell (refound (column_of body p)) body (out-ColumnRanges p).children.items (nested body p)
+      (slot_values (nested body p)) refl refl refl
       (subst (λ (cs : Columns). HoldSlots (refound (column_of body p)) cs) (children_out body p)
       (again (column_holds body ps n j p inside is holds))) refl
     where

@@ -31,4 +31,5 @@ number_of n i = if is_valid n.validity.now i then own_value (l.Numbers n.bits n.
 pub record AreNumbers (s : Nested) (n : Numbers) : Type 0 where
   pub layout : s.column.layout ≡ l.Numbers n.bits n.signed
   pub long : number_bytes n.bits * length (slot_values s) ≤ length n.values.now
-  pub each : (i : ℕ) → i < length (slot_values s) → slice_get (slot_values s) i ≡ Some (number_of n i)
+  pub each : (i : ℕ) → i < length (slot_values s)
+      → slice_get (slot_values s) i ≡ Some (number_of n i)

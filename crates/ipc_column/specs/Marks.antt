@@ -10,8 +10,8 @@ use Rattle.ipc_column.specs.declared.ranges.ColumnRanges.TheFolds.{fold-ColumnRa
 abbrev pub is_same : Bool → Bool → Bool
 is_same a b = if a then b else not b
 
--- what is found of a part: whether texts stand in it or below it, and whether it and each part below
--- it say rightly of themselves whether texts stand below them
+-- what is found of a part: whether texts stand in it or below it, and whether it and each part
+-- below it say rightly of themselves whether texts stand below them
 pub record Mark : Type 0 where
   pub texts : Bool
   pub right : Bool

@@ -129,8 +129,8 @@ impl<'a> SlotView<'a> {
         }
     }
 
-    /// The numbers of the column as they lie in the body, with their validity bitmap: none where the
-    /// column has anything else.
+    /// The numbers of the column as they lie in the body, with their validity bitmap: none where
+    /// the column has anything else.
     #[inline(always)]
     pub fn numbers(&self) -> Option<Numbers<'a>>
         // It lends exactly the columns of numbers.

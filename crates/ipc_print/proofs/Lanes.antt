@@ -1,6 +1,6 @@
 -- Columns whose numbers are lent, and the rows that they make.
-use Rattle.std.proofs.Common.{◌≡◌, ◌∙◌, refl, sym, ap, subst, ℕ, zero, suc, ◌+◌, ◌*◌, ◌/◌, ◌<◌, ◌≤◌, List, [], ◌∷◌, ◌++◌, length, take, true}
-use Rattle.std.proofs.Common.{drop, get_or, Some, arith, Bool, if◌then◌else◌, ◌==◌}
+use Rattle.std.proofs.Common.{◌≡◌, ◌∙◌, refl, sym, ap, subst, ℕ, zero, suc, ◌+◌, ◌*◌, ◌/◌, ◌<◌, ◌≤◌, List, [], ◌∷◌, ◌++◌, length, take}
+use Rattle.std.proofs.Common.{true, drop, get_or, Some, arith, Bool, if◌then◌else◌, ◌==◌}
 use Rattle.std.specs.Prelude.{ℤ, slice_get, slice_index_or}
 use Rattle.std.specs.Fmt.{signed_decimal}
 use Rattle.std.specs.Int.{w64, cast_signed, from_le_bytes}

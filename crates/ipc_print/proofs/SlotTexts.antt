@@ -1,5 +1,6 @@
 -- What slots hold, and their texts.
-use Rattle.std.proofs.Common.{◌≡◌, ◌∙◌, refl, sym, ap, ℕ, zero, suc, ◌+◌, ◌-◌, ◌<◌, ◌≤◌, List, [], ◌∷◌, length, map, get_or, Some, drop, le-leb}
+use Rattle.std.proofs.Common.{◌≡◌, ◌∙◌, refl, sym, ap, ℕ, zero, suc, ◌+◌, ◌-◌, ◌<◌, ◌≤◌, List, [], ◌∷◌, length, map, get_or}
+use Rattle.std.proofs.Common.{Some, drop, le-leb}
 use Rattle.std.proofs.Common.{Option, None, arith, subst, replicate}
 use Rattle.std.specs.Prelude.{nat_lt, slice_get, slice_index_or, true}
 use Rattle.std.proofs.lemmas.List.{drop_all}
@@ -116,7 +117,8 @@ list_child n child from to e h = list_first n.body n.children child from to e h.
 pub list_nulls : (n : Nested) (from to : ℕ) → length n.children ≡ 0 → list_values n from to ≡ replicate (to - from) v.Null
 list_nulls n from to e = nulls n.children e from (to - from)
   where
-    nulls : (ps : List ColumnRanges) → length ps ≡ 0 → (i k : ℕ) → items (λ j. first_of (row (columns n.body ps) j)) i k ≡ replicate k v.Null
+    nulls : (ps : List ColumnRanges) → length ps ≡ 0 → (i k : ℕ)
+        → items (λ j. first_of (row (columns n.body ps) j)) i k ≡ replicate k v.Null
     nulls [] e i zero = refl
     nulls [] e i (suc k) = ap (λ (vs : List Value). v.Null ∷ vs) (nulls [] e (i + 1) k)
     nulls (p ∷ ps) e i k = absurd (omega (arith, e))
@@ -153,7 +155,8 @@ repeated_at x (suc n) (suc i) l = repeated_at x n i (omega arith)
 
 -- behind so many slots there are none of them
 pub slots_done : (n : Nested) (from count i : ℕ) → count ≤ i → drop i (values_between n from count) ≡ []
-slots_done n from count i h = drop_all i (values_between n from count) (let size = items_length (slot_value n) from count in omega (arith, size, h))
+slots_done n from count i h =
+    drop_all i (values_between n from count) (let size = items_length (slot_value n) from count in omega (arith, size, h))
 
 -- behind the children of a struct it has no values
 pub children_done : (n : Nested) (slot i : ℕ) → length n.children ≤ i → drop i (row (below n) slot) ≡ []
