@@ -5,3 +5,4 @@ pub mod Finds
 pub mod Plans
 pub mod OneId
 pub mod SchemaIds
+pub mod Ids

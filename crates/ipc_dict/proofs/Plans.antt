@@ -1,10 +1,10 @@
 -- Of all dictionaries of a plan.
-use Rattle.std.proofs.Common.{◌≡◌, ℕ, zero, suc, ◌<◌, ◌+◌, Bool, true, false, cond, ℤ, List, [], ◌∷◌, ◌++◌, length, get_or, take, Option, Some, None, refl, sym, ap, subst, ◌∙◌, arith, int_eq, slice_get, take-suc, add-one}
+use Rattle.std.proofs.Common.{◌≡◌, ℕ, zero, suc, ◌<◌, ◌+◌, Bool, true, false, cond, ℤ, List, [], ◌∷◌, ◌++◌, length, get_or, take, Option, Some, None, refl, sym, ap, subst, ◌∙◌, arith, int_eq, slice_get, take-suc, add-one, drop, drop-cons}
 use Rattle.ipc_model.specs.declared.value.Value.{Value}
 use Rattle.ipc_dict.specs.declared.entry.TallyEntry.{TallyEntry}
 use Rattle.ipc_dict.specs.declared.kept.KeptEntry.{KeptEntry}
 use Rattle.ipc_dict.specs.Distinct.{place}
-use Rattle.ipc_dict.specs.Planning.{IsSettled, AllSettled, number_at, after, index, after_all, sent_for, SameIds, FindsAll, KnowsAll}
+use Rattle.ipc_dict.specs.Planning.{IsSettled, AllSettled, number_at, kept_number, number, own_send, sends_of, after, index, after_all, sent_for, SameIds, FindsAll, KnowsAll}
 use Rattle.ipc_dict.specs.Noting.{noted_for}
 use Rattle.std.specs.List.{Contains}
 use Rattle.std.specs.Option.{IsSome}
@@ -48,6 +48,29 @@ module _ (id : ℤ) (v : Value) where
   index-absent (m ∷ ns) (p ∷ os) none =
       ap (λ b. cond b (number_at (place v m.values) p) (index ns os id v)) (none zero m (omega arith))
       ∙ index-absent ns os (λ k d l. none (suc k) d (omega arith))
+
+module _ (id : ℤ) (from : ℕ) where
+  pub number-at : (ns : List TallyEntry) (os : List (Option (List ℕ))) (i : ℕ) (n : TallyEntry) (o : Option (List ℕ)) → length os ≡ length ns → i < length ns → int_eq (get_or ns i n).id id ≡ true → ((k : ℕ) → k < i → int_eq (get_or ns k n).id id ≡ false) → o ≡ get_or os i o
+      → kept_number o from ≡ number ns os id from
+  number-at [] os i n o same h at before ois = absurd (omega arith)
+  number-at (m ∷ ns) [] i n o same h at before ois = absurd (omega arith)
+  number-at (m ∷ ns) (p ∷ os) zero n o same h at before ois =
+      ap (λ q. kept_number q from) ois ∙ sym (ap (λ b. cond b (kept_number p from) (number ns os id from)) at)
+  number-at (m ∷ ns) (p ∷ os) (suc i) n o same h at before ois =
+      number-at ns os i n o (omega arith) (omega arith) at (λ k l. before (suc k) (omega arith)) ois
+      ∙ sym (ap (λ b. cond b (kept_number p from) (number ns os id from)) (before zero (omega arith)))
+
+  pub number-absent : (ns : List TallyEntry) (os : List (Option (List ℕ))) → ((k : ℕ) (d : TallyEntry) → k < length ns → int_eq (get_or ns k d).id id ≡ false) → number ns os id from ≡ None
+  number-absent [] os none = refl
+  number-absent (m ∷ ns) [] none = refl
+  number-absent (m ∷ ns) (p ∷ os) none =
+      ap (λ b. cond b (kept_number p from) (number ns os id from)) (none zero m (omega arith))
+      ∙ number-absent ns os (λ k d l. none (suc k) d (omega arith))
+
+-- one more dictionary that may be sent
+pub sends-step : (ns : List TallyEntry) (os : List (Option (List ℕ))) (i : ℕ) (n : TallyEntry) (o : Option (List ℕ)) → i < length ns → i < length os → n ≡ get_or ns i n → o ≡ get_or os i o
+    → sends_of (drop i ns) (drop i os) ≡ own_send n o ++ sends_of (drop (i + 1) ns) (drop (i + 1) os)
+sends-step ns os i n o h k nis ois = rw (add-one, drop-cons ns i n h, drop-cons os i o k, ← nis, ← ois) refl
 
 pub finds_all : (ss : List KeptEntry) (ns : List TallyEntry) (os : List (Option (List ℕ))) → SameIds ss ns → AllSettled ss ns os → FindsAll ss ns os
 finds_all [] [] os ids h id v i found = absurd cc

@@ -1,5 +1,5 @@
 -- What a plan does with each dictionary.
-use Rattle.std.specs.Prelude.{◌≡◌, ℕ, ℤ, List, [], ◌∷◌, map, Option, Some, None, slice_get, Contains, IsSome, if◌then◌else◌}
+use Rattle.std.specs.Prelude.{◌≡◌, ℕ, ℤ, List, [], ◌∷◌, ◌++◌, map, Option, Some, None, slice_get, Contains, IsSome, if◌then◌else◌}
 use Rattle.ipc_dict.specs.Noting.{noted_for}
 use Rattle.std.specs.Ordering.{int_eq}
 use Rattle.ipc_model.specs.declared.value.Value.{Value}
@@ -34,6 +34,17 @@ abbrev pub after : Option (List Value) → List Value → Option (List ℕ) → 
 after sent values (Some to) = sent
 after sent values None = Some values
 
+-- the number among those sent before of the value with this number in the batch, where the
+-- dictionary isn't sent again
+abbrev pub kept_number : Option (List ℕ) → ℕ → Option ℕ
+kept_number None i = None
+kept_number (Some to) i = slice_get to i
+
+-- the dictionary as a message's values, each a row of one column, where it is sent
+abbrev pub own_send : TallyEntry → Option (List ℕ) → List (ℤ × List (List Value))
+own_send n (Some to) = []
+own_send n None = (n.id, map (λ v. v ∷ []) n.values) ∷ []
+
 -- ---- of all dictionaries, which stand in one order
 
 abbrev pub AllSettled : List KeptEntry → List TallyEntry → List (Option (List ℕ)) → Type 0
@@ -46,6 +57,18 @@ abbrev pub index : List TallyEntry → List (Option (List ℕ)) → ℤ → Valu
 index [] os id v = None
 index (n ∷ ns) [] id v = None
 index (n ∷ ns) (o ∷ os) id v = if int_eq n.id id then number_at (place v n.values) o else index ns os id v
+
+-- the number of a value among those sent before, by its number in the batch
+abbrev pub number : List TallyEntry → List (Option (List ℕ)) → ℤ → ℕ → Option ℕ
+number [] os id i = None
+number (n ∷ ns) [] id i = None
+number (n ∷ ns) (o ∷ os) id i = if int_eq n.id id then kept_number o i else number ns os id i
+
+-- the dictionaries that are sent, each with its id
+abbrev pub sends_of : List TallyEntry → List (Option (List ℕ)) → List (ℤ × List (List Value))
+sends_of [] os = []
+sends_of (n ∷ ns) [] = []
+sends_of (n ∷ ns) (o ∷ os) = own_send n o ++ sends_of ns os
 
 -- what was sent once the batch was
 abbrev pub after_all : List KeptEntry → List TallyEntry → List (Option (List ℕ)) → List KeptEntry

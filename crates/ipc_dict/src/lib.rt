@@ -8,7 +8,9 @@ mod dictionaries;
 mod distinct;
 mod entry;
 mod kept;
+mod plan;
 mod schema_ids;
+mod settle;
 mod tally;
 mod walk;
 
@@ -16,4 +18,5 @@ pub use dictionaries::Dictionaries;
 pub use distinct::DistinctValues;
 pub use entry::TallyEntry;
 pub use kept::{Kept, KeptEntry};
+pub use plan::Plan;
 pub use tally::{Tally, holds_distinct};

@@ -2,10 +2,14 @@
 ghost use Rattle.std.specs.Prelude.{◌≡◌, true, false, length, IfOk, IfErr, OnOk, OnErr, ◌⊎◌};
 ghost use Rattle.ipc_dict.specs.Noting.{note_all, AllFit, IsFull, HoldsDistinct, lens, cut};
 ghost use Rattle.ipc_dict.specs.Pairs.{row_pairs};
-ghost use Rattle.ipc_dict.specs.SchemaIds.{unused};
+ghost use Rattle.ipc_dict.specs.SchemaIds.{unused, kept_ids, tally_ids};
+ghost use Rattle.ipc_dict.specs.Planning.{AllSettled, FindsAll, KnowsAll};
 
 use crate::entry::TallyEntry;
+use crate::kept::Kept;
+use crate::plan::Plan;
 use crate::schema_ids::unused_entries;
+use crate::settle::settle;
 use crate::walk::note_each;
 use ipc_model::{Field, Items, Schema, Value, WriteFault};
 use std::alloc::{AllocError, Global};
@@ -96,6 +100,33 @@ impl Tally {
             return Err(fault);
         }
         Ok(())
+    }
+}
+
+impl Tally {
+    /// What a batch with these rows does with each dictionary.
+    ///
+    /// The caller has the `Kept` of a writer of the same schema. A dictionary is sent exactly where
+    /// it has not been or lacks a value of the batch, and then holds exactly the batch's distinct
+    /// values in order of first appearance. Refused with W11 `OutOfMemory` where the lists of the
+    /// plan find no room, and with W10 `Failed` where the tally has failed.
+    pub fn settle(self, alloc: Global, kept: &Kept) -> Result<Plan, WriteFault>
+        requires { kept_ids kept.now ≡ tally_ids self.entries }
+        ensures entries { IfOk result (λ plan. plan.entries ≡ self.entries) }
+        // Each is sent where it has not been or lacks a value, and nowhere else.
+        ensures settled { IfOk result (λ plan. AllSettled kept.now self.entries plan.numbers) }
+        // Each index finds its value in what was sent once the batch was.
+        ensures finds { IfOk result (λ plan. FindsAll kept.now self.entries plan.numbers) }
+        // Each value of the batch has an index.
+        ensures knows { IfOk result (λ plan. KnowsAll self.entries plan.numbers) }
+        ensures failed { IfErr result (λ fault. (fault ≡ WriteFault.OutOfMemory)
+            ⊎ ((fault ≡ WriteFault.Failed) × (self.failed ≡ true))) }
+    {
+        if self.failed {
+            return Err(WriteFault::Failed);
+        }
+        let Tally { entries, .. } = self;
+        Ok(settle(alloc, &kept.entries, entries)?)
     }
 }
 
