@@ -6,3 +6,4 @@ pub mod Plans
 pub mod OneId
 pub mod SchemaIds
 pub mod Ids
+pub mod Rows

@@ -1,10 +1,12 @@
 -- Entries for the ids of a schema.
-use Rattle.std.proofs.Common.{◌≡◌, ℕ, zero, suc, ◌<◌, ◌≤◌, Bool, true, false, cond, ◌++◌, List, [], ◌∷◌, length, get_or, set, refl, sym, ap, ◌∙◌, arith, int_eq}
+use Rattle.std.proofs.Common.{◌≡◌, ℕ, zero, suc, ◌<◌, ◌≤◌, Bool, true, false, cond, ◌++◌, List, [], ◌∷◌, length, get_or, set, refl, sym, ap, ◌∙◌, arith, int_eq, ℤ, Some, None}
 use Rattle.std.specs.Prelude.{min}
+use Rattle.std.specs.Option.{option_map}
+use Rattle.ipc_model.specs.declared.value.Value.{Value}
 use Rattle.ipc_model.specs.declared.schema.Dictionary.{Dictionary}
 use Rattle.ipc_model.specs.declared.schema.Field.{Field}
 use Rattle.ipc_dict.specs.declared.entry.TallyEntry.{TallyEntry}
-use Rattle.ipc_dict.specs.Noting.{AllFit}
+use Rattle.ipc_dict.specs.Noting.{AllFit, noted_for}
 use Rattle.ipc_dict.specs.SchemaIds.{count_of, fresh, with_field, with_fields, unused, of_fields}
 
 module _ (d : Dictionary) where
@@ -48,3 +50,20 @@ fit-empty (e ∷ es) h = (omega (arith, h.0), fit-empty es h.1)
 
 pub fit-unused : (fields : List Field) → AllFit (unused fields)
 fit-unused fields = fit-empty (unused fields) (empty-with_fields [] (of_fields fields) tt)
+
+-- ---- what they hold of one id
+
+empty-noted_for : (t : List TallyEntry) (id : ℤ) (f : List Value → List Value) → AllEmpty t → option_map f (noted_for t id) ≡ option_map (λ none. f []) (noted_for t id)
+empty-noted_for [] id f h = refl
+empty-noted_for (e ∷ es) id f h =
+    elim (int_eq e.id id) as (λ b. option_map f (cond b (Some e.values) (noted_for es id)) ≡ option_map (λ none. f []) (cond b (Some e.values) (noted_for es id))) [
+      | true ↦ ap (λ xs. Some (f xs)) (no_items e.values h.0)
+      | false ↦ empty-noted_for es id f h.1
+    ]
+  where
+    no_items : (xs : List Value) → length xs ≡ 0 → xs ≡ []
+    no_items [] z = refl
+    no_items (x ∷ xs) z = absurd (omega (arith, z))
+
+pub unused-noted_for : (fields : List Field) (id : ℤ) (f : List Value → List Value) → option_map f (noted_for (unused fields) id) ≡ option_map (λ none. f []) (noted_for (unused fields) id)
+unused-noted_for fields id f = empty-noted_for (unused fields) id f (empty-with_fields [] (of_fields fields) tt)

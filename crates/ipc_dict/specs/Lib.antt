@@ -6,3 +6,4 @@ pub mod Tallied
 pub mod Planning
 pub mod Planned
 pub mod SchemaIds
+pub mod Counted

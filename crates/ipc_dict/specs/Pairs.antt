@@ -50,3 +50,8 @@ pairs = fold-Field Walk pairs_step
 -- of a row
 abbrev pub row_pairs : List Field → List Value → Pairs
 row_pairs fields row = each_pairs (map pairs fields) row
+
+-- of several rows, one after another
+abbrev pub rows_pairs : List Field → List (List Value) → Pairs
+rows_pairs fields [] = []
+rows_pairs fields (row ∷ rows) = row_pairs fields row ++ rows_pairs fields rows
