@@ -1,4 +1,5 @@
--- The finite map from ids to the values in force, each beside the length of its body: its entries in the order of the ids.
+-- The finite map from ids to the values in force, each beside the length of its body: its entries in
+-- the order of the ids (Arrow Columnar Format, "Dictionary Messages").
 use Rattle.std.specs.Prelude.{◌≡◌, ℕ, ℤ, List, map, Option}
 use Rattle.std.specs.List.{sum_by}
 use Rattle.std.specs.Ordering.{int_cmp}
@@ -18,6 +19,7 @@ module _ {X : Type 0} where
   abbrev pub at : List (ℤ × X) → ℤ → Option X
   at m id = lookup (is_at (int_cmp id)) m
 
+  -- the map whose shared values are seen as what they hold
   abbrev pub in_force : {Z : Type 0} → BTreeMap ℤ (Rc X Z) → List (ℤ × X)
   in_force m = map (λ e. (e.0, e.1.value)) m.entries
 

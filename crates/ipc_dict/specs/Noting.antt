@@ -1,4 +1,4 @@
--- What a tally holds once values were seen.
+-- What a tally holds once values were seen (Arrow Columnar Format, "Dictionary-encoded Layout").
 use Rattle.std.specs.Prelude.{◌≡◌, ℕ, ◌<◌, ◌≤◌, ℤ, List, [], ◌∷◌, length, take, map, Option, Some, None, ◌⊎◌, if◌then◌else◌}
 use Rattle.std.specs.Ordering.{int_eq}
 use Rattle.ipc_model.specs.declared.value.Value.{Value}
@@ -36,6 +36,7 @@ pub record Grows (old new : TallyEntry) : Type 0 where
   pub limit : new.limit ≡ old.limit
   pub front : take (length old.values) new.values ≡ old.values
 
+-- each of the dictionaries does, side by side
 abbrev pub AllGrow : List TallyEntry → List TallyEntry → Type 0
 AllGrow [] [] = Unit {0}
 AllGrow (e ∷ es) (f ∷ fs) = Grows e f × AllGrow es fs

@@ -1,4 +1,4 @@
--- What a plan does with each dictionary.
+-- What a plan does with each dictionary (Arrow Columnar Format, "Dictionary Messages").
 use Rattle.std.specs.Prelude.{◌≡◌, ℕ, ℤ, List, [], ◌∷◌, ◌++◌, map, Option, Some, None, slice_get, Contains, IsSome, if◌then◌else◌}
 use Rattle.ipc_dict.specs.Noting.{noted_for}
 use Rattle.std.specs.Ordering.{int_eq}
@@ -47,6 +47,7 @@ own_send n None = (n.id, map (λ v. v ∷ []) n.values) ∷ []
 
 -- ---- of all dictionaries, which stand in one order
 
+-- each dictionary is settled, side by side
 abbrev pub AllSettled : List KeptEntry → List TallyEntry → List (Option (List ℕ)) → Type 0
 AllSettled [] [] [] = Unit {0}
 AllSettled (s ∷ ss) (n ∷ ns) (o ∷ os) = IsSettled s.values n.values o × AllSettled ss ns os
