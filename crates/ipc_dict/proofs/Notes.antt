@@ -1,9 +1,9 @@
 -- One more value among the dictionaries of a tally.
-use Rattle.std.proofs.Common.{◌≡◌, ℕ, zero, suc, ◌+◌, ◌<◌, ◌≤◌, ◌⊎◌, inl, inr, ℤ, Bool, true, false, ◌++◌, List, [], ◌∷◌, length, take, get_or, set, cond, refl, sym, ap, subst, ◌∙◌, arith, Result, Ok, Err, OnOk, IfOk, IfErr}
+use Rattle.std.proofs.Common.{◌≡◌, ℕ, zero, suc, ◌<◌, ◌≤◌, inl, inr, ℤ, true, false, ◌++◌, List, [], ◌∷◌, length, take, get_or, set, cond}
+use Rattle.std.proofs.Common.{refl, sym, ap, subst, ◌∙◌, arith, Result, Ok, Err, OnOk, IfOk, IfErr}
 use Rattle.std.specs.Ordering.{int_eq}
-use Rattle.std.specs.List.{list_any}
 use Rattle.std.proofs.lemmas.List.{length-append, length-take, take-take}
-use Rattle.std.proofs.Math.Seq.{take-length, take-append_seam}
+use Rattle.std.proofs.Math.Seq.{take-length}
 use Rattle.ipc_model.specs.declared.value.Value.{Value}
 use Rattle.ipc_dict.specs.declared.entry.TallyEntry.{TallyEntry}
 use Rattle.ipc_dict.specs.Distinct.{seen, is_seen}
@@ -11,7 +11,8 @@ use Rattle.ipc_dict.specs.Noting.{note_entry, note_one, note_all, AllFit, IsFull
 
 module _ (id : ℤ) (v : Value) where
   -- where the dictionary with the id stands first, its entry alone changes
-  pub set-note_one : (t : List TallyEntry) (i : ℕ) (x : TallyEntry) → i < length t → int_eq (get_or t i x).id id ≡ true → ((k : ℕ) → k < i → int_eq (get_or t k x).id id ≡ false) → x ≡ get_or t i x → set t i (note_entry v x) ≡ note_one t id v
+  pub set-note_one : (t : List TallyEntry) (i : ℕ) (x : TallyEntry) → i < length t → int_eq (get_or t i x).id id ≡ true
+      → ((k : ℕ) → k < i → int_eq (get_or t k x).id id ≡ false) → x ≡ get_or t i x → set t i (note_entry v x) ≡ note_one t id v
   set-note_one [] i x h at before same = absurd (omega arith)
   set-note_one (e ∷ es) zero x h at before same =
       ap (λ y. note_entry v y ∷ es) same ∙ sym (ap (λ b. cond b (note_entry v e ∷ es) (e ∷ note_one es id v)) at)
@@ -20,7 +21,8 @@ module _ (id : ℤ) (v : Value) where
       ap (λ l. e ∷ l) rest ∙ sym (ap (λ b. cond b (note_entry v e ∷ es) (e ∷ note_one es id v)) (before zero (omega arith)))
 
   -- where none has it, nothing changes
-  pub absent-note_one : (t : List TallyEntry) → ((k : ℕ) (d : TallyEntry) → k < length t → int_eq (get_or t k d).id id ≡ false) → note_one t id v ≡ t
+  pub absent-note_one : (t : List TallyEntry) → ((k : ℕ) (d : TallyEntry) → k < length t → int_eq (get_or t k d).id id ≡ false)
+      → note_one t id v ≡ t
   absent-note_one [] none = refl
   absent-note_one (e ∷ es) none =
       ap (λ b. cond b (note_entry v e ∷ es) (e ∷ note_one es id v)) (none zero e (omega arith))
@@ -40,7 +42,8 @@ all_grow-set [] i x y same h = tt
 all_grow-set (e ∷ es) zero x y same h = (subst (λ z. Grows z y) same h, all_grow_same es)
 all_grow-set (e ∷ es) (suc i) x y same h = (grow-same e, all_grow-set es i x y same h)
 
-pub all_fit-set : (t : List TallyEntry) (i : ℕ) (x y : TallyEntry) → x ≡ get_or t i x → (length x.values ≤ x.limit → length y.values ≤ y.limit) → AllFit t → AllFit (set t i y)
+pub all_fit-set : (t : List TallyEntry) (i : ℕ) (x y : TallyEntry) → x ≡ get_or t i x
+    → (length x.values ≤ x.limit → length y.values ≤ y.limit) → AllFit t → AllFit (set t i y)
 all_fit-set [] i x y same h fit = tt
 all_fit-set (e ∷ es) zero x y same h fit = (subst (λ z. length z.values ≤ z.limit → length y.values ≤ y.limit) same h fit.0, fit.1)
 all_fit-set (e ∷ es) (suc i) x y same h fit = (fit.0, all_fit-set es i x y same h fit.1)
@@ -91,7 +94,8 @@ all_grow_trans (a ∷ t) (b ∷ u) [] h k = absurd k
 
 pub length-seen : (xs : List Value) (v : Value) → length xs ≤ length (seen xs v)
 length-seen xs v =
-    elim (is_seen xs v) as (λ b. length xs ≤ length (cond b xs (xs ++ v ∷ []))) [ true ↦ omega arith | false ↦ omega (arith, length-append xs (v ∷ [])) ]
+    elim (is_seen xs v) as (λ b. length xs ≤ length (cond b xs (xs ++ v ∷ [])))
+    [ true ↦ omega arith | false ↦ omega (arith, length-append xs (v ∷ [])) ]
 
 pub full-note_one : (t : List TallyEntry) (id : ℤ) (v : Value) → IsFull t → IsFull (note_one t id v)
 full-note_one [] id v h = h

@@ -1,5 +1,6 @@
 -- Entries for the ids of a schema.
-use Rattle.std.proofs.Common.{◌≡◌, ℕ, zero, suc, ◌<◌, ◌≤◌, Bool, true, false, cond, ◌++◌, List, [], ◌∷◌, length, get_or, set, refl, sym, ap, ◌∙◌, arith, int_eq, ℤ, Some, None}
+use Rattle.std.proofs.Common.{◌≡◌, ℕ, zero, suc, ◌<◌, true, false, cond, ◌++◌, List, [], ◌∷◌, length, get_or, set, refl, sym, ap, ◌∙◌}
+use Rattle.std.proofs.Common.{arith, int_eq, ℤ, Some}
 use Rattle.std.specs.Prelude.{min}
 use Rattle.std.specs.Option.{option_map}
 use Rattle.ipc_model.specs.declared.value.Value.{Value}
@@ -14,14 +15,17 @@ module _ (d : Dictionary) where
   lowered e = record e { limit = min e.limit (count_of d) }
 
   -- where no entry has the id, a fresh one goes last
-  pub absent-with_field : (t : List TallyEntry) → ((k : ℕ) (x : TallyEntry) → k < length t → int_eq (get_or t k x).id d.id ≡ false) → t ++ fresh d ∷ [] ≡ with_field t d
+  pub absent-with_field : (t : List TallyEntry) → ((k : ℕ) (x : TallyEntry) → k < length t → int_eq (get_or t k x).id d.id ≡ false)
+      → t ++ fresh d ∷ [] ≡ with_field t d
   absent-with_field [] none = refl
   absent-with_field (e ∷ es) none =
       ap (λ l. e ∷ l) (absent-with_field es (λ k x l. none (suc k) x (omega arith)))
       ∙ sym (ap (λ b. cond b (lowered e ∷ es) (e ∷ with_field es d)) (none zero e (omega arith)))
 
   -- where one has it, its limit alone changes
-  pub set-with_field : (t : List TallyEntry) (i : ℕ) (x : TallyEntry) → i < length t → int_eq (get_or t i x).id d.id ≡ true → ((k : ℕ) → k < i → int_eq (get_or t k x).id d.id ≡ false) → x ≡ get_or t i x → set t i (record x { limit = min x.limit (count_of d) }) ≡ with_field t d
+  pub set-with_field : (t : List TallyEntry) (i : ℕ) (x : TallyEntry) → i < length t → int_eq (get_or t i x).id d.id ≡ true
+      → ((k : ℕ) → k < i → int_eq (get_or t k x).id d.id ≡ false) → x ≡ get_or t i x
+      → set t i (record x { limit = min x.limit (count_of d) }) ≡ with_field t d
   set-with_field [] i x h at before same = absurd (omega arith)
   set-with_field (e ∷ es) zero x h at before same =
       ap (λ y. lowered y ∷ es) same ∙ sym (ap (λ b. cond b (lowered e ∷ es) (e ∷ with_field es d)) at)
@@ -38,7 +42,8 @@ AllEmpty (e ∷ es) = (length e.values ≡ 0) × AllEmpty es
 empty-with_field : (t : List TallyEntry) (d : Dictionary) → AllEmpty t → AllEmpty (with_field t d)
 empty-with_field [] d h = (refl, tt)
 empty-with_field (e ∷ es) d h =
-    elim (int_eq e.id d.id) as (λ b. AllEmpty (cond b (lowered d e ∷ es) (e ∷ with_field es d))) [ true ↦ h | false ↦ (h.0, empty-with_field es d h.1) ]
+    elim (int_eq e.id d.id) as (λ b. AllEmpty (cond b (lowered d e ∷ es) (e ∷ with_field es d)))
+    [ true ↦ h | false ↦ (h.0, empty-with_field es d h.1) ]
 
 empty-with_fields : (t : List TallyEntry) (ds : List Dictionary) → AllEmpty t → AllEmpty (with_fields t ds)
 empty-with_fields t [] h = h
@@ -53,10 +58,12 @@ fit-unused fields = fit-empty (unused fields) (empty-with_fields [] (of_fields f
 
 -- ---- what they hold of one id
 
-empty-noted_for : (t : List TallyEntry) (id : ℤ) (f : List Value → List Value) → AllEmpty t → option_map f (noted_for t id) ≡ option_map (λ none. f []) (noted_for t id)
+empty-noted_for : (t : List TallyEntry) (id : ℤ) (f : List Value → List Value) → AllEmpty t
+    → option_map f (noted_for t id) ≡ option_map (λ none. f []) (noted_for t id)
 empty-noted_for [] id f h = refl
 empty-noted_for (e ∷ es) id f h =
-    elim (int_eq e.id id) as (λ b. option_map f (cond b (Some e.values) (noted_for es id)) ≡ option_map (λ none. f []) (cond b (Some e.values) (noted_for es id))) [
+    elim (int_eq e.id id) as (λ b. option_map f (cond b (Some e.values) (noted_for es id))
+    ≡ option_map (λ none. f []) (cond b (Some e.values) (noted_for es id))) [
       | true ↦ ap (λ xs. Some (f xs)) (no_items e.values h.0)
       | false ↦ empty-noted_for es id f h.1
     ]
@@ -65,5 +72,6 @@ empty-noted_for (e ∷ es) id f h =
     no_items [] z = refl
     no_items (x ∷ xs) z = absurd (omega (arith, z))
 
-pub unused-noted_for : (fields : List Field) (id : ℤ) (f : List Value → List Value) → option_map f (noted_for (unused fields) id) ≡ option_map (λ none. f []) (noted_for (unused fields) id)
+pub unused-noted_for : (fields : List Field) (id : ℤ) (f : List Value → List Value)
+    → option_map f (noted_for (unused fields) id) ≡ option_map (λ none. f []) (noted_for (unused fields) id)
 unused-noted_for fields id f = empty-noted_for (unused fields) id f (empty-with_fields [] (of_fields fields) tt)

@@ -1,13 +1,12 @@
--- The finite map from ids to the values in force, each beside the length of its body: its entries in
--- the order of the ids (Arrow Columnar Format, "Dictionary Messages").
-use Rattle.std.specs.Prelude.{◌≡◌, ℕ, ℤ, List, map, Option}
+-- The finite map from ids to the values in force, each beside the length of its body: its entries
+-- in the order of the ids (Arrow Columnar Format, "Dictionary Messages").
+use Rattle.std.specs.Prelude.{ℕ, ℤ, List, map, Option}
 use Rattle.std.specs.List.{sum_by}
 use Rattle.std.specs.Ordering.{int_cmp}
 use Rattle.std.specs.Map.{lookup, values_of}
 use Rattle.std.specs.Option.{option_map, unwrap_or}
 use Rattle.std.specs.BTreeMap.{BTreeMap, insert_entry, is_at}
 use Rattle.std.specs.declared.rc.Rc.{Rc}
-use Rattle.std.specs.Rc.{rc_value}
 use Rattle.ipc_column.specs.Contents.{Contents}
 
 module _ {X : Type 0} where

@@ -1,5 +1,6 @@
 -- What a tally holds once values were seen (Arrow Columnar Format, "Dictionary-encoded Layout").
-use Rattle.std.specs.Prelude.{◌≡◌, ℕ, ◌<◌, ◌≤◌, ℤ, List, [], ◌∷◌, length, take, map, Option, Some, None, ◌⊎◌, if◌then◌else◌}
+use Rattle.std.specs.Prelude.{◌≡◌, ℕ, ◌<◌, ◌≤◌, ℤ, List, [], ◌∷◌, length, take, map, Option, Some}
+use Rattle.std.specs.Prelude.{None, ◌⊎◌, if◌then◌else◌}
 use Rattle.std.specs.Ordering.{int_eq}
 use Rattle.ipc_model.specs.declared.value.Value.{Value}
 use Rattle.ipc_dict.specs.declared.entry.TallyEntry.{TallyEntry}
@@ -64,6 +65,8 @@ abbrev pub noted_for : List TallyEntry → ℤ → Option (List Value)
 noted_for [] id = None
 noted_for (e ∷ es) id = if int_eq e.id id then Some e.values else noted_for es id
 
--- a tally holds of each dictionary the values that it held, and then the distinct ones of the pairs in order of first appearance
+-- a tally holds of each dictionary the values that it held, and then the distinct ones of the
+-- pairs in order of first appearance
 abbrev pub HoldsDistinct : Type 0
-HoldsDistinct = (t : List TallyEntry) (ps : List (ℤ × Value)) (id : ℤ) → noted_for (note_all t ps) id ≡ option_map (λ xs. seen_all xs (of_id id ps)) (noted_for t id)
+HoldsDistinct = (t : List TallyEntry) (ps : List (ℤ × Value)) (id : ℤ)
+    → noted_for (note_all t ps) id ≡ option_map (λ xs. seen_all xs (of_id id ps)) (noted_for t id)

@@ -1,5 +1,6 @@
 -- What a plan does with each dictionary (Arrow Columnar Format, "Dictionary Messages").
-use Rattle.std.specs.Prelude.{◌≡◌, ℕ, ℤ, List, [], ◌∷◌, ◌++◌, map, Option, Some, None, slice_get, Contains, IsSome, if◌then◌else◌}
+use Rattle.std.specs.Prelude.{◌≡◌, ℕ, ℤ, List, [], ◌∷◌, ◌++◌, map, Option, Some, None, slice_get}
+use Rattle.std.specs.Prelude.{Contains, IsSome, if◌then◌else◌}
 use Rattle.ipc_dict.specs.Noting.{noted_for}
 use Rattle.std.specs.Ordering.{int_eq}
 use Rattle.ipc_model.specs.declared.value.Value.{Value}
@@ -15,8 +16,8 @@ AreNumbers known values to = map (λ v. place v known) values ≡ map (λ i. Som
 abbrev pub Lacks : List Value → List Value → Type 0
 Lacks known values = (v : Value) × (Contains values v × (place v known ≡ None))
 
--- the dictionary was sent, and each value of the batch stands at its number; or it is sent with this batch, since it has
--- not been or lacks a value
+-- the dictionary was sent, and each value of the batch stands at its number; or it is sent with
+-- this batch, since it has not been or lacks a value
 abbrev pub IsSettled : Option (List Value) → List Value → Option (List ℕ) → Type 0
 IsSettled (Some known) values (Some to) = AreNumbers known values to
 IsSettled (Some known) values None = Lacks known values
@@ -57,7 +58,8 @@ AllSettled _ _ _ = ⊥
 abbrev pub index : List TallyEntry → List (Option (List ℕ)) → ℤ → Value → Option ℕ
 index [] os id v = None
 index (n ∷ ns) [] id v = None
-index (n ∷ ns) (o ∷ os) id v = if int_eq n.id id then number_at (place v n.values) o else index ns os id v
+index (n ∷ ns) (o ∷ os) id v =
+    if int_eq n.id id then number_at (place v n.values) o else index ns os id v
 
 -- the number of a value among those sent before, by its number in the batch
 abbrev pub number : List TallyEntry → List (Option (List ℕ)) → ℤ → ℕ → Option ℕ
@@ -76,7 +78,8 @@ abbrev pub after_all : List KeptEntry → List TallyEntry → List (Option (List
 after_all [] ns os = []
 after_all (s ∷ ss) [] os = s ∷ ss
 after_all (s ∷ ss) (n ∷ ns) [] = s ∷ ss
-after_all (s ∷ ss) (n ∷ ns) (o ∷ os) = record s { values = after s.values n.values o } ∷ after_all ss ns os
+after_all (s ∷ ss) (n ∷ ns) (o ∷ os) =
+    record s { values = after s.values n.values o } ∷ after_all ss ns os
 
 -- what was sent for the id
 abbrev pub sent_for : List KeptEntry → ℤ → Option (List Value)
@@ -91,8 +94,11 @@ SameIds _ _ = ⊥
 
 -- each index that a plan gives finds its value in what is sent once the batch was
 abbrev pub FindsAll : List KeptEntry → List TallyEntry → List (Option (List ℕ)) → Type 0
-FindsAll ss ns os = (id : ℤ) (v : Value) (i : ℕ) → index ns os id v ≡ Some i → (now : List Value) × ((sent_for (after_all ss ns os) id ≡ Some now) × (slice_get now i ≡ Some v))
+FindsAll ss ns os = (id : ℤ) (v : Value) (i : ℕ) → index ns os id v ≡ Some i
+    → (now : List Value)
+    × ((sent_for (after_all ss ns os) id ≡ Some now) × (slice_get now i ≡ Some v))
 
 -- each value of the batch has an index
 abbrev pub KnowsAll : List TallyEntry → List (Option (List ℕ)) → Type 0
-KnowsAll ns os = (id : ℤ) (v : Value) (xs : List Value) → noted_for ns id ≡ Some xs → Contains xs v → IsSome (index ns os id v)
+KnowsAll ns os = (id : ℤ) (v : Value) (xs : List Value) → noted_for ns id ≡ Some xs → Contains xs v
+    → IsSome (index ns os id v)

@@ -1,5 +1,6 @@
 -- The dictionaries that the fields of a schema name (Schema.fbs, table DictionaryEncoding).
-use Rattle.std.specs.Prelude.{ℕ, ◌^◌, ◌-◌, min, Bool, ℤ, List, [], ◌∷◌, ◌++◌, map, Option, Some, None, true, false, if◌then◌else◌}
+use Rattle.std.specs.Prelude.{ℕ, ◌^◌, ◌-◌, min, Bool, ℤ, List, [], ◌∷◌, ◌++◌, map, Option, Some}
+use Rattle.std.specs.Prelude.{None, true, false, if◌then◌else◌}
 use Rattle.std.specs.Ordering.{int_eq}
 use Rattle.ipc_model.specs.declared.schema.IntBits.{IntBits}
 use Rattle.ipc_model.specs.declared.schema.IntBits.TheVariants as b

@@ -3,7 +3,8 @@ use Rattle.std.specs.Prelude.{Bool, List}
 use Rattle.ipc_model.specs.declared.schema.Field.{Field}
 use Rattle.ipc_dict.specs.declared.entry.TallyEntry.{TallyEntry}
 
--- whether it has failed, the fields whose rows it counts, and the distinct values of each dictionary
+-- whether it has failed, the fields whose rows it counts, and the distinct values of each
+-- dictionary
 pub record Tallied : Type 0 where
   pub failed : Bool
   pub fields : List Field

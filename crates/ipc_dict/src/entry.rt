@@ -1,5 +1,6 @@
 //! The distinct values of each dictionary.
-ghost use Rattle.std.specs.Prelude.{◌≡◌, ◌<◌, ◌≤◌, length, IfOk, IfErr, OnOk, OnErr, ◌⊎◌, ℕ, true, false, slice_index_or, IfSome, IfNone};
+ghost use Rattle.std.specs.Prelude.{◌≡◌, ◌<◌, ◌≤◌, length, IfOk, IfErr, OnOk, OnErr, ◌⊎◌, ℕ, true};
+ghost use Rattle.std.specs.Prelude.{false, slice_index_or, IfSome, IfNone};
 ghost use Rattle.std.specs.Ordering.{int_eq};
 ghost use Rattle.ipc_dict.specs.declared.entry.TallyEntry.{TallyEntry};
 ghost use Rattle.ipc_dict.specs.Noting.{note_entry, note_one, AllFit, IsFull, Grows, AllGrow};
@@ -21,9 +22,15 @@ pub struct TallyEntry {
 // Where the dictionary stands.
 pub(crate) fn find(entries: &[TallyEntry], id: i64) -> Option<usize>
     ensures within { IfSome result (λ i. i < length entries.now) }
-    ensures found { IfSome result (λ i. (d : TallyEntry) → i < length entries.now → int_eq (slice_index_or entries.now i d).id id ≡ true) }
-    ensures before { IfSome result (λ i. (k : ℕ) (d : TallyEntry) → k < i → int_eq (slice_index_or entries.now k d).id id ≡ false) }
-    ensures absent { IfNone result ((k : ℕ) (d : TallyEntry) → k < length entries.now → int_eq (slice_index_or entries.now k d).id id ≡ false) }
+    ensures found { IfSome result
+        (λ i. (d : TallyEntry) → i < length entries.now
+        → int_eq (slice_index_or entries.now i d).id id ≡ true) }
+    ensures before { IfSome result
+        (λ i. (k : ℕ) (d : TallyEntry) → k < i
+        → int_eq (slice_index_or entries.now k d).id id ≡ false) }
+    ensures absent { IfNone result
+        ((k : ℕ) (d : TallyEntry) → k < length entries.now
+        → int_eq (slice_index_or entries.now k d).id id ≡ false) }
 {
     for (i, entry) in entries.iter().enumerate() {
         if entry.id == id {
@@ -36,9 +43,14 @@ pub(crate) fn find(entries: &[TallyEntry], id: i64) -> Option<usize>
 // One more value of a dictionary.
 fn note_in(entry: &mut TallyEntry, value: &Value) -> Result<(), WriteFault>
     ensures noted { OnOk result (entry.new ≡ note_entry value.now entry.old) }
-    ensures fits { OnOk result (length entry.old.values ≤ entry.old.limit → length entry.new.values ≤ entry.new.limit) }
-    ensures full { IfErr result (λ fault. fault ≡ WriteFault.DictionaryFull → (entry.new ≡ note_entry value.now entry.old) × (entry.new.limit < length entry.new.values)) }
-    ensures memory { IfErr result (λ fault. (fault ≡ WriteFault.DictionaryFull) ⊎ (fault ≡ WriteFault.OutOfMemory)) }
+    ensures fits { OnOk result
+        (length entry.old.values ≤ entry.old.limit → length entry.new.values ≤ entry.new.limit) }
+    ensures full { IfErr result
+        (λ fault. fault ≡ WriteFault.DictionaryFull
+        → (entry.new ≡ note_entry value.now entry.old)
+        × (entry.new.limit < length entry.new.values)) }
+    ensures memory { IfErr result
+        (λ fault. (fault ≡ WriteFault.DictionaryFull) ⊎ (fault ≡ WriteFault.OutOfMemory)) }
     ensures grows { Grows entry.old entry.new }
 {
     if entry.values.add(value)? && entry.values.len() > entry.limit {
@@ -51,8 +63,10 @@ fn note_in(entry: &mut TallyEntry, value: &Value) -> Result<(), WriteFault>
 pub(crate) fn note_one(entries: &mut [TallyEntry], id: i64, value: &Value) -> Result<(), WriteFault>
     ensures noted { OnOk result (entries.new ≡ note_one entries.old id value.now) }
     ensures fits { OnOk result (AllFit entries.old → AllFit entries.new) }
-    ensures full { IfErr result (λ fault. fault ≡ WriteFault.DictionaryFull → IsFull (note_one entries.old id value.now)) }
-    ensures memory { IfErr result (λ fault. (fault ≡ WriteFault.DictionaryFull) ⊎ (fault ≡ WriteFault.OutOfMemory)) }
+    ensures full { IfErr result
+        (λ fault. fault ≡ WriteFault.DictionaryFull → IsFull (note_one entries.old id value.now)) }
+    ensures memory { IfErr result
+        (λ fault. (fault ≡ WriteFault.DictionaryFull) ⊎ (fault ≡ WriteFault.OutOfMemory)) }
     ensures grows { AllGrow entries.old entries.new }
 {
     let Some(at) = find(entries, id) else {

@@ -1,7 +1,6 @@
 //! Which dictionaries a batch sends, and the indices of its values.
 ghost use Rattle.std.specs.Prelude.{◌≡◌, ◌⊎◌, IfOk, IfErr};
-ghost use Rattle.ipc_dict.specs.Planning.{after_all, sends_of, AllSettled, FindsAll};
-ghost use Rattle.ipc_dict.specs.Planning.{KnowsAll};
+ghost use Rattle.ipc_dict.specs.Planning.{after_all, sends_of, AllSettled, FindsAll, KnowsAll};
 ghost use Rattle.ipc_dict.specs.Counted.{HoldsRows};
 ghost use Rattle.ipc_dict.specs.Noting.{note_all, AllFit, IsFull};
 ghost use Rattle.ipc_dict.specs.Pairs.{rows_pairs};

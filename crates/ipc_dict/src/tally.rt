@@ -39,7 +39,11 @@ impl Model for Tally {
 
     ghost coded = { Prim.hlevel (codes, field.the_row.coded, entry.the_row.coded) };
 
-    ghost view = { λ t. record { failed = t.failed; fields = t.fields; entries = t.entries.items } };
+    ghost view = { λ t. record {
+      failed = t.failed;
+      fields = t.fields;
+      entries = t.entries.items;
+    } };
 
     ghost invariant = { λ t. (length t.marks.items ≡ length t.entries.items)
         × AllFit t.entries.items };
@@ -149,11 +153,15 @@ fn note_row(
     row: &[Value],
 ) -> Result<(), WriteFault>
     requires { length marks.old ≡ length entries.old }
-    ensures noted { OnOk result (entries.new ≡ note_all entries.old (row_pairs fields.now row.now)) }
+    ensures noted { OnOk result
+        (entries.new ≡ note_all entries.old (row_pairs fields.now row.now)) }
     ensures fits { AllFit entries.old → AllFit entries.new }
     ensures err { OnErr result (entries.new ≡ entries.old) }
-    ensures full { IfErr result (λ fault. fault ≡ WriteFault.DictionaryFull → IsFull (note_all entries.old (row_pairs fields.now row.now))) }
-    ensures memory { IfErr result (λ fault. (fault ≡ WriteFault.DictionaryFull) ⊎ (fault ≡ WriteFault.OutOfMemory)) }
+    ensures full { IfErr result
+        (λ fault. fault ≡ WriteFault.DictionaryFull
+        → IsFull (note_all entries.old (row_pairs fields.now row.now))) }
+    ensures memory { IfErr result
+        (λ fault. (fault ≡ WriteFault.DictionaryFull) ⊎ (fault ≡ WriteFault.OutOfMemory)) }
 {
     mark(entries, marks);
     if let Err(fault) = note_each(entries, fields, row) {

@@ -13,8 +13,11 @@ use ipc_model::{DataType, Field, Value, WriteFault};
 fn note_value(entries: &mut [TallyEntry], field: &Field, value: &Value) -> Result<(), WriteFault>
     ensures noted { OnOk result (entries.new ≡ note_all entries.old (pairs field.now value.now)) }
     ensures fits { OnOk result (AllFit entries.old → AllFit entries.new) }
-    ensures full { IfErr result (λ fault. fault ≡ WriteFault.DictionaryFull → IsFull (note_all entries.old (pairs field.now value.now))) }
-    ensures memory { IfErr result (λ fault. (fault ≡ WriteFault.DictionaryFull) ⊎ (fault ≡ WriteFault.OutOfMemory)) }
+    ensures full { IfErr result
+        (λ fault. fault ≡ WriteFault.DictionaryFull
+        → IsFull (note_all entries.old (pairs field.now value.now))) }
+    ensures memory { IfErr result
+        (λ fault. (fault ≡ WriteFault.DictionaryFull) ⊎ (fault ≡ WriteFault.OutOfMemory)) }
     ensures grows { AllGrow entries.old entries.new }
 {
     if let Some(dictionary) = field.dictionary {
@@ -42,10 +45,14 @@ fn note_value(entries: &mut [TallyEntry], field: &Field, value: &Value) -> Resul
 #[cycle(note)]
 #[tactic(auto, using(crate::proofs::Notes::all_grow_same, crate::proofs::Notes::all_grow_trans))]
 fn note_items(entries: &mut [TallyEntry], child: &Field, values: &[Value]) -> Result<(), WriteFault>
-    ensures noted { OnOk result (entries.new ≡ note_all entries.old (items_pairs (pairs child.now) values.now)) }
+    ensures noted { OnOk result
+        (entries.new ≡ note_all entries.old (items_pairs (pairs child.now) values.now)) }
     ensures fits { OnOk result (AllFit entries.old → AllFit entries.new) }
-    ensures full { IfErr result (λ fault. fault ≡ WriteFault.DictionaryFull → IsFull (note_all entries.old (items_pairs (pairs child.now) values.now))) }
-    ensures memory { IfErr result (λ fault. (fault ≡ WriteFault.DictionaryFull) ⊎ (fault ≡ WriteFault.OutOfMemory)) }
+    ensures full { IfErr result
+        (λ fault. fault ≡ WriteFault.DictionaryFull
+        → IsFull (note_all entries.old (items_pairs (pairs child.now) values.now))) }
+    ensures memory { IfErr result
+        (λ fault. (fault ≡ WriteFault.DictionaryFull) ⊎ (fault ≡ WriteFault.OutOfMemory)) }
     ensures grows { AllGrow entries.old entries.new }
 {
     for value in values {
@@ -62,10 +69,14 @@ pub(crate) fn note_each(
     fields: &[Field],
     values: &[Value],
 ) -> Result<(), WriteFault>
-    ensures noted { OnOk result (entries.new ≡ note_all entries.old (each_pairs (map pairs fields.now) values.now)) }
+    ensures noted { OnOk result
+        (entries.new ≡ note_all entries.old (each_pairs (map pairs fields.now) values.now)) }
     ensures fits { OnOk result (AllFit entries.old → AllFit entries.new) }
-    ensures full { IfErr result (λ fault. fault ≡ WriteFault.DictionaryFull → IsFull (note_all entries.old (each_pairs (map pairs fields.now) values.now))) }
-    ensures memory { IfErr result (λ fault. (fault ≡ WriteFault.DictionaryFull) ⊎ (fault ≡ WriteFault.OutOfMemory)) }
+    ensures full { IfErr result
+        (λ fault. fault ≡ WriteFault.DictionaryFull
+        → IsFull (note_all entries.old (each_pairs (map pairs fields.now) values.now))) }
+    ensures memory { IfErr result
+        (λ fault. (fault ≡ WriteFault.DictionaryFull) ⊎ (fault ≡ WriteFault.OutOfMemory)) }
     ensures grows { AllGrow entries.old entries.new }
 {
     for (number, field) in fields.iter().enumerate() {

@@ -1,4 +1,4 @@
-use Rattle.std.proofs.Common.{◌≡◌, sym, ◌∙◌, ap, Some, None, w64}
+use Rattle.std.proofs.Common.{◌∙◌, ap, Some, None, w64}
 use Rattle.std.proofs.lemmas.Int.{to_z-of_z}
 use Rattle.ipc_dict.proofs.Puts.{body_of-found}
 use Rattle.ipc_dict.proofs.dictionaries.body_at.Goals as goal

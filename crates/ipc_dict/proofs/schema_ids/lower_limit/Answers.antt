@@ -1,6 +1,5 @@
-use Rattle.std.proofs.Common.{◌≡◌, ◌∙◌, sym, ap, set, get_or, ℕ}
+use Rattle.std.proofs.Common.{◌≡◌, ◌∙◌, ap, set, get_or, ℕ}
 use Rattle.std.specs.Prelude.{min}
-use Rattle.ipc_dict.specs.declared.entry.TallyEntry.{TallyEntry}
 use Rattle.ipc_dict.specs.SchemaIds.{count_of}
 use Rattle.ipc_dict.proofs.SchemaIds.{absent-with_field, set-with_field}
 use Rattle.ipc_dict.proofs.schema_ids.lower_limit.Goals as goal

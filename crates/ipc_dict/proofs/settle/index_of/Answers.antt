@@ -1,4 +1,4 @@
-use Rattle.std.proofs.Common.{◌≡◌, ap, sym, ◌∙◌, get_or, w64, int_eq}
+use Rattle.std.proofs.Common.{ap, sym, ◌∙◌, get_or, w64, int_eq}
 use Rattle.std.proofs.lemmas.Int.{to_z-of_z}
 use Rattle.ipc_dict.specs.Distinct.{place}
 use Rattle.ipc_dict.specs.Planning.{number_at}
@@ -9,7 +9,9 @@ pub returns-in_err-i : goal.returns-in_err-i
 returns-in_err-i c =
     let t = c.args.entries.now in
     let same = to_z-of_z w64 c.args.id c.ranges.id in
-    c.from_residual.ensures ∙ sym (index-absent c.args.id c.args.value.now t c.args.numbers.now (λ k d h. ap (λ z. int_eq (get_or t k d).id z) (sym same) ∙ c.in_err-i.ensures.absent k d h))
+    c.from_residual.ensures
+    ∙ sym (index-absent c.args.id c.args.value.now t c.args.numbers.now
+    (λ k d h. ap (λ z. int_eq (get_or t k d).id z) (sym same) ∙ c.in_err-i.ensures.absent k d h))
 
 pub returns : goal.returns
 returns c =

@@ -1,4 +1,4 @@
-use Rattle.std.proofs.Common.{◌≡◌, ap, sym, ◌∙◌, get_or, w64, int_eq, []}
+use Rattle.std.proofs.Common.{ap, sym, ◌∙◌, get_or, w64, int_eq, []}
 use Rattle.std.proofs.lemmas.Int.{to_z-of_z}
 use Rattle.ipc_dict.specs.declared.entry.TallyEntry.{TallyEntry}
 use Rattle.ipc_dict.proofs.Plans.{number-at, number-absent}
@@ -8,7 +8,9 @@ pub returns-in_err-i : goal.returns-in_err-i
 returns-in_err-i c =
     let t = c.args.entries.now in
     let same = to_z-of_z w64 c.args.id c.ranges.id in
-    c.from_residual.ensures ∙ sym (number-absent c.args.id c.args.from t c.args.numbers.now (λ k d h. ap (λ z. int_eq (get_or t k d).id z) (sym same) ∙ c.in_err-i.ensures.absent k d h))
+    c.from_residual.ensures
+    ∙ sym (number-absent c.args.id c.args.from t c.args.numbers.now
+    (λ k d h. ap (λ z. int_eq (get_or t k d).id z) (sym same) ∙ c.in_err-i.ensures.absent k d h))
 
 pub returns : goal.returns
 returns c =

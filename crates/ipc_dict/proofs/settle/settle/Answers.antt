@@ -7,7 +7,8 @@ use Rattle.ipc_dict.proofs.settle.settle.Goals as goal
 pub returns-clause-finds : goal.returns-clause-finds
 returns-clause-finds c =
     let s : AllSettled c.args.kept.now c.args.entries.items c.in_ok-numbers.numbers.items = search rules in
-    finds_all c.args.kept.now c.args.entries.items c.in_ok-numbers.numbers.items (same_ids c.args.kept.now c.args.entries.items c.requires) s
+    finds_all c.args.kept.now c.args.entries.items c.in_ok-numbers.numbers.items
+    (same_ids c.args.kept.now c.args.entries.items c.requires) s
 
 pub returns-clause-knows : goal.returns-clause-knows
 returns-clause-knows c =

@@ -6,7 +6,8 @@ use Rattle.ipc_dict.proofs.walk.+note.Given as goal
 abbrev pub invariant-note_each-loop-number : goal.invariant-note_each-loop-number
 invariant-note_each-loop-number l =
     record {
-      noted : note_all l.entries (each_pairs (map pairs (drop l.number l.fields)) (drop l.number l.values)) ≡ note_all l.initial.entries (each_pairs (map pairs l.fields) l.values);
+      noted : note_all l.entries (each_pairs (map pairs (drop l.number l.fields)) (drop l.number l.values))
+          ≡ note_all l.initial.entries (each_pairs (map pairs l.fields) l.values);
       fits : AllFit l.initial.entries → AllFit l.entries;
       grows : AllGrow l.initial.entries l.entries;
     }
@@ -14,7 +15,8 @@ invariant-note_each-loop-number l =
 abbrev pub invariant-note_items-loop-value : goal.invariant-note_items-loop-value
 invariant-note_items-loop-value l =
     record {
-      noted : note_all l.entries (items_pairs (pairs l.child) (drop l.value-index l.values)) ≡ note_all l.initial.entries (items_pairs (pairs l.child) l.values);
+      noted : note_all l.entries (items_pairs (pairs l.child) (drop l.value-index l.values))
+          ≡ note_all l.initial.entries (items_pairs (pairs l.child) l.values);
       fits : AllFit l.initial.entries → AllFit l.entries;
       grows : AllGrow l.initial.entries l.entries;
     }

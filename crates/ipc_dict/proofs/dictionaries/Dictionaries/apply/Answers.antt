@@ -1,16 +1,20 @@
-use Rattle.std.proofs.Common.{◌≡◌, sym, ◌∙◌, ap, arith, subst, w64, to_z, of_z, List, ℤ, map}
+use Rattle.std.proofs.Common.{◌≡◌, sym, ◌∙◌, ap, arith, subst, w64, to_z, of_z, map}
 use Rattle.std.proofs.lemmas.Int.{to_z-of_z}
 use Rattle.std.proofs.lemmas.Map.Made.{keys_of-map_values}
 use Rattle.std.specs.List.Sorted.{IsStrictlySortedBy}
 use Rattle.std.specs.Ordering.{int_cmp}
-use Rattle.ipc_column.specs.Contents.{Contents}
 use Rattle.ipc_dict.specs.InForce.{put, in_force, total, body_of}
 use Rattle.ipc_dict.proofs.Puts.{plain-put, total-put, body-le-total}
 use Rattle.ipc_dict.proofs.dictionaries.Dictionaries.apply.Goals as goal
 
 pub overflow_sub-self-inside : goal.overflow_sub-self-inside
 overflow_sub-self-inside c =
-    omega (arith, c.body_at-before.ensures, body-le-total (in_force c.self.inside.current) (to_z w64 (of_z w64 c.args.id)), c.self.invariant)
+    omega (
+      arith,
+      c.body_at-before.ensures,
+      body-le-total (in_force c.self.inside.current) (to_z w64 (of_z w64 c.args.id)),
+      c.self.invariant,
+    )
 
 -- what is in force after the insertion
 after : (c : goal.After-self-1) → in_force c.insert.new.self ≡ put (in_force c.self.inside.current) c.args.id c.args.values
@@ -24,8 +28,19 @@ after c =
 pub invariant_of-self-2 : goal.invariant_of-self-2
 invariant_of-self-2 c =
     let m = in_force c.self.inside.current in
-    let sorted = subst (IsStrictlySortedBy int_cmp) (sym (keys_of-map_values (λ r. r.value) c.self.inside.current.entries)) c.in_ok-insert.ensures.was_ordered in
-    omega (arith, c.body_at-before.ensures, c.in-Some.ensures, body-le-total m c.args.id, ap total (after c), total-put m c.args.id c.args.values sorted, c.self.invariant, ap (body_of m) (to_z-of_z w64 c.args.id c.ranges.id))
+    let sorted =
+    subst (IsStrictlySortedBy int_cmp)
+    (sym (keys_of-map_values (λ r. r.value) c.self.inside.current.entries)) c.in_ok-insert.ensures.was_ordered in
+    omega (
+      arith,
+      c.body_at-before.ensures,
+      c.in-Some.ensures,
+      body-le-total m c.args.id,
+      ap total (after c),
+      total-put m c.args.id c.args.values sorted,
+      c.self.invariant,
+      ap (body_of m) (to_z-of_z w64 c.args.id c.ranges.id),
+    )
 
 pub returns-clause-after : goal.returns-clause-after
 returns-clause-after c = after c ∙ ap (λ m. put m c.args.id c.args.values) c.self.view_is

@@ -1,4 +1,4 @@
-use Rattle.std.proofs.Common.{◌≡◌, ◌∙◌, sym, ap, subst, length}
+use Rattle.std.proofs.Common.{◌∙◌, sym, ap, subst, length}
 use Rattle.ipc_dict.specs.Noting.{AllFit}
 use Rattle.ipc_dict.proofs.SchemaIds.{fit-unused}
 use Rattle.ipc_dict.proofs.tally.Tally.new.Goals as goal
