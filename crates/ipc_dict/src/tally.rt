@@ -1,5 +1,5 @@
 //! A batch's distinct values, row by row.
-ghost use Rattle.std.specs.Prelude.{◌≡◌, true, false, length, IfOk, IfErr, OnOk, OnErr, ◌⊎◌};
+ghost use Rattle.std.specs.Prelude.{◌≡◌, true, false, length, IfOk, IfErr, OnOk, OnErr, ◌⊎◌, Err};
 ghost use Rattle.ipc_dict.specs.Noting.{note_all, AllFit, IsFull, HoldsDistinct, lens, cut};
 ghost use Rattle.ipc_dict.specs.Pairs.{row_pairs};
 ghost use Rattle.ipc_dict.specs.SchemaIds.{unused, kept_ids, tally_ids};
@@ -90,6 +90,8 @@ impl Tally {
             → IsFull (note_all self.old.entries (row_pairs self.old.fields row.now))) }
         ensures failed { IfErr result
             (λ fault. fault ≡ WriteFault.OutOfMemory → self.new.failed ≡ true) }
+        // A tally that has failed counts no row.
+        ensures refused { self.old.failed ≡ true → result ≡ Err WriteFault.Failed }
         ensures before { IfErr result
             (λ fault. fault ≡ WriteFault.Failed → self.old.failed ≡ true) }
         ensures only { IfErr result (λ fault. (fault ≡ WriteFault.DictionaryFull)
@@ -123,13 +125,19 @@ impl Tally {
         ensures finds { IfOk result (λ plan. FindsAll kept.now self.entries plan.numbers) }
         // Each value of the batch has an index.
         ensures knows { IfOk result (λ plan. KnowsAll self.entries plan.numbers) }
+        // A tally that has failed gives no plan.
+        ensures refused { self.failed ≡ true → result ≡ Err WriteFault.Failed }
         ensures failed { IfErr result (λ fault. (fault ≡ WriteFault.OutOfMemory)
             ⊎ ((fault ≡ WriteFault.Failed) × (self.failed ≡ true))) }
     {
-        if self.failed {
+        let Tally {
+            entries,
+            failed,
+            ..
+        } = self;
+        if failed {
             return Err(WriteFault::Failed);
         }
-        let Tally { entries, .. } = self;
         Ok(settle(alloc, &kept.entries, entries)?)
     }
 }
