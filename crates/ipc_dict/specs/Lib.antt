@@ -7,3 +7,5 @@ pub mod Planning
 pub mod Planned
 pub mod SchemaIds
 pub mod Counted
+pub mod ValuesColumns
+pub mod Applied

@@ -12,6 +12,7 @@ mod plan;
 mod schema_ids;
 mod settle;
 mod tally;
+mod values_columns;
 mod walk;
 
 pub use dictionaries::Dictionaries;

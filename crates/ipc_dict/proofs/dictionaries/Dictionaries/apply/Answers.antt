@@ -3,6 +3,7 @@ use Rattle.std.proofs.lemmas.Int.{to_z-of_z}
 use Rattle.std.proofs.lemmas.Map.Made.{keys_of-map_values}
 use Rattle.std.specs.List.Sorted.{IsStrictlySortedBy}
 use Rattle.std.specs.Ordering.{int_cmp}
+use Rattle.ipc_dict.specs.Applied.{Applied}
 use Rattle.ipc_dict.specs.InForce.{put, in_force, total, body_of}
 use Rattle.ipc_dict.proofs.Puts.{plain-put, total-put, body-le-total}
 use Rattle.ipc_dict.proofs.dictionaries.Dictionaries.apply.Goals as goal
@@ -43,4 +44,6 @@ invariant_of-self-2 c =
     )
 
 pub returns-clause-after : goal.returns-clause-after
-returns-clause-after c = after c ∙ ap (λ m. put m c.args.id c.args.values) c.self.view_is
+returns-clause-after c =
+    (λ i. record { columns = c.self.inside.columns.items; current = after c i })
+    ∙ ap (λ (d : Applied). record d { current = put d.current c.args.id c.args.values }) c.self.view_is
