@@ -11,9 +11,9 @@ use Rattle.ipc_dict.specs.declared.entry.TallyEntry.{TallyEntry}
 use Rattle.ipc_dict.specs.declared.kept.KeptEntry.{KeptEntry}
 
 -- one list behind the other
-abbrev pub joined : List (List Dictionary) → List Dictionary
+abbrev pub joined : {X : Type 0} → List (List X) → List X
 joined [] = []
-joined (ds ∷ dss) = ds ++ joined dss
+joined (xs ∷ xss) = xs ++ joined xss
 
 -- of a field without those below it
 abbrev pub own : Option Dictionary → List Dictionary

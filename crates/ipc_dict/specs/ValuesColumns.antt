@@ -1,19 +1,20 @@
--- The columns that a schema's dictionaries are read by (Arrow Columnar Format, "Dictionary Messages":
--- a dictionary batch is a record batch of one column).
+-- The columns that a schema's dictionaries are read by (Arrow Columnar Format, "Dictionary
+-- Messages": a dictionary batch is a record batch of one column).
 use Rattle.std.specs.Prelude.{ℤ, List, [], ◌∷◌, ◌++◌, map, Option, Some, None, true}
 use Rattle.std.specs.Map.{lookup}
 use Rattle.std.specs.Ordering.{int_eq}
 use Rattle.ipc_model.specs.declared.schema.Dictionary.{Dictionary}
 use Rattle.ipc_model.specs.declared.schema.Field.{Field, fold-Field, roll-Field}
 use Rattle.ipc_model.specs.declared.schema.Field.TheOpen.{Field-F}
+use Rattle.ipc_dict.specs.SchemaIds.{joined}
 
 -- ids, each beside the columns of its dictionary
 abbrev pub Listed : Type 0
 Listed = List (ℤ × List Field)
 
--- the column of a dictionary's values: the field that names the dictionary, without it; a value may
--- be null, and has no parts (Schema.fbs, table Field, `dictionary`: the field's type is that of the
--- values; Arrow Columnar Format, "Dictionary-encoded Layout")
+-- the column of a dictionary's values: the name and type of the field that names the dictionary,
+-- whose type is that of the values (Schema.fbs, table Field, `dictionary`); a value may be null and
+-- has no parts (Arrow Columnar Format, "Dictionary-encoded Layout")
 abbrev pub values_column : {X : Type 0} → Field-F X → Field
 values_column f = roll-Field (record {
   name = f.name;
@@ -24,11 +25,6 @@ values_column f = roll-Field (record {
   metadata = [];
 })
 
--- one list behind the other
-abbrev pub all_of : List Listed → Listed
-all_of [] = []
-all_of (cs ∷ css) = cs ++ all_of css
-
 -- of a field without those below it
 abbrev pub own_columns : {X : Type 0} → Field-F X → Option Dictionary → Listed
 own_columns f (Some d) = (d.id, values_column f ∷ []) ∷ []
@@ -36,7 +32,7 @@ own_columns f None = []
 
 -- a field's own, and behind it those of its children
 abbrev pub columns_step : Field-F Listed → Listed
-columns_step f = own_columns f f.dictionary ++ all_of f.children
+columns_step f = own_columns f f.dictionary ++ joined f.children
 
 -- of a field and all below it, in pre-order
 abbrev pub columns_of : Field → Listed
@@ -44,7 +40,7 @@ columns_of = fold-Field Listed columns_step
 
 -- of several fields, in pre-order
 abbrev pub columns_in : List Field → Listed
-columns_in fields = all_of (map columns_of fields)
+columns_in fields = joined (map columns_of fields)
 
 -- the column of the dictionary with the id: that of the first field that names it
 abbrev pub columns_for : Listed → ℤ → Option (List Field)

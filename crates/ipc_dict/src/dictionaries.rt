@@ -45,7 +45,7 @@ impl Dictionaries {
     /// No dictionary in force, as a stream of this schema begins. What is put in force later takes
     /// its place from `alloc`.
     ///
-    /// The caller has a schema that passes its check: then each field that names a dictionary has no
+    /// The caller has a schema that passes its check: then a field that names a dictionary has no
     /// parts, and the fields that name one dictionary have values of one type. Refused with
     /// `OutOfMemory` where the columns of the dictionaries find no room.
     pub fn new(alloc: Global, schema: &Schema) -> Result<Dictionaries, Fault>
@@ -64,9 +64,10 @@ impl Dictionaries {
         })
     }
 
-    /// The one column by which the values of the dictionary with this id are read: the first field
-    /// of the schema in pre-order that names the dictionary, without it; a value may be null. None
-    /// where no field names it. It takes no memory.
+    /// The one column by which the values of the dictionary with this id are read: it has the name
+    /// and the type of the first field of the schema in pre-order that names the dictionary, and no
+    /// dictionary, parts or pairs of its own; its values may be null. None where no field names the
+    /// dictionary. It takes no memory.
     ///
     /// The field's type is that of the values (Schema.fbs, table Field, `dictionary`), and a
     /// dictionary batch has one column (Arrow Columnar Format, "Dictionary Messages").
