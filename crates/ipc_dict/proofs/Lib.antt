@@ -7,3 +7,4 @@ pub mod OneId
 pub mod SchemaIds
 pub mod Ids
 pub mod Rows
+pub mod ValuesColumns

@@ -21,3 +21,4 @@ pub use entry::TallyEntry;
 pub use kept::{Kept, KeptEntry};
 pub use plan::Plan;
 pub use tally::{Tally, holds_distinct};
+pub use values_columns::one_column;

@@ -2,13 +2,15 @@
 ghost use Rattle.std.specs.Prelude.{◌≡◌, ◌++◌, ◌∷◌, [], IfOk, OnOk};
 ghost use Rattle.ipc_model.specs.declared.schema.Field.{out-Field};
 ghost use Rattle.ipc_dict.specs.ValuesColumns.{values_column, columns_of, columns_in};
+ghost use Rattle.ipc_dict.specs.ValuesColumns.{AreOneColumn};
 
 use ipc_model::{Field, Items};
 use std::alloc::{AllocError, Global};
 
 // The column of the values of the field's dictionary.
 fn values_column(alloc: Global, field: &Field) -> Result<Field, AllocError>
-    ensures { IfOk result (λ column. column ≡ values_column (out-Field field.now)) }
+    ensures { IfOk result (λ column. column
+        ≡ values_column (out-Field field.now).name (out-Field field.now).kind) }
 {
     Ok(Field {
         name: field.name.clone()?,
@@ -22,7 +24,8 @@ fn values_column(alloc: Global, field: &Field) -> Result<Field, AllocError>
 
 // The same as a list of one.
 fn own_columns(alloc: Global, field: &Field) -> Result<Items<Field>, AllocError>
-    ensures { IfOk result (λ columns. columns ≡ values_column (out-Field field.now) ∷ []) }
+    ensures { IfOk result (λ columns. columns
+        ≡ values_column (out-Field field.now).name (out-Field field.now).kind ∷ []) }
 {
     let mut columns = Vec::with_capacity(alloc, 1)?;
     columns.push(values_column(alloc, field)?)?;
@@ -59,3 +62,9 @@ pub(crate) fn collect_columns(
     }
     Ok(())
 }
+
+/// Each dictionary that the fields of a schema name is read by one column, whose values may be
+/// null, without a dictionary, parts or pairs of its own.
+pub fn one_column()
+    ensures { AreOneColumn }
+{}
