@@ -1,5 +1,5 @@
 -- Dictionaries are read by one column each.
-use Rattle.std.proofs.Common.{◌≡◌, sym, subst, refl, ℤ, Bool, true, false, cond, List, [], ◌∷◌, ◌++◌, map, int_eq, Option, Some, None}
+use Rattle.std.proofs.Common.{sym, subst, refl, ℤ, true, false, cond, List, [], ◌∷◌, ◌++◌, map, int_eq, Option, Some, None}
 use Rattle.std.specs.List.{AllByRecursion}
 use Rattle.std.specs.Option.{IfSome}
 use Rattle.ipc_model.specs.declared.schema.Dictionary.{Dictionary}

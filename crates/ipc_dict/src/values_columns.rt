@@ -1,8 +1,7 @@
 //! The columns that a schema's dictionaries are read by.
 ghost use Rattle.std.specs.Prelude.{◌≡◌, ◌++◌, ◌∷◌, [], IfOk, OnOk};
 ghost use Rattle.ipc_model.specs.declared.schema.Field.{out-Field};
-ghost use Rattle.ipc_dict.specs.ValuesColumns.{values_column, columns_of, columns_in};
-ghost use Rattle.ipc_dict.specs.ValuesColumns.{AreOneColumn};
+ghost use Rattle.ipc_dict.specs.ValuesColumns.{values_column, columns_of, columns_in, AreOneColumn};
 
 use ipc_model::{Field, Items};
 use std::alloc::{AllocError, Global};
