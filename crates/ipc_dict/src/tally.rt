@@ -92,6 +92,7 @@ impl Tally {
             (λ fault. fault ≡ WriteFault.OutOfMemory → self.new.failed ≡ true) }
         // A tally that has failed counts no row.
         ensures refused { self.old.failed ≡ true → result ≡ Err WriteFault.Failed }
+        ensures still_failed { self.old.failed ≡ true → self.new.failed ≡ true }
         ensures before { IfErr result
             (λ fault. fault ≡ WriteFault.Failed → self.old.failed ≡ true) }
         ensures only { IfErr result (λ fault. (fault ≡ WriteFault.DictionaryFull)
