@@ -1,0 +1,10 @@
+pub mod Puts
+pub mod Notes
+pub mod Walks
+pub mod Finds
+pub mod Plans
+pub mod OneId
+pub mod SchemaIds
+pub mod Ids
+pub mod Rows
+pub mod ValuesColumns

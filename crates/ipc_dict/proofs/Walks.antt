@@ -1,0 +1,46 @@
+-- One step of a walk over a row.
+use Rattle.std.proofs.Common.{◌≡◌, ℕ, ◌+◌, ◌<◌, ℤ, List, ◌++◌, map, length, get_or, drop, refl, sym, ap, subst, ◌∙◌, add-one, drop-cons}
+use Rattle.std.proofs.Common.{rules, Option, None}
+use Rattle.ipc_model.specs.declared.schema.DataType.{DataType}
+use Rattle.ipc_model.specs.declared.schema.DataType.TheVariants as kind
+use Rattle.ipc_model.specs.declared.schema.Dictionary.{Dictionary}
+use Rattle.ipc_model.specs.declared.schema.Field.{Field, out-Field, fold_out-Field}
+use Rattle.ipc_model.specs.declared.value.Value as value
+use Rattle.ipc_model.specs.declared.value.Value.{out-Value, the_lemmas}
+use Rattle.ipc_model.specs.declared.value.Value.TheOpen.{Value-F}
+use Rattle.ipc_model.specs.declared.value.Value.{Value}
+use Rattle.ipc_dict.specs.declared.entry.TallyEntry.{TallyEntry}
+use Rattle.ipc_dict.specs.Noting.{note_all, IsFull}
+use Rattle.ipc_dict.specs.Pairs.{Walk, pairs, pairs_step, items_pairs, each_pairs, pairs_in}
+use Rattle.ipc_dict.proofs.Notes.{note_all-append, full-append}
+
+pub items-step : (w : Walk) (vs : List Value) (i : ℕ) (v : Value) → i < length vs → v ≡ get_or vs i v
+    → items_pairs w (drop i vs) ≡ w v ++ items_pairs w (drop (i + 1) vs)
+items-step w vs i v h at = rw (add-one, drop-cons vs i v h, ← at) refl
+
+pub each-step : (fs : List Field) (vs : List Value) (i : ℕ) (f : Field) (v : Value) → i < length fs → i < length vs → f ≡ get_or fs i f
+    → v ≡ get_or vs i v
+    → each_pairs (map pairs (drop i fs)) (drop i vs) ≡ pairs f v ++ each_pairs (map pairs (drop (i + 1) fs)) (drop (i + 1) vs)
+each-step fs vs i f v h k atf atv = rw (add-one, drop-cons fs i f h, drop-cons vs i v k, ← atf, ← atv) refl
+
+-- the pairs that are left are those of one more value and the rest
+module _ (t u w : List TallyEntry) (all left one rest : List (ℤ × Value)) where
+  pub noted-step : note_all u left ≡ note_all t all → left ≡ one ++ rest → w ≡ note_all u one → note_all w rest ≡ note_all t all
+  noted-step inv split now = ap (λ x. note_all x rest) now ∙ sym (note_all-append u one rest) ∙ ap (note_all u) (sym split) ∙ inv
+
+  pub full-step : note_all u left ≡ note_all t all → left ≡ one ++ rest → IsFull (note_all u one) → IsFull (note_all t all)
+  full-step inv split h = subst IsFull inv (subst (λ ps. IsFull (note_all u ps)) (sym split) (full-append u one rest h))
+
+out-Struct : (ws : List Value) → out-Value (value.Struct ws) ≡ Value-F.Struct ws
+out-Struct ws = search (rules, the_lemmas)
+
+-- of a struct without a dictionary
+pub struct_pairs : (f : Field) (v : Value) (ws : List Value) (cs : List Field) (vs : List Value) → (out-Field f).dictionary ≡ None
+    → (out-Field f).kind ≡ kind.Struct → cs ≡ (out-Field f).children → v ≡ value.Struct ws → vs ≡ ws
+    → pairs f v ≡ each_pairs (map pairs cs) vs
+struct_pairs f v ws cs vs plain of_kind children is same =
+    let inside : (d : Option Dictionary) (k : DataType) → d ≡ None → k ≡ kind.Struct
+    → pairs_in d k (map pairs cs) v ≡ each_pairs (map pairs cs) vs = λ d k p q. rw (p, q, is, out-Struct, same) refl in
+    ap (λ (w : Walk). w v) (fold_out-Field Walk pairs_step f)
+    ∙ ap (λ fs. pairs_in (out-Field f).dictionary (out-Field f).kind (map pairs fs) v) (sym children)
+    ∙ inside (out-Field f).dictionary (out-Field f).kind plain of_kind

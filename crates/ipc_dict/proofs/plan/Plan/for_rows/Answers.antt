@@ -1,0 +1,66 @@
+use Rattle.std.proofs.Common.{◌≡◌, ◌∙◌, sym, ap, subst, arith, drop, ◌+◌, ◌++◌, IfErr, Result, Err}
+use Rattle.std.proofs.lemmas.Result.{err_from_is_err_and}
+use Rattle.ipc_model.specs.declared.fault.WriteFault.{WriteFault}
+use Rattle.ipc_model.specs.declared.fault.WriteFault.TheVariants as fault
+use Rattle.ipc_dict.specs.Counted.{HoldsRows}
+use Rattle.ipc_dict.specs.Noting.{note_all, AllFit, IsFull}
+use Rattle.ipc_dict.specs.Pairs.{row_pairs, rows_pairs}
+use Rattle.ipc_dict.specs.SchemaIds.{tally_ids, unused}
+use Rattle.ipc_dict.proofs.Notes.{if_ok}
+use Rattle.ipc_dict.proofs.Rows.{rows-step, rows-end, ids-note_all, holds_rows}
+use Rattle.ipc_dict.proofs.Walks.{noted-step, full-step}
+use Rattle.ipc_dict.proofs.plan.Plan.for_rows.Goals as goal
+
+-- what the exit of a `?` answers
+left : {T : Type 0} (P : WriteFault → Type 0) {r : Result T WriteFault} {Q : WriteFault → Type 0} (y : WriteFault)
+    → (x : WriteFault) × (r ≡ Err x) × (x ≡ y) → P y → ((e : WriteFault) → P e → Q e) → IfErr r Q
+left P {Q = Q} y p h f = subst (λ r. IfErr r Q) (sym p.1) (f p.0 (subst P (sym p.2) h))
+
+pub returns-in_err-note-clause-full : goal.returns-in_err-note-clause-full
+returns-in_err-note-clause-full c =
+    let inv = c.loop-row.invariant in
+    let fs = c.args.schema.now.fields in
+    let rs = c.args.rows.now in
+    let i = c.loop-row.row-index in
+    let r = c.row-item.result in
+    let u = c.loop-row.tally in
+    let one = row_pairs u.fields c.as_slice.result.now in
+    let rest = rows_pairs fs (drop (i + 1) rs) in
+    let step : rows_pairs fs (drop i rs) ≡ one ++ rest =
+    rows-step fs rs i r (omega arith) c.row-item.is ∙ ap (λ p. p ++ rest) (sym (λ j. row_pairs (inv.fields j) (c.as_slice.ensures j))) in
+    left (λ e. e ≡ fault.DictionaryFull → IsFull (note_all u.entries one)) c.in_err-note.field-0.0
+    (err_from_is_err_and c.from_residual-in_err-note.result c.from_residual-in_err-note.ensures.1) c.in_err-note.ensures.full
+    (λ e h same.
+    full-step (unused fs) u.entries u.entries (rows_pairs fs rs) (rows_pairs fs (drop i rs)) one rest inv.noted step (h same))
+
+pub loop-row-preserved : goal.loop-row-preserved
+loop-row-preserved c =
+    let inv = c.loop-row.invariant in
+    let fs = c.args.schema.now.fields in
+    let rs = c.args.rows.now in
+    let i = c.loop-row.row-index in
+    let r = c.row-item.result in
+    let u = c.loop-row.tally in
+    let after = c.in_ok-note.ensures.noted in
+    let now : c.note.new.self.entries ≡ note_all u.entries (row_pairs fs r) =
+    ap (λ t. t.entries) after ∙ (λ j. note_all u.entries (row_pairs (inv.fields j) (c.as_slice.ensures j))) in
+    record {
+      failed = ap (λ t. t.failed) after ∙ inv.failed;
+      fields = ap (λ t. t.fields) after ∙ inv.fields;
+      noted = noted-step (unused fs) u.entries c.note.new.self.entries (rows_pairs fs rs) (rows_pairs fs (drop i rs)) (row_pairs fs r)
+          (rows_pairs fs (drop (i + 1) rs)) inv.noted (rows-step fs rs i r (omega arith) c.row-item.is) now;
+      fits = c.note.ensures.fits;
+      ids = ap tally_ids now ∙ ids-note_all u.entries (row_pairs fs r) ∙ inv.ids;
+    }
+
+pub returns-clause-rows : goal.returns-clause-rows
+returns-clause-rows c =
+    let inv = c.loop-row.invariant in
+    let fs = c.args.schema.now.fields in
+    let rs = c.args.rows.now in
+    let done : c.loop-row.tally.entries ≡ note_all (unused fs) (rows_pairs fs rs) =
+    sym (ap (note_all c.loop-row.tally.entries) (rows-end fs rs c.loop-row.row-index (omega (arith, c.loop-row-test.false)))) ∙ inv.noted in
+    if_ok c.settle.result c.settle.ensures.entries (λ plan e. subst (HoldsRows fs rs) (sym (e ∙ done)) (holds_rows fs rs))
+
+pub returns-clause-fits : goal.returns-clause-fits
+returns-clause-fits c = if_ok c.settle.result c.settle.ensures.entries (λ plan e. subst AllFit (sym e) c.loop-row.invariant.fits)

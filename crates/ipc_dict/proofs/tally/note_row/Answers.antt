@@ -1,0 +1,14 @@
+use Rattle.std.proofs.Common.{◌≡◌, ◌∙◌, ap, sym, subst}
+use Rattle.ipc_dict.specs.Noting.{AllFit, cut}
+use Rattle.ipc_dict.proofs.Notes.{cut_back}
+use Rattle.ipc_dict.proofs.tally.note_row.Goals as goal
+
+back : (c : goal.After-entries-in-Err-1) → c.restore.new.entries ≡ c.args.entries.now
+back c = c.restore.ensures ∙ ap (λ ms. cut ms c.note_each.new.entries) c.mark.ensures
+    ∙ cut_back c.args.entries.now c.note_each.new.entries c.note_each.ensures.grows
+
+pub returns-in-Err-clause-fits : goal.returns-in-Err-clause-fits
+returns-in-Err-clause-fits c = λ h. subst AllFit (sym (back c)) h
+
+pub returns-in-Err-clause-err : goal.returns-in-Err-clause-err
+returns-in-Err-clause-err c = back c

@@ -1,0 +1,11 @@
+pub mod Distinct
+pub mod InForce
+pub mod Noting
+pub mod Pairs
+pub mod Tallied
+pub mod Planning
+pub mod Planned
+pub mod SchemaIds
+pub mod Counted
+pub mod ValuesColumns
+pub mod Applied

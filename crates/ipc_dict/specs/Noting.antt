@@ -1,0 +1,72 @@
+-- What a tally holds once values were seen (Arrow Columnar Format, "Dictionary-encoded Layout").
+use Rattle.std.specs.Prelude.{◌≡◌, ℕ, ◌<◌, ◌≤◌, ℤ, List, [], ◌∷◌, length, take, map, Option, Some}
+use Rattle.std.specs.Prelude.{None, ◌⊎◌, if◌then◌else◌}
+use Rattle.std.specs.Ordering.{int_eq}
+use Rattle.ipc_model.specs.declared.value.Value.{Value}
+use Rattle.ipc_dict.specs.declared.entry.TallyEntry.{TallyEntry}
+use Rattle.ipc_dict.specs.Distinct.{seen, seen_all}
+use Rattle.std.specs.Option.{option_map}
+
+-- one more value of this dictionary
+abbrev pub note_entry : Value → TallyEntry → TallyEntry
+note_entry v e = record e { values = seen e.values v }
+
+-- one more value of the dictionary with the id
+abbrev pub note_one : List TallyEntry → ℤ → Value → List TallyEntry
+note_one [] id v = []
+note_one (e ∷ es) id v = if int_eq e.id id then note_entry v e ∷ es else e ∷ note_one es id v
+
+-- each value in turn, of the dictionary with its id
+abbrev pub note_all : List TallyEntry → List (ℤ × Value) → List TallyEntry
+note_all t [] = t
+note_all t (p ∷ ps) = note_all (note_one t p.0 p.1) ps
+
+-- no dictionary has more values than its index types count
+abbrev pub AllFit : List TallyEntry → Type 0
+AllFit [] = Unit {0}
+AllFit (e ∷ es) = (length e.values ≤ e.limit) × AllFit es
+
+-- some dictionary has more
+abbrev pub IsFull : List TallyEntry → Type 0
+IsFull [] = ⊥
+IsFull (e ∷ es) = (e.limit < length e.values) ⊎ IsFull es
+
+-- the values that were there stay in front
+pub record Grows (old new : TallyEntry) : Type 0 where
+  pub id : new.id ≡ old.id
+  pub limit : new.limit ≡ old.limit
+  pub front : take (length old.values) new.values ≡ old.values
+
+-- each of the dictionaries does, side by side
+abbrev pub AllGrow : List TallyEntry → List TallyEntry → Type 0
+AllGrow [] [] = Unit {0}
+AllGrow (e ∷ es) (f ∷ fs) = Grows e f × AllGrow es fs
+AllGrow _ _ = ⊥
+
+-- how many values each dictionary has
+abbrev pub lens : List TallyEntry → List ℕ
+lens t = map (λ e. length e.values) t
+
+-- the first so many values of each dictionary
+abbrev pub cut : List ℕ → List TallyEntry → List TallyEntry
+cut [] t = t
+cut (n ∷ ns) [] = []
+cut (n ∷ ns) (e ∷ es) = record e { values = take n e.values } ∷ cut ns es
+
+-- ---- of one dictionary
+
+-- its values among pairs of id and value
+abbrev pub of_id : ℤ → List (ℤ × Value) → List Value
+of_id id [] = []
+of_id id (p ∷ ps) = if int_eq p.0 id then p.1 ∷ of_id id ps else of_id id ps
+
+-- its values in a tally, where it has a place there
+abbrev pub noted_for : List TallyEntry → ℤ → Option (List Value)
+noted_for [] id = None
+noted_for (e ∷ es) id = if int_eq e.id id then Some e.values else noted_for es id
+
+-- a tally holds of each dictionary the values that it held, and then the distinct ones of the
+-- pairs in order of first appearance
+abbrev pub HoldsDistinct : Type 0
+HoldsDistinct = (t : List TallyEntry) (ps : List (ℤ × Value)) (id : ℤ)
+    → noted_for (note_all t ps) id ≡ option_map (λ xs. seen_all xs (of_id id ps)) (noted_for t id)

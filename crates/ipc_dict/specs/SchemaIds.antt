@@ -1,0 +1,88 @@
+-- The dictionaries that the fields of a schema name (Schema.fbs, table DictionaryEncoding).
+use Rattle.std.specs.Prelude.{ℕ, ◌^◌, ◌-◌, min, Bool, ℤ, List, [], ◌∷◌, ◌++◌, map, Option, Some}
+use Rattle.std.specs.Prelude.{None, true, false, if◌then◌else◌}
+use Rattle.std.specs.Ordering.{int_eq}
+use Rattle.ipc_model.specs.declared.schema.IntBits.{IntBits}
+use Rattle.ipc_model.specs.declared.schema.IntBits.TheVariants as b
+use Rattle.ipc_model.specs.declared.schema.Dictionary.{Dictionary}
+use Rattle.ipc_model.specs.declared.schema.Field.{Field, fold-Field}
+use Rattle.ipc_model.specs.declared.schema.Field.TheOpen.{Field-F}
+use Rattle.ipc_dict.specs.declared.entry.TallyEntry.{TallyEntry}
+use Rattle.ipc_dict.specs.declared.kept.KeptEntry.{KeptEntry}
+
+-- one list behind the other
+abbrev pub joined : {X : Type 0} → List (List X) → List X
+joined [] = []
+joined (xs ∷ xss) = xs ++ joined xss
+
+-- of a field without those below it
+abbrev pub own : Option Dictionary → List Dictionary
+own (Some d) = d ∷ []
+own None = []
+
+-- a field's own, and behind it those of its children
+abbrev pub field_step : Field-F (List Dictionary) → List Dictionary
+field_step f = own f.dictionary ++ joined f.children
+
+-- of a field and all below it, in pre-order
+abbrev pub of_field : Field → List Dictionary
+of_field = fold-Field (List Dictionary) field_step
+
+-- of several fields, in pre-order
+abbrev pub of_fields : List Field → List Dictionary
+of_fields fields = joined (map of_field fields)
+
+-- how many values indices of this width and sign count: 0, their greatest number, and all between
+-- (Schema.fbs, table DictionaryEncoding, `indexType`)
+abbrev pub counted : IntBits → Bool → ℕ
+counted b.B8 true = 2 ^ 7
+counted b.B8 false = 2 ^ 8
+counted b.B16 true = 2 ^ 15
+counted b.B16 false = 2 ^ 16
+counted b.B32 true = 2 ^ 31
+counted b.B32 false = 2 ^ 32
+counted b.B64 true = 2 ^ 63
+counted b.B64 false = 2 ^ 64
+
+-- how many values a dictionary's indices count, where a list has at most 2^64 - 1
+abbrev pub count_of : Dictionary → ℕ
+count_of d = min (counted d.index.bits d.index.signed) (2 ^ 64 - 1)
+
+-- ---- the entries of a tally without values, and of a writer that has sent nothing
+
+-- the entry of an id that one field names
+abbrev pub fresh : Dictionary → TallyEntry
+fresh d = record { id = d.id; limit = count_of d; values = [] }
+
+-- one more field's dictionary: its id has one entry, which keeps the least count of its fields
+abbrev pub with_field : List TallyEntry → Dictionary → List TallyEntry
+with_field [] d = fresh d ∷ []
+with_field (e ∷ es) d =
+    if int_eq e.id d.id
+    then record e { limit = min e.limit (count_of d) } ∷ es
+    else e ∷ with_field es d
+
+-- those of several fields, in turn
+abbrev pub with_fields : List TallyEntry → List Dictionary → List TallyEntry
+with_fields es [] = es
+with_fields es (d ∷ ds) = with_fields (with_field es d) ds
+
+-- an entry for each id that the fields name, in pre-order without repeats, with no value
+abbrev pub unused : List Field → List TallyEntry
+unused fields = with_fields [] (of_fields fields)
+
+-- the ids that the fields name, in pre-order without repeats
+abbrev pub ids_of : List Field → List ℤ
+ids_of fields = map (λ e. e.id) (unused fields)
+
+-- the ids of a tally or a plan
+abbrev pub tally_ids : List TallyEntry → List ℤ
+tally_ids es = map (λ e. e.id) es
+
+-- the ids of what was sent
+abbrev pub kept_ids : List KeptEntry → List ℤ
+kept_ids es = map (λ e. e.id) es
+
+-- nothing was sent of these ids
+abbrev pub unsent : List ℤ → List KeptEntry
+unsent ids = map (λ id. record { id = id; values = None }) ids

@@ -1,0 +1,11 @@
+-- What contracts see of a tally.
+use Rattle.std.specs.Prelude.{Bool, List}
+use Rattle.ipc_model.specs.declared.schema.Field.{Field}
+use Rattle.ipc_dict.specs.declared.entry.TallyEntry.{TallyEntry}
+
+-- whether it has failed, the fields whose rows it counts, and the distinct values of each
+-- dictionary
+pub record Tallied : Type 0 where
+  pub failed : Bool
+  pub fields : List Field
+  pub entries : List TallyEntry

@@ -1,0 +1,87 @@
+//! The distinct values of one dictionary.
+ghost use Rattle.std.specs.Prelude.{◌≡◌, [], not, length, take, IfOk, OnOk, OnErr};
+ghost use Rattle.ipc_dict.specs.Distinct.{same, is_seen, seen, place};
+
+use indexmap::IndexSet;
+use ipc_model::Value;
+use std::alloc::{AllocError, Global};
+use std::marker::Model;
+
+/// Values without repeats, distinct from 0 in the order of their first appearance.
+#[derive(Debug, Drop)]
+pub struct DistinctValues {
+    values: IndexSet<Value>,
+}
+
+impl Model for DistinctValues {
+    ghost use Rattle.std.specs.Prelude.{List};
+    ghost use Rattle.ipc_model.specs.declared.value.Value.{Value as One};
+    ghost use Rattle.ipc_model.specs.contracts.value.Value as one;
+    ghost use Rattle.std.specs.Coded.{coded_list};
+
+    ghost Value = { List One };
+
+    ghost coded = { coded_list one.the_row.coded };
+
+    ghost view = { λ n. n.values.keys };
+}
+
+impl DistinctValues {
+    /// No value. It takes no memory.
+    pub fn new(alloc: Global) -> DistinctValues
+        ensures { result ≡ [] }
+    {
+        DistinctValues {
+            values: IndexSet::new(alloc),
+        }
+    }
+
+    /// How many values there are.
+    pub fn len(&self) -> usize
+        ensures { result ≡ length self.now }
+    {
+        self.values.len()
+    }
+
+    /// Whether the value is there.
+    pub fn contains(&self, value: &Value) -> bool
+        ensures { result ≡ is_seen self.now value.now }
+    {
+        self.values.contains(value)
+    }
+
+    /// The number of a value.
+    pub fn index_of(&self, value: &Value) -> Option<usize>
+        ensures { result ≡ place value.now self.now }
+    {
+        self.values.get_index_of(value)
+    }
+
+    /// The values in order.
+    pub fn as_slice(&self) -> &[Value]
+        ensures { result.now ≡ self.now }
+    {
+        self.values.as_slice()
+    }
+
+    /// Puts a copy of the value last, unless it is there. Answers whether it was new.
+    pub fn add(&mut self, value: &Value) -> Result<bool, AllocError>
+        ensures added { IfOk result (λ new. new ≡ not (is_seen self.old value.now)) }
+        ensures values { OnOk result (self.new ≡ seen self.old value.now) }
+        ensures err { OnErr result (self.new ≡ self.old) }
+    {
+        if self.values.contains(value) {
+            return Ok(false);
+        }
+        let own = value.clone()?;
+        self.values.insert(own)?;
+        Ok(true)
+    }
+
+    /// Keeps the first `len` values.
+    pub fn truncate(&mut self, len: usize)
+        ensures { self.new ≡ take len self.old }
+    {
+        self.values.truncate(len);
+    }
+}

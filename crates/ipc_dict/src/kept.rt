@@ -1,0 +1,71 @@
+//! What a writer has sent of each dictionary.
+ghost use Rattle.std.specs.Prelude.{◌≡◌, IfOk, IfErr, map};
+ghost use Rattle.ipc_dict.specs.SchemaIds.{ids_of, tally_ids, unsent};
+
+use crate::distinct::DistinctValues;
+use crate::entry::TallyEntry;
+use crate::schema_ids::unused_entries;
+use ipc_model::{Schema, WriteFault};
+use std::alloc::{AllocError, Global};
+use std::marker::Model;
+
+/// What was sent so far of one dictionary.
+#[derive(Debug, Drop)]
+pub struct KeptEntry {
+    /// The dictionary's id.
+    pub id: i64,
+    /// Its values, where it was sent.
+    pub values: Option<DistinctValues>,
+}
+
+/// What a writer has sent so far: for each id of its schema the values of the last dictionary with
+/// that id, if there was one.
+///
+/// Contracts see it as the list of its entries, in the order in which their ids first stand in the
+/// schema (pre-order).
+#[derive(Debug, Drop)]
+pub struct Kept {
+    pub(crate) entries: Vec<KeptEntry>,
+}
+
+impl Model for Kept {
+    ghost use Rattle.std.specs.Prelude.{List};
+    ghost use Rattle.std.specs.Coded.{coded_list};
+    ghost use Rattle.ipc_dict.specs.declared.kept.KeptEntry.{KeptEntry};
+    ghost use Rattle.ipc_dict.specs.contracts.kept.KeptEntry as one;
+
+    ghost Value = { List KeptEntry };
+
+    ghost coded = { coded_list one.the_row.coded };
+
+    ghost view = { λ kept. kept.entries.items };
+}
+
+impl Kept {
+    /// Nothing sent yet, of any id that the schema's fields name. What is sent later is moved
+    /// here, which takes no memory.
+    ///
+    /// Refused with `OutOfMemory` where the entries find no room.
+    pub fn new(alloc: Global, schema: &Schema) -> Result<Kept, WriteFault>
+        ensures entries { IfOk result (λ kept. kept ≡ unsent (ids_of schema.now.fields)) }
+        ensures memory { IfErr result (λ fault. fault ≡ WriteFault.OutOfMemory) }
+    {
+        let entries = unused_entries(alloc, schema.fields.as_slice())?;
+        let entries = unsent(alloc, &entries)?;
+        Ok(Kept { entries })
+    }
+}
+
+// An entry without values for each of these.
+fn unsent(alloc: Global, entries: &[TallyEntry]) -> Result<Vec<KeptEntry>, AllocError>
+    ensures { IfOk result (λ kept. kept.items ≡ unsent (tally_ids entries.now)) }
+{
+    let mut kept = Vec::with_capacity(alloc, entries.len())?;
+    for entry in entries {
+        kept.push(KeptEntry {
+            id: entry.id,
+            values: None,
+        })?;
+    }
+    Ok(kept)
+}

@@ -1,0 +1,24 @@
+//! The dictionaries of a stream (Arrow Columnar Format, "Dictionary Messages"): those that a reader
+//! has in force, and what a writer has sent, counts in a batch and plans to send.
+//!
+//! A dictionary is replaced whole, and fields with one id share it.
+#![tactic(auto)]
+
+mod dictionaries;
+mod distinct;
+mod entry;
+mod kept;
+mod plan;
+mod schema_ids;
+mod settle;
+mod tally;
+mod values_columns;
+mod walk;
+
+pub use dictionaries::Dictionaries;
+pub use distinct::DistinctValues;
+pub use entry::TallyEntry;
+pub use kept::{Kept, KeptEntry};
+pub use plan::Plan;
+pub use tally::{Tally, holds_distinct};
+pub use values_columns::one_column;

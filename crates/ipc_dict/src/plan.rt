@@ -1,0 +1,142 @@
+//! Which dictionaries a batch sends, and the indices of its values.
+ghost use Rattle.std.specs.Prelude.{◌≡◌, ◌⊎◌, IfOk, IfErr};
+ghost use Rattle.ipc_dict.specs.Planning.{after_all, sends_of, AllSettled, FindsAll, KnowsAll};
+ghost use Rattle.ipc_dict.specs.Counted.{HoldsRows};
+ghost use Rattle.ipc_dict.specs.Noting.{note_all, AllFit, IsFull};
+ghost use Rattle.ipc_dict.specs.Pairs.{rows_pairs};
+ghost use Rattle.ipc_dict.specs.SchemaIds.{kept_ids, tally_ids, ids_of, unused};
+
+use crate::entry::TallyEntry;
+use crate::kept::Kept;
+use crate::settle::{commit, index_of, number_of_index};
+use crate::tally::Tally;
+use ipc_encode::{IndexOf, Renumber};
+use ipc_model::{Items, Row, Schema, Value, WriteFault};
+use std::alloc::Global;
+use std::marker::Model;
+
+/// What a batch does with each dictionary of its schema: it is sent with the batch where it has
+/// not been, or where it lacks a value of the batch, and otherwise its values are found among those
+/// that were sent before (Arrow Columnar Format, "Dictionary Messages").
+///
+/// Its indices are those of the dictionaries as they are once the batch was sent.
+#[derive(Debug, Drop)]
+pub struct Plan {
+    pub(crate) entries: Vec<TallyEntry>,
+    // The index of each value among those that were sent before; None where the dictionary is sent
+    // with this batch.
+    pub(crate) numbers: Vec<Option<Items<u64>>>,
+    pub(crate) sends: Vec<(i64, Items<Row>)>,
+}
+
+impl Model for Plan {
+    ghost use Rattle.std.specs.Prelude.{◌≡◌, length};
+    ghost use Rattle.std.specs.Coded.{codes};
+    ghost use Rattle.ipc_dict.specs.contracts.entry.TallyEntry as entry;
+    ghost use Rattle.ipc_dict.specs.Planned.{Planned};
+    ghost use Rattle.ipc_dict.specs.Planning.{sends_of};
+
+    ghost Value = { Planned };
+
+    ghost coded = { Prim.hlevel (codes, entry.the_row.coded) };
+
+    ghost view = { λ p. record { entries = p.entries.items; numbers = p.numbers.items } };
+
+    ghost invariant = { λ p. (length p.numbers.items ≡ length p.entries.items)
+        × (p.sends.items ≡ sends_of p.entries.items p.numbers.items) };
+}
+
+impl Plan {
+    /// What a batch of these rows does with each dictionary of the schema.
+    ///
+    /// The caller has rows that fit the schema, and the `Kept` of a writer of this schema. Each
+    /// dictionary's values are the distinct ones of the rows other than null, in order of first
+    /// appearance: rows in their order, in a row from left to right, depth first.
+    ///
+    /// Refused with W7 `DictionaryFull` exactly where these are more than some index type of the
+    /// dictionary's fields can count; with W11 `OutOfMemory` where they or the lists of the plan
+    /// find no room.
+    pub fn for_rows(
+        alloc: Global,
+        schema: &Schema,
+        kept: &Kept,
+        rows: &[Row],
+    ) -> Result<Plan, WriteFault>
+        requires { kept_ids kept.now ≡ ids_of schema.now.fields }
+        // Each dictionary has exactly the distinct values of the rows.
+        ensures rows { IfOk result
+            (λ plan. HoldsRows schema.now.fields rows.now plan.entries) }
+        // Each is sent where it has not been or lacks a value, and nowhere else.
+        ensures settled { IfOk result
+            (λ plan. AllSettled kept.now plan.entries plan.numbers) }
+        // Each index finds its value in what was sent once the batch was.
+        ensures finds { IfOk result (λ plan. FindsAll kept.now plan.entries plan.numbers) }
+        // Each value of the batch has an index.
+        ensures knows { IfOk result (λ plan. KnowsAll plan.entries plan.numbers) }
+        // No dictionary has more values than its index types count.
+        ensures fits { IfOk result (λ plan. AllFit plan.entries) }
+        // At W7 one would have more.
+        ensures full { IfErr result (λ fault. fault ≡ WriteFault.DictionaryFull
+            → IsFull (note_all (unused schema.now.fields)
+            (rows_pairs schema.now.fields rows.now))) }
+        ensures only { IfErr result (λ fault. (fault ≡ WriteFault.DictionaryFull)
+            ⊎ (fault ≡ WriteFault.OutOfMemory)) }
+    {
+        let mut tally = Tally::new(alloc, schema)?;
+        for row in rows {
+            tally.note(row.as_slice())?;
+        }
+        tally.settle(alloc, kept)
+    }
+
+    /// The dictionaries to send before the batch, each with its id, in the order in which the ids
+    /// first stand in the schema (pre-order). The values are rows of one value. It takes no memory.
+    pub fn sends(&self) -> &[(i64, Items<Row>)]
+        ensures { result.now ≡ sends_of self.now.entries self.now.numbers }
+    {
+        self.sends.as_slice()
+    }
+
+    /// Brings what was sent up to date: the dictionaries that the plan sends take the place of
+    /// those before. It takes no memory.
+    ///
+    /// The caller has what the plan was made with.
+    #[tactic(auto, using(crate::proofs::Ids::same_length))]
+    pub fn commit(self, kept: &mut Kept)
+        requires { kept_ids kept.old ≡ tally_ids self.entries }
+        ensures { kept.new ≡ after_all kept.old self.entries self.numbers }
+    {
+        let Plan {
+            entries,
+            numbers,
+            ..
+        } = self;
+        let mut entries = entries;
+        commit(
+            *numbers.allocator(),
+            &mut entries,
+            &numbers,
+            &mut kept.entries,
+        );
+    }
+}
+
+impl IndexOf for Plan {
+    ghost use Rattle.ipc_dict.specs.Planning.{index};
+
+    ghost index = { λ plan id value. index plan.entries plan.numbers id value };
+
+    fn index_of(&self, id: i64, value: &Value) -> Option<u64> {
+        index_of(&self.entries, &self.numbers, id, value)
+    }
+}
+
+impl Renumber for Plan {
+    ghost use Rattle.ipc_dict.specs.Planning.{number};
+
+    ghost number = { λ plan id from. number plan.entries plan.numbers id from };
+
+    fn to(&self, id: i64, from: u64) -> u64 {
+        number_of_index(&self.entries, &self.numbers, id, from).unwrap_or(from)
+    }
+}

@@ -1,0 +1,118 @@
+//! The dictionaries that the fields of a schema name.
+ghost use Rattle.std.specs.Prelude.{◌≡◌, ◌<◌, ◌++◌, ◌∷◌, [], ℕ, true, false, length, IfOk, IfSome};
+ghost use Rattle.std.specs.Prelude.{IfNone, OnOk, slice_index_or};
+ghost use Rattle.std.specs.Ordering.{int_eq};
+ghost use Rattle.ipc_dict.specs.SchemaIds.{of_field, of_fields, count_of, fresh, with_field};
+ghost use Rattle.ipc_dict.specs.SchemaIds.{unused};
+ghost use Rattle.ipc_dict.specs.declared.entry.TallyEntry.{TallyEntry};
+
+use crate::distinct::DistinctValues;
+use crate::entry::TallyEntry;
+use ipc_model::{Dictionary, Field, IntBits};
+use std::alloc::{AllocError, Global};
+
+// Puts the dictionaries of a field and of all below it behind those that were found.
+#[cycle(collect)]
+fn collect_one(found: &mut Vec<Dictionary>, field: &Field) -> Result<(), AllocError>
+    ensures { OnOk result (found.new.items ≡ found.old.items ++ of_field field.now) }
+{
+    if let Some(dictionary) = field.dictionary {
+        found.push(dictionary)?;
+    }
+    collect(found, field.children.as_slice())
+}
+
+// The same of several fields.
+#[cycle(collect)]
+fn collect(found: &mut Vec<Dictionary>, fields: &[Field]) -> Result<(), AllocError>
+    ensures { OnOk result (found.new.items ≡ found.old.items ++ of_fields fields.now) }
+{
+    for field in fields {
+        collect_one(found, field)?;
+    }
+    Ok(())
+}
+
+// How many values the dictionary's indices count.
+fn count_of(dictionary: &Dictionary) -> usize
+    ensures { result ≡ count_of dictionary.now }
+{
+    match (dictionary.index.bits, dictionary.index.signed) {
+        (IntBits::B8, true) => 1 << 7,
+        (IntBits::B8, false) => 1 << 8,
+        (IntBits::B16, true) => 1 << 15,
+        (IntBits::B16, false) => 1 << 16,
+        (IntBits::B32, true) => 1 << 31,
+        (IntBits::B32, false) => 1 << 32,
+        (IntBits::B64, true) => 1 << 63,
+        (IntBits::B64, false) => usize::MAX,
+    }
+}
+
+// Where the dictionary's entry stands.
+fn find_entry(entries: &[TallyEntry], dictionary: &Dictionary) -> Option<usize>
+    ensures within { IfSome result (λ i. i < length entries.now) }
+    ensures found { IfSome result (λ i. (e : TallyEntry) → i < length entries.now
+        → int_eq (slice_index_or entries.now i e).id dictionary.now.id ≡ true) }
+    ensures before { IfSome result (λ i. (k : ℕ) (e : TallyEntry) → k < i
+        → int_eq (slice_index_or entries.now k e).id dictionary.now.id ≡ false) }
+    ensures absent { IfNone result ((k : ℕ) (e : TallyEntry) → k < length entries.now
+        → int_eq (slice_index_or entries.now k e).id dictionary.now.id ≡ false) }
+{
+    for (i, entry) in entries.iter().enumerate() {
+        if entry.id == dictionary.id {
+            return Some(i);
+        }
+    }
+    None
+}
+
+// Lowers the limit of the dictionary's entry to this one, where there is an entry. Answers whether
+// there is.
+fn lower_limit(entries: &mut [TallyEntry], dictionary: &Dictionary, limit: usize) -> bool
+    requires { limit ≡ count_of dictionary.now }
+    ensures found { result ≡ true → entries.new ≡ with_field entries.old dictionary.now }
+    ensures unchanged { result ≡ false → entries.new ≡ entries.old }
+    ensures absent { result ≡ false
+        → entries.old ++ fresh dictionary.now ∷ [] ≡ with_field entries.old dictionary.now }
+{
+    let Some(at) = find_entry(entries, dictionary) else {
+        return false;
+    };
+    let entry = &mut entries[at];
+    entry.limit = entry.limit.min(limit);
+    true
+}
+
+// One more field's dictionary.
+fn add_field(
+    alloc: Global,
+    entries: &mut Vec<TallyEntry>,
+    dictionary: &Dictionary,
+) -> Result<(), AllocError>
+    ensures { OnOk result (entries.new.items ≡ with_field entries.old.items dictionary.now) }
+{
+    let limit = count_of(dictionary);
+    if lower_limit(entries, dictionary, limit) {
+        return Ok(());
+    }
+    entries.push(TallyEntry {
+        id: dictionary.id,
+        limit,
+        values: DistinctValues::new(alloc),
+    })?;
+    Ok(())
+}
+
+// An entry for each id that the fields name, in pre-order without repeats.
+pub(crate) fn unused_entries(alloc: Global, fields: &[Field]) -> Result<Vec<TallyEntry>, AllocError>
+    ensures { IfOk result (λ entries. entries.items ≡ unused fields.now) }
+{
+    let mut found = Vec::new(alloc);
+    collect(&mut found, fields)?;
+    let mut entries = Vec::new(alloc);
+    for dictionary in &found {
+        add_field(alloc, &mut entries, dictionary)?;
+    }
+    Ok(entries)
+}

@@ -1,0 +1,89 @@
+//! The values of dictionaries in a row: from left to right, those below a list or a struct in its
+//! place, nulls left out.
+ghost use Rattle.std.specs.Prelude.{◌≡◌, map, IfErr, OnOk, ◌⊎◌};
+ghost use Rattle.ipc_dict.specs.Noting.{note_all, AllFit, IsFull, AllGrow};
+ghost use Rattle.ipc_dict.specs.Pairs.{pairs, items_pairs, each_pairs};
+
+use crate::entry::{TallyEntry, note_one};
+use ipc_model::{DataType, Field, Value, WriteFault};
+
+// Notes the values of dictionaries in one value of a field.
+#[cycle(note)]
+#[tactic(auto, using(crate::proofs::Notes::all_grow_same, crate::proofs::Notes::all_grow_trans))]
+fn note_value(entries: &mut [TallyEntry], field: &Field, value: &Value) -> Result<(), WriteFault>
+    ensures noted { OnOk result (entries.new ≡ note_all entries.old (pairs field.now value.now)) }
+    ensures fits { OnOk result (AllFit entries.old → AllFit entries.new) }
+    ensures full { IfErr result
+        (λ fault. fault ≡ WriteFault.DictionaryFull
+        → IsFull (note_all entries.old (pairs field.now value.now))) }
+    ensures memory { IfErr result
+        (λ fault. (fault ≡ WriteFault.DictionaryFull) ⊎ (fault ≡ WriteFault.OutOfMemory)) }
+    ensures grows { AllGrow entries.old entries.new }
+{
+    if let Some(dictionary) = field.dictionary {
+        return match value {
+            Value::Null => Ok(()),
+            _ => note_one(entries, dictionary.id, value),
+        };
+    }
+    let children = field.children.as_slice();
+    match (&field.kind, value) {
+        (DataType::List | DataType::FixedSizeList(_), Value::List(values)) => {
+            match children.first() {
+                Some(child) => note_items(entries, child, values.as_slice()),
+                None => Ok(()),
+            }
+        }
+        (DataType::Struct, Value::Struct(values)) => {
+            note_each(entries, children, values.as_slice())
+        }
+        _ => Ok(()),
+    }
+}
+
+// The same of a list's values, whose field is its child.
+#[cycle(note)]
+#[tactic(auto, using(crate::proofs::Notes::all_grow_same, crate::proofs::Notes::all_grow_trans))]
+fn note_items(entries: &mut [TallyEntry], child: &Field, values: &[Value]) -> Result<(), WriteFault>
+    ensures noted { OnOk result
+        (entries.new ≡ note_all entries.old (items_pairs (pairs child.now) values.now)) }
+    ensures fits { OnOk result (AllFit entries.old → AllFit entries.new) }
+    ensures full { IfErr result
+        (λ fault. fault ≡ WriteFault.DictionaryFull
+        → IsFull (note_all entries.old (items_pairs (pairs child.now) values.now))) }
+    ensures memory { IfErr result
+        (λ fault. (fault ≡ WriteFault.DictionaryFull) ⊎ (fault ≡ WriteFault.OutOfMemory)) }
+    ensures grows { AllGrow entries.old entries.new }
+{
+    for value in values {
+        note_value(entries, child, value)?;
+    }
+    Ok(())
+}
+
+// The same of values that stand beside their fields: those of a row or of a struct.
+#[cycle(note)]
+#[tactic(auto, using(crate::proofs::Notes::all_grow_same, crate::proofs::Notes::all_grow_trans))]
+pub(crate) fn note_each(
+    entries: &mut [TallyEntry],
+    fields: &[Field],
+    values: &[Value],
+) -> Result<(), WriteFault>
+    ensures noted { OnOk result
+        (entries.new ≡ note_all entries.old (each_pairs (map pairs fields.now) values.now)) }
+    ensures fits { OnOk result (AllFit entries.old → AllFit entries.new) }
+    ensures full { IfErr result
+        (λ fault. fault ≡ WriteFault.DictionaryFull
+        → IsFull (note_all entries.old (each_pairs (map pairs fields.now) values.now))) }
+    ensures memory { IfErr result
+        (λ fault. (fault ≡ WriteFault.DictionaryFull) ⊎ (fault ≡ WriteFault.OutOfMemory)) }
+    ensures grows { AllGrow entries.old entries.new }
+{
+    for (number, field) in fields.iter().enumerate() {
+        let Some(value) = values.get(number) else {
+            return Ok(());
+        };
+        note_value(entries, field, value)?;
+    }
+    Ok(())
+}
