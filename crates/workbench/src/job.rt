@@ -1,29 +1,10 @@
 //! What a command line asks for.
-use crate::column::Kind;
-use crate::pushed::Data;
+use crate::rows::Data;
 use std::env::Args;
 
 /// What is to be done.
 #[derive(Clone, Copy, Debug, PartialEq, Eq)]
 pub enum Job {
-    /// Writes a stream of numbers.
-    WriteNumbers {
-        /// How many batches it has.
-        batches: u32,
-        /// How many rows each of them has.
-        rows: u32,
-    },
-    /// Writes a stream with columns of every flat type.
-    WriteTypes,
-    /// Checks a record batch of one column.
-    CheckColumns {
-        /// What the column holds.
-        kind: Kind,
-        /// How many rows it has.
-        rows: u32,
-        /// How many times it is checked.
-        times: u32,
-    },
     /// Writes a stream of rows that are pushed one by one.
     PushRows {
         /// What the rows hold.
@@ -52,16 +33,6 @@ fn number(words: &mut Args) -> Option<u32> {
 // The job of this name, whose numbers are the next words.
 fn named(name: &str, words: &mut Args) -> Option<Job> {
     Some(match name {
-        "write-numbers" => Job::WriteNumbers {
-            batches: number(words)?,
-            rows: number(words)?,
-        },
-        "write-types" => Job::WriteTypes,
-        "check-columns" => Job::CheckColumns {
-            kind: Kind::of(words.next()?.as_str())?,
-            rows: number(words)?,
-            times: number(words)?,
-        },
         "push-rows" => Job::PushRows {
             data: Data::of(words.next()?.as_str())?,
             batches: number(words)?,
