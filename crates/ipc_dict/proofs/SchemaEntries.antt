@@ -84,8 +84,19 @@ module _ (ds : List Dictionary) (d : Dictionary) where
   more : (from k : ℕ) (es : List TallyEntry) → first_place ds d.id ≡ Some k → k < from → AreInOrder ds from es
       → AreInOrder (ds ++ d ∷ []) from es
   more from k [] at behind h = tt
-  more from k (e ∷ es) at behind (m, (low, (place, (limit, (none, rest))))) =
-      (m, (low, (more-place e.id m place, (limit ∙ ap least (sym (counts-other d e.id ds apart)), (none, more (m + 1) k es at (omega arith) rest)))))
+  more from k (e ∷ es) at behind (m, (low, (place, (limit, (none, rest))))) = (
+    m,
+    (
+      low,
+      (
+        more-place e.id m place,
+        (
+          limit ∙ ap least (sym (counts-other d e.id ds apart)),
+          (none, more (m + 1) k es at (omega arith) rest),
+        ),
+      ),
+    ),
+  )
     where
       apart : int_eq d.id e.id ≡ false
       apart = by (int_eq d.id e.id) refl
@@ -137,8 +148,19 @@ module _ (ds : List Dictionary) (d : Dictionary) where
               ),
             ),
           )
-      by later false q known =
-          (k, (low, (more-place e.id k place, (limit ∙ ap least (sym (counts-other d e.id ds (other-id e.id d.id q))), (none, later known)))))
+      by later false q known = (
+        k,
+        (
+          low,
+          (
+            more-place e.id k place,
+            (
+              limit ∙ ap least (sym (counts-other d e.id ds (other-id e.id d.id q))),
+              (none, later known),
+            ),
+          ),
+        ),
+      )
 
 -- ---- each has its entry
 
@@ -146,7 +168,8 @@ some-with_field : (es : List TallyEntry) (d : Dictionary) (id : ℤ) → IsSome 
 some-with_field [] d id h = absurd (true≢false (sym h))
 some-with_field (e ∷ es) d id h = by (some-with_field es d id) (int_eq e.id d.id) (int_eq e.id id) refl h
   where
-    by : (IsSome (noted_for es id) → IsSome (noted_for (with_field es d) id)) → (b c : Bool) → int_eq e.id id ≡ c → IsSome (cond c (Some e.values) (noted_for es id))
+    by : (IsSome (noted_for es id) → IsSome (noted_for (with_field es d) id)) → (b c : Bool) → int_eq e.id id ≡ c
+        → IsSome (cond c (Some e.values) (noted_for es id))
         → IsSome (noted_for (cond b (lowered d e ∷ es) (e ∷ with_field es d)) id)
     by rest true c q h = subst (λ x. IsSome (cond x (Some e.values) (noted_for es id))) (sym q) h
     by rest false true q h = subst (λ x. IsSome (cond x (Some e.values) (noted_for (with_field es d) id))) (sym q) refl
@@ -156,7 +179,8 @@ own-with_field : (es : List TallyEntry) (d : Dictionary) → IsSome (noted_for (
 own-with_field [] d = subst (λ b. IsSome {T = List Value} (cond b (Some []) None)) (sym ((Decides-int_eq d.id d.id).1 refl)) refl
 own-with_field (e ∷ es) d = by (own-with_field es d) (int_eq e.id d.id) refl
   where
-    by : IsSome (noted_for (with_field es d) d.id) → (b : Bool) → int_eq e.id d.id ≡ b → IsSome (noted_for (cond b (lowered d e ∷ es) (e ∷ with_field es d)) d.id)
+    by : IsSome (noted_for (with_field es d) d.id) → (b : Bool) → int_eq e.id d.id ≡ b
+        → IsSome (noted_for (cond b (lowered d e ∷ es) (e ∷ with_field es d)) d.id)
     by rest true q = subst (λ x. IsSome (cond x (Some e.values) (noted_for es d.id))) (sym q) refl
     by rest false q = subst (λ x. IsSome (cond x (Some e.values) (noted_for (with_field es d) d.id))) (sym q) rest
 
@@ -170,7 +194,8 @@ known-id : (es : List TallyEntry) (id : ℤ) (ds : List Dictionary) → AllByRec
 known-id es id [] h there = absurd (true≢false (sym there))
 known-id es id (x ∷ ds) h there = by (known-id es id ds h.1) (int_eq x.id id) refl there
   where
-    by : (list_any (λ y. int_eq y.id id) ds ≡ true → IsSome (noted_for es id)) → (b : Bool) → int_eq x.id id ≡ b → (b || list_any (λ y. int_eq y.id id) ds) ≡ true → IsSome (noted_for es id)
+    by : (list_any (λ y. int_eq y.id id) ds ≡ true → IsSome (noted_for es id)) → (b : Bool) → int_eq x.id id ≡ b
+        → (b || list_any (λ y. int_eq y.id id) ds) ≡ true → IsSome (noted_for es id)
     by rest true q t = subst (λ z. IsSome (noted_for es z)) ((Decides-int_eq x.id id).0 q) h.0
     by rest false q t = rest t
 

@@ -99,8 +99,8 @@ FindsAll ss ns os = (id : ℤ) (v : Value) (i : ℕ) → index ns os id v ≡ So
     → (now : List Value)
     × ((sent_for (after_all ss ns os) id ≡ Some now) × (slice_get now i ≡ Some v))
 
--- each place that a tally gives a value finds it, under the number that the plan has for it, in what
--- is sent once the batch was
+-- each place that a tally gives a value finds it, under the number that the plan has for it, in
+-- what is sent once the batch was
 abbrev pub FindsNoted : List KeptEntry → List TallyEntry → List (Option (List ℕ)) → Type 0
 FindsNoted ss ns os = (id : ℤ) (v : Value) (i : ℕ) → noted_place ns id v ≡ Some i
     → (now : List Value)

@@ -4,7 +4,8 @@ ghost use Rattle.std.specs.Prelude.{false, slice_index_or, IfSome, IfNone};
 ghost use Rattle.std.specs.Ordering.{int_eq};
 ghost use Rattle.ipc_dict.specs.declared.entry.TallyEntry.{TallyEntry};
 ghost use Rattle.ipc_dict.specs.Distinct.{place};
-ghost use Rattle.ipc_dict.specs.Noting.{note_entry, note_one, noted_place, AllFit, IsFull, Grows, AllGrow};
+ghost use Rattle.ipc_dict.specs.Noting.{note_entry, note_one, noted_place, AllFit, IsFull};
+ghost use Rattle.ipc_dict.specs.Noting.{Grows, AllGrow};
 
 use crate::distinct::DistinctValues;
 use ipc_model::{Value, WriteFault};

@@ -1,6 +1,7 @@
 //! A batch's distinct values, row by row.
 ghost use Rattle.std.specs.Prelude.{◌≡◌, true, false, length, IfOk, IfErr, OnOk, OnErr, ◌⊎◌, Err};
-ghost use Rattle.ipc_dict.specs.Noting.{note_all, AllFit, IsFull, HoldsDistinct, KeepsPlaces, lens, cut};
+ghost use Rattle.ipc_dict.specs.Noting.{note_all, AllFit, IsFull, HoldsDistinct, lens, cut};
+ghost use Rattle.ipc_dict.specs.Noting.{KeepsPlaces};
 ghost use Rattle.ipc_dict.specs.Pairs.{row_pairs};
 ghost use Rattle.ipc_dict.specs.SchemaIds.{unused, kept_ids, tally_ids};
 ghost use Rattle.ipc_dict.specs.Planning.{AllSettled, FindsAll, FindsNoted, KnowsAll};
