@@ -1,10 +1,9 @@
 -- The entries of a schema are those of its dictionaries.
-use Rattle.std.proofs.Common.{◌≡◌, ℕ, zero, suc, ◌<◌, ◌≤◌, ◌+◌, ◌^◌, ◌-◌, ◌||◌, Bool, true, false, not, cond, ℤ, List, [], ◌∷◌, ◌++◌, length}
+use Rattle.std.proofs.Common.{◌≡◌, ℕ, ◌<◌, ◌≤◌, ◌+◌, ◌^◌, ◌-◌, ◌||◌, Bool, true, false, cond, ℤ, List, [], ◌∷◌, ◌++◌, length}
 use Rattle.std.proofs.Common.{Option, Some, None, refl, sym, ap, subst, ◌∙◌, arith, int_eq, true≢false}
 use Rattle.std.specs.Prelude.{min}
 use Rattle.std.specs.Option.{IsSome}
-use Rattle.std.specs.List.{AllByRecursion, list_any, position, position_or_len}
-use Rattle.std.proofs.lemmas.List.{length-append}
+use Rattle.std.specs.List.{AllByRecursion, list_any}
 use Rattle.std.proofs.lemmas.List.Quantifiers.{position-Some}
 use Rattle.std.proofs.lemmas.Bool.Decides.{Decides-int_eq}
 use Rattle.ipc_model.specs.declared.value.Value.{Value}
@@ -14,7 +13,7 @@ use Rattle.ipc_dict.specs.declared.entry.TallyEntry.{TallyEntry}
 use Rattle.ipc_dict.specs.Noting.{noted_for}
 use Rattle.ipc_dict.specs.SchemaIds.{count_of, fresh, with_field, with_fields, of_fields}
 use Rattle.ipc_dict.specs.SchemaEntries.{first_place, counts_for, least, AreInOrder, AreEntries, AreOfSchema}
-use Rattle.ipc_dict.proofs.Places.{position-append}
+use Rattle.ipc_dict.proofs.Places.{position-append, position-end}
 use Rattle.ipc_dict.proofs.SchemaIds.{lowered}
 
 -- ---- one more dictionary
@@ -22,20 +21,6 @@ use Rattle.ipc_dict.proofs.SchemaIds.{lowered}
 append-end : {X : Type 0} (xs : List X) (y : X) (ys : List X) → xs ++ y ∷ ys ≡ (xs ++ y ∷ []) ++ ys
 append-end [] y ys = refl
 append-end (x ∷ xs) y ys = ap (λ l. x ∷ l) (append-end xs y ys)
-
-first-end : {X : Type 0} (p : X → Bool) (xs : List X) (y : X) → list_any p xs ≡ false → p y ≡ true
-    → position_or_len p (xs ++ y ∷ []) ≡ length xs
-first-end p [] y none here = ap (λ b. cond (not b) 1 0) here
-first-end p (x ∷ xs) y none here = by (λ h. first-end p xs y h here) (p x) none
-  where
-    by : (list_any p xs ≡ false → position_or_len p (xs ++ y ∷ []) ≡ length xs) → (b : Bool) → (b || list_any p xs) ≡ false
-        → cond (not b) (1 + position_or_len p (xs ++ y ∷ [])) 0 ≡ suc (length xs)
-    by rest true h = absurd (true≢false h)
-    by rest false h = omega (arith, rest h)
-
-position-end : {X : Type 0} (p : X → Bool) (xs : List X) (y : X) → list_any p xs ≡ false → p y ≡ true
-    → position p (xs ++ y ∷ []) ≡ Some (length xs)
-position-end p xs y none here = grind (arith, first-end p xs y none here, length-append xs (y ∷ []))
 
 least-end : (ns : List ℕ) (n : ℕ) → least (ns ++ n ∷ []) ≡ min (least ns) n
 least-end [] n = omega arith

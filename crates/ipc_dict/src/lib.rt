@@ -21,5 +21,5 @@ pub use entry::TallyEntry;
 pub use kept::{Kept, KeptEntry};
 pub use plan::Plan;
 pub use schema_ids::entries_of_schema;
-pub use tally::{Tally, holds_distinct, keeps_places};
+pub use tally::{Tally, holds_distinct, keeps_places, places_all};
 pub use values_columns::one_column;

@@ -1,7 +1,7 @@
 //! A batch's distinct values, row by row.
 ghost use Rattle.std.specs.Prelude.{◌≡◌, true, false, length, IfOk, IfErr, OnOk, OnErr, ◌⊎◌, Err};
 ghost use Rattle.ipc_dict.specs.Noting.{note_all, AllFit, IsFull, HoldsDistinct, lens, cut};
-ghost use Rattle.ipc_dict.specs.Noting.{KeepsPlaces};
+ghost use Rattle.ipc_dict.specs.Noting.{KeepsPlaces, PlacesAll};
 ghost use Rattle.ipc_dict.specs.Pairs.{row_pairs};
 ghost use Rattle.ipc_dict.specs.SchemaIds.{unused, kept_ids, tally_ids};
 ghost use Rattle.ipc_dict.specs.Planning.{AllSettled, FindsAll, FindsNoted, KnowsAll};
@@ -223,6 +223,11 @@ fn restore(entries: &mut [TallyEntry], marks: &[usize])
 /// A value keeps the place that a tally gives it, whatever is noted behind it.
 pub fn keeps_places()
     ensures { KeepsPlaces }
+{}
+
+/// Each value that was noted has a place in the tally, where its dictionary has an entry.
+pub fn places_all()
+    ensures { PlacesAll }
 {}
 
 /// A tally's entry holds the distinct values of its dictionary, in order of first appearance.
