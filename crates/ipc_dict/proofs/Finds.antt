@@ -12,7 +12,8 @@ use Rattle.std.proofs.lemmas.Option.{slice_get-get_or, slice_get-map}
 use Rattle.ipc_model.specs.declared.value.Value.{Value}
 use Rattle.ipc_model.proofs.AlikeValues.{same_value}
 use Rattle.ipc_dict.specs.Distinct.{same, place}
-use Rattle.ipc_dict.specs.Planning.{IsSettled, number_at, after}
+use Rattle.ipc_encode.specs.Numbers.{number_or}
+use Rattle.ipc_dict.specs.Planning.{IsSettled, number_at, kept_number, after}
 
 -- a value stands where its place says
 pub at_place : (v : Value) (xs : List Value) (i : ℕ) → place v xs ≡ Some i → slice_get xs i ≡ Some v
@@ -78,3 +79,26 @@ knows sent values numbers v settled h = by (place v values) refl (has_place v va
         let there : slice_get (map (λ w. place w known) values) k ≡ option_map (λ n. Some n) (slice_get to k) =
         ap (λ l. slice_get l k) settled ∙ slice_get-map (λ n. Some n) to k in
         there_is (place v known) (slice_get to k) (sym here ∙ there)
+
+-- ---- the plan's number for a place
+
+same_number : (o : Option ℕ) (i : ℕ) → IsSome o → o ≡ Some (number_or o i)
+same_number None i h = absurd cc
+same_number (Some n) i h = refl
+
+-- the index of a value is the plan's number for its place
+pub renumbered : (sent : Option (List Value)) (values : List Value) (numbers : Option (List ℕ)) (v : Value) (i : ℕ)
+    → IsSettled sent values numbers → place v values ≡ Some i
+    → number_at (place v values) numbers ≡ Some (number_or (kept_number numbers i) i)
+renumbered sent values numbers v i settled e = ap (λ p. number_at p numbers) e ∙ by sent numbers settled
+  where
+    by : (sent : Option (List Value)) (numbers : Option (List ℕ)) → IsSettled sent values numbers
+        → number_at (Some i) numbers ≡ Some (number_or (kept_number numbers i) i)
+    by sent None settled = refl
+    by None (Some to) settled = absurd settled
+    by (Some known) (Some to) settled =
+        let here : slice_get (map (λ w. place w known) values) i ≡ Some (place v known) =
+        slice_get-map (λ w. place w known) values i ∙ ap (option_map (λ w. place w known)) (at_place v values i e) in
+        let there : slice_get (map (λ w. place w known) values) i ≡ option_map (λ n. Some n) (slice_get to i) =
+        ap (λ l. slice_get l i) settled ∙ slice_get-map (λ n. Some n) to i in
+        same_number (slice_get to i) i (there_is (place v known) (slice_get to i) (sym here ∙ there))

@@ -1,9 +1,9 @@
 -- Entries whose ids are the same stand side by side.
-use Rattle.std.proofs.Common.{◌≡◌, List, [], ◌∷◌, length, refl, arith}
+use Rattle.std.proofs.Common.{◌≡◌, ℕ, ℤ, Option, List, [], ◌∷◌, length, refl, ap, arith}
 use Rattle.ipc_dict.specs.declared.entry.TallyEntry.{TallyEntry}
 use Rattle.ipc_dict.specs.declared.kept.KeptEntry.{KeptEntry}
-use Rattle.ipc_dict.specs.Planning.{SameIds}
-use Rattle.ipc_dict.specs.SchemaIds.{kept_ids, tally_ids}
+use Rattle.ipc_dict.specs.Planning.{SameIds, after_all}
+use Rattle.ipc_dict.specs.SchemaIds.{kept_ids, tally_ids, unsent}
 
 pub same_ids : (ks : List KeptEntry) (es : List TallyEntry) → kept_ids ks ≡ tally_ids es → SameIds ks es
 same_ids [] [] h = tt
@@ -16,3 +16,15 @@ same_length [] [] h = refl
 same_length [] (e ∷ es) h = absurd cc
 same_length (k ∷ ks) [] h = absurd cc
 same_length (k ∷ ks) (e ∷ es) h = let rest : kept_ids ks ≡ tally_ids es = cc in omega (arith, same_length ks es rest)
+
+-- where nothing was sent, the ids are those that were asked for
+pub ids_unsent : (ids : List ℤ) → kept_ids (unsent ids) ≡ ids
+ids_unsent [] = refl
+ids_unsent (id ∷ ids) = ap (λ l. id ∷ l) (ids_unsent ids)
+
+-- what is sent changes no id
+pub ids_after_all : (ks : List KeptEntry) (es : List TallyEntry) (os : List (Option (List ℕ))) → kept_ids (after_all ks es os) ≡ kept_ids ks
+ids_after_all [] es os = refl
+ids_after_all (k ∷ ks) [] os = refl
+ids_after_all (k ∷ ks) (e ∷ es) [] = refl
+ids_after_all (k ∷ ks) (e ∷ es) (o ∷ os) = ap (λ l. k.id ∷ l) (ids_after_all ks es os)

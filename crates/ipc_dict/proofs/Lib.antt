@@ -8,3 +8,5 @@ pub mod SchemaIds
 pub mod Ids
 pub mod Rows
 pub mod ValuesColumns
+pub mod Places
+pub mod SchemaEntries

@@ -18,7 +18,8 @@ other a k id p q = by (int_eq k id) refl
     by false e = refl
     by true e = absurd (true≢false (sym ((Decides-int_eq a k).1 ((Decides-int_eq a id).0 q ∙ sym ((Decides-int_eq k id).0 e))) ∙ p))
 
-one-note : (t : List TallyEntry) (k : ℤ) (v : Value) (id : ℤ)
+-- one more value of a dictionary
+pub one-note : (t : List TallyEntry) (k : ℤ) (v : Value) (id : ℤ)
     → noted_for (note_one t k v) id ≡ option_map (λ xs. cond (int_eq k id) (seen xs v) xs) (noted_for t id)
 one-note [] k v id = refl
 one-note (e ∷ es) k v id = by (one-note es k v id) (int_eq e.id k) refl (int_eq e.id id) refl

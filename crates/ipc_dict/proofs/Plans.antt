@@ -6,11 +6,12 @@ use Rattle.ipc_dict.specs.declared.entry.TallyEntry.{TallyEntry}
 use Rattle.ipc_dict.specs.declared.kept.KeptEntry.{KeptEntry}
 use Rattle.ipc_dict.specs.Distinct.{place}
 use Rattle.ipc_dict.specs.Planning.{IsSettled, AllSettled, number_at, kept_number, number, own_send, sends_of, after, index, after_all}
-use Rattle.ipc_dict.specs.Planning.{sent_for, SameIds, FindsAll, KnowsAll}
-use Rattle.ipc_dict.specs.Noting.{noted_for}
+use Rattle.ipc_dict.specs.Planning.{sent_for, SameIds, FindsAll, FindsNoted, KnowsAll}
+use Rattle.ipc_dict.specs.Noting.{noted_for, noted_place}
+use Rattle.ipc_encode.specs.Numbers.{number_or}
 use Rattle.std.specs.List.{Contains}
 use Rattle.std.specs.Option.{IsSome}
-use Rattle.ipc_dict.proofs.Finds.{finds, knows}
+use Rattle.ipc_dict.proofs.Finds.{finds, knows, renumbered}
 
 -- one more dictionary is settled
 pub settled-push : (ss : List KeptEntry) (ns : List TallyEntry) (os : List (Option (List ℕ))) (s : KeptEntry) (n : TallyEntry)
@@ -120,3 +121,22 @@ knows_all (s ∷ ss) (n ∷ ns) (o ∷ os) h id v xs found there = by (knows_all
         → cond b (Some n.values) (noted_for ns id) ≡ Some xs → IsSome (cond b (number_at (place v n.values) o) (index ns os id v))
     by rest true e = let same : n.values ≡ xs = cc in knows s.values n.values o v h.0 (subst (λ l. Contains l v) (sym same) there)
     by rest false e = rest e there
+
+-- the index of a value is the plan's number for the place that the tally gave it
+index_renumbered : (ss : List KeptEntry) (ns : List TallyEntry) (os : List (Option (List ℕ))) → AllSettled ss ns os → (id : ℤ) (v : Value)
+    (i : ℕ) → noted_place ns id v ≡ Some i → index ns os id v ≡ Some (number_or (number ns os id i) i)
+index_renumbered ss [] os h id v i found = absurd cc
+index_renumbered [] (n ∷ ns) os h id v i found = absurd h
+index_renumbered (s ∷ ss) (n ∷ ns) [] h id v i found = absurd h
+index_renumbered (s ∷ ss) (n ∷ ns) (o ∷ os) h id v i found = by (index_renumbered ss ns os h.1 id v i) (int_eq n.id id) found
+  where
+    by : (noted_place ns id v ≡ Some i → index ns os id v ≡ Some (number_or (number ns os id i) i)) → (b : Bool)
+        → cond b (place v n.values) (noted_place ns id v) ≡ Some i
+        → cond b (number_at (place v n.values) o) (index ns os id v) ≡ Some (number_or (cond b (kept_number o i) (number ns os id i)) i)
+    by rest true e = renumbered s.values n.values o v i h.0 e
+    by rest false e = rest e
+
+pub finds_noted : (ss : List KeptEntry) (ns : List TallyEntry) (os : List (Option (List ℕ))) → SameIds ss ns → AllSettled ss ns os
+    → FindsNoted ss ns os
+finds_noted ss ns os ids h id v i found =
+    finds_all ss ns os ids h id v (number_or (number ns os id i) i) (index_renumbered ss ns os h id v i found)

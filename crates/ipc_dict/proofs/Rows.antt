@@ -30,9 +30,9 @@ ids-note_one (e ∷ es) id v =
     [ true ↦ refl | false ↦ ap (λ l. e.id ∷ l) (ids-note_one es id v) ]
 
 -- values change no id
-pub ids-note_all : (t : List TallyEntry) (ps : List (ℤ × Value)) → tally_ids (note_all t ps) ≡ tally_ids t
-ids-note_all t [] = refl
-ids-note_all t (p ∷ ps) = ids-note_all (note_one t p.0 p.1) ps ∙ ids-note_one t p.0 p.1
+pub ids_note_all : (t : List TallyEntry) (ps : List (ℤ × Value)) → tally_ids (note_all t ps) ≡ tally_ids t
+ids_note_all t [] = refl
+ids_note_all t (p ∷ ps) = ids_note_all (note_one t p.0 p.1) ps ∙ ids-note_one t p.0 p.1
 
 -- what was counted of the rows are their distinct values
 pub holds_rows : (fields : List Field) (rows : List (List Value))

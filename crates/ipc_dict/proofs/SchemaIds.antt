@@ -11,7 +11,7 @@ use Rattle.ipc_dict.specs.Noting.{AllFit, noted_for}
 use Rattle.ipc_dict.specs.SchemaIds.{count_of, fresh, with_field, with_fields, unused, of_fields}
 
 module _ (d : Dictionary) where
-  abbrev lowered : TallyEntry → TallyEntry
+  abbrev pub lowered : TallyEntry → TallyEntry
   lowered e = record e { limit = min e.limit (count_of d) }
 
   -- where no entry has the id, a fresh one goes last

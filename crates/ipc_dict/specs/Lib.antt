@@ -9,3 +9,4 @@ pub mod SchemaIds
 pub mod Counted
 pub mod ValuesColumns
 pub mod Applied
+pub mod SchemaEntries

@@ -1,10 +1,10 @@
 -- What a tally holds once values were seen (Arrow Columnar Format, "Dictionary-encoded Layout").
 use Rattle.std.specs.Prelude.{◌≡◌, ℕ, ◌<◌, ◌≤◌, ℤ, List, [], ◌∷◌, length, take, map, Option, Some}
-use Rattle.std.specs.Prelude.{None, ◌⊎◌, if◌then◌else◌}
+use Rattle.std.specs.Prelude.{None, ◌⊎◌, if◌then◌else◌, Contains, IsSome}
 use Rattle.std.specs.Ordering.{int_eq}
 use Rattle.ipc_model.specs.declared.value.Value.{Value}
 use Rattle.ipc_dict.specs.declared.entry.TallyEntry.{TallyEntry}
-use Rattle.ipc_dict.specs.Distinct.{seen, seen_all}
+use Rattle.ipc_dict.specs.Distinct.{seen, seen_all, place}
 use Rattle.std.specs.Option.{option_map}
 
 -- one more value of this dictionary
@@ -64,6 +64,21 @@ of_id id (p ∷ ps) = if int_eq p.0 id then p.1 ∷ of_id id ps else of_id id ps
 abbrev pub noted_for : List TallyEntry → ℤ → Option (List Value)
 noted_for [] id = None
 noted_for (e ∷ es) id = if int_eq e.id id then Some e.values else noted_for es id
+
+-- where a value stands among those of the dictionary with the id
+abbrev pub noted_place : List TallyEntry → ℤ → Value → Option ℕ
+noted_place [] id v = None
+noted_place (e ∷ es) id v = if int_eq e.id id then place v e.values else noted_place es id v
+
+-- a value keeps its place, whatever is noted behind it
+abbrev pub KeepsPlaces : Type 0
+KeepsPlaces = (t : List TallyEntry) (ps : List (ℤ × Value)) (id : ℤ) (v : Value) (i : ℕ)
+    → noted_place t id v ≡ Some i → noted_place (note_all t ps) id v ≡ Some i
+
+-- each value that is noted has a place, where its dictionary has one
+abbrev pub PlacesAll : Type 0
+PlacesAll = (t : List TallyEntry) (ps : List (ℤ × Value)) (id : ℤ) (v : Value)
+    → Contains ps (id, v) → IsSome (noted_for t id) → IsSome (noted_place (note_all t ps) id v)
 
 -- a tally holds of each dictionary the values that it held, and then the distinct ones of the
 -- pairs in order of first appearance

@@ -1,7 +1,8 @@
 -- What a plan does with each dictionary (Arrow Columnar Format, "Dictionary Messages").
 use Rattle.std.specs.Prelude.{◌≡◌, ℕ, ℤ, List, [], ◌∷◌, ◌++◌, map, Option, Some, None, slice_get}
 use Rattle.std.specs.Prelude.{Contains, IsSome, if◌then◌else◌}
-use Rattle.ipc_dict.specs.Noting.{noted_for}
+use Rattle.ipc_dict.specs.Noting.{noted_for, noted_place}
+use Rattle.ipc_encode.specs.Numbers.{number_or}
 use Rattle.std.specs.Ordering.{int_eq}
 use Rattle.ipc_model.specs.declared.value.Value.{Value}
 use Rattle.ipc_dict.specs.declared.entry.TallyEntry.{TallyEntry}
@@ -97,6 +98,14 @@ abbrev pub FindsAll : List KeptEntry → List TallyEntry → List (Option (List 
 FindsAll ss ns os = (id : ℤ) (v : Value) (i : ℕ) → index ns os id v ≡ Some i
     → (now : List Value)
     × ((sent_for (after_all ss ns os) id ≡ Some now) × (slice_get now i ≡ Some v))
+
+-- each place that a tally gives a value finds it, under the number that the plan has for it, in
+-- what is sent once the batch was
+abbrev pub FindsNoted : List KeptEntry → List TallyEntry → List (Option (List ℕ)) → Type 0
+FindsNoted ss ns os = (id : ℤ) (v : Value) (i : ℕ) → noted_place ns id v ≡ Some i
+    → (now : List Value)
+    × ((sent_for (after_all ss ns os) id ≡ Some now)
+    × (slice_get now (number_or (number ns os id i) i) ≡ Some v))
 
 -- each value of the batch has an index
 abbrev pub KnowsAll : List TallyEntry → List (Option (List ℕ)) → Type 0

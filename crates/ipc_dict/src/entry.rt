@@ -3,7 +3,9 @@ ghost use Rattle.std.specs.Prelude.{◌≡◌, ◌<◌, ◌≤◌, length, IfOk,
 ghost use Rattle.std.specs.Prelude.{false, slice_index_or, IfSome, IfNone};
 ghost use Rattle.std.specs.Ordering.{int_eq};
 ghost use Rattle.ipc_dict.specs.declared.entry.TallyEntry.{TallyEntry};
-ghost use Rattle.ipc_dict.specs.Noting.{note_entry, note_one, AllFit, IsFull, Grows, AllGrow};
+ghost use Rattle.ipc_dict.specs.Distinct.{place};
+ghost use Rattle.ipc_dict.specs.Noting.{note_entry, note_one, noted_place, AllFit, IsFull};
+ghost use Rattle.ipc_dict.specs.Noting.{Grows, AllGrow};
 
 use crate::distinct::DistinctValues;
 use ipc_model::{Value, WriteFault};
@@ -74,4 +76,19 @@ pub(crate) fn note_one(entries: &mut [TallyEntry], id: i64, value: &Value) -> Re
     };
     let entry = &mut entries[at];
     note_in(entry, value)
+}
+
+// Where a value stands among those of the dictionary with the id.
+pub(crate) fn place_in(entries: &[TallyEntry], id: i64, value: &Value) -> Option<u64>
+    ensures { result ≡ noted_place entries.now id value.now }
+{
+    let i = find(entries, id)?;
+    place_of(&entries[i].values, value)
+}
+
+fn place_of(values: &DistinctValues, value: &Value) -> Option<u64>
+    ensures { result ≡ place value.now values.now }
+{
+    let at = values.index_of(value)?;
+    Some(at as u64)
 }

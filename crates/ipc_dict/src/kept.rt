@@ -1,6 +1,6 @@
 //! What a writer has sent of each dictionary.
 ghost use Rattle.std.specs.Prelude.{◌≡◌, IfOk, IfErr, map};
-ghost use Rattle.ipc_dict.specs.SchemaIds.{ids_of, tally_ids, unsent};
+ghost use Rattle.ipc_dict.specs.SchemaIds.{ids_of, kept_ids, tally_ids, unsent};
 
 use crate::distinct::DistinctValues;
 use crate::entry::TallyEntry;
@@ -46,8 +46,10 @@ impl Kept {
     /// here, which takes no memory.
     ///
     /// Refused with `OutOfMemory` where the entries find no room.
+    #[tactic(auto, using(crate::proofs::Ids::ids_unsent))]
     pub fn new(alloc: Global, schema: &Schema) -> Result<Kept, WriteFault>
         ensures entries { IfOk result (λ kept. kept ≡ unsent (ids_of schema.now.fields)) }
+        ensures ids { IfOk result (λ kept. kept_ids kept ≡ ids_of schema.now.fields) }
         ensures memory { IfErr result (λ fault. fault ≡ WriteFault.OutOfMemory) }
     {
         let entries = unused_entries(alloc, schema.fields.as_slice())?;

@@ -20,5 +20,6 @@ pub use distinct::DistinctValues;
 pub use entry::TallyEntry;
 pub use kept::{Kept, KeptEntry};
 pub use plan::Plan;
-pub use tally::{Tally, holds_distinct};
+pub use schema_ids::entries_of_schema;
+pub use tally::{Tally, holds_distinct, keeps_places, places_all};
 pub use values_columns::one_column;

@@ -1,6 +1,7 @@
 //! Which dictionaries a batch sends, and the indices of its values.
 ghost use Rattle.std.specs.Prelude.{◌≡◌, ◌⊎◌, IfOk, IfErr};
-ghost use Rattle.ipc_dict.specs.Planning.{after_all, sends_of, AllSettled, FindsAll, KnowsAll};
+ghost use Rattle.ipc_dict.specs.Planning.{after_all, sends_of, AllSettled, FindsAll};
+ghost use Rattle.ipc_dict.specs.Planning.{FindsNoted, KnowsAll};
 ghost use Rattle.ipc_dict.specs.Counted.{HoldsRows};
 ghost use Rattle.ipc_dict.specs.Noting.{note_all, AllFit, IsFull};
 ghost use Rattle.ipc_dict.specs.Pairs.{rows_pairs};
@@ -71,8 +72,13 @@ impl Plan {
             (λ plan. AllSettled kept.now plan.entries plan.numbers) }
         // Each index finds its value in what was sent once the batch was.
         ensures finds { IfOk result (λ plan. FindsAll kept.now plan.entries plan.numbers) }
+        // So does each place that a tally gave, under the plan's number for it.
+        ensures finds_noted { IfOk result
+            (λ plan. FindsNoted kept.now plan.entries plan.numbers) }
         // Each value of the batch has an index.
         ensures knows { IfOk result (λ plan. KnowsAll plan.entries plan.numbers) }
+        // Each id that a field names has its entry.
+        ensures ids { IfOk result (λ plan. tally_ids plan.entries ≡ ids_of schema.now.fields) }
         // No dictionary has more values than its index types count.
         ensures fits { IfOk result (λ plan. AllFit plan.entries) }
         // At W7 one would have more.
@@ -104,7 +110,8 @@ impl Plan {
     #[tactic(auto, using(crate::proofs::Ids::same_length))]
     pub fn commit(self, kept: &mut Kept)
         requires { kept_ids kept.old ≡ tally_ids self.entries }
-        ensures { kept.new ≡ after_all kept.old self.entries self.numbers }
+        ensures after { kept.new ≡ after_all kept.old self.entries self.numbers }
+        ensures ids { kept_ids kept.new ≡ kept_ids kept.old }
     {
         let Plan {
             entries,

@@ -4,6 +4,7 @@ ghost use Rattle.std.specs.Prelude.{IfNone, OnOk, slice_index_or};
 ghost use Rattle.std.specs.Ordering.{int_eq};
 ghost use Rattle.ipc_dict.specs.SchemaIds.{of_field, of_fields, count_of, fresh, with_field};
 ghost use Rattle.ipc_dict.specs.SchemaIds.{unused};
+ghost use Rattle.ipc_dict.specs.SchemaEntries.{AreOfSchema};
 ghost use Rattle.ipc_dict.specs.declared.entry.TallyEntry.{TallyEntry};
 
 use crate::distinct::DistinctValues;
@@ -116,3 +117,9 @@ pub(crate) fn unused_entries(alloc: Global, fields: &[Field]) -> Result<Vec<Tall
     }
     Ok(entries)
 }
+
+/// A tally begins with one entry for each id that the fields of its schema name, in the order in
+/// which the ids first stand there (pre-order), each with the least count of its index types.
+pub fn entries_of_schema()
+    ensures { AreOfSchema }
+{}

@@ -2,7 +2,7 @@
 ghost use Rattle.std.specs.Prelude.{◌≡◌, ◌∷◌, ◌++◌, [], map, length, IfOk, OnOk, IfNone, IfSome};
 ghost use Rattle.ipc_dict.specs.Planning.{AreNumbers, Lacks, IsSettled, AllSettled, number_at};
 ghost use Rattle.ipc_dict.specs.Planning.{index, number, kept_number, after, after_all, own_send};
-ghost use Rattle.ipc_dict.specs.Planning.{sends_of, FindsAll, KnowsAll};
+ghost use Rattle.ipc_dict.specs.Planning.{sends_of, FindsAll, FindsNoted, KnowsAll};
 ghost use Rattle.ipc_dict.specs.SchemaIds.{kept_ids, tally_ids};
 ghost use Rattle.ipc_dict.specs.Distinct.{place};
 
@@ -25,6 +25,7 @@ pub(crate) fn settle(
     ensures entries { IfOk result (λ plan. plan.entries ≡ entries.items) }
     ensures settled { IfOk result (λ plan. AllSettled kept.now entries.items plan.numbers) }
     ensures finds { IfOk result (λ plan. FindsAll kept.now entries.items plan.numbers) }
+    ensures finds_noted { IfOk result (λ plan. FindsNoted kept.now entries.items plan.numbers) }
     ensures knows { IfOk result (λ plan. KnowsAll entries.items plan.numbers) }
 {
     let numbers = settle_all(alloc, kept, &entries)?;

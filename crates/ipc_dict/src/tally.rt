@@ -1,16 +1,18 @@
 //! A batch's distinct values, row by row.
 ghost use Rattle.std.specs.Prelude.{◌≡◌, true, false, length, IfOk, IfErr, OnOk, OnErr, ◌⊎◌, Err};
 ghost use Rattle.ipc_dict.specs.Noting.{note_all, AllFit, IsFull, HoldsDistinct, lens, cut};
+ghost use Rattle.ipc_dict.specs.Noting.{KeepsPlaces, PlacesAll};
 ghost use Rattle.ipc_dict.specs.Pairs.{row_pairs};
 ghost use Rattle.ipc_dict.specs.SchemaIds.{unused, kept_ids, tally_ids};
-ghost use Rattle.ipc_dict.specs.Planning.{AllSettled, FindsAll, KnowsAll};
+ghost use Rattle.ipc_dict.specs.Planning.{AllSettled, FindsAll, FindsNoted, KnowsAll};
 
-use crate::entry::TallyEntry;
+use crate::entry::{TallyEntry, place_in};
 use crate::kept::Kept;
 use crate::plan::Plan;
 use crate::schema_ids::unused_entries;
 use crate::settle::settle;
 use crate::walk::note_each;
+use ipc_encode::IndexOf;
 use ipc_model::{Field, Items, Schema, Value, WriteFault};
 use std::alloc::{AllocError, Global};
 use std::marker::Model;
@@ -83,6 +85,7 @@ impl Tally {
         ensures noted { OnOk result (self.new ≡ record self.old {
           entries = note_all self.old.entries (row_pairs self.old.fields row.now);
         }) }
+        ensures ids { tally_ids self.new.entries ≡ tally_ids self.old.entries }
         ensures fits { AllFit self.new.entries }
         ensures unchanged { IfErr result
             (λ fault. fault ≡ WriteFault.DictionaryFull → self.new ≡ self.old) }
@@ -124,6 +127,9 @@ impl Tally {
         ensures settled { IfOk result (λ plan. AllSettled kept.now self.entries plan.numbers) }
         // Each index finds its value in what was sent once the batch was.
         ensures finds { IfOk result (λ plan. FindsAll kept.now self.entries plan.numbers) }
+        // So does each place that the tally gave, under the plan's number for it.
+        ensures finds_noted { IfOk result
+            (λ plan. FindsNoted kept.now self.entries plan.numbers) }
         // Each value of the batch has an index.
         ensures knows { IfOk result (λ plan. KnowsAll self.entries plan.numbers) }
         // A tally that has failed gives no plan.
@@ -143,6 +149,17 @@ impl Tally {
     }
 }
 
+impl IndexOf for Tally {
+    ghost use Rattle.ipc_dict.specs.Noting.{noted_place};
+
+    ghost index = { λ tally id value. noted_place tally.entries id value };
+
+    // Where the value stands among those of its dictionary so far. It keeps this place.
+    fn index_of(&self, id: i64, value: &Value) -> Option<u64> {
+        place_in(&self.entries, id, value)
+    }
+}
+
 // Room for the mark of each entry.
 fn marks_for(alloc: Global, entries: &[TallyEntry]) -> Result<Vec<usize>, AllocError>
     ensures { IfOk result (λ marks. length marks.items ≡ length entries.now) }
@@ -155,6 +172,7 @@ fn marks_for(alloc: Global, entries: &[TallyEntry]) -> Result<Vec<usize>, AllocE
 }
 
 // One more row, or none of its values where it is refused.
+#[tactic(auto, using(crate::proofs::Rows::ids_note_all))]
 fn note_row(
     entries: &mut [TallyEntry],
     marks: &mut [usize],
@@ -164,6 +182,7 @@ fn note_row(
     requires { length marks.old ≡ length entries.old }
     ensures noted { OnOk result
         (entries.new ≡ note_all entries.old (row_pairs fields.now row.now)) }
+    ensures ids { tally_ids entries.new ≡ tally_ids entries.old }
     ensures fits { AllFit entries.old → AllFit entries.new }
     ensures err { OnErr result (entries.new ≡ entries.old) }
     ensures full { IfErr result
@@ -200,6 +219,16 @@ fn restore(entries: &mut [TallyEntry], marks: &[usize])
         entry.values.truncate(*len);
     }
 }
+
+/// A value keeps the place that a tally gives it, whatever is noted behind it.
+pub fn keeps_places()
+    ensures { KeepsPlaces }
+{}
+
+/// Each value that was noted has a place in the tally, where its dictionary has an entry.
+pub fn places_all()
+    ensures { PlacesAll }
+{}
 
 /// A tally's entry holds the distinct values of its dictionary, in order of first appearance.
 pub fn holds_distinct()

@@ -51,7 +51,7 @@ fn head_of(
 }
 
 #[tactic(auto, using(ipc_column::proofs::Plain::plain_from_supported))]
-fn batch(
+pub(crate) fn batch(
     alloc: Global,
     kind: DataType,
     node: (i64, i64),

@@ -1,12 +1,14 @@
 //! Tests of the crates below the stream: lists, FlatBuffers in place, rows, limits, printed words,
 //! messages whose bytes come one by one, batches of one column, and rows taken one at a time,
-//! nested ones too, and columns of lists and structs.
+//! nested ones too, columns of lists and structs, and dictionaries.
 #![tactic(auto)]
 
 #[cfg(test)]
 mod building;
 #[cfg(test)]
 mod columns;
+#[cfg(test)]
+mod dictionaries;
 #[cfg(test)]
 mod encoding;
 #[cfg(test)]

@@ -1,5 +1,6 @@
 use Rattle.std.proofs.Common.{◌≡◌, ◌∙◌, ap, sym, subst}
 use Rattle.ipc_dict.specs.Noting.{AllFit, cut}
+use Rattle.ipc_dict.specs.SchemaIds.{tally_ids}
 use Rattle.ipc_dict.proofs.Notes.{cut_back}
 use Rattle.ipc_dict.proofs.tally.note_row.Goals as goal
 
@@ -9,6 +10,9 @@ back c = c.restore.ensures ∙ ap (λ ms. cut ms c.note_each.new.entries) c.mark
 
 pub returns-in-Err-clause-fits : goal.returns-in-Err-clause-fits
 returns-in-Err-clause-fits c = λ h. subst AllFit (sym (back c)) h
+
+pub returns-in-Err-clause-ids : goal.returns-in-Err-clause-ids
+returns-in-Err-clause-ids c = ap tally_ids (back c)
 
 pub returns-in-Err-clause-err : goal.returns-in-Err-clause-err
 returns-in-Err-clause-err c = back c

@@ -7,7 +7,7 @@ use Rattle.ipc_dict.specs.Noting.{note_all, AllFit, IsFull}
 use Rattle.ipc_dict.specs.Pairs.{row_pairs, rows_pairs}
 use Rattle.ipc_dict.specs.SchemaIds.{tally_ids, unused}
 use Rattle.ipc_dict.proofs.Notes.{if_ok}
-use Rattle.ipc_dict.proofs.Rows.{rows-step, rows-end, ids-note_all, holds_rows}
+use Rattle.ipc_dict.proofs.Rows.{rows-step, rows-end, ids_note_all, holds_rows}
 use Rattle.ipc_dict.proofs.Walks.{noted-step, full-step}
 use Rattle.ipc_dict.proofs.plan.Plan.for_rows.Goals as goal
 
@@ -50,7 +50,7 @@ loop-row-preserved c =
       noted = noted-step (unused fs) u.entries c.note.new.self.entries (rows_pairs fs rs) (rows_pairs fs (drop i rs)) (row_pairs fs r)
           (rows_pairs fs (drop (i + 1) rs)) inv.noted (rows-step fs rs i r (omega arith) c.row-item.is) now;
       fits = c.note.ensures.fits;
-      ids = ap tally_ids now ∙ ids-note_all u.entries (row_pairs fs r) ∙ inv.ids;
+      ids = ap tally_ids now ∙ ids_note_all u.entries (row_pairs fs r) ∙ inv.ids;
     }
 
 pub returns-clause-rows : goal.returns-clause-rows
@@ -61,6 +61,9 @@ returns-clause-rows c =
     let done : c.loop-row.tally.entries ≡ note_all (unused fs) (rows_pairs fs rs) =
     sym (ap (note_all c.loop-row.tally.entries) (rows-end fs rs c.loop-row.row-index (omega (arith, c.loop-row-test.false)))) ∙ inv.noted in
     if_ok c.settle.result c.settle.ensures.entries (λ plan e. subst (HoldsRows fs rs) (sym (e ∙ done)) (holds_rows fs rs))
+
+pub returns-clause-ids : goal.returns-clause-ids
+returns-clause-ids c = if_ok c.settle.result c.settle.ensures.entries (λ plan e. ap tally_ids e ∙ c.loop-row.invariant.ids)
 
 pub returns-clause-fits : goal.returns-clause-fits
 returns-clause-fits c = if_ok c.settle.result c.settle.ensures.entries (λ plan e. subst AllFit (sym e) c.loop-row.invariant.fits)

@@ -1,0 +1,363 @@
+//! Dictionaries: those that a reader has in force, and what a writer sends of one with each batch.
+//!
+//! A letter stands for a value, its text, and `-` for a null.
+ghost use Rattle.std.specs.Prelude.{◌≡◌, IfOk};
+ghost use Rattle.ipc_dict.specs.SchemaIds.{kept_ids, ids_of, tally_ids};
+
+use crate::columns::batch;
+use ipc_column::{Batch, Cell};
+use ipc_dict::{Dictionaries, Kept, Plan, Tally};
+use ipc_encode::{IndexOf, Renumber, SameNumbers};
+use ipc_model::{
+    DataType, Dictionary, Fault, Field, IndexType, IntBits, Items, Row, Schema, Value, WriteFault,
+};
+use std::alloc::{AllocError, Global};
+use std::rc::Rc;
+use std::test::Fail;
+
+// Columns of texts, whose values stand in dictionary 7 under signed indices of 8 bits.
+fn schema_of(alloc: Global, columns: usize) -> Result<Schema, AllocError> {
+    let index = IndexType {
+        bits: IntBits::B8,
+        signed: true,
+    };
+    let mut fields = Vec::new(alloc);
+    for _column in 0..columns {
+        let field = Field::new(alloc, "a", DataType::Utf8)?.nullable();
+        fields.push(field.with_dictionary(Dictionary {
+            id: 7,
+            index,
+            ordered: false,
+        }))?;
+    }
+    Ok(Schema::new(fields))
+}
+
+fn value_of(alloc: Global, letter: u8) -> Result<Value, AllocError> {
+    if letter == b'-' {
+        return Ok(Value::Null);
+    }
+    let mut text = String::new(alloc);
+    text.push(letter as char)?;
+    Value::text(alloc, &text)
+}
+
+fn row_of(alloc: Global, letters: &[u8]) -> Result<Row, AllocError> {
+    let mut row = Vec::new(alloc);
+    for letter in letters {
+        row.push(value_of(alloc, *letter)?)?;
+    }
+    Ok(Items::from_vec(row))
+}
+
+// Rows of so many letters each.
+fn rows_of(alloc: Global, letters: &[u8], columns: usize) -> Result<Vec<Row>, AllocError> {
+    let mut rows = Vec::new(alloc);
+    for row in letters.chunks(columns.max(1)) {
+        rows.push(row_of(alloc, row)?)?;
+    }
+    Ok(rows)
+}
+
+fn letter_of(value: Option<&Value>) -> u8 {
+    match value {
+        Some(Value::Text(text)) => text.as_str().as_bytes().first().copied().unwrap_or(b'?'),
+        _ => b'?',
+    }
+}
+
+// Tells the dictionaries that a plan sends, each in braces.
+fn tell_sends(told: &mut Vec<u8>, sends: &[(i64, Items<Row>)]) -> Result<(), AllocError> {
+    for send in sends {
+        told.push(b'{')?;
+        for row in send.1.as_slice() {
+            told.push(letter_of(row.as_slice().first()))?;
+        }
+        told.push(b'}')?;
+    }
+    Ok(())
+}
+
+// Tells indices, under the numbers that they have in what was sent.
+fn tell_indices<N: Renumber>(
+    told: &mut Vec<u8>,
+    numbers: &N,
+    indices: &[Option<u64>],
+) -> Result<(), AllocError> {
+    for index in indices {
+        let digit = match *index {
+            Some(index) => b"0123456789".get(numbers.to(7, index) as usize).copied(),
+            None => Some(b'-'),
+        };
+        told.push(digit.unwrap_or(b'?'))?;
+    }
+    Ok(told.push(b' ')?)
+}
+
+// Finds the indices of a row's values.
+fn find<I: IndexOf>(
+    indices: &mut Vec<Option<u64>>,
+    known: &I,
+    row: &[Value],
+) -> Result<(), AllocError> {
+    for value in row {
+        indices.push(known.index_of(7, value))?;
+    }
+    Ok(())
+}
+
+// Tells what a batch of these rows sends, and the indices that its plan gives.
+fn tell_planned(
+    alloc: Global,
+    told: &mut Vec<u8>,
+    schema: &Schema,
+    kept: &mut Kept,
+    rows: &[Row],
+) -> Result<(), WriteFault>
+    requires { kept_ids kept.old ≡ ids_of schema.now.fields }
+    ensures { kept_ids kept.new ≡ ids_of schema.now.fields }
+{
+    let plan = Plan::for_rows(alloc, schema, kept, rows)?;
+    tell_sends(told, plan.sends())?;
+    let mut indices = Vec::new(alloc);
+    for row in rows {
+        find(&mut indices, &plan, row.as_slice())?;
+    }
+    tell_indices(told, &SameNumbers, &indices)?;
+    plan.commit(kept);
+    Ok(())
+}
+
+// Counts rows, and finds each index right behind its row.
+fn counted(
+    alloc: Global,
+    schema: &Schema,
+    rows: &[Row],
+) -> Result<(Tally, Vec<Option<u64>>), WriteFault>
+    ensures { IfOk result (λ counted. tally_ids counted.0.entries ≡ ids_of schema.now.fields) }
+{
+    let mut tally = Tally::new(alloc, schema)?;
+    let mut indices = Vec::new(alloc);
+    for row in rows {
+        tally.note(row.as_slice())?;
+        find(&mut indices, &tally, row.as_slice())?;
+    }
+    Ok((tally, indices))
+}
+
+// Tells the same of rows that are counted one by one.
+fn tell_counted(
+    alloc: Global,
+    told: &mut Vec<u8>,
+    schema: &Schema,
+    kept: &mut Kept,
+    rows: &[Row],
+) -> Result<(), WriteFault>
+    requires { kept_ids kept.old ≡ ids_of schema.now.fields }
+    ensures { kept_ids kept.new ≡ ids_of schema.now.fields }
+{
+    let (tally, indices) = counted(alloc, schema, rows)?;
+    let plan = tally.settle(alloc, kept)?;
+    tell_sends(told, plan.sends())?;
+    tell_indices(told, &plan, &indices)?;
+    plan.commit(kept);
+    Ok(())
+}
+
+// What batches send, and their indices.
+fn told(
+    alloc: Global,
+    columns: usize,
+    batches: &[&[u8]],
+    by_rows: bool,
+) -> Result<Vec<u8>, WriteFault> {
+    let schema = schema_of(alloc, columns)?;
+    let mut kept = Kept::new(alloc, &schema)?;
+    let mut told = Vec::new(alloc);
+    for letters in batches {
+        let rows = rows_of(alloc, letters, columns)?;
+        if by_rows {
+            tell_counted(alloc, &mut told, &schema, &mut kept, &rows)?;
+        } else {
+            tell_planned(alloc, &mut told, &schema, &mut kept, &rows)?;
+        }
+    }
+    Ok(told)
+}
+
+// Each batch is a list of letters, one for each row.
+const BATCHES: [&[u8]; 6] = [b"aba-", b"b", b"cb", b"-", b"bbc", b"bbcd"];
+
+const SENT: &[u8] = b"{ab}010- 1 {cb}01 - 110 {bcd}0012 ";
+
+#[test]
+fn grows_planned_batches(rt: HostRuntime) -> Result<(), Fail> {
+    assert!(rt; told(rt.alloc(), 1, &BATCHES, false)?.as_slice() == SENT);
+    Ok(())
+}
+
+#[test]
+fn grows_batches_row_by_row(rt: HostRuntime) -> Result<(), Fail> {
+    assert!(rt; told(rt.alloc(), 1, &BATCHES, true)?.as_slice() == SENT);
+    Ok(())
+}
+
+#[test]
+fn a_first_batch_of_nulls(rt: HostRuntime) -> Result<(), Fail> {
+    assert!(rt; told(rt.alloc(), 1, &[b"--"], false)?.as_slice() == b"{}-- ".as_slice());
+    Ok(())
+}
+
+#[test]
+fn two_columns_of_one_dictionary(rt: HostRuntime) -> Result<(), Fail> {
+    assert!(rt; told(rt.alloc(), 2, &[b"xyyz"], false)?.as_slice() == b"{xyz}0112 ".as_slice());
+    Ok(())
+}
+
+// Counts rows of the first texts, two in each, and tells how many rows were taken.
+fn take(alloc: Global, tally: &mut Tally, texts: usize) -> Result<usize, WriteFault> {
+    let mut taken = 0usize;
+    for number in 0..texts {
+        let row = [numbered(alloc, number)?, Value::Null];
+        match tally.note(&row) {
+            Ok(()) => taken = taken.saturating_add(1),
+            Err(WriteFault::DictionaryFull) => return Ok(taken),
+            Err(fault) => return Err(fault),
+        }
+    }
+    Ok(taken)
+}
+
+fn numbered(alloc: Global, number: usize) -> Result<Value, AllocError> {
+    Value::text(alloc, &format!(in alloc; "{number}")?)
+}
+
+// How many of so many texts are taken.
+fn taken(alloc: Global, texts: usize) -> Result<usize, WriteFault> {
+    let schema = schema_of(alloc, 2)?;
+    let mut tally = Tally::new(alloc, &schema)?;
+    take(alloc, &mut tally, texts)
+}
+
+#[test]
+fn as_many_texts_as_the_indices_count(rt: HostRuntime) -> Result<(), Fail> {
+    assert!(rt; taken(rt.alloc(), 128)? == 128);
+    assert!(rt; taken(rt.alloc(), 129)? == 128);
+    Ok(())
+}
+
+// Behind 127 texts a row of two new ones is refused, and either of them is taken alone: what the
+// refused row answered, and the index of its first text then and once that was taken.
+fn refused_row(alloc: Global) -> Result<(Option<WriteFault>, [Option<u64>; 2]), WriteFault> {
+    let schema = schema_of(alloc, 2)?;
+    let mut tally = Tally::new(alloc, &schema)?;
+    take(alloc, &mut tally, 127)?;
+    let fault = tally
+        .note(&[numbered(alloc, 127)?, numbered(alloc, 128)?])
+        .err();
+    let first = numbered(alloc, 127)?;
+    let before = tally.index_of(7, &first);
+    tally.note(&[numbered(alloc, 127)?, Value::Null])?;
+    Ok((fault, [before, tally.index_of(7, &first)]))
+}
+
+#[test]
+fn a_refused_row_is_cut_off(rt: HostRuntime) -> Result<(), Fail> {
+    let (fault, indices) = refused_row(rt.alloc())?;
+    assert!(rt; fault == Some(WriteFault::DictionaryFull));
+    assert!(rt; indices == [None, Some(127)]);
+    Ok(())
+}
+
+// Values that are these letters: the offsets of texts of one byte each, and then the bytes.
+fn ab(alloc: Global) -> Result<Batch, Fault> {
+    let body = [
+        0, 0, 0, 0, 1, 0, 0, 0, 2, 0, 0, 0, 0, 0, 0, 0, b'a', b'b', 0, 0, 0, 0, 0, 0,
+    ];
+    batch(
+        alloc,
+        DataType::Utf8,
+        (2, 0),
+        &[(0, 0), (0, 12), (16, 2)],
+        &body,
+    )
+}
+
+fn c(alloc: Global) -> Result<Batch, Fault> {
+    let body = [0, 0, 0, 0, 1, 0, 0, 0, b'c', 0, 0, 0, 0, 0, 0, 0];
+    batch(
+        alloc,
+        DataType::Utf8,
+        (1, 0),
+        &[(0, 0), (0, 8), (8, 1)],
+        &body,
+    )
+}
+
+// The letters of a batch's one column.
+fn letters(alloc: Global, batch: &Batch) -> Result<Vec<u8>, AllocError> {
+    let mut letters = Vec::new(alloc);
+    if batch.columns() == 0 {
+        return Ok(letters);
+    }
+    for row in 0..batch.rows() {
+        letters.push(match batch.cell(row, 0) {
+            Cell::Text(text) => text.as_bytes().first().copied().unwrap_or(b'?'),
+            _ => b'?',
+        })?;
+    }
+    Ok(letters)
+}
+
+fn current(dictionaries: &Dictionaries) -> Result<Option<Rc<Batch>>, Fault> {
+    Ok(match dictionaries.current().get(&7) {
+        Some(values) => Some(values.clone()?),
+        None => None,
+    })
+}
+
+// The values that were handed out before a change and after it, and how many bytes are held.
+fn replaced(alloc: Global) -> Result<(Vec<u8>, Vec<u8>, [usize; 2]), Fault> {
+    let mut dictionaries = Dictionaries::new(alloc, &schema_of(alloc, 1)?)?;
+    dictionaries.apply(alloc, 7, ab(alloc)?)?;
+    let before = current(&dictionaries)?;
+    let first = dictionaries.held();
+    dictionaries.apply(alloc, 7, c(alloc)?)?;
+    let after = current(&dictionaries)?;
+    Ok((
+        told_values(alloc, &before)?,
+        told_values(alloc, &after)?,
+        [first, dictionaries.held()],
+    ))
+}
+
+fn told_values(alloc: Global, values: &Option<Rc<Batch>>) -> Result<Vec<u8>, AllocError> {
+    match values {
+        Some(values) => letters(alloc, values),
+        None => Ok(Vec::new(alloc)),
+    }
+}
+
+#[test]
+fn grows_dictionaries_in_force(rt: HostRuntime) -> Result<(), Fail> {
+    let (before, after, held) = replaced(rt.alloc())?;
+    assert!(rt; before.as_slice() == b"ab".as_slice() && after.as_slice() == b"c".as_slice());
+    assert!(rt; held == [24, 16]);
+    Ok(())
+}
+
+fn width(dictionaries: &Dictionaries, id: i64) -> Option<usize> {
+    Some(dictionaries.fields_of(id)?.len())
+}
+
+// How many columns the values of a dictionary that is named have, and those of one that isn't.
+fn widths(alloc: Global) -> Result<[Option<usize>; 2], Fault> {
+    let dictionaries = Dictionaries::new(alloc, &schema_of(alloc, 2)?)?;
+    Ok([width(&dictionaries, 7), width(&dictionaries, 8)])
+}
+
+#[test]
+fn columns_of_values(rt: HostRuntime) -> Result<(), Fail> {
+    assert!(rt; widths(rt.alloc())? == [Some(1), None]);
+    Ok(())
+}
