@@ -14,6 +14,7 @@ ghost use Rattle.ipc_encode.specs.Buffers.{AreLaidOut, columns};
 ghost use Rattle.ipc_encode.specs.Writing.{IsDrafted};
 ghost use Rattle.ipc_encode.specs.Limits.{IsRefused, IsTooLong, IsWithin};
 ghost use Rattle.ipc_encode.specs.Built.{AreColumns, ArePushesRefused, HasFailed, HasRows};
+ghost use Rattle.ipc_encode.specs.Faults.{write_fault};
 
 use crate::column::Purpose;
 use crate::fault::PushFault;
@@ -187,8 +188,27 @@ impl Builder {
         if self.failed {
             return Err(WriteFault::Failed);
         }
+        self.fit_row(row)?;
+        Ok(())
+    }
+
+    /// The same, for callers that ask it of each row: a fault is one byte. Whether the builder has
+    /// failed isn't looked at.
+    #[inline(always)]
+    pub fn fit_row(&mut self, row: &[Value]) -> Result<(), PushFault>
+        ensures within { (limits : Limits) (fields : List Field) (rows : List (List Value))
+            → HasRows limits fields rows self.old
+            → OnOk result (IsWithin limits fields (rows ++ row.now ∷ [])) }
+        ensures refused { (limits : Limits) (fields : List Field) (rows : List (List Value))
+            → HasRows limits fields rows self.old
+            → IfErr result (λ fault. IsRefused limits fields (rows ++ row.now ∷ [])
+            (write_fault fault) × ¬ (write_fault fault ≡ WriteFault.OutOfMemory)) }
+        ensures kept { (limits : Limits) (fields : List Field) (rows : List (List Value))
+            → HasRows limits fields rows self.old → HasRows limits fields rows self.new }
+        ensures still_failed { HasFailed self.old → HasFailed self.new }
+    {
         if self.is_full() {
-            return Err(WriteFault::TooManyRows);
+            return Err(PushFault::TooMany);
         }
         fit(&mut self.nodes, row, &self.limits)?;
         Ok(())
@@ -211,12 +231,34 @@ impl Builder {
         ensures fails { OnErr result (HasFailed self.new) }
         ensures failed { HasFailed self.old → result ≡ Err WriteFault.Failed }
     {
-        let had_failed = mem::replace(&mut self.failed, true);
-        if had_failed {
+        if self.failed {
             return Err(WriteFault::Failed);
         }
+        self.take_row(row)?;
+        Ok(())
+    }
+
+    /// The same, for callers that push row by row: a fault is one byte. A builder that has failed
+    /// answers `OutOfMemory`.
+    #[inline(always)]
+    pub fn take_row(&mut self, row: &[Value]) -> Result<(), PushFault>
+        ensures pushed { (limits : Limits) (fields : List Field) (rows : List (List Value))
+            → HasRows limits fields rows self.old
+            → IsWithin limits fields (rows ++ row.now ∷ [])
+            → OnOk result (HasRows limits fields (rows ++ row.now ∷ []) self.new) }
+        ensures refused { (limits : Limits) (fields : List Field) (rows : List (List Value))
+            → HasRows limits fields rows self.old
+            → IfErr result (λ fault. IsRefused limits fields (rows ++ row.now ∷ [])
+            (write_fault fault)) }
+        ensures fails { OnErr result (HasFailed self.new) }
+        ensures failed { HasFailed self.old → result ≡ Err PushFault.OutOfMemory }
+    {
+        let had_failed = mem::replace(&mut self.failed, true);
+        if had_failed {
+            return Err(PushFault::OutOfMemory);
+        }
         if self.is_full() {
-            return Err(WriteFault::TooManyRows);
+            return Err(PushFault::TooMany);
         }
         take_parts(row, &mut self.nodes, Purpose::Keep, &self.limits)?;
         self.rows += 1;

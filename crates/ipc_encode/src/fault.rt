@@ -4,12 +4,12 @@ ghost use Rattle.ipc_encode.specs.Faults.{write_fault};
 use ipc_model::WriteFault;
 use std::alloc::AllocError;
 
-/// Why a value isn't taken.
+/// Why a row or a value isn't taken, in one byte. As a fault of a writer it is W6, W8 or W11.
 #[derive(Clone, Copy, Debug, PartialEq, Eq, Drop)]
-pub(crate) enum PushFault {
+pub enum PushFault {
     /// A column would have more data than offsets reach or than a body may have.
     TooLong,
-    /// A column would have more slots than the limits allow.
+    /// There would be more rows, or a column would have more slots, than the limits allow.
     TooMany,
     /// A list can't grow.
     OutOfMemory,
@@ -28,6 +28,8 @@ impl From<AllocError> for PushFault {
 impl From<PushFault> for WriteFault {
     ghost from_gives = { λ error fault. fault ≡ write_fault error };
 
+    #[cold]
+    #[inline(never)]
     fn from(fault: PushFault) -> WriteFault {
         match fault {
             PushFault::TooLong => WriteFault::TooLong,

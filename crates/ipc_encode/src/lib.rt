@@ -22,6 +22,7 @@ mod tree;
 
 pub use batch::encode;
 pub use builder::Builder;
+pub use fault::PushFault;
 pub use index::{IndexOf, NoIndices, Renumber, SameNumbers};
 pub use parts::Parts;
 pub use room::Room;

@@ -60,40 +60,32 @@ accepted_row limits s b row accepts fits within = record {
 }
 
 -- where a row went into the columns, the batch with it is held
-pub held_more : (limits : Limits) (s : Schema) (b : BatchRows) (row : List Value) (old new : PushedRows) (r : Result Unit WriteFault)
+pub held_row : (limits : Limits) (s : Schema) (b : BatchRows) (row : List Value) (old new : PushedRows)
     → HoldsBatch limits s b old → RowFits s.fields row → IsWithin limits s.fields (b.rows ++ row ∷ [])
-    → OnOk r (HasRows limits s.fields (b.rows ++ row ∷ []) new.builder) → new.pairs ≡ old.pairs
-    → OnOk r (HoldsBatch limits s (with_row b row) new)
-held_more limits s b row old new (Ok x) held fits within rows same = record {
+    → HasRows limits s.fields (b.rows ++ row ∷ []) new.builder → new.pairs ≡ old.pairs
+    → HoldsBatch limits s (with_row b row) new
+held_row limits s b row old new held fits within rows same = record {
   rows = rows;
   pairs = same ∙ held.pairs;
   accepted = accepted_row limits s b row held.accepted fits within;
 }
-held_more limits s b row old new (Err fault) held fits within rows same = tt
 
 -- where the builder has the rows that it had, the batch is still held
 pub held_still : (limits : Limits) (s : Schema) (b : BatchRows) (old new : PushedRows) → HoldsBatch limits s b old
     → HasRows limits s.fields b.rows new.builder → new.pairs ≡ old.pairs → HoldsBatch limits s b new
 held_still limits s b old new held rows same = record { rows = rows; pairs = same ∙ held.pairs; accepted = held.accepted }
 
--- a batch that is held is held at any refusal
-pub refused_kept : (limits : Limits) (s : Schema) (b : BatchRows) (held : PushedRows) (r : Result Unit WriteFault)
-    → HoldsBatch limits s b held → IfErr r (λ fault. ¬ (fault ≡ w.OutOfMemory) → HoldsBatch limits s b held)
-refused_kept limits s b held (Ok x) h = tt
-refused_kept limits s b held (Err fault) h = λ other. h
-
 -- rows within the limits are refused for memory alone
-pub refused_within : (limits : Limits) (fields : List Field) (rows : List (List Value)) (r : Result Unit WriteFault) (P : Type 0)
-    → IsWithin limits fields rows → IfErr r (IsRefused limits fields rows) → IfErr r (λ fault. ¬ (fault ≡ w.OutOfMemory) → P)
-refused_within limits fields rows (Ok x) P within h = tt
-refused_within limits fields rows (Err w.TooLong) P within h = absurd (within.short h)
-refused_within limits fields rows (Err w.TooManyRows) P within h = absurd (within.few h)
-refused_within limits fields rows (Err w.OutOfMemory) P within h = λ other. absurd (other refl)
-refused_within limits fields rows (Err w.BadSchema) P within h = absurd h
-refused_within limits fields rows (Err (w.Row number cause)) P within h = absurd h
-refused_within limits fields rows (Err w.DictionaryFull) P within h = absurd h
-refused_within limits fields rows (Err w.Write) P within h = absurd h
-refused_within limits fields rows (Err w.Failed) P within h = absurd h
+pub memory_alone : (limits : Limits) (fields : List Field) (rows : List (List Value)) (fault : WriteFault) → IsWithin limits fields rows
+    → IsRefused limits fields rows fault → fault ≡ w.OutOfMemory
+memory_alone limits fields rows w.TooLong within h = absurd (within.short h)
+memory_alone limits fields rows w.TooManyRows within h = absurd (within.few h)
+memory_alone limits fields rows w.OutOfMemory within h = refl
+memory_alone limits fields rows w.BadSchema within h = absurd h
+memory_alone limits fields rows (w.Row number cause) within h = absurd h
+memory_alone limits fields rows w.DictionaryFull within h = absurd h
+memory_alone limits fields rows w.Write within h = absurd h
+memory_alone limits fields rows w.Failed within h = absurd h
 
 -- what is told of a row by a writer that works is told by any
 pub judged_row : (A : Type 0) (limits : Limits) (s : Schema) (b : BatchRows) (failed : Bool) (r : Result Unit WriteFault) → OnOk r A

@@ -70,6 +70,7 @@ impl<W: Sink> BatchWriter<'_, W> {
     /// than `limits.slots` rows, or as many items in all lists of a column. Such a row isn't kept,
     /// and the next may come. W10 is returned
     /// after W9 or W11, and W11 where memory was refused.
+    #[inline(always)]
     pub fn push(&mut self, row: &[Value]) -> Result<(), WriteFault>
         ensures same_reference { self.new.writer.ghost_name ≡ self.old.writer.ghost_name }
         ensures stays { Stays self.old.writer.now self.new.writer.now result }

@@ -1,14 +1,15 @@
-ghost use Rattle.std.specs.Prelude.{◌≡◌, ◌++◌, [], ◌∷◌, false, IfErr, IfOk, OnErr, OnOk};
-ghost use Rattle.std.specs.Prelude.{MatchResult};
+ghost use Rattle.std.specs.Prelude.{◌≡◌, false, IfErr, IfOk, OnOk};
 ghost use Rattle.ipc_model.specs.Fits.{RowFits};
 ghost use Rattle.ipc_model.specs.RowFaults.{HasShortPaths};
 ghost use Rattle.ipc_model.specs.declared.limits.Limits.{Limits};
+ghost use Rattle.ipc_model.specs.declared.schema.Schema.{Schema};
 ghost use Rattle.ipc_model.specs.declared.table.BatchRows.{BatchRows};
+ghost use Rattle.ipc_encode.specs.Faults.{write_fault};
 ghost use Rattle.ipc_stream.specs.Writing.{IsWritable, RefusesBatch};
 ghost use Rattle.ipc_stream.specs.Pushed.{HoldsBatch, RefusesHeld, no_rows, with_row};
 
 use crate::messages::batch_message;
-use ipc_encode::{Builder, NoIndices, Room};
+use ipc_encode::{Builder, PushFault, Room};
 use ipc_model::{
     BatchRows, Items, Limits, Schema, Text, Value, WriteFault, conforms, is_conforming,
 };
@@ -52,36 +53,42 @@ impl PushedRows {
     // What is wrong with a row that doesn't conform, with the number that it would have.
     #[cold]
     #[inline(never)]
-    fn judge(&self, schema: &Schema, row: &[Value]) -> Result<(), WriteFault>
-        requires { HasShortPaths schema.now }
-        ensures fits { OnOk result (RowFits schema.now.fields row.now) }
-        ensures refused { (limits : Limits) (b : BatchRows)
-            → HoldsBatch limits schema.now b self.now
-            → IfErr result (RefusesHeld limits schema.now (with_row b row.now) false) }
+    fn misfit(&self, schema: &Schema, row: &[Value]) -> WriteFault
+        requires short { HasShortPaths schema.now }
+        requires misfits { ¬ RowFits schema.now.fields row.now }
+        ensures { (limits : Limits) (b : BatchRows) → HoldsBatch limits schema.now b self.now
+            → RefusesHeld limits schema.now (with_row b row.now) false result }
     {
-        if let Err(fault) = conforms(schema, row) {
-            return Err(fault.at_row(self.builder.row_count() as u64));
+        match conforms(schema, row) {
+            Ok(()) => unreachable!(),
+            Err(fault) => fault.at_row(self.builder.row_count() as u64),
         }
+    }
+
+    // Takes one row more that conforms. After a refusal for memory what is held is of no use, after
+    // any other it is the batch that it was.
+    #[inline(always)]
+    fn take(&mut self, row: &[Value]) -> Result<(), PushFault>
+        ensures holds { (limits : Limits) (schema : Schema) (b : BatchRows)
+            → RowFits schema.fields row.now → HoldsBatch limits schema b self.old
+            → OnOk result (HoldsBatch limits schema (with_row b row.now) self.new) }
+        ensures refused { (limits : Limits) (schema : Schema) (b : BatchRows)
+            → HoldsBatch limits schema b self.old
+            → IfErr result (λ fault. RefusesHeld limits schema (with_row b row.now) false
+            (write_fault fault)) }
+        ensures kept { (limits : Limits) (schema : Schema) (b : BatchRows)
+            → HoldsBatch limits schema b self.old
+            → IfErr result (λ fault. ¬ (write_fault fault ≡ WriteFault.OutOfMemory)
+            → HoldsBatch limits schema b self.new) }
+    {
+        self.builder.fit_row(row)?;
+        self.builder.take_row(row)?;
         Ok(())
     }
 
-    // The same of any row. What `judge` takes to tell a fault isn't asked for where there is none.
-    #[inline(always)]
-    fn check(&self, schema: &Schema, row: &[Value]) -> Result<(), WriteFault>
-        requires { HasShortPaths schema.now }
-        ensures fits { OnOk result (RowFits schema.now.fields row.now) }
-        ensures refused { (limits : Limits) (b : BatchRows)
-            → HoldsBatch limits schema.now b self.now
-            → IfErr result (RefusesHeld limits schema.now (with_row b row.now) false) }
-    {
-        if is_conforming(schema, row) {
-            return Ok(());
-        }
-        self.judge(schema, row)
-    }
-
     // Takes one row more. After W11 what is held is of no use, after any other refusal it is the
-    // batch that it was.
+    // batch that it was. A fault is told where there is one alone: what holds it is large.
+    #[inline(always)]
     pub(crate) fn push(&mut self, schema: &Schema, row: &[Value]) -> Result<(), WriteFault>
         requires { HasShortPaths schema.now }
         ensures holds { (limits : Limits) (b : BatchRows) → HoldsBatch limits schema.now b self.old
@@ -94,8 +101,10 @@ impl PushedRows {
             → IfErr result (λ fault. ¬ (fault ≡ WriteFault.OutOfMemory)
             → HoldsBatch limits schema.now b self.new) }
     {
-        self.check(schema, row)?;
-        self.builder.fits(row)?;
-        self.builder.push(row, &NoIndices)
+        if !is_conforming(schema, row) {
+            return Err(self.misfit(schema, row));
+        }
+        self.take(row)?;
+        Ok(())
     }
 }

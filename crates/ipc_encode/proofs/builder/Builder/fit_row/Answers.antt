@@ -7,7 +7,7 @@ use Rattle.ipc_encode.specs.declared.node.Node.{Node}
 use Rattle.ipc_encode.specs.Buffers.{columns}
 use Rattle.ipc_encode.specs.Built.{AreColumns, AreTooMuch, AreWithin}
 use Rattle.ipc_encode.proofs.Held.{columns_push, rows_within, rows_too_much, no_memory, not_full}
-use Rattle.ipc_encode.proofs.builder.Builder.fits.Goals as goal
+use Rattle.ipc_encode.proofs.builder.Builder.fit_row.Goals as goal
 
 pub returns-in_err-fit-clause-refused : goal.returns-in_err-fit-clause-refused
 returns-in_err-fit-clause-refused c = λ limits fields rows h.

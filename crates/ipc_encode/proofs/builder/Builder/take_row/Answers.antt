@@ -8,10 +8,10 @@ use Rattle.ipc_encode.specs.declared.node.Node.{Node}
 use Rattle.ipc_encode.specs.Buffers.{columns}
 use Rattle.ipc_encode.specs.Built.{AreColumns, ArePushesRefused}
 use Rattle.ipc_encode.proofs.Held.{columns_push, rows_refused}
-use Rattle.ipc_encode.proofs.builder.Builder.push.Goals as goal
+use Rattle.ipc_encode.proofs.builder.Builder.take_row.Goals as goal
 
 pub returns-clause-pushed : goal.returns-clause-pushed
-returns-clause-pushed g c = λ limits fields rows h within.
+returns-clause-pushed c = λ limits fields rows h within.
     let held = subst (λ (l : Limits). AreColumns l (shape_of fields) c.deref_mut.result.now (columns rows)) (sym h.limits_are)
     (subst (λ (ns : List Node). AreColumns limits (shape_of fields) ns (columns rows)) (sym c.deref_mut.ensures.value) h.columns_are) in
     let more = subst (λ (l : Limits). AreColumns l (shape_of fields) c.take_parts.new.nodes (columns (rows ++ c.args.row.now ∷ [])))
@@ -29,7 +29,7 @@ returns-clause-pushed g c = λ limits fields rows h within.
     }
 
 pub returns-in_err-take_parts-clause-refused : goal.returns-in_err-take_parts-clause-refused
-returns-in_err-take_parts-clause-refused g c = λ limits fields rows h.
+returns-in_err-take_parts-clause-refused c = λ limits fields rows h.
     let held = subst (λ (l : Limits). AreColumns l (shape_of fields) c.deref_mut.result.now (columns rows)) (sym h.limits_are)
     (subst (λ (ns : List Node). AreColumns limits (shape_of fields) ns (columns rows)) (sym c.deref_mut.ensures.value) h.columns_are) in
     let fault = c.in_err-take_parts.field-0.0 in

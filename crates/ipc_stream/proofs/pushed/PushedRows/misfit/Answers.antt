@@ -1,10 +1,10 @@
 use Rattle.std.proofs.Common.{ap}
 use Rattle.ipc_model.specs.Refusals.{refusal_of}
 use Rattle.ipc_stream.proofs.HeldRows.{misfit_last}
-use Rattle.ipc_stream.proofs.pushed.PushedRows.judge.Goals as goal
+use Rattle.ipc_stream.proofs.pushed.PushedRows.misfit.Goals as goal
 
-pub returns-in-Err-clause-refused : goal.returns-in-Err-clause-refused
-returns-in-Err-clause-refused c = λ limits b h.
+pub returns : goal.returns
+returns c = λ limits b h.
     rw c.at_row.ensures
     (misfit_last c.args.schema.now.fields b.rows c.args.row.now c.in-Err.fault c.conforms.result _ h.accepted.fit c.conforms.ensures.fits.1
     c.conforms.ensures.first c.in-Err.is
