@@ -183,6 +183,7 @@ refused_grow limits shape given more push.TooLong (inl long) = inl (long_data_gr
 refused_grow limits shape given more push.TooLong (inr body) = let grown = body_grows shape given more in inr (omega (arith, grown, body))
 refused_grow limits shape given more push.TooMany h = long_nodes_grow limits.slots shape given more h
 refused_grow limits shape given more push.OutOfMemory h = h
+refused_grow limits shape given more push.Failed h = h
 
 -- ---- one of several columns
 
@@ -193,6 +194,7 @@ own_refused limits l c rest given push.TooLong (inl long) = inl (inl long)
 own_refused limits l c rest given push.TooLong (inr body) = let size = parts_length l c rest given in inr (omega (arith, size, body))
 own_refused limits l c rest given push.TooMany h = inl h
 own_refused limits l c rest given push.OutOfMemory h = h
+own_refused limits l c rest given push.Failed h = h
 
 pub child_refused : (limits : Limits) (l : Layout) (c rest : Shape) (given : ℕ → List Value) (e : PushFault)
     → ArePushesRefused limits c (below l (given 0)) e → ArePushesRefused limits (field l c rest) given e
@@ -200,6 +202,7 @@ child_refused limits l c rest given push.TooLong (inl long) = inl (inr (inl long
 child_refused limits l c rest given push.TooLong (inr body) = let size = parts_length l c rest given in inr (omega (arith, size, body))
 child_refused limits l c rest given push.TooMany h = inr (inl h)
 child_refused limits l c rest given push.OutOfMemory h = h
+child_refused limits l c rest given push.Failed h = h
 
 later_refused : (limits : Limits) (l : Layout) (c rest : Shape) (given : ℕ → List Value) (e : PushFault)
     → ArePushesRefused limits rest (λ j. given (suc j)) e → ArePushesRefused limits (field l c rest) given e
@@ -207,6 +210,7 @@ later_refused limits l c rest given push.TooLong (inl long) = inl (inr (inr long
 later_refused limits l c rest given push.TooLong (inr body) = let size = parts_length l c rest given in inr (omega (arith, size, body))
 later_refused limits l c rest given push.TooMany h = inr (inr h)
 later_refused limits l c rest given push.OutOfMemory h = h
+later_refused limits l c rest given push.Failed h = h
 
 first_refused : (limits : Limits) (l : Layout) (c rest : Shape) (given : ℕ → List Value) (e : PushFault)
     → ArePushesRefused limits (field l c bare) (λ j. given 0) e → ArePushesRefused limits (field l c rest) given e
@@ -221,6 +225,7 @@ first_refused limits l c rest given push.TooMany (inl own) = inl own
 first_refused limits l c rest given push.TooMany (inr (inl child)) = inr (inl child)
 first_refused limits l c rest given push.TooMany (inr (inr none)) = absurd none
 first_refused limits l c rest given push.OutOfMemory h = h
+first_refused limits l c rest given push.Failed h = h
 
 -- why node i doesn't take its values is why all nodes don't take theirs
 pub mixed_refused : (limits : Limits) (Q P : Layout → List Value → Column → Type 0) (i : ℕ) (shape : Shape) (nodes : List Node)

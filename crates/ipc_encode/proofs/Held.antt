@@ -78,6 +78,7 @@ pub rows_refused : (limits : Limits) (fields : List Field) (rows : List (List Va
 rows_refused limits fields rows push.TooLong h = h
 rows_refused limits fields rows push.TooMany h = inr h
 rows_refused limits fields rows push.OutOfMemory h = h
+rows_refused limits fields rows push.Failed h = absurd h
 
 -- the same of columns that aren't within the limits
 pub rows_too_much : (limits : Limits) (fields : List Field) (rows : List (List Value)) (e : PushFault)
@@ -85,6 +86,7 @@ pub rows_too_much : (limits : Limits) (fields : List Field) (rows : List (List V
 rows_too_much limits fields rows push.TooLong h = h
 rows_too_much limits fields rows push.TooMany h = inr h
 rows_too_much limits fields rows push.OutOfMemory h = absurd h
+rows_too_much limits fields rows push.Failed h = absurd h
 
 -- why the first rows aren't taken is why all aren't
 pub first_rows_refused : (limits : Limits) (shape : Shape) (rows : List (List Value)) (i : ℕ) (e : PushFault)
@@ -101,6 +103,7 @@ pub no_memory : (limits : Limits) (bytes : ℕ) (shape : Shape) (given : ℕ →
 no_memory limits bytes shape given push.TooLong h e = cc
 no_memory limits bytes shape given push.TooMany h e = cc
 no_memory limits bytes shape given push.OutOfMemory h e = h
+no_memory limits bytes shape given push.Failed h e = h
 
 -- there is room for a row where there are not as many as there may be
 pub not_full : (rows slots : ℕ) → (slots ≤ rows → ⊥) → rows < slots

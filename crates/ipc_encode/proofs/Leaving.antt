@@ -22,6 +22,7 @@ refused_too_much limits bytes shape given push.TooLong few other (inl long) = in
 refused_too_much limits bytes shape given push.TooLong few other (inr body) = inr (omega (arith, few, body))
 refused_too_much limits bytes shape given push.TooMany few other h = h
 refused_too_much limits bytes shape given push.OutOfMemory few other h = other refl
+refused_too_much limits bytes shape given push.Failed few other h = h
 
 pub own_too_much : (limits : Limits) (bytes : ℕ) (l : Layout) (vs : List Value) (e : PushFault) → bytes ≤ limits.body
     → (e ≡ push.OutOfMemory → ⊥) → IsPushRefused limits l vs e → AreTooMuch limits bytes (field l bare bare) (λ j. vs) e

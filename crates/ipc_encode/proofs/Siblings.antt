@@ -200,6 +200,7 @@ too_much_next limits i shape given l c bytes left push.TooLong at so (inl long) 
 too_much_next limits i shape given l c bytes left push.TooLong at so (inr more) = inr (past_next i shape given l c bytes left at so more)
 too_much_next limits i shape given l c bytes left push.TooMany at so h = long_node_at limits.slots i shape given l c at h
 too_much_next limits i shape given l c bytes left push.OutOfMemory at so h = absurd h
+too_much_next limits i shape given l c bytes left push.Failed at so h = absurd h
 
 -- ---- columns that have taken values are within the limits
 

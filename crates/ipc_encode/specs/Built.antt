@@ -89,6 +89,7 @@ IsPushRefused limits layout values fault.TooLong =
     HasLongData layout values ⊎ (limits.body < length (joined (column_buffers layout values)))
 IsPushRefused limits layout values fault.TooMany = limits.slots < length values
 IsPushRefused limits layout values fault.OutOfMemory = ⊤
+IsPushRefused limits layout values fault.Failed = ⊥
 
 -- the same of columns of this shape, and of those below them
 abbrev pub ArePushesRefused : Limits → Shape → (ℕ → List Value) → PushFault → Type 0
@@ -96,6 +97,7 @@ ArePushesRefused limits shape given fault.TooLong = SomeLongData shape given
     ⊎ (limits.body < length (joined (buffers_of shape given)))
 ArePushesRefused limits shape given fault.TooMany = HasLongNode limits.slots shape given
 ArePushesRefused limits shape given fault.OutOfMemory = ⊤
+ArePushesRefused limits shape given fault.Failed = ⊥
 
 -- Columns of this shape with these values are within the limits.
 pub record AreWithin (limits : Limits) (shape : Shape) (given : ℕ → List Value) : Type 0 where
@@ -117,6 +119,7 @@ AreTooMuch limits bytes shape given fault.TooLong = SomeLongData shape given
     ⊎ (bytes < length (joined (buffers_of shape given)))
 AreTooMuch limits bytes shape given fault.TooMany = HasLongNode limits.slots shape given
 AreTooMuch limits bytes shape given fault.OutOfMemory = ⊥
+AreTooMuch limits bytes shape given fault.Failed = ⊥
 
 -- the builder was refused memory
 abbrev pub HasFailed : Builder → Type 0

@@ -4,8 +4,9 @@ use Rattle.ipc_model.specs.declared.fault.WriteFault.TheVariants as w
 use Rattle.ipc_encode.specs.declared.fault.PushFault.{PushFault}
 use Rattle.ipc_encode.specs.declared.fault.PushFault.TheVariants as p
 
--- too much data, too many slots, or a refused growth
+-- too much data, too many slots, a refused growth, or a failure before
 abbrev pub write_fault : PushFault → WriteFault
 write_fault p.TooLong = w.TooLong
 write_fault p.TooMany = w.TooManyRows
 write_fault p.OutOfMemory = w.OutOfMemory
+write_fault p.Failed = w.Failed

@@ -231,15 +231,11 @@ impl Builder {
         ensures fails { OnErr result (HasFailed self.new) }
         ensures failed { HasFailed self.old → result ≡ Err WriteFault.Failed }
     {
-        if self.failed {
-            return Err(WriteFault::Failed);
-        }
         self.take_row(row)?;
         Ok(())
     }
 
-    /// The same, for callers that push row by row: a fault is one byte. A builder that has failed
-    /// answers `OutOfMemory`.
+    /// The same, for callers that push row by row: a fault is one byte.
     #[inline(always)]
     pub fn take_row(&mut self, row: &[Value]) -> Result<(), PushFault>
         ensures pushed { (limits : Limits) (fields : List Field) (rows : List (List Value))
@@ -251,11 +247,11 @@ impl Builder {
             → IfErr result (λ fault. IsRefused limits fields (rows ++ row.now ∷ [])
             (write_fault fault)) }
         ensures fails { OnErr result (HasFailed self.new) }
-        ensures failed { HasFailed self.old → result ≡ Err PushFault.OutOfMemory }
+        ensures failed { HasFailed self.old → result ≡ Err PushFault.Failed }
     {
         let had_failed = mem::replace(&mut self.failed, true);
         if had_failed {
-            return Err(PushFault::OutOfMemory);
+            return Err(PushFault::Failed);
         }
         if self.is_full() {
             return Err(PushFault::TooMany);

@@ -4,7 +4,7 @@ ghost use Rattle.ipc_encode.specs.Faults.{write_fault};
 use ipc_model::WriteFault;
 use std::alloc::AllocError;
 
-/// Why a row or a value isn't taken, in one byte. As a fault of a writer it is W6, W8 or W11.
+/// Why a row or a value isn't taken, in one byte. As a fault of a writer it is W6, W8, W10 or W11.
 #[derive(Clone, Copy, Debug, PartialEq, Eq, Drop)]
 pub enum PushFault {
     /// A column would have more data than offsets reach or than a body may have.
@@ -13,6 +13,8 @@ pub enum PushFault {
     TooMany,
     /// A list can't grow.
     OutOfMemory,
+    /// What takes it has failed before.
+    Failed,
 }
 
 impl From<AllocError> for PushFault {
@@ -35,6 +37,7 @@ impl From<PushFault> for WriteFault {
             PushFault::TooLong => WriteFault::TooLong,
             PushFault::TooMany => WriteFault::TooManyRows,
             PushFault::OutOfMemory => WriteFault::OutOfMemory,
+            PushFault::Failed => WriteFault::Failed,
         }
     }
 }

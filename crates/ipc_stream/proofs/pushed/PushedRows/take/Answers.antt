@@ -28,5 +28,6 @@ returns-in_err-take_row-clause-kept c = λ limits schema b h.
 pub returns-clause-holds : goal.returns-clause-holds
 returns-clause-holds c = λ limits schema b fits h.
     let within = c.in_ok-fit_row.ensures.within limits schema.fields b.rows h.rows in
+    let kept = c.in_ok-fit_row.ensures.kept limits schema.fields b.rows h.rows in
     held_row limits schema b c.args.row.now c.args.self.now _ h fits within
-    (c.in_ok-take_row.ensures.pushed limits schema.fields b.rows (c.in_ok-fit_row.ensures.kept limits schema.fields b.rows h.rows) within) refl
+    (c.in_ok-take_row.ensures.pushed limits schema.fields b.rows kept within) refl
