@@ -245,7 +245,7 @@ class Trial:
             return f"NOT REFUSED: {told}"
         if unread := [it for it in said.splitlines() if UNREAD.match(it)]:
             return f"BAD EDIT: {unread[0][:200]}"
-        return None if any(complaints(said)) else "REFUSED by names alone that are gone"
+        return None if any(complaints(said)) else "REFUSED, but by no clause"
 
     def try_round(self, edits):
         """Those of these edits that are refused beside one another, or beside which others."""

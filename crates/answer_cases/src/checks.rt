@@ -2,7 +2,7 @@
 use crate::answer::Answer;
 use crate::cut::Cut;
 use crate::request::Request;
-use ipc_model::{Limits, Table};
+use ipc_model::{Fault, Limits, Table};
 use ipc_stream::{Memory, RoundTripFault, read_table, write_and_read_back};
 use std::alloc::{AllocError, Global};
 
@@ -94,10 +94,19 @@ fn other_at(
 }
 
 // A stream of at most so many bytes is cut in two at every place, a longer one at so many places
-// that lie evenly: a few of those state so many fields that each reading of them takes a while.
-const EVERYWHERE: usize = 400;
+// that lie evenly.
+const EVERYWHERE: usize = 16_384;
 
 const PLACES: usize = 32;
+
+// Whether a stream states more fields, text or pairs than the limits allow. Each reading of such a
+// one may take a while, so it counts as longer.
+fn is_long_to_read(whole: &Answer) -> bool {
+    matches!(
+        &whole.refusal,
+        Some((Fault::TooManyFields | Fault::TooMuchText, _))
+    )
+}
 
 // The first cut in two at which something else is answered, with that.
 fn other_in_two(
@@ -107,7 +116,7 @@ fn other_in_two(
     whole: &Answer,
 ) -> Result<Option<Other>, AllocError> {
     let length = request.stream.len();
-    let step = if length <= EVERYWHERE {
+    let step = if length <= EVERYWHERE && !is_long_to_read(whole) {
         1
     } else {
         length / PLACES
