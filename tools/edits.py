@@ -13,7 +13,8 @@ turned breaks its own proof and no other. Here a crate is proved as it stands, a
 different functions are made together in rounds. An edit is refused where the check complains of
 the function that it turns, by more than a name that is gone. One that isn't, as where the prover
 put a function off behind a callee that is turned too, comes again in the next round with fewer
-beside it, and at last alone, where any complaint in its crate but a name that is gone counts.
+beside it, and at last alone, where any refusal of its crate counts, as in `rt must-fail`; one that
+no clause speaks of is told.
 
 A line tells each edit. The last line counts them: 'N passed, M failed'.
 """
@@ -245,7 +246,9 @@ class Trial:
             return f"NOT REFUSED: {told}"
         if unread := [it for it in said.splitlines() if UNREAD.match(it)]:
             return f"BAD EDIT: {unread[0][:200]}"
-        return None if any(complaints(said)) else "REFUSED, but by no clause"
+        if not any(complaints(said)):
+            print(f"edit {self.crate.name}/{edit.name}: refused, but by no clause: mend it")
+        return None
 
     def try_round(self, edits):
         """Those of these edits that are refused beside one another, or beside which others."""
