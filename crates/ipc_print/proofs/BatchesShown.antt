@@ -36,25 +36,25 @@ shape_is f shown =
 -- the values of such a column
 column_shown : (below : ℕ → List Value) (c : Column) (i : ℕ) → c.layout ≡ Numbers B64 true → IsShown (value_of below c i)
 column_shown below c i is = elim (is_valid c.validity i) as
-    (λ (b : Bool). IsShown (if b then own_value c.layout below c.offsets c.values i else v.Null)) [
-      | true ↦ subst (λ (l : Layout). IsShown (own_value l below c.offsets c.values i)) (sym is)
+    (λ (b : Bool). IsShown (if b then own_value c.layout c.dictionary below c.offsets c.values i else v.Null)) [
+      | true ↦ subst (λ (l : Layout). IsShown (own_value l c.dictionary below c.offsets c.values i)) (sym is)
           (int_shown (signed_at B64 c.values (number_bytes B64 * i)))
       | false ↦ null_shown
     ]
 
 row_shown : (fs : List Field) (h : BatchHead) (body : List ℕ) (n b i : ℕ) → AreShownColumns fs
-    → AllByRecursion IsShown (row (cut (shapes (map field_shape fs)) h body n b) i)
+    → AllByRecursion IsShown (row (cut [] (shapes (map field_shape fs)) h body n b) i)
 unfolding cut
 row_shown [] h body n b i all = tt
 row_shown (f ∷ fs) h body n b i all =
-    (column_shown _ (column_at (field_shape f).0 h body n b) i (shape_is f all.0), row_shown fs h body _ _ i all.1)
+    (column_shown _ (column_at [] (field_shape f).0 h body n b) i (shape_is f all.0), row_shown fs h body _ _ i all.1)
 
 by_index : {X : Type 0} (P : X → Type 0) (xs : List X) (d : X) → ((i : ℕ) → i < length xs → P (slice_index_or xs i d)) → AllByRecursion P xs
 by_index P [] d all = tt
 by_index P (x ∷ xs) d all = (all 0 (omega arith), by_index P xs d (λ i h. all (suc i) (omega (arith, h))))
 
 rows_shown : {limits : Limits} → (fs : List Field) (h : BatchHead) (body : List ℕ) (rows : List (List Value)) → AreShownColumns fs
-    → Rows limits fs h body rows
+    → Rows limits [] fs h body rows
     → AreShownRows rows
 rows_shown fs h body rows all r =
     by_index (AllByRecursion IsShown) rows []
@@ -71,7 +71,7 @@ step_shown : {limits : Limits} → (σ τ : State) (h : Head) (body : List ℕ) 
 step_shown {limits} σ τ h body es o all is first = absurd (cc)
 step_shown {limits} σ τ h body es o all is (came {o = p} {b = b} {body = c} {rows = rows} r) =
     let same : p ≡ o = cc in
-    ((rows_shown o.schema.fields b c rows all (subst (λ (q : InForce). Rows limits q.schema.fields b c rows) same r), tt), is)
+    ((rows_shown o.schema.fields b c rows all (subst (λ (q : InForce). Rows limits [] q.schema.fields b c rows) same r), tt), is)
 
 append_shown : (es fs : List Event) → AllByRecursion IsShownEvent es → AllByRecursion IsShownEvent fs
     → AllByRecursion IsShownEvent (es ++ fs)

@@ -1,26 +1,35 @@
 -- Hexadecimal digits, two for each byte.
 use Rattle.std.proofs.Common.{◌≡◌, ◌/◌, ◌%◌, ◌+◌, ◌<◌, ◌≤◌, ◌==◌, ◌∙◌, ap, sym, append-nil, ℕ, true, List, [], ◌∷◌, ◌++◌, length, drop}
-use Rattle.std.proofs.Common.{drop-cons, get_or, add-one, slice_index, refl}
-use Rattle.std.specs.Int.{w16, to_le_bytes}
+use Rattle.std.proofs.Common.{drop-cons, get_or, add-one, slice_index, refl, take, zero, suc, arith, append_assoc}
+use Rattle.std.specs.Char.{digit_char}
 use Rattle.std.proofs.lemmas.Bool.{agree_below_at, eqb-true}
 use Rattle.std.proofs.lemmas.List.{drop_all}
 use Rattle.hex.specs.Hex.{encode_with, encode_lower, lower_digits}
-use Rattle.ipc_print.specs.declared.hexadecimal.TheConstants.{DIGITS}
 
-first_is : (b : ℕ) → b < 256 → slice_index (to_le_bytes w16 (slice_index DIGITS b)) 0 ≡ slice_index lower_digits (b / 16)
-first_is b small = eqb-true _ _
-    (agree_below_at (λ k. slice_index (to_le_bytes w16 (slice_index DIGITS k)) 0 == slice_index lower_digits (k / 16)) (λ k. true) 256 b
-    refl small)
+-- the digit of a number below 16
+pub digit_is : (n : ℕ) → n < 16 → digit_char n ≡ slice_index lower_digits n
+digit_is n small = eqb-true _ _ (agree_below_at (λ k. digit_char k == slice_index lower_digits k) (λ k. true) 16 n refl small)
 
-second_is : (b : ℕ) → b < 256 → slice_index (to_le_bytes w16 (slice_index DIGITS b)) 1 ≡ slice_index lower_digits (b % 16)
-second_is b small = eqb-true _ _
-    (agree_below_at (λ k. slice_index (to_le_bytes w16 (slice_index DIGITS k)) 1 == slice_index lower_digits (k % 16)) (λ k. true) 256 b
-    refl small)
-
--- entry b of the table has the two digits of b as bytes, the first digit in the lower one
-pub digits_are : (b : ℕ) → b < 256 → to_le_bytes w16 (slice_index DIGITS b) ≡ encode_lower (b ∷ [])
+-- the two digits of a byte
+pub digits_are : (b : ℕ) → b < 256 → digit_char (b / 16) ∷ digit_char (b % 16) ∷ [] ≡ encode_lower (b ∷ [])
 unfolding encode_with
-digits_are b small = rw (← first_is b small, ← second_is b small) refl
+digits_are b small = rw (digit_is (b / 16) (omega (arith, small)), digit_is (b % 16) (omega arith)) refl
+
+-- the digits of some bytes and of those behind them are those of all
+digits_apart : (bs : List ℕ) (n : ℕ) → encode_lower (take n bs) ++ encode_lower (drop n bs) ≡ encode_lower bs
+unfolding encode_with
+digits_apart [] zero = refl
+digits_apart [] (suc n) = refl
+digits_apart (b ∷ bs) zero = refl
+digits_apart (b ∷ bs) (suc n) =
+    ap (λ (t : List ℕ). slice_index lower_digits (b / 16) ∷ slice_index lower_digits (b % 16) ∷ t) (digits_apart bs n)
+
+-- where the digits of the first sixteen were written, those of the others lead to the same text
+pub sixteen_written : (bs first more out new whole : List ℕ) → first ≡ take 16 bs → more ≡ drop 16 bs → new ≡ out ++ encode_lower first
+    → out ++ encode_lower bs ≡ whole → new ++ encode_lower more ≡ whole
+sixteen_written bs first more out new whole front behind put is =
+    rw (put, front, behind) (append_assoc out (encode_lower (take 16 bs)) (encode_lower (drop 16 bs))
+    ∙ (ap (λ (t : List ℕ). out ++ t) (digits_apart bs 16) ∙ is))
 
 -- the digits of bytes from a place on: those of its byte, and the rest
 pub digits_from : (bs : List ℕ) (i b : ℕ) → i < length bs → b ≡ get_or bs i 0

@@ -62,14 +62,14 @@ number_at xs numbers all i is inside =
 -- what is lent of slot i of signed 64-bit numbers without a bitmap
 lane_value : (bits : IntBits) (signed : Bool) (bitmap values : List ℕ) (i : ℕ) → bits ≡ B64 → signed ≡ true
     → (length bitmap == 0) ≡ true
-    → (if is_valid bitmap i then own_value (l.Numbers bits signed) (λ _. []) [] values i else Null) ≡ Int (int64 values (8 * i))
+    → (if is_valid bitmap i then own_value (l.Numbers bits signed) [] (λ _. []) [] values i else Null) ≡ Int (int64 values (8 * i))
 lane_value bits signed bitmap values i wide sign none =
-    subst (λ (b : IntBits). (if is_valid bitmap i then own_value (l.Numbers b signed) (λ _. []) [] values i else Null)
+    subst (λ (b : IntBits). (if is_valid bitmap i then own_value (l.Numbers b signed) [] (λ _. []) [] values i else Null)
     ≡ Int (int64 values (8 * i))) (sym wide)
-    (subst (λ (s : Bool). (if is_valid bitmap i then own_value (l.Numbers B64 s) (λ _. []) [] values i else Null)
+    (subst (λ (s : Bool). (if is_valid bitmap i then own_value (l.Numbers B64 s) [] (λ _. []) [] values i else Null)
     ≡ Int (int64 values (8 * i))) (sym sign)
     (subst (λ (e : Bool). (if (if e then true else bit bitmap i)
-    then own_value (l.Numbers B64 true) (λ _. []) [] values i else Null)
+    then own_value (l.Numbers B64 true) [] (λ _. []) [] values i else Null)
     ≡ Int (int64 values (8 * i))) (sym none) refl))
 
 -- the numbers that a column of signed 64-bit numbers without a bitmap lends, in chunks of eight bytes

@@ -1,8 +1,8 @@
 -- What slots hold, and their texts.
-use Rattle.std.proofs.Common.{◌≡◌, ◌∙◌, refl, sym, ap, ℕ, zero, suc, ◌+◌, ◌-◌, ◌<◌, ◌≤◌, List, [], ◌∷◌, length, map, get_or}
+use Rattle.std.proofs.Common.{◌≡◌, ◌∙◌, refl, sym, ap, ℕ, zero, suc, ◌+◌, ◌-◌, ◌<◌, ◌≤◌, List, [], ◌∷◌, length, map}
 use Rattle.std.proofs.Common.{Some, drop, le-leb}
 use Rattle.std.proofs.Common.{Option, None, arith, subst, replicate}
-use Rattle.std.specs.Prelude.{nat_lt, slice_get, slice_index_or, true}
+use Rattle.std.specs.Prelude.{nat_lt, slice_get, true}
 use Rattle.std.proofs.lemmas.List.{drop_all}
 use Rattle.std.proofs.lemmas.Option.{get_or_from_slice_get, none-some}
 use Rattle.ipc_model.specs.declared.schema.Field.{Field, out-Field, fold_out-Field}
@@ -13,16 +13,16 @@ use Rattle.ipc_column.specs.declared.ranges.ColumnRanges.{ColumnRanges}
 use Rattle.ipc_column.specs.declared.ranges.ColumnRanges.TheViews.{out-ColumnRanges}
 use Rattle.ipc_column.specs.declared.slot_view.Slot.{Slot}
 use Rattle.ipc_column.specs.declared.slot_view.Slot.TheVariants as slot
-use Rattle.ipc_column.specs.Columns.{Column, Columns, EachTop}
+use Rattle.ipc_column.specs.Columns.{Columns, EachTop}
 use Rattle.ipc_column.specs.Lent.{refound}
 use Rattle.ipc_column.specs.Nested.{Nested, below, slot_values}
-use Rattle.ipc_column.specs.Slots.{LeadsInside, nested, nested_in, shown}
+use Rattle.ipc_column.specs.Slots.{nested, nested_in, shown}
 use Rattle.ipc_column.specs.Values.{first_of, items, row, value_of}
 use Rattle.ipc_column.specs.Views.{columns, column_of, children_of}
 use Rattle.ipc_column.proofs.Leads.{slot_shows}
 use Rattle.ipc_column.proofs.Parts.{children_out}
 use Rattle.ipc_column.proofs.Slots.{items_length}
-use Rattle.serde_json.specs.Data.{Items, no_items, null}
+use Rattle.serde_json.specs.Data.{no_items, null}
 use Rattle.ipc_column.proofs.Cells.{row_length}
 use Rattle.ipc_json.specs.RowJson.{Printed, cell_json, each_json, field_json, value_json}
 use Rattle.ipc_print.specs.LentSlots.{HaveSlot, LeadsTo, list_values, slot_value, values_between}

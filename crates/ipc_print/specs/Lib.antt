@@ -6,5 +6,7 @@ pub mod Forms
 pub mod Output
 pub mod Rows
 pub mod Streams
+pub mod TreeFalls
+pub mod Trees
 pub mod Unquoted
 pub mod LentSlots

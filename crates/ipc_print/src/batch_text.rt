@@ -11,12 +11,13 @@ ghost use Rattle.ipc_print.specs.Streams.{PutsRows};
 ghost use Rattle.ipc_print.specs.Output.{PrintsAs, output};
 ghost use Rattle.ipc_print.specs.Rows.{AreShownRows};
 
+use crate::column::Column;
 use crate::csv_row::csv_line;
 use crate::form::Form;
 use crate::json_row::json_line;
 use crate::rows::{Lines, PrintFault, numbers_of};
 use crate::types::are_numbers;
-use ipc_column::{Batch, ColumnView};
+use ipc_column::Batch;
 use ipc_json::pairs_json;
 use ipc_model::{Field, Text};
 use ipc_moments::TextFault;
@@ -28,7 +29,7 @@ fn line_of(
     form: Form,
     text: &mut Vec<u8>,
     fields: &[Field],
-    columns: &[ColumnView<'_>],
+    columns: &[Column<'_>],
     row: usize,
 ) -> Result<usize, TextFault>
     requires columns { length columns.now ≡ length fields.now }
@@ -49,13 +50,13 @@ fn line_of(
 }
 
 // The columns of a batch, each found once for all rows.
-fn columns_of(alloc: Global, batch: &Batch) -> Result<Vec<ColumnView<'_>>, AllocError>
+fn columns_of(alloc: Global, batch: &Batch) -> Result<Vec<Column<'_>>, AllocError>
     ensures count { IfOk result (λ columns. length columns.items ≡ batch.now.columns) }
     ensures same { IfOk result (λ columns. AreColumns batch.now.rows columns.items) }
 {
     let mut columns = Vec::with_capacity(alloc, batch.columns())?;
     for number in 0..batch.columns() {
-        columns.push(batch.column(number))?;
+        columns.push(Column::new(alloc, batch.column(number))?)?;
     }
     Ok(columns)
 }

@@ -9,12 +9,13 @@ ghost use Rattle.ipc_csv.specs.RowCsv.{Appended, IsRefusal, LacksText, flat_faul
 ghost use Rattle.ipc_csv.specs.RowCsv.{bool_text, null_text, put_texts, row_csv, text_in};
 ghost use Rattle.ipc_csv.specs.RowCsv.{with_field};
 
+use crate::column::Column;
 use crate::fields::{
     put_bytes_field, put_end, put_signed_field, put_text_field, put_unsigned_field,
 };
 use crate::moments;
 use crate::room::{put, reserve};
-use ipc_column::{Cell, ColumnView};
+use ipc_column::Cell;
 use ipc_model::{DataType, Field};
 use ipc_moments::TextFault;
 
@@ -147,7 +148,7 @@ fn start_field(text: &mut Vec<u8>, start: usize, column: usize) -> Result<usize,
 fn put_cells(
     text: &mut Vec<u8>,
     fields: &[Field],
-    columns: &[ColumnView<'_>],
+    columns: &[Column<'_>],
     row: usize,
 ) -> Result<usize, TextFault>
     requires columns { length columns.now ≡ length fields.now }
@@ -176,7 +177,7 @@ fn put_cells(
 pub fn csv_line(
     text: &mut Vec<u8>,
     fields: &[Field],
-    columns: &[ColumnView<'_>],
+    columns: &[Column<'_>],
     row: usize,
 ) -> Result<usize, TextFault>
     requires columns { length columns.now ≡ length fields.now }

@@ -17,12 +17,14 @@ ghost use Rattle.ipc_print.specs.LentSlots.{values_between};
 ghost use Rattle.ipc_json.specs.RowJson.{cell_json, each_json, int_json, items_json, list_json};
 ghost use Rattle.ipc_json.specs.RowJson.{row_text};
 
+use crate::column::Column;
 use crate::digits::{put_signed, put_unsigned};
 use crate::hexadecimal::put_hexadecimal;
 use crate::moments::put_moment;
 use crate::room::{put, reserve};
 use crate::strings::put_string;
-use ipc_column::{Cell, ColumnView, Slot, SlotView};
+use crate::tree::ColumnTree;
+use ipc_column::{Cell, Slot};
 use ipc_model::{DataType, Field};
 use std::alloc::AllocError;
 
@@ -124,7 +126,7 @@ fn put_slot(
     text: &mut Vec<u8>,
     at: usize,
     field: &Field,
-    column: &SlotView<'_>,
+    column: &ColumnTree<'_>,
     slot: usize,
 ) -> Result<usize, AllocError>
     requires room { at + 34 ≤ length text.old.items }
@@ -153,7 +155,7 @@ fn put_list(
     text: &mut Vec<u8>,
     at: usize,
     children: &[Field],
-    column: &SlotView<'_>,
+    column: &ColumnTree<'_>,
     from: usize,
     to: usize,
 ) -> Result<usize, AllocError>
@@ -177,7 +179,7 @@ fn put_items(
     text: &mut Vec<u8>,
     start: usize,
     child: &Field,
-    column: &SlotView<'_>,
+    column: &ColumnTree<'_>,
     from: usize,
     to: usize,
 ) -> Result<usize, AllocError>
@@ -190,7 +192,7 @@ fn put_items(
     if column.children() == 0 {
         return put_nulls(text, start, to - from);
     }
-    put_slots(text, start, child, &column.child(0), from, to - from)
+    put_slots(text, start, child, column.child(0), from, to - from)
 }
 
 // So many nulls and the closing bracket.
@@ -215,7 +217,7 @@ fn put_slots(
     text: &mut Vec<u8>,
     start: usize,
     field: &Field,
-    column: &SlotView<'_>,
+    column: &ColumnTree<'_>,
     from: usize,
     count: usize,
 ) -> Result<usize, AllocError>
@@ -243,7 +245,7 @@ fn put_struct(
     text: &mut Vec<u8>,
     at: usize,
     children: &[Field],
-    column: &SlotView<'_>,
+    column: &ColumnTree<'_>,
     slot: usize,
 ) -> Result<usize, AllocError>
     requires room { at + 34 ≤ length text.old.items }
@@ -263,7 +265,7 @@ fn put_each(
     text: &mut Vec<u8>,
     start: usize,
     fields: &[Field],
-    column: &SlotView<'_>,
+    column: &ColumnTree<'_>,
     slot: usize,
 ) -> Result<usize, AllocError>
     requires start { start ≤ length text.old.items }
@@ -279,7 +281,7 @@ fn put_each(
             return put_end(text, at);
         }
         let place = start_item(text, at, later)?;
-        at = put_slot(text, place, field, &column.child(number), slot)?;
+        at = put_slot(text, place, field, column.child(number), slot)?;
         later = true;
     }
     put_end(text, at)
@@ -293,7 +295,7 @@ fn put_nested(
     text: &mut Vec<u8>,
     at: usize,
     field: &Field,
-    column: &ColumnView<'_>,
+    column: &Column<'_>,
     row: usize,
 ) -> Result<usize, AllocError>
     requires room { at + 34 ≤ length text.old.items }
@@ -303,7 +305,7 @@ fn put_nested(
         → IfOk result (λ end. take end text.new.items ≡ take at text.old.items
         ++ compact_text (cell_json field.now value)) }
 {
-    put_slot(text, at, field, &column.slots(), row)
+    put_slot(text, at, field, column.tree(), row)
 }
 
 // What a column has in a row, where that is this cell.
@@ -313,7 +315,7 @@ fn put_cell(
     at: usize,
     field: &Field,
     cell: Cell<'_>,
-    column: &ColumnView<'_>,
+    column: &Column<'_>,
     row: usize,
 ) -> Result<usize, AllocError>
     requires room { at + 34 ≤ length text.old.items }
@@ -340,7 +342,7 @@ fn put_cells(
     text: &mut Vec<u8>,
     start: usize,
     fields: &[Field],
-    columns: &[ColumnView<'_>],
+    columns: &[Column<'_>],
     row: usize,
 ) -> Result<usize, AllocError>
     requires columns { length columns.now ≡ length fields.now }
@@ -370,7 +372,7 @@ fn put_cells(
 pub fn json_line(
     text: &mut Vec<u8>,
     fields: &[Field],
-    columns: &[ColumnView<'_>],
+    columns: &[Column<'_>],
     row: usize,
 ) -> Result<usize, AllocError>
     requires columns { length columns.now ≡ length fields.now }

@@ -2,6 +2,7 @@
 #![tactic(auto)]
 
 mod batch_text;
+mod column;
 mod copies;
 mod csv_row;
 mod digits;
@@ -16,6 +17,7 @@ mod room;
 mod rows;
 mod stop;
 mod strings;
+mod tree;
 mod types;
 mod unquoted;
 

@@ -1,25 +1,14 @@
 //! Texts of JSON at a place: one look at the bytes and one copy, where none has another form.
-ghost use Rattle.std.specs.Prelude.{◌≡◌, ◌≤◌, ◌<◌, ◌+◌, ◌++◌, ◌∷◌, [], length, take, OnOk};
+ghost use Rattle.std.specs.Prelude.{◌≡◌, ◌≤◌, ◌+◌, ◌++◌, ◌∷◌, [], length, take, OnOk};
 ghost use Rattle.std.specs.Prelude.{IfOk};
 ghost use Rattle.std.specs.Bool.{OnTrue};
-ghost use Rattle.std.specs.Char.{digit_char};
 ghost use Rattle.json.specs.Print.{escape, escape_byte, quoted};
 
+use crate::hexadecimal::hex_digit;
 use crate::plain::put_if_plain;
 use crate::room::reserve;
 use crate::rows::put_word;
 use std::alloc::AllocError;
-
-fn hex_digit(number: u8) -> u8
-    requires { number < 16 }
-    ensures { result ≡ digit_char number }
-{
-    if number < 10 {
-        b'0' + number
-    } else {
-        b'a' + (number - 10)
-    }
-}
 
 #[tactic(auto, unfolding(json::specs::Print::escape_byte))]
 fn push_escaped(out: &mut Vec<u8>, byte: u8) -> Result<(), AllocError>

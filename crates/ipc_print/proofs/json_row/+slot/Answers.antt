@@ -66,8 +66,8 @@ pub put_each-loop-number-preserved : goal.put_each-loop-number-preserved
 put_each-loop-number-preserved t c = record {
   inside = c.in_ok-at.ensures.inside;
   text = cell_written c.args.fields.now _ c.loop-number.number c.index-fields-number.result
-      (slot_value c.child.result c.args.slot) c.loop-number.later _ _ _ c.loop-number-test.true c.index-fields-number.is
-      (struct_child c.args.column.now c.child.result c.args.slot c.loop-number.number c.child.ensures c.requires.slot).0
+      (slot_value c.child.result.now c.args.slot) c.loop-number.later _ _ _ c.loop-number-test.true c.index-fields-number.is
+      (struct_child c.args.column.now c.child.result.now c.args.slot c.loop-number.number c.child.ensures c.requires.slot).0
       c.loop-number.invariant.text (rw c.in_ok-place.ensures.text at c.in_ok-at.ensures.text);
 }
 
@@ -93,7 +93,7 @@ put_each-put_slot-requires t c = (
   search (rules, the_lemmas),
   (
     c.in_ok-place.ensures.room,
-    (struct_child c.args.column.now c.child.result c.args.slot c.loop-number.number c.child.ensures c.requires.slot).1,
+    (struct_child c.args.column.now c.child.result.now c.args.slot c.loop-number.number c.child.ensures c.requires.slot).1,
   ),
 )
 
@@ -107,10 +107,10 @@ put_items-put_slots-requires t c = (
   search (rules, the_lemmas),
   (
     c.requires.start,
-    (list_child c.args.column.now c.child.result c.args.from c.args.to c.child.ensures c.requires.slots).1,
+    (list_child c.args.column.now c.child.result.now c.args.from c.args.to c.child.ensures c.requires.slots).1,
   ),
 )
 
 pub put_items-returns-clause-text : goal.put_items-returns-clause-text
 put_items-returns-clause-text t c =
-    rw ((list_child c.args.column.now c.child.result c.args.from c.args.to c.child.ensures c.requires.slots).0) c.put_slots.ensures.text
+    rw ((list_child c.args.column.now c.child.result.now c.args.from c.args.to c.child.ensures c.requires.slots).0) c.put_slots.ensures.text

@@ -1,4 +1,4 @@
-use Rattle.std.proofs.Common.{◌≡◌, ◌∙◌, ◌++◌, sym, ap, subst, take, Some, List}
+use Rattle.std.proofs.Common.{◌≡◌, ◌∙◌, ◌++◌, ap, subst, take, List}
 use Rattle.std.specs.Prelude.{IfOk, slice_index_or}
 use Rattle.std.proofs.lemmas.Option.{get_or_from_slice_get}
 use Rattle.serde_json.specs.Written.{compact_text}
@@ -9,7 +9,7 @@ use Rattle.ipc_print.proofs.json_row.put_nested.Goals as goal
 
 pub returns-clause-text : goal.returns-clause-text
 returns-clause-text c = λ value at.
-    let same = ap (λ (vs : List Value). slice_index_or vs c.args.row v.Null) c.slots.ensures.values
+    let same = ap (λ (vs : List Value). slice_index_or vs c.args.row v.Null) c.tree.ensures
     ∙ get_or_from_slice_get c.args.column.now c.args.row value v.Null at in
     subst (λ (v : Value). IfOk c.put_slot.result (λ end. take end c.put_slot.new.text.items
     ≡ take c.args.at c.args.text.now.items ++ compact_text (cell_json c.args.field.now v))) same c.put_slot.ensures.text

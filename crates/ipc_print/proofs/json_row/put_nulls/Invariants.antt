@@ -1,4 +1,4 @@
-use Rattle.std.proofs.Common.{◌≡◌, ◌≤◌, ◌<◌, ◌++◌, drop, take, length, false, replicate}
+use Rattle.std.proofs.Common.{◌≡◌, ◌≤◌, ◌++◌, drop, take, length, false, replicate}
 use Rattle.std.specs.Prelude.{nat_lt}
 use Rattle.serde_json.specs.Written.{items_text}
 use Rattle.ipc_model.specs.declared.schema.Field.{Field}
