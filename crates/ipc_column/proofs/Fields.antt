@@ -9,6 +9,7 @@ use Rattle.ipc_model.specs.declared.layout.Layout.TheVariants as l
 use Rattle.ipc_column.specs.declared.ranges.ColumnRanges.{ColumnRanges}
 use Rattle.ipc_model.specs.Layouts.{own_buffers}
 use Rattle.ipc_column.specs.Columns.{Columns, none, column, beside, bytes_of}
+use Rattle.ipc_column.specs.Dictionaries.{Dictionaries}
 use Rattle.ipc_column.specs.Views.{columns, column_of, children_of}
 use Rattle.ipc_column.specs.Shapes.{Shape, bare, field, shape_of, field_step, field_layout, field_children, nodes_in, buffers_in, cut}
 use Rattle.ipc_column.specs.Shapes.{column_at}
@@ -62,34 +63,34 @@ beside_none none = refl
 beside_none (column c children rest) = ap (λ (ds : Columns). column c children ds) (beside_none rest)
 
 -- the columns of the fields from one on are its own, those below it and those of the fields behind it
-pub cut_from : (fs : List Field) (i : ℕ) (f : Field) (h : BatchHead) (body : List ℕ) (n b : ℕ) → i < length fs → f ≡ get_or fs i f
-    → cut (shape_of (drop i fs)) h body n b ≡ column (column_at (field_layout f) h body n b)
-    (cut (field_children f) h body (n + 1) (b + own_buffers (field_layout f)))
-    (cut (shape_of (drop (i + 1) fs)) h body (n + 1 + nodes_in (field_children f))
+pub cut_from : (m : Dictionaries) (fs : List Field) (i : ℕ) (f : Field) (h : BatchHead) (body : List ℕ) (n b : ℕ) → i < length fs
+    → f ≡ get_or fs i f
+    → cut m (shape_of (drop i fs)) h body n b ≡ column (column_at m (field_layout f) h body n b)
+    (cut m (field_children f) h body (n + 1) (b + own_buffers (field_layout f)))
+    (cut m (shape_of (drop (i + 1) fs)) h body (n + 1 + nodes_in (field_children f))
     (b + own_buffers (field_layout f) + buffers_in (field_children f)))
 unfolding cut
-cut_from fs i f h body n b l e = rw (shape_from fs i f l e) refl
+cut_from m fs i f h body n b l e = rw (shape_from fs i f l e) refl
 
 -- behind the last field there are no columns
-pub cut_done : (fs : List Field) (i : ℕ) (h : BatchHead) (body : List ℕ) (n b : ℕ) → length fs ≤ i
-    → cut (shape_of (drop i fs)) h body n b ≡ none
+pub cut_done : (m : Dictionaries) (fs : List Field) (i : ℕ) (h : BatchHead) (body : List ℕ) (n b : ℕ) → length fs ≤ i
+    → cut m (shape_of (drop i fs)) h body n b ≡ none
 unfolding cut
-cut_done fs i h body n b l = rw (drop_all i fs l) refl
+cut_done m fs i h body n b l = rw (drop_all i fs l) refl
 
 -- one part more, and one field less
-pub cut_step : (fs : List Field) (i : ℕ) (f : Field) (h : BatchHead) (body : List ℕ) (ps : List ColumnRanges) (p : ColumnRanges)
-    (n b m d : ℕ) (all : Columns) → i < length fs → f ≡ get_or fs i f
-    → column_of body p ≡ column_at (field_layout f) h body n b
-    → children_of body p ≡ cut (field_children f) h body (n + 1) (b + own_buffers (field_layout f))
-    → m ≡ n + 1 + nodes_in (field_children f) → d ≡ b + own_buffers (field_layout f) + buffers_in (field_children f)
-    → beside (columns body ps) (cut (shape_of (drop i fs)) h body n b) ≡ all
-    → beside (columns body (ps ++ p ∷ [])) (cut (shape_of (drop (i + 1) fs)) h body m d) ≡ all
-cut_step fs i f h body ps p n b m d all l e ec ek em ed before =
-    beside_push body ps p _ ∙ (rw (ec, ek, em, ed, ← cut_from fs i f h body n b l e) before)
+pub cut_step : (d : Dictionaries) (fs : List Field) (i : ℕ) (f : Field) (h : BatchHead) (body : List ℕ) (ps : List ColumnRanges)
+    (p : ColumnRanges) (n b m k : ℕ) (all : Columns) → i < length fs → f ≡ get_or fs i f
+    → column_of body p ≡ column_at d (field_layout f) h body n b
+    → children_of body p ≡ cut d (field_children f) h body (n + 1) (b + own_buffers (field_layout f))
+    → m ≡ n + 1 + nodes_in (field_children f) → k ≡ b + own_buffers (field_layout f) + buffers_in (field_children f)
+    → beside (columns body ps) (cut d (shape_of (drop i fs)) h body n b) ≡ all
+    → beside (columns body (ps ++ p ∷ [])) (cut d (shape_of (drop (i + 1) fs)) h body m k) ≡ all
+cut_step d fs i f h body ps p n b m k all l e ec ek em ed before =
+    beside_push body ps p _ ∙ (rw (ec, ek, em, ed, ← cut_from d fs i f h body n b l e) before)
 
 own_most : (l : Layout) → own_buffers l ≤ 3
 own_most l.Null = lit≤ tt
-own_most l.Unsupported = lit≤ tt
 own_most _ = lit≤ tt
 
 -- fields have at most three buffers for each node

@@ -88,8 +88,8 @@ fixed_value body p size i vs e w s =
     let below = row (columns body (out-ColumnRanges p).children.items) in
     let c = own_column body p in
     sym (part_value body p i
-    ∙ (ap (λ (b : Bool). cond b (own_value c.layout below c.offsets c.values i) v.Null) w
-    ∙ (ap (λ (x : Layout). own_value x below c.offsets c.values i) e ∙ ap (λ (xs : List Value). v.List xs) (sym s))))
+    ∙ (ap (λ (b : Bool). cond b (own_value c.layout c.dictionary below c.offsets c.values i) v.Null) w
+    ∙ (ap (λ (x : Layout). own_value x c.dictionary below c.offsets c.values i) e ∙ ap (λ (xs : List Value). v.List xs) (sym s))))
 
 -- the slots of the child that lists of a fixed size lead to
 pub fixed_child : (body : List ℕ) (ps : List ColumnRanges) (size i j first last : ℕ) → (0 < length ps → first ≡ size * i)

@@ -10,7 +10,8 @@ use Rattle.ipc_column.specs.Columns.{Column, Columns}
 use Rattle.ipc_column.specs.Checks.{passes, top_passes, Holds}
 use Rattle.ipc_column.specs.Lent.{HoldSlots, AreOfColumn, found, refound, values_in}
 use Rattle.ipc_column.specs.Values.{row, rows_of, value_of, items}
-use Rattle.ipc_column.specs.Views.{columns, column_of, children_of, own_column, span_bytes}
+use Rattle.ipc_column.specs.Views.{columns, column_of, children_of, own_column}
+use Rattle.ipc_column.specs.Spans.{span_bytes}
 use Rattle.ipc_column.proofs.Cells.{row_cell, rows_at, rows_length}
 use Rattle.ipc_column.proofs.Parts.{children_out, column_is, every_at, every_top_at}
 use Rattle.ipc_column.proofs.Slots.{long, slot_value, row_values, items_length, items_at}
@@ -23,7 +24,7 @@ pub items_first : (f : ℕ → Value) (n k : ℕ) → k < n → slice_get (items
 items_first f n k l = items_at f 0 n k l ∙ ap (λ (j : ℕ). Some (f j)) (from_zero k)
 
 -- a column of parts that give n rows has n slots
-column_slots : (body : List ℕ) (ps : List ColumnRanges) (n j : ℕ) (p : ColumnRanges) → j < length ps → p ≡ get_or ps j p
+pub column_slots : (body : List ℕ) (ps : List ColumnRanges) (n j : ℕ) (p : ColumnRanges) → j < length ps → p ≡ get_or ps j p
     → Holds n (columns body ps) → (column_of body p).slots ≡ n
 column_slots body ps n j p l e h =
     eqb-true _ _ (every_top_at (top_passes cause.BadNode n) body ps j p l e (and_parts _ _ (and_parts _ _ (h cause.BadNode)).1).0)
@@ -62,21 +63,23 @@ column_rows body ps n j p l e h =
     }
 
 -- a part's column by the bytes that were found
-pub found_is : (body : List ℕ) (p : ColumnRanges) (v o w : List ℕ) → v ≡ span_bytes body (out-ColumnRanges p).validity
+pub found_is : (body : List ℕ) (p : ColumnRanges) (v o w : List ℕ) (d : List Value) → v ≡ span_bytes body (out-ColumnRanges p).validity
     → o ≡ span_bytes body (out-ColumnRanges p).offsets → w ≡ span_bytes body (out-ColumnRanges p).values
+    → d ≡ (out-ColumnRanges p).dictionary
     → (P : Column → Columns → Type 0)
     → P (refound (column_of body p)) (children_of body p)
-    → P (found (out-ColumnRanges p).layout (out-ColumnRanges p).slots v o w) (columns body (out-ColumnRanges p).children.items)
-found_is body p v o w ev eo ew P h =
-    rw (ev, eo, ew)
+    → P (found (out-ColumnRanges p).layout (out-ColumnRanges p).slots v o w d) (columns body (out-ColumnRanges p).children.items)
+found_is body p v o w d ev eo ew ed P h =
+    rw (ev, eo, ew, ed)
     (subst (λ (cs : Columns). P (refound (own_column body p)) cs) (children_out body p)
     (subst (λ (c : Column). P (refound c) (children_of body p)) (column_is body p) h))
 
-pub found_holds : (body : List ℕ) (p : ColumnRanges) (v o w : List ℕ) → v ≡ span_bytes body (out-ColumnRanges p).validity
+pub found_holds : (body : List ℕ) (p : ColumnRanges) (v o w : List ℕ) (d : List Value) → v ≡ span_bytes body (out-ColumnRanges p).validity
     → o ≡ span_bytes body (out-ColumnRanges p).offsets → w ≡ span_bytes body (out-ColumnRanges p).values
+    → d ≡ (out-ColumnRanges p).dictionary
     → HoldSlots (column_of body p) (children_of body p)
-    → HoldSlots (found (out-ColumnRanges p).layout (out-ColumnRanges p).slots v o w) (columns body (out-ColumnRanges p).children.items)
-found_holds body p v o w ev eo ew h = found_is body p v o w ev eo ew HoldSlots (record {
+    → HoldSlots (found (out-ColumnRanges p).layout (out-ColumnRanges p).slots v o w d) (columns body (out-ColumnRanges p).children.items)
+found_holds body p v o w d ev eo ew ed h = found_is body p v o w d ev eo ew ed HoldSlots (record {
   bitmap = h.bitmap;
   values = h.values;
   offsets = h.offsets;
@@ -86,9 +89,10 @@ found_holds body p v o w ev eo ew h = found_is body p v o w ev eo ew HoldSlots (
   good = h.good;
 })
 
-pub found_values : (body : List ℕ) (p : ColumnRanges) (v o w : List ℕ) → v ≡ span_bytes body (out-ColumnRanges p).validity
+pub found_values : (body : List ℕ) (p : ColumnRanges) (v o w : List ℕ) (d : List Value) → v ≡ span_bytes body (out-ColumnRanges p).validity
     → o ≡ span_bytes body (out-ColumnRanges p).offsets → w ≡ span_bytes body (out-ColumnRanges p).values
-    → values_in (found (out-ColumnRanges p).layout (out-ColumnRanges p).slots v o w) (columns body (out-ColumnRanges p).children.items)
+    → d ≡ (out-ColumnRanges p).dictionary
+    → values_in (found (out-ColumnRanges p).layout (out-ColumnRanges p).slots v o w d) (columns body (out-ColumnRanges p).children.items)
     ≡ values_in (column_of body p) (children_of body p)
-found_values body p v o w ev eo ew =
-    found_is body p v o w ev eo ew (λ c cs. values_in c cs ≡ values_in (column_of body p) (children_of body p)) refl
+found_values body p v o w d ev eo ew ed =
+    found_is body p v o w d ev eo ew ed (λ c cs. values_in c cs ≡ values_in (column_of body p) (children_of body p)) refl

@@ -16,54 +16,55 @@ use Rattle.ipc_column.specs.Columns.{Column, Columns, every, every_top}
 use Rattle.ipc_column.specs.Shapes.{Shape, shape_of, columns_of, cut}
 use Rattle.ipc_column.specs.Values.{row, rows_of}
 use Rattle.ipc_column.specs.Checks.{fits, head_passes, all, is_slot_count, is_node, CountsHold, IsCounted, Holds, Passing, Failing}
-use Rattle.ipc_column.specs.Checks.{HeadHolds, passes, all_pass, fault_of}
-use Rattle.ipc_column.specs.Rows.{Rows, RefusesParts, IsOneList, HasCounts, HasParts, are_plain}
+use Rattle.ipc_column.specs.Checks.{HeadHolds, passes, all_pass, fault_of, is_shown}
+use Rattle.ipc_column.specs.Rows.{Rows, RefusesParts, IsOneList, HasCounts, HasParts}
+use Rattle.ipc_column.specs.Dictionaries.{Dictionaries}
 use Rattle.ipc_column.proofs.Cells.{rows_length, rows_at}
 use Rattle.ipc_column.proofs.Rules.{decides, length_is, of_nodes, of_ranges, of_slot_count, every_top_true}
 use Rattle.ipc_model.specs.declared.limits.Limits.{Limits}
 
 -- the rows of columns, by index
-rows_values : (rows : List (List Value)) (fields : List Field) (head : BatchHead) (body : List ℕ) (n : ℕ)
-    → rows ≡ rows_of (columns_of fields head body) n
-    → (i : ℕ) → i < length rows → slice_index_or rows i [] ≡ row (columns_of fields head body) i
-rows_values rows fields head body n e i l =
-    let size : length rows ≡ n = ap (λ (x : List (List Value)). length x) e ∙ rows_length (columns_of fields head body) n in
-    ap (λ (x : List (List Value)). get_or x i []) e ∙ rows_at (columns_of fields head body) n i [] (rw size at l)
+rows_values : (rows : List (List Value)) (m : Dictionaries) (fields : List Field) (head : BatchHead) (body : List ℕ) (n : ℕ)
+    → rows ≡ rows_of (columns_of m fields head body) n
+    → (i : ℕ) → i < length rows → slice_index_or rows i [] ≡ row (columns_of m fields head body) i
+rows_values rows m fields head body n e i l =
+    let size : length rows ≡ n = ap (λ (x : List (List Value)). length x) e ∙ rows_length (columns_of m fields head body) n in
+    ap (λ (x : List (List Value)). get_or x i []) e ∙ rows_at (columns_of m fields head body) n i [] (rw size at l)
 
 -- the rows found where every test passes are the rows of the parts
-pub rows_from : {limits : Limits} → (fields : List Field) (head : BatchHead) (body : List ℕ) (rows : List (List Value))
-    → are_plain fields ≡ true
-    → Passing limits (shape_of fields) head body rows → Rows limits fields head body rows
-rows_from {limits} fields head body rows o p =
-    let lengths = (decides limits cause.BadNode fields head body).0 (p.sound cause.BadNode) in
+pub rows_from : {limits : Limits} → (m : Dictionaries) (fields : List Field) (head : BatchHead) (body : List ℕ) (rows : List (List Value))
+    → Passing limits m (shape_of fields) head body rows → Rows limits m fields head body rows
+rows_from {limits} m fields head body rows p =
+    let lengths = (decides limits cause.BadNode m fields head body).0 (p.sound cause.BadNode) in
     record {
-      plain = o;
-      nodes = (decides limits cause.WrongNodeCount fields head body).0 (p.sound cause.WrongNodeCount);
-      buffers = (decides limits cause.WrongBufferCount fields head body).0 (p.sound cause.WrongBufferCount);
+      nodes = (decides limits cause.WrongNodeCount m fields head body).0 (p.sound cause.WrongNodeCount);
+      buffers = (decides limits cause.WrongBufferCount m fields head body).0 (p.sound cause.WrongBufferCount);
       lengths = lengths;
-      ranges = (decides limits cause.BufferOutOfBody fields head body).0 (p.sound cause.BufferOutOfBody);
-      bytes = (decides limits cause.BufferTooShort fields head body).0 (p.sound cause.BufferTooShort);
-      null_counts = (decides limits cause.BadNullCount fields head body).0 (p.sound cause.BadNullCount);
-      order = (decides limits cause.BadOffsets fields head body).0 (p.sound cause.BadOffsets);
-      texts = (decides limits cause.ValueNotUtf8 fields head body).0 (p.sound cause.ValueNotUtf8);
+      ranges = (decides limits cause.BufferOutOfBody m fields head body).0 (p.sound cause.BufferOutOfBody);
+      bytes = (decides limits cause.BufferTooShort m fields head body).0 (p.sound cause.BufferTooShort);
+      null_counts = (decides limits cause.BadNullCount m fields head body).0 (p.sound cause.BadNullCount);
+      order = (decides limits cause.BadOffsets m fields head body).0 (p.sound cause.BadOffsets);
+      texts = (decides limits cause.ValueNotUtf8 m fields head body).0 (p.sound cause.ValueNotUtf8);
+      indices = (decides limits cause.BadIndex m fields head body).0 (p.sound cause.BadIndex);
       count = length_is head.length lengths.batch
           ∙ ap (λ (n : ℕ). pos n) (sym (ap (λ (x : List (List Value)). length x) p.values
-          ∙ rows_length (columns_of fields head body) (unsigned_abs head.length)));
-      values = rows_values rows fields head body (unsigned_abs head.length) p.values;
+          ∙ rows_length (columns_of m fields head body) (unsigned_abs head.length)));
+      values = rows_values rows m fields head body (unsigned_abs head.length) p.values;
     }
 
-rows_are : {limits : Limits} → (fields : List Field) (head : BatchHead) (body : List ℕ) (rows : List (List Value))
-    → Rows limits fields head body rows
-    → rows ≡ rows_of (columns_of fields head body) (length rows)
-rows_are fields head body rows w =
-    ext_get_or [] rows (rows_of (columns_of fields head body) (length rows)) (sym (rows_length (columns_of fields head body) (length rows)))
-    (λ i l. w.values i l ∙ sym (rows_at (columns_of fields head body) (length rows) i [] l))
+rows_are : {limits : Limits} → (m : Dictionaries) (fields : List Field) (head : BatchHead) (body : List ℕ) (rows : List (List Value))
+    → Rows limits m fields head body rows
+    → rows ≡ rows_of (columns_of m fields head body) (length rows)
+rows_are m fields head body rows w =
+    ext_get_or [] rows (rows_of (columns_of m fields head body) (length rows)) (sym (rows_length (columns_of m fields head body)
+    (length rows)))
+    (λ i l. w.values i l ∙ sym (rows_at (columns_of m fields head body) (length rows) i [] l))
 
 -- the parts of a batch give one list of rows at most
 pub one_list : IsOneList
-one_list limits others fields head body rows more a b =
+one_list limits others m fields head body rows more a b =
     let size : length rows ≡ length more = ap unsigned_abs (sym a.count ∙ b.count) in
-    rows_are fields head body rows a ∙ (ap (rows_of (columns_of fields head body)) size ∙ sym (rows_are fields head body more b))
+    rows_are m fields head body rows a ∙ (ap (rows_of (columns_of m fields head body)) size ∙ sym (rows_are m fields head body more b))
 
 has_counts : {limits : Limits} → (fields : List Field) (head : BatchHead) (body : List ℕ)
     → CountsHold limits (shape_of fields) head (length body)
@@ -86,109 +87,124 @@ has_parts {limits} fields head body h =
     }
 
 -- a fault whose test fails is true of the parts
-pub refuses_from : (limits : Limits) (f : Fault) (fields : List Field) (head : BatchHead) (body : List ℕ)
-    → Failing limits f (shape_of fields) head body
-    → RefusesParts limits f fields head body
-refuses_from limits fault.WrongNodeCount fields head body r = not_from_Decides _ (decides limits cause.WrongNodeCount fields head body) r
-refuses_from limits fault.WrongBufferCount fields head body r = not_from_Decides _ (decides limits cause.WrongBufferCount fields head body)
+pub refuses_from : (limits : Limits) (f : Fault) (m : Dictionaries) (fields : List Field) (head : BatchHead) (body : List ℕ)
+    → Failing limits f m (shape_of fields) head body
+    → RefusesParts limits f m fields head body
+refuses_from limits fault.WrongNodeCount m fields head body r = not_from_Decides _
+    (decides limits cause.WrongNodeCount m fields head body) r
+refuses_from limits fault.WrongBufferCount m fields head body r = not_from_Decides _
+    (decides limits cause.WrongBufferCount m fields head body)
     r
-refuses_from limits fault.BadNode fields head body r =
-    (has_counts fields head body r.0, not_from_Decides _ (decides limits cause.BadNode fields head body) r.1)
-refuses_from limits fault.BufferOutOfBody fields head body r =
-    (has_counts fields head body r.0, not_from_Decides _ (decides limits cause.BufferOutOfBody fields head body) r.1)
-refuses_from limits fault.BufferTooShort fields head body r =
-    (has_parts fields head body r.0, not_from_Decides _ (decides limits cause.BufferTooShort fields head body) r.1)
-refuses_from limits fault.BadNullCount fields head body r =
-    (has_parts fields head body r.0, not_from_Decides _ (decides limits cause.BadNullCount fields head body) r.1)
-refuses_from limits fault.BadOffsets fields head body r =
-    (has_parts fields head body r.0, not_from_Decides _ (decides limits cause.BadOffsets fields head body) r.1)
-refuses_from limits fault.ValueNotUtf8 fields head body r = (
+refuses_from limits fault.BadNode m fields head body r =
+    (has_counts fields head body r.0, not_from_Decides _ (decides limits cause.BadNode m fields head body) r.1)
+refuses_from limits fault.BufferOutOfBody m fields head body r =
+    (has_counts fields head body r.0, not_from_Decides _ (decides limits cause.BufferOutOfBody m fields head body) r.1)
+refuses_from limits fault.BufferTooShort m fields head body r =
+    (has_parts fields head body r.0, not_from_Decides _ (decides limits cause.BufferTooShort m fields head body) r.1)
+refuses_from limits fault.BadNullCount m fields head body r =
+    (has_parts fields head body r.0, not_from_Decides _ (decides limits cause.BadNullCount m fields head body) r.1)
+refuses_from limits fault.BadOffsets m fields head body r =
+    (has_parts fields head body r.0, not_from_Decides _ (decides limits cause.BadOffsets m fields head body) r.1)
+refuses_from limits fault.ValueNotUtf8 m fields head body r = (
   has_parts fields head body r.0,
   (
-    (decides limits cause.BufferTooShort fields head body).0 r.1.0,
-    (decides limits cause.BadOffsets fields head body).0 r.1.1,
-    not_from_Decides _ (decides limits cause.ValueNotUtf8 fields head body) r.1.2,
+    (decides limits cause.BufferTooShort m fields head body).0 r.1.0,
+    (decides limits cause.BadOffsets m fields head body).0 r.1.1,
+    not_from_Decides _ (decides limits cause.ValueNotUtf8 m fields head body) r.1.2,
   ),
 )
-refuses_from limits fault.OutOfMemory fields head body r = tt
-refuses_from limits _ fields head body r = absurd r
+refuses_from limits fault.BadIndex m fields head body r = (
+  has_parts fields head body r.0,
+  (
+    (decides limits cause.BufferTooShort m fields head body).0 r.1.0,
+    (decides limits cause.BadOffsets m fields head body).0 r.1.1,
+    not_from_Decides _ (decides limits cause.BadIndex m fields head body) r.1.2,
+  ),
+)
+refuses_from limits fault.OutOfMemory m fields head body r = tt
+refuses_from limits _ m fields head body r = absurd r
 
 -- and then there are no rows
-pub no_rows : {limits : Limits} → (f : Fault) (fields : List Field) (head : BatchHead) (body : List ℕ) (rows : List (List Value))
-    → RefusesParts limits f fields head body → Rows limits fields head body rows → f ≡ fault.OutOfMemory
-no_rows fault.OutOfMemory fields head body rows r w = refl
-no_rows fault.WrongNodeCount fields head body rows r w = absurd (r w.nodes)
-no_rows fault.WrongBufferCount fields head body rows r w = absurd (r w.buffers)
-no_rows fault.BadNode fields head body rows r w = absurd (r.1 w.lengths)
-no_rows fault.BufferOutOfBody fields head body rows r w = absurd (r.1 w.ranges)
-no_rows fault.BufferTooShort fields head body rows r w = absurd (r.1 w.bytes)
-no_rows fault.BadNullCount fields head body rows r w = absurd (r.1 w.null_counts)
-no_rows fault.BadOffsets fields head body rows r w = absurd (r.1 w.order)
-no_rows fault.ValueNotUtf8 fields head body rows r w = absurd (r.1.2 w.texts)
-no_rows _ fields head body rows r w = absurd r
+pub no_rows : {limits : Limits} → (f : Fault) (m : Dictionaries) (fields : List Field) (head : BatchHead) (body : List ℕ) (rows : List
+    (List Value))
+    → RefusesParts limits f m fields head body → Rows limits m fields head body rows → f ≡ fault.OutOfMemory
+no_rows fault.OutOfMemory m fields head body rows r w = refl
+no_rows fault.WrongNodeCount m fields head body rows r w = absurd (r w.nodes)
+no_rows fault.WrongBufferCount m fields head body rows r w = absurd (r w.buffers)
+no_rows fault.BadNode m fields head body rows r w = absurd (r.1 w.lengths)
+no_rows fault.BufferOutOfBody m fields head body rows r w = absurd (r.1 w.ranges)
+no_rows fault.BufferTooShort m fields head body rows r w = absurd (r.1 w.bytes)
+no_rows fault.BadNullCount m fields head body rows r w = absurd (r.1 w.null_counts)
+no_rows fault.BadOffsets m fields head body rows r w = absurd (r.1 w.order)
+no_rows fault.ValueNotUtf8 m fields head body rows r w = absurd (r.1.2 w.texts)
+no_rows fault.BadIndex m fields head body rows r w = absurd (r.1.2 w.indices)
+no_rows _ m fields head body rows r w = absurd r
 
 -- where parts give rows, the call that reads them answers those rows, unless memory ran out
-pub only_rows : {limits : Limits} → (fields : List Field) (head : BatchHead) (body : List ℕ) (r : Result Contents Fault)
-    → IfOk r (λ b. Rows limits fields head body b.rows) → IfErr r (λ f. RefusesParts limits f fields head body)
-    → (rows : List (List Value)) → Rows limits fields head body rows → MatchResult r (λ b. b.rows ≡ rows) (λ f. f ≡ fault.OutOfMemory)
-only_rows {limits} fields head body (Ok b) a r rows w = one_list limits limits fields head body b.rows rows a w
-only_rows {limits} fields head body (Err f) a r rows w = no_rows f fields head body rows r w
+pub only_rows : {limits : Limits} → (m : Dictionaries) (fields : List Field) (head : BatchHead) (body : List ℕ) (r : Result Contents Fault)
+    → IfOk r (λ b. Rows limits m fields head body b.rows) → IfErr r (λ f. RefusesParts limits f m fields head body)
+    → (rows : List (List Value)) → Rows limits m fields head body rows → MatchResult r (λ b. b.rows ≡ rows) (λ f. f ≡ fault.OutOfMemory)
+only_rows {limits} m fields head body (Ok b) a r rows w = one_list limits limits m fields head body b.rows rows a w
+only_rows {limits} m fields head body (Err f) a r rows w = no_rows f m fields head body rows r w
 
 -- where the call answers what passes every test, it answers the rows of the parts
-pub ok_rows : (limits : Limits) (fields : List Field) (head : BatchHead) (body : List ℕ) (r : Result Contents Fault)
-    → are_plain fields ≡ true
-    → IfOk r (λ b. Passing limits (shape_of fields) head body b.rows) → IfOk r (λ b. Rows limits fields head body b.rows)
-ok_rows limits fields head body (Ok b) o h = rows_from fields head body b.rows o h
-ok_rows limits fields head body (Err f) o h = h
+pub ok_rows : (limits : Limits) (m : Dictionaries) (fields : List Field) (head : BatchHead) (body : List ℕ) (r : Result Contents Fault)
+    → IfOk r (λ b. Passing limits m (shape_of fields) head body b.rows) → IfOk r (λ b. Rows limits m fields head body b.rows)
+ok_rows limits m fields head body (Ok b) h = rows_from m fields head body b.rows h
+ok_rows limits m fields head body (Err f) h = h
 
 -- where the call answers a fault whose test fails, that fault is true of the parts
-pub err_refuses : (limits : Limits) (fields : List Field) (head : BatchHead) (body : List ℕ) (r : Result Contents Fault)
-    → IfErr r (λ f. Failing limits f (shape_of fields) head body) → IfErr r (λ f. RefusesParts limits f fields head body)
-err_refuses limits fields head body (Ok b) h = h
-err_refuses limits fields head body (Err f) h = refuses_from limits f fields head body h
+pub err_refuses : (limits : Limits) (m : Dictionaries) (fields : List Field) (head : BatchHead) (body : List ℕ) (r : Result Contents Fault)
+    → IfErr r (λ f. Failing limits f m (shape_of fields) head body) → IfErr r (λ f. RefusesParts limits f m fields head body)
+err_refuses limits m fields head body (Ok b) h = h
+err_refuses limits m fields head body (Err f) h = refuses_from limits f m fields head body h
 
 -- what the passes found, of the columns that were cut
-pub passing : {limits : Limits} → (shape : Shape) (head : BatchHead) (body : List ℕ) (n : ℕ) (cs : Columns) → n ≡ unsigned_abs head.length
-    → cs ≡ cut shape head body 0 0
-    → ((why : Cause) → head_passes limits why shape head (length body) ≡ true) → Holds n cs → Passing limits shape head body (rows_of cs n)
-passing shape head body n cs en ec h p = record {
+pub passing : {limits : Limits} → (m : Dictionaries) (shape : Shape) (head : BatchHead) (body : List ℕ) (n : ℕ) (cs : Columns)
+    → n ≡ unsigned_abs head.length
+    → cs ≡ cut m shape head body 0 0
+    → ((why : Cause) → head_passes limits why shape head (length body) ≡ true) → Holds n cs
+    → Passing limits m shape head body (rows_of cs n)
+passing m shape head body n cs en ec h p = record {
   sound = λ why. and_from _ _ (h why) (rw (en, ec) at (p why));
   values = rw (en, ec) refl;
 }
 
 -- what a refused head says
-pub head_failing : (limits : Limits) (why : Cause) (shape : Shape) (head : BatchHead) (body : List ℕ)
+pub head_failing : (limits : Limits) (why : Cause) (m : Dictionaries) (shape : Shape) (head : BatchHead) (body : List ℕ)
     → head_passes limits why shape head (length body) ≡ false
-    → IsCounted limits why shape head (length body) → Failing limits (fault_of why) shape head body
-head_failing limits cause.WrongNodeCount shape head body h n = and_left _ _ h
-head_failing limits cause.WrongBufferCount shape head body h n = and_left _ _ h
-head_failing limits cause.BadNode shape head body h n = (n, and_left _ _ h)
-head_failing limits cause.BufferOutOfBody shape head body h n = (n, and_left _ _ h)
-head_failing limits cause.BufferTooShort shape head body h n = absurd (cc)
-head_failing limits cause.BadNullCount shape head body h n = absurd (cc)
-head_failing limits cause.BadOffsets shape head body h n = absurd (cc)
-head_failing limits cause.ValueNotUtf8 shape head body h n = absurd (cc)
+    → IsCounted limits why shape head (length body) → Failing limits (fault_of why) m shape head body
+head_failing limits cause.WrongNodeCount m shape head body h n = and_left _ _ h
+head_failing limits cause.WrongBufferCount m shape head body h n = and_left _ _ h
+head_failing limits cause.BadNode m shape head body h n = (n, and_left _ _ h)
+head_failing limits cause.BufferOutOfBody m shape head body h n = (n, and_left _ _ h)
+head_failing limits cause.BufferTooShort m shape head body h n = absurd (cc)
+head_failing limits cause.BadNullCount m shape head body h n = absurd (cc)
+head_failing limits cause.BadOffsets m shape head body h n = absurd (cc)
+head_failing limits cause.ValueNotUtf8 m shape head body h n = absurd (cc)
+head_failing limits cause.BadIndex m shape head body h n = absurd (cc)
 
 -- what refused columns say
-pub columns_failing : (limits : Limits) (why : Cause) (shape : Shape) (head : BatchHead) (body : List ℕ) (n : ℕ) (cs : Columns)
+pub columns_failing : (limits : Limits) (why : Cause) (m : Dictionaries) (shape : Shape) (head : BatchHead) (body : List ℕ) (n : ℕ)
+    (cs : Columns)
     → n ≡ unsigned_abs head.length
-    → cs ≡ cut shape head body 0 0
-    → HeadHolds limits shape head body → all_pass why n cs ≡ false → (why ≡ cause.ValueNotUtf8 → (other : Cause)
+    → cs ≡ cut m shape head body 0 0
+    → HeadHolds limits shape head body → all_pass why n cs ≡ false → (is_shown why ≡ true → (other : Cause)
     → every (passes other) cs ≡ true)
-    → Failing limits (fault_of why) shape head body
-columns_failing limits why shape head body n cs en ec h f t =
+    → Failing limits (fault_of why) m shape head body
+columns_failing limits why m shape head body n cs en ec h f t =
     of_cause why (and_right (head_passes limits why shape head (length body)) _ (rw (en, ec) at f)) (λ e other. rw ec at (t e other))
   where
     counts : CountsHold limits shape head (length body)
     counts = record { nodes = h cause.WrongNodeCount; buffers = h cause.WrongBufferCount }
 
-    holds : (test : Column → Columns → Bool) → every test (cut shape head body 0 0) ≡ true
-        → (true && (every test (cut shape head body 0 0) && (every_top (λ c. true) (cut shape head body 0 0) && true))) ≡ true
-    holds test e = and_from (every test (cut shape head body 0 0)) _ e (and_from _ _ (every_top_true (cut shape head body 0 0)) refl)
+    holds : (test : Column → Columns → Bool) → every test (cut m shape head body 0 0) ≡ true
+        → (true && (every test (cut m shape head body 0 0) && (every_top (λ c. true) (cut m shape head body 0 0) && true))) ≡ true
+    holds test e = and_from (every test (cut m shape head body 0 0)) _ e (and_from _ _ (every_top_true (cut m shape head body 0 0)) refl)
 
-    of_cause : (why : Cause) → fits limits shape head body why ≡ false
-        → (why ≡ cause.ValueNotUtf8 → (other : Cause) → every (passes other) (cut shape head body 0 0) ≡ true)
-        → Failing limits (fault_of why) shape head body
+    of_cause : (why : Cause) → fits limits m shape head body why ≡ false
+        → (is_shown why ≡ true → (other : Cause) → every (passes other) (cut m shape head body 0 0) ≡ true)
+        → Failing limits (fault_of why) m shape head body
     of_cause cause.WrongNodeCount e s = e
     of_cause cause.WrongBufferCount e s = e
     of_cause cause.BadNode e s = (counts, e)
@@ -204,10 +220,18 @@ columns_failing limits why shape head body n cs en ec h f t =
         e,
       ),
     )
+    of_cause cause.BadIndex e s = (
+      h,
+      (
+        holds (passes cause.BufferTooShort) (s refl cause.BufferTooShort),
+        holds (passes cause.BadOffsets) (s refl cause.BadOffsets),
+        e,
+      ),
+    )
 
 -- an exit with the fault of a cause
-pub exits : (limits : Limits) (r : Result Contents Fault) (f : Fault) (shape : Shape) (head : BatchHead) (body : List ℕ)
+pub exits : (limits : Limits) (r : Result Contents Fault) (f : Fault) (m : Dictionaries) (shape : Shape) (head : BatchHead) (body : List ℕ)
     → IsErrAnd r (λ e. e ≡ f)
-    → Failing limits f shape head body → IfErr r (λ e. Failing limits e shape head body)
-exits limits (Ok b) f shape head body e h = absurd e
-exits limits (Err d) f shape head body e h = subst (λ (x : Fault). Failing limits x shape head body) (sym e) h
+    → Failing limits f m shape head body → IfErr r (λ e. Failing limits e m shape head body)
+exits limits (Ok b) f m shape head body e h = absurd e
+exits limits (Err d) f m shape head body e h = subst (λ (x : Fault). Failing limits x m shape head body) (sym e) h

@@ -1,7 +1,7 @@
 -- The slots of the children that a slot leads to.
 use Rattle.std.proofs.Common.{◌≡◌, ◌∙◌, refl, sym, ap, ℕ, zero, suc, ◌+◌, ◌*◌, get_or, Some, ◌<◌, ◌≤◌, Bool, true, false}
-use Rattle.std.proofs.Common.{List, [], ◌∷◌, length, arith, subst, cond, inl, inr}
-use Rattle.std.specs.Prelude.{slice_get, map, not, ◌⊎◌}
+use Rattle.std.proofs.Common.{List, [], ◌∷◌, length, arith, subst, cond}
+use Rattle.std.specs.Prelude.{slice_get, map, not, ℤ}
 use Rattle.std.proofs.Math.Nat.{mul-le-mul_left}
 use Rattle.std.proofs.lemmas.Bool.{and_parts}
 use Rattle.ipc_model.specs.declared.value.Value.{Value}
@@ -11,6 +11,8 @@ use Rattle.ipc_model.specs.declared.layout.Layout.TheVariants as l
 use Rattle.ipc_column.specs.declared.ranges.ColumnRanges.{ColumnRanges}
 use Rattle.ipc_column.specs.declared.ranges.ColumnRanges.TheViews.{out-ColumnRanges}
 use Rattle.ipc_column.specs.declared.cause.Cause.{Cause}
+use Rattle.ipc_column.specs.declared.cause.Cause.TheVariants as cause
+use Rattle.ipc_model.specs.declared.schema.IntBits.{IntBits}
 use Rattle.ipc_column.specs.Columns.{Column, Columns, none, column, EachTop, every}
 use Rattle.ipc_column.specs.Values.{is_valid, own_value, place, row, value_of}
 use Rattle.ipc_column.specs.Checks.{are_ascending, are_long, have_slots, holds_offsets, in_order, passes}
@@ -19,12 +21,14 @@ use Rattle.ipc_column.specs.Rules.{SpellsTexts}
 use Rattle.ipc_column.specs.Lent.{HoldSlots, AreFound, found, refound, values_in}
 use Rattle.ipc_column.specs.Nested.{Nested, alone, slot_values}
 use Rattle.ipc_column.specs.Slots.{is_null, nested}
-use Rattle.ipc_column.specs.Views.{columns, column_of, children_of, span_bytes}
+use Rattle.ipc_column.specs.Views.{columns, column_of, children_of}
+use Rattle.ipc_column.specs.Spans.{span_bytes}
 use Rattle.ipc_column.proofs.Found.{found_is, items_first}
 use Rattle.ipc_column.proofs.Parts.{column_is, every_at}
 use Rattle.ipc_column.proofs.FixedLists.{slots_any}
 use Rattle.ipc_column.proofs.Goods.{fewer_slots, good_one, slots_from}
-use Rattle.ipc_column.proofs.Rules.{of_good, of_have_slots}
+use Rattle.ipc_column.proofs.Rules.{of_have_slots}
+use Rattle.ipc_column.proofs.Shown.{of_good}
 use Rattle.ipc_column.proofs.Slices.{places}
 use Rattle.ipc_column.proofs.Slots.{bytes_from, items_length, order_from, long}
 
@@ -39,7 +43,7 @@ order_any (l.Numbers bits signed) n o size body ps h other = refl
 order_any (l.FixedBytes width) n o size body ps h other = refl
 order_any (l.FixedLists width) n o size body ps h other = refl
 order_any l.Structs n o size body ps h other = refl
-order_any l.Unsupported n o size body ps h other = refl
+order_any (l.Indices bits signed id) n o size body ps h other = refl
 
 -- nor does whether the children are long enough
 pub long_any : (layout : Layout) (n : ℕ) (body : List ℕ) (ps : List ColumnRanges) → are_long layout n (columns body ps) ≡ true
@@ -52,7 +56,7 @@ long_any l.Null n body ps h other = refl
 long_any l.Bits n body ps h other = refl
 long_any (l.Numbers bits signed) n body ps h other = refl
 long_any (l.FixedBytes width) n body ps h other = refl
-long_any l.Unsupported n body ps h other = refl
+long_any (l.Indices bits signed id) n body ps h other = refl
 
 -- the offsets of texts and bytes are in order
 pub bytes_rise : (utf8 : Bool) (o : List ℕ) (cs : Columns) (n i size : ℕ) → i < n
@@ -97,40 +101,36 @@ struct_leads cs n i m h =
     top_from (λ c. n ≤ c.slots) (λ c. i < c.slots) (λ c k. omega (arith, k, m)) cs ((of_have_slots n cs).0 h)
 
 -- nothing stands in the slots of columns without values
-pub nothing_shown : (below : ℕ → List Value) (c : Column) (i : ℕ) → (c.layout ≡ l.Null) ⊎ (c.layout ≡ l.Unsupported)
-    → is_null (value_of below c i) ≡ true
-nothing_shown below c i e =
-    elim e as (λ _. is_null (value_of below c i) ≡ true) [
-      | inl n ↦ rw n (either (is_valid c.validity i))
-      | inr n ↦ rw n (either (is_valid c.validity i))
-    ]
+pub nothing_shown : (below : ℕ → List Value) (c : Column) (i : ℕ) → c.layout ≡ l.Null → is_null (value_of below c i) ≡ true
+nothing_shown below c i e = rw e (either (is_valid c.validity i))
   where
     either : (b : Bool) → is_null (cond b v.Null v.Null) ≡ true
     either true = refl
     either false = refl
 
--- a valid slot is null only where nothing can stand in it
-pub nothing_null : (layout : Layout) (below : ℕ → List Value) (o w : List ℕ) (i : ℕ) → ¬ (layout ≡ l.Null) → ¬ (layout ≡ l.Unsupported)
-    → is_null (own_value layout below o w i) ≡ false
-nothing_null l.Null below o w i a b = absurd (a refl)
-nothing_null l.Unsupported below o w i a b = absurd (b refl)
-nothing_null l.Bits below o w i a b = refl
-nothing_null (l.Numbers bits true) below o w i a b = refl
-nothing_null (l.Numbers bits false) below o w i a b = refl
-nothing_null (l.FixedBytes width) below o w i a b = refl
-nothing_null (l.VariableBytes true) below o w i a b = refl
-nothing_null (l.VariableBytes false) below o w i a b = refl
-nothing_null l.Lists below o w i a b = refl
-nothing_null (l.FixedLists size) below o w i a b = refl
-nothing_null l.Structs below o w i a b = refl
+-- a valid slot is null only where nothing can stand in it, or an index of null or of no value
+pub nothing_null : (layout : Layout) (d : List Value) (below : ℕ → List Value) (o w : List ℕ) (i : ℕ) → ¬ (layout ≡ l.Null)
+    → ((bits : IntBits) (signed : Bool) (id : ℤ) → ¬ (layout ≡ l.Indices bits signed id))
+    → is_null (own_value layout d below o w i) ≡ false
+nothing_null l.Null d below o w i a b = absurd (a refl)
+nothing_null (l.Indices bits signed id) d below o w i a b = absurd (b bits signed id refl)
+nothing_null l.Bits d below o w i a b = refl
+nothing_null (l.Numbers bits true) d below o w i a b = refl
+nothing_null (l.Numbers bits false) d below o w i a b = refl
+nothing_null (l.FixedBytes width) d below o w i a b = refl
+nothing_null (l.VariableBytes true) d below o w i a b = refl
+nothing_null (l.VariableBytes false) d below o w i a b = refl
+nothing_null l.Lists d below o w i a b = refl
+nothing_null (l.FixedLists size) d below o w i a b = refl
+nothing_null l.Structs d below o w i a b = refl
 
 -- a slot of such a column is null where it isn't valid
 pub null_slot : (below : ℕ → List Value) (c : Column) (i : ℕ) (b : Bool) → b ≡ is_valid c.validity i → ¬ (c.layout ≡ l.Null)
-    → ¬ (c.layout ≡ l.Unsupported) → not b ≡ is_null (value_of below c i)
+    → ((bits : IntBits) (signed : Bool) (id : ℤ) → ¬ (c.layout ≡ l.Indices bits signed id)) → not b ≡ is_null (value_of below c i)
 null_slot below c i b e m n = rw (← e) (either b)
   where
-    either : (b : Bool) → not b ≡ is_null (cond b (own_value c.layout below c.offsets c.values i) v.Null)
-    either true = sym (nothing_null c.layout below c.offsets c.values i m n)
+    either : (b : Bool) → not b ≡ is_null (cond b (own_value c.layout c.dictionary below c.offsets c.values i) v.Null)
+    either true = sym (nothing_null c.layout c.dictionary below c.offsets c.values i m n)
     either false = refl
 
 -- the columns of the children one by one
@@ -155,11 +155,12 @@ child_found body ps i p m e h =
     }
 
 -- by the bytes that were found
-pub found_again : (body : List ℕ) (p : ColumnRanges) (v o w : List ℕ) → v ≡ span_bytes body (out-ColumnRanges p).validity
+pub found_again : (body : List ℕ) (p : ColumnRanges) (v o w : List ℕ) (d : List Value) → v ≡ span_bytes body (out-ColumnRanges p).validity
     → o ≡ span_bytes body (out-ColumnRanges p).offsets → w ≡ span_bytes body (out-ColumnRanges p).values
+    → d ≡ (out-ColumnRanges p).dictionary
     → AreFound (column_of body p) (children_of body p)
-    → AreFound (found (out-ColumnRanges p).layout (out-ColumnRanges p).slots v o w) (columns body (out-ColumnRanges p).children.items)
-found_again body p v o w ev eo ew h = found_is body p v o w ev eo ew AreFound (record {
+    → AreFound (found (out-ColumnRanges p).layout (out-ColumnRanges p).slots v o w d) (columns body (out-ColumnRanges p).children.items)
+found_again body p v o w d ev eo ew ed h = found_is body p v o w d ev eo ew ed AreFound (record {
   bitmap = h.bitmap;
   values = h.values;
   offsets = h.offsets;
@@ -169,10 +170,11 @@ found_again body p v o w ev eo ew h = found_is body p v o w ev eo ew AreFound (r
 })
 
 -- the column that was found
-pub found_column : (body : List ℕ) (p : ColumnRanges) (v o w : List ℕ) → v ≡ span_bytes body (out-ColumnRanges p).validity
+pub found_column : (body : List ℕ) (p : ColumnRanges) (v o w : List ℕ) (d : List Value) → v ≡ span_bytes body (out-ColumnRanges p).validity
     → o ≡ span_bytes body (out-ColumnRanges p).offsets → w ≡ span_bytes body (out-ColumnRanges p).values
-    → found (out-ColumnRanges p).layout (out-ColumnRanges p).slots v o w ≡ refound (column_of body p)
-found_column body p v o w ev eo ew = rw (ev, eo, ew) (sym (ap refound (column_is body p)))
+    → d ≡ (out-ColumnRanges p).dictionary
+    → found (out-ColumnRanges p).layout (out-ColumnRanges p).slots v o w d ≡ refound (column_of body p)
+found_column body p v o w d ev eo ew ed = rw (ev, eo, ew, ed) (sym (ap refound (column_is body p)))
 
 -- buffers whose slots are good have what these need
 pub found_from : (c : Column) (cs : Columns) → HoldSlots c cs → AreFound c cs
@@ -204,7 +206,8 @@ slot_shows c body ps n i e m =
 texts_of : (c : Column) (cs : Columns) → HoldSlots c cs → (i : ℕ) → i < c.slots → SpellsTexts (column c cs none) i
 texts_of c cs h i m =
     (of_good (column c cs none) 0 c.slots).0
-    (good_one c cs 0 c.slots ∙ slots_from (good_slot (good cs) c) 0 c.slots (λ k a b. h.good k b)) i (omega arith) m
+    (good_one cause.ValueNotUtf8 c cs 0 c.slots ∙ slots_from (good_slot cause.ValueNotUtf8 (good cause.ValueNotUtf8 cs) c) 0 c.slots
+    (λ k a b. h.good k b)) i (omega arith) m
 
 pub slots_spell : (c : Column) (body : List ℕ) (ps : List ColumnRanges) (n : Nested) (vs : List Value) → n.column ≡ c → n.body ≡ body
     → n.children ≡ ps → HoldSlots c (columns body ps) → values_in c (columns body ps) ≡ vs → (i : ℕ) → i < length vs

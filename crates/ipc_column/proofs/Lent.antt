@@ -14,6 +14,7 @@ use Rattle.ipc_column.specs.declared.numbers.Numbers.{Numbers}
 use Rattle.ipc_column.specs.declared.ranges.ColumnRanges.{ColumnRanges}
 use Rattle.ipc_column.specs.Checks.{Holds, holds_values}
 use Rattle.ipc_column.specs.Columns.{Column, Columns}
+use Rattle.ipc_column.specs.Dictionaries.{Dictionaries}
 use Rattle.ipc_column.specs.Lending.{AreNumbers, layouts_of, number_of}
 use Rattle.ipc_column.specs.Lent.{AreFound, AreOfColumn, HoldSlots, refound, values_in}
 use Rattle.ipc_column.specs.Nested.{Nested, alone, slot_values}
@@ -29,12 +30,12 @@ use Rattle.ipc_column.proofs.Parts.{children_out}
 use Rattle.ipc_column.proofs.Slots.{items_length}
 
 -- columns that fields cut out lie as these say
-pub layouts_cut : (fs : List Field) (h : BatchHead) (body : List ℕ) (n b : ℕ)
-    → layouts_of (cut (shape_of fs) h body n b) ≡ map field_layout fs
+pub layouts_cut : (m : Dictionaries) (fs : List Field) (h : BatchHead) (body : List ℕ) (n b : ℕ)
+    → layouts_of (cut m (shape_of fs) h body n b) ≡ map field_layout fs
 unfolding cut
-layouts_cut [] h body n b = refl
-layouts_cut (f ∷ fs) h body n b =
-    ap (λ (ls : List Layout). field_layout f ∷ ls) (layouts_cut fs h body (n + 1 + nodes_in (field_children f))
+layouts_cut m [] h body n b = refl
+layouts_cut m (f ∷ fs) h body n b =
+    ap (λ (ls : List Layout). field_layout f ∷ ls) (layouts_cut m fs h body (n + 1 + nodes_in (field_children f))
     (b + own_buffers (field_layout f) + buffers_in (field_children f)))
 
 -- how the column of a part lies
@@ -45,10 +46,10 @@ layout_at body (q ∷ ps) zero p l e = ap (λ (x : ColumnRanges). Some (column_o
 layout_at body (q ∷ ps) (suc j) p l e = layout_at body ps j p (omega arith) e
 
 -- nothing but its bytes is asked for a number
-alike : (bits : IntBits) (signed : Bool) (below : ℕ → List Value) (o w : List ℕ) (i : ℕ)
-    → own_value (l.Numbers bits signed) below o w i ≡ own_value (l.Numbers bits signed) (λ _. []) [] w i
-alike bits true below o w i = refl
-alike bits false below o w i = refl
+alike : (bits : IntBits) (signed : Bool) (d : List Value) (below : ℕ → List Value) (o w : List ℕ) (i : ℕ)
+    → own_value (l.Numbers bits signed) d below o w i ≡ own_value (l.Numbers bits signed) [] (λ _. []) [] w i
+alike bits true d below o w i = refl
+alike bits false d below o w i = refl
 
 -- the numbers of a column that is seen so
 pub lent_numbers : (c : Column) (body : List ℕ) (ps : List ColumnRanges) (n : Nested) (numbers : Numbers)
@@ -65,7 +66,7 @@ lent_numbers c body ps n numbers e el ev ew h =
     }
   where
     value : (i : ℕ) → value_of (row (columns body ps)) c i ≡ number_of numbers i
-    value i = rw (el, ev, ew, alike numbers.bits numbers.signed (row (columns body ps)) c.offsets numbers.values.now i) refl
+    value i = rw (el, ev, ew, alike numbers.bits numbers.signed c.dictionary (row (columns body ps)) c.offsets numbers.values.now i) refl
 
 module _ (body : List ℕ) (ps : List ColumnRanges) (n j : ℕ) (p : ColumnRanges) (inside : j < length ps) (is : p ≡ get_or ps j p)
     (holds : Holds n (columns body ps)) where

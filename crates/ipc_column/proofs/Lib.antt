@@ -6,6 +6,7 @@ pub mod Goods
 pub mod Slots
 pub mod FixedLists
 pub mod Rules
+pub mod Shown
 pub mod Laws
 pub mod Widths
 pub mod Below
@@ -16,7 +17,8 @@ pub mod Weights
 pub mod Visited
 pub mod Marks
 pub mod Wider
-pub mod Plain
 pub mod Found
 pub mod Leads
 pub mod CellIters
+pub mod Judged
+pub mod Alone

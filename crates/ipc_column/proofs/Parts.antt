@@ -8,9 +8,9 @@ use Rattle.ipc_column.specs.declared.ranges.ColumnRanges.{ColumnRanges}
 use Rattle.ipc_column.specs.declared.ranges.ColumnRanges.TheViews.{out-ColumnRanges}
 use Rattle.ipc_column.specs.declared.ranges.ColumnRanges.TheFolds.{fold_out-ColumnRanges}
 use Rattle.ipc_column.specs.declared.cause.Cause.{Cause}
-use Rattle.ipc_model.specs.Layouts.{is_texts}
+use Rattle.ipc_model.specs.Layouts.{is_judged}
 use Rattle.ipc_column.specs.Columns.{Column, Columns, column, every, every_top}
-use Rattle.ipc_column.specs.Rules.{have_texts}
+use Rattle.ipc_column.specs.Rules.{have_judged}
 use Rattle.ipc_column.specs.Checks.{Judges}
 use Rattle.ipc_column.specs.Views.{columns, part_step, column_of, children_of, own_column, one}
 
@@ -45,11 +45,11 @@ pub every_top_from : (test : Column → Bool) (body : List ℕ) (ps : List Colum
     → every_top test (columns body (drop i ps)) ≡ (test (column_of body p) && every_top test (columns body (drop (i + 1) ps)))
 every_top_from test body ps i p h e = rw (columns_from body ps i p h e) refl
 
--- texts stand in the columns from a part on where they stand in it, below it or behind it
-pub texts_from : (body : List ℕ) (ps : List ColumnRanges) (i : ℕ) (p : ColumnRanges) → i < length ps → p ≡ get_or ps i p
-    → have_texts (columns body (drop i ps)) ≡ (have_texts (one body p) || have_texts (columns body (drop (i + 1) ps)))
-texts_from body ps i p h e = rw (columns_from body ps i p h e)
-    (shift (is_texts (column_of body p).layout) (have_texts (children_of body p)) (have_texts (columns body (drop (i + 1) ps))))
+-- texts or indices stand in the columns from a part on where they stand in it, below it or behind it
+pub judged_from : (body : List ℕ) (ps : List ColumnRanges) (i : ℕ) (p : ColumnRanges) → i < length ps → p ≡ get_or ps i p
+    → have_judged (columns body (drop i ps)) ≡ (have_judged (one body p) || have_judged (columns body (drop (i + 1) ps)))
+judged_from body ps i p h e = rw (columns_from body ps i p h e)
+    (shift (is_judged (column_of body p).layout) (have_judged (children_of body p)) (have_judged (columns body (drop (i + 1) ps))))
   where
     shift : (a b c : Bool) → (a || (b || c)) ≡ ((a || (b || false)) || c)
     shift true b c = refl

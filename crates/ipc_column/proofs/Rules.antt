@@ -1,10 +1,10 @@
 -- Each test says what the standard asks.
 use Rattle.std.proofs.Common.{◌≡◌, refl, ap, ℕ, zero, suc, ◌+◌, ◌*◌, ◌/◌, ◌<◌, ◌≤◌, Bool, true, false, cond, not, List, length, arith}
-use Rattle.std.proofs.Common.{◌-◌, le-leb, subst}
-use Rattle.std.specs.Prelude.{◌&&◌, ◌||◌, ◌==◌, nat_le, ℤ, ◌+ℤ◌, pos, negsuc, int_le, ◌≤ℤ◌, ◌<ℤ◌, unsigned_abs, T, ⊤}
+use Rattle.std.proofs.Common.{◌-◌, le-leb, subst, Some, None}
+use Rattle.std.specs.Prelude.{◌&&◌, ◌||◌, ◌==◌, nat_le, nat_lt, is_some, ℤ, ◌+ℤ◌, pos, negsuc, int_le, ◌≤ℤ◌, ◌<ℤ◌, unsigned_abs, T, ⊤}
 use Rattle.std.specs.Bool.{Decides}
 use Rattle.std.specs.List.{All}
-use Rattle.std.proofs.lemmas.Bool.{and_parts, and_from, ne_eqb, leb-true}
+use Rattle.std.proofs.lemmas.Bool.{and_parts, and_from, false≢true, ne_eqb, leb-true}
 use Rattle.std.proofs.lemmas.Bool.Decides.{nat_tests, Decides-eqb, Decides-and, Decides-at, Decides-like, Decides-by_and}
 use Rattle.std.proofs.lemmas.Int.{ints}
 use Rattle.std.proofs.lemmas.Str.{IsUtf8-from_is_utf8, is_utf8-from_IsUtf8}
@@ -19,13 +19,15 @@ use Rattle.ipc_column.specs.Columns.{Column, Columns, none, column, Each, EachTo
 use Rattle.ipc_column.specs.Shapes.{shape_of, columns_of}
 use Rattle.ipc_column.specs.Rules.{HasNodes, HasBuffers, HasLengths, HasRanges, HasBytes, HasNullCounts, HasOrder, HasTexts, IsSlotCount}
 use Rattle.ipc_column.specs.Rules.{IsNode, LiesIn, HoldValues, HoldOffsets, IsLongEnough, CountsNulls, AreOffsets, HasOffsets, IsText}
-use Rattle.ipc_column.specs.Rules.{SpellsTexts, HasLongChildren}
+use Rattle.ipc_column.specs.Rules.{SpellsTexts, HasLongChildren, IsIndex, HasIndex, HoldsIndices, HasIndices}
+use Rattle.ipc_column.specs.Dictionaries.{Dictionaries}
+use Rattle.ipc_model.specs.declared.value.Value.{Value}
 use Rattle.ipc_column.specs.Checks.{is_slot_count, is_node, lies_in, all, all_below, holds_values, holds_offsets, is_ascending_at}
 use Rattle.ipc_column.specs.Checks.{are_ascending, in_order, passes, top_passes, fits, have_slots, are_long, all_slots, good, good_slot}
 use Rattle.ipc_column.specs.Checks.{good_below}
-use Rattle.ipc_column.specs.Values.{offset, place, is_valid}
+use Rattle.ipc_column.specs.Values.{offset, place, is_valid, number_in, place_below}
 use Rattle.ipc_column.proofs.Below.{below_from, decides_below}
-use Rattle.ipc_column.proofs.Goods.{slots_at, slots_from}
+use Rattle.ipc_column.proofs.Shown.{of_good, of_indexed, of_when}
 use Rattle.ipc_column.proofs.Slices.{above}
 use Rattle.ipc_model.specs.declared.limits.Limits.{Limits}
 
@@ -91,6 +93,7 @@ of_values : (l : Layout) (n bytes : ℕ) → Decides (holds_values l n bytes) (H
 of_values l.Bits n bytes = of_bound ((n + 7) / 8) bytes
 of_values (l.Numbers bits signed) n bytes = of_bound (number_bytes bits * n) bytes
 of_values (l.FixedBytes width) n bytes = of_bound (width * n) bytes
+of_values (l.Indices bits signed id) n bytes = of_bound (number_bytes bits * n) bytes
 of_values _ n bytes = (λ e. tt, λ h. refl)
 
 -- a test of what there is, where there is something
@@ -111,11 +114,6 @@ of_bytes c children =
     (λ h. (h.bitmap, (h.values, h.offsets)))
     (Decides-and _ _ (of_least (length c.validity) _ (length c.validity))
     (Decides-and _ _ (of_values c.layout c.slots (length c.values)) (of_offsets_bytes c.layout c.slots (length c.offsets))))
-
--- one test where another holds
-pub of_when : {P Q : Type 0} (x y : Bool) → Decides x P → Decides y Q → Decides (not x || y) (P → Q)
-of_when true y p q = (λ e h. q.0 e, λ f. q.1 (f (p.0 refl)))
-of_when false y p q = (λ e h. let z : false ≡ true = p.1 h in absurd (cc), λ f. refl)
 
 of_nulls : (nulls bytes least clear : ℕ)
     → Decides (not (bytes == 0 || nat_le least bytes) || (nulls == cond (bytes == 0) 0 clear))
@@ -209,40 +207,6 @@ of_long l.Structs n cs = of_have_slots n cs
 of_long (l.FixedLists size) n cs = of_have_slots (size * n) cs
 of_long _ n cs = (λ e. tt, λ h. refl)
 
--- ---- texts
-
--- a test of each slot of a range
-decides_slots : (f : ℕ → Bool) (P : ℕ → Type 0) → ((i : ℕ) → Decides (f i) (P i)) → (a b : ℕ)
-    → Decides (all_slots f a (b - a)) ((i : ℕ) → a ≤ i → i < b → P i)
-decides_slots f P d a b = (
-  λ e i l m. (d i).0 (slots_at f a b i e l m),
-  λ h. slots_from f a b (λ i l m. (d i).1 (h i l m)),
-)
-
-of_text : (l : Layout) (below : ℕ → ℕ → Bool) (P : ℕ → Type 0)
-    → ((a b : ℕ) → Decides (below a b) ((i : ℕ) → a ≤ i → i < b → P i)) → (o w : List ℕ) (i : ℕ)
-    → Decides (good_below l below o w i) (IsText l P o w i)
-of_text (l.VariableBytes true) below P d o w i = (λ e. IsUtf8-from_is_utf8 _ e, λ h. is_utf8-from_IsUtf8 _ h)
-of_text l.Lists below P d o w i = d (place o i) (place o (i + 1))
-of_text (l.FixedLists size) below P d o w i = d (size * i) (size * (i + 1))
-of_text l.Structs below P d o w i = (
-  λ e. (d i (i + 1)).0 e i (omega arith) (omega arith),
-  λ h. (d i (i + 1)).1 (λ k a b. let e : i ≡ k = omega arith in subst P e h),
-)
-of_text _ below P d o w i = (λ e. tt, λ h. refl)
-
--- the test of a range of slots decides whether what is visible in each is UTF-8
-pub of_good : (cs : Columns) (a b : ℕ) → Decides (good cs a b) ((i : ℕ) → a ≤ i → i < b → SpellsTexts cs i)
-of_good none a b = (λ e i l m. tt, λ h. refl)
-of_good (column c children rest) a b =
-    Decides-like _ (λ h i l m. (h.0 i l m, h.1 i l m)) (λ h. (λ i l m. (h i l m).0, λ i l m. (h i l m).1))
-    (Decides-and _ _
-    (decides_slots (good_slot (good children) c) (λ i. is_valid c.validity i ≡ true
-    → IsText c.layout (SpellsTexts children) c.offsets c.values i)
-    (λ i. of_when (is_valid c.validity i) _ (λ e. e, λ e. e)
-    (of_text c.layout (good children) (SpellsTexts children) (of_good children) c.offsets c.values i)) a b)
-    (of_good rest a b))
-
 of_each : (test : Column → Columns → Bool) (P : Column → Columns → Type 0)
     → ((c : Column) (children : Columns) → Decides (test c children) (P c children)) → (cs : Columns)
     → Decides (every test cs) (Each P cs)
@@ -267,15 +231,16 @@ of_slots (pos m) h n = Decides-like (n == m) (λ e. ap pos e) (λ e. ap unsigned
 of_slots (negsuc m) h n = absurd (omega (arith, ints, h))
 
 -- what is asked, by the cause that is answered where it doesn't hold
-abbrev pub Asked : Limits → Cause → List Field → BatchHead → List ℕ → Type 0
-Asked limits cause.WrongNodeCount fields head body = HasNodes fields head
-Asked limits cause.WrongBufferCount fields head body = HasBuffers fields head
-Asked limits cause.BadNode fields head body = HasLengths limits fields head body
-Asked limits cause.BufferOutOfBody fields head body = HasRanges head body
-Asked limits cause.BufferTooShort fields head body = HasBytes fields head body
-Asked limits cause.BadNullCount fields head body = HasNullCounts fields head body
-Asked limits cause.BadOffsets fields head body = HasOrder fields head body
-Asked limits cause.ValueNotUtf8 fields head body = HasTexts fields head body
+abbrev pub Asked : Limits → Cause → Dictionaries → List Field → BatchHead → List ℕ → Type 0
+Asked limits cause.WrongNodeCount m fields head body = HasNodes fields head
+Asked limits cause.WrongBufferCount m fields head body = HasBuffers fields head
+Asked limits cause.BadNode m fields head body = HasLengths limits m fields head body
+Asked limits cause.BufferOutOfBody m fields head body = HasRanges head body
+Asked limits cause.BufferTooShort m fields head body = HasBytes m fields head body
+Asked limits cause.BadNullCount m fields head body = HasNullCounts m fields head body
+Asked limits cause.BadOffsets m fields head body = HasOrder m fields head body
+Asked limits cause.ValueNotUtf8 m fields head body = HasTexts m fields head body
+Asked limits cause.BadIndex m fields head body = HasIndices m fields head body
 
 of_nothing : (cs : Columns) → Decides (every_top (λ c. true) cs && true) ⊤
 of_nothing cs = (λ e. tt, λ h. and_from _ _ (every_top_true cs) refl)
@@ -295,10 +260,10 @@ of_visible : (test : Bool) (P : Type 0) (cs : Columns) → Decides test P
 of_visible test P cs d = Decides-like _ (λ p. p.1.1) (λ h. (every_true cs, (every_top_true cs, h)))
     (Decides-and _ _ (λ e. e, λ e. e) (Decides-and _ _ (λ e. e, λ e. e) d))
 
-of_lengths : {limits : Limits} → (fields : List Field) (head : BatchHead) (body : List ℕ)
-    → Decides (fits limits (shape_of fields) head body cause.BadNode) (HasLengths limits fields head body)
-of_lengths {limits} fields head body =
-    let cs = columns_of fields head body in
+of_lengths : {limits : Limits} → (m : Dictionaries) (fields : List Field) (head : BatchHead) (body : List ℕ)
+    → Decides (fits limits m (shape_of fields) head body cause.BadNode) (HasLengths limits m fields head body)
+of_lengths {limits} m fields head body =
+    let cs = columns_of m fields head body in
     let n = unsigned_abs head.length in
     let top : Column → Bool = top_passes cause.BadNode n in
     let below = of_each (passes cause.BadNode) (λ c children. HasLongChildren c.layout c.slots children)
@@ -325,8 +290,8 @@ of_lengths {limits} fields head body =
           (λ c. of_slots head.length h.batch.from c.slots) cs).1 h.columns) refl)),
     )
 
-of_rows : (cs : Columns) (n : ℕ) → Decides (good cs 0 n) ((i : ℕ) → i < n → SpellsTexts cs i)
-of_rows cs n = Decides-like _ (λ h i l. h i (omega arith) l) (λ h i z l. h i l) (of_good cs 0 n)
+of_rows : (test : Bool) (P : ℕ → Type 0) (n : ℕ) → Decides test ((i : ℕ) → 0 ≤ i → i < n → P i) → Decides test ((i : ℕ) → i < n → P i)
+of_rows test P n d = Decides-like test (λ h i l. h i (omega arith) l) (λ h i z l. h i l) d
 
 -- the test of the buffers' ranges decides whether each lies in the body
 pub of_ranges : (head : BatchHead) (body : List ℕ) → Decides (all (lies_in (length body)) head.buffers) (HasRanges head body)
@@ -334,18 +299,22 @@ of_ranges head body = Decides-by_and (lies_in (length body)) (LiesIn (length bod
     (of_range (length body)) refl (λ _ _. refl) head.buffers
 
 -- the test of each cause decides whether what the standard asks there holds
-pub decides : (limits : Limits) (why : Cause) (fields : List Field) (head : BatchHead) (body : List ℕ)
-    → Decides (fits limits (shape_of fields) head body why) (Asked limits why fields head body)
-decides limits cause.WrongNodeCount fields head body = of_head _ _ (columns_of fields head body) (Decides-eqb _ _)
-decides limits cause.WrongBufferCount fields head body = of_head _ _ (columns_of fields head body) (Decides-eqb _ _)
-decides limits cause.BadNode fields head body = of_lengths fields head body
-decides limits cause.BufferOutOfBody fields head body = of_head _ _ (columns_of fields head body) (of_ranges head body)
-decides limits cause.BufferTooShort fields head body = of_columns _ _ (columns_of fields head body) of_bytes
-decides limits cause.BadNullCount fields head body = of_columns _ _ (columns_of fields head body) of_null_count
-decides limits cause.BadOffsets fields head body =
-    of_columns _ _ (columns_of fields head body) (λ c children. of_order c.layout c.slots c.offsets (length c.values) children)
-decides limits cause.ValueNotUtf8 fields head body = of_visible _ _ (columns_of fields head body)
-    (of_rows (columns_of fields head body) (unsigned_abs head.length))
+pub decides : (limits : Limits) (why : Cause) (m : Dictionaries) (fields : List Field) (head : BatchHead) (body : List ℕ)
+    → Decides (fits limits m (shape_of fields) head body why) (Asked limits why m fields head body)
+decides limits cause.WrongNodeCount m fields head body = of_head _ _ (columns_of m fields head body) (Decides-eqb _ _)
+decides limits cause.WrongBufferCount m fields head body = of_head _ _ (columns_of m fields head body) (Decides-eqb _ _)
+decides limits cause.BadNode m fields head body = of_lengths m fields head body
+decides limits cause.BufferOutOfBody m fields head body = of_head _ _ (columns_of m fields head body) (of_ranges head body)
+decides limits cause.BufferTooShort m fields head body = of_columns _ _ (columns_of m fields head body) of_bytes
+decides limits cause.BadNullCount m fields head body = of_columns _ _ (columns_of m fields head body) of_null_count
+decides limits cause.BadOffsets m fields head body =
+    of_columns _ _ (columns_of m fields head body) (λ c children. of_order c.layout c.slots c.offsets (length c.values) children)
+decides limits cause.ValueNotUtf8 m fields head body = of_visible _ _ (columns_of m fields head body)
+    (of_rows _ (SpellsTexts (columns_of m fields head body)) (unsigned_abs head.length)
+    (of_good (columns_of m fields head body) 0 (unsigned_abs head.length)))
+decides limits cause.BadIndex m fields head body = of_visible _ _ (columns_of m fields head body)
+    (of_rows _ (HoldsIndices (columns_of m fields head body)) (unsigned_abs head.length)
+    (of_indexed (columns_of m fields head body) 0 (unsigned_abs head.length)))
 
 -- a length that isn't negative is its absolute value
 pub length_is : {limits : Limits} → (z : ℤ) → IsSlotCount limits z → z ≡ pos (unsigned_abs z)

@@ -1,9 +1,9 @@
 -- Slots, and the slots of the children that belong to them.
-use Rattle.std.proofs.Common.{◌≡◌, ◌∙◌, refl, ap, subst, ℕ, zero, suc, ◌+◌, ◌*◌, ◌<◌, ◌≤◌, Bool, true, false, List, [], ◌∷◌}
+use Rattle.std.proofs.Common.{◌≡◌, ◌∙◌, refl, sym, ap, subst, ℕ, zero, suc, ◌+◌, ◌*◌, ◌<◌, ◌≤◌, Bool, true, false, List, [], ◌∷◌}
 use Rattle.std.proofs.Common.{length, get_or, arith, le-leb, Some, nat_le}
 use Rattle.std.specs.Prelude.{◌&&◌, ◌||◌, ◌==◌, not, slice_get}
 use Rattle.std.proofs.Math.Nat.{mul-le-mul_left}
-use Rattle.std.proofs.lemmas.Bool.{false≢true, and_parts, and_from, leb-true, eqb-true}
+use Rattle.std.proofs.lemmas.Bool.{false≢true, and_parts, and_from, and_right, leb-true, eqb-true}
 use Rattle.ipc_model.specs.declared.value.Value.{Value}
 use Rattle.ipc_model.specs.declared.value.Value.TheVariants as v
 use Rattle.ipc_model.specs.declared.layout.Layout.{Layout}
@@ -16,12 +16,13 @@ use Rattle.ipc_column.specs.declared.cause.Cause.TheVariants as cause
 use Rattle.ipc_column.specs.Columns.{Column, Columns, none, column, every, every_top}
 use Rattle.ipc_column.specs.Values.{row, items, first_at, value_of, place, is_valid, child_slot, is_nested}
 use Rattle.ipc_column.specs.Checks.{passes, top_passes, has_bitmap, holds_values, holds_offsets, in_order, are_long, are_ascending}
-use Rattle.ipc_column.specs.Checks.{have_slots, good, good_slot, good_below, all_pass, Holds}
+use Rattle.ipc_column.specs.Checks.{have_slots, good, good_slot, good_below, all_pass, is_shown, Holds}
 use Rattle.ipc_column.specs.Lent.{AreSlots, HaveValues, HasValue}
 use Rattle.ipc_column.specs.Views.{columns, column_of, children_of, own_column, one}
-use Rattle.ipc_column.proofs.Rules.{of_bound, of_some, of_when, every_top_true}
+use Rattle.ipc_column.proofs.Rules.{of_bound, of_some, every_true, every_top_true}
+use Rattle.ipc_column.proofs.Shown.{of_when}
 use Rattle.ipc_column.proofs.Parts.{children_out, column_is, every_at, every_top_at}
-use Rattle.ipc_column.proofs.Goods.{slots_at, good_within, fewer_slots}
+use Rattle.ipc_column.proofs.Goods.{slots_at, good_within, fewer_slots, shown_is}
 use Rattle.ipc_column.proofs.Slices.{places}
 
 -- a bitmap of n bits has those up to a slot
@@ -173,9 +174,11 @@ items_at f i (suc n) (suc k) l =
     items_at f (i + 1) n k (omega arith) ∙ ap (λ (j : ℕ). Some (f j)) e
 
 good_at : (body : List ℕ) (ps : List ColumnRanges) (a b i j : ℕ) (p : ColumnRanges) → j < length ps → p ≡ get_or ps j p → a ≤ i → i < b
-    → good (columns body ps) a b ≡ true → good_slot (good (children_of body p)) (column_of body p) i ≡ true
+    → good cause.ValueNotUtf8 (columns body ps) a b ≡ true → good_slot cause.ValueNotUtf8 (good cause.ValueNotUtf8 (children_of body p))
+    (column_of body p) i ≡ true
 good_at body [] a b i j p l e f m h = absurd (omega arith)
-good_at body (q ∷ ps) a b i zero p l e f m h = rw e (slots_at (good_slot (good (children_of body q)) (column_of body q)) a b i
+good_at body (q ∷ ps) a b i zero p l e f m h = rw e (slots_at (good_slot cause.ValueNotUtf8 (good cause.ValueNotUtf8
+    (children_of body q)) (column_of body q)) a b i
     (and_parts _ _ h).0 f m)
 good_at body (q ∷ ps) a b i (suc j) p l e f m h = good_at body ps a b i j p (omega arith) e f m (and_parts _ _ h).1
 
@@ -208,7 +211,8 @@ pub record Stands (c : Column) (children : Columns) (i : ℕ) : Type 0 where
   pub bitmap : has_bitmap (i + 1) (length c.validity) ≡ true
   pub long : Long c children
   pub sound : (why : Cause) → every (passes why) children ≡ true
-  pub good : is_valid c.validity i ≡ true → good_below c.layout (good children) c.offsets c.values i ≡ true
+  pub good : is_valid c.validity i ≡ true → good_below cause.ValueNotUtf8 c.layout c.dictionary
+      (good cause.ValueNotUtf8 children) c.offsets c.values i ≡ true
 
 pub stands : (c : Column) (children : Columns) (i : ℕ) → HasValue c children i → Stands c children i
 stands c children i h =
@@ -218,7 +222,8 @@ stands c children i h =
       bitmap = bitmap_front c.slots i (length c.validity) k.bitmap h.slot.within;
       long = k;
       sound = h.slot.sound;
-      good = visible (is_valid c.validity i) (good_below c.layout (good children) c.offsets c.values i) h.good;
+      good = visible (is_valid c.validity i) (good_below cause.ValueNotUtf8 c.layout c.dictionary
+          (good cause.ValueNotUtf8 children) c.offsets c.values i) h.good;
     }
 
 -- the same of a part, by its fields
@@ -246,7 +251,8 @@ list_values c children i h e v =
 
 -- the slots that a list of a fixed size holds have values
 pub fixed_values : (children : Columns) (size n i : ℕ) → i < n → are_long (l.FixedLists size) n children ≡ true
-    → ((why : Cause) → every (passes why) children ≡ true) → good_below (l.FixedLists size) (good children) [] [] i ≡ true
+    → ((why : Cause) → every (passes why) children ≡ true) → good_below cause.ValueNotUtf8 (l.FixedLists size) []
+    (good cause.ValueNotUtf8 children) [] [] i ≡ true
     → HaveValues children (size * i) (size * (i + 1))
 fixed_values children size n i l h s g =
     let r = fixed_range [] children size n h i (i + 1) (omega arith) (omega arith) in
@@ -254,7 +260,8 @@ fixed_values children size n i l h s g =
 
 -- a struct's slot has values in its children
 pub struct_values : (children : Columns) (n i : ℕ) → i < n → are_long l.Structs n children ≡ true
-    → ((why : Cause) → every (passes why) children ≡ true) → good_below l.Structs (good children) [] [] i ≡ true
+    → ((why : Cause) → every (passes why) children ≡ true) → good_below cause.ValueNotUtf8 l.Structs []
+    (good cause.ValueNotUtf8 children) [] [] i ≡ true
     → HaveValues children i (i + 1)
 struct_values children n i l h s g = record {
   slots = record { order = omega arith; within = fewer_slots children (i + 1) n (omega arith) h; sound = s };
@@ -277,16 +284,16 @@ row_slots cs n i j l m s t = record { order = l; within = have_at cs n j m t; so
 pub row_values : (cs : Columns) (n i : ℕ) → i < n → Holds n cs → HaveValues cs i (i + 1)
 row_values cs n i l h =
     let top : (why : Cause) → every_top (top_passes why n) cs ≡ true = λ why. (and_parts _ _ (and_parts _ _ (h why)).1).0 in
-    let all : good cs 0 n ≡ true = (and_parts _ _ (and_parts _ _ (h cause.ValueNotUtf8)).1).1 in
+    let all : good cause.ValueNotUtf8 cs 0 n ≡ true = (and_parts _ _ (and_parts _ _ (h cause.ValueNotUtf8)).1).1 in
     record {
       slots = row_slots cs n i (i + 1) (omega arith) (omega arith) (λ why. (and_parts _ _ (h why)).0) (top cause.BadNode);
-      good = good_within cs 0 n i (i + 1) all (omega arith) (omega arith) (omega arith);
+      good = good_within cause.ValueNotUtf8 cs 0 n i (i + 1) all (omega arith) (omega arith) (omega arith);
     }
 
 -- a list's slots, of these offsets and children
 pub list_have : (o : List ℕ) (cs : Columns) (n i size : ℕ) → i < n → holds_offsets l.Lists n (length o) ≡ true
     → in_order l.Lists n o size cs ≡ true → ((why : Cause) → every (passes why) cs ≡ true)
-    → good_below l.Lists (good cs) o [] i ≡ true → HaveValues cs (place o i) (place o (i + 1))
+    → good_below cause.ValueNotUtf8 l.Lists [] (good cause.ValueNotUtf8 cs) o [] i ≡ true → HaveValues cs (place o i) (place o (i + 1))
 list_have o cs n i size m a b s g =
     let bytes = bytes_from n (length o) a (omega arith) in
     let both = and_parts (are_ascending o n (place o n)) (have_slots (place o n) cs) (order_from n o _ b (omega arith) bytes) in
@@ -352,15 +359,25 @@ tops_judged cs n h cause.BufferTooShort = every_top_true cs
 tops_judged cs n h cause.BadNullCount = every_top_true cs
 tops_judged cs n h cause.BadOffsets = every_top_true cs
 tops_judged cs n h cause.ValueNotUtf8 = every_top_true cs
+tops_judged cs n h cause.BadIndex = every_top_true cs
 
 -- all tests of columns whose rows are good
 pub all_judged : (cs : Columns) (n : ℕ) → ((why : Cause) → every (passes why) cs ≡ true)
-    → ((why : Cause) → every_top (top_passes why n) cs ≡ true) → good cs 0 n ≡ true → (why : Cause) → all_pass why n cs ≡ true
-all_judged cs n s t g cause.ValueNotUtf8 = and_from _ _ (s cause.ValueNotUtf8) (and_from _ _ (t cause.ValueNotUtf8) g)
-all_judged cs n s t g cause.BadNode = and_from _ _ (s cause.BadNode) (and_from _ _ (t cause.BadNode) refl)
-all_judged cs n s t g cause.WrongNodeCount = and_from _ _ (s cause.WrongNodeCount) (and_from _ _ (t cause.WrongNodeCount) refl)
-all_judged cs n s t g cause.WrongBufferCount = and_from _ _ (s cause.WrongBufferCount) (and_from _ _ (t cause.WrongBufferCount) refl)
-all_judged cs n s t g cause.BufferOutOfBody = and_from _ _ (s cause.BufferOutOfBody) (and_from _ _ (t cause.BufferOutOfBody) refl)
-all_judged cs n s t g cause.BufferTooShort = and_from _ _ (s cause.BufferTooShort) (and_from _ _ (t cause.BufferTooShort) refl)
-all_judged cs n s t g cause.BadNullCount = and_from _ _ (s cause.BadNullCount) (and_from _ _ (t cause.BadNullCount) refl)
-all_judged cs n s t g cause.BadOffsets = and_from _ _ (s cause.BadOffsets) (and_from _ _ (t cause.BadOffsets) refl)
+    → ((why : Cause) → every_top (top_passes why n) cs ≡ true) → ((why : Cause) → good why cs 0 n ≡ true)
+    → (why : Cause) → all_pass why n cs ≡ true
+all_judged cs n s t g why = and_from _ _ (s why) (and_from _ _ (t why) (sym (shown_is why n cs) ∙ g why))
+
+-- what rows show fails its test
+pub shown_fails : (why : Cause) (n : ℕ) (cs : Columns) → good why cs 0 n ≡ false → all_pass why n cs ≡ false
+shown_fails why n cs h =
+    and_right (every (passes why) cs) _ (and_right (every_top (top_passes why n) cs) _ (sym (shown_is why n cs) ∙ h))
+
+-- a cause that is found in what rows show asks nothing of the columns
+pub shown_asks : (why : Cause) (cs : Columns) → is_shown why ≡ true → every (passes why) cs ≡ true
+shown_asks cause.ValueNotUtf8 cs e = every_true cs
+shown_asks cause.BadIndex cs e = every_true cs
+shown_asks _ cs e = absurd (false≢true e)
+
+-- a bitmap of n bits has those before a slot
+pub bitmap_upto : (n i bytes : ℕ) → has_bitmap n bytes ≡ true → i ≤ n → has_bitmap i bytes ≡ true
+bitmap_upto n i bytes h l = grind arith

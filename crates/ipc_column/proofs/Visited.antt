@@ -1,27 +1,29 @@
 -- What the visits of a part stand on.
 use Rattle.std.proofs.Common.{◌≡◌, ◌∙◌, refl, sym, ap, subst, ℕ, ◌+◌, ◌-◌, ◌*◌, ◌<◌, ◌≤◌, Bool, true, false, List, [], ◌∷◌, length}
 use Rattle.std.proofs.Common.{arith, drop}
-use Rattle.std.specs.Prelude.{◌||◌, ◌==◌}
-use Rattle.std.proofs.lemmas.Bool.{false≢true}
+use Rattle.std.specs.Prelude.{◌||◌, ◌==◌, ℤ}
+use Rattle.std.proofs.lemmas.Bool.{false≢true, leb-true}
 use Rattle.std.proofs.lemmas.List.{drop_all}
 use Rattle.ipc_model.specs.declared.layout.Layout.{Layout}
 use Rattle.ipc_model.specs.declared.layout.Layout.TheVariants as l
-use Rattle.ipc_model.specs.Layouts.{is_texts}
+use Rattle.ipc_model.specs.Layouts.{is_judged, is_texts, number_bytes}
+use Rattle.ipc_model.specs.declared.schema.IntBits.{IntBits}
+use Rattle.std.proofs.Math.Nat.{mul-le-mul_left}
 use Rattle.ipc_column.specs.declared.ranges.ColumnRanges.{ColumnRanges}
 use Rattle.ipc_column.specs.declared.ranges.ColumnRanges.TheViews.{out-ColumnRanges}
 use Rattle.ipc_column.specs.Columns.{Column, Columns, none, column}
 use Rattle.ipc_column.specs.Values.{place, child_slot, is_nested}
-use Rattle.ipc_column.specs.Rules.{have_texts, is_visited}
+use Rattle.ipc_column.specs.Rules.{have_judged, is_visited}
 use Rattle.ipc_column.specs.declared.cause.Cause.{Cause}
 use Rattle.ipc_column.specs.declared.cause.Cause.TheVariants as cause
-use Rattle.ipc_column.specs.Checks.{good, range_good, all_slots, text_good, passes}
+use Rattle.ipc_column.specs.Checks.{IsIndexed, good, range_good, all_slots, text_good, index_good, passes, holds_values}
 use Rattle.ipc_column.specs.Lent.{AreSlots}
 use Rattle.ipc_column.specs.Views.{columns, column_of, children_of, own_column, one}
 use Rattle.ipc_column.specs.Weights.{weight, weight_below}
 use Rattle.ipc_column.proofs.Parts.{children_out, column_is}
 use Rattle.ipc_column.proofs.Slots.{TextParts, list_parts, text_parts, slots_below, slots_within, part_slots, part_long, part_most}
 use Rattle.ipc_column.proofs.FixedLists.{fixed_end}
-use Rattle.ipc_column.proofs.Goods.{range_enough, range_whole, quiet_good, texts_good}
+use Rattle.ipc_column.proofs.Goods.{range_enough, range_whole, quiet_good, texts_good, texts_pass, indices_good, indices_pass}
 
 -- what holds of a part's own fields holds of its column and its children
 pub part_back : (P : Column → Columns → Type 0) (body : List ℕ) (p : ColumnRanges)
@@ -117,43 +119,44 @@ pub struct_weight : (body : List ℕ) (p : ColumnRanges) (i j : ℕ) → (out-Co
 struct_weight body p i j e = weight_is body p i j
     ∙ ap (λ (x : Layout). weight_below x (weight (columns body (out-ColumnRanges p).children.items)) (own_column body p).offsets i j) e
 
-pub range_is : (body : List ℕ) (p : ColumnRanges) (i j : ℕ)
-    → range_good (column_of body p).layout (good (children_of body p)) (column_of body p).offsets i j
-    ≡ range_good (out-ColumnRanges p).layout (good (columns body (out-ColumnRanges p).children.items)) (own_column body p).offsets i j
-range_is body p i j =
-    ap (λ (c : Column). range_good c.layout (good (children_of body p)) c.offsets i j) (column_is body p)
-    ∙ ap (λ (cs : Columns). range_good (out-ColumnRanges p).layout (good cs) (own_column body p).offsets i j) (children_out body p)
+pub range_is : (why : Cause) (body : List ℕ) (p : ColumnRanges) (i j : ℕ)
+    → range_good (column_of body p).layout (good why (children_of body p)) (column_of body p).offsets i j
+    ≡ range_good (out-ColumnRanges p).layout (good why (columns body (out-ColumnRanges p).children.items)) (own_column body p).offsets i j
+range_is why body p i j =
+    ap (λ (c : Column). range_good c.layout (good why (children_of body p)) c.offsets i j) (column_is body p)
+    ∙ ap (λ (cs : Columns). range_good (out-ColumnRanges p).layout (good why cs) (own_column body p).offsets i j) (children_out body p)
 
 -- what lists of a fixed size lead to, the same
-pub fixed_good_between : (body : List ℕ) (p : ColumnRanges) (i j size first last : ℕ)
+pub fixed_good_between : (why : Cause) (body : List ℕ) (p : ColumnRanges) (i j size first last : ℕ)
     → (out-ColumnRanges p).layout ≡ l.FixedLists size → i < j
     → (0 < length (out-ColumnRanges p).children.items → first ≡ size * i)
     → (0 < length (out-ColumnRanges p).children.items → last ≡ size * (j - 1))
-    → good (columns body (out-ColumnRanges p).children.items) first (last + size)
-    ≡ range_good (column_of body p).layout (good (children_of body p)) (column_of body p).offsets i j
-fixed_good_between body p i j size first last e l f g =
+    → good why (columns body (out-ColumnRanges p).children.items) first (last + size)
+    ≡ range_good (column_of body p).layout (good why (children_of body p)) (column_of body p).offsets i j
+fixed_good_between why body p i j size first last e l f g =
     between_good (out-ColumnRanges p).children.items f g
-    ∙ sym (range_is body p i j
-    ∙ ap (λ (x : Layout). range_good x (good (columns body (out-ColumnRanges p).children.items)) (own_column body p).offsets i j) e)
+    ∙ sym (range_is why body p i j
+    ∙ ap (λ (x : Layout). range_good x (good why (columns body (out-ColumnRanges p).children.items)) (own_column body p).offsets i j) e)
   where
     between_good : (ps : List ColumnRanges) → (0 < length ps → first ≡ size * i) → (0 < length ps → last ≡ size * (j - 1))
-        → good (columns body ps) first (last + size) ≡ good (columns body ps) (size * i) (size * j)
+        → good why (columns body ps) first (last + size) ≡ good why (columns body ps) (size * i) (size * j)
     between_good [] f g = refl
     between_good (q ∷ qs) f g =
         let some : 0 < length (q ∷ qs) = omega arith in
         rw (f some, fixed_end size j last i l (g some)) refl
 
-pub list_good : (body : List ℕ) (p : ColumnRanges) (i j : ℕ) → (out-ColumnRanges p).layout ≡ l.Lists
-    → range_good (column_of body p).layout (good (children_of body p)) (column_of body p).offsets i j
-    ≡ good (columns body (out-ColumnRanges p).children.items) (place (own_column body p).offsets i) (place (own_column body p).offsets j)
-list_good body p i j e = range_is body p i j
-    ∙ ap (λ (x : Layout). range_good x (good (columns body (out-ColumnRanges p).children.items)) (own_column body p).offsets i j) e
+pub list_good : (why : Cause) (body : List ℕ) (p : ColumnRanges) (i j : ℕ) → (out-ColumnRanges p).layout ≡ l.Lists
+    → range_good (column_of body p).layout (good why (children_of body p)) (column_of body p).offsets i j
+    ≡ good why (columns body (out-ColumnRanges p).children.items) (place (own_column body p).offsets i) (place
+    (own_column body p).offsets j)
+list_good why body p i j e = range_is why body p i j
+    ∙ ap (λ (x : Layout). range_good x (good why (columns body (out-ColumnRanges p).children.items)) (own_column body p).offsets i j) e
 
-pub struct_good : (body : List ℕ) (p : ColumnRanges) (i j : ℕ) → (out-ColumnRanges p).layout ≡ l.Structs
-    → range_good (column_of body p).layout (good (children_of body p)) (column_of body p).offsets i j
-    ≡ good (columns body (out-ColumnRanges p).children.items) i j
-struct_good body p i j e = range_is body p i j
-    ∙ ap (λ (x : Layout). range_good x (good (columns body (out-ColumnRanges p).children.items)) (own_column body p).offsets i j) e
+pub struct_good : (why : Cause) (body : List ℕ) (p : ColumnRanges) (i j : ℕ) → (out-ColumnRanges p).layout ≡ l.Structs
+    → range_good (column_of body p).layout (good why (children_of body p)) (column_of body p).offsets i j
+    ≡ good why (columns body (out-ColumnRanges p).children.items) i j
+struct_good why body p i j e = range_is why body p i j
+    ∙ ap (λ (x : Layout). range_good x (good why (columns body (out-ColumnRanges p).children.items)) (own_column body p).offsets i j) e
 
 leaf_slot : (layout : Layout) (o : List ℕ) (k : ℕ) → is_nested layout ≡ false → child_slot layout o k ≡ k
 leaf_slot l.Lists o k n = absurd (false≢true (sym n))
@@ -174,54 +177,104 @@ rising c children i j h k a b =
     ] refl
 
 -- without a bitmap, what a part's slots lead to is what they are
-pub whole_part : (body : List ℕ) (p : ColumnRanges) (i j : ℕ) → AreSlots (one body p) i j → is_texts (out-ColumnRanges p).layout ≡ false
+pub whole_part : (why : Cause) (body : List ℕ) (p : ColumnRanges) (i j : ℕ) → AreSlots (one body p) i j
+    → is_judged (out-ColumnRanges p).layout ≡ false
     → length (own_column body p).validity ≡ 0
-    → range_good (column_of body p).layout (good (children_of body p)) (column_of body p).offsets i j ≡ good (one body p) i j
-whole_part body p i j h t v =
-    range_whole (column_of body p) (children_of body p) i j (ap is_texts (layout_is body p) ∙ t)
+    → range_good (column_of body p).layout (good why (children_of body p)) (column_of body p).offsets i j ≡ good why (one body p) i j
+whole_part why body p i j h t v =
+    range_whole why (column_of body p) (children_of body p) i j (ap is_judged (layout_is body p) ∙ t)
     (ap (λ (c : Column). length c.validity) (column_is body p) ∙ v) h.order (rising (column_of body p) (children_of body p) i j h)
 
 or_true : (a : Bool) → (a || true) ≡ true
 or_true true = refl
 or_true false = refl
 
--- a part with a bitmap that texts stand below is visited
+-- a part with a bitmap that texts or indices stand below is visited
 pub visited_below : (body : List ℕ) (p : ColumnRanges) → (length (own_column body p).validity == 0) ≡ false
-    → have_texts (columns body (out-ColumnRanges p).children.items) ≡ true
+    → have_judged (columns body (out-ColumnRanges p).children.items) ≡ true
     → is_visited (column_of body p) (children_of body p) ≡ true
 visited_below body p v t =
-    part_back (λ c cs. is_visited c cs ≡ true) body p (rw (v, t) (or_true (is_texts (out-ColumnRanges p).layout)))
+    part_back (λ c cs. is_visited c cs ≡ true) body p (rw (v, t) (or_true (is_judged (out-ColumnRanges p).layout)))
 
--- a part of texts is visited
-pub visited_texts : (body : List ℕ) (p : ColumnRanges) → is_texts (out-ColumnRanges p).layout ≡ true
+-- a part of texts or indices is visited
+pub visited_judged : (body : List ℕ) (p : ColumnRanges) → is_judged (column_of body p).layout ≡ true
     → is_visited (column_of body p) (children_of body p) ≡ true
-visited_texts body p t = part_back (λ c cs. is_visited c cs ≡ true) body p (rw t refl)
+visited_judged body p t = rw t refl
 
--- texts stand in a part or below it as its own layout and its children say
-pub texts_is : (body : List ℕ) (p : ColumnRanges)
-    → have_texts (one body p) ≡ (is_texts (out-ColumnRanges p).layout || have_texts (columns body (out-ColumnRanges p).children.items))
-texts_is body p =
-    ap (λ (x : Layout). is_texts x || (have_texts (children_of body p) || false)) (layout_is body p)
-    ∙ (ap (λ (cs : Columns). is_texts (out-ColumnRanges p).layout || (have_texts cs || false)) (children_out body p)
-    ∙ ap (λ (b : Bool). is_texts (out-ColumnRanges p).layout || b)
-    (or_false (have_texts (columns body (out-ColumnRanges p).children.items))))
+-- texts are judged
+pub texts_judged : (layout : Layout) → is_texts layout ≡ true → is_judged layout ≡ true
+texts_judged (l.VariableBytes true) e = refl
+texts_judged _ e = absurd (false≢true e)
+
+-- and so are indices
+pub indices_judged : (layout : Layout) (bits : IntBits) (signed : Bool) → IsIndexed layout bits signed → is_judged layout ≡ true
+indices_judged layout bits signed e = rw e.1 refl
+
+-- texts or indices stand in a part or below it as its own layout and its children say
+pub judged_is : (body : List ℕ) (p : ColumnRanges)
+    → have_judged (one body p) ≡ (is_judged (out-ColumnRanges p).layout || have_judged (columns body (out-ColumnRanges p).children.items))
+judged_is body p =
+    ap (λ (x : Layout). is_judged x || (have_judged (children_of body p) || false)) (layout_is body p)
+    ∙ (ap (λ (cs : Columns). is_judged (out-ColumnRanges p).layout || (have_judged cs || false)) (children_out body p)
+    ∙ ap (λ (b : Bool). is_judged (out-ColumnRanges p).layout || b)
+    (or_false (have_judged (columns body (out-ColumnRanges p).children.items))))
   where
     or_false : (a : Bool) → (a || false) ≡ a
     or_false true = refl
     or_false false = refl
 
--- a part without texts in it or below it is good
-pub quiet_part : (body : List ℕ) (p : ColumnRanges) (i j : ℕ) → is_texts (out-ColumnRanges p).layout ≡ false
-    → have_texts (columns body (out-ColumnRanges p).children.items) ≡ false → good (one body p) i j ≡ true
-quiet_part body p i j t h = quiet_good (one body p) i j (texts_is body p ∙ rw (t, h) refl)
+-- a part without texts or indices in it or below it is good
+pub quiet_part : (why : Cause) (body : List ℕ) (p : ColumnRanges) (i j : ℕ) → is_judged (out-ColumnRanges p).layout ≡ false
+    → have_judged (columns body (out-ColumnRanges p).children.items) ≡ false → good why (one body p) i j ≡ true
+quiet_part why body p i j t h = quiet_good why (one body p) i j (judged_is body p ∙ rw (t, h) refl)
 
 -- the slots of a part of texts
-pub texts_part : (body : List ℕ) (p : ColumnRanges) (i j : ℕ) → is_texts (out-ColumnRanges p).layout ≡ true
+pub texts_part : (body : List ℕ) (p : ColumnRanges) (i j : ℕ) → is_texts (column_of body p).layout ≡ true
     → all_slots (text_good (own_column body p).validity (own_column body p).offsets (own_column body p).values) i (j - i)
-    ≡ good (one body p) i j
+    ≡ good cause.ValueNotUtf8 (one body p) i j
 texts_part body p i j t =
-    texts_good (own_column body p) (children_of body p) i j t
-    ∙ ap (λ (c : Column). good (column c (children_of body p) none) i j) (sym (column_is body p))
+    texts_good (own_column body p) (children_of body p) i j (ap is_texts (sym (layout_is body p)) ∙ t)
+    ∙ ap (λ (c : Column). good cause.ValueNotUtf8 (column c (children_of body p) none) i j) (sym (column_is body p))
+
+-- and where they are UTF-8
+pub texts_pass_part : (body : List ℕ) (p : ColumnRanges) (i j : ℕ) → is_texts (column_of body p).layout ≡ true
+    → all_slots (text_good (own_column body p).validity (own_column body p).offsets (own_column body p).values) i (j - i) ≡ true
+    → (why : Cause) → good why (one body p) i j ≡ true
+texts_pass_part body p i j t h why =
+    subst (λ (c : Column). good why (column c (children_of body p) none) i j ≡ true) (sym (column_is body p))
+    (texts_pass (own_column body p) (children_of body p) i j (ap is_texts (sym (layout_is body p)) ∙ t) h why)
+
+indexed_is : (body : List ℕ) (p : ColumnRanges) (bits : IntBits) (signed : Bool) → IsIndexed (column_of body p).layout bits signed
+    → IsIndexed (own_column body p).layout bits signed
+indexed_is body p bits signed e = (e.0, sym (layout_is body p) ∙ e.1)
+
+-- the slots of a part of indices
+pub indices_part : (body : List ℕ) (p : ColumnRanges) (bits : IntBits) (signed : Bool) (i j : ℕ)
+    → IsIndexed (column_of body p).layout bits signed
+    → all_slots (index_good (own_column body p).validity bits signed (length (out-ColumnRanges p).dictionary) (own_column body p).values)
+    i (j - i) ≡ good cause.BadIndex (one body p) i j
+indices_part body p bits signed i j e =
+    indices_good (own_column body p) (children_of body p) bits signed i j (indexed_is body p bits signed e)
+    ∙ ap (λ (c : Column). good cause.BadIndex (column c (children_of body p) none) i j) (sym (column_is body p))
+
+-- and where they are those of values
+pub indices_pass_part : (body : List ℕ) (p : ColumnRanges) (bits : IntBits) (signed : Bool) (i j : ℕ)
+    → IsIndexed (column_of body p).layout bits signed
+    → all_slots (index_good (own_column body p).validity bits signed (length (out-ColumnRanges p).dictionary) (own_column body p).values)
+    i (j - i) ≡ true → (why : Cause) → good why (one body p) i j ≡ true
+indices_pass_part body p bits signed i j e h why =
+    subst (λ (c : Column). good why (column c (children_of body p) none) i j ≡ true) (sym (column_is body p))
+    (indices_pass (own_column body p) (children_of body p) bits signed i j (indexed_is body p bits signed e) h why)
+
+-- the bytes of the indices up to a slot are there
+pub indices_bytes : (body : List ℕ) (p : ColumnRanges) (bits : IntBits) (signed : Bool) (i j : ℕ) → AreSlots (one body p) i j → i < j
+    → IsIndexed (column_of body p).layout bits signed → number_bytes bits * j ≤ length (own_column body p).values
+indices_bytes body p bits signed i j h m e =
+    let most = part_most body p i j h in
+    let held = leb-true _ _ (subst (λ (x : Layout). holds_values x (out-ColumnRanges p).slots (length (own_column body p).values) ≡ true)
+    (indexed_is body p bits signed e).1 (part_long body p i j h).values) in
+    let less : number_bytes bits * j ≤ number_bytes bits * (out-ColumnRanges p).slots = mul-le-mul_left (number_bytes bits) most in
+    omega (arith, held, less)
 
 pub texts_of : (body : List ℕ) (p : ColumnRanges) (i j : ℕ) → AreSlots (one body p) i j → i < j
     → is_texts (out-ColumnRanges p).layout ≡ true → TextParts (own_column body p)
@@ -230,8 +283,9 @@ texts_of body p i j h m t =
     text_parts (own_column body p) (columns body (out-ColumnRanges p).children.items) (part_long body p i j h) t (omega arith)
 
 -- behind the last part all is good
-pub good_done : (body : List ℕ) (ps : List ColumnRanges) (i a b : ℕ) → length ps ≤ i → good (columns body (drop i ps)) a b ≡ true
-good_done body ps i a b h = rw (drop_all i ps h) refl
+pub good_done : (why : Cause) (body : List ℕ) (ps : List ColumnRanges) (i a b : ℕ) → length ps ≤ i
+    → good why (columns body (drop i ps)) a b ≡ true
+good_done why body ps i a b h = rw (drop_all i ps h) refl
 
 -- each test of a column
 pub all_pass_from : (c : Column) (children : Columns) → passes cause.BufferTooShort c children ≡ true
@@ -245,10 +299,21 @@ all_pass_from c children a b d e cause.WrongNodeCount = refl
 all_pass_from c children a b d e cause.WrongBufferCount = refl
 all_pass_from c children a b d e cause.BufferOutOfBody = refl
 all_pass_from c children a b d e cause.ValueNotUtf8 = refl
+all_pass_from c children a b d e cause.BadIndex = refl
 
 -- where what a part's slots lead to is good, they are
-pub enough_part : (body : List ℕ) (p : ColumnRanges) (i j : ℕ) → AreSlots (one body p) i j → is_texts (out-ColumnRanges p).layout ≡ false
-    → range_good (column_of body p).layout (good (children_of body p)) (column_of body p).offsets i j ≡ true → good (one body p) i j ≡ true
-enough_part body p i j h t =
-    range_enough (column_of body p) (children_of body p) i j (ap is_texts (layout_is body p) ∙ t) h.order
+pub enough_part : (why : Cause) (body : List ℕ) (p : ColumnRanges) (i j : ℕ) → AreSlots (one body p) i j
+    → is_judged (out-ColumnRanges p).layout ≡ false
+    → range_good (column_of body p).layout (good why (children_of body p)) (column_of body p).offsets i j ≡ true
+    → good why (one body p) i j ≡ true
+enough_part why body p i j h t =
+    range_enough why (column_of body p) (children_of body p) i j (ap is_judged (layout_is body p) ∙ t) h.order
     (rising (column_of body p) (children_of body p) i j h)
+
+-- what is neither texts nor indices isn't judged
+pub not_judged : (layout : Layout) → is_texts layout ≡ false → ((bits : IntBits) (signed : Bool) (id : ℤ)
+    → ¬ (layout ≡ l.Indices bits signed id))
+    → is_judged layout ≡ false
+not_judged (l.VariableBytes true) t n = absurd (false≢true (sym t))
+not_judged (l.Indices bits signed id) t n = absurd (n bits signed id refl)
+not_judged _ t n = refl

@@ -4,6 +4,7 @@ use Rattle.std.proofs.Common.{arith, add-one, drop-cons}
 use Rattle.std.specs.Prelude.{◌^◌, ℤ, pos, negsuc, unsigned_abs}
 use Rattle.std.proofs.lemmas.Bool.{and_parts, leb-true}
 use Rattle.ipc_meta.specs.declared.head.BatchHead.{BatchHead}
+use Rattle.ipc_column.specs.Dictionaries.{Dictionaries}
 use Rattle.ipc_column.specs.Rules.{is_visited, visits_in, count_of, slots_in}
 use Rattle.ipc_column.specs.Shapes.{Shape, bare, field, cut, column_at, nodes_in, buffers_in, node_at}
 use Rattle.ipc_column.specs.Checks.{all, is_node, is_slot_count}
@@ -32,28 +33,31 @@ own_most : (b : Bool) (n : ℕ) → cond b n 0 ≤ n
 own_most true n = omega arith
 own_most false n = omega arith
 
-visits_cut : (limits : Limits) (s : Shape) (head : BatchHead) (body : List ℕ) (n b : ℕ) → all (is_node limits) head.nodes ≡ true
+visits_cut : (limits : Limits) (m : Dictionaries) (s : Shape) (head : BatchHead) (body : List ℕ) (n b : ℕ)
+    → all (is_node limits) head.nodes ≡ true
     → n + nodes_in s ≤ length head.nodes
-    → visits_in (cut s head body n b) + slots_in (drop (n + nodes_in s) head.nodes) ≤ slots_in (drop n head.nodes)
+    → visits_in (cut m s head body n b) + slots_in (drop (n + nodes_in s) head.nodes) ≤ slots_in (drop n head.nodes)
 unfolding cut nodes_in
-visits_cut limits bare head body n b h l = let e : n + 0 ≡ n = omega arith in rw e (omega arith)
-visits_cut limits (field layout children rest) head body n b h l =
+visits_cut limits m bare head body n b h l = let e : n + 0 ≡ n = omega arith in rw e (omega arith)
+visits_cut limits m (field layout children rest) head body n b h l =
     let here = slots_from head.nodes n (omega arith) in
     let node = (and_parts _ _ (all_at (is_node limits) head.nodes n (pos 0, pos 0) h (omega arith))).0 in
-    let own = own_most (is_visited (column_at layout head body n b) (cut children head body (n + 1) (b + own_buffers layout)))
+    let own = own_most (is_visited (column_at m layout head body n b) (cut m children head body (n + 1) (b + own_buffers layout)))
     (unsigned_abs (node_at head n).0) in
     let count = count_is limits (node_at head n).0 node in
-    let below = visits_cut limits children head body (n + 1) (b + own_buffers layout) h (omega arith) in
-    let after = visits_cut limits rest head body (n + 1 + nodes_in children) (b + own_buffers layout + buffers_in children) h (omega arith)
+    let below = visits_cut limits m children head body (n + 1) (b + own_buffers layout) h (omega arith) in
+    let after = visits_cut limits m rest head body (n + 1 + nodes_in children) (b + own_buffers layout + buffers_in children) h
+    (omega arith)
     in
     let end : n + (1 + nodes_in children + nodes_in rest) ≡ n + 1 + nodes_in children + nodes_in rest = omega arith in
     rw end (omega (arith, here, own, count, below, after))
 
 -- the slots of the nodes
-pub visits_most : (limits : Limits) (s : Shape) (head : BatchHead) (body : List ℕ) → all (is_node limits) head.nodes ≡ true
+pub visits_most : (limits : Limits) (m : Dictionaries) (s : Shape) (head : BatchHead) (body : List ℕ)
+    → all (is_node limits) head.nodes ≡ true
     → nodes_in s ≤ length head.nodes
-    → visits_in (cut s head body 0 0) ≤ slots_in head.nodes
-visits_most limits s head body h l = omega (arith, visits_cut limits s head body 0 0 h (omega arith))
+    → visits_in (cut m s head body 0 0) ≤ slots_in head.nodes
+visits_most limits m s head body h l = omega (arith, visits_cut limits m s head body 0 0 h (omega arith))
 
 -- nodes have at most 2^31 slots each
 pub slots_most : (limits : Limits) (nodes : List (ℤ × ℤ)) → all (is_node limits) nodes ≡ true → slots_in nodes ≤ 2 ^ 31 * length nodes

@@ -8,6 +8,7 @@ use Rattle.ipc_model.specs.declared.schema.Field.{Field}
 use Rattle.ipc_model.specs.declared.value.Value.{Value}
 use Rattle.ipc_meta.specs.declared.head.BatchHead.{BatchHead}
 use Rattle.ipc_column.specs.Rules.{IsSlotCount, IsNode}
+use Rattle.ipc_column.specs.Dictionaries.{Dictionaries}
 use Rattle.ipc_column.specs.Rows.{Rows}
 
 count_wider : (limits others : Limits) (count : ℤ) → Covers others limits → IsSlotCount limits count → IsSlotCount others count
@@ -21,10 +22,10 @@ node_wider limits others node c h = record {
 }
 
 -- the parts that give rows under some limits give them under all that cover them
-pub rows_wider : (limits others : Limits) (fields : List Field) (head : BatchHead) (body : List ℕ) (rows : List (List Value))
-    → Covers others limits → Rows limits fields head body rows → Rows others fields head body rows
-rows_wider limits others fields head body rows c r = record {
-  plain = r.plain;
+pub rows_wider : (limits others : Limits) (m : Dictionaries) (fields : List Field) (head : BatchHead) (body : List ℕ) (rows : List
+    (List Value))
+    → Covers others limits → Rows limits m fields head body rows → Rows others m fields head body rows
+rows_wider limits others m fields head body rows c r = record {
   nodes = r.nodes;
   buffers = r.buffers;
   lengths = record {
@@ -38,6 +39,7 @@ rows_wider limits others fields head body rows c r = record {
   null_counts = r.null_counts;
   order = r.order;
   texts = r.texts;
+  indices = r.indices;
   count = r.count;
   values = r.values;
 }

@@ -1,7 +1,8 @@
 -- The same facts as tests that compute, by the cause that is answered where one fails (Arrow
 -- Columnar Format, "Physical Memory Layout").
 use Rattle.std.specs.Prelude.{◌≡◌, ⊤, ℕ, zero, suc, ◌+◌, ◌-◌, ◌*◌, ◌/◌, ◌<◌, ◌≤◌, Bool, true}
-use Rattle.std.specs.Prelude.{false, ◌&&◌, ◌||◌, not, ◌==◌, nat_le, ℤ, pos, int_le, unsigned_abs}
+use Rattle.std.specs.Prelude.{false, ◌&&◌, ◌||◌, not, ◌==◌, nat_le, ℤ, pos, is_some, int_le}
+use Rattle.std.specs.Prelude.{unsigned_abs}
 use Rattle.std.specs.Prelude.{List, [], ◌∷◌, length, if◌then◌else◌, Result, Ok, Err}
 use Rattle.std.specs.Str.{is_utf8, IsCharBoundary}
 use Rattle.ipc_scalar.specs.Bytes.{clear}
@@ -15,7 +16,10 @@ use Rattle.ipc_column.specs.declared.cause.Cause.{Cause}
 use Rattle.ipc_column.specs.declared.cause.Cause.TheVariants as cause
 use Rattle.ipc_column.specs.Columns.{Column, Columns, none, column, every, every_top}
 use Rattle.ipc_column.specs.Shapes.{Shape, nodes_in, buffers_in, cut}
-use Rattle.ipc_column.specs.Values.{rows_of, offset, place, between, is_valid}
+use Rattle.ipc_column.specs.Values.{rows_of, offset, place, between, is_valid, number_in}
+use Rattle.ipc_column.specs.Values.{place_below}
+use Rattle.ipc_column.specs.Dictionaries.{Dictionaries}
+use Rattle.ipc_model.specs.declared.schema.IntBits.{IntBits}
 use Rattle.ipc_model.specs.declared.value.Value.{Value}
 use Rattle.ipc_model.specs.declared.limits.Limits.{Limits}
 
@@ -29,6 +33,7 @@ fault_of cause.BufferTooShort = fault.BufferTooShort
 fault_of cause.BadNullCount = fault.BadNullCount
 fault_of cause.BadOffsets = fault.BadOffsets
 fault_of cause.ValueNotUtf8 = fault.ValueNotUtf8
+fault_of cause.BadIndex = fault.BadIndex
 
 -- a family of tests: at Ok all hold, and a cause is answered only where its own fails
 abbrev pub Judges : {X : Type 0} → Result X Cause → (Cause → Bool) → Type 0
@@ -88,6 +93,7 @@ abbrev pub holds_values : Layout → ℕ → ℕ → Bool
 holds_values l.Bits n bytes = nat_le ((n + 7) / 8) bytes
 holds_values (l.Numbers bits signed) n bytes = nat_le (number_bytes bits * n) bytes
 holds_values (l.FixedBytes width) n bytes = nat_le (width * n) bytes
+holds_values (l.Indices bits signed id) n bytes = nat_le (number_bytes bits * n) bytes
 holds_values _ n bytes = true
 
 -- so many bytes hold the offsets of n slots
@@ -129,14 +135,28 @@ are_long _ n children = true
 abbrev pub all_slots : (ℕ → Bool) → ℕ → ℕ → Bool
 all_slots test i n = all_below (λ k. test (i + k)) n
 
--- what valid slot i holds is UTF-8 where it is a text; `below` tests a range of the children's
--- slots
-abbrev pub good_below : Layout → (ℕ → ℕ → Bool) → List ℕ → List ℕ → ℕ → Bool
-good_below (l.VariableBytes true) below offsets values i = is_utf8 (between offsets values i)
-good_below l.Lists below offsets values i = below (place offsets i) (place offsets (i + 1))
-good_below (l.FixedLists size) below offsets values i = below (size * i) (size * (i + 1))
-good_below l.Structs below offsets values i = below i (i + 1)
-good_below _ below offsets values i = true
+-- the test of a text
+abbrev pub text_passes : Cause → List ℕ → Bool
+text_passes cause.ValueNotUtf8 bytes = is_utf8 bytes
+text_passes _ bytes = true
+
+-- the test of an index
+abbrev pub index_passes : Cause → List Value → ℤ → Bool
+index_passes cause.BadIndex dictionary index = is_some (place_below (length dictionary) index)
+index_passes _ dictionary index = true
+
+-- the test of what valid slot i holds; `below` tests a range of the children's slots
+abbrev pub good_below : Cause → Layout → List Value → (ℕ → ℕ → Bool) → List ℕ → List ℕ → ℕ → Bool
+good_below why (l.VariableBytes true) dictionary below offsets values i =
+    text_passes why (between offsets values i)
+good_below why (l.Indices bits signed id) dictionary below offsets values i =
+    index_passes why dictionary (number_in bits signed values i)
+good_below why l.Lists dictionary below offsets values i =
+    below (place offsets i) (place offsets (i + 1))
+good_below why (l.FixedLists size) dictionary below offsets values i =
+    below (size * i) (size * (i + 1))
+good_below why l.Structs dictionary below offsets values i = below i (i + 1)
+good_below why _ dictionary below offsets values i = true
 
 -- what the slots from i up to j of a list or struct lead to is good
 abbrev pub range_good : Layout → (ℕ → ℕ → Bool) → List ℕ → ℕ → ℕ → Bool
@@ -145,21 +165,30 @@ range_good (l.FixedLists size) below offsets i j = below (size * i) (size * j)
 range_good l.Structs below offsets i j = below i j
 range_good _ below offsets i j = true
 
--- slot i is null, or holds what its type asks for
-abbrev pub good_slot : (ℕ → ℕ → Bool) → Column → ℕ → Bool
-good_slot below c i =
-    not (is_valid c.validity i) || good_below c.layout below c.offsets c.values i
+-- slot i is null, or passes the test
+abbrev pub good_slot : Cause → (ℕ → ℕ → Bool) → Column → ℕ → Bool
+good_slot why below c i = not (is_valid c.validity i)
+    || good_below why c.layout c.dictionary below c.offsets c.values i
 
--- the slots from i up to j are good in each column; nothing is asked below a null slot
-abbrev pub good : Columns → ℕ → ℕ → Bool
-good none i j = true
-good (column c children rest) i j =
-    all_slots (good_slot (good children) c) i (j - i) && good rest i j
+-- the slots from i up to j of each column pass the test; nothing is asked below a null slot
+abbrev pub good : Cause → Columns → ℕ → ℕ → Bool
+good why none i j = true
+good why (column c children rest) i j =
+    all_slots (good_slot why (good why children) c) i (j - i) && good why rest i j
 
 -- slot i is null, or holds a text
 abbrev pub text_good : List ℕ → List ℕ → List ℕ → ℕ → Bool
 text_good validity offsets values i =
     not (is_valid validity i) || is_utf8 (between offsets values i)
+
+-- the slots hold indices of this width and sign
+abbrev pub IsIndexed : Layout → IntBits → Bool → Type 0
+IsIndexed layout bits signed = (id : ℤ) × (layout ≡ l.Indices bits signed id)
+
+-- slot i is null, or holds the index of one of n values
+abbrev pub index_good : List ℕ → IntBits → Bool → ℕ → List ℕ → ℕ → Bool
+index_good validity bits signed n values i =
+    not (is_valid validity i) || is_some (place_below n (number_in bits signed values i))
 
 -- the slots of one text, from slot i up to slot j, begin where that may be cut
 abbrev pub AreCuts : List ℕ → List ℕ → ℕ → ℕ → Type 0
@@ -189,8 +218,15 @@ top_passes _ n c = true
 
 -- the test of what n rows of columns show
 abbrev pub visible_passes : Cause → ℕ → Columns → Bool
-visible_passes cause.ValueNotUtf8 n cs = good cs 0 n
+visible_passes cause.ValueNotUtf8 n cs = good cause.ValueNotUtf8 cs 0 n
+visible_passes cause.BadIndex n cs = good cause.BadIndex cs 0 n
 visible_passes _ n cs = true
+
+-- a cause that is found in what rows show, behind all others
+abbrev pub is_shown : Cause → Bool
+is_shown cause.ValueNotUtf8 = true
+is_shown cause.BadIndex = true
+is_shown _ = false
 
 -- the tests of n rows of columns
 abbrev pub all_pass : Cause → ℕ → Columns → Bool
@@ -198,19 +234,19 @@ all_pass why n cs = every (passes why) cs
     && (every_top (top_passes why n) cs && visible_passes why n cs)
 
 -- the tests of the parts
-abbrev pub fits : Limits → Shape → BatchHead → List ℕ → Cause → Bool
-fits limits shape head body why = head_passes limits why shape head (length body)
-    && all_pass why (unsigned_abs head.length) (cut shape head body 0 0)
+abbrev pub fits : Limits → Dictionaries → Shape → BatchHead → List ℕ → Cause → Bool
+fits limits m shape head body why = head_passes limits why shape head (length body)
+    && all_pass why (unsigned_abs head.length) (cut m shape head body 0 0)
 
 -- n rows of the columns have values
 abbrev pub Holds : ℕ → Columns → Type 0
 Holds n cs = (why : Cause) → all_pass why n cs ≡ true
 
 -- every test of the parts holds, and these are the rows of their columns
-pub record Passing (limits : Limits) (shape : Shape) (head : BatchHead) (body : List ℕ)
-    (rows : List (List Value)) : Type 0 where
-  pub sound : (why : Cause) → fits limits shape head body why ≡ true
-  pub values : rows ≡ rows_of (cut shape head body 0 0) (unsigned_abs head.length)
+pub record Passing (limits : Limits) (m : Dictionaries) (shape : Shape) (head : BatchHead)
+    (body : List ℕ) (rows : List (List Value)) : Type 0 where
+  pub sound : (why : Cause) → fits limits m shape head body why ≡ true
+  pub values : rows ≡ rows_of (cut m shape head body 0 0) (unsigned_abs head.length)
 
 -- every test of the head holds
 abbrev pub HeadHolds : Limits → Shape → BatchHead → List ℕ → Type 0
@@ -218,25 +254,30 @@ HeadHolds limits shape head body = (why : Cause)
     → head_passes limits why shape head (length body) ≡ true
 
 -- the fault's own test fails where those before it hold, or memory ran out
-abbrev pub Failing : Limits → Fault → Shape → BatchHead → List ℕ → Type 0
-Failing limits fault.WrongNodeCount shape head body =
-    fits limits shape head body cause.WrongNodeCount ≡ false
-Failing limits fault.WrongBufferCount shape head body =
-    fits limits shape head body cause.WrongBufferCount ≡ false
-Failing limits fault.BadNode shape head body =
-    CountsHold limits shape head (length body) × (fits limits shape head body cause.BadNode ≡ false)
-Failing limits fault.BufferOutOfBody shape head body =
+abbrev pub Failing : Limits → Fault → Dictionaries → Shape → BatchHead → List ℕ → Type 0
+Failing limits fault.WrongNodeCount m shape head body =
+    fits limits m shape head body cause.WrongNodeCount ≡ false
+Failing limits fault.WrongBufferCount m shape head body =
+    fits limits m shape head body cause.WrongBufferCount ≡ false
+Failing limits fault.BadNode m shape head body =
     CountsHold limits shape head (length body)
-    × (fits limits shape head body cause.BufferOutOfBody ≡ false)
-Failing limits fault.BufferTooShort shape head body =
-    HeadHolds limits shape head body × (fits limits shape head body cause.BufferTooShort ≡ false)
-Failing limits fault.BadNullCount shape head body =
-    HeadHolds limits shape head body × (fits limits shape head body cause.BadNullCount ≡ false)
-Failing limits fault.BadOffsets shape head body =
-    HeadHolds limits shape head body × (fits limits shape head body cause.BadOffsets ≡ false)
-Failing limits fault.ValueNotUtf8 shape head body =
-    HeadHolds limits shape head body × ((fits limits shape head body cause.BufferTooShort ≡ true)
-    × (fits limits shape head body cause.BadOffsets ≡ true)
-    × (fits limits shape head body cause.ValueNotUtf8 ≡ false))
-Failing limits fault.OutOfMemory shape head body = ⊤
-Failing limits _ shape head body = ⊥
+    × (fits limits m shape head body cause.BadNode ≡ false)
+Failing limits fault.BufferOutOfBody m shape head body =
+    CountsHold limits shape head (length body)
+    × (fits limits m shape head body cause.BufferOutOfBody ≡ false)
+Failing limits fault.BufferTooShort m shape head body =
+    HeadHolds limits shape head body × (fits limits m shape head body cause.BufferTooShort ≡ false)
+Failing limits fault.BadNullCount m shape head body =
+    HeadHolds limits shape head body × (fits limits m shape head body cause.BadNullCount ≡ false)
+Failing limits fault.BadOffsets m shape head body =
+    HeadHolds limits shape head body × (fits limits m shape head body cause.BadOffsets ≡ false)
+Failing limits fault.ValueNotUtf8 m shape head body =
+    HeadHolds limits shape head body × ((fits limits m shape head body cause.BufferTooShort ≡ true)
+    × (fits limits m shape head body cause.BadOffsets ≡ true)
+    × (fits limits m shape head body cause.ValueNotUtf8 ≡ false))
+Failing limits fault.BadIndex m shape head body =
+    HeadHolds limits shape head body × ((fits limits m shape head body cause.BufferTooShort ≡ true)
+    × (fits limits m shape head body cause.BadOffsets ≡ true)
+    × (fits limits m shape head body cause.BadIndex ≡ false))
+Failing limits fault.OutOfMemory m shape head body = ⊤
+Failing limits _ m shape head body = ⊥

@@ -2,8 +2,10 @@
 use Rattle.std.specs.Prelude.{ℕ, ◌+◌, Bool, ◌&&◌, true, List, [], ◌∷◌, length, nat_le, slice_range}
 use Rattle.std.specs.Prelude.{if◌then◌else◌, ⊤}
 use Rattle.ipc_model.specs.declared.layout.Layout.{Layout}
+use Rattle.ipc_model.specs.declared.value.Value.{Value}
 
--- a field's node (Message.fbs, FieldNode) with the bytes of its buffers
+-- a field's node (Message.fbs, FieldNode) with the bytes of its buffers, and the values of the
+-- dictionary that its slots are indices of, none where that has none in force
 pub record Column : Type 0 where
   pub layout : Layout
   pub slots : ℕ
@@ -11,6 +13,7 @@ pub record Column : Type 0 where
   pub validity : List ℕ
   pub offsets : List ℕ
   pub values : List ℕ
+  pub dictionary : List Value
 
 -- columns side by side: a column, its children, and the columns after it
 pub data Columns : Type 0 where

@@ -9,6 +9,7 @@ use Rattle.ipc_model.specs.declared.layout.Layout.TheVariants as l
 use Rattle.ipc_model.specs.Layouts.{number_bytes}
 use Rattle.ipc_column.specs.declared.numbers.Numbers.{Numbers}
 use Rattle.ipc_column.specs.Columns.{Columns, none, column}
+use Rattle.ipc_column.specs.Dictionaries.{stands_alone}
 use Rattle.ipc_column.specs.Nested.{Nested, slot_values}
 use Rattle.ipc_column.specs.Values.{is_valid, own_value}
 
@@ -17,6 +18,12 @@ abbrev pub layouts_of : Columns → List Layout
 layouts_of none = []
 layouts_of (column c children rest) = c.layout ∷ layouts_of rest
 
+-- one column, whose values lie in it alone
+pub record AreAlone (cs : Columns) : Type 0 where
+  pub layout : Layout
+  pub one : layouts_of cs ≡ layout ∷ []
+  pub alone : stands_alone layout ≡ true
+
 -- the slots have numbers
 abbrev pub are_numbers : Layout → Bool
 are_numbers (l.Numbers bits signed) = true
@@ -24,8 +31,8 @@ are_numbers _ = false
 
 -- what is lent of slot i: a number of so many bits, or null where the bitmap says so
 abbrev pub number_of : Numbers → ℕ → Value
-number_of n i = if is_valid n.validity.now i then own_value (l.Numbers n.bits n.signed) (λ _. []) []
-    n.values.now i else v.Null
+number_of n i = if is_valid n.validity.now i
+    then own_value (l.Numbers n.bits n.signed) [] (λ _. []) [] n.values.now i else v.Null
 
 -- these are the numbers of a column: of its bits and its sign, and one for each of its slots
 pub record AreNumbers (s : Nested) (n : Numbers) : Type 0 where

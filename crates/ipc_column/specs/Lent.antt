@@ -2,6 +2,7 @@
 use Rattle.std.specs.Prelude.{◌≡◌, ℕ, ◌≤◌, ◌<◌, true, List, [], length, slice_get}
 use Rattle.std.specs.Prelude.{slice_index_or}
 use Rattle.ipc_column.specs.declared.cause.Cause.{Cause}
+use Rattle.ipc_column.specs.declared.cause.Cause.TheVariants as cause
 use Rattle.ipc_model.specs.declared.layout.Layout.{Layout}
 use Rattle.ipc_model.specs.declared.value.Value.{Value}
 use Rattle.ipc_column.specs.Columns.{Column, Columns, every}
@@ -15,10 +16,10 @@ pub record AreSlots (cs : Columns) (from to : ℕ) : Type 0 where
   pub within : have_slots to cs ≡ true
   pub sound : (why : Cause) → every (passes why) cs ≡ true
 
--- and these slots have values
+-- and the texts in these slots are UTF-8
 pub record HaveValues (cs : Columns) (from to : ℕ) : Type 0 where
   pub slots : AreSlots cs from to
-  pub good : good cs from to ≡ true
+  pub good : good cause.ValueNotUtf8 cs from to ≡ true
 
 -- a column with these children has slot i, and what its slots need
 pub record IsSlot (c : Column) (children : Columns) (i : ℕ) : Type 0 where
@@ -26,10 +27,10 @@ pub record IsSlot (c : Column) (children : Columns) (i : ℕ) : Type 0 where
   pub own : (why : Cause) → passes why c children ≡ true
   pub sound : (why : Cause) → every (passes why) children ≡ true
 
--- and this slot has a value
+-- and the texts that this slot leads to are UTF-8
 pub record HasValue (c : Column) (children : Columns) (i : ℕ) : Type 0 where
   pub slot : IsSlot c children i
-  pub good : good_slot (good children) c i ≡ true
+  pub good : good_slot cause.ValueNotUtf8 (good cause.ValueNotUtf8 children) c i ≡ true
 
 -- a column's buffers have what its slots need, and so have those of its children
 pub record HoldSlots (c : Column) (children : Columns) : Type 0 where
@@ -39,7 +40,8 @@ pub record HoldSlots (c : Column) (children : Columns) : Type 0 where
   pub order : in_order c.layout c.slots c.offsets (length c.values) children ≡ true
   pub long : are_long c.layout c.slots children ≡ true
   pub sound : (why : Cause) → every (passes why) children ≡ true
-  pub good : (i : ℕ) → i < c.slots → good_slot (good children) c i ≡ true
+  pub good : (i : ℕ) → i < c.slots
+      → good_slot cause.ValueNotUtf8 (good cause.ValueNotUtf8 children) c i ≡ true
 
 -- a column's buffers have what its slots need, and so have those of its children; whether texts are
 -- UTF-8 isn't asked
@@ -51,20 +53,21 @@ pub record AreFound (c : Column) (children : Columns) : Type 0 where
   pub long : are_long c.layout c.slots children ≡ true
   pub sound : (why : Cause) → every (passes why) children ≡ true
 
--- a column of these buffers; its null count isn't looked at
-abbrev pub found : Layout → ℕ → List ℕ → List ℕ → List ℕ → Column
-found layout slots validity offsets values = record {
+-- a column of these buffers and with this dictionary; its null count isn't looked at
+abbrev pub found : Layout → ℕ → List ℕ → List ℕ → List ℕ → List Value → Column
+found layout slots validity offsets values dictionary = record {
   layout = layout;
   slots = slots;
   nulls = 0;
   validity = validity;
   offsets = offsets;
   values = values;
+  dictionary = dictionary;
 }
 
 -- the same column, whatever its null count
 abbrev pub refound : Column → Column
-refound c = found c.layout c.slots c.validity c.offsets c.values
+refound c = found c.layout c.slots c.validity c.offsets c.values c.dictionary
 
 -- the values of a column with these children
 abbrev pub values_in : Column → Columns → Cells

@@ -1,4 +1,7 @@
 pub mod Columns
+pub mod Dictionaries
+pub mod Spans
+pub mod Leaves
 pub mod Shapes
 pub mod Values
 pub mod Cells

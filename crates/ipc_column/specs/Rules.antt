@@ -7,12 +7,14 @@ use Rattle.std.specs.List.{All}
 use Rattle.std.specs.Str.{IsUtf8}
 use Rattle.ipc_scalar.specs.Bytes.{clear}
 use Rattle.ipc_model.specs.declared.schema.Field.{Field}
+use Rattle.ipc_model.specs.declared.value.Value.{Value}
+use Rattle.ipc_column.specs.Dictionaries.{Dictionaries}
 use Rattle.ipc_meta.specs.declared.head.BatchHead.{BatchHead}
 use Rattle.ipc_model.specs.declared.layout.Layout.{Layout}
 use Rattle.ipc_model.specs.declared.layout.Layout.TheVariants as l
-use Rattle.ipc_model.specs.Layouts.{number_bytes, has_validity, is_texts}
+use Rattle.ipc_model.specs.Layouts.{number_bytes, has_validity, is_judged}
 use Rattle.ipc_column.specs.Columns.{Column, Columns, none, column, Each, EachTop}
-use Rattle.ipc_column.specs.Values.{offset, place, between, is_valid}
+use Rattle.ipc_column.specs.Values.{offset, place, between, is_valid, number_in}
 use Rattle.ipc_column.specs.Shapes.{shape_of, nodes_in, buffers_in, columns_of}
 use Rattle.ipc_model.specs.declared.limits.Limits.{Limits}
 
@@ -47,18 +49,18 @@ HasLongChildren l.Bits n children = ⊤
 HasLongChildren (l.Numbers bits signed) n children = ⊤
 HasLongChildren (l.FixedBytes width) n children = ⊤
 HasLongChildren (l.VariableBytes utf8) n children = ⊤
-HasLongChildren l.Unsupported n children = ⊤
+HasLongChildren (l.Indices bits signed id) n children = ⊤
 
 -- the batch's length and those of its nodes; the columns are as long as the batch (Message.fbs,
 -- RecordBatch, "length"), and the children of structs and of lists of a fixed size as long as these
 -- ask
-pub record HasLengths (limits : Limits) (fields : List Field) (head : BatchHead)
-    (body : List ℕ) : Type 0 where
+pub record HasLengths (limits : Limits) (m : Dictionaries) (fields : List Field)
+    (head : BatchHead) (body : List ℕ) : Type 0 where
   pub batch : IsSlotCount limits head.length
   pub nodes : All (IsNode limits) head.nodes
-  pub columns : EachTop (λ c. pos c.slots ≡ head.length) (columns_of fields head body)
+  pub columns : EachTop (λ c. pos c.slots ≡ head.length) (columns_of m fields head body)
   pub children : Each (λ c children. HasLongChildren c.layout c.slots children)
-      (columns_of fields head body)
+      (columns_of m fields head body)
 
 -- a range that begins at 0 or above and that, unless it is empty, ends within so many bytes
 -- (Schema.fbs, Buffer)
@@ -81,7 +83,7 @@ HoldValues (l.VariableBytes utf8) n bytes = ⊤
 HoldValues l.Lists n bytes = ⊤
 HoldValues (l.FixedLists size) n bytes = ⊤
 HoldValues l.Structs n bytes = ⊤
-HoldValues l.Unsupported n bytes = ⊤
+HoldValues (l.Indices bits signed id) n bytes = number_bytes bits * n ≤ bytes
 
 -- so many bytes hold the offsets of n slots, one more than there are slots, or none for no slots
 -- (Arrow Columnar Format, "Variable-size Binary Layout", "Variable-size List Layout")
@@ -94,7 +96,7 @@ HoldOffsets l.Null n bytes = ⊤
 HoldOffsets l.Bits n bytes = ⊤
 HoldOffsets (l.Numbers bits signed) n bytes = ⊤
 HoldOffsets (l.FixedBytes width) n bytes = ⊤
-HoldOffsets l.Unsupported n bytes = ⊤
+HoldOffsets (l.Indices bits signed id) n bytes = ⊤
 
 -- a bit for each slot (Arrow Columnar Format, "Validity bitmaps")
 abbrev pub HasBits : Column → Type 0
@@ -108,8 +110,8 @@ pub record IsLongEnough (c : Column) : Type 0 where
   pub offsets : HoldOffsets c.layout c.slots (length c.offsets)
 
 -- each column is long enough
-abbrev pub HasBytes : List Field → BatchHead → List ℕ → Type 0
-HasBytes fields head body = Each (λ c children. IsLongEnough c) (columns_of fields head body)
+abbrev pub HasBytes : Dictionaries → List Field → BatchHead → List ℕ → Type 0
+HasBytes m fields head body = Each (λ c children. IsLongEnough c) (columns_of m fields head body)
 
 -- the null count is that of a bitmap's clear bits, and 0 without a bitmap (Arrow Columnar Format,
 -- "Null count"); a column of the null layout may have any
@@ -119,8 +121,9 @@ pub record CountsNulls (c : Column) : Type 0 where
   pub without_bitmap : has_validity c.layout ≡ true → length c.validity ≡ 0 → c.nulls ≡ 0
 
 -- each column counts its nulls
-abbrev pub HasNullCounts : List Field → BatchHead → List ℕ → Type 0
-HasNullCounts fields head body = Each (λ c children. CountsNulls c) (columns_of fields head body)
+abbrev pub HasNullCounts : Dictionaries → List Field → BatchHead → List ℕ → Type 0
+HasNullCounts m fields head body =
+    Each (λ c children. CountsNulls c) (columns_of m fields head body)
 
 -- the offsets of n slots begin at 0 or above, don't decrease and end within a bound (Arrow Columnar
 -- Format, "Variable-size Binary Layout", "Variable-size List Layout")
@@ -142,13 +145,13 @@ HasOffsets l.Null n offsets size children = ⊤
 HasOffsets l.Bits n offsets size children = ⊤
 HasOffsets (l.Numbers bits signed) n offsets size children = ⊤
 HasOffsets (l.FixedBytes width) n offsets size children = ⊤
-HasOffsets l.Unsupported n offsets size children = ⊤
+HasOffsets (l.Indices bits signed id) n offsets size children = ⊤
 
 -- each column has them, within its values or its child
-abbrev pub HasOrder : List Field → BatchHead → List ℕ → Type 0
-HasOrder fields head body =
+abbrev pub HasOrder : Dictionaries → List Field → BatchHead → List ℕ → Type 0
+HasOrder m fields head body =
     Each (λ c children. HasOffsets c.layout c.slots c.offsets (length c.values) children)
-    (columns_of fields head body)
+    (columns_of m fields head body)
 
 -- what slot i holds is UTF-8, where it is a text (Schema.fbs, Utf8); of a list that is asked of the
 -- slots that it holds, of a struct of its slot in each child
@@ -164,7 +167,7 @@ IsText l.Null below offsets values i = ⊤
 IsText l.Bits below offsets values i = ⊤
 IsText (l.Numbers bits signed) below offsets values i = ⊤
 IsText (l.FixedBytes width) below offsets values i = ⊤
-IsText l.Unsupported below offsets values i = ⊤
+IsText (l.Indices bits signed id) below offsets values i = ⊤
 
 -- slot i of each column, where it is valid: what stands at a null slot or below it isn't looked at
 abbrev pub SpellsTexts : Columns → ℕ → Type 0
@@ -173,19 +176,55 @@ SpellsTexts (column c children rest) i = (is_valid c.validity i ≡ true
     → IsText c.layout (SpellsTexts children) c.offsets c.values i) × SpellsTexts rest i
 
 -- each row spells its texts
-abbrev pub HasTexts : List Field → BatchHead → List ℕ → Type 0
-HasTexts fields head body = (i : ℕ) → i < unsigned_abs head.length
-    → SpellsTexts (columns_of fields head body) i
+abbrev pub HasTexts : Dictionaries → List Field → BatchHead → List ℕ → Type 0
+HasTexts m fields head body = (i : ℕ) → i < unsigned_abs head.length
+    → SpellsTexts (columns_of m fields head body) i
 
--- texts stand in one of the columns, or below it
-abbrev pub have_texts : Columns → Bool
-have_texts none = false
-have_texts (column c children rest) = is_texts c.layout || (have_texts children || have_texts rest)
+-- an index from 0 on, below the number of the dictionary's values (Arrow Columnar Format,
+-- "Dictionary-encoded Layout")
+pub record IsIndex (dictionary : List Value) (index : ℤ) : Type 0 where
+  pub from : pos 0 ≤ℤ index
+  pub to : index <ℤ pos (length dictionary)
 
--- the slots of a column may be visited one by one: it holds texts, or it has a validity bitmap and
--- texts stand below it
+-- what slot i holds is the index of one of the dictionary's values, where it is an index; of a list
+-- that is asked of the slots that it holds, of a struct of its slot in each child
+abbrev pub HasIndex : Layout → List Value → (ℕ → Type 0) → List ℕ → List ℕ → ℕ → Type 0
+HasIndex (l.Indices bits signed id) dictionary below offsets values i =
+    IsIndex dictionary (number_in bits signed values i)
+HasIndex l.Lists dictionary below offsets values i = (j : ℕ) → place offsets i ≤ j
+    → j < place offsets (i + 1) → below j
+HasIndex (l.FixedLists size) dictionary below offsets values i = (j : ℕ) → size * i ≤ j
+    → j < size * (i + 1) → below j
+HasIndex l.Structs dictionary below offsets values i = below i
+HasIndex l.Null dictionary below offsets values i = ⊤
+HasIndex l.Bits dictionary below offsets values i = ⊤
+HasIndex (l.Numbers bits signed) dictionary below offsets values i = ⊤
+HasIndex (l.FixedBytes width) dictionary below offsets values i = ⊤
+HasIndex (l.VariableBytes utf8) dictionary below offsets values i = ⊤
+
+-- slot i of each column, where it is valid: what stands at a null slot or below it isn't looked at
+abbrev pub HoldsIndices : Columns → ℕ → Type 0
+HoldsIndices none i = ⊤
+HoldsIndices (column c children rest) i = (is_valid c.validity i ≡ true
+    → HasIndex c.layout c.dictionary (HoldsIndices children) c.offsets c.values i)
+    × HoldsIndices rest i
+
+-- each row holds indices of values that are in force
+abbrev pub HasIndices : Dictionaries → List Field → BatchHead → List ℕ → Type 0
+HasIndices m fields head body = (i : ℕ) → i < unsigned_abs head.length
+    → HoldsIndices (columns_of m fields head body) i
+
+-- texts or indices stand in one of the columns, or below it
+abbrev pub have_judged : Columns → Bool
+have_judged none = false
+have_judged (column c children rest) =
+    is_judged c.layout || (have_judged children || have_judged rest)
+
+-- the slots of a column may be visited one by one: it holds texts or indices, or it has a validity
+-- bitmap and such stand below it
 abbrev pub is_visited : Column → Columns → Bool
-is_visited c children = is_texts c.layout || (not (length c.validity == 0) && have_texts children)
+is_visited c children =
+    is_judged c.layout || (not (length c.validity == 0) && have_judged children)
 
 -- how many slots may be visited one by one
 abbrev pub visits_in : Columns → ℕ

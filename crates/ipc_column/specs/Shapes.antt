@@ -1,5 +1,5 @@
 -- The nodes and buffers that fields need, in pre-order (Arrow Columnar Format, "RecordBatch
--- message"), and the columns that they cut out of a body.
+-- message"), and the columns that they cut out of a body, under the dictionaries in force.
 use Rattle.std.specs.Prelude.{ℕ, ◌+◌, ℤ, pos, unsigned_abs, List, [], ◌∷◌, map, slice_index_or}
 use Rattle.ipc_model.specs.declared.schema.Field.{Field, fold-Field}
 use Rattle.ipc_model.specs.declared.schema.Field.TheOpen.{Field-F}
@@ -8,6 +8,8 @@ use Rattle.ipc_model.specs.declared.layout.Layout.{Layout}
 use Rattle.ipc_model.specs.declared.layout.Layout.TheVariants as l
 use Rattle.ipc_model.specs.Layouts.{layout, own_buffers}
 use Rattle.ipc_column.specs.Columns.{Column, Columns, none, column, bytes_of}
+use Rattle.ipc_column.specs.Dictionaries.{Dictionaries, values_for}
+use Rattle.ipc_model.specs.declared.value.Value.{Value}
 
 -- fields side by side: a field, its children, and the fields after it
 pub data Shape : Type 0 where
@@ -54,7 +56,6 @@ buffer_at head body b = let range =
 -- the validity bitmap of a field whose first buffer is b
 abbrev pub validity_at : Layout → BatchHead → List ℕ → ℕ → List ℕ
 validity_at l.Null head body b = []
-validity_at l.Unsupported head body b = []
 validity_at l.Bits head body b = buffer_at head body b
 validity_at (l.Numbers bits signed) head body b = buffer_at head body b
 validity_at (l.FixedBytes width) head body b = buffer_at head body b
@@ -62,6 +63,7 @@ validity_at (l.VariableBytes utf8) head body b = buffer_at head body b
 validity_at l.Lists head body b = buffer_at head body b
 validity_at (l.FixedLists size) head body b = buffer_at head body b
 validity_at l.Structs head body b = buffer_at head body b
+validity_at (l.Indices bits signed id) head body b = buffer_at head body b
 
 -- its offsets
 abbrev pub offsets_at : Layout → BatchHead → List ℕ → ℕ → List ℕ
@@ -73,42 +75,55 @@ offsets_at l.Null head body b = []
 offsets_at l.Bits head body b = []
 offsets_at (l.Numbers bits signed) head body b = []
 offsets_at (l.FixedBytes width) head body b = []
-offsets_at l.Unsupported head body b = []
+offsets_at (l.Indices bits signed id) head body b = []
 
 -- its values
 abbrev pub values_at : Layout → BatchHead → List ℕ → ℕ → List ℕ
 values_at l.Null head body b = []
-values_at l.Unsupported head body b = []
 values_at (l.VariableBytes utf8) head body b = buffer_at head body (b + 2)
 values_at l.Bits head body b = buffer_at head body (b + 1)
 values_at (l.Numbers bits signed) head body b = buffer_at head body (b + 1)
 values_at (l.FixedBytes width) head body b = buffer_at head body (b + 1)
+values_at (l.Indices bits signed id) head body b = buffer_at head body (b + 1)
 values_at l.Lists head body b = []
 values_at (l.FixedLists size) head body b = []
 values_at l.Structs head body b = []
 
+-- the values that its slots are indices of: those in force for the id of its dictionary
+abbrev pub dictionary_at : Dictionaries → Layout → List Value
+dictionary_at m (l.Indices bits signed id) = values_for m id
+dictionary_at m l.Null = []
+dictionary_at m l.Bits = []
+dictionary_at m (l.Numbers bits signed) = []
+dictionary_at m (l.FixedBytes width) = []
+dictionary_at m (l.VariableBytes utf8) = []
+dictionary_at m l.Lists = []
+dictionary_at m (l.FixedLists size) = []
+dictionary_at m l.Structs = []
+
 -- the column of a field whose node is n and whose first buffer is b
-abbrev pub column_at : Layout → BatchHead → List ℕ → ℕ → ℕ → Column
-column_at l head body n b = record {
+abbrev pub column_at : Dictionaries → Layout → BatchHead → List ℕ → ℕ → ℕ → Column
+column_at m l head body n b = record {
   layout = l;
   slots = unsigned_abs (node_at head n).0;
   nulls = unsigned_abs (node_at head n).1;
   validity = validity_at l head body b;
   offsets = offsets_at l head body b;
   values = values_at l head body b;
+  dictionary = dictionary_at m l;
 }
 
 -- a field's own node and buffers come first, then those of its children, then those of the fields
 -- after it
-unfoldable pub cut : Shape → BatchHead → List ℕ → ℕ → ℕ → Columns
-cut bare head body n b = none
-cut (field l children rest) head body n b =
-    column (column_at l head body n b) (cut children head body (n + 1) (b + own_buffers l))
-    (cut rest head body (n + 1 + nodes_in children) (b + own_buffers l + buffers_in children))
+unfoldable pub cut : Dictionaries → Shape → BatchHead → List ℕ → ℕ → ℕ → Columns
+cut m bare head body n b = none
+cut m (field l children rest) head body n b =
+    column (column_at m l head body n b) (cut m children head body (n + 1) (b + own_buffers l))
+    (cut m rest head body (n + 1 + nodes_in children) (b + own_buffers l + buffers_in children))
 
 -- the columns of the fields
-abbrev pub columns_of : List Field → BatchHead → List ℕ → Columns
-columns_of fields head body = cut (shape_of fields) head body 0 0
+abbrev pub columns_of : Dictionaries → List Field → BatchHead → List ℕ → Columns
+columns_of m fields head body = cut m (shape_of fields) head body 0 0
 
 -- a field's layout, and what its children need
 abbrev pub field_layout : Field → Layout

@@ -10,14 +10,14 @@ use Rattle.ipc_column.specs.Views.{columns}
 -- the rows of its columns, how these lie, and its numbers
 abbrev pub contents_of : Shared → Contents
 contents_of s = record {
-  rows = rows_of (columns s.body.items s.parts.items) s.count;
+  rows = rows_of (columns s.body.value.items s.parts.items) s.count;
   columns = length s.parts.items;
-  layouts = layouts_of (columns s.body.items s.parts.items);
+  layouts = layouts_of (columns s.body.value.items s.parts.items);
   body_len =
-      length s.body.items;
+      length s.body.value.items;
   tests = s.slot_tests;
 }
 
 -- its columns have so many rows
 abbrev pub HasRows : Shared → Type 0
-HasRows s = Holds s.count (columns s.body.items s.parts.items)
+HasRows s = Holds s.count (columns s.body.value.items s.parts.items)

@@ -1,6 +1,7 @@
 -- The values of slots, and the rows of columns (Arrow Columnar Format, "Physical Memory Layout").
-use Rattle.std.specs.Prelude.{ℕ, zero, suc, ◌+◌, ◌-◌, ◌*◌, ℤ, unsigned_abs, Bool, true, false, ◌==◌}
-use Rattle.std.specs.Prelude.{slice_range, List, [], ◌∷◌, ◌++◌, length, if◌then◌else◌}
+use Rattle.std.specs.Prelude.{ℕ, zero, suc, ◌+◌, ◌-◌, ◌*◌, nat_lt, ℤ, pos, negsuc, unsigned_abs}
+use Rattle.std.specs.Prelude.{Bool, true, false, ◌==◌, Option, Some, None, if◌then◌else◌}
+use Rattle.std.specs.Prelude.{List, [], ◌∷◌, ◌++◌, length, slice_range, slice_index_or}
 use Rattle.std.specs.Int.{w8, cast_signed}
 use Rattle.ipc_scalar.specs.Bytes.{bit, num, byte, int16, int32, int64}
 use Rattle.ipc_model.specs.declared.schema.IntBits.{IntBits}
@@ -23,6 +24,21 @@ signed_at B8 b p = cast_signed w8 (byte b p)
 signed_at B16 b p = int16 b p
 signed_at B32 b p = int32 b p
 signed_at B64 b p = int64 b p
+
+-- the number in slot i, of this width and sign
+abbrev pub number_in : IntBits → Bool → List ℕ → ℕ → ℤ
+number_in bits true values i = signed_at bits values (number_bytes bits * i)
+number_in bits false values i = pos (num values (number_bytes bits * i) (number_bytes bits))
+
+-- a number as that of one of n values, where it is one
+abbrev pub place_below : ℕ → ℤ → Option ℕ
+place_below n (pos i) = if nat_lt i n then Some i else None
+place_below n (negsuc i) = None
+
+-- the value with this index, or null where there is none
+abbrev pub value_at : List Value → ℤ → Value
+value_at dictionary (pos i) = slice_index_or dictionary i v.Null
+value_at dictionary (negsuc i) = v.Null
 
 -- offset i
 abbrev pub offset : List ℕ → ℕ → ℤ
@@ -67,30 +83,35 @@ items value i (suc n) = value i ∷ items value (i + 1) n
 
 -- what a valid slot holds, where `below` gives the values of a slot of the children (Arrow Columnar
 -- Format, "Null Layout", "Fixed-size Primitive Layout", "Variable-size Binary Layout"): in a list
--- the values of its slots of the one child, in a struct the value of its slot in each child
-abbrev pub own_value : Layout → (ℕ → List Value) → List ℕ → List ℕ → ℕ → Value
-own_value l.Null below offsets values i = v.Null
-own_value l.Bits below offsets values i = v.Bool (bit values i)
-own_value (l.Numbers bits true) below offsets values i =
+-- the values of its slots of the one child, in a struct the value of its slot in each child; an
+-- index stands for the dictionary's value (Arrow Columnar Format, "Dictionary-encoded Layout")
+abbrev pub own_value : Layout → List Value → (ℕ → List Value) → List ℕ → List ℕ → ℕ → Value
+own_value l.Null dictionary below offsets values i = v.Null
+own_value l.Bits dictionary below offsets values i = v.Bool (bit values i)
+own_value (l.Numbers bits true) dictionary below offsets values i =
     v.Int (signed_at bits values (number_bytes bits * i))
-own_value (l.Numbers bits false) below offsets values i =
+own_value (l.Numbers bits false) dictionary below offsets values i =
     v.UInt (num values (number_bytes bits * i) (number_bytes bits))
-own_value (l.FixedBytes width) below offsets values i =
+own_value (l.FixedBytes width) dictionary below offsets values i =
     v.Bytes (slice_range values (width * i) (width * i + width))
-own_value (l.VariableBytes true) below offsets values i = v.Text (between offsets values i)
-own_value (l.VariableBytes false) below offsets values i = v.Bytes (between offsets values i)
-own_value l.Lists below offsets values i =
+own_value (l.VariableBytes true) dictionary below offsets values i =
+    v.Text (between offsets values i)
+own_value (l.VariableBytes false) dictionary below offsets values i =
+    v.Bytes (between offsets values i)
+own_value l.Lists dictionary below offsets values i =
     v.List (items (λ j. first_of (below j)) (place offsets i)
     (place offsets (i + 1) - place offsets i))
-own_value (l.FixedLists size) below offsets values i =
+own_value (l.FixedLists size) dictionary below offsets values i =
     v.List (items (λ j. first_of (below j)) (size * i) size)
-own_value l.Structs below offsets values i = v.Struct (below i)
-own_value l.Unsupported below offsets values i = v.Null
+own_value l.Structs dictionary below offsets values i = v.Struct (below i)
+own_value (l.Indices bits signed id) dictionary below offsets values i =
+    value_at dictionary (number_in bits signed values i)
 
 -- the value of slot i
 abbrev pub value_of : (ℕ → List Value) → Column → ℕ → Value
 value_of below c i =
-    if is_valid c.validity i then own_value c.layout below c.offsets c.values i else v.Null
+    if is_valid c.validity i then own_value c.layout c.dictionary below c.offsets c.values i
+    else v.Null
 
 -- the values of slot i in each column; nothing is asked below a null slot
 abbrev pub row : Columns → ℕ → List Value

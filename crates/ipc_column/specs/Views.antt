@@ -1,15 +1,11 @@
 -- Parts over a body, as columns (Arrow Columnar Format, "RecordBatch message").
 use Rattle.std.specs.Prelude.{ℕ, List, map}
 use Rattle.ipc_column.specs.declared.ranges.ColumnRanges.{ColumnRanges}
-use Rattle.ipc_column.specs.declared.ranges.BufferRange.{BufferRange}
 use Rattle.ipc_column.specs.declared.ranges.ColumnRanges.TheOpen.{ColumnRanges-F}
 use Rattle.ipc_column.specs.declared.ranges.ColumnRanges.TheFolds.{fold-ColumnRanges}
 use Rattle.ipc_column.specs.declared.ranges.ColumnRanges.TheViews.{out-ColumnRanges}
-use Rattle.ipc_column.specs.Columns.{Column, Columns, none, column, forest, bytes_of}
-
--- the bytes in the range of a buffer
-abbrev pub span_bytes : List ℕ → BufferRange → List ℕ
-span_bytes body s = bytes_of body s.start s.len
+use Rattle.ipc_column.specs.Columns.{Column, Columns, none, column, forest}
+use Rattle.ipc_column.specs.Spans.{span_bytes}
 
 -- one part, with its children's columns in their place
 abbrev pub part_step : List ℕ → ColumnRanges-F (Column × Columns) → Column × Columns
@@ -22,6 +18,7 @@ part_step body p = (
     offsets = span_bytes body p.offsets;
     values =
         span_bytes body p.values;
+    dictionary = p.dictionary;
   },
   forest p.children.items,
 )
@@ -54,6 +51,7 @@ own_column body p = record {
       span_bytes body (out-ColumnRanges p).offsets;
   values =
       span_bytes body (out-ColumnRanges p).values;
+  dictionary = (out-ColumnRanges p).dictionary;
 }
 
 -- a part's column and its children's, with no column beside it

@@ -2,15 +2,21 @@ ghost use Rattle.std.specs.Prelude.{◌≡◌, ◌≤◌, ◌<◌, ◌+◌, ◌^
 ghost use Rattle.ipc_model.specs.Layouts.{own_buffers};
 ghost use Rattle.ipc_column.specs.Shapes.{cut, shape_of, field_layout, field_children, nodes_in};
 ghost use Rattle.ipc_column.specs.Shapes.{buffers_in, column_at, buffer_at, validity_at};
-ghost use Rattle.ipc_column.specs.Shapes.{offsets_at, values_at};
+ghost use Rattle.ipc_column.specs.Shapes.{dictionary_at, offsets_at, values_at};
+ghost use Rattle.ipc_column.specs.Dictionaries.{AreDictionaries, dictionaries_in, values_for};
 ghost use Rattle.ipc_column.specs.Marks.{AreMarked, IsMarked};
-ghost use Rattle.ipc_column.specs.Rules.{have_texts};
-ghost use Rattle.ipc_column.specs.Views.{columns, column_of, children_of, one, span_bytes};
+ghost use Rattle.ipc_column.specs.Rules.{have_judged};
+ghost use Rattle.ipc_column.specs.Views.{columns, column_of, children_of, one};
+ghost use Rattle.ipc_column.specs.Spans.{span_bytes};
 
+use crate::batch::Batch;
+use crate::dictionary::DictionaryValues;
 use crate::ranges::{BufferRange, ColumnRanges};
 use ipc_meta::BatchHead;
 use ipc_model::{Field, Layout, layout_of};
 use std::alloc::{AllocError, Global};
+use std::collections::BTreeMap;
+use std::rc::Rc;
 
 /// So many nodes and so many buffers.
 #[derive(Clone, Copy, Debug, PartialEq, Eq, Drop)]
@@ -70,7 +76,7 @@ fn validity_span(layout: Layout, head: &BatchHead, first: usize) -> BufferRange
     ensures { (body : List ℕ) → span_bytes body result ≡ validity_at layout head.now body first }
 {
     match layout {
-        Layout::Null | Layout::Unsupported => BufferRange { start: 0, len: 0 },
+        Layout::Null => BufferRange { start: 0, len: 0 },
         _ => span_at(head, first),
     }
 }
@@ -96,32 +102,59 @@ fn values_span(layout: Layout, head: &BatchHead, first: usize) -> BufferRange
     ensures { (body : List ℕ) → span_bytes body result ≡ values_at layout head.now body first }
 {
     match layout {
-        Layout::Null
-        | Layout::Lists
-        | Layout::FixedLists(_)
-        | Layout::Structs
-        | Layout::Unsupported => BufferRange { start: 0, len: 0 },
+        Layout::Null | Layout::Lists | Layout::FixedLists(_) | Layout::Structs => {
+            BufferRange { start: 0, len: 0 }
+        }
         Layout::VariableBytes { .. } => span_at(head, first + 2),
         _ => span_at(head, first + 1),
     }
 }
 
-// Whether texts stand in a part or below it.
-fn has_texts(part: &ColumnRanges) -> bool
-    requires { IsMarked part.now }
-    ensures { (body : List ℕ) → result ≡ have_texts (one body part.now) }
+// The values that the slots of a column of this layout are indices of.
+fn dictionary_of(
+    layout: Layout,
+    dictionaries: &BTreeMap<i64, Rc<Batch>>,
+) -> Result<DictionaryValues, AllocError>
+    requires { AreDictionaries dictionaries.now }
+    ensures { IfOk result (λ values. values
+        ≡ dictionary_at (dictionaries_in dictionaries.now) layout) }
 {
-    part.layout.is_texts() || part.texts_below
+    match layout {
+        Layout::Indices { id, .. } => values_for(id, dictionaries),
+        _ => Ok(DictionaryValues::none()),
+    }
+}
+
+// The values in force for the dictionary with this id.
+fn values_for(
+    id: i64,
+    dictionaries: &BTreeMap<i64, Rc<Batch>>,
+) -> Result<DictionaryValues, AllocError>
+    requires { AreDictionaries dictionaries.now }
+    ensures { IfOk result (λ values. values ≡ values_for (dictionaries_in dictionaries.now) id) }
+{
+    match dictionaries.get(&id) {
+        Some(batch) => batch.dictionary_values(),
+        None => Ok(DictionaryValues::none()),
+    }
+}
+
+// Whether texts or indices stand in a part or below it.
+fn has_judged(part: &ColumnRanges) -> bool
+    requires { IsMarked part.now }
+    ensures { (body : List ℕ) → result ≡ have_judged (one body part.now) }
+{
+    part.layout.is_judged() || part.judged_below
 }
 
 // Whether they stand in one of the parts or below it.
-fn have_texts(parts: &[ColumnRanges]) -> bool
+fn have_judged(parts: &[ColumnRanges]) -> bool
     requires { AreMarked parts.now }
-    ensures { (body : List ℕ) → result ≡ have_texts (columns body parts.now) }
+    ensures { (body : List ℕ) → result ≡ have_judged (columns body parts.now) }
 {
     let mut found = false;
     for part in parts {
-        found = found || has_texts(part);
+        found = found || has_judged(part);
     }
     found
 }
@@ -132,19 +165,23 @@ fn assign_field(
     alloc: Global,
     field: &Field,
     head: &BatchHead,
+    dictionaries: &BTreeMap<i64, Rc<Batch>>,
     at: Cursor,
 ) -> Result<(ColumnRanges, Cursor), AllocError>
+    requires dictionaries { AreDictionaries dictionaries.now }
     requires nodes { at.node + (1 + nodes_in (field_children field.now)) ≤ length head.now.nodes }
     requires buffers { at.buffer + (own_buffers (field_layout field.now)
         + buffers_in (field_children field.now)) ≤ length head.now.buffers }
     requires few_nodes { length head.now.nodes < 2 ^ 60 }
     requires few_buffers { length head.now.buffers < 2 ^ 60 }
     ensures column { IfOk result (λ r. (body : List ℕ)
-        → column_of body r.0 ≡ column_at (field_layout field.now) head.now body at.node at.buffer) }
+        → column_of body r.0 ≡ column_at (dictionaries_in dictionaries.now) (field_layout field.now)
+        head.now body at.node at.buffer) }
     ensures children { IfOk result (λ r. (body : List ℕ)
-        → children_of body r.0 ≡ cut (field_children field.now) head.now body (at.node + 1)
+        → children_of body r.0 ≡ cut (dictionaries_in dictionaries.now) (field_children field.now)
+        head.now body (at.node + 1)
         (at.buffer + own_buffers (field_layout field.now))) }
-    // It says rightly whether texts stand below it, and so do those below it.
+    // It says rightly whether texts or indices stand below it, and so do those below it.
     ensures marks { IfOk result (λ r. IsMarked r.0) }
     ensures node { IfOk result (λ r. r.1.node ≡ at.node + 1 + nodes_in (field_children field.now)) }
     ensures buffer { IfOk result (λ r. r.1.buffer
@@ -157,8 +194,9 @@ fn assign_field(
         node: at.node + 1,
         buffer: at.buffer + layout.own_buffers(),
     };
-    let (children, next) = assign_buffers(alloc, field.children.as_slice(), head, below)?;
-    let texts_below = have_texts(&children);
+    let fields = field.children.as_slice();
+    let (children, next) = assign_buffers(alloc, fields, head, dictionaries, below)?;
+    let judged_below = have_judged(&children);
     let part = ColumnRanges {
         layout,
         slots: slots.unsigned_abs() as usize,
@@ -167,7 +205,8 @@ fn assign_field(
         offsets: offsets_span(layout, head, at.buffer),
         values: values_span(layout, head, at.buffer),
         children,
-        texts_below,
+        dictionary: dictionary_of(layout, dictionaries)?,
+        judged_below,
     };
     Ok((part, next))
 }
@@ -178,14 +217,17 @@ pub(crate) fn assign_buffers(
     alloc: Global,
     fields: &[Field],
     head: &BatchHead,
+    dictionaries: &BTreeMap<i64, Rc<Batch>>,
     at: Cursor,
 ) -> Result<(Vec<ColumnRanges>, Cursor), AllocError>
+    requires dictionaries { AreDictionaries dictionaries.now }
     requires nodes { at.node + nodes_in (shape_of fields.now) ≤ length head.now.nodes }
     requires buffers { at.buffer + buffers_in (shape_of fields.now) ≤ length head.now.buffers }
     requires few_nodes { length head.now.nodes < 2 ^ 60 }
     requires few_buffers { length head.now.buffers < 2 ^ 60 }
     ensures parts { IfOk result (λ r. (body : List ℕ)
-        → columns body r.0.items ≡ cut (shape_of fields.now) head.now body at.node at.buffer) }
+        → columns body r.0.items ≡ cut (dictionaries_in dictionaries.now) (shape_of fields.now)
+        head.now body at.node at.buffer) }
     ensures marks { IfOk result (λ r. AreMarked r.0.items) }
     ensures number { IfOk result (λ r. length r.0.items ≡ length fields.now) }
     ensures node { IfOk result (λ r. r.1.node ≡ at.node + nodes_in (shape_of fields.now)) }
@@ -194,7 +236,7 @@ pub(crate) fn assign_buffers(
     let mut parts = Vec::with_capacity(alloc, fields.len())?;
     let mut place = at;
     for field in fields {
-        let (part, next) = assign_field(alloc, field, head, place)?;
+        let (part, next) = assign_field(alloc, field, head, dictionaries, place)?;
         parts.push(part)?;
         place = next;
     }

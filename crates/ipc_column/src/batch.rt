@@ -1,5 +1,5 @@
 ghost use Rattle.std.specs.Prelude.{◌≡◌, ◌≤◌, ◌<◌, ℕ, length, map, true, List, [], IfOk, IfErr};
-ghost use Rattle.std.specs.Prelude.{IfSome, MatchResult, OnOk, Some, slice_get};
+ghost use Rattle.std.specs.Prelude.{IfSome, IsTrue, MatchResult, OnOk, Some, slice_get};
 ghost use Rattle.std.specs.Prelude.{slice_index_or};
 ghost use Rattle.std.specs.List.{AllByRecursion};
 ghost use Rattle.ipc_model.specs.declared.value.Value.{Value};
@@ -7,7 +7,9 @@ ghost use Rattle.ipc_model.specs.Entries.{entries};
 ghost use Rattle.ipc_column.specs.Nested.{alone, slot_values};
 ghost use Rattle.ipc_column.specs.Rules.{SpellsTexts, visits_in, slots_in};
 ghost use Rattle.ipc_column.specs.Shapes.{shape_of, nodes_in, columns_of, cut, field_layout};
-ghost use Rattle.ipc_column.specs.Rows.{Rows, RefusesParts, IsOneList, are_plain};
+ghost use Rattle.ipc_column.specs.Rows.{Rows, RefusesParts, IsOneList};
+ghost use Rattle.ipc_column.specs.Dictionaries.{AreDictionaries, IsDictionary, dictionaries_in};
+ghost use Rattle.ipc_column.specs.Dictionaries.{dictionary_values};
 ghost use Rattle.ipc_column.specs.Sharing.{contents_of, HasRows};
 ghost use Rattle.ipc_column.specs.Checks.{Passing, Failing};
 ghost use Rattle.ipc_column.specs.Lent.{AreOfColumn};
@@ -15,6 +17,7 @@ ghost use Rattle.ipc_column.specs.Cells.{cell_value};
 
 use crate::assign::{Cursor, assign_buffers};
 use crate::cell::{Cell, cell_in};
+use crate::dictionary::{DictionaryValues, are_alone, share_values};
 use crate::head::check_head;
 use crate::ranges::ColumnRanges;
 use crate::rows::{read_row, rows_in};
@@ -41,7 +44,7 @@ pub struct Batch {
 struct Shared {
     count: usize,
     parts: Vec<ColumnRanges>,
-    body: Vec<u8>,
+    body: Rc<Vec<u8>>,
     slot_tests: u64,
 }
 
@@ -79,27 +82,32 @@ fn read(
     fields: &[Field],
     head: &BatchHead,
     body: Vec<u8>,
+    dictionaries: &BTreeMap<i64, Rc<Batch>>,
 ) -> Result<Batch, Fault>
-    requires { nodes_in (shape_of fields.now) ≤ limits.now.fields }
-    ensures passing { IfOk result
-        (λ batch. Passing limits.now (shape_of fields.now) head.now body.items batch.rows) }
+    requires few { nodes_in (shape_of fields.now) ≤ limits.now.fields }
+    requires dictionaries { AreDictionaries dictionaries.now }
+    ensures passing { IfOk result (λ batch. Passing limits.now (dictionaries_in dictionaries.now)
+        (shape_of fields.now) head.now body.items batch.rows) }
     ensures columns { IfOk result (λ batch. batch.columns ≡ length fields.now) }
     ensures layouts { IfOk result (λ batch. batch.layouts ≡ map field_layout fields.now) }
     ensures body { IfOk result (λ batch. batch.body_len ≡ length body.items) }
     ensures visits { IfOk result (λ batch. batch.tests
-        ≤ visits_in (cut (shape_of fields.now) head.now body.items 0 0)) }
+        ≤ visits_in (cut (dictionaries_in dictionaries.now) (shape_of fields.now) head.now
+        body.items 0 0)) }
     ensures slots { IfOk result (λ batch. batch.tests ≤ slots_in head.now.nodes) }
     ensures failing { IfErr result
-        (λ fault. Failing limits.now fault (shape_of fields.now) head.now body.items) }
+        (λ fault. Failing limits.now fault (dictionaries_in dictionaries.now) (shape_of fields.now)
+        head.now body.items) }
 {
     check_head(limits, fields, head, body.len())?;
-    let (parts, _) = assign_buffers(alloc, fields, head, Cursor { node: 0, buffer: 0 })?;
+    let start = Cursor { node: 0, buffer: 0 };
+    let (parts, _) = assign_buffers(alloc, fields, head, dictionaries, start)?;
     let count = head.length.unsigned_abs() as usize;
     let slot_tests = check_columns(&body, &parts, count)?;
     let shared = Shared {
         count,
         parts,
-        body,
+        body: Rc::new(alloc, body)?,
         slot_tests,
     };
     Ok(share(alloc, shared)?)
@@ -122,17 +130,18 @@ impl Clone for Batch {
 impl Batch {
     /// The rows that a batch's metadata and body give for the fields of its schema.
     ///
-    /// The caller has the fields from a schema that passes its check, and none of them, nor a field
-    /// below one, has a dictionary. The dictionaries are those in force, by their ids. They aren't
-    /// looked at, since no field that is read can name one yet.
+    /// The caller has the fields from a schema that passes its check, and the dictionaries are
+    /// those in force, by their ids: each a batch of one column, which is no list, no struct and no
+    /// column of indices. The batch keeps those of its fields, however they are replaced later.
     ///
     /// Refused with F26 `WrongNodeCount`, F27 `WrongBufferCount`, F28 `BadNode`, F29
-    /// `BufferOutOfBody`, F30 `BufferTooShort`, F31 `BadNullCount`, F32 `BadOffsets` or F33
-    /// `ValueNotUtf8` only where that is true of the parts, and then they give no rows: F28 and F29
-    /// where there are as many nodes and buffers as the fields need, F30 to F33 where also the
-    /// lengths, the null counts and the ranges of the metadata are in their bounds; with
-    /// `OutOfMemory` where the list of columns or the block that clones share finds no room
-    /// (Message.fbs, RecordBatch; Arrow Columnar Format, "RecordBatch message").
+    /// `BufferOutOfBody`, F30 `BufferTooShort`, F31 `BadNullCount`, F32 `BadOffsets`, F33
+    /// `ValueNotUtf8` or F34 `BadIndex` only where that is true of the parts, and then they give no
+    /// rows: F28 and F29 where there are as many nodes and buffers as the fields need, F30 to F34
+    /// where also the lengths, the null counts and the ranges of the metadata are in their bounds;
+    /// with `OutOfMemory` where the list of columns or a block that clones share finds no room, or
+    /// as many batches share a dictionary as can be counted (Message.fbs, RecordBatch; Arrow
+    /// Columnar Format, "RecordBatch message").
     pub fn check(
         alloc: Global,
         limits: &Limits,
@@ -141,27 +150,30 @@ impl Batch {
         body: Vec<u8>,
         dictionaries: &BTreeMap<i64, Rc<Batch>>,
     ) -> Result<Batch, Fault>
-        requires read { are_plain fields.value.items ≡ true }
+        requires dictionaries { AreDictionaries dictionaries.now }
         requires few { length (entries fields.value.items) ≤ limits.now.fields }
         // What is answered are the rows of the parts.
-        ensures rows { IfOk result (λ batch. Rows limits.now fields.value.items head body.items
-            batch.rows) }
+        ensures rows { IfOk result (λ batch. Rows limits.now (dictionaries_in dictionaries.now)
+            fields.value.items head body.items batch.rows) }
         // Where the parts give rows, these are answered, unless memory runs out.
         ensures only { (rows : List (List Value))
-            → Rows limits.now fields.value.items head body.items rows
+            → Rows limits.now (dictionaries_in dictionaries.now) fields.value.items head body.items
+            rows
             → MatchResult result (λ batch. batch.rows ≡ rows) (λ fault. fault ≡ Fault.OutOfMemory) }
         // A refusal is true of the parts.
         ensures refused { IfErr result
-            (λ fault. RefusesParts limits.now fault fields.value.items head body.items) }
+            (λ fault. RefusesParts limits.now fault (dictionaries_in dictionaries.now)
+            fields.value.items head body.items) }
         ensures columns { IfOk result (λ batch. batch.columns ≡ length fields.value.items) }
         // Each column lies as its field's type does.
         ensures layouts { IfOk result
             (λ batch. batch.layouts ≡ map field_layout fields.value.items) }
         ensures body { IfOk result (λ batch. batch.body_len ≡ length body.items) }
-        // No slot is visited but those of texts, and those of lists and structs with a validity
-        // bitmap that texts stand below; each of them once at most.
+        // No slot is visited but those of texts and indices, and those of lists and structs with a
+        // validity bitmap that such stand below; each of them once at most.
         ensures visits { IfOk result
-            (λ batch. batch.tests ≤ visits_in (columns_of fields.value.items head body.items)) }
+            (λ batch. batch.tests ≤ visits_in (columns_of (dictionaries_in dictionaries.now)
+            fields.value.items head body.items)) }
         ensures tests { IfOk result (λ batch. batch.tests ≤ slots_in head.nodes) }
     {
         Batch::check_borrowed(alloc, limits, fields.as_slice(), head, body, dictionaries)
@@ -177,31 +189,33 @@ impl Batch {
         fields: &[Field],
         head: BatchHead,
         body: Vec<u8>,
-        _dictionaries: &BTreeMap<i64, Rc<Batch>>,
+        dictionaries: &BTreeMap<i64, Rc<Batch>>,
     ) -> Result<Batch, Fault>
-        requires read { are_plain fields.now ≡ true }
+        requires dictionaries { AreDictionaries dictionaries.now }
         requires few { length (entries fields.now) ≤ limits.now.fields }
         // What is answered are the rows of the parts.
-        ensures rows { IfOk result (λ batch. Rows limits.now fields.now head body.items
-            batch.rows) }
+        ensures rows { IfOk result (λ batch. Rows limits.now (dictionaries_in dictionaries.now)
+            fields.now head body.items batch.rows) }
         // Where the parts give rows, these are answered, unless memory runs out.
         ensures only { (rows : List (List Value))
-            → Rows limits.now fields.now head body.items rows
+            → Rows limits.now (dictionaries_in dictionaries.now) fields.now head body.items rows
             → MatchResult result (λ batch. batch.rows ≡ rows) (λ fault. fault ≡ Fault.OutOfMemory) }
         // A refusal is true of the parts.
         ensures refused { IfErr result
-            (λ fault. RefusesParts limits.now fault fields.now head body.items) }
+            (λ fault. RefusesParts limits.now fault (dictionaries_in dictionaries.now)
+            fields.now head body.items) }
         ensures columns { IfOk result (λ batch. batch.columns ≡ length fields.now) }
         // Each column lies as its field's type does.
         ensures layouts { IfOk result (λ batch. batch.layouts ≡ map field_layout fields.now) }
         ensures body { IfOk result (λ batch. batch.body_len ≡ length body.items) }
-        // No slot is visited but those of texts, and those of lists and structs with a validity
-        // bitmap that texts stand below; each of them once at most.
+        // No slot is visited but those of texts and indices, and those of lists and structs with a
+        // validity bitmap that such stand below; each of them once at most.
         ensures visits { IfOk result
-            (λ batch. batch.tests ≤ visits_in (columns_of fields.now head body.items)) }
+            (λ batch. batch.tests ≤ visits_in (columns_of (dictionaries_in dictionaries.now)
+            fields.now head body.items)) }
         ensures tests { IfOk result (λ batch. batch.tests ≤ slots_in head.nodes) }
     {
-        read(alloc, limits, fields, &head, body)
+        read(alloc, limits, fields, &head, body, dictionaries)
     }
 
     /// How many rows there are.
@@ -248,7 +262,13 @@ impl Batch {
             ≡ Some (cell_value result) }
     {
         let shared = self.shared.as_ref();
-        cell_in(&shared.body, &shared.parts, shared.count, row, column)
+        cell_in(
+            shared.body.as_slice(),
+            &shared.parts,
+            shared.count,
+            row,
+            column,
+        )
     }
 
     /// A column, found once for all its rows. The caller gives a column below `columns`.
@@ -259,7 +279,7 @@ impl Batch {
         ensures { AreOfColumn self.now.rows column result }
     {
         let shared = self.shared.as_ref();
-        view_in(&shared.body, &shared.parts, shared.count, column)
+        view_in(shared.body.as_slice(), &shared.parts, shared.count, column)
     }
 
     /// The slots of a column and of the columns below it, found once for all its rows. The caller
@@ -275,11 +295,21 @@ impl Batch {
         ensures texts { (i : ℕ) → i < length (slot_values result) → SpellsTexts (alone result) i }
     {
         let shared = self.shared.as_ref();
-        slots_in(&shared.body, &shared.parts, shared.count, column)
+        slots_in(shared.body.as_slice(), &shared.parts, shared.count, column)
+    }
+
+    /// Whether this may be a dictionary of other batches: it has one column, which is no list, no
+    /// struct and no column of indices (Arrow Columnar Format, "Dictionary Messages").
+    pub fn is_dictionary(&self) -> bool
+        ensures yes { IsTrue result → IsDictionary self.now }
+        ensures no { IsDictionary self.now → IsTrue result }
+    {
+        let shared = self.shared.as_ref();
+        are_alone(&shared.parts)
     }
 
     /// The list with the body's bytes, for a use of its own: none where the batch has clones left,
-    /// which keep it.
+    /// or where it is the dictionary of another batch, which keep it.
     pub fn into_body(self) -> Option<Vec<u8>>
         ensures { IfSome result (λ body. length body.items ≡ self.body_len) }
     {
@@ -292,9 +322,18 @@ impl Batch {
                     body,
                     slot_tests: _,
                 },
-            ) => Some(body),
+            ) => Rc::into_inner(body),
             None => None,
         }
+    }
+
+    // The values of a dictionary, which a column of indices is to keep.
+    pub(crate) fn dictionary_values(&self) -> Result<DictionaryValues, AllocError>
+        requires { IsDictionary self.now }
+        ensures { IfOk result (λ values. values ≡ dictionary_values self.now) }
+    {
+        let shared = self.shared.as_ref();
+        share_values(&shared.body, &shared.parts, shared.count)
     }
 
     /// The rows as values of their own. Refused with `OutOfMemory` alone, where a list can't grow.
@@ -303,7 +342,7 @@ impl Batch {
         ensures memory { IfErr result (λ fault. fault ≡ Fault.OutOfMemory) }
     {
         let shared = self.shared.as_ref();
-        let rows = rows_in(alloc, &shared.body, &shared.parts, shared.count)?;
+        let rows = rows_in(alloc, shared.body.as_slice(), &shared.parts, shared.count)?;
         Ok(rows)
     }
 
@@ -318,7 +357,7 @@ impl Batch {
         let shared = self.shared.as_ref();
         read_row(
             alloc,
-            &shared.body,
+            shared.body.as_slice(),
             &shared.parts,
             shared.count,
             row,

@@ -20,6 +20,8 @@ pub enum Cause {
     BadOffsets,
     /// F33: a text that a row shows and that isn't UTF-8.
     ValueNotUtf8,
+    /// F34: an index that a row shows and that is of no value in its dictionary.
+    BadIndex,
 }
 
 impl From<Cause> for Fault {
@@ -38,6 +40,7 @@ impl From<Cause> for Fault {
             Cause::BadNullCount => Fault::BadNullCount,
             Cause::BadOffsets => Fault::BadOffsets,
             Cause::ValueNotUtf8 => Fault::ValueNotUtf8,
+            Cause::BadIndex => Fault::BadIndex,
         }
     }
 }

@@ -1,16 +1,19 @@
-ghost use Rattle.std.specs.Prelude.{◌≡◌, ◌≤◌, ◌<◌, ◌+◌, ◌-◌, ◌*◌, length, true, false, Some};
+ghost use Rattle.std.specs.Prelude.{◌≡◌, ◌≤◌, ◌<◌, ◌+◌, ◌-◌, ◌*◌, length, true, false, [], Some};
 ghost use Rattle.std.specs.Prelude.{slice_get};
 ghost use Rattle.ipc_column.specs.declared.cause.Cause.{Cause};
 ghost use Rattle.ipc_column.specs.Cells.{cell_value, is_leaf};
 ghost use Rattle.ipc_column.specs.Checks.{Holds, has_bitmap, holds_values, holds_offsets, in_order};
 ghost use Rattle.ipc_column.specs.Checks.{are_long, good, good_below, passes};
-ghost use Rattle.ipc_column.specs.Columns.{every};
+ghost use Rattle.ipc_column.specs.Columns.{every, none};
+ghost use Rattle.ipc_column.specs.Dictionaries.{stands_alone};
 ghost use Rattle.ipc_column.specs.Lent.{HaveValues, HasValue};
 ghost use Rattle.ipc_column.specs.Values.{is_valid, own_value, value_of, row, items, first_at};
 ghost use Rattle.ipc_column.specs.Values.{is_nested, place};
-ghost use Rattle.ipc_column.specs.Views.{columns, column_of, children_of, span_bytes};
+ghost use Rattle.ipc_column.specs.Views.{columns, column_of, children_of};
+ghost use Rattle.ipc_column.specs.Spans.{span_bytes};
 
 use crate::cell_iter::{ListIter, StructIter, list_values, struct_values};
+use crate::dictionary::{DictionaryValues, indexed_cell};
 use crate::fixed::{bytes_of, signed_at, unsigned_at};
 use crate::offsets::{bytes_between, fixed_place, place_at};
 use crate::range_bytes::bytes_at;
@@ -207,11 +210,54 @@ pub(crate) fn is_valid(validity: &[u8], slot: usize) -> bool
     validity.is_empty() || bit(validity, slot)
 }
 
+/// What a valid slot of a column that stands alone holds, one of the first `slots`.
+#[tactic(auto, using(crate::proofs::Widths::slot_inside))]
+#[inline(always)]
+pub(crate) fn leaf_cell<'a>(
+    layout: Layout,
+    offsets: &'a [u8],
+    values: &'a [u8],
+    slots: usize,
+    slot: usize,
+) -> Cell<'a>
+    requires slot { slot < slots }
+    requires values { holds_values layout slots (length values.now) ≡ true }
+    requires offsets { holds_offsets layout slots (length offsets.now) ≡ true }
+    requires rise { in_order layout slots offsets.now (length values.now) none ≡ true }
+    requires good { good_below Cause.ValueNotUtf8 layout [] (good Cause.ValueNotUtf8 none)
+        offsets.now values.now slot ≡ true }
+    ensures value { stands_alone layout ≡ true → cell_value result
+        ≡ own_value layout [] (row none) offsets.now values.now slot }
+    ensures leaf { is_leaf result ≡ true }
+{
+    match layout {
+        Layout::Bits => Cell::Bool(bit(values, slot)),
+        Layout::Numbers { bits, signed: true } => Cell::Int(signed_at(bits, values, slot)),
+        Layout::Numbers {
+            bits,
+            signed: false,
+        } => Cell::UInt(unsigned_at(bits, values, slot)),
+        Layout::FixedBytes(width) => Cell::Bytes(bytes_of(width, values, slot)),
+        Layout::VariableBytes { utf8: true } => {
+            Cell::Text(text_of(bytes_between(offsets, values, slots, slot)))
+        }
+        Layout::VariableBytes { utf8: false } => {
+            Cell::Bytes(bytes_between(offsets, values, slots, slot))
+        }
+        Layout::Null
+        | Layout::Lists
+        | Layout::FixedLists(_)
+        | Layout::Structs
+        | Layout::Indices { .. } => Cell::Null,
+    }
+}
+
 /// What a valid slot holds, one of the first `slots`, over the parts of the children.
 #[tactic(auto, using(crate::proofs::Widths::slot_inside))]
 #[inline(always)]
 pub(crate) fn own_cell<'a>(
     layout: Layout,
+    dictionary: &'a DictionaryValues,
     body: &'a [u8],
     offsets: &'a [u8],
     values: &'a [u8],
@@ -226,10 +272,11 @@ pub(crate) fn own_cell<'a>(
         (columns body.now children.now) ≡ true }
     requires long { are_long layout slots (columns body.now children.now) ≡ true }
     requires sound { (why : Cause) → every (passes why) (columns body.now children.now) ≡ true }
-    requires good { good_below layout (good (columns body.now children.now))
-        offsets.now values.now slot ≡ true }
-    ensures value { cell_value result ≡ own_value layout (row (columns body.now children.now))
-        offsets.now values.now slot }
+    requires good { good_below Cause.ValueNotUtf8 layout dictionary.now
+        (good Cause.ValueNotUtf8 (columns body.now children.now)) offsets.now values.now slot
+        ≡ true }
+    ensures value { cell_value result ≡ own_value layout dictionary.now
+        (row (columns body.now children.now)) offsets.now values.now slot }
     ensures leaf { is_nested layout ≡ false → is_leaf result ≡ true }
 {
     // The widest numbers come first, without a table of jumps.
@@ -241,23 +288,13 @@ pub(crate) fn own_cell<'a>(
         return Cell::Int(signed_at(IntBits::B64, values, slot));
     }
     match layout {
-        Layout::Null | Layout::Unsupported => Cell::Null,
-        Layout::Bits => Cell::Bool(bit(values, slot)),
-        Layout::Numbers { bits, signed: true } => Cell::Int(signed_at(bits, values, slot)),
-        Layout::Numbers {
-            bits,
-            signed: false,
-        } => Cell::UInt(unsigned_at(bits, values, slot)),
-        Layout::FixedBytes(width) => Cell::Bytes(bytes_of(width, values, slot)),
-        Layout::VariableBytes { utf8: true } => {
-            Cell::Text(text_of(bytes_between(offsets, values, slots, slot)))
-        }
-        Layout::VariableBytes { utf8: false } => {
-            Cell::Bytes(bytes_between(offsets, values, slots, slot))
-        }
         Layout::Lists => Cell::List(list_between(body, children, offsets, slots, slot)),
         Layout::FixedLists(size) => Cell::List(fixed_list(body, children, size, slot)),
         Layout::Structs => Cell::Struct(struct_of(body, children, slot)),
+        Layout::Indices { bits, signed, .. } => {
+            indexed_cell(bits, signed, values, slot, dictionary)
+        }
+        _ => leaf_cell(layout, offsets, values, slots, slot),
     }
 }
 
@@ -284,6 +321,7 @@ pub(crate) fn cell_at<'a>(body: &'a [u8], part: &'a ColumnRanges, slot: usize) -
     }
     own_cell(
         part.layout,
+        &part.dictionary,
         body,
         bytes_at(body, part.offsets),
         bytes_at(body, part.values),

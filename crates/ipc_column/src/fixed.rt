@@ -1,7 +1,7 @@
-ghost use Rattle.std.specs.Prelude.{◌≡◌, ◌≤◌, ◌+◌, ◌*◌, length, slice_range};
+ghost use Rattle.std.specs.Prelude.{◌≡◌, ◌≤◌, ◌+◌, ◌*◌, length, pos, slice_range};
 ghost use Rattle.ipc_scalar.specs.Bytes.{num};
 ghost use Rattle.ipc_model.specs.Layouts.{number_bytes};
-ghost use Rattle.ipc_column.specs.Values.{signed_at};
+ghost use Rattle.ipc_column.specs.Values.{number_in, place_below, signed_at};
 
 use ipc_model::IntBits;
 use ipc_scalar::{get_i32, get_i64, get_u16, get_u32};
@@ -32,6 +32,40 @@ pub(crate) fn unsigned_at(bits: IntBits, values: &[u8], slot: usize) -> u64
         IntBits::B32 => u64::from(get_u32(values, 4 * slot).unwrap_or(0)),
         IntBits::B64 => get_i64(values, 8 * slot).unwrap_or(0).cast_unsigned(),
     }
+}
+
+// A number as that of one of so many values, where it is one.
+#[inline(always)]
+fn place_below(number: u64, count: usize) -> Option<usize>
+    ensures { result ≡ place_below count (pos number) }
+{
+    if number < count as u64 {
+        Some(number as usize)
+    } else {
+        None
+    }
+}
+
+/// The index in a slot, where it is that of one of so many values.
+#[inline(always)]
+pub(crate) fn index_in(
+    bits: IntBits,
+    signed: bool,
+    indices: &[u8],
+    slot: usize,
+    count: usize,
+) -> Option<usize>
+    requires { number_bytes bits * (slot + 1) ≤ length indices.now }
+    ensures { result ≡ place_below count (number_in bits signed indices.now slot) }
+{
+    if !signed {
+        return place_below(unsigned_at(bits, indices, slot), count);
+    }
+    let index = signed_at(bits, indices, slot);
+    if index < 0 {
+        return None;
+    }
+    place_below(index.unsigned_abs(), count)
 }
 
 /// The bytes of a slot of so many.

@@ -1,5 +1,5 @@
 ghost use Rattle.std.specs.Prelude.{◌≡◌};
-ghost use Rattle.ipc_column.specs.Views.{span_bytes};
+ghost use Rattle.ipc_column.specs.Spans.{span_bytes};
 
 use crate::ranges::BufferRange;
 

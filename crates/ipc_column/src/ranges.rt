@@ -1,3 +1,4 @@
+use crate::dictionary::DictionaryValues;
 use ipc_model::Layout;
 
 /// Where the bytes of a buffer lie in the body.
@@ -26,6 +27,8 @@ pub struct ColumnRanges {
     pub values: BufferRange,
     /// The parts of the field's children.
     pub children: Vec<ColumnRanges>,
-    /// Whether texts stand in one of the children or below it.
-    pub texts_below: bool,
+    /// The values that its slots are indices of.
+    pub dictionary: DictionaryValues,
+    /// Whether texts or indices stand in one of the children or below it.
+    pub judged_below: bool,
 }

@@ -2,6 +2,8 @@
 ghost use Rattle.std.specs.Prelude.{◌≡◌, ◌<◌, ℕ, List, length, slice_get, Some, true, IfSome};
 ghost use Rattle.std.specs.Prelude.{is_some};
 ghost use Rattle.ipc_model.specs.declared.value.Value.{Value};
+ghost use Rattle.ipc_column.specs.Cells.{cell_value, is_leaf};
+ghost use Rattle.ipc_column.specs.Columns.{Columns};
 ghost use Rattle.ipc_column.specs.Checks.{Holds, are_long, holds_offsets, holds_values, in_order};
 ghost use Rattle.ipc_column.specs.Lending.{AreNumbers, are_numbers, layouts_of};
 ghost use Rattle.ipc_column.specs.Lent.{AreFound, AreOfColumn, found};
@@ -11,7 +13,8 @@ ghost use Rattle.ipc_column.specs.Rules.{SpellsTexts};
 ghost use Rattle.ipc_column.specs.Values.{own_value, row, rows_of};
 ghost use Rattle.ipc_column.specs.Views.{columns, column_of, children_of};
 
-use crate::cell::is_valid;
+use crate::cell::{Cell, is_valid};
+use crate::dictionary::{DictionaryValues, indexed_cell};
 use crate::fixed::{bytes_of, signed_at, unsigned_at};
 use crate::numbers::Numbers;
 use crate::offsets::{bytes_between, fixed_place, place_at};
@@ -58,6 +61,7 @@ pub struct SlotView<'a> {
     validity: &'a [u8],
     offsets: &'a [u8],
     values: &'a [u8],
+    dictionary: &'a DictionaryValues,
     body: &'a [u8],
     children: &'a [ColumnRanges],
 }
@@ -65,22 +69,23 @@ pub struct SlotView<'a> {
 impl<'a> Model for SlotView<'a> {
     ghost use Rattle.std.specs.Coded.{codes};
     ghost use Rattle.ipc_column.specs.contracts.ranges.ColumnRanges as ranges;
+    ghost use Rattle.ipc_model.specs.contracts.value.Value as value;
     ghost use Rattle.ipc_column.specs.Lent.{AreFound, found};
     ghost use Rattle.ipc_column.specs.Nested.{Nested};
     ghost use Rattle.ipc_column.specs.Views.{columns};
 
     ghost Value = { Nested };
 
-    ghost coded = { Prim.hlevel (codes, ranges.the_row.coded) };
+    ghost coded = { Prim.hlevel (codes, ranges.the_row.coded, value.the_row.coded) };
 
     ghost view = { λ s. record {
-      column = found s.layout s.slots s.validity.now s.offsets.now s.values.now;
+      column = found s.layout s.slots s.validity.now s.offsets.now s.values.now s.dictionary.now;
       body = s.body.now;
       children = s.children.now;
     } };
 
     ghost invariant = { λ s. AreFound
-        (found s.layout s.slots s.validity.now s.offsets.now s.values.now)
+        (found s.layout s.slots s.validity.now s.offsets.now s.values.now s.dictionary.now)
         (columns s.body.now s.children.now) };
 }
 
@@ -95,7 +100,8 @@ impl<'a> SlotView<'a> {
 
     /// What a slot holds. The caller gives a slot below `len`.
     ///
-    /// A list, or a struct, tells the slots of the children where its values are.
+    /// A list, or a struct, tells the slots of the children where its values are. An index lends
+    /// its value of the dictionary, and is null where there is none.
     #[inline(always)]
     pub fn at(&self, slot: usize) -> Slot<'a>
         requires { slot < length (slot_values self.now) }
@@ -109,6 +115,7 @@ impl<'a> SlotView<'a> {
         }
         own_slot(
             self.layout,
+            self.dictionary,
             self.offsets,
             self.values,
             self.slots,
@@ -124,13 +131,14 @@ impl<'a> SlotView<'a> {
             → result ≡ is_null value }
     {
         match self.layout {
-            Layout::Null | Layout::Unsupported => true,
+            Layout::Null => true,
+            Layout::Indices { .. } => matches!(self.at(slot), Slot::Null),
             _ => !is_valid(self.validity, slot),
         }
     }
 
     /// The numbers of the column as they lie in the body, with their validity bitmap: none where
-    /// the column has anything else.
+    /// the column has anything else, also indices of numbers.
     #[inline(always)]
     pub fn numbers(&self) -> Option<Numbers<'a>>
         // It lends exactly the columns of numbers.
@@ -169,6 +177,7 @@ impl<'a> SlotView<'a> {
 #[inline(always)]
 fn own_slot<'a>(
     layout: Layout,
+    dictionary: &'a DictionaryValues,
     offsets: &[u8],
     values: &'a [u8],
     slots: usize,
@@ -182,11 +191,12 @@ fn own_slot<'a>(
         (columns body children.now) ≡ true }
     requires long { (body : List ℕ) → are_long layout slots (columns body children.now) ≡ true }
     ensures value { (body : List ℕ) → shown (row (columns body children.now)) slot result
-        ≡ own_value layout (row (columns body children.now)) offsets.now values.now slot }
+        ≡ own_value layout dictionary.now (row (columns body children.now)) offsets.now values.now
+        slot }
     ensures inside { (body : List ℕ) → LeadsInside (columns body children.now) slot result }
 {
     match layout {
-        Layout::Null | Layout::Unsupported => Slot::Null,
+        Layout::Null => Slot::Null,
         Layout::Bits => Slot::Bool(bit(values, slot)),
         Layout::Numbers { bits, signed: true } => Slot::Int(signed_at(bits, values, slot)),
         Layout::Numbers {
@@ -210,6 +220,26 @@ fn own_slot<'a>(
             Slot::List { from, to }
         }
         Layout::Structs => Slot::Struct,
+        Layout::Indices { bits, signed, .. } => {
+            leaf_slot(indexed_cell(bits, signed, values, slot, dictionary))
+        }
+    }
+}
+
+// What a cell that is neither a list nor a struct shows, as a slot.
+fn leaf_slot(cell: Cell<'_>) -> Slot<'_>
+    requires { is_leaf cell ≡ true }
+    ensures value { (below : ℕ → List Value) (i : ℕ)
+        → shown below i result ≡ cell_value cell.entry }
+    ensures inside { (children : Columns) (i : ℕ) → LeadsInside children i result }
+{
+    match cell {
+        Cell::Null | Cell::List(_) | Cell::Struct(_) => Slot::Null,
+        Cell::Bool(truth) => Slot::Bool(truth),
+        Cell::Int(number) => Slot::Int(number),
+        Cell::UInt(number) => Slot::UInt(number),
+        Cell::Bytes(bytes) => Slot::Bytes(bytes),
+        Cell::Text(text) => Slot::Text(text.as_bytes()),
     }
 }
 
@@ -220,12 +250,14 @@ pub(crate) fn slots_found<'a>(
     validity: &'a [u8],
     offsets: &'a [u8],
     values: &'a [u8],
+    dictionary: &'a DictionaryValues,
     body: &'a [u8],
     children: &'a [ColumnRanges],
 ) -> SlotView<'a>
-    requires { AreFound (found layout slots validity.now offsets.now values.now)
+    requires { AreFound (found layout slots validity.now offsets.now values.now dictionary.now)
         (columns body.now children.now) }
-    ensures column { result.column ≡ found layout slots validity.now offsets.now values.now }
+    ensures column { result.column
+        ≡ found layout slots validity.now offsets.now values.now dictionary.now }
     ensures body { result.body ≡ body.now }
     ensures children { result.children ≡ children.now }
 {
@@ -235,6 +267,7 @@ pub(crate) fn slots_found<'a>(
         validity,
         offsets,
         values,
+        dictionary,
         body,
         children,
     }
@@ -251,6 +284,7 @@ fn slots_of<'a>(body: &'a [u8], part: &'a ColumnRanges) -> SlotView<'a>
         validity: bytes_at(body, part.validity),
         offsets: bytes_at(body, part.offsets),
         values: bytes_at(body, part.values),
+        dictionary: &part.dictionary,
         body,
         children: &part.children,
     }

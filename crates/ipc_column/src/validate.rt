@@ -1,7 +1,8 @@
 ghost use Rattle.std.specs.Prelude.{◌≡◌, ◌≤◌, ◌<◌, ◌+◌, ◌*◌, ◌^◌, ◌&&◌, ℕ, List, nat_le, length};
 ghost use Rattle.std.specs.Prelude.{true, IfOk, IfErr};
 ghost use Rattle.ipc_column.specs.Checks.{Judges, has_bitmap, holds_values, holds_offsets};
-ghost use Rattle.ipc_column.specs.Checks.{in_order, nulls_in, passes, top_passes, all_pass};
+ghost use Rattle.ipc_column.specs.Checks.{in_order, is_shown, nulls_in, passes, top_passes};
+ghost use Rattle.ipc_column.specs.Checks.{all_pass};
 ghost use Rattle.ipc_column.specs.Checks.{have_slots, are_long, are_ascending};
 ghost use Rattle.ipc_column.specs.Columns.{every, every_top};
 ghost use Rattle.ipc_column.specs.Marks.{AreMarked};
@@ -39,10 +40,11 @@ fn holds_values(layout: Layout, slots: usize, bytes: usize) -> bool
         | Layout::VariableBytes { .. }
         | Layout::Lists
         | Layout::FixedLists(_)
-        | Layout::Structs
-        | Layout::Unsupported => true,
+        | Layout::Structs => true,
         Layout::Bits => slots.div_ceil(8) <= bytes,
-        Layout::Numbers { bits, .. } => holds_width(bits.bytes(), slots, bytes),
+        Layout::Numbers { bits, .. } | Layout::Indices { bits, .. } => {
+            holds_width(bits.bytes(), slots, bytes)
+        }
         Layout::FixedBytes(width) => holds_width(width as usize, slots, bytes),
     }
 }
@@ -204,16 +206,14 @@ pub(crate) fn check_columns(body: &[u8], parts: &[ColumnRanges], rows: usize) ->
     requires few { visits_in (columns body.now parts.now) < 2 ^ 64 }
     requires marks { AreMarked parts.now }
     ensures judged { Judges result (λ why. all_pass why rows (columns body.now parts.now)) }
-    ensures texts_last { IfErr result (λ why. why ≡ Cause.ValueNotUtf8 → (other : Cause)
+    // What rows show comes last.
+    ensures shown_last { IfErr result (λ why. is_shown why ≡ true → (other : Cause)
         → every (passes other) (columns body.now parts.now) ≡ true) }
     ensures visited { IfOk result (λ tests. tests ≤ visits_in (columns body.now parts.now)) }
 {
     check_all(body, parts)?;
     check_tops(body, parts, rows)?;
     let mut tests = 0;
-    if visit_columns(body, parts, 0, rows, &mut tests) {
-        Ok(tests)
-    } else {
-        Err(Cause::ValueNotUtf8)
-    }
+    visit_columns(body, parts, 0, rows, &mut tests)?;
+    Ok(tests)
 }

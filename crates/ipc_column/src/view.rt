@@ -9,6 +9,7 @@ ghost use Rattle.ipc_column.specs.Values.{row, rows_of, value_of};
 ghost use Rattle.ipc_column.specs.Views.{columns, column_of, children_of};
 
 use crate::cell::{Cell, is_valid, own_cell};
+use crate::dictionary::DictionaryValues;
 use crate::range_bytes::bytes_at;
 use crate::ranges::ColumnRanges;
 use crate::slot_view::{SlotView, slots_found};
@@ -24,6 +25,7 @@ pub struct ColumnView<'a> {
     validity: &'a [u8],
     offsets: &'a [u8],
     values: &'a [u8],
+    dictionary: &'a DictionaryValues,
     body: &'a [u8],
     children: &'a [ColumnRanges],
 }
@@ -39,11 +41,12 @@ impl<'a> Model for ColumnView<'a> {
 
     ghost coded = { Prim.hlevel (codes, value.the_row.coded) };
 
-    ghost view = { λ s. values_in (found s.layout s.slots s.validity.now s.offsets.now s.values.now)
+    ghost view = { λ s. values_in
+        (found s.layout s.slots s.validity.now s.offsets.now s.values.now s.dictionary.now)
         (columns s.body.now s.children.now) };
 
     ghost invariant = { λ s. HoldSlots
-        (found s.layout s.slots s.validity.now s.offsets.now s.values.now)
+        (found s.layout s.slots s.validity.now s.offsets.now s.values.now s.dictionary.now)
         (columns s.body.now s.children.now) };
 }
 
@@ -70,6 +73,7 @@ impl<'a> ColumnView<'a> {
             self.validity,
             self.offsets,
             self.values,
+            self.dictionary,
             self.body,
             self.children,
             slot,
@@ -90,6 +94,7 @@ impl<'a> ColumnView<'a> {
             self.validity,
             self.offsets,
             self.values,
+            self.dictionary,
             self.body,
             self.children,
         )
@@ -104,20 +109,24 @@ fn cell_found<'a>(
     validity: &'a [u8],
     offsets: &'a [u8],
     values: &'a [u8],
+    dictionary: &'a DictionaryValues,
     body: &'a [u8],
     children: &'a [ColumnRanges],
     slot: usize,
 ) -> Cell<'a>
     requires slot { slot < slots }
-    requires holds { HoldSlots (found layout slots validity.now offsets.now values.now)
+    requires holds { HoldSlots
+        (found layout slots validity.now offsets.now values.now dictionary.now)
         (columns body.now children.now) }
     ensures { cell_value result ≡ value_of (row (columns body.now children.now))
-        (found layout slots validity.now offsets.now values.now) slot }
+        (found layout slots validity.now offsets.now values.now dictionary.now) slot }
 {
     if !is_valid(validity, slot) {
         return Cell::Null;
     }
-    own_cell(layout, body, offsets, values, slots, slot, children)
+    own_cell(
+        layout, dictionary, body, offsets, values, slots, slot, children,
+    )
 }
 
 // A part, found.
@@ -131,6 +140,7 @@ fn view_of<'a>(body: &'a [u8], part: &'a ColumnRanges) -> ColumnView<'a>
         validity: bytes_at(body, part.validity),
         offsets: bytes_at(body, part.offsets),
         values: bytes_at(body, part.values),
+        dictionary: &part.dictionary,
         body,
         children: &part.children,
     }

@@ -1,33 +1,41 @@
 ghost use Rattle.std.specs.Prelude.{◌≡◌, ◌≤◌, ◌<◌, ◌+◌, ◌^◌, length, true, false};
-ghost use Rattle.ipc_column.specs.Checks.{good, good_slot, range_good};
+ghost use Rattle.ipc_column.specs.Checks.{IsIndexed, Judges, good, good_slot, range_good};
 ghost use Rattle.ipc_column.specs.Lent.{AreSlots};
 ghost use Rattle.ipc_column.specs.Marks.{AreMarked, IsMarked};
 ghost use Rattle.ipc_column.specs.Rules.{is_visited};
-ghost use Rattle.ipc_model.specs.Layouts.{is_texts};
+ghost use Rattle.ipc_model.specs.Layouts.{is_judged, is_texts};
 ghost use Rattle.ipc_column.specs.Views.{columns, column_of, children_of, one};
 ghost use Rattle.ipc_column.specs.Weights.{weight, weight_below};
 
+use crate::cause::Cause;
+use crate::indices::visit_indices;
 use crate::offsets::{fixed_place, place_at};
 use crate::range_bytes::bytes_at;
 use crate::ranges::ColumnRanges;
 use crate::slot_visit::visit;
 use crate::texts::visit_texts;
 use crate::whole::is_whole_part;
-use ipc_model::Layout;
+use ipc_model::{IntBits, Layout};
 
 // Whether what a part's slots from one up to another lead to is good: in a list the slots between
 // its offsets, in a list of a fixed size that many for each, in a struct the same slots of each
 // child.
 #[cycle(visit)]
-fn visit_below(body: &[u8], part: &ColumnRanges, from: usize, to: usize, tests: &mut u64) -> bool
+fn visit_below(
+    body: &[u8],
+    part: &ColumnRanges,
+    from: usize,
+    to: usize,
+    tests: &mut u64,
+) -> Result<(), Cause>
     requires some { from < to }
     requires slots { AreSlots (one body.now part.now) from to }
     requires room { tests.old + weight_below (column_of body.now part.now).layout
         (weight (children_of body.now part.now)) (column_of body.now part.now).offsets from to
         < 2 ^ 64 }
     requires marks { IsMarked part.now }
-    ensures good { result ≡ range_good (column_of body.now part.now).layout
-        (good (children_of body.now part.now)) (column_of body.now part.now).offsets from to }
+    ensures judged { Judges result (λ why. range_good (column_of body.now part.now).layout
+        (good why (children_of body.now part.now)) (column_of body.now part.now).offsets from to) }
     ensures cost { tests.new ≤ tests.old + weight_below (column_of body.now part.now).layout
         (weight (children_of body.now part.now)) (column_of body.now part.now).offsets from to }
 {
@@ -44,76 +52,137 @@ fn visit_below(body: &[u8], part: &ColumnRanges, from: usize, to: usize, tests: 
             visit_all(body, &part.children, first, last, tests)
         }
         Layout::Structs => visit_all(body, &part.children, from, to, tests),
-        _ => true,
+        _ => Ok(()),
     }
 }
 
-// Whether a slot of a part that texts stand below is null, or what it leads to is good. The slot
-// is visited.
+// Whether a slot of a part that texts or indices stand below is null, or what it leads to is good.
+// The slot is visited.
 #[cycle(visit)]
-fn visit_slot(body: &[u8], part: &ColumnRanges, slot: usize, tests: &mut u64) -> bool
+fn visit_slot(body: &[u8], part: &ColumnRanges, slot: usize, tests: &mut u64) -> Result<(), Cause>
     requires slots { AreSlots (one body.now part.now) slot (slot + 1) }
-    requires below { is_texts (column_of body.now part.now).layout ≡ false }
+    requires below { is_judged (column_of body.now part.now).layout ≡ false }
     requires visited { is_visited (column_of body.now part.now) (children_of body.now part.now)
         ≡ true }
     requires room { tests.old + weight (one body.now part.now) slot (slot + 1) < 2 ^ 64 }
     requires small { slot + 1 < 2 ^ 64 }
     requires marks { IsMarked part.now }
-    ensures good { result ≡ good_slot (good (children_of body.now part.now))
-        (column_of body.now part.now) slot }
+    ensures judged { Judges result (λ why. good_slot why (good why (children_of body.now part.now))
+        (column_of body.now part.now) slot) }
     ensures cost { tests.new ≤ tests.old + weight (one body.now part.now) slot (slot + 1) }
 {
-    !visit(bytes_at(body, part.validity), slot, tests)
-        || visit_below(body, part, slot, slot + 1, tests)
+    if !visit(bytes_at(body, part.validity), slot, tests) {
+        return Ok(());
+    }
+    visit_below(body, part, slot, slot + 1, tests)
 }
 
 // The same of the slots from one up to another.
 #[cycle(visit)]
-fn visit_slots(body: &[u8], part: &ColumnRanges, from: usize, to: usize, tests: &mut u64) -> bool
+fn visit_slots(
+    body: &[u8],
+    part: &ColumnRanges,
+    from: usize,
+    to: usize,
+    tests: &mut u64,
+) -> Result<(), Cause>
     requires slots { AreSlots (one body.now part.now) from to }
-    requires below { is_texts (column_of body.now part.now).layout ≡ false }
+    requires below { is_judged (column_of body.now part.now).layout ≡ false }
     requires visited { is_visited (column_of body.now part.now) (children_of body.now part.now)
         ≡ true }
     requires room { tests.old + weight (one body.now part.now) from to < 2 ^ 64 }
     requires marks { IsMarked part.now }
-    ensures good { result ≡ good (one body.now part.now) from to }
+    ensures judged { Judges result (λ why. good why (one body.now part.now) from to) }
     ensures cost { tests.new ≤ tests.old + weight (one body.now part.now) from to }
 {
     for slot in from..to {
-        if !visit_slot(body, part, slot, tests) {
-            return false;
-        }
+        visit_slot(body, part, slot, tests)?;
     }
-    true
+    Ok(())
+}
+
+// Whether the slots of a part of texts from one up to another are each null or hold UTF-8.
+fn visit_text_part(
+    body: &[u8],
+    part: &ColumnRanges,
+    from: usize,
+    to: usize,
+    tests: &mut u64,
+) -> Result<(), Cause>
+    requires some { from < to }
+    requires texts { is_texts (column_of body.now part.now).layout ≡ true }
+    requires slots { AreSlots (one body.now part.now) from to }
+    requires room { tests.old + weight (one body.now part.now) from to < 2 ^ 64 }
+    ensures judged { Judges result (λ why. good why (one body.now part.now) from to) }
+    ensures cost { tests.new ≤ tests.old + weight (one body.now part.now) from to }
+{
+    let validity = bytes_at(body, part.validity);
+    let offsets = bytes_at(body, part.offsets);
+    let values = bytes_at(body, part.values);
+    if visit_texts(validity, offsets, values, part.slots, from, to, tests) {
+        Ok(())
+    } else {
+        Err(Cause::ValueNotUtf8)
+    }
+}
+
+// Whether the slots of a part of indices from one up to another are each null or hold one of a
+// value in its dictionary.
+fn visit_index_part(
+    body: &[u8],
+    part: &ColumnRanges,
+    bits: IntBits,
+    signed: bool,
+    from: usize,
+    to: usize,
+    tests: &mut u64,
+) -> Result<(), Cause>
+    requires some { from < to }
+    requires indices { IsIndexed (column_of body.now part.now).layout bits signed }
+    requires slots { AreSlots (one body.now part.now) from to }
+    requires room { tests.old + weight (one body.now part.now) from to < 2 ^ 64 }
+    ensures judged { Judges result (λ why. good why (one body.now part.now) from to) }
+    ensures cost { tests.new ≤ tests.old + weight (one body.now part.now) from to }
+{
+    let validity = bytes_at(body, part.validity);
+    let indices = bytes_at(body, part.values);
+    let count = part.dictionary.len();
+    if visit_indices(bits, signed, validity, indices, count, from, to, tests) {
+        Ok(())
+    } else {
+        Err(Cause::BadIndex)
+    }
 }
 
 // Whether the slots of a part from one up to another are good: each is null, or what stands in it
-// and below it is UTF-8 where it is a text. Where there is no bitmap, all that the slots lead to is
-// looked at together; where no text stands below, nothing is.
+// and below it is UTF-8 where it is a text, and of a value where it is an index. Where there is no
+// bitmap, all that the slots lead to is looked at together; where neither texts nor indices stand
+// below, nothing is.
 #[cycle(visit)]
-fn visit_part(body: &[u8], part: &ColumnRanges, from: usize, to: usize, tests: &mut u64) -> bool
+fn visit_part(
+    body: &[u8],
+    part: &ColumnRanges,
+    from: usize,
+    to: usize,
+    tests: &mut u64,
+) -> Result<(), Cause>
     requires slots { AreSlots (one body.now part.now) from to }
     requires room { tests.old + weight (one body.now part.now) from to < 2 ^ 64 }
     requires marks { IsMarked part.now }
-    ensures good { result ≡ good (one body.now part.now) from to }
+    ensures judged { Judges result (λ why. good why (one body.now part.now) from to) }
     ensures cost { tests.new ≤ tests.old + weight (one body.now part.now) from to }
 {
     if from == to {
-        return true;
+        return Ok(());
     }
     if part.layout.is_texts() {
-        return visit_texts(
-            bytes_at(body, part.validity),
-            bytes_at(body, part.offsets),
-            bytes_at(body, part.values),
-            part.slots,
-            from,
-            to,
-            tests,
-        );
+        return visit_text_part(body, part, from, to, tests);
     }
-    if !part.texts_below {
-        return true;
+    if let Layout::Indices { bits, signed, .. } = part.layout {
+        return visit_index_part(body, part, bits, signed, from, to, tests);
+    }
+    if !part.judged_below {
+        return Ok(());
     }
     if bytes_at(body, part.validity).is_empty() {
         return visit_below(body, part, from, to, tests);
@@ -123,51 +192,63 @@ fn visit_part(body: &[u8], part: &ColumnRanges, from: usize, to: usize, tests: &
 
 // The same of each part.
 #[cycle(visit)]
-fn visit_all(body: &[u8], parts: &[ColumnRanges], from: usize, to: usize, tests: &mut u64) -> bool
+fn visit_all(
+    body: &[u8],
+    parts: &[ColumnRanges],
+    from: usize,
+    to: usize,
+    tests: &mut u64,
+) -> Result<(), Cause>
     requires slots { AreSlots (columns body.now parts.now) from to }
     requires room { tests.old + weight (columns body.now parts.now) from to < 2 ^ 64 }
     requires marks { AreMarked parts.now }
-    ensures good { result ≡ good (columns body.now parts.now) from to }
+    ensures judged { Judges result (λ why. good why (columns body.now parts.now) from to) }
     ensures cost { tests.new ≤ tests.old + weight (columns body.now parts.now) from to }
 {
     for part in parts {
-        if !visit_part(body, part, from, to, tests) {
-            return false;
-        }
+        visit_part(body, part, from, to, tests)?;
     }
-    true
+    Ok(())
 }
 
-// The same of a part, of which no slot is visited where all its texts are UTF-8.
-fn visit_column(body: &[u8], part: &ColumnRanges, from: usize, to: usize, tests: &mut u64) -> bool
+// The same of a part, of which no slot is visited where all its texts are UTF-8 and all its indices
+// those of values.
+fn visit_column(
+    body: &[u8],
+    part: &ColumnRanges,
+    from: usize,
+    to: usize,
+    tests: &mut u64,
+) -> Result<(), Cause>
     requires slots { AreSlots (one body.now part.now) from to }
     requires room { tests.old + weight (one body.now part.now) from to < 2 ^ 64 }
     requires marks { IsMarked part.now }
-    ensures good { result ≡ good (one body.now part.now) from to }
+    ensures judged { Judges result (λ why. good why (one body.now part.now) from to) }
     ensures cost { tests.new ≤ tests.old + weight (one body.now part.now) from to }
 {
-    is_whole_part(body, part, from, to) || visit_part(body, part, from, to, tests)
+    if is_whole_part(body, part, from, to) {
+        return Ok(());
+    }
+    visit_part(body, part, from, to, tests)
 }
 
-/// Whether the slots of each part from one up to another are good: no text is visible in them that
-/// isn't UTF-8. Each slot that is visited is counted.
+/// Whether the slots of each part from one up to another are good: neither a text is visible in
+/// them that isn't UTF-8, nor an index that is of no value. Each slot that is visited is counted.
 pub(crate) fn visit_columns(
     body: &[u8],
     parts: &[ColumnRanges],
     from: usize,
     to: usize,
     tests: &mut u64,
-) -> bool
+) -> Result<(), Cause>
     requires slots { AreSlots (columns body.now parts.now) from to }
     requires room { tests.old + weight (columns body.now parts.now) from to < 2 ^ 64 }
     requires marks { AreMarked parts.now }
-    ensures good { result ≡ good (columns body.now parts.now) from to }
+    ensures judged { Judges result (λ why. good why (columns body.now parts.now) from to) }
     ensures cost { tests.new ≤ tests.old + weight (columns body.now parts.now) from to }
 {
     for part in parts {
-        if !visit_column(body, part, from, to, tests) {
-            return false;
-        }
+        visit_column(body, part, from, to, tests)?;
     }
-    true
+    Ok(())
 }

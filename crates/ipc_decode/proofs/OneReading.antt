@@ -19,7 +19,7 @@ pub step_one : {limits : Limits} → {σ τ υ : State} {g : Head} {body : List 
     → (es ≡ fs) × (τ ≡ υ)
 step_one first first = (refl, refl)
 step_one (came {pairs = pairs} r) (came q) =
-    (ap (λ rows. batch (record { pairs = pairs; rows = rows }) ∷ []) (one_list _ _ _ _ _ _ _ r q), refl)
+    (ap (λ rows. batch (record { pairs = pairs; rows = rows }) ∷ []) (one_list _ _ _ _ _ _ _ _ r q), refl)
 
 -- where a run of messages may stop: at the end, or before the end mark
 abbrev pub IsStop : List ℕ → Type 0

@@ -105,7 +105,7 @@ pub record StepsByRows (limits : Limits) (o : InForce) (g : Head) (body : List �
   pub its_pairs : List (List ℕ × List ℕ)
   pub is_batch : g ≡ h.Batch batch_head its_pairs
   pub its_rows : List (List Value)
-  pub gives : Rows limits o.schema.fields batch_head body its_rows
+  pub gives : Rows limits [] o.schema.fields batch_head body its_rows
 
 batch_step : {limits : Limits} → {σ τ : State} {g : Head} {body : List ℕ} {es : List Event} (o : InForce) → Step limits σ g body es τ
     → σ ≡ Some o
@@ -119,7 +119,7 @@ batch_step {limits} o (came {o = p} {b = b} {pairs = pairs} {body = body} {rows 
       is_batch = refl;
       its_rows = rows;
       gives =
-          subst (λ (q : InForce). Rows limits q.schema.fields b body rows) same r;
+          subst (λ (q : InForce). Rows limits [] q.schema.fields b body rows) same r;
     }
 
 no_schema_batch : {limits : Limits} → (o : InForce) (s : Schema) (body : List ℕ) → StepsByRows limits o (h.Schema s) body → ⊥
@@ -130,10 +130,10 @@ no_dictionary_batch : {limits : Limits} → (o : InForce) (id : ℤ) (d : BatchH
 no_dictionary_batch o id d body b = let bad : h.Dictionary id d ≡ h.Batch b.batch_head b.its_pairs = b.is_batch in cc
 
 batch_refused : {limits : Limits} → (o : InForce) (d : BatchHead) (ps : List (List ℕ × List ℕ)) (body : List ℕ) (e : Fault)
-    → StepsByRows limits o (h.Batch d ps) body → RefusesParts limits e o.schema.fields d body → e ≡ OutOfMemory
+    → StepsByRows limits o (h.Batch d ps) body → RefusesParts limits e [] o.schema.fields d body → e ≡ OutOfMemory
 batch_refused {limits} o d ps body e b r =
     let same : d ≡ b.batch_head = (let eq : h.Batch d ps ≡ h.Batch b.batch_head b.its_pairs = b.is_batch in cc) in
-    none_refused e o.schema.fields d body b.its_rows r (subst (λ z. Rows limits o.schema.fields z body b.its_rows) (sym same) b.gives)
+    none_refused e [] o.schema.fields d body b.its_rows r (subst (λ z. Rows limits [] o.schema.fields z body b.its_rows) (sym same) b.gives)
 
 -- where all schemas that a run tells are of types that are read, so is its first head
 pub step_read : {limits : Limits} → {σ τ : State} {g : Head} {body : List ℕ} {es : List Event} (fs : List Event) → Step limits σ g body es τ

@@ -1,5 +1,5 @@
 -- What denotes a table under some limits denotes it under all that cover them.
-use Rattle.std.proofs.Common.{ℕ, List}
+use Rattle.std.proofs.Common.{ℕ, List, []}
 use Rattle.ipc_model.specs.Limits.{Covers}
 use Rattle.ipc_model.specs.declared.limits.Limits.{Limits}
 use Rattle.ipc_model.specs.declared.table.Table.{Table}
@@ -15,7 +15,7 @@ step_wider : {limits others : Limits} {σ τ : State} {h : Head} {body : List �
     → Step limits σ h body es τ → Step others σ h body es τ
 step_wider c first = first
 step_wider {limits} {others} c (came {o = o} {b = b} {body = body} {rows = rows} r) =
-    came (rows_wider limits others o.schema.fields b body rows c r)
+    came (rows_wider limits others [] o.schema.fields b body rows c r)
 
 -- so is a list of messages
 pub run_wider : {limits others : Limits} {σ τ : State} {x : List ℕ} {es : List Event} → Covers others limits → Run limits σ x es τ

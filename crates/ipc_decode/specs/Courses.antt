@@ -1,6 +1,6 @@
 -- What the frames of a stream bring, one after another (Arrow Columnar Format, "IPC Streaming
 -- Format").
-use Rattle.std.specs.Prelude.{◌≡◌, ℕ, List, Some, None, Result, Ok, Err, ⊤}
+use Rattle.std.specs.Prelude.{◌≡◌, ℕ, List, [], Some, None, Result, Ok, Err, ⊤}
 use Rattle.ipc_model.specs.declared.fault.Fault.{Fault}
 use Rattle.ipc_model.specs.declared.fault.Fault.TheVariants.{MissingSchema, SecondSchema}
 use Rattle.ipc_model.specs.declared.fault.Fault.TheVariants.{UnknownDictionary}
@@ -50,12 +50,12 @@ RefusesNext limits s (f.Message meta (h.Schema t) body) fault = fault ≡ Second
 RefusesNext limits s (f.Message meta (h.Dictionary id b) body) fault =
     (fault ≡ UnknownDictionary) × NamesNone id s
 RefusesNext limits s (f.Message meta (h.Batch b pairs) body) fault =
-    RefusesParts limits fault s.fields b body.items
+    RefusesParts limits fault [] s.fields b body.items
 
 -- a message with the rows of this batch, or the end mark, or neither
 abbrev pub BringsNext : Limits → Schema → Framed → Result Event Fault → Type 0
 BringsNext limits s (f.Message meta head body) (Ok (event.Batch found pairs)) =
-    (b : BatchHead) × (head ≡ h.Batch b pairs) × Rows limits s.fields b body.items found.rows
+    (b : BatchHead) × (head ≡ h.Batch b pairs) × Rows limits [] s.fields b body.items found.rows
 BringsNext limits s f.End (Ok event.End) = ⊤
 BringsNext limits s frame (Err fault) = RefusesNext limits s frame fault
 BringsNext limits s frame found = ⊥

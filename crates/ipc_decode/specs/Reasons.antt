@@ -51,7 +51,7 @@ pub data Refuses (limits : Limits) (σ : State) (z : List ℕ) (fault : Fault) :
       → Frame limits z metadata (h.Dictionary id b) body → Refuses limits σ z fault
   no_rows : (o : InForce) (b : BatchHead) (pairs : List (List ℕ × List ℕ)) (metadata body : List ℕ)
       → σ ≡ Some o → Frame limits z metadata (h.Batch b pairs) body
-      → RefusesParts limits fault o.schema.fields b body
+      → RefusesParts limits fault [] o.schema.fields b body
       → Refuses limits σ z fault
 
 -- z has no byte that wasn't wanted: an undecided beginning of a message, and no more behind it than

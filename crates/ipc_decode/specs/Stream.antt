@@ -32,7 +32,7 @@ pub data Step (limits : Limits) : State → Head → List ℕ → List Event →
   first : {s : Schema} {body : List ℕ}
       → Step limits None (head.Schema s) body (schema s ∷ []) (Some (record { schema = s }))
   came : {o : InForce} {b : BatchHead} {pairs : List (List ℕ × List ℕ)} {body : List ℕ}
-      {rows : List (List Value)} → Rows limits o.schema.fields b body rows
+      {rows : List (List Value)} → Rows limits [] o.schema.fields b body rows
       → Step limits (Some o) (head.Batch b pairs) body
       (batch (record { pairs = pairs; rows = rows }) ∷ []) (Some o)
 

@@ -49,7 +49,6 @@ fn unknown_dictionary(limits: &Limits, schema: &Schema, id: i64) -> Fault
 }
 
 // What a frame behind the schema brings.
-#[tactic(auto, using(ipc_column::proofs::Plain::plain_from_supported))]
 fn next_of(alloc: Global, scope: &Scope, frame: Frame) -> Result<Event, Fault>
     ensures next { BringsNext scope.now.limits scope.now.schema frame result }
     ensures columns { IfOk result (HasColumns (Some (record { schema = scope.now.schema }))) }

@@ -1,4 +1,4 @@
-ghost use Rattle.std.specs.Prelude.{◌≡◌};
+ghost use Rattle.std.specs.Prelude.{◌≡◌, []};
 ghost use Rattle.ipc_decode.specs.Readable.{IsReadable};
 
 use ipc_column::Batch;
@@ -15,6 +15,7 @@ pub struct Scope {
     pub schema: Schema,
     pub dictionaries: BTreeMap<i64, Rc<Batch>>,
     ghost readable: { IsReadable limits schema },
+    ghost none: { dictionaries.entries ≡ [] },
 }
 
 impl Scope {

@@ -40,7 +40,7 @@ null_gives l.Bits j = refl
 null_gives (l.Numbers bits signed) j = refl
 null_gives (l.FixedBytes width) j = refl
 null_gives (l.VariableBytes utf8) j = refl
-null_gives l.Unsupported j = refl
+null_gives (l.Indices bits signed id) j = refl
 
 -- what so many nulls give to it
 pub nulls_give : (layout : Layout) (count j : ℕ)
@@ -80,7 +80,7 @@ leaf_gives l.Bits value list fixed struct j = refl
 leaf_gives (l.Numbers bits signed) value list fixed struct j = refl
 leaf_gives (l.FixedBytes width) value list fixed struct j = refl
 leaf_gives (l.VariableBytes utf8) value list fixed struct j = refl
-leaf_gives l.Unsupported value list fixed struct j = refl
+leaf_gives (l.Indices bits signed id) value list fixed struct j = refl
 
 pub items_are : (value : Value) (values : List Value) → value ≡ v.List values → items value ≡ values
 unfolding out-Value roll-Value Carrier.roll
@@ -131,7 +131,7 @@ other_gives l.Bits value e other j = absurd cc
 other_gives (l.Numbers bits signed) value e other j = absurd cc
 other_gives (l.FixedBytes width) value e other j = absurd cc
 other_gives (l.VariableBytes utf8) value e other j = absurd cc
-other_gives l.Unsupported value e other j = absurd cc
+other_gives (l.Indices bits signed id) value e other j = absurd cc
 
 -- what values give, behind the others
 pub more_below : (layout : Layout) (vs ws : List Value) (more : ℕ → List Value) → ((j : ℕ) → below layout ws j ≡ more j)

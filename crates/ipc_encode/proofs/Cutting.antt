@@ -39,7 +39,7 @@ own_length (l.VariableBytes utf8) vs = refl
 own_length l.Lists vs = refl
 own_length l.Structs vs = refl
 own_length (l.FixedLists size) vs = refl
-own_length l.Unsupported vs = refl
+own_length (l.Indices bits signed id) vs = refl
 
 -- a node is written for each field, children included
 pub nodes_length : (s : Shape) (given : ℕ → List Value) → length (nodes_of s given) ≡ nodes_in s
@@ -92,17 +92,17 @@ BuffersAt head body n bs = StandAt (buffer_at head body) [] n bs
 -- a column whose node and buffers were written is cut out of the body again
 pub column_back : (l : Layout) (vs : List Value) (head : BatchHead) (body : List ℕ) (n m : ℕ)
     → node_at head n ≡ (pos (length vs), pos (nulls vs)) → BuffersAt head body m (b.buffers_in (pieces l (nulls vs)) vs)
-    → column_at l head body n m ≡ column_of l vs
+    → column_at [] l head body n m ≡ column_of l vs
 column_back l.Null vs head body n m e h =
-    λ i. record { layout = l.Null; slots = unsigned_abs (e i).0; nulls = unsigned_abs (e i).1; validity = []; offsets = []; values = [] }
-column_back l.Unsupported vs head body n m e h =
     λ i. record {
-      layout = l.Unsupported;
+      layout = l.Null;
       slots = unsigned_abs (e i).0;
-      nulls = unsigned_abs (e i).1;
+      nulls = unsigned_abs
+          (e i).1;
       validity = [];
       offsets = [];
       values = [];
+      dictionary = [];
     }
 column_back l.Lists vs head body n m e h =
     let first = ap (λ (k : ℕ). buffer_at head body k) (let z : m ≡ m + 0 = omega arith in z) ∙ h 0 (omega arith) in
@@ -114,6 +114,7 @@ column_back l.Lists vs head body n m e h =
       validity = first i;
       offsets = second i;
       values = [];
+      dictionary = [];
     }
 column_back l.Structs vs head body n m e h =
     let first = ap (λ (k : ℕ). buffer_at head body k) (let z : m ≡ m + 0 = omega arith in z) ∙ h 0 (omega arith) in
@@ -124,6 +125,7 @@ column_back l.Structs vs head body n m e h =
       validity = first i;
       offsets = [];
       values = [];
+      dictionary = [];
     }
 column_back (l.FixedLists size) vs head body n m e h =
     let first = ap (λ (k : ℕ). buffer_at head body k) (let z : m ≡ m + 0 = omega arith in z) ∙ h 0 (omega arith) in
@@ -134,6 +136,7 @@ column_back (l.FixedLists size) vs head body n m e h =
       validity = first i;
       offsets = [];
       values = [];
+      dictionary = [];
     }
 column_back l.Bits vs head body n m e h =
     let first = ap (λ (k : ℕ). buffer_at head body k) (let z : m ≡ m + 0 = omega arith in z) ∙ h 0 (omega arith) in
@@ -145,6 +148,7 @@ column_back l.Bits vs head body n m e h =
       validity = first i;
       offsets = [];
       values = second i;
+      dictionary = [];
     }
 column_back (l.Numbers bits signed) vs head body n m e h =
     let first = ap (λ (k : ℕ). buffer_at head body k) (let z : m ≡ m + 0 = omega arith in z) ∙ h 0 (omega arith) in
@@ -156,6 +160,19 @@ column_back (l.Numbers bits signed) vs head body n m e h =
       validity = first i;
       offsets = [];
       values = second i;
+      dictionary = [];
+    }
+column_back (l.Indices bits signed id) vs head body n m e h =
+    let first = ap (λ (k : ℕ). buffer_at head body k) (let z : m ≡ m + 0 = omega arith in z) ∙ h 0 (omega arith) in
+    let second = h 1 (omega arith) in
+    λ i. record {
+      layout = l.Indices bits signed id;
+      slots = unsigned_abs (e i).0;
+      nulls = unsigned_abs (e i).1;
+      validity = first i;
+      offsets = [];
+      values = second i;
+      dictionary = [];
     }
 column_back (l.FixedBytes width) vs head body n m e h =
     let first = ap (λ (k : ℕ). buffer_at head body k) (let z : m ≡ m + 0 = omega arith in z) ∙ h 0 (omega arith) in
@@ -167,6 +184,7 @@ column_back (l.FixedBytes width) vs head body n m e h =
       validity = first i;
       offsets = [];
       values = second i;
+      dictionary = [];
     }
 column_back (l.VariableBytes utf8) vs head body n m e h =
     let first = ap (λ (k : ℕ). buffer_at head body k) (let z : m ≡ m + 0 = omega arith in z) ∙ h 0 (omega arith) in
@@ -179,11 +197,12 @@ column_back (l.VariableBytes utf8) vs head body n m e h =
       validity = first i;
       offsets = second i;
       values = third i;
+      dictionary = [];
     }
 
 -- the columns whose nodes and buffers were written are cut out of the body again
 pub cut_back : (s : Shape) (given : ℕ → List Value) (head : BatchHead) (body : List ℕ) (n m : ℕ) → NodesAt head n (nodes_of s given)
-    → BuffersAt head body m (buffers_of s given) → cut s head body n m ≡ written s given
+    → BuffersAt head body m (buffers_of s given) → cut [] s head body n m ≡ written s given
 unfolding cut
 cut_back bare given head body n m ns bs = refl
 cut_back (field l children rest) given head body n m ns bs =

@@ -31,7 +31,7 @@ use Rattle.ipc_encode.proofs.Sizes.{column_size, long_is, long_from}
 
 passes_more : (layout : Layout) (m n : ℕ) → m ≤ n → PassesOffsets layout m → PassesOffsets layout n
 passes_more l.Null m n e h = h
-passes_more l.Unsupported m n e h = h
+passes_more (l.Indices bits signed id) m n e h = h
 passes_more l.Lists m n e h = omega (arith, e, h)
 passes_more l.Structs m n e h = h
 passes_more (l.FixedLists size) m n e h = h
@@ -48,7 +48,7 @@ long_more layout vs v h =
 
 values_grow : (layout : Layout) (n a b : ℕ) → a ≤ b → values_length layout n a ≤ values_length layout (n + 1) b
 values_grow l.Null n a b h = omega arith
-values_grow l.Unsupported n a b h = omega arith
+values_grow (l.Indices bits signed id) n a b h = h
 values_grow l.Lists n a b h = omega arith
 values_grow l.Structs n a b h = omega arith
 values_grow (l.FixedLists size) n a b h = omega arith
@@ -71,7 +71,7 @@ bitmap_grow n (suc c) (suc d) h =
 
 validity_grow : (layout : Layout) (n c d : ℕ) → c ≤ d → validity_length layout n c ≤ validity_length layout (n + 1) d
 validity_grow l.Null n c d h = omega arith
-validity_grow l.Unsupported n c d h = omega arith
+validity_grow (l.Indices bits signed id) n c d h = bitmap_grow n c d h
 validity_grow l.Lists n c d h = bitmap_grow n c d h
 validity_grow l.Structs n c d h = bitmap_grow n c d h
 validity_grow (l.FixedLists size) n c d h = bitmap_grow n c d h
@@ -82,7 +82,7 @@ validity_grow (l.VariableBytes utf8) n c d h = bitmap_grow n c d h
 
 offsets_grow : (layout : Layout) (n : ℕ) → offsets_length layout n ≤ offsets_length layout (n + 1)
 offsets_grow l.Null n = omega arith
-offsets_grow l.Unsupported n = omega arith
+offsets_grow (l.Indices bits signed id) n = omega arith
 offsets_grow l.Lists n = omega arith
 offsets_grow l.Structs n = omega arith
 offsets_grow (l.FixedLists size) n = omega arith

@@ -19,7 +19,7 @@ use Rattle.ipc_model.specs.declared.layout.Layout.TheVariants as l
 use Rattle.ipc_model.specs.Layouts.{layout, type_layout, time_bits}
 use Rattle.ipc_model.specs.Ranges.{width, IsSignedWithin, IsTimeOfDay}
 use Rattle.ipc_column.specs.Shapes.{Shape, bare, field, shapes, field_shape}
-use Rattle.ipc_column.specs.Rows.{is_read}
+use Rattle.ipc_meta.specs.Supported.{is_supported}
 use Rattle.ipc_encode.specs.Cells.{is_null}
 use Rattle.ipc_encode.specs.Buffers.{below}
 use Rattle.ipc_encode.proofs.ReadbackParts.{Holds, AllHeld, HasItsChild}
@@ -76,75 +76,81 @@ time_fits u.Microsecond z h = let from = h.0 in let to = h.1 in (omega (arith, i
 time_fits u.Nanosecond z h = let from = h.0 in let to = h.1 in (omega (arith, ints), omega (arith, ints))
 
 -- a value of a type's own is held by its layout
-pub held : (kind : DataType) (nullable : Bool) (n : ℕ) (w : Value-F Value) → is_read (type_layout kind) ≡ true
-    → HasFittingChildren kind n → IsOwn kind nullable n w → Holds (type_layout kind) n w
-held t.List nullable n Value-F.Null o c h = tt
-held t.List nullable n (Value-F.List values) o c h = c
-held t.List nullable n _ o c h = absurd h
-held (t.FixedSizeList size) nullable n Value-F.Null o c h = tt
-held (t.FixedSizeList size) nullable n (Value-F.List values) o c h = (h, c)
-held (t.FixedSizeList size) nullable n _ o c h = absurd h
-held t.Struct nullable n Value-F.Null o c h = tt
-held t.Struct nullable n (Value-F.Struct values) o c h = h
-held t.Struct nullable n _ o c h = absurd h
-held t.Null nullable n Value-F.Null o c h = tt
-held t.Null nullable n _ o c h = absurd h
-held t.Bool nullable n Value-F.Null o c h = tt
-held t.Bool nullable n (Value-F.Bool truth) o c h = tt
-held t.Bool nullable n _ o c h = absurd h
-held (t.Int bits true) nullable n Value-F.Null o c h = tt
-held (t.Int bits true) nullable n (Value-F.Int z) o c h = h
-held (t.Int bits true) nullable n _ o c h = absurd h
-held (t.Int bits false) nullable n Value-F.Null o c h = tt
-held (t.Int bits false) nullable n (Value-F.UInt k) o c h = h
-held (t.Int bits false) nullable n _ o c h = absurd h
-held t.Binary nullable n Value-F.Null o c h = tt
-held t.Binary nullable n (Value-F.Bytes bytes) o c h = tt
-held t.Binary nullable n _ o c h = absurd h
-held t.Utf8 nullable n Value-F.Null o c h = tt
-held t.Utf8 nullable n (Value-F.Text text) o c h = tt
-held t.Utf8 nullable n _ o c h = absurd h
-held (t.FixedSizeBinary width) nullable n Value-F.Null o c h = tt
-held (t.FixedSizeBinary width) nullable n (Value-F.Bytes bytes) o c h = h
-held (t.FixedSizeBinary width) nullable n _ o c h = absurd h
-held (t.Date Day) nullable n Value-F.Null o c h = tt
-held (t.Date Day) nullable n (Value-F.Int z) o c h = h
-held (t.Date Day) nullable n _ o c h = absurd h
-held (t.Date Millisecond) nullable n Value-F.Null o c h = tt
-held (t.Date Millisecond) nullable n (Value-F.Int z) o c h = h.0
-held (t.Date Millisecond) nullable n _ o c h = absurd h
-held (t.Time unit) nullable n Value-F.Null o c h = tt
-held (t.Time unit) nullable n (Value-F.Int z) o c h = time_fits unit z h
-held (t.Time unit) nullable n _ o c h = absurd h
-held (t.Timestamp unit timezone) nullable n Value-F.Null o c h = tt
-held (t.Timestamp unit timezone) nullable n (Value-F.Int z) o c h = h
-held (t.Timestamp unit timezone) nullable n _ o c h = absurd h
-held (t.Duration unit) nullable n Value-F.Null o c h = tt
-held (t.Duration unit) nullable n (Value-F.Int z) o c h = h
-held (t.Duration unit) nullable n _ o c h = absurd h
+pub held : (kind : DataType) (nullable : Bool) (n : ℕ) (w : Value-F Value) → HasFittingChildren kind n → IsOwn kind nullable n w
+    → Holds (type_layout kind) n w
+held t.List nullable n Value-F.Null c h = tt
+held t.List nullable n (Value-F.List values) c h = c
+held t.List nullable n _ c h = absurd h
+held (t.FixedSizeList size) nullable n Value-F.Null c h = tt
+held (t.FixedSizeList size) nullable n (Value-F.List values) c h = (h, c)
+held (t.FixedSizeList size) nullable n _ c h = absurd h
+held t.Struct nullable n Value-F.Null c h = tt
+held t.Struct nullable n (Value-F.Struct values) c h = h
+held t.Struct nullable n _ c h = absurd h
+held t.Null nullable n Value-F.Null c h = tt
+held t.Null nullable n _ c h = absurd h
+held t.Bool nullable n Value-F.Null c h = tt
+held t.Bool nullable n (Value-F.Bool truth) c h = tt
+held t.Bool nullable n _ c h = absurd h
+held (t.Int bits true) nullable n Value-F.Null c h = tt
+held (t.Int bits true) nullable n (Value-F.Int z) c h = h
+held (t.Int bits true) nullable n _ c h = absurd h
+held (t.Int bits false) nullable n Value-F.Null c h = tt
+held (t.Int bits false) nullable n (Value-F.UInt k) c h = h
+held (t.Int bits false) nullable n _ c h = absurd h
+held t.Binary nullable n Value-F.Null c h = tt
+held t.Binary nullable n (Value-F.Bytes bytes) c h = tt
+held t.Binary nullable n _ c h = absurd h
+held t.Utf8 nullable n Value-F.Null c h = tt
+held t.Utf8 nullable n (Value-F.Text text) c h = tt
+held t.Utf8 nullable n _ c h = absurd h
+held (t.FixedSizeBinary width) nullable n Value-F.Null c h = tt
+held (t.FixedSizeBinary width) nullable n (Value-F.Bytes bytes) c h = h
+held (t.FixedSizeBinary width) nullable n _ c h = absurd h
+held (t.Date Day) nullable n Value-F.Null c h = tt
+held (t.Date Day) nullable n (Value-F.Int z) c h = h
+held (t.Date Day) nullable n _ c h = absurd h
+held (t.Date Millisecond) nullable n Value-F.Null c h = tt
+held (t.Date Millisecond) nullable n (Value-F.Int z) c h = h.0
+held (t.Date Millisecond) nullable n _ c h = absurd h
+held (t.Time unit) nullable n Value-F.Null c h = tt
+held (t.Time unit) nullable n (Value-F.Int z) c h = time_fits unit z h
+held (t.Time unit) nullable n _ c h = absurd h
+held (t.Timestamp unit timezone) nullable n Value-F.Null c h = tt
+held (t.Timestamp unit timezone) nullable n (Value-F.Int z) c h = h
+held (t.Timestamp unit timezone) nullable n _ c h = absurd h
+held (t.Duration unit) nullable n Value-F.Null c h = tt
+held (t.Duration unit) nullable n (Value-F.Int z) c h = h
+held (t.Duration unit) nullable n _ c h = absurd h
 
--- null is held by every layout that is read
-null_held : (l : Layout) (n : ℕ) → is_read l ≡ true → Holds l n Value-F.Null
-null_held l.Null n o = tt
-null_held l.Bits n o = tt
-null_held (l.Numbers bits signed) n o = tt
-null_held (l.FixedBytes width) n o = tt
-null_held (l.VariableBytes utf8) n o = tt
-null_held l.Lists n o = tt
-null_held l.Structs n o = tt
-null_held (l.FixedLists size) n o = tt
-null_held l.Unsupported n o = absurd (cc)
+-- null is held by the layout of every type
+null_held : (kind : DataType) (n : ℕ) → Holds (type_layout kind) n Value-F.Null
+null_held t.Null n = tt
+null_held t.Bool n = tt
+null_held (t.Int bits true) n = tt
+null_held (t.Int bits false) n = tt
+null_held t.Binary n = tt
+null_held t.Utf8 n = tt
+null_held (t.FixedSizeBinary width) n = tt
+null_held (t.Date Day) n = tt
+null_held (t.Date Millisecond) n = tt
+null_held (t.Time unit) n = tt
+null_held (t.Timestamp unit timezone) n = tt
+null_held (t.Duration unit) n = tt
+null_held t.List n = tt
+null_held (t.FixedSizeList size) n = tt
+null_held t.Struct n = tt
 
-value_held : (kind : DataType) (nullable : Bool) (n : ℕ) (w : Value-F Value) → is_read (type_layout kind) ≡ true
-    → HasFittingChildren kind n → (not (is_null w) ≡ true → IsOwn kind nullable n w) → Holds (type_layout kind) n w
-value_held kind nullable n Value-F.Null o c h = null_held (type_layout kind) n o
-value_held kind nullable n (Value-F.Bool truth) o c h = held kind nullable n (Value-F.Bool truth) o c (h refl)
-value_held kind nullable n (Value-F.Int z) o c h = held kind nullable n (Value-F.Int z) o c (h refl)
-value_held kind nullable n (Value-F.UInt k) o c h = held kind nullable n (Value-F.UInt k) o c (h refl)
-value_held kind nullable n (Value-F.Bytes bytes) o c h = held kind nullable n (Value-F.Bytes bytes) o c (h refl)
-value_held kind nullable n (Value-F.Text text) o c h = held kind nullable n (Value-F.Text text) o c (h refl)
-value_held kind nullable n (Value-F.List values) o c h = held kind nullable n (Value-F.List values) o c (h refl)
-value_held kind nullable n (Value-F.Struct values) o c h = held kind nullable n (Value-F.Struct values) o c (h refl)
+value_held : (kind : DataType) (nullable : Bool) (n : ℕ) (w : Value-F Value) → HasFittingChildren kind n → (not (is_null w) ≡ true
+    → IsOwn kind nullable n w) → Holds (type_layout kind) n w
+value_held kind nullable n Value-F.Null c h = null_held kind n
+value_held kind nullable n (Value-F.Bool truth) c h = held kind nullable n (Value-F.Bool truth) c (h refl)
+value_held kind nullable n (Value-F.Int z) c h = held kind nullable n (Value-F.Int z) c (h refl)
+value_held kind nullable n (Value-F.UInt k) c h = held kind nullable n (Value-F.UInt k) c (h refl)
+value_held kind nullable n (Value-F.Bytes bytes) c h = held kind nullable n (Value-F.Bytes bytes) c (h refl)
+value_held kind nullable n (Value-F.Text text) c h = held kind nullable n (Value-F.Text text) c (h refl)
+value_held kind nullable n (Value-F.List values) c h = held kind nullable n (Value-F.List values) c (h refl)
+value_held kind nullable n (Value-F.Struct values) c h = held kind nullable n (Value-F.Struct values) c (h refl)
 
 -- where the children fit a type, its layout has the child that it needs
 has_child : (kind : DataType) (n : ℕ) → HasFittingChildren kind n → HasItsChild (type_layout kind) n
@@ -164,12 +170,12 @@ has_child (t.Timestamp unit timezone) n c = tt
 has_child (t.Duration unit) n c = tt
 
 -- values of which each is null or one of a field's own are held by its layout
-pub values_held : (kind : DataType) (d : Option Dictionary) (nullable : Bool) (n : ℕ) (vs : List Value) → is_read (layout kind d) ≡ true
+pub values_held : (kind : DataType) (d : Option Dictionary) (nullable : Bool) (n : ℕ) (vs : List Value) → is_supported d ≡ true
     → HasFittingChildren kind n → AllByRecursion (λ v. not (is_null (out-Value v)) ≡ true → IsOwn kind nullable n (out-Value v)) vs
     → ColumnHeld (layout kind d) n vs
 values_held kind None nullable n vs o c h = (
   has_child kind n c,
   all_one (λ v. not (is_null (out-Value v)) ≡ true → IsOwn kind nullable n (out-Value v))
-      (λ v. Holds (type_layout kind) n (out-Value v)) (λ v own. value_held kind nullable n (out-Value v) o c own) vs h,
+      (λ v. Holds (type_layout kind) n (out-Value v)) (λ v own. value_held kind nullable n (out-Value v) c own) vs h,
 )
 values_held kind (Some d) nullable n vs o c h = absurd (cc)

@@ -29,12 +29,12 @@ pub own_too_much : (limits : Limits) (bytes : ℕ) (l : Layout) (vs : List Value
 own_too_much limits bytes l vs e few other h =
     refused_too_much limits bytes (field l bare bare) (λ j. vs) e few other (own_refused limits l bare bare (λ j. vs) e h)
 
-few_leaf : (most : ℕ) (l : Layout) (vs : List Value) → (most < length vs → ⊥) → HasLongNode most (field l bare bare) (λ j. vs) → ⊥
+pub few_leaf : (most : ℕ) (l : Layout) (vs : List Value) → (most < length vs → ⊥) → HasLongNode most (field l bare bare) (λ j. vs) → ⊥
 few_leaf most l vs few (inl own) = few own
 few_leaf most l vs few (inr (inl none)) = none
 few_leaf most l vs few (inr (inr none)) = none
 
-short_leaf : (l : Layout) (vs : List Value) → (HasLongData l vs → ⊥) → SomeLongData (field l bare bare) (λ j. vs) → ⊥
+pub short_leaf : (l : Layout) (vs : List Value) → (HasLongData l vs → ⊥) → SomeLongData (field l bare bare) (λ j. vs) → ⊥
 short_leaf l vs short (inl own) = short own
 short_leaf l vs short (inr (inl none)) = none
 short_leaf l vs short (inr (inr none)) = none

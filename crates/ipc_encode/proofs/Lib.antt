@@ -1,5 +1,6 @@
 pub mod Bits
 pub mod Steps
+pub mod SurelyFit
 pub mod Packing
 pub mod Sizes
 pub mod Pushes

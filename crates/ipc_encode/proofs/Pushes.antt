@@ -60,7 +60,7 @@ nulls_stay vs v some none = let more = nulls_push vs v in some (omega (arith, mo
 
 pub has_bitmap : (layout : Layout) (vs : List Value) → (own_buffers layout ≡ 0 → ⊥) → validity_in layout vs ≡ validity_bytes vs
 has_bitmap l.Null vs some = absurd (some refl)
-has_bitmap l.Unsupported vs some = absurd (some refl)
+has_bitmap (l.Indices bits signed id) vs some = refl
 has_bitmap l.Bits vs some = refl
 has_bitmap (l.Numbers bits signed) vs some = refl
 has_bitmap (l.FixedBytes width) vs some = refl
@@ -71,7 +71,7 @@ has_bitmap (l.FixedLists size) vs some = refl
 
 pub no_bitmap : (layout : Layout) (vs : List Value) → own_buffers layout ≡ 0 → validity_in layout vs ≡ []
 no_bitmap l.Null vs none = refl
-no_bitmap l.Unsupported vs none = refl
+no_bitmap (l.Indices bits signed id) vs none = absurd (omega arith)
 no_bitmap l.Bits vs none = absurd (omega arith)
 no_bitmap (l.Numbers bits signed) vs none = absurd (omega arith)
 no_bitmap (l.FixedBytes width) vs none = absurd (omega arith)
@@ -90,7 +90,7 @@ laid_as {column} limits lay layout vs e h = subst (λ (x : Layout). IsColumn lim
 
 pub validity_none : (layout : Layout) → validity_in layout [] ≡ []
 validity_none l.Null = refl
-validity_none l.Unsupported = refl
+validity_none (l.Indices bits signed id) = refl
 validity_none l.Bits = refl
 validity_none (l.Numbers bits signed) = refl
 validity_none (l.FixedBytes width) = refl
@@ -101,7 +101,7 @@ validity_none (l.FixedLists size) = refl
 
 pub values_none : (layout : Layout) → values_in layout [] ≡ []
 values_none l.Null = refl
-values_none l.Unsupported = refl
+values_none (l.Indices bits signed id) = refl
 values_none l.Bits = refl
 values_none (l.Numbers bits signed) = refl
 values_none (l.FixedBytes width) = refl
@@ -112,7 +112,7 @@ values_none (l.FixedLists size) = refl
 
 pub stored_none : (layout : Layout) → AreStored layout []
 stored_none l.Null = tt
-stored_none l.Unsupported = tt
+stored_none (l.Indices bits signed id) = tt
 stored_none l.Bits = tt
 stored_none (l.Numbers bits signed) = tt
 stored_none (l.FixedBytes width) = tt

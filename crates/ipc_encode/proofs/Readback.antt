@@ -251,7 +251,7 @@ fixed_list_is size vs i n xs rows k all e count one picks =
 own_is : (rows : ℕ → List Value) (l : Layout) (n : ℕ) (vs : List Value) (i : ℕ) (w : Value-F Value) → i < length vs → AllHeld l n vs
     → IsShort l vs → ArePicked rows n (below l vs)
     → out-Value (get_or vs i v.Null) ≡ w → Holds l n w → is_null w ≡ false
-    → own_value l rows (offsets_in l vs) (values_in l vs) i ≡ get_or vs i v.Null
+    → own_value l [] rows (offsets_in l vs) (values_in l vs) i ≡ get_or vs i v.Null
 own_is rows _ n vs i Value-F.Null k all short picks e h valid = absurd (cc)
 own_is rows l.Bits n vs i (Value-F.Bool truth) k all short picks e h valid =
     ap (λ (b : Bool). v.Bool b) (bit_of True vs i v.Null k ∙ ap is_true e)
@@ -283,7 +283,7 @@ own_is rows l.Structs n vs i (Value-F.Struct parts) k all short picks e h valid 
     ap (λ (ws : List Value). v.Struct ws) (struct_is vs i n parts rows k e h picks)
     ∙ (sym (v.rolls-Struct parts) ∙ back_to (get_or vs i v.Null) (Value-F.Struct parts) e)
 own_is rows l.Null n vs i _ k all short picks e h valid = absurd h
-own_is rows l.Unsupported n vs i _ k all short picks e h valid = absurd h
+own_is rows (l.Indices bits signed id) n vs i _ k all short picks e h valid = absurd h
 own_is rows l.Lists n vs i _ k all short picks e h valid = absurd h
 own_is rows (l.FixedLists size) n vs i _ k all short picks e h valid = absurd h
 own_is rows l.Structs n vs i _ k all short picks e h valid = absurd h
@@ -299,12 +299,12 @@ slot_is : (rows : ℕ → List Value) (l : Layout) (n : ℕ) (vs : List Value) (
     → ArePicked rows n (below l vs) → validity_in l vs ≡ validity_bytes vs
     → value_of rows (column_of l vs) i ≡ get_or vs i v.Null
 slot_is rows lay n vs i k all short picks same =
-    subst (λ (b : Bool). cond b (own_value lay rows (offsets_in lay vs) (values_in lay vs) i) v.Null ≡ get_or vs i v.Null)
+    subst (λ (b : Bool). cond b (own_value lay [] rows (offsets_in lay vs) (values_in lay vs) i) v.Null ≡ get_or vs i v.Null)
     (sym (ap (λ (bytes : List ℕ). is_valid bytes i) same ∙ valid_is vs i v.Null k))
     (by_null (is_null (out-Value (get_or vs i v.Null))) refl)
   where
     by_null : (b : Bool) → is_null (out-Value (get_or vs i v.Null)) ≡ b
-        → cond (not b) (own_value lay rows (offsets_in lay vs) (values_in lay vs) i) v.Null ≡ get_or vs i v.Null
+        → cond (not b) (own_value lay [] rows (offsets_in lay vs) (values_in lay vs) i) v.Null ≡ get_or vs i v.Null
     by_null true e = null_from (get_or vs i v.Null) (out-Value (get_or vs i v.Null)) refl e
     by_null false e = own_is rows lay n vs i (out-Value (get_or vs i v.Null)) k all short picks refl (held_at lay n vs i v.Null all k) e
 
@@ -317,7 +317,7 @@ pub value_is : (rows : ℕ → List Value) (l : Layout) (n : ℕ) (vs : List Val
     → ArePicked rows n (below l vs) → value_of rows (column_of l vs) i ≡ get_or vs i v.Null
 value_is rows l.Null n vs i k all short picks =
     null_held n (get_or vs i v.Null) (out-Value (get_or vs i v.Null)) refl (held_at l.Null n vs i v.Null all k)
-value_is rows l.Unsupported n vs i k all short picks = absurd (held_at l.Unsupported n vs i v.Null all k)
+value_is rows (l.Indices bits signed id) n vs i k all short picks = absurd (held_at (l.Indices bits signed id) n vs i v.Null all k)
 value_is rows l.Lists n vs i k all short picks = slot_is rows l.Lists n vs i k all short picks refl
 value_is rows l.Structs n vs i k all short picks = slot_is rows l.Structs n vs i k all short picks refl
 value_is rows (l.FixedLists size) n vs i k all short picks = slot_is rows (l.FixedLists size) n vs i k all short picks refl

@@ -45,11 +45,12 @@ column_of l vs = record {
   validity = validity_in l vs;
   offsets = offsets_in l vs;
   values = values_in l vs;
+  dictionary = [];
 }
 
 -- a value that a layout with so many children holds
 abbrev pub Holds : Layout → ℕ → Value-F Value → Type 0
-Holds l.Unsupported n w = ⊥
+Holds (l.Indices bits signed id) n w = ⊥
 Holds _ n Value-F.Null = ⊤
 Holds l.Bits n (Value-F.Bool truth) = ⊤
 Holds (l.Numbers bits true) n (Value-F.Int z) = IsSignedWithin (width bits) z
@@ -302,19 +303,21 @@ long_enough lay n vs h = record { bitmap = bitmap_there lay; values = values_the
 
     bitmap_there : (l : Layout) → 0 < length (validity_in l vs) → (length vs + 7) / 8 ≤ length (validity_in l vs)
     bitmap_there l.Null h = absurd (omega arith)
-    bitmap_there l.Unsupported h = absurd (omega arith)
     bitmap_there l.Lists h = some h
     bitmap_there l.Structs h = some h
     bitmap_there (l.FixedLists size) h = some h
     bitmap_there l.Bits h = some h
     bitmap_there (l.Numbers bits signed) h = some h
     bitmap_there (l.FixedBytes width) h = some h
+    bitmap_there (l.Indices bits signed id) h = some h
     bitmap_there (l.VariableBytes utf8) h = some h
 
     values_there : (l : Layout) → AllHeld l n vs → HoldValues l (length vs) (length (values_in l vs))
     values_there l.Bits h = let e = length_bytes ((length (flags True vs) + 7) / 8) (flags True vs) in let f =
         flags_length True vs in omega (arith, e, f)
     values_there (l.Numbers bits signed) h = let e =
+        wide_length (Number bits) (number_bytes bits) vs (numbers_wide bits vs) in omega (arith, e)
+    values_there (l.Indices bits signed id) h = let e =
         wide_length (Number bits) (number_bytes bits) vs (numbers_wide bits vs) in omega (arith, e)
     values_there (l.FixedBytes width) h = let e = wide_length (Fixed width) width vs (fixed_wide width n vs h) in omega (arith, e)
     values_there _ h = tt
@@ -339,28 +342,24 @@ counts_nulls lay n vs h = record { with_bitmap = there lay; without_bitmap = abs
     there : (l : Layout) → has_validity l ≡ true → 0 < length (validity_in l vs) → HasBits (column_of l vs)
         → nulls vs ≡ clear (validity_in l vs) (length vs)
     there l.Null e h b = absurd (omega arith)
-    there l.Unsupported e h b = absurd (omega arith)
     there l.Lists e h b = some h
     there l.Structs e h b = some h
     there (l.FixedLists size) e h b = some h
     there l.Bits e h b = some h
     there (l.Numbers bits signed) e h b = some h
     there (l.FixedBytes width) e h b = some h
+    there (l.Indices bits signed id) e h b = some h
     there (l.VariableBytes utf8) e h b = some h
-
-    unread : (vs : List Value) → AllHeld l.Unsupported n vs → nulls vs ≡ 0
-    unread [] h = refl
-    unread (v ∷ vs) h = absurd h.0
 
     absent : (l : Layout) → AllHeld l n vs → has_validity l ≡ true → length (validity_in l vs) ≡ 0 → nulls vs ≡ 0
     absent l.Null h e z = absurd (cc)
-    absent l.Unsupported h e z = unread vs h
     absent l.Lists h e z = none z
     absent l.Structs h e z = none z
     absent (l.FixedLists size) h e z = none z
     absent l.Bits h e z = none z
     absent (l.Numbers bits signed) h e z = none z
     absent (l.FixedBytes width) h e z = none z
+    absent (l.Indices bits signed id) h e z = none z
     absent (l.VariableBytes utf8) h e z = none z
 
 -- the runs of the slots are within the reach of offsets

@@ -21,9 +21,11 @@ use Rattle.ipc_model.specs.declared.layout.Layout.TheVariants as l
 use Rattle.ipc_meta.specs.declared.head.BatchHead.{BatchHead}
 use Rattle.ipc_column.specs.Columns.{Column, Columns, Each, EachTop}
 use Rattle.ipc_column.specs.Shapes.{Shape, bare, field, shape_of, node_at, buffer_at, columns_of}
-use Rattle.ipc_column.specs.Rules.{IsNode, LiesIn, IsLongEnough, CountsNulls, HasOffsets, HasLongChildren, IsText, SpellsTexts}
+use Rattle.ipc_column.specs.Rules.{IsNode, LiesIn, IsLongEnough, CountsNulls, HasOffsets, HasLongChildren, IsText, SpellsTexts, HasIndex}
+use Rattle.ipc_column.specs.Rules.{HoldsIndices}
 use Rattle.ipc_column.specs.Values.{is_valid, place, row}
-use Rattle.ipc_column.specs.Rows.{Rows, are_plain}
+use Rattle.ipc_column.specs.Rows.{Rows}
+use Rattle.ipc_meta.specs.Supported.{are_supported}
 use Rattle.ipc_encode.specs.Pieces.{Valid, Content}
 use Rattle.ipc_encode.specs.Pieces as p
 use Rattle.ipc_encode.specs.Cells.{cell, cells, slots, extent, all_items, HasUtf8}
@@ -88,7 +90,7 @@ short_is most l.Null children vs m held short few = tt
 short_is most l.Bits children vs m held short few = tt
 short_is most (l.Numbers bits signed) children vs m held short few = tt
 short_is most (l.FixedBytes width) children vs m held short few = tt
-short_is most l.Unsupported children vs m held short few = tt
+short_is most (l.Indices bits signed id) children vs m held short few = tt
 short_is most l.Structs children vs m held short few = tt
 short_is most (l.FixedLists size) children vs m held short few = tt
 
@@ -139,7 +141,7 @@ long_children l.Bits children vs child held = tt
 long_children (l.Numbers bits signed) children vs child held = tt
 long_children (l.FixedBytes width) children vs child held = tt
 long_children (l.VariableBytes utf8) children vs child held = tt
-long_children l.Unsupported children vs child held = tt
+long_children (l.Indices bits signed id) children vs child held = tt
 
 ordered : (l : Layout) (children : Shape) (vs : List Value) → IsShort l vs
     → HasOffsets l (length vs) (offsets_in l vs) (length (values_in l vs)) (written children (below l vs))
@@ -154,7 +156,7 @@ ordered l.Null children vs short = tt
 ordered l.Bits children vs short = tt
 ordered (l.Numbers bits signed) children vs short = tt
 ordered (l.FixedBytes width) children vs short = tt
-ordered l.Unsupported children vs short = tt
+ordered (l.Indices bits signed id) children vs short = tt
 
 -- ---- texts
 
@@ -183,7 +185,7 @@ text_is most l.Null n vs i under g k valid more = tt
 text_is most l.Bits n vs i under g k valid more = tt
 text_is most (l.Numbers bits signed) n vs i under g k valid more = tt
 text_is most (l.FixedBytes width) n vs i under g k valid more = tt
-text_is most l.Unsupported n vs i under g k valid more = tt
+text_is most (l.Indices bits signed id) n vs i under g k valid more = tt
 
 spelled_written : (most : ℕ) (s : Shape) (given : ℕ → List Value) → AllGood most s given → (i : ℕ) → ((j : ℕ) → i < length (given j))
     → SpellsTexts (written s given) i
@@ -192,6 +194,38 @@ spelled_written most (field l children rest) given g i k = (
   λ valid. text_is most l (across children) (given 0) i (SpellsTexts (written children (below l (given 0)))) g.0 (k 0) valid
       (λ m inside. spelled_written most children (below l (given 0)) g.1.0 m inside),
   spelled_written most rest (λ j. given (suc j)) g.1.1 i (λ j. k (suc j)),
+)
+
+-- ---- indices
+
+-- what a slot holds is an index of a value where what its children hold is: no column of indices holds values
+index_is : (most : ℕ) (l : Layout) (n : ℕ) (vs : List Value) (i : ℕ) (under : ℕ → Type 0) → IsGood most l n vs → i < length vs
+    → ((k : ℕ) → ((j : ℕ) → k < length (below l vs j)) → under k)
+    → HasIndex l [] under (offsets_in l vs) (values_in l vs) i
+index_is most (l.Indices bits signed id) n vs i under g k more = absurd (held_at (l.Indices bits signed id) n vs i v.Null g.held k)
+index_is most l.Lists n vs i under g k more = λ j from to.
+    let next = place_next p.Items vs i v.Null k g.short in
+    let within : place (offsets_in l.Lists vs) (i + 1) ≤ reach p.Items vs =
+    let most = front_most p.Items vs (suc i) in let sum = front_more p.Items vs i v.Null k in omega (arith, next, most, sum) in
+    more j (λ c. omega (arith, to, within, reach_items vs))
+index_is most (l.FixedLists size) n vs i under g k more = λ j from to.
+    let many = all_fixed_length size n vs g.held in
+    let within : size * (i + 1) ≤ size * length vs = mul-le-mul_left size (omega (arith, k)) in
+    more j (λ c. omega (arith, to, within, many))
+index_is most l.Structs n vs i under g k more = more i (λ j. omega (arith, k, parts_length j vs))
+index_is most (l.VariableBytes utf8) n vs i under g k more = tt
+index_is most l.Null n vs i under g k more = tt
+index_is most l.Bits n vs i under g k more = tt
+index_is most (l.Numbers bits signed) n vs i under g k more = tt
+index_is most (l.FixedBytes width) n vs i under g k more = tt
+
+indices_written : (most : ℕ) (s : Shape) (given : ℕ → List Value) → AllGood most s given → (i : ℕ) → ((j : ℕ) → i < length (given j))
+    → HoldsIndices (written s given) i
+indices_written most bare given g i k = tt
+indices_written most (field l children rest) given g i k = (
+  λ valid. index_is most l (across children) (given 0) i (HoldsIndices (written children (below l (given 0)))) g.0 (k 0)
+      (λ m inside. indices_written most children (below l (given 0)) g.1.0 m inside),
+  indices_written most rest (λ j. given (suc j)) g.1.1 i (λ j. k (suc j)),
 )
 
 -- ---- nodes
@@ -248,10 +282,10 @@ head_of fields rows = record {
 }
 
 -- the parts that rows are written as give the rows
-pub rows_back : {limits : Limits} → (fields : List Field) (rows : List (List Value)) → are_plain fields ≡ true
+pub rows_back : {limits : Limits} → (fields : List Field) (rows : List (List Value)) → are_supported fields ≡ true
     → AllByRecursion (IsFieldWellFormed limits) (entries fields) → AllByRecursion (RowFits fields) rows → IsWithin limits fields rows
     → AllStored (shape_of fields) (columns rows)
-    → Rows limits fields (head_of fields rows) (body_of fields rows) rows
+    → Rows limits [] fields (head_of fields rows) (body_of fields rows) rows
 rows_back {limits} fields rows o fine fits within stored =
     let head = head_of fields rows in
     let body = body_of fields rows in
@@ -261,14 +295,13 @@ rows_back {limits} fields rows o fine fits within stored =
     let few : length rows ≤ limits.slots = not_above (length rows) limits.slots (λ x. within.few (inl x)) in
     let good = goods most s given limits.slots_fit (rows_held limits fields rows o fine fits) stored (λ x. within.short (inl x))
     (λ x. within.few (inr x)) in
-    let e : columns_of fields head body ≡ written s given =
+    let e : columns_of [] fields head body ≡ written s given =
     cut_back s given head body 0 0
     (λ k h. ap (λ (q : ℕ). node_at head q) (let z : 0 + k ≡ k = omega arith in z))
     (λ k h. ap (λ (q : ℕ). buffer_at head body q) (let z : 0 + k ≡ k = omega arith in z)
     ∙ buffer_back (row_buffers fields rows) [] k h) in
     let inside : (i : ℕ) → i < length rows → (j : ℕ) → i < length (columns rows j) = λ i k j. omega (arith, k, cells_length j rows) in
     record {
-      plain = o;
       nodes = nodes_length s given;
       buffers = ranges_length (row_buffers fields rows) 0 ∙ buffers_length s given;
       lengths = record {
@@ -290,6 +323,7 @@ rows_back {limits} fields rows o fine fits within stored =
           (each_written most (λ c children. HasOffsets c.layout c.slots c.offsets (length c.values) children)
           (λ l children vs g. ordered l children vs g.short) s given good);
       texts = λ i k. subst (λ (cs : Columns). SpellsTexts cs i) (sym e) (spelled_written most s given good i (inside i k));
+      indices = λ i k. subst (λ (cs : Columns). HoldsIndices cs i) (sym e) (indices_written most s given good i (inside i k));
       count = refl;
       values = λ i k. sym (ap (λ (cs : Columns). row cs i) e
           ∙ (row_back most s given good i (inside i k) ∙ rows_picked fields rows i fits k));
@@ -297,18 +331,18 @@ rows_back {limits} fields rows o fine fits within stored =
 
 -- the same of any parts that are these lists
 pub rows_of_parts : {limits : Limits} → (fields : List Field) (rows : List (List Value)) (nodes buffers : List (ℤ × ℤ)) (body : List ℕ)
-    → are_plain fields ≡ true → AllByRecursion (IsFieldWellFormed limits) (entries fields) → AllByRecursion (RowFits fields) rows
+    → are_supported fields ≡ true → AllByRecursion (IsFieldWellFormed limits) (entries fields) → AllByRecursion (RowFits fields) rows
     → IsWithin limits fields rows
     → AllStored (shape_of fields) (columns rows) → nodes ≡ row_nodes fields rows → buffers ≡ ranges_from 0 (row_buffers fields rows)
     → body ≡ body_of fields rows
-    → Rows limits fields (record { length = pos (length rows); nodes = nodes; buffers = buffers }) body rows
+    → Rows limits [] fields (record { length = pos (length rows); nodes = nodes; buffers = buffers }) body rows
 rows_of_parts {limits} fields rows nodes buffers body o fine fits within stored n r b =
-    subst (λ (bytes : List ℕ). Rows limits fields (record {
+    subst (λ (bytes : List ℕ). Rows limits [] fields (record {
       length = pos (length rows);
       nodes = nodes;
       buffers =
           buffers;
     }) bytes rows) (sym b)
-    (subst (λ (head : BatchHead). Rows limits fields head (body_of fields rows) rows)
+    (subst (λ (head : BatchHead). Rows limits [] fields head (body_of fields rows) rows)
     (λ i. record { length = pos (length rows); nodes = (sym n) i; buffers = (sym r) i })
     (rows_back fields rows o fine fits within stored))

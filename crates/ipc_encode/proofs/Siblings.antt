@@ -121,7 +121,7 @@ first_within (suc i) (field k c rest) given =
 -- ---- one field more that is within the limits
 
 -- a fact of one field more that neither the first fields nor this one has
-few_next : (most i : ℕ) (shape : Shape) (given : ℕ → List Value) (l : Layout) (c : Shape) → IsAt i shape l c
+pub few_next : (most i : ℕ) (shape : Shape) (given : ℕ → List Value) (l : Layout) (c : Shape) → IsAt i shape l c
     → (HasLongNode most (first i shape) given → ⊥) → (HasLongNode most (field l c bare) (λ j. given i) → ⊥)
     → HasLongNode most (first (suc i) shape) given → ⊥
 few_next most i bare given l c at so one h = absurd at
@@ -133,7 +133,7 @@ few_next most (suc i) (field k d rest) given l c at so one (inr (inl child)) = s
 few_next most (suc i) (field k d rest) given l c at so one (inr (inr later)) =
     few_next most i rest (λ j. given (suc j)) l c at (λ x. so (inr (inr x))) one later
 
-short_next : (i : ℕ) (shape : Shape) (given : ℕ → List Value) (l : Layout) (c : Shape) → IsAt i shape l c
+pub short_next : (i : ℕ) (shape : Shape) (given : ℕ → List Value) (l : Layout) (c : Shape) → IsAt i shape l c
     → (SomeLongData (first i shape) given → ⊥) → (SomeLongData (field l c bare) (λ j. given i) → ⊥)
     → SomeLongData (first (suc i) shape) given → ⊥
 short_next i bare given l c at so one h = absurd at

@@ -1,7 +1,7 @@
 -- How long the buffers of a column are.
 use Rattle.std.proofs.Common.{◌≡◌, ◌∙◌, refl, sym, ap, ℕ, ◌+◌, ◌-◌, ◌*◌, ◌/◌, ◌%◌, ◌≤◌, Bool, true, false, cond}
 use Rattle.std.proofs.Common.{List, [], ◌∷◌, ◌++◌, length, length-append, replicate, arith}
-use Rattle.std.specs.Prelude.{◌==◌}
+use Rattle.std.specs.Prelude.{◌==◌, ℤ}
 use Rattle.std.specs.Int.{bytes_low_first}
 use Rattle.std.proofs.lemmas.List.{length-replicate}
 use Rattle.ipc_scalar.proofs.Places.{length_low_bytes}
@@ -95,6 +95,15 @@ content_data utf8 (v ∷ vs) =
     let size = length-append (content v) (slots Content vs) in
     omega (arith, more, size)
 
+same_data : (bits : IntBits) (signed : Bool) (id : ℤ) (vs : List Value)
+    → data_in (l.Numbers bits signed) vs ≡ data_in (l.Indices bits signed id) vs
+same_data bits signed id [] = refl
+same_data bits signed id (v ∷ vs) = ap (λ (n : ℕ). number_bytes bits + n) (same_data bits signed id vs)
+
+indices_data : (bits : IntBits) (signed : Bool) (id : ℤ) (vs : List Value)
+    → length (slots (Number bits) vs) ≡ data_in (l.Indices bits signed id) vs
+indices_data bits signed id vs = numbers_data bits signed vs ∙ same_data bits signed id vs
+
 items_data : (vs : List Value) → length (all_items vs) ≡ data_in l.Lists vs
 items_data [] = refl
 items_data (v ∷ vs) =
@@ -110,7 +119,7 @@ no_data layout (v ∷ vs) none = let more = no_data layout vs none in let here =
 pub values_size : (layout : Layout) (vs : List Value) → length (values_in layout vs) ≡ values_length layout (length vs)
     (data_in layout vs)
 values_size l.Null vs = refl
-values_size l.Unsupported vs = refl
+values_size (l.Indices bits signed id) vs = indices_data bits signed id vs
 values_size l.Lists vs = refl
 values_size l.Structs vs = refl
 values_size (l.FixedLists size) vs = refl
@@ -124,7 +133,6 @@ pub column_size : (layout : Layout) (vs : List Value)
     → length (joined (column_buffers layout vs)) ≡ column_length layout (length vs) (nulls vs) (values_length layout (length vs)
     (data_in layout vs))
 column_size l.Null vs = refl
-column_size l.Unsupported vs = refl
 column_size l.Lists vs = joined_run (validity_bytes vs) (offsets p.Items vs)
     ∙ (ap (λ (n : ℕ). padded_length n + padded_length (length (offsets p.Items vs)) + padded_length 0) (validity_is vs)
     ∙ ap (λ (n : ℕ). padded_length (cond (nulls vs == 0) 0 (bits_length (length vs))) + padded_length n + padded_length 0)
@@ -141,6 +149,10 @@ column_size (l.Numbers bits signed) vs = joined_two (validity_bytes vs) (slots (
     ∙ (ap (λ (n : ℕ). padded_length n + padded_length 0 + padded_length (length (slots (Number bits) vs))) (validity_is vs)
     ∙ ap (λ (n : ℕ). padded_length (cond (nulls vs == 0) 0 (bits_length (length vs))) + padded_length 0 + padded_length n)
     (numbers_data bits signed vs))
+column_size (l.Indices bits signed id) vs = joined_two (validity_bytes vs) (slots (Number bits) vs)
+    ∙ (ap (λ (n : ℕ). padded_length n + padded_length 0 + padded_length (length (slots (Number bits) vs))) (validity_is vs)
+    ∙ ap (λ (n : ℕ). padded_length (cond (nulls vs == 0) 0 (bits_length (length vs))) + padded_length 0 + padded_length n)
+    (indices_data bits signed id vs))
 column_size (l.FixedBytes width) vs = joined_two (validity_bytes vs) (slots (Fixed width) vs)
     ∙ (ap (λ (n : ℕ). padded_length n + padded_length 0 + padded_length (length (slots (Fixed width) vs))) (validity_is vs)
     ∙ ap (λ (n : ℕ). padded_length (cond (nulls vs == 0) 0 (bits_length (length vs))) + padded_length 0 + padded_length n)
@@ -164,7 +176,7 @@ last_within layout vs e = let size = column_size layout vs in omega (arith, size
 pub data_within : (layout : Layout) (vs : List Value) → (layout ≡ l.Lists → ⊥) → data_in layout vs ≤ length (joined
     (column_buffers layout vs))
 data_within l.Null vs other = let none = no_data l.Null vs (λ v. refl) in omega (arith, none)
-data_within l.Unsupported vs other = let none = no_data l.Unsupported vs (λ v. refl) in omega (arith, none)
+data_within (l.Indices bits signed id) vs other = last_within (l.Indices bits signed id) vs refl
 data_within l.Lists vs other = absurd (other refl)
 data_within l.Structs vs other = let none = no_data l.Structs vs (λ v. refl) in omega (arith, none)
 data_within (l.FixedLists size) vs other = let none = no_data (l.FixedLists size) vs (λ v. refl) in omega (arith, none)
@@ -176,7 +188,7 @@ data_within (l.VariableBytes utf8) vs other = last_within (l.VariableBytes utf8)
 -- data is long exactly where it passes its offsets
 pub long_is : (layout : Layout) (vs : List Value) → PassesOffsets layout (data_in layout vs) → HasLongData layout vs
 long_is l.Null vs h = h
-long_is l.Unsupported vs h = h
+long_is (l.Indices bits signed id) vs h = h
 long_is l.Lists vs h = let size = items_data vs in omega (arith, size, h)
 long_is l.Structs vs h = h
 long_is (l.FixedLists size) vs h = h
@@ -187,7 +199,7 @@ long_is (l.VariableBytes utf8) vs h = let size = content_data utf8 vs in omega (
 
 pub long_from : (layout : Layout) (vs : List Value) → HasLongData layout vs → PassesOffsets layout (data_in layout vs)
 long_from l.Null vs h = h
-long_from l.Unsupported vs h = h
+long_from (l.Indices bits signed id) vs h = h
 long_from l.Lists vs h = let size = items_data vs in omega (arith, size, h)
 long_from l.Structs vs h = h
 long_from (l.FixedLists size) vs h = h

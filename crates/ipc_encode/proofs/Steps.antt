@@ -110,7 +110,7 @@ below_append l.Bits vs ws j = refl
 below_append (l.Numbers bits signed) vs ws j = refl
 below_append (l.FixedBytes width) vs ws j = refl
 below_append (l.VariableBytes utf8) vs ws j = refl
-below_append l.Unsupported vs ws j = refl
+below_append (l.Indices bits signed id) vs ws j = refl
 
 -- no values give none
 pub below_none : (layout : Layout) (j : ℕ) → below layout [] j ≡ []
@@ -122,7 +122,7 @@ below_none l.Bits j = refl
 below_none (l.Numbers bits signed) j = refl
 below_none (l.FixedBytes width) j = refl
 below_none (l.VariableBytes utf8) j = refl
-below_none l.Unsupported j = refl
+below_none (l.Indices bits signed id) j = refl
 
 -- ---- the offsets of a column
 

@@ -31,7 +31,7 @@ pieces (l.VariableBytes utf8) count =
 pieces l.Lists count = validity count ∷ p.Offsets p.Items ∷ []
 pieces l.Structs count = validity count ∷ []
 pieces (l.FixedLists size) count = validity count ∷ []
-pieces l.Unsupported count = []
+pieces (l.Indices bits signed id) count = validity count ∷ p.Slots (Number bits) ∷ []
 
 -- the bytes of a buffer for these values
 abbrev pub piece_bytes : Piece → List Value → List ℕ

@@ -105,6 +105,14 @@ pub record AreWithin (limits : Limits) (shape : Shape) (given : ℕ → List Val
   pub short : ¬ SomeLongData shape given
   pub body : length (joined (buffers_of shape given)) ≤ limits.body
 
+-- Columns of this shape with these values are within the limits, and their buffers take at most so
+-- many bytes.
+pub record TakeAtMost (limits : Limits) (most : ℕ) (shape : Shape) (given : ℕ
+    → List Value) : Type 0 where
+  pub few : ¬ HasLongNode limits.slots shape given
+  pub short : ¬ SomeLongData shape given
+  pub bytes : length (joined (buffers_of shape given)) ≤ most
+
 -- Of so many bytes these are left behind the buffers of columns, each of which is within the
 -- limits.
 pub record LeavesOf (limits : Limits) (shape : Shape) (given : ℕ → List Value)

@@ -20,7 +20,7 @@ validity_bytes values = piece_bytes (validity (nulls values)) values
 -- the bytes of the validity bitmap in a column of this layout
 abbrev pub validity_in : Layout → List Value → List ℕ
 validity_in l.Null values = []
-validity_in l.Unsupported values = []
+validity_in (l.Indices bits signed id) values = validity_bytes values
 validity_in l.Bits values = validity_bytes values
 validity_in (l.Numbers bits signed) values = validity_bytes values
 validity_in (l.FixedBytes width) values = validity_bytes values
@@ -39,7 +39,7 @@ offsets_in (l.FixedBytes width) values = []
 offsets_in l.Lists values = offsets p.Items values
 offsets_in l.Structs values = []
 offsets_in (l.FixedLists size) values = []
-offsets_in l.Unsupported values = []
+offsets_in (l.Indices bits signed id) values = []
 
 -- the bytes of the values in a column of this layout
 abbrev pub values_in : Layout → List Value → List ℕ
@@ -51,7 +51,7 @@ values_in (l.VariableBytes utf8) values = slots Content values
 values_in l.Lists values = []
 values_in l.Structs values = []
 values_in (l.FixedLists size) values = []
-values_in l.Unsupported values = []
+values_in (l.Indices bits signed id) values = slots (Number bits) values
 
 -- ---- lengths
 
@@ -65,7 +65,7 @@ datum l.Null value = 0
 datum l.Bits value = 0
 datum l.Structs value = 0
 datum (l.FixedLists size) value = 0
-datum l.Unsupported value = 0
+datum (l.Indices bits signed id) value = number_bytes bits
 
 -- how much the values of a column are: so many bytes, or so many items of lists; bits and slots
 -- without data are counted by their slots alone
@@ -84,7 +84,6 @@ padded_length n = n + (8 - n % 8) % 8
 -- the bytes of a validity bitmap of so many slots, of which so many are null
 abbrev pub validity_length : Layout → ℕ → ℕ → ℕ
 validity_length l.Null count null_count = 0
-validity_length l.Unsupported count null_count = 0
 validity_length _ count null_count = if null_count == 0 then 0 else bits_length count
 
 -- the bytes of the offsets of so many slots
@@ -110,7 +109,7 @@ values_length l.Null count amount = 0
 values_length l.Lists count amount = 0
 values_length l.Structs count amount = 0
 values_length (l.FixedLists size) count amount = 0
-values_length l.Unsupported count amount = 0
+values_length (l.Indices bits signed id) count amount = amount
 
 -- so much data is more than offsets reach
 abbrev pub PassesOffsets : Layout → ℕ → Type 0

@@ -36,7 +36,7 @@ HasLongData (l.FixedBytes width) values = ⊥
 HasLongData l.Lists values = max_data < length (all_items values)
 HasLongData l.Structs values = ⊥
 HasLongData (l.FixedLists size) values = ⊥
-HasLongData l.Unsupported values = ⊥
+HasLongData (l.Indices bits signed id) values = ⊥
 
 -- one of the columns has, or one below it
 abbrev pub SomeLongData : Shape → (ℕ → List Value) → Type 0

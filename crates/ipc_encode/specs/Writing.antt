@@ -21,7 +21,7 @@ AreStored (l.FixedBytes width) values = ⊤
 AreStored l.Lists values = ⊤
 AreStored l.Structs values = ⊤
 AreStored (l.FixedLists size) values = ⊤
-AreStored l.Unsupported values = ⊤
+AreStored (l.Indices bits signed id) values = ⊤
 
 -- the same of each column, and of each below it
 abbrev pub AllStored : Shape → (ℕ → List Value) → Type 0

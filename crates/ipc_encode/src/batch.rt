@@ -1,9 +1,10 @@
-ghost use Rattle.std.specs.Prelude.{◌≡◌, ◌≤◌, ◌^◌, true, pos, length, IfOk, IfErr};
+ghost use Rattle.std.specs.Prelude.{◌≡◌, ◌≤◌, ◌^◌, true, [], pos, length, IfOk, IfErr};
 ghost use Rattle.std.specs.List.{AllByRecursion};
 ghost use Rattle.ipc_model.specs.Fits.{RowFits};
 ghost use Rattle.ipc_model.specs.WellFormed.{IsFieldWellFormed};
 ghost use Rattle.ipc_model.specs.Entries.{entries};
-ghost use Rattle.ipc_column.specs.Rows.{Rows, are_plain};
+ghost use Rattle.ipc_column.specs.Rows.{Rows};
+ghost use Rattle.ipc_meta.specs.Supported.{are_supported};
 ghost use Rattle.ipc_encode.specs.Buffers.{AreLaidOut};
 ghost use Rattle.ipc_encode.specs.Limits.{IsWithin, IsRefused};
 
@@ -40,8 +41,8 @@ pub fn encode<I: IndexOf>(
     requires fine { AllByRecursion (IsFieldWellFormed limits.now) (entries fields.now) }
     requires conform { AllByRecursion (RowFits fields.now) rows.now }
     // The parts give these rows back.
-    ensures rows { IfOk result (λ parts. are_plain fields.now ≡ true
-        → Rows limits.now fields.now (record {
+    ensures rows { IfOk result (λ parts. are_supported fields.now ≡ true
+        → Rows limits.now [] fields.now (record {
           length = pos (length rows.now);
           nodes = parts.nodes;
           buffers = parts.buffers;

@@ -8,7 +8,8 @@ ghost use Rattle.ipc_model.specs.declared.limits.Limits.{Limits};
 ghost use Rattle.ipc_model.specs.declared.schema.Field.{Field};
 ghost use Rattle.ipc_model.specs.declared.value.Value.{Value};
 ghost use Rattle.ipc_model.specs.declared.value.Value.TheVariants.{Null};
-ghost use Rattle.ipc_column.specs.Rows.{Rows, are_plain};
+ghost use Rattle.ipc_column.specs.Rows.{Rows};
+ghost use Rattle.ipc_meta.specs.Supported.{are_supported};
 ghost use Rattle.ipc_column.specs.Shapes.{Shape, shape_of};
 ghost use Rattle.ipc_encode.specs.Buffers.{AreLaidOut, columns};
 ghost use Rattle.ipc_encode.specs.Writing.{IsDrafted};
@@ -24,6 +25,7 @@ use crate::index::{IndexOf, Renumber};
 use crate::node::Node;
 use crate::parts::{Draft, Parts, add_nodes};
 use crate::room::Room;
+use crate::sure::surely_fit;
 use crate::tree::take_parts;
 use ipc_model::{Field, Items, Limits, Row, Value, WriteFault};
 use std::alloc::{AllocError, Global};
@@ -214,6 +216,24 @@ impl Builder {
         Ok(())
     }
 
+    /// Whether a row surely conforms to the fields of the rows that are held, and is within the
+    /// limits with them. It takes one look at each value, for callers that push row by row: where
+    /// it isn't sure, as for lists and structs, `conforms` and `fits` tell.
+    #[inline(always)]
+    pub fn surely_takes(&self, fields: &[Field], row: &[Value]) -> bool
+        ensures conforms { (limits : Limits) (rows : List (List Value))
+            → HasRows limits fields.now rows self.now → IsTrue result
+            → RowFits fields.now row.now }
+        ensures within { (limits : Limits) (rows : List (List Value))
+            → HasRows limits fields.now rows self.now → IsTrue result
+            → IsWithin limits fields.now (rows ++ row.now ∷ []) }
+    {
+        if self.is_full() || row.len() != fields.len() {
+            return false;
+        }
+        surely_fit(fields, &self.nodes, row, self.rows, &self.limits)
+    }
+
     /// Takes one row more. The caller has asked `fits`.
     ///
     /// The indices aren't looked at, since no field that is written can name a dictionary yet.
@@ -272,8 +292,8 @@ impl Builder {
             → HasRows limits fields rows self
             → AllByRecursion (IsFieldWellFormed limits) (entries fields)
             → AllByRecursion (RowFits fields) rows
-            → IfOk result (λ parts. are_plain fields ≡ true
-            → Rows limits fields (record {
+            → IfOk result (λ parts. are_supported fields ≡ true
+            → Rows limits [] fields (record {
               length = pos (length rows);
               nodes = parts.nodes;
               buffers = parts.buffers;

@@ -22,12 +22,8 @@ fn datum(layout: Layout, value: &Value) -> usize
     ensures few { result < 2 ^ 63 }
 {
     match layout {
-        Layout::Null
-        | Layout::Bits
-        | Layout::FixedLists(_)
-        | Layout::Structs
-        | Layout::Unsupported => 0,
-        Layout::Numbers { bits, .. } => bits.bytes(),
+        Layout::Null | Layout::Bits | Layout::FixedLists(_) | Layout::Structs => 0,
+        Layout::Numbers { bits, .. } | Layout::Indices { bits, .. } => bits.bytes(),
         Layout::FixedBytes(width) => fixed_len(value, width),
         Layout::VariableBytes { .. } => content(value).len(),
         Layout::Lists => item_count(value),

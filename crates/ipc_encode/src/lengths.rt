@@ -19,7 +19,7 @@ fn validity_len(layout: Layout, slots: usize, nulls: usize) -> usize
     ensures few { result ≤ greatest_slots }
 {
     match layout {
-        Layout::Null | Layout::Unsupported => 0,
+        Layout::Null => 0,
         _ if nulls == 0 => 0,
         _ => slots.div_ceil(8),
     }
@@ -47,13 +47,12 @@ fn values_len(layout: Layout, slots: usize, amount: usize) -> usize
     ensures small { result ≤ greatest_body }
 {
     match layout {
-        Layout::Null
-        | Layout::Lists
-        | Layout::FixedLists(_)
-        | Layout::Structs
-        | Layout::Unsupported => 0,
+        Layout::Null | Layout::Lists | Layout::FixedLists(_) | Layout::Structs => 0,
         Layout::Bits => slots.div_ceil(8),
-        Layout::Numbers { .. } | Layout::FixedBytes(_) | Layout::VariableBytes { .. } => amount,
+        Layout::Numbers { .. }
+        | Layout::FixedBytes(_)
+        | Layout::VariableBytes { .. }
+        | Layout::Indices { .. } => amount,
     }
 }
 

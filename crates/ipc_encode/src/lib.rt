@@ -18,6 +18,7 @@ mod node;
 mod parts;
 mod pushing;
 mod room;
+mod sure;
 mod tree;
 
 pub use batch::encode;

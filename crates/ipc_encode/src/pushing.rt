@@ -130,13 +130,10 @@ fn push_value(
         → OnOk result (AreStored layout (vs ++ value.now ∷ [])) }
 {
     match layout {
-        Layout::Null
-        | Layout::Lists
-        | Layout::FixedLists(_)
-        | Layout::Structs
-        | Layout::Unsupported => Ok(()),
+        Layout::Null | Layout::Lists | Layout::FixedLists(_) | Layout::Structs => Ok(()),
         Layout::Bits => push_bit(values, slots, is_true(value)),
         Layout::Numbers { bits, .. } => push_number(values, value, bits),
+        Layout::Indices { bits, .. } => push_number(values, value, bits),
         Layout::FixedBytes(width) => push_fixed(values, value, width),
         Layout::VariableBytes { .. } => push_content(values, value),
     }

@@ -38,20 +38,21 @@ type_layout t.List = l.Lists
 type_layout (t.FixedSizeList size) = l.FixedLists size
 type_layout t.Struct = l.Structs
 
--- the layout of a field's slots
+-- the layout of a field's slots: those of its type, or indices of its dictionary's values
+-- (Schema.fbs, table Field, `dictionary`)
 abbrev pub layout : DataType → Option Dictionary → Layout
 layout kind None = type_layout kind
-layout kind (Some d) = l.Unsupported
+layout kind (Some d) = l.Indices d.index.bits d.index.signed d.id
 
 -- how many buffers a field has without those of its children (Arrow Columnar Format, "Buffer
 -- Listing for Each Layout")
 abbrev pub own_buffers : Layout → ℕ
 own_buffers l.Null = 0
-own_buffers l.Unsupported = 0
 own_buffers (l.VariableBytes utf8) = 3
 own_buffers l.Bits = 2
 own_buffers (l.Numbers bits signed) = 2
 own_buffers (l.FixedBytes width) = 2
+own_buffers (l.Indices bits signed id) = 2
 own_buffers l.Lists = 2
 own_buffers (l.FixedLists size) = 1
 own_buffers l.Structs = 1
@@ -67,7 +68,7 @@ has_validity (l.VariableBytes utf8) = true
 has_validity l.Lists = true
 has_validity (l.FixedLists size) = true
 has_validity l.Structs = true
-has_validity l.Unsupported = true
+has_validity (l.Indices bits signed id) = true
 
 -- each slot holds a text
 abbrev pub is_texts : Layout → Bool
@@ -79,7 +80,20 @@ is_texts (l.FixedBytes width) = false
 is_texts l.Lists = false
 is_texts (l.FixedLists size) = false
 is_texts l.Structs = false
-is_texts l.Unsupported = false
+is_texts (l.Indices bits signed id) = false
+
+-- what each valid slot holds is judged by itself: a text, which has to be UTF-8, and an index,
+-- which has to be that of a value in its dictionary
+abbrev pub is_judged : Layout → Bool
+is_judged (l.VariableBytes utf8) = utf8
+is_judged (l.Indices bits signed id) = true
+is_judged l.Null = false
+is_judged l.Bits = false
+is_judged (l.Numbers bits signed) = false
+is_judged (l.FixedBytes width) = false
+is_judged l.Lists = false
+is_judged (l.FixedLists size) = false
+is_judged l.Structs = false
 
 -- each slot holds a signed number of 64 bits
 abbrev pub is_signed_64 : Layout → Bool
@@ -92,7 +106,7 @@ is_signed_64 (l.VariableBytes utf8) = false
 is_signed_64 l.Lists = false
 is_signed_64 (l.FixedLists size) = false
 is_signed_64 l.Structs = false
-is_signed_64 l.Unsupported = false
+is_signed_64 (l.Indices bits signed id) = false
 
 -- the bytes of a number
 abbrev pub number_bytes : IntBits → ℕ

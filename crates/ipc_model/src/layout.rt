@@ -1,7 +1,8 @@
 //! The table of types: how the slots of each lie in buffers, and how wide numbers are.
 ghost use Rattle.std.specs.Prelude.{◌≡◌};
 ghost use Rattle.ipc_model.specs.Layouts.{type_layout, layout, own_buffers, has_validity};
-ghost use Rattle.ipc_model.specs.Layouts.{is_signed_64, is_texts, number_bytes, time_bits};
+ghost use Rattle.ipc_model.specs.Layouts.{is_judged, is_signed_64, is_texts, number_bytes};
+ghost use Rattle.ipc_model.specs.Layouts.{time_bits};
 ghost use Rattle.ipc_model.specs.Ranges.{width};
 
 use crate::schema::{DataType, DateUnit, Dictionary, IntBits, TimeUnit};
@@ -36,8 +37,16 @@ pub enum Layout {
     FixedLists(u32),
     /// A validity bitmap; the values of a slot stand in that slot of each child ("Struct Layout").
     Structs,
-    /// A dictionary-encoded field, whose columns are neither read nor written yet.
-    Unsupported,
+    /// A validity bitmap, and the indices, of one width, of values in a dictionary that stands
+    /// elsewhere ("Dictionary-encoded Layout").
+    Indices {
+        /// How many bits an index has.
+        bits: IntBits,
+        /// Whether it is stored in two's complement.
+        signed: bool,
+        /// Which dictionary the values stand in.
+        id: i64,
+    },
 }
 
 // The layout of a type's slots.
@@ -76,14 +85,18 @@ fn type_layout(kind: &DataType) -> Layout
     }
 }
 
-/// The layout of the slots of a field of this type with this dictionary: `Unsupported` where there
-/// is one.
+/// The layout of the slots of a field of this type with this dictionary: indices where there is
+/// one, whatever the type.
 pub fn layout_of(kind: &DataType, dictionary: Option<Dictionary>) -> Layout
     ensures { result ≡ layout kind.now dictionary }
 {
     match dictionary {
         None => type_layout(kind),
-        Some(_) => Layout::Unsupported,
+        Some(dictionary) => Layout::Indices {
+            bits: dictionary.index.bits,
+            signed: dictionary.index.signed,
+            id: dictionary.id,
+        },
     }
 }
 
@@ -94,9 +107,13 @@ impl Layout {
         ensures { result ≡ own_buffers self }
     {
         match self {
-            Layout::Null | Layout::Unsupported => 0,
+            Layout::Null => 0,
             Layout::FixedLists(_) | Layout::Structs => 1,
-            Layout::Bits | Layout::Numbers { .. } | Layout::FixedBytes(_) | Layout::Lists => 2,
+            Layout::Bits
+            | Layout::Numbers { .. }
+            | Layout::FixedBytes(_)
+            | Layout::Lists
+            | Layout::Indices { .. } => 2,
             Layout::VariableBytes { .. } => 3,
         }
     }
@@ -117,6 +134,18 @@ impl Layout {
     {
         match self {
             Layout::VariableBytes { utf8 } => utf8,
+            _ => false,
+        }
+    }
+
+    /// Whether what each valid slot holds has to be judged by itself: a text has to be UTF-8, and
+    /// an index that of a value in its dictionary.
+    pub fn is_judged(self) -> bool
+        ensures { result ≡ is_judged self }
+    {
+        match self {
+            Layout::VariableBytes { utf8 } => utf8,
+            Layout::Indices { .. } => true,
             _ => false,
         }
     }

@@ -1,10 +1,11 @@
-ghost use Rattle.std.specs.Prelude.{◌≡◌, false, IfErr, IfOk, OnOk};
+ghost use Rattle.std.specs.Prelude.{◌≡◌, ◌++◌, [], ◌∷◌, false, IfErr, IfOk, OnOk};
 ghost use Rattle.ipc_model.specs.Fits.{RowFits};
 ghost use Rattle.ipc_model.specs.RowFaults.{HasShortPaths};
 ghost use Rattle.ipc_model.specs.declared.limits.Limits.{Limits};
 ghost use Rattle.ipc_model.specs.declared.schema.Schema.{Schema};
 ghost use Rattle.ipc_model.specs.declared.table.BatchRows.{BatchRows};
 ghost use Rattle.ipc_encode.specs.Faults.{write_fault};
+ghost use Rattle.ipc_encode.specs.Limits.{IsWithin};
 ghost use Rattle.ipc_stream.specs.Writing.{IsWritable, RefusesBatch};
 ghost use Rattle.ipc_stream.specs.Pushed.{HoldsBatch, RefusesHeld, no_rows, with_row};
 
@@ -65,9 +66,30 @@ impl PushedRows {
         }
     }
 
+    // Takes one row more that conforms and is within the limits with those that are held.
+    #[inline(always)]
+    fn take_fitting(&mut self, row: &[Value]) -> Result<(), PushFault>
+        ensures holds { (limits : Limits) (schema : Schema) (b : BatchRows)
+            → RowFits schema.fields row.now
+            → IsWithin limits schema.fields (b.rows ++ row.now ∷ [])
+            → HoldsBatch limits schema b self.old
+            → OnOk result (HoldsBatch limits schema (with_row b row.now) self.new) }
+        ensures refused { (limits : Limits) (schema : Schema) (b : BatchRows)
+            → HoldsBatch limits schema b self.old
+            → IfErr result (λ fault. RefusesHeld limits schema (with_row b row.now) false
+            (write_fault fault)) }
+        ensures memory { (limits : Limits) (schema : Schema) (b : BatchRows)
+            → IsWithin limits schema.fields (b.rows ++ row.now ∷ [])
+            → HoldsBatch limits schema b self.old
+            → IfErr result (λ fault. write_fault fault ≡ WriteFault.OutOfMemory) }
+    {
+        self.builder.take_row(row)?;
+        Ok(())
+    }
+
     // Takes one row more that conforms. After a refusal for memory what is held is of no use, after
     // any other it is the batch that it was.
-    #[inline(always)]
+    #[inline(never)]
     fn take(&mut self, row: &[Value]) -> Result<(), PushFault>
         ensures holds { (limits : Limits) (schema : Schema) (b : BatchRows)
             → RowFits schema.fields row.now → HoldsBatch limits schema b self.old
@@ -101,6 +123,10 @@ impl PushedRows {
             → IfErr result (λ fault. ¬ (fault ≡ WriteFault.OutOfMemory)
             → HoldsBatch limits schema.now b self.new) }
     {
+        if self.builder.surely_takes(schema.fields.as_slice(), row) {
+            self.take_fitting(row)?;
+            return Ok(());
+        }
         if !is_conforming(schema, row) {
             return Err(self.misfit(schema, row));
         }

@@ -19,10 +19,25 @@ fn limits_of(body: u64, slots: u64) -> Option<Limits> {
 }
 
 // A column of numbers and one of texts, both of which may be null.
-fn builder_of(alloc: Global, limits: &Limits) -> Result<Builder, WriteFault> {
+fn fields_of(alloc: Global) -> Result<[Field; 2], WriteFault> {
     let number = Field::new(alloc, "number", DataType::Date(ipc_model::DateUnit::Day))?.nullable();
     let text = Field::new(alloc, "text", DataType::Utf8)?.nullable();
-    Builder::new(alloc, &[number, text], limits)
+    Ok([number, text])
+}
+
+fn builder_of(alloc: Global, limits: &Limits) -> Result<Builder, WriteFault> {
+    Builder::new(alloc, &fields_of(alloc)?, limits)
+}
+
+// Whether a builder under these limits is sure of a row that fits, and of one that is too short.
+fn are_sure(alloc: Global, limits: &Limits) -> Result<(bool, bool), WriteFault> {
+    let fields = fields_of(alloc)?;
+    let builder = Builder::new(alloc, &fields, limits)?;
+    let row = row_of(1);
+    Ok((
+        builder.surely_takes(&fields, &row),
+        builder.surely_takes(&fields, &row[..1]),
+    ))
 }
 
 // A number and a null.
@@ -81,6 +96,12 @@ fn a_body_up_to_its_limit(rt: HostRuntime) -> Result<(), Fail> {
         return Ok(());
     };
     assert!(rt; is_built(rt.alloc(), &limits, &[1, 2, 3], 2, &TWO_ROWS)?);
+    Ok(())
+}
+
+#[test]
+fn sure_of_a_row_that_fits(rt: HostRuntime) -> Result<(), Fail> {
+    assert!(rt; are_sure(rt.alloc(), &Limits::standard())? == (true, false));
     Ok(())
 }
 

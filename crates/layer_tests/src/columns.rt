@@ -1,8 +1,7 @@
 //! Batches of one column that no stream in `cases/` can show: those too long for rows of their own,
 //! and how many slots are tested.
-ghost use Rattle.std.specs.Prelude.{◌≡◌, ◌≤◌, ◌∷◌, [], length, true, IfOk};
+ghost use Rattle.std.specs.Prelude.{◌≤◌, ◌∷◌, [], length, IfOk};
 ghost use Rattle.ipc_model.specs.Entries.{entries};
-ghost use Rattle.ipc_meta.specs.Supported.{are_supported};
 
 use ipc_column::{Batch, Cell};
 use ipc_meta::BatchHead;
@@ -15,8 +14,7 @@ use std::test::Fail;
 const MOST: i64 = 2_147_483_647;
 
 fn field(alloc: Global, kind: DataType) -> Result<Field, AllocError>
-    ensures open { IfOk result (λ f. are_supported (f ∷ []) ≡ true) }
-    ensures few { IfOk result (λ f. length (entries (f ∷ [])) ≤ 1) }
+    ensures { IfOk result (λ f. length (entries (f ∷ [])) ≤ 1) }
 {
     Ok(Field {
         name: Text::copied(alloc, "a")?,
@@ -29,8 +27,7 @@ fn field(alloc: Global, kind: DataType) -> Result<Field, AllocError>
 }
 
 fn fields(alloc: Global, kind: DataType) -> Result<Rc<Vec<Field>>, AllocError>
-    ensures open { IfOk result (λ all. are_supported all.value.items ≡ true) }
-    ensures few { IfOk result (λ all. length (entries all.value.items) ≤ 1) }
+    ensures { IfOk result (λ all. length (entries all.value.items) ≤ 1) }
 {
     let mut all = Vec::new(alloc);
     all.push(field(alloc, kind)?)?;
@@ -50,7 +47,6 @@ fn head_of(
     })
 }
 
-#[tactic(auto, using(ipc_column::proofs::Plain::plain_from_supported))]
 pub(crate) fn batch(
     alloc: Global,
     kind: DataType,
@@ -66,7 +62,7 @@ pub(crate) fn batch(
 }
 
 // What a row has in its one column.
-fn cell_of(batch: &Batch, row: usize) -> Option<Cell<'_>> {
+pub(crate) fn cell_of(batch: &Batch, row: usize) -> Option<Cell<'_>> {
     if row < batch.rows() && 0 < batch.columns() {
         Some(batch.cell(row, 0))
     } else {
@@ -86,7 +82,6 @@ fn nulls(rt: HostRuntime) -> Result<(), Fail> {
 
 // The fields stay with whoever lends them.
 #[test]
-#[tactic(auto, using(ipc_column::proofs::Plain::plain_from_supported))]
 fn fields_that_are_lent(rt: HostRuntime) -> Result<(), Fail> {
     let alloc = rt.alloc();
     let fields = fields(alloc, DataType::Null)?;

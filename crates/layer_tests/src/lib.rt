@@ -1,6 +1,6 @@
 //! Tests of the crates below the stream: lists, FlatBuffers in place, rows, limits, printed words,
 //! messages whose bytes come one by one, batches of one column, and rows taken one at a time,
-//! nested ones too, columns of lists and structs, and dictionaries.
+//! nested ones too, columns of lists and structs, dictionaries, and columns of their indices.
 #![tactic(auto)]
 
 #[cfg(test)]
@@ -15,6 +15,8 @@ mod encoding;
 mod flat;
 #[cfg(test)]
 mod frames;
+#[cfg(test)]
+mod indices;
 #[cfg(test)]
 mod items;
 #[cfg(test)]

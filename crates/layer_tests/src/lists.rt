@@ -1,28 +1,47 @@
 //! Columns of lists and structs that no stream in `cases/` can show: how many slots are tested, and
 //! what is lent of those below.
+ghost use Rattle.ipc_column.specs.Dictionaries.{AreDictionaries};
+
 use ipc_column::{Batch, Cell, Slot, SlotView};
-use ipc_meta::{BatchHead, are_supported};
+use ipc_meta::BatchHead;
 use ipc_model::{DataType, Fault, Field, IntBits, Items, Limits, Schema};
 use std::alloc::{AllocError, Global};
 use std::collections::BTreeMap;
+use std::rc::Rc;
 use std::test::Fail;
 
 const MOST: i64 = 2_147_483_647;
 
-// A batch of one field, which is a schema's.
+// A batch of one field, which is a schema's, without dictionaries.
 fn batch(alloc: Global, field: Field, head: BatchHead, body: &[u8]) -> Result<Batch, Fault> {
+    batch_under(alloc, field, head, body, &BTreeMap::new(alloc))
+}
+
+// A batch of one field, which is a schema's, under dictionaries.
+pub(crate) fn batch_under(
+    alloc: Global,
+    field: Field,
+    head: BatchHead,
+    body: &[u8],
+    dictionaries: &BTreeMap<i64, Rc<Batch>>,
+) -> Result<Batch, Fault>
+    requires { AreDictionaries dictionaries.now }
+{
     let schema = Schema::new(vec![in alloc; field]?);
     let limits = Limits::standard();
     schema.check(alloc, &limits)?;
-    if !are_supported(schema.fields.as_slice()) {
-        return Err(Fault::Failed);
-    }
     let body = Vec::from_slice(alloc, body)?;
-    let none = BTreeMap::new(alloc);
-    Batch::check_borrowed(alloc, &limits, schema.fields.as_slice(), head, body, &none)
+    Batch::check_borrowed(
+        alloc,
+        &limits,
+        schema.fields.as_slice(),
+        head,
+        body,
+        dictionaries,
+    )
 }
 
-fn head_of(
+pub(crate) fn head_of(
     alloc: Global,
     nodes: &[(i64, i64)],
     buffers: &[(i64, i64)],
@@ -35,7 +54,7 @@ fn head_of(
 }
 
 // A field with this child, which may be null as it may.
-fn over(alloc: Global, kind: DataType, child: Field) -> Result<Field, AllocError> {
+pub(crate) fn over(alloc: Global, kind: DataType, child: Field) -> Result<Field, AllocError> {
     let field = Field::new(alloc, "over", kind)?.nullable();
     Ok(field.with_children(vec![in alloc; child]?))
 }

@@ -1,5 +1,6 @@
 use Rattle.std.proofs.Common.{◌∙◌, sym, ap, rules, arith}
 use Rattle.ipc_model.specs.declared.schema.Field.TheViews.{the_lemmas}
+use Rattle.ipc_column.specs.Dictionaries.{dictionaries_in}
 use Rattle.ipc_column.specs.Views.{columns}
 use Rattle.ipc_column.specs.Columns.{Columns, beside}
 use Rattle.ipc_column.proofs.Fields.{nodes_from, buffers_from, nodes_done, buffers_done, cut_step, cut_done, beside_none}
@@ -9,8 +10,19 @@ use Rattle.ipc_column.proofs.assign.+cut.Goals as goal
 pub assign_buffers-assign_field-requires : goal.assign_buffers-assign_field-requires
 assign_buffers-assign_field-requires t c =
     let n = nodes_from c.args.fields.now c.loop-field.field-index c.field-item.result (omega arith) c.field-item.is in
-    let b = buffers_from c.args.fields.now c.loop-field.field-index c.field-item.result (omega arith) c.field-item.is in
-    (search (rules, the_lemmas), (omega (arith, n), (omega (arith, b), (c.requires.few_nodes, c.requires.few_buffers))))
+    let b = buffers_from c.args.fields.now c.loop-field.field-index c.field-item.result (omega arith) c.field-item.is in (
+      search (rules, the_lemmas),
+      (
+        c.requires.dictionaries,
+        (
+          omega (arith, n),
+          (
+            omega (arith, b),
+            (c.requires.few_nodes, c.requires.few_buffers),
+          ),
+        ),
+      ),
+    )
 
 pub assign_buffers-loop-field-preserved : goal.assign_buffers-loop-field-preserved
 assign_buffers-loop-field-preserved t c =
@@ -18,7 +30,8 @@ assign_buffers-loop-field-preserved t c =
     let b = buffers_from c.args.fields.now c.loop-field.field-index c.field-item.result (omega arith) c.field-item.is in
     record {
       parts = λ body. rw c.in_ok-push.ensures.items
-          (cut_step c.args.fields.now c.loop-field.field-index c.field-item.result c.args.head.now body c.loop-field.parts.items
+          (cut_step (dictionaries_in c.args.dictionaries.now) c.args.fields.now c.loop-field.field-index c.field-item.result
+          c.args.head.now body c.loop-field.parts.items
           c.in_ok-part.part _ _ _ _ _ (omega arith) c.field-item.is
           (c.in_ok-part.ensures.column body) (c.in_ok-part.ensures.children body) c.in_ok-part.ensures.node c.in_ok-part.ensures.buffer
           (c.loop-field.invariant.parts body));
@@ -33,7 +46,8 @@ pub assign_buffers-returns-clause-parts : goal.assign_buffers-returns-clause-par
 assign_buffers-returns-clause-parts t c = λ body.
     sym (beside_none (columns body c.loop-field.parts.items)) ∙
     (ap (λ (ds : Columns). beside (columns body c.loop-field.parts.items) ds)
-    (sym (cut_done c.args.fields.now c.loop-field.field-index c.args.head.now body c.loop-field.place.node c.loop-field.place.buffer
+    (sym (cut_done (dictionaries_in c.args.dictionaries.now) c.args.fields.now c.loop-field.field-index c.args.head.now body
+    c.loop-field.place.node c.loop-field.place.buffer
     (omega arith)))
     ∙ c.loop-field.invariant.parts body)
 
@@ -50,4 +64,4 @@ assign_buffers-returns-clause-buffer t c =
 pub assign_field-returns-clause-marks : goal.assign_field-returns-clause-marks
 assign_field-returns-clause-marks t c =
     marked_from _ c.in_ok-children.ensures.marks
-    (λ body. rw c.deref.ensures.value at (c.have_texts-texts_below.ensures body))
+    (λ body. rw c.deref.ensures.value at (c.have_judged-judged_below.ensures body))

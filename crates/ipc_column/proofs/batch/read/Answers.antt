@@ -2,6 +2,7 @@ use Rattle.std.proofs.Common.{◌≡◌, ◌∙◌, ap, true, arith, rules}
 use Rattle.std.proofs.lemmas.Bool.{and_parts, eqb-true}
 use Rattle.ipc_column.specs.declared.cause.Cause.TheVariants as cause
 use Rattle.ipc_column.specs.Shapes.{shape_of}
+use Rattle.ipc_column.specs.Dictionaries.{dictionaries_in}
 use Rattle.ipc_column.specs.Lending.{layouts_of}
 use Rattle.ipc_column.proofs.Fields.{buffers_most}
 use Rattle.ipc_column.proofs.Lent.{layouts_cut}
@@ -28,30 +29,35 @@ assign_buffers-requires-clause-few_buffers c =
 
 pub returns-clause-passing : goal.returns-clause-passing
 returns-clause-passing c =
-    rw c.in_ok-share.ensures
-    (passing (shape_of c.args.fields.now) c.args.head.now c.args.body.items c.unsigned_abs-count.result _ (search rules)
+    rw (c.in_ok-share.ensures, c.in_ok-new.ensures.ok)
+    (passing (dictionaries_in c.args.dictionaries.now) (shape_of c.args.fields.now) c.args.head.now c.args.body.items
+    c.unsigned_abs-count.result _ (search rules)
     (c.in_ok-parts.ensures.parts c.args.body.items)
     (λ why. rw (c.len.ensures ∙ c.args.body.ok.0) at (c.in_ok-check_head.ensures.judged why))
     (λ why. rw (c.deref.ensures.value, c.deref-2.ensures.value) at (c.in_ok-slot_tests.ensures.judged why)))
 
 pub returns-in_err-check_head-clause-failing : goal.returns-in_err-check_head-clause-failing
 returns-in_err-check_head-clause-failing c =
-    exits c.args.limits.now c.from_residual.result _ (shape_of c.args.fields.now) c.args.head.now c.args.body.items
+    exits c.args.limits.now c.from_residual.result _ (dictionaries_in c.args.dictionaries.now)
+    (shape_of c.args.fields.now) c.args.head.now c.args.body.items
     c.from_residual.ensures.1
-    (head_failing c.args.limits.now c.in_err-check_head.field-0.0 (shape_of c.args.fields.now) c.args.head.now c.args.body.items
+    (head_failing c.args.limits.now c.in_err-check_head.field-0.0 (dictionaries_in c.args.dictionaries.now)
+    (shape_of c.args.fields.now) c.args.head.now c.args.body.items
     (rw (c.len.ensures ∙ c.args.body.ok.0) at c.in_err-check_head.ensures.judged)
     (rw (c.len.ensures ∙ c.args.body.ok.0) at c.in_err-check_head.ensures.counted))
 
 pub returns-in_err-slot_tests-clause-failing : goal.returns-in_err-slot_tests-clause-failing
 returns-in_err-slot_tests-clause-failing c =
     exits c.args.limits.now c.from_residual-in_err-slot_tests.result _
-    (shape_of c.args.fields.now) c.args.head.now c.args.body.items c.from_residual-in_err-slot_tests.ensures.1
+    (dictionaries_in c.args.dictionaries.now) (shape_of c.args.fields.now) c.args.head.now c.args.body.items
+    c.from_residual-in_err-slot_tests.ensures.1
     (columns_failing c.args.limits.now c.in_err-slot_tests.field-0.0
-    (shape_of c.args.fields.now) c.args.head.now c.args.body.items c.unsigned_abs-count.result _ (search rules)
+    (dictionaries_in c.args.dictionaries.now) (shape_of c.args.fields.now) c.args.head.now c.args.body.items c.unsigned_abs-count.result
+    _ (search rules)
     (c.in_ok-parts.ensures.parts c.args.body.items)
     (λ why. rw (c.len.ensures ∙ c.args.body.ok.0) at (c.in_ok-check_head.ensures.judged why))
     (rw (c.deref.ensures.value, c.deref-2.ensures.value) at c.in_err-slot_tests.ensures.judged)
-    (rw (c.deref.ensures.value, c.deref-2.ensures.value) at c.in_err-slot_tests.ensures.texts_last))
+    (rw (c.deref.ensures.value, c.deref-2.ensures.value) at c.in_err-slot_tests.ensures.shown_last))
 
 pub check_columns-requires-clause-few : goal.check_columns-requires-clause-few
 check_columns-requires-clause-few c =
@@ -59,7 +65,8 @@ check_columns-requires-clause-few c =
     let good : all (is_node c.args.limits.now) c.args.head.now.nodes ≡ true =
     (and_parts (is_slot_count c.args.limits.now c.args.head.now.length) (all (is_node c.args.limits.now) c.args.head.now.nodes)
     (c.in_ok-check_head.ensures.judged cause.BadNode)).1 in
-    let most = visits_most c.args.limits.now (shape_of c.args.fields.now) c.args.head.now c.args.body.items good (omega (arith, nodes)) in
+    let most = visits_most c.args.limits.now (dictionaries_in c.args.dictionaries.now)
+    (shape_of c.args.fields.now) c.args.head.now c.args.body.items good (omega (arith, nodes)) in
     let few = slots_most c.args.limits.now c.args.head.now.nodes good in
     rw (c.deref.ensures.value, c.deref-2.ensures.value, c.in_ok-parts.ensures.parts c.args.body.items) (omega (arith, most, few, nodes))
 
@@ -69,13 +76,14 @@ returns-clause-slots c =
     let good : all (is_node c.args.limits.now) c.args.head.now.nodes ≡ true =
     (and_parts (is_slot_count c.args.limits.now c.args.head.now.length) (all (is_node c.args.limits.now) c.args.head.now.nodes)
     (c.in_ok-check_head.ensures.judged cause.BadNode)).1 in
-    let most = visits_most c.args.limits.now (shape_of c.args.fields.now) c.args.head.now c.args.body.items good (omega (arith, nodes)) in
+    let most = visits_most c.args.limits.now (dictionaries_in c.args.dictionaries.now)
+    (shape_of c.args.fields.now) c.args.head.now c.args.body.items good (omega (arith, nodes)) in
     let visited = rw (c.deref.ensures.value, c.deref-2.ensures.value, c.in_ok-parts.ensures.parts c.args.body.items) at
     c.in_ok-slot_tests.ensures.visited in
     rw c.in_ok-share.ensures (omega (arith, visited, most))
 
 pub returns-clause-layouts : goal.returns-clause-layouts
 returns-clause-layouts c =
-    rw c.in_ok-share.ensures
+    rw (c.in_ok-share.ensures, c.in_ok-new.ensures.ok)
     (ap layouts_of (c.in_ok-parts.ensures.parts c.args.body.items)
-    ∙ layouts_cut c.args.fields.now c.args.head.now c.args.body.items 0 0)
+    ∙ layouts_cut (dictionaries_in c.args.dictionaries.now) c.args.fields.now c.args.head.now c.args.body.items 0 0)

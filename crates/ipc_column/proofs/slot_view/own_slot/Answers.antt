@@ -44,3 +44,6 @@ pub returns-in-Structs-clause-inside : goal.returns-in-Structs-clause-inside
 returns-in-Structs-clause-inside c = λ body.
     struct_leads (columns body c.args.children.now) c.args.slots c.args.slot c.requires.slot
     (rw c.in-Structs.is at (c.requires.long body))
+
+pub returns-in-Indices-clause-inside : goal.returns-in-Indices-clause-inside
+returns-in-Indices-clause-inside c = λ body. c.leaf_slot.ensures.inside (columns body c.args.children.now) c.args.slot

@@ -1,14 +1,15 @@
+use Rattle.std.proofs.Common.{refl}
 use Rattle.ipc_column.proofs.Found.{found_holds, found_values}
 use Rattle.ipc_column.proofs.view.view_of.Goals as goal
 
 pub invariant_of-result : goal.invariant_of-result
 invariant_of-result c =
     rw c.deref.ensures.value
-    (found_holds c.args.body.now c.args.part.now c.bytes_at.result.now c.bytes_at-2.result.now c.bytes_at-3.result.now
-    c.bytes_at.ensures c.bytes_at-2.ensures c.bytes_at-3.ensures c.requires)
+    (found_holds c.args.body.now c.args.part.now c.bytes_at.result.now c.bytes_at-2.result.now c.bytes_at-3.result.now _
+    c.bytes_at.ensures c.bytes_at-2.ensures c.bytes_at-3.ensures refl c.requires)
 
 pub returns : goal.returns
 returns c =
     rw c.deref.ensures.value
-    (found_values c.args.body.now c.args.part.now c.bytes_at.result.now c.bytes_at-2.result.now c.bytes_at-3.result.now
-    c.bytes_at.ensures c.bytes_at-2.ensures c.bytes_at-3.ensures)
+    (found_values c.args.body.now c.args.part.now c.bytes_at.result.now c.bytes_at-2.result.now c.bytes_at-3.result.now _
+    c.bytes_at.ensures c.bytes_at-2.ensures c.bytes_at-3.ensures refl)

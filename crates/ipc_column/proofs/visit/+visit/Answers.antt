@@ -1,17 +1,23 @@
-use Rattle.std.proofs.Common.{◌≡◌, ◌∙◌, sym, ap, rules, arith, ◌+◌, ◌-◌, drop, length}
+use Rattle.std.proofs.Common.{◌≡◌, ◌∙◌, sym, ap, subst, Bool, true, false, rules, arith, ◌+◌, ◌-◌, drop, length}
 use Rattle.ipc_column.specs.declared.ranges.ColumnRanges.TheViews.{the_lemmas, out-ColumnRanges}
 use Rattle.ipc_column.specs.Checks.{good, good_slot}
-use Rattle.ipc_model.specs.Layouts.{is_texts}
+use Rattle.ipc_model.specs.Layouts.{is_judged}
+use Rattle.ipc_column.specs.declared.cause.Cause.{Cause}
+use Rattle.ipc_column.specs.Columns.{Columns}
+use Rattle.std.specs.Prelude.{◌&&◌}
+use Rattle.std.proofs.lemmas.Bool.{and_left}
+use Rattle.std.proofs.lemmas.Result.{err_from_is_err_and}
 use Rattle.ipc_column.specs.Views.{columns, one, column_of, children_of}
 use Rattle.ipc_column.proofs.Goods.{slots_more, slots_fail, good_one, good_first}
-use Rattle.ipc_column.proofs.Marks.{says_texts, marked_below, marked_at}
+use Rattle.ipc_column.proofs.Marks.{says_judged, marked_below, marked_at}
 use Rattle.ipc_column.proofs.Parts.{columns_from}
 use Rattle.ipc_column.proofs.Slots.{slots_first, slots_within, part_long, part_most, bitmap_front}
 use Rattle.ipc_column.proofs.FixedLists.{fixed_place_have, fixed_child}
 use Rattle.ipc_column.proofs.Visited.{layout_is, list_bytes, list_slots, fixed_slots, struct_slots, list_weight, fixed_weight_between}
-use Rattle.ipc_column.proofs.Visited.{fixed_good_between, struct_weight, whole_part}
-use Rattle.ipc_column.proofs.Visited.{visited_below, visited_texts, quiet_part, texts_part, texts_of, good_done}
-use Rattle.ipc_column.proofs.Weights.{weight_first, room_next, cost_next, cost_all, visited_weight, below_weight, texts_weight}
+use Rattle.ipc_column.proofs.Visited.{struct_weight}
+use Rattle.ipc_column.proofs.Visited.{visited_below, quiet_part, not_judged, good_done}
+use Rattle.ipc_column.proofs.Judged.{list_judged, fixed_judged, struct_judged, slot_null, slot_judged, whole_judged}
+use Rattle.ipc_column.proofs.Weights.{weight_first, room_next, cost_next, cost_all, visited_weight, below_weight}
 use Rattle.ipc_column.proofs.visit.+visit.Goals as goal
 
 pub visit_below-place_at-first-requires : goal.visit_below-place_at-first-requires
@@ -70,13 +76,23 @@ visit_below-visit_all-requires-in-FixedLists t c =
       ),
     )
 
-pub visit_below-returns-in-FixedLists-clause-good : goal.visit_below-returns-in-FixedLists-clause-good
-visit_below-returns-in-FixedLists-clause-good t c =
+pub visit_below-returns-in-Lists-clause-judged : goal.visit_below-returns-in-Lists-clause-judged
+visit_below-returns-in-Lists-clause-judged t c =
+    list_judged c.visit_all.result c.args.body.now c.args.part.now c.args.from c.args.to c.in-Lists.is
+    (rw (c.deref.ensures.value, c.place_at-first.ensures, c.place_at-end.ensures, c.bytes_at-offsets.ensures) at c.visit_all.ensures.judged)
+
+pub visit_below-returns-in-Structs-clause-judged : goal.visit_below-returns-in-Structs-clause-judged
+visit_below-returns-in-Structs-clause-judged t c =
+    struct_judged c.visit_all-in-Structs.result c.args.body.now c.args.part.now c.args.from c.args.to c.in-Structs.is
+    (rw c.deref-in-Structs.ensures.value at c.visit_all-in-Structs.ensures.judged)
+
+pub visit_below-returns-in-FixedLists-clause-judged : goal.visit_below-returns-in-FixedLists-clause-judged
+visit_below-returns-in-FixedLists-clause-judged t c =
     let first = rw c.deref-in-FixedLists.ensures.value at c.fixed_place-first.ensures.some in
     let last = rw c.deref-in-FixedLists-2.ensures.value at c.fixed_place.ensures.some in
-    (rw c.deref-in-FixedLists-3.ensures.value at c.visit_all-in-FixedLists.ensures.good)
-    ∙ fixed_good_between c.args.body.now c.args.part.now c.args.from c.args.to c.in-FixedLists.size c.fixed_place-first.result
-    c.fixed_place.result c.in-FixedLists.is c.requires.some first last
+    fixed_judged c.visit_all-in-FixedLists.result c.args.body.now c.args.part.now c.args.from c.args.to c.in-FixedLists.size
+    c.fixed_place-first.result c.fixed_place.result c.in-FixedLists.is c.requires.some first last
+    (rw c.deref-in-FixedLists-3.ensures.value at c.visit_all-in-FixedLists.ensures.judged)
 
 pub visit_below-returns-in-FixedLists-clause-cost : goal.visit_below-returns-in-FixedLists-clause-cost
 visit_below-returns-in-FixedLists-clause-cost t c =
@@ -115,14 +131,24 @@ visit_slot-visit_below-requires t c =
     c.requires.visited in
     (search (rules, the_lemmas), (omega arith, (c.requires.slots, (omega (arith, w, c.requires.room), c.requires.marks))))
 
+pub visit_slot-returns-then-not-visit-clause-judged : goal.visit_slot-returns-then-not-visit-clause-judged
+visit_slot-returns-then-not-visit-clause-judged t c =
+    slot_null c.args.body.now c.args.part.now c.args.slot
+    (rw c.bytes_at.ensures at (sym c.visit.ensures.valid ∙ c.if-not-visit.true))
+
 pub visit_slot-returns-then-not-visit-clause-cost : goal.visit_slot-returns-then-not-visit-clause-cost
 visit_slot-returns-then-not-visit-clause-cost t c =
     let w = visited_weight (column_of c.args.body.now c.args.part.now) (children_of c.args.body.now c.args.part.now) c.args.slot
     c.requires.visited in
     omega (arith, w)
 
-pub visit_slot-returns-else-not-visit-clause-cost : goal.visit_slot-returns-else-not-visit-clause-cost
-visit_slot-returns-else-not-visit-clause-cost t c =
+pub visit_slot-returns-clause-judged : goal.visit_slot-returns-clause-judged
+visit_slot-returns-clause-judged t c =
+    slot_judged c.visit_below.result c.args.body.now c.args.part.now c.args.slot
+    (rw c.bytes_at.ensures at (sym c.visit.ensures.valid ∙ c.if-not-visit.false)) c.requires.below c.visit_below.ensures.judged
+
+pub visit_slot-returns-clause-cost : goal.visit_slot-returns-clause-cost
+visit_slot-returns-clause-cost t c =
     let w = visited_weight (column_of c.args.body.now c.args.part.now) (children_of c.args.body.now c.args.part.now) c.args.slot
     c.requires.visited in
     omega (arith, w, c.visit_below.ensures.cost)
@@ -147,31 +173,36 @@ visit_slots-visit_slot-requires t c = (
   ),
 )
 
-pub visit_slots-returns-then-not-visit_slot-clause-good : goal.visit_slots-returns-then-not-visit_slot-clause-good
-visit_slots-returns-then-not-visit_slot-clause-good t c =
-    sym (good_one (column_of c.args.body.now c.args.part.now) (children_of c.args.body.now c.args.part.now) c.args.from c.args.to
-    ∙ slots_fail (good_slot (good (children_of c.args.body.now c.args.part.now)) (column_of c.args.body.now c.args.part.now)) c.args.from
-    c.args.to c.loop-slot.slot (omega arith) (omega arith) (sym c.if-not-visit_slot.ensures.good))
+pub visit_slots-returns-in_err-visit_slot-clause-judged : goal.visit_slots-returns-in_err-visit_slot-clause-judged
+visit_slots-returns-in_err-visit_slot-clause-judged t c =
+    let d = c.in_err-visit_slot.field-0.0 in
+    let p = err_from_is_err_and c.from_residual.result c.from_residual.ensures.1 in
+    rw p.1 (subst (λ (why : Cause). good why (one c.args.body.now c.args.part.now) c.args.from c.args.to ≡ false) (sym p.2)
+    (good_one d (column_of c.args.body.now c.args.part.now) (children_of c.args.body.now c.args.part.now) c.args.from c.args.to
+    ∙ slots_fail (good_slot d (good d (children_of c.args.body.now c.args.part.now))
+    (column_of c.args.body.now c.args.part.now)) c.args.from
+    c.args.to c.loop-slot.slot (omega arith) (omega arith) c.in_err-visit_slot.ensures.judged))
 
-pub visit_slots-returns-then-not-visit_slot-clause-cost : goal.visit_slots-returns-then-not-visit_slot-clause-cost
-visit_slots-returns-then-not-visit_slot-clause-cost t c =
+pub visit_slots-returns-in_err-visit_slot-clause-cost : goal.visit_slots-returns-in_err-visit_slot-clause-cost
+visit_slots-returns-in_err-visit_slot-clause-cost t c =
     cost_all (one c.args.body.now c.args.part.now) c.args.from c.loop-slot.slot c.args.to c.args.tests.now c.loop-slot.tests _
-    c.requires.slots (omega arith) (omega arith) c.loop-slot.invariant.cost c.visit_slot.ensures.cost
+    c.requires.slots (omega arith) (omega arith) c.loop-slot.invariant.cost c.in_err-visit_slot.ensures.cost
 
 pub visit_slots-loop-slot-preserved : goal.visit_slots-loop-slot-preserved
 visit_slots-loop-slot-preserved t c = record {
-  good = slots_more (good_slot (good (children_of c.args.body.now c.args.part.now)) (column_of c.args.body.now c.args.part.now)) c.args.from
-      c.loop-slot.slot (omega arith) c.loop-slot.invariant.good (sym c.if-not-visit_slot.ensures.good);
+  good = λ why. slots_more (good_slot why (good why (children_of c.args.body.now c.args.part.now))
+      (column_of c.args.body.now c.args.part.now))
+      c.args.from c.loop-slot.slot (omega arith) (c.loop-slot.invariant.good why) (c.in_ok-visit_slot.ensures.judged why);
   cost = cost_next (one c.args.body.now c.args.part.now) c.args.from c.loop-slot.slot c.args.to c.args.tests.now c.loop-slot.tests _
-      c.requires.slots (omega arith) (omega arith) c.loop-slot.invariant.cost c.visit_slot.ensures.cost;
+      c.requires.slots (omega arith) (omega arith) c.loop-slot.invariant.cost c.in_ok-visit_slot.ensures.cost;
 }
 
-pub visit_slots-returns-clause-good : goal.visit_slots-returns-clause-good
-visit_slots-returns-clause-good t c =
+pub visit_slots-returns-clause-judged : goal.visit_slots-returns-clause-judged
+visit_slots-returns-clause-judged t c = λ why.
     let order = c.requires.slots.order in
     let e : c.loop-slot.slot ≡ c.args.to = omega arith in
-    sym (good_one (column_of c.args.body.now c.args.part.now) (children_of c.args.body.now c.args.part.now) c.args.from c.args.to
-    ∙ (rw e at c.loop-slot.invariant.good))
+    good_one why (column_of c.args.body.now c.args.part.now) (children_of c.args.body.now c.args.part.now) c.args.from c.args.to
+    ∙ (rw e at (c.loop-slot.invariant.good why))
 
 pub visit_slots-returns-clause-cost : goal.visit_slots-returns-clause-cost
 visit_slots-returns-clause-cost t c =
@@ -179,62 +210,29 @@ visit_slots-returns-clause-cost t c =
     let e : c.loop-slot.slot ≡ c.args.to = omega arith in
     rw e at c.loop-slot.invariant.cost
 
-pub visit_part-visit_texts-requires-clause-bitmap : goal.visit_part-visit_texts-requires-clause-bitmap
-visit_part-visit_texts-requires-clause-bitmap t c =
-    rw c.bytes_at.ensures (part_long c.args.body.now c.args.part.now c.args.from c.args.to c.requires.slots).bitmap
-
-pub visit_part-visit_texts-requires-clause-bytes : goal.visit_part-visit_texts-requires-clause-bytes
-visit_part-visit_texts-requires-clause-bytes t c =
-    let order = c.requires.slots.order in
-    rw c.bytes_at-then-is_texts.ensures (texts_of c.args.body.now c.args.part.now c.args.from c.args.to c.requires.slots (omega arith)
-    (sym c.is_texts.ensures ∙ c.if-is_texts.true)).bytes
-
-pub visit_part-visit_texts-requires-clause-order : goal.visit_part-visit_texts-requires-clause-order
-visit_part-visit_texts-requires-clause-order t c =
-    let order = c.requires.slots.order in
-    rw (c.bytes_at-then-is_texts.ensures, c.bytes_at-then-is_texts-2.ensures)
-    (texts_of c.args.body.now c.args.part.now c.args.from c.args.to c.requires.slots (omega arith)
-    (sym c.is_texts.ensures ∙ c.if-is_texts.true)).order
-
-pub visit_part-visit_texts-requires-clause-fits : goal.visit_part-visit_texts-requires-clause-fits
-visit_part-visit_texts-requires-clause-fits t c =
-    let w = texts_weight (column_of c.args.body.now c.args.part.now) (children_of c.args.body.now c.args.part.now) c.args.from c.args.to
-    (visited_texts c.args.body.now c.args.part.now (sym c.is_texts.ensures ∙ c.if-is_texts.true)) in
-    omega (arith, w, c.requires.room)
-
-pub visit_part-returns-then-is_texts-clause-good : goal.visit_part-returns-then-is_texts-clause-good
-visit_part-returns-then-is_texts-clause-good t c =
-    (rw (c.bytes_at.ensures, c.bytes_at-then-is_texts.ensures, c.bytes_at-then-is_texts-2.ensures) at c.visit_texts.ensures.good)
-    ∙ texts_part c.args.body.now c.args.part.now c.args.from c.args.to (sym c.is_texts.ensures ∙ c.if-is_texts.true)
-
-pub visit_part-returns-then-is_texts-clause-cost : goal.visit_part-returns-then-is_texts-clause-cost
-visit_part-returns-then-is_texts-clause-cost t c =
-    let w = texts_weight (column_of c.args.body.now c.args.part.now) (children_of c.args.body.now c.args.part.now) c.args.from c.args.to
-    (visited_texts c.args.body.now c.args.part.now (sym c.is_texts.ensures ∙ c.if-is_texts.true)) in
-    omega (arith, w, c.visit_texts.ensures.counted)
-
 pub visit_part-visit_below-requires : goal.visit_part-visit_below-requires
 visit_part-visit_below-requires t c =
     let order = c.requires.slots.order in
     let w = below_weight (column_of c.args.body.now c.args.part.now) (children_of c.args.body.now c.args.part.now) c.args.from c.args.to in
     (search (rules, the_lemmas), (omega arith, (c.requires.slots, (omega (arith, w, c.requires.room), c.requires.marks))))
 
-pub visit_part-returns-then-is_empty-clause-good : goal.visit_part-returns-then-is_empty-clause-good
-visit_part-returns-then-is_empty-clause-good t c =
-    let none : length c.bytes_at-2.result.now ≡ 0 = search rules in
-    c.visit_below.ensures.good
-    ∙ whole_part c.args.body.now c.args.part.now c.args.from c.args.to c.requires.slots (sym c.is_texts.ensures ∙ c.if-is_texts.false)
-    (rw c.bytes_at-2.ensures at none)
+pub visit_part-returns-then-is_empty-clause-judged : goal.visit_part-returns-then-is_empty-clause-judged
+visit_part-returns-then-is_empty-clause-judged t c =
+    let none : length c.bytes_at.result.now ≡ 0 = search rules in
+    whole_judged c.visit_below.result c.args.body.now c.args.part.now c.args.from c.args.to c.requires.slots
+    (not_judged (out-ColumnRanges c.args.part.now).layout (sym c.is_texts.ensures ∙ c.if-is_texts.false) c.in_default.not-Indices)
+    (rw c.bytes_at.ensures at none) c.visit_below.ensures.judged
 
 pub visit_part-returns-then-is_empty-clause-cost : goal.visit_part-returns-then-is_empty-clause-cost
 visit_part-returns-then-is_empty-clause-cost t c =
     let w = below_weight (column_of c.args.body.now c.args.part.now) (children_of c.args.body.now c.args.part.now) c.args.from c.args.to in
     omega (arith, w, c.visit_below.ensures.cost)
 
-pub visit_part-returns-then-not-part-clause-good : goal.visit_part-returns-then-not-part-clause-good
-visit_part-returns-then-not-part-clause-good t c =
-    sym (quiet_part c.args.body.now c.args.part.now c.args.from c.args.to (sym c.is_texts.ensures ∙ c.if-is_texts.false)
-    (sym (says_texts c.args.body.now c.args.part.now c.requires.marks) ∙ c.if-not-part.true))
+pub visit_part-returns-then-not-part-clause-judged : goal.visit_part-returns-then-not-part-clause-judged
+visit_part-returns-then-not-part-clause-judged t c = λ why.
+    quiet_part why c.args.body.now c.args.part.now c.args.from c.args.to
+    (not_judged (out-ColumnRanges c.args.part.now).layout (sym c.is_texts.ensures ∙ c.if-is_texts.false) c.in_default.not-Indices)
+    (sym (says_judged c.args.body.now c.args.part.now c.requires.marks) ∙ c.if-not-part.true)
 
 pub visit_part-visit_slots-requires : goal.visit_part-visit_slots-requires
 visit_part-visit_slots-requires t c = (
@@ -242,10 +240,11 @@ visit_part-visit_slots-requires t c = (
   (
     c.requires.slots,
     (
-      ap is_texts (layout_is c.args.body.now c.args.part.now) ∙ (sym c.is_texts.ensures ∙ c.if-is_texts.false),
+      ap is_judged (layout_is c.args.body.now c.args.part.now)
+          ∙ not_judged (out-ColumnRanges c.args.part.now).layout (sym c.is_texts.ensures ∙ c.if-is_texts.false) c.in_default.not-Indices,
       (
-        visited_below c.args.body.now c.args.part.now (rw c.bytes_at-2.ensures at (sym c.is_empty.ensures ∙ c.if-is_empty.false))
-            (sym (says_texts c.args.body.now c.args.part.now c.requires.marks) ∙ c.if-not-part.false),
+        visited_below c.args.body.now c.args.part.now (rw c.bytes_at.ensures at (sym c.is_empty.ensures ∙ c.if-is_empty.false))
+            (sym (says_judged c.args.body.now c.args.part.now c.requires.marks) ∙ c.if-not-part.false),
         (c.requires.room, c.requires.marks),
       ),
     ),
@@ -262,35 +261,45 @@ visit_all-visit_part-requires t c =
     let m = marked_at c.args.parts.now c.loop-part.part-index c.part-item.result (omega arith) c.part-item.is c.requires.marks in
     (search (rules, the_lemmas), (s.0, (omega (arith, k, c.requires.room), m)))
 
-pub visit_all-returns-then-not-visit_part-clause-good : goal.visit_all-returns-then-not-visit_part-clause-good
-visit_all-returns-then-not-visit_part-clause-good t c =
+pub visit_all-returns-in_err-visit_part-clause-judged : goal.visit_all-returns-in_err-visit_part-clause-judged
+visit_all-returns-in_err-visit_part-clause-judged t c =
+    let d = c.in_err-visit_part.field-0.0 in
+    let p = err_from_is_err_and c.from_residual.result c.from_residual.ensures.1 in
     let e = columns_from c.args.body.now c.args.parts.now c.loop-part.part-index c.part-item.result (omega arith) c.part-item.is in
-    let g = good_first (column_of c.args.body.now c.part-item.result) (children_of c.args.body.now c.part-item.result)
+    let g = good_first d (column_of c.args.body.now c.part-item.result) (children_of c.args.body.now c.part-item.result)
     (columns c.args.body.now (drop (c.loop-part.part-index + 1) c.args.parts.now)) c.args.from c.args.to in
-    rw (e, g, ← c.if-not-visit_part.ensures.good) at c.loop-part.invariant.good
+    rw (p.1, p.2) (sym (c.loop-part.invariant.good d) ∙ (ap (λ (cs : Columns). good d cs c.args.from c.args.to) e
+    ∙ (g ∙ and_left _ _ c.in_err-visit_part.ensures.judged)))
 
-pub visit_all-returns-then-not-visit_part-clause-cost : goal.visit_all-returns-then-not-visit_part-clause-cost
-visit_all-returns-then-not-visit_part-clause-cost t c =
+pub visit_all-returns-in_err-visit_part-clause-cost : goal.visit_all-returns-in_err-visit_part-clause-cost
+visit_all-returns-in_err-visit_part-clause-cost t c =
     let e = columns_from c.args.body.now c.args.parts.now c.loop-part.part-index c.part-item.result (omega arith) c.part-item.is in
     let w = weight_first (column_of c.args.body.now c.part-item.result) (children_of c.args.body.now c.part-item.result)
     (columns c.args.body.now (drop (c.loop-part.part-index + 1) c.args.parts.now)) c.args.from c.args.to in
     let k = rw (e, w) at c.loop-part.invariant.cost in
-    omega (arith, k, c.visit_part.ensures.cost)
+    omega (arith, k, c.in_err-visit_part.ensures.cost)
 
 pub visit_all-loop-part-preserved : goal.visit_all-loop-part-preserved
 visit_all-loop-part-preserved t c =
     let e = columns_from c.args.body.now c.args.parts.now c.loop-part.part-index c.part-item.result (omega arith) c.part-item.is in
-    let g = good_first (column_of c.args.body.now c.part-item.result) (children_of c.args.body.now c.part-item.result)
+    let g : (why : Cause) → good why (columns c.args.body.now (drop c.loop-part.part-index c.args.parts.now)) c.args.from c.args.to
+    ≡ (good why (one c.args.body.now c.part-item.result) c.args.from c.args.to
+    && good why (columns c.args.body.now (drop (c.loop-part.part-index + 1) c.args.parts.now)) c.args.from c.args.to) =
+    λ why. ap (λ (cs : Columns). good why cs c.args.from c.args.to) e ∙ good_first why (column_of c.args.body.now c.part-item.result)
+    (children_of c.args.body.now c.part-item.result)
     (columns c.args.body.now (drop (c.loop-part.part-index + 1) c.args.parts.now)) c.args.from c.args.to in
     let w = weight_first (column_of c.args.body.now c.part-item.result) (children_of c.args.body.now c.part-item.result)
     (columns c.args.body.now (drop (c.loop-part.part-index + 1) c.args.parts.now)) c.args.from c.args.to in
     let k = rw (e, w) at c.loop-part.invariant.cost in
     record {
-      good = rw (e, g, ← c.if-not-visit_part.ensures.good) at c.loop-part.invariant.good;
-      cost = omega (arith, k, c.visit_part.ensures.cost);
+      good = λ why. sym (g why ∙ ap (λ (b : Bool). b && good why (columns c.args.body.now
+          (drop (c.loop-part.part-index + 1) c.args.parts.now)) c.args.from c.args.to) (c.in_ok-visit_part.ensures.judged why))
+          ∙ c.loop-part.invariant.good why;
+      cost = omega (arith, k, c.in_ok-visit_part.ensures.cost);
       slots = (slots_first _ _ _ _ _ (rw e at c.loop-part.invariant.slots)).1;
     }
 
-pub visit_all-returns-clause-good : goal.visit_all-returns-clause-good
-visit_all-returns-clause-good t c = sym (good_done c.args.body.now c.args.parts.now c.loop-part.part-index c.args.from c.args.to
-    c.loop-part-test.false) ∙ c.loop-part.invariant.good
+pub visit_all-returns-clause-judged : goal.visit_all-returns-clause-judged
+visit_all-returns-clause-judged t c = λ why.
+    sym (c.loop-part.invariant.good why)
+    ∙ good_done why c.args.body.now c.args.parts.now c.loop-part.part-index c.args.from c.args.to c.loop-part-test.false

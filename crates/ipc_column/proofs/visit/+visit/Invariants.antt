@@ -1,5 +1,6 @@
 use Rattle.std.proofs.Common.{◌≡◌, ◌≤◌, ◌+◌, ◌-◌, drop}
 use Rattle.std.specs.Prelude.{true}
+use Rattle.ipc_column.specs.declared.cause.Cause.{Cause}
 use Rattle.ipc_column.specs.Checks.{good, good_slot, all_slots}
 use Rattle.ipc_column.specs.Lent.{AreSlots}
 use Rattle.ipc_column.specs.Views.{columns, one, column_of, children_of}
@@ -8,7 +9,7 @@ use Rattle.ipc_column.proofs.visit.+visit.Given as goal
 
 abbrev pub invariant-visit_all-loop-part : goal.invariant-visit_all-loop-part
 invariant-visit_all-loop-part l = record {
-  good : good (columns l.body (drop l.part-index l.parts)) l.from l.to ≡ good (columns l.body l.parts) l.from l.to;
+  good : (why : Cause) → good why (columns l.body (drop l.part-index l.parts)) l.from l.to ≡ good why (columns l.body l.parts) l.from l.to;
   cost : l.tests + weight (columns l.body (drop l.part-index l.parts)) l.from l.to
       ≤ l.fn.tests + weight (columns l.body l.parts) l.from l.to;
   slots : AreSlots (columns l.body (drop l.part-index l.parts)) l.from l.to;
@@ -16,6 +17,7 @@ invariant-visit_all-loop-part l = record {
 
 abbrev pub invariant-visit_slots-loop-slot : goal.invariant-visit_slots-loop-slot
 invariant-visit_slots-loop-slot l = record {
-  good : all_slots (good_slot (good (children_of l.body l.part)) (column_of l.body l.part)) l.from (l.slot - l.from) ≡ true;
+  good : (why : Cause) → all_slots (good_slot why (good why (children_of l.body l.part)) (column_of l.body l.part)) l.from
+      (l.slot - l.from) ≡ true;
   cost : l.tests ≤ l.fn.tests + weight (one l.body l.part) l.from l.slot;
 }

@@ -1,4 +1,7 @@
-use Rattle.std.proofs.Common.{◌∙◌, sym, rules, arith, ◌+◌, ◌-◌, drop}
+use Rattle.std.specs.Prelude.{◌&&◌}
+use Rattle.ipc_column.specs.Checks.{good}
+use Rattle.ipc_column.specs.Columns.{Columns}
+use Rattle.std.proofs.Common.{◌∙◌, sym, ap, Bool, rules, arith, ◌+◌, ◌-◌, drop}
 use Rattle.ipc_column.specs.declared.ranges.ColumnRanges.TheViews.{the_lemmas, out-ColumnRanges}
 use Rattle.ipc_column.specs.Views.{columns, column_of, children_of, own_column}
 use Rattle.ipc_column.proofs.Goods.{good_first}
@@ -6,7 +9,8 @@ use Rattle.ipc_column.proofs.Parts.{columns_from}
 use Rattle.ipc_column.proofs.Slots.{slots_first, part_long, part_most}
 use Rattle.ipc_column.proofs.FixedLists.{fixed_place_have, fixed_child}
 use Rattle.ipc_column.proofs.Visited.{list_bytes, list_slots, fixed_slots, struct_slots, fixed_good_between}
-use Rattle.ipc_column.proofs.Visited.{texts_part, texts_of, enough_part}
+use Rattle.ipc_column.proofs.Visited.{texts_pass_part, texts_of, enough_part, not_judged, layout_is, indices_bytes, indices_pass_part}
+use Rattle.ipc_model.specs.Layouts.{is_texts}
 use Rattle.ipc_column.proofs.whole.+whole.Goals as goal
 
 pub is_whole_below-place_at-first-requires : goal.is_whole_below-place_at-first-requires
@@ -66,12 +70,12 @@ is_whole_below-are_whole-requires-in-Structs t c = (
 )
 
 pub is_whole_below-returns-in-FixedLists : goal.is_whole_below-returns-in-FixedLists
-is_whole_below-returns-in-FixedLists t c = λ h.
+is_whole_below-returns-in-FixedLists t c = λ h why.
     let first = rw c.deref-in-FixedLists.ensures.value at c.fixed_place-first.ensures.some in
     let last = rw c.deref-in-FixedLists-2.ensures.value at c.fixed_place.ensures.some in
-    sym (fixed_good_between c.args.body.now c.args.part.now c.args.from c.args.to c.in-FixedLists.size c.fixed_place-first.result
+    sym (fixed_good_between why c.args.body.now c.args.part.now c.args.from c.args.to c.in-FixedLists.size c.fixed_place-first.result
     c.fixed_place.result c.in-FixedLists.is c.requires.some first last)
-    ∙ (rw c.deref-in-FixedLists-3.ensures.value at c.are_whole-in-FixedLists.ensures h)
+    ∙ (rw c.deref-in-FixedLists-3.ensures.value at c.are_whole-in-FixedLists.ensures h why)
 
 pub is_whole_part-is_whole-requires-clause-bytes : goal.is_whole_part-is_whole-requires-clause-bytes
 is_whole_part-is_whole-requires-clause-bytes t c =
@@ -88,14 +92,28 @@ is_whole_part-is_whole-requires-clause-order t c =
 
 pub is_whole_part-returns-then-is_texts : goal.is_whole_part-returns-then-is_texts
 is_whole_part-returns-then-is_texts t c = λ h.
-    sym (texts_part c.args.body.now c.args.part.now c.args.from c.args.to (sym c.is_texts.ensures ∙ c.if-is_texts.true))
-    ∙ (rw (c.bytes_at.ensures, c.bytes_at-then-is_texts.ensures) at
+    texts_pass_part c.args.body.now c.args.part.now c.args.from c.args.to
+    (ap is_texts (layout_is c.args.body.now c.args.part.now) ∙ (sym c.is_texts.ensures ∙ c.if-is_texts.true))
+    (rw (c.bytes_at.ensures, c.bytes_at-then-is_texts.ensures) at
     c.is_whole.ensures h (own_column c.args.body.now c.args.part.now).validity)
 
+pub is_whole_part-are_indices-requires-clause-inside : goal.is_whole_part-are_indices-requires-clause-inside
+is_whole_part-are_indices-requires-clause-inside t c =
+    let order = c.requires.slots.order in
+    rw c.bytes_at-indices.ensures (indices_bytes c.args.body.now c.args.part.now _ _ c.args.from c.args.to c.requires.slots (omega arith)
+    (_, layout_is c.args.body.now c.args.part.now ∙ c.in-Indices.is))
+
+pub is_whole_part-returns-in-Indices : goal.is_whole_part-returns-in-Indices
+is_whole_part-returns-in-Indices t c = λ h.
+    indices_pass_part c.args.body.now c.args.part.now _ _ c.args.from c.args.to
+    (_, layout_is c.args.body.now c.args.part.now ∙ c.in-Indices.is)
+    (rw (c.bytes_at-indices.ensures, c.len.ensures) at c.are_indices.ensures h (own_column c.args.body.now c.args.part.now).validity)
+
 pub is_whole_part-returns : goal.is_whole_part-returns
-is_whole_part-returns t c = λ h.
-    enough_part c.args.body.now c.args.part.now c.args.from c.args.to c.requires.slots (sym c.is_texts.ensures ∙ c.if-is_texts.false)
-    (c.is_whole_below.ensures h)
+is_whole_part-returns t c = λ h why.
+    enough_part why c.args.body.now c.args.part.now c.args.from c.args.to c.requires.slots
+    (not_judged (out-ColumnRanges c.args.part.now).layout (sym c.is_texts.ensures ∙ c.if-is_texts.false) c.in_default.not-Indices)
+    (c.is_whole_below.ensures h why)
 
 pub are_whole-is_whole_part-requires : goal.are_whole-is_whole_part-requires
 are_whole-is_whole_part-requires t c =
@@ -105,10 +123,13 @@ are_whole-is_whole_part-requires t c =
 pub are_whole-loop-part-preserved : goal.are_whole-loop-part-preserved
 are_whole-loop-part-preserved t c =
     let e = columns_from c.args.body.now c.args.parts.now c.loop-part.part-index c.part-item.result (omega arith) c.part-item.is in
-    let g = good_first (column_of c.args.body.now c.part-item.result) (children_of c.args.body.now c.part-item.result)
-    (columns c.args.body.now (drop (c.loop-part.part-index + 1) c.args.parts.now)) c.args.from c.args.to in
     let own = c.is_whole_part.ensures (c.if-not-is_whole_part.false) in
     record {
-      good = rw (e, g, own) at c.loop-part.invariant.good;
+      good = λ why.
+          sym (ap (λ (cs : Columns). good why cs c.args.from c.args.to) e
+          ∙ (good_first why (column_of c.args.body.now c.part-item.result) (children_of c.args.body.now c.part-item.result)
+          (columns c.args.body.now (drop (c.loop-part.part-index + 1) c.args.parts.now)) c.args.from c.args.to
+          ∙ ap (λ (b : Bool). b && good why (columns c.args.body.now (drop (c.loop-part.part-index + 1) c.args.parts.now)) c.args.from
+          c.args.to) (own why))) ∙ c.loop-part.invariant.good why;
       slots = (slots_first _ _ _ _ _ (rw e at c.loop-part.invariant.slots)).1;
     }

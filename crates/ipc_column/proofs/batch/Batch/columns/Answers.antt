@@ -26,4 +26,4 @@ returns-clause-rows c =
     ap (λ (s : Shared). length s.parts.items) (sym c.deref.ensures) ∙ (sym c.deref.result.now.parts.ok.0 ∙ sym c.len.ensures) in
     subst (λ (n : ℕ). AllByRecursion (λ r. length r ≡ n) c.args.self.now.rows) parts
     (subst (λ (v : Contents). AllByRecursion (λ r. length r ≡ length c.self.inside.shared.value.parts.items) v.rows) c.self.view_is
-    (wide c.self.inside.shared.value.body.items c.self.inside.shared.value.parts.items c.self.inside.shared.value.count))
+    (wide c.self.inside.shared.value.body.value.items c.self.inside.shared.value.parts.items c.self.inside.shared.value.count))

@@ -8,5 +8,5 @@ use Rattle.ipc_column.proofs.batch.Batch.rows.Goals as goal
 pub returns : goal.returns
 returns c =
     ap (λ (s : Shared). s.count) c.deref.ensures
-    ∙ sym (rows_length (columns c.self.inside.shared.value.body.items c.self.inside.shared.value.parts.items)
+    ∙ sym (rows_length (columns c.self.inside.shared.value.body.value.items c.self.inside.shared.value.parts.items)
     c.self.inside.shared.value.count) ∙ ap (λ (v : Contents). length v.rows) c.self.view_is

@@ -14,21 +14,25 @@ pub is_valid-requires : goal.is_valid-requires
 is_valid-requires c =
     let s = c.self.inside in
     bitmap_front s.slots c.args.slot (length s.validity.now) c.self.invariant.bitmap
-    (slot_inside (found s.layout s.slots s.validity.now s.offsets.now s.values.now) s.body.now s.children.now c.args.self.now c.args.slot
+    (slot_inside (found s.layout s.slots s.validity.now s.offsets.now s.values.now s.dictionary.now) s.body.now s.children.now
+    c.args.self.now c.args.slot
     c.self.view_is c.requires)
 
 pub returns-then-not-is_valid-clause-value : goal.returns-then-not-is_valid-clause-value
 returns-then-not-is_valid-clause-value c =
     let s = c.self.inside in
-    slot_shows (found s.layout s.slots s.validity.now s.offsets.now s.values.now) s.body.now s.children.now c.args.self.now c.args.slot
+    slot_shows (found s.layout s.slots s.validity.now s.offsets.now s.values.now s.dictionary.now) s.body.now s.children.now
+    c.args.self.now c.args.slot
     c.self.view_is c.requires
-    ∙ ap (λ (b : Bool). Some (cond b (own_value s.layout (row (columns s.body.now s.children.now)) s.offsets.now s.values.now c.args.slot)
+    ∙ ap (λ (b : Bool). Some (cond b (own_value s.layout s.dictionary.now (row
+    (columns s.body.now s.children.now)) s.offsets.now s.values.now c.args.slot)
     v.Null)) (sym c.is_valid.ensures ∙ c.if-not-is_valid.true)
 
 pub own_slot-requires-clause-slot : goal.own_slot-requires-clause-slot
 own_slot-requires-clause-slot c =
     let s = c.self.inside in
-    slot_inside (found s.layout s.slots s.validity.now s.offsets.now s.values.now) s.body.now s.children.now c.args.self.now c.args.slot
+    slot_inside (found s.layout s.slots s.validity.now s.offsets.now s.values.now s.dictionary.now) s.body.now s.children.now
+    c.args.self.now c.args.slot
     c.self.view_is c.requires
 
 pub own_slot-requires-clause-rise : goal.own_slot-requires-clause-rise
@@ -45,9 +49,10 @@ pub returns-clause-value : goal.returns-clause-value
 returns-clause-value c =
     let s = c.self.inside in
     let value = row (columns s.body.now s.children.now) in
-    slot_shows (found s.layout s.slots s.validity.now s.offsets.now s.values.now) s.body.now s.children.now c.args.self.now c.args.slot
+    slot_shows (found s.layout s.slots s.validity.now s.offsets.now s.values.now s.dictionary.now) s.body.now s.children.now
+    c.args.self.now c.args.slot
     c.self.view_is c.requires
-    ∙ (ap (λ (b : Bool). Some (cond b (own_value s.layout value s.offsets.now s.values.now c.args.slot) v.Null))
+    ∙ (ap (λ (b : Bool). Some (cond b (own_value s.layout s.dictionary.now value s.offsets.now s.values.now c.args.slot) v.Null))
     (sym c.is_valid.ensures ∙ c.if-not-is_valid.false)
     ∙ (ap (λ (x : Value). Some x) (sym (c.own_slot.ensures.value s.body.now))
     ∙ ap (λ (n : Nested). Some (shown (row (below n)) c.args.slot c.own_slot.result)) c.self.view_is))

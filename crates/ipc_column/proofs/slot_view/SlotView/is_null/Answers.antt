@@ -14,13 +14,14 @@ pub is_valid-requires : goal.is_valid-requires
 is_valid-requires c =
     let s = c.self.inside in
     bitmap_front s.slots c.args.slot (length s.validity.now) c.self.invariant.bitmap
-    (slot_inside (found s.layout s.slots s.validity.now s.offsets.now s.values.now) s.body.now s.children.now c.args.self.now c.args.slot
+    (slot_inside (found s.layout s.slots s.validity.now s.offsets.now s.values.now s.dictionary.now) s.body.now s.children.now
+    c.args.self.now c.args.slot
     c.self.view_is c.requires)
 
 pub returns-in-Null : goal.returns-in-Null
 returns-in-Null c = λ value e.
     let s = c.self.inside in
-    let column = found s.layout s.slots s.validity.now s.offsets.now s.values.now in
+    let column = found s.layout s.slots s.validity.now s.offsets.now s.values.now s.dictionary.now in
     sym (nothing_shown (row (columns s.body.now s.children.now)) column c.args.slot c.in-Null.is)
     ∙ ap (λ (o : Option Value). is_null (unwrap_or o v.Null))
     (sym (slot_shows column s.body.now s.children.now c.args.self.now c.args.slot c.self.view_is c.requires) ∙ e)
@@ -28,8 +29,8 @@ returns-in-Null c = λ value e.
 pub returns-in_default : goal.returns-in_default
 returns-in_default c = λ value e.
     let s = c.self.inside in
-    let column = found s.layout s.slots s.validity.now s.offsets.now s.values.now in
+    let column = found s.layout s.slots s.validity.now s.offsets.now s.values.now s.dictionary.now in
     null_slot (row (columns s.body.now s.children.now)) column c.args.slot c.is_valid.result c.is_valid.ensures c.in_default.not-Null
-    c.in_default.not-Unsupported
+    c.in_default.not-Indices
     ∙ ap (λ (o : Option Value). is_null (unwrap_or o v.Null))
     (sym (slot_shows column s.body.now s.children.now c.args.self.now c.args.slot c.self.view_is c.requires) ∙ e)

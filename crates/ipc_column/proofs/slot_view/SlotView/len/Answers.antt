@@ -10,5 +10,5 @@ pub returns : goal.returns
 returns c =
     let s = c.self.inside in
     sym (items_length (value_of (row (columns s.body.now s.children.now))
-    (found s.layout s.slots s.validity.now s.offsets.now s.values.now)) 0 s.slots)
+    (found s.layout s.slots s.validity.now s.offsets.now s.values.now s.dictionary.now)) 0 s.slots)
     ∙ ap (λ (n : Nested). length (slot_values n)) c.self.view_is

@@ -12,5 +12,6 @@ returns-in-Numbers-clause-lent c =
 pub returns-in-Numbers-clause-numbers : goal.returns-in-Numbers-clause-numbers
 returns-in-Numbers-clause-numbers c =
     let s = c.self.inside in
-    lent_numbers (found s.layout s.slots s.validity.now s.offsets.now s.values.now) s.body.now s.children.now c.args.self.now _
+    lent_numbers (found s.layout s.slots s.validity.now s.offsets.now s.values.now s.dictionary.now) s.body.now s.children.now
+    c.args.self.now _
     c.self.view_is c.in-Numbers.is refl refl c.self.invariant.values

@@ -11,14 +11,16 @@ use Rattle.ipc_column.proofs.view.ColumnView.at.Goals as goal
 pub cell_found-requires-clause-slot : goal.cell_found-requires-clause-slot
 cell_found-requires-clause-slot c =
     let s = c.self.inside in
-    let value = value_of (row (columns s.body.now s.children.now)) (found s.layout s.slots s.validity.now s.offsets.now s.values.now) in
+    let value = value_of (row (columns s.body.now s.children.now))
+    (found s.layout s.slots s.validity.now s.offsets.now s.values.now s.dictionary.now) in
     subst (λ (n : ℕ). c.args.slot < n)
     (ap (λ (r : Cells). length r) (sym c.self.view_is) ∙ items_length value 0 s.slots) c.requires
 
 pub returns : goal.returns
 returns c =
     let s = c.self.inside in
-    let value = value_of (row (columns s.body.now s.children.now)) (found s.layout s.slots s.validity.now s.offsets.now s.values.now) in
+    let value = value_of (row (columns s.body.now s.children.now))
+    (found s.layout s.slots s.validity.now s.offsets.now s.values.now s.dictionary.now) in
     let inside = subst (λ (n : ℕ). c.args.slot < n)
     (ap (λ (r : Cells). length r) (sym c.self.view_is) ∙ items_length value 0 s.slots) c.requires in
     ap (λ (r : Cells). slice_get r c.args.slot) (sym c.self.view_is)

@@ -9,5 +9,6 @@ returns-clause-values c =
 pub returns-clause-texts : goal.returns-clause-texts
 returns-clause-texts c =
     let s = c.self.inside in
-    slots_spell (found s.layout s.slots s.validity.now s.offsets.now s.values.now) s.body.now s.children.now _ c.args.self.now
+    slots_spell (found s.layout s.slots s.validity.now s.offsets.now s.values.now s.dictionary.now) s.body.now s.children.now _
+    c.args.self.now
     c.slots_found.ensures.column c.slots_found.ensures.body c.slots_found.ensures.children c.self.invariant c.self.view_is

@@ -1,0 +1,28 @@
+use Rattle.std.proofs.Common.{◌∙◌, sym, ℕ, ◌+◌, ◌*◌, ◌≤◌, arith}
+use Rattle.std.proofs.Math.Nat.{mul-le-mul_left}
+use Rattle.ipc_model.specs.Layouts.{number_bytes}
+use Rattle.ipc_column.specs.Checks.{index_good}
+use Rattle.ipc_column.proofs.Goods.{slots_fail, slots_more}
+use Rattle.ipc_column.proofs.Slots.{bitmap_upto}
+use Rattle.ipc_column.proofs.indices.visit_indices.Goals as goal
+
+pub visit_index-requires-clause-inside : goal.visit_index-requires-clause-inside
+visit_index-requires-clause-inside c =
+    let more : number_bytes c.args.bits * (c.loop-slot.slot + 1) ≤ number_bytes c.args.bits * c.args.to =
+    mul-le-mul_left (number_bytes c.args.bits) (let n : c.loop-slot.slot + 1 ≤ c.args.to = omega arith in n) in
+    omega (arith, more, c.requires.inside)
+
+pub visit_index-requires-clause-bitmap : goal.visit_index-requires-clause-bitmap
+visit_index-requires-clause-bitmap c = bitmap_upto c.args.to (c.loop-slot.slot + 1) _ c.requires.bitmap (omega arith)
+
+pub returns-then-not-visit_index-clause-good : goal.returns-then-not-visit_index-clause-good
+returns-then-not-visit_index-clause-good c =
+    sym (slots_fail (index_good c.args.validity.now c.args.bits c.args.signed c.args.count c.args.indices.now) c.args.from c.args.to
+    c.loop-slot.slot (omega arith) (omega arith) (sym c.visit_index.ensures.good ∙ c.if-not-visit_index.true))
+
+pub loop-slot-preserved : goal.loop-slot-preserved
+loop-slot-preserved c = record {
+  visited = omega (arith, c.visit_index.ensures.counted, c.loop-slot.invariant.visited);
+  good = slots_more (index_good c.args.validity.now c.args.bits c.args.signed c.args.count c.args.indices.now) c.args.from c.loop-slot.slot
+      (omega arith) c.loop-slot.invariant.good (sym c.visit_index.ensures.good ∙ c.if-not-visit_index.false);
+}

@@ -1,0 +1,29 @@
+-- Columns that stand alone, over a body that batches share (Arrow Columnar Format, "Dictionary
+-- Messages").
+use Rattle.std.specs.Prelude.{◌≡◌, true, Option, Some, None, [], ⊤}
+use Rattle.ipc_column.specs.declared.dictionary.Leaf.{Leaf}
+use Rattle.ipc_column.specs.Columns.{Column, none}
+use Rattle.ipc_column.specs.Dictionaries.{stands_alone}
+use Rattle.ipc_column.specs.Lent.{HoldSlots, found, values_in}
+use Rattle.ipc_column.specs.Spans.{span_bytes}
+use Rattle.ipc_column.specs.Values.{Cells}
+
+-- its column
+abbrev pub leaf_column : Leaf → Column
+leaf_column f = found f.layout f.slots (span_bytes f.body.value.items f.validity)
+    (span_bytes f.body.value.items f.offsets) (span_bytes f.body.value.items f.values) []
+
+-- its values, or none where there is no such column
+abbrev pub leaf_values : Option Leaf → Cells
+leaf_values None = []
+leaf_values (Some f) = values_in (leaf_column f) none
+
+-- its buffers have what its slots need, and it stands alone
+pub record IsLeaf (f : Leaf) : Type 0 where
+  pub alone : stands_alone f.layout ≡ true
+  pub holds : HoldSlots (leaf_column f) none
+
+-- the same, where there is such a column
+abbrev pub HoldLeaf : Option Leaf → Type 0
+HoldLeaf None = ⊤
+HoldLeaf (Some f) = IsLeaf f

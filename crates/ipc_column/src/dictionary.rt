@@ -1,0 +1,175 @@
+//! The values of dictionaries, as columns of indices keep them.
+ghost use Rattle.std.specs.Prelude.{◌≡◌, ◌<◌, ◌≤◌, ◌+◌, ◌*◌, ℕ, List, length, map, true, [], IfOk};
+ghost use Rattle.std.specs.Prelude.{IsTrue, Some, slice_get};
+ghost use Rattle.ipc_model.specs.Layouts.{number_bytes};
+ghost use Rattle.ipc_column.specs.Cells.{cell_value, is_leaf};
+ghost use Rattle.ipc_column.specs.Checks.{Holds};
+ghost use Rattle.ipc_column.specs.Columns.{none};
+ghost use Rattle.ipc_column.specs.Dictionaries.{stands_alone};
+ghost use Rattle.ipc_column.specs.Leaves.{IsLeaf, leaf_column};
+ghost use Rattle.ipc_column.specs.Lending.{AreAlone};
+ghost use Rattle.ipc_column.specs.Values.{first_of, number_in, row, rows_of, value_at, value_of};
+ghost use Rattle.ipc_column.specs.Views.{columns};
+
+use crate::cell::{Cell, is_valid_in, leaf_cell};
+use crate::fixed::index_in;
+use crate::range_bytes::bytes_at;
+use crate::ranges::{BufferRange, ColumnRanges};
+use ipc_model::{IntBits, Layout};
+use std::alloc::AllocError;
+use std::marker::Model;
+use std::rc::Rc;
+
+/// The values of a dictionary, shared with the batch that has them, and none where a column has no
+/// dictionary or that has none in force. Contracts see them as a list.
+#[derive(Debug, Drop)]
+pub struct DictionaryValues {
+    leaf: Option<Leaf>,
+}
+
+// A column that stands alone, over a body that batches share.
+#[derive(Debug, Drop)]
+struct Leaf {
+    layout: Layout,
+    slots: usize,
+    validity: BufferRange,
+    offsets: BufferRange,
+    values: BufferRange,
+    body: Rc<Vec<u8>>,
+}
+
+impl Model for DictionaryValues {
+    ghost use Rattle.std.specs.Coded.{codes};
+    ghost use Rattle.ipc_model.specs.contracts.value.Value as value;
+    ghost use Rattle.ipc_column.specs.Leaves.{HoldLeaf, leaf_values};
+    ghost use Rattle.ipc_column.specs.Values.{Cells};
+
+    ghost Value = { Cells };
+
+    ghost coded = { Prim.hlevel (codes, value.the_row.coded) };
+
+    ghost view = { λ dictionary. leaf_values dictionary.leaf };
+
+    ghost invariant = { λ dictionary. HoldLeaf dictionary.leaf };
+}
+
+impl DictionaryValues {
+    /// No values.
+    pub(crate) fn none() -> DictionaryValues
+        ensures { result ≡ [] }
+    {
+        DictionaryValues { leaf: None }
+    }
+
+    /// How many values there are.
+    #[inline(always)]
+    pub(crate) fn len(&self) -> usize
+        ensures { result ≡ length self.now }
+    {
+        match &self.leaf {
+            Some(leaf) => leaf.slots,
+            None => 0,
+        }
+    }
+
+    /// Value `i`, lent.
+    pub(crate) fn at(&self, i: usize) -> Cell<'_>
+        requires { i < length self.now }
+        ensures value { slice_get self.now i ≡ Some (cell_value result) }
+        ensures leaf { is_leaf result ≡ true }
+    {
+        match &self.leaf {
+            Some(leaf) => value_in(leaf, i),
+            None => Cell::Null,
+        }
+    }
+}
+
+// What a slot of a column holds.
+fn value_in(leaf: &Leaf, slot: usize) -> Cell<'_>
+    requires holds { IsLeaf leaf.now }
+    requires slot { slot < leaf.now.slots }
+    ensures value { cell_value result ≡ value_of (row none) (leaf_column leaf.now) slot }
+    ensures leaf { is_leaf result ≡ true }
+{
+    let body = leaf.body.as_slice();
+    if !is_valid_in(body, leaf.validity, slot) {
+        return Cell::Null;
+    }
+    leaf_cell(
+        leaf.layout,
+        bytes_at(body, leaf.offsets),
+        bytes_at(body, leaf.values),
+        leaf.slots,
+        slot,
+    )
+}
+
+/// The value with the index in a slot, or null where there is none.
+#[inline(always)]
+pub(crate) fn indexed_cell<'a>(
+    bits: IntBits,
+    signed: bool,
+    indices: &[u8],
+    slot: usize,
+    dictionary: &'a DictionaryValues,
+) -> Cell<'a>
+    requires { number_bytes bits * (slot + 1) ≤ length indices.now }
+    ensures value { cell_value result
+        ≡ value_at dictionary.now (number_in bits signed indices.now slot) }
+    ensures leaf { is_leaf result ≡ true }
+{
+    match index_in(bits, signed, indices, slot, dictionary.len()) {
+        Some(index) => dictionary.at(index),
+        None => Cell::Null,
+    }
+}
+
+// Whether values of this layout lie in one column.
+fn stands_alone(layout: Layout) -> bool
+    ensures { result ≡ stands_alone layout }
+{
+    match layout {
+        Layout::Null
+        | Layout::Bits
+        | Layout::Numbers { .. }
+        | Layout::FixedBytes(_)
+        | Layout::VariableBytes { .. } => true,
+        Layout::Lists | Layout::FixedLists(_) | Layout::Structs | Layout::Indices { .. } => false,
+    }
+}
+
+/// Whether there is one part, whose values lie in its column alone.
+pub(crate) fn are_alone(parts: &[ColumnRanges]) -> bool
+    ensures yes { IsTrue result → (body : List ℕ) → AreAlone (columns body parts.now) }
+    ensures no { (body : List ℕ) → AreAlone (columns body parts.now) → IsTrue result }
+{
+    if parts.len() != 1 {
+        return false;
+    }
+    stands_alone(parts[0].layout)
+}
+
+/// The values of the one column of parts that give so many rows. The body isn't copied; this is
+/// refused only where the count of those that share it is full.
+pub(crate) fn share_values(
+    body: &Rc<Vec<u8>>,
+    parts: &[ColumnRanges],
+    rows: usize,
+) -> Result<DictionaryValues, AllocError>
+    requires holds { Holds rows (columns body.now.value.items parts.now) }
+    requires alone { AreAlone (columns body.now.value.items parts.now) }
+    ensures { IfOk result (λ values. values
+        ≡ map first_of (rows_of (columns body.now.value.items parts.now) rows)) }
+{
+    let part = &parts[0];
+    let leaf = Leaf {
+        layout: part.layout,
+        slots: part.slots,
+        validity: part.validity,
+        offsets: part.offsets,
+        values: part.values,
+        body: body.clone()?,
+    };
+    Ok(DictionaryValues { leaf: Some(leaf) })
+}
