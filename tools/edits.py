@@ -1,7 +1,7 @@
 #!/usr/bin/env python3
 """Tries the edits that the prover has to refuse, those of different functions in one check.
 
-    tools/edits.py [--tree TREE] [--follow LOG] [NAME ..]
+    tools/edits.py [--anew] [--tree TREE] [--follow LOG] [NAME ..]
 
 The edits are crates/NAME/must-fail/*.edit, of all crates where no NAME is given. They are tried on
 the crates of TREE (this repository) over the libraries that `rt ci` or `rt check` left there; with
@@ -9,16 +9,21 @@ the crates of TREE (this repository) over the libraries that `rt ci` or `rt chec
 
 `rt must-fail` tries each edit in a check of its own, which costs 10 to 15 seconds to load whatever
 it turns. But a proof rests on what a function calls by contracts alone, so a function that is
-turned breaks its own proof and no other. Here a crate is proved as it stands, and then edits of
-different functions are made together in rounds. An edit is refused where the check complains of
-the function that it turns, by more than a name that is gone. One that isn't, as where the prover
-put a function off behind a callee that is turned too, comes again in the next round with fewer
-beside it, and at last alone, where any refusal of its crate counts, as in `rt must-fail`; one that
-no clause speaks of is told.
+turned breaks its own proof, and those of its callers only as far as they cite it. Here edits of
+functions with different names are made together in rounds. An edit is refused where the check
+complains of the function that it turns, by more than a name that is gone. The others, as those of
+the callers of what was refused, come again in the next round. What is left when a round refuses
+none is tried alone. One that no clause speaks of then has failed.
 
-A line tells each edit. The last line counts them: 'N passed, M failed'.
+Each check begins with the proofs that the built library of the crate carries, so only what an edit
+turns is proved again. An edit that was refused stays so while the toolchain, the crate, the
+libraries below it and the edit are the same: it is noted in a folder of the user's cache, and isn't
+tried again there unless --anew asks for it. A line tells each round and each edit. The last line
+counts the edits: 'N passed, M failed'.
 """
 import concurrent.futures
+import hashlib
+import json
 import os
 import re
 import shutil
@@ -33,10 +38,17 @@ TOP = os.path.dirname(os.path.dirname(os.path.realpath(__file__)))
 PARTS = ("src", "specs", "proofs")
 # A check that was not over after so many seconds never will be.
 LIMIT = 3600
+# Where it is noted what was refused: a file without text, whose name is the sum of what was tried.
+NOTED = os.path.join(
+    os.environ.get("XDG_CACHE_HOME") or os.path.expanduser("~/.cache"), "arrowstream-edits")
+# What the second line of a built library's head says of the build of the prover that made it.
+BUILD = re.compile(r"^rattle-build (\S+)$", re.M)
 FUNCTION = re.compile(r"^[ \t]*(?:pub(?:\([^)]*\))?[ ]+)?(?:const[ ]+)?fn[ ]+(\w+)", re.M)
 OPEN_GOAL = re.compile(r"^note: (src/\S+\.rt):(\d+):\d+: it is not proved")
 ANSWER = re.compile(r"^(?:\./)?proofs/(\S+)/\w+\.antt:\d+:\d+: error: (.*)")
 GONE = re.compile(r"has no field|is not in scope|has no `|was not admitted|was not checked")
+# What `rt ci` says of a crate that it has proved, in this run or in an earlier one.
+PROVED = re.compile(r"rt: (\w+) (?:proved$|is kept: )")
 UNREAD = re.compile(r"^(?:\./)?(?:src|specs)/\S+:\d+:\d+: error: ")
 
 
@@ -47,11 +59,10 @@ class Function(NamedTuple):
     name: str
     start: int
 
-    def folder_ends(self, folder):
-        """Whether a folder of proofs is the function's own."""
-        module = re.sub(r"^src/(lib$|main$)?|/mod$", "", self.file.removesuffix(".rt"))
-        inside = folder == self.name or folder.endswith("/" + self.name)
-        return inside and (folder + "/").startswith(module + "/" if module else "")
+    def has_proof_in(self, folder):
+        """Whether a folder of proofs is that of a function of this name: a method's stands at its
+        type, which another file may declare."""
+        return folder == self.name or folder.endswith("/" + self.name)
 
 
 class Edit(NamedTuple):
@@ -167,7 +178,7 @@ def complaints(said):
 
 def is_complained_of(function, texts, goals, folders):
     """Whether a check complains of a function that is turned in these texts."""
-    if any(function.folder_ends(it) for it in folders):
+    if any(function.has_proof_in(it) for it in folders):
         return True
     places = [0]
     for it in texts[function.file].splitlines(keepends=True):
@@ -203,12 +214,30 @@ class Seats:
             self.turn.notify_all()
 
 
+def link_tree(folder, to):
+    """Copies a folder of kept proofs by links: a check replaces such a file, and changes none."""
+    shutil.copytree(folder, to, copy_function=os.link)
+
+
 class Trial:
     """A crate whose edits are tried, in a folder that goes with it."""
 
     def __init__(self, crate, words, seats, room):
         self.crate, self.words, self.seats, self.room = crate, words, seats, room
         self.kept = f"{room}/kept"
+
+    def unpack(self):
+        """Has the kept proofs be those that the built library carries."""
+        rlib = f"{self.crate.folder}/out/rlib/{self.crate.name}.rlib"
+        build = BUILD.search(text_of(f"{rlib}/format"))[1].replace("/", "_")
+        os.makedirs(f"{self.kept}/{build}")
+        with open(f"{rlib}/toolchain/checked.a", "rb") as packed:
+            for line in text_of(f"{rlib}/toolchain/checked.json").splitlines():
+                name, start, size = json.loads(line)
+                if "/" not in name:
+                    packed.seek(start)
+                    with open(f"{self.kept}/{build}/{name}.oantt", "wb") as file:
+                        file.write(packed.read(size))
 
     def check(self, texts, kept):
         with tempfile.TemporaryDirectory(dir=self.room) as folder:
@@ -232,7 +261,7 @@ class Trial:
     def check_over_kept(self, texts):
         """A check over the crate as it stands, which stays as it is for the next one."""
         with tempfile.TemporaryDirectory(dir=self.room) as folder:
-            shutil.copytree(self.kept, f"{folder}/kept")
+            link_tree(self.kept, f"{folder}/kept")
             return self.check(texts, f"{folder}/kept")
 
     def try_alone(self, edit):
@@ -246,9 +275,8 @@ class Trial:
             return f"NOT REFUSED: {told}"
         if unread := [it for it in said.splitlines() if UNREAD.match(it)]:
             return f"BAD EDIT: {unread[0][:200]}"
-        if not any(complaints(said)):
-            print(f"edit {self.crate.name}/{edit.name}: refused, but by no clause: mend it")
-        return None
+        is_told = any(complaints(said))
+        return None if is_told else "REFUSED BY NO CLAUSE: change a value, keep the names"
 
     def try_round(self, edits):
         """Those of these edits that are refused beside one another, or beside which others."""
@@ -264,30 +292,51 @@ class Trial:
         """Edits of different functions that can be made together."""
         taken, chosen = set(), []
         for edit in edits:
-            names = {(it.file, it.name) for it in edit.functions}
+            names = {it.name for it in edit.functions}
             if not taken & names and replaced(self.crate.folder, [*chosen, edit]) is not None:
                 chosen.append(edit)
                 taken |= names
         return chosen
 
-    def run(self):
-        """Why each edit is not refused, or None, by its name."""
-        if "\nlogic=proved" not in self.check({}, self.kept):
-            return {it.name: "its crate is not proved here" for it in self.crate.edits}
-        why, left, tries = {}, list(self.crate.edits), dict.fromkeys(self.crate.edits, 0)
-        while left:
-            together = self.next_round([it for it in left if tries[it] < 2])
-            if len(together) < 2:
-                together = []
-            for edit in self.try_round(together) if together else []:
-                why[edit.name] = None
-            for edit in together:
-                tries[edit] += 1
-            left = [it for it in left if it.name not in why]
-            if not together:
-                why.update((it.name, self.try_alone(it)) for it in left)
-                left = []
-        return why
+    def run(self, edits):
+        """Why each of these edits is not refused, or None, by its name."""
+        if not edits:
+            return {}
+        self.unpack()
+        left, refused = list(edits), edits
+        while len(left) > 1 and refused:
+            together = self.next_round(left)
+            refused = self.try_round(together)
+            print(f"round of {self.crate.name}: {len(refused)} of {len(together)}", flush=True)
+            left = [it for it in left if it not in refused]
+        return {it.name: self.try_alone(it) if it in left else None for it in edits}
+
+
+class Notes:
+    """What was refused earlier, by the sum of all that the refusal rests on."""
+
+    def __init__(self, kit, tree, crate, is_anew):
+        folders = [f"{crate.folder}/{it}" for it in PARTS]
+        files = [f"{at}/{it}" for top in folders for at, _, names in os.walk(top) for it in names]
+        named = [crate.name, *below(libraries(tree), crate.name)]
+        heads = [f"{tree}/crates/{it}/out/rlib/{it}.rlib/format" for it in named]
+        of_crate = hashlib.sha256(text_of(f"{kit}/KIT-ID").encode())
+        for file in [*sorted(files), *(it for it in heads if os.path.isfile(it))]:
+            of_crate.update(repr((os.path.relpath(file, tree), text_of(file))).encode())
+        self.of_crate, self.is_anew = of_crate, is_anew
+
+    def place(self, edit):
+        of_edit = self.of_crate.copy()
+        of_edit.update(repr((edit.name, edit.pairs)).encode())
+        return f"{NOTED}/{of_edit.hexdigest()}"
+
+    def has(self, edit):
+        return not self.is_anew and os.path.isfile(self.place(edit))
+
+    def note(self, edit):
+        os.makedirs(NOTED, exist_ok=True)
+        with open(self.place(edit), "w", encoding="utf-8"):
+            pass
 
 
 def proved_in(log, wanted):
@@ -300,7 +349,7 @@ def proved_in(log, wanted):
             if not line.endswith("\n"):
                 time.sleep(0.5)
                 continue
-            if told := re.search(r"rt: (\w+) proved$", line.rstrip()):
+            if told := PROVED.search(line.rstrip()):
                 if told[1] in left:
                     left.remove(told[1])
                     yield told[1]
@@ -309,19 +358,26 @@ def proved_in(log, wanted):
             line = ""
 
 
-def try_crate(kit, tree, name, seats):
+def try_crate(kit, tree, name, seats, is_anew):
     started = time.monotonic()
+    crate = read_crate(tree, name)
+    notes = Notes(kit, tree, crate, is_anew)
+    left = [it for it in crate.edits if not notes.has(it)]
     with tempfile.TemporaryDirectory(prefix="edits-") as room:
-        trial = Trial(read_crate(tree, name), check_words(kit, tree, name), seats, room)
-        answers = trial.run()
-    for edit, why in answers.items():
-        print(f"edit {name}/{edit}: {why or 'refused'}", flush=True)
-    print(f"edits of {name}: {len(answers)}, {time.monotonic() - started:.0f} s", flush=True)
-    return answers
+        answers = Trial(crate, check_words(kit, tree, name), seats, room).run(left)
+    for edit in left:
+        if not answers[edit.name]:
+            notes.note(edit)
+        print(f"edit {name}/{edit.name}: {answers[edit.name] or 'refused'}", flush=True)
+    earlier = f", {len(crate.edits) - len(left)} of them earlier" * (left != [*crate.edits])
+    told = f"edits of {name}: {len(crate.edits)}{earlier}, {time.monotonic() - started:.0f} s"
+    print(told, flush=True)
+    return {it.name: answers.get(it.name) for it in crate.edits}
 
 
 def main(words):
-    tree, log = TOP, None
+    tree, log, is_anew = TOP, None, "--anew" in words
+    words = [it for it in words if it != "--anew"]
     while words and words[0] in ("--tree", "--follow"):
         tree, log = (words[1], log) if words[0] == "--tree" else (tree, words[1])
         words = words[2:]
@@ -334,7 +390,7 @@ def main(words):
     seats = Seats(number, 1 if log else number)
     with concurrent.futures.ThreadPoolExecutor(number) as pool:
         names = proved_in(log, wanted) if log else wanted
-        jobs = {it: pool.submit(try_crate, kit, tree, it, seats) for it in names}
+        jobs = {it: pool.submit(try_crate, kit, tree, it, seats, is_anew) for it in names}
         seats.most = number
     whys = [why for job in jobs.values() for why in job.result().values()]
     failed = sum(why is not None for why in whys) + len(set(wanted) - set(jobs))
