@@ -11,12 +11,15 @@ the crates of TREE (this repository) over the libraries that `rt ci` or `rt chec
 it turns. But a proof rests on what a function calls by contracts alone, so a function that is
 turned breaks its own proof, and those of its callers only as far as they cite it. Here edits of
 functions with different names are made together in rounds. An edit is refused where the check
-complains of the function that it turns, by more than a name that is gone. The others, as those of
-the callers of what was refused, come again in the next round. What is left when a round refuses
-none is tried alone. One that no clause speaks of then has failed.
+complains of the function that it turns, by more than a name that is gone. Functions that call one
+another have one proof, so a round turns one of them. The others, as those of the callers of what
+was refused, come again in the next round. What is left when a round refuses none is tried alone.
+One that no clause speaks of then has failed.
 
-Each check begins with the proofs that the built library of the crate carries, so only what an edit
-turns is proved again. An edit that was refused stays so while the toolchain, the crate, the
+Each check begins with the proofs that the built library of the crate carries, and is asked for the
+functions that are turned alone: so what calls them isn't proved again, which would cost more than
+all else. Only an edit of no function, as of a constant, and one of functions that are still proved,
+is tried on the whole crate. An edit that was refused stays so while the toolchain, the crate, the
 libraries below it and the edit are the same: it is noted in a folder of the user's cache, and isn't
 tried again there unless --anew asks for it. A line tells each round and each edit. The last line
 counts the edits: 'N passed, M failed'.
@@ -43,26 +46,45 @@ NOTED = os.path.join(
     os.environ.get("XDG_CACHE_HOME") or os.path.expanduser("~/.cache"), "arrowstream-edits")
 # What the second line of a built library's head says of the build of the prover that made it.
 BUILD = re.compile(r"^rattle-build (\S+)$", re.M)
+CYCLE = re.compile(r"^[ \t]*#\[cycle\((\w+)\)\]", re.M)
 FUNCTION = re.compile(r"^[ \t]*(?:pub(?:\([^)]*\))?[ ]+)?(?:const[ ]+)?fn[ ]+(\w+)", re.M)
 OPEN_GOAL = re.compile(r"^note: (src/\S+\.rt):(\d+):\d+: it is not proved")
 ANSWER = re.compile(r"^(?:\./)?proofs/(\S+)/\w+\.antt:\d+:\d+: error: (.*)")
 GONE = re.compile(r"has no field|is not in scope|has no `|was not admitted|was not checked")
+# How the built library names the proofs of a function.
+LINK = re.compile(r"^Rattle-\w+-proofs\.(.+)\.TheLink$")
+# How a check of some functions ends.
+ONLY = re.compile(r"^only=(\d+) proved=(\d+)")
 # What `rt ci` says of a crate that it has proved, in this run or in an earlier one.
 PROVED = re.compile(r"rt: (\w+) (?:proved$|is kept: )")
 UNREAD = re.compile(r"^(?:\./)?(?:src|specs)/\S+:\d+:\d+: error: ")
 
 
 class Function(NamedTuple):
-    """A function by its file, its name, and where its head stands in the file."""
+    """A function by its file, its name, where its head stands in the file, and the name of the
+    cycle of calls that it is in, or none."""
 
     file: str
     name: str
     start: int
+    cycle: str
+
+    def proof(self):
+        """The name of its proof, which the functions of a cycle share."""
+        return "+" + self.cycle if self.cycle else self.name
 
     def has_proof_in(self, folder):
         """Whether a folder of proofs is that of a function of this name: a method's stands at its
         type, which another file may declare."""
-        return folder == self.name or folder.endswith("/" + self.name)
+        return folder.rpartition("/")[2] in (self.name, self.proof())
+
+    def paths(self, known):
+        """Its paths among those of a crate's functions: those in its module, where there are some,
+        else all with its name, as a method's type may stand in another file."""
+        module = self.file.removeprefix("src/").removesuffix(".rt").split("/")
+        module = [] if module == ["lib"] or module == ["main"] else module
+        named = [it for it in known if it[-1] == self.name]
+        return [it for it in named if it[: len(module)] == module] or named
 
 
 class Edit(NamedTuple):
@@ -93,17 +115,27 @@ def pairs_of(text):
             yield path, old, line.removeprefix("new:").removeprefix(" ")
 
 
+def functions_in(file, text):
+    """Its functions: the attributes of each stand behind the end of the item above it."""
+    end, found = 0, []
+    for head in FUNCTION.finditer(text):
+        above = re.split(r"^[ \t]*}$|;$", text[end : head.start()], flags=re.M)[-1]
+        cycle = CYCLE.search(above)
+        found.append(Function(file, head[1], head.start(), cycle[1] if cycle else ""))
+        end = head.end()
+    return found
+
+
 def function_at(file, text, place):
-    heads = [it for it in FUNCTION.finditer(text) if it.start() <= place]
-    return Function(file, heads[-1][1], heads[-1].start()) if heads else Function(file, "", 0)
+    heads = [it for it in functions_in(file, text) if it.start <= place]
+    return heads[-1] if heads else Function(file, "", 0, "")
 
 
 def holder(file, text, place):
     """The function of a line, which may be one of the attributes above its head."""
-    heads = (it for it in FUNCTION.finditer(text) if it.start() >= place)
-    follows = next(heads, None)
-    if follows and "}" not in text[place:follows.start()]:
-        return Function(file, follows[1], follows.start())
+    follows = next((it for it in functions_in(file, text) if it.start >= place), None)
+    if follows and "}" not in text[place : follows.start]:
+        return follows
     return function_at(file, text, place)
 
 
@@ -119,10 +151,13 @@ def replaced(folder, edits):
 
 
 def read_edit(folder, path):
+    """An edit from its file. A line of a comment, in whose place it may put a function of its own,
+    is no code that it turns."""
     pairs, functions = tuple(pairs_of(text_of(path))), set()
     for file, old, _ in pairs:
-        text = text_of(f"{folder}/{file}")
-        functions.add(function_at(file, text, text.find(old) + len(old)))
+        if not old.lstrip().startswith("//"):
+            text = text_of(f"{folder}/{file}")
+            functions.add(function_at(file, text, text.find(old) + len(old)))
     return Edit(os.path.basename(path).removesuffix(".edit"), pairs, frozenset(functions))
 
 
@@ -161,8 +196,23 @@ def check_words(kit, tree, name):
     return [*words, "--logic-built", f"{kit}/logic_built", "--links", f"{name}="]
 
 
+def said_by(words, folder):
+    """What a command says that runs in a folder, and how many processor seconds it took."""
+    how = {"stdin": subprocess.DEVNULL, "stdout": subprocess.PIPE, "stderr": subprocess.STDOUT}
+    ran = subprocess.Popen(words, cwd=folder, text=True, errors="replace", **how)
+    limit = threading.Timer(LIMIT, ran.kill)
+    limit.start()
+    said = ran.stdout.read()
+    _, status, usage = os.wait4(ran.pid, 0)
+    limit.cancel()
+    ran.returncode = os.waitstatus_to_exitcode(status)
+    return said, usage.ru_utime + usage.ru_stime
+
+
 def ends_refused(said):
-    return said.rstrip("\n").rpartition("\n")[2].startswith("logic=not-proved")
+    last = said.rstrip("\n").rpartition("\n")[2]
+    only = ONLY.match(last)
+    return int(only[2]) < int(only[1]) if only else last.startswith("logic=not-proved")
 
 
 def complaints(said):
@@ -183,11 +233,9 @@ def is_complained_of(function, texts, goals, folders):
     places = [0]
     for it in texts[function.file].splitlines(keepends=True):
         places.append(places[-1] + len(it))
-    heads = [it for it in FUNCTION.finditer(texts[function.file]) if it[1] == function.name]
-    starts = [it.start() for it in heads]
     for file, line in goals:
         if file == function.file and line < len(places):
-            if holder(file, texts[file], places[line - 1]).start in starts:
+            if holder(file, texts[file], places[line - 1]).proof() == function.proof():
                 return True
     return False
 
@@ -224,7 +272,7 @@ class Trial:
 
     def __init__(self, crate, words, seats, room):
         self.crate, self.words, self.seats, self.room = crate, words, seats, room
-        self.kept = f"{room}/kept"
+        self.kept, self.paths, self.spent = f"{room}/kept", [], 0
 
     def unpack(self):
         """Has the kept proofs be those that the built library carries."""
@@ -234,12 +282,21 @@ class Trial:
         with open(f"{rlib}/toolchain/checked.a", "rb") as packed:
             for line in text_of(f"{rlib}/toolchain/checked.json").splitlines():
                 name, start, size = json.loads(line)
+                if link := LINK.match(name):
+                    self.paths.append(link[1].split("."))
                 if "/" not in name:
                     packed.seek(start)
                     with open(f"{self.kept}/{build}/{name}.oantt", "wb") as file:
                         file.write(packed.read(size))
 
-    def check(self, texts, kept):
+    def only_words(self, edits):
+        """The words by which a check proves the functions alone that these edits turn, or none
+        where one of them turns what is no function."""
+        found = [it.paths(self.paths) for edit in edits for it in edit.functions]
+        names = sorted({"::".join(it) for paths in found for it in paths})
+        return [it for name in names for it in ("--only", name)] if all(found) else []
+
+    def check(self, texts, kept, only):
         with tempfile.TemporaryDirectory(dir=self.room) as folder:
             for part in PARTS:
                 if os.path.isdir(f"{self.crate.folder}/{part}"):
@@ -249,27 +306,27 @@ class Trial:
                     file.write(text)
             seats = self.seats.take()
             try:
-                words = [*self.words, "--jobs", str(seats), "--incremental", kept]
-                how = {"stdout": subprocess.PIPE, "stderr": subprocess.STDOUT, "timeout": LIMIT}
-                done = subprocess.run(
-                    ["nice", *words], cwd=folder, stdin=subprocess.DEVNULL, text=True, check=False,
-                    errors="replace", **how)
+                words = [*self.words, *only, "--jobs", str(seats), "--incremental", kept]
+                said, spent = said_by(["nice", *words], folder)
             finally:
                 self.seats.give(seats)
-            return done.stdout
+            self.spent += spent
+            return said
 
-    def check_over_kept(self, texts):
+    def check_over_kept(self, texts, only):
         """A check over the crate as it stands, which stays as it is for the next one."""
         with tempfile.TemporaryDirectory(dir=self.room) as folder:
             link_tree(self.kept, f"{folder}/kept")
-            return self.check(texts, f"{folder}/kept")
+            return self.check(texts, f"{folder}/kept", only)
 
     def try_alone(self, edit):
         """Why an edit alone is not refused, or None."""
         texts = replaced(self.crate.folder, [edit])
         if not texts:
             return "BAD EDIT: a text of it does not stand just once in its file"
-        said = self.check_over_kept(texts)
+        said = self.check_over_kept(texts, self.only_words([edit]))
+        if not ends_refused(said) or not any(complaints(said)):
+            said = self.check_over_kept(texts, [])
         if not ends_refused(said):
             told = "the crate is still proved" if "\nlogic=proved" in said else said[-600:]
             return f"NOT REFUSED: {told}"
@@ -281,10 +338,12 @@ class Trial:
     def try_round(self, edits):
         """Those of these edits that are refused beside one another, or beside which others."""
         texts = replaced(self.crate.folder, edits)
-        said = self.check_over_kept(texts)
+        said = self.check_over_kept(texts, self.only_words(edits))
         if not ends_refused(said) or any(UNREAD.match(it) for it in said.splitlines()):
             return []
         found = complaints(said)
+        if len(edits) == 1:
+            return edits if any(found) else []
         refused = lambda it: any(is_complained_of(at, texts, *found) for at in it.functions)
         return [it for it in edits if refused(it)]
 
@@ -292,22 +351,26 @@ class Trial:
         """Edits of different functions that can be made together."""
         taken, chosen = set(), []
         for edit in edits:
-            names = {it.name for it in edit.functions}
+            names = {it.proof() for it in edit.functions}
             if not taken & names and replaced(self.crate.folder, [*chosen, edit]) is not None:
                 chosen.append(edit)
                 taken |= names
         return chosen
 
-    def run(self, edits):
-        """Why each of these edits is not refused, or None, by its name."""
+    def run(self, edits, note):
+        """Why each of these edits is not refused, or None, by its name. What a round refuses is
+        noted at once, so that a run that is broken off isn't lost."""
         if not edits:
             return {}
         self.unpack()
         left, refused = list(edits), edits
         while len(left) > 1 and refused:
-            together = self.next_round(left)
+            together, before = self.next_round(left), self.spent
             refused = self.try_round(together)
-            print(f"round of {self.crate.name}: {len(refused)} of {len(together)}", flush=True)
+            told = f"round of {self.crate.name}: {len(refused)} of {len(together)}"
+            print(f"{told}, {self.spent - before:.0f} s of a processor", flush=True)
+            for edit in refused:
+                note(edit)
             left = [it for it in left if it not in refused]
         return {it.name: self.try_alone(it) if it in left else None for it in edits}
 
@@ -364,14 +427,15 @@ def try_crate(kit, tree, name, seats, is_anew):
     notes = Notes(kit, tree, crate, is_anew)
     left = [it for it in crate.edits if not notes.has(it)]
     with tempfile.TemporaryDirectory(prefix="edits-") as room:
-        answers = Trial(crate, check_words(kit, tree, name), seats, room).run(left)
+        trial = Trial(crate, check_words(kit, tree, name), seats, room)
+        answers = trial.run(left, notes.note)
     for edit in left:
         if not answers[edit.name]:
             notes.note(edit)
         print(f"edit {name}/{edit.name}: {answers[edit.name] or 'refused'}", flush=True)
     earlier = f", {len(crate.edits) - len(left)} of them earlier" * (left != [*crate.edits])
     told = f"edits of {name}: {len(crate.edits)}{earlier}, {time.monotonic() - started:.0f} s"
-    print(told, flush=True)
+    print(f"{told}, {trial.spent:.0f} s of a processor", flush=True)
     return {it.name: answers.get(it.name) for it in crate.edits}
 
 
@@ -379,7 +443,7 @@ def main(words):
     tree, log, is_anew = TOP, None, "--anew" in words
     words = [it for it in words if it != "--anew"]
     while words and words[0] in ("--tree", "--follow"):
-        tree, log = (words[1], log) if words[0] == "--tree" else (tree, words[1])
+        tree, log = (os.path.abspath(words[1]), log) if words[0] == "--tree" else (tree, words[1])
         words = words[2:]
     first_page = subprocess.run(["rt", "doc"], capture_output=True, text=True, check=True).stdout
     kit = os.path.dirname(first_page.strip())

@@ -7,20 +7,24 @@ use ipc_model::{BatchRows, Field, Row, Schema, Table};
 use ipc_stream::{End, RoundTripFault};
 use std::fmt;
 
-// A field and those below it, each behind two blanks more than its parent.
-#[cycle(write_field)]
-fn write_field<W: fmt::Write>(
-    field: &Field,
-    depth: usize,
-    f: &mut fmt::Formatter<W>,
-) -> fmt::Result {
+// Two blanks for each level.
+fn write_margin<W: fmt::Write>(f: &mut fmt::Formatter<W>, depth: usize) -> fmt::Result {
     for _ in 0..depth {
         f.write_str("  ")?;
     }
+    Ok(())
+}
+
+// The name of a field and its type.
+fn write_front<W: fmt::Write>(f: &mut fmt::Formatter<W>, field: &Field) -> fmt::Result {
     f.write_str("field ")?;
     write_text(f, field.name.as_str())?;
     f.write_str(" ")?;
-    write_type(f, &field.kind)?;
+    write_type(f, &field.kind)
+}
+
+// What else a field has, and the end of its line.
+fn write_rest<W: fmt::Write>(f: &mut fmt::Formatter<W>, field: &Field) -> fmt::Result {
     if field.nullable {
         f.write_str(" nullable")?;
     }
@@ -28,7 +32,19 @@ fn write_field<W: fmt::Write>(
         write_dictionary(f, dictionary)?;
     }
     write_pairs(f, field.metadata.as_slice())?;
-    f.write_str("\n")?;
+    f.write_str("\n")
+}
+
+// A field and those below it, each behind two blanks more than its parent.
+#[cycle(write_field)]
+fn write_field<W: fmt::Write>(
+    field: &Field,
+    depth: usize,
+    f: &mut fmt::Formatter<W>,
+) -> fmt::Result {
+    write_margin(f, depth)?;
+    write_front(f, field)?;
+    write_rest(f, field)?;
     write_fields(field.children.as_slice(), depth.saturating_add(1), f)
 }
 

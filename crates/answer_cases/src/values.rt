@@ -106,22 +106,19 @@ pub fn write_value<W: fmt::Write>(value: &Value, f: &mut fmt::Formatter<W>) -> f
         Value::UInt(number) => write!(f, "{number}"),
         Value::Bytes(bytes) => write_bytes(f, bytes.as_slice()),
         Value::Text(text) => write_text(f, text.as_str()),
-        Value::List(values) => {
-            f.write_str("[")?;
-            write_values(values, f)?;
-            f.write_str("]")
-        }
-        Value::Struct(values) => {
-            f.write_str("{")?;
-            write_values(values, f)?;
-            f.write_str("}")
-        }
+        Value::List(values) => write_values(values, ("[", "]"), f),
+        Value::Struct(values) => write_values(values, ("{", "}"), f),
     }
 }
 
-// The values with a blank between two.
+// The values between two brackets, with a blank between two of them.
 #[cycle(write_value)]
-fn write_values<W: fmt::Write>(values: &Items<Value>, f: &mut fmt::Formatter<W>) -> fmt::Result {
+fn write_values<W: fmt::Write>(
+    values: &Items<Value>,
+    (first, last): (&str, &str),
+    f: &mut fmt::Formatter<W>,
+) -> fmt::Result {
+    f.write_str(first)?;
     let mut is_first = true;
     for value in values.as_slice() {
         if !is_first {
@@ -130,5 +127,5 @@ fn write_values<W: fmt::Write>(values: &Items<Value>, f: &mut fmt::Formatter<W>)
         is_first = false;
         write_value(value, f)?;
     }
-    Ok(())
+    f.write_str(last)
 }

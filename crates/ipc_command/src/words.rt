@@ -111,109 +111,135 @@ Examples:
   arrowstream from-csv --schema trades.json < trades.csv > trades.arrows
   arrowstream from-csv --schema trades.json --batch 1000 < trades.csv > trades.arrows";
 
-// An option of this name with a value, which it has where it isn't given.
-fn option<'a>(alloc: Global, name: &'a str, usual: &'a str) -> Arg<'a> {
+// An option of this name with a value, for which its help shows this word.
+fn option<'a>(alloc: Global, name: &'a str, value: &'a str) -> Arg<'a> {
     let option = Arg::new(alloc, name).long(name);
-    option.value_name("N").default_value(usual)
+    option.value_name(value).action(ArgAction::Set)
 }
 
-// An option with a number up to a greatest one.
-fn limit<'a>(
+// An option with a number from a least one up to a greatest one, and the one that it has where it
+// isn't given.
+fn number<'a>(
     alloc: Global,
     name: &'a str,
+    least: u64,
     greatest: u64,
     usual: &'a str,
     help: &'a str,
 ) -> Arg<'a> {
-    let number = option(alloc, name, usual).action(ArgAction::Set);
-    let parser = ValueParser::unsigned(0, greatest);
+    let number = option(alloc, name, "N").default_value(usual);
+    let parser = ValueParser::unsigned(least, greatest);
     number.value_parser(parser).help(help)
 }
 
 // The options that say how much a stream may hold.
 fn with_limits<'a>(alloc: Global, command: Command<'a>) -> Result<Command<'a>, AllocError> {
     command
-        .arg(limit(
+        .arg(number(
             alloc,
             "max-metadata",
+            0,
             1 << 28,
             "16777216",
             "The most bytes of a message's metadata",
         ))?
-        .arg(limit(
+        .arg(number(
             alloc,
             "max-body",
+            0,
             1 << 42,
             "1099511627776",
             "The most bytes of a message's body",
         ))?
-        .arg(limit(
+        .arg(number(
             alloc,
             "max-rows",
+            0,
             0x7fff_ffff,
             "2147483647",
             "The most rows of a batch",
         ))
 }
 
-// The subcommand that writes a stream of CSV.
-fn from_csv<'a>(alloc: Global) -> Result<Command<'a>, AllocError> {
-    Command::new(alloc, "from-csv")
-        .about("Writes records of CSV as an Arrow IPC stream")
-        .after_help(FROM_CSV_EXAMPLES)
-        .arg(
-            Arg::new(alloc, "schema")
-                .long("schema")
-                .value_name("PATH")
-                .action(ArgAction::Set)
-                .required(true)
-                .help("A file with the schema as JSON"),
-        )?
-        .arg(
-            Arg::new(alloc, "batch")
-                .long("batch")
-                .value_name("N")
-                .action(ArgAction::Set)
-                .default_value("65536")
-                .value_parser(ValueParser::unsigned(1, 0x7fff_ffff))
-                .help("The rows of a batch; the last may have fewer"),
-        )
+// A subcommand with this help and no options.
+fn described<'a>(alloc: Global, name: &'a str, about: &'a str, examples: &'a str) -> Command<'a> {
+    let job = Command::new(alloc, name);
+    job.about(about).after_help(examples)
+}
+
+// A subcommand that reads a stream to its end.
+fn check<'a>(alloc: Global) -> Result<Command<'a>, AllocError> {
+    let about = "Reads an Arrow IPC stream to its end, and tells its schema and counts";
+    with_limits(alloc, described(alloc, "check", about, CHECK_EXAMPLES))
+}
+
+// The option that has each batch's pairs printed.
+fn pairs<'a>(alloc: Global) -> Arg<'a> {
+    let help = "Print a line with its pairs of key and value in front of each batch's rows";
+    let pairs = Arg::new(alloc, "pairs").long("pairs");
+    pairs.action(ArgAction::SetTrue).help(help)
 }
 
 // The subcommand that prints rows.
 fn show<'a>(alloc: Global) -> Result<Command<'a>, AllocError> {
-    let pairs = Arg::new(alloc, "pairs")
-        .long("pairs")
-        .action(ArgAction::SetTrue)
-        .help("Print a line with its pairs of key and value in front of each batch's rows");
-    let command = Command::new(alloc, "show")
-        .about("Prints each row of an Arrow IPC stream as a JSON array on a line of its own")
-        .after_help(SHOW_EXAMPLES)
-        .arg(pairs)?;
-    with_limits(alloc, command)
+    let about = "Prints each row of an Arrow IPC stream as a JSON array on a line of its own";
+    let show = described(alloc, "show", about, SHOW_EXAMPLES);
+    with_limits(alloc, show.arg(pairs(alloc))?)
 }
 
-// The program's words.
+// The subcommand that prints a stream as CSV.
+fn to_csv<'a>(alloc: Global) -> Result<Command<'a>, AllocError> {
+    let about = "Prints an Arrow IPC stream as CSV, a header first";
+    with_limits(alloc, described(alloc, "to-csv", about, TO_CSV_EXAMPLES))
+}
+
+// The option that names the file with the schema.
+fn schema<'a>(alloc: Global) -> Arg<'a> {
+    let schema = option(alloc, "schema", "PATH").required(true);
+    schema.help("A file with the schema as JSON")
+}
+
+// The option that says how many rows a batch has.
+fn batch<'a>(alloc: Global) -> Arg<'a> {
+    let help = "The rows of a batch; the last may have fewer";
+    number(alloc, "batch", 1, 0x7fff_ffff, "65536", help)
+}
+
+// The subcommand that writes a stream of CSV.
+fn from_csv<'a>(alloc: Global) -> Result<Command<'a>, AllocError> {
+    let about = "Writes records of CSV as an Arrow IPC stream";
+    let from_csv = described(alloc, "from-csv", about, FROM_CSV_EXAMPLES);
+    from_csv.arg(schema(alloc))?.arg(batch(alloc))
+}
+
+// The subcommand that writes a stream anew.
+fn rewrite<'a>(alloc: Global) -> Result<Command<'a>, AllocError> {
+    let about = "Writes an Arrow IPC stream anew, batch by batch";
+    with_limits(alloc, described(alloc, "rewrite", about, REWRITE_EXAMPLES))
+}
+
+// The program's words without its subcommands.
+fn program<'a>(alloc: Global) -> Command<'a> {
+    let about = "Reads and writes Apache Arrow IPC streams";
+    let program = described(alloc, "arrowstream", about, EXAMPLES);
+    program.version("0.1.0").subcommand_required(true)
+}
+
+// A command with one more subcommand, where both found memory.
+fn with_subcommand<'a>(
+    command: Command<'a>,
+    subcommand: Result<Command<'a>, AllocError>,
+) -> Result<Command<'a>, AllocError> {
+    command.subcommand(subcommand?)
+}
+
+// The program's words. Its help tells the subcommands in the order in which they are added.
 fn command<'a>(alloc: Global) -> Result<Command<'a>, AllocError> {
-    let check = Command::new(alloc, "check")
-        .about("Reads an Arrow IPC stream to its end, and tells its schema and counts")
-        .after_help(CHECK_EXAMPLES);
-    let to_csv = Command::new(alloc, "to-csv")
-        .about("Prints an Arrow IPC stream as CSV, a header first")
-        .after_help(TO_CSV_EXAMPLES);
-    let rewrite = Command::new(alloc, "rewrite")
-        .about("Writes an Arrow IPC stream anew, batch by batch")
-        .after_help(REWRITE_EXAMPLES);
-    Command::new(alloc, "arrowstream")
-        .about("Reads and writes Apache Arrow IPC streams")
-        .version("0.1.0")
-        .after_help(EXAMPLES)
-        .subcommand_required(true)
-        .subcommand(with_limits(alloc, check)?)?
-        .subcommand(show(alloc)?)?
-        .subcommand(with_limits(alloc, to_csv)?)?
-        .subcommand(from_csv(alloc)?)?
-        .subcommand(with_limits(alloc, rewrite)?)
+    let command = with_subcommand(program(alloc), check(alloc))?;
+    let command = with_subcommand(command, show(alloc))?;
+    let command = with_subcommand(command, to_csv(alloc))?;
+    let command = with_subcommand(command, from_csv(alloc))?;
+    with_subcommand(command, rewrite(alloc))
 }
 
 // What a refused command line is told.
@@ -225,6 +251,14 @@ fn usage_of(alloc: Global, error: &Error) -> Usage {
         ErrorKind::DisplayHelp | ErrorKind::DisplayVersion => Usage::Help(text),
         ErrorKind::OutOfMemory => Usage::OutOfMemory,
         _ => Usage::Wrong(text),
+    }
+}
+
+// A command line that is none of the program's, and why.
+fn wrong(alloc: Global, why: &str) -> Usage {
+    match String::from_str(alloc, why) {
+        Ok(text) => Usage::Wrong(text),
+        Err(_) => Usage::OutOfMemory,
     }
 }
 
@@ -255,10 +289,7 @@ fn read_limits(alloc: Global, words: &ArgMatches<'_>) -> Result<Limits, Usage>
     );
     match limits {
         Some(limits) => Ok(limits),
-        None => Err(Usage::Wrong(String::from_str(
-            alloc,
-            "error: a limit is above its greatest value\n",
-        )?)),
+        None => Err(wrong(alloc, "error: a limit is above its greatest value\n")),
     }
 }
 
@@ -272,10 +303,36 @@ fn read_from_csv(alloc: Global, words: &ArgMatches<'_>) -> Result<Job, Usage>
             schema: String::from_str(alloc, path)?,
             batch,
         }),
-        _ => Err(Usage::Wrong(String::from_str(
-            alloc,
-            "error: no schema, or a batch of no size\n",
-        )?)),
+        _ => Err(wrong(alloc, "error: no schema, or a batch of no size\n")),
+    }
+}
+
+// The job of a subcommand that is given these options.
+fn read_job(alloc: Global, name: &str, options: &ArgMatches<'_>) -> Result<Job, Usage>
+    ensures asked { IfOk result IsAsked }
+    ensures size { IfOk result HasGoodSize }
+{
+    match name {
+        "check" => Ok(Job::Check(read_limits(alloc, options)?)),
+        "show" => Ok(Job::Show {
+            limits: read_limits(alloc, options)?,
+            pairs: options.get_flag("pairs"),
+        }),
+        "to-csv" => Ok(Job::ToCsv(read_limits(alloc, options)?)),
+        "from-csv" => read_from_csv(alloc, options),
+        "rewrite" => Ok(Job::Rewrite(read_limits(alloc, options)?)),
+        _ => Err(wrong(alloc, "error: no subcommand\n")),
+    }
+}
+
+// The job of the subcommand that was asked for.
+fn job_of(alloc: Global, words: &ArgMatches<'_>) -> Result<Job, Usage>
+    ensures asked { IfOk result IsAsked }
+    ensures size { IfOk result HasGoodSize }
+{
+    match words.subcommand() {
+        Some((name, options)) => read_job(alloc, name, options),
+        None => Err(wrong(alloc, "error: no subcommand\n")),
     }
 }
 
@@ -285,20 +342,9 @@ fn read<'a>(alloc: Global, words: &'a [String]) -> Result<Job, Usage>
     ensures size { IfOk result HasGoodSize }
 {
     let command: Command<'a> = command(alloc)?;
-    let matches = match command.try_get_matches_from(words) {
-        Ok(matches) => matches,
-        Err(error) => return Err(usage_of(alloc, &error)),
-    };
-    match matches.subcommand() {
-        Some(("check", options)) => Ok(Job::Check(read_limits(alloc, options)?)),
-        Some(("show", options)) => Ok(Job::Show {
-            limits: read_limits(alloc, options)?,
-            pairs: options.get_flag("pairs"),
-        }),
-        Some(("to-csv", options)) => Ok(Job::ToCsv(read_limits(alloc, options)?)),
-        Some(("from-csv", options)) => read_from_csv(alloc, options),
-        Some(("rewrite", options)) => Ok(Job::Rewrite(read_limits(alloc, options)?)),
-        _ => Err(Usage::Wrong(String::from_str(alloc, "error: no subcommand\n")?)),
+    match command.try_get_matches_from(words) {
+        Ok(matches) => job_of(alloc, &matches),
+        Err(error) => Err(usage_of(alloc, &error)),
     }
 }
 

@@ -1,98 +1,98 @@
 -- What a call of a reader answers where a message, or an end, is at the front of what its source gives.
-use Rattle.std.proofs.Common.{◌≡◌, ◌∙◌, refl, sym, ap, subst, ℕ, inl, inr, List, [], ◌∷◌, ◌++◌, Option, Some, None, Result, Ok, Err}
+use Rattle.std.proofs.Common.{◌≡◌, ◌∙◌, refl, sym, ap, subst, ℕ, ◌⊎◌, inl, inr, List, [], ◌∷◌, ◌++◌, Option, Some, None, Result, Ok, Err}
+use Rattle.std.proofs.Common.{append_assoc, arith, length, length-append}
 use Rattle.std.specs.Prelude.{IfErr, IfOk, MatchResult, true}
 use Rattle.std.specs.Io.KnownBytes.{Consumes}
-use Rattle.std.proofs.lemmas.List.{append-nil}
 use Rattle.ipc_model.specs.declared.fault.Fault.{Fault}
 use Rattle.ipc_model.specs.declared.schema.Schema.{Schema}
 use Rattle.ipc_model.specs.declared.table.BatchRows.{BatchRows}
 use Rattle.ipc_meta.specs.declared.head.Head.{Head}
-use Rattle.ipc_meta.specs.Supported.{IsSupported, are_supported}
-use Rattle.ipc_frame.specs.Frames.{eos, Frame}
+use Rattle.ipc_meta.specs.Supported.{are_supported}
+use Rattle.ipc_frame.specs.Frames.{eos}
 use Rattle.ipc_frame.proofs.OneFrame.{frame_one}
 use Rattle.ipc_decode.specs.Found.{Found, rows_of}
 use Rattle.ipc_decode.specs.declared.end.End.{End}
 use Rattle.ipc_decode.specs.declared.end.End.TheVariants.{Mark, Closed}
 use Rattle.ipc_decode.specs.declared.phase.Phase.{Phase}
 use Rattle.ipc_decode.specs.declared.phase.Phase.TheVariants as phase
-use Rattle.ipc_decode.specs.Reader.{BeginsEnd, GivesBatch, NextAnswer, NextCall, Opens, OpenFails, Reader, in_force_of}
+use Rattle.ipc_decode.specs.Decoding.{TellsLast}
+use Rattle.ipc_decode.specs.Reader.{BeginsEnd, EndsBehind, GivesBatch, NextAnswer, NextCall, Opens, OpenFails, Reader, in_force_of}
 use Rattle.ipc_decode.specs.Reasons.{Ends, IsOutside, Reads}
-use Rattle.ipc_decode.specs.Stream.{Event, InForce, Run, State, Step, batch, came, done, first, more, schema, AddsBatch, OpensStream}
+use Rattle.ipc_decode.specs.Stream.{Event, Run, State, Step, batch, came, done, first, more, schema, sets, OpensStream, TellsBatch}
 use Rattle.ipc_decode.proofs.OneReading.{IsStop, frame_stop, step_one}
-use Rattle.ipc_decode.proofs.Reasons.{message_breaks, step_read, stop_breaks}
+use Rattle.ipc_decode.proofs.Reasons.{both_none, stop_breaks, told_breaks}
+use Rattle.ipc_decode.proofs.Runs.{told_run}
 use Rattle.ipc_model.specs.declared.limits.Limits.{Limits}
 
--- ---- runs of one event, and of none
+-- ---- the first event of a run
 
-step_event : {limits : Limits} → {σ τ : State} {g : Head} {body : List ℕ} {es : List Event} → Step limits σ g body es τ → (d : Event)
-    × (es ≡ d ∷ [])
-step_event (first {s = s}) = (schema s, refl)
-step_event (came {pairs = pairs} {rows = rows} r) = (batch (record { pairs = pairs; rows = rows }), refl)
+step_event : {limits : Limits} → {σ τ : State} {g : Head} {body : List ℕ} {es : List Event} → Step limits σ g body es τ
+    → (es ≡ []) ⊎ ((d : Event) × (es ≡ d ∷ []))
+step_event (first {s = s}) = inr (schema s, refl)
+step_event (came {pairs = pairs} {rows = rows} r) = inr (batch (record { pairs = pairs; rows = rows }), refl)
+step_event (sets found r) = inl refl
 
--- messages that tell nothing are none, and change nothing
-pub run_none : {limits : Limits} → {σ τ : State} {x : List ℕ} {es : List Event} → Run limits σ x es τ → es ≡ [] → (x ≡ []) × (σ ≡ τ)
-run_none done is = (refl, refl)
-run_none (more {fs = fs} frame step rest) is =
-    let one = step_event step in
-    let some : one.0 ∷ fs ≡ [] = sym (ap (λ es. es ++ fs) one.1) ∙ is in absurd (cc)
+-- two runs over the same bytes tell one first event
+pub first_same : {limits : Limits} → {σ τ υ : State} {x y : List ℕ} {es fs : List Event} (u v : List ℕ) (d e : Event)
+    (ds gs : List Event) → Run limits σ x es τ → Run limits σ y fs υ → es ≡ d ∷ ds → fs ≡ e ∷ gs → x ++ u ≡ y ++ v → d ≡ e
+first_same u v d e ds gs done q p r joined = absurd (cc)
+first_same u v d e ds gs (more frame step rest) done p r joined = absurd (cc)
+first_same {limits} u v d e ds gs
+    (more {σ = σ} {τ = τ} {x = x} {metadata = m} {body = body} {y = y} {h = g} {es = es} {fs = fs} frame step rest)
+    (more {τ = τ'} {υ = υ'} {x = x'} {metadata = m'} {body = body'} {y = y'} {h = g'} {es = es'} {fs = fs'} frame' step' rest')
+    p r joined =
+    let same = frame_one x x' m m' body body' (y ++ u) (y' ++ v) g g' frame frame'
+    (sym (append_assoc x y u) ∙ (joined ∙ append_assoc x' y' v)) in
+    let other : Step limits σ g body es' τ' = subst (λ q. Step limits σ q body es' τ') (sym same.same_head)
+    (subst (λ q. Step limits σ g' q es' τ') (sym same.same_body) step') in
+    let one = step_one step other in
+    let behind : es ++ fs' ≡ e ∷ gs = ap (λ l. l ++ fs') one.0 ∙ r in
+    elim (step_event step) [
+      | inl none ↦ first_same u v d e ds gs rest (subst (λ q. Run limits q y' fs' υ') (sym one.1) rest')
+          (sym (ap (λ l. l ++ fs) none) ∙ p) (sym (ap (λ l. l ++ fs') none) ∙ behind) same.same_rest
+      | inr some ↦
+          let a : some.0 ∷ fs ≡ d ∷ ds = sym (ap (λ l. l ++ fs) some.1) ∙ p in
+          let b : some.0 ∷ fs' ≡ e ∷ gs = sym (ap (λ l. l ++ fs') some.1) ∙ behind in
+          let k : some.0 ≡ d = cc in
+          let l : some.0 ≡ e = cc in
+          sym k ∙ l
+    ]
 
--- x is one message, which tells this event
-pub record IsMessage (limits : Limits) (σ : State) (x : List ℕ) (e : Event) : Type 0 where
-  pub metadata : List ℕ
-  pub head : Head
-  pub body : List ℕ
-  pub next : State
-  pub frame : Frame limits x metadata head body
-  pub step : Step limits σ head body (e ∷ []) next
+-- where a run tells an event, none that tells nothing comes to where it may stop
+pub run_not_end : {limits : Limits} → {σ τ υ : State} {x y : List ℕ} {es fs : List Event} (u a : List ℕ) (d : Event) (ds : List Event)
+    → Run limits σ x es τ → Run limits σ y fs υ → es ≡ d ∷ ds → fs ≡ [] → IsStop a → x ++ u ≡ y ++ a → ⊥
+run_not_end u a d ds done q p r stop joined = absurd (cc)
+run_not_end {limits} u a d ds (more {x = x} {metadata = m} {body = body} {y = y} {h = g} frame step rest) done p r stop joined =
+    frame_stop x m body (y ++ u) a g frame (sym (append_assoc x y u) ∙ joined) stop
+run_not_end {limits} u a d ds
+    (more {σ = σ} {τ = τ} {x = x} {metadata = m} {body = body} {y = y} {h = g} {es = es} {fs = fs} frame step rest)
+    (more {τ = τ'} {υ = υ'} {x = x'} {metadata = m'} {body = body'} {y = y'} {h = g'} {es = es'} {fs = fs'} frame' step' rest')
+    p r stop joined =
+    let same = frame_one x x' m m' body body' (y ++ u) (y' ++ a) g g' frame frame'
+    (sym (append_assoc x y u) ∙ (joined ∙ append_assoc x' y' a)) in
+    let other : Step limits σ g body es' τ' = subst (λ q. Step limits σ q body es' τ') (sym same.same_head)
+    (subst (λ q. Step limits σ g' q es' τ') (sym same.same_body) step') in
+    let one = step_one step other in
+    let parts = both_none es' fs' r in
+    run_not_end u a d ds rest (subst (λ q. Run limits q y' fs' υ') (sym one.1) rest')
+    (sym (ap (λ l. l ++ fs) (one.0 ∙ parts.0)) ∙ p) parts.1 stop same.same_rest
 
--- messages that tell one thing are one message
-pub one_message : {limits : Limits} → {σ τ : State} {x : List ℕ} {es : List Event} (e : Event) → Run limits σ x es τ → es ≡ e ∷ []
-    → IsMessage limits σ x e
-one_message {limits} e done is = absurd (cc)
-one_message {limits} e (more {σ = σ} {τ = τ} {x = x} {metadata = m} {body = body} {y = y} {h = g} {es = es} {fs = fs} frame step rest) is =
-    let one = step_event step in
-    let told : one.0 ∷ fs ≡ e ∷ [] = sym (ap (λ ds. ds ++ fs) one.1) ∙ is in
-    let same : one.0 ≡ e = cc in
-    let none : fs ≡ [] = cc in
-    let whole : x ++ y ≡ x = ap (λ z. x ++ z) (run_none rest none).0 ∙ append-nil x in
-    record {
-      metadata = m;
-      head = g;
-      body = body;
-      next = τ;
-      frame = subst (λ z. Frame limits z m g body) (sym whole) frame;
-      step = subst (λ ds. Step limits σ g body ds τ) (one.1 ∙ ap (λ d. d ∷ []) same) step;
-    }
+-- where a run may stop at once it is no message
+pub run_stopped : {limits : Limits} → {σ τ : State} {x : List ℕ} {es : List Event} (b : List ℕ) → Run limits σ x es τ → IsStop (x ++ b)
+    → (x ≡ []) × (σ ≡ τ)
+run_stopped b done stop = (refl, refl)
+run_stopped b (more {x = x} {metadata = m} {body = body} {y = y} {h = g} frame step rest) stop =
+    absurd (frame_stop x m body (y ++ b) ((x ++ y) ++ b) g frame (sym (append_assoc x y b)) stop)
 
--- two messages at the front of the same bytes tell one event
-same_event : {limits : Limits} → (σ : State) (x y u v : List ℕ) (d e : Event) → IsMessage limits σ x d → IsMessage limits σ y e
-    → x ++ u ≡ y ++ v → d ≡ e
-same_event {limits} σ x y u v d e p q joined =
-    let same = frame_one x y p.metadata q.metadata p.body q.body u v p.head q.head p.frame q.frame joined in
-    let other : Step limits σ p.head p.body (e ∷ []) q.next =
-    subst (λ g. Step limits σ g p.body (e ∷ []) q.next) (sym same.same_head)
-    (subst (λ b. Step limits σ q.head b (e ∷ []) q.next) (sym same.same_body) q.step) in
-    let one : d ∷ [] ≡ e ∷ [] = (step_one p.step other).0 in
-    cc
+-- where reading ends by itself, a run may stop
+ends_stop : (limits : Limits) (σ : State) (z b : List ℕ) (end : End) → Ends limits σ z (Some b) (Ok end) → IsStop (z ++ b)
+ends_stop limits σ z b Mark h = inr (b, ap (λ y. y ++ b) h.0)
+ends_stop limits σ z b Closed h = inl (ap (λ y. y ++ b) h.0 ∙ h.2)
 
--- ---- what comes before the first event
-
--- reading that tells nothing ends at once
-nothing_read : {limits : Limits} → (σ : State) (x : List ℕ) (left : Option (List ℕ)) (r : Result End Fault) → Reads limits σ x left [] r
-    → Ends limits σ x left r
-nothing_read {limits} σ x left r h =
-    let none = run_none h.run refl in
-    let all : h.rest ≡ x = sym (h.joined ∙ ap (λ z. z ++ h.rest) none.0) in
-    subst (λ z. Ends limits σ z left r) all (subst (λ τ. Ends limits τ h.rest left r) (sym none.1) h.ends)
-
-module _ {limits : Limits} (σ : State) (x u z b : List ℕ) (e : Event) (m : IsMessage limits σ x e) (read : IsSupported m.head) (joined : x
-    ++ u ≡ z ++ b) where
-  no_end : (end : End) → Ends limits σ z (Some b) (Ok end) → ⊥
-  no_end Mark h = frame_stop x m.metadata m.body u (z ++ b) m.head m.frame joined (inr (b, ap (λ y. y ++ b) h.0))
-  no_end Closed h = frame_stop x m.metadata m.body u (z ++ b) m.head m.frame joined (inl (ap (λ y. y ++ b) h.0 ∙ h.2))
-
-  only_aside : (fault : Fault) → Ends limits σ z (Some b) (Err fault) → IsOutside fault
-  only_aside fault h = message_breaks σ m.next x m.metadata m.body u z b m.head (e ∷ []) m.frame m.step read joined fault h
+-- a message has bytes
+told_long : {limits : Limits} → (σ τ : State) (x : List ℕ) (e : Event) → TellsLast limits σ x e τ → x ≡ [] → ⊥
+told_long σ τ x e t none =
+    omega (arith, t.told.frame.begun, ap length (sym t.joined ∙ none), length-append t.silent t.message)
 
 -- the bytes that are left where they are known
 known : (y z : List ℕ) (old new : Option (List ℕ)) → old ≡ Some y → Consumes old new z → (b : List ℕ) × (new ≡ Some b) × (y ≡ z ++ b)
@@ -107,9 +107,7 @@ pub opens_schema : {limits : Limits} → (old : Option (List ℕ)) (new : Reader
     → OpensStream limits s x → new.schema ≡ s
 opens_schema old new x rest s h is o =
     let k = known (x ++ rest) h.x old new.remaining is h.bytes in
-    let one : schema s ≡ schema new.schema =
-    same_event None x h.x rest k.0 (schema s) (schema new.schema) (one_message (schema s) o refl)
-    (one_message (schema new.schema) h.run refl) k.2 in
+    let one : schema s ≡ schema new.schema = first_same rest k.0 (schema s) (schema new.schema) [] [] o h.run refl refl k.2 in
     cc
 
 -- where a stream with a supported schema is at the front, opening fails only where memory runs out or the source fails
@@ -119,9 +117,9 @@ pub opens_fails : {limits : Limits} → (old new : Option (List ℕ)) (fault : F
 opens_fails {limits} old new fault x rest s read h is o =
     let k = known (x ++ rest) h.x old new is h.bytes in
     let reads = subst (λ left. Reads limits None h.x left [] (Err fault)) k.1 h.reads in
-    let m = one_message (schema s) o refl in
-    only_aside None x rest h.x k.0 (schema s) m (step_read [] m.step (read, tt)).0 k.2 fault
-    (nothing_read None h.x (Some k.0) (Err fault) reads)
+    let joined : x ++ rest ≡ reads.whole ++ (reads.rest ++ k.0) =
+    k.2 ∙ (ap (λ y. y ++ k.0) reads.joined ∙ append_assoc reads.whole reads.rest k.0) in
+    told_breaks rest reads.rest k.0 fault (read, tt) o (λ none. absurd (cc)) reads.run refl reads.ends joined
 
 -- the schema, or out of memory or a failure of the source
 pub opens_or : {limits : Limits} → {T E : Type 0} (r : Result T E) (view : T → Reader) (left : E → Option (List ℕ)) (fault : E
@@ -135,39 +133,44 @@ opens_or (Err e) view left fault old x rest s read opened refused is o = opens_f
 
 -- ---- a batch
 
-module _ {limits : Limits} (o : InForce) (x u z b : List ℕ) (rows : BatchRows) (m : IsMessage limits (Some o) x (batch rows))
-    (joined : x ++ u ≡ z ++ b) where
-  read : IsSupported m.head
-  read = (step_read [] m.step (tt, tt)).0
-
+module _ (old new : Reader) (x u z b : List ℕ) (rows : BatchRows) (τ : State)
+    (tells : Run old.limits (Some (in_force_of old)) x (batch rows ∷ []) τ) (left : new.remaining ≡ Some b) (joined : x ++ u ≡ z ++ b) where
   abbrev RowsOr : Result (Option Found) Fault → Type 0
   RowsOr r = MatchResult r (λ found. GivesBatch found rows) IsOutside
 
-  gives_batch : (r : Result (Option Found) Fault) (p : Phase) → NextAnswer limits o phase.Reading z (Some b) r p → RowsOr r
+  ends_now : (answer : Result End Fault) (h : EndsBehind old new z answer)
+      → Ends old.limits (Some (in_force_of new)) h.rest (Some b) answer
+  ends_now answer h = subst (λ l. Ends old.limits (Some (in_force_of new)) h.rest l answer) left h.ends
+
+  bytes_now : (answer : Result End Fault) (h : EndsBehind old new z answer) → x ++ u ≡ h.whole ++ (h.rest ++ b)
+  bytes_now answer h = joined ∙ (ap (λ y. y ++ b) h.joined ∙ append_assoc h.whole h.rest b)
+
+  gives_batch : (r : Result (Option Found) Fault) (p : Phase) → NextAnswer old new phase.Reading z r p → RowsOr r
   gives_batch (Ok (Some found)) phase.Reading h =
+      let run = told_run (Some (in_force_of old)) (Some (in_force_of new)) z (batch (rows_of found)) h.last in
       let one : batch rows ≡ batch (rows_of found) =
-      same_event (Some o) x z u b (batch rows) (batch (rows_of found)) m (one_message (batch (rows_of found)) h refl) joined in
+      first_same u b (batch rows) (batch (rows_of found)) [] [] tells run refl refl joined in
       let same : rows_of found ≡ rows = cc in same
   gives_batch (Ok (Some found)) (phase.Ended end) h = absurd h
   gives_batch (Ok (Some found)) phase.Refused h = absurd h
   gives_batch (Ok None) phase.Reading h = absurd h
   gives_batch (Ok None) (phase.Ended end) h =
-      absurd (no_end (Some o) x u z b (batch rows) m read joined end (nothing_read (Some o) z (Some b) (Ok end) h))
+      absurd (run_not_end u (h.rest ++ b) (batch rows) [] tells h.run refl refl
+      (ends_stop old.limits (Some (in_force_of new)) h.rest b end (ends_now (Ok end) h)) (bytes_now (Ok end) h))
   gives_batch (Ok None) phase.Refused h = absurd h
   gives_batch (Err fault) phase.Reading h = absurd h
   gives_batch (Err fault) (phase.Ended end) h = absurd h
   gives_batch (Err fault) phase.Refused h =
-      only_aside (Some o) x u z b (batch rows) m read joined fault (nothing_read (Some o) z (Some b) (Err fault) h)
+      told_breaks u h.rest b fault (tt, tt) tells (λ none. absurd (cc)) h.run refl (ends_now (Err fault) h) (bytes_now (Err fault) h)
 
--- where a batch's message is next, the call gives its rows, unless memory runs out or the source fails
+-- where messages that tell a batch are next, the call gives its rows, unless memory runs out or the source fails
 pub next_batch : (old new : Reader) (r : Result (Option Found) Fault) (x rest : List ℕ) (rows : BatchRows) → NextCall old new r
-    → old.phase ≡ phase.Reading → old.remaining ≡ Some (x ++ rest) → AddsBatch old.limits old.schema rows x
+    → old.phase ≡ phase.Reading → old.remaining ≡ Some (x ++ rest) → TellsBatch old.limits (in_force_of old) rows x
     → MatchResult r (λ found. GivesBatch found rows) IsOutside
-next_batch old new r x rest rows h reading is adds =
+next_batch old new r x rest rows h reading is tells =
     let k = known (x ++ rest) h.x old.remaining new.remaining is h.bytes in
-    let gives = subst (λ left. NextAnswer old.limits (in_force_of old) phase.Reading h.x left r new.phase) k.1
-    (subst (λ p. NextAnswer old.limits (in_force_of old) p h.x new.remaining r new.phase) reading h.gives) in
-    gives_batch (in_force_of old) x rest h.x k.0 rows (one_message (batch rows) adds refl) k.2 r new.phase gives
+    gives_batch old new x rest h.x k.0 rows tells.0 tells.1 k.1 k.2 r new.phase
+    (subst (λ p. NextAnswer old new p h.x r new.phase) reading h.gives)
 
 -- ---- an end
 
@@ -185,27 +188,41 @@ same_end limits σ z b Mark Closed h e =
 same_end limits σ z b Closed Mark h e =
     let none : eos ++ b ≡ [] = sym (ap (λ y. y ++ b) e.0) ∙ h in absurd (cc)
 
-module _ (limits : Limits) (o : InForce) (z b : List ℕ) (end : End) (begins : BeginsEnd end (z ++ b)) where
-  gives_end : (r : Result (Option Found) Fault) (p : Phase) → NextAnswer limits o phase.Reading z (Some b) r p
+module _ (old new : Reader) (z b : List ℕ) (end : End) (left : new.remaining ≡ Some b) (begins : BeginsEnd end (z ++ b)) where
+  -- no message comes before the end
+  at_once : (answer : Result End Fault) (h : EndsBehind old new z answer) → h.rest ≡ z
+  at_once answer h =
+      let all : z ++ b ≡ h.whole ++ (h.rest ++ b) = ap (λ y. y ++ b) h.joined ∙ append_assoc h.whole h.rest b in
+      let none = run_stopped (h.rest ++ b) h.run (subst IsStop all (stop_at end (z ++ b) begins)) in
+      sym (h.joined ∙ ap (λ y. y ++ h.rest) none.0)
+
+  ends_there : (answer : Result End Fault) (h : EndsBehind old new z answer) → Ends old.limits (Some (in_force_of new)) z (Some b) answer
+  ends_there answer h =
+      subst (λ y. Ends old.limits (Some (in_force_of new)) y (Some b) answer) (at_once answer h)
+      (subst (λ l. Ends old.limits (Some (in_force_of new)) h.rest l answer) left h.ends)
+
+  gives_end : (r : Result (Option Found) Fault) (p : Phase) → NextAnswer old new phase.Reading z r p
       → MatchResult r (λ found. p ≡ phase.Ended end) IsOutside
   gives_end (Ok (Some found)) phase.Reading h =
-      let m = one_message (batch (rows_of found)) h refl in
-      absurd (frame_stop {limits = limits} z m.metadata m.body b (z ++ b) m.head m.frame refl (stop_at end (z ++ b) begins))
+      let run = told_run (Some (in_force_of old)) (Some (in_force_of new)) z (batch (rows_of found)) h.last in
+      absurd (told_long (Some (in_force_of old)) (Some (in_force_of new)) z (batch (rows_of found)) h.last
+      (run_stopped b run (stop_at end (z ++ b) begins)).0)
   gives_end (Ok (Some found)) (phase.Ended other) h = absurd h
   gives_end (Ok (Some found)) phase.Refused h = absurd h
   gives_end (Ok None) phase.Reading h = absurd h
-  gives_end (Ok None) (phase.Ended other) h = same_end limits (Some o) z b end other begins (nothing_read (Some o) z (Some b) (Ok other) h)
+  gives_end (Ok None) (phase.Ended other) h =
+      same_end old.limits (Some (in_force_of new)) z b end other begins (ends_there (Ok other) h)
   gives_end (Ok None) phase.Refused h = absurd h
   gives_end (Err fault) phase.Reading h = absurd h
   gives_end (Err fault) (phase.Ended other) h = absurd h
-  gives_end (Err fault) phase.Refused h = stop_breaks {limits = limits} (Some o) z b fault (λ e. absurd (cc)) (stop_at end (z ++ b) begins)
-      (nothing_read (Some o) z (Some b) (Err fault) h)
+  gives_end (Err fault) phase.Refused h =
+      stop_breaks {limits = old.limits} (Some (in_force_of new)) z b fault (λ e. absurd (cc)) (stop_at end (z ++ b) begins)
+      (ends_there (Err fault) h)
 
 -- where the end is next, the reader comes to that end, unless memory runs out or the source fails
 pub next_end : (old new : Reader) (r : Result (Option Found) Fault) (z : List ℕ) (end : End) → NextCall old new r
     → old.phase ≡ phase.Reading → old.remaining ≡ Some z → BeginsEnd end z → MatchResult r (λ found. new.phase ≡ phase.Ended end) IsOutside
 next_end old new r z end h reading is begins =
     let k = known z h.x old.remaining new.remaining is h.bytes in
-    let gives = subst (λ left. NextAnswer old.limits (in_force_of old) phase.Reading h.x left r new.phase) k.1
-    (subst (λ p. NextAnswer old.limits (in_force_of old) p h.x new.remaining r new.phase) reading h.gives) in
-    gives_end old.limits (in_force_of old) h.x k.0 end (subst (BeginsEnd end) k.2 begins) r new.phase gives
+    gives_end old new h.x k.0 end k.1 (subst (BeginsEnd end) k.2 begins) r new.phase
+    (subst (λ p. NextAnswer old new p h.x r new.phase) reading h.gives)

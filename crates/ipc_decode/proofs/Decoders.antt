@@ -1,8 +1,11 @@
 -- What the calls of a decoder say.
-use Rattle.std.proofs.Common.{◌≡◌, ◌≢◌, ◌∙◌, refl, sym, ap, subst, ℕ, ◌-◌, ◌^◌, ◌≤◌, List, [], ◌++◌, Option, Some, None}
+use Rattle.std.proofs.Common.{◌≡◌, ◌≢◌, ◌∙◌, refl, sym, ap, subst, ℕ, ◌-◌, ◌^◌, ◌≤◌, List, [], ◌∷◌, ◌++◌, Option, Some, None}
 use Rattle.std.proofs.Common.{Result, Ok, Err, length, take, arith}
 use Rattle.std.specs.Prelude.{Bool, true, false}
-use Rattle.std.specs.Io.KnownBytes.{Consumes}
+use Rattle.std.specs.Io.KnownBytes.{Consumes, IsAtEnd}
+use Rattle.std.proofs.lemmas.List.{append-nil}
+use Rattle.ipc_frame.proofs.Exact.{pending_none}
+use Rattle.ipc_frame.proofs.Undecided.{pending_frame}
 use Rattle.std.proofs.Math.Seq.{take-length}
 use Rattle.ipc_model.specs.Answers.{UnlessOutOfMemory}
 use Rattle.ipc_model.specs.declared.fault.Fault.{Fault}
@@ -10,7 +13,6 @@ use Rattle.ipc_model.specs.declared.fault.Fault.TheVariants.{OutOfMemory}
 use Rattle.ipc_model.specs.declared.limits.Limits.{Limits}
 use Rattle.ipc_frame.specs.Frames.{Pending}
 use Rattle.ipc_frame.specs.Sees.{IsFrame}
-use Rattle.ipc_frame.specs.Failures.{UnlessOutside}
 use Rattle.ipc_frame.specs.Pieces.{Framing, behind}
 use Rattle.ipc_frame.specs.Pieces as frames
 use Rattle.ipc_frame.specs.Pulled as pulled
@@ -22,13 +24,17 @@ use Rattle.ipc_decode.specs.declared.end.End.TheVariants.{Mark}
 use Rattle.ipc_decode.specs.declared.event.Event.{Event as Told}
 use Rattle.ipc_decode.specs.declared.event.Event.TheVariants as told
 use Rattle.ipc_decode.specs.Counts.{count_up}
-use Rattle.ipc_decode.specs.Courses.{Brings, IsReadableFrame, IsRefused, IsSound, Moves, decoding_of, stage_of}
+use Rattle.ipc_decode.specs.Courses.{Brings, IsWellFormedFrame, IsRefused, IsSound, Moves, decoding_of, stage_of}
 use Rattle.ipc_decode.specs.Decoding.{Decoding, taking, over, refused, Reaches, Waits, Tells, RefusesAt, FeedsOn, FeedsAt, Feeds, Gives}
-use Rattle.ipc_decode.specs.Decoding.{IsFew, EndsAt, Draws}
+use Rattle.ipc_decode.specs.Decoding.{IsFew, EndsAt, Draws, TellsOne}
 use Rattle.ipc_decode.specs.Scopes.{state_of}
-use Rattle.ipc_decode.specs.Stream.{State, Run, done}
+use Rattle.ipc_decode.specs.FedMessages.{FeedsSilent}
+use Rattle.ipc_decode.specs.Found.{rows_of}
+use Rattle.ipc_decode.specs.Readable.{IsSupportedEvent}
+use Rattle.ipc_decode.specs.Stream.{State, Event, Run, done, schema, batch, IsMessage}
 use Rattle.ipc_decode.specs.Verdicts.{Decision, Reason}
-use Rattle.ipc_decode.proofs.Courses.{messages_told, frame_readable, Brought, brought, early_reason, frame_reason, refused_stays}
+use Rattle.ipc_decode.proofs.Courses.{frame_well_formed, Brought, brought, early_reason, frame_reason, refused_stays}
+use Rattle.ipc_decode.proofs.Runs.{messages_none, messages_one, run_one}
 
 -- want of memory, and any other fault
 is_memory : Fault → Bool
@@ -44,27 +50,26 @@ other_fault : (e : Fault) → is_memory e ≡ false → e ≢ OutOfMemory
 unfolding is_memory
 other_fault e h p = let q : true ≡ false = subst (λ x. is_memory x ≡ false) p h in cc
 
--- how a decoder goes on behind an event
-abbrev pub Went : Decoding → Decoding → Told → Type 0
-Went old new told.End = (new.stage ≡ over Mark) × (new.messages ≡ old.messages)
-Went old new e = (new.stage ≡ taking []) × (new.messages ≡ count_up old.messages 1)
+-- how a decoder goes on behind what a frame brought
+abbrev pub Went : Decoding → Decoding → Option Told → Type 0
+Went old new (Some told.End) = (new.stage ≡ over Mark) × (new.messages ≡ old.messages)
+Went old new found = (new.stage ≡ taking []) × (new.messages ≡ count_up old.messages 1)
 
--- it does, where the frame that brought the event was taken
-pub went : (before after : Framing) (c d : Course) (σ τ : State) (limits : Limits) (frame : Framed) (e : Told)
-    → Brings limits σ frame τ (Ok e) → after.progress ≡ behind frame → c.phase ≡ phase.Reading → Moves c d (Ok e)
-    → Went (decoding_of before c) (decoding_of after d) e
-went before after c d σ τ limits frame told.End b p r m = (ap (stage_of after.progress) m.0, m.1)
-went before after c d None None limits frame (told.Batch found pairs) b p r m = absurd b
-went before after c d None (Some o) limits frame (told.Batch found pairs) b p r m = absurd b
-went before after c d (Some o) τ limits f.End (told.Batch found pairs) b p r m = absurd b.1
-went before after c d (Some o) τ limits (f.Message meta g body) (told.Batch found pairs) b p r m =
+-- it does, where the frame was taken
+pub went : (before after : Framing) (c d : Course) (σ τ : State) (limits : Limits) (frame : Framed) (found : Option Told)
+    → Brings limits σ frame τ (Ok found) → after.progress ≡ behind frame → c.phase ≡ phase.Reading → Moves c d (Ok found)
+    → Went (decoding_of before c) (decoding_of after d) found
+went before after c d σ τ limits f.End None b p r m = absurd b
+went before after c d σ τ limits f.End (Some told.Schema) b p r m = absurd b
+went before after c d σ τ limits f.End (Some (told.Batch found pairs)) b p r m = absurd b
+went before after c d σ τ limits f.End (Some told.End) b p r m = (ap (stage_of after.progress) m.0, m.1)
+went before after c d σ τ limits (f.Message meta g body) None b p r m =
     (ap (stage_of after.progress) (m.0 ∙ r) ∙ ap (λ q. stage_of q phase.Reading) p, m.1)
-went before after c d None None limits frame told.Schema b p r m = absurd b
-went before after c d None (Some o) limits f.End told.Schema b p r m = absurd b
-went before after c d None (Some o) limits (f.Message meta g body) told.Schema b p r m =
+went before after c d σ τ limits (f.Message meta g body) (Some told.Schema) b p r m =
     (ap (stage_of after.progress) (m.0 ∙ r) ∙ ap (λ q. stage_of q phase.Reading) p, m.1)
-went before after c d (Some o) τ limits f.End told.Schema b p r m = absurd b.1
-went before after c d (Some o) τ limits (f.Message meta g body) told.Schema b p r m = absurd b.1
+went before after c d σ τ limits (f.Message meta g body) (Some (told.Batch found pairs)) b p r m =
+    (ap (stage_of after.progress) (m.0 ∙ r) ∙ ap (λ q. stage_of q phase.Reading) p, m.1)
+went before after c d σ τ limits (f.Message meta g body) (Some told.End) b p r m = absurd b
 
 -- from what was kept, with what is in force and counted as it was
 module _ (old new : Decoding) (fits : old.messages ≤ 2 ^ 64 - 1) where
@@ -74,7 +79,7 @@ module _ (old new : Decoding) (fits : old.messages ≤ 2 ^ 64 - 1) where
       let run : Run old.limits old.state [] [] new.state = subst (Run old.limits old.state [] []) (sym same) done in
       record {
         reached = record { whole = []; joined = refl; run = run; read = tt };
-        counted = omega (arith, count, fits, messages_told run);
+        counted = omega (arith, count, fits, messages_none run refl);
       }
 
   -- all that came is undecided
@@ -82,15 +87,34 @@ module _ (old new : Decoding) (fits : old.messages ≤ 2 ^ 64 - 1) where
       → Waits old new z
   waits z k same count stage undecided = (z, still z same count, stage, (k, undecided))
 
-  one_counted : (n : ℕ) → n ≡ 1 → new.messages ≡ count_up old.messages 1 → new.messages ≡ count_up old.messages n
-  one_counted n is count = omega (arith, is, count)
+  one_told : (x : List ℕ) (e : Event) → IsMessage old.limits old.state x (e ∷ []) new.state → IsSupportedEvent e
+      → new.stage ≡ taking [] → new.messages ≡ count_up old.messages 1 → TellsOne old new x e
+  one_told x e told read stage count = record {
+    last = record {
+      silent = [];
+      message = x;
+      joined = refl;
+      between = old.state;
+      run = done;
+      told = told;
+      read = read;
+    };
+    counted = count;
+    stage = stage;
+  }
 
   -- a frame that is taken tells its event
-  pub tells : (x : List ℕ) (e : Told) → Brought old.limits old.state new.state x e → Went old new e → Tells old new x e
-  tells x told.Schema b m =
-      ((b.0, record { reached = b.1; counted = one_counted _ (messages_told b.1.run) m.1 }), m.0)
-  tells x (told.Batch found pairs) b m = (record { reached = b; counted = one_counted _ (messages_told b.run) m.1 }, m.0)
+  pub tells : (x : List ℕ) (e : Told) → Brought old.limits old.state new.state x (Some e) → Went old new (Some e) → Tells old new x e
+  tells x told.Schema b m = (b.0, one_told x (schema b.0) b.1 b.2 m.0 m.1)
+  tells x (told.Batch found pairs) b m = one_told x (batch (rows_of (found, pairs))) b tt m.0 m.1
   tells x told.End b m = (subst (λ z. Reaches old new x [] z) b.0 (still x b.1 m.1), b.2, m.0)
+
+  -- or tells nothing
+  pub silent : (x : List ℕ) → Brought old.limits old.state new.state x None → Went old new None → Reaches old new x [] []
+  silent x b m = record {
+    reached = record { whole = x; joined = sym (append-nil x); run = run_one b.frame b.step; read = tt };
+    counted = omega (arith, m.1, messages_one b.frame b.step);
+  }
 
   -- what was taken is refused
   pub refuses : (z piece : List ℕ) (e : Fault) → new.state ≡ old.state → new.messages ≡ old.messages → new.stage ≡ refused
@@ -121,17 +145,6 @@ module _ (old new : Decoding) (fits : old.messages ≤ 2 ^ 64 - 1) where
             ),
           )
         ] refl,
-  )
-
-  -- the same of what came from a source
-  pub refuses_all : (x : List ℕ) (e : Fault) → new.state ≡ old.state → new.messages ≡ old.messages
-      → UnlessOutside e ((d : Decision) × Reason old.limits e d old.state x)
-      → (rest : List ℕ) × Reaches old new x [] rest × UnlessOutside e ((d : Decision) × Reason old.limits e d new.state rest)
-  refuses_all x e same count reason = (
-    x,
-    still x same count,
-    λ a b.
-        let why = reason a b in (why.0, subst (λ σ. Reason old.limits e why.0 σ x) (sym same) why.1),
   )
 
 -- ---- the calls
@@ -191,17 +204,41 @@ module _ (before after : Framing) (c d : Course) (sound : IsSound before c) (rea
       (why.0, why.1, early_reason c.limits (state_of c.scope) (kept ++ take why.0 piece) f why.2)))
 
   -- a frame that is taken tells its event
-  pub feeds_event : (n : ℕ) (piece : List ℕ) (found : Option Framed) (frame : Framed) (e : Told) → found ≡ Some frame
-      → FramesFeed piece (Ok (n, found)) → Brings c.limits (state_of c.scope) frame (state_of d.scope) (Ok e) → Moves c d (Ok e)
+  pub feeds_event : (n : ℕ) (piece : List ℕ) (found : Option Framed) (frame : Framed) (r : Option Told) (e : Told) → r ≡ Some e
+      → found ≡ Some frame
+      → FramesFeed piece (Ok (n, found)) → Brings c.limits (state_of c.scope) frame (state_of d.scope) (Ok r) → Moves c d (Ok r)
       → Feeds old piece new (Ok (n, Some e))
-  feeds_event n piece found frame e is h b m =
+  feeds_event n piece found frame r e told is h brings moves =
       let g = fed piece (Ok (n, found)) (Ok (n, Some frame)) (ap (λ f. Ok (n, f)) is) h in
+      let b = subst (λ q. Brings c.limits (state_of c.scope) frame (state_of d.scope) (Ok q)) told brings in
+      let m = subst (λ q. Moves c d (Ok q)) told moves in
       at_stage piece (Ok (n, Some e)) (
         g.0,
         tells (decoding_of before c) new fits (kept ++ take n piece) e
-            (brought c.limits (state_of c.scope) (state_of d.scope) (kept ++ take n piece) frame e g.2 g.3 b)
-            (went before after c d (state_of c.scope) (state_of d.scope) c.limits frame e b g.1 reading m),
+            (brought c.limits (state_of c.scope) (state_of d.scope) (kept ++ take n piece) frame (Some e) g.2 g.3 b)
+            (went before after c d (state_of c.scope) (state_of d.scope) c.limits frame (Some e) b g.1 reading m),
       )
+
+  -- or tells nothing
+  pub feeds_silent : (n : ℕ) (piece : List ℕ) (found : Option Framed) (frame : Framed) (r : Option Told) → r ≡ None
+      → found ≡ Some frame
+      → FramesFeed piece (Ok (n, found)) → Brings c.limits (state_of c.scope) frame (state_of d.scope) (Ok r) → Moves c d (Ok r)
+      → FeedsSilent old piece n new
+  feeds_silent n piece found frame r told is h brings moves =
+      let g = fed piece (Ok (n, found)) (Ok (n, Some frame)) (ap (λ f. Ok (n, f)) is) h in
+      let b = subst (λ q. Brings c.limits (state_of c.scope) frame (state_of d.scope) (Ok q)) told brings in
+      let m = subst (λ q. Moves c d (Ok q)) told moves in
+      let x = kept ++ take n piece in
+      let one = brought c.limits (state_of c.scope) (state_of d.scope) x frame None g.2 g.3 b in
+      let on = went before after c d (state_of c.scope) (state_of d.scope) c.limits frame None b g.1 reading m in
+      subst (λ o. FeedsSilent o piece n new) seen (record {
+        kept = kept;
+        stage = stage_is;
+        some = omega (arith, one.frame.begun);
+        within = g.0;
+        reaches = silent (decoding_of before c) new fits x one on;
+        between = on.0;
+      })
 
   -- a frame that is refused is so at its last byte
   pub feeds_frame_refused : (n : ℕ) (piece : List ℕ) (found : Option Framed) (frame : Framed) (e : Fault) → found ≡ Some frame
@@ -218,15 +255,12 @@ module _ (before after : Framing) (c d : Course) (sound : IsSound before c) (rea
         frame_reason c.limits (state_of c.scope) (state_of d.scope) (kept ++ take n piece) frame e g.2 g.3 b other,
       )))
 
-  -- a schema that the frames bring is readable
-  pub fed_readable : (n : ℕ) (piece : List ℕ) (found : Option Framed) (frame : Framed) → found ≡ Some frame → FramesFeed piece (Ok (
-    n,
-    found,
-  ))
-      → IsReadableFrame c.limits frame
-  fed_readable n piece found frame is h =
+  -- a schema that the frames bring keeps the rules
+  pub fed_well_formed : (n : ℕ) (piece : List ℕ) (found : Option Framed) (frame : Framed) → found ≡ Some frame
+      → FramesFeed piece (Ok (n, found)) → IsWellFormedFrame c.limits frame
+  fed_well_formed n piece found frame is h =
       let g = fed piece (Ok (n, found)) (Ok (n, Some frame)) (ap (λ f. Ok (n, f)) is) h in
-      frame_readable c.limits (kept ++ take n piece) frame g.2 g.3
+      frame_well_formed c.limits (kept ++ take n piece) frame g.2
 
   -- what the frames take of a source, under the limits of the stream
   module _ (from to : Option (List ℕ)) (count : ℕ) (r : Result (Option Framed) Fault)
@@ -268,22 +302,38 @@ module _ (before after : Framing) (c d : Course) (sound : IsSound before c) (rea
         let g = took (Err f) (is ∙ ap Err (sym same)) in
         drawn (Err f) g.came g.counted g.bytes g.few tt (
           ap (stage_of after.progress) gone.0,
-          refuses_all (decoding_of before c) new fits (kept ++ g.came) f (ap state_of gone.2) gone.3
-              (λ a b. early_reason c.limits (state_of c.scope) (kept ++ g.came) f (g.gives.1 a b)),
+          ap state_of gone.2,
+          gone.3,
+          λ a b. early_reason c.limits (state_of c.scope) (kept ++ g.came) f (g.gives.1 a b),
         )
 
-    -- a frame that is taken tells its event
-    pub draws_event : (frame : Framed) (e : Told) → r ≡ Ok (Some frame) → Brings c.limits (state_of c.scope) frame (state_of d.scope) (Ok e)
-        → Moves c d (Ok e) → Draws from to old new count (Ok (Some e))
-    draws_event frame e is b m =
+    -- a frame that is taken tells its event, or nothing
+    pub draws_frame : (frame : Framed) (found : Option Told) → r ≡ Ok (Some frame)
+        → Brings c.limits (state_of c.scope) frame (state_of d.scope) (Ok found)
+        → Moves c d (Ok found) → Draws from to old new count (Ok found)
+    draws_frame frame None is b m =
+        let g = took (Ok (Some frame)) is in
+        let f = g.gives in
+        let whole = subst (λ y. IsFrame c.limits (kept ++ y) frame) (take-length g.came) f.2 in
+        let x = kept ++ g.came in
+        let one = brought c.limits (state_of c.scope) (state_of d.scope) x frame None whole f.3 b in
+        let on = went before after c d (state_of c.scope) (state_of d.scope) c.limits frame None b f.1 reading m in
+        let some : g.came ≡ [] → IsAtEnd to = λ none.
+        absurd (pending_frame kept frame g.few.0 g.few.1
+        (subst (λ y. IsFrame c.limits y frame) (ap (λ y. kept ++ y) none ∙ append-nil kept) whole)) in
+        drawn (Ok None) g.came g.counted g.bytes g.few some (
+          refl,
+          ([], silent (decoding_of before c) new fits x one on, on.0, (4, pending_none)),
+        )
+    draws_frame frame (Some e) is b m =
         let g = took (Ok (Some frame)) is in
         let f = g.gives in
         let x = kept ++ take (length g.came) g.came in
         drawn (Ok (Some e)) g.came g.counted g.bytes g.few tt (
           f.0,
           tells (decoding_of before c) new fits x e
-              (brought c.limits (state_of c.scope) (state_of d.scope) x frame e f.2 f.3 b)
-              (went before after c d (state_of c.scope) (state_of d.scope) c.limits frame e b f.1 reading m),
+              (brought c.limits (state_of c.scope) (state_of d.scope) x frame (Some e) f.2 f.3 b)
+              (went before after c d (state_of c.scope) (state_of d.scope) c.limits frame (Some e) b f.1 reading m),
         )
 
     -- a frame that is refused is so at its last byte
@@ -294,13 +344,13 @@ module _ (before after : Framing) (c d : Course) (sound : IsSound before c) (rea
         let whole = subst (λ y. IsFrame c.limits (kept ++ y) frame) (take-length g.came) g.gives.2 in
         drawn (Err e) g.came g.counted g.bytes g.few tt (
           ap (stage_of after.progress) m.0,
-          refuses_all (decoding_of before c) new fits (kept ++ g.came) e
-              (refused_stays c.limits (state_of c.scope) (state_of d.scope) frame e b) m.1
-              (λ x y. frame_reason c.limits (state_of c.scope) (state_of d.scope) (kept ++ g.came) frame e whole g.gives.3 b y),
+          refused_stays c.limits (state_of c.scope) (state_of d.scope) frame e b,
+          m.1,
+          λ x y. frame_reason c.limits (state_of c.scope) (state_of d.scope) (kept ++ g.came) frame e whole g.gives.3 b y,
         )
 
-    -- a schema that the frames bring is readable
-    pub drawn_readable : (frame : Framed) → r ≡ Ok (Some frame) → IsReadableFrame c.limits frame
-    drawn_readable frame is =
+    -- a schema that the frames bring keeps the rules
+    pub drawn_well_formed : (frame : Framed) → r ≡ Ok (Some frame) → IsWellFormedFrame c.limits frame
+    drawn_well_formed frame is =
         let g = took (Ok (Some frame)) is in
-        frame_readable c.limits (kept ++ take (length g.came) g.came) frame g.gives.2 g.gives.3
+        frame_well_formed c.limits (kept ++ take (length g.came) g.came) frame g.gives.2

@@ -1,72 +1,158 @@
--- Fields whose columns are read name no dictionary.
-use Rattle.std.proofs.Common.{◌≡◌, ◌∙◌, refl, sym, ap, subst, ℕ, ◌+◌, inl, inr, Bool, true, List, [], ◌∷◌, ◌++◌, map, Option}
-use Rattle.std.proofs.Common.{Some, None}
-use Rattle.std.specs.Prelude.{ℤ}
+-- The dictionaries that the fields of a schema name, and those that are kept.
+use Rattle.std.proofs.Common.{◌≡◌, ◌∙◌, refl, sym, ap, subst, ℕ, ◌≤◌, ℤ, inl, inr, true, List, [], ◌∷◌, ◌++◌, map, length, Some, None}
+use Rattle.std.proofs.Common.{Result, Ok, Err}
+use Rattle.std.proofs.Common.{arith, ◌+◌, int_eq, cond, false}
+use Rattle.std.specs.Prelude.{◌&&◌, IfOk}
+use Rattle.ipc_model.specs.declared.fault.Fault.{Fault}
+use Rattle.std.specs.Option.{IfSome}
 use Rattle.std.proofs.lemmas.Bool.{and_parts}
-use Rattle.ipc_model.specs.WellFormed.{IsAmong}
-use Rattle.ipc_model.specs.Entries.{Entry, Listing, all_at, entries, preorder, preorder_step}
-use Rattle.ipc_model.specs.declared.schema.Dictionary.{Dictionary}
-use Rattle.ipc_model.specs.declared.schema.Field.{Field, fold-roll-Field, ind-Field, map-Field, roll-Field}
-use Rattle.ipc_model.specs.declared.schema.Field.TheOpen.{Field-F}
-use Rattle.ipc_model.specs.declared.schema.Schema.{Schema}
-use Rattle.ipc_meta.specs.Supported.{all_true, are_supported, is_supported, is_supported_field, supported_step}
-use Rattle.ipc_decode.specs.Readable.{IsReadable}
-use Rattle.ipc_decode.specs.Reasons.{NamesNone}
+use Rattle.std.proofs.lemmas.List.Sums.{sum_by-cons}
+use Rattle.std.specs.List.{AllByRecursion, sum_by}
+use Rattle.std.specs.Map.{values_of}
+use Rattle.std.specs.Ordering.{int_cmp, match_ordering}
+use Rattle.std.specs.declared.cmp.Ordering.TheVariants.{Less, Equal, Greater}
+use Rattle.std.specs.BTreeMap.{BTreeMap, insert_entry}
+use Rattle.std.specs.declared.rc.Rc.{Rc}
+use Rattle.ipc_model.specs.Entries.{Entry, Listing, entries, preorder_step}
+use Rattle.ipc_model.specs.WellFormed.{IsAmong, WellFormed}
 use Rattle.ipc_model.specs.declared.limits.Limits.{Limits}
+use Rattle.ipc_model.specs.declared.schema.Dictionary.{Dictionary}
+use Rattle.ipc_model.specs.declared.schema.DataType.{DataType}
+use Rattle.ipc_model.specs.declared.schema.Field.{Field, fold-roll-Field}
+use Rattle.ipc_model.specs.declared.schema.Schema.{Schema}
+use Rattle.ipc_column.specs.Contents.{Contents}
+use Rattle.ipc_column.specs.Dictionaries.{IsDictionary, dictionaries_in, dictionary_values, stands_alone}
+use Rattle.ipc_column.specs.Shapes.{field_layout}
+use Rattle.ipc_model.specs.declared.value.Value.{Value}
+use Rattle.ipc_dictionaries.specs.InForce.{in_force, put, total}
+use Rattle.ipc_dictionaries.specs.ValuesColumns.{columns_in, columns_for, values_column, IsOneColumn}
+use Rattle.ipc_dictionaries.proofs.Leaves.{columns_alone}
+use Rattle.ipc_dictionaries.proofs.Named.{NamesOther, names_other, none_named, some_entry}
+use Rattle.ipc_dictionaries.proofs.ValuesColumns as law
+use Rattle.ipc_decode.specs.Alone.{are_alone, is_alone}
+use Rattle.ipc_decode.specs.Decoding.{dictionary_bytes}
+use Rattle.ipc_decode.specs.Reasons.{NamesNone}
+use Rattle.ipc_decode.specs.Scopes.{dictionaries_of, set_by}
+use Rattle.ipc_decode.specs.Stream.{DictionaryInForce, InForce, values_in}
 
--- no entry of the list has a dictionary
-abbrev Plain : List Entry → Type 0
-Plain es = (e : Entry) → IsAmong e es → e.dictionary ≡ None
+-- ---- which dictionaries the fields name
 
-none_plain : Plain []
-none_plain e among = absurd among
+all_among : (id : ℤ) (es : List Entry) → AllByRecursion (NamesOther id) es → (e : Entry) → IsAmong e es → NamesOther id e
+all_among id [] h e among = absurd among
+all_among id (x ∷ xs) h e (inl here) = subst (NamesOther id) here h.0
+all_among id (x ∷ xs) h e (inr later) = all_among id xs h.1 e later
 
-plain_first : (x : Entry) (xs : List Entry) → x.dictionary ≡ None → Plain xs → Plain (x ∷ xs)
-plain_first x xs none p e (inl here) = ap (λ a. a.dictionary) (sym here) ∙ none
-plain_first x xs none p e (inr later) = p e later
+each_among : (id : ℤ) (es : List Entry) → ((e : Entry) → IsAmong e es → NamesOther id e) → AllByRecursion (NamesOther id) es
+each_among id [] h = tt
+each_among id (x ∷ xs) h = (h x (inl refl), each_among id xs (λ e among. h e (inr among)))
 
-plain_both : (xs ys : List Entry) → Plain xs → Plain ys → Plain (xs ++ ys)
-plain_both [] ys p q = q
-plain_both (x ∷ xs) ys p q = plain_first x (xs ++ ys) (p x (inl refl)) (plain_both xs ys (λ a among. p a (inr among)) q)
+-- a dictionary without a column is named by no field
+pub no_column : (s : Schema) (id : ℤ) → columns_for (columns_in s.fields) id ≡ None → NamesNone id s
+no_column s id none = record { none = λ e among. all_among id (entries s.fields) (names_other s.fields id none) e among }
 
-no_dictionary : (d : Option Dictionary) → is_supported d ≡ true → d ≡ None
-no_dictionary None h = refl
-no_dictionary (Some d) h = absurd (cc)
+-- one that no field names has no column
+pub names_none : (s : Schema) (id : ℤ) (columns : List Field) → NamesNone id s → columns_for (columns_in s.fields) id ≡ Some columns → ⊥
+names_none s id columns h found =
+    let bad : Some columns ≡ None = sym found ∙ none_named s.fields id (each_among id (entries s.fields) (λ e among. h.none e among)) in
+    cc
 
-abbrev IsPlain : Field → Type 0
-IsPlain f = is_supported_field f ≡ true → (d : ℕ) → Plain (preorder f d)
+one_entry : (name : List ℕ) (kind : DataType) → length (entries (values_column name kind ∷ [])) ≡ 1
+one_entry name kind =
+    ap (λ (l : Listing). length (l 1 ++ [])) (fold-roll-Field Listing preorder_step
+    (record { name = name; nullable = true; kind = kind; dictionary = None; children = []; metadata = [] }))
 
-abbrev Shown : Type 0
-Shown = (f : Field) × IsPlain f
+-- the column may be read where the fields may
+pub few_columns : (limits : Limits) (fields : List Field) (id : ℤ) (columns : List Field) → length (entries fields) ≤ limits.fields
+    → columns_for (columns_in fields) id ≡ Some columns → length (entries columns) ≤ limits.fields
+few_columns limits fields id columns few found =
+    let one = (subst (λ o. IfSome o IsOneColumn) found (law.one_column fields id)) in
+    let long : length (entries columns) ≡ 1 = ap (λ c. length (entries c)) one.2 ∙ one_entry one.0 one.1 in
+    omega (arith, long, some_entry fields id columns found, few)
 
-children_plain : (d : ℕ) (cs : List Shown) → all_true (map is_supported_field (map (λ c. c.0) cs)) ≡ true
-    → Plain (all_at d (map preorder (map (λ c. c.0) cs)))
-children_plain d [] h = none_plain
-children_plain d (c ∷ cs) h =
-    let parts = and_parts (is_supported_field c.0) (all_true (map is_supported_field (map (λ x. x.0) cs))) h in
-    plain_both (preorder c.0 d) (all_at d (map preorder (map (λ x. x.0) cs))) (c.1 parts.0 d) (children_plain d cs parts.1)
+-- ---- columns that stand alone
 
-roll_plain : (x : Field-F Field) (y : Field-F Shown) → map-Field Shown Field (λ c. c.0) y ≡ x → IsPlain (roll-Field x)
-roll_plain x y is = subst (λ z. IsPlain (roll-Field z)) is (λ h d.
-    let z = map-Field Shown Field (λ c. c.0) y in
-    let parts = and_parts (is_supported z.dictionary) (all_true (map is_supported_field z.children))
-    (sym (fold-roll-Field Bool supported_step z) ∙ h) in
-    let layer = map-Field Field Listing preorder z in
-    let below = children_plain (d + 1) y.children parts.1 in
-    subst (λ (l : Listing). Plain (l d)) (sym (fold-roll-Field Listing preorder_step z))
-    (plain_first _ _ (no_dictionary z.dictionary parts.0) below))
+one_alone : (cs : List Field) → IsOneColumn cs → AllByRecursion (λ f. stands_alone (field_layout f) ≡ true) cs → is_alone cs ≡ true
+one_alone cs one h =
+    subst (λ c. AllByRecursion (λ f. stands_alone (field_layout f) ≡ true) c → is_alone c ≡ true) (sym one.2) (λ k. k.0) h
 
-field_plain : (f : Field) → IsPlain f
-field_plain = ind-Field IsPlain roll_plain
+each_alone : (cs : List (ℤ × List Field)) → AllByRecursion (λ c. is_alone c.1 ≡ true) cs → are_alone cs ≡ true
+each_alone [] h = refl
+each_alone (c ∷ cs) h = ap (λ b. b && are_alone cs) h.0 ∙ each_alone cs h.1
 
-fields_plain : (fs : List Field) → are_supported fs ≡ true → Plain (entries fs)
-fields_plain [] h = none_plain
-fields_plain (f ∷ fs) h =
-    let parts = and_parts (is_supported_field f) (are_supported fs) h in
-    plain_both (preorder f 1) (all_at 1 (map preorder fs)) (field_plain f parts.0 1) (fields_plain fs parts.1)
+found_alone : (cs : List (ℤ × List Field)) (id : ℤ) (columns : List Field) → are_alone cs ≡ true → columns_for cs id ≡ Some columns
+    → is_alone columns ≡ true
+found_alone [] id columns h found = absurd (cc)
+found_alone (c ∷ cs) id columns h found =
+    let parts = and_parts (is_alone c.1) (are_alone cs) h in
+    (elim (int_eq c.0 id) as (λ b. cond b (Some c.1) (columns_for cs id) ≡ Some columns → is_alone columns ≡ true) [
+      | true ↦ λ here. let same : c.1 ≡ columns = cc in subst (λ x. is_alone x ≡ true) same parts.0
+      | false ↦ λ later. found_alone cs id columns parts.1 later
+    ]) found
 
--- no field of a schema that is read names a dictionary
-pub open_names_none : {limits : Limits} → (s : Schema) (id : ℤ) → IsReadable limits s → NamesNone id s
-open_names_none s id readable = record {
-  none = λ e among d some same. let none : Some d ≡ None = sym some ∙ fields_plain s.fields readable.open_fields e among in absurd (cc);
-}
+alone_dictionary : (columns : List Field) (values : Contents) → is_alone columns ≡ true → values.layouts ≡ map field_layout columns
+    → IsDictionary values
+alone_dictionary [] values h layouts = absurd (cc)
+alone_dictionary (f ∷ []) values h layouts = record { layout = field_layout f; one = layouts; alone = h }
+alone_dictionary (f ∷ g ∷ fs) values h layouts = absurd (cc)
+
+-- a batch of such a column is a dictionary's values
+pub gives_dictionary : (cs : List (ℤ × List Field)) (id : ℤ) (columns : List Field) (values : Contents) → are_alone cs ≡ true
+    → columns_for cs id ≡ Some columns → values.layouts ≡ map field_layout columns → IsDictionary values
+gives_dictionary cs id columns values alone found layouts = alone_dictionary columns values (found_alone cs id columns alone found) layouts
+
+-- so is what is answered for it
+pub answers_dictionary : (r : Result Contents Fault) (cs : List (ℤ × List Field)) (id : ℤ) (columns fields : List Field) → fields ≡ columns
+    → are_alone cs ≡ true → columns_for cs id ≡ Some columns → IfOk r (λ values. values.layouts ≡ map field_layout fields)
+    → IfOk r (λ values. IsDictionary values)
+answers_dictionary (Ok values) cs id columns fields same alone found layouts =
+    gives_dictionary cs id columns values alone found (layouts ∙ ap (map field_layout) same)
+answers_dictionary (Err e) cs id columns fields same alone found layouts = tt
+
+-- in a schema that keeps the rules each dictionary has one
+pub schema_alone : (limits : Limits) (s : Schema) → WellFormed limits s → are_alone (columns_in s.fields) ≡ true
+schema_alone limits s fine = each_alone (columns_in s.fields)
+    (all_alone (columns_in s.fields) (law.all_one s.fields) (columns_alone limits s.fields fine.each))
+  where
+    all_alone : (cs : List (ℤ × List Field)) → AllByRecursion (λ c. IsOneColumn c.1) cs
+        → AllByRecursion (λ c. AllByRecursion (λ f. stands_alone (field_layout f) ≡ true) c.1) cs
+        → AllByRecursion (λ c. is_alone c.1 ≡ true) cs
+    all_alone [] one h = tt
+    all_alone (c ∷ cs) one h = (one_alone c.1 one.0 h.0, all_alone cs one.1 h.1)
+
+-- ---- the dictionaries that are kept
+
+-- a dictionary's values beside its id, by the batch that is kept
+abbrev values_of_kept : {Z : Type 0} → ℤ × Rc Contents Z → ℤ × List Value
+values_of_kept e = (e.0, dictionary_values e.1.value)
+
+-- the values of the dictionaries are those of the batches that are kept
+pub kept_values : {Z : Type 0} (es : List (ℤ × Rc Contents Z))
+    → map (λ (e : ℤ × DictionaryInForce). (e.0, e.1.values)) (dictionaries_of (map (λ (e : ℤ × Rc Contents Z). (e.0, e.1.value)) es))
+    ≡ map values_of_kept es
+kept_values [] = refl
+kept_values (e ∷ es) = ap (λ t. (e.0, dictionary_values e.1.value) ∷ t) (kept_values es)
+
+-- so the dictionaries that a batch is read under are those in force
+pub shown_values : {Z : Type 0} (m : BTreeMap ℤ (Rc Contents Z)) (current : List (ℤ × Contents)) → in_force m ≡ current
+    → dictionaries_in m ≡ map (λ (e : ℤ × DictionaryInForce). (e.0, e.1.values)) (dictionaries_of current)
+shown_values m current is =
+    sym (kept_values m.entries)
+    ∙ ap (λ k. map (λ (e : ℤ × DictionaryInForce). (e.0, e.1.values)) (dictionaries_of k)) is
+
+-- one more batch that is kept is one more dictionary
+pub kept_put : (m : List (ℤ × Contents)) (id : ℤ) (v : Contents) → dictionaries_of (put m id v) ≡ put (dictionaries_of m) id (set_by v)
+kept_put [] id v = refl
+kept_put (e ∷ es) id v =
+    let f : ℤ × Contents → ℤ × DictionaryInForce = λ x. (x.0, set_by x.1) in
+    elim (int_cmp id e.0) as (λ o. map f (match_ordering o ((id, v) ∷ e ∷ es) ((e.0, v) ∷ es) (e ∷ insert_entry int_cmp es id v))
+    ≡ match_ordering o ((id, set_by v) ∷ f e ∷ map f es) ((e.0, set_by v) ∷ map f es) (f e ∷ insert_entry int_cmp (map f es) id (set_by v)))
+    [ Less ↦ refl | Equal ↦ refl | Greater ↦ ap (λ t. f e ∷ t) (kept_put es id v) ]
+
+-- the bytes of the bodies that are kept are those of the dictionaries
+pub kept_bytes : (m : List (ℤ × Contents)) → total m ≡ sum_by (λ d. d.bytes) (values_of (dictionaries_of m))
+kept_bytes [] = refl
+kept_bytes (e ∷ es) =
+    let f : Contents → ℕ = λ v. v.body_len in
+    let g : DictionaryInForce → ℕ = λ d. d.bytes in
+    sum_by-cons f e.1 (values_of es) ∙ ap (λ n. e.1.body_len + n) (kept_bytes es)
+    ∙ sym (sum_by-cons g (set_by e.1) (values_of (dictionaries_of es)))

@@ -1,5 +1,6 @@
 pub mod Runs
 pub mod Dictionaries
+pub mod Scoped
 pub mod OneReading
 pub mod PulledEvents
 pub mod Nexts
@@ -9,6 +10,7 @@ pub mod Verdicts
 pub mod Pieces
 pub mod Courses
 pub mod Decoders
+pub mod Feeding
 pub mod Answered
 pub mod Readers
 pub mod Calls

@@ -1,5 +1,5 @@
 -- Each stream has one reading.
-use Rattle.std.proofs.Common.{◌≡◌, ◌∙◌, refl, sym, ap, subst, ℕ, ◌⊎◌, inl, inr, List, [], ◌∷◌, ◌++◌, length, map, append_assoc}
+use Rattle.std.proofs.Common.{◌≡◌, ◌∙◌, refl, sym, ap, subst, ℕ, ◌⊎◌, inl, inr, List, [], ◌∷◌, ◌++◌, length, map, append_assoc, Some}
 use Rattle.std.proofs.Common.{length-append, arith}
 use Rattle.std.proofs.lemmas.List.{append-nil, append_cancel_left}
 use Rattle.ipc_model.specs.declared.table.BatchRows.{BatchRows}
@@ -7,10 +7,13 @@ use Rattle.ipc_model.specs.declared.table.Table.{Table}
 use Rattle.ipc_meta.specs.declared.head.Head.{Head}
 use Rattle.ipc_frame.specs.Frames.{eos, Frame}
 use Rattle.ipc_frame.proofs.OneFrame.{frame_one, no_frame_at_end}
+use Rattle.ipc_model.specs.declared.value.Value.{Value}
+use Rattle.ipc_column.specs.Rows.{Rows}
 use Rattle.ipc_column.proofs.Laws.{one_list}
 use Rattle.ipc_decode.specs.declared.end.End.{End}
 use Rattle.ipc_decode.specs.declared.end.End.TheVariants.{Mark, Closed}
-use Rattle.ipc_decode.specs.Stream.{State, Event, schema, batch, Step, first, came, Run, done, more, events_of, Denotes}
+use Rattle.ipc_decode.specs.Stream.{State, Event, schema, batch, Step, first, came, sets, Run, done, more, events_of, Denotes}
+use Rattle.ipc_decode.specs.Stream.{with_dictionary}
 use Rattle.ipc_model.specs.declared.limits.Limits.{Limits}
 
 -- a message tells one list of events at most, and leaves one state
@@ -20,6 +23,11 @@ pub step_one : {limits : Limits} → {σ τ υ : State} {g : Head} {body : List 
 step_one first first = (refl, refl)
 step_one (came {pairs = pairs} r) (came q) =
     (ap (λ rows. batch (record { pairs = pairs; rows = rows }) ∷ []) (one_list _ _ _ _ _ _ _ _ r q), refl)
+step_one {limits} (sets {o = o} {id = id} {b = b} {body = body} {columns = columns} {rows = rows} found r)
+    (sets {columns = others} {rows = others_rows} known q) =
+    let same : columns ≡ others = (let both : Some columns ≡ Some others = sym found ∙ known in cc) in
+    let here : Rows limits [] columns b body others_rows = subst (λ c. Rows limits [] c b body others_rows) (sym same) q in
+    (refl, ap (λ (z : List (List Value)). Some (with_dictionary o id z (length body))) (one_list _ _ _ _ _ _ _ _ r here))
 
 -- where a run of messages may stop: at the end, or before the end mark
 abbrev pub IsStop : List ℕ → Type 0

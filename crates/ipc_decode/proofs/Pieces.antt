@@ -13,7 +13,7 @@ use Rattle.ipc_frame.proofs.Exact.{pending_none}
 use Rattle.ipc_frame.proofs.OneFrame.{frame_one, no_frame_at_end}
 use Rattle.ipc_decode.specs.declared.event.Event.{Event as Told}
 use Rattle.ipc_decode.specs.declared.event.Event.TheVariants as told
-use Rattle.ipc_decode.specs.Decoding.{Decoding, FeedsAt, FeedsOn, Reaches, taking}
+use Rattle.ipc_decode.specs.Decoding.{Decoding, FeedsAt, FeedsOn, taking}
 use Rattle.ipc_decode.specs.Fed.{AnyPieces, AreTold, Call, EndsWithMark, GoesOn, HasVerdict, Leaves, TablePieces, none, kept, goes_on}
 use Rattle.ipc_decode.specs.Fed.{ended}
 use Rattle.ipc_decode.specs.Found.{rows_of}
@@ -23,7 +23,7 @@ use Rattle.ipc_decode.specs.Verdicts.{Decides, Out, Reached, Verdict}
 use Rattle.ipc_decode.specs.Verdicts as out
 use Rattle.ipc_decode.proofs.OneReading.{at_eos, one_run, step_one}
 use Rattle.ipc_decode.proofs.Reasons.{step_read}
-use Rattle.ipc_decode.proofs.Runs.{run_then}
+use Rattle.ipc_decode.proofs.Runs.{run_then, told_reached}
 use Rattle.ipc_decode.proofs.Verdicts.{all_both}
 
 -- what a call does where these bytes are kept
@@ -58,17 +58,18 @@ cut_at z piece behind n =
     ∙ sym (append_assoc z (take n piece) (drop n piece ++ behind)))
 
 -- messages that are whole, and what is told behind them
-module _ (d e : Decoding) (front behind left : List ℕ) (rest : List ℕ) (es : List Event) (h : Reaches d e front es rest)
+module _ (d e : Decoding) (front behind left : List ℕ) (rest : List ℕ) (es : List Event)
+    (h : Reached d.limits d.state front es e.state rest)
     (same : e.limits ≡ d.limits) (pieces : List (List ℕ)) (told : List Told) (v : HasVerdict e rest pieces told left) where
-  all_joined : front ++ concat pieces ≡ (h.reached.whole ++ v.x) ++ left
+  all_joined : front ++ concat pieces ≡ (h.whole ++ v.x) ++ left
   all_joined =
-      ap (λ y. y ++ concat pieces) h.reached.joined
-      ∙ (append_assoc h.reached.whole rest (concat pieces)
-      ∙ (ap (λ y. h.reached.whole ++ y) v.joined ∙ sym (append_assoc h.reached.whole v.x left)))
+      ap (λ y. y ++ concat pieces) h.joined
+      ∙ (append_assoc h.whole rest (concat pieces)
+      ∙ (ap (λ y. h.whole ++ y) v.joined ∙ sym (append_assoc h.whole v.x left)))
 
-  all_verdict : Verdict d.limits d.state (h.reached.whole ++ v.x) (es ++ v.events) v.out
+  all_verdict : Verdict d.limits d.state (h.whole ++ v.x) (es ++ v.events) v.out
   all_verdict =
-      verdict_behind d.state e.state h.reached.whole v.x es v.events v.out h.reached.run h.reached.read
+      verdict_behind d.state e.state h.whole v.x es v.events v.out h.run h.read
       (subst (λ l. Verdict l e.state v.x v.events v.out) same v.verdict)
 
 -- one more event before others leaves the same bytes
@@ -101,41 +102,43 @@ any_pieces d g z left k pieces events stage pending (kept {e = e} {piece = piece
     let v = any_pieces e g w.0 left w.3.0 more events w.2 (subst (λ l. Pending l w.0 w.3.0) (sym call.1) w.3.1) rest in
     record {
       x = w.1.reached.whole ++ v.x;
-      joined = sym (append_assoc z piece (concat more)) ∙ all_joined d e (z ++ piece) [] left w.0 [] w.1 call.1 more events v;
+      joined = sym (append_assoc z piece (concat more)) ∙ all_joined d e (z ++ piece) [] left w.0 [] w.1.reached call.1 more events v;
       events = v.events;
       are_told = v.are_told;
       out = v.out;
       leaves = v.leaves;
-      verdict = all_verdict d e (z ++ piece) [] left w.0 [] w.1 call.1 more events v;
+      verdict = all_verdict d e (z ++ piece) [] left w.0 [] w.1.reached call.1 more events v;
     }
 any_pieces d g z left k pieces events stage pending
     (goes_on {e = e} {piece = piece} {pieces = more} {events = later} n {event = told.Schema} on call rest) =
     let f = (feeds_on d e z piece (Ok (n, Some told.Schema)) stage call).1 in
-    let v = any_pieces e g [] left 4 (drop n piece ∷ more) later f.1 (subst (λ l. Pending l [] 4) (sym call.1) pending_none) rest in
+    let v = any_pieces e g [] left 4 (drop n piece ∷ more) later f.1.stage (subst (λ l. Pending l [] 4) (sym call.1) pending_none) rest in
+    let h = told_reached d.state e.state (z ++ take n piece) (schema f.0) f.1.last in
     record {
-      x = f.0.1.reached.whole ++ v.x;
+      x = h.whole ++ v.x;
       joined = cut_at z piece (concat more) n
-          ∙ all_joined d e (z ++ take n piece) [] left [] (schema f.0.0 ∷ []) f.0.1 call.1 (drop n piece ∷ more) later v;
-      events = schema f.0.0 ∷ v.events;
+          ∙ all_joined d e (z ++ take n piece) [] left [] (schema f.0 ∷ []) h call.1 (drop n piece ∷ more) later v;
+      events = schema f.0 ∷ v.events;
       are_told = v.are_told;
       out = v.out;
       leaves = leaves_on v.out told.Schema later left on v.leaves;
-      verdict = all_verdict d e (z ++ take n piece) [] left [] (schema f.0.0 ∷ []) f.0.1 call.1 (drop n piece ∷ more) later v;
+      verdict = all_verdict d e (z ++ take n piece) [] left [] (schema f.0 ∷ []) h call.1 (drop n piece ∷ more) later v;
     }
 any_pieces d g z left k pieces events stage pending
     (goes_on {e = e} {piece = piece} {pieces = more} {events = later} n {event = told.Batch found pairs} on call rest) =
     let f = (feeds_on d e z piece (Ok (n, Some (told.Batch found pairs))) stage call).1 in
     let b = batch (rows_of (found, pairs)) in
-    let v = any_pieces e g [] left 4 (drop n piece ∷ more) later f.1 (subst (λ l. Pending l [] 4) (sym call.1) pending_none) rest in
+    let v = any_pieces e g [] left 4 (drop n piece ∷ more) later f.stage (subst (λ l. Pending l [] 4) (sym call.1) pending_none) rest in
+    let h = told_reached d.state e.state (z ++ take n piece) b f.last in
     record {
-      x = f.0.reached.whole ++ v.x;
+      x = h.whole ++ v.x;
       joined = cut_at z piece (concat more) n
-          ∙ all_joined d e (z ++ take n piece) [] left [] (b ∷ []) f.0 call.1 (drop n piece ∷ more) later v;
+          ∙ all_joined d e (z ++ take n piece) [] left [] (b ∷ []) h call.1 (drop n piece ∷ more) later v;
       events = b ∷ v.events;
       are_told = (refl, v.are_told);
       out = v.out;
       leaves = leaves_on v.out (told.Batch found pairs) later left on v.leaves;
-      verdict = all_verdict d e (z ++ take n piece) [] left [] (b ∷ []) f.0 call.1 (drop n piece ∷ more) later v;
+      verdict = all_verdict d e (z ++ take n piece) [] left [] (b ∷ []) h call.1 (drop n piece ∷ more) later v;
     }
 any_pieces d g z left k pieces events stage pending (goes_on n {event = told.End} on call rest) = absurd on
 any_pieces d g z left k pieces events stage pending (ended {e = e} {piece = piece} {pieces = more} n call) =

@@ -19,17 +19,16 @@ use Rattle.ipc_decode.specs.declared.event.Event.{Event as Told}
 use Rattle.ipc_decode.specs.declared.event.Event.TheVariants as told
 use Rattle.ipc_decode.specs.Counts.{count_up}
 use Rattle.ipc_decode.specs.Found.{rows_of}
-use Rattle.ipc_decode.specs.Decoding.{IsFew, EndsAt, Decoding, taking, over, Reaches, Tells, Gives, Draws, FailsWhile, ClosesAt}
+use Rattle.ipc_decode.specs.Decoding.{IsFew, EndsAt, Decoding, taking, over, Reaches, Tells, TellsOne, Gives, Draws, FailsWhile}
+use Rattle.ipc_decode.specs.Decoding.{ClosesAt}
 use Rattle.ipc_decode.specs.Failures.{Tells as TellsFailures}
 use Rattle.ipc_decode.specs.Reasons as reasons
 use Rattle.ipc_decode.specs.Reasons.{Breaks, IsOutside, Wanted}
 use Rattle.ipc_decode.specs.Stream.{State, Event, schema, batch}
 use Rattle.ipc_decode.specs.Taken.{Takes, Pulls}
-use Rattle.ipc_decode.specs.Verdicts.{Decision, Reached, Reason}
-use Rattle.ipc_decode.proofs.Calls.{one_message, run_none}
-use Rattle.ipc_decode.proofs.Courses.{messages_told}
+use Rattle.ipc_decode.specs.Verdicts.{Decision, Reason}
 use Rattle.ipc_decode.proofs.Decoders.{still}
-use Rattle.ipc_decode.proofs.Verdicts.{reached_then}
+use Rattle.ipc_decode.proofs.Feeding.{reaches_then, tells_then}
 
 -- what changed nothing of the source took no bytes
 pub takes_none : (a : Option (List ℕ)) (n : ℕ) → n ≤ 2 ^ 64 - 1 → Takes a a n n []
@@ -69,17 +68,6 @@ breaks limits σ x left e wanted reason = elim (is_outside e) as (λ b. is_outsi
   | true ↦ λ h. reasons.aside (outside_only e h) wanted
   | false ↦ λ h. reasons.refused (reason (not_outside e Read h refl) (not_outside e OutOfMemory h refl)).1.0
 ] refl
-
--- one way and then another
-pub reaches_then : (a b c : Decoding) (x z w r : List ℕ) (es : List Event) → b.limits ≡ a.limits → Reaches a b x [] z
-    → Reaches b c (z ++ w) es r → Reaches a c (x ++ w) es r
-reaches_then a b c x z w r es same p q =
-    let behind = subst (λ l. Reached l b.state (z ++ w) es c.state r) same q.reached in
-    let all = reached_then a.state b.state c.state x z w r [] es p.reached behind in
-    record {
-      reached = all;
-      counted = omega (arith, p.counted, q.counted, messages_told p.reached.run, messages_told q.reached.run, messages_told all.run);
-    }
 
 -- an undecided beginning of what comes next was taken and is kept
 pub record Pulling (old now : Option (List ℕ)) (bound_old bound failed_old failed count_old count : ℕ) (before decoder : Decoding) : Type 0
@@ -131,18 +119,11 @@ module _ (old now new : Option (List ℕ)) (b0 b1 f0 f1 n0 n1 n2 : ℕ) (before 
         few = few.2;
       }
 
-  wanted_rest : (rest : List ℕ) → Reaches decoder after (p.z ++ t.came) [] rest → Wanted before.limits rest
-  wanted_rest rest h =
-      let none = run_none h.reached.run refl in
-      let same : p.z ++ t.came ≡ rest = h.reached.joined ∙ ap (λ w. w ++ rest) none.0 in
-      subst (Wanted before.limits) same wanted_now
-
   told_now : (e : Told) → Tells decoder after (p.z ++ t.came) e → Tells before after (p.x ++ t.came) e
-  told_now told.Schema h =
-      ((h.0.0, reaches_then before decoder after p.x p.z t.came [] (schema h.0.0 ∷ []) p.same_limits p.reaches h.0.1), h.1)
-  told_now (told.Batch found pairs) h =
-      (reaches_then before decoder after p.x p.z t.came [] (batch (rows_of (found, pairs)) ∷ []) p.same_limits p.reaches h.0, h.1)
-  told_now told.End h = (reaches_then before decoder after p.x p.z t.came eos [] p.same_limits p.reaches h.0, h.1, h.2)
+  told_now e h = tells_then before decoder after p.x p.z t.came p.same_limits p.reaches e h
+
+  counts_fit : decoder.messages ≤ 2 ^ 64 - 1
+  counts_fit = omega (arith, p.reaches.counted)
 
   -- an event that is told of what came is the next one
   pub pulled : (e : Told) → r ≡ Ok (Some e) → Pulls old new n0 n2 before after (Ok (Some e))
@@ -158,20 +139,19 @@ module _ (old now new : Option (List ℕ)) (b0 b1 f0 f1 n0 n1 n2 : ℕ) (before 
   pub pull_refused : (e : Fault) → r ≡ Err e → Pulls old new n0 n2 before after (Err e)
   pull_refused e is =
       let g = gives_now (Err e) is in
-      let rest = g.1.0 in
-      let all = reaches_then before decoder after p.x p.z t.came rest [] p.same_limits p.reaches g.1.1 in
+      let rest = p.z ++ t.came in
+      let reason = subst (λ l. UnlessOutside e ((d : Decision) × Reason l e d decoder.state rest)) p.same_limits g.3 in
       record {
         x = p.x ++ t.came;
         takes = takes_now;
-        gives = (
-          g.0,
-          (
-            rest,
-            all,
-            breaks before.limits after.state rest new e (wanted_rest rest g.1.1)
-                (subst (λ l. UnlessOutside e ((d : Decision) × Reason l e d after.state rest)) p.same_limits g.1.2),
-          ),
-        );
+        gives = record {
+          rest = rest;
+          reaches = reaches_then before decoder after p.x p.z t.came p.same_limits p.reaches rest []
+              (still decoder after counts_fit rest g.1 g.2);
+          ends = breaks before.limits after.state rest new e wanted_now
+              (subst (λ σ. UnlessOutside e ((d : Decision) × Reason before.limits e d σ rest)) (sym g.1) reason);
+          at = g.0;
+        };
       }
 
   -- where nothing is decided, what came is kept
@@ -187,7 +167,7 @@ module _ (old now new : Option (List ℕ)) (b0 b1 f0 f1 n0 n1 n2 : ℕ) (before 
         z = rest;
         kept = g.2;
         same_limits = limits ∙ p.same_limits;
-        reaches = reaches_then before decoder after p.x p.z t.came rest [] p.same_limits p.reaches g.1;
+        reaches = reaches_then before decoder after p.x p.z t.came p.same_limits p.reaches rest [] g.1;
         undecided = (g.3.0, subst (λ l. Pending l rest g.3.0) p.same_limits g.3.1);
         takes = takes_now;
         fewer = omega (arith, p.fewer, fewer, t.counted, length-append p.x t.came);
@@ -197,14 +177,13 @@ module _ (old now new : Option (List ℕ)) (b0 b1 f0 f1 n0 n1 n2 : ℕ) (before 
 -- ---- an event is some bytes
 
 -- where the stream told something, bytes came
-told_bytes : (before after : Decoding) (x : List ℕ) (event : Event) → Reaches before after x (event ∷ []) [] → 0 < length x
+told_bytes : (before after : Decoding) (x : List ℕ) (event : Event) → TellsOne before after x event → 0 < length x
 told_bytes before after x event h =
-    let message = one_message event h.reached.run refl in
-    omega (arith, message.frame.begun, ap length h.reached.joined, length-append h.reached.whole [])
+    omega (arith, h.last.told.frame.begun, ap length h.last.joined, length-append h.last.silent h.last.message)
 
 told_some : (before after : Decoding) (x : List ℕ) (e : Told) → Tells before after x e → 0 < length x
-told_some before after x told.Schema h = told_bytes before after x (schema h.0.0) h.0.1
-told_some before after x (told.Batch found pairs) h = told_bytes before after x (batch (rows_of (found, pairs))) h.0
+told_some before after x told.Schema h = told_bytes before after x (schema h.0) h.1
+told_some before after x (told.Batch found pairs) h = told_bytes before after x (batch (rows_of (found, pairs))) h
 told_some before after x told.End h =
     omega (arith, ap length h.0.reached.joined, length-append h.0.reached.whole eos)
 
@@ -239,7 +218,12 @@ module _ (old now : Option (List ℕ)) (b0 b1 f0 f1 n0 n1 : ℕ) (before decoder
       record {
         x = p.x;
         takes = p.takes;
-        gives = (ap (λ d. d.stage) c.2, (p.z, reaches, cut c.0 c.1 (ap (λ d. d.state) c.2)));
+        gives = record {
+          rest = p.z;
+          reaches = reaches;
+          ends = cut c.0 c.1 (ap (λ d. d.state) c.2);
+          at = ap (λ d. d.stage) c.2;
+        };
       }
     where
       cut : (p.z ≢ []) ⊎ (decoder.state ≡ None) → e ≡ Truncated → after.state ≡ decoder.state → Breaks before.limits after.state p.z now e
@@ -256,7 +240,12 @@ module _ (old now : Option (List ℕ)) (b0 b1 f0 f1 n0 n1 : ℕ) (before decoder
       record {
         x = p.x;
         takes = p.takes;
-        gives = (reaches, (λ none. c.1 (sym (ap (λ d. d.state) c.3) ∙ none)), ap (λ d. d.stage) c.3, at_end);
+        gives = record {
+          rest = [];
+          reaches = reaches;
+          ends = (refl, (λ none. c.1 (sym (ap (λ d. d.state) c.3) ∙ none)), at_end);
+          at = ap (λ d. d.stage) c.3;
+        };
       }
 
 -- where no byte came, the source is at its end

@@ -1,5 +1,5 @@
 -- Where a stream denotes a table, reading it breaks off only because memory ran out or for a failure of the source.
-use Rattle.std.proofs.Common.{◌≡◌, ◌≢◌, ◌∙◌, refl, sym, ap, subst, ℕ, ◌⊎◌, inl, inr, List, [], ◌++◌, length, append_assoc, arith, Some}
+use Rattle.std.proofs.Common.{◌≡◌, ◌≢◌, ◌∙◌, refl, sym, ap, subst, ℕ, ◌⊎◌, inl, inr, List, [], ◌∷◌, ◌++◌, length, append_assoc, arith, Some}
 use Rattle.std.proofs.Common.{None}
 use Rattle.std.specs.Io.KnownBytes.{IsAtEnd}
 use Rattle.std.specs.Prelude.{ℤ}
@@ -24,9 +24,13 @@ use Rattle.ipc_frame.proofs.Decided.{start_not_end, start_not_frame, no_head_not
 use Rattle.ipc_frame.proofs.Decided.{start_not_empty}
 use Rattle.ipc_frame.proofs.Exact.{start_longer, no_head_longer}
 use Rattle.ipc_column.specs.Rows.{Rows, RefusesParts}
+use Rattle.ipc_dictionaries.specs.ValuesColumns.{columns_in, columns_for}
+use Rattle.ipc_model.specs.declared.schema.Field.{Field}
 use Rattle.ipc_column.proofs.Laws.{no_rows as none_refused}
-use Rattle.ipc_decode.specs.Stream.{InForce, State, Event, Step, first, came, Run, done, more}
-use Rattle.ipc_decode.specs.Reasons.{Breaks, refused, truncated, aside, Refuses, early, no_schema, second_schema, dictionary, no_rows}
+use Rattle.ipc_decode.specs.Stream.{InForce, State, Event, Step, first, came, sets, Run, done, more, values_in}
+use Rattle.ipc_decode.specs.Reasons.{Breaks, refused, truncated, aside, Refuses, early, no_schema, second_schema, dictionary, no_values}
+use Rattle.ipc_decode.specs.Reasons.{no_rows}
+use Rattle.ipc_decode.proofs.Dictionaries.{names_none}
 use Rattle.ipc_decode.specs.Reasons.{IsOutside, IsNoSchema}
 use Rattle.ipc_decode.specs.Readable.{IsSupportedEvent}
 use Rattle.ipc_decode.proofs.OneReading.{IsStop, frame_stop, step_one}
@@ -34,9 +38,10 @@ use Rattle.ipc_model.specs.declared.limits.Limits.{Limits}
 
 -- ---- a state after a step has a schema
 
-step_open : {limits : Limits} → {σ τ : State} {g : Head} {body : List ℕ} {es : List Event} → Step limits σ g body es τ → τ ≢ None
+pub step_open : {limits : Limits} → {σ τ : State} {g : Head} {body : List ℕ} {es : List Event} → Step limits σ g body es τ → τ ≢ None
 step_open first e = absurd (cc)
 step_open (came r) e = absurd (cc)
+step_open (sets found r) e = absurd (cc)
 
 -- behind a schema in force messages leave one in force
 pub run_open : {limits : Limits} → {σ τ : State} {x : List ℕ} {es : List Event} → Run limits σ x es τ → σ ≢ None → τ ≢ None
@@ -82,6 +87,8 @@ stop_refused {limits} σ z b e o s (early r) = stop_early limits z b s e r
 stop_refused {limits} σ z b e o s (no_schema fr q none is other) = o none
 stop_refused {limits} σ z b e o s (second_schema p t m body q is frame read) = stop_frame limits z b s m body (h.Schema t) frame
 stop_refused {limits} σ z b e o s (dictionary p id d m body q is none frame) = stop_frame limits z b s m body (h.Dictionary id d) frame
+stop_refused {limits} σ z b e o s (no_values p id d columns m body is found frame refuses) =
+    stop_frame limits z b s m body (h.Dictionary id d) frame
 stop_refused {limits} σ z b e o s (no_rows p d ps m body is frame refuses) = stop_frame limits z b s m body (h.Batch d ps) frame
 
 -- where a stream may stop, reading breaks off only because memory ran out or the source failed
@@ -98,48 +105,43 @@ schema_step : {limits : Limits} → {σ τ : State} {g : Head} {body : List ℕ}
     → (s : Schema) × (g ≡ h.Schema s)
 schema_step (first {s = s}) e = (s, refl)
 schema_step (came r) e = absurd (cc)
+schema_step (sets found r) e = absurd (cc)
 
--- a batch that takes a step gives rows
-pub record StepsByRows (limits : Limits) (o : InForce) (g : Head) (body : List ℕ) : Type 0 where
-  pub batch_head : BatchHead
-  pub its_pairs : List (List ℕ × List ℕ)
-  pub is_batch : g ≡ h.Batch batch_head its_pairs
-  pub its_rows : List (List Value)
-  pub gives : Rows limits [] o.schema.fields batch_head body its_rows
+-- behind a schema a batch that takes a step gives rows, and a dictionary its values
+abbrev StepsBy : Limits → InForce → Head → List ℕ → Type 0
+StepsBy limits o (h.Schema s) body = ⊥
+StepsBy limits o (h.Batch d ps) body = (rows : List (List Value)) × Rows limits (values_in o.dictionaries) o.schema.fields d body rows
+StepsBy limits o (h.Dictionary id d) body = (columns : List Field) × (rows : List (List Value))
+    × (columns_for (columns_in o.schema.fields) id ≡ Some columns) × Rows limits [] columns d body rows
 
-batch_step : {limits : Limits} → {σ τ : State} {g : Head} {body : List ℕ} {es : List Event} (o : InForce) → Step limits σ g body es τ
-    → σ ≡ Some o
-    → StepsByRows limits o g body
-batch_step {limits} o first e = absurd (cc)
-batch_step {limits} o (came {o = p} {b = b} {pairs = pairs} {body = body} {rows = rows} r) e =
+steps_by : {limits : Limits} → {σ τ : State} {g : Head} {body : List ℕ} {es : List Event} (o : InForce) → Step limits σ g body es τ
+    → σ ≡ Some o → StepsBy limits o g body
+steps_by o first e = absurd (cc)
+steps_by {limits} o (came {o = p} {b = b} {pairs = pairs} {body = body} {rows = rows} r) e =
     let same : p ≡ o = cc in
-    record {
-      batch_head = b;
-      its_pairs = pairs;
-      is_batch = refl;
-      its_rows = rows;
-      gives =
-          subst (λ (q : InForce). Rows limits [] q.schema.fields b body rows) same r;
-    }
+    subst (λ q. StepsBy limits q (h.Batch b pairs) body) same (rows, r)
+steps_by {limits} o (sets {o = p} {id = id} {b = b} {body = body} {columns = columns} {rows = rows} found r) e =
+    let same : p ≡ o = cc in
+    subst (λ q. StepsBy limits q (h.Dictionary id b) body) same (columns, rows, found, r)
 
-no_schema_batch : {limits : Limits} → (o : InForce) (s : Schema) (body : List ℕ) → StepsByRows limits o (h.Schema s) body → ⊥
-no_schema_batch o s body b = let bad : h.Schema s ≡ h.Batch b.batch_head b.its_pairs = b.is_batch in cc
+values_refused : {limits : Limits} → (o : InForce) (id : ℤ) (d : BatchHead) (columns : List Field) (body : List ℕ) (e : Fault)
+    → StepsBy limits o (h.Dictionary id d) body → columns_for (columns_in o.schema.fields) id ≡ Some columns
+    → RefusesParts limits e [] columns d body → e ≡ OutOfMemory
+values_refused {limits} o id d columns body e b found r =
+    let same : b.0 ≡ columns = (let both : Some b.0 ≡ Some columns = sym b.2 ∙ found in cc) in
+    none_refused e [] columns d body b.1 r (subst (λ c. Rows limits [] c d body b.1) same b.3)
 
-no_dictionary_batch : {limits : Limits} → (o : InForce) (id : ℤ) (d : BatchHead) (body : List ℕ)
-    → StepsByRows limits o (h.Dictionary id d) body → ⊥
-no_dictionary_batch o id d body b = let bad : h.Dictionary id d ≡ h.Batch b.batch_head b.its_pairs = b.is_batch in cc
-
-batch_refused : {limits : Limits} → (o : InForce) (d : BatchHead) (ps : List (List ℕ × List ℕ)) (body : List ℕ) (e : Fault)
-    → StepsByRows limits o (h.Batch d ps) body → RefusesParts limits e [] o.schema.fields d body → e ≡ OutOfMemory
-batch_refused {limits} o d ps body e b r =
-    let same : d ≡ b.batch_head = (let eq : h.Batch d ps ≡ h.Batch b.batch_head b.its_pairs = b.is_batch in cc) in
-    none_refused e [] o.schema.fields d body b.its_rows r (subst (λ z. Rows limits [] o.schema.fields z body b.its_rows) (sym same) b.gives)
+-- what two lists have together where that is nothing
+pub both_none : (es fs : List Event) → es ++ fs ≡ [] → (es ≡ []) × (fs ≡ [])
+both_none [] fs h = (refl, h)
+both_none (e ∷ es) fs h = absurd (cc)
 
 -- where all schemas that a run tells are of types that are read, so is its first head
 pub step_read : {limits : Limits} → {σ τ : State} {g : Head} {body : List ℕ} {es : List Event} (fs : List Event) → Step limits σ g body es τ
     → AllByRecursion IsSupportedEvent (es ++ fs) → IsSupported g × AllByRecursion IsSupportedEvent fs
 step_read fs first all = (all.0, all.1)
 step_read fs (came r) all = (tt, all.1)
+step_read fs (sets found r) all = (tt, all)
 
 -- a message x and what follows are the bytes z that were taken and those that are left
 module _ {limits : Limits} (σ τ : State) (x m body u z b : List ℕ) (g : Head) (es : List Event) (frame : Frame limits x m g body) (step :
@@ -160,19 +162,23 @@ module _ {limits : Limits} (σ τ : State) (x m body u z b : List ℕ) (g : Head
       let s = schema_step step none in
       subst (λ q. IsNoSchema (f.Message meta q body')) (sym (same_frame k meta.items body'.items is).same_head ∙ s.1) other
 
-  message_batch : (k : Head) (l other : List ℕ) (o : InForce) → σ ≡ Some o → Frame limits z l k other → StepsByRows limits o k other
-  message_batch k l other o some q =
+  message_steps : (k : Head) (l other : List ℕ) (o : InForce) → σ ≡ Some o → Frame limits z l k other → StepsBy limits o k other
+  message_steps k l other o some q =
       let same = same_frame k l other q in
-      subst (λ y. StepsByRows limits o y other) same.same_head (subst (λ y. StepsByRows limits o g y) same.same_body (batch_step o step
-      some))
+      subst (λ y. StepsBy limits o y other) same.same_head (subst (λ y. StepsBy limits o g y) same.same_body (steps_by o step some))
 
   pub message_refused : (e : Fault) → Refuses limits σ z e → e ≡ OutOfMemory
   message_refused e (early r) = absurd (message_early e r)
   message_refused e (no_schema fr q none is other) = absurd (message_schema fr none is other)
-  message_refused e (second_schema o s l c q is k read) = absurd (no_schema_batch o s c (message_batch (h.Schema s) l c o is k))
+  message_refused e (second_schema o s l c q is k read) = absurd (message_steps (h.Schema s) l c o is k)
   message_refused e (dictionary o id d l c q is none k) =
-      absurd (no_dictionary_batch o id d c (message_batch (h.Dictionary id d) l c o is k))
-  message_refused e (no_rows o d ps l c is k r) = batch_refused o d ps c e (message_batch (h.Batch d ps) l c o is k) r
+      let b = message_steps (h.Dictionary id d) l c o is k in
+      absurd (names_none o.schema id b.0 none b.2)
+  message_refused e (no_values o id d columns l c is found k r) =
+      values_refused o id d columns c e (message_steps (h.Dictionary id d) l c o is k) found r
+  message_refused e (no_rows o d ps l c is k r) =
+      let b = message_steps (h.Batch d ps) l c o is k in
+      none_refused e (values_in o.dictionaries) o.schema.fields d c b.0 r b.1
 
   message_pending : (k : ℕ) → IsAtEnd (Some b) → Pending limits z k → ⊥
   message_pending k none p =
@@ -205,3 +211,23 @@ run_breaks {limits} a z b e all (more {σ = σ} {τ = τ} {υ = υ} {x = x} {met
     (subst (λ q. Step limits σ g' q es' τ') (sym same.same_body) step') in
     let one = step_one step other in
     run_breaks a z b e (step_read fs step all).1 rest (subst (λ q. Run limits q y' fs' υ') (sym one.1) rest') o s r same.same_rest
+
+-- two readings of the same bytes: one tells something, and the other tells nothing and breaks off
+pub told_breaks : {limits : Limits} → {σ τ υ : State} {x y : List ℕ} {es fs : List Event} (u z b : List ℕ) (e : Fault)
+    → AllByRecursion IsSupportedEvent es
+    → Run limits σ x es τ → es ≢ [] → Run limits σ y fs υ → fs ≡ [] → Breaks limits υ z (Some b) e → x ++ u ≡ y ++ (z ++ b) → IsOutside e
+told_breaks u z b e all done some q none r eq = absurd (some refl)
+told_breaks {limits} {σ = σ} u z b e all (more {τ = τ} {x = x} {metadata = m} {body = body} {y = y} {h = g} {es = es} {fs =
+    gs} frame step rest) some done none r eq =
+    message_breaks σ τ x m body (y ++ u) z b g es frame step (step_read gs step all).0 (sym (append_assoc x y u) ∙ eq) e r
+told_breaks {limits} u z b e all (more {σ = σ} {τ = τ} {υ = υ} {x = x} {metadata = m} {body = body} {y = y} {h = g} {es = es}
+    {fs = fs} frame step rest) some (more {τ = τ'} {υ = υ'} {x = x'} {metadata = m'} {body = body'} {y = y'} {h = g'} {es = es'}
+    {fs = fs'} frame' step' rest') none r eq =
+    let same = frame_one x x' m m' body body' (y ++ u) (y' ++ (z ++ b)) g g' frame frame'
+    (sym (append_assoc x y u) ∙ (eq ∙ append_assoc x' y' (z ++ b))) in
+    let other : Step limits σ g body es' τ' = subst (λ q. Step limits σ q body es' τ') (sym same.same_head)
+    (subst (λ q. Step limits σ g' q es' τ') (sym same.same_body) step') in
+    let one = step_one step other in
+    let parts = both_none es' fs' none in
+    told_breaks u z b e (step_read fs step all).1 rest (λ n. some (ap (λ l. l ++ fs) (one.0 ∙ parts.0) ∙ n))
+    (subst (λ q. Run limits q y' fs' υ') (sym one.1) rest') parts.1 r same.same_rest

@@ -14,13 +14,15 @@ use Rattle.ipc_frame.proofs.Exact.{pending_none}
 use Rattle.ipc_decode.specs.declared.end.End.{End}
 use Rattle.ipc_decode.specs.declared.pulling.Next.{Next}
 use Rattle.ipc_decode.specs.declared.pulling.Next.TheVariants as next
-use Rattle.ipc_decode.specs.Decoding.{Decoding, schema_of, taking}
+use Rattle.ipc_decode.specs.Decoding.{Decoding, Stage, schema_of, taking, over, refused}
 use Rattle.ipc_decode.specs.Found.{rows_of}
-use Rattle.ipc_decode.specs.Stream.{InForce, State, Event, schema, batch, Run, done}
+use Rattle.ipc_decode.specs.Stream.{State, Event, schema, batch, Run, done, begun}
 use Rattle.ipc_decode.specs.Reasons as reasons
 use Rattle.ipc_decode.specs.Reasons.{Reads, Wanted}
-use Rattle.ipc_decode.specs.Taken.{ReadsNext, TakesBatches, TakesSchema, TakesTable}
-use Rattle.ipc_decode.proofs.Runs.{run_then, reads_after}
+use Rattle.ipc_decode.specs.Taken.{ReadsNext, StopsAt, TakesBatches, TakesSchema, TakesTable}
+use Rattle.ipc_decode.proofs.Nexts.{run_keeps, stops_reads}
+use Rattle.ipc_decode.proofs.Reasons.{run_open}
+use Rattle.ipc_decode.proofs.Runs.{run_then, reads_after, told_run}
 
 -- no bytes are no more than were wanted
 pub wanted_none : {limits : Limits} → Wanted limits []
@@ -38,24 +40,19 @@ no_memory σ τ x left es run = record {
   ends = reasons.aside (inr refl) wanted_none;
 }
 
--- what is in force where something is
-pub in_force_now : (σ : State) → σ ≢ None → (o : InForce) × (σ ≡ Some o)
-in_force_now None some = absurd (some refl)
-in_force_now (Some o) some = (o, refl)
-
 -- these batches were read
 pub record Batches (old now : Option (List ℕ)) (failed_old failed taken : ℕ) (before decoder : Decoding) (batches : List BatchRows)
     : Type 0 where
-  pub o : InForce
-  pub in_force : before.state ≡ Some o
+  pub was_open : before.state ≢ None
+  pub still_open : decoder.state ≢ None
   pub same_limits : decoder.limits ≡ before.limits
-  pub same_state : decoder.state ≡ before.state
+  pub same_schema : schema_of decoder.state ≡ schema_of before.state
   pub between : decoder.stage ≡ taking []
   pub counted : decoder.messages ≤ 2 ^ 64 - 1
   pub within : taken ≤ 2 ^ 64 - 1
   pub x : List ℕ
   pub bytes : Consumes old now x
-  pub run : Run before.limits (Some o) x (map batch batches) (Some o)
+  pub run : Run before.limits before.state x (map batch batches) decoder.state
   pub same : failed ≡ failed_old
 
 -- behind the schema no batch was read yet
@@ -63,12 +60,11 @@ pub batches_none : (source : Option (List ℕ)) (failed taken : ℕ) (decoder : 
     → decoder.stage ≡ taking [] → decoder.messages ≤ 2 ^ 64 - 1
     → taken ≤ 2 ^ 64 - 1 → batches ≡ [] → Batches source source failed failed taken decoder decoder batches
 batches_none source failed taken decoder batches some between counted within none =
-    let now = in_force_now decoder.state some in
     subst (Batches source source failed failed taken decoder decoder) (sym none) (record {
-      o = now.0;
-      in_force = now.1;
+      was_open = some;
+      still_open = some;
       same_limits = refl;
-      same_state = refl;
+      same_schema = refl;
       between = between;
       counted = counted;
       within = within;
@@ -85,42 +81,35 @@ next_at old new n0 n1 before after a b is t = subst (ReadsNext old new n0 n1 bef
 
 module _ (old now new : Option (List ℕ)) (f0 f1 n1 n2 : ℕ) (before decoder after : Decoding) (batches : List BatchRows)
     (b : Batches old now f0 f1 n1 before decoder batches) where
-  module _ (r : Result Next Fault) (t : ReadsNext now new n1 n2 decoder after r) where
-    -- what is in force there is what was in force
-    here : t.o ≡ b.o
-    here = let same : Some t.o ≡ Some b.o = sym t.in_force ∙ (b.same_state ∙ b.in_force) in cc
-
-  reads_here : (end : Result End Fault) (o : InForce) (x : List ℕ) → o ≡ b.o → Reads decoder.limits (Some o) x new [] end
-      → Reads before.limits (Some b.o) (b.x ++ x) new (map batch batches ++ []) end
-  reads_here end o x same reads =
-      reads_after (Some b.o) (Some b.o) b.x x new (map batch batches) [] end b.run
-      (subst (λ l. Reads l (Some b.o) x new [] end) b.same_limits (subst (λ p. Reads decoder.limits (Some p) x new [] end) same reads))
+  -- reading that stops behind some batches
+  reads_here : (stage : Stage) (end : Result End Fault) (x : List ℕ) → StopsAt decoder after x new stage end
+      → Reads before.limits before.state (b.x ++ x) new (map batch batches ++ []) end
+  reads_here stage end x t =
+      reads_after before.state decoder.state b.x x new (map batch batches) [] end b.run
+      (subst (λ l. Reads l decoder.state x new [] end) b.same_limits (stops_reads decoder after x new stage end t))
 
   -- where a fault is read behind some batches, it is answered
   pub batches_broken : (e : Fault) → ReadsNext now new n1 n2 decoder after (Err e) → TakesBatches old new before (Err e)
   batches_broken e t = record {
-    o = b.o;
-    in_force = b.in_force;
     x = b.x ++ t.x;
     bytes = Consumes-trans old now new b.x t.x b.bytes t.takes.bytes;
-    gives = (map batch batches ++ [], reads_here (Err e) t.o t.x (here (Err e) t) t.gives.0);
+    gives = (map batch batches ++ [], reads_here refused (Err e) t.x t.gives);
   }
 
   -- where the end is read behind some batches, they are all
   pub batches_ended : (end : End) → ReadsNext now new n1 n2 decoder after (Ok (next.Ended end))
       → TakesBatches old new before (Ok (batches, end))
   batches_ended end t = record {
-    o = b.o;
-    in_force = b.in_force;
     x = b.x ++ t.x;
     bytes = Consumes-trans old now new b.x t.x b.bytes t.takes.bytes;
-    gives = subst (λ es. Reads before.limits (Some b.o) (b.x ++ t.x) new es (Ok end)) (append-nil (map batch batches))
-        (reads_here (Ok end) t.o t.x (here (Ok (next.Ended end)) t) t.gives.0);
+    gives = subst (λ es. Reads before.limits before.state (b.x ++ t.x) new es (Ok end)) (append-nil (map batch batches))
+        (reads_here (over end) (Ok end) t.x t.gives);
   }
 
-  -- the end leaves what is in force
-  pub ended_stays : (end : End) → ReadsNext now new n1 n2 decoder after (Ok (next.Ended end)) → after.state ≡ before.state
-  ended_stays end t = ap (λ d. d.state) t.gives.1 ∙ b.same_state
+  -- the end leaves the schema in force
+  pub ended_stays : (end : End) → ReadsNext now new n1 n2 decoder after (Ok (next.Ended end))
+      → schema_of after.state ≡ schema_of before.state
+  ended_stays end t = (run_keeps t.gives.reaches.reached.run b.still_open).of_state ∙ b.same_schema
 
   module _ (found : Contents) (pairs : List (List ℕ × List ℕ)) (t : ReadsNext now new n1 n2 decoder after (Ok (next.Batch found pairs)))
     where
@@ -128,37 +117,33 @@ module _ (old now new : Option (List ℕ)) (f0 f1 n1 n2 : ℕ) (before decoder a
       abbrev all : List BatchRows
       all = batches ++ (rows_of (found, pairs) ∷ [])
 
-      run_here : Run before.limits (Some b.o) t.x (batch (rows_of (found, pairs)) ∷ []) (Some b.o)
-      run_here =
-          subst (λ l. Run l (Some b.o) t.x (batch (rows_of (found, pairs)) ∷ []) (Some b.o)) b.same_limits
-          (subst (λ p. Run decoder.limits (Some p) t.x (batch (rows_of (found, pairs)) ∷ []) (Some p)) (here _ t)
-          t.gives.0)
+      run_now : Run decoder.limits decoder.state t.x (batch (rows_of (found, pairs)) ∷ []) after.state
+      run_now = told_run decoder.state after.state t.x (batch (rows_of (found, pairs))) t.gives.last
 
-      run_all : Run before.limits (Some b.o) (b.x ++ t.x) (map batch all) (Some b.o)
+      run_all : Run before.limits before.state (b.x ++ t.x) (map batch all) after.state
       run_all =
-          subst (λ es. Run before.limits (Some b.o) (b.x ++ t.x) es (Some b.o))
+          subst (λ es. Run before.limits before.state (b.x ++ t.x) es after.state)
           (sym (map-append batch batches (rows_of (found, pairs) ∷ [])))
-          (run_then (Some b.o) (Some b.o) (Some b.o) b.x t.x (map batch batches) (batch (rows_of (found, pairs)) ∷ []) b.run run_here)
+          (run_then before.state decoder.state after.state b.x t.x (map batch batches) (batch (rows_of (found, pairs)) ∷ []) b.run
+          (subst (λ l. Run l decoder.state t.x (batch (rows_of (found, pairs)) ∷ []) after.state) b.same_limits run_now))
 
       -- memory ran out for the rows of a batch that was read
       pub batches_full : TakesBatches old new before (Err OutOfMemory)
       batches_full = record {
-        o = b.o;
-        in_force = b.in_force;
         x = b.x ++ t.x;
         bytes = Consumes-trans old now new b.x t.x b.bytes t.takes.bytes;
-        gives = (map batch all, no_memory (Some b.o) (Some b.o) (b.x ++ t.x) new (map batch all) run_all);
+        gives = (map batch all, no_memory before.state after.state (b.x ++ t.x) new (map batch all) run_all);
       }
 
       -- where one batch more is read, the batches that were read are those from before and it
       pub batches_more : (f2 : ℕ) (kept : List BatchRows) → (f1 ≡ 0) × (f2 ≡ 0) → kept ≡ all → Batches old new f0 f2 n2 before after kept
       batches_more f2 kept works is = subst (Batches old new f0 f2 n2 before after) (sym is) (record {
-        o = b.o;
-        in_force = b.in_force;
-        same_limits = ap (λ d. d.limits) t.gives.1 ∙ b.same_limits;
-        same_state = ap (λ d. d.state) t.gives.1 ∙ b.same_state;
-        between = ap (λ d. d.stage) t.gives.1;
-        counted = omega (arith, ap (λ d. d.messages) t.gives.1);
+        was_open = b.was_open;
+        still_open = run_open run_now b.still_open;
+        same_limits = t.same_limits ∙ b.same_limits;
+        same_schema = (run_keeps run_now b.still_open).of_state ∙ b.same_schema;
+        between = t.gives.stage;
+        counted = omega (arith, t.gives.counted);
         within = omega (arith, t.takes.counted);
         x = b.x ++ t.x;
         bytes = Consumes-trans old now new b.x t.x b.bytes t.takes.bytes;
@@ -182,31 +167,24 @@ module _ (old now new : Option (List ℕ)) (n0 n1 : ℕ) (before opened : Decodi
   abbrev s : Schema
   s = t.gives.0
 
-  abbrev in_force : InForce
-  in_force = record { schema = s }
-
-  at_schema : (o : InForce) → opened.state ≡ Some o → o ≡ in_force
-  at_schema o is = let both : Some o ≡ Some in_force = sym is ∙ ap (λ d. d.state) t.gives.2 in cc
-
   -- what is in force is the schema
-  pub schema_is : (σ : State) (u : Schema) → schema_of σ ≡ Some u → σ ≡ opened.state → u ≡ t.gives.0
+  pub schema_is : (σ : State) (u : Schema) → schema_of σ ≡ Some u → schema_of σ ≡ schema_of opened.state → u ≡ t.gives.0
   schema_is σ u found stays =
-      let both : Some u ≡ Some t.gives.0 = sym found ∙ ap schema_of (stays ∙ ap (λ d. d.state) t.gives.2) in cc
+      let both : Some u ≡ Some t.gives.0 = sym found ∙ (stays ∙ ap (λ d. schema_of d.state) t.gives.2) in cc
 
-  reads_all : (o : InForce) (x : List ℕ) (es : List Event) (end : Result End Fault) → opened.state ≡ Some o
-      → Reads opened.limits (Some o) x new es end → Reads limits None (t.x ++ x) new (schema s ∷ es) end
-  reads_all o x es end is reads =
+  reads_all : (x : List ℕ) (es : List Event) (end : Result End Fault) → Reads opened.limits opened.state x new es end
+      → Reads limits None (t.x ++ x) new (schema s ∷ es) end
+  reads_all x es end reads =
       subst (λ l. Reads l None (t.x ++ x) new (schema s ∷ es) end) same
-      (reads_after None (Some in_force) t.x x new (schema s ∷ []) es end t.gives.1
-      (subst (λ l. Reads l (Some in_force) x new es end) (ap (λ d. d.limits) t.gives.2)
-      (subst (λ p. Reads opened.limits (Some p) x new es end) (at_schema o is) reads)))
+      (reads_after None (Some (begun s)) t.x x new (schema s ∷ []) es end t.gives.1
+      (subst (λ (d : Decoding). Reads d.limits d.state x new es end) t.gives.2 reads))
 
   -- behind the schema reading broke off
   pub table_broken : (e : Fault) → TakesBatches now new opened (Err e) → TakesTable limits old new (Err e)
   table_broken e b = record {
     x = t.x ++ b.x;
     bytes = Consumes-trans old now new t.x b.x t.takes.bytes b.bytes;
-    gives = (schema s ∷ b.gives.0, reads_all b.o b.x b.gives.0 (Err e) b.in_force b.gives.1);
+    gives = (schema s ∷ b.gives.0, reads_all b.x b.gives.0 (Err e) b.gives.1);
   }
 
   -- the schema and its batches are the table
@@ -216,5 +194,5 @@ module _ (old now new : Option (List ℕ)) (n0 n1 : ℕ) (before opened : Decodi
     x = t.x ++ b.x;
     bytes = Consumes-trans old now new t.x b.x t.takes.bytes b.bytes;
     gives = subst (λ v. Reads limits None (t.x ++ b.x) new (schema v ∷ map batch batches) (Ok end)) (sym is)
-        (reads_all b.o b.x (map batch batches) (Ok end) b.in_force b.gives);
+        (reads_all b.x (map batch batches) (Ok end) b.gives);
   }

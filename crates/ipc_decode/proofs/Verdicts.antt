@@ -17,13 +17,14 @@ use Rattle.ipc_frame.proofs.OneFrame.{frame_one, no_frame_at_end}
 use Rattle.ipc_frame.proofs.Decided.{start_not_end, no_head_not_end, pending_not_end, pending_not_frame, no_head_not_frame}
 use Rattle.ipc_decode.specs.Stream.{State, Event, Step, Run, done, more as then}
 use Rattle.ipc_decode.specs.Readable.{IsSupportedEvent}
-use Rattle.ipc_decode.specs.Reasons.{Refuses, early, no_schema, second_schema, dictionary, no_rows}
+use Rattle.ipc_decode.specs.Reasons.{Refuses, early, no_schema, second_schema, dictionary, no_values, no_rows}
 use Rattle.ipc_decode.specs.Verdicts.{Decision, at_mark, at_size, at_metadata, at_body, FallsAt}
 use Rattle.ipc_decode.specs.Verdicts.{Out, Decides, Reached, Verdict, SameVerdict, OneVerdict, AnyCut}
 use Rattle.ipc_decode.specs.Verdicts as out
 use Rattle.ipc_decode.proofs.OneReading.{step_one}
 use Rattle.ipc_decode.proofs.Reasons.{message_refused, step_read}
-use Rattle.ipc_decode.proofs.Runs.{run_then}
+use Rattle.ipc_decode.specs.Counts.{messages_in}
+use Rattle.ipc_decode.proofs.Runs.{messages_then, run_then}
 
 -- ---- what is undecided is not refused
 
@@ -33,6 +34,7 @@ pending_refuses σ z k e p (early (inr r)) = pending_refused z k e p (inr r.0)
 pending_refuses σ z k e p (no_schema frame q none is other) = pending_frame z frame k p is
 pending_refuses σ z k e p (second_schema o s m body q is frame read) = pending_message z m body (h.Schema s) k p frame
 pending_refuses σ z k e p (dictionary o id b m body q is none frame) = pending_message z m body (h.Dictionary id b) k p frame
+pending_refuses σ z k e p (no_values o id b columns m body is found frame r) = pending_message z m body (h.Dictionary id b) k p frame
 pending_refuses σ z k e p (no_rows o b pairs m body is frame r) = pending_message z m body (h.Batch b pairs) k p frame
 
 -- ---- what ends is neither
@@ -46,6 +48,7 @@ ended_refused {limits} σ z e is some (early (inr r)) = no_head_not_end [] e (su
 ended_refused σ z e is some (no_schema frame q none i other) = some none
 ended_refused σ z e is some (second_schema o s m body q i frame read) = eos_frame z m body (h.Schema s) is frame
 ended_refused σ z e is some (dictionary o id b m body q i none frame) = eos_frame z m body (h.Dictionary id b) is frame
+ended_refused σ z e is some (no_values o id b columns m body i found frame r) = eos_frame z m body (h.Dictionary id b) is frame
 ended_refused σ z e is some (no_rows o b pairs m body i frame r) = eos_frame z m body (h.Batch b pairs) is frame
 
 -- ---- a message ends at one decision
@@ -168,6 +171,13 @@ reached_then σ τ υ x z w r es fs a b = record {
   run = run_then σ τ υ a.whole b.whole es fs a.run b.run;
   read = all_both es fs a.read b.read;
 }
+
+-- which is as many messages as both are
+pub messages_reached : {limits : Limits} → (σ τ υ : State) (x z w r : List ℕ) (es fs : List Event) (a : Reached limits σ x es τ z)
+    (b : Reached limits τ (z ++ w) fs υ r)
+    → messages_in (reached_then σ τ υ x z w r es fs a b).run ≡ messages_in a.run + messages_in b.run
+unfolding reached_then
+messages_reached σ τ υ x z w r es fs a b = messages_then σ τ υ a.whole b.whole es fs a.run b.run
 
 -- a verdict goes on wherever the bytes are cut
 pub cut_any : AnyCut

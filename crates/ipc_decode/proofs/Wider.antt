@@ -8,14 +8,16 @@ use Rattle.ipc_frame.proofs.Wider.{frame_wider}
 use Rattle.ipc_column.proofs.Wider.{rows_wider}
 use Rattle.ipc_decode.specs.declared.end.End.{End}
 use Rattle.ipc_decode.specs.declared.end.End.TheVariants.{Mark, Closed}
-use Rattle.ipc_decode.specs.Stream.{State, Event, Step, first, came, Run, done, more, Denotes}
+use Rattle.ipc_decode.specs.Stream.{State, Event, Step, first, came, sets, Run, done, more, Denotes, values_in}
 
 -- a step under some limits is one under all that cover them
 step_wider : {limits others : Limits} {σ τ : State} {h : Head} {body : List ℕ} {es : List Event} → Covers others limits
     → Step limits σ h body es τ → Step others σ h body es τ
 step_wider c first = first
 step_wider {limits} {others} c (came {o = o} {b = b} {body = body} {rows = rows} r) =
-    came (rows_wider limits others [] o.schema.fields b body rows c r)
+    came (rows_wider limits others (values_in o.dictionaries) o.schema.fields b body rows c r)
+step_wider {limits} {others} c (sets {b = b} {body = body} {columns = columns} {rows = rows} found r) =
+    sets found (rows_wider limits others [] columns b body rows c r)
 
 -- so is a list of messages
 pub run_wider : {limits others : Limits} {σ τ : State} {x : List ℕ} {es : List Event} → Covers others limits → Run limits σ x es τ

@@ -1,6 +1,10 @@
 -- What the frames of a stream bring, one after another (Arrow Columnar Format, "IPC Streaming
 -- Format").
-use Rattle.std.specs.Prelude.{◌≡◌, ℕ, List, [], Some, None, Result, Ok, Err, ⊤}
+use Rattle.std.specs.Prelude.{◌≡◌, ◌≢◌, ◌⊎◌, ℕ, ℤ, List, [], ◌∷◌, Option, Some, None, Result, Ok}
+use Rattle.std.specs.Prelude.{Err, ⊤, length}
+use Rattle.ipc_model.specs.Answers.{UnlessOutOfMemory}
+use Rattle.ipc_model.specs.WellFormed.{WellFormed}
+use Rattle.ipc_model.specs.declared.schema.Field.{Field}
 use Rattle.ipc_model.specs.declared.fault.Fault.{Fault}
 use Rattle.ipc_model.specs.declared.fault.Fault.TheVariants.{MissingSchema, SecondSchema}
 use Rattle.ipc_model.specs.declared.fault.Fault.TheVariants.{UnknownDictionary}
@@ -12,7 +16,9 @@ use Rattle.ipc_frame.specs.Pieces.{Framing, Progress}
 use Rattle.ipc_frame.specs.Pieces as frames
 use Rattle.ipc_frame.specs.declared.frame.Frame.{Frame as Framed}
 use Rattle.ipc_frame.specs.declared.frame.Frame.TheVariants as f
+use Rattle.ipc_column.specs.Contents.{Contents}
 use Rattle.ipc_column.specs.Rows.{Rows, RefusesParts}
+use Rattle.ipc_dictionaries.specs.ValuesColumns.{columns_in, columns_for}
 use Rattle.ipc_decode.specs.declared.course.Course.{Course}
 use Rattle.ipc_decode.specs.declared.end.End.TheVariants.{Mark}
 use Rattle.ipc_decode.specs.declared.event.Event.{Event}
@@ -22,15 +28,15 @@ use Rattle.ipc_decode.specs.declared.phase.Phase.TheVariants as phase
 use Rattle.ipc_decode.specs.declared.scope.Scope.{Scope}
 use Rattle.ipc_decode.specs.Counts.{count_up}
 use Rattle.ipc_decode.specs.Decoding.{Decoding, Stage, taking, over, refused}
-use Rattle.ipc_decode.specs.Readable.{IsReadable}
+use Rattle.ipc_decode.specs.Found.{rows_of}
 use Rattle.ipc_decode.specs.Reasons.{IsNoSchema, NamesNone}
-use Rattle.ipc_decode.specs.Scopes.{state_of}
-use Rattle.ipc_decode.specs.Stream.{State}
+use Rattle.ipc_decode.specs.Scopes.{in_scope, state_of}
+use Rattle.ipc_decode.specs.Stream.{InForce, State, Step, begun, values_in, schema, batch}
 
--- the columns of the schema that the frame brings, if it brings one, are read
-abbrev pub IsReadableFrame : Limits → Framed → Type 0
-IsReadableFrame limits (f.Message meta (h.Schema s) body) = IsReadable limits s
-IsReadableFrame limits frame = ⊤
+-- the schema that the frame brings, if it brings one, keeps the rules
+abbrev pub IsWellFormedFrame : Limits → Framed → Type 0
+IsWellFormedFrame limits (f.Message meta (h.Schema s) body) = WellFormed limits s
+IsWellFormedFrame limits frame = ⊤
 
 -- a message with this schema, or none
 abbrev pub BringsSchema : Framed → Result Schema Fault → Type 0
@@ -38,43 +44,67 @@ BringsSchema (f.Message meta head body) (Ok s) = head ≡ h.Schema s
 BringsSchema f.End (Ok s) = ⊥
 BringsSchema frame (Err fault) = (fault ≡ MissingSchema) × IsNoSchema frame
 
--- a message with the schema that is put in force, or none
+-- a message with the schema that is put in force, without a dictionary, or none
 abbrev pub BringsScope : Framed → Result Scope Fault → Type 0
-BringsScope frame (Ok scope) = BringsSchema frame (Ok scope.schema)
-BringsScope frame (Err fault) = BringsSchema frame (Err fault)
+BringsScope (f.Message meta head body) (Ok scope) =
+    (head ≡ h.Schema scope.schema) × (in_scope scope ≡ begun scope.schema)
+BringsScope f.End (Ok scope) = ⊥
+BringsScope frame (Err fault) =
+    UnlessOutOfMemory fault ((fault ≡ MissingSchema) × IsNoSchema frame)
+
+-- why a dictionary's message is refused
+abbrev pub RefusesValues : Limits → InForce → ℤ → BatchHead → List ℕ → Fault → Type 0
+RefusesValues limits o id b body fault = ((fault ≡ UnknownDictionary) × NamesNone id o.schema)
+    ⊎ ((columns : List Field) × (columns_for (columns_in o.schema.fields) id ≡ Some columns)
+    × RefusesParts limits fault [] columns b body)
+
+-- a batch of the rows that a head and a body give for the dictionary with the id
+abbrev pub GivesValues : Limits → InForce → ℤ → BatchHead → List ℕ → Contents → Type 0
+GivesValues limits o id b body values = (columns : List Field)
+    × (columns_for (columns_in o.schema.fields) id ≡ Some columns)
+    × Rows limits [] columns b body values.rows × (values.body_len ≡ length body)
+
+-- a dictionary's message with this head and body takes what is in force to what is then, or is
+-- refused and leaves it
+abbrev pub SetsValues : Limits → InForce → InForce → ℤ → BatchHead → List ℕ → Result Unit Fault
+    → Type 0
+SetsValues limits old new id b body (Ok x) =
+    Step limits (Some old) (h.Dictionary id b) body [] (Some new)
+SetsValues limits old new id b body (Err fault) =
+    (new ≡ old) × UnlessOutOfMemory fault (RefusesValues limits old id b body fault)
 
 -- why a frame behind the schema is refused
-abbrev pub RefusesNext : Limits → Schema → Framed → Fault → Type 0
-RefusesNext limits s f.End fault = ⊥
-RefusesNext limits s (f.Message meta (h.Schema t) body) fault = fault ≡ SecondSchema
-RefusesNext limits s (f.Message meta (h.Dictionary id b) body) fault =
-    (fault ≡ UnknownDictionary) × NamesNone id s
-RefusesNext limits s (f.Message meta (h.Batch b pairs) body) fault =
-    RefusesParts limits fault [] s.fields b body.items
+abbrev pub RefusesNext : Limits → InForce → Framed → Fault → Type 0
+RefusesNext limits o f.End fault = ⊥
+RefusesNext limits o (f.Message meta (h.Schema t) body) fault = fault ≡ SecondSchema
+RefusesNext limits o (f.Message meta (h.Dictionary id b) body) fault =
+    RefusesValues limits o id b body.items fault
+RefusesNext limits o (f.Message meta (h.Batch b pairs) body) fault =
+    RefusesParts limits fault (values_in o.dictionaries) o.schema.fields b body.items
 
--- a message with the rows of this batch, or the end mark, or neither
-abbrev pub BringsNext : Limits → Schema → Framed → Result Event Fault → Type 0
-BringsNext limits s (f.Message meta head body) (Ok (event.Batch found pairs)) =
-    (b : BatchHead) × (head ≡ h.Batch b pairs) × Rows limits [] s.fields b body.items found.rows
-BringsNext limits s f.End (Ok event.End) = ⊤
-BringsNext limits s frame (Err fault) = RefusesNext limits s frame fault
-BringsNext limits s frame found = ⊥
+-- why a frame is refused in this state
+abbrev pub RefusesFrame : Limits → State → Framed → Fault → Type 0
+RefusesFrame limits None frame fault = (fault ≡ MissingSchema) × IsNoSchema frame
+RefusesFrame limits (Some o) frame fault = RefusesNext limits o frame fault
 
--- what a frame before the schema brings: the schema that is in force then, or nothing
-abbrev pub BringsFirst : Framed → State → Result Event Fault → Type 0
-BringsFirst frame (Some o) (Ok event.Schema) = BringsSchema frame (Ok o.schema)
-BringsFirst frame None (Err fault) = BringsSchema frame (Err fault)
-BringsFirst frame state r = ⊥
-
--- what a frame brings in a state, and the state that it leaves
-abbrev pub Brings : Limits → State → Framed → State → Result Event Fault → Type 0
-Brings limits None frame new r = BringsFirst frame new r
-Brings limits (Some o) frame new r = (new ≡ Some o) × BringsNext limits o.schema frame r
+-- what a frame brings in a state, and the state that it leaves: a message tells an event or, where
+-- it sets a dictionary, none; the end mark comes behind a schema alone; and what is refused leaves
+-- the state
+abbrev pub Brings : Limits → State → Framed → State → Result (Option Event) Fault → Type 0
+Brings limits σ (f.Message meta head body) τ (Ok None) = Step limits σ head body.items [] τ
+Brings limits σ (f.Message meta head body) τ (Ok (Some event.Schema)) =
+    (s : Schema) × Step limits σ head body.items (schema s ∷ []) τ
+Brings limits σ (f.Message meta head body) τ (Ok (Some (event.Batch found pairs))) =
+    Step limits σ head body.items (batch (rows_of (found, pairs)) ∷ []) τ
+Brings limits σ f.End τ (Ok (Some event.End)) = (τ ≡ σ) × (σ ≢ None)
+Brings limits σ frame τ (Err fault) =
+    (τ ≡ σ) × UnlessOutOfMemory fault (RefusesFrame limits σ frame fault)
+Brings limits σ frame τ found = ⊥
 
 -- how an answer moves what is known of a stream beside its state
-abbrev pub Moves : Course → Course → Result Event Fault → Type 0
-Moves old new (Ok event.End) = (new.phase ≡ phase.Ended Mark) × (new.messages ≡ old.messages)
-Moves old new (Ok event) = (new.phase ≡ old.phase) × (new.messages ≡ count_up old.messages 1)
+abbrev pub Moves : Course → Course → Result (Option Event) Fault → Type 0
+Moves old new (Ok (Some event.End)) = (new.phase ≡ phase.Ended Mark) × (new.messages ≡ old.messages)
+Moves old new (Ok found) = (new.phase ≡ old.phase) × (new.messages ≡ count_up old.messages 1)
 Moves old new (Err fault) = (new.phase ≡ phase.Refused) × (new.messages ≡ old.messages)
 
 -- the same, refused

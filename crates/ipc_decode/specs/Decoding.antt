@@ -1,8 +1,10 @@
 -- A stream whose bytes come in pieces, call by call (Arrow Columnar Format, "IPC Streaming
 -- Format").
-use Rattle.std.specs.Prelude.{◌≡◌, ◌≢◌, ◌⊎◌, ℕ, ◌≤◌, List, [], ◌∷◌, ◌++◌, length, take}
+use Rattle.std.specs.Prelude.{◌≡◌, ◌≢◌, ◌⊎◌, ℕ, suc, ◌≤◌, List, [], ◌∷◌, ◌++◌, length, take}
 use Rattle.std.specs.Prelude.{Option, Some, None, Result, Ok, Err, ⊤}
 use Rattle.std.specs.Io.KnownBytes.{Consumes, IsAtEnd}
+use Rattle.std.specs.List.{sum_by}
+use Rattle.std.specs.Map.{values_of}
 use Rattle.ipc_model.specs.Answers.{UnlessOutOfMemory}
 use Rattle.ipc_model.specs.declared.fault.Fault.{Fault}
 use Rattle.ipc_model.specs.declared.fault.Fault.TheVariants.{Failed, Truncated}
@@ -16,7 +18,8 @@ use Rattle.ipc_decode.specs.declared.event.Event.{Event as Told}
 use Rattle.ipc_decode.specs.declared.event.Event.TheVariants as told
 use Rattle.ipc_decode.specs.Counts.{count_up, messages_in}
 use Rattle.ipc_decode.specs.Found.{rows_of}
-use Rattle.ipc_decode.specs.Stream.{State, Event, schema, batch}
+use Rattle.ipc_decode.specs.Readable.{IsSupportedEvent}
+use Rattle.ipc_decode.specs.Stream.{State, Event, schema, batch, Run, IsMessage}
 use Rattle.ipc_decode.specs.Verdicts.{Decision, Reached, Reason}
 
 -- how far a stream is: these bytes of an unfinished message came, or it ended so, or what came was
@@ -41,17 +44,32 @@ pub record Reaches (old new : Decoding) (x : List ℕ) (events : List Event)
   pub reached : Reached old.limits old.state x events new.state rest
   pub counted : new.messages ≡ count_up old.messages (messages_in reached.run)
 
+-- the bytes x are whole messages that tell nothing, and behind them one that tells this event
+pub record TellsLast (limits : Limits) (σ : State) (x : List ℕ) (event : Event)
+    (τ : State) : Type 0 where
+  pub silent : List ℕ
+  pub message : List ℕ
+  pub joined : x ≡ silent ++ message
+  pub between : State
+  pub run : Run limits σ silent [] between
+  pub told : IsMessage limits between message (event ∷ []) τ
+  pub read : IsSupportedEvent event
+
+-- and they lead a decoder from what it was to what it is behind that message
+pub record TellsOne (old new : Decoding) (x : List ℕ) (event : Event) : Type 0 where
+  pub last : TellsLast old.limits old.state x event new.state
+  pub counted : new.messages ≡ count_up old.messages (suc (messages_in last.run))
+  pub stage : new.stage ≡ taking []
+
 -- the bytes x tell nothing, and what follows their whole messages is kept, undecided
 abbrev pub Waits : Decoding → Decoding → List ℕ → Type 0
 Waits old new x = (rest : List ℕ) × Reaches old new x [] rest × (new.stage ≡ taking rest)
     × ((k : ℕ) × Pending old.limits rest k)
 
--- the last message of the bytes x, or the end mark, tells this
+-- the last message of the bytes x, or the end mark, tells this, and those before it tell nothing
 abbrev pub Tells : Decoding → Decoding → List ℕ → Told → Type 0
-Tells old new x told.Schema =
-    ((s : Schema) × Reaches old new x (schema s ∷ []) []) × (new.stage ≡ taking [])
-Tells old new x (told.Batch found pairs) =
-    Reaches old new x (batch (rows_of (found, pairs)) ∷ []) [] × (new.stage ≡ taking [])
+Tells old new x told.Schema = (s : Schema) × TellsOne old new x (schema s)
+Tells old new x (told.Batch found pairs) = TellsOne old new x (batch (rows_of (found, pairs)))
 Tells old new x told.End =
     Reaches old new x [] eos × (new.state ≢ None) × (new.stage ≡ over Mark)
 
@@ -83,12 +101,13 @@ FeedsAt old refused piece new r = (new ≡ old) × (r ≡ Err Failed)
 abbrev pub Feeds : Decoding → List ℕ → Decoding → Result (ℕ × Option Told) Fault → Type 0
 Feeds old piece new r = FeedsAt old old.stage piece new r
 
--- of the bytes that came from a source `feed` would answer this; a refusal comes with the last one
+-- of the bytes that came from a source `feed` would answer this; a refusal comes with the last one,
+-- behind no whole message, and leaves what is in force
 abbrev pub Gives : Decoding → Stage → List ℕ → Decoding → Result (Option Told) Fault → Type 0
 Gives old stage came new (Ok found) = FeedsAt old stage came new (Ok (length came, found))
-Gives old (taking z) came new (Err fault) = (new.stage ≡ refused)
-    × ((rest : List ℕ) × Reaches old new (z ++ came) [] rest
-    × UnlessOutside fault ((d : Decision) × Reason old.limits fault d new.state rest))
+Gives old (taking z) came new (Err fault) = (new.stage ≡ refused) × (new.state ≡ old.state)
+    × (new.messages ≡ old.messages)
+    × UnlessOutside fault ((d : Decision) × Reason old.limits fault d old.state (z ++ came))
 Gives old stage came new (Err fault) = FeedsAt old stage came new (Err fault)
 
 -- no more bytes came than are wanted before the next decision
@@ -121,10 +140,19 @@ abbrev pub Wants : Limits → Stage → ℕ → Type 0
 Wants limits (taking z) k = Pending limits z k
 Wants limits stage k = k ≡ 0
 
--- how many bytes are kept: all that came of the message at hand
-abbrev pub held_of : Stage → ℕ
-held_of (taking z) = length z
-held_of stage = 0
+-- how many bytes of the message at hand are kept: all that came
+abbrev pub kept_bytes : Stage → ℕ
+kept_bytes (taking z) = length z
+kept_bytes stage = 0
+
+-- how many bytes the bodies have together that set the dictionaries in force
+abbrev pub dictionary_bytes : State → ℕ
+dictionary_bytes None = 0
+dictionary_bytes (Some o) = sum_by (λ d. d.bytes) (values_of o.dictionaries)
+
+-- how many bytes a decoder keeps: those of the message at hand, and those of the dictionaries
+abbrev pub held_of : Decoding → ℕ
+held_of d = count_up (dictionary_bytes d.state) (kept_bytes d.stage)
 
 -- the same decoder, at this stage
 abbrev pub at_stage : Decoding → Stage → Decoding

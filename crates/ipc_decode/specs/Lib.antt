@@ -6,7 +6,9 @@ pub mod Counts
 pub mod Reasons
 pub mod Verdicts
 pub mod Decoding
+pub mod FedMessages
 pub mod Fed
+pub mod Alone
 pub mod Scopes
 pub mod Courses
 pub mod Taken

@@ -1,6 +1,6 @@
 -- A reader of a stream, call by call (Arrow Columnar Format, "IPC Streaming Format").
-use Rattle.std.specs.Prelude.{◌≡◌, ℕ, List, [], ◌∷◌, ◌++◌, length, Option, Some, None, Result, Ok}
-use Rattle.std.specs.Prelude.{Err}
+use Rattle.std.specs.Prelude.{◌≡◌, ℕ, suc, ℤ, List, [], ◌∷◌, ◌++◌, length, Option, Some, None}
+use Rattle.std.specs.Prelude.{Result, Ok, Err}
 use Rattle.std.specs.Io.KnownBytes.{Consumes}
 use Rattle.ipc_model.specs.declared.fault.Fault.{Fault}
 use Rattle.ipc_model.specs.declared.fault.Fault.TheVariants.{Failed}
@@ -11,29 +11,30 @@ use Rattle.ipc_decode.specs.declared.end.End.{End}
 use Rattle.ipc_decode.specs.declared.end.End.TheVariants.{Mark, Closed}
 use Rattle.ipc_decode.specs.declared.phase.Phase.{Phase}
 use Rattle.ipc_decode.specs.declared.phase.Phase.TheVariants.{Reading, Ended, Refused}
-use Rattle.ipc_decode.specs.Decoding.{Stage, taking, over, refused}
-use Rattle.ipc_decode.specs.Stream.{InForce, State, schema, batch, Run}
+use Rattle.ipc_decode.specs.Decoding.{Stage, taking, over, refused, TellsLast}
+use Rattle.ipc_decode.specs.Stream.{DictionaryInForce, InForce, State, Event, schema, batch, Run}
 use Rattle.ipc_decode.specs.Found.{Found, rows_of}
-use Rattle.ipc_decode.specs.Reasons.{Reads}
-use Rattle.ipc_decode.specs.Counts.{count_up}
+use Rattle.ipc_decode.specs.Reasons.{Ends, Reads}
+use Rattle.ipc_decode.specs.Counts.{count_up, messages_in}
 use Rattle.ipc_model.specs.declared.limits.Limits.{Limits}
 
 -- what is seen of a reader: what its source has left, how often that failed and the most bytes that
--- it still gives; its limits, the schema, whether it still reads, and how many messages and bytes
--- it took
+-- it still gives; its limits, the schema and the dictionaries in force, whether it still reads, and
+-- how many messages and bytes it took
 pub record Reader : Type 0 where
   pub remaining : Option (List ℕ)
   pub failures : ℕ
   pub bound : ℕ
   pub limits : Limits
   pub schema : Schema
+  pub dictionaries : List (ℤ × DictionaryInForce)
   pub phase : Phase
   pub messages : ℕ
   pub taken : ℕ
 
 -- what is in force for a reader
 abbrev pub in_force_of : Reader → InForce
-in_force_of r = record { schema = r.schema }
+in_force_of r = record { schema = r.schema; dictionaries = r.dictionaries }
 
 -- whether a reader still reads, by how far its decoder is
 abbrev pub phase_of : Stage → Phase
@@ -46,6 +47,11 @@ abbrev pub schema_in : State → Schema
 schema_in None = record { fields = []; metadata = [] }
 schema_in (Some o) = o.schema
 
+-- the dictionaries that are in force; before a schema came there are none
+abbrev pub dictionaries_in : State → List (ℤ × DictionaryInForce)
+dictionaries_in None = []
+dictionaries_in (Some o) = o.dictionaries
+
 -- between two calls no byte is kept
 abbrev pub KeepsNone : Stage → Type 0
 KeepsNone stage = (z : List ℕ) → stage ≡ taking z → z ≡ []
@@ -54,11 +60,12 @@ KeepsNone stage = (z : List ℕ) → stage ≡ taking z → z ≡ []
 abbrev pub WorksWhile : Stage → ℕ → Type 0
 WorksWhile stage failures = (z : List ℕ) → stage ≡ taking z → failures ≡ 0
 
--- a new reader took the first message, which is its schema's
+-- a new reader took the first message, which is its schema's, and no dictionary
 pub record Opens (limits : Limits) (old : Option (List ℕ)) (new : Reader) : Type 0 where
   pub x : List ℕ
   pub bytes : Consumes old new.remaining x
   pub run : Run limits None x (schema new.schema ∷ []) (Some (in_force_of new))
+  pub no_dictionary : new.dictionaries ≡ []
   pub same_limits : new.limits ≡ limits
   pub fresh : new.phase ≡ Reading
   pub one_message : new.messages ≡ 1
@@ -70,31 +77,46 @@ pub record OpenFails (limits : Limits) (old new : Option (List ℕ)) (fault : Fa
   pub bytes : Consumes old new x
   pub reads : Reads limits None x new [] (Err fault)
 
--- from one phase to another with these bytes taken: a batch, the end, or why neither is there
-abbrev pub NextAnswer : Limits → InForce → Phase → List ℕ → Option (List ℕ)
-    → Result (Option Found) Fault
-    → Phase → Type 0
-NextAnswer limits o Reading x left (Ok (Some found)) Reading =
-    Run limits (Some o) x (batch (rows_of found) ∷ []) (Some o)
-NextAnswer limits o Reading x left (Ok None) (Ended end) = Reads limits (Some o) x left [] (Ok end)
-NextAnswer limits o Reading x left (Err fault) Refused = Reads limits (Some o) x left [] (Err fault)
-NextAnswer limits o (Ended end) x left (Ok None) (Ended same) = (same ≡ end) × (x ≡ [])
-NextAnswer limits o Refused x left (Err Failed) Refused = x ≡ []
-NextAnswer limits o _ x left r _ = ⊥
+-- the bytes x are whole messages that tell nothing, and behind them one that tells this event; they
+-- lead a reader from what was in force to what is
+pub record LeadsTo (old new : Reader) (x : List ℕ) (event : Event) : Type 0 where
+  pub last : TellsLast old.limits (Some (in_force_of old)) x event (Some (in_force_of new))
+  pub messages : new.messages ≡ count_up old.messages (suc (messages_in last.run))
 
--- how many messages a call read
-abbrev pub batches_in : Result (Option Found) Fault → ℕ
-batches_in (Ok (Some found)) = 1
-batches_in r = 0
+-- the bytes x are whole messages that tell nothing, and lead a reader from what was in force to
+-- what
+-- is; and then reading ends so
+pub record EndsBehind (old new : Reader) (x : List ℕ) (answer : Result End Fault) : Type 0 where
+  pub whole : List ℕ
+  pub rest : List ℕ
+  pub joined : x ≡ whole ++ rest
+  pub run : Run old.limits (Some (in_force_of old)) whole [] (Some (in_force_of new))
+  pub ends : Ends old.limits (Some (in_force_of new)) rest new.remaining answer
+  pub messages : new.messages ≡ count_up old.messages (messages_in run)
+
+-- no byte was taken, and what is in force stays
+pub record Stays (old new : Reader) (x : List ℕ) : Type 0 where
+  pub none : x ≡ []
+  pub in_force : in_force_of new ≡ in_force_of old
+  pub messages : new.messages ≡ old.messages
+
+-- from one phase to another with these bytes taken: a batch, the end, or why neither is there
+abbrev pub NextAnswer : Reader → Reader → Phase → List ℕ → Result (Option Found) Fault → Phase
+    → Type 0
+NextAnswer old new Reading x (Ok (Some found)) Reading = LeadsTo old new x (batch (rows_of found))
+NextAnswer old new Reading x (Ok None) (Ended end) = EndsBehind old new x (Ok end)
+NextAnswer old new Reading x (Err fault) Refused = EndsBehind old new x (Err fault)
+NextAnswer old new (Ended end) x (Ok None) (Ended same) = (same ≡ end) × Stays old new x
+NextAnswer old new Refused x (Err Failed) Refused = Stays old new x
+NextAnswer old new _ x r _ = ⊥
 
 -- what a call of `next` took and gave
 pub record NextCall (old new : Reader) (r : Result (Option Found) Fault) : Type 0 where
   pub x : List ℕ
   pub bytes : Consumes old.remaining new.remaining x
-  pub gives : NextAnswer old.limits (in_force_of old) old.phase x new.remaining r new.phase
+  pub gives : NextAnswer old new old.phase x r new.phase
   pub same_schema : new.schema ≡ old.schema
   pub same_limits : new.limits ≡ old.limits
-  pub messages : new.messages ≡ count_up old.messages (batches_in r)
   pub counted : new.taken ≡ count_up old.taken (length x)
 
 -- a batch with these pairs and rows

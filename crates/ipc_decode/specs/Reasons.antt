@@ -9,6 +9,7 @@ use Rattle.ipc_model.specs.declared.fault.Fault.TheVariants.{UnknownDictionary}
 use Rattle.ipc_model.specs.WellFormed.{IsAmong}
 use Rattle.ipc_model.specs.Entries.{Entry, entries}
 use Rattle.ipc_model.specs.declared.schema.Dictionary.{Dictionary}
+use Rattle.ipc_model.specs.declared.schema.Field.{Field}
 use Rattle.ipc_model.specs.declared.schema.Schema.{Schema}
 use Rattle.ipc_meta.specs.declared.head.BatchHead.{BatchHead}
 use Rattle.ipc_meta.specs.declared.head.Head.TheVariants as h
@@ -19,9 +20,10 @@ use Rattle.ipc_frame.specs.Frames.{eos, Frame, Pending}
 use Rattle.ipc_frame.specs.Sees.{IsFrame}
 use Rattle.ipc_frame.specs.Decisions.{RefusesNow}
 use Rattle.ipc_column.specs.Rows.{RefusesParts}
+use Rattle.ipc_dictionaries.specs.ValuesColumns.{columns_in, columns_for}
 use Rattle.ipc_decode.specs.declared.end.End.{End}
 use Rattle.ipc_decode.specs.declared.end.End.TheVariants.{Mark, Closed}
-use Rattle.ipc_decode.specs.Stream.{InForce, State, Event, Run}
+use Rattle.ipc_decode.specs.Stream.{InForce, State, Event, Run, values_in}
 use Rattle.ipc_model.specs.declared.limits.Limits.{Limits}
 pub use Rattle.ipc_frame.specs.Failures.{IsOutside}
 
@@ -38,7 +40,9 @@ pub record NamesNone (id : ℤ) (s : Schema) : Type 0 where
       → d.id ≢ id
 
 -- in this state the message z is refused for this fault when its last byte comes: at its start or
--- its metadata, or as a whole
+-- its metadata, or as a whole: no schema where the first is due, a second one, a dictionary that no
+-- field names, or one whose parts give no values, or a batch whose parts give no rows under the
+-- dictionaries in force
 pub data Refuses (limits : Limits) (σ : State) (z : List ℕ) (fault : Fault) : Type 0 where
   early : RefusesNow limits z fault → Refuses limits σ z fault
   no_schema : (frame : Framed) → fault ≡ MissingSchema → σ ≡ None → IsFrame limits z frame
@@ -49,9 +53,14 @@ pub data Refuses (limits : Limits) (σ : State) (z : List ℕ) (fault : Fault) :
   dictionary : (o : InForce) (id : ℤ) (b : BatchHead) (metadata body : List ℕ)
       → fault ≡ UnknownDictionary → σ ≡ Some o → NamesNone id o.schema
       → Frame limits z metadata (h.Dictionary id b) body → Refuses limits σ z fault
+  no_values : (o : InForce) (id : ℤ) (b : BatchHead) (columns : List Field) (metadata body : List ℕ)
+      → σ ≡ Some o → columns_for (columns_in o.schema.fields) id ≡ Some columns
+      → Frame limits z metadata (h.Dictionary id b) body
+      → RefusesParts limits fault [] columns b body
+      → Refuses limits σ z fault
   no_rows : (o : InForce) (b : BatchHead) (pairs : List (List ℕ × List ℕ)) (metadata body : List ℕ)
       → σ ≡ Some o → Frame limits z metadata (h.Batch b pairs) body
-      → RefusesParts limits fault [] o.schema.fields b body
+      → RefusesParts limits fault (values_in o.dictionaries) o.schema.fields b body
       → Refuses limits σ z fault
 
 -- z has no byte that wasn't wanted: an undecided beginning of a message, and no more behind it than

@@ -1,5 +1,7 @@
--- What a stream of messages denotes (Arrow Columnar Format, "IPC Streaming Format").
-use Rattle.std.specs.Prelude.{◌≡◌, ℕ, List, [], ◌∷◌, ◌++◌, map, Option, Some, None}
+-- What a stream of messages denotes (Arrow Columnar Format, "IPC Streaming Format" and "Dictionary
+-- Messages").
+use Rattle.std.specs.Prelude.{◌≡◌, ℕ, ℤ, List, [], ◌∷◌, ◌++◌, length, map, Option, Some, None}
+use Rattle.ipc_model.specs.declared.schema.Field.{Field}
 use Rattle.ipc_model.specs.declared.schema.Schema.{Schema}
 use Rattle.ipc_model.specs.declared.value.Value.{Value}
 use Rattle.ipc_model.specs.declared.table.BatchRows.{BatchRows}
@@ -8,18 +10,44 @@ use Rattle.ipc_meta.specs.declared.head.Head.{Head}
 use Rattle.ipc_meta.specs.declared.head.Head.TheVariants as head
 use Rattle.ipc_meta.specs.declared.head.BatchHead.{BatchHead}
 use Rattle.ipc_frame.specs.Frames.{eos, Frame}
+use Rattle.ipc_column.specs.Dictionaries.{Dictionaries}
 use Rattle.ipc_column.specs.Rows.{Rows}
+use Rattle.ipc_column.specs.Values.{first_of}
+use Rattle.ipc_dictionaries.specs.InForce.{put}
+use Rattle.ipc_dictionaries.specs.ValuesColumns.{columns_in, columns_for}
 use Rattle.ipc_decode.specs.declared.end.End.{End}
 use Rattle.ipc_decode.specs.declared.end.End.TheVariants.{Mark, Closed}
 use Rattle.ipc_model.specs.declared.limits.Limits.{Limits}
 
--- what is in force once the schema came
+-- a dictionary that was set: its values, and how many bytes the body has that set them
+pub record DictionaryInForce : Type 0 where
+  pub values : List Value
+  pub bytes : ℕ
+
+-- what is in force once the schema came: the schema, and each dictionary that was set, beside its
+-- id, in the order of the ids
 pub record InForce : Type 0 where
   pub schema : Schema
+  pub dictionaries : List (ℤ × DictionaryInForce)
+
+-- the values of each dictionary, which the indices of a batch name
+abbrev pub values_in : List (ℤ × DictionaryInForce) → Dictionaries
+values_in dictionaries = map (λ e. (e.0, e.1.values)) dictionaries
 
 -- none before the schema
 abbrev pub State : Type 0
 State = Option InForce
+
+-- what is in force behind the schema's message: no dictionary yet
+abbrev pub begun : Schema → InForce
+begun s = record { schema = s; dictionaries = [] }
+
+-- what is in force once the dictionary with the id is set to the values of these rows, which lie in
+-- a body of so many bytes; those that it had before are in force no more
+abbrev pub with_dictionary : InForce → ℤ → List (List Value) → ℕ → InForce
+with_dictionary o id rows bytes = record o {
+  dictionaries = put o.dictionaries id (record { values = map first_of rows; bytes = bytes });
+}
 
 -- what a message tells a reader
 pub data Event : Type 0 where
@@ -27,14 +55,22 @@ pub data Event : Type 0 where
   batch : BatchRows → Event
 
 -- A message with this head and body takes a state to the next, and tells these events. The first is
--- the schema's, whose body is not looked at; then come batches, each with its pairs as they are
+-- the schema's, whose body is not looked at. Then come batches, each with its pairs as they are and
+-- with rows under the dictionaries in force; and dictionaries that a field names, which tell
+-- nothing: the rows of the one column of its values, which has no dictionary, are set for the id
 pub data Step (limits : Limits) : State → Head → List ℕ → List Event → State → Type 0 where
   first : {s : Schema} {body : List ℕ}
-      → Step limits None (head.Schema s) body (schema s ∷ []) (Some (record { schema = s }))
+      → Step limits None (head.Schema s) body (schema s ∷ []) (Some (begun s))
   came : {o : InForce} {b : BatchHead} {pairs : List (List ℕ × List ℕ)} {body : List ℕ}
-      {rows : List (List Value)} → Rows limits [] o.schema.fields b body rows
+      {rows : List (List Value)}
+      → Rows limits (values_in o.dictionaries) o.schema.fields b body rows
       → Step limits (Some o) (head.Batch b pairs) body
       (batch (record { pairs = pairs; rows = rows }) ∷ []) (Some o)
+  sets : {o : InForce} {id : ℤ} {b : BatchHead} {body : List ℕ} {columns : List Field}
+      {rows : List (List Value)} → columns_for (columns_in o.schema.fields) id ≡ Some columns
+      → Rows limits [] columns b body rows
+      → Step limits (Some o) (head.Dictionary id b) body []
+      (Some (with_dictionary o id rows (length body)))
 
 -- a list of messages, each of them a step
 pub data Run (limits : Limits) : State → List ℕ → List Event → State → Type 0 where
@@ -58,12 +94,24 @@ Denotes limits x t Mark = (y : List ℕ) × (x ≡ y ++ eos) × DenotesClosed li
 
 -- x is the message of the schema, with which a stream begins
 abbrev pub OpensStream : Limits → Schema → List ℕ → Type 0
-OpensStream limits s x = Run limits None x (schema s ∷ []) (Some (record { schema = s }))
+OpensStream limits s x = Run limits None x (schema s ∷ []) (Some (begun s))
 
--- x is the message of a batch with these pairs and rows, behind the schema
+-- x is the message of a batch with these pairs and rows, where no dictionary is in force
 abbrev pub AddsBatch : Limits → Schema → BatchRows → List ℕ → Type 0
-AddsBatch limits s b x = Run limits (Some (record { schema = s })) x (batch b ∷ [])
-    (Some (record { schema = s }))
+AddsBatch limits s b x = Run limits (Some (begun s)) x (batch b ∷ []) (Some (begun s))
+
+-- x is messages that tell this batch, whatever dictionaries they set
+abbrev pub TellsBatch : Limits → InForce → BatchRows → List ℕ → Type 0
+TellsBatch limits o b x = (τ : State) × Run limits (Some o) x (batch b ∷ []) τ
+
+-- x is one message, which takes a state to the next and tells these events
+pub record IsMessage (limits : Limits) (σ : State) (x : List ℕ) (events : List Event)
+    (τ : State) : Type 0 where
+  pub metadata : List ℕ
+  pub head : Head
+  pub body : List ℕ
+  pub frame : Frame limits x metadata head body
+  pub step : Step limits σ head body events τ
 
 -- x is the end mark
 abbrev pub EndsStream : List ℕ → Type 0

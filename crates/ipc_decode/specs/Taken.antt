@@ -1,6 +1,6 @@
 -- What a reader takes from its source, and what it answers (Arrow Columnar Format, "IPC Streaming
 -- Format").
-use Rattle.std.specs.Prelude.{◌≡◌, ◌≢◌, ℕ, List, [], ◌∷◌, length, map, Option, Some, None}
+use Rattle.std.specs.Prelude.{◌≡◌, ℕ, List, [], ◌∷◌, length, map, Option, Some, None}
 use Rattle.std.specs.Prelude.{Result, Ok, Err, ⊤}
 use Rattle.std.specs.Io.KnownBytes.{Consumes, IsAtEnd}
 use Rattle.ipc_model.specs.declared.fault.Fault.{Fault}
@@ -14,25 +14,32 @@ use Rattle.ipc_decode.specs.declared.event.Event.{Event as Told}
 use Rattle.ipc_decode.specs.declared.pulling.Next.{Next}
 use Rattle.ipc_decode.specs.declared.pulling.Next.TheVariants as next
 use Rattle.ipc_decode.specs.Counts.{count_up}
-use Rattle.ipc_decode.specs.Decoding.{Decoding, at_stage, taking, over, refused, Reaches, Tells}
+use Rattle.ipc_decode.specs.Decoding.{Decoding, Stage, taking, over, refused, Reaches, Tells}
+use Rattle.ipc_decode.specs.Decoding.{TellsOne}
 use Rattle.ipc_decode.specs.Found.{rows_of}
-use Rattle.ipc_decode.specs.Reasons.{Breaks, Reads}
-use Rattle.ipc_decode.specs.Stream.{InForce, State, Event, schema, batch, Run, events_of}
+use Rattle.ipc_decode.specs.Reasons.{Ends, Reads}
+use Rattle.ipc_decode.specs.Stream.{State, Event, schema, batch, Run, begun, events_of}
 
 -- a call took these bytes and counted them
 pub record Takes (old new : Option (List ℕ)) (count_old count_new : ℕ) (x : List ℕ) : Type 0 where
   pub bytes : Consumes old new x
   pub counted : count_new ≡ count_up count_old (length x)
 
+-- the bytes x are whole messages that tell nothing, and then reading ends so, at this stage
+pub record StopsAt (old new : Decoding) (x : List ℕ) (left : Option (List ℕ)) (stage : Stage)
+    (answer : Result End Fault) : Type 0 where
+  pub rest : List ℕ
+  pub reaches : Reaches old new x [] rest
+  pub ends : Ends old.limits new.state rest left answer
+  pub at : new.stage ≡ stage
+
 -- the bytes x tell this event, or the source is at its end behind whole messages, or reading breaks
 -- off
 abbrev pub PullAnswer : Decoding → Decoding → List ℕ → Option (List ℕ)
     → Result (Option Told) Fault → Type 0
 PullAnswer old new x left (Ok (Some event)) = Tells old new x event
-PullAnswer old new x left (Ok None) =
-    Reaches old new x [] [] × (new.state ≢ None) × (new.stage ≡ over Closed) × IsAtEnd left
-PullAnswer old new x left (Err fault) = (new.stage ≡ refused)
-    × ((rest : List ℕ) × Reaches old new x [] rest × Breaks old.limits new.state rest left fault)
+PullAnswer old new x left (Ok None) = StopsAt old new x left (over Closed) (Ok Closed)
+PullAnswer old new x left (Err fault) = StopsAt old new x left refused (Err fault)
 
 -- what was taken from the source for the next event, and what it is
 pub record Pulls (old new : Option (List ℕ)) (count_old count_new : ℕ) (before after : Decoding)
@@ -44,10 +51,10 @@ pub record Pulls (old new : Option (List ℕ)) (count_old count_new : ℕ) (befo
 -- the first message is this schema's, which is in force now, or there is none
 abbrev pub GivesSchema : Decoding → Decoding → List ℕ → Option (List ℕ) → Result Unit Fault → Type 0
 GivesSchema old new x left (Ok done) = (s : Schema)
-    × Run old.limits None x (schema s ∷ []) (Some (record { schema = s }))
+    × Run old.limits None x (schema s ∷ []) (Some (begun s))
     × (new ≡ record {
       limits = old.limits;
-      state = Some (record { schema = s });
+      state = Some (begun s);
       stage = taking [];
       messages = 1;
     })
@@ -60,32 +67,20 @@ pub record TakesSchema (old new : Option (List ℕ)) (count_old count_new : ℕ)
   pub takes : Takes old new count_old count_new x
   pub gives : GivesSchema before after x new r
 
--- the next batch, or how the stream ends, or neither, and what the decoder is then
-abbrev pub ReadAnswer : Decoding → Decoding → InForce → List ℕ → Option (List ℕ)
-    → Result Next Fault → Type 0
-ReadAnswer old new o x left (Ok (next.Batch found pairs)) =
-    Run old.limits (Some o) x (batch (rows_of (found, pairs)) ∷ []) (Some o)
-    × (new ≡ record {
-      limits = old.limits;
-      state = old.state;
-      stage = taking [];
-      messages = count_up old.messages 1;
-    })
-ReadAnswer old new o x left (Ok (next.Ended end)) =
-    Reads old.limits (Some o) x left [] (Ok end)
-    × (new ≡ at_stage old (over end))
-ReadAnswer old new o x left (Err fault) =
-    Reads old.limits (Some o) x left [] (Err fault)
-    × (new ≡ at_stage old refused)
+-- the next batch, or how the stream ends, or neither, behind dictionaries that were set
+abbrev pub ReadAnswer : Decoding → Decoding → List ℕ → Option (List ℕ) → Result Next Fault → Type 0
+ReadAnswer old new x left (Ok (next.Batch found pairs)) =
+    TellsOne old new x (batch (rows_of (found, pairs)))
+ReadAnswer old new x left (Ok (next.Ended end)) = StopsAt old new x left (over end) (Ok end)
+ReadAnswer old new x left (Err fault) = StopsAt old new x left refused (Err fault)
 
 -- what was taken from the source for the next event behind the schema, and what was found
 pub record ReadsNext (old new : Option (List ℕ)) (count_old count_new : ℕ)
     (before after : Decoding) (r : Result Next Fault) : Type 0 where
-  pub o : InForce
-  pub in_force : before.state ≡ Some o
   pub x : List ℕ
   pub takes : Takes old new count_old count_new x
-  pub gives : ReadAnswer before after o x new r
+  pub same_limits : after.limits ≡ before.limits
+  pub gives : ReadAnswer before after x new r
 
 -- a batch has a column for each field of the schema
 abbrev pub HasAllColumns : State → Next → Type 0
@@ -98,20 +93,18 @@ IsBatch (next.Batch found pairs) = ⊤
 IsBatch (next.Ended end) = ⊥
 
 -- the bytes are these batches and the end, or some messages behind which reading broke off
-abbrev pub GivesBatches : Limits → InForce → List ℕ → Option (List ℕ)
+abbrev pub GivesBatches : Limits → State → List ℕ → Option (List ℕ)
     → Result (List BatchRows × End) Fault → Type 0
-GivesBatches limits o x left (Ok b) = Reads limits (Some o) x left (map batch b.0) (Ok b.1)
-GivesBatches limits o x left (Err fault) = (events : List Event)
-    × Reads limits (Some o) x left events (Err fault)
+GivesBatches limits σ x left (Ok b) = Reads limits σ x left (map batch b.0) (Ok b.1)
+GivesBatches limits σ x left (Err fault) = (events : List Event)
+    × Reads limits σ x left events (Err fault)
 
 -- what was taken of a source behind the schema, and what that is
 pub record TakesBatches (old new : Option (List ℕ)) (before : Decoding)
     (r : Result (List BatchRows × End) Fault) : Type 0 where
-  pub o : InForce
-  pub in_force : before.state ≡ Some o
   pub x : List ℕ
   pub bytes : Consumes old new x
-  pub gives : GivesBatches before.limits o x new r
+  pub gives : GivesBatches before.limits before.state x new r
 
 -- the bytes are this table and its end, or some messages behind which reading broke off
 abbrev pub GivesTable : Limits → List ℕ → Option (List ℕ) → Result (Table × End) Fault → Type 0

@@ -1,6 +1,7 @@
 use crate::course::Course;
 use crate::end::End;
 use crate::event::Event;
+use crate::fed::Fed;
 use crate::phase::Phase;
 use ipc_column::Batch;
 use ipc_frame::{Frames, Source};
@@ -13,7 +14,8 @@ use std::marker::Model;
 ///
 /// Bytes are pushed by `feed`, or pulled by `feed_from`; the two may be mixed. Of the message at
 /// hand all bytes that came are kept, and behind a message nothing of it: the body of a record
-/// batch goes to the batch without a copy. However small the pieces are, metadata is read when it
+/// batch goes to the batch without a copy, and that of a dictionary stays while it is in force.
+/// However small the pieces are, metadata is read when it
 /// is whole and once more with the whole body, and the lists grow as bytes come, never by what a
 /// message states. A batch that is needed no more may be given back to `reuse`.
 ///
@@ -29,12 +31,13 @@ pub struct Decoder {
 impl Model for Decoder {
     ghost use Rattle.std.specs.Coded.{codes};
     ghost use Rattle.ipc_model.specs.contracts.schema.Field as field;
+    ghost use Rattle.ipc_model.specs.contracts.value.Value as value;
     ghost use Rattle.ipc_decode.specs.Courses.{IsSound, decoding_of};
     ghost use Rattle.ipc_decode.specs.Decoding.{Decoding};
 
     ghost Value = { Decoding };
 
-    ghost coded = { Prim.hlevel (codes, field.the_row.coded) };
+    ghost coded = { Prim.hlevel (codes, field.the_row.coded, value.the_row.coded) };
 
     ghost view = { λ s. decoding_of s.frames s.course };
 
@@ -44,7 +47,8 @@ impl Model for Decoder {
 impl Decoder {
     ghost use Rattle.std.specs.Prelude.{◌≡◌, ◌≤◌, ◌+◌, [], None, IfOk, IfSome, OnOk, option_copied};
     ghost use Rattle.ipc_decode.specs.Decoding.{ClosesAt, Draws, FailsWhile, Feeds, HasColumns};
-    ghost use Rattle.ipc_decode.specs.Decoding.{Wants, held_of, schema_of, taking};
+    ghost use Rattle.ipc_decode.specs.Decoding.{Wants, held_of, kept_bytes, schema_of, taking};
+    ghost use Rattle.ipc_decode.specs.FedMessages.{FeedsMessage, ForTold};
     ghost use Rattle.ipc_decode.specs.Reader.{phase_of};
 
     /// At the beginning of a stream, of which nothing came. What it accepts is within `limits`, in
@@ -63,8 +67,10 @@ impl Decoder {
     }
 
     /// Takes a beginning of `piece` and says how many bytes it has: it ends with the first event,
-    /// which is given at once, and without one the whole piece is taken. What was not taken is the
-    /// caller's to feed again. After the end mark, or after a `close` that was `Ok`, nothing is
+    /// which is given at once, and without one the whole piece is taken. A dictionary's message
+    /// tells no event: its values are in force from its last byte on, and more is taken behind it.
+    /// What was not taken is the caller's to feed again. After the end mark, or after a `close`
+    /// that was `Ok`, nothing is
     /// taken, `Ok((0, None))`.
     ///
     /// Each refusal comes with the byte that decides it, wherever the piece ends, and is true of
@@ -75,7 +81,8 @@ impl Decoder {
     ///   schema;
     /// - at the last byte of the metadata F5 to F9 and F12 to F24, for what it states;
     /// - at the last byte of the body F10 (another message where the schema is due), F11 (a second
-    ///   schema), F25 (a dictionary that no field names) and F26 to F34, for a batch.
+    ///   schema), F25 (a dictionary that no field names), F26 to F33, for a dictionary, and F26 to
+    ///   F34, for a batch.
     ///
     /// `Failed` (F35) says that an earlier call was refused, `OutOfMemory` (F37) that a growth was.
     pub fn feed(&mut self, piece: &[u8]) -> Result<(usize, Option<Event>), Fault>
@@ -84,23 +91,42 @@ impl Decoder {
         // A batch has a column for each field of the schema.
         ensures columns { IfOk result (λ found. IfSome found.1 (HasColumns self.new.state)) }
     {
+        let mut taken = 0;
+        loop {
+            let (count, fed) = self.feed_message(&piece[taken..])?;
+            taken += count;
+            match fed {
+                Fed::More => return Ok((taken, None)),
+                Fed::Told(event) => return Ok((taken, Some(event))),
+                Fed::Silent => {}
+            }
+        }
+    }
+
+    // Takes a beginning of the piece, as `feed` does, but no byte behind the message at hand.
+    fn feed_message(&mut self, piece: &[u8]) -> Result<(usize, Fed), Fault>
+        ensures fed { FeedsMessage self.old piece.now self.new result }
+        ensures limits { self.new.limits ≡ self.old.limits }
+        ensures columns { IfOk result (λ fed. ForTold fed.1 (HasColumns self.new.state)) }
+    {
         match self.course.phase {
             Phase::Refused => Err(Fault::Failed),
-            Phase::Ended(_) => Ok((0, None)),
+            Phase::Ended(_) => Ok((0, Fed::More)),
             Phase::Reading => match self.frames.feed(piece) {
                 Err(fault) => Err(self.course.refuse(fault)),
-                Ok((taken, None)) => Ok((taken, None)),
-                Ok((taken, Some(frame))) => {
-                    let event = self.course.accept(self.alloc, frame)?;
-                    Ok((taken, Some(event)))
-                }
+                Ok((taken, None)) => Ok((taken, Fed::More)),
+                Ok((taken, Some(frame))) => match self.course.accept(self.alloc, frame)? {
+                    Some(event) => Ok((taken, Fed::Told(event))),
+                    None => Ok((taken, Fed::Silent)),
+                },
             },
         }
     }
 
     /// Asks the source once, for no more than `wants` says, and takes what comes, straight to where
     /// it is kept. It says how many bytes came, beside a refusal too, and the event that they
-    /// bring. Without a refusal no byte comes only at the source's end; after the end mark, or
+    /// bring; those of a dictionary's message bring none. Without a refusal no byte comes only at
+    /// the source's end; after the end mark, or
     /// after a `close` that was `Ok`, the source is not asked, `(0, Ok(None))`.
     ///
     /// What comes is answered as `feed` answers it, each refusal with its deciding byte, and there
@@ -124,7 +150,7 @@ impl Decoder {
                     Err(fault) => (count, Err(self.course.refuse(fault))),
                     Ok(None) => (count, Ok(None)),
                     Ok(Some(frame)) => match self.course.accept(self.alloc, frame) {
-                        Ok(event) => (count, Ok(Some(event))),
+                        Ok(found) => (count, Ok(found)),
                         Err(fault) => (count, Err(fault)),
                     },
                 }
@@ -165,10 +191,19 @@ impl Decoder {
         }
     }
 
-    /// How many bytes are kept of the message at hand: all of it that came. It fails never and
+    /// How many bytes are kept: those of the message at hand, of which all that came is, and those
+    /// of the bodies that set the dictionaries in force. After the end and after a refusal the
+    /// dictionaries stay, and nothing of a message. The count stops at 2^64 - 1. It fails never and
     /// takes no memory.
     pub fn held(&self) -> usize
-        ensures { result ≡ held_of self.now.stage }
+        ensures { result ≡ held_of self.now }
+    {
+        self.course.dictionary_bytes().saturating_add(self.kept())
+    }
+
+    // How many bytes are kept of the message at hand.
+    fn kept(&self) -> usize
+        ensures { result ≡ kept_bytes self.now.stage }
     {
         match self.course.phase {
             Phase::Reading => self.frames.held(),
@@ -202,7 +237,8 @@ impl Decoder {
         course.into_schema()
     }
 
-    /// How many messages came, the schema's included; a refused one isn't counted. The count stops
+    /// How many messages came, the schema's and those of dictionaries included; a refused one isn't
+    /// counted. The count stops
     /// at 2^64 - 1.
     pub fn messages(&self) -> u64
         ensures { result ≡ self.now.messages }

@@ -1,17 +1,14 @@
-ghost use Rattle.std.specs.Prelude.{◌≡◌, IfOk, None, Some};
-ghost use Rattle.ipc_decode.specs.Courses.{Brings, BringsNext, BringsSchema, BringsScope};
-ghost use Rattle.ipc_decode.specs.Courses.{IsReadableFrame, IsRefused, Moves};
-ghost use Rattle.ipc_decode.specs.Decoding.{HasColumns, schema_of};
-ghost use Rattle.ipc_decode.specs.Readable.{IsReadable};
-ghost use Rattle.ipc_decode.specs.Reasons.{NamesNone};
-ghost use Rattle.ipc_decode.specs.Scopes.{IsUnder, state_of};
+ghost use Rattle.std.specs.Prelude.{◌≡◌, IfOk, IfSome, None, Some};
+ghost use Rattle.ipc_decode.specs.Courses.{Brings, BringsSchema, BringsScope, IsRefused};
+ghost use Rattle.ipc_decode.specs.Courses.{IsWellFormedFrame, Moves};
+ghost use Rattle.ipc_decode.specs.Decoding.{HasColumns, dictionary_bytes, schema_of};
+ghost use Rattle.ipc_decode.specs.Scopes.{IsUnder, in_scope, state_of};
 
 use crate::course::Course;
 use crate::end::End;
 use crate::event::Event;
 use crate::phase::Phase;
 use crate::scope::Scope;
-use ipc_column::Batch;
 use ipc_frame::Frame;
 use ipc_meta::Head;
 use ipc_model::{Fault, Limits, Schema};
@@ -32,43 +29,33 @@ fn schema_in(frame: Frame) -> Result<Schema, Fault>
 
 // What the schema that a frame brings puts in force.
 fn scope_of(alloc: Global, limits: &Limits, frame: Frame) -> Result<Scope, Fault>
-    requires { IsReadableFrame limits.now frame }
+    requires { IsWellFormedFrame limits.now frame }
     ensures scope { BringsScope frame result }
     ensures limits { IfOk result (λ scope. scope.limits ≡ limits.now) }
 {
-    Ok(Scope::new(alloc, *limits, schema_in(frame)?))
+    Scope::new(alloc, *limits, schema_in(frame)?)
 }
 
-// Why a dictionary with this id isn't taken: no field of types that are read names one.
-fn unknown_dictionary(limits: &Limits, schema: &Schema, id: i64) -> Fault
-    requires { IsReadable limits.now schema.now }
-    ensures fault { result ≡ Fault.UnknownDictionary }
-    ensures names { NamesNone id schema.now }
-{
-    Fault::UnknownDictionary
-}
-
-// What a frame behind the schema brings.
-fn next_of(alloc: Global, scope: &Scope, frame: Frame) -> Result<Event, Fault>
-    ensures next { BringsNext scope.now.limits scope.now.schema frame result }
-    ensures columns { IfOk result (HasColumns (Some (record { schema = scope.now.schema }))) }
+// What a frame behind the schema brings: an event, or none where it sets a dictionary.
+fn next_of(alloc: Global, scope: &mut Scope, frame: Frame) -> Result<Option<Event>, Fault>
+    ensures next { Brings scope.old.limits (Some (in_scope scope.old)) frame
+        (Some (in_scope scope.new)) result }
+    ensures limits { scope.new.limits ≡ scope.old.limits }
+    ensures columns { IfOk result
+        (λ found. IfSome found (HasColumns (Some (in_scope scope.new)))) }
 {
     match frame {
-        Frame::End => Ok(Event::End),
+        Frame::End => Ok(Some(Event::End)),
         Frame::Message { meta, head, body } => match head {
             Head::Batch(head, pairs) => {
-                let batch = Batch::check_borrowed(
-                    alloc,
-                    &scope.limits,
-                    scope.schema.fields.as_slice(),
-                    head,
-                    body,
-                    &scope.dictionaries,
-                )?;
-                Ok(Event::Batch(batch, pairs))
+                let batch = scope.read_batch(alloc, head, body)?;
+                Ok(Some(Event::Batch(batch, pairs)))
             }
             Head::Schema(_) => Err(Fault::SecondSchema),
-            Head::Dictionary(id, _) => Err(unknown_dictionary(&scope.limits, &scope.schema, id)),
+            Head::Dictionary(id, head) => {
+                scope.set(alloc, id, head, body)?;
+                Ok(None)
+            }
         },
     }
 }
@@ -79,18 +66,18 @@ fn event_of(
     limits: &Limits,
     scope: &mut Option<Scope>,
     frame: Frame,
-) -> Result<Event, Fault>
-    requires readable { IsReadableFrame limits.now frame }
+) -> Result<Option<Event>, Fault>
+    requires well_formed { IsWellFormedFrame limits.now frame }
     requires under { IsUnder limits.now scope.old }
     ensures brings { Brings limits.now (state_of scope.old) frame (state_of scope.new) result }
     ensures under { IsUnder limits.now scope.new }
-    ensures columns { IfOk result (HasColumns (state_of scope.new)) }
+    ensures columns { IfOk result (λ found. IfSome found (HasColumns (state_of scope.new))) }
 {
     match scope {
         Some(scope) => next_of(alloc, scope, frame),
         None => {
             *scope = Some(scope_of(alloc, limits, frame)?);
-            Ok(Event::Schema)
+            Ok(Some(Event::Schema))
         }
     }
 }
@@ -111,28 +98,39 @@ impl Course {
         }
     }
 
-    // Takes the next frame.
-    pub fn accept(&mut self, alloc: Global, frame: Frame) -> Result<Event, Fault>
-        requires { IsReadableFrame self.old.limits frame }
+    // Takes the next frame: what it tells, or none where it sets a dictionary.
+    pub fn accept(&mut self, alloc: Global, frame: Frame) -> Result<Option<Event>, Fault>
+        requires { IsWellFormedFrame self.old.limits frame }
         ensures limits { self.new.limits ≡ self.old.limits }
         ensures brings { Brings self.old.limits (state_of self.old.scope) frame
             (state_of self.new.scope) result }
         ensures moves { Moves self.old self.new result }
-        ensures columns { IfOk result (HasColumns (state_of self.new.scope)) }
+        ensures columns { IfOk result
+            (λ found. IfSome found (HasColumns (state_of self.new.scope))) }
     {
         match event_of(alloc, &self.limits, &mut self.scope, frame) {
-            Ok(Event::End) => {
+            Ok(Some(Event::End)) => {
                 self.phase = Phase::Ended(End::Mark);
-                Ok(Event::End)
+                Ok(Some(Event::End))
             }
-            Ok(event) => {
+            Ok(found) => {
                 self.messages = self.messages.saturating_add(1);
-                Ok(event)
+                Ok(found)
             }
             Err(fault) => {
                 self.phase = Phase::Refused;
                 Err(fault)
             }
+        }
+    }
+
+    // How many bytes the bodies have together that set the dictionaries in force.
+    pub fn dictionary_bytes(&self) -> usize
+        ensures { result ≡ dictionary_bytes (state_of self.now.scope) }
+    {
+        match &self.scope {
+            Some(scope) => scope.held(),
+            None => 0,
         }
     }
 

@@ -7,6 +7,8 @@ mod decoder;
 mod end;
 mod event;
 mod events;
+mod fed;
+mod in_force;
 pub mod laws;
 mod phase;
 mod pulling;

@@ -6,9 +6,9 @@ ghost use Rattle.ipc_meta.specs.Supported.{are_supported};
 ghost use Rattle.ipc_decode.specs.declared.end.End.{End};
 ghost use Rattle.ipc_decode.specs.Failures.{StaysOrFails, Tells};
 ghost use Rattle.ipc_decode.specs.Reader.{BeginsEnd, GivesBatch, NextCall, Opens, OpenFails};
-ghost use Rattle.ipc_decode.specs.Reader.{KeepsNone, WorksWhile, end_of};
+ghost use Rattle.ipc_decode.specs.Reader.{KeepsNone, WorksWhile, end_of, in_force_of};
 ghost use Rattle.ipc_decode.specs.Reasons.{IsOutside};
-ghost use Rattle.ipc_decode.specs.Stream.{AddsBatch, OpensStream};
+ghost use Rattle.ipc_decode.specs.Stream.{OpensStream, TellsBatch};
 
 use crate::decoder::Decoder;
 use crate::end::End;
@@ -36,11 +36,12 @@ pub struct StreamReader<R: Source> {
 impl<R: Source> Model for StreamReader<R> {
     ghost use Rattle.std.specs.Coded.{codes};
     ghost use Rattle.ipc_model.specs.contracts.schema.Field as field;
-    ghost use Rattle.ipc_decode.specs.Reader.{Reader, phase_of, schema_in};
+    ghost use Rattle.ipc_model.specs.contracts.value.Value as value;
+    ghost use Rattle.ipc_decode.specs.Reader.{Reader, dictionaries_in, phase_of, schema_in};
 
     ghost Value = { Reader };
 
-    ghost coded = { Prim.hlevel (codes, field.the_row.coded) };
+    ghost coded = { Prim.hlevel (codes, field.the_row.coded, value.the_row.coded) };
 
     ghost view = { λ s. record {
       remaining = R.remaining s.source;
@@ -48,6 +49,7 @@ impl<R: Source> Model for StreamReader<R> {
       bound = R.bound s.source;
       limits = s.decoder.limits;
       schema = schema_in s.decoder.state;
+      dictionaries = dictionaries_in s.decoder.state;
       phase = phase_of s.decoder.stage;
       messages = s.decoder.messages;
       taken = s.taken;
@@ -146,7 +148,8 @@ impl<R: Source> StreamReader<R> {
 
     /// The next batch with the pairs of key and value of its message (Message.fbs, table Message,
     /// `custom_metadata`; in their order, with keys that are repeated), or none at the end of the
-    /// stream and from then on. After a refusal every call answers F35 and takes nothing.
+    /// stream and from then on. The dictionaries that come before it are set, and stay in force.
+    /// After a refusal every call answers F35 and takes nothing.
     pub fn next(&mut self) -> Result<Option<(Batch, Items<(Text, Text)>)>, Fault>
         ensures next { NextCall self.old self.new result }
         // A batch has a column for each field of the schema.
@@ -156,11 +159,11 @@ impl<R: Source> StreamReader<R> {
         ensures failures { StaysOrFails self.old.failures self.new.failures result }
         // F36 is answered only where the source had not failed before.
         ensures rose { IfErr result (λ fault. fault ≡ Fault.Read → self.old.failures ≡ 0) }
-        // A batch's message at the front of the source is read, whatever follows it, unless memory
-        // runs out or the source fails.
+        // Messages that tell a batch, at the front of the source, are read, whatever dictionaries
+        // they set and whatever follows them, unless memory runs out or the source fails.
         ensures batch { (x rest : List ℕ) (b : BatchRows)
             → self.old.phase ≡ Phase.Reading → self.old.remaining ≡ Some (x ++ rest)
-            → AddsBatch self.old.limits self.old.schema b x
+            → TellsBatch self.old.limits (in_force_of self.old) b x
             → MatchResult result (λ next. GivesBatch next b) IsOutside }
         // So is an end, by the mark or where nothing is left.
         ensures ended { (z : List ℕ) (end : End) → self.old.phase ≡ Phase.Reading
@@ -188,7 +191,8 @@ impl<R: Source> StreamReader<R> {
         }
     }
 
-    /// How many messages were read, the schema's included; a refused one isn't counted. The count
+    /// How many messages were read, the schema's and those of dictionaries included; a refused one
+    /// isn't counted. The count
     /// stops at 2^64 - 1.
     pub fn messages(&self) -> u64
         ensures { result ≡ self.now.messages }

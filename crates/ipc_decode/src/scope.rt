@@ -1,46 +1,20 @@
-ghost use Rattle.std.specs.Prelude.{◌≡◌, []};
-ghost use Rattle.ipc_decode.specs.Readable.{IsReadable};
+ghost use Rattle.std.specs.Coded.{codes};
+ghost use Rattle.std.specs.Prelude.{◌≡◌, ◌≤◌, true, length};
+ghost use Rattle.ipc_model.specs.Entries.{entries};
+ghost use Rattle.ipc_model.specs.contracts.schema.Field.{the_row};
+ghost use Rattle.ipc_decode.specs.Alone.{HasColumnsOf, are_alone};
 
-use ipc_column::Batch;
+use ipc_dictionaries::Dictionaries;
 use ipc_model::{Limits, Schema};
-use std::alloc::Global;
-use std::collections::BTreeMap;
-use std::rc::Rc;
 
-// What is in force behind the message of a schema whose columns are read. No field can name a
-// dictionary yet, so none is there.
+// What is in force behind the message of a schema: the schema, which has no more fields than the
+// limits allow, and the dictionaries that were set, each of which has one column that stands alone.
 #[derive(Drop)]
 pub struct Scope {
     pub limits: Limits,
     pub schema: Schema,
-    pub dictionaries: BTreeMap<i64, Rc<Batch>>,
-    ghost readable: { IsReadable limits schema },
-    ghost none: { dictionaries.entries ≡ [] },
-}
-
-impl Scope {
-    // What a schema puts in force under these limits.
-    pub fn new(alloc: Global, limits: Limits, schema: Schema) -> Scope
-        requires { IsReadable limits schema }
-        ensures schema { result.schema ≡ schema }
-        ensures limits { result.limits ≡ limits }
-    {
-        Scope {
-            limits,
-            schema,
-            dictionaries: BTreeMap::new(alloc),
-        }
-    }
-
-    // The schema alone.
-    pub fn into_schema(self) -> Schema
-        ensures { result ≡ self.schema }
-    {
-        let Scope {
-            limits: _,
-            schema,
-            dictionaries: _,
-        } = self;
-        schema
-    }
+    pub dictionaries: Dictionaries,
+    ghost few_fields: { length (entries schema.fields) ≤ limits.fields },
+    ghost columns: { HasColumnsOf schema dictionaries } by { Prim.hlevel (codes, the_row.coded) },
+    ghost alone: { are_alone dictionaries.columns ≡ true },
 }

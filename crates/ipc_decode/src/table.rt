@@ -7,7 +7,7 @@ ghost use Rattle.ipc_decode.specs.declared.end.End.TheVariants.{Closed, Mark};
 ghost use Rattle.ipc_decode.specs.Failures.{FailsAs};
 ghost use Rattle.ipc_decode.specs.Found.{rows_of};
 ghost use Rattle.ipc_decode.specs.Stream.{Denotes};
-ghost use Rattle.ipc_decode.specs.Decoding.{taking};
+ghost use Rattle.ipc_decode.specs.Decoding.{schema_of, taking};
 ghost use Rattle.ipc_decode.specs.Taken.{TakesBatches, TakesTable};
 
 use crate::decoder::Decoder;
@@ -47,7 +47,8 @@ fn read_batches<R: Source>(
     requires within { taken.old ≤ 2 ^ 64 - 1 }
     ensures batches { TakesBatches (R.remaining source.old) (R.remaining source.new) decoder.old
         result }
-    ensures schema { IfOk result (λ all. decoder.new.state ≡ decoder.old.state) }
+    ensures schema { IfOk result
+        (λ all. schema_of decoder.new.state ≡ schema_of decoder.old.state) }
     ensures failures { FailsAs (R.failures source.old) (R.failures source.new) result }
 {
     let mut batches = Vec::new(alloc);

@@ -1,4 +1,3 @@
-pub mod Puts
 pub mod Notes
 pub mod Walks
 pub mod Finds
@@ -7,6 +6,5 @@ pub mod OneId
 pub mod SchemaIds
 pub mod Ids
 pub mod Rows
-pub mod ValuesColumns
 pub mod Places
 pub mod SchemaEntries

@@ -1,5 +1,4 @@
 pub mod Distinct
-pub mod InForce
 pub mod Noting
 pub mod Pairs
 pub mod Tallied
@@ -7,6 +6,4 @@ pub mod Planning
 pub mod Planned
 pub mod SchemaIds
 pub mod Counted
-pub mod ValuesColumns
-pub mod Applied
 pub mod SchemaEntries

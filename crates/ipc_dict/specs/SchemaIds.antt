@@ -7,13 +7,9 @@ use Rattle.ipc_model.specs.declared.schema.IntBits.TheVariants as b
 use Rattle.ipc_model.specs.declared.schema.Dictionary.{Dictionary}
 use Rattle.ipc_model.specs.declared.schema.Field.{Field, fold-Field}
 use Rattle.ipc_model.specs.declared.schema.Field.TheOpen.{Field-F}
+use Rattle.ipc_dictionaries.specs.Joined.{joined}
 use Rattle.ipc_dict.specs.declared.entry.TallyEntry.{TallyEntry}
 use Rattle.ipc_dict.specs.declared.kept.KeptEntry.{KeptEntry}
-
--- one list behind the other
-abbrev pub joined : {X : Type 0} → List (List X) → List X
-joined [] = []
-joined (xs ∷ xss) = xs ++ joined xss
 
 -- of a field without those below it
 abbrev pub own : Option Dictionary → List Dictionary

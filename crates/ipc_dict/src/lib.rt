@@ -4,7 +4,6 @@
 //! A dictionary is replaced whole, and fields with one id share it.
 #![tactic(auto)]
 
-mod dictionaries;
 mod distinct;
 mod entry;
 mod kept;
@@ -12,14 +11,12 @@ mod plan;
 mod schema_ids;
 mod settle;
 mod tally;
-mod values_columns;
 mod walk;
 
-pub use dictionaries::Dictionaries;
 pub use distinct::DistinctValues;
 pub use entry::TallyEntry;
+pub use ipc_dictionaries::{Dictionaries, one_column};
 pub use kept::{Kept, KeptEntry};
 pub use plan::Plan;
 pub use schema_ids::entries_of_schema;
 pub use tally::{Tally, holds_distinct, keeps_places, places_all};
-pub use values_columns::one_column;

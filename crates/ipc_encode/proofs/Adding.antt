@@ -1,5 +1,7 @@
 -- Buffers that are added one after another.
-use Rattle.std.proofs.Common.{◌≡◌, ◌∙◌, refl, sym, ap, subst, ℕ, ◌+◌, List, [], ◌∷◌, ◌++◌, length, append_assoc, length-append, arith}
+use Rattle.std.proofs.Common.{◌≡◌, ◌∙◌, refl, sym, ap, subst, ℕ, ◌+◌, ◌-◌, ◌%◌, ◌^◌, ◌<◌, List, [], ◌∷◌, ◌++◌, length, replicate}
+use Rattle.std.proofs.Common.{append_assoc, length-append, to_z, w64, arith}
+use Rattle.std.proofs.lemmas.Int.{to_z_pos}
 use Rattle.std.specs.Prelude.{ℤ, pos}
 use Rattle.std.proofs.lemmas.List.{append-nil}
 use Rattle.ipc_encode.specs.declared.parts.Draft.{Draft}
@@ -45,3 +47,24 @@ adds_both d e f xs ys a b =
 -- the buffers that are added may be written in another way
 pub adds_as : (d e : Draft) (xs ys : List (List ℕ)) → xs ≡ ys → Adds d e xs → Adds d e ys
 adds_as d e xs ys same a = subst (λ (bs : List (List ℕ)). Adds d e bs) same a
+
+-- a buffer behind the others, whose bytes stand between two lengths
+pub range_added : (d : Draft) (ranges : List (ℤ × ℤ)) (mid body bs : List ℕ) (start end : ℕ) → start ≡ length d.body.items
+    → end ≡ length mid → start < 2 ^ 63 → end < 2 ^ 63 → mid ≡ d.body.items ++ bs
+    → body ≡ mid ++ replicate ((8 - (end - start) % 8) % 8) 0
+    → ranges ≡ d.buffers.items ++ (to_z w64 start, to_z w64 (end - start)) ∷ []
+    → (ranges ≡ d.buffers.items ++ ranges_from (length d.body.items) (bs ∷ [])) × (body ≡ d.body.items ++ joined (bs ∷ []))
+range_added d ranges mid body bs start end s e small large m b r =
+    let whole = ap (λ (xs : List ℕ). length xs) m ∙ length-append d.body.items bs in
+    let size : end - start ≡ length bs = omega (arith, s, e, whole) in
+    let from : to_z w64 start ≡ pos (length d.body.items) = to_z_pos w64 start small ∙ ap (λ (n : ℕ). pos n) s in
+    let many : to_z w64 (end - start) ≡ pos (length bs) =
+    to_z_pos w64 (end - start) (omega (arith, large)) ∙ ap (λ (n : ℕ). pos n) size in
+    let zeros = replicate ((8 - length bs % 8) % 8) 0 in
+    let range : ◌≡◌ {A = ℤ × ℤ} (to_z w64 start, to_z w64 (end - start)) (pos (length d.body.items), pos (length bs)) =
+    λ i. (from i, many i) in (
+      r ∙ ap (λ (p : ℤ × ℤ). d.buffers.items ++ p ∷ []) range,
+      b ∙ (ap (λ (n : ℕ). mid ++ replicate ((8 - n % 8) % 8) 0) size
+          ∙ (ap (λ (xs : List ℕ). xs ++ zeros) m
+          ∙ (append_assoc d.body.items bs zeros ∙ ap (λ (xs : List ℕ). d.body.items ++ xs) (sym (append-nil (bs ++ zeros)))))),
+    )

@@ -11,21 +11,24 @@ use Rattle.ipc_model.specs.Layouts.{own_buffers}
 use Rattle.ipc_column.specs.Columns.{Columns, none, column, EachTop}
 use Rattle.ipc_column.specs.Shapes.{Shape, bare, field, nodes_in, buffers_in, node_at, buffer_at, column_at, cut}
 use Rattle.ipc_encode.specs.Cells.{nulls}
-use Rattle.ipc_encode.specs.Buffers as b
-use Rattle.ipc_encode.specs.Buffers.{pieces, column_buffers, below, nodes_of, buffers_of}
+use Rattle.ipc_encode.specs.Buffers.{column_buffers, below, nodes_of, buffers_with, stored}
+use Rattle.ipc_encode.specs.Numbers.{Numbering}
+use Rattle.ipc_column.specs.Dictionaries.{Dictionaries, values_for}
+use Rattle.ipc_encode.proofs.Indexed.{validity_same}
 use Rattle.ipc_encode.proofs.ReadbackParts.{column_of}
 
 -- the columns of a shape with these values, as they are written
-abbrev pub written : Shape → (ℕ → List Value) → Columns
-written bare given = none
-written (field l children rest) given =
-    column (column_of l (given 0)) (written children (below l (given 0))) (written rest (λ j. given (suc j)))
+abbrev pub written : Dictionaries → Numbering → Shape → (ℕ → List Value) → Columns
+written m known bare given = none
+written m known (field l children rest) given =
+    column (column_of m known l (given 0)) (written m known children (below l (given 0))) (written m known rest (λ j. given (suc j)))
 
 -- what holds of the number of values of each column holds of the slots that are written
-pub slots_written : (P : ℕ → Type 0) (s : Shape) (given : ℕ → List Value) → ((j : ℕ) → P (length (given j)))
-    → EachTop (λ c. P c.slots) (written s given)
-slots_written P bare given h = tt
-slots_written P (field l children rest) given h = (h 0, slots_written P rest (λ j. given (suc j)) (λ j. h (suc j)))
+pub slots_written : (m : Dictionaries) (known : Numbering) (P : ℕ → Type 0) (s : Shape) (given : ℕ → List Value)
+    → ((j : ℕ) → P (length (given j)))
+    → EachTop (λ c. P c.slots) (written m known s given)
+slots_written m known P bare given h = tt
+slots_written m known P (field l children rest) given h = (h 0, slots_written m known P rest (λ j. given (suc j)) (λ j. h (suc j)))
 
 -- ---- how many there are
 
@@ -51,16 +54,16 @@ nodes_length (field l children rest) given =
     omega (arith, inner, others, length-append (nodes_of children (below l (given 0))) (nodes_of rest (λ j. given (suc j))))
 
 -- the buffers of each field are written, children included
-pub buffers_length : (s : Shape) (given : ℕ → List Value) → length (buffers_of s given) ≡ buffers_in s
+pub buffers_length : (known : Numbering) (s : Shape) (given : ℕ → List Value) → length (buffers_with known s given) ≡ buffers_in s
 unfolding buffers_in
-buffers_length bare given = refl
-buffers_length (field l children rest) given =
-    let inner = buffers_length children (below l (given 0)) in
-    let others = buffers_length rest (λ j. given (suc j)) in
-    let behind = buffers_of children (below l (given 0)) ++ buffers_of rest (λ j. given (suc j)) in
-    let parts = length-append (buffers_of children (below l (given 0))) (buffers_of rest (λ j. given (suc j))) in
-    let whole = length-append (column_buffers l (given 0)) behind in
-    omega (arith, inner, others, parts, whole, own_length l (given 0))
+buffers_length known bare given = refl
+buffers_length known (field l children rest) given =
+    let inner = buffers_length known children (below l (given 0)) in
+    let others = buffers_length known rest (λ j. given (suc j)) in
+    let behind = buffers_with known children (below l (given 0)) ++ buffers_with known rest (λ j. given (suc j)) in
+    let parts = length-append (buffers_with known children (below l (given 0))) (buffers_with known rest (λ j. given (suc j))) in
+    let whole = length-append (column_buffers l (stored known l (given 0))) behind in
+    omega (arith, inner, others, parts, whole, own_length l (stored known l (given 0)))
 
 -- ---- where they stand
 
@@ -90,10 +93,10 @@ abbrev pub BuffersAt : BatchHead → List ℕ → ℕ → List (List ℕ) → Ty
 BuffersAt head body n bs = StandAt (buffer_at head body) [] n bs
 
 -- a column whose node and buffers were written is cut out of the body again
-pub column_back : (l : Layout) (vs : List Value) (head : BatchHead) (body : List ℕ) (n m : ℕ)
-    → node_at head n ≡ (pos (length vs), pos (nulls vs)) → BuffersAt head body m (b.buffers_in (pieces l (nulls vs)) vs)
-    → column_at [] l head body n m ≡ column_of l vs
-column_back l.Null vs head body n m e h =
+pub column_back : (ds : Dictionaries) (known : Numbering) (l : Layout) (vs : List Value) (head : BatchHead) (body : List ℕ) (n m : ℕ)
+    → node_at head n ≡ (pos (length vs), pos (nulls vs)) → BuffersAt head body m (column_buffers l (stored known l vs))
+    → column_at ds l head body n m ≡ column_of ds known l vs
+column_back ds known l.Null vs head body n m e h =
     λ i. record {
       layout = l.Null;
       slots = unsigned_abs (e i).0;
@@ -104,7 +107,7 @@ column_back l.Null vs head body n m e h =
       values = [];
       dictionary = [];
     }
-column_back l.Lists vs head body n m e h =
+column_back ds known l.Lists vs head body n m e h =
     let first = ap (λ (k : ℕ). buffer_at head body k) (let z : m ≡ m + 0 = omega arith in z) ∙ h 0 (omega arith) in
     let second = h 1 (omega arith) in
     λ i. record {
@@ -116,7 +119,7 @@ column_back l.Lists vs head body n m e h =
       values = [];
       dictionary = [];
     }
-column_back l.Structs vs head body n m e h =
+column_back ds known l.Structs vs head body n m e h =
     let first = ap (λ (k : ℕ). buffer_at head body k) (let z : m ≡ m + 0 = omega arith in z) ∙ h 0 (omega arith) in
     λ i. record {
       layout = l.Structs;
@@ -127,7 +130,7 @@ column_back l.Structs vs head body n m e h =
       values = [];
       dictionary = [];
     }
-column_back (l.FixedLists size) vs head body n m e h =
+column_back ds known (l.FixedLists size) vs head body n m e h =
     let first = ap (λ (k : ℕ). buffer_at head body k) (let z : m ≡ m + 0 = omega arith in z) ∙ h 0 (omega arith) in
     λ i. record {
       layout = l.FixedLists size;
@@ -138,7 +141,7 @@ column_back (l.FixedLists size) vs head body n m e h =
       values = [];
       dictionary = [];
     }
-column_back l.Bits vs head body n m e h =
+column_back ds known l.Bits vs head body n m e h =
     let first = ap (λ (k : ℕ). buffer_at head body k) (let z : m ≡ m + 0 = omega arith in z) ∙ h 0 (omega arith) in
     let second = h 1 (omega arith) in
     λ i. record {
@@ -150,7 +153,7 @@ column_back l.Bits vs head body n m e h =
       values = second i;
       dictionary = [];
     }
-column_back (l.Numbers bits signed) vs head body n m e h =
+column_back ds known (l.Numbers bits signed) vs head body n m e h =
     let first = ap (λ (k : ℕ). buffer_at head body k) (let z : m ≡ m + 0 = omega arith in z) ∙ h 0 (omega arith) in
     let second = h 1 (omega arith) in
     λ i. record {
@@ -162,19 +165,20 @@ column_back (l.Numbers bits signed) vs head body n m e h =
       values = second i;
       dictionary = [];
     }
-column_back (l.Indices bits signed id) vs head body n m e h =
+column_back ds known (l.Indices bits signed id) vs head body n m e h =
     let first = ap (λ (k : ℕ). buffer_at head body k) (let z : m ≡ m + 0 = omega arith in z) ∙ h 0 (omega arith) in
+    let valid = first ∙ validity_same (known id) vs in
     let second = h 1 (omega arith) in
     λ i. record {
       layout = l.Indices bits signed id;
       slots = unsigned_abs (e i).0;
       nulls = unsigned_abs (e i).1;
-      validity = first i;
+      validity = valid i;
       offsets = [];
       values = second i;
-      dictionary = [];
+      dictionary = values_for ds id;
     }
-column_back (l.FixedBytes width) vs head body n m e h =
+column_back ds known (l.FixedBytes width) vs head body n m e h =
     let first = ap (λ (k : ℕ). buffer_at head body k) (let z : m ≡ m + 0 = omega arith in z) ∙ h 0 (omega arith) in
     let second = h 1 (omega arith) in
     λ i. record {
@@ -186,7 +190,7 @@ column_back (l.FixedBytes width) vs head body n m e h =
       values = second i;
       dictionary = [];
     }
-column_back (l.VariableBytes utf8) vs head body n m e h =
+column_back ds known (l.VariableBytes utf8) vs head body n m e h =
     let first = ap (λ (k : ℕ). buffer_at head body k) (let z : m ≡ m + 0 = omega arith in z) ∙ h 0 (omega arith) in
     let second = h 1 (omega arith) in
     let third = h 2 (omega arith) in
@@ -201,17 +205,18 @@ column_back (l.VariableBytes utf8) vs head body n m e h =
     }
 
 -- the columns whose nodes and buffers were written are cut out of the body again
-pub cut_back : (s : Shape) (given : ℕ → List Value) (head : BatchHead) (body : List ℕ) (n m : ℕ) → NodesAt head n (nodes_of s given)
-    → BuffersAt head body m (buffers_of s given) → cut [] s head body n m ≡ written s given
+pub cut_back : (ds : Dictionaries) (known : Numbering) (s : Shape) (given : ℕ → List Value) (head : BatchHead) (body : List ℕ)
+    (n m : ℕ) → NodesAt head n (nodes_of s given)
+    → BuffersAt head body m (buffers_with known s given) → cut ds s head body n m ≡ written ds known s given
 unfolding cut
-cut_back bare given head body n m ns bs = refl
-cut_back (field l children rest) given head body n m ns bs =
+cut_back ds known bare given head body n m ns bs = refl
+cut_back ds known (field l children rest) given head body n m ns bs =
     let vs = given 0 in
-    let own = column_buffers l vs in
+    let own = column_buffers l (stored known l vs) in
     let inner_nodes = nodes_of children (below l vs) in
-    let inner_buffers = buffers_of children (below l vs) in
+    let inner_buffers = buffers_with known children (below l vs) in
     let other_nodes = nodes_of rest (λ j. given (suc j)) in
-    let other_buffers = buffers_of rest (λ j. given (suc j)) in
+    let other_buffers = buffers_with known rest (λ j. given (suc j)) in
     let nodes = node_at head in
     let buffers = buffer_at head body in
     let node : node_at head n ≡ (pos (length vs), pos (nulls vs)) =
@@ -219,14 +224,15 @@ cut_back (field l children rest) given head body n m ns bs =
     let later_nodes : NodesAt head (n + 1) (inner_nodes ++ other_nodes) =
     stand_behind nodes (pos 0, pos 0) n (n + 1) 1 ((pos (length vs), pos (nulls vs)) ∷ []) (inner_nodes ++ other_nodes) refl refl ns in
     let later_buffers : BuffersAt head body (m + own_buffers l) (inner_buffers ++ other_buffers) =
-    stand_behind buffers [] m (m + own_buffers l) (own_buffers l) own (inner_buffers ++ other_buffers) (own_length l vs) refl bs in
-    let first = column_back l vs head body n m node (stand_front buffers [] m own (inner_buffers ++ other_buffers) bs) in
-    let inner = cut_back children (below l vs) head body (n + 1) (m + own_buffers l)
+    stand_behind buffers [] m (m + own_buffers l) (own_buffers l) own (inner_buffers ++ other_buffers)
+    (own_length l (stored known l vs)) refl bs in
+    let first = column_back ds known l vs head body n m node (stand_front buffers [] m own (inner_buffers ++ other_buffers) bs) in
+    let inner = cut_back ds known children (below l vs) head body (n + 1) (m + own_buffers l)
     (stand_front nodes (pos 0, pos 0) (n + 1) inner_nodes other_nodes later_nodes)
     (stand_front buffers [] (m + own_buffers l) inner_buffers other_buffers later_buffers) in
-    let others = cut_back rest (λ j. given (suc j)) head body (n + 1 + nodes_in children) (m + own_buffers l + buffers_in children)
+    let others = cut_back ds known rest (λ j. given (suc j)) head body (n + 1 + nodes_in children) (m + own_buffers l + buffers_in children)
     (stand_behind nodes (pos 0, pos 0) (n + 1) (n + 1 + nodes_in children) (nodes_in children) inner_nodes other_nodes
     (nodes_length children (below l vs)) refl later_nodes)
     (stand_behind buffers [] (m + own_buffers l) (m + own_buffers l + buffers_in children) (buffers_in children) inner_buffers
-    other_buffers (buffers_length children (below l vs)) refl later_buffers) in
+    other_buffers (buffers_length known children (below l vs)) refl later_buffers) in
     λ i. column (first i) (inner i) (others i)

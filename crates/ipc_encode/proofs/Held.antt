@@ -17,6 +17,7 @@ use Rattle.ipc_encode.specs.Cells.{cell, cells}
 use Rattle.ipc_encode.specs.Faults.{write_fault}
 use Rattle.ipc_encode.specs.Limits.{IsTooMany, IsTooLong, IsWithin, IsRefused}
 use Rattle.ipc_encode.specs.Writing.{AllStored}
+use Rattle.ipc_encode.specs.Numbers.{Numbering}
 use Rattle.ipc_encode.specs.Built.{AreColumns, AreWithin, AreTooMuch, ArePushesRefused}
 use Rattle.ipc_encode.proofs.Growing.{refused_grow}
 use Rattle.ipc_encode.proofs.Siblings.{taken_few, taken_short}
@@ -28,20 +29,13 @@ pub columns_push : (rows : List (List Value)) (row : List Value)
 columns_push rows row = λ d j. sym (cells_append j rows (row ∷ [])) d
 
 -- the texts of all columns are UTF-8
-pub all_stored : (limits : Limits) (shape : Shape) (nodes : List Node) (given : ℕ → List Value) → AreColumns limits shape nodes given
+pub all_stored : (known : Numbering) (limits : Limits) (shape : Shape) (nodes : List Node) (given : ℕ → List Value)
+    → AreColumns known limits shape nodes given
     → AllStored shape given
-all_stored limits bare nodes given h = tt
-all_stored limits (field l c rest) [] given h = absurd h
-all_stored limits (field l c rest) (m ∷ ms) given h =
-    (h.0.0.stored, (all_stored limits c _ (below l (given 0)) h.0.1, all_stored limits rest ms (λ j. given (suc j)) h.1))
-
--- a body within the limits
-pub body_within : (limits : Limits) (fields : List Field) (rows : List (List Value)) (body : List ℕ) → body ≡ body_of fields rows
-    → IsWithin limits fields rows → length body ≤ limits.body
-body_within limits fields rows body e h =
-    let size = ap (λ (bs : List ℕ). length bs) e in
-    elim (cases_lt limits.body (length body)) as (λ _. length body ≤ limits.body)
-    [ inl x ↦ absurd (h.short (inr (omega (arith, x, size)))) | inr g ↦ omega (arith, g) ]
+all_stored known limits bare nodes given h = tt
+all_stored known limits (field l c rest) [] given h = absurd h
+all_stored known limits (field l c rest) (m ∷ ms) given h =
+    (h.0.0.stored, (all_stored known limits c _ (below l (given 0)) h.0.1, all_stored known limits rest ms (λ j. given (suc j)) h.1))
 
 -- rows that are few enough, and whose columns are within the limits, are within them
 pub rows_within : (limits : Limits) (fields : List Field) (rows : List (List Value)) → length rows ≤ limits.slots
@@ -57,20 +51,22 @@ rows_within limits fields rows few h = record { few = not_many; short = not_long
     not_long (inr more) = let body = h.body in omega (arith, body, more)
 
 -- columns that are built, whose body isn't too long
-pub built_within : (limits : Limits) (fields : List Field) (rows : List (List Value)) (nodes : List Node) → length rows ≤ limits.slots
-    → AreColumns limits (shape_of fields) nodes (columns rows) → (IsTooLong limits fields rows → ⊥) → IsWithin limits fields rows
-built_within limits fields rows nodes few h short = record { few = not_many; short = short }
+pub built_within : (known : Numbering) (limits : Limits) (fields : List Field) (rows : List (List Value)) (nodes : List Node)
+    → length rows ≤ limits.slots
+    → AreColumns known limits (shape_of fields) nodes (columns rows) → (IsTooLong limits fields rows → ⊥) → IsWithin limits fields rows
+built_within known limits fields rows nodes few h short = record { few = not_many; short = short }
   where
     not_many : IsTooMany limits fields rows → ⊥
     not_many (inl many) = omega (arith, few, many)
-    not_many (inr long) = taken_few purpose.Keep limits (shape_of fields) nodes (columns rows) h long
+    not_many (inr long) = taken_few known purpose.Keep limits (shape_of fields) nodes (columns rows) h long
 
 -- columns that are built leave so much of a body
-pub not_too_long : (limits : Limits) (fields : List Field) (rows : List (List Value)) (nodes : List Node) (left : ℕ)
-    → AreColumns limits (shape_of fields) nodes (columns rows) → length (body_of fields rows) + left ≡ limits.body
+pub not_too_long : (known : Numbering) (limits : Limits) (fields : List Field) (rows : List (List Value)) (nodes : List Node) (left : ℕ)
+    → AreColumns known limits (shape_of fields) nodes (columns rows) → length (body_of fields rows) + left ≡ limits.body
     → IsTooLong limits fields rows → ⊥
-not_too_long limits fields rows nodes left h e (inl long) = taken_short purpose.Keep limits (shape_of fields) nodes (columns rows) h long
-not_too_long limits fields rows nodes left h e (inr more) = omega (arith, e, more)
+not_too_long known limits fields rows nodes left h e (inl long) = taken_short known purpose.Keep limits (shape_of fields) nodes
+    (columns rows) h long
+not_too_long known limits fields rows nodes left h e (inr more) = omega (arith, e, more)
 
 -- why columns don't take rows is why the rows are refused
 pub rows_refused : (limits : Limits) (fields : List Field) (rows : List (List Value)) (e : PushFault)

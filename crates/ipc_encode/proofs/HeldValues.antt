@@ -15,11 +15,9 @@ use Rattle.ipc_model.specs.declared.schema.Field.{Field}
 use Rattle.ipc_model.specs.declared.value.Value.{Value, out-Value}
 use Rattle.ipc_model.specs.declared.value.Value.TheOpen.{Value-F}
 use Rattle.ipc_model.specs.declared.layout.Layout.{Layout}
-use Rattle.ipc_model.specs.declared.layout.Layout.TheVariants as l
 use Rattle.ipc_model.specs.Layouts.{layout, type_layout, time_bits}
 use Rattle.ipc_model.specs.Ranges.{width, IsSignedWithin, IsTimeOfDay}
 use Rattle.ipc_column.specs.Shapes.{Shape, bare, field, shapes, field_shape}
-use Rattle.ipc_meta.specs.Supported.{is_supported}
 use Rattle.ipc_encode.specs.Cells.{is_null}
 use Rattle.ipc_encode.specs.Buffers.{below}
 use Rattle.ipc_encode.proofs.ReadbackParts.{Holds, AllHeld, HasItsChild}
@@ -170,12 +168,13 @@ has_child (t.Timestamp unit timezone) n c = tt
 has_child (t.Duration unit) n c = tt
 
 -- values of which each is null or one of a field's own are held by its layout
-pub values_held : (kind : DataType) (d : Option Dictionary) (nullable : Bool) (n : ℕ) (vs : List Value) → is_supported d ≡ true
+pub values_held : (kind : DataType) (d : Option Dictionary) (nullable : Bool) (n : ℕ) (vs : List Value)
     → HasFittingChildren kind n → AllByRecursion (λ v. not (is_null (out-Value v)) ≡ true → IsOwn kind nullable n (out-Value v)) vs
     → ColumnHeld (layout kind d) n vs
-values_held kind None nullable n vs o c h = (
+values_held kind None nullable n vs c h = (
   has_child kind n c,
   all_one (λ v. not (is_null (out-Value v)) ≡ true → IsOwn kind nullable n (out-Value v))
       (λ v. Holds (type_layout kind) n (out-Value v)) (λ v own. value_held kind nullable n (out-Value v) c own) vs h,
 )
-values_held kind (Some d) nullable n vs o c h = absurd (cc)
+values_held kind (Some d) nullable n vs c h =
+    (tt, all_one (λ v. not (is_null (out-Value v)) ≡ true → IsOwn kind nullable n (out-Value v)) (λ v. ⊤) (λ v own. tt) vs h)

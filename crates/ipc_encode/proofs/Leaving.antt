@@ -13,6 +13,7 @@ use Rattle.ipc_encode.specs.Built.{IsCounted, IsPushRefused, ArePushesRefused, A
 use Rattle.ipc_encode.specs.declared.column.Purpose.TheVariants as purpose
 use Rattle.ipc_encode.specs.declared.node.Node.{Node}
 use Rattle.ipc_encode.proofs.Siblings.{taken_few, taken_short}
+use Rattle.ipc_encode.specs.Numbers.{Numbering}
 use Rattle.ipc_encode.proofs.Growing.{parts_length, own_refused}
 
 -- what isn't taken within the limits is too much for so many bytes of a body
@@ -55,12 +56,12 @@ pub leaf_past : (limits : Limits) (l : Layout) (vs : List Value) (bytes len : �
 leaf_past limits l vs bytes len size more = let whole = parts_length l bare bare (λ j. vs) in inr (omega (arith, whole, size, more))
 
 -- a column with those below it leaves what all their buffers leave
-pub tree_leaves : (limits : Limits) (l : Layout) (c : Shape) (vs : List Value) (node : Node) (bytes left : ℕ)
-    → IsNode (HasTaken purpose.Count limits) l c node vs
+pub tree_leaves : (known : Numbering) (limits : Limits) (l : Layout) (c : Shape) (vs : List Value) (node : Node) (bytes left : ℕ)
+    → IsNode (HasTaken known purpose.Count limits) l c node vs
     → length (joined (buffers_of (field l c bare) (λ j. vs))) + left ≡ bytes → LeavesOf limits (field l c bare) (λ j. vs) bytes left
-tree_leaves limits l c vs node bytes left h rest = record {
-  few = taken_few purpose.Count limits (field l c bare) (node ∷ []) (λ j. vs) (h, tt);
-  short = taken_short purpose.Count limits (field l c bare) (node ∷ []) (λ j. vs) (h, tt);
+tree_leaves known limits l c vs node bytes left h rest = record {
+  few = taken_few known purpose.Count limits (field l c bare) (node ∷ []) (λ j. vs) (h, tt);
+  short = taken_short known purpose.Count limits (field l c bare) (node ∷ []) (λ j. vs) (h, tt);
   rest = rest;
 }
 

@@ -11,10 +11,14 @@ pub mod Growing
 pub mod Siblings
 pub mod Leaving
 pub mod Held
+pub mod Indexed
 pub mod Ranges
 pub mod ReadbackParts
+pub mod ReadbackLengths
+pub mod ReadbackIndices
 pub mod Readback
 pub mod Cutting
 pub mod HeldValues
 pub mod NestedValues
 pub mod Reading
+pub mod Unindexed

@@ -1,9 +1,8 @@
 -- Rows that fit their fields have columns that hold them, and so have the values below them.
-use Rattle.std.proofs.Common.{◌≡◌, ◌∙◌, refl, sym, ap, subst, ℕ, suc, ◌+◌, Bool, true, false, List, [], ◌∷◌, map, length, arith}
+use Rattle.std.proofs.Common.{◌≡◌, ◌∙◌, refl, sym, ap, subst, ℕ, suc, ◌+◌, true, false, List, [], ◌∷◌, map, length, arith}
 use Rattle.std.proofs.Common.{Option, Some, None, zero, replicate}
 use Rattle.std.specs.Prelude.{not, ⊤}
 use Rattle.std.specs.List.{AllByRecursion}
-use Rattle.std.proofs.lemmas.Bool.{and_parts}
 use Rattle.std.proofs.lemmas.List.{length-map}
 use Rattle.ipc_model.specs.Fits.{EachFits, InnerFit, IsOwn, Fits, RowFits, fits_step}
 use Rattle.ipc_model.specs.WellFormed.{IsFieldWellFormed, HasFittingChildren}
@@ -12,7 +11,7 @@ use Rattle.ipc_model.specs.declared.schema.DataType.{DataType}
 use Rattle.ipc_model.specs.declared.schema.DataType.TheVariants as t
 use Rattle.ipc_model.specs.declared.schema.DateUnit.TheVariants.{Day, Millisecond}
 use Rattle.ipc_model.specs.declared.schema.Dictionary.{Dictionary}
-use Rattle.ipc_model.specs.declared.schema.Field.{Field, roll-Field, ind-Field, fold-Field, fold-roll-Field, map-Field}
+use Rattle.ipc_model.specs.declared.schema.Field.{Field, roll-Field, ind-Field, fold-roll-Field, map-Field}
 use Rattle.ipc_model.specs.declared.schema.Field.TheOpen.{Field-F}
 use Rattle.ipc_model.specs.declared.value.Value.{Value, out-Value, out-roll-Value}
 use Rattle.ipc_model.specs.declared.value.Value.TheOpen.{Value-F}
@@ -22,7 +21,6 @@ use Rattle.ipc_model.specs.declared.layout.Layout.{Layout}
 use Rattle.ipc_model.specs.Layouts.{layout, type_layout}
 use Rattle.ipc_model.proofs.FitsLemmas.{fits_roll}
 use Rattle.ipc_column.specs.Shapes.{Shape, shape_of, shapes, field_shape, field_step, field_layout, field_children}
-use Rattle.ipc_meta.specs.Supported.{all_true, are_supported, is_supported, is_supported_field, supported_step}
 use Rattle.ipc_encode.specs.Cells.{is_null, cell, cells, items, items_in, all_items, part, part_in, all_parts}
 use Rattle.ipc_encode.specs.Cells.{fixed_items, fixed_items_in, all_fixed_items}
 use Rattle.ipc_encode.specs.Buffers.{below, columns}
@@ -203,7 +201,7 @@ below_stands kind (Some d) fs vs c h = none_stand fs
 module _ (limits : Limits) where
   -- the field's column holds values that may stand in it, and so do the columns below it
   abbrev IsHeld : Field → Type 0
-  IsHeld f = (d : ℕ) → is_supported_field f ≡ true → AllByRecursion (IsFieldWellFormed limits) (preorder f d)
+  IsHeld f = (d : ℕ) → AllByRecursion (IsFieldWellFormed limits) (preorder f d)
       → (vs : List Value) → AllByRecursion (Stands f) vs
       → ColumnHeld (field_layout f) (across (field_children f)) vs × ColumnsHeld (field_children f) (below (field_layout f) vs)
 
@@ -213,25 +211,21 @@ module _ (limits : Limits) where
   abbrev fields_of : List Shown → List Field
   fields_of cs = map (λ c. c.0) cs
 
-  all_held : (cs : List Shown) (d : ℕ) → all_true (map is_supported_field (fields_of cs)) ≡ true
+  all_held : (cs : List Shown) (d : ℕ)
       → AllByRecursion (IsFieldWellFormed limits) (all_at d (map preorder (fields_of cs))) → (given : ℕ → List Value)
       → AllStand (fields_of cs) given → ColumnsHeld (shapes (map field_shape (fields_of cs))) given
-  all_held [] d plain fine given h = tt
-  all_held (c ∷ cs) d plain fine given h =
+  all_held [] d fine given h = tt
+  all_held (c ∷ cs) d fine given h =
       let more = all_at d (map preorder (fields_of cs)) in
-      let p = and_parts (is_supported_field c.0) (all_true (map is_supported_field (fields_of cs))) plain in
-      let here = c.1 d p.0 (all_left (IsFieldWellFormed limits) (preorder c.0 d) more fine) (given 0) h.0 in
-      let rest = all_held cs d p.1 (all_right (IsFieldWellFormed limits) (preorder c.0 d) more fine) (λ j. given (suc j)) h.1 in
+      let here = c.1 d (all_left (IsFieldWellFormed limits) (preorder c.0 d) more fine) (given 0) h.0 in
+      let rest = all_held cs d (all_right (IsFieldWellFormed limits) (preorder c.0 d) more fine) (λ j. given (suc j)) h.1 in
       (here.0, (here.1, rest))
 
   layer_held : (y : Field-F Shown) → IsHeld (roll-Field (map-Field Shown Field (λ c. c.0) y))
-  layer_held y = λ d plain fine vs h.
+  layer_held y = λ d fine vs h.
       let z : Field-F Field = map-Field Shown Field (λ c. c.0) y in
       let shape : field_shape (roll-Field z) ≡ (layout z.kind z.dictionary, shapes (map field_shape z.children)) =
       fold-roll-Field (Layout × Shape) field_step z in
-      let read : supported_step (map-Field Field Bool is_supported_field z) ≡ true =
-      sym (fold-roll-Field Bool supported_step z) ∙ plain in
-      let p = and_parts (is_supported z.dictionary) (all_true (map is_supported_field z.children)) read in
       let listed : AllByRecursion (IsFieldWellFormed limits) (preorder_step (map-Field Field Listing preorder z) d) =
       subst (λ (l : Listing). AllByRecursion (IsFieldWellFormed limits) (l d)) (fold-roll-Field Listing preorder_step z) fine in
       let fitting : HasFittingChildren z.kind (length z.children) =
@@ -242,8 +236,8 @@ module _ (limits : Limits) where
       (λ x. IsThere x → IsOwn z.kind z.nullable (length z.children) (out-Value x)) (λ x both there. (both there).0) vs each in
       let inner = all_one (λ x. IsThere x → fits_step Field (λ g. g) Fits z x)
       (λ x. IsThere x → InnerFit Fits z.kind z.children (out-Value x)) (λ x both there. (both there).1) vs each in
-      let own = values_held z.kind z.dictionary z.nullable (length z.children) vs p.0 fitting owns in
-      let under = all_held y.children (d + 1) p.1 listed.1 (below (layout z.kind z.dictionary) vs)
+      let own = values_held z.kind z.dictionary z.nullable (length z.children) vs fitting owns in
+      let under = all_held y.children (d + 1) listed.1 (below (layout z.kind z.dictionary) vs)
       (below_stands z.kind z.dictionary z.children vs fitting inner) in
       subst (λ (s : Layout × Shape). ColumnHeld s.0 (across s.1) vs × ColumnsHeld s.1 (below s.0 vs)) (sym shape) (
         subst (λ (n : ℕ). ColumnHeld (layout z.kind z.dictionary) n vs) (sym (across_is z.children)) own,
@@ -253,17 +247,16 @@ module _ (limits : Limits) where
   field_held : (f : Field) → IsHeld f
   field_held = ind-Field IsHeld (λ x y is. subst (λ z. IsHeld (roll-Field z)) is (layer_held y))
 
-  fields_held : (fs : List Field) (d : ℕ) → are_supported fs ≡ true → AllByRecursion (IsFieldWellFormed limits) (all_at d (map preorder fs))
+  fields_held : (fs : List Field) (d : ℕ) → AllByRecursion (IsFieldWellFormed limits) (all_at d (map preorder fs))
       → (given : ℕ → List Value) → AllStand fs given → ColumnsHeld (shape_of fs) given
-  fields_held [] d plain fine given h = tt
-  fields_held (f ∷ fs) d plain fine given h =
+  fields_held [] d fine given h = tt
+  fields_held (f ∷ fs) d fine given h =
       let more = all_at d (map preorder fs) in
-      let p = and_parts (is_supported_field f) (are_supported fs) plain in
-      let here = field_held f d p.0 (all_left (IsFieldWellFormed limits) (preorder f d) more fine) (given 0) h.0 in
-      let rest = fields_held fs d p.1 (all_right (IsFieldWellFormed limits) (preorder f d) more fine) (λ j. given (suc j)) h.1 in
+      let here = field_held f d (all_left (IsFieldWellFormed limits) (preorder f d) more fine) (given 0) h.0 in
+      let rest = fields_held fs d (all_right (IsFieldWellFormed limits) (preorder f d) more fine) (λ j. given (suc j)) h.1 in
       (here.0, (here.1, rest))
 
   -- the columns of rows that fit hold them
-  pub rows_held : (fs : List Field) (rows : List (List Value)) → are_supported fs ≡ true
+  pub rows_held : (fs : List Field) (rows : List (List Value))
       → AllByRecursion (IsFieldWellFormed limits) (entries fs) → AllByRecursion (RowFits fs) rows → ColumnsHeld (shape_of fs) (columns rows)
-  rows_held fs rows plain fine fits = fields_held fs 1 plain fine (columns rows) (rows_stand fs rows fits)
+  rows_held fs rows fine fits = fields_held fs 1 fine (columns rows) (rows_stand fs rows fits)

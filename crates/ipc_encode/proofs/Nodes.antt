@@ -17,6 +17,7 @@ use Rattle.ipc_encode.specs.declared.column.Purpose.{Purpose}
 use Rattle.ipc_encode.specs.declared.column.Purpose.TheVariants as purpose
 use Rattle.ipc_model.specs.declared.limits.Limits.{Limits}
 use Rattle.ipc_encode.specs.Built.{AreNodes, IsNode, HasTaken}
+use Rattle.ipc_encode.specs.Numbers.{Numbering}
 
 -- the first so many nodes have one property of new values, and the others another of the old ones
 abbrev pub AreMixed : (Layout → List Value → Column → Type 0) → (Layout → List Value → Column → Type 0) → ℕ → Shape → List Node
@@ -137,10 +138,11 @@ nothing_below P l c vs v ns none h =
     ∙ (ap (λ (more : List Value). below l vs j ++ more) (none j) ∙ append-nil (below l vs j))) d) h
 
 -- the layout of a column that has taken values
-pub taken_laid : (p : Purpose) (limits : Limits) (l : Layout) (vs : List Value) (column : Column) → HasTaken p limits l vs column
+pub taken_laid : (known : Numbering) (p : Purpose) (limits : Limits) (l : Layout) (vs : List Value) (column : Column)
+    → HasTaken known p limits l vs column
     → column.layout ≡ l
-taken_laid purpose.Keep limits l vs column h = h.laid
-taken_laid purpose.Count limits l vs column h = h.laid
+taken_laid known purpose.Keep limits l vs column h = h.laid
+taken_laid known purpose.Count limits l vs column h = h.laid
 
 -- ---- nodes that are made one after another
 

@@ -10,7 +10,8 @@ use Rattle.ipc_model.specs.Layouts.{own_buffers}
 use Rattle.ipc_encode.specs.Pieces.{Valid}
 use Rattle.ipc_encode.specs.Bitmaps.{bitmap}
 use Rattle.ipc_encode.specs.Cells.{is_set, flags, nulls}
-use Rattle.ipc_encode.specs.Columns.{validity_bytes, validity_in, values_in}
+use Rattle.ipc_encode.specs.Columns.{validity_bytes, validity_in, values_in, indices_in}
+use Rattle.ipc_encode.specs.Numbers.{Numbering}
 use Rattle.ipc_encode.specs.Writing.{AreStored}
 use Rattle.ipc_encode.specs.declared.column.Column.{Column}
 use Rattle.ipc_encode.specs.Built.{IsColumn}
@@ -81,10 +82,10 @@ no_bitmap l.Structs vs none = absurd (omega arith)
 no_bitmap (l.FixedLists size) vs none = absurd (omega arith)
 
 -- a column of one layout is one of the same layout
-pub laid_as : {column : Column} → (limits : Limits) (lay layout : Layout) (vs : List Value) → lay ≡ layout
-    → IsColumn limits lay vs column
-    → IsColumn limits layout vs column
-laid_as {column} limits lay layout vs e h = subst (λ (x : Layout). IsColumn limits x vs column) e h
+pub laid_as : {column : Column} → (known : Numbering) (limits : Limits) (lay layout : Layout) (vs : List Value) → lay ≡ layout
+    → IsColumn known limits lay vs column
+    → IsColumn known limits layout vs column
+laid_as {column} known limits lay layout vs e h = subst (λ (x : Layout). IsColumn known limits x vs column) e h
 
 -- ---- a column without values
 
@@ -121,3 +122,14 @@ stored_none l.Structs = tt
 stored_none (l.FixedLists size) = tt
 stored_none (l.VariableBytes false) = tt
 stored_none (l.VariableBytes true) = tt
+
+pub indices_none : (known : Numbering) (layout : Layout) → indices_in known layout [] ≡ []
+indices_none known l.Null = refl
+indices_none known (l.Indices bits signed id) = refl
+indices_none known l.Bits = refl
+indices_none known (l.Numbers bits signed) = refl
+indices_none known (l.FixedBytes width) = refl
+indices_none known (l.VariableBytes utf8) = refl
+indices_none known l.Lists = refl
+indices_none known l.Structs = refl
+indices_none known (l.FixedLists size) = refl

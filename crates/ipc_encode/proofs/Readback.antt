@@ -1,81 +1,37 @@
 -- What is read back of the buffers of a column.
 use Rattle.std.proofs.Common.{◌≡◌, ◌∙◌, refl, sym, ap, subst, ℕ, zero, suc, ◌+◌, ◌-◌, ◌*◌, ◌%◌, ◌^◌, ◌<◌, ◌≤◌, Bool, true, false, cond}
 use Rattle.std.proofs.Common.{List, [], ◌∷◌, ◌++◌, length, take, drop, get_or, append_assoc, length-append, arith}
-use Rattle.std.specs.Prelude.{ℤ, pos, negsuc, not}
-use Rattle.std.specs.Int.{w8, w16, w32, w64, cast_signed, cast_unsigned}
-use Rattle.std.proofs.Math.Nat.{mod-eq_of_lt}
-use Rattle.std.proofs.lemmas.Int.{ints, to_z-of_z}
+use Rattle.std.specs.Prelude.{ℤ, not}
 use Rattle.std.proofs.Math.ListN.{get_or-append}
 use Rattle.std.proofs.lemmas.List.{get_or-append-add, length-replicate}
-use Rattle.ipc_scalar.specs.Bytes.{num}
-use Rattle.ipc_model.specs.Ranges.{width, IsSignedWithin, IsUnsignedWithin}
-use Rattle.ipc_model.specs.declared.schema.IntBits.{IntBits}
-use Rattle.ipc_model.specs.declared.schema.IntBits.TheVariants.{B8, B16, B32, B64}
+use Rattle.ipc_model.specs.Ranges.{width}
 use Rattle.ipc_model.specs.declared.value.Value.{Value, out-Value, roll-Value, roll-out-Value}
 use Rattle.ipc_model.specs.declared.value.Value.TheOpen.{Value-F}
 use Rattle.ipc_model.specs.declared.value.Value.TheVariants as v
 use Rattle.ipc_model.specs.declared.layout.Layout.{Layout}
 use Rattle.ipc_model.specs.declared.layout.Layout.TheVariants as l
 use Rattle.ipc_model.specs.Layouts.{number_bytes}
-use Rattle.ipc_column.specs.Values.{is_valid, place, first_of, signed_at, own_value, value_of}
+use Rattle.ipc_column.specs.Values.{is_valid, place, first_of, own_value, value_of}
+use Rattle.ipc_column.specs.Dictionaries.{Dictionaries}
+use Rattle.ipc_column.specs.Shapes.{dictionary_at}
 use Rattle.ipc_column.specs.Values.{items as slots_from}
-use Rattle.ipc_encode.specs.Pieces.{True}
+use Rattle.ipc_encode.specs.Pieces.{True, Valid}
+use Rattle.ipc_encode.specs.Numbers.{Numbering}
+use Rattle.ipc_encode.specs.Indices.{InColumn, Finds}
 use Rattle.ipc_encode.specs.Pieces.{Number}
 use Rattle.ipc_encode.specs.Pieces as p
 use Rattle.ipc_encode.specs.Cells.{is_null, is_true, bits_in, bytes_in, fixed_in}
 use Rattle.ipc_encode.specs.Cells.{slots, offsets, items, items_in, all_items, part, part_in, all_parts}
 use Rattle.ipc_encode.specs.Cells.{fixed_items, fixed_items_in, all_fixed_items}
 use Rattle.ipc_encode.specs.Buffers.{below}
-use Rattle.ipc_encode.specs.Columns.{validity_bytes, validity_in, offsets_in, values_in}
+use Rattle.ipc_encode.specs.Columns.{validity_bytes, validity_in, offsets_in}
 use Rattle.ipc_encode.proofs.Bits.{bit_of}
-use Rattle.ipc_encode.proofs.ReadbackParts.{column_of, Holds, AllHeld, held_at}
+use Rattle.ipc_encode.proofs.ReadbackParts.{column_of, written_values, Holds, AllHeld, held_at}
 use Rattle.ipc_encode.proofs.ReadbackParts.{valid_is, number_back, fixed_back, between_is, IsShort}
 use Rattle.ipc_encode.proofs.ReadbackParts.{reach, reach_items, place_is, place_next}
+use Rattle.ipc_encode.proofs.ReadbackIndices.{number_is, signed_is, found_at, index_back}
 
 -- ---- the values
-
--- a number in its range is what its low bytes say
-number_is : (bits : IntBits) (n : ℕ) → IsUnsignedWithin (width bits) n → n % 256 ^ number_bytes bits ≡ n
-number_is B8 n h = mod-eq_of_lt h
-number_is B16 n h = mod-eq_of_lt h
-number_is B32 n h = mod-eq_of_lt h
-number_is B64 n h = mod-eq_of_lt h
-
--- the low bits of a number in two's complement
-signed_is : (bits : IntBits) (b : List ℕ) (p : ℕ) (z : ℤ) → IsSignedWithin (width bits) z
-    → num b p (number_bytes bits) ≡ cast_unsigned w64 z % 256 ^ number_bytes bits → signed_at bits b p ≡ z
-signed_is B8 b p (pos n) h e =
-    let small : n < 128 = omega (arith, ints, h.1) in
-    let low : n % 256 ≡ n = mod-eq_of_lt (omega (arith, small)) in
-    ap (cast_signed w8) (e ∙ low) ∙ to_z-of_z w8 (pos n) (omega (arith, ints, small))
-signed_is B8 b p (negsuc n) h e =
-    let small : n < 128 = omega (arith, ints, h.0) in
-    let low : (18446744073709551616 - suc n) % 256 ≡ 256 - suc n = omega (arith, small) in
-    ap (cast_signed w8) (e ∙ low) ∙ to_z-of_z w8 (negsuc n) (omega (arith, ints, small))
-signed_is B16 b p (pos n) h e =
-    let small : n < 32768 = omega (arith, ints, h.1) in
-    let low : n % 65536 ≡ n = mod-eq_of_lt (omega (arith, small)) in
-    ap (cast_signed w16) (e ∙ low) ∙ to_z-of_z w16 (pos n) (omega (arith, ints, small))
-signed_is B16 b p (negsuc n) h e =
-    let small : n < 32768 = omega (arith, ints, h.0) in
-    let low : (18446744073709551616 - suc n) % 65536 ≡ 65536 - suc n = omega (arith, small) in
-    ap (cast_signed w16) (e ∙ low) ∙ to_z-of_z w16 (negsuc n) (omega (arith, ints, small))
-signed_is B32 b p (pos n) h e =
-    let small : n < 2147483648 = omega (arith, ints, h.1) in
-    let low : n % 4294967296 ≡ n = mod-eq_of_lt (omega (arith, small)) in
-    ap (cast_signed w32) (e ∙ low) ∙ to_z-of_z w32 (pos n) (omega (arith, ints, small))
-signed_is B32 b p (negsuc n) h e =
-    let small : n < 2147483648 = omega (arith, ints, h.0) in
-    let low : (18446744073709551616 - suc n) % 4294967296 ≡ 4294967296 - suc n = omega (arith, small) in
-    ap (cast_signed w32) (e ∙ low) ∙ to_z-of_z w32 (negsuc n) (omega (arith, ints, small))
-signed_is B64 b p (pos n) h e =
-    let small : n < 9223372036854775808 = omega (arith, ints, h.1) in
-    let low : n % 18446744073709551616 ≡ n = mod-eq_of_lt (omega (arith, small)) in
-    ap (cast_signed w64) (e ∙ low) ∙ to_z-of_z w64 (pos n) (omega (arith, ints, small))
-signed_is B64 b p (negsuc n) h e =
-    let small : n < 9223372036854775808 = omega (arith, ints, h.0) in
-    let low : (18446744073709551616 - suc n) % 18446744073709551616 ≡ 18446744073709551616 - suc n = omega (arith, small) in
-    ap (cast_signed w64) (e ∙ low) ∙ to_z-of_z w64 (negsuc n) (omega (arith, ints, small))
 
 back_to : (value : Value) (w : Value-F Value) → out-Value value ≡ w → roll-Value w ≡ value
 back_to value w e = ap roll-Value (sym e) ∙ roll-out-Value value
@@ -248,80 +204,90 @@ fixed_list_is size vs i n xs rows k all e count one picks =
 -- ---- the values of a column
 
 -- what a slot holds is the value, unless it is null
-own_is : (rows : ℕ → List Value) (l : Layout) (n : ℕ) (vs : List Value) (i : ℕ) (w : Value-F Value) → i < length vs → AllHeld l n vs
-    → IsShort l vs → ArePicked rows n (below l vs)
-    → out-Value (get_or vs i v.Null) ≡ w → Holds l n w → is_null w ≡ false
-    → own_value l [] rows (offsets_in l vs) (values_in l vs) i ≡ get_or vs i v.Null
-own_is rows _ n vs i Value-F.Null k all short picks e h valid = absurd (cc)
-own_is rows l.Bits n vs i (Value-F.Bool truth) k all short picks e h valid =
+own_is : (ds : Dictionaries) (known : Numbering) (rows : ℕ → List Value) (l : Layout) (n : ℕ) (vs : List Value) (i : ℕ) (w : Value-F Value)
+    → i < length vs → AllHeld l n vs → IsShort l vs → ArePicked rows n (below l vs)
+    → out-Value (get_or vs i v.Null) ≡ w → Holds l n w → is_null w ≡ false → InColumn (Finds ds known) l vs
+    → own_value l (dictionary_at ds l) rows (offsets_in l vs) (written_values known l vs) i ≡ get_or vs i v.Null
+own_is ds known rows _ n vs i Value-F.Null k all short picks e h valid found = absurd (cc)
+own_is ds known rows l.Bits n vs i (Value-F.Bool truth) k all short picks e h valid found =
     ap (λ (b : Bool). v.Bool b) (bit_of True vs i v.Null k ∙ ap is_true e)
     ∙ (sym (v.rolls-Bool truth) ∙ back_to (get_or vs i v.Null) (Value-F.Bool truth) e)
-own_is rows (l.Numbers bits true) n vs i (Value-F.Int z) k all short picks e h valid =
+own_is ds known rows (l.Numbers bits true) n vs i (Value-F.Int z) k all short picks e h valid found =
     ap (λ (m : ℤ). v.Int m) (signed_is bits (slots (Number bits) vs) (number_bytes bits * i) z h
     (number_back bits vs i v.Null k ∙ ap (λ (x : Value-F Value). bits_in x % 256 ^ number_bytes bits) e))
     ∙ (sym (v.rolls-Int z) ∙ back_to (get_or vs i v.Null) (Value-F.Int z) e)
-own_is rows (l.Numbers bits false) n vs i (Value-F.UInt number) k all short picks e h valid =
+own_is ds known rows (l.Numbers bits false) n vs i (Value-F.UInt number) k all short picks e h valid found =
     ap (λ (m : ℕ). v.UInt m) (number_back bits vs i v.Null k
     ∙ (ap (λ (x : Value-F Value). bits_in x % 256 ^ number_bytes bits) e ∙ number_is bits number h))
     ∙ (sym (v.rolls-UInt number) ∙ back_to (get_or vs i v.Null) (Value-F.UInt number) e)
-own_is rows (l.FixedBytes size) n vs i (Value-F.Bytes bytes) k all short picks e h valid =
+own_is ds known rows (l.FixedBytes size) n vs i (Value-F.Bytes bytes) k all short picks e h valid found =
     ap (λ (b : List ℕ). v.Bytes b) (fixed_back size n vs i v.Null all k ∙ ap (λ (x : Value-F Value). fixed_in size x) e)
     ∙ (sym (v.rolls-Bytes bytes) ∙ back_to (get_or vs i v.Null) (Value-F.Bytes bytes) e)
-own_is rows (l.VariableBytes false) n vs i (Value-F.Bytes bytes) k all short picks e h valid =
+own_is ds known rows (l.VariableBytes false) n vs i (Value-F.Bytes bytes) k all short picks e h valid found =
     ap (λ (b : List ℕ). v.Bytes b) (between_is vs i v.Null k short ∙ ap bytes_in e)
     ∙ (sym (v.rolls-Bytes bytes) ∙ back_to (get_or vs i v.Null) (Value-F.Bytes bytes) e)
-own_is rows (l.VariableBytes true) n vs i (Value-F.Text text) k all short picks e h valid =
+own_is ds known rows (l.VariableBytes true) n vs i (Value-F.Text text) k all short picks e h valid found =
     ap (λ (b : List ℕ). v.Text b) (between_is vs i v.Null k short ∙ ap bytes_in e)
     ∙ (sym (v.rolls-Text text) ∙ back_to (get_or vs i v.Null) (Value-F.Text text) e)
-own_is rows l.Lists n vs i (Value-F.List xs) k all short picks e h valid =
+own_is ds known rows l.Lists n vs i (Value-F.List xs) k all short picks e h valid found =
     ap (λ (ws : List Value). v.List ws) (list_is vs i n xs rows k e h short picks)
     ∙ (sym (v.rolls-List xs) ∙ back_to (get_or vs i v.Null) (Value-F.List xs) e)
-own_is rows (l.FixedLists size) n vs i (Value-F.List xs) k all short picks e h valid =
+own_is ds known rows (l.FixedLists size) n vs i (Value-F.List xs) k all short picks e h valid found =
     ap (λ (ws : List Value). v.List ws) (fixed_list_is size vs i n xs rows k all e h.0 h.1 picks)
     ∙ (sym (v.rolls-List xs) ∙ back_to (get_or vs i v.Null) (Value-F.List xs) e)
-own_is rows l.Structs n vs i (Value-F.Struct parts) k all short picks e h valid =
+own_is ds known rows l.Structs n vs i (Value-F.Struct parts) k all short picks e h valid found =
     ap (λ (ws : List Value). v.Struct ws) (struct_is vs i n parts rows k e h picks)
     ∙ (sym (v.rolls-Struct parts) ∙ back_to (get_or vs i v.Null) (Value-F.Struct parts) e)
-own_is rows l.Null n vs i _ k all short picks e h valid = absurd h
-own_is rows (l.Indices bits signed id) n vs i _ k all short picks e h valid = absurd h
-own_is rows l.Lists n vs i _ k all short picks e h valid = absurd h
-own_is rows (l.FixedLists size) n vs i _ k all short picks e h valid = absurd h
-own_is rows l.Structs n vs i _ k all short picks e h valid = absurd h
-own_is rows l.Bits n vs i _ k all short picks e h valid = absurd h
-own_is rows (l.Numbers bits true) n vs i _ k all short picks e h valid = absurd h
-own_is rows (l.Numbers bits false) n vs i _ k all short picks e h valid = absurd h
-own_is rows (l.FixedBytes size) n vs i _ k all short picks e h valid = absurd h
-own_is rows (l.VariableBytes false) n vs i _ k all short picks e h valid = absurd h
-own_is rows (l.VariableBytes true) n vs i _ k all short picks e h valid = absurd h
+own_is ds known rows l.Null n vs i _ k all short picks e h valid found = absurd h
+own_is ds known rows (l.Indices bits signed id) n vs i w k all short picks e h valid found =
+    index_back ds known bits signed id vs i w k e valid (found_at (Finds ds known) bits signed id vs i k found)
+own_is ds known rows l.Lists n vs i _ k all short picks e h valid found = absurd h
+own_is ds known rows (l.FixedLists size) n vs i _ k all short picks e h valid found = absurd h
+own_is ds known rows l.Structs n vs i _ k all short picks e h valid found = absurd h
+own_is ds known rows l.Bits n vs i _ k all short picks e h valid found = absurd h
+own_is ds known rows (l.Numbers bits true) n vs i _ k all short picks e h valid found = absurd h
+own_is ds known rows (l.Numbers bits false) n vs i _ k all short picks e h valid found = absurd h
+own_is ds known rows (l.FixedBytes size) n vs i _ k all short picks e h valid found = absurd h
+own_is ds known rows (l.VariableBytes false) n vs i _ k all short picks e h valid found = absurd h
+own_is ds known rows (l.VariableBytes true) n vs i _ k all short picks e h valid found = absurd h
 
 -- slot i holds value i
-slot_is : (rows : ℕ → List Value) (l : Layout) (n : ℕ) (vs : List Value) (i : ℕ) → i < length vs → AllHeld l n vs → IsShort l vs
-    → ArePicked rows n (below l vs) → validity_in l vs ≡ validity_bytes vs
-    → value_of rows (column_of l vs) i ≡ get_or vs i v.Null
-slot_is rows lay n vs i k all short picks same =
-    subst (λ (b : Bool). cond b (own_value lay [] rows (offsets_in lay vs) (values_in lay vs) i) v.Null ≡ get_or vs i v.Null)
+slot_is : (ds : Dictionaries) (known : Numbering) (rows : ℕ → List Value) (l : Layout) (n : ℕ) (vs : List Value) (i : ℕ) → i < length vs
+    → AllHeld l n vs → IsShort l vs → ArePicked rows n (below l vs) → InColumn (Finds ds known) l vs → validity_in l vs ≡ validity_bytes vs
+    → value_of rows (column_of ds known l vs) i ≡ get_or vs i v.Null
+slot_is ds known rows lay n vs i k all short picks found same =
+    let own = own_value lay (dictionary_at ds lay) rows (offsets_in lay vs) (written_values known lay vs) i in
+    subst (λ (b : Bool). cond b own v.Null ≡ get_or vs i v.Null)
     (sym (ap (λ (bytes : List ℕ). is_valid bytes i) same ∙ valid_is vs i v.Null k))
     (by_null (is_null (out-Value (get_or vs i v.Null))) refl)
   where
     by_null : (b : Bool) → is_null (out-Value (get_or vs i v.Null)) ≡ b
-        → cond (not b) (own_value lay [] rows (offsets_in lay vs) (values_in lay vs) i) v.Null ≡ get_or vs i v.Null
+        → cond (not b) (own_value lay (dictionary_at ds lay) rows (offsets_in lay vs) (written_values known lay vs) i) v.Null
+        ≡ get_or vs i v.Null
     by_null true e = null_from (get_or vs i v.Null) (out-Value (get_or vs i v.Null)) refl e
-    by_null false e = own_is rows lay n vs i (out-Value (get_or vs i v.Null)) k all short picks refl (held_at lay n vs i v.Null all k) e
+    by_null false e =
+        own_is ds known rows lay n vs i (out-Value (get_or vs i v.Null)) k all short picks refl (held_at lay n vs i v.Null all k) e found
 
 null_held : (n : ℕ) (value : Value) (w : Value-F Value) → out-Value value ≡ w → Holds l.Null n w → v.Null ≡ value
 null_held n value Value-F.Null e h = null_is value e
 null_held n value _ e h = absurd h
 
 -- slot i of a column that was written has the i-th of its values
-pub value_is : (rows : ℕ → List Value) (l : Layout) (n : ℕ) (vs : List Value) (i : ℕ) → i < length vs → AllHeld l n vs → IsShort l vs
-    → ArePicked rows n (below l vs) → value_of rows (column_of l vs) i ≡ get_or vs i v.Null
-value_is rows l.Null n vs i k all short picks =
+pub value_is : (ds : Dictionaries) (known : Numbering) (rows : ℕ → List Value) (l : Layout) (n : ℕ) (vs : List Value) (i : ℕ)
+    → i < length vs → AllHeld l n vs → IsShort l vs → ArePicked rows n (below l vs) → InColumn (Finds ds known) l vs
+    → value_of rows (column_of ds known l vs) i ≡ get_or vs i v.Null
+value_is ds known rows l.Null n vs i k all short picks found =
     null_held n (get_or vs i v.Null) (out-Value (get_or vs i v.Null)) refl (held_at l.Null n vs i v.Null all k)
-value_is rows (l.Indices bits signed id) n vs i k all short picks = absurd (held_at (l.Indices bits signed id) n vs i v.Null all k)
-value_is rows l.Lists n vs i k all short picks = slot_is rows l.Lists n vs i k all short picks refl
-value_is rows l.Structs n vs i k all short picks = slot_is rows l.Structs n vs i k all short picks refl
-value_is rows (l.FixedLists size) n vs i k all short picks = slot_is rows (l.FixedLists size) n vs i k all short picks refl
-value_is rows l.Bits n vs i k all short picks = slot_is rows l.Bits n vs i k all short picks refl
-value_is rows (l.Numbers bits signed) n vs i k all short picks = slot_is rows (l.Numbers bits signed) n vs i k all short picks refl
-value_is rows (l.FixedBytes width) n vs i k all short picks = slot_is rows (l.FixedBytes width) n vs i k all short picks refl
-value_is rows (l.VariableBytes utf8) n vs i k all short picks = slot_is rows (l.VariableBytes utf8) n vs i k all short picks refl
+value_is ds known rows (l.Indices bits signed id) n vs i k all short picks found =
+    slot_is ds known rows (l.Indices bits signed id) n vs i k all short picks found refl
+value_is ds known rows l.Lists n vs i k all short picks found = slot_is ds known rows l.Lists n vs i k all short picks found refl
+value_is ds known rows l.Structs n vs i k all short picks found = slot_is ds known rows l.Structs n vs i k all short picks found refl
+value_is ds known rows (l.FixedLists size) n vs i k all short picks found =
+    slot_is ds known rows (l.FixedLists size) n vs i k all short picks found refl
+value_is ds known rows l.Bits n vs i k all short picks found = slot_is ds known rows l.Bits n vs i k all short picks found refl
+value_is ds known rows (l.Numbers bits signed) n vs i k all short picks found =
+    slot_is ds known rows (l.Numbers bits signed) n vs i k all short picks found refl
+value_is ds known rows (l.FixedBytes width) n vs i k all short picks found =
+    slot_is ds known rows (l.FixedBytes width) n vs i k all short picks found refl
+value_is ds known rows (l.VariableBytes utf8) n vs i k all short picks found =
+    slot_is ds known rows (l.VariableBytes utf8) n vs i k all short picks found refl

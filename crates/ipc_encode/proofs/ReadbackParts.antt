@@ -9,7 +9,7 @@ use Rattle.std.proofs.Math.Nat.{mod-eq_of_lt}
 use Rattle.std.proofs.lemmas.Bool.{eqb-true, ne_eqb}
 use Rattle.std.proofs.lemmas.Int.{ints, to_z_pos}
 use Rattle.std.proofs.lemmas.List.{length-replicate}
-use Rattle.ipc_scalar.specs.Bytes.{num, clear}
+use Rattle.ipc_scalar.specs.Bytes.{num}
 use Rattle.ipc_scalar.proofs.Places.{length_low_bytes, num_low}
 use Rattle.ipc_model.specs.Ranges.{width, IsSignedWithin, IsUnsignedWithin}
 use Rattle.ipc_model.specs.declared.schema.IntBits.{IntBits}
@@ -18,9 +18,11 @@ use Rattle.ipc_model.specs.declared.value.Value.TheOpen.{Value-F}
 use Rattle.ipc_model.specs.declared.value.Value.TheVariants as v
 use Rattle.ipc_model.specs.declared.layout.Layout.{Layout}
 use Rattle.ipc_model.specs.declared.layout.Layout.TheVariants as l
-use Rattle.ipc_model.specs.Layouts.{number_bytes, has_validity}
+use Rattle.ipc_model.specs.Layouts.{number_bytes}
 use Rattle.ipc_column.specs.Columns.{Column}
-use Rattle.ipc_column.specs.Rules.{HoldValues, HoldOffsets, IsLongEnough, HasBits, CountsNulls, AreOffsets}
+use Rattle.ipc_column.specs.Dictionaries.{Dictionaries}
+use Rattle.ipc_column.specs.Shapes.{dictionary_at}
+use Rattle.ipc_column.specs.Rules.{AreOffsets}
 use Rattle.ipc_column.specs.Values.{is_valid, offset, place, between}
 use Rattle.ipc_encode.specs.Pieces.{Valid, True}
 use Rattle.ipc_encode.specs.Pieces.{Run, ValueSlot}
@@ -30,27 +32,40 @@ use Rattle.ipc_encode.specs.Bitmaps.{bitmap}
 use Rattle.ipc_encode.specs.Cells.{is_set, flags, nulls, number_bits, content, fixed, SpellsOut}
 use Rattle.ipc_encode.specs.Cells.{slot_bytes, slots, extent, ends, offsets, items, all_items}
 use Rattle.ipc_encode.specs.Buffers.{piece_bytes}
-use Rattle.ipc_encode.specs.Columns.{validity_bytes, validity_in, offsets_in, values_in}
-use Rattle.ipc_encode.proofs.Bits.{length_bytes, bit_of, flags_length, clear_is}
+use Rattle.ipc_encode.specs.Columns.{validity_bytes, validity_in, offsets_in}
+use Rattle.ipc_encode.specs.Numbers.{Numbering, numbers_of}
+use Rattle.ipc_encode.proofs.Bits.{length_bytes, bit_of, flags_length}
 use Rattle.ipc_encode.proofs.Ranges.{cut_behind}
 
 -- ---- a column as it is written
 
--- the column of this layout that is written for these values
-abbrev pub column_of : Layout → List Value → Column
-column_of l vs = record {
+-- the bytes of the values in a column as it is written: a column of indices has their numbers
+abbrev pub written_values : Numbering → Layout → List Value → List ℕ
+written_values known (l.Indices bits signed id) vs = slots (Number bits) (numbers_of (known id) vs)
+written_values known l.Null vs = []
+written_values known l.Bits vs = bitmap (flags True vs)
+written_values known (l.Numbers bits signed) vs = slots (Number bits) vs
+written_values known (l.FixedBytes width) vs = slots (Fixed width) vs
+written_values known (l.VariableBytes utf8) vs = slots Content vs
+written_values known l.Lists vs = []
+written_values known l.Structs vs = []
+written_values known (l.FixedLists size) vs = []
+
+-- the column of this layout that is written for these values, under the dictionaries in force
+abbrev pub column_of : Dictionaries → Numbering → Layout → List Value → Column
+column_of m known l vs = record {
   layout = l;
   slots = length vs;
   nulls = nulls vs;
   validity = validity_in l vs;
   offsets = offsets_in l vs;
-  values = values_in l vs;
-  dictionary = [];
+  values = written_values known l vs;
+  dictionary = dictionary_at m l;
 }
 
--- a value that a layout with so many children holds
+-- a value that a layout with so many children holds; in a column of indices any value may stand
 abbrev pub Holds : Layout → ℕ → Value-F Value → Type 0
-Holds (l.Indices bits signed id) n w = ⊥
+Holds (l.Indices bits signed id) n w = ⊤
 Holds _ n Value-F.Null = ⊤
 Holds l.Bits n (Value-F.Bool truth) = ⊤
 Holds (l.Numbers bits true) n (Value-F.Int z) = IsSignedWithin (width bits) z
@@ -290,77 +305,6 @@ between_is vs i d k short =
     ∙ (ap (λ (m : ℕ). slice_range (front ++ (own ++ slots Content (drop (suc i) vs))) (place (offsets p.Bytes vs) i) m) end
     ∙ (ap (λ (m : ℕ). slice_range (front ++ (own ++ slots Content (drop (suc i) vs))) m (length front + length own)) start
     ∙ cut_behind front own (slots Content (drop (suc i) vs))))
-
--- ---- the facts of a column
-
--- the buffers that are written are long enough for their slots
-pub long_enough : (l : Layout) (n : ℕ) (vs : List Value) → AllHeld l n vs → IsLongEnough (column_of l vs)
-long_enough lay n vs h = record { bitmap = bitmap_there lay; values = values_there lay h; offsets = offsets_there lay }
-  where
-    some : 0 < length (validity_bytes vs) → (length vs + 7) / 8 ≤ length (validity_bytes vs)
-    some = validity_cases (λ bytes. 0 < length bytes → (length vs + 7) / 8 ≤ length bytes) vs (λ none h. absurd (omega arith))
-        (λ h. let e = bitmap_length vs in omega (arith, e))
-
-    bitmap_there : (l : Layout) → 0 < length (validity_in l vs) → (length vs + 7) / 8 ≤ length (validity_in l vs)
-    bitmap_there l.Null h = absurd (omega arith)
-    bitmap_there l.Lists h = some h
-    bitmap_there l.Structs h = some h
-    bitmap_there (l.FixedLists size) h = some h
-    bitmap_there l.Bits h = some h
-    bitmap_there (l.Numbers bits signed) h = some h
-    bitmap_there (l.FixedBytes width) h = some h
-    bitmap_there (l.Indices bits signed id) h = some h
-    bitmap_there (l.VariableBytes utf8) h = some h
-
-    values_there : (l : Layout) → AllHeld l n vs → HoldValues l (length vs) (length (values_in l vs))
-    values_there l.Bits h = let e = length_bytes ((length (flags True vs) + 7) / 8) (flags True vs) in let f =
-        flags_length True vs in omega (arith, e, f)
-    values_there (l.Numbers bits signed) h = let e =
-        wide_length (Number bits) (number_bytes bits) vs (numbers_wide bits vs) in omega (arith, e)
-    values_there (l.Indices bits signed id) h = let e =
-        wide_length (Number bits) (number_bytes bits) vs (numbers_wide bits vs) in omega (arith, e)
-    values_there (l.FixedBytes width) h = let e = wide_length (Fixed width) width vs (fixed_wide width n vs h) in omega (arith, e)
-    values_there _ h = tt
-
-    offsets_there : (l : Layout) → HoldOffsets l (length vs) (length (offsets_in l vs))
-    offsets_there l.Lists = λ some. let e = ends_length p.Items 0 vs in omega (arith, e)
-    offsets_there (l.VariableBytes utf8) = λ some. let e = ends_length p.Bytes 0 vs in omega (arith, e)
-    offsets_there _ = tt
-
--- the null count that is written is the number of the bitmap's clear bits
-pub counts_nulls : (l : Layout) (n : ℕ) (vs : List Value) → AllHeld l n vs → CountsNulls (column_of l vs)
-counts_nulls lay n vs h = record { with_bitmap = there lay; without_bitmap = absent lay h }
-  where
-    some : 0 < length (validity_bytes vs) → nulls vs ≡ clear (validity_bytes vs) (length vs)
-    some = validity_cases (λ bytes. 0 < length bytes → nulls vs ≡ clear bytes (length vs)) vs (λ none h. absurd (omega arith))
-        (λ h. sym (clear_is vs v.Null))
-
-    none : length (validity_bytes vs) ≡ 0 → nulls vs ≡ 0
-    none = validity_cases (λ bytes. length bytes ≡ 0 → nulls vs ≡ 0) vs (λ none h. none)
-        (λ h. let e = bitmap_length vs in let m = nulls_most vs in omega (arith, e, h, m))
-
-    there : (l : Layout) → has_validity l ≡ true → 0 < length (validity_in l vs) → HasBits (column_of l vs)
-        → nulls vs ≡ clear (validity_in l vs) (length vs)
-    there l.Null e h b = absurd (omega arith)
-    there l.Lists e h b = some h
-    there l.Structs e h b = some h
-    there (l.FixedLists size) e h b = some h
-    there l.Bits e h b = some h
-    there (l.Numbers bits signed) e h b = some h
-    there (l.FixedBytes width) e h b = some h
-    there (l.Indices bits signed id) e h b = some h
-    there (l.VariableBytes utf8) e h b = some h
-
-    absent : (l : Layout) → AllHeld l n vs → has_validity l ≡ true → length (validity_in l vs) ≡ 0 → nulls vs ≡ 0
-    absent l.Null h e z = absurd (cc)
-    absent l.Lists h e z = none z
-    absent l.Structs h e z = none z
-    absent (l.FixedLists size) h e z = none z
-    absent l.Bits h e z = none z
-    absent (l.Numbers bits signed) h e z = none z
-    absent (l.FixedBytes width) h e z = none z
-    absent (l.Indices bits signed id) h e z = none z
-    absent (l.VariableBytes utf8) h e z = none z
 
 -- the runs of the slots are within the reach of offsets
 abbrev pub IsShort : Layout → List Value → Type 0

@@ -1,12 +1,13 @@
 -- The parts of rows give the rows back.
-use Rattle.std.proofs.Common.{◌≡◌, ◌∙◌, refl, sym, ap, subst, ℕ, zero, suc, ◌+◌, ◌-◌, ◌*◌, ◌^◌, ◌<◌, ◌≤◌, true, false, List, [], ◌∷◌}
+use Rattle.std.proofs.Common.{◌≡◌, ◌∙◌, refl, sym, ap, subst, ℕ, zero, suc, ◌+◌, ◌-◌, ◌*◌, ◌^◌, ◌<◌, ◌≤◌, Bool, true, false, List, [], ◌∷◌}
 use Rattle.std.proofs.Common.{length, get_or, arith, inl, inr}
-use Rattle.std.specs.Prelude.{ℤ, pos, ◌≤ℤ◌, ⊤}
+use Rattle.std.specs.Prelude.{ℤ, pos, ◌≤ℤ◌, not, ⊤}
 use Rattle.std.specs.List.{AllByRecursion}
 use Rattle.std.specs.Str.{IsUtf8}
 use Rattle.std.proofs.Math.Nat.{mul-le-mul_left}
 use Rattle.std.proofs.lemmas.Bool.{cases_lt}
 use Rattle.std.proofs.lemmas.Int.{ints}
+use Rattle.std.proofs.lemmas.Option.{slice_get_within}
 use Rattle.std.proofs.lemmas.List.Elements.{All-from_recursion}
 use Rattle.ipc_model.specs.Fits.{RowFits}
 use Rattle.ipc_model.specs.WellFormed.{IsFieldWellFormed}
@@ -20,25 +21,30 @@ use Rattle.ipc_model.specs.declared.layout.Layout.{Layout}
 use Rattle.ipc_model.specs.declared.layout.Layout.TheVariants as l
 use Rattle.ipc_meta.specs.declared.head.BatchHead.{BatchHead}
 use Rattle.ipc_column.specs.Columns.{Column, Columns, Each, EachTop}
-use Rattle.ipc_column.specs.Shapes.{Shape, bare, field, shape_of, node_at, buffer_at, columns_of}
+use Rattle.ipc_column.specs.Shapes.{Shape, bare, field, shape_of, node_at, buffer_at, columns_of, dictionary_at}
 use Rattle.ipc_column.specs.Rules.{IsNode, LiesIn, IsLongEnough, CountsNulls, HasOffsets, HasLongChildren, IsText, SpellsTexts, HasIndex}
-use Rattle.ipc_column.specs.Rules.{HoldsIndices}
+use Rattle.ipc_column.specs.Rules.{HoldsIndices, IsIndex}
+use Rattle.ipc_column.specs.Dictionaries.{Dictionaries, values_for}
 use Rattle.ipc_column.specs.Values.{is_valid, place, row}
 use Rattle.ipc_column.specs.Rows.{Rows}
-use Rattle.ipc_meta.specs.Supported.{are_supported}
 use Rattle.ipc_encode.specs.Pieces.{Valid, Content}
 use Rattle.ipc_encode.specs.Pieces as p
-use Rattle.ipc_encode.specs.Cells.{cell, cells, slots, extent, all_items, HasUtf8}
-use Rattle.ipc_encode.specs.Buffers.{below, nodes_of, columns, row_nodes, row_buffers, ranges_from, body_of}
-use Rattle.ipc_encode.specs.Columns.{validity_in, offsets_in, values_in}
+use Rattle.ipc_encode.specs.Cells.{is_null, is_set, cell, cells, slots, extent, all_items, HasUtf8}
+use Rattle.ipc_encode.specs.Numbers.{Numbering}
+use Rattle.ipc_encode.specs.Indices.{InColumn, InColumns, Finds, FindsRows}
+use Rattle.ipc_encode.specs.Buffers.{below, nodes_of, columns, row_nodes, row_buffers_with, ranges_from, body_with}
+use Rattle.ipc_encode.specs.Columns.{validity_in, offsets_in}
 use Rattle.ipc_encode.specs.Limits.{HasLongData, HasLongNode, SomeLongData, IsWithin}
 use Rattle.ipc_encode.specs.Writing.{AreStored, AllStored}
 use Rattle.ipc_encode.proofs.Ranges.{buffer_back, ranges_length, ranges_inside}
 use Rattle.ipc_encode.proofs.Steps.{cells_length}
-use Rattle.ipc_encode.proofs.ReadbackParts.{column_of, Holds, AllHeld, HasItsChild, IsShort, reach, reach_bytes, reach_items, place_next}
+use Rattle.ipc_encode.proofs.ReadbackParts.{column_of, written_values, Holds, AllHeld, HasItsChild, IsShort, reach, reach_bytes}
+use Rattle.ipc_encode.proofs.ReadbackParts.{reach_items, place_next}
 use Rattle.ipc_encode.proofs.ReadbackParts.{front_most, front_more, each_at, held_at, valid_is, between_is, nulls_most}
-use Rattle.ipc_encode.proofs.ReadbackParts.{long_enough, counts_nulls, in_order, spelled}
+use Rattle.ipc_encode.proofs.ReadbackParts.{in_order, spelled}
 use Rattle.ipc_encode.proofs.Readback.{picked, picked_row, parts_length, all_fixed_length, value_is}
+use Rattle.ipc_encode.proofs.ReadbackIndices.{found_at, index_number}
+use Rattle.ipc_encode.proofs.ReadbackLengths.{long_enough, counts_nulls}
 use Rattle.ipc_encode.proofs.Cutting.{written, slots_written, nodes_length, buffers_length, cut_back}
 use Rattle.ipc_encode.proofs.HeldValues.{across, across_is, ColumnsHeld, all_both}
 use Rattle.ipc_encode.proofs.NestedValues.{rows_held}
@@ -46,18 +52,19 @@ use Rattle.ipc_encode.proofs.NestedValues.{rows_held}
 -- ---- what is known of the columns
 
 -- what is known of a column with so many children, where a column may have so many slots
-record IsGood (most : ℕ) (l : Layout) (n : ℕ) (vs : List Value) : Type 0 where
+record IsGood (ds : Dictionaries) (known : Numbering) (most : ℕ) (l : Layout) (n : ℕ) (vs : List Value) : Type 0 where
   pub child : HasItsChild l n
   pub held : AllHeld l n vs
   pub short : IsShort l vs
   pub few : length vs ≤ most
   pub stored : AreStored l vs
+  pub found : InColumn (Finds ds known) l vs
 
 -- the same of each column, and of each below it
-abbrev AllGood : ℕ → Shape → (ℕ → List Value) → Type 0
-AllGood most bare given = ⊤
-AllGood most (field l children rest) given = IsGood most l (across children) (given 0)
-    × (AllGood most children (below l (given 0)) × AllGood most rest (λ j. given (suc j)))
+abbrev AllGood : Dictionaries → Numbering → ℕ → Shape → (ℕ → List Value) → Type 0
+AllGood ds known most bare given = ⊤
+AllGood ds known most (field l children rest) given = IsGood ds known most l (across children) (given 0)
+    × (AllGood ds known most children (below l (given 0)) × AllGood ds known most rest (λ j. given (suc j)))
 
 not_above : (n most : ℕ) → ((most < n) → ⊥) → n ≤ most
 not_above n most h = elim (cases_lt most n) as (λ _. n ≤ most) [ inl x ↦ absurd (h x) | inr g ↦ omega (arith, g) ]
@@ -94,146 +101,169 @@ short_is most (l.Indices bits signed id) children vs m held short few = tt
 short_is most l.Structs children vs m held short few = tt
 short_is most (l.FixedLists size) children vs m held short few = tt
 
-goods : (most : ℕ) (s : Shape) (given : ℕ → List Value) → most ≤ 2 ^ 31 - 1 → ColumnsHeld s given → AllStored s given
-    → ¬ SomeLongData s given → ¬ HasLongNode most s given → AllGood most s given
-goods most bare given m held stored short few = tt
-goods most (field l children rest) given m held stored short few = (
+goods : (ds : Dictionaries) (known : Numbering) (most : ℕ) (s : Shape) (given : ℕ → List Value) → most ≤ 2 ^ 31 - 1 → ColumnsHeld s given
+    → AllStored s given → InColumns (Finds ds known) s given
+    → ¬ SomeLongData s given → ¬ HasLongNode most s given → AllGood ds known most s given
+goods ds known most bare given m held stored found short few = tt
+goods ds known most (field l children rest) given m held stored found short few = (
   record {
     child = held.0.0;
     held = held.0.1;
     short = short_is most l children (given 0) m held.0.1 (λ x. short (inl x)) (λ x. few (inr (inl x)));
     few = not_above (length (given 0)) most (λ x. few (inl x));
     stored = stored.0;
+    found = found.0;
   },
   (
-    goods most children (below l (given 0)) m held.1.0 stored.1.0 (λ x. short (inr (inl x))) (λ x. few (inr (inl x))),
-    goods most rest (λ j. given (suc j)) m held.1.1 stored.1.1 (λ x. short (inr (inr x))) (λ x. few (inr (inr x))),
+    goods ds known most children (below l (given 0)) m held.1.0 stored.1.0 found.1.0 (λ x. short (inr (inl x))) (λ x. few (inr (inl x))),
+    goods ds known most rest (λ j. given (suc j)) m held.1.1 stored.1.1 found.1.1 (λ x. short (inr (inr x))) (λ x. few (inr (inr x))),
   ),
 )
 
 -- ---- the facts of each column
 
 -- what holds of a column and the columns of its children, where good values are written
-abbrev OfGood : ℕ → (Column → Columns → Type 0) → Type 0
-OfGood most P = (l : Layout) (children : Shape) (vs : List Value) → IsGood most l (across children) vs
-    → P (column_of l vs) (written children (below l vs))
+abbrev OfGood : Dictionaries → Numbering → ℕ → (Column → Columns → Type 0) → Type 0
+OfGood ds known most P = (l : Layout) (children : Shape) (vs : List Value) → IsGood ds known most l (across children) vs
+    → P (column_of ds known l vs) (written ds known children (below l vs))
 
-each_written : (most : ℕ) (P : Column → Columns → Type 0) → OfGood most P → (s : Shape) (given : ℕ → List Value) → AllGood most s given
-    → Each P (written s given)
-each_written most P p bare given g = tt
-each_written most P p (field l children rest) given g = (
+each_written : (ds : Dictionaries) (known : Numbering) (most : ℕ) (P : Column → Columns → Type 0) → OfGood ds known most P
+    → (s : Shape) (given : ℕ → List Value) → AllGood ds known most s given
+    → Each P (written ds known s given)
+each_written ds known most P p bare given g = tt
+each_written ds known most P p (field l children rest) given g = (
   p l children (given 0) g.0,
-  (each_written most P p children (below l (given 0)) g.1.0, each_written most P p rest (λ j. given (suc j)) g.1.1),
+  (each_written ds known most P p children (below l (given 0)) g.1.0, each_written ds known most P p rest (λ j. given (suc j)) g.1.1),
 )
 
-long_children : (l : Layout) (children : Shape) (vs : List Value) → HasItsChild l (across children) → AllHeld l (across children) vs
-    → HasLongChildren l (length vs) (written children (below l vs))
-long_children l.Structs children vs child held =
-    slots_written (λ n. length vs ≤ n) children (below l.Structs vs) (λ j. omega (arith, parts_length j vs))
-long_children (l.FixedLists size) bare vs child held = absurd (omega (arith, child))
-long_children (l.FixedLists size) (field first inner rest) vs child held =
+long_children : (ds : Dictionaries) (known : Numbering) (l : Layout) (children : Shape) (vs : List Value)
+    → HasItsChild l (across children) → AllHeld l (across children) vs
+    → HasLongChildren l (length vs) (written ds known children (below l vs))
+long_children ds known l.Structs children vs child held =
+    slots_written ds known (λ n. length vs ≤ n) children (below l.Structs vs) (λ j. omega (arith, parts_length j vs))
+long_children ds known (l.FixedLists size) bare vs child held = absurd (omega (arith, child))
+long_children ds known (l.FixedLists size) (field first inner rest) vs child held =
     let children = field first inner rest in
     let many = all_fixed_length size (across children) vs held in
-    slots_written (λ n. size * length vs ≤ n) children (below (l.FixedLists size) vs) (λ j. omega (arith, many))
-long_children l.Lists children vs child held = tt
-long_children l.Null children vs child held = tt
-long_children l.Bits children vs child held = tt
-long_children (l.Numbers bits signed) children vs child held = tt
-long_children (l.FixedBytes width) children vs child held = tt
-long_children (l.VariableBytes utf8) children vs child held = tt
-long_children (l.Indices bits signed id) children vs child held = tt
+    slots_written ds known (λ n. size * length vs ≤ n) children (below (l.FixedLists size) vs) (λ j. omega (arith, many))
+long_children ds known l.Lists children vs child held = tt
+long_children ds known l.Null children vs child held = tt
+long_children ds known l.Bits children vs child held = tt
+long_children ds known (l.Numbers bits signed) children vs child held = tt
+long_children ds known (l.FixedBytes width) children vs child held = tt
+long_children ds known (l.VariableBytes utf8) children vs child held = tt
+long_children ds known (l.Indices bits signed id) children vs child held = tt
 
-ordered : (l : Layout) (children : Shape) (vs : List Value) → IsShort l vs
-    → HasOffsets l (length vs) (offsets_in l vs) (length (values_in l vs)) (written children (below l vs))
-ordered (l.VariableBytes utf8) children vs short = λ some there.
+ordered : (ds : Dictionaries) (known : Numbering) (l : Layout) (children : Shape) (vs : List Value) → IsShort l vs
+    → HasOffsets l (length vs) (offsets_in l vs) (length (written_values known l vs)) (written ds known children (below l vs))
+ordered ds known (l.VariableBytes utf8) children vs short = λ some there.
     in_order p.Bytes vs (λ end. end ≤ℤ pos (length (slots Content vs))) short (omega (arith, ints, reach_bytes vs))
-ordered l.Lists children vs short = λ some there.
-    in_order p.Items vs (λ end. EachTop (λ c. end ≤ℤ pos c.slots) (written children (below l.Lists vs))) short
-    (slots_written (λ n. pos (reach p.Items vs) ≤ℤ pos n) children (below l.Lists vs) (λ j. omega (arith, ints, reach_items vs)))
-ordered l.Structs children vs short = tt
-ordered (l.FixedLists size) children vs short = tt
-ordered l.Null children vs short = tt
-ordered l.Bits children vs short = tt
-ordered (l.Numbers bits signed) children vs short = tt
-ordered (l.FixedBytes width) children vs short = tt
-ordered (l.Indices bits signed id) children vs short = tt
+ordered ds known l.Lists children vs short = λ some there.
+    in_order p.Items vs (λ end. EachTop (λ c. end ≤ℤ pos c.slots) (written ds known children (below l.Lists vs))) short
+    (slots_written ds known (λ n. pos (reach p.Items vs) ≤ℤ pos n) children (below l.Lists vs) (λ j. omega (arith, ints, reach_items vs)))
+ordered ds known l.Structs children vs short = tt
+ordered ds known (l.FixedLists size) children vs short = tt
+ordered ds known l.Null children vs short = tt
+ordered ds known l.Bits children vs short = tt
+ordered ds known (l.Numbers bits signed) children vs short = tt
+ordered ds known (l.FixedBytes width) children vs short = tt
+ordered ds known (l.Indices bits signed id) children vs short = tt
 
 -- ---- texts
 
 -- what a slot holds is UTF-8 where it is valid, and where what its children hold is
-text_is : (most : ℕ) (l : Layout) (n : ℕ) (vs : List Value) (i : ℕ) (under : ℕ → Type 0) → IsGood most l n vs → i < length vs
+text_is : (ds : Dictionaries) (known : Numbering) (most : ℕ) (l : Layout) (n : ℕ) (vs : List Value) (i : ℕ) (under : ℕ → Type 0)
+    → IsGood ds known most l n vs → i < length vs
     → is_valid (validity_in l vs) i ≡ true → ((k : ℕ) → ((j : ℕ) → k < length (below l vs j)) → under k)
-    → IsText l under (offsets_in l vs) (values_in l vs) i
-text_is most (l.VariableBytes true) n vs i under g k valid more =
+    → IsText l under (offsets_in l vs) (written_values known l vs) i
+text_is ds known most (l.VariableBytes true) n vs i under g k valid more =
     let value = get_or vs i v.Null in
     let own = held_at (l.VariableBytes true) n vs i v.Null g.held k in
     let text = each_at HasUtf8 vs i v.Null g.stored k in
     subst IsUtf8 (sym (between_is vs i v.Null k g.short))
     (spelled n (out-Value value) value refl own text (sym (valid_is vs i v.Null k) ∙ valid))
-text_is most (l.VariableBytes false) n vs i under g k valid more = tt
-text_is most l.Lists n vs i under g k valid more = λ j from to.
+text_is ds known most (l.VariableBytes false) n vs i under g k valid more = tt
+text_is ds known most l.Lists n vs i under g k valid more = λ j from to.
     let next = place_next p.Items vs i v.Null k g.short in
     let within : place (offsets_in l.Lists vs) (i + 1) ≤ reach p.Items vs =
     let most = front_most p.Items vs (suc i) in let sum = front_more p.Items vs i v.Null k in omega (arith, next, most, sum) in
     more j (λ c. omega (arith, to, within, reach_items vs))
-text_is most (l.FixedLists size) n vs i under g k valid more = λ j from to.
+text_is ds known most (l.FixedLists size) n vs i under g k valid more = λ j from to.
     let many = all_fixed_length size n vs g.held in
     let within : size * (i + 1) ≤ size * length vs = mul-le-mul_left size (omega (arith, k)) in
     more j (λ c. omega (arith, to, within, many))
-text_is most l.Structs n vs i under g k valid more = more i (λ j. omega (arith, k, parts_length j vs))
-text_is most l.Null n vs i under g k valid more = tt
-text_is most l.Bits n vs i under g k valid more = tt
-text_is most (l.Numbers bits signed) n vs i under g k valid more = tt
-text_is most (l.FixedBytes width) n vs i under g k valid more = tt
-text_is most (l.Indices bits signed id) n vs i under g k valid more = tt
+text_is ds known most l.Structs n vs i under g k valid more = more i (λ j. omega (arith, k, parts_length j vs))
+text_is ds known most l.Null n vs i under g k valid more = tt
+text_is ds known most l.Bits n vs i under g k valid more = tt
+text_is ds known most (l.Numbers bits signed) n vs i under g k valid more = tt
+text_is ds known most (l.FixedBytes width) n vs i under g k valid more = tt
+text_is ds known most (l.Indices bits signed id) n vs i under g k valid more = tt
 
-spelled_written : (most : ℕ) (s : Shape) (given : ℕ → List Value) → AllGood most s given → (i : ℕ) → ((j : ℕ) → i < length (given j))
-    → SpellsTexts (written s given) i
-spelled_written most bare given g i k = tt
-spelled_written most (field l children rest) given g i k = (
-  λ valid. text_is most l (across children) (given 0) i (SpellsTexts (written children (below l (given 0)))) g.0 (k 0) valid
-      (λ m inside. spelled_written most children (below l (given 0)) g.1.0 m inside),
-  spelled_written most rest (λ j. given (suc j)) g.1.1 i (λ j. k (suc j)),
+spelled_written : (ds : Dictionaries) (known : Numbering) (most : ℕ) (s : Shape) (given : ℕ → List Value)
+    → AllGood ds known most s given → (i : ℕ) → ((j : ℕ) → i < length (given j))
+    → SpellsTexts (written ds known s given) i
+spelled_written ds known most bare given g i k = tt
+spelled_written ds known most (field l children rest) given g i k = (
+  λ valid. text_is ds known most l (across children) (given 0) i (SpellsTexts (written ds known children (below l (given 0)))) g.0
+      (k 0) valid
+      (λ m inside. spelled_written ds known most children (below l (given 0)) g.1.0 m inside),
+  spelled_written ds known most rest (λ j. given (suc j)) g.1.1 i (λ j. k (suc j)),
 )
 
 -- ---- indices
 
--- what a slot holds is an index of a value where what its children hold is: no column of indices holds values
-index_is : (most : ℕ) (l : Layout) (n : ℕ) (vs : List Value) (i : ℕ) (under : ℕ → Type 0) → IsGood most l n vs → i < length vs
-    → ((k : ℕ) → ((j : ℕ) → k < length (below l vs j)) → under k)
-    → HasIndex l [] under (offsets_in l vs) (values_in l vs) i
-index_is most (l.Indices bits signed id) n vs i under g k more = absurd (held_at (l.Indices bits signed id) n vs i v.Null g.held k)
-index_is most l.Lists n vs i under g k more = λ j from to.
+-- what is not null has its flag clear
+not_null : (b : Bool) → not b ≡ true → b ≡ false
+not_null true h = absurd (cc)
+not_null false h = refl
+
+-- what a slot holds is an index of a value where it is valid, and where what its children hold is
+index_is : (ds : Dictionaries) (known : Numbering) (most : ℕ) (l : Layout) (n : ℕ) (vs : List Value) (i : ℕ) (under : ℕ → Type 0)
+    → IsGood ds known most l n vs → i < length vs
+    → is_valid (validity_in l vs) i ≡ true → ((k : ℕ) → ((j : ℕ) → k < length (below l vs j)) → under k)
+    → HasIndex l (dictionary_at ds l) under (offsets_in l vs) (written_values known l vs) i
+index_is ds known most (l.Indices bits signed id) n vs i under g k valid more =
+    let value = get_or vs i v.Null in
+    let flag : is_set Valid value ≡ true = sym (valid_is vs i v.Null k) ∙ valid in
+    let here = found_at (Finds ds known) bits signed id vs i k g.found flag in
+    let there = slice_get_within (values_for ds id) (known id value) value here.found in
+    subst (λ (z : ℤ). IsIndex (values_for ds id) z)
+    (sym (index_number (known id) bits signed vs i (out-Value value) k refl (not_null (is_null (out-Value value)) flag) here.within))
+    (record { from = omega (arith, ints); to = omega (arith, ints, there) })
+index_is ds known most l.Lists n vs i under g k valid more = λ j from to.
     let next = place_next p.Items vs i v.Null k g.short in
     let within : place (offsets_in l.Lists vs) (i + 1) ≤ reach p.Items vs =
     let most = front_most p.Items vs (suc i) in let sum = front_more p.Items vs i v.Null k in omega (arith, next, most, sum) in
     more j (λ c. omega (arith, to, within, reach_items vs))
-index_is most (l.FixedLists size) n vs i under g k more = λ j from to.
+index_is ds known most (l.FixedLists size) n vs i under g k valid more = λ j from to.
     let many = all_fixed_length size n vs g.held in
     let within : size * (i + 1) ≤ size * length vs = mul-le-mul_left size (omega (arith, k)) in
     more j (λ c. omega (arith, to, within, many))
-index_is most l.Structs n vs i under g k more = more i (λ j. omega (arith, k, parts_length j vs))
-index_is most (l.VariableBytes utf8) n vs i under g k more = tt
-index_is most l.Null n vs i under g k more = tt
-index_is most l.Bits n vs i under g k more = tt
-index_is most (l.Numbers bits signed) n vs i under g k more = tt
-index_is most (l.FixedBytes width) n vs i under g k more = tt
+index_is ds known most l.Structs n vs i under g k valid more = more i (λ j. omega (arith, k, parts_length j vs))
+index_is ds known most (l.VariableBytes utf8) n vs i under g k valid more = tt
+index_is ds known most l.Null n vs i under g k valid more = tt
+index_is ds known most l.Bits n vs i under g k valid more = tt
+index_is ds known most (l.Numbers bits signed) n vs i under g k valid more = tt
+index_is ds known most (l.FixedBytes width) n vs i under g k valid more = tt
 
-indices_written : (most : ℕ) (s : Shape) (given : ℕ → List Value) → AllGood most s given → (i : ℕ) → ((j : ℕ) → i < length (given j))
-    → HoldsIndices (written s given) i
-indices_written most bare given g i k = tt
-indices_written most (field l children rest) given g i k = (
-  λ valid. index_is most l (across children) (given 0) i (HoldsIndices (written children (below l (given 0)))) g.0 (k 0)
-      (λ m inside. indices_written most children (below l (given 0)) g.1.0 m inside),
-  indices_written most rest (λ j. given (suc j)) g.1.1 i (λ j. k (suc j)),
+indices_written : (ds : Dictionaries) (known : Numbering) (most : ℕ) (s : Shape) (given : ℕ → List Value)
+    → AllGood ds known most s given → (i : ℕ) → ((j : ℕ) → i < length (given j))
+    → HoldsIndices (written ds known s given) i
+indices_written ds known most bare given g i k = tt
+indices_written ds known most (field l children rest) given g i k = (
+  λ valid. index_is ds known most l (across children) (given 0) i (HoldsIndices (written ds known children (below l (given 0)))) g.0
+      (k 0) valid
+      (λ m inside. indices_written ds known most children (below l (given 0)) g.1.0 m inside),
+  indices_written ds known most rest (λ j. given (suc j)) g.1.1 i (λ j. k (suc j)),
 )
 
 -- ---- nodes
 
-are_nodes : (limits : Limits) (s : Shape) (given : ℕ → List Value) → AllGood limits.slots s given
+are_nodes : (ds : Dictionaries) (known : Numbering) (limits : Limits) (s : Shape) (given : ℕ → List Value)
+    → AllGood ds known limits.slots s given
     → AllByRecursion (IsNode limits) (nodes_of s given)
-are_nodes limits bare given g = tt
-are_nodes limits (field l children rest) given g =
+are_nodes ds known limits bare given g = tt
+are_nodes ds known limits (field l children rest) given g =
     let few = g.0.few in
     let most = nulls_most (given 0) in (
       record {
@@ -242,19 +272,21 @@ are_nodes limits (field l children rest) given g =
         nulls_to = omega (arith, ints, most);
       },
       all_both (IsNode limits) (nodes_of children (below l (given 0))) (nodes_of rest (λ j. given (suc j)))
-          (are_nodes limits children (below l (given 0)) g.1.0) (are_nodes limits rest (λ j. given (suc j)) g.1.1),
+          (are_nodes ds known limits children (below l (given 0)) g.1.0) (are_nodes ds known limits rest (λ j. given (suc j)) g.1.1),
     )
 
 -- ---- the rows
 
 -- the i-th row of the columns is the i-th of their values
-row_back : (most : ℕ) (s : Shape) (given : ℕ → List Value) → AllGood most s given → (i : ℕ) → ((j : ℕ) → i < length (given j))
-    → row (written s given) i ≡ picked (across s) given i
-row_back most bare given g i k = refl
-row_back most (field l children rest) given g i k =
-    let here = value_is (row (written children (below l (given 0)))) l (across children) (given 0) i (k 0) g.0.held g.0.short
-    (λ m inside. row_back most children (below l (given 0)) g.1.0 m inside) in
-    let others = row_back most rest (λ j. given (suc j)) g.1.1 i (λ j. k (suc j)) in
+row_back : (ds : Dictionaries) (known : Numbering) (most : ℕ) (s : Shape) (given : ℕ → List Value) → AllGood ds known most s given
+    → (i : ℕ) → ((j : ℕ) → i < length (given j))
+    → row (written ds known s given) i ≡ picked (across s) given i
+row_back ds known most bare given g i k = refl
+row_back ds known most (field l children rest) given g i k =
+    let here = value_is ds known (row (written ds known children (below l (given 0)))) l (across children) (given 0) i (k 0) g.0.held
+    g.0.short
+    (λ m inside. row_back ds known most children (below l (given 0)) g.1.0 m inside) g.0.found in
+    let others = row_back ds known most rest (λ j. given (suc j)) g.1.1 i (λ j. k (suc j)) in
     λ q. here q ∷ others q
 
 cell_at : (j : ℕ) (rows : List (List Value)) (i : ℕ) → i < length rows → get_or (cells j rows) i v.Null ≡ cell j (get_or rows i [])
@@ -274,75 +306,81 @@ rows_picked fs rows i fits k =
     ap (λ (n : ℕ). picked n (columns rows) i) (across_is fs ∙ sym (width_at fs rows i fits k))
     ∙ picked_row (get_or rows i []) (columns rows) i (λ j. cell_at j rows i k)
 
-abbrev head_of : List Field → List (List Value) → BatchHead
-head_of fields rows = record {
+abbrev head_of : Numbering → List Field → List (List Value) → BatchHead
+head_of known fields rows = record {
   length = pos (length rows);
   nodes = row_nodes fields rows;
-  buffers = ranges_from 0 (row_buffers fields rows);
+  buffers = ranges_from 0 (row_buffers_with known fields rows);
 }
 
 -- the parts that rows are written as give the rows
-pub rows_back : {limits : Limits} → (fields : List Field) (rows : List (List Value)) → are_supported fields ≡ true
+pub rows_back : {limits : Limits} → (ds : Dictionaries) (known : Numbering) (fields : List Field) (rows : List (List Value))
     → AllByRecursion (IsFieldWellFormed limits) (entries fields) → AllByRecursion (RowFits fields) rows → IsWithin limits fields rows
-    → AllStored (shape_of fields) (columns rows)
-    → Rows limits [] fields (head_of fields rows) (body_of fields rows) rows
-rows_back {limits} fields rows o fine fits within stored =
-    let head = head_of fields rows in
-    let body = body_of fields rows in
+    → AllStored (shape_of fields) (columns rows) → FindsRows ds known fields rows
+    → Rows limits ds fields (head_of known fields rows) (body_with known fields rows) rows
+rows_back {limits} ds known fields rows fine fits within stored found =
+    let head = head_of known fields rows in
+    let body = body_with known fields rows in
     let s = shape_of fields in
     let given = columns rows in
     let most = limits.slots in
     let few : length rows ≤ limits.slots = not_above (length rows) limits.slots (λ x. within.few (inl x)) in
-    let good = goods most s given limits.slots_fit (rows_held limits fields rows o fine fits) stored (λ x. within.short (inl x))
+    let good = goods ds known most s given limits.slots_fit (rows_held limits fields rows fine fits) stored found
+    (λ x. within.short (inl x))
     (λ x. within.few (inr x)) in
-    let e : columns_of [] fields head body ≡ written s given =
-    cut_back s given head body 0 0
+    let e : columns_of ds fields head body ≡ written ds known s given =
+    cut_back ds known s given head body 0 0
     (λ k h. ap (λ (q : ℕ). node_at head q) (let z : 0 + k ≡ k = omega arith in z))
     (λ k h. ap (λ (q : ℕ). buffer_at head body q) (let z : 0 + k ≡ k = omega arith in z)
-    ∙ buffer_back (row_buffers fields rows) [] k h) in
+    ∙ buffer_back (row_buffers_with known fields rows) [] k h) in
     let inside : (i : ℕ) → i < length rows → (j : ℕ) → i < length (columns rows j) = λ i k j. omega (arith, k, cells_length j rows) in
     record {
       nodes = nodes_length s given;
-      buffers = ranges_length (row_buffers fields rows) 0 ∙ buffers_length s given;
+      buffers = ranges_length (row_buffers_with known fields rows) 0 ∙ buffers_length known s given;
       lengths = record {
         batch = record { from = omega (arith, ints); to = omega (arith, ints, few) };
-        nodes = All-from_recursion (IsNode limits) (row_nodes fields rows) (are_nodes limits s given good);
+        nodes = All-from_recursion (IsNode limits) (row_nodes fields rows) (are_nodes ds known limits s given good);
         columns = subst (λ (cs : Columns). EachTop (λ c. pos c.slots ≡ pos (length rows)) cs) (sym e)
-            (slots_written (λ n. pos n ≡ pos (length rows)) s given (λ j. ap (λ (n : ℕ). pos n) (cells_length j rows)));
+            (slots_written ds known (λ n. pos n ≡ pos (length rows)) s given (λ j. ap (λ (n : ℕ). pos n) (cells_length j rows)));
         children = subst (λ (cs : Columns). Each (λ c children. HasLongChildren c.layout c.slots children) cs) (sym e)
-            (each_written most (λ c children. HasLongChildren c.layout c.slots children)
-            (λ l children vs g. long_children l children vs g.child g.held) s given good);
+            (each_written ds known most (λ c children. HasLongChildren c.layout c.slots children)
+            (λ l children vs g. long_children ds known l children vs g.child g.held) s given good);
       };
-      ranges = All-from_recursion (LiesIn (length body)) (ranges_from 0 (row_buffers fields rows))
-          (ranges_inside (row_buffers fields rows) 0 (length body) (omega arith));
+      ranges = All-from_recursion (LiesIn (length body)) (ranges_from 0 (row_buffers_with known fields rows))
+          (ranges_inside (row_buffers_with known fields rows) 0 (length body) (omega arith));
       bytes = subst (λ (cs : Columns). Each (λ c children. IsLongEnough c) cs) (sym e)
-          (each_written most (λ c children. IsLongEnough c) (λ l children vs g. long_enough l (across children) vs g.held) s given good);
+          (each_written ds known most (λ c children. IsLongEnough c)
+          (λ l children vs g. long_enough ds known l (across children) vs g.held) s given good);
       null_counts = subst (λ (cs : Columns). Each (λ c children. CountsNulls c) cs) (sym e)
-          (each_written most (λ c children. CountsNulls c) (λ l children vs g. counts_nulls l (across children) vs g.held) s given good);
+          (each_written ds known most (λ c children. CountsNulls c)
+          (λ l children vs g. counts_nulls ds known l (across children) vs g.held) s given good);
       order = subst (λ (cs : Columns). Each (λ c children. HasOffsets c.layout c.slots c.offsets (length c.values) children) cs) (sym e)
-          (each_written most (λ c children. HasOffsets c.layout c.slots c.offsets (length c.values) children)
-          (λ l children vs g. ordered l children vs g.short) s given good);
-      texts = λ i k. subst (λ (cs : Columns). SpellsTexts cs i) (sym e) (spelled_written most s given good i (inside i k));
-      indices = λ i k. subst (λ (cs : Columns). HoldsIndices cs i) (sym e) (indices_written most s given good i (inside i k));
+          (each_written ds known most (λ c children. HasOffsets c.layout c.slots c.offsets (length c.values) children)
+          (λ l children vs g. ordered ds known l children vs g.short) s given good);
+      texts = λ i k. subst (λ (cs : Columns). SpellsTexts cs i) (sym e) (spelled_written ds known most s given good i (inside i k));
+      indices = λ i k. subst (λ (cs : Columns). HoldsIndices cs i) (sym e) (indices_written ds known most s given good i (inside i k));
       count = refl;
       values = λ i k. sym (ap (λ (cs : Columns). row cs i) e
-          ∙ (row_back most s given good i (inside i k) ∙ rows_picked fields rows i fits k));
+          ∙ (row_back ds known most s given good i (inside i k) ∙ rows_picked fields rows i fits k));
     }
 
 -- the same of any parts that are these lists
-pub rows_of_parts : {limits : Limits} → (fields : List Field) (rows : List (List Value)) (nodes buffers : List (ℤ × ℤ)) (body : List ℕ)
-    → are_supported fields ≡ true → AllByRecursion (IsFieldWellFormed limits) (entries fields) → AllByRecursion (RowFits fields) rows
+pub rows_of_parts : {limits : Limits}
+    → (ds : Dictionaries) (known : Numbering) (fields : List Field) (rows : List (List Value)) (nodes buffers : List (ℤ × ℤ))
+    (body : List ℕ)
+    → AllByRecursion (IsFieldWellFormed limits) (entries fields) → AllByRecursion (RowFits fields) rows
     → IsWithin limits fields rows
-    → AllStored (shape_of fields) (columns rows) → nodes ≡ row_nodes fields rows → buffers ≡ ranges_from 0 (row_buffers fields rows)
-    → body ≡ body_of fields rows
-    → Rows limits [] fields (record { length = pos (length rows); nodes = nodes; buffers = buffers }) body rows
-rows_of_parts {limits} fields rows nodes buffers body o fine fits within stored n r b =
-    subst (λ (bytes : List ℕ). Rows limits [] fields (record {
+    → AllStored (shape_of fields) (columns rows) → FindsRows ds known fields rows → nodes ≡ row_nodes fields rows → buffers ≡
+    ranges_from 0 (row_buffers_with known fields rows)
+    → body ≡ body_with known fields rows
+    → Rows limits ds fields (record { length = pos (length rows); nodes = nodes; buffers = buffers }) body rows
+rows_of_parts {limits} ds known fields rows nodes buffers body fine fits within stored found n r b =
+    subst (λ (bytes : List ℕ). Rows limits ds fields (record {
       length = pos (length rows);
       nodes = nodes;
       buffers =
           buffers;
     }) bytes rows) (sym b)
-    (subst (λ (head : BatchHead). Rows limits [] fields head (body_of fields rows) rows)
+    (subst (λ (head : BatchHead). Rows limits ds fields head (body_with known fields rows) rows)
     (λ i. record { length = pos (length rows); nodes = (sym n) i; buffers = (sym r) i })
-    (rows_back fields rows o fine fits within stored))
+    (rows_back ds known fields rows fine fits within stored found))

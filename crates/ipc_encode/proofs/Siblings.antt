@@ -17,6 +17,7 @@ use Rattle.ipc_encode.specs.Cells.{nulls}
 use Rattle.ipc_encode.specs.Buffers.{below, column_buffers, joined, nodes_of, buffers_of}
 use Rattle.ipc_encode.specs.Limits.{HasLongData, HasLongNode, SomeLongData}
 use Rattle.ipc_encode.specs.Built.{AreNodes, IsNode, HasTaken, AreTooMuch, LeavesOf}
+use Rattle.ipc_encode.specs.Numbers.{Numbering}
 use Rattle.ipc_encode.proofs.Adding.{joined_append}
 use Rattle.ipc_encode.proofs.Growing.{parts_length}
 
@@ -204,23 +205,27 @@ too_much_next limits i shape given l c bytes left push.Failed at so h = absurd h
 
 -- ---- columns that have taken values are within the limits
 
-counted_of : (p : Purpose) (limits : Limits) (l : Layout) (vs : List Value) (column : Column) → HasTaken p limits l vs column
+counted_of : (known : Numbering) (p : Purpose) (limits : Limits) (l : Layout) (vs : List Value) (column : Column)
+    → HasTaken known p limits l vs column
     → (limits.slots < length vs → ⊥) × (HasLongData l vs → ⊥)
-counted_of purpose.Keep limits l vs column h = (h.counted.few, h.counted.short)
-counted_of purpose.Count limits l vs column h = (h.counted.few, h.counted.short)
+counted_of known purpose.Keep limits l vs column h = (h.counted.few, h.counted.short)
+counted_of known purpose.Count limits l vs column h = (h.counted.few, h.counted.short)
 
-pub taken_few : (p : Purpose) (limits : Limits) (shape : Shape) (nodes : List Node) (given : ℕ → List Value)
-    → AreNodes (HasTaken p limits) shape nodes given → HasLongNode limits.slots shape given → ⊥
-taken_few p limits bare nodes given h x = x
-taken_few p limits (field l c rest) [] given h x = absurd h
-taken_few p limits (field l c rest) (m ∷ ms) given h (inl own) = (counted_of p limits l (given 0) _ h.0.0).0 own
-taken_few p limits (field l c rest) (m ∷ ms) given h (inr (inl child)) = taken_few p limits c _ (below l (given 0)) h.0.1 child
-taken_few p limits (field l c rest) (m ∷ ms) given h (inr (inr later)) = taken_few p limits rest ms (λ j. given (suc j)) h.1 later
+pub taken_few : (known : Numbering) (p : Purpose) (limits : Limits) (shape : Shape) (nodes : List Node) (given : ℕ → List Value)
+    → AreNodes (HasTaken known p limits) shape nodes given → HasLongNode limits.slots shape given → ⊥
+taken_few known p limits bare nodes given h x = x
+taken_few known p limits (field l c rest) [] given h x = absurd h
+taken_few known p limits (field l c rest) (m ∷ ms) given h (inl own) = (counted_of known p limits l (given 0) _ h.0.0).0 own
+taken_few known p limits (field l c rest) (m ∷ ms) given h (inr (inl child)) = taken_few known p limits c _ (below l (given 0)) h.0.1 child
+taken_few known p limits (field l c rest) (m ∷ ms) given h (inr (inr later)) = taken_few known p limits rest ms (λ j. given (suc j))
+    h.1 later
 
-pub taken_short : (p : Purpose) (limits : Limits) (shape : Shape) (nodes : List Node) (given : ℕ → List Value)
-    → AreNodes (HasTaken p limits) shape nodes given → SomeLongData shape given → ⊥
-taken_short p limits bare nodes given h x = x
-taken_short p limits (field l c rest) [] given h x = absurd h
-taken_short p limits (field l c rest) (m ∷ ms) given h (inl own) = (counted_of p limits l (given 0) _ h.0.0).1 own
-taken_short p limits (field l c rest) (m ∷ ms) given h (inr (inl child)) = taken_short p limits c _ (below l (given 0)) h.0.1 child
-taken_short p limits (field l c rest) (m ∷ ms) given h (inr (inr later)) = taken_short p limits rest ms (λ j. given (suc j)) h.1 later
+pub taken_short : (known : Numbering) (p : Purpose) (limits : Limits) (shape : Shape) (nodes : List Node) (given : ℕ → List Value)
+    → AreNodes (HasTaken known p limits) shape nodes given → SomeLongData shape given → ⊥
+taken_short known p limits bare nodes given h x = x
+taken_short known p limits (field l c rest) [] given h x = absurd h
+taken_short known p limits (field l c rest) (m ∷ ms) given h (inl own) = (counted_of known p limits l (given 0) _ h.0.0).1 own
+taken_short known p limits (field l c rest) (m ∷ ms) given h (inr (inl child)) = taken_short known p limits c _ (below l (given 0))
+    h.0.1 child
+taken_short known p limits (field l c rest) (m ∷ ms) given h (inr (inr later)) = taken_short known p limits rest ms
+    (λ j. given (suc j)) h.1 later

@@ -115,19 +115,6 @@ no_data : (layout : Layout) (vs : List Value) → ((v : Value) → data_in layou
 no_data layout [] none = refl
 no_data layout (v ∷ vs) none = let more = no_data layout vs none in let here = none v in omega (arith, more, here)
 
--- the buffer of values has the length that slots and data give
-pub values_size : (layout : Layout) (vs : List Value) → length (values_in layout vs) ≡ values_length layout (length vs)
-    (data_in layout vs)
-values_size l.Null vs = refl
-values_size (l.Indices bits signed id) vs = indices_data bits signed id vs
-values_size l.Lists vs = refl
-values_size l.Structs vs = refl
-values_size (l.FixedLists size) vs = refl
-values_size l.Bits vs = bitmap_bytes True vs
-values_size (l.Numbers bits signed) vs = numbers_data bits signed vs
-values_size (l.FixedBytes width) vs = fixed_data width vs
-values_size (l.VariableBytes utf8) vs = content_data utf8 vs
-
 -- the buffers of a column have the length that its counts give
 pub column_size : (layout : Layout) (vs : List Value)
     → length (joined (column_buffers layout vs)) ≡ column_length layout (length vs) (nulls vs) (values_length layout (length vs)
@@ -144,7 +131,7 @@ column_size (l.FixedLists size) vs = joined_one (validity_bytes vs)
 column_size l.Bits vs = joined_two (validity_bytes vs) (values_in l.Bits vs)
     ∙ (ap (λ (n : ℕ). padded_length n + padded_length 0 + padded_length (length (values_in l.Bits vs))) (validity_is vs)
     ∙ ap (λ (n : ℕ). padded_length (cond (nulls vs == 0) 0 (bits_length (length vs))) + padded_length 0 + padded_length n)
-    (values_size l.Bits vs))
+    (bitmap_bytes True vs))
 column_size (l.Numbers bits signed) vs = joined_two (validity_bytes vs) (slots (Number bits) vs)
     ∙ (ap (λ (n : ℕ). padded_length n + padded_length 0 + padded_length (length (slots (Number bits) vs))) (validity_is vs)
     ∙ ap (λ (n : ℕ). padded_length (cond (nulls vs == 0) 0 (bits_length (length vs))) + padded_length 0 + padded_length n)

@@ -1,7 +1,7 @@
 -- Columns whose values are surely within the limits.
 use Rattle.std.proofs.Common.{◌≡◌, refl, sym, ap, subst, ℕ, zero, suc, ◌+◌, ◌*◌, ◌≤◌, List, [], ◌∷◌, length, get_or}
 use Rattle.std.proofs.Common.{Bool, cond, true, false, arith, inl, inr}
-use Rattle.std.specs.Prelude.{◌==◌, ◌⊎◌, ⊤}
+use Rattle.std.specs.Prelude.{◌==◌, ◌⊎◌, ℤ, ⊤}
 use Rattle.ipc_model.specs.declared.limits.Limits.{Limits}
 use Rattle.ipc_model.specs.declared.layout.Layout.{Layout}
 use Rattle.ipc_model.specs.declared.layout.Layout.TheVariants as l
@@ -35,14 +35,17 @@ abbrev pub IsSmall : Layout → Type 0
 IsSmall l.Null = ⊤
 IsSmall l.Bits = ⊤
 IsSmall (l.Numbers bits signed) = ⊤
+IsSmall (l.Indices bits signed id) = ⊤
 IsSmall _ = ⊥
 
 pub small_is : (layout : Layout)
-    → (layout ≡ l.Null) ⊎ ((layout ≡ l.Bits) ⊎ ((bits : IntBits) × (signed : Bool) × (layout ≡ l.Numbers bits signed)))
+    → (layout ≡ l.Null) ⊎ ((layout ≡ l.Bits) ⊎ (((bits : IntBits) × (signed : Bool) × (layout ≡ l.Numbers bits signed))
+    ⊎ ((bits : IntBits) × (signed : Bool) × (id : ℤ) × (layout ≡ l.Indices bits signed id))))
     → IsSmall layout
 small_is layout (inl e) = rw e tt
 small_is layout (inr (inl e)) = rw e tt
-small_is layout (inr (inr h)) = rw h.2 tt
+small_is layout (inr (inr (inl h))) = rw h.2 tt
+small_is layout (inr (inr (inr h))) = rw h.3 tt
 
 number_few : (bits : IntBits) → number_bytes bits ≤ 8
 number_few b.B8 = omega arith
@@ -59,7 +62,7 @@ datum_few (l.VariableBytes utf8) v h = absurd h
 datum_few l.Lists v h = absurd h
 datum_few (l.FixedLists size) v h = absurd h
 datum_few l.Structs v h = absurd h
-datum_few (l.Indices bits signed id) v h = absurd h
+datum_few (l.Indices bits signed id) v h = number_few bits
 
 pub small_data : (layout : Layout) (vs : List Value) → IsSmall layout → data_in layout vs ≤ 8 * length vs + 0
 small_data layout [] h = omega arith

@@ -13,6 +13,7 @@ use Rattle.ipc_encode.specs.Pieces as p
 use Rattle.ipc_encode.specs.Bitmaps.{bitmap}
 use Rattle.ipc_encode.specs.Cells.{cells, flags, nulls, slots, offsets}
 use Rattle.ipc_encode.specs.Cells.{all_items, all_fixed_items, all_parts}
+use Rattle.ipc_encode.specs.Numbers.{Numbering, numbers_of}
 
 -- the validity bitmap of values of which so many are null (Arrow Columnar Format, "Validity
 -- bitmaps")
@@ -45,7 +46,8 @@ abbrev pub buffers_in : List Piece → List Value → List (List ℕ)
 buffers_in [] values = []
 buffers_in (piece ∷ more) values = piece_bytes piece values ∷ buffers_in more values
 
--- the buffers of a column of this layout with these values, each without padding
+-- the buffers of a column of this layout with these values, each without padding; in a column of
+-- indices they are the numbers of the indices
 abbrev pub column_buffers : Layout → List Value → List (List ℕ)
 column_buffers layout values = buffers_in (pieces layout (nulls values)) values
 
@@ -105,17 +107,49 @@ columns rows j = cells j rows
 abbrev pub row_nodes : List Field → List (List Value) → List (ℤ × ℤ)
 row_nodes fields rows = nodes_of (shape_of fields) (columns rows)
 
--- their buffers
+-- their buffers, as long as they are whatever the indices
 abbrev pub row_buffers : List Field → List (List Value) → List (List ℕ)
 row_buffers fields rows = buffers_of (shape_of fields) (columns rows)
 
--- their body (Arrow Columnar Format, "RecordBatch message"): all buffers, each padded
+-- their body (Arrow Columnar Format, "RecordBatch message"): all buffers, each padded; it is as
+-- long whatever the indices
 abbrev pub body_of : List Field → List (List Value) → List ℕ
 body_of fields rows = joined (row_buffers fields rows)
 
--- The parts are these lists, so that equal rows are written as equal bytes.
-pub record AreLaidOut (fields : List Field) (rows : List (List Value))
+-- ---- the numbers of indices
+
+-- the values that a column is written as: a column of indices is that of their numbers (Arrow
+-- Columnar Format, "Dictionary-encoded Layout")
+abbrev pub stored : Numbering → Layout → List Value → List Value
+stored indices (l.Indices bits signed id) values = numbers_of (indices id) values
+stored indices l.Null values = values
+stored indices l.Bits values = values
+stored indices (l.Numbers bits signed) values = values
+stored indices (l.FixedBytes width) values = values
+stored indices (l.VariableBytes utf8) values = values
+stored indices l.Lists values = values
+stored indices l.Structs values = values
+stored indices (l.FixedLists size) values = values
+
+-- the buffers of each field, and of each below it, where each value of a dictionary has its index
+abbrev pub buffers_with : Numbering → Shape → (ℕ → List Value) → List (List ℕ)
+buffers_with indices bare given = []
+buffers_with indices (field l children rest) given =
+    column_buffers l (stored indices l (given 0))
+    ++ (buffers_with indices children (below l (given 0))
+    ++ buffers_with indices rest (λ j. given (suc j)))
+
+-- those of these rows
+abbrev pub row_buffers_with : Numbering → List Field → List (List Value) → List (List ℕ)
+row_buffers_with indices fields rows = buffers_with indices (shape_of fields) (columns rows)
+
+-- their body
+abbrev pub body_with : Numbering → List Field → List (List Value) → List ℕ
+body_with indices fields rows = joined (row_buffers_with indices fields rows)
+
+-- The parts are these lists, so that equal rows with equal indices are written as equal bytes.
+pub record AreLaidOut (indices : Numbering) (fields : List Field) (rows : List (List Value))
     (parts : Parts) : Type 0 where
   pub nodes : parts.nodes ≡ row_nodes fields rows
-  pub buffers : parts.buffers ≡ ranges_from 0 (row_buffers fields rows)
-  pub body : parts.body.items ≡ body_of fields rows
+  pub buffers : parts.buffers ≡ ranges_from 0 (row_buffers_with indices fields rows)
+  pub body : parts.body.items ≡ body_with indices fields rows

@@ -16,7 +16,9 @@ use Rattle.ipc_encode.specs.declared.column.Purpose.TheVariants as purpose
 use Rattle.ipc_column.specs.Shapes.{Shape, bare, field, shape_of}
 use Rattle.ipc_encode.specs.Buffers.{below, columns, joined, column_buffers, buffers_of}
 use Rattle.ipc_encode.specs.Cells.{nulls}
-use Rattle.ipc_encode.specs.Columns.{validity_in, offsets_in, values_in, data_in}
+use Rattle.ipc_encode.specs.Columns.{validity_in, offsets_in, values_in, indices_in, data_in}
+use Rattle.ipc_encode.specs.Numbers.{Numbering}
+use Rattle.ipc_encode.specs.Indices.{AgreeOn}
 use Rattle.ipc_encode.specs.Limits.{HasLongData, HasLongNode, SomeLongData, IsWithin}
 use Rattle.ipc_encode.specs.Writing.{AreStored}
 
@@ -29,15 +31,17 @@ pub record IsCounted (limits : Limits) (layout : Layout) (values : List Value)
   pub few : ¬ (limits.slots < length values)
   pub short : ¬ HasLongData layout values
 
--- These are the buffers of a column of this layout with these values (Arrow Columnar Format,
+-- These are the buffers of a column of this layout with these values, whose indices are kept as
+-- numbers until it is written (Arrow Columnar Format,
 -- "Buffer Listing for Each Layout").
-pub record IsColumn (limits : Limits) (layout : Layout) (values : List Value)
+pub record IsColumn (indices : Numbering) (limits : Limits) (layout : Layout) (values : List Value)
     (column : Column) : Type 0 where
   pub laid : column.layout ≡ layout
   pub counted : IsCounted limits layout values column.counts
   pub validity_are : column.validity.items ≡ validity_in layout values
   pub offsets_are : column.offsets.items ≡ offsets_in layout values
   pub values_are : column.values.items ≡ values_in layout values
+  pub indices_are : column.indices.items ≡ indices_in indices layout values
   pub stored : AreStored layout values
 
 -- The column is of this layout, and the numbers with the next row are those of these values.
@@ -65,21 +69,23 @@ IsNode Property l children node values = Property l values (out-Node node).colum
     × AreNodes Property children (out-Node node).children.items (below l values)
 
 -- columns of this shape, each with the values that are given for its number
-abbrev pub AreColumns : Limits → Shape → List Node → (ℕ → List Value) → Type 0
-AreColumns limits = AreNodes (IsColumn limits)
+abbrev pub AreColumns : Numbering → Limits → Shape → List Node → (ℕ → List Value) → Type 0
+AreColumns indices limits = AreNodes (IsColumn indices limits)
 
 -- what a column has taken: values into its buffers, or their numbers alone
-abbrev pub HasTaken : Purpose → Limits → Layout → List Value → Column → Type 0
-HasTaken purpose.Keep limits = IsColumn limits
-HasTaken purpose.Count limits = IsNext limits
+abbrev pub HasTaken : Numbering → Purpose → Limits → Layout → List Value → Column → Type 0
+HasTaken indices purpose.Keep limits = IsColumn indices limits
+HasTaken indices purpose.Count limits = IsNext limits
 
--- The builder holds exactly these rows of these fields, which are within the limits.
-pub record HasRows (limits : Limits) (fields : List Field) (rows : List (List Value))
+-- The builder holds exactly these rows of these fields, which are within the limits, and for each
+-- value of a dictionary its index.
+pub record HasRows (indices : Numbering) (limits : Limits) (fields : List Field) (rows : List
+    (List Value))
     (builder : Builder) : Type 0 where
   pub limits_are : builder.limits ≡ limits
   pub works : builder.failed ≡ false
   pub count : builder.rows ≡ length rows
-  pub columns_are : AreColumns limits (shape_of fields) builder.nodes.items (columns rows)
+  pub columns_are : AreColumns indices limits (shape_of fields) builder.nodes.items (columns rows)
   pub within : IsWithin limits fields rows
 
 -- why a column doesn't take the last of these values: it would have too many slots, more data than
@@ -132,3 +138,9 @@ AreTooMuch limits bytes shape given fault.Failed = ⊥
 -- the builder was refused memory
 abbrev pub HasFailed : Builder → Type 0
 HasFailed builder = builder.failed ≡ true
+
+-- a builder holds the same rows under any indices that agree on their values
+abbrev pub HoldsAgreeing : Type 0
+HoldsAgreeing = (known others : Numbering) (limits : Limits) (fields : List Field)
+    (rows : List (List Value)) (builder : Builder) → AgreeOn known others fields rows
+    → HasRows known limits fields rows builder → HasRows others limits fields rows builder

@@ -7,4 +7,5 @@ pub mod Limits
 pub mod Writing
 pub mod Built
 pub mod Numbers
+pub mod Indices
 pub mod Faults

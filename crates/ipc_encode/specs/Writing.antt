@@ -9,7 +9,9 @@ use Rattle.ipc_model.specs.declared.layout.Layout.TheVariants as l
 use Rattle.ipc_encode.specs.declared.parts.Draft.{Draft}
 use Rattle.ipc_column.specs.Shapes.{Shape, bare, field}
 use Rattle.ipc_encode.specs.Cells.{HasUtf8}
-use Rattle.ipc_encode.specs.Buffers.{below, joined, ranges_from, row_nodes, row_buffers, body_of}
+use Rattle.ipc_encode.specs.Buffers.{below, joined, ranges_from, row_nodes}
+use Rattle.ipc_encode.specs.Buffers.{row_buffers_with, body_with}
+use Rattle.ipc_encode.specs.Numbers.{Numbering}
 
 -- the texts of a column are UTF-8
 abbrev pub AreStored : Layout → List Value → Type 0
@@ -35,8 +37,9 @@ pub record Adds (old new : Draft) (bs : List (List ℕ)) : Type 0 where
   pub buffers : new.buffers.items ≡ old.buffers.items ++ ranges_from (length old.body.items) bs
   pub body : new.body.items ≡ old.body.items ++ joined bs
 
--- these are the nodes, the buffers and the body of the rows
-pub record IsDrafted (fields : List Field) (rows : List (List Value)) (draft : Draft) : Type 0 where
+-- these are the nodes, the buffers and the body of the rows with their indices
+pub record IsDrafted (indices : Numbering) (fields : List Field) (rows : List (List Value))
+    (draft : Draft) : Type 0 where
   pub nodes : draft.nodes.items ≡ row_nodes fields rows
-  pub buffers : draft.buffers.items ≡ ranges_from 0 (row_buffers fields rows)
-  pub body : draft.body.items ≡ body_of fields rows
+  pub buffers : draft.buffers.items ≡ ranges_from 0 (row_buffers_with indices fields rows)
+  pub body : draft.body.items ≡ body_with indices fields rows

@@ -3,10 +3,12 @@ ghost use Rattle.std.specs.List.{AllByRecursion};
 ghost use Rattle.ipc_model.specs.Fits.{RowFits};
 ghost use Rattle.ipc_model.specs.WellFormed.{IsFieldWellFormed};
 ghost use Rattle.ipc_model.specs.Entries.{entries};
+ghost use Rattle.ipc_column.specs.Dictionaries.{Dictionaries};
 ghost use Rattle.ipc_column.specs.Rows.{Rows};
-ghost use Rattle.ipc_meta.specs.Supported.{are_supported};
 ghost use Rattle.ipc_encode.specs.Buffers.{AreLaidOut};
+ghost use Rattle.ipc_encode.specs.Indices.{FindsRows};
 ghost use Rattle.ipc_encode.specs.Limits.{IsWithin, IsRefused};
+ghost use Rattle.ipc_encode.specs.Numbers.{told};
 
 use crate::builder::Builder;
 use crate::index::{IndexOf, SameNumbers};
@@ -17,10 +19,10 @@ use std::alloc::Global;
 /// The parts of the record batch that has these rows (Message.fbs, RecordBatch; Arrow Columnar
 /// Format, "RecordBatch message").
 ///
-/// The caller has the fields from a schema that passes its check, and rows that fit them. Fields of
-/// any type are written; that the parts give the rows back isn't said where a field, or one below
-/// it, has a dictionary. The indices aren't looked at, since no schema that is written can name a
-/// dictionary yet.
+/// The caller has the fields from a schema that passes its check, and rows that fit them. In the
+/// place of each value other than null in a field with a dictionary the index is written that
+/// `indices` tells, 0 where it tells none. The caller knows that each has one that fits the field's
+/// index type.
 ///
 /// Buffers stand in the order of the fields, those of a field's children right behind its own, each
 /// padded with zeros to a multiple of 8 bytes; a buffer's length is without its padding. There is a
@@ -36,24 +38,26 @@ pub fn encode<I: IndexOf>(
     limits: &Limits,
     fields: &[Field],
     rows: &[Row],
-    _indices: &I,
+    indices: &I,
 ) -> Result<Parts, WriteFault>
     requires fine { AllByRecursion (IsFieldWellFormed limits.now) (entries fields.now) }
     requires conform { AllByRecursion (RowFits fields.now) rows.now }
-    // The parts give these rows back.
-    ensures rows { IfOk result (λ parts. are_supported fields.now ≡ true
-        → Rows limits.now [] fields.now (record {
+    // The parts give these rows back under each map in which the indices find their values.
+    ensures rows { (m : Dictionaries)
+        → FindsRows m (told (I.IndexOf.index indices.now)) fields.now rows.now
+        → IfOk result (λ parts. Rows limits.now m fields.now (record {
           length = pos (length rows.now);
           nodes = parts.nodes;
           buffers = parts.buffers;
         }) parts.body.items rows.now) }
     // They are one list of nodes, buffers and bytes.
-    ensures laid_out { IfOk result (AreLaidOut fields.now rows.now) }
+    ensures laid_out { IfOk result
+        (AreLaidOut (told (I.IndexOf.index indices.now)) fields.now rows.now) }
     // What is written is within the limits.
     ensures within { IfOk result (λ parts. IsWithin limits.now fields.now rows.now) }
     ensures body { IfOk result (λ parts. length parts.body.items ≤ limits.now.body) }
     // A refusal is true of the rows.
     ensures refused { IfErr result (IsRefused limits.now fields.now rows.now) }
 {
-    Builder::of_rows(alloc, fields, limits, rows)?.finish(&SameNumbers)
+    Builder::of_rows(alloc, fields, limits, rows, indices)?.finish(&SameNumbers)
 }

@@ -8,13 +8,16 @@ ghost use Rattle.ipc_model.specs.declared.limits.Limits.{Limits};
 ghost use Rattle.ipc_model.specs.declared.schema.Field.{Field};
 ghost use Rattle.ipc_model.specs.declared.value.Value.{Value};
 ghost use Rattle.ipc_model.specs.declared.value.Value.TheVariants.{Null};
+ghost use Rattle.ipc_column.specs.Dictionaries.{Dictionaries};
 ghost use Rattle.ipc_column.specs.Rows.{Rows};
-ghost use Rattle.ipc_meta.specs.Supported.{are_supported};
 ghost use Rattle.ipc_column.specs.Shapes.{Shape, shape_of};
 ghost use Rattle.ipc_encode.specs.Buffers.{AreLaidOut, columns};
 ghost use Rattle.ipc_encode.specs.Writing.{IsDrafted};
 ghost use Rattle.ipc_encode.specs.Limits.{IsRefused, IsTooLong, IsWithin};
 ghost use Rattle.ipc_encode.specs.Built.{AreColumns, ArePushesRefused, HasFailed, HasRows};
+ghost use Rattle.ipc_encode.specs.Built.{HoldsAgreeing};
+ghost use Rattle.ipc_encode.specs.Indices.{FindsRows};
+ghost use Rattle.ipc_encode.specs.Numbers.{Numbering, renumbered, told};
 ghost use Rattle.ipc_encode.specs.Faults.{write_fault};
 
 use crate::column::Purpose;
@@ -48,11 +51,11 @@ pub struct Builder {
 
 // Whether the buffers of the columns are within a body.
 fn check_len(nodes: &[Node], limits: &Limits) -> Result<(), WriteFault>
-    ensures within { (fields : List Field) (rows : List (List Value))
-        → AreColumns limits.now (shape_of fields) nodes.now (columns rows)
+    ensures within { (known : Numbering) (fields : List Field) (rows : List (List Value))
+        → AreColumns known limits.now (shape_of fields) nodes.now (columns rows)
         → OnOk result (¬ IsTooLong limits.now fields rows) }
-    ensures refused { (fields : List Field) (rows : List (List Value))
-        → AreColumns limits.now (shape_of fields) nodes.now (columns rows)
+    ensures refused { (known : Numbering) (fields : List Field) (rows : List (List Value))
+        → AreColumns known limits.now (shape_of fields) nodes.now (columns rows)
         → IfErr result (λ fault. (fault ≡ WriteFault.TooLong) × IsTooLong limits.now fields rows) }
 {
     match left_behind_all(nodes, Purpose::Keep, limits.body) {
@@ -62,23 +65,37 @@ fn check_len(nodes: &[Node], limits: &Limits) -> Result<(), WriteFault>
 }
 
 // Takes rows, one after another, into columns without values.
-fn push_rows(nodes: &mut [Node], rows: &[Row], limits: &Limits) -> Result<(), PushFault>
-    ensures pushed { (shape : Shape) → AreColumns limits.now shape nodes.old (λ j. [])
-        → OnOk result (AreColumns limits.now shape nodes.new (columns rows.now)) }
-    ensures refused { (shape : Shape) → AreColumns limits.now shape nodes.old (λ j. [])
+fn push_rows<I: IndexOf>(
+    nodes: &mut [Node],
+    rows: &[Row],
+    limits: &Limits,
+    indices: &I,
+) -> Result<(), PushFault>
+    ensures pushed { (shape : Shape)
+        → AreColumns (told (I.IndexOf.index indices.now)) limits.now shape nodes.old (λ j. [])
+        → OnOk result (AreColumns (told (I.IndexOf.index indices.now)) limits.now shape nodes.new
+        (columns rows.now)) }
+    ensures refused { (shape : Shape)
+        → AreColumns (told (I.IndexOf.index indices.now)) limits.now shape nodes.old (λ j. [])
         → IfErr result (ArePushesRefused limits.now shape (columns rows.now)) }
 {
     for row in rows {
-        take_parts(row.as_slice(), nodes, Purpose::Keep, limits)?;
+        take_parts(row.as_slice(), nodes, Purpose::Keep, limits, indices)?;
     }
     Ok(())
 }
 
 // The nodes and the buffers of the columns. The body takes the room of a list.
-fn join(alloc: Global, nodes: &[Node], mut body: Vec<u8>) -> Result<Draft, AllocError>
-    ensures { (limits : Limits) (fields : List Field) (rows : List (List Value))
-        → AreColumns limits (shape_of fields) nodes.now (columns rows)
-        → IfOk result (IsDrafted fields rows) }
+fn join<N: Renumber>(
+    alloc: Global,
+    nodes: &[Node],
+    mut body: Vec<u8>,
+    numbers: &N,
+) -> Result<Draft, AllocError>
+    ensures { (known : Numbering) (limits : Limits) (fields : List Field)
+        (rows : List (List Value))
+        → AreColumns known limits (shape_of fields) nodes.now (columns rows)
+        → IfOk result (IsDrafted (renumbered (N.Renumber.number numbers.now) known) fields rows) }
 {
     body.clear();
     let mut draft = Draft {
@@ -86,7 +103,7 @@ fn join(alloc: Global, nodes: &[Node], mut body: Vec<u8>) -> Result<Draft, Alloc
         buffers: Vec::new(alloc),
         body,
     };
-    add_nodes(nodes, &mut draft)?;
+    add_nodes(nodes, &mut draft, numbers)?;
     Ok(draft)
 }
 
@@ -96,7 +113,7 @@ impl Builder {
     /// Refused with W6 `TooLong` where even the buffers of no rows have more than `limits.body`
     /// bytes, and with W11 `OutOfMemory` where a list can't grow.
     pub fn new(alloc: Global, fields: &[Field], limits: &Limits) -> Result<Builder, WriteFault>
-        ensures rows { IfOk result (HasRows limits.now fields.now []) }
+        ensures rows { (known : Numbering) → IfOk result (HasRows known limits.now fields.now []) }
         ensures refused { IfErr result (IsRefused limits.now fields.now []) }
     {
         Builder::with_room(alloc, fields, limits, Room::new(alloc))
@@ -112,7 +129,7 @@ impl Builder {
         limits: &Limits,
         room: Room,
     ) -> Result<Builder, WriteFault>
-        ensures rows { IfOk result (HasRows limits.now fields.now []) }
+        ensures rows { (known : Numbering) → IfOk result (HasRows known limits.now fields.now []) }
         ensures refused { IfErr result (IsRefused limits.now fields.now []) }
     {
         let Room { nodes, body } = room;
@@ -128,20 +145,22 @@ impl Builder {
     }
 
     // These rows of these fields. The length of the body is looked at once, when all are taken.
-    pub(crate) fn of_rows(
+    pub(crate) fn of_rows<I: IndexOf>(
         alloc: Global,
         fields: &[Field],
         limits: &Limits,
         rows: &[Row],
+        indices: &I,
     ) -> Result<Builder, WriteFault>
-        ensures rows { IfOk result (HasRows limits.now fields.now rows.now) }
+        ensures rows { IfOk result
+            (HasRows (told (I.IndexOf.index indices.now)) limits.now fields.now rows.now) }
         ensures refused { IfErr result (IsRefused limits.now fields.now rows.now) }
     {
         if rows.len() > limits.slots as usize {
             return Err(WriteFault::TooManyRows);
         }
         let mut nodes = new_nodes(fields, Vec::new(alloc), alloc)?;
-        push_rows(&mut nodes, rows, limits)?;
+        push_rows(&mut nodes, rows, limits, indices)?;
         check_len(&nodes, limits)?;
         Ok(Builder {
             nodes,
@@ -154,8 +173,9 @@ impl Builder {
 
     /// How many rows are held.
     pub fn row_count(&self) -> usize
-        ensures { (limits : Limits) (fields : List Field) (rows : List (List Value))
-            → HasRows limits fields rows self.now → result ≡ length rows }
+        ensures { (known : Numbering) (limits : Limits) (fields : List Field)
+            (rows : List (List Value))
+            → HasRows known limits fields rows self.now → result ≡ length rows }
     {
         self.rows
     }
@@ -175,15 +195,19 @@ impl Builder {
     /// than 2^31 - 1 bytes of data, whatever the limits, or the body more than `limits.body` bytes;
     /// with W10 `Failed` after W11.
     pub fn fits(&mut self, row: &[Value]) -> Result<(), WriteFault>
-        ensures within { (limits : Limits) (fields : List Field) (rows : List (List Value))
-            → HasRows limits fields rows self.old
+        ensures within { (known : Numbering) (limits : Limits) (fields : List Field)
+            (rows : List (List Value))
+            → HasRows known limits fields rows self.old
             → OnOk result (IsWithin limits fields (rows ++ row.now ∷ [])) }
-        ensures refused { (limits : Limits) (fields : List Field) (rows : List (List Value))
-            → HasRows limits fields rows self.old
+        ensures refused { (known : Numbering) (limits : Limits) (fields : List Field)
+            (rows : List (List Value))
+            → HasRows known limits fields rows self.old
             → IfErr result (λ fault. IsRefused limits fields (rows ++ row.now ∷ []) fault
             × ¬ (fault ≡ WriteFault.OutOfMemory)) }
-        ensures kept { (limits : Limits) (fields : List Field) (rows : List (List Value))
-            → HasRows limits fields rows self.old → HasRows limits fields rows self.new }
+        ensures kept { (known : Numbering) (limits : Limits) (fields : List Field)
+            (rows : List (List Value))
+            → HasRows known limits fields rows self.old
+            → HasRows known limits fields rows self.new }
         ensures failed { HasFailed self.old → result ≡ Err WriteFault.Failed }
         ensures still_failed { HasFailed self.old → HasFailed self.new }
     {
@@ -198,15 +222,19 @@ impl Builder {
     /// failed isn't looked at.
     #[inline(always)]
     pub fn fit_row(&mut self, row: &[Value]) -> Result<(), PushFault>
-        ensures within { (limits : Limits) (fields : List Field) (rows : List (List Value))
-            → HasRows limits fields rows self.old
+        ensures within { (known : Numbering) (limits : Limits) (fields : List Field)
+            (rows : List (List Value))
+            → HasRows known limits fields rows self.old
             → OnOk result (IsWithin limits fields (rows ++ row.now ∷ [])) }
-        ensures refused { (limits : Limits) (fields : List Field) (rows : List (List Value))
-            → HasRows limits fields rows self.old
+        ensures refused { (known : Numbering) (limits : Limits) (fields : List Field)
+            (rows : List (List Value))
+            → HasRows known limits fields rows self.old
             → IfErr result (λ fault. IsRefused limits fields (rows ++ row.now ∷ [])
             (write_fault fault) × ¬ (write_fault fault ≡ WriteFault.OutOfMemory)) }
-        ensures kept { (limits : Limits) (fields : List Field) (rows : List (List Value))
-            → HasRows limits fields rows self.old → HasRows limits fields rows self.new }
+        ensures kept { (known : Numbering) (limits : Limits) (fields : List Field)
+            (rows : List (List Value))
+            → HasRows known limits fields rows self.old
+            → HasRows known limits fields rows self.new }
         ensures still_failed { HasFailed self.old → HasFailed self.new }
     {
         if self.is_full() {
@@ -221,11 +249,11 @@ impl Builder {
     /// it isn't sure, as for lists and structs, `conforms` and `fits` tell.
     #[inline(always)]
     pub fn surely_takes(&self, fields: &[Field], row: &[Value]) -> bool
-        ensures conforms { (limits : Limits) (rows : List (List Value))
-            → HasRows limits fields.now rows self.now → IsTrue result
+        ensures conforms { (known : Numbering) (limits : Limits) (rows : List (List Value))
+            → HasRows known limits fields.now rows self.now → IsTrue result
             → RowFits fields.now row.now }
-        ensures within { (limits : Limits) (rows : List (List Value))
-            → HasRows limits fields.now rows self.now → IsTrue result
+        ensures within { (known : Numbering) (limits : Limits) (rows : List (List Value))
+            → HasRows known limits fields.now rows self.now → IsTrue result
             → IsWithin limits fields.now (rows ++ row.now ∷ []) }
     {
         if self.is_full() || row.len() != fields.len() {
@@ -234,36 +262,39 @@ impl Builder {
         surely_fit(fields, &self.nodes, row, self.rows, &self.limits)
     }
 
-    /// Takes one row more. The caller has asked `fits`.
+    /// Takes one row more, and asks for the index of each value other than null in a field with a
+    /// dictionary. The caller has asked `fits`, and each of these values has an index that fits the
+    /// field's index type.
     ///
-    /// The indices aren't looked at, since no field that is written can name a dictionary yet.
-    /// Refused with W11 `OutOfMemory` where a list can't grow; then, as after any refusal, the
-    /// builder has failed, and every later call answers W10 `Failed`. A row that doesn't fit may be
-    /// refused with W6 or W8.
-    pub fn push<I: IndexOf>(&mut self, row: &[Value], _indices: &I) -> Result<(), WriteFault>
+    /// A value that isn't known has index 0. Refused with W11 `OutOfMemory` where a list can't
+    /// grow; then, as after any refusal, the builder has failed, and every later call answers W10
+    /// `Failed`. A row that doesn't fit may be refused with W6 or W8.
+    pub fn push<I: IndexOf>(&mut self, row: &[Value], indices: &I) -> Result<(), WriteFault>
         ensures pushed { (limits : Limits) (fields : List Field) (rows : List (List Value))
-            → HasRows limits fields rows self.old
+            → HasRows (told (I.IndexOf.index indices.now)) limits fields rows self.old
             → IsWithin limits fields (rows ++ row.now ∷ [])
-            → OnOk result (HasRows limits fields (rows ++ row.now ∷ []) self.new) }
+            → OnOk result (HasRows (told (I.IndexOf.index indices.now)) limits fields
+            (rows ++ row.now ∷ []) self.new) }
         ensures refused { (limits : Limits) (fields : List Field) (rows : List (List Value))
-            → HasRows limits fields rows self.old
+            → HasRows (told (I.IndexOf.index indices.now)) limits fields rows self.old
             → IfErr result (IsRefused limits fields (rows ++ row.now ∷ [])) }
         ensures fails { OnErr result (HasFailed self.new) }
         ensures failed { HasFailed self.old → result ≡ Err WriteFault.Failed }
     {
-        self.take_row(row)?;
+        self.take_row(row, indices)?;
         Ok(())
     }
 
     /// The same, for callers that push row by row: a fault is one byte.
     #[inline(always)]
-    pub fn take_row(&mut self, row: &[Value]) -> Result<(), PushFault>
+    pub fn take_row<I: IndexOf>(&mut self, row: &[Value], indices: &I) -> Result<(), PushFault>
         ensures pushed { (limits : Limits) (fields : List Field) (rows : List (List Value))
-            → HasRows limits fields rows self.old
+            → HasRows (told (I.IndexOf.index indices.now)) limits fields rows self.old
             → IsWithin limits fields (rows ++ row.now ∷ [])
-            → OnOk result (HasRows limits fields (rows ++ row.now ∷ []) self.new) }
+            → OnOk result (HasRows (told (I.IndexOf.index indices.now)) limits fields
+            (rows ++ row.now ∷ []) self.new) }
         ensures refused { (limits : Limits) (fields : List Field) (rows : List (List Value))
-            → HasRows limits fields rows self.old
+            → HasRows (told (I.IndexOf.index indices.now)) limits fields rows self.old
             → IfErr result (λ fault. IsRefused limits fields (rows ++ row.now ∷ [])
             (write_fault fault)) }
         ensures fails { OnErr result (HasFailed self.new) }
@@ -276,36 +307,39 @@ impl Builder {
         if self.is_full() {
             return Err(PushFault::TooMany);
         }
-        take_parts(row, &mut self.nodes, Purpose::Keep, &self.limits)?;
+        take_parts(row, &mut self.nodes, Purpose::Keep, &self.limits, indices)?;
         self.rows += 1;
         self.failed = false;
         Ok(())
     }
 
-    /// The parts of the rows.
+    /// The parts of the rows, where each index under which a value was pushed has the number that
+    /// stands in its place. The caller knows that this number fits the field's index type.
     ///
-    /// The numbers aren't asked, since no field that is written can name a dictionary yet. Refused
-    /// with W11 `OutOfMemory` where a list can't grow, and with W10 `Failed` after a refusal of
-    /// `push`.
-    pub fn finish<N: Renumber>(self, _numbers: &N) -> Result<Parts, WriteFault>
-        ensures rows { (limits : Limits) (fields : List Field) (rows : List (List Value))
-            → HasRows limits fields rows self
+    /// Refused with W11 `OutOfMemory` where a list can't grow, and with W10 `Failed` after a
+    /// refusal of `push`.
+    pub fn finish<N: Renumber>(self, numbers: &N) -> Result<Parts, WriteFault>
+        // The parts give the rows back under each map in which the numbers find their values.
+        ensures rows { (known : Numbering) (limits : Limits) (fields : List Field)
+            (rows : List (List Value)) (m : Dictionaries)
+            → HasRows known limits fields rows self
             → AllByRecursion (IsFieldWellFormed limits) (entries fields)
             → AllByRecursion (RowFits fields) rows
-            → IfOk result (λ parts. are_supported fields ≡ true
-            → Rows limits [] fields (record {
+            → FindsRows m (renumbered (N.Renumber.number numbers.now) known) fields rows
+            → IfOk result (λ parts. Rows limits m fields (record {
               length = pos (length rows);
               nodes = parts.nodes;
               buffers = parts.buffers;
             }) parts.body.items rows) }
-        ensures laid_out { (limits : Limits) (fields : List Field) (rows : List (List Value))
-            → HasRows limits fields rows self
-            → IfOk result (AreLaidOut fields rows) }
-        ensures body { (limits : Limits) (fields : List Field) (rows : List (List Value))
-            → HasRows limits fields rows self
+        ensures laid_out { (known : Numbering) (limits : Limits) (fields : List Field)
+            (rows : List (List Value)) → HasRows known limits fields rows self
+            → IfOk result
+            (AreLaidOut (renumbered (N.Renumber.number numbers.now) known) fields rows) }
+        ensures body { (known : Numbering) (limits : Limits) (fields : List Field)
+            (rows : List (List Value)) → HasRows known limits fields rows self
             → IfOk result (λ parts. length parts.body.items ≤ limits.body) }
-        ensures refused { (limits : Limits) (fields : List Field) (rows : List (List Value))
-            → HasRows limits fields rows self
+        ensures refused { (known : Numbering) (limits : Limits) (fields : List Field)
+            (rows : List (List Value)) → HasRows known limits fields rows self
             → IfErr result (λ fault. fault ≡ WriteFault.OutOfMemory) }
         ensures failed { HasFailed self → result ≡ Err WriteFault.Failed }
     {
@@ -319,7 +353,7 @@ impl Builder {
             return Err(WriteFault::Failed);
         }
         let alloc = *nodes.allocator();
-        let draft = join(alloc, &nodes, body)?;
+        let draft = join(alloc, &nodes, body, numbers)?;
         Ok(Parts {
             nodes: Items::from_vec(draft.nodes),
             buffers: Items::from_vec(draft.buffers),
@@ -328,3 +362,8 @@ impl Builder {
         })
     }
 }
+
+/// A builder holds the same rows under any indices that agree on the values of these.
+pub fn holds_agreeing()
+    ensures { HoldsAgreeing }
+{}

@@ -15,6 +15,8 @@ pub(crate) struct Column {
     pub(crate) validity: Vec<u8>,
     pub(crate) offsets: Vec<u8>,
     pub(crate) values: Vec<u8>,
+    /// In a column of indices the index of each value, none of null.
+    pub(crate) indices: Vec<Option<u64>>,
 }
 
 /// What a column does with a value.

@@ -7,12 +7,14 @@ ghost use Rattle.ipc_model.specs.declared.limits.Limits.{Limits};
 ghost use Rattle.ipc_model.specs.declared.value.Value.{Value};
 ghost use Rattle.ipc_encode.specs.declared.column.Purpose.TheVariants.{Count};
 ghost use Rattle.ipc_encode.specs.Columns.{datum, PassesOffsets};
+ghost use Rattle.ipc_encode.specs.Numbers.{Numbering, told};
 ghost use Rattle.ipc_encode.specs.Built.{HasTaken, IsColumn, IsCounted, IsNext, IsPushRefused};
 
 use crate::cells::{content, fixed_len, item_count, nulls_with};
 use crate::column::{Column, MAX_DATA, Purpose};
 use crate::counts::Counts;
 use crate::fault::PushFault;
+use crate::index::IndexOf;
 use ipc_model::{Layout, Limits, Value};
 
 // How much a value adds to the data of a column.
@@ -102,8 +104,8 @@ impl Counts {
 impl Column {
     /// Its numbers: of the values that it has, or with those of the next row.
     pub(crate) fn counts(&self, purpose: Purpose) -> Counts
-        ensures { (limits : Limits) (layout : Layout) (values : List Value)
-            → HasTaken purpose limits layout values self.now
+        ensures { (known : Numbering) (limits : Limits) (layout : Layout) (values : List Value)
+            → HasTaken known purpose limits layout values self.now
             → IsCounted limits self.now.layout values result }
     {
         match purpose {
@@ -114,10 +116,13 @@ impl Column {
 
     /// The next row is counted from the numbers of the values.
     pub(crate) fn start(&mut self)
-        ensures started { (limits : Limits) (layout : Layout) (values : List Value)
-            → IsColumn limits layout values self.old → IsNext limits layout values self.new }
-        ensures kept { (limits : Limits) (layout : Layout) (values : List Value)
-            → IsColumn limits layout values self.old → IsColumn limits layout values self.new }
+        ensures started { (known : Numbering) (limits : Limits) (layout : Layout)
+            (values : List Value)
+            → IsColumn known limits layout values self.old → IsNext limits layout values self.new }
+        ensures kept { (known : Numbering) (limits : Limits) (layout : Layout)
+            (values : List Value)
+            → IsColumn known limits layout values self.old
+            → IsColumn known limits layout values self.new }
     {
         self.next = self.counts;
     }
@@ -125,45 +130,54 @@ impl Column {
     // Counts one value of the next row.
     fn count(&mut self, value: &Value, limits: &Limits) -> Result<(), PushFault>
         ensures counted { (layout : Layout) (values : List Value)
-            → HasTaken Count limits.now layout values self.old
-            → OnOk result (HasTaken Count limits.now layout (values ++ value.now ∷ []) self.new) }
+            → IsNext limits.now layout values self.old
+            → OnOk result (IsNext limits.now layout (values ++ value.now ∷ []) self.new) }
         ensures refused { (layout : Layout) (values : List Value)
-            → HasTaken Count limits.now layout values self.old
+            → IsNext limits.now layout values self.old
             → IfErr result (IsPushRefused limits.now layout (values ++ value.now ∷ [])) }
-        ensures kept { (limits : Limits) (layout : Layout) (values : List Value)
-            → IsColumn limits layout values self.old → IsColumn limits layout values self.new }
+        ensures kept { (known : Numbering) (limits : Limits) (layout : Layout)
+            (values : List Value)
+            → IsColumn known limits layout values self.old
+            → IsColumn known limits layout values self.new }
         ensures memory { IfErr result (λ fault. ¬ (fault ≡ PushFault.OutOfMemory)) }
     {
         self.next = self.next.with(self.layout, value, limits)?;
         Ok(())
     }
 
-    /// Takes one value more, or counts it among those of the next row. After a refusal the buffers
+    /// Takes one value more, with its index in a column of indices, or counts it among those of the
+    /// next row. After a refusal the buffers
     /// or the next numbers are of no use.
     ///
     /// Refused as `Counts::with`, and with `OutOfMemory` where a buffer can't grow.
     #[inline(always)]
-    pub(crate) fn take(
+    pub(crate) fn take<I: IndexOf>(
         &mut self,
         value: &Value,
         purpose: Purpose,
         limits: &Limits,
+        indices: &I,
     ) -> Result<(), PushFault>
         ensures taken { (layout : Layout) (values : List Value)
-            → HasTaken purpose limits.now layout values self.old
+            → HasTaken (told (I.IndexOf.index indices.now)) purpose limits.now layout values
+            self.old
             → OnOk result
-            (HasTaken purpose limits.now layout (values ++ value.now ∷ []) self.new) }
+            (HasTaken (told (I.IndexOf.index indices.now)) purpose limits.now layout
+            (values ++ value.now ∷ []) self.new) }
         ensures refused { (layout : Layout) (values : List Value)
-            → HasTaken purpose limits.now layout values self.old
+            → HasTaken (told (I.IndexOf.index indices.now)) purpose limits.now layout values
+            self.old
             → IfErr result (IsPushRefused limits.now layout (values ++ value.now ∷ [])) }
-        ensures kept { (limits : Limits) (layout : Layout) (values : List Value)
+        ensures kept { (known : Numbering) (limits : Limits) (layout : Layout)
+            (values : List Value)
             → purpose ≡ Count
-            → IsColumn limits layout values self.old → IsColumn limits layout values self.new }
+            → IsColumn known limits layout values self.old
+            → IsColumn known limits layout values self.new }
         ensures memory { purpose ≡ Count
             → IfErr result (λ fault. ¬ (fault ≡ PushFault.OutOfMemory)) }
     {
         match purpose {
-            Purpose::Keep => self.push(value, limits),
+            Purpose::Keep => self.push(value, limits, indices),
             Purpose::Count => self.count(value, limits),
         }
     }

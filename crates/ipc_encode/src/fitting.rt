@@ -8,11 +8,13 @@ ghost use Rattle.ipc_encode.specs.Buffers.{buffers_of, joined};
 ghost use Rattle.ipc_encode.specs.Cells.{cell};
 ghost use Rattle.ipc_encode.specs.Built.{AreColumns, AreNodes, IsNode, HasTaken, IsColumn, IsNext};
 ghost use Rattle.ipc_encode.specs.Built.{AreTooMuch, AreWithin, IsCounted, LeavesOf};
+ghost use Rattle.ipc_encode.specs.Numbers.{Numbering};
 
 use crate::cells::value_at;
 use crate::column::{Column, Purpose};
 use crate::counts::Counts;
 use crate::fault::PushFault;
+use crate::index::NoIndices;
 use crate::node::Node;
 use crate::tree::take;
 use ipc_model::{Layout, Limits, Value};
@@ -20,12 +22,14 @@ use ipc_model::{Layout, Limits, Value};
 // The next row is counted from the numbers of a column, and of those below it.
 #[cycle(start)]
 fn start_node(node: &mut Node)
-    ensures started { (limits : Limits) (layout : Layout) (children : Shape) (values : List Value)
-        → IsNode (IsColumn limits) layout children node.old values
+    ensures started { (known : Numbering) (limits : Limits) (layout : Layout)
+        (children : Shape) (values : List Value)
+        → IsNode (IsColumn known limits) layout children node.old values
         → IsNode (IsNext limits) layout children node.new values }
-    ensures kept { (limits : Limits) (layout : Layout) (children : Shape) (values : List Value)
-        → IsNode (IsColumn limits) layout children node.old values
-        → IsNode (IsColumn limits) layout children node.new values }
+    ensures kept { (known : Numbering) (limits : Limits) (layout : Layout)
+        (children : Shape) (values : List Value)
+        → IsNode (IsColumn known limits) layout children node.old values
+        → IsNode (IsColumn known limits) layout children node.new values }
 {
     start_nodes(&mut node.children);
     node.column.start();
@@ -34,12 +38,14 @@ fn start_node(node: &mut Node)
 // The same of each column.
 #[cycle(start)]
 fn start_nodes(nodes: &mut [Node])
-    ensures started { (limits : Limits) (shape : Shape) (given : ℕ → List Value)
-        → AreNodes (IsColumn limits) shape nodes.old given
+    ensures started { (known : Numbering) (limits : Limits) (shape : Shape)
+        (given : ℕ → List Value)
+        → AreNodes (IsColumn known limits) shape nodes.old given
         → AreNodes (IsNext limits) shape nodes.new given }
-    ensures kept { (limits : Limits) (shape : Shape) (given : ℕ → List Value)
-        → AreNodes (IsColumn limits) shape nodes.old given
-        → AreNodes (IsColumn limits) shape nodes.new given }
+    ensures kept { (known : Numbering) (limits : Limits) (shape : Shape)
+        (given : ℕ → List Value)
+        → AreNodes (IsColumn known limits) shape nodes.old given
+        → AreNodes (IsColumn known limits) shape nodes.new given }
 {
     for i in 0..nodes.len() {
         start_node(&mut nodes[i]);
@@ -50,12 +56,14 @@ fn start_nodes(nodes: &mut [Node])
 // they are too few.
 #[cycle(left)]
 fn left_behind(node: &Node, purpose: Purpose, bytes: u64) -> Option<u64>
-    ensures left { (limits : Limits) (layout : Layout) (children : Shape) (values : List Value)
-        → IsNode (HasTaken purpose limits) layout children node.now values
+    ensures left { (known : Numbering) (limits : Limits) (layout : Layout)
+        (children : Shape) (values : List Value)
+        → IsNode (HasTaken known purpose limits) layout children node.now values
         → IfSome result (λ left.
         length (joined (buffers_of (field layout children bare) (λ j. values))) + left ≡ bytes) }
-    ensures none { (limits : Limits) (layout : Layout) (children : Shape) (values : List Value)
-        → IsNode (HasTaken purpose limits) layout children node.now values → result ≡ None
+    ensures none { (known : Numbering) (limits : Limits) (layout : Layout)
+        (children : Shape) (values : List Value)
+        → IsNode (HasTaken known purpose limits) layout children node.now values → result ≡ None
         → bytes < length (joined (buffers_of (field layout children bare) (λ j. values))) }
     ensures fewer { IfSome result (λ left. left ≤ bytes) }
 {
@@ -70,11 +78,13 @@ fn left_behind(node: &Node, purpose: Purpose, bytes: u64) -> Option<u64>
 /// them: those that they have, or with the next row. None where they are too few.
 #[cycle(left)]
 pub(crate) fn left_behind_all(nodes: &[Node], purpose: Purpose, bytes: u64) -> Option<u64>
-    ensures left { (limits : Limits) (shape : Shape) (given : ℕ → List Value)
-        → AreNodes (HasTaken purpose limits) shape nodes.now given
+    ensures left { (known : Numbering) (limits : Limits) (shape : Shape)
+        (given : ℕ → List Value)
+        → AreNodes (HasTaken known purpose limits) shape nodes.now given
         → IfSome result (λ left. length (joined (buffers_of shape given)) + left ≡ bytes) }
-    ensures none { (limits : Limits) (shape : Shape) (given : ℕ → List Value)
-        → AreNodes (HasTaken purpose limits) shape nodes.now given → result ≡ None
+    ensures none { (known : Numbering) (limits : Limits) (shape : Shape)
+        (given : ℕ → List Value)
+        → AreNodes (HasTaken known purpose limits) shape nodes.now given → result ≡ None
         → bytes < length (joined (buffers_of shape given)) }
     ensures fewer { IfSome result (λ left. left ≤ bytes) }
 {
@@ -120,12 +130,12 @@ fn left_behind_leaf(
     bytes: u64,
 ) -> Result<u64, PushFault>
     requires { bytes ≤ limits.now.body }
-    ensures fit { (layout : Layout) (values : List Value)
-        → IsColumn limits.now layout values column.now
+    ensures fit { (known : Numbering) (layout : Layout) (values : List Value)
+        → IsColumn known limits.now layout values column.now
         → IfOk result (LeavesOf limits.now (field layout bare bare)
         (λ j. values ++ value.now ∷ []) bytes) }
-    ensures refused { (layout : Layout) (values : List Value)
-        → IsColumn limits.now layout values column.now
+    ensures refused { (known : Numbering) (layout : Layout) (values : List Value)
+        → IsColumn known limits.now layout values column.now
         → IfErr result (AreTooMuch limits.now bytes (field layout bare bare)
         (λ j. values ++ value.now ∷ [])) }
     ensures fewer { IfOk result (λ left. left ≤ bytes) }
@@ -153,21 +163,22 @@ fn left_behind_tree(
     bytes: u64,
 ) -> Result<u64, PushFault>
     requires { bytes ≤ limits.now.body }
-    ensures fit { (layout : Layout) (children : Shape) (values : List Value)
-        → IsNode (IsColumn limits.now) layout children node.old values
+    ensures fit { (known : Numbering) (layout : Layout) (children : Shape) (values : List Value)
+        → IsNode (IsColumn known limits.now) layout children node.old values
         → IfOk result (LeavesOf limits.now (field layout children bare)
         (λ j. values ++ value.now ∷ []) bytes) }
-    ensures refused { (layout : Layout) (children : Shape) (values : List Value)
-        → IsNode (IsColumn limits.now) layout children node.old values
+    ensures refused { (known : Numbering) (layout : Layout) (children : Shape) (values : List Value)
+        → IsNode (IsColumn known limits.now) layout children node.old values
         → IfErr result (AreTooMuch limits.now bytes (field layout children bare)
         (λ j. values ++ value.now ∷ [])) }
     ensures fewer { IfOk result (λ left. left ≤ bytes) }
-    ensures kept { (limits : Limits) (layout : Layout) (children : Shape) (values : List Value)
-        → IsNode (IsColumn limits) layout children node.old values
-        → IsNode (IsColumn limits) layout children node.new values }
+    ensures kept { (known : Numbering) (limits : Limits) (layout : Layout)
+        (children : Shape) (values : List Value)
+        → IsNode (IsColumn known limits) layout children node.old values
+        → IsNode (IsColumn known limits) layout children node.new values }
 {
     start_node(node);
-    take(value, node, Purpose::Count, limits)?;
+    take(value, node, Purpose::Count, limits, &NoIndices)?;
     match left_behind(node, Purpose::Count, bytes) {
         Some(left) => Ok(left),
         None => Err(PushFault::TooLong),
@@ -183,18 +194,19 @@ fn left_behind_with(
     bytes: u64,
 ) -> Result<u64, PushFault>
     requires { bytes ≤ limits.now.body }
-    ensures fit { (layout : Layout) (children : Shape) (values : List Value)
-        → IsNode (IsColumn limits.now) layout children node.old values
+    ensures fit { (known : Numbering) (layout : Layout) (children : Shape) (values : List Value)
+        → IsNode (IsColumn known limits.now) layout children node.old values
         → IfOk result (LeavesOf limits.now (field layout children bare)
         (λ j. values ++ value.now ∷ []) bytes) }
-    ensures refused { (layout : Layout) (children : Shape) (values : List Value)
-        → IsNode (IsColumn limits.now) layout children node.old values
+    ensures refused { (known : Numbering) (layout : Layout) (children : Shape) (values : List Value)
+        → IsNode (IsColumn known limits.now) layout children node.old values
         → IfErr result (AreTooMuch limits.now bytes (field layout children bare)
         (λ j. values ++ value.now ∷ [])) }
     ensures fewer { IfOk result (λ left. left ≤ bytes) }
-    ensures kept { (limits : Limits) (layout : Layout) (children : Shape) (values : List Value)
-        → IsNode (IsColumn limits) layout children node.old values
-        → IsNode (IsColumn limits) layout children node.new values }
+    ensures kept { (known : Numbering) (limits : Limits) (layout : Layout)
+        (children : Shape) (values : List Value)
+        → IsNode (IsColumn known limits) layout children node.old values
+        → IsNode (IsColumn known limits) layout children node.new values }
 {
     if node.children.is_empty() {
         return left_behind_leaf(value, &node.column, limits, bytes);
@@ -207,15 +219,17 @@ fn left_behind_with(
 /// Refused with `TooMany` where one would have too many slots, and with `TooLong` where one would
 /// have more data than offsets reach, or their buffers more bytes than a body.
 pub(crate) fn fit(nodes: &mut [Node], row: &[Value], limits: &Limits) -> Result<(), PushFault>
-    ensures fit { (shape : Shape) (given : ℕ → List Value)
-        → AreColumns limits.now shape nodes.old given
+    ensures fit { (known : Numbering) (shape : Shape) (given : ℕ → List Value)
+        → AreColumns known limits.now shape nodes.old given
         → OnOk result (AreWithin limits.now shape (λ j. given j ++ cell j row.now ∷ [])) }
-    ensures refused { (shape : Shape) (given : ℕ → List Value)
-        → AreColumns limits.now shape nodes.old given
+    ensures refused { (known : Numbering) (shape : Shape) (given : ℕ → List Value)
+        → AreColumns known limits.now shape nodes.old given
         → IfErr result (AreTooMuch limits.now limits.now.body shape
         (λ j. given j ++ cell j row.now ∷ [])) }
-    ensures kept { (limits : Limits) (shape : Shape) (given : ℕ → List Value)
-        → AreColumns limits shape nodes.old given → AreColumns limits shape nodes.new given }
+    ensures kept { (known : Numbering) (limits : Limits) (shape : Shape)
+        (given : ℕ → List Value)
+        → AreColumns known limits shape nodes.old given
+        → AreColumns known limits shape nodes.new given }
 {
     let mut left = limits.body;
     for i in 0..nodes.len() {

@@ -1,6 +1,7 @@
 ghost use Rattle.std.specs.Prelude.{[], IfOk};
 ghost use Rattle.ipc_model.specs.declared.limits.Limits.{Limits};
 ghost use Rattle.ipc_column.specs.Shapes.{field_shape, shape_of};
+ghost use Rattle.ipc_encode.specs.Numbers.{Numbering};
 ghost use Rattle.ipc_encode.specs.Built.{AreColumns, IsColumn, IsNode};
 
 use crate::column::Column;
@@ -11,7 +12,8 @@ use std::alloc::{AllocError, Global};
 // A column of this field without values, with those of its children, in the room of a node.
 #[cycle(new)]
 fn new_node(field: &Field, kept: Option<Node>, alloc: Global) -> Result<Node, AllocError>
-    ensures { (limits : Limits) → IfOk result (λ node. IsNode (IsColumn limits)
+    ensures { (known : Numbering) (limits : Limits)
+        → IfOk result (λ node. IsNode (IsColumn known limits)
         (field_shape field.now).0 (field_shape field.now).1 node []) }
 {
     let layout = layout_of(&field.kind, field.dictionary);
@@ -32,8 +34,9 @@ pub(crate) fn new_nodes(
     kept: Vec<Node>,
     alloc: Global,
 ) -> Result<Vec<Node>, AllocError>
-    ensures { (limits : Limits)
-        → IfOk result (λ nodes. AreColumns limits (shape_of fields.now) nodes.items (λ j. [])) }
+    ensures { (known : Numbering) (limits : Limits)
+        → IfOk result
+        (λ nodes. AreColumns known limits (shape_of fields.now) nodes.items (λ j. [])) }
 {
     let mut kept = kept.into_iter();
     let mut nodes = Vec::with_capacity(alloc, fields.len())?;

@@ -22,7 +22,7 @@ mod sure;
 mod tree;
 
 pub use batch::encode;
-pub use builder::Builder;
+pub use builder::{Builder, holds_agreeing};
 pub use fault::PushFault;
 pub use index::{IndexOf, NoIndices, Renumber, SameNumbers};
 pub use parts::Parts;

@@ -1,20 +1,24 @@
 ghost use Rattle.std.specs.Prelude.{◌≡◌, ℕ, ◌-◌, ◌%◌, ◌++◌, List, [], ◌∷◌, pos, length, replicate};
-ghost use Rattle.std.specs.Prelude.{OnOk};
+ghost use Rattle.std.specs.Prelude.{OnOk, map};
 ghost use Rattle.ipc_model.specs.declared.layout.Layout.{Layout};
 ghost use Rattle.ipc_model.specs.declared.limits.Limits.{Limits};
 ghost use Rattle.ipc_model.specs.declared.value.Value.{Value};
 ghost use Rattle.ipc_column.specs.Shapes.{Shape, bare, field};
 ghost use Rattle.ipc_encode.specs.declared.node.Node.{out-Node};
-ghost use Rattle.ipc_encode.specs.Buffers.{column_buffers, nodes_of, buffers_of};
-ghost use Rattle.ipc_encode.specs.Cells.{nulls};
+ghost use Rattle.ipc_encode.specs.Buffers.{column_buffers, nodes_of, buffers_with, stored};
+ghost use Rattle.ipc_encode.specs.Cells.{nulls, slots};
+ghost use Rattle.ipc_encode.specs.Numbers.{Numbering, as_number, changed, renumbered};
+ghost use Rattle.ipc_encode.specs.Pieces.{Number};
 ghost use Rattle.ipc_encode.specs.Writing.{Adds};
 ghost use Rattle.ipc_encode.specs.Built.{AreColumns, IsColumn, IsNode};
 
 use crate::column::Column;
 use crate::counts::Counts;
+use crate::index::Renumber;
 use crate::node::Node;
+use crate::pushing::push_number;
 use crate::room::Room;
-use ipc_model::{Items, Layout};
+use ipc_model::{IntBits, Items, Layout, Value};
 use std::alloc::AllocError;
 
 /// What rows are written as (Message.fbs, RecordBatch).
@@ -62,12 +66,67 @@ fn add_buffer(draft: &mut Draft, bytes: &[u8]) -> Result<(), AllocError>
     Ok(())
 }
 
-// Adds the buffers of a column.
-fn add_buffers(draft: &mut Draft, column: &Column) -> Result<(), AllocError>
+// The number of an index in its slot, null where there is none.
+fn as_number<N: Renumber>(index: Option<u64>, id: i64, numbers: &N) -> Value
+    ensures { result ≡ as_number (changed (N.Renumber.number numbers.now id) index) }
+{
+    match index {
+        Some(index) => Value::UInt(numbers.to(id, index)),
+        None => Value::Null,
+    }
+}
+
+// Appends the numbers of indices, a null slot's zero.
+fn push_indices<N: Renumber>(
+    bytes: &mut Vec<u8>,
+    indices: &[Option<u64>],
+    bits: IntBits,
+    id: i64,
+    numbers: &N,
+) -> Result<(), AllocError>
+    ensures { OnOk result (bytes.new.items ≡ bytes.old.items
+        ++ slots (Number bits)
+        (map as_number (map (changed (N.Renumber.number numbers.now id)) indices.now))) }
+{
+    for index in indices {
+        push_number(bytes, &as_number(*index, id, numbers), bits)?;
+    }
+    Ok(())
+}
+
+// Adds the buffer of the indices of a column.
+fn add_indices<N: Renumber>(
+    draft: &mut Draft,
+    indices: &[Option<u64>],
+    bits: IntBits,
+    id: i64,
+    numbers: &N,
+) -> Result<(), AllocError>
     ensures nodes { OnOk result (draft.new.nodes.items ≡ draft.old.nodes.items) }
-    ensures adds { (limits : Limits) (layout : Layout) (values : List Value)
-        → IsColumn limits layout values column.now
-        → OnOk result (Adds draft.old draft.new (column_buffers layout values)) }
+    ensures adds { OnOk result (Adds draft.old draft.new
+        (slots (Number bits)
+        (map as_number (map (changed (N.Renumber.number numbers.now id)) indices.now)) ∷ [])) }
+{
+    let start = draft.body.len();
+    push_indices(&mut draft.body, indices, bits, id, numbers)?;
+    let len = draft.body.len() - start;
+    pad(&mut draft.body, len)?;
+    draft.buffers.push((start as i64, len as i64))?;
+    Ok(())
+}
+
+// Adds the buffers of a column.
+fn add_buffers<N: Renumber>(
+    draft: &mut Draft,
+    column: &Column,
+    numbers: &N,
+) -> Result<(), AllocError>
+    ensures nodes { OnOk result (draft.new.nodes.items ≡ draft.old.nodes.items) }
+    ensures adds { (known : Numbering) (limits : Limits) (layout : Layout) (values : List Value)
+        → IsColumn known limits layout values column.now
+        → OnOk result (Adds draft.old draft.new
+        (column_buffers layout
+        (stored (renumbered (N.Renumber.number numbers.now) known) layout values))) }
 {
     if column.layout.own_buffers() == 0 {
         return Ok(());
@@ -76,6 +135,9 @@ fn add_buffers(draft: &mut Draft, column: &Column) -> Result<(), AllocError>
     match column.layout {
         Layout::FixedLists(_) | Layout::Structs => return Ok(()),
         Layout::Lists => return add_buffer(draft, &column.offsets),
+        Layout::Indices { bits, id, .. } => {
+            return add_indices(draft, &column.indices, bits, id, numbers);
+        }
         Layout::VariableBytes { .. } => add_buffer(draft, &column.offsets)?,
         _ => (),
     }
@@ -83,76 +145,97 @@ fn add_buffers(draft: &mut Draft, column: &Column) -> Result<(), AllocError>
 }
 
 // Adds the node and the buffers of a column.
-fn add_column(draft: &mut Draft, column: &Column) -> Result<(), AllocError>
-    ensures nodes { (limits : Limits) (layout : Layout) (values : List Value)
-        → IsColumn limits layout values column.now
+fn add_column<N: Renumber>(
+    draft: &mut Draft,
+    column: &Column,
+    numbers: &N,
+) -> Result<(), AllocError>
+    ensures nodes { (known : Numbering) (limits : Limits) (layout : Layout) (values : List Value)
+        → IsColumn known limits layout values column.now
         → OnOk result (draft.new.nodes.items
         ≡ draft.old.nodes.items ++ (pos (length values), pos (nulls values)) ∷ []) }
-    ensures adds { (limits : Limits) (layout : Layout) (values : List Value)
-        → IsColumn limits layout values column.now
-        → OnOk result (Adds draft.old draft.new (column_buffers layout values)) }
+    ensures adds { (known : Numbering) (limits : Limits) (layout : Layout) (values : List Value)
+        → IsColumn known limits layout values column.now
+        → OnOk result (Adds draft.old draft.new
+        (column_buffers layout
+        (stored (renumbered (N.Renumber.number numbers.now) known) layout values))) }
 {
     let Counts { slots, nulls, .. } = column.counts;
     draft.nodes.push((slots as i64, nulls as i64))?;
-    add_buffers(draft, column)
+    add_buffers(draft, column, numbers)
 }
 
 // Adds the node and the buffers of a node's own column.
-fn add_own(node: &Node, draft: &mut Draft) -> Result<(), AllocError>
-    ensures nodes { (limits : Limits) (layout : Layout) (values : List Value)
-        → IsColumn limits layout values (out-Node node.now).column
+fn add_own<N: Renumber>(node: &Node, draft: &mut Draft, numbers: &N) -> Result<(), AllocError>
+    ensures nodes { (known : Numbering) (limits : Limits) (layout : Layout) (values : List Value)
+        → IsColumn known limits layout values (out-Node node.now).column
         → OnOk result (draft.new.nodes.items
         ≡ draft.old.nodes.items ++ (pos (length values), pos (nulls values)) ∷ []) }
-    ensures adds { (limits : Limits) (layout : Layout) (values : List Value)
-        → IsColumn limits layout values (out-Node node.now).column
-        → OnOk result (Adds draft.old draft.new (column_buffers layout values)) }
+    ensures adds { (known : Numbering) (limits : Limits) (layout : Layout) (values : List Value)
+        → IsColumn known limits layout values (out-Node node.now).column
+        → OnOk result (Adds draft.old draft.new
+        (column_buffers layout
+        (stored (renumbered (N.Renumber.number numbers.now) known) layout values))) }
 {
-    add_column(draft, &node.column)
+    add_column(draft, &node.column, numbers)
 }
 
 // Adds the nodes and the buffers of the columns below a node.
 #[cycle(add)]
-fn add_below(node: &Node, draft: &mut Draft) -> Result<(), AllocError>
-    ensures nodes { (limits : Limits) (children : Shape) (given : ℕ → List Value)
-        → AreColumns limits children (out-Node node.now).children.items given
+fn add_below<N: Renumber>(node: &Node, draft: &mut Draft, numbers: &N) -> Result<(), AllocError>
+    ensures nodes { (known : Numbering) (limits : Limits) (children : Shape)
+        (given : ℕ → List Value)
+        → AreColumns known limits children (out-Node node.now).children.items given
         → OnOk result (draft.new.nodes.items ≡ draft.old.nodes.items ++ nodes_of children given) }
-    ensures adds { (limits : Limits) (children : Shape) (given : ℕ → List Value)
-        → AreColumns limits children (out-Node node.now).children.items given
-        → OnOk result (Adds draft.old draft.new (buffers_of children given)) }
+    ensures adds { (known : Numbering) (limits : Limits) (children : Shape)
+        (given : ℕ → List Value)
+        → AreColumns known limits children (out-Node node.now).children.items given
+        → OnOk result (Adds draft.old draft.new
+        (buffers_with (renumbered (N.Renumber.number numbers.now) known) children given)) }
 {
-    add_nodes(&node.children, draft)
+    add_nodes(&node.children, draft, numbers)
 }
 
 // Adds the nodes and the buffers of a column, and then those of the columns below it.
 #[cycle(add)]
-fn add_node(node: &Node, draft: &mut Draft) -> Result<(), AllocError>
-    ensures nodes { (limits : Limits) (layout : Layout) (children : Shape) (values : List Value)
-        → IsNode (IsColumn limits) layout children node.now values
+fn add_node<N: Renumber>(node: &Node, draft: &mut Draft, numbers: &N) -> Result<(), AllocError>
+    ensures nodes { (known : Numbering) (limits : Limits) (layout : Layout)
+        (children : Shape) (values : List Value)
+        → IsNode (IsColumn known limits) layout children node.now values
         → OnOk result (draft.new.nodes.items
         ≡ draft.old.nodes.items ++ nodes_of (field layout children bare) (λ j. values)) }
-    ensures adds { (limits : Limits) (layout : Layout) (children : Shape) (values : List Value)
-        → IsNode (IsColumn limits) layout children node.now values
+    ensures adds { (known : Numbering) (limits : Limits) (layout : Layout)
+        (children : Shape) (values : List Value)
+        → IsNode (IsColumn known limits) layout children node.now values
         → OnOk result
-        (Adds draft.old draft.new (buffers_of (field layout children bare) (λ j. values))) }
+        (Adds draft.old draft.new (buffers_with (renumbered (N.Renumber.number numbers.now) known)
+        (field layout children bare) (λ j. values))) }
 {
-    add_own(node, draft)?;
-    add_below(node, draft)
+    add_own(node, draft, numbers)?;
+    add_below(node, draft, numbers)
 }
 
 /// Adds the nodes and the buffers of columns, each with those below it behind it.
 ///
 /// Refused where a list can't grow.
 #[cycle(add)]
-pub(crate) fn add_nodes(nodes: &[Node], draft: &mut Draft) -> Result<(), AllocError>
-    ensures nodes { (limits : Limits) (shape : Shape) (given : ℕ → List Value)
-        → AreColumns limits shape nodes.now given
+pub(crate) fn add_nodes<N: Renumber>(
+    nodes: &[Node],
+    draft: &mut Draft,
+    numbers: &N,
+) -> Result<(), AllocError>
+    ensures nodes { (known : Numbering) (limits : Limits) (shape : Shape)
+        (given : ℕ → List Value)
+        → AreColumns known limits shape nodes.now given
         → OnOk result (draft.new.nodes.items ≡ draft.old.nodes.items ++ nodes_of shape given) }
-    ensures adds { (limits : Limits) (shape : Shape) (given : ℕ → List Value)
-        → AreColumns limits shape nodes.now given
-        → OnOk result (Adds draft.old draft.new (buffers_of shape given)) }
+    ensures adds { (known : Numbering) (limits : Limits) (shape : Shape)
+        (given : ℕ → List Value)
+        → AreColumns known limits shape nodes.now given
+        → OnOk result (Adds draft.old draft.new
+        (buffers_with (renumbered (N.Renumber.number numbers.now) known) shape given)) }
 {
     for node in nodes {
-        add_node(node, draft)?;
+        add_node(node, draft, numbers)?;
     }
     Ok(())
 }

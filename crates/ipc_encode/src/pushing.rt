@@ -6,7 +6,8 @@ ghost use Rattle.ipc_model.specs.declared.value.Value.{Value};
 ghost use Rattle.ipc_encode.specs.Pieces.{Number, Fixed};
 ghost use Rattle.ipc_encode.specs.Cells.{nulls, slot_bytes, content, HasUtf8};
 ghost use Rattle.ipc_encode.specs.Columns.{validity_bytes, validity_in, offsets_in, values_in};
-ghost use Rattle.ipc_encode.specs.Columns.{data_in};
+ghost use Rattle.ipc_encode.specs.Columns.{data_in, indices_in};
+ghost use Rattle.ipc_encode.specs.Numbers.{Numbering, index_of, told};
 ghost use Rattle.ipc_encode.specs.Writing.{AreStored};
 ghost use Rattle.ipc_encode.specs.Built.{IsColumn, IsPushRefused};
 
@@ -15,6 +16,7 @@ use crate::column::Column;
 use crate::counts::Counts;
 use crate::fault::PushFault;
 use crate::flags::{push_bit, set_bits};
+use crate::index::IndexOf;
 use ipc_model::{IntBits, Layout, Limits, Value};
 use std::alloc::{AllocError, Global};
 
@@ -74,9 +76,13 @@ fn push_four(values: &mut Vec<u8>, number: u64) -> Result<(), AllocError>
     values.extend_from_slice(&number.to_le_bytes()[..4])
 }
 
-// Appends the low bytes of a value's number.
+/// Appends the low bytes of a value's number.
 #[inline(always)]
-fn push_number(values: &mut Vec<u8>, value: &Value, bits: IntBits) -> Result<(), AllocError>
+pub(crate) fn push_number(
+    values: &mut Vec<u8>,
+    value: &Value,
+    bits: IntBits,
+) -> Result<(), AllocError>
     ensures { OnOk result (values.new.items
         ≡ values.old.items ++ slot_bytes (Number bits) value.now) }
 {
@@ -130,10 +136,13 @@ fn push_value(
         → OnOk result (AreStored layout (vs ++ value.now ∷ [])) }
 {
     match layout {
-        Layout::Null | Layout::Lists | Layout::FixedLists(_) | Layout::Structs => Ok(()),
+        Layout::Null
+        | Layout::Lists
+        | Layout::FixedLists(_)
+        | Layout::Structs
+        | Layout::Indices { .. } => Ok(()),
         Layout::Bits => push_bit(values, slots, is_true(value)),
         Layout::Numbers { bits, .. } => push_number(values, value, bits),
-        Layout::Indices { bits, .. } => push_number(values, value, bits),
         Layout::FixedBytes(width) => push_fixed(values, value, width),
         Layout::VariableBytes { .. } => push_content(values, value),
     }
@@ -148,6 +157,38 @@ fn push_end(layout: Layout, offsets: &mut Vec<u8>, end: usize) -> Result<(), All
 {
     match layout {
         Layout::VariableBytes { .. } | Layout::Lists => push_offset(offsets, end),
+        _ => Ok(()),
+    }
+}
+
+// The index of a value that isn't null. One that isn't known has 0.
+fn known_index<I: IndexOf>(indices: &I, id: i64, value: &Value) -> Option<u64>
+    ensures { result ≡ index_of (told (I.IndexOf.index indices.now) id) value.now }
+{
+    match value {
+        Value::Null => None,
+        _ => Some(indices.index_of(id, value).unwrap_or(0)),
+    }
+}
+
+// Appends the index of a value, if the column is one of indices.
+#[inline(always)]
+fn push_index<I: IndexOf>(
+    layout: Layout,
+    held: &mut Vec<Option<u64>>,
+    value: &Value,
+    indices: &I,
+) -> Result<(), AllocError>
+    ensures { (vs : List Value)
+        → held.old.items ≡ indices_in (told (I.IndexOf.index indices.now)) layout vs
+        → OnOk result (held.new.items
+        ≡ indices_in (told (I.IndexOf.index indices.now)) layout (vs ++ value.now ∷ [])) }
+{
+    match layout {
+        Layout::Indices { id, .. } => {
+            held.push(known_index(indices, id, value))?;
+            Ok(())
+        }
         _ => Ok(()),
     }
 }
@@ -169,12 +210,15 @@ fn empty_column(
     mut validity: Vec<u8>,
     mut offsets: Vec<u8>,
     mut values: Vec<u8>,
+    mut indices: Vec<Option<u64>>,
 ) -> Result<Column, AllocError>
-    ensures { (limits : Limits) → IfOk result (IsColumn limits layout []) }
+    ensures { (known : Numbering) (limits : Limits)
+        → IfOk result (IsColumn known limits layout []) }
 {
     validity.clear();
     offsets.clear();
     values.clear();
+    indices.clear();
     begin_offsets(layout, &mut offsets)?;
     Ok(Column {
         layout,
@@ -183,37 +227,56 @@ fn empty_column(
         validity,
         offsets,
         values,
+        indices,
     })
 }
 
 impl Column {
     /// A column of this layout without values.
     pub(crate) fn new(alloc: Global, layout: Layout) -> Result<Column, AllocError>
-        ensures { (limits : Limits) → IfOk result (IsColumn limits layout []) }
+        ensures { (known : Numbering) (limits : Limits)
+            → IfOk result (IsColumn known limits layout []) }
     {
-        empty_column(layout, Vec::new(alloc), Vec::new(alloc), Vec::new(alloc))
+        empty_column(
+            layout,
+            Vec::new(alloc),
+            Vec::new(alloc),
+            Vec::new(alloc),
+            Vec::new(alloc),
+        )
     }
 
     /// A column of this layout without values, in the room of this one.
     pub(crate) fn emptied(self, layout: Layout) -> Result<Column, AllocError>
-        ensures { (limits : Limits) → IfOk result (IsColumn limits layout []) }
+        ensures { (known : Numbering) (limits : Limits)
+            → IfOk result (IsColumn known limits layout []) }
     {
         let Column {
             validity,
             offsets,
             values,
+            indices,
             ..
         } = self;
-        empty_column(layout, validity, offsets, values)
+        empty_column(layout, validity, offsets, values, indices)
     }
 
     // Takes one value more into a column of this layout, as `push` does. Where the caller has
     // matched the layout, nothing below it asks again.
     #[inline(always)]
-    fn push_laid(&mut self, layout: Layout, value: &Value, limits: &Limits) -> Result<(), PushFault>
-        ensures pushed { (values : List Value) → IsColumn limits.now layout values self.old
-            → OnOk result (IsColumn limits.now layout (values ++ value.now ∷ []) self.new) }
-        ensures refused { (values : List Value) → IsColumn limits.now layout values self.old
+    fn push_laid<I: IndexOf>(
+        &mut self,
+        layout: Layout,
+        value: &Value,
+        limits: &Limits,
+        indices: &I,
+    ) -> Result<(), PushFault>
+        ensures pushed { (values : List Value)
+            → IsColumn (told (I.IndexOf.index indices.now)) limits.now layout values self.old
+            → OnOk result (IsColumn (told (I.IndexOf.index indices.now)) limits.now layout
+            (values ++ value.now ∷ []) self.new) }
+        ensures refused { (values : List Value)
+            → IsColumn (told (I.IndexOf.index indices.now)) limits.now layout values self.old
             → IfErr result (IsPushRefused limits.now layout (values ++ value.now ∷ [])) }
     {
         let Counts { slots, nulls, .. } = self.counts;
@@ -221,6 +284,7 @@ impl Column {
         push_validity(layout, &mut self.validity, slots, nulls, value)?;
         push_value(layout, slots, &mut self.values, value)?;
         push_end(layout, &mut self.offsets, counts.amount)?;
+        push_index(layout, &mut self.indices, value, indices)?;
         self.counts = counts;
         Ok(())
     }
@@ -229,12 +293,18 @@ impl Column {
     ///
     /// Refused as `Counts::with`, and with `OutOfMemory` where a buffer can't grow.
     #[inline(always)]
-    pub(crate) fn push(&mut self, value: &Value, limits: &Limits) -> Result<(), PushFault>
+    pub(crate) fn push<I: IndexOf>(
+        &mut self,
+        value: &Value,
+        limits: &Limits,
+        indices: &I,
+    ) -> Result<(), PushFault>
         ensures pushed { (layout : Layout) (values : List Value)
-            → IsColumn limits.now layout values self.old
-            → OnOk result (IsColumn limits.now layout (values ++ value.now ∷ []) self.new) }
+            → IsColumn (told (I.IndexOf.index indices.now)) limits.now layout values self.old
+            → OnOk result (IsColumn (told (I.IndexOf.index indices.now)) limits.now layout
+            (values ++ value.now ∷ []) self.new) }
         ensures refused { (layout : Layout) (values : List Value)
-            → IsColumn limits.now layout values self.old
+            → IsColumn (told (I.IndexOf.index indices.now)) limits.now layout values self.old
             → IfErr result (IsPushRefused limits.now layout (values ++ value.now ∷ [])) }
     {
         match self.layout {
@@ -246,16 +316,16 @@ impl Column {
                     bits: IntBits::B64,
                     signed,
                 };
-                self.push_laid(layout, value, limits)
+                self.push_laid(layout, value, limits, indices)
             }
             Layout::Numbers { bits, signed } => {
-                self.push_laid(Layout::Numbers { bits, signed }, value, limits)
+                self.push_laid(Layout::Numbers { bits, signed }, value, limits, indices)
             }
-            Layout::Bits => self.push_laid(Layout::Bits, value, limits),
+            Layout::Bits => self.push_laid(Layout::Bits, value, limits, indices),
             Layout::VariableBytes { utf8 } => {
-                self.push_laid(Layout::VariableBytes { utf8 }, value, limits)
+                self.push_laid(Layout::VariableBytes { utf8 }, value, limits, indices)
             }
-            layout => self.push_laid(layout, value, limits),
+            layout => self.push_laid(layout, value, limits, indices),
         }
     }
 }

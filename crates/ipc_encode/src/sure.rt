@@ -13,6 +13,7 @@ ghost use Rattle.ipc_encode.specs.Columns.{data_in};
 ghost use Rattle.ipc_encode.specs.Limits.{HasLongData};
 ghost use Rattle.ipc_encode.specs.Built.{AreColumns, AreWithin, IsColumn, IsCounted, IsNode};
 ghost use Rattle.ipc_encode.specs.Built.{TakeAtMost};
+ghost use Rattle.ipc_encode.specs.Numbers.{Numbering};
 
 use crate::cells::{content, fixed_len};
 use crate::column::MAX_DATA;
@@ -21,7 +22,32 @@ use crate::node::Node;
 use ipc_model::{DataType, Field, IntBits, Layout, Limits, Value};
 
 // The bytes of a column's data with one value more, beside 8 for each slot, at most. None where
-// the layout asks for a closer look, or offsets don't reach.
+// the layout asks for a closer look, or offsets don't reach. It stands by itself, so that numbers
+// are told by one comparison.
+#[inline(never)]
+fn most_content(layout: Layout, counts: Counts, value: &Value) -> Option<u64>
+    ensures most { (limits : Limits) (values : List Value) → IsCounted limits layout values counts
+        → IfSome result (λ most. data_in layout (values ++ value.now ∷ [])
+        ≤ 8 * length (values ++ value.now ∷ []) + most) }
+    ensures short { (limits : Limits) (values : List Value) → IsCounted limits layout values counts
+        → IfSome result (λ most. ¬ HasLongData layout (values ++ value.now ∷ [])) }
+    ensures few { IfSome result (λ most. most < 2 ^ 63 + 2 ^ 43) }
+{
+    match layout {
+        Layout::Null | Layout::Bits | Layout::Numbers { .. } | Layout::Indices { .. } => Some(0),
+        Layout::FixedBytes(width) => Some((counts.amount + fixed_len(value, width)) as u64),
+        Layout::VariableBytes { .. } => {
+            let amount = counts.amount + content(value).len();
+            if amount > MAX_DATA {
+                return None;
+            }
+            Some(amount as u64)
+        }
+        Layout::Lists | Layout::FixedLists(_) | Layout::Structs => None,
+    }
+}
+
+// The same, with numbers first.
 #[inline(always)]
 fn most_data(layout: Layout, counts: Counts, value: &Value) -> Option<u64>
     ensures most { (limits : Limits) (values : List Value) → IsCounted limits layout values counts
@@ -31,18 +57,20 @@ fn most_data(layout: Layout, counts: Counts, value: &Value) -> Option<u64>
         → IfSome result (λ most. ¬ HasLongData layout (values ++ value.now ∷ [])) }
     ensures few { IfSome result (λ most. most < 2 ^ 63 + 2 ^ 43) }
 {
-    match layout {
-        Layout::Null | Layout::Bits | Layout::Numbers { .. } => Some(0),
-        Layout::FixedBytes(width) => Some((counts.amount + fixed_len(value, width)) as u64),
-        Layout::VariableBytes { .. } => {
-            let amount = counts.amount + content(value).len();
-            if amount > MAX_DATA {
-                return None;
-            }
-            Some(amount as u64)
-        }
-        Layout::Lists | Layout::FixedLists(_) | Layout::Structs | Layout::Indices { .. } => None,
+    if let Layout::Numbers { .. } = layout {
+        return Some(0);
     }
+    most_content(layout, counts, value)
+}
+
+// Whether a value is one of a field's own. It stands by itself, so that numbers of 64 bits are told
+// by few comparisons.
+#[inline(never)]
+fn is_fields_own(field: &Field, value: &Value) -> bool
+    ensures { IsTrue result → IsOwn (out-Field field.now).kind (out-Field field.now).nullable
+        (length (out-Field field.now).children) (out-Value value.now) }
+{
+    field.is_own(value)
 }
 
 // Whether a value is one of a field's own. Numbers of 64 bits, which all are in range, are told by
@@ -64,7 +92,7 @@ fn is_own(field: &Field, value: &Value) -> bool
             let _in_range = *number;
             true
         }
-        _ => field.is_own(value),
+        _ => is_fields_own(field, value),
     }
 }
 
@@ -74,8 +102,9 @@ fn is_own(field: &Field, value: &Value) -> bool
 fn most_with(field: &Field, value: &Value, node: &Node, least: u64) -> Option<u64>
     requires { least < 2 ^ 43 }
     ensures fits { IfSome result (λ most. Fits field.now value.now) }
-    ensures most { (limits : Limits) (layout : Layout) (children : Shape) (values : List Value)
-        → IsNode (IsColumn limits) layout children node.now values
+    ensures most { (known : Numbering) (limits : Limits) (layout : Layout)
+        (children : Shape) (values : List Value)
+        → IsNode (IsColumn known limits) layout children node.now values
         → length values < limits.slots → 14 * (length values + 1) + 25 ≤ least
         → IfSome result (λ most. TakeAtMost limits most (shapes.field layout children bare)
         (λ j. values ++ value.now ∷ [])) }
@@ -98,11 +127,11 @@ pub(crate) fn surely_fit(
     limits: &Limits,
 ) -> bool
     requires { rows < limits.now.slots }
-    ensures fit { (given : ℕ → List Value)
-        → AreColumns limits.now (shape_of fields.now) nodes.now given
+    ensures fit { (known : Numbering) (given : ℕ → List Value)
+        → AreColumns known limits.now (shape_of fields.now) nodes.now given
         → IsTrue result → EachFits Fits fields.now row.now }
-    ensures within { (given : ℕ → List Value)
-        → AreColumns limits.now (shape_of fields.now) nodes.now given
+    ensures within { (known : Numbering) (given : ℕ → List Value)
+        → AreColumns known limits.now (shape_of fields.now) nodes.now given
         → ((j : ℕ) → length (given j) ≡ rows)
         → IsTrue result
         → AreWithin limits.now (shape_of fields.now) (λ j. given j ++ cell j row.now ∷ []) }

@@ -10,9 +10,11 @@ ghost use Rattle.ipc_encode.specs.Buffers.{below, nulls_below};
 ghost use Rattle.ipc_encode.specs.Cells.{cell};
 ghost use Rattle.ipc_encode.specs.Built.{AreNodes, IsNode, HasTaken, IsColumn};
 ghost use Rattle.ipc_encode.specs.Built.{ArePushesRefused};
+ghost use Rattle.ipc_encode.specs.Numbers.{Numbering, told};
 
 use crate::column::{Column, Purpose};
 use crate::fault::PushFault;
+use crate::index::IndexOf;
 use crate::node::Node;
 use ipc_model::{Layout, Limits, Value};
 
@@ -29,51 +31,58 @@ fn nulls_below(layout: Layout) -> u64
 }
 
 // Takes or counts so many nulls in a column.
-fn take_own_nulls(
+fn take_own_nulls<I: IndexOf>(
     column: &mut Column,
     count: u64,
     purpose: Purpose,
     limits: &Limits,
+    indices: &I,
 ) -> Result<(), PushFault>
     ensures taken { (layout : Layout) (values : List Value)
-        → HasTaken purpose limits.now layout values column.old
+        → HasTaken (told (I.IndexOf.index indices.now)) purpose limits.now layout values column.old
         → OnOk result
-        (HasTaken purpose limits.now layout (values ++ replicate count Null) column.new) }
+        (HasTaken (told (I.IndexOf.index indices.now)) purpose limits.now layout
+        (values ++ replicate count Null) column.new) }
     ensures refused { (layout : Layout) (children : Shape) (values : List Value)
-        → HasTaken purpose limits.now layout values column.old
+        → HasTaken (told (I.IndexOf.index indices.now)) purpose limits.now layout values column.old
         → IfErr result (ArePushesRefused limits.now (field layout children bare)
         (λ j. values ++ replicate count Null)) }
-    ensures kept { (limits : Limits) (layout : Layout) (values : List Value)
-        → purpose ≡ Count → IsColumn limits layout values column.old
-        → IsColumn limits layout values column.new }
+    ensures kept { (known : Numbering) (limits : Limits) (layout : Layout) (values : List Value)
+        → purpose ≡ Count → IsColumn known limits layout values column.old
+        → IsColumn known limits layout values column.new }
     ensures memory { purpose ≡ Count
         → IfErr result (λ fault. ¬ (fault ≡ PushFault.OutOfMemory)) }
 {
     for _ in 0..count {
-        column.take(&Value::Null, purpose, limits)?;
+        column.take(&Value::Null, purpose, limits, indices)?;
     }
     Ok(())
 }
 
 // Takes or counts so many nulls in a column, and those that they give to its children.
 #[cycle(take_null)]
-fn take_null(
+fn take_null<I: IndexOf>(
     node: &mut Node,
     count: u64,
     purpose: Purpose,
     limits: &Limits,
+    indices: &I,
 ) -> Result<(), PushFault>
     ensures taken { (layout : Layout) (children : Shape) (values : List Value)
-        → IsNode (HasTaken purpose limits.now) layout children node.old values
-        → OnOk result (IsNode (HasTaken purpose limits.now) layout children node.new
+        → IsNode (HasTaken (told (I.IndexOf.index indices.now)) purpose limits.now)
+        layout children node.old values
+        → OnOk result (IsNode (HasTaken (told (I.IndexOf.index indices.now)) purpose limits.now)
+        layout children node.new
         (values ++ replicate count Null)) }
     ensures refused { (layout : Layout) (children : Shape) (values : List Value)
-        → IsNode (HasTaken purpose limits.now) layout children node.old values
+        → IsNode (HasTaken (told (I.IndexOf.index indices.now)) purpose limits.now)
+        layout children node.old values
         → IfErr result (ArePushesRefused limits.now (field layout children bare)
         (λ j. values ++ replicate count Null)) }
-    ensures kept { (limits : Limits) (layout : Layout) (children : Shape) (values : List Value)
-        → purpose ≡ Count → IsNode (IsColumn limits) layout children node.old values
-        → IsNode (IsColumn limits) layout children node.new values }
+    ensures kept { (known : Numbering) (limits : Limits) (layout : Layout)
+        (children : Shape) (values : List Value)
+        → purpose ≡ Count → IsNode (IsColumn known limits) layout children node.old values
+        → IsNode (IsColumn known limits) layout children node.new values }
     ensures memory { purpose ≡ Count
         → IfErr result (λ fault. ¬ (fault ≡ PushFault.OutOfMemory)) }
 {
@@ -81,34 +90,39 @@ fn take_null(
         return Err(PushFault::TooMany);
     }
     let below = count * nulls_below(node.column.layout);
-    take_nulls(&mut node.children, below, purpose, limits)?;
-    take_own_nulls(&mut node.column, count, purpose, limits)
+    take_nulls(&mut node.children, below, purpose, limits, indices)?;
+    take_own_nulls(&mut node.column, count, purpose, limits, indices)
 }
 
 // The same in each column.
 #[cycle(take_null)]
-fn take_nulls(
+fn take_nulls<I: IndexOf>(
     nodes: &mut [Node],
     count: u64,
     purpose: Purpose,
     limits: &Limits,
+    indices: &I,
 ) -> Result<(), PushFault>
     ensures taken { (shape : Shape) (given : ℕ → List Value)
-        → AreNodes (HasTaken purpose limits.now) shape nodes.old given
-        → OnOk result (AreNodes (HasTaken purpose limits.now) shape nodes.new
+        → AreNodes (HasTaken (told (I.IndexOf.index indices.now)) purpose limits.now)
+        shape nodes.old given
+        → OnOk result (AreNodes (HasTaken (told (I.IndexOf.index indices.now)) purpose limits.now)
+        shape nodes.new
         (λ j. given j ++ replicate count Null)) }
     ensures refused { (shape : Shape) (given : ℕ → List Value)
-        → AreNodes (HasTaken purpose limits.now) shape nodes.old given
+        → AreNodes (HasTaken (told (I.IndexOf.index indices.now)) purpose limits.now)
+        shape nodes.old given
         → IfErr result
         (ArePushesRefused limits.now shape (λ j. given j ++ replicate count Null)) }
-    ensures kept { (limits : Limits) (shape : Shape) (given : ℕ → List Value) → purpose ≡ Count
-        → AreNodes (IsColumn limits) shape nodes.old given
-        → AreNodes (IsColumn limits) shape nodes.new given }
+    ensures kept { (known : Numbering) (limits : Limits) (shape : Shape)
+        (given : ℕ → List Value) → purpose ≡ Count
+        → AreNodes (IsColumn known limits) shape nodes.old given
+        → AreNodes (IsColumn known limits) shape nodes.new given }
     ensures memory { purpose ≡ Count
         → IfErr result (λ fault. ¬ (fault ≡ PushFault.OutOfMemory)) }
 {
     for i in 0..nodes.len() {
-        take_null(&mut nodes[i], count, purpose, limits)?;
+        take_null(&mut nodes[i], count, purpose, limits, indices)?;
     }
     Ok(())
 }
@@ -119,51 +133,61 @@ fn take_nulls(
 /// Refused as `Column::take`, whichever column refuses it.
 #[cycle(take)]
 #[inline(always)]
-pub(crate) fn take(
+pub(crate) fn take<I: IndexOf>(
     value: &Value,
     node: &mut Node,
     purpose: Purpose,
     limits: &Limits,
+    indices: &I,
 ) -> Result<(), PushFault>
     ensures taken { (layout : Layout) (children : Shape) (values : List Value)
-        → IsNode (HasTaken purpose limits.now) layout children node.old values
-        → OnOk result (IsNode (HasTaken purpose limits.now) layout children node.new
+        → IsNode (HasTaken (told (I.IndexOf.index indices.now)) purpose limits.now)
+        layout children node.old values
+        → OnOk result (IsNode (HasTaken (told (I.IndexOf.index indices.now)) purpose limits.now)
+        layout children node.new
         (values ++ value.now ∷ [])) }
     ensures refused { (layout : Layout) (children : Shape) (values : List Value)
-        → IsNode (HasTaken purpose limits.now) layout children node.old values
+        → IsNode (HasTaken (told (I.IndexOf.index indices.now)) purpose limits.now)
+        layout children node.old values
         → IfErr result (ArePushesRefused limits.now (field layout children bare)
         (λ j. values ++ value.now ∷ [])) }
-    ensures kept { (limits : Limits) (layout : Layout) (children : Shape) (values : List Value)
-        → purpose ≡ Count → IsNode (IsColumn limits) layout children node.old values
-        → IsNode (IsColumn limits) layout children node.new values }
+    ensures kept { (known : Numbering) (limits : Limits) (layout : Layout)
+        (children : Shape) (values : List Value)
+        → purpose ≡ Count → IsNode (IsColumn known limits) layout children node.old values
+        → IsNode (IsColumn known limits) layout children node.new values }
     ensures memory { purpose ≡ Count
         → IfErr result (λ fault. ¬ (fault ≡ PushFault.OutOfMemory)) }
 {
     if node.children.is_empty() {
-        return node.column.take(value, purpose, limits);
+        return node.column.take(value, purpose, limits, indices);
     }
-    take_deep(value, node, purpose, limits)
+    take_deep(value, node, purpose, limits, indices)
 }
 
 // The same of a column with children: theirs first.
 #[cycle(take)]
-fn take_deep(
+fn take_deep<I: IndexOf>(
     value: &Value,
     node: &mut Node,
     purpose: Purpose,
     limits: &Limits,
+    indices: &I,
 ) -> Result<(), PushFault>
     ensures taken { (layout : Layout) (children : Shape) (values : List Value)
-        → IsNode (HasTaken purpose limits.now) layout children node.old values
-        → OnOk result (IsNode (HasTaken purpose limits.now) layout children node.new
+        → IsNode (HasTaken (told (I.IndexOf.index indices.now)) purpose limits.now)
+        layout children node.old values
+        → OnOk result (IsNode (HasTaken (told (I.IndexOf.index indices.now)) purpose limits.now)
+        layout children node.new
         (values ++ value.now ∷ [])) }
     ensures refused { (layout : Layout) (children : Shape) (values : List Value)
-        → IsNode (HasTaken purpose limits.now) layout children node.old values
+        → IsNode (HasTaken (told (I.IndexOf.index indices.now)) purpose limits.now)
+        layout children node.old values
         → IfErr result (ArePushesRefused limits.now (field layout children bare)
         (λ j. values ++ value.now ∷ [])) }
-    ensures kept { (limits : Limits) (layout : Layout) (children : Shape) (values : List Value)
-        → purpose ≡ Count → IsNode (IsColumn limits) layout children node.old values
-        → IsNode (IsColumn limits) layout children node.new values }
+    ensures kept { (known : Numbering) (limits : Limits) (layout : Layout)
+        (children : Shape) (values : List Value)
+        → purpose ≡ Count → IsNode (IsColumn known limits) layout children node.old values
+        → IsNode (IsColumn known limits) layout children node.new values }
     ensures memory { purpose ≡ Count
         → IfErr result (λ fault. ¬ (fault ≡ PushFault.OutOfMemory)) }
 {
@@ -173,45 +197,51 @@ fn take_deep(
         &mut node.children,
         purpose,
         limits,
+        indices,
     )?;
-    node.column.take(value, purpose, limits)
+    node.column.take(value, purpose, limits, indices)
 }
 
 // What a value of a column of this layout gives to the columns below it.
 #[cycle(take)]
-fn take_below(
+fn take_below<I: IndexOf>(
     value: &Value,
     layout: Layout,
     nodes: &mut [Node],
     purpose: Purpose,
     limits: &Limits,
+    indices: &I,
 ) -> Result<(), PushFault>
     ensures taken { (shape : Shape) (values : List Value)
-        → AreNodes (HasTaken purpose limits.now) shape nodes.old (below layout values)
-        → OnOk result (AreNodes (HasTaken purpose limits.now) shape nodes.new
+        → AreNodes (HasTaken (told (I.IndexOf.index indices.now)) purpose limits.now)
+        shape nodes.old (below layout values)
+        → OnOk result (AreNodes (HasTaken (told (I.IndexOf.index indices.now)) purpose limits.now)
+        shape nodes.new
         (below layout (values ++ value.now ∷ []))) }
     ensures refused { (shape : Shape) (values : List Value)
-        → AreNodes (HasTaken purpose limits.now) shape nodes.old (below layout values)
+        → AreNodes (HasTaken (told (I.IndexOf.index indices.now)) purpose limits.now)
+        shape nodes.old (below layout values)
         → IfErr result
         (ArePushesRefused limits.now shape (below layout (values ++ value.now ∷ []))) }
-    ensures kept { (limits : Limits) (shape : Shape) (given : ℕ → List Value) → purpose ≡ Count
-        → AreNodes (IsColumn limits) shape nodes.old given
-        → AreNodes (IsColumn limits) shape nodes.new given }
+    ensures kept { (known : Numbering) (limits : Limits) (shape : Shape)
+        (given : ℕ → List Value) → purpose ≡ Count
+        → AreNodes (IsColumn known limits) shape nodes.old given
+        → AreNodes (IsColumn known limits) shape nodes.new given }
     ensures memory { purpose ≡ Count
         → IfErr result (λ fault. ¬ (fault ≡ PushFault.OutOfMemory)) }
 {
     match layout {
         Layout::Lists => match value {
-            Value::List(items) => take_items(items.as_slice(), nodes, purpose, limits),
+            Value::List(items) => take_items(items.as_slice(), nodes, purpose, limits, indices),
             _ => Ok(()),
         },
         Layout::FixedLists(size) => match value {
-            Value::List(items) => take_items(items.as_slice(), nodes, purpose, limits),
-            _ => take_nulls(nodes, size as u64, purpose, limits),
+            Value::List(items) => take_items(items.as_slice(), nodes, purpose, limits, indices),
+            _ => take_nulls(nodes, size as u64, purpose, limits, indices),
         },
         Layout::Structs => match value {
-            Value::Struct(parts) => take_parts(parts.as_slice(), nodes, purpose, limits),
-            _ => take_nulls(nodes, 1, purpose, limits),
+            Value::Struct(parts) => take_parts(parts.as_slice(), nodes, purpose, limits, indices),
+            _ => take_nulls(nodes, 1, purpose, limits, indices),
         },
         _ => Ok(()),
     }
@@ -219,55 +249,65 @@ fn take_below(
 
 // Takes or counts all items in each column: a list has one child.
 #[cycle(take)]
-fn take_items(
+fn take_items<I: IndexOf>(
     items: &[Value],
     nodes: &mut [Node],
     purpose: Purpose,
     limits: &Limits,
+    indices: &I,
 ) -> Result<(), PushFault>
     ensures taken { (shape : Shape) (given : ℕ → List Value)
-        → AreNodes (HasTaken purpose limits.now) shape nodes.old given
-        → OnOk result (AreNodes (HasTaken purpose limits.now) shape nodes.new
+        → AreNodes (HasTaken (told (I.IndexOf.index indices.now)) purpose limits.now)
+        shape nodes.old given
+        → OnOk result (AreNodes (HasTaken (told (I.IndexOf.index indices.now)) purpose limits.now)
+        shape nodes.new
         (λ j. given j ++ items.now)) }
     ensures refused { (shape : Shape) (given : ℕ → List Value)
-        → AreNodes (HasTaken purpose limits.now) shape nodes.old given
+        → AreNodes (HasTaken (told (I.IndexOf.index indices.now)) purpose limits.now)
+        shape nodes.old given
         → IfErr result (ArePushesRefused limits.now shape (λ j. given j ++ items.now)) }
-    ensures kept { (limits : Limits) (shape : Shape) (given : ℕ → List Value) → purpose ≡ Count
-        → AreNodes (IsColumn limits) shape nodes.old given
-        → AreNodes (IsColumn limits) shape nodes.new given }
+    ensures kept { (known : Numbering) (limits : Limits) (shape : Shape)
+        (given : ℕ → List Value) → purpose ≡ Count
+        → AreNodes (IsColumn known limits) shape nodes.old given
+        → AreNodes (IsColumn known limits) shape nodes.new given }
     ensures memory { purpose ≡ Count
         → IfErr result (λ fault. ¬ (fault ≡ PushFault.OutOfMemory)) }
 {
     for i in 0..nodes.len() {
-        take_all(items, &mut nodes[i], purpose, limits)?;
+        take_all(items, &mut nodes[i], purpose, limits, indices)?;
     }
     Ok(())
 }
 
 // Takes or counts values, one after another, in one column.
 #[cycle(take)]
-fn take_all(
+fn take_all<I: IndexOf>(
     values: &[Value],
     node: &mut Node,
     purpose: Purpose,
     limits: &Limits,
+    indices: &I,
 ) -> Result<(), PushFault>
     ensures taken { (layout : Layout) (children : Shape) (before : List Value)
-        → IsNode (HasTaken purpose limits.now) layout children node.old before
-        → OnOk result (IsNode (HasTaken purpose limits.now) layout children node.new
+        → IsNode (HasTaken (told (I.IndexOf.index indices.now)) purpose limits.now)
+        layout children node.old before
+        → OnOk result (IsNode (HasTaken (told (I.IndexOf.index indices.now)) purpose limits.now)
+        layout children node.new
         (before ++ values.now)) }
     ensures refused { (layout : Layout) (children : Shape) (before : List Value)
-        → IsNode (HasTaken purpose limits.now) layout children node.old before
+        → IsNode (HasTaken (told (I.IndexOf.index indices.now)) purpose limits.now)
+        layout children node.old before
         → IfErr result (ArePushesRefused limits.now (field layout children bare)
         (λ j. before ++ values.now)) }
-    ensures kept { (limits : Limits) (layout : Layout) (children : Shape) (before : List Value)
-        → purpose ≡ Count → IsNode (IsColumn limits) layout children node.old before
-        → IsNode (IsColumn limits) layout children node.new before }
+    ensures kept { (known : Numbering) (limits : Limits) (layout : Layout)
+        (children : Shape) (before : List Value)
+        → purpose ≡ Count → IsNode (IsColumn known limits) layout children node.old before
+        → IsNode (IsColumn known limits) layout children node.new before }
     ensures memory { purpose ≡ Count
         → IfErr result (λ fault. ¬ (fault ≡ PushFault.OutOfMemory)) }
 {
     for value in values {
-        take(value, node, purpose, limits)?;
+        take(value, node, purpose, limits, indices)?;
     }
     Ok(())
 }
@@ -276,30 +316,35 @@ fn take_all(
 ///
 /// Refused as `take`.
 #[cycle(take)]
-pub(crate) fn take_parts(
+pub(crate) fn take_parts<I: IndexOf>(
     parts: &[Value],
     nodes: &mut [Node],
     purpose: Purpose,
     limits: &Limits,
+    indices: &I,
 ) -> Result<(), PushFault>
     ensures taken { (shape : Shape) (given : ℕ → List Value)
-        → AreNodes (HasTaken purpose limits.now) shape nodes.old given
-        → OnOk result (AreNodes (HasTaken purpose limits.now) shape nodes.new
+        → AreNodes (HasTaken (told (I.IndexOf.index indices.now)) purpose limits.now)
+        shape nodes.old given
+        → OnOk result (AreNodes (HasTaken (told (I.IndexOf.index indices.now)) purpose limits.now)
+        shape nodes.new
         (λ j. given j ++ cell j parts.now ∷ [])) }
     ensures refused { (shape : Shape) (given : ℕ → List Value)
-        → AreNodes (HasTaken purpose limits.now) shape nodes.old given
+        → AreNodes (HasTaken (told (I.IndexOf.index indices.now)) purpose limits.now)
+        shape nodes.old given
         → IfErr result
         (ArePushesRefused limits.now shape (λ j. given j ++ cell j parts.now ∷ [])) }
-    ensures kept { (limits : Limits) (shape : Shape) (given : ℕ → List Value) → purpose ≡ Count
-        → AreNodes (IsColumn limits) shape nodes.old given
-        → AreNodes (IsColumn limits) shape nodes.new given }
+    ensures kept { (known : Numbering) (limits : Limits) (shape : Shape)
+        (given : ℕ → List Value) → purpose ≡ Count
+        → AreNodes (IsColumn known limits) shape nodes.old given
+        → AreNodes (IsColumn known limits) shape nodes.new given }
     ensures memory { purpose ≡ Count
         → IfErr result (λ fault. ¬ (fault ≡ PushFault.OutOfMemory)) }
 {
     for i in 0..nodes.len() {
         match parts.get(i) {
-            Some(part) => take(part, &mut nodes[i], purpose, limits)?,
-            None => take_null(&mut nodes[i], 1, purpose, limits)?,
+            Some(part) => take(part, &mut nodes[i], purpose, limits, indices)?,
+            None => take_null(&mut nodes[i], 1, purpose, limits, indices)?,
         }
     }
     Ok(())

@@ -13,7 +13,7 @@ use Rattle.ipc_model.specs.declared.schema.Schema.{Schema}
 use Rattle.ipc_model.specs.declared.table.BatchRows.{BatchRows}
 use Rattle.ipc_model.specs.declared.value.Value.{Value}
 use Rattle.ipc_stream.specs.Pushed.{RefusesHeld, StaysAt, no_rows}
-use Rattle.ipc_decode.specs.Stream.{Event, Run, batch, schema, AddsBatch}
+use Rattle.ipc_decode.specs.Stream.{begun, Event, Run, batch, schema, AddsBatch}
 use Rattle.ipc_stream.specs.Writer.{Leaves, Writer}
 use Rattle.ipc_stream.specs.Writing.{AcceptsBatch, AddsNext, BreaksOff, IsBatchTooLong, NotSentWhole, RefusesBatch, RefusesFirst}
 use Rattle.ipc_stream.specs.Writing.{long_columns, long_metadata, other_pairs}
@@ -112,9 +112,9 @@ batch_breaks s batches old failures writer new b fault out refuses unsent =
         subst (AllByRecursion (AcceptsBatch writer.limits s)) (sym (take-append_seam batches (b ∷ []))) out.accepts,
       );
       refuses = subst (λ l. RefusesFirst writer.limits s l fault) next refuses;
-      state = Some (record { schema = s });
+      state = Some (begun s);
       x = out.sent.x;
-      run = subst (λ (es : List Event). Run writer.limits None out.sent.x (schema s ∷ es) (Some (record { schema = s })))
+      run = subst (λ (es : List Event). Run writer.limits None out.sent.x (schema s ∷ es) (Some (begun s)))
           (sym (take_events batches (b ∷ []))) out.sent.whole;
       between = writer.written;
       bytes = out.sent.bytes;
@@ -148,7 +148,7 @@ module _ {R : Type 0} (remaining : R → Option (List ℕ)) (input : Option (Lis
       };
       sent = record {
         x = came.out.sent.x;
-        whole = (Some (record { schema = s }), came.out.sent.whole);
+        whole = (Some (begun s), came.out.sent.whole);
         bytes = came.out.sent.bytes;
         worked = came.out.sent.worked;
         works = came.out.sent.works;

@@ -17,7 +17,7 @@ use Rattle.ipc_model.specs.declared.table.BatchRows.{BatchRows}
 use Rattle.ipc_model.specs.declared.value.Value.{Value}
 use Rattle.ipc_stream.specs.declared.pushed.PushedRows.{PushedRows}
 use Rattle.ipc_stream.specs.Pushed.{HoldsBatch}
-use Rattle.ipc_decode.specs.Stream.{Event, Run, batch, done, schema, AddsBatch, EndsStream}
+use Rattle.ipc_decode.specs.Stream.{begun, Event, Run, batch, done, schema, AddsBatch, EndsStream}
 use Rattle.ipc_stream.specs.Writer.{Finishes, FinishFails, Leaves, StartFails, Writer}
 use Rattle.ipc_stream.specs.Writing.{AcceptsBatch, AddsNext, BreaksOff, CutShort, NotSentWhole, RefusesBatch}
 use Rattle.ipc_stream.specs.Writing.{RefusesFirst}
@@ -142,7 +142,7 @@ module _ (input : Option (List ℕ)) (s : Schema) (size : ℕ) (old : Option (Li
       whole = (
         sends.out.sent.x,
         ap (λ y. sends.out.sent.x ++ y) finishes.sent.whole,
-        (Some (record { schema = s }), sends.out.sent.whole),
+        (Some (begun s), sends.out.sent.whole),
       );
       bytes = Appends-trans old writer.written new sends.out.sent.x finishes.sent.x sends.out.sent.bytes finishes.sent.bytes;
       worked = sends.out.sent.worked;
@@ -162,9 +162,9 @@ module _ (input : Option (List ℕ)) (s : Schema) (size : ℕ) (old : Option (Li
           subst (AllByRecursion (AcceptsBatch writer.limits s)) (sym (take-length batches)) sends.out.accepts,
         );
         refuses = subst (λ l. RefusesFirst writer.limits s l w.Write) none refl;
-        state = Some (record { schema = s });
+        state = Some (begun s);
         x = sends.out.sent.x;
-        run = subst (λ (es : List Event). Run writer.limits None sends.out.sent.x (schema s ∷ es) (Some (record { schema = s })))
+        run = subst (λ (es : List Event). Run writer.limits None sends.out.sent.x (schema s ∷ es) (Some (begun s)))
             (sym (ap (λ bs. take (length batches) (map batch bs)) (sym (append-nil batches)) ∙ take_events batches []))
             sends.out.sent.whole;
         between = writer.written;

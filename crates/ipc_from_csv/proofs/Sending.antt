@@ -10,7 +10,7 @@ use Rattle.ipc_model.specs.declared.schema.Field.{Field}
 use Rattle.ipc_model.specs.declared.schema.Schema.{Schema}
 use Rattle.ipc_model.specs.declared.table.BatchRows.{BatchRows}
 use Rattle.ipc_model.specs.declared.value.Value.{Value}
-use Rattle.ipc_decode.specs.Stream.{Event, Run, batch, schema, AddsBatch, OpensStream}
+use Rattle.ipc_decode.specs.Stream.{begun, Event, Run, batch, schema, AddsBatch, OpensStream}
 use Rattle.ipc_stream.specs.Writer.{Leaves, Starts, Writer}
 use Rattle.ipc_stream.specs.Writing.{AcceptsBatch, AcceptsSchema, Sent}
 use Rattle.ipc_decode.proofs.Runs.{run_then}
@@ -64,11 +64,11 @@ starts_out s old failures writer standard starts = record {
 module _ (s : Schema) (batches : List BatchRows) (old : Option (List ℕ)) (failures : ℕ) (writer new : Writer)
     (out : IsOut s batches old failures writer) (b : BatchRows) where
   sent_more : Sent (AddsBatch writer.limits s b) writer.written new.written writer.failures new.failures
-      → Sent (λ x. Run writer.limits None x (schema s ∷ map batch (batches ++ b ∷ [])) (Some (record { schema = s }))) old new.written
+      → Sent (λ x. Run writer.limits None x (schema s ∷ map batch (batches ++ b ∷ [])) (Some (begun s))) old new.written
       failures new.failures
   sent_more sent = record {
     x = out.sent.x ++ sent.x;
-    whole = subst (λ (es : List Event). Run writer.limits None (out.sent.x ++ sent.x) (schema s ∷ es) (Some (record { schema = s })))
+    whole = subst (λ (es : List Event). Run writer.limits None (out.sent.x ++ sent.x) (schema s ∷ es) (Some (begun s)))
         (sym (map-append batch batches (b ∷ []))) (run_then _ _ _ out.sent.x sent.x _ _ out.sent.whole sent.whole);
     bytes = Appends-trans old writer.written new.written out.sent.x sent.x out.sent.bytes sent.bytes;
     worked = out.sent.worked;
@@ -87,7 +87,7 @@ module _ (s : Schema) (batches : List BatchRows) (old : Option (List ℕ)) (fail
         standard = subst IsStandard (sym same_limits) out.standard;
         same_schema = same_schema ∙ out.same_schema;
         works = works;
-        sent = subst (λ l. Sent (λ x. Run l None x (schema s ∷ map batch (batches ++ b ∷ [])) (Some (record { schema = s }))) old
+        sent = subst (λ l. Sent (λ x. Run l None x (schema s ∷ map batch (batches ++ b ∷ [])) (Some (begun s))) old
             new.written failures new.failures) (sym same_limits) (sent_more first);
         accepts_schema = subst (λ l. AcceptsSchema l s) (sym same_limits) out.accepts_schema;
         accepts = subst (λ l. AllByRecursion (AcceptsBatch l s) (batches ++ b ∷ [])) (sym same_limits)

@@ -9,7 +9,7 @@ use Rattle.ipc_model.specs.declared.value.Value.{Value}
 use Rattle.ipc_moments.specs.declared.fault.TextFault.TheVariants.{OutOfMemory}
 use Rattle.ipc_stream.specs.declared.pushed.PushedRows.{PushedRows}
 use Rattle.ipc_stream.specs.Pushed.{HoldsBatch}
-use Rattle.ipc_decode.specs.Stream.{Run, batch, schema}
+use Rattle.ipc_decode.specs.Stream.{begun, Run, batch, schema}
 use Rattle.ipc_stream.specs.Writer.{Writer}
 use Rattle.ipc_stream.specs.Writing.{AcceptsBatch, AcceptsSchema, Sent}
 use Rattle.ipc_csv.specs.CsvRows.{IsRecordFault}
@@ -56,7 +56,7 @@ pub record IsOut (s : Schema) (batches : List BatchRows) (old : Option (List ℕ
   pub same_schema : writer.schema ≡ s
   pub works : writer.failed ≡ false
   pub sent : Sent (λ x. Run writer.limits None x (schema s ∷ map batch batches)
-      (Some (record { schema = s }))) old writer.written failures writer.failures
+      (Some (begun s))) old writer.written failures writer.failures
   pub accepts_schema : AcceptsSchema writer.limits s
   pub accepts : AllByRecursion (AcceptsBatch writer.limits s) batches
 

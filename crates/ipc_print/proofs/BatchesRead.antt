@@ -12,12 +12,14 @@ use Rattle.ipc_decode.specs.declared.end.End.{End}
 use Rattle.ipc_decode.specs.declared.phase.Phase.{Phase}
 use Rattle.ipc_decode.specs.declared.phase.Phase.TheVariants.{Reading, Ended, Refused}
 use Rattle.ipc_decode.specs.Failures.{Tells}
-use Rattle.ipc_decode.specs.Reader.{Reader, in_force_of, NextAnswer, NextCall, end_of}
+use Rattle.ipc_decode.specs.Reader.{EndsBehind, LeadsTo, Reader, in_force_of, NextAnswer, NextCall, end_of}
 use Rattle.ipc_decode.specs.Reasons.{Reads}
-use Rattle.ipc_decode.specs.Stream.{InForce, batch, Run, done}
+use Rattle.ipc_decode.specs.Stream.{batch, Run, done}
+use Rattle.ipc_decode.proofs.Readers.{leads_run, ends_reads}
 use Rattle.ipc_decode.proofs.Runs.{run_then, reads_after}
 use Rattle.ipc_print.specs.declared.rows.PrintFault.{PrintFault}
 use Rattle.ipc_model.specs.declared.schema.Field.{Field}
+use Rattle.ipc_model.specs.declared.schema.Schema.{Schema}
 use Rattle.ipc_moments.specs.declared.fault.TextFault.{TextFault}
 use Rattle.ipc_print.specs.declared.form.Form.{Form}
 use Rattle.ipc_print.specs.declared.stop.Outcome.TheVariants.{Whole, Broken, Refused as Lacking}
@@ -31,7 +33,6 @@ use Rattle.ipc_print.proofs.Shown.{all_more}
 use Rattle.ipc_print.proofs.Lines.{put_at, not_at}
 use Rattle.ipc_print.proofs.Texts.{batch_lines_more}
 use Rattle.ipc_print.proofs.BatchesShown.{batch_shown}
-use Rattle.ipc_model.specs.declared.limits.Limits.{Limits}
 use Rattle.std.proofs.Common.{◌+◌, length, inl, arith}
 use Rattle.std.specs.Prelude.{unwrap_or}
 use Rattle.std.proofs.lemmas.List.{length-append}
@@ -47,7 +48,7 @@ pub record Batches (form : Form) (tally : Tally) (old now : Reader) (before afte
   pub x : List ℕ
   pub batches : List BatchRows
   pub bytes : Consumes old.remaining now.remaining x
-  pub run : Run old.limits (Some (in_force_of old)) x (map batch batches) (Some (in_force_of old))
+  pub run : Run old.limits (Some (in_force_of old)) x (map batch batches) (Some (in_force_of now))
   pub reading : now.phase ≡ Reading
   pub same : now.schema ≡ old.schema
   pub same_limits : now.limits ≡ old.limits
@@ -92,59 +93,53 @@ tally_more tally next batches rows (some, few) one all =
     (omega (arith, some, one, long), omega (arith, few, all, sum))
 
 -- what a call that gave a batch says, where the reader was reading
-gave : (limits : Limits) (o : InForce) (p q : Phase) (x : List ℕ) (left : Option (List ℕ)) (found : Found) → p ≡ Reading
-    → NextAnswer limits o p x left (Ok (Some found)) q → (q ≡ Reading) × Run limits (Some o) x (batch (rows_of found) ∷ []) (Some o)
-gave limits o Reading Reading x left found is h = (refl, h)
-gave limits o Reading (Ended e) x left found is h = absurd h
-gave limits o Reading Refused x left found is h = absurd h
-gave limits o (Ended e) q x left found is h = absurd (cc)
-gave limits o Refused q x left found is h = absurd (cc)
+gave : (now new : Reader) (p q : Phase) (x : List ℕ) (found : Found) → p ≡ Reading → NextAnswer now new p x (Ok (Some found)) q
+    → (q ≡ Reading) × LeadsTo now new x (batch (rows_of found))
+gave now new Reading Reading x found is h = (refl, h)
+gave now new Reading (Ended e) x found is h = absurd h
+gave now new Reading Refused x found is h = absurd h
+gave now new (Ended e) q x found is h = absurd (cc)
+gave now new Refused q x found is h = absurd (cc)
 
-ended : (limits : Limits) (o : InForce) (p q : Phase) (x : List ℕ) (left : Option (List ℕ)) → p ≡ Reading
-    → NextAnswer limits o p x left (Ok None) q
-    → (e : End) × (Reads limits (Some o) x left [] (Ok e)) × (q ≡ Ended e)
-ended limits o Reading Reading x left is h = absurd h
-ended limits o Reading (Ended e) x left is h = (e, h, refl)
-ended limits o Reading Refused x left is h = absurd h
-ended limits o (Ended e) q x left is h = absurd (cc)
-ended limits o Refused q x left is h = absurd (cc)
+ended : (now new : Reader) (p q : Phase) (x : List ℕ) → p ≡ Reading → NextAnswer now new p x (Ok None) q
+    → (e : End) × EndsBehind now new x (Ok e) × (q ≡ Ended e)
+ended now new Reading Reading x is h = absurd h
+ended now new Reading (Ended e) x is h = (e, h, refl)
+ended now new Reading Refused x is h = absurd h
+ended now new (Ended e) q x is h = absurd (cc)
+ended now new Refused q x is h = absurd (cc)
 
-broke : (limits : Limits) (o : InForce) (p q : Phase) (x : List ℕ) (left : Option (List ℕ)) (f : Fault) → p ≡ Reading
-    → NextAnswer limits o p x left (Err f) q
-    → Reads limits (Some o) x left [] (Err f)
-broke limits o Reading Reading x left f is h = absurd h
-broke limits o Reading (Ended e) x left f is h = absurd h
-broke limits o Reading Refused x left f is h = h
-broke limits o (Ended e) q x left f is h = absurd (cc)
-broke limits o Refused q x left f is h = absurd (cc)
+broke : (now new : Reader) (p q : Phase) (x : List ℕ) (f : Fault) → p ≡ Reading → NextAnswer now new p x (Err f) q
+    → EndsBehind now new x (Err f)
+broke now new Reading Reading x f is h = absurd h
+broke now new Reading (Ended e) x f is h = absurd h
+broke now new Reading Refused x f is h = h
+broke now new (Ended e) q x f is h = absurd (cc)
+broke now new Refused q x f is h = absurd (cc)
 
 module _ (form : Form) (tally : Tally) (old now new : Reader) (before after : Output) (b : Batches form tally old now before after) where
   abbrev line : List Value → List ℕ
   line = line_of form old.schema.fields
 
-  same_open : in_force_of now ≡ in_force_of old
-  same_open = ap (λ s. record { schema = s }) b.same
-
-  -- the answer, under the limits that the reader was opened with
-  same_answer : (r : Result (Option Found) Fault) (t : NextCall now new r)
-      → NextAnswer old.limits (in_force_of now) now.phase t.x new.remaining r new.phase
-  same_answer r t = subst (λ limits. NextAnswer limits (in_force_of now) now.phase t.x new.remaining r new.phase) b.same_limits t.gives
-
-  -- the batch that came
+  -- the batch that came, under the limits that the reader was opened with
   found_run : (found : Found) → (t : NextCall now new (Ok (Some found)))
-      → (new.phase ≡ Reading) × Run old.limits (Some (in_force_of old)) t.x (batch (rows_of found) ∷ []) (Some (in_force_of old))
+      → (new.phase ≡ Reading) × Run old.limits (Some (in_force_of now)) t.x (batch (rows_of found) ∷ []) (Some (in_force_of new))
   found_run found t =
-      let h = gave old.limits (in_force_of now) now.phase new.phase t.x new.remaining found b.reading (same_answer (Ok (Some found)) t) in
-      (h.0, subst (λ (o : InForce). Run old.limits (Some o) t.x (batch (rows_of found) ∷ []) (Some o)) same_open h.1)
+      let h = gave now new now.phase new.phase t.x found b.reading t.gives in (
+        h.0,
+        subst (λ limits. Run limits (Some (in_force_of now)) t.x (batch (rows_of found) ∷ []) (Some (in_force_of new))) b.same_limits
+            (leads_run now new t.x (batch (rows_of found)) h.1),
+      )
 
   -- the rows of a batch whose columns are all shown have values that are shown
   pub found_shown : (found : Found) → NextCall now new (Ok (Some found)) → AreShownColumns old.schema.fields → AreShownRows found.0.rows
-  found_shown found t columns = batch_shown (in_force_of old) t.x (rows_of found) columns (found_run found t).1
+  found_shown found t columns = batch_shown (in_force_of now) (Some (in_force_of new)) t.x (rows_of found)
+      (subst (λ (s : Schema). AreShownColumns s.fields) (sym b.same) columns) (found_run found t).1
 
   more_run : (found : Found) (t : NextCall now new (Ok (Some found)))
-      → Run old.limits (Some (in_force_of old)) (b.x ++ t.x) (map batch (b.batches ++ rows_of found ∷ [])) (Some (in_force_of old))
+      → Run old.limits (Some (in_force_of old)) (b.x ++ t.x) (map batch (b.batches ++ rows_of found ∷ [])) (Some (in_force_of new))
   more_run found t =
-      subst (λ es. Run old.limits (Some (in_force_of old)) (b.x ++ t.x) es (Some (in_force_of old)))
+      subst (λ es. Run old.limits (Some (in_force_of old)) (b.x ++ t.x) es (Some (in_force_of new)))
       (sym (map-append batch b.batches (rows_of found ∷ [])))
       (run_then _ _ _ b.x t.x (map batch b.batches) (batch (rows_of found) ∷ []) b.run (found_run found t).1)
 
@@ -198,7 +193,7 @@ module _ (form : Form) (tally : Tally) (old now new : Reader) (before after : Ou
           last = rows_of found;
           count = q.0;
           bytes = Consumes-trans old.remaining now.remaining new.remaining b.x t.x b.bytes t.bytes;
-          state = Some (in_force_of old);
+          state = Some (in_force_of new);
           run = more_run found t;
           have = b.have;
           refuses = q.1;
@@ -220,7 +215,7 @@ module _ (form : Form) (tally : Tally) (old now new : Reader) (before after : Ou
         rest = [];
         whole = b.x ++ t.x;
         joined = sym (append-nil (b.x ++ t.x));
-        state = Some (in_force_of old);
+        state = Some (in_force_of new);
         run = more_run found t;
         tail = [];
         ends = inl refl;
@@ -230,15 +225,15 @@ module _ (form : Form) (tally : Tally) (old now new : Reader) (before after : Ou
         works = λ other z. works ∙ (b.counts ∙ z);
       }
 
-  behind : (y : List ℕ) (r : Result End Fault) → Reads old.limits (Some (in_force_of now)) y new.remaining [] r
+  behind : (y : List ℕ) (r : Result End Fault) → EndsBehind now new y r
       → Reads old.limits (Some (in_force_of old)) (b.x ++ y) new.remaining (map batch b.batches) r
   behind y r h =
       subst (λ es. Reads old.limits (Some (in_force_of old)) (b.x ++ y) new.remaining es r) (append-nil (map batch b.batches))
       (reads_after _ _ b.x y new.remaining (map batch b.batches) [] r b.run
-      (subst (λ (o : InForce). Reads old.limits (Some o) y new.remaining [] r) same_open h))
+      (subst (λ limits. Reads limits (Some (in_force_of now)) y new.remaining [] r) b.same_limits (ends_reads now new y r h)))
 
   printed : (y : List ℕ) (r : Result End Fault) → Consumes now.remaining new.remaining y → new.taken ≡ count_up now.taken (length y)
-      → Reads old.limits (Some (in_force_of now)) y new.remaining [] r → PrintsRows form [] old new before after r
+      → EndsBehind now new y r → PrintsRows form [] old new before after r
   printed y r bytes more h = record {
     x = b.x ++ y;
     batches = b.batches;
@@ -257,7 +252,7 @@ module _ (form : Form) (tally : Tally) (old now new : Reader) (before after : Ou
       → e ≡ unwrap_or end Closed → PrintsBatches form [] old new before after (Ok (Whole e tally))
   unfolding printed
   batches_end end e t works found is =
-      let h = ended old.limits (in_force_of now) now.phase new.phase t.x new.remaining b.reading (same_answer (Ok None) t) in
+      let h = ended now new now.phase new.phase t.x b.reading t.gives in
       let same : e ≡ h.0 =
       is ∙ (ap (λ (o : Option End). unwrap_or o Closed) found ∙ ap (λ (q : Phase). unwrap_or (end_of q) Closed) h.2) in
       subst (λ (e : End). PrintsBatches form [] old new before after (Ok (Whole e tally))) (sym same)
@@ -267,8 +262,6 @@ module _ (form : Form) (tally : Tally) (old now new : Reader) (before after : Ou
   pub batches_break : (f : Fault) → NextCall now new (Err f) → Tells now.failures new.failures f
       → PrintsBatches form [] old new before after (Ok (Broken f))
   batches_break f t tells = (
-    printed t.x (Err f) t.bytes t.counted
-        (broke old.limits (in_force_of now) now.phase new.phase t.x new.remaining f b.reading (same_answer (Err f)
-        t)),
+    printed t.x (Err f) t.bytes t.counted (broke now new now.phase new.phase t.x f b.reading t.gives),
     record { failed = tells.failed; stayed = λ other. tells.stayed other ∙ b.counts },
   )

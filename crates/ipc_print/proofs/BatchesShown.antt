@@ -1,7 +1,7 @@
 -- A column of signed 64-bit numbers gives numbers and nulls.
 use Rattle.ipc_model.specs.declared.table.BatchRows.{BatchRows}
-use Rattle.std.proofs.Common.{◌≡◌, ◌∙◌, refl, sym, ap, subst, ℕ, suc, ◌*◌, ◌<◌, List, [], ◌∷◌, ◌++◌, length, map, Bool, true}
-use Rattle.std.proofs.Common.{false, Option, Some, arith}
+use Rattle.std.proofs.Common.{◌≡◌, ◌∙◌, sym, ap, subst, ℕ, suc, ◌*◌, ◌<◌, List, [], ◌∷◌, ◌++◌, length, map, Bool, true}
+use Rattle.std.proofs.Common.{false, Option, Some, None, arith}
 use Rattle.std.specs.Prelude.{slice_index_or, if◌then◌else◌, ⊤}
 use Rattle.std.specs.List.{AllByRecursion}
 use Rattle.ipc_model.specs.declared.schema.Field.{Field, out-Field, fold_out-Field}
@@ -16,11 +16,12 @@ use Rattle.ipc_meta.specs.declared.head.Head.{Head}
 use Rattle.ipc_model.specs.declared.layout.Layout.{Layout}
 use Rattle.ipc_model.specs.declared.layout.Layout.TheVariants.{Numbers}
 use Rattle.ipc_column.specs.Columns.{Column}
+use Rattle.ipc_column.specs.Dictionaries.{Dictionaries}
 use Rattle.ipc_model.specs.Layouts.{layout, number_bytes}
 use Rattle.ipc_column.specs.Shapes.{Shape, shapes, field_shape, field_step, cut, column_at}
 use Rattle.ipc_column.specs.Values.{is_valid, own_value, value_of, signed_at, row}
 use Rattle.ipc_column.specs.Rows.{Rows}
-use Rattle.ipc_decode.specs.Stream.{State, Event, InForce, schema, batch, Step, first, came, Run, done, more}
+use Rattle.ipc_decode.specs.Stream.{State, Event, InForce, schema, batch, values_in, Step, first, came, sets, Run, done, more}
 use Rattle.ipc_print.specs.Columns.{AreShownColumns, IsShownColumn}
 use Rattle.ipc_print.specs.Rows.{AreShownRows, IsShown}
 use Rattle.ipc_print.proofs.Shown.{null_shown, int_shown}
@@ -42,52 +43,55 @@ column_shown below c i is = elim (is_valid c.validity i) as
       | false ↦ null_shown
     ]
 
-row_shown : (fs : List Field) (h : BatchHead) (body : List ℕ) (n b i : ℕ) → AreShownColumns fs
-    → AllByRecursion IsShown (row (cut [] (shapes (map field_shape fs)) h body n b) i)
+row_shown : (m : Dictionaries) (fs : List Field) (h : BatchHead) (body : List ℕ) (n b i : ℕ) → AreShownColumns fs
+    → AllByRecursion IsShown (row (cut m (shapes (map field_shape fs)) h body n b) i)
 unfolding cut
-row_shown [] h body n b i all = tt
-row_shown (f ∷ fs) h body n b i all =
-    (column_shown _ (column_at [] (field_shape f).0 h body n b) i (shape_is f all.0), row_shown fs h body _ _ i all.1)
+row_shown m [] h body n b i all = tt
+row_shown m (f ∷ fs) h body n b i all =
+    (column_shown _ (column_at m (field_shape f).0 h body n b) i (shape_is f all.0), row_shown m fs h body _ _ i all.1)
 
 by_index : {X : Type 0} (P : X → Type 0) (xs : List X) (d : X) → ((i : ℕ) → i < length xs → P (slice_index_or xs i d)) → AllByRecursion P xs
 by_index P [] d all = tt
 by_index P (x ∷ xs) d all = (all 0 (omega arith), by_index P xs d (λ i h. all (suc i) (omega (arith, h))))
 
-rows_shown : {limits : Limits} → (fs : List Field) (h : BatchHead) (body : List ℕ) (rows : List (List Value)) → AreShownColumns fs
-    → Rows limits [] fs h body rows
+rows_shown : {limits : Limits} → (m : Dictionaries) (fs : List Field) (h : BatchHead) (body : List ℕ) (rows : List (List Value))
+    → AreShownColumns fs → Rows limits m fs h body rows
     → AreShownRows rows
-rows_shown fs h body rows all r =
+rows_shown m fs h body rows all r =
     by_index (AllByRecursion IsShown) rows []
-    (λ i inside. subst (AllByRecursion IsShown) (sym (r.values i inside)) (row_shown fs h body 0 0 i all))
+    (λ i inside. subst (AllByRecursion IsShown) (sym (r.values i inside)) (row_shown m fs h body 0 0 i all))
 
 -- what an event says
 abbrev pub IsShownEvent : Event → Type 0
 IsShownEvent (schema s) = ⊤
 IsShownEvent (batch b) = AreShownRows b.rows
 
-step_shown : {limits : Limits} → (σ τ : State) (h : Head) (body : List ℕ) (es : List Event) (o : InForce)
-    → AreShownColumns o.schema.fields → σ ≡ Some o
-    → Step limits σ h body es τ → AllByRecursion IsShownEvent es × (τ ≡ Some o)
-step_shown {limits} σ τ h body es o all is first = absurd (cc)
-step_shown {limits} σ τ h body es o all is (came {o = p} {b = b} {body = c} {rows = rows} r) =
-    let same : p ≡ o = cc in
-    ((rows_shown o.schema.fields b c rows all (subst (λ (q : InForce). Rows limits [] q.schema.fields b c rows) same r), tt), is)
+-- the columns of the schema in force are all shown
+abbrev IsShownState : State → Type 0
+IsShownState None = ⊥
+IsShownState (Some o) = AreShownColumns o.schema.fields
+
+step_shown : {limits : Limits} → {σ τ : State} {h : Head} {body : List ℕ} {es : List Event} → Step limits σ h body es τ
+    → IsShownState σ
+    → AllByRecursion IsShownEvent es × IsShownState τ
+step_shown first all = absurd all
+step_shown (came {o = o} {b = b} {body = body} {rows = rows} r) all =
+    ((rows_shown (values_in o.dictionaries) o.schema.fields b body rows all r, tt), all)
+step_shown (sets found r) all = (tt, all)
 
 append_shown : (es fs : List Event) → AllByRecursion IsShownEvent es → AllByRecursion IsShownEvent fs
     → AllByRecursion IsShownEvent (es ++ fs)
 append_shown [] fs a b = b
 append_shown (e ∷ es) fs a b = (a.0, append_shown es fs a.1 b)
 
-run_shown : {limits : Limits} → (σ τ : State) (x : List ℕ) (es : List Event) (o : InForce) → AreShownColumns o.schema.fields → σ ≡ Some o
-    → Run limits σ x es τ
+run_shown : {limits : Limits} → {σ τ : State} {x : List ℕ} {es : List Event} → Run limits σ x es τ → IsShownState σ
     → AllByRecursion IsShownEvent es
-run_shown σ τ x es o all is done = tt
-run_shown σ τ x es o all is (more {σ = a} {τ = b} {υ = c} {x = u} {metadata = m} {body = d} {y = v} {h = h} {es = ds}
-    {fs = gs} frame step rest) =
-    let s = step_shown a b h d ds o all is step in
-    append_shown ds gs s.0 (run_shown b c v gs o all s.1 rest)
+run_shown done all = tt
+run_shown (more {es = ds} {fs = gs} frame step rest) all =
+    let s = step_shown step all in
+    append_shown ds gs s.0 (run_shown rest s.1)
 
 -- what a run of one batch says of its rows
-pub batch_shown : {limits : Limits} → (o : InForce) (x : List ℕ) (b : BatchRows) → AreShownColumns o.schema.fields
-    → Run limits (Some o) x (batch b ∷ []) (Some o) → AreShownRows b.rows
-batch_shown o x b all run = (run_shown (Some o) (Some o) x (batch b ∷ []) o all refl run).0
+pub batch_shown : {limits : Limits} → (o : InForce) (τ : State) (x : List ℕ) (b : BatchRows) → AreShownColumns o.schema.fields
+    → Run limits (Some o) x (batch b ∷ []) τ → AreShownRows b.rows
+batch_shown o τ x b all run = (run_shown run all).0

@@ -1,10 +1,10 @@
 -- Batches that are read and sent.
-use Rattle.std.proofs.Common.{◌≡◌, ◌∙◌, refl, sym, ap, subst, ℕ, ◌+◌, List, [], ◌∷◌, ◌++◌, length, map, Option, Some, None, Result, Ok}
-use Rattle.std.proofs.Common.{Err, append-nil, arith, false}
+use Rattle.std.proofs.Common.{◌≡◌, ◌∙◌, refl, sym, ap, subst, ℕ, suc, ◌+◌, List, [], ◌∷◌, ◌++◌, map, Option, Some, None, Result, Ok}
+use Rattle.std.proofs.Common.{Err, append-nil, append_assoc, arith, false}
 use Rattle.std.specs.List.{AllByRecursion}
 use Rattle.std.specs.Io.KnownBytes.{Consumes}
 use Rattle.std.proofs.KnownBytes.{Appends-nil, Appends-trans, Consumes-nil, Consumes-trans}
-use Rattle.std.proofs.lemmas.List.{length-append, map-append}
+use Rattle.std.proofs.lemmas.List.{map-append}
 use Rattle.ipc_model.specs.declared.fault.Fault.{Fault}
 use Rattle.ipc_model.specs.declared.fault.WriteFault.{WriteFault}
 use Rattle.ipc_model.specs.declared.limits.Limits.{Limits}
@@ -14,13 +14,14 @@ use Rattle.ipc_decode.specs.declared.end.End.{End}
 use Rattle.ipc_decode.specs.declared.phase.Phase.{Phase}
 use Rattle.ipc_decode.specs.declared.phase.Phase.TheVariants.{Reading, Ended, Refused}
 use Rattle.ipc_decode.specs.Found.{Found, rows_of}
-use Rattle.ipc_decode.specs.Reader.{Reader, in_force_of, NextAnswer, NextCall}
-use Rattle.ipc_decode.specs.Reasons.{Reads}
-use Rattle.ipc_decode.specs.Stream.{InForce, Event, batch, Run, done, AddsBatch}
-use Rattle.ipc_decode.specs.Counts.{count_up}
+use Rattle.ipc_decode.specs.Decoding.{TellsLast}
+use Rattle.ipc_decode.specs.Reader.{EndsBehind, LeadsTo, Reader, in_force_of, NextAnswer, NextCall}
+use Rattle.ipc_decode.specs.Reasons.{Ends}
+use Rattle.ipc_decode.specs.Stream.{State, Event, batch, begun, Run, done, AddsBatch}
+use Rattle.ipc_decode.specs.Counts.{count_up, messages_in}
 use Rattle.ipc_stream.specs.Writer.{Writer}
 use Rattle.ipc_stream.specs.Writing.{AcceptsBatch, RefusesBatch, Sent, NotSentWhole}
-use Rattle.ipc_decode.proofs.Runs.{run_then, reads_after}
+use Rattle.ipc_decode.proofs.Runs.{run_one, run_then, messages_one, messages_then}
 use Rattle.ipc_rewrite.specs.Rewriting.{AddsBatches, CopiesRest, RefusesLast}
 
 -- these batches were read behind the schema, and sent
@@ -28,12 +29,12 @@ pub record Copied (old now : Reader) (before after : Writer) : Type 0 where
   pub x : List ℕ
   pub batches : List BatchRows
   pub bytes : Consumes old.remaining now.remaining x
-  pub run : AddsBatches old.limits old.schema batches x
+  pub run : Run old.limits (Some (in_force_of old)) x (map batch batches) (Some (in_force_of now))
   pub reading : now.phase ≡ Reading
   pub same : now.schema ≡ old.schema
   pub same_limits : now.limits ≡ old.limits
   pub source_works : now.failures ≡ 0
-  pub counted : (k : ℕ) → old.messages ≡ count_up 0 k → now.messages ≡ count_up 0 (k + length batches)
+  pub counted : (k : ℕ) → old.messages ≡ count_up 0 k → now.messages ≡ count_up 0 (k + messages_in run)
   pub accepts : AllByRecursion (AcceptsBatch before.limits old.schema) batches
   pub sent : Sent (AddsBatches before.limits old.schema batches) before.written after.written before.failures after.failures
   pub sent_schema : after.schema ≡ old.schema
@@ -64,65 +65,98 @@ copied_none r w reading source works sink is = record {
 }
 
 -- what a call that gave a batch says, where the reader was reading
-gave : (limits : Limits) (o : InForce) (p q : Phase) (x : List ℕ) (left : Option (List ℕ)) (found : Found) → p ≡ Reading
-    → NextAnswer limits o p x left (Ok (Some found)) q → (q ≡ Reading) × Run limits (Some o) x (batch (rows_of found) ∷ []) (Some o)
-gave limits o Reading Reading x left found is h = (refl, h)
-gave limits o Reading (Ended e) x left found is h = absurd h
-gave limits o Reading Refused x left found is h = absurd h
-gave limits o (Ended e) q x left found is h = absurd (cc)
-gave limits o Refused q x left found is h = absurd (cc)
+gave : (now new : Reader) (p q : Phase) (x : List ℕ) (found : Found) → p ≡ Reading → NextAnswer now new p x (Ok (Some found)) q
+    → (q ≡ Reading) × LeadsTo now new x (batch (rows_of found))
+gave now new Reading Reading x found is h = (refl, h)
+gave now new Reading (Ended e) x found is h = absurd h
+gave now new Reading Refused x found is h = absurd h
+gave now new (Ended e) q x found is h = absurd (cc)
+gave now new Refused q x found is h = absurd (cc)
 
-ended : (limits : Limits) (o : InForce) (p q : Phase) (x : List ℕ) (left : Option (List ℕ)) → p ≡ Reading
-    → NextAnswer limits o p x left (Ok None) q → (e : End) × Reads limits (Some o) x left [] (Ok e)
-ended limits o Reading Reading x left is h = absurd h
-ended limits o Reading (Ended e) x left is h = (e, h)
-ended limits o Reading Refused x left is h = absurd h
-ended limits o (Ended e) q x left is h = absurd (cc)
-ended limits o Refused q x left is h = absurd (cc)
+ended : (now new : Reader) (p q : Phase) (x : List ℕ) → p ≡ Reading → NextAnswer now new p x (Ok None) q
+    → (e : End) × EndsBehind now new x (Ok e)
+ended now new Reading Reading x is h = absurd h
+ended now new Reading (Ended e) x is h = (e, h)
+ended now new Reading Refused x is h = absurd h
+ended now new (Ended e) q x is h = absurd (cc)
+ended now new Refused q x is h = absurd (cc)
 
-broke : (limits : Limits) (o : InForce) (p q : Phase) (x : List ℕ) (left : Option (List ℕ)) (f : Fault) → p ≡ Reading
-    → NextAnswer limits o p x left (Err f) q → Reads limits (Some o) x left [] (Err f)
-broke limits o Reading Reading x left f is h = absurd h
-broke limits o Reading (Ended e) x left f is h = absurd h
-broke limits o Reading Refused x left f is h = h
-broke limits o (Ended e) q x left f is h = absurd (cc)
-broke limits o Refused q x left f is h = absurd (cc)
+broke : (now new : Reader) (p q : Phase) (x : List ℕ) (f : Fault) → p ≡ Reading → NextAnswer now new p x (Err f) q
+    → EndsBehind now new x (Err f)
+broke now new Reading Reading x f is h = absurd h
+broke now new Reading (Ended e) x f is h = absurd h
+broke now new Reading Refused x f is h = h
+broke now new (Ended e) q x f is h = absurd (cc)
+broke now new Refused q x f is h = absurd (cc)
 
 -- what holds of all of a list and of one element more holds of all
 all_last : {X : Type 0} (P : X → Type 0) (xs : List X) (x : X) → AllByRecursion P xs → P x → AllByRecursion P (xs ++ x ∷ [])
 all_last P [] x all one = (one, tt)
 all_last P (y ∷ ys) x all one = (all.0, all_last P ys x all.1 one)
 
+-- a run of so many messages
+abbrev Counted : Limits → State → List ℕ → List Event → State → ℕ → Type 0
+Counted limits σ x es τ n = (r : Run limits σ x es τ) × (messages_in r ≡ n)
+
+-- messages that tell nothing and one that tells an event are one more
+told_counted : {limits : Limits} → (σ τ : State) (x : List ℕ) (e : Event) (t : TellsLast limits σ x e τ)
+    → Counted limits σ x (e ∷ []) τ (suc (messages_in t.run))
+told_counted {limits} σ τ x e t =
+    let last = run_one t.told.frame t.told.step in
+    let all = messages_then σ t.between τ t.silent t.message [] (e ∷ []) t.run last in
+    let one = messages_one t.told.frame t.told.step in
+    subst (λ y. Counted limits σ y (e ∷ []) τ (suc (messages_in t.run))) (sym t.joined)
+    (run_then σ t.between τ t.silent t.message [] (e ∷ []) t.run last, omega (arith, all, one))
+
+-- batches and one more are told by the messages of both
+counted_then : (limits : Limits) (σ τ υ : State) (batches : List BatchRows) (last : BatchRows) (x y : List ℕ) (n : ℕ)
+    (run : Run limits σ x (map batch batches) τ) → Counted limits τ y (batch last ∷ []) υ n
+    → Counted limits σ (x ++ y) (map batch (batches ++ last ∷ [])) υ (messages_in run + n)
+counted_then limits σ τ υ batches last x y n run next =
+    let both = messages_then σ τ υ x y (map batch batches) (batch last ∷ []) run next.0 in
+    subst (λ (es : List Event). Counted limits σ (x ++ y) es υ (messages_in run + n)) (sym (map-append batch batches (last ∷ [])))
+    (run_then σ τ υ x y (map batch batches) (batch last ∷ []) run next.0, omega (arith, both, next.1))
+
 -- batches and one more are one list of messages
 batches_then : (limits : Limits) (s : Schema) (batches : List BatchRows) (last : BatchRows) (x y : List ℕ) → AddsBatches limits s batches x
     → AddsBatch limits s last y → AddsBatches limits s (batches ++ last ∷ []) (x ++ y)
 batches_then limits s batches last x y run next =
-    subst (λ (es : List Event). Run limits (Some (record { schema = s })) (x ++ y) es (Some (record { schema = s })))
-    (sym (map-append batch batches (last ∷ [])))
-    (run_then _ _ _ x y (map batch batches) (batch last ∷ []) run next)
+    (counted_then limits (Some (begun s)) (Some (begun s)) (Some (begun s)) batches last x y (messages_in next) run (next, refl)).0
+
+-- the messages of a batch that came, and how many they are
+record Came (limits : Limits) (now new : Reader) (x : List ℕ) (found : Found) : Type 0 where
+  pub count : ℕ
+  pub run : Counted limits (Some (in_force_of now)) x (batch (rows_of found) ∷ []) (Some (in_force_of new)) count
+  pub messages : new.messages ≡ count_up now.messages count
 
 module _ (old now new : Reader) (before after : Writer) (b : Copied old now before after) where
-  same_open : in_force_of now ≡ in_force_of old
-  same_open = ap (λ s. record { schema = s }) b.same
+  -- the batch that came, under the limits that the reader was opened with
+  came : (found : Found) → (t : NextCall now new (Ok (Some found))) → (new.phase ≡ Reading) × Came old.limits now new t.x found
+  came found t =
+      let h = gave now new now.phase new.phase t.x found b.reading t.gives in
+      let e = batch (rows_of found) in
+      let count : ℕ = suc (messages_in h.1.last.run) in (
+        h.0,
+        record {
+          count = count;
+          run = subst (λ limits. Counted limits (Some (in_force_of now)) t.x (e ∷ []) (Some (in_force_of new)) count) b.same_limits
+              (told_counted (Some (in_force_of now)) (Some (in_force_of new)) t.x e h.1.last);
+          messages = h.1.messages;
+        },
+      )
 
-  -- the answer, under the limits that the reader was opened with
-  same_answer : (r : Result (Option Found) Fault) (t : NextCall now new r)
-      → NextAnswer old.limits (in_force_of now) now.phase t.x new.remaining r new.phase
-  same_answer r t = subst (λ limits. NextAnswer limits (in_force_of now) now.phase t.x new.remaining r new.phase) b.same_limits t.gives
-
-  -- the batch that came
-  found_run : (found : Found) → (t : NextCall now new (Ok (Some found)))
-      → (new.phase ≡ Reading) × AddsBatch old.limits old.schema (rows_of found) t.x
-  found_run found t =
-      let h = gave old.limits (in_force_of now) now.phase new.phase t.x new.remaining found b.reading (same_answer (Ok (Some found)) t) in
-      (h.0, subst (λ (o : InForce). Run old.limits (Some o) t.x (batch (rows_of found) ∷ []) (Some o)) same_open h.1)
+  -- the batches before and the one that came
+  all_came : (found : Found) (t : NextCall now new (Ok (Some found)))
+      → Counted old.limits (Some (in_force_of old)) (b.x ++ t.x) (map batch (b.batches ++ rows_of found ∷ [])) (Some (in_force_of new))
+      (messages_in b.run + (came found t).1.count)
+  all_came found t =
+      let c = (came found t).1 in
+      counted_then old.limits (Some (in_force_of old)) (Some (in_force_of now)) (Some (in_force_of new)) b.batches (rows_of found) b.x t.x
+      c.count b.run c.run
 
   counted_more : (found : Found) (t : NextCall now new (Ok (Some found))) (k : ℕ) → old.messages ≡ count_up 0 k
-      → new.messages ≡ count_up 0 (k + length (b.batches ++ rows_of found ∷ []))
-  counted_more found t k is =
-      let before = b.counted k is in
-      let long = length-append b.batches (rows_of found ∷ []) in
-      omega (arith, before, long, t.messages)
+      → new.messages ≡ count_up 0 (k + messages_in (all_came found t).0)
+  counted_more found t k is = omega (arith, b.counted k is, (came found t).1.messages, (all_came found t).1)
 
   -- where one batch more is read and sent, the batches that were sent are those from before and it
   pub copied_more : (found : Found) (next : Writer) → NextCall now new (Ok (Some found)) → new.failures ≡ now.failures
@@ -138,8 +172,8 @@ module _ (old now new : Reader) (before after : Writer) (b : Copied old now befo
         x = b.x ++ t.x;
         batches = b.batches ++ rows_of found ∷ [];
         bytes = Consumes-trans old.remaining now.remaining new.remaining b.x t.x b.bytes t.bytes;
-        run = batches_then old.limits old.schema b.batches (rows_of found) b.x t.x b.run (found_run found t).1;
-        reading = (found_run found t).0;
+        run = (all_came found t).0;
+        reading = (came found t).0;
         same = t.same_schema ∙ b.same;
         same_limits = t.same_limits ∙ b.same_limits;
         source_works = works ∙ b.source_works;
@@ -166,7 +200,7 @@ module _ (old now new : Reader) (before after : Writer) (b : Copied old now befo
     batches = b.batches;
     last = rows_of found;
     bytes = Consumes-trans old.remaining now.remaining new.remaining b.x t.x b.bytes t.bytes;
-    run = batches_then old.limits old.schema b.batches (rows_of found) b.x t.x b.run (found_run found t).1;
+    run = (all_came found t).0;
     accepts = b.accepts;
     between = after.written;
     failures = after.failures;
@@ -179,24 +213,38 @@ module _ (old now new : Reader) (before after : Writer) (b : Copied old now befo
         b.sent_limits unsent);
   }
 
-  behind : (y : List ℕ) (r : Result End Fault) → Reads old.limits (Some (in_force_of now)) y new.remaining [] r
-      → Reads old.limits (Some (in_force_of old)) (b.x ++ y) new.remaining (map batch b.batches) r
+  -- the messages that tell nothing behind the batches, and how many all are
+  behind : (y : List ℕ) (r : Result End Fault) (h : EndsBehind now new y r)
+      → Counted old.limits (Some (in_force_of old)) (b.x ++ h.whole) (map batch b.batches) (Some (in_force_of new))
+      (messages_in b.run + messages_in h.run)
   behind y r h =
-      subst (λ es. Reads old.limits (Some (in_force_of old)) (b.x ++ y) new.remaining es r) (append-nil (map batch b.batches))
-      (reads_after _ _ b.x y new.remaining (map batch b.batches) [] r b.run
-      (subst (λ (o : InForce). Reads old.limits (Some o) y new.remaining [] r) same_open h))
+      let here = subst (λ limits. Counted limits (Some (in_force_of now)) h.whole [] (Some (in_force_of new)) (messages_in h.run))
+      b.same_limits (h.run, refl) in
+      let both = messages_then (Some (in_force_of old)) (Some (in_force_of now)) (Some (in_force_of new)) b.x h.whole (map batch b.batches)
+      [] b.run here.0 in
+      subst (λ es. Counted old.limits (Some (in_force_of old)) (b.x ++ h.whole) es (Some (in_force_of new))
+      (messages_in b.run + messages_in h.run)) (append-nil (map batch b.batches)) (
+        run_then (Some (in_force_of old)) (Some (in_force_of now)) (Some (in_force_of new)) b.x h.whole (map batch b.batches) [] b.run
+            here.0,
+        omega (arith, both, here.1),
+      )
 
   -- where reading ends behind the batches that were sent, so much was read and sent
-  rest : (y : List ℕ) (r : Result End Fault) → Consumes now.remaining new.remaining y → new.messages ≡ count_up now.messages 0
-      → Reads old.limits (Some (in_force_of now)) y new.remaining [] r → CopiesRest old new before after r
-  rest y r bytes more h = record {
+  rest : (y : List ℕ) (r : Result End Fault) → Consumes now.remaining new.remaining y → EndsBehind now new y r
+      → CopiesRest old new before after r
+  rest y r bytes h = record {
     x = b.x ++ y;
     batches = b.batches;
     bytes = Consumes-trans old.remaining now.remaining new.remaining b.x y b.bytes bytes;
-    reads = behind y r h;
-    counted = λ k is.
-        let before = b.counted k is in
-        omega (arith, before, more);
+    reads = record {
+      state = Some (in_force_of new);
+      whole = b.x ++ h.whole;
+      rest = h.rest;
+      joined = ap (λ z. b.x ++ z) h.joined ∙ sym (append_assoc b.x h.whole h.rest);
+      run = (behind y r h).0;
+      ends = subst (λ limits. Ends limits (Some (in_force_of new)) h.rest new.remaining r) b.same_limits h.ends;
+    };
+    counted = λ k is. omega (arith, b.counted k is, h.messages, (behind y r h).1);
     accepts = b.accepts;
     sent = b.sent;
   }
@@ -204,10 +252,9 @@ module _ (old now new : Reader) (before after : Writer) (b : Copied old now befo
   -- where the stream's end is read, all its batches were sent
   pub copied_end : NextCall now new (Ok None) → (end : End) × CopiesRest old new before after (Ok end)
   copied_end t =
-      let h = ended old.limits (in_force_of now) now.phase new.phase t.x new.remaining b.reading (same_answer (Ok None) t) in
-      (h.0, rest t.x (Ok h.0) t.bytes t.messages h.1)
+      let h = ended now new now.phase new.phase t.x b.reading t.gives in
+      (h.0, rest t.x (Ok h.0) t.bytes h.1)
 
   -- where reading breaks off, all batches before were sent
   pub copied_break : (fault : Fault) → NextCall now new (Err fault) → CopiesRest old new before after (Err fault)
-  copied_break fault t = rest t.x (Err fault) t.bytes t.messages
-      (broke old.limits (in_force_of now) now.phase new.phase t.x new.remaining fault b.reading (same_answer (Err fault) t))
+  copied_break fault t = rest t.x (Err fault) t.bytes (broke now new now.phase new.phase t.x fault b.reading t.gives)

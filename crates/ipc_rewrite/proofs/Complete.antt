@@ -20,12 +20,13 @@ use Rattle.ipc_decode.specs.declared.end.End.{End}
 use Rattle.ipc_decode.specs.declared.end.End.TheVariants.{Mark, Closed}
 use Rattle.ipc_decode.specs.Failures.{Tells}
 use Rattle.ipc_decode.specs.Reasons.{Reads}
-use Rattle.ipc_decode.specs.Stream.{schema, batch, Run, events_of, Denotes, AddsBatch, EndsStream, IsTableOf, OpensStream}
+use Rattle.ipc_decode.specs.Stream.{schema, batch, begun, Run, events_of, Denotes, AddsBatch, EndsStream, IsTableOf, OpensStream}
 use Rattle.ipc_decode.specs.Taken.{TakesTable}
 use Rattle.ipc_stream.specs.Writing.{AcceptsBatch, AcceptsTable, BreaksOff, CutShort, NotSentWhole}
 use Rattle.ipc_stream.specs.Writing.{RefusesBatch, RefusesSchema, Sent}
 use Rattle.ipc_decode.proofs.Answered.{answers_marked, answers_closed}
 use Rattle.ipc_decode.proofs.Reasons.{run_told}
+use Rattle.ipc_decode.proofs.Runs.{reads_after}
 use Rattle.ipc_stream.proofs.TablesWritten.{IsOut, batch_breaks, end_broken, start_breaks}
 use Rattle.ipc_rewrite.specs.declared.stop.Stop.{Stop}
 use Rattle.ipc_rewrite.specs.declared.stop.Stop.TheVariants as stop
@@ -69,7 +70,7 @@ first_out : {limits : Limits} → (t : Table) (more : List BatchRows) (w0 w1 : O
     → IsOut limits (record { schema = t.schema; batches = t.batches ++ more }) w0 w1 f0 f1 (length t.batches)
 first_out {limits} t more w0 w1 f0 f1 accepts sent = record {
   bytes = sent.x;
-  run = subst (λ (bs : List BatchRows). Run limits None sent.x (schema t.schema ∷ map batch bs) (Some (record { schema = t.schema })))
+  run = subst (λ (bs : List BatchRows). Run limits None sent.x (schema t.schema ∷ map batch bs) (Some (begun t.schema)))
       (sym (take-append_seam t.batches more)) sent.whole;
   appended = sent.bytes;
   worked = sent.worked;
@@ -115,7 +116,7 @@ module _ {limits : Limits} (new : Option (List ℕ)) (z : List ℕ) (t : Table) 
       (subst (λ (q : Schema). NotSentWhole (OpensStream (raised_of limits) q) w0 w1 f0 f1 fault) same unsent)
   writing fault (refused x u last between f bytes run accepts sent refuses unsent) =
       let left = left_of z new x bytes in
-      let begins = front_begins z x left.0 t _ _ h left.1 run in
+      let begins = front_begins z x left.0 t _ _ h left.1 run.1 in
       let others = table_begins t (with_batch u last) begins.0 begins.1 in
       let joined : record { schema = u.schema; batches = u.batches ++ last ∷ others.0 } ≡ t =
       (λ i. record { schema = u.schema; batches = sym (append_assoc u.batches (last ∷ []) others.0) i }) ∙ sym others.1 in
@@ -129,7 +130,14 @@ module _ {limits : Limits} (new : Option (List ℕ)) (z : List ℕ) (t : Table) 
   reading : (fault : Fault) (message : ℕ) → BreaksReading limits (Some z) new w0 w1 f0 f1 fault message
       → TakesTable limits (Some z) new (Err fault)
   reading fault message (unopened x bytes reads number same count) = record { x = x; bytes = bytes; gives = ([], reads) }
-  reading fault message (broken x u bytes reads number accepts sent) = record { x = x; bytes = bytes; gives = (events_of u, reads) }
+  reading fault message (broken x y u bytes opens reads number accepts sent) = record {
+    x = x ++ y;
+    bytes = bytes;
+    gives = (
+      events_of u,
+      reads_after None (Some (begun u.schema)) x y new (schema u.schema ∷ []) (map batch u.batches) (Err fault) opens reads,
+    );
+  }
 
   -- what is answered of a source that holds the table
   pub answered : (g0 g1 : ℕ) → ((fault : Fault) → TakesTable limits (Some z) new (Err fault) → Tells g0 g1 fault → fault ≡ OutOfMemory)

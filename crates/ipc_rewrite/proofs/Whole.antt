@@ -1,11 +1,10 @@
 -- A whole stream, from its schema on.
-use Rattle.std.proofs.Common.{◌≡◌, ◌∙◌, refl, sym, ap, subst, ℕ, List, [], ◌∷◌, ◌++◌, length, map, Option, Some, None, Result, Ok, Err}
+use Rattle.std.proofs.Common.{◌≡◌, ◌∙◌, refl, sym, ap, subst, ℕ, List, [], ◌∷◌, ◌++◌, map, Option, Some, None, Result, Ok, Err}
 use Rattle.std.proofs.Common.{arith}
 use Rattle.std.specs.Prelude.{⊤, MatchResult}
 use Rattle.std.specs.List.{AllByRecursion}
 use Rattle.std.specs.Io.KnownBytes.{Consumes}
 use Rattle.std.proofs.KnownBytes.{Appends-trans, Consumes-trans}
-use Rattle.std.proofs.lemmas.List.{length-map}
 use Rattle.ipc_model.specs.declared.fault.Fault.{Fault}
 use Rattle.ipc_model.specs.declared.fault.WriteFault.{WriteFault}
 use Rattle.ipc_model.specs.declared.fault.WriteFault.TheVariants as w
@@ -15,8 +14,8 @@ use Rattle.ipc_model.specs.declared.table.Table.{Table}
 use Rattle.ipc_decode.specs.declared.end.End.{End}
 use Rattle.ipc_decode.specs.Reader.{Reader, in_force_of, Opens, OpenFails}
 use Rattle.ipc_decode.specs.Reasons.{Reads}
-use Rattle.ipc_decode.specs.Stream.{schema, batch, Run, events_of, AddsBatch, EndsStream}
-use Rattle.ipc_decode.specs.Counts.{count_up}
+use Rattle.ipc_decode.specs.Stream.{InForce, schema, batch, Run, events_of, DenotesClosed, AddsBatch, EndsStream, OpensStream}
+use Rattle.ipc_decode.specs.Counts.{count_up, messages_in}
 use Rattle.ipc_stream.specs.Writer.{Writer, Starts, StartFails}
 use Rattle.ipc_stream.specs.Writing.{AcceptsBatch, AcceptsSchema, AcceptsTable, CutShort, NotSentWhole}
 use Rattle.ipc_stream.specs.Writing.{RefusesBatch, Sent}
@@ -29,9 +28,18 @@ use Rattle.ipc_rewrite.specs.Rewriting.{AreMessagesOf, AddsBatches, CopiesTable,
 use Rattle.ipc_rewrite.specs.Rewriting.{refused, unended, Rewrites, CopiesRest, CopiesBatches}
 
 -- a table's messages are its schema's and then those of its batches
-messages_of : (limits : Limits) (t : Table) (x y : List ℕ) → Run limits None x (schema t.schema ∷ []) (Some (record { schema = t.schema }))
+messages_of : (limits : Limits) (t : Table) (x y : List ℕ) → OpensStream limits t.schema x
     → AddsBatches limits t.schema t.batches y → AreMessagesOf limits t (x ++ y)
 messages_of limits t x y first rest = run_then _ _ _ x y (schema t.schema ∷ []) (map batch t.batches) first rest
+
+-- behind the schema's message no dictionary is in force
+in_force_here : {limits : Limits} → (start : Option (List ℕ)) (s : Reader) → Opens limits start s
+    → in_force_of s ≡ record { schema = s.schema; dictionaries = [] }
+in_force_here start s o = ap (λ d. record { schema = s.schema; dictionaries = d }) o.no_dictionary
+
+opened : {limits : Limits} → (start : Option (List ℕ)) (s : Reader) (o : Opens limits start s) → OpensStream limits s.schema o.x
+opened {limits} start s o =
+    subst (λ (i : InForce). Run limits None o.x (schema s.schema ∷ []) (Some i)) (in_force_here start s o) o.run
 
 -- where a new stream isn't begun, it is since the schema that was read is refused
 pub schema_refused : {limits : Limits} → (start : Option (List ℕ)) (s : Reader) (w0 w1 : Option (List ℕ)) (f0 f1 : ℕ) (fault : WriteFault)
@@ -39,7 +47,7 @@ pub schema_refused : {limits : Limits} → (start : Option (List ℕ)) (s : Read
     → BreaksWriting limits start s.remaining w0 w1 f0 f1 fault
 schema_refused {limits} start s w0 w1 f0 f1 fault o h =
     let fails = subst (λ l. StartFails (raised_of l) s.schema w0 w1 f0 f1 fault) o.same_limits h in
-    unstarted o.x s.schema o.bytes o.run fails.cause fails.unsent
+    unstarted o.x s.schema o.bytes (opened start s o) fails.cause fails.unsent
 
 module _ {limits : Limits} (start : Option (List ℕ)) (s t : Reader) (before : Writer) (w0 : Option (List ℕ)) (f0 : ℕ)
     (o : Opens limits start s) (begun : Starts (raised_of s.limits) s.schema w0 f0 before) where
@@ -58,7 +66,7 @@ module _ {limits : Limits} (start : Option (List ℕ)) (s t : Reader) (before : 
   all_sent batches w1 f1 sent = record {
     x = begun.sent.x ++ sent.x;
     whole = messages_of (raised_of limits) (table_with batches) begun.sent.x sent.x
-        (subst (λ l. Run (raised_of l) None begun.sent.x (schema s.schema ∷ []) (Some (in_force_of s))) o.same_limits begun.sent.whole)
+        (subst (λ l. OpensStream (raised_of l) s.schema begun.sent.x) o.same_limits begun.sent.whole)
         (subst (λ l. AddsBatches l s.schema batches sent.x) raised_here sent.whole);
     bytes = Appends-trans w0 before.written w1 begun.sent.x sent.x begun.sent.bytes sent.bytes;
     worked = begun.sent.worked;
@@ -81,11 +89,18 @@ module _ {limits : Limits} (start : Option (List ℕ)) (s t : Reader) (before : 
     reads = reads_after None (Some (in_force_of s)) o.x r.x t.remaining (schema s.schema ∷ []) (map batch r.batches) answer o.run
         (subst (λ l. Reads l (Some (in_force_of s)) r.x t.remaining (map batch r.batches) answer) o.same_limits r.reads)
 
-    numbered : t.messages ≡ count_up 0 (length (events_of (table_with r.batches)))
+    -- so much was read behind the schema, by so many messages
+    abbrev ReadsBehind : Limits → InForce → Type 0
+    ReadsBehind l i = (q : Reads l (Some i) r.x t.remaining (map batch r.batches) answer) × (messages_in q.run ≡ messages_in r.reads.run)
+
+    reads_behind : ReadsBehind limits (record { schema = s.schema; dictionaries = [] })
+    reads_behind = subst (ReadsBehind limits) (in_force_here start s o)
+        (subst (λ l. ReadsBehind l (in_force_of s)) o.same_limits (r.reads, refl))
+
+    numbered : t.messages ≡ count_up 1 (messages_in reads_behind.0.run)
     numbered =
         let counted = r.counted 1 (omega (arith, o.one_message)) in
-        let long = length-map r.batches batch in
-        omega (arith, counted, long)
+        omega (arith, counted, reads_behind.1)
 
   table_copied : (after : Writer) (end : End) (w1 : Option (List ℕ)) (f1 : ℕ) → CopiesRest s t before after (Ok end)
       → Sent EndsStream after.written w1 after.failures f1 → CopiesTable limits start t.remaining w0 w1 f0 f1
@@ -103,7 +118,7 @@ module _ {limits : Limits} (start : Option (List ℕ)) (s t : Reader) (before : 
         accepts = all_accepted r.batches r.accepts;
         sent = record {
           x = sent.x ++ mark.x;
-          whole = (sent.x, ap (λ y. sent.x ++ y) mark.whole, (Some (in_force_of s), sent.whole));
+          whole = (sent.x, ap (λ y. sent.x ++ y) mark.whole, (Some (record { schema = s.schema; dictionaries = [] }), sent.whole));
           bytes = Appends-trans w0 after.written w1 sent.x mark.x sent.bytes mark.bytes;
           worked = sent.worked;
           works = mark.works;
@@ -127,16 +142,24 @@ module _ {limits : Limits} (start : Option (List ℕ)) (s t : Reader) (before : 
   stream_ended after end w1 f1 (Err why) r (is, cut) =
       subst (λ (e : Stop). Rewrites limits start t.remaining w0 w1 f0 f1 (Err e)) (sym is) (mark_refused after end w1 f1 r cut)
 
+  -- the schema and these batches were read
+  all_read : (batches : List BatchRows) (x : List ℕ) → Run s.limits (Some (in_force_of s)) x (map batch batches) (Some (in_force_of t))
+      → DenotesClosed limits (o.x ++ x) (table_with batches)
+  all_read batches x run = (
+    Some (in_force_of t),
+    run_then None (Some (in_force_of s)) (Some (in_force_of t)) o.x x (schema s.schema ∷ []) (map batch batches) o.run
+        (subst (λ l. Run l (Some (in_force_of s)) x (map batch batches) (Some (in_force_of t))) o.same_limits run),
+  )
+
   broken_here : (after : Writer) (why : Stop) → CopiesBatches s t before after (Err why)
       → Rewrites limits start t.remaining w0 after.written f0 after.failures (Err why)
   broken_here after (stop.Read fault message) (r, number) =
-      broken (o.x ++ r.x) (table_with r.batches) (taken after (Err fault) r) (reads after (Err fault) r)
+      broken o.x r.x (table_with r.batches) (taken after (Err fault) r) (opened start s o) (reads_behind after (Err fault) r).0
       (number ∙ numbered after (Err fault) r) (all_accepted r.batches r.accepts) (all_sent r.batches after.written after.failures r.sent)
   broken_here after (stop.Write fault) r =
       refused (o.x ++ r.x) (table_with r.batches) r.last r.between r.failures
       (Consumes-trans start s.remaining t.remaining o.x r.x o.bytes r.bytes)
-      (messages_of limits (table_with (r.batches ++ r.last ∷ [])) o.x r.x o.run
-      (subst (λ l. AddsBatches l s.schema (r.batches ++ r.last ∷ []) r.x) o.same_limits r.run))
+      (all_read (r.batches ++ r.last ∷ []) r.x r.run)
       (all_accepted r.batches r.accepts) (all_sent r.batches r.between r.failures r.sent)
       (subst (λ l. RefusesBatch l s.schema r.last fault) raised_here r.refuses)
       (subst (λ l. NotSentWhole (AddsBatch l s.schema r.last) r.between after.written r.failures after.failures fault) raised_here r.unsent)

@@ -1,5 +1,5 @@
 -- What is taken of a source and sent to a sink where a stream is written anew.
-use Rattle.std.specs.Prelude.{◌≡◌, ◌≢◌, ◌+◌, ℕ, List, [], ◌∷◌, ◌++◌, length, map, Option, Some}
+use Rattle.std.specs.Prelude.{◌≡◌, ◌≢◌, ◌+◌, ℕ, List, [], ◌∷◌, ◌++◌, map, Option, Some}
 use Rattle.std.specs.Prelude.{None, Result, Ok, Err, ⊤}
 use Rattle.std.specs.Io.KnownBytes.{Consumes, IsAtEnd}
 use Rattle.std.specs.List.{AllByRecursion}
@@ -16,8 +16,8 @@ use Rattle.ipc_decode.specs.declared.end.End.TheVariants.{Closed}
 use Rattle.ipc_decode.specs.Failures.{Tells}
 use Rattle.ipc_decode.specs.Reader.{Reader, in_force_of}
 use Rattle.ipc_decode.specs.Reasons.{Reads}
-use Rattle.ipc_decode.specs.Stream.{batch, Run, events_of, Denotes, AddsBatch}
-use Rattle.ipc_decode.specs.Counts.{count_up}
+use Rattle.ipc_decode.specs.Stream.{batch, begun, Run, events_of, Denotes, DenotesClosed, AddsBatch}
+use Rattle.ipc_decode.specs.Counts.{count_up, messages_in}
 use Rattle.ipc_stream.specs.Writer.{Writer}
 use Rattle.ipc_stream.specs.Writing.{AcceptsBatch, AcceptsTable, BreaksOff, CutShort}
 use Rattle.ipc_decode.specs.Stream.{EndsStream, IsTableOf, OpensStream}
@@ -27,15 +27,15 @@ use Rattle.ipc_rewrite.specs.declared.stop.Stop.{Stop}
 use Rattle.ipc_rewrite.specs.declared.stop.Stop.TheVariants as stop
 use Rattle.ipc_rewrite.specs.Raised.{raised_of}
 
--- x is the messages of a table: its schema's, and those of its batches in order (Arrow Columnar
--- Format, "IPC Streaming Format")
+-- x is the messages of a table, which set no dictionary: its schema's, and those of its batches in
+-- order (Arrow Columnar Format, "IPC Streaming Format")
 abbrev pub AreMessagesOf : Limits → Table → List ℕ → Type 0
-AreMessagesOf limits t x = Run limits None x (events_of t) (Some (record { schema = t.schema }))
+AreMessagesOf limits t x = Run limits None x (events_of t) (Some (begun t.schema))
 
--- x is the messages of batches, behind the schema (Arrow Columnar Format, "IPC Streaming Format")
+-- x is the messages of batches, behind the schema, which set no dictionary (Arrow Columnar Format,
+-- "IPC Streaming Format")
 abbrev pub AddsBatches : Limits → Schema → List BatchRows → List ℕ → Type 0
-AddsBatches limits s batches x = Run limits (Some (record { schema = s })) x (map batch batches)
-    (Some (record { schema = s }))
+AddsBatches limits s batches x = Run limits (Some (begun s)) x (map batch batches) (Some (begun s))
 
 -- a table with one batch more
 abbrev pub with_batch : Table → BatchRows → Table
@@ -61,10 +61,13 @@ pub data BreaksReading (limits : Limits) (old new written_old written_new : Opti
   unopened : (x : List ℕ) → Consumes old new x → Reads limits None x new [] (Err fault)
       → message ≡ 0 → written_new ≡ written_old → failures_new ≡ failures_old
       → BreaksReading limits old new written_old written_new failures_old failures_new fault message
-  -- reading breaks off behind a schema and batches, whose messages were sent
-  broken : (x : List ℕ) (table : Table) → Consumes old new x
-      → Reads limits None x new (events_of table) (Err fault)
-      → message ≡ count_up 0 (length (events_of table)) → AcceptsTable (raised_of limits) table
+  -- reading breaks off behind a schema and batches, whose messages were sent; those that were read
+  -- are counted, the schema's included
+  broken : (x y : List ℕ) (table : Table) → Consumes old new (x ++ y)
+      → OpensStream limits table.schema x
+      → (reads : Reads limits (Some (begun table.schema)) y new (map batch table.batches)
+      (Err fault)) → message ≡ count_up 1 (messages_in reads.run)
+      → AcceptsTable (raised_of limits) table
       → Sent (AreMessagesOf (raised_of limits) table) written_old written_new failures_old
       failures_new
       → BreaksReading limits old new written_old written_new failures_old failures_new fault message
@@ -81,7 +84,7 @@ pub data BreaksWriting (limits : Limits) (old new written_old written_new : Opti
       → BreaksWriting limits old new written_old written_new failures_old failures_new fault
   -- the last batch that was read is refused; all messages before it were sent
   refused : (x : List ℕ) (table : Table) (last : BatchRows) (between : Option (List ℕ))
-      (failures : ℕ) → Consumes old new x → AreMessagesOf limits (with_batch table last) x
+      (failures : ℕ) → Consumes old new x → DenotesClosed limits x (with_batch table last)
       → AcceptsTable (raised_of limits) table
       → Sent (AreMessagesOf (raised_of limits) table) written_old between failures_old failures
       → RefusesBatch (raised_of limits) table.schema last fault
@@ -149,7 +152,7 @@ pub record CopiesRest (old new : Reader) (before after : Writer)
   pub reads :
       Reads old.limits (Some (in_force_of old)) x new.remaining (map batch batches) answer
   pub counted : (k : ℕ) → old.messages ≡ count_up 0 k → new.messages ≡ count_up 0 (k
-      + length batches)
+      + messages_in reads.run)
   pub accepts : AllByRecursion (AcceptsBatch before.limits old.schema) batches
   pub sent : Sent (AddsBatches before.limits old.schema batches) before.written after.written
       before.failures after.failures
@@ -161,7 +164,8 @@ pub record RefusesLast (old new : Reader) (before after : Writer)
   pub batches : List BatchRows
   pub last : BatchRows
   pub bytes : Consumes old.remaining new.remaining x
-  pub run : AddsBatches old.limits old.schema (batches ++ last ∷ []) x
+  pub run : Run old.limits (Some (in_force_of old)) x (map batch (batches ++ last ∷ []))
+      (Some (in_force_of new))
   pub accepts : AllByRecursion (AcceptsBatch before.limits old.schema) batches
   pub between : Option (List ℕ)
   pub failures : ℕ

@@ -17,6 +17,7 @@ use Rattle.ipc_model.specs.declared.table.BatchRows.{BatchRows}
 use Rattle.ipc_model.specs.declared.value.Value.{Value}
 use Rattle.ipc_encode.specs.Limits.{IsRefused, IsWithin}
 use Rattle.ipc_encode.specs.Built.{HasRows}
+use Rattle.ipc_encode.specs.Numbers.{no_indices}
 use Rattle.ipc_stream.specs.declared.pushed.PushedRows.{PushedRows}
 use Rattle.ipc_stream.specs.Writing.{AcceptsBatch, RefusesBatch, Misfits, long_columns, long_metadata, other_pairs}
 use Rattle.ipc_decode.specs.Stream.{AddsBatch}
@@ -62,7 +63,7 @@ accepted_row limits s b row accepts fits within = record {
 -- where a row went into the columns, the batch with it is held
 pub held_row : (limits : Limits) (s : Schema) (b : BatchRows) (row : List Value) (old new : PushedRows)
     → HoldsBatch limits s b old → RowFits s.fields row → IsWithin limits s.fields (b.rows ++ row ∷ [])
-    → HasRows limits s.fields (b.rows ++ row ∷ []) new.builder → new.pairs ≡ old.pairs
+    → HasRows no_indices limits s.fields (b.rows ++ row ∷ []) new.builder → new.pairs ≡ old.pairs
     → HoldsBatch limits s (with_row b row) new
 held_row limits s b row old new held fits within rows same = record {
   rows = rows;
@@ -72,7 +73,7 @@ held_row limits s b row old new held fits within rows same = record {
 
 -- where the builder has the rows that it had, the batch is still held
 pub held_still : (limits : Limits) (s : Schema) (b : BatchRows) (old new : PushedRows) → HoldsBatch limits s b old
-    → HasRows limits s.fields b.rows new.builder → new.pairs ≡ old.pairs → HoldsBatch limits s b new
+    → HasRows no_indices limits s.fields b.rows new.builder → new.pairs ≡ old.pairs → HoldsBatch limits s b new
 held_still limits s b old new held rows same = record { rows = rows; pairs = same ∙ held.pairs; accepted = held.accepted }
 
 -- rows within the limits are refused for memory alone

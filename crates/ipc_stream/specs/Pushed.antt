@@ -7,6 +7,7 @@ use Rattle.ipc_model.specs.declared.schema.Schema.{Schema}
 use Rattle.ipc_model.specs.declared.table.BatchRows.{BatchRows}
 use Rattle.ipc_model.specs.declared.value.Value.{Value}
 use Rattle.ipc_encode.specs.Built.{HasRows}
+use Rattle.ipc_encode.specs.Numbers.{no_indices}
 use Rattle.ipc_stream.specs.declared.pushed.PushedRows.{PushedRows}
 use Rattle.ipc_stream.specs.Writing.{AcceptsBatch, RefusesBatch}
 use Rattle.ipc_stream.specs.Writer.{Writer}
@@ -23,7 +24,7 @@ with_row b row = record { pairs = b.pairs; rows = b.rows ++ row ∷ [] }
 -- refusing it.
 pub record HoldsBatch (limits : Limits) (s : Schema) (b : BatchRows)
     (held : PushedRows) : Type 0 where
-  pub rows : HasRows limits s.fields b.rows held.builder
+  pub rows : HasRows no_indices limits s.fields b.rows held.builder
   pub pairs : held.pairs ≡ b.pairs
   pub accepted : AcceptsBatch limits s b
 

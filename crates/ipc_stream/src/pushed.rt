@@ -10,7 +10,7 @@ ghost use Rattle.ipc_stream.specs.Writing.{IsWritable, RefusesBatch};
 ghost use Rattle.ipc_stream.specs.Pushed.{HoldsBatch, RefusesHeld, no_rows, with_row};
 
 use crate::messages::batch_message;
-use ipc_encode::{Builder, PushFault, Room};
+use ipc_encode::{Builder, NoIndices, PushFault, Room};
 use ipc_model::{
     BatchRows, Items, Limits, Schema, Text, Value, WriteFault, conforms, is_conforming,
 };
@@ -83,7 +83,7 @@ impl PushedRows {
             → HoldsBatch limits schema b self.old
             → IfErr result (λ fault. write_fault fault ≡ WriteFault.OutOfMemory) }
     {
-        self.builder.take_row(row)?;
+        self.builder.take_row(row, &NoIndices)?;
         Ok(())
     }
 
@@ -104,7 +104,7 @@ impl PushedRows {
             → HoldsBatch limits schema b self.new) }
     {
         self.builder.fit_row(row)?;
-        self.builder.take_row(row)?;
+        self.builder.take_row(row, &NoIndices)?;
         Ok(())
     }
 

@@ -1,11 +1,11 @@
 //! Rows taken one at a time, up to a limit.
 use ipc_encode::{Builder, NoIndices, Renumber, SameNumbers};
-use ipc_model::{DataType, Field, Limits, Value, WriteFault};
-use std::alloc::Global;
+use ipc_model::{DataType, DateUnit, Field, Limits, Value, WriteFault};
+use std::alloc::{AllocError, Global};
 use std::test::Fail;
 
 // The standard limits with these on the body and on the rows of a batch.
-fn limits_of(body: u64, slots: u64) -> Option<Limits> {
+pub(crate) fn limits_of(body: u64, slots: u64) -> Option<Limits> {
     let standard = Limits::standard();
     Limits::new(
         standard.metadata,
@@ -19,24 +19,25 @@ fn limits_of(body: u64, slots: u64) -> Option<Limits> {
 }
 
 // A column of numbers and one of texts, both of which may be null.
-fn fields_of(alloc: Global) -> Result<[Field; 2], WriteFault> {
-    let number = Field::new(alloc, "number", DataType::Date(ipc_model::DateUnit::Day))?.nullable();
-    let text = Field::new(alloc, "text", DataType::Utf8)?.nullable();
-    Ok([number, text])
+fn fields_of(alloc: Global) -> Result<Vec<Field>, AllocError> {
+    let mut fields = Vec::new(alloc);
+    fields.push(Field::new(alloc, "number", DataType::Date(DateUnit::Day))?.nullable())?;
+    fields.push(Field::new(alloc, "text", DataType::Utf8)?.nullable())?;
+    Ok(fields)
 }
 
 fn builder_of(alloc: Global, limits: &Limits) -> Result<Builder, WriteFault> {
-    Builder::new(alloc, &fields_of(alloc)?, limits)
+    let fields = fields_of(alloc)?;
+    Builder::new(alloc, &fields, limits)
 }
 
-// Whether a builder under these limits is sure of a row that fits, and of one that is too short.
-fn are_sure(alloc: Global, limits: &Limits) -> Result<(bool, bool), WriteFault> {
-    let fields = fields_of(alloc)?;
-    let builder = Builder::new(alloc, &fields, limits)?;
+// Whether a builder is sure of a row that fits, and of one that is too short.
+fn are_sure(alloc: Global, fields: &[Field]) -> Result<(bool, bool), WriteFault> {
+    let builder = Builder::new(alloc, fields, &Limits::standard())?;
     let row = row_of(1);
     Ok((
-        builder.surely_takes(&fields, &row),
-        builder.surely_takes(&fields, &row[..1]),
+        builder.surely_takes(fields, &row),
+        builder.surely_takes(fields, &row[..1]),
     ))
 }
 
@@ -45,31 +46,27 @@ fn row_of(number: i64) -> [Value; 2] {
     [Value::Int(number), Value::Null]
 }
 
-// Pushes rows of these numbers, and answers how many were taken and why the next was not.
-fn push_all(
-    builder: &mut Builder,
-    numbers: &[i64],
-) -> Result<(usize, Option<WriteFault>), WriteFault> {
-    for (taken, number) in numbers.iter().enumerate() {
-        let row = row_of(*number);
-        if let Err(fault) = builder.fits(&row) {
-            return Ok((taken, Some(fault)));
-        }
-        builder.push(&row, &NoIndices)?;
-    }
-    Ok((numbers.len(), None))
+// Pushes a row, where it fits.
+fn push(builder: &mut Builder, number: i64) -> Result<(), WriteFault> {
+    let row = row_of(number);
+    builder.fits(&row)?;
+    builder.push(&row, &NoIndices)
 }
 
-// Whether so many of the numbers are taken under these limits, and then this body is made.
-fn is_built(
-    alloc: Global,
-    limits: &Limits,
-    numbers: &[i64],
-    taken: usize,
-    body: &[u8],
-) -> Result<bool, WriteFault> {
-    let mut builder = builder_of(alloc, limits)?;
-    let (count, _) = push_all(&mut builder, numbers)?;
+// Pushes rows of these numbers, as far as they are taken, and answers how many were.
+fn push_all(builder: &mut Builder, numbers: &[i64]) -> usize {
+    for (taken, number) in numbers.iter().enumerate() {
+        if push(builder, *number).is_err() {
+            return taken;
+        }
+    }
+    numbers.len()
+}
+
+// How many of three rows are taken, and whether this body is made of them.
+fn is_built(builder: Builder, taken: usize, body: &[u8]) -> Result<bool, WriteFault> {
+    let mut builder = builder;
+    let count = push_all(&mut builder, &[1, 2, 3]);
     let parts = builder.finish(&SameNumbers)?;
     Ok(count == taken && parts.body.as_slice() == body)
 }
@@ -79,39 +76,27 @@ const TWO_ROWS: [u8; 32] = [
     1, 0, 0, 0, 2, 0, 0, 0, 0, 0, 0, 0, 0, 0, 0, 0, 0, 0, 0, 0, 0, 0, 0, 0, 0, 0, 0, 0, 0, 0, 0, 0,
 ];
 
+// Two rows are taken where the limit is two rows, or the body of two.
 #[test]
-fn rows_up_to_their_limit(rt: HostRuntime) -> Result<(), Fail> {
-    let Some(limits) = limits_of(1 << 40, 2) else {
-        assert!(rt; false);
-        return Ok(());
-    };
-    assert!(rt; is_built(rt.alloc(), &limits, &[1, 2, 3], 2, &TWO_ROWS)?);
-    Ok(())
-}
-
-#[test]
-fn a_body_up_to_its_limit(rt: HostRuntime) -> Result<(), Fail> {
-    let Some(limits) = limits_of(32, 100) else {
-        assert!(rt; false);
-        return Ok(());
-    };
-    assert!(rt; is_built(rt.alloc(), &limits, &[1, 2, 3], 2, &TWO_ROWS)?);
+fn rows_up_to_their_limits(rt: HostRuntime) -> Result<(), Fail> {
+    for (body, slots) in [(1 << 40, 2), (32, 100)] {
+        let limits = limits_of(body, slots).ok_or("limits")?;
+        assert!(rt; is_built(builder_of(rt.alloc(), &limits)?, 2, &TWO_ROWS)?);
+    }
     Ok(())
 }
 
 #[test]
 fn sure_of_a_row_that_fits(rt: HostRuntime) -> Result<(), Fail> {
-    assert!(rt; are_sure(rt.alloc(), &Limits::standard())? == (true, false));
+    let fields = fields_of(rt.alloc())?;
+    assert!(rt; are_sure(rt.alloc(), &fields)? == (true, false));
     Ok(())
 }
 
 // The offsets of no texts have eight bytes with their padding.
 #[test]
 fn a_body_too_small_for_no_rows(rt: HostRuntime) -> Result<(), Fail> {
-    let Some(limits) = limits_of(7, 100) else {
-        assert!(rt; false);
-        return Ok(());
-    };
+    let limits = limits_of(7, 100).ok_or("limits")?;
     assert!(rt; matches!(builder_of(rt.alloc(), &limits), Err(WriteFault::TooLong)));
     assert!(rt; SameNumbers.to(1, 7) == 7);
     Ok(())

@@ -16,7 +16,7 @@ use std::rc::Rc;
 use std::test::Fail;
 
 // Columns of texts, whose values stand in dictionary 7 under signed indices of 8 bits.
-fn schema_of(alloc: Global, columns: usize) -> Result<Schema, AllocError> {
+pub(crate) fn schema_of(alloc: Global, columns: usize) -> Result<Schema, AllocError> {
     let index = IndexType {
         bits: IntBits::B8,
         signed: true,
@@ -51,7 +51,11 @@ fn row_of(alloc: Global, letters: &[u8]) -> Result<Row, AllocError> {
 }
 
 // Rows of so many letters each.
-fn rows_of(alloc: Global, letters: &[u8], columns: usize) -> Result<Vec<Row>, AllocError> {
+pub(crate) fn rows_of(
+    alloc: Global,
+    letters: &[u8],
+    columns: usize,
+) -> Result<Vec<Row>, AllocError> {
     let mut rows = Vec::new(alloc);
     for row in letters.chunks(columns.max(1)) {
         rows.push(row_of(alloc, row)?)?;
@@ -106,6 +110,21 @@ fn find<I: IndexOf>(
     Ok(())
 }
 
+// Tells what a plan sends, and the indices that it gives to rows.
+fn tell_plan(
+    alloc: Global,
+    told: &mut Vec<u8>,
+    plan: &Plan,
+    rows: &[Row],
+) -> Result<(), AllocError> {
+    tell_sends(told, plan.sends())?;
+    let mut indices = Vec::new(alloc);
+    for row in rows {
+        find(&mut indices, plan, row.as_slice())?;
+    }
+    tell_indices(told, &SameNumbers, &indices)
+}
+
 // Tells what a batch of these rows sends, and the indices that its plan gives.
 fn tell_planned(
     alloc: Global,
@@ -118,12 +137,7 @@ fn tell_planned(
     ensures { kept_ids kept.new ≡ ids_of schema.now.fields }
 {
     let plan = Plan::for_rows(alloc, schema, kept, rows)?;
-    tell_sends(told, plan.sends())?;
-    let mut indices = Vec::new(alloc);
-    for row in rows {
-        find(&mut indices, &plan, row.as_slice())?;
-    }
-    tell_indices(told, &SameNumbers, &indices)?;
+    tell_plan(alloc, told, &plan, rows)?;
     plan.commit(kept);
     Ok(())
 }
@@ -145,6 +159,16 @@ fn counted(
     Ok((tally, indices))
 }
 
+// Tells what a plan sends, and indices under its numbers.
+fn tell_settled(
+    told: &mut Vec<u8>,
+    plan: &Plan,
+    indices: &[Option<u64>],
+) -> Result<(), AllocError> {
+    tell_sends(told, plan.sends())?;
+    tell_indices(told, plan, indices)
+}
+
 // Tells the same of rows that are counted one by one.
 fn tell_counted(
     alloc: Global,
@@ -158,13 +182,45 @@ fn tell_counted(
 {
     let (tally, indices) = counted(alloc, schema, rows)?;
     let plan = tally.settle(alloc, kept)?;
-    tell_sends(told, plan.sends())?;
-    tell_indices(told, &plan, &indices)?;
+    tell_settled(told, &plan, &indices)?;
     plan.commit(kept);
     Ok(())
 }
 
-// What batches send, and their indices.
+fn tell_batch(
+    alloc: Global,
+    told: &mut Vec<u8>,
+    schema: &Schema,
+    kept: &mut Kept,
+    rows: &[Row],
+    by_rows: bool,
+) -> Result<(), WriteFault>
+    requires { kept_ids kept.old ≡ ids_of schema.now.fields }
+    ensures { kept_ids kept.new ≡ ids_of schema.now.fields }
+{
+    if by_rows {
+        tell_counted(alloc, told, schema, kept, rows)
+    } else {
+        tell_planned(alloc, told, schema, kept, rows)
+    }
+}
+
+// What batches under a schema send, and their indices.
+fn told_under(
+    alloc: Global,
+    schema: &Schema,
+    batches: &[&[u8]],
+    by_rows: bool,
+) -> Result<Vec<u8>, WriteFault> {
+    let mut kept = Kept::new(alloc, schema)?;
+    let mut told = Vec::new(alloc);
+    for letters in batches {
+        let rows = rows_of(alloc, letters, schema.fields.len())?;
+        tell_batch(alloc, &mut told, schema, &mut kept, &rows, by_rows)?;
+    }
+    Ok(told)
+}
+
 fn told(
     alloc: Global,
     columns: usize,
@@ -172,17 +228,7 @@ fn told(
     by_rows: bool,
 ) -> Result<Vec<u8>, WriteFault> {
     let schema = schema_of(alloc, columns)?;
-    let mut kept = Kept::new(alloc, &schema)?;
-    let mut told = Vec::new(alloc);
-    for letters in batches {
-        let rows = rows_of(alloc, letters, columns)?;
-        if by_rows {
-            tell_counted(alloc, &mut told, &schema, &mut kept, &rows)?;
-        } else {
-            tell_planned(alloc, &mut told, &schema, &mut kept, &rows)?;
-        }
-    }
-    Ok(told)
+    told_under(alloc, &schema, batches, by_rows)
 }
 
 // Each batch is a list of letters, one for each row.
@@ -234,9 +280,13 @@ fn numbered(alloc: Global, number: usize) -> Result<Value, AllocError> {
 
 // How many of so many texts are taken.
 fn taken(alloc: Global, texts: usize) -> Result<usize, WriteFault> {
-    let schema = schema_of(alloc, 2)?;
-    let mut tally = Tally::new(alloc, &schema)?;
+    let mut tally = tally_of_two(alloc)?;
     take(alloc, &mut tally, texts)
+}
+
+fn tally_of_two(alloc: Global) -> Result<Tally, WriteFault> {
+    let schema = schema_of(alloc, 2)?;
+    Ok(Tally::new(alloc, &schema)?)
 }
 
 #[test]
@@ -246,26 +296,29 @@ fn as_many_texts_as_the_indices_count(rt: HostRuntime) -> Result<(), Fail> {
     Ok(())
 }
 
-// Behind 127 texts a row of two new ones is refused, and either of them is taken alone: what the
-// refused row answered, and the index of its first text then and once that was taken.
-fn refused_row(alloc: Global) -> Result<(Option<WriteFault>, [Option<u64>; 2]), WriteFault> {
-    let schema = schema_of(alloc, 2)?;
-    let mut tally = Tally::new(alloc, &schema)?;
-    take(alloc, &mut tally, 127)?;
-    let fault = tally
-        .note(&[numbered(alloc, 127)?, numbered(alloc, 128)?])
-        .err();
-    let first = numbered(alloc, 127)?;
-    let before = tally.index_of(7, &first);
-    tally.note(&[numbered(alloc, 127)?, Value::Null])?;
-    Ok((fault, [before, tally.index_of(7, &first)]))
+// Takes a row of two new texts.
+fn take_two(alloc: Global, tally: &mut Tally) -> Result<(), WriteFault> {
+    let row = [numbered(alloc, 127)?, numbered(alloc, 128)?];
+    tally.note(&row)
 }
 
+// Takes a row of one of them.
+fn take_one(alloc: Global, tally: &mut Tally) -> Result<(), WriteFault> {
+    let row = [numbered(alloc, 127)?, Value::Null];
+    tally.note(&row)
+}
+
+// Behind 127 texts a row of two new ones is refused, and either of them is taken alone: the index
+// of the first is looked at before that and after it.
 #[test]
 fn a_refused_row_is_cut_off(rt: HostRuntime) -> Result<(), Fail> {
-    let (fault, indices) = refused_row(rt.alloc())?;
-    assert!(rt; fault == Some(WriteFault::DictionaryFull));
-    assert!(rt; indices == [None, Some(127)]);
+    let first = numbered(rt.alloc(), 127)?;
+    let mut tally = tally_of_two(rt.alloc())?;
+    assert!(rt; take(rt.alloc(), &mut tally, 127) == Ok(127));
+    assert!(rt; take_two(rt.alloc(), &mut tally) == Err(WriteFault::DictionaryFull));
+    assert!(rt; tally.index_of(7, &first).is_none());
+    assert!(rt; take_one(rt.alloc(), &mut tally) == Ok(()));
+    assert!(rt; tally.index_of(7, &first) == Some(127));
     Ok(())
 }
 
@@ -294,19 +347,18 @@ fn c(alloc: Global) -> Result<Batch, Fault> {
     )
 }
 
-// The letters of a batch's one column.
-fn letters(alloc: Global, batch: &Batch) -> Result<Vec<u8>, AllocError> {
-    let mut letters = Vec::new(alloc);
+// Tells the letters of a batch's one column.
+fn tell_letters(told: &mut Vec<u8>, batch: &Batch) -> Result<(), AllocError> {
     if batch.columns() == 0 {
-        return Ok(letters);
+        return Ok(());
     }
     for row in 0..batch.rows() {
-        letters.push(match batch.cell(row, 0) {
+        told.push(match batch.cell(row, 0) {
             Cell::Text(text) => text.as_bytes().first().copied().unwrap_or(b'?'),
             _ => b'?',
         })?;
     }
-    Ok(letters)
+    Ok(())
 }
 
 fn current(dictionaries: &Dictionaries) -> Result<Option<Rc<Batch>>, Fault> {
@@ -316,33 +368,60 @@ fn current(dictionaries: &Dictionaries) -> Result<Option<Rc<Batch>>, Fault> {
     })
 }
 
-// The values that were handed out before a change and after it, and how many bytes are held.
-fn replaced(alloc: Global) -> Result<(Vec<u8>, Vec<u8>, [usize; 2]), Fault> {
-    let mut dictionaries = Dictionaries::new(alloc, &schema_of(alloc, 1)?)?;
-    dictionaries.apply(alloc, 7, ab(alloc)?)?;
-    let before = current(&dictionaries)?;
-    let first = dictionaries.held();
-    dictionaries.apply(alloc, 7, c(alloc)?)?;
-    let after = current(&dictionaries)?;
-    Ok((
-        told_values(alloc, &before)?,
-        told_values(alloc, &after)?,
-        [first, dictionaries.held()],
-    ))
+// Puts values in force for dictionary 7.
+fn set(alloc: Global, dictionaries: &mut Dictionaries, values: Batch) -> Result<(), Fault> {
+    if !values.is_dictionary() {
+        return Err(Fault::BadHeader);
+    }
+    dictionaries.apply(alloc, 7, values)
 }
 
-fn told_values(alloc: Global, values: &Option<Rc<Batch>>) -> Result<Vec<u8>, AllocError> {
-    match values {
-        Some(values) => letters(alloc, values),
-        None => Ok(Vec::new(alloc)),
+// Tells values that were handed out, and a blank.
+fn tell_values(told: &mut Vec<u8>, values: &Option<Rc<Batch>>) -> Result<(), AllocError> {
+    if let Some(values) = values {
+        tell_letters(told, values)?;
     }
+    Ok(told.push(b' ')?)
+}
+
+// Takes values that are c, and tells those that were handed out before and after.
+fn replace(
+    alloc: Global,
+    told: &mut Vec<u8>,
+    dictionaries: &mut Dictionaries,
+    before: &Option<Rc<Batch>>,
+) -> Result<(), Fault> {
+    set(alloc, dictionaries, c(alloc)?)?;
+    tell_values(told, before)?;
+    let after = current(dictionaries)?;
+    Ok(tell_values(told, &after)?)
+}
+
+// Takes values that are a and b, and others in their place, and answers how many bytes are held.
+fn replaced(
+    alloc: Global,
+    told: &mut Vec<u8>,
+    dictionaries: &mut Dictionaries,
+) -> Result<[usize; 2], Fault> {
+    set(alloc, dictionaries, ab(alloc)?)?;
+    let first = dictionaries.held();
+    let before = current(dictionaries)?;
+    replace(alloc, told, dictionaries, &before)?;
+    Ok([first, dictionaries.held()])
+}
+
+// What is in force of a schema's dictionaries before any values came.
+fn in_force(alloc: Global, columns: usize) -> Result<Dictionaries, Fault> {
+    let schema = schema_of(alloc, columns)?;
+    Ok(Dictionaries::new(alloc, &schema)?)
 }
 
 #[test]
 fn grows_dictionaries_in_force(rt: HostRuntime) -> Result<(), Fail> {
-    let (before, after, held) = replaced(rt.alloc())?;
-    assert!(rt; before.as_slice() == b"ab".as_slice() && after.as_slice() == b"c".as_slice());
-    assert!(rt; held == [24, 16]);
+    let mut told = Vec::new(rt.alloc());
+    let mut dictionaries = in_force(rt.alloc(), 1)?;
+    assert!(rt; replaced(rt.alloc(), &mut told, &mut dictionaries)? == [24, 16]);
+    assert!(rt; told.as_slice() == b"ab c ".as_slice());
     Ok(())
 }
 
@@ -351,13 +430,9 @@ fn width(dictionaries: &Dictionaries, id: i64) -> Option<usize> {
 }
 
 // How many columns the values of a dictionary that is named have, and those of one that isn't.
-fn widths(alloc: Global) -> Result<[Option<usize>; 2], Fault> {
-    let dictionaries = Dictionaries::new(alloc, &schema_of(alloc, 2)?)?;
-    Ok([width(&dictionaries, 7), width(&dictionaries, 8)])
-}
-
 #[test]
 fn columns_of_values(rt: HostRuntime) -> Result<(), Fail> {
-    assert!(rt; widths(rt.alloc())? == [Some(1), None]);
+    let dictionaries = in_force(rt.alloc(), 2)?;
+    assert!(rt; width(&dictionaries, 7) == Some(1) && width(&dictionaries, 8).is_none());
     Ok(())
 }

@@ -23,10 +23,35 @@ enum Given<'a> {
     Text(&'a str),
 }
 
+// The type of a column.
+#[derive(Clone, Copy)]
+enum Kind {
+    Null,
+    Bool,
+    Int(IntBits, bool),
+    Utf8,
+    FixedSizeBinary(u32),
+    Milliseconds,
+    TimeInMilliseconds,
+}
+
+fn type_of(kind: Kind) -> DataType {
+    match kind {
+        Kind::Null => DataType::Null,
+        Kind::Bool => DataType::Bool,
+        Kind::Int(bits, signed) => DataType::Int { bits, signed },
+        Kind::Utf8 => DataType::Utf8,
+        Kind::FixedSizeBinary(width) => DataType::FixedSizeBinary(width),
+        Kind::Milliseconds => DataType::Date(DateUnit::Millisecond),
+        Kind::TimeInMilliseconds => DataType::Time(TimeUnit::Millisecond),
+    }
+}
+
 // A column of this type, which may be null.
-fn schema_of(alloc: Global, kind: DataType) -> Result<Schema, AllocError> {
-    let field = Field::new(alloc, "a", kind)?.nullable();
-    Ok(Schema::new(vec![in alloc; field]?))
+fn schema_of(alloc: Global, kind: Kind) -> Result<Schema, AllocError> {
+    let mut fields = Vec::new(alloc);
+    fields.push(Field::new(alloc, "a", type_of(kind))?.nullable())?;
+    Ok(Schema::new(fields))
 }
 
 fn value_of(alloc: Global, given: Given<'_>) -> Result<Value, AllocError> {
@@ -63,166 +88,182 @@ fn fit(schema: &Schema, rows: &[Row]) -> bool
     true
 }
 
-// The parts of a column of these values, where they fit it.
+// The parts of a column of these rows, where they fit it.
 #[tactic(auto, using(ipc_model::proofs::Depths::short_paths))]
-fn column(alloc: Global, kind: DataType, cells: &[Given<'_>]) -> Result<Option<Parts>, WriteFault> {
-    let schema = schema_of(alloc, kind)?;
+fn column(alloc: Global, schema: &Schema, rows: &[Row]) -> Result<Option<Parts>, WriteFault> {
     let limits = Limits::standard();
     schema.check(alloc, &limits)?;
-    let rows = rows_of(alloc, cells)?;
-    if !fit(&schema, &rows) {
+    if !fit(schema, rows) {
         return Ok(None);
     }
-    let parts = encode(alloc, &limits, schema.fields.as_slice(), &rows, &NoIndices)?;
-    Ok(Some(parts))
+    match encode(alloc, &limits, schema.fields.as_slice(), rows, &NoIndices) {
+        Ok(parts) => Ok(Some(parts)),
+        Err(fault) => Err(fault),
+    }
 }
 
-// Whether a column of these values is written as this node, these buffers and this body.
-fn is_written(
-    alloc: Global,
-    kind: DataType,
-    cells: &[Given<'_>],
+// A column of these values, and the node, the buffers and the body that are written of it.
+struct Written {
+    kind: Kind,
+    cells: &'static [Given<'static>],
     node: (i64, i64),
-    buffers: &[(i64, i64)],
-    body: &[u8],
-) -> Result<bool, WriteFault> {
-    let Some(parts) = column(alloc, kind, cells)? else {
-        return Ok(false);
-    };
-    Ok(
-        parts.nodes.as_slice() == [node].as_slice()
-            && parts.buffers.as_slice() == buffers
-            && parts.body.as_slice() == body,
-    )
+    buffers: &'static [(i64, i64)],
+    body: &'static [u8],
 }
 
-fn int(bits: IntBits, signed: bool) -> DataType {
-    DataType::Int { bits, signed }
+fn are_parts(parts: &Parts, wanted: &Written) -> bool {
+    parts.nodes.as_slice() == [wanted.node].as_slice()
+        && parts.buffers.as_slice() == wanted.buffers
+        && parts.body.as_slice() == wanted.body
 }
+
+fn is_written(alloc: Global, wanted: &Written) -> Result<bool, WriteFault> {
+    let schema = schema_of(alloc, wanted.kind)?;
+    let rows = rows_of(alloc, wanted.cells)?;
+    match column(alloc, &schema, &rows) {
+        Ok(Some(parts)) => Ok(are_parts(&parts, wanted)),
+        Ok(None) => Ok(false),
+        Err(fault) => Err(fault),
+    }
+}
+
+const COLUMNS: [Written; 14] = [
+    Written {
+        kind: Kind::Int(IntBits::B64, true),
+        cells: &[Given::Int(1), Given::Int(-2), Given::Int(i64::MAX)],
+        node: (3, 0),
+        buffers: &[(0, 0), (0, 24)],
+        body: &[
+            1, 0, 0, 0, 0, 0, 0, 0, 254, 255, 255, 255, 255, 255, 255, 255, 255, 255, 255, 255,
+            255, 255, 255, 127,
+        ],
+    },
+    Written {
+        kind: Kind::Int(IntBits::B8, true),
+        cells: &[Given::Int(-128), Given::Null, Given::Int(127)],
+        node: (3, 1),
+        buffers: &[(0, 1), (8, 3)],
+        body: &[5, 0, 0, 0, 0, 0, 0, 0, 128, 0, 127, 0, 0, 0, 0, 0],
+    },
+    // The bitmap that is begun at the tenth value has a bit for each of the nine before it.
+    Written {
+        kind: Kind::Int(IntBits::B8, true),
+        cells: &[
+            Given::Int(7),
+            Given::Int(7),
+            Given::Int(7),
+            Given::Int(7),
+            Given::Int(7),
+            Given::Int(7),
+            Given::Int(7),
+            Given::Int(7),
+            Given::Int(7),
+            Given::Null,
+        ],
+        node: (10, 1),
+        buffers: &[(0, 2), (8, 10)],
+        body: &[
+            255, 1, 0, 0, 0, 0, 0, 0, 7, 7, 7, 7, 7, 7, 7, 7, 7, 0, 0, 0, 0, 0, 0, 0,
+        ],
+    },
+    Written {
+        kind: Kind::Int(IntBits::B16, false),
+        cells: &[Given::UInt(1), Given::UInt(65535)],
+        node: (2, 0),
+        buffers: &[(0, 0), (0, 4)],
+        body: &[1, 0, 255, 255, 0, 0, 0, 0],
+    },
+    Written {
+        kind: Kind::Int(IntBits::B64, false),
+        cells: &[Given::UInt(u64::MAX)],
+        node: (1, 0),
+        buffers: &[(0, 0), (0, 8)],
+        body: &[255; 8],
+    },
+    Written {
+        kind: Kind::Bool,
+        cells: &[Given::Bool(true), Given::Null, Given::Bool(false)],
+        node: (3, 1),
+        buffers: &[(0, 1), (8, 1)],
+        body: &[5, 0, 0, 0, 0, 0, 0, 0, 1, 0, 0, 0, 0, 0, 0, 0],
+    },
+    // The ninth truth value begins a second byte.
+    Written {
+        kind: Kind::Bool,
+        cells: &[
+            Given::Bool(true),
+            Given::Bool(false),
+            Given::Bool(false),
+            Given::Bool(false),
+            Given::Bool(false),
+            Given::Bool(false),
+            Given::Bool(false),
+            Given::Bool(false),
+            Given::Bool(true),
+        ],
+        node: (9, 0),
+        buffers: &[(0, 0), (0, 2)],
+        body: &[1, 1, 0, 0, 0, 0, 0, 0],
+    },
+    Written {
+        kind: Kind::Utf8,
+        cells: &[Given::Text("é"), Given::Null, Given::Text("")],
+        node: (3, 1),
+        buffers: &[(0, 1), (8, 16), (24, 2)],
+        body: &[
+            5, 0, 0, 0, 0, 0, 0, 0, 0, 0, 0, 0, 2, 0, 0, 0, 2, 0, 0, 0, 2, 0, 0, 0, 0xc3, 0xa9, 0,
+            0, 0, 0, 0, 0,
+        ],
+    },
+    Written {
+        kind: Kind::Utf8,
+        cells: &[],
+        node: (0, 0),
+        buffers: &[(0, 0), (0, 4), (8, 0)],
+        body: &[0; 8],
+    },
+    Written {
+        kind: Kind::FixedSizeBinary(3),
+        cells: &[Given::Null, Given::Bytes(&[7, 8, 9])],
+        node: (2, 1),
+        buffers: &[(0, 1), (8, 6)],
+        body: &[2, 0, 0, 0, 0, 0, 0, 0, 0, 0, 0, 7, 8, 9, 0, 0],
+    },
+    Written {
+        kind: Kind::Milliseconds,
+        cells: &[Given::Int(86_400_000)],
+        node: (1, 0),
+        buffers: &[(0, 0), (0, 8)],
+        body: &[0, 0x5c, 0x26, 5, 0, 0, 0, 0],
+    },
+    Written {
+        kind: Kind::TimeInMilliseconds,
+        cells: &[Given::Int(1)],
+        node: (1, 0),
+        buffers: &[(0, 0), (0, 4)],
+        body: &[1, 0, 0, 0, 0, 0, 0, 0],
+    },
+    Written {
+        kind: Kind::Null,
+        cells: &[Given::Null, Given::Null],
+        node: (2, 2),
+        buffers: &[],
+        body: &[],
+    },
+    Written {
+        kind: Kind::Null,
+        cells: &[],
+        node: (0, 0),
+        buffers: &[],
+        body: &[],
+    },
+];
 
 #[test]
-fn signed_numbers(rt: HostRuntime) -> Result<(), Fail> {
-    let kind = int(IntBits::B64, true);
-    let cells = [Given::Int(1), Given::Int(-2), Given::Int(i64::MAX)];
-    let body = [
-        1, 0, 0, 0, 0, 0, 0, 0, 254, 255, 255, 255, 255, 255, 255, 255, 255, 255, 255, 255, 255,
-        255, 255, 127,
-    ];
-    assert!(rt; is_written(rt.alloc(), kind, &cells, (3, 0), &[(0, 0), (0, 24)], &body)?);
-    Ok(())
-}
-
-#[test]
-fn bytes_and_a_null(rt: HostRuntime) -> Result<(), Fail> {
-    let kind = int(IntBits::B8, true);
-    let cells = [Given::Int(-128), Given::Null, Given::Int(127)];
-    let body = [5, 0, 0, 0, 0, 0, 0, 0, 128, 0, 127, 0, 0, 0, 0, 0];
-    assert!(rt; is_written(rt.alloc(), kind, &cells, (3, 1), &[(0, 1), (8, 3)], &body)?);
-    Ok(())
-}
-
-// The bitmap that is begun at the tenth value has a bit for each of the nine before it.
-#[test]
-fn nine_numbers_and_a_null(rt: HostRuntime) -> Result<(), Fail> {
-    let kind = int(IntBits::B8, true);
-    let mut cells = [Given::Int(7); 10];
-    cells[9] = Given::Null;
-    let body = [
-        255, 1, 0, 0, 0, 0, 0, 0, 7, 7, 7, 7, 7, 7, 7, 7, 7, 0, 0, 0, 0, 0, 0, 0,
-    ];
-    assert!(rt; is_written(rt.alloc(), kind, &cells, (10, 1), &[(0, 2), (8, 10)], &body)?);
-    Ok(())
-}
-
-#[test]
-fn unsigned_numbers(rt: HostRuntime) -> Result<(), Fail> {
-    let kind = int(IntBits::B16, false);
-    let cells = [Given::UInt(1), Given::UInt(65535)];
-    let body = [1, 0, 255, 255, 0, 0, 0, 0];
-    assert!(rt; is_written(rt.alloc(), kind, &cells, (2, 0), &[(0, 0), (0, 4)], &body)?);
-    Ok(())
-}
-
-#[test]
-fn the_greatest_number(rt: HostRuntime) -> Result<(), Fail> {
-    let kind = int(IntBits::B64, false);
-    let cells = [Given::UInt(u64::MAX)];
-    let body = [255; 8];
-    assert!(rt; is_written(rt.alloc(), kind, &cells, (1, 0), &[(0, 0), (0, 8)], &body)?);
-    Ok(())
-}
-
-#[test]
-fn truth_values(rt: HostRuntime) -> Result<(), Fail> {
-    let kind = DataType::Bool;
-    let cells = [Given::Bool(true), Given::Null, Given::Bool(false)];
-    let body = [5, 0, 0, 0, 0, 0, 0, 0, 1, 0, 0, 0, 0, 0, 0, 0];
-    assert!(rt; is_written(rt.alloc(), kind, &cells, (3, 1), &[(0, 1), (8, 1)], &body)?);
-    Ok(())
-}
-
-// The ninth value begins a second byte.
-#[test]
-fn nine_truth_values(rt: HostRuntime) -> Result<(), Fail> {
-    let kind = DataType::Bool;
-    let mut cells = [Given::Bool(false); 9];
-    cells[0] = Given::Bool(true);
-    cells[8] = Given::Bool(true);
-    let body = [1, 1, 0, 0, 0, 0, 0, 0];
-    assert!(rt; is_written(rt.alloc(), kind, &cells, (9, 0), &[(0, 0), (0, 2)], &body)?);
-    Ok(())
-}
-
-#[test]
-fn texts(rt: HostRuntime) -> Result<(), Fail> {
-    let cells = [Given::Text("é"), Given::Null, Given::Text("")];
-    let buffers = [(0, 1), (8, 16), (24, 2)];
-    let body = [
-        5, 0, 0, 0, 0, 0, 0, 0, 0, 0, 0, 0, 2, 0, 0, 0, 2, 0, 0, 0, 2, 0, 0, 0, 0xc3, 0xa9, 0, 0,
-        0, 0, 0, 0,
-    ];
-    assert!(rt; is_written(rt.alloc(), DataType::Utf8, &cells, (3, 1), &buffers, &body)?);
-    Ok(())
-}
-
-#[test]
-fn no_texts(rt: HostRuntime) -> Result<(), Fail> {
-    let buffers = [(0, 0), (0, 4), (8, 0)];
-    assert!(rt; is_written(rt.alloc(), DataType::Utf8, &[], (0, 0), &buffers, &[0; 8])?);
-    Ok(())
-}
-
-#[test]
-fn fixed_sizes(rt: HostRuntime) -> Result<(), Fail> {
-    let kind = DataType::FixedSizeBinary(3);
-    let cells = [Given::Null, Given::Bytes(&[7, 8, 9])];
-    let body = [2, 0, 0, 0, 0, 0, 0, 0, 0, 0, 0, 7, 8, 9, 0, 0];
-    assert!(rt; is_written(rt.alloc(), kind, &cells, (2, 1), &[(0, 1), (8, 6)], &body)?);
-    Ok(())
-}
-
-#[test]
-fn dates(rt: HostRuntime) -> Result<(), Fail> {
-    let kind = DataType::Date(DateUnit::Millisecond);
-    let cells = [Given::Int(86_400_000)];
-    let body = [0, 0x5c, 0x26, 5, 0, 0, 0, 0];
-    assert!(rt; is_written(rt.alloc(), kind, &cells, (1, 0), &[(0, 0), (0, 8)], &body)?);
-    Ok(())
-}
-
-#[test]
-fn times(rt: HostRuntime) -> Result<(), Fail> {
-    let kind = DataType::Time(TimeUnit::Millisecond);
-    let cells = [Given::Int(1)];
-    let body = [1, 0, 0, 0, 0, 0, 0, 0];
-    assert!(rt; is_written(rt.alloc(), kind, &cells, (1, 0), &[(0, 0), (0, 4)], &body)?);
-    Ok(())
-}
-
-#[test]
-fn nulls(rt: HostRuntime) -> Result<(), Fail> {
-    let cells = [Given::Null, Given::Null];
-    assert!(rt; is_written(rt.alloc(), DataType::Null, &cells, (2, 2), &[], &[])?);
+fn columns_byte_for_byte(rt: HostRuntime) -> Result<(), Fail> {
+    for (number, column) in COLUMNS.iter().enumerate() {
+        assert!(rt; is_written(rt.alloc(), column)?, "column {number}");
+    }
     assert!(rt; NoIndices.index_of(1, &Value::Null).is_none());
     Ok(())
 }

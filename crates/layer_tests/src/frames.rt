@@ -22,8 +22,7 @@ const STREAM: [u8; 288] = [
 ];
 
 // Behind how many bytes each frame is given.
-fn ends(alloc: Global) -> Result<Vec<usize>, Fault> {
-    let mut frames = Frames::new(alloc, Limits::standard());
+fn ends(alloc: Global, frames: &mut Frames) -> Result<Vec<usize>, Fault> {
     let mut ends = Vec::new(alloc);
     for (at, byte) in STREAM.iter().enumerate() {
         let (taken, frame) = frames.feed(&[*byte])?;
@@ -34,41 +33,45 @@ fn ends(alloc: Global) -> Result<Vec<usize>, Fault> {
     Ok(ends)
 }
 
-// The frames behind so many bytes of the stream.
-fn frames_behind(alloc: Global, count: usize) -> Result<Frames, Fault> {
-    let mut frames = Frames::new(alloc, Limits::standard());
+// Feeds so many bytes of the stream, one by one.
+fn feed_first(frames: &mut Frames, count: usize) -> Result<(), Fault> {
     for byte in STREAM.iter().take(count) {
         frames.feed(&[*byte])?;
     }
-    Ok(frames)
-}
-
-// How many bytes are wanted and held behind so many.
-fn distance(alloc: Global, count: usize) -> Result<(usize, usize), Fault> {
-    let frames = frames_behind(alloc, count)?;
-    Ok((frames.wants(), frames.held()))
-}
-
-#[test]
-fn frames_are_given_with_their_last_byte(rt: HostRuntime) -> Result<(), Fail> {
-    assert!(rt; ends(rt.alloc())?.as_slice() == [120, 280, 288].as_slice());
     Ok(())
 }
 
 #[test]
+fn frames_are_given_with_their_last_byte(rt: HostRuntime) -> Result<(), Fail> {
+    let mut frames = Frames::new(rt.alloc(), Limits::standard());
+    assert!(rt; ends(rt.alloc(), &mut frames)?.as_slice() == [120, 280, 288].as_slice());
+    Ok(())
+}
+
+// Behind so many bytes: how many are wanted before the next decision, and how many are held.
+const DECISIONS: [(usize, (usize, usize)); 6] = [
+    (0, (4, 0)),
+    (5, (3, 5)),
+    (8, (112, 8)),
+    (120, (4, 0)),
+    (256, (24, 136)),
+    (288, (0, 0)),
+];
+
+#[test]
 fn bytes_before_the_next_decision(rt: HostRuntime) -> Result<(), Fail> {
-    assert!(rt; distance(rt.alloc(), 0)? == (4, 0));
-    assert!(rt; distance(rt.alloc(), 5)? == (3, 5));
-    assert!(rt; distance(rt.alloc(), 8)? == (112, 8));
-    assert!(rt; distance(rt.alloc(), 120)? == (4, 0));
-    assert!(rt; distance(rt.alloc(), 256)? == (24, 136));
-    assert!(rt; distance(rt.alloc(), 288)? == (0, 0));
+    for (count, wanted) in DECISIONS {
+        let mut frames = Frames::new(rt.alloc(), Limits::standard());
+        assert!(rt; feed_first(&mut frames, count) == Ok(()));
+        assert!(rt; (frames.wants(), frames.held()) == wanted);
+    }
     Ok(())
 }
 
 #[test]
 fn ended_inside_a_message(rt: HostRuntime) -> Result<(), Fail> {
-    let mut frames = frames_behind(rt.alloc(), 279)?;
+    let mut frames = Frames::new(rt.alloc(), Limits::standard());
+    assert!(rt; feed_first(&mut frames, 279) == Ok(()));
     assert!(rt; frames.close() == Err(Fault::Truncated));
     assert!(rt; frames.feed(&STREAM).err() == Some(Fault::Failed));
     assert!(rt; frames.held() == 0 && frames.wants() == 0);
@@ -94,15 +97,21 @@ fn is_out_of_memory(frames: &mut Frames, fault: Fault) -> bool {
     fault == Fault::OutOfMemory && again == Some(Fault::Failed) && frames.held() == 0
 }
 
+// Pushes the stream in pieces of three bytes.
+fn push_in_threes(frames: &mut Frames) -> Result<(), Fault> {
+    for piece in STREAM.chunks(3) {
+        push(frames, piece)?;
+    }
+    Ok(())
+}
+
 #[test]
 fn grows_pushed_frames(rt: HostRuntime) -> Result<(), Fail> {
     let mut frames = Frames::new(rt.alloc(), Limits::standard());
-    for piece in STREAM.chunks(3) {
-        if let Err(fault) = push(&mut frames, piece) {
-            assert!(rt; is_out_of_memory(&mut frames, fault));
-            return Err(fault.into());
-        }
+    let pushed = push_in_threes(&mut frames);
+    match pushed {
+        Ok(()) => assert!(rt; frames.close() == Ok(())),
+        Err(fault) => assert!(rt; is_out_of_memory(&mut frames, fault)),
     }
-    assert!(rt; frames.close() == Ok(()));
-    Ok(())
+    Ok(pushed?)
 }

@@ -3,7 +3,7 @@ ghost use Rattle.std.specs.Prelude.{IfOk};
 ghost use Rattle.ipc_column.specs.Dictionaries.{AreDictionaries};
 
 use crate::columns::{batch, cell_of};
-use crate::lists::{batch_under, head_of, over};
+use crate::lists::{Parts, batch_under, over};
 use ipc_column::{Batch, Cell};
 use ipc_model::{DataType, Dictionary, Fault, Field, IndexType, IntBits};
 use std::alloc::{AllocError, Global};
@@ -23,9 +23,12 @@ fn in_force(alloc: Global, values: Batch) -> Result<BTreeMap<i64, Rc<Batch>>, Fa
     Ok(all)
 }
 
-// A column of texts under signed indices of so many bits.
-fn column(alloc: Global, bits: IntBits) -> Result<Field, AllocError> {
-    let index = IndexType { bits, signed: true };
+// A column of texts under signed indices of 8 bits.
+fn column(alloc: Global) -> Result<Field, AllocError> {
+    let index = IndexType {
+        bits: IntBits::B8,
+        signed: true,
+    };
     let field = Field::new(alloc, "a", DataType::Utf8)?.nullable();
     Ok(field.with_dictionary(Dictionary {
         id: 7,
@@ -45,8 +48,19 @@ fn indexed(
 {
     // A bitmap stands in front of the indices, where there are nulls.
     let bitmap = if node.1 == 0 { 0 } else { 1 };
-    let head = head_of(alloc, &[node], &[(0, bitmap), (bitmap, node.0)])?;
-    batch_under(alloc, column(alloc, IntBits::B8)?, head, body, dictionaries)
+    let parts: Parts<'_> = (&[node], &[(0, bitmap), (bitmap, node.0)]);
+    batch_under(alloc, column(alloc)?, parts, body, dictionaries)
+}
+
+// Such a batch over these values alone.
+fn indexed_over(
+    alloc: Global,
+    node: (i64, i64),
+    body: &[u8],
+    values: Batch,
+) -> Result<Batch, Fault> {
+    let dictionaries = in_force(alloc, values)?;
+    indexed(alloc, node, body, &dictionaries)
 }
 
 // The values of a dictionary: a and b.
@@ -94,26 +108,29 @@ fn shows(batch: &Batch, row: usize, letter: u8) -> bool {
     }
 }
 
-// Batches of one letter each, before and after a dictionary takes the place of another.
+// A batch takes the values that it is given: those before, or those that took their place.
 #[test]
 fn replaced_values(rt: HostRuntime) -> Result<(), Fail> {
     let alloc = rt.alloc();
-    let before = indexed(alloc, (2, 0), &[0, 1], &in_force(alloc, a_and_b(alloc)?)?)?;
-    let after = indexed(alloc, (1, 0), &[0], &in_force(alloc, only_c(alloc)?)?)?;
+    let before = indexed_over(alloc, (2, 0), &[0, 1], a_and_b(alloc)?)?;
     assert!(rt; shows(&before, 0, b'a') && shows(&before, 1, b'b'));
-    assert!(rt; shows(&after, 0, b'c') && after.tests() == 0);
+    let after = indexed_over(alloc, (1, 0), &[0], only_c(alloc)?);
+    assert!(rt; matches!(&after, Ok(after) if shows(after, 0, b'c') && after.tests() == 0));
     Ok(())
+}
+
+// Why one index of the values that are only c is refused.
+fn refusal(alloc: Global, index: u8) -> Result<Option<Fault>, Fault> {
+    Ok(indexed_over(alloc, (1, 0), &[index], only_c(alloc)?).err())
 }
 
 // The first index that has no value, one below 0, and both below null slots.
 #[test]
 fn indices_without_values(rt: HostRuntime) -> Result<(), Fail> {
     let alloc = rt.alloc();
-    let dictionaries = in_force(alloc, only_c(alloc)?)?;
-    let first = indexed(alloc, (1, 0), &[1], &dictionaries).err();
-    let negative = indexed(alloc, (1, 0), &[0xff], &dictionaries).err();
-    assert!(rt; first == Some(Fault::BadIndex) && negative == Some(Fault::BadIndex));
-    let nulls = indexed(alloc, (3, 2), &[0b010, 1, 0, 0xff], &dictionaries)?;
+    assert!(rt; refusal(alloc, 1) == Ok(Some(Fault::BadIndex)));
+    assert!(rt; refusal(alloc, 0xff) == Ok(Some(Fault::BadIndex)));
+    let nulls = indexed_over(alloc, (3, 2), &[0b010, 1, 0, 0xff], only_c(alloc)?)?;
     assert!(rt; shows(&nulls, 0, b'-') && shows(&nulls, 1, b'c') && nulls.tests() == 3);
     Ok(())
 }
@@ -130,9 +147,7 @@ fn no_dictionary(rt: HostRuntime) -> Result<(), Fail> {
 
 #[test]
 fn null_among_the_values(rt: HostRuntime) -> Result<(), Fail> {
-    let alloc = rt.alloc();
-    let dictionaries = in_force(alloc, a_and_null(alloc)?)?;
-    let found = indexed(alloc, (2, 0), &[1, 0], &dictionaries)?;
+    let found = indexed_over(rt.alloc(), (2, 0), &[1, 0], a_and_null(rt.alloc())?)?;
     assert!(rt; shows(&found, 0, b'-') && shows(&found, 1, b'a'));
     Ok(())
 }
@@ -152,25 +167,34 @@ fn thousand(alloc: Global, last_valid: bool, last: u8) -> Result<Vec<u8>, AllocE
     Ok(body)
 }
 
-fn lists(alloc: Global, last_valid: bool, last: u8) -> Result<Batch, Fault> {
-    let field = over(alloc, DataType::List, column(alloc, IntBits::B8)?)?;
-    let nulls = if last_valid { 0 } else { 1 };
-    let nodes = [(1000, nulls), (1000, 0)];
-    let head = head_of(
-        alloc,
-        &nodes,
-        &[(0, 125), (128, 4004), (0, 0), (4132, 1000)],
-    )?;
+// How many slots of them are tested, over the values that are only c.
+fn tests(alloc: Global, last_valid: bool, last: u8) -> Result<u64, Fault> {
+    let dictionaries = in_force(alloc, only_c(alloc)?)?;
     let body = thousand(alloc, last_valid, last)?;
-    batch_under(alloc, field, head, &body, &in_force(alloc, only_c(alloc)?)?)
+    Ok(lists(alloc, last_valid, &body, &dictionaries)?.tests())
+}
+
+fn lists(
+    alloc: Global,
+    last_valid: bool,
+    body: &[u8],
+    dictionaries: &BTreeMap<i64, Rc<Batch>>,
+) -> Result<Batch, Fault>
+    requires { AreDictionaries dictionaries.now }
+{
+    let nulls = if last_valid { 0 } else { 1 };
+    let buffers = [(0, 125), (128, 4004), (0, 0), (4132, 1000)];
+    let parts: Parts<'_> = (&[(1000, nulls), (1000, 0)], &buffers);
+    let field = over(alloc, DataType::List, column(alloc)?)?;
+    batch_under(alloc, field, parts, body, dictionaries)
 }
 
 #[test]
 fn a_thousand_lists(rt: HostRuntime) -> Result<(), Fail> {
     let alloc = rt.alloc();
-    assert!(rt; lists(alloc, true, 1).err() == Some(Fault::BadIndex));
-    assert!(rt; lists(alloc, true, 0)?.tests() == 0);
-    let hidden = lists(alloc, false, 1)?.tests();
+    assert!(rt; tests(alloc, true, 1) == Err(Fault::BadIndex));
+    assert!(rt; tests(alloc, true, 0) == Ok(0));
+    let hidden = tests(alloc, false, 1)?;
     assert!(rt; 0 < hidden && hidden <= 2000);
     Ok(())
 }

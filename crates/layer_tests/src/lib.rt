@@ -16,6 +16,8 @@ mod flat;
 #[cfg(test)]
 mod frames;
 #[cfg(test)]
+mod index_columns;
+#[cfg(test)]
 mod indices;
 #[cfg(test)]
 mod items;

@@ -1,29 +1,20 @@
 //! Rows that fit a schema and rows that don't, and copies.
 
 use ipc_model::{
-    BatchRows, DataType, DateUnit, Fault, Field, IntBits, Items, Limits, RowCause, RowFault,
-    Schema, Table, Text, Value, conforms,
+    BatchRows, DataType, DateUnit, Fault, Field, IntBits, Items, Limits, Row, RowCause, Schema,
+    Table, Text, Value, conforms,
 };
 use std::alloc::{AllocError, Global};
 use std::test::Fail;
 
-fn items<T: Drop>(alloc: Global, first: T, second: T) -> Result<Items<T>, AllocError> {
-    let mut all = Vec::with_capacity(alloc, 2)?;
-    all.push(first)?;
-    all.push(second)?;
-    Ok(Items::from_vec(all))
-}
-
 // A nullable column of pairs, each of which has a date in milliseconds and a required text.
 fn pairs(alloc: Global) -> Result<Field, AllocError> {
-    let date = Field::new(alloc, "date", DataType::Date(DateUnit::Millisecond))?.nullable();
-    let name = Field::new(alloc, "name", DataType::Utf8)?;
-    let children = items(alloc, date, name)?.into_vec();
-    Ok(
-        Field::new(alloc, "pair", DataType::Struct)?
-            .nullable()
-            .with_children(children),
-    )
+    let mut children = Vec::new(alloc);
+    let date = DataType::Date(DateUnit::Millisecond);
+    children.push(Field::new(alloc, "date", date)?.nullable())?;
+    children.push(Field::new(alloc, "name", DataType::Utf8)?)?;
+    let field = Field::new(alloc, "pair", DataType::Struct)?;
+    Ok(field.nullable().with_children(children))
 }
 
 // A required column of signed numbers of 8 bits, and one of pairs.
@@ -32,42 +23,44 @@ fn schema(alloc: Global) -> Result<Schema, AllocError> {
         bits: IntBits::B8,
         signed: true,
     };
-    let number = Field::new(alloc, "number", byte)?;
-    let fields = items(alloc, number, pairs(alloc)?)?;
-    Ok(Schema::new(fields.into_vec()))
+    let mut fields = Vec::new(alloc);
+    fields.push(Field::new(alloc, "number", byte)?)?;
+    fields.push(pairs(alloc)?)?;
+    Ok(Schema::new(fields))
 }
 
 fn pair(alloc: Global, date: i64, name: &str) -> Result<Value, AllocError> {
-    let name = Value::text(alloc, name)?;
-    Ok(Value::Struct(items(alloc, Value::Int(date), name)?))
+    let mut values = Vec::new(alloc);
+    values.push(Value::Int(date))?;
+    values.push(Value::text(alloc, name)?)?;
+    Ok(Value::Struct(Items::from_vec(values)))
 }
 
-// Whether a row of two values fits the schema.
+// Why a row doesn't fit a schema: none where it does.
 #[tactic(auto, using(ipc_model::proofs::Depths::short_paths))]
-fn judged(alloc: Global, first: Value, second: Value) -> Result<Result<(), RowFault>, Fault> {
-    let schema = schema(alloc)?;
+fn cause_under(alloc: Global, schema: &Schema, row: &[Value]) -> Result<Option<RowCause>, Fault> {
     schema.check(alloc, &Limits::standard())?;
-    let row = items(alloc, first, second)?;
-    Ok(conforms(&schema, row.as_slice()))
-}
-
-// Why a row of two values doesn't fit the schema: none where it does.
-fn cause_of(alloc: Global, first: Value, second: Value) -> Result<Option<RowCause>, Fault> {
-    match judged(alloc, first, second)? {
+    match conforms(schema, row) {
         Ok(()) => Ok(None),
         Err(fault) => Ok(Some(fault.cause)),
     }
+}
+
+// Why a row of two values doesn't fit the schema: none where it does.
+fn cause_of(alloc: Global, row: &[Value; 2]) -> Result<Option<RowCause>, Fault> {
+    let schema = schema(alloc)?;
+    cause_under(alloc, &schema, row)
 }
 
 #[test]
 fn rows_that_fit(rt: HostRuntime) -> Result<(), Fail> {
     let alloc = rt.alloc();
     for number in [-128, 0, 127] {
-        assert!(rt; cause_of(alloc, Value::Int(number), Value::Null)?.is_none());
+        assert!(rt; cause_of(alloc, &[Value::Int(number), Value::Null])?.is_none());
     }
     for date in [-86_400_000, 0, 86_400_000] {
-        let value = pair(alloc, date, "é")?;
-        assert!(rt; cause_of(alloc, Value::Int(1), value)?.is_none());
+        let row = [Value::Int(1), pair(alloc, date, "é")?];
+        assert!(rt; cause_of(alloc, &row) == Ok(None));
     }
     Ok(())
 }
@@ -76,41 +69,59 @@ fn rows_that_fit(rt: HostRuntime) -> Result<(), Fail> {
 fn rows_that_do_not_fit(rt: HostRuntime) -> Result<(), Fail> {
     let alloc = rt.alloc();
     let cases = [
-        (Value::Int(128), Value::Null, RowCause::OutOfRange),
-        (Value::Int(-129), Value::Null, RowCause::OutOfRange),
-        (Value::UInt(1), Value::Null, RowCause::WrongKind),
-        (Value::Null, Value::Null, RowCause::NullNotAllowed),
-        (Value::Int(1), Value::Bool(true), RowCause::WrongKind),
+        ([Value::Int(128), Value::Null], RowCause::OutOfRange),
+        ([Value::Int(-129), Value::Null], RowCause::OutOfRange),
+        ([Value::UInt(1), Value::Null], RowCause::WrongKind),
+        ([Value::Null, Value::Null], RowCause::NullNotAllowed),
+        ([Value::Int(1), Value::Bool(true)], RowCause::WrongKind),
     ];
-    for (first, second, cause) in cases {
-        assert!(rt; cause_of(alloc, first, second)? == Some(cause));
+    for (row, cause) in &cases {
+        assert!(rt; cause_of(alloc, row) == Ok(Some(*cause)));
     }
     Ok(())
 }
 
-// A table with one batch of two equal rows.
+fn row(alloc: Global) -> Result<Row, AllocError> {
+    let mut values = Vec::new(alloc);
+    values.push(Value::Int(1))?;
+    values.push(pair(alloc, 0, "é")?)?;
+    Ok(Items::from_vec(values))
+}
+
+// A batch of two equal rows, with a pair.
+fn batch(alloc: Global) -> Result<BatchRows, AllocError> {
+    let mut rows = Vec::new(alloc);
+    for _ in 0..2 {
+        rows.push(row(alloc)?)?;
+    }
+    let mut pairs = Vec::new(alloc);
+    pairs.push((Text::copied(alloc, "k")?, Text::copied(alloc, "k")?))?;
+    Ok(BatchRows::new(rows).with_pairs(pairs))
+}
+
+// A table with one batch.
 fn table(alloc: Global) -> Result<Table, AllocError> {
-    let first = items(alloc, Value::Int(1), pair(alloc, 0, "é")?)?;
-    let second = first.clone()?;
     let mut batches = Vec::new(alloc);
-    let name = Text::from_string(String::from_str(alloc, "k")?);
-    let pairs = vec![in alloc; (name.clone()?, name)]?;
-    batches.push(BatchRows::new(items(alloc, first, second)?.into_vec()).with_pairs(pairs))?;
+    batches.push(batch(alloc)?)?;
     Ok(Table {
         schema: schema(alloc)?,
         batches: Items::from_vec(batches),
     })
 }
 
+fn is_copied(table: &Table) -> Result<bool, AllocError> {
+    Ok(table.clone()?.is_same(table))
+}
+
 #[test]
 fn grows_copies(rt: HostRuntime) -> Result<(), Fail> {
-    let one = table(rt.alloc())?;
-    assert!(rt; one.clone()?.is_same(&one));
+    let table = table(rt.alloc())?;
+    assert!(rt; is_copied(&table)?);
     Ok(())
 }
 
 #[test]
 fn grows_a_judged_row(rt: HostRuntime) -> Result<(), Fail> {
-    assert!(rt; judged(rt.alloc(), Value::Int(1), Value::Null)?.is_ok());
+    assert!(rt; cause_of(rt.alloc(), &[Value::Int(1), Value::Null])?.is_none());
     Ok(())
 }

@@ -1,4 +1,5 @@
 //! Rows of lists and structs taken one at a time, byte for byte.
+use crate::building::limits_of;
 use ipc_encode::{Builder, NoIndices, Parts, Room, SameNumbers};
 use ipc_model::{DataType, Field, IntBits, Items, Limits, Value, WriteFault};
 use std::alloc::{AllocError, Global};
@@ -15,17 +16,32 @@ fn number(alloc: Global, name: &str) -> Result<Field, AllocError> {
 
 // A field of lists of bytes with this name.
 fn list(alloc: Global, name: &str) -> Result<Field, AllocError> {
-    let item = number(alloc, "item")?;
-    let field = Field::new(alloc, name, DataType::List)?.nullable();
-    Ok(field.with_children(vec![in alloc; item]?))
+    let mut items = Vec::new(alloc);
+    items.push(number(alloc, "item")?)?;
+    let field = Field::new(alloc, name, DataType::List)?;
+    Ok(field.nullable().with_children(items))
+}
+
+// A field of structs of a byte and of a list.
+fn pair(alloc: Global) -> Result<Field, AllocError> {
+    let mut parts = Vec::new(alloc);
+    parts.push(number(alloc, "number")?)?;
+    parts.push(list(alloc, "list")?)?;
+    let field = Field::new(alloc, "second", DataType::Struct)?;
+    Ok(field.nullable().with_children(parts))
 }
 
 // A list of bytes, and a struct of a byte and of a list.
+fn fields_of(alloc: Global) -> Result<Vec<Field>, AllocError> {
+    let mut fields = Vec::new(alloc);
+    fields.push(list(alloc, "first")?)?;
+    fields.push(pair(alloc)?)?;
+    Ok(fields)
+}
+
 fn builder_of(alloc: Global, limits: &Limits, room: Room) -> Result<Builder, WriteFault> {
-    let first = list(alloc, "first")?;
-    let parts = vec![in alloc; number(alloc, "number")?, list(alloc, "list")?]?;
-    let second = Field::new(alloc, "second", DataType::Struct)?.nullable();
-    Builder::with_room(alloc, &[first, second.with_children(parts)], limits, room)
+    let fields = fields_of(alloc)?;
+    Builder::with_room(alloc, &fields, limits, room)
 }
 
 // A list of these numbers, of which 0 stands for null.
@@ -40,10 +56,35 @@ fn list_of(alloc: Global, numbers: &[i64]) -> Result<Value, AllocError> {
     Ok(Value::List(Items::from_vec(items)))
 }
 
-// A struct of a number and of a list.
-fn struct_of(alloc: Global, number: i64, list: Value) -> Result<Value, AllocError> {
-    let parts = vec![in alloc; Value::Int(number), list]?;
+// A struct of 7 and of a list of 1.
+fn seven(alloc: Global) -> Result<Value, AllocError> {
+    let mut parts = Vec::new(alloc);
+    parts.push(Value::Int(7))?;
+    parts.push(list_of(alloc, &[1])?)?;
     Ok(Value::Struct(Items::from_vec(parts)))
+}
+
+// A struct of 9, with a part too few.
+fn nine(alloc: Global) -> Result<Value, AllocError> {
+    let mut parts = Vec::new(alloc);
+    parts.push(Value::Int(9))?;
+    Ok(Value::Struct(Items::from_vec(parts)))
+}
+
+// Three rows: with nulls, null themselves, and with an empty list and a struct with a part too few.
+fn row_of(alloc: Global, number: u8) -> Result<Vec<Value>, AllocError> {
+    let mut row = Vec::new(alloc);
+    row.push(match number {
+        0 => list_of(alloc, &[1, 0, 3])?,
+        1 => Value::Null,
+        _ => list_of(alloc, &[])?,
+    })?;
+    row.push(match number {
+        0 => seven(alloc)?,
+        1 => Value::Null,
+        _ => nine(alloc)?,
+    })?;
+    Ok(row)
 }
 
 // Takes a row, where it fits.
@@ -52,17 +93,12 @@ fn push(builder: &mut Builder, row: &[Value]) -> Result<(), WriteFault> {
     builder.push(row, &NoIndices)
 }
 
-// Takes three rows: with nulls, null themselves, and with an empty list and a struct with a part
-// too few.
+// Takes the three rows.
 fn push_all(alloc: Global, builder: &mut Builder) -> Result<(), WriteFault> {
-    let one = struct_of(alloc, 7, list_of(alloc, &[1])?)?;
-    push(builder, &[list_of(alloc, &[1, 0, 3])?, one])?;
-    push(builder, &[Value::Null, Value::Null])?;
-    let nine = vec![in alloc; Value::Int(9)]?;
-    push(
-        builder,
-        &[list_of(alloc, &[])?, Value::Struct(Items::from_vec(nine))],
-    )
+    for number in 0..3 {
+        push(builder, &row_of(alloc, number)?)?;
+    }
+    Ok(())
 }
 
 // The nodes of the three rows: a list, its items, a struct, its number, its list, and the items of
@@ -97,58 +133,46 @@ fn are_the_rows(parts: &Parts) -> bool {
         && parts.body.as_slice() == BODY.as_slice()
 }
 
+// Takes the three rows, and gives their parts.
+fn finished(alloc: Global, builder: Builder) -> Result<Parts, WriteFault> {
+    let mut builder = builder;
+    push_all(alloc, &mut builder)?;
+    builder.finish(&SameNumbers)
+}
+
+// The rows are written alike in the room that an earlier builder leaves.
 #[test]
 fn lists_and_structs(rt: HostRuntime) -> Result<(), Fail> {
     let alloc = rt.alloc();
-    let limits = Limits::standard();
-    let mut builder = builder_of(alloc, &limits, Room::new(alloc))?;
-    push_all(alloc, &mut builder)?;
-    let parts = builder.finish(&SameNumbers)?;
-    assert!(rt; are_the_rows(&parts));
-    let mut again = builder_of(alloc, &limits, parts.room)?;
-    push_all(alloc, &mut again)?;
-    assert!(rt; are_the_rows(&again.finish(&SameNumbers)?));
+    let mut room = Room::new(alloc);
+    for _ in 0..2 {
+        let parts = finished(alloc, builder_of(alloc, &Limits::standard(), room)?)?;
+        assert!(rt; are_the_rows(&parts));
+        room = parts.room;
+    }
     Ok(())
 }
 
-// The standard limits with these on the body and on the rows of a batch.
-fn limits_of(body: u64, slots: u64) -> Option<Limits> {
-    let standard = Limits::standard();
-    Limits::new(
-        standard.metadata,
-        body,
-        slots,
-        standard.fields,
-        standard.depth,
-        standard.text,
-        standard.pairs,
-    )
+// Whether a builder takes a row of such a list, and of null.
+fn takes(alloc: Global, builder: &mut Builder, numbers: &[i64]) -> Result<(), WriteFault> {
+    builder.fits(&[list_of(alloc, numbers)?, Value::Null])
 }
 
-// What is answered where a list of three items comes before the three rows, and whether these are
-// then taken.
-fn refusal(alloc: Global, limits: &Limits) -> Result<(WriteFault, bool), WriteFault> {
-    let mut builder = builder_of(alloc, limits, Room::new(alloc))?;
-    let row = [list_of(alloc, &[1, 2, 3])?, Value::Null];
-    builder.push(&row, &NoIndices)?;
-    let fault = match builder.fits(&[list_of(alloc, &[4])?, Value::Null]) {
-        Ok(()) => WriteFault::Failed,
-        Err(fault) => fault,
-    };
-    let fits = builder.fits(&[list_of(alloc, &[])?, Value::Null]).is_ok();
-    Ok((fault, fits))
+fn push_list(alloc: Global, builder: &mut Builder, numbers: &[i64]) -> Result<(), WriteFault> {
+    let row = [list_of(alloc, numbers)?, Value::Null];
+    builder.push(&row, &NoIndices)
 }
 
-// The items of a list's child count as its rows do.
+// The items of a list's child count as its rows do: behind three of them no fourth is taken, and an
+// empty list is.
 #[test]
 fn items_up_to_their_limit(rt: HostRuntime) -> Result<(), Fail> {
-    let Some(limits) = limits_of(1 << 40, 3) else {
-        assert!(rt; false);
-        return Ok(());
-    };
-    let (fault, fits) = refusal(rt.alloc(), &limits)?;
-    assert!(rt; matches!(fault, WriteFault::TooManyRows));
-    assert!(rt; fits);
+    let alloc = rt.alloc();
+    let limits = limits_of(1 << 40, 3).ok_or("limits")?;
+    let mut builder = builder_of(alloc, &limits, Room::new(alloc))?;
+    assert!(rt; push_list(alloc, &mut builder, &[1, 2, 3]) == Ok(()));
+    assert!(rt; takes(alloc, &mut builder, &[4]) == Err(WriteFault::TooManyRows));
+    assert!(rt; takes(alloc, &mut builder, &[]) == Ok(()));
     Ok(())
 }
 
@@ -156,15 +180,12 @@ fn items_up_to_their_limit(rt: HostRuntime) -> Result<(), Fail> {
 #[test]
 fn a_nested_body_up_to_its_limit(rt: HostRuntime) -> Result<(), Fail> {
     let alloc = rt.alloc();
-    let (Some(enough), Some(less)) = (limits_of(96, 100), limits_of(95, 100)) else {
-        assert!(rt; false);
-        return Ok(());
-    };
-    let mut builder = builder_of(alloc, &enough, Room::new(alloc))?;
-    push_all(alloc, &mut builder)?;
-    let mut shorter = builder_of(alloc, &less, Room::new(alloc))?;
-    let fault = push_all(alloc, &mut shorter).err();
-    assert!(rt; matches!(fault, Some(WriteFault::TooLong)));
-    assert!(rt; shorter.row_count() == 1);
+    let too_long = Err(WriteFault::TooLong);
+    for (body, wanted, rows) in [(96, Ok(()), 3), (95, too_long, 1)] {
+        let limits = limits_of(body, 100).ok_or("limits")?;
+        let mut builder = builder_of(alloc, &limits, Room::new(alloc))?;
+        assert!(rt; push_all(alloc, &mut builder) == wanted);
+        assert!(rt; builder.row_count() == rows);
+    }
     Ok(())
 }

@@ -5,7 +5,7 @@ ghost use Rattle.ipc_build.specs.Trees.{view};
 ghost use Rattle.ipc_build.specs.Ascends.{fields, Ascends};
 
 use ipc_build::{BuildFault, FlatTree, Slot, build};
-use ipc_flat::Flat;
+use ipc_flat::{Flat, TableRef};
 use ipc_model::{Items, Text};
 use std::alloc::{AllocError, Global};
 use std::test::Fail;
@@ -71,45 +71,47 @@ fn built(alloc: Global) -> Result<Vec<u8>, Fail> {
     Ok(build(alloc, &tree, 1 << 24)?)
 }
 
-#[test]
-fn scalars_come_back(rt: HostRuntime) -> Result<(), Fail> {
-    let bytes = built(rt.alloc())?;
-    let table = Flat::root(&bytes).ok().ok_or("a table")?;
-    assert!(rt; matches!(table.scalar_u8(0, 0), Ok(200)));
-    assert!(rt; matches!(table.scalar_u8(1, 0), Ok(1)));
-    assert!(rt; matches!(table.scalar_i16(2, 0), Ok(-2)));
-    assert!(rt; matches!(table.scalar_i32(3, 0), Ok(i32::MIN)));
-    assert!(rt; matches!(table.scalar_i64(4, 0), Ok(-3)));
-    for absent in [5, 7, 11, 15] {
-        assert!(rt;
-            matches!(table.scalar_i32(absent, 9), Ok(9)),
-            "field {absent}"
-        );
+fn has_scalars(table: &TableRef<'_>) -> bool {
+    matches!(table.scalar_u8(0, 0), Ok(200))
+        && matches!(table.scalar_u8(1, 0), Ok(1))
+        && matches!(table.scalar_i16(2, 0), Ok(-2))
+        && matches!(table.scalar_i32(3, 0), Ok(i32::MIN))
+        && matches!(table.scalar_i64(4, 0), Ok(-3))
+}
+
+fn has_references(table: &TableRef<'_>) -> bool {
+    let has_text = matches!(table.text(6), Ok(Some("é1")));
+    match table.table(8) {
+        Ok(Some(inner)) => has_text && matches!(inner.text(0), Ok(Some("inner"))),
+        _ => false,
     }
-    Ok(())
 }
 
 #[test]
-fn references_come_back(rt: HostRuntime) -> Result<(), Fail> {
+fn fields_come_back(rt: HostRuntime) -> Result<(), Fail> {
     let bytes = built(rt.alloc())?;
-    let table = Flat::root(&bytes).ok().ok_or("a table")?;
-    assert!(rt; matches!(table.text(6), Ok(Some("é1"))));
-    let inner = table.table(8).ok().flatten().ok_or("a table")?;
-    assert!(rt; matches!(inner.text(0), Ok(Some("inner"))));
+    let Ok(table) = Flat::root(&bytes) else {
+        return Err(Fail::from("a table"));
+    };
+    assert!(rt; has_scalars(&table) && has_references(&table));
+    for absent in [5, 7, 11, 15] {
+        assert!(rt; matches!(table.scalar_i32(absent, 9), Ok(9)));
+    }
     Ok(())
 }
 
 // By hand: the root offset, then the vtable of four entries at 4, and the table at 20, after zeros,
 // with the distance 16 to its vtable; field 3 is at 24, 4 behind the table.
+const ONE_SCALAR: [u8; 32] = [
+    20, 0, 0, 0, 12, 0, 12, 0, 0, 0, 0, 0, 0, 0, 4, 0, 0, 0, 0, 0, 16, 0, 0, 0, 42, 0, 0, 0, 0, 0,
+    0, 0,
+];
+
 #[test]
 fn one_scalar_byte_for_byte(rt: HostRuntime) -> Result<(), Fail> {
     let tree = one_scalar(rt.alloc())?;
-    let bytes = build(rt.alloc(), &tree, 1 << 24).ok().ok_or("bytes")?;
-    let expected: [u8; 32] = [
-        20, 0, 0, 0, 12, 0, 12, 0, 0, 0, 0, 0, 0, 0, 4, 0, 0, 0, 0, 0, 16, 0, 0, 0, 42, 0, 0, 0, 0,
-        0, 0, 0,
-    ];
-    assert_eq!(rt; bytes.as_slice(), &expected[..]);
+    let built = build(rt.alloc(), &tree, 1 << 24);
+    assert!(rt; matches!(&built, Ok(bytes) if bytes.as_slice() == ONE_SCALAR.as_slice()));
     Ok(())
 }
 

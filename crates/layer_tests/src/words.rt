@@ -3,8 +3,8 @@
 use ipc_build::BuildFault;
 use ipc_flat::FlatFault;
 use ipc_model::{
-    DataType, DateUnit, Dictionary, Fault, Field, IndexType, IntBits, Limits, RowCause, RowFault,
-    Schema, SchemaFault, Text, Value, WriteFault, conforms,
+    DataType, DateUnit, Dictionary, Fault, Field, IndexType, IntBits, Items, Limits, RowCause,
+    RowFault, Schema, SchemaFault, Text, Value, WriteFault, conforms,
 };
 use std::alloc::{AllocError, Global};
 use std::fmt::Display;
@@ -24,9 +24,9 @@ const DICTIONARY: Dictionary = Dictionary {
 };
 
 fn pairs(alloc: Global) -> Result<Vec<(Text, Text)>, AllocError> {
-    let key = Text::copied(alloc, "key")?;
-    let value = Text::copied(alloc, "value")?;
-    Ok(vec![in alloc; (key, value)]?)
+    let mut pairs = Vec::new(alloc);
+    pairs.push((Text::copied(alloc, "key")?, Text::copied(alloc, "value")?))?;
+    Ok(pairs)
 }
 
 #[test]
@@ -39,30 +39,39 @@ fn a_field_in_one_line(rt: HostRuntime) -> Result<(), Fail> {
     Ok(())
 }
 
-// What is said of a value alone in a row, where it doesn't fit its column.
+// What is said of a row that doesn't fit a schema.
 #[tactic(auto, using(ipc_model::proofs::Depths::short_paths))]
-fn fault_of(alloc: Global, column: Field, value: Value) -> Result<Option<RowFault>, Fault> {
-    let schema = Schema::new(vec![in alloc; column]?);
+fn fault_of(alloc: Global, schema: &Schema, row: &[Value]) -> Result<Option<RowFault>, Fault> {
     schema.check(alloc, &Limits::standard())?;
-    Ok(conforms(&schema, &[value]).err())
+    Ok(conforms(schema, row).err())
+}
+
+// A column of this type over one child.
+fn schema_over(alloc: Global, kind: DataType, child: DataType) -> Result<Schema, AllocError> {
+    let mut children = Vec::new(alloc);
+    children.push(Field::new(alloc, "child", child)?)?;
+    let mut fields = Vec::new(alloc);
+    fields.push(Field::new(alloc, "column", kind)?.with_children(children))?;
+    Ok(Schema::new(fields))
+}
+
+fn one(alloc: Global) -> Result<Items<Value>, AllocError> {
+    let mut values = Vec::new(alloc);
+    values.push(Value::Int(1))?;
+    Ok(Items::from_vec(values))
 }
 
 // A number in the place of a struct's text.
 fn fault_below(alloc: Global) -> Result<Option<RowFault>, Fault> {
-    let name = Field::new(alloc, "name", DataType::Utf8)?;
-    let children = vec![in alloc; name]?;
-    let column = Field::new(alloc, "names", DataType::Struct)?.with_children(children);
-    let values = vec![in alloc; Value::Int(1)]?;
-    fault_of(alloc, column, Value::Struct(values.into()))
+    let schema = schema_over(alloc, DataType::Struct, DataType::Utf8)?;
+    fault_of(alloc, &schema, &[Value::Struct(one(alloc)?)])
 }
 
 // One number where each list has two.
 fn fault_of_a_length(alloc: Global) -> Result<Option<RowFault>, Fault> {
-    let number = Field::new(alloc, "number", DataType::Date(DateUnit::Day))?;
-    let children = vec![in alloc; number]?;
-    let column = Field::new(alloc, "pairs", DataType::FixedSizeList(2))?.with_children(children);
-    let values = vec![in alloc; Value::Int(1)]?;
-    fault_of(alloc, column, Value::List(values.into()))
+    let day = DataType::Date(DateUnit::Day);
+    let schema = schema_over(alloc, DataType::FixedSizeList(2), day)?;
+    fault_of(alloc, &schema, &[Value::List(one(alloc)?)])
 }
 
 #[test]

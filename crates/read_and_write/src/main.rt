@@ -9,23 +9,38 @@ use ipc_stream::{
 use std::alloc::{AllocError, Global};
 use std::process::ExitCode;
 
-// Two batches of a row, as a stream in memory.
-fn write(alloc: Global) -> Result<Memory, WriteFault> {
+// The columns: a number, a name, which may be null, and a day.
+fn columns(alloc: Global) -> Result<Schema, WriteFault> {
     let number = DataType::Int {
         bits: IntBits::B64,
         signed: true,
     };
-    let schema = Schema::new(vec![in alloc;
+    Ok(Schema::new(vec![in alloc;
         Field::new(alloc, "number", number)?,
         Field::new(alloc, "name", DataType::Utf8)?.nullable(),
         Field::new(alloc, "day", DataType::Date(DateUnit::Day))?,
-    ]?);
-    let first = vec![in alloc; Value::Int(1), Value::text(alloc, "one")?, Value::Int(0)]?;
-    let second = vec![in alloc; Value::Int(-2), Value::Null, Value::Int(19_000)]?;
+    ]?))
+}
+
+// A batch of one row.
+fn batch(alloc: Global, number: i64, name: Value, day: i64) -> Result<BatchRows, WriteFault> {
+    let row = vec![in alloc; Value::Int(number), name, Value::Int(day)]?;
+    Ok(BatchRows::new(vec![in alloc; Row::from(row)]?))
+}
+
+// Writes two batches.
+fn write_batches(alloc: Global, stream: &mut StreamWriter<Memory>) -> Result<(), WriteFault> {
+    let first = batch(alloc, 1, Value::text(alloc, "one")?, 0)?;
+    stream.write_batch(&first)?;
+    stream.write_batch(&batch(alloc, -2, Value::Null, 19_000)?)
+}
+
+// Two batches of a row, as a stream in memory.
+fn write(alloc: Global) -> Result<Memory, WriteFault> {
+    let schema = columns(alloc)?;
     let sink = Memory::new(Vec::new(alloc));
     let mut stream = StreamWriter::start(alloc, Limits::standard(), sink, &schema)?;
-    stream.write_batch(&BatchRows::new(vec![in alloc; Row::from(first)]?))?;
-    stream.write_batch(&BatchRows::new(vec![in alloc; Row::from(second)]?))?;
+    write_batches(alloc, &mut stream)?;
     Ok(stream.finish()?)
 }
 
@@ -36,8 +51,7 @@ fn read(alloc: Global, source: Memory) -> Result<String, Fault> {
     while let Some((batch, _pairs)) = stream.next()? {
         for row in 0..batch.rows() {
             for (column, field) in stream.fields().iter().enumerate() {
-                let cell = spell(alloc, &field.kind, batch.cell(row, column))?;
-                text.push_str(cell.as_str())?;
+                spell(alloc, &field.kind, batch.cell(row, column), &mut text)?;
             }
             text.push('\n')?;
         }
@@ -45,8 +59,20 @@ fn read(alloc: Global, source: Memory) -> Result<String, Fault> {
     Ok(text)
 }
 
-// A cell of a column of this type.
-fn spell(alloc: Global, kind: &DataType, cell: Cell<'_>) -> Result<String, AllocError> {
+// Adds a cell of a column of this type to a text.
+fn spell(
+    alloc: Global,
+    kind: &DataType,
+    cell: Cell<'_>,
+    text: &mut String,
+) -> Result<(), AllocError> {
+    let word = word_of(alloc, kind, cell)?;
+    text.push_str(word.as_str())?;
+    Ok(())
+}
+
+// What is printed of a cell of a column of this type.
+fn word_of(alloc: Global, kind: &DataType, cell: Cell<'_>) -> Result<String, AllocError> {
     match (kind, cell) {
         (_, Cell::Null) => String::from_str(alloc, "null "),
         (DataType::Date(DateUnit::Day), Cell::Int(day)) => {

@@ -1,32 +1,29 @@
-//! Writers of std as sinks, and values out of their type's range, through every call that writes
-//! rows.
+//! Sinks that take few bytes in a call or fail, and writers of std as sinks.
 
-use crate::tables::{empty, numbers, row, schema_of, started, written};
-use ipc_model::{BatchRows, DataType, DateUnit, IntBits, Items, Limits, Table, Value, WriteFault};
-use ipc_stream::{Device, write_table};
+use crate::scripts::{Step, played, stream_of, tell};
+use crate::tables::{Column, NUMBERS, empty};
+use ipc_model::{Limits, Table};
+use ipc_stream::{Device, Limited, write_table};
 use std::alloc::{AllocError, Global};
 use std::io;
 use std::io::Write;
 use std::test::Fail;
 
-// A writer that takes few bytes in a call and fails after so many calls; its flush works or fails.
+// A writer that takes three bytes in a call and fails after so many calls; its flush works or
+// fails.
 #[derive(Drop)]
 struct Narrow {
     bytes: Vec<u8>,
-    step: usize,
     calls_left: u32,
     flushes: bool,
 }
 
-impl Narrow {
-    fn new(alloc: Global, calls: u32, flushes: bool) -> Narrow {
-        Narrow {
-            bytes: Vec::new(alloc),
-            step: 3,
-            calls_left: calls,
-            flushes,
-        }
-    }
+fn device_of(alloc: Global, calls: u32, flushes: bool) -> Device<Narrow> {
+    Device::new(Narrow {
+        bytes: Vec::new(alloc),
+        calls_left: calls,
+        flushes,
+    })
 }
 
 fn broken() -> io::Error {
@@ -39,13 +36,11 @@ impl Write for Narrow {
             return Err(broken());
         }
         self.calls_left -= 1;
-        let count = self.step.min(bytes.len());
-        for byte in &bytes[..count] {
-            if self.bytes.push(*byte).is_err() {
-                return Err(broken());
-            }
+        let count = bytes.len().min(3);
+        match self.bytes.extend_from_slice(&bytes[..count]) {
+            Ok(()) => Ok(count),
+            Err(_) => Err(broken()),
         }
-        Ok(count)
     }
 
     fn flush(&mut self) -> io::Result<()> {
@@ -53,133 +48,147 @@ impl Write for Narrow {
     }
 }
 
-// Why a table isn't written whole, none where it is, and what went out.
-fn table_refused(alloc: Global, table: &Table, sink: Narrow) -> (Option<WriteFault>, Vec<u8>) {
-    let mut sink = Device::new(sink);
-    let fault = write_table(alloc, &Limits::standard(), &mut sink, table).err();
-    (fault, sink.into_inner().bytes)
-}
+const FAILS_TWICE: &str = "W9 Write\nW9 Write\n";
 
-#[test]
-fn writes_to_a_writer_that_takes_three_bytes(rt: HostRuntime) -> Result<(), Fail> {
-    let table = numbers(rt.alloc())?;
-    let whole = written(rt.alloc(), &table)?;
-    let sink = Narrow::new(rt.alloc(), u32::MAX, true);
-    let (fault, bytes) = table_refused(rt.alloc(), &table, sink);
-    assert!(rt; fault.is_none() && bytes.as_slice() == whole.as_slice());
-    Ok(())
-}
+// For how many calls a writer takes bytes, whether it flushes, what is told, and how many bytes it
+// has then. A flush that fails is W9, after all bytes went out.
+const WRITERS: [(u32, bool, &str, usize); 3] = [
+    (u32::MAX, true, "", usize::MAX),
+    (5, true, FAILS_TWICE, 15),
+    (u32::MAX, false, FAILS_TWICE, usize::MAX),
+];
 
-// Each call after the failed one fails too, and the writer isn't asked again.
-#[test]
-fn tells_a_writer_that_fails(rt: HostRuntime) -> Result<(), Fail> {
-    let alloc = rt.alloc();
-    let table = numbers(alloc)?;
-    let mut sink = Device::new(Narrow::new(alloc, 5, true));
-    for _ in 0..2 {
-        let fault = write_table(alloc, &Limits::standard(), &mut sink, &table).err();
-        assert!(rt; fault == Some(WriteFault::Write));
-    }
-    let whole = written(alloc, &table)?;
-    assert!(rt; Some(sink.into_inner().bytes.as_slice()) == whole.get(..15));
-    Ok(())
-}
-
-// A flush that fails is W9, after all bytes went out.
-#[test]
-fn tells_a_writer_whose_flush_fails(rt: HostRuntime) -> Result<(), Fail> {
-    let table = numbers(rt.alloc())?;
-    let whole = written(rt.alloc(), &table)?;
-    let sink = Narrow::new(rt.alloc(), u32::MAX, false);
-    let (fault, bytes) = table_refused(rt.alloc(), &table, sink);
-    assert!(rt; fault == Some(WriteFault::Write) && bytes.as_slice() == whole.as_slice());
-    Ok(())
-}
-
-// The same batch by batch: why the writer isn't finished, and what went out.
-fn finish_refused(
+// Writes a table, and again where it is refused.
+fn write_twice(
     alloc: Global,
+    sink: &mut Device<Narrow>,
     table: &Table,
-    sink: Narrow,
-) -> Result<(WriteFault, Vec<u8>), Fail> {
-    let mut writer = started(alloc, Device::new(sink), &table.schema)?;
-    for batch in table.batches.as_slice() {
-        writer.write_batch(batch)?;
+    told: &mut String,
+) -> Result<(), AllocError> {
+    for _ in 0..2 {
+        let answer = write_table(alloc, &Limits::standard(), sink, table);
+        if answer.is_ok() {
+            break;
+        }
+        tell(alloc, told, answer)?;
     }
-    let (fault, sink) = writer.finish().err().ok_or("a refusal")?;
-    Ok((fault, sink.into_inner().bytes))
+    Ok(())
 }
 
+// What a writer has of a table then.
+fn written_twice(
+    alloc: Global,
+    sink: Device<Narrow>,
+    table: &Table,
+    told: &mut String,
+) -> Result<Vec<u8>, AllocError> {
+    let mut sink = sink;
+    write_twice(alloc, &mut sink, table, told)?;
+    Ok(sink.into_inner().bytes)
+}
+
+fn device_has(
+    alloc: Global,
+    (calls, flushes, wanted, count): (u32, bool, &str, usize),
+    table: &Table,
+    whole: &[u8],
+) -> Result<bool, AllocError> {
+    let mut told = String::new(alloc);
+    let bytes = written_twice(alloc, device_of(alloc, calls, flushes), table, &mut told)?;
+    let has_all = bytes.as_slice() == whole.get(..count).unwrap_or(whole);
+    Ok(has_all && told.as_str() == wanted)
+}
+
+#[test]
+fn tells_writers_that_fail(rt: HostRuntime) -> Result<(), Fail> {
+    let whole = stream_of(rt.alloc(), Column::Numbers, &[Step::WritePaired(NUMBERS)])?;
+    let table = Column::Numbers.table(rt.alloc(), NUMBERS)?;
+    for writer in WRITERS {
+        assert!(rt; device_has(rt.alloc(), writer, &table, &whole)?);
+    }
+    Ok(())
+}
+
+// The same batch by batch.
 #[test]
 fn is_not_finished_where_a_flush_fails(rt: HostRuntime) -> Result<(), Fail> {
-    let table = numbers(rt.alloc())?;
-    let whole = written(rt.alloc(), &table)?;
-    let sink = Narrow::new(rt.alloc(), u32::MAX, false);
-    let (fault, bytes) = finish_refused(rt.alloc(), &table, sink)?;
-    assert!(rt; fault == WriteFault::Write && bytes.as_slice() == whole.as_slice());
+    let alloc = rt.alloc();
+    let steps = [Step::Write(NUMBERS)];
+    let whole = stream_of(alloc, Column::Numbers, &steps)?;
+    let mut told = String::new(alloc);
+    let sink = device_of(alloc, u32::MAX, false);
+    let sink = played(
+        alloc,
+        Limits::standard(),
+        sink,
+        Column::Numbers,
+        &steps,
+        &mut told,
+    )?;
+    assert!(rt; sink.into_inner().bytes.as_slice() == whole.as_slice());
+    assert!(rt; told.as_str() == "W9 Write\n");
     Ok(())
 }
 
-const REFUSED: &str = "W4 OutOfRange at row 1 path 0";
-
-fn is_told(alloc: Global, fault: WriteFault) -> Result<bool, AllocError> {
-    Ok(format!(in alloc; "{fault}")?.as_str() == REFUSED)
-}
-
-// Whether a table of one batch is refused for its second row, and sends what its schema sends.
-fn is_refused_whole(alloc: Global, table: &Table, sent: &[u8]) -> Result<bool, Fail> {
-    let mut sink = empty(alloc);
-    let result = write_table(alloc, &Limits::standard(), &mut sink, table);
-    let fault = result.err().ok_or("a refusal")?;
-    Ok(is_told(alloc, fault)? && sink.into_bytes().as_slice() == sent)
-}
-
-// What a writer sends of a table whose batch it refuses for its second row.
-fn sent_before(alloc: Global, table: &Table) -> Result<Option<Vec<u8>>, Fail> {
-    let mut writer = started(alloc, empty(alloc), &table.schema)?;
-    let batch = table.batches.as_slice().first().ok_or("a batch")?;
-    let result = writer.write_batch(batch);
-    if is_told(alloc, result.err().ok_or("a refusal")?)? {
-        Ok(Some(writer.into_inner().into_bytes()))
-    } else {
-        Ok(None)
-    }
-}
-
-// A table with a value of this type's range and one out of it.
-fn out_of_range(
+// What goes out to a sink that takes so many bytes in each of so many calls.
+fn limited(
     alloc: Global,
-    kind: DataType,
-    fits: Value,
-    wide: Value,
-) -> Result<Table, AllocError> {
-    let rows = vec![in alloc; row(alloc, fits)?, row(alloc, wide)?]?;
-    Ok(Table {
-        schema: schema_of(alloc, kind)?,
-        batches: Items::from_vec(vec![in alloc; BatchRows::new(rows)]?),
-    })
+    (step, calls): (usize, u64),
+    steps: &[Step<'_>],
+    told: &mut String,
+) -> Result<Vec<u8>, AllocError> {
+    let sink = Limited::new(empty(alloc), step.max(1), calls);
+    let sink = played(
+        alloc,
+        Limits::standard(),
+        sink,
+        Column::Numbers,
+        steps,
+        told,
+    )?;
+    Ok(sink.into_inner().into_bytes())
 }
 
-fn is_refused(alloc: Global, table: &Table) -> Result<bool, Fail> {
-    let sent = sent_before(alloc, table)?.ok_or("another line")?;
-    is_refused_whole(alloc, table, &sent)
-}
-
+// However few bytes a call takes, the same bytes are written, in one call or row by row.
 #[test]
-fn tells_a_number_too_wide(rt: HostRuntime) -> Result<(), Fail> {
-    let byte = DataType::Int {
-        bits: IntBits::B8,
-        signed: false,
-    };
-    let table = out_of_range(rt.alloc(), byte, Value::UInt(255), Value::UInt(256))?;
-    assert!(rt; is_refused(rt.alloc(), &table)?);
+fn writes_the_same_bytes(rt: HostRuntime) -> Result<(), Fail> {
+    let mut told = String::new(rt.alloc());
+    let whole = stream_of(rt.alloc(), Column::Numbers, &[Step::WritePaired(NUMBERS)])?;
+    for step in [1, 3, 288, 1 << 20] {
+        for steps in [[Step::WritePaired(NUMBERS)], [Step::PushPaired(NUMBERS)]] {
+            let bytes = limited(rt.alloc(), (step, u64::MAX), &steps, &mut told)?;
+            assert!(rt; bytes.as_slice() == whole.as_slice() && told.is_empty());
+        }
+    }
     Ok(())
 }
 
+// Whether a sink that takes so many bytes in each of so many calls has so many bytes of a stream
+// without rows then, and this is told.
+fn is_cut(
+    alloc: Global,
+    device: (usize, u64),
+    steps: &[Step<'_>],
+    (wanted, count): (&str, usize),
+) -> Result<bool, AllocError> {
+    let mut told = String::new(alloc);
+    let bytes = limited(alloc, device, steps, &mut told)?;
+    let whole = stream_of(alloc, Column::Numbers, steps)?;
+    Ok(whole.get(..count) == Some(bytes.as_slice()) && told.as_str() == wanted)
+}
+
+// A sink that fails behind five bytes of the schema, one that fails at its flush, and one that
+// fails behind five bytes of a batch: then each call is refused.
 #[test]
-fn tells_part_of_a_day(rt: HostRuntime) -> Result<(), Fail> {
-    let kind = DataType::Date(DateUnit::Millisecond);
-    let table = out_of_range(rt.alloc(), kind, Value::Int(86_400_000), Value::Int(1))?;
-    assert!(rt; is_refused(rt.alloc(), &table)?);
+fn stays_failed(rt: HostRuntime) -> Result<(), Fail> {
+    let alloc = rt.alloc();
+    let size = stream_of(alloc, Column::Numbers, &[])?.len();
+    assert!(rt; is_cut(alloc, (5, 1), &[], ("W9 Write\n", 5))?);
+    assert!(rt; is_cut(alloc, (1 << 20, 2), &[], ("W9 Write\n", size))?);
+    let begun = size.saturating_sub(8);
+    let calls = (begun as u64).div_ceil(5) + 1;
+    let steps = [Step::Write(&[]); 3];
+    let told = "W9 Write\nW10 Failed\nW10 Failed\nW10 Failed\n";
+    assert!(rt; is_cut(alloc, (5, calls), &steps, (told, begun.saturating_add(5)))?);
     Ok(())
 }

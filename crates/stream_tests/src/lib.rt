@@ -6,14 +6,14 @@
 #[cfg(test)]
 mod devices;
 #[cfg(test)]
-mod limits;
-#[cfg(test)]
 mod pieces;
 #[cfg(test)]
 mod pushed;
+#[cfg(test)]
+mod scripts;
 #[cfg(test)]
 mod streams;
 #[cfg(test)]
 mod tables;
 #[cfg(test)]
-mod writing;
+mod written;

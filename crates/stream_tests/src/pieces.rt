@@ -5,9 +5,9 @@ use ipc_stream::{Decoder, End, Event, Memory};
 use std::alloc::Global;
 use std::test::Fail;
 
-// The stream of samples/int64.arrows: a schema of 120 bytes, a batch of 160 with a body of 24, and
-// the end mark.
-const STREAM: [u8; 288] = [
+/// The stream of samples/int64.arrows: a schema of 120 bytes, a batch of 160 with a body of 24, and
+/// the end mark.
+pub const STREAM: [u8; 288] = [
     255, 255, 255, 255, 112, 0, 0, 0, 16, 0, 0, 0, 10, 0, 12, 0, 8, 0, 10, 0, 4, 0, 0, 0, 12, 0, 0,
     0, 16, 0, 0, 0, 4, 0, 1, 0, 8, 0, 8, 0, 0, 0, 4, 0, 8, 0, 0, 0, 4, 0, 0, 0, 1, 0, 0, 0, 16, 0,
     0, 0, 12, 0, 16, 0, 4, 0, 12, 0, 13, 0, 8, 0, 12, 0, 0, 0, 12, 0, 0, 0, 24, 0, 0, 0, 0, 2, 0,
@@ -50,61 +50,81 @@ fn is_told(events: &[Event]) -> bool {
     }
 }
 
-// Behind how many bytes each event is told, a byte at a time: none where other events are.
-fn ends(alloc: Global) -> Result<Option<Vec<usize>>, Fault> {
-    let mut decoder = Decoder::new(alloc, Limits::standard());
-    let mut events = Vec::new(alloc);
+// A decoder that took nothing yet.
+fn fresh(alloc: Global) -> Decoder {
+    Decoder::new(alloc, Limits::standard())
+}
+
+// Behind how many bytes each event is told, a byte at a time.
+fn ends(
+    alloc: Global,
+    decoder: &mut Decoder,
+    events: &mut Vec<Event>,
+) -> Result<Vec<usize>, Fault> {
     let mut ends = Vec::new(alloc);
     for (at, byte) in STREAM.iter().enumerate() {
-        push(&mut decoder, &[*byte], &mut events)?;
+        push(decoder, &[*byte], events)?;
         if events.len() > ends.len() {
             ends.push(at.saturating_add(1))?;
         }
     }
-    Ok(is_told(&events).then_some(ends))
+    Ok(ends)
 }
 
 #[test]
 fn events_come_with_their_last_byte(rt: HostRuntime) -> Result<(), Fail> {
-    let ends = ends(rt.alloc())?.ok_or("other events")?;
-    assert!(rt; ends.as_slice() == [120, 280, 288].as_slice());
+    let mut events = Vec::new(rt.alloc());
+    let ends = ends(rt.alloc(), &mut fresh(rt.alloc()), &mut events);
+    assert!(rt; is_told(&events));
+    assert!(rt; ends?.as_slice() == [120, 280, 288].as_slice());
     Ok(())
 }
 
-// A decoder that was fed so many bytes of the stream, one by one.
-fn behind(alloc: Global, count: usize) -> Result<Decoder, Fault> {
-    let mut decoder = Decoder::new(alloc, Limits::standard());
+// Feeds so many bytes of the stream, one by one.
+fn feed_first(decoder: &mut Decoder, count: usize) -> Result<(), Fault> {
     for byte in STREAM.iter().take(count) {
         decoder.feed(&[*byte])?;
     }
-    Ok(decoder)
+    Ok(())
 }
 
 // Behind so many bytes: how many are wanted before the next decision, how many are held, how many
 // messages came.
-const DECISIONS: [(usize, usize, usize, u64); 11] = [
-    (0, 4, 0, 0),
-    (4, 4, 4, 0),
-    (8, 112, 8, 0),
-    (120, 4, 0, 1),
-    (124, 4, 4, 1),
-    (128, 128, 8, 1),
-    (200, 56, 80, 1),
-    (256, 24, 136, 1),
-    (280, 4, 0, 2),
-    (284, 4, 4, 2),
-    (288, 0, 0, 2),
+type Decision = (usize, usize, u64);
+
+const DECISIONS: [(usize, Decision); 11] = [
+    (0, (4, 0, 0)),
+    (4, (4, 4, 0)),
+    (8, (112, 8, 0)),
+    (120, (4, 0, 1)),
+    (124, (4, 4, 1)),
+    (128, (128, 8, 1)),
+    (200, (56, 80, 1)),
+    (256, (24, 136, 1)),
+    (280, (4, 0, 2)),
+    (284, (4, 4, 2)),
+    (288, (0, 0, 2)),
 ];
+
+fn decided(decoder: &Decoder) -> Decision {
+    (decoder.wants(), decoder.held(), decoder.messages())
+}
 
 #[test]
 fn bytes_before_the_next_decision(rt: HostRuntime) -> Result<(), Fail> {
-    for (count, wants, held, messages) in DECISIONS {
-        let decoder = behind(rt.alloc(), count)?;
-        assert!(rt; (decoder.wants(), decoder.held()) == (wants, held));
-        assert!(rt; decoder.messages() == messages);
+    for (count, wanted) in DECISIONS {
+        let mut decoder = fresh(rt.alloc());
+        assert!(rt; feed_first(&mut decoder, count) == Ok(()));
+        assert!(rt; decided(&decoder) == wanted);
         assert!(rt; decoder.schema().is_some() == (count >= 120));
     }
     Ok(())
+}
+
+// What closing answers behind so many bytes.
+fn closed(decoder: &mut Decoder, count: usize) -> Result<End, Fault> {
+    feed_first(decoder, count)?;
+    decoder.close()
 }
 
 #[test]
@@ -115,19 +135,20 @@ fn closed_behind_each_byte(rt: HostRuntime) -> Result<(), Fail> {
             288 => Ok(End::Mark),
             _ => Err(Fault::Truncated),
         };
-        assert!(rt; behind(rt.alloc(), count)?.close() == wanted);
+        assert!(rt; closed(&mut fresh(rt.alloc()), count) == wanted);
     }
     Ok(())
 }
 
-// Whether the events are told, and the two bytes behind the mark left, where a stream is cut.
-fn stays_whole(alloc: Global, bytes: &[u8], cut: usize) -> Result<bool, Fault> {
-    let mut decoder = Decoder::new(alloc, Limits::standard());
-    let mut events = Vec::new(alloc);
-    let (front, behind) = bytes.split_at(cut.min(bytes.len()));
-    let first = push(&mut decoder, front, &mut events)?.len();
-    let second = push(&mut decoder, behind, &mut events)?.len();
-    Ok(is_told(&events) && first.saturating_add(second) == 2)
+// How many bytes are left behind the mark, where a stream is cut.
+fn left(
+    decoder: &mut Decoder,
+    events: &mut Vec<Event>,
+    (front, behind): (&[u8], &[u8]),
+) -> Result<usize, Fault> {
+    let first = push(decoder, front, events)?.len();
+    let second = push(decoder, behind, events)?.len();
+    Ok(first.saturating_add(second))
 }
 
 #[test]
@@ -135,7 +156,9 @@ fn bytes_behind_the_mark(rt: HostRuntime) -> Result<(), Fail> {
     let mut bytes = Vec::from_slice(rt.alloc(), &STREAM)?;
     bytes.extend_from_slice(b"AB")?;
     for cut in 0..=bytes.len() {
-        assert!(rt; stays_whole(rt.alloc(), &bytes, cut)?);
+        let mut events = Vec::new(rt.alloc());
+        let left = left(&mut fresh(rt.alloc()), &mut events, bytes.split_at(cut));
+        assert!(rt; left == Ok(2) && is_told(&events));
     }
     Ok(())
 }
@@ -150,49 +173,10 @@ fn long_body(alloc: Global) -> Result<Vec<u8>, Fault> {
 
 #[test]
 fn holds_no_more_than_came(rt: HostRuntime) -> Result<(), Fail> {
-    let mut decoder = Decoder::new(rt.alloc(), Limits::standard());
-    let mut events = Vec::new(rt.alloc());
-    push(&mut decoder, &long_body(rt.alloc())?, &mut events)?;
-    assert!(rt; events.len() == 1 && decoder.held() == 141);
-    assert!(rt; decoder.wants() == (1 << 40) - 5);
-    Ok(())
-}
-
-// Whether a decoder takes no byte, pushed or pulled, and answers this.
-fn takes_none(alloc: Global, decoder: &mut Decoder, refusal: Option<Fault>) -> Result<bool, Fault> {
-    let pushed = decoder.feed(&STREAM);
-    let mut source = Memory::new(Vec::from_slice(alloc, &STREAM)?);
-    let (count, pulled) = decoder.feed_from(&mut source);
-    let is_answer = match (&pushed, &pulled) {
-        (Ok((0, None)), Ok(None)) => refusal.is_none(),
-        (Err(pushed), Err(pulled)) => refusal == Some(*pushed) && refusal == Some(*pulled),
-        _ => false,
-    };
-    Ok(is_answer && count == 0 && source.unread().len() == STREAM.len() && decoder.wants() == 0)
-}
-
-// A second schema.
-#[test]
-fn takes_nothing_after_a_refusal(rt: HostRuntime) -> Result<(), Fail> {
-    let mut decoder = behind(rt.alloc(), 120)?;
-    assert!(rt; decoder.feed(&STREAM).err() == Some(Fault::SecondSchema));
-    for _ in 0..2 {
-        assert!(rt; takes_none(rt.alloc(), &mut decoder, Some(Fault::Failed))?);
-        assert!(rt; decoder.close() == Err(Fault::Failed));
-    }
-    assert!(rt; decoder.messages() == 1 && decoder.schema().is_some());
-    Ok(())
-}
-
-#[test]
-fn takes_nothing_after_the_end(rt: HostRuntime) -> Result<(), Fail> {
-    for (count, end) in [(120, End::Closed), (288, End::Mark)] {
-        let mut decoder = behind(rt.alloc(), count)?;
-        for _ in 0..2 {
-            assert!(rt; decoder.close() == Ok(end));
-            assert!(rt; takes_none(rt.alloc(), &mut decoder, None)?);
-        }
-    }
+    let bytes = long_body(rt.alloc())?;
+    let mut decoder = fresh(rt.alloc());
+    assert!(rt; feed_all(&mut decoder, &bytes) == Ok(()));
+    assert!(rt; decided(&decoder) == ((1 << 40) - 5, 141, 1));
     Ok(())
 }
 
@@ -209,6 +193,59 @@ fn feed_all(decoder: &mut Decoder, piece: &[u8]) -> Result<(), Fault> {
     Ok(())
 }
 
+// Whether a piece that is pushed tells nothing and isn't taken.
+fn pushes_none(decoder: &mut Decoder) -> Result<bool, Fault> {
+    let (count, event) = decoder.feed(&STREAM)?;
+    Ok(count == 0 && event.is_none())
+}
+
+// The same of bytes that are pulled: it is asked before the answer is looked at whether any came.
+fn pulls_none(decoder: &mut Decoder, source: &mut Memory) -> Result<bool, Fault> {
+    let (count, event) = decoder.feed_from(source);
+    if count != 0 {
+        return Ok(false);
+    }
+    Ok(event?.is_none())
+}
+
+// Whether a decoder takes no byte, pushed or pulled, and answers this.
+fn takes_none(
+    alloc: Global,
+    decoder: &mut Decoder,
+    wanted: Result<bool, Fault>,
+) -> Result<bool, Fault> {
+    let mut source = Memory::new(Vec::from_slice(alloc, &STREAM)?);
+    let are_wanted = pushes_none(decoder) == wanted && pulls_none(decoder, &mut source) == wanted;
+    Ok(are_wanted && source.unread().len() == STREAM.len() && decoder.wants() == 0)
+}
+
+// A second schema.
+#[test]
+fn takes_nothing_after_a_refusal(rt: HostRuntime) -> Result<(), Fail> {
+    let mut decoder = fresh(rt.alloc());
+    assert!(rt; feed_first(&mut decoder, 120) == Ok(()));
+    assert!(rt; feed_all(&mut decoder, &STREAM) == Err(Fault::SecondSchema));
+    for _ in 0..2 {
+        assert!(rt; takes_none(rt.alloc(), &mut decoder, Err(Fault::Failed)) == Ok(true));
+        assert!(rt; decoder.close() == Err(Fault::Failed));
+    }
+    assert!(rt; decoder.messages() == 1 && decoder.schema().is_some());
+    Ok(())
+}
+
+#[test]
+fn takes_nothing_after_the_end(rt: HostRuntime) -> Result<(), Fail> {
+    for (count, end) in [(120, End::Closed), (288, End::Mark)] {
+        let mut decoder = fresh(rt.alloc());
+        assert!(rt; feed_first(&mut decoder, count) == Ok(()));
+        for _ in 0..2 {
+            assert!(rt; decoder.close() == Ok(end));
+            assert!(rt; takes_none(rt.alloc(), &mut decoder, Ok(true)) == Ok(true));
+        }
+    }
+    Ok(())
+}
+
 // Whether a growth was refused, and nothing is taken from then on.
 fn is_out_of_memory(decoder: &mut Decoder, fault: Fault) -> bool {
     let again = decoder.feed(&STREAM).err();
@@ -216,15 +253,22 @@ fn is_out_of_memory(decoder: &mut Decoder, fault: Fault) -> bool {
     fault == Fault::OutOfMemory && again == Some(Fault::Failed) && closed == Err(Fault::Failed)
 }
 
+// Feeds the stream in pieces of three bytes.
+fn feed_in_threes(decoder: &mut Decoder) -> Result<(), Fault> {
+    for piece in STREAM.chunks(3) {
+        feed_all(decoder, piece)?;
+    }
+    Ok(())
+}
+
 #[test]
 fn grows_a_pushed_stream(rt: HostRuntime) -> Result<(), Fail> {
-    let mut decoder = Decoder::new(rt.alloc(), Limits::standard());
-    for piece in STREAM.chunks(3) {
-        if let Err(fault) = feed_all(&mut decoder, piece) {
-            assert!(rt; is_out_of_memory(&mut decoder, fault));
-            return Err(fault.into());
-        }
+    let mut decoder = fresh(rt.alloc());
+    let fed = feed_in_threes(&mut decoder);
+    if let Err(fault) = fed {
+        assert!(rt; is_out_of_memory(&mut decoder, fault));
+    } else {
+        assert!(rt; decoder.messages() == 2 && decoder.close() == Ok(End::Mark));
     }
-    assert!(rt; decoder.messages() == 2 && decoder.close() == Ok(End::Mark));
-    Ok(())
+    Ok(fed?)
 }

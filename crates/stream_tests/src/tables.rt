@@ -1,112 +1,116 @@
-//! Tables that the tests write and read back.
+//! Columns, rows and tables of numbers that the tests write and read back.
 
 use ipc_model::{
-    BatchRows, DataType, Fault, Field, IntBits, Items, Limits, Row, Schema, Table, Text, Value,
-    WriteFault,
+    BatchRows, DataType, DateUnit, Field, IntBits, Items, Row, Schema, Table, Text, Value,
 };
-use ipc_stream::{Memory, Sink, Source, StreamReader, StreamWriter, read_table, write_table};
+use ipc_stream::Memory;
 use std::alloc::{AllocError, Global};
+
+/// The columns of a table: one required column, or none.
+#[derive(Clone, Copy)]
+pub enum Column {
+    /// There is none.
+    Absent,
+    /// Signed numbers of 8 bits.
+    Bytes,
+    /// Unsigned numbers of 8 bits.
+    UnsignedBytes,
+    /// Signed numbers of 64 bits.
+    Numbers,
+    /// Days in milliseconds.
+    Days,
+}
+
+/// The numbers of rows: None stands for null.
+pub type Rows<'a> = &'a [Option<i64>];
+
+/// The numbers 1, -2 and the greatest of 64 bits.
+pub const NUMBERS: Rows<'static> = &[Some(1), Some(-2), Some(i64::MAX)];
+
+fn int(bits: IntBits, signed: bool) -> DataType {
+    DataType::Int { bits, signed }
+}
+
+impl Column {
+    fn kind(self) -> Option<DataType> {
+        match self {
+            Column::Absent => None,
+            Column::Bytes => Some(int(IntBits::B8, true)),
+            Column::UnsignedBytes => Some(int(IntBits::B8, false)),
+            Column::Numbers => Some(int(IntBits::B64, true)),
+            Column::Days => Some(DataType::Date(DateUnit::Millisecond)),
+        }
+    }
+
+    /// The schema of the column.
+    pub fn schema(self, alloc: Global) -> Result<Schema, AllocError> {
+        let mut fields = Vec::new(alloc);
+        if let Some(kind) = self.kind() {
+            fields.push(Field::new(alloc, "a", kind)?)?;
+        }
+        Ok(Schema::new(fields))
+    }
+
+    fn value(self, number: i64) -> Value {
+        match self {
+            Column::UnsignedBytes => Value::UInt(number.unsigned_abs()),
+            _ => Value::Int(number),
+        }
+    }
+
+    fn row(self, alloc: Global, number: Option<i64>) -> Result<Row, AllocError> {
+        let mut row = Vec::new(alloc);
+        if !matches!(self, Column::Absent) {
+            row.push(match number {
+                Some(number) => self.value(number),
+                None => Value::Null,
+            })?;
+        }
+        Ok(Items::from_vec(row))
+    }
+
+    /// A row for each of the numbers.
+    pub fn rows(self, alloc: Global, numbers: Rows<'_>) -> Result<Vec<Row>, AllocError> {
+        let mut rows = Vec::new(alloc);
+        for number in numbers {
+            rows.push(self.row(alloc, *number)?)?;
+        }
+        Ok(rows)
+    }
+
+    /// A batch with a row for each of the numbers.
+    pub fn batch(self, alloc: Global, numbers: Rows<'_>) -> Result<BatchRows, AllocError> {
+        Ok(BatchRows::new(self.rows(alloc, numbers)?))
+    }
+
+    /// A table of one such batch, with one pair.
+    pub fn table(self, alloc: Global, numbers: Rows<'_>) -> Result<Table, AllocError> {
+        let schema = self.schema(alloc)?;
+        Ok(Table {
+            schema,
+            batches: self.batches(alloc, numbers)?,
+        })
+    }
+
+    fn batches(self, alloc: Global, numbers: Rows<'_>) -> Result<Items<BatchRows>, AllocError> {
+        let mut batches = Vec::new(alloc);
+        batches.push(paired(alloc, self.batch(alloc, numbers)?)?)?;
+        Ok(Items::from_vec(batches))
+    }
+}
+
+/// The batch with one pair, of two bytes.
+pub fn paired(alloc: Global, batch: BatchRows) -> Result<BatchRows, AllocError> {
+    Ok(batch.with_pairs(pair(alloc)?))
+}
+
+/// One pair, of two bytes.
+pub fn pair(alloc: Global) -> Result<Vec<(Text, Text)>, AllocError> {
+    let mut pairs = Vec::new(alloc);
+    pairs.push((Text::copied(alloc, "k")?, Text::copied(alloc, "v")?))?;
+    Ok(pairs)
+}
 
 pub fn empty(alloc: Global) -> Memory {
     Memory::new(Vec::new(alloc))
-}
-
-/// A schema with one required column of a type.
-pub fn schema_of(alloc: Global, kind: DataType) -> Result<Schema, AllocError> {
-    let field = Field {
-        name: Text::from_string(String::from_str(alloc, "a")?),
-        nullable: false,
-        kind,
-        dictionary: None,
-        children: Items::from_vec(Vec::new(alloc)),
-        metadata: Items::from_vec(Vec::new(alloc)),
-    };
-    Ok(Schema {
-        fields: Items::from_vec(vec![in alloc; field]?),
-        metadata: Items::from_vec(Vec::new(alloc)),
-    })
-}
-
-/// The same of signed numbers of so many bits.
-pub fn schema_of_numbers(alloc: Global, bits: IntBits) -> Result<Schema, AllocError> {
-    schema_of(alloc, DataType::Int { bits, signed: true })
-}
-
-pub fn row(alloc: Global, value: Value) -> Result<Row, AllocError> {
-    Ok(Items::from_vec(vec![in alloc; value]?))
-}
-
-/// One batch with the numbers 1, -2 and the greatest of 64 bits.
-pub fn numbers(alloc: Global) -> Result<Table, AllocError> {
-    let mut rows = Vec::new(alloc);
-    for number in [1, -2, i64::MAX] {
-        rows.push(row(alloc, Value::Int(number))?)?;
-    }
-    Ok(Table {
-        schema: schema_of_numbers(alloc, IntBits::B64)?,
-        batches: Items::from_vec(vec![in alloc; BatchRows::new(rows)]?),
-    })
-}
-
-/// A batch of these rows with one pair, of two bytes.
-pub fn paired(alloc: Global, rows: Vec<Row>) -> Result<BatchRows, AllocError> {
-    let key = Text::from_string(String::from_str(alloc, "k")?);
-    let value = Text::from_string(String::from_str(alloc, "v")?);
-    Ok(BatchRows::new(rows).with_pairs(vec![in alloc; (key, value)]?))
-}
-
-/// A table without columns and batches.
-pub fn no_fields(alloc: Global) -> Table {
-    Table {
-        schema: Schema {
-            fields: Items::from_vec(Vec::new(alloc)),
-            metadata: Items::from_vec(Vec::new(alloc)),
-        },
-        batches: Items::from_vec(Vec::new(alloc)),
-    }
-}
-
-/// The table of a stream.
-pub fn table_of(alloc: Global, bytes: &[u8]) -> Result<Table, Fault> {
-    let mut source = Memory::new(Vec::from_slice(alloc, bytes)?);
-    let (table, _) = read_table(alloc, &Limits::standard(), &mut source)?;
-    Ok(table)
-}
-
-/// The stream of a table.
-pub fn written(alloc: Global, table: &Table) -> Result<Vec<u8>, WriteFault> {
-    written_within(alloc, &Limits::standard(), table)
-}
-
-/// The same under these limits. A memory fails only where it can't grow: then memory ran out.
-pub fn written_within(
-    alloc: Global,
-    limits: &Limits,
-    table: &Table,
-) -> Result<Vec<u8>, WriteFault> {
-    let mut sink = empty(alloc);
-    match write_table(alloc, limits, &mut sink, table) {
-        Ok(()) => Ok(sink.into_bytes()),
-        Err(WriteFault::Write) => Err(WriteFault::OutOfMemory),
-        Err(fault) => Err(fault),
-    }
-}
-
-/// A reader of a stream, under the standard limits.
-pub fn opened<R: Source + Drop>(alloc: Global, source: R) -> Result<StreamReader<R>, Fault> {
-    Ok(StreamReader::open(alloc, Limits::standard(), source)?)
-}
-
-/// A writer of a table with this schema, under the standard limits.
-pub fn started<W: Sink + Drop>(
-    alloc: Global,
-    sink: W,
-    schema: &Schema,
-) -> Result<StreamWriter<W>, WriteFault> {
-    Ok(StreamWriter::start(alloc, Limits::standard(), sink, schema)?)
-}
-
-/// What a writer sent, with the end mark.
-pub fn finished(writer: StreamWriter<Memory>) -> Result<Vec<u8>, WriteFault> {
-    Ok(writer.finish()?.into_bytes())
 }

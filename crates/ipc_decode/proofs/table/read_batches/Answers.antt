@@ -1,6 +1,6 @@
 use Rattle.std.proofs.Common.{ap, Ok}
 use Rattle.std.proofs.lemmas.Result.{err_from_is_err_and}
-use Rattle.ipc_decode.proofs.Tables.{batches_broken, batches_ended, batches_full, batches_more, batches_none, next_at}
+use Rattle.ipc_decode.proofs.Tables.{batches_broken, batches_ended, batches_full, batches_more, batches_none, ended_stays, next_at}
 use Rattle.ipc_decode.proofs.table.read_batches.Goals as goal
 
 pub loop-batches-init : goal.loop-batches-init
@@ -31,3 +31,8 @@ returns-in-Ended-clause-batches g c =
     rw (c.from_vec.ensures)
     (batches_ended _ _ _ _ _ _ _ _ _ _ _ c.loop-batches.invariant c.in-Ended.end
     (next_at _ _ _ _ _ _ _ _ (ap Ok c.in-Ended.is) c.in_ok-batch.ensures.next))
+
+pub returns-in-Ended-clause-schema : goal.returns-in-Ended-clause-schema
+returns-in-Ended-clause-schema g c =
+    ended_stays _ _ _ _ _ _ _ _ _ _ _ c.loop-batches.invariant c.in-Ended.end
+    (next_at _ _ _ _ _ _ _ _ (ap Ok c.in-Ended.is) c.in_ok-batch.ensures.next)

@@ -5,10 +5,10 @@ use Rattle.ipc_encode.proofs.Held.{not_too_long}
 use Rattle.ipc_encode.proofs.builder.check_len.Goals as goal
 
 pub returns-in-Some-clause-within : goal.returns-in-Some-clause-within
-returns-in-Some-clause-within c = λ fields rows h.
-    not_too_long c.args.limits.now fields rows c.args.nodes.now _ h
-    (c.in-Some.ensures.left c.args.limits.now (shape_of fields) (columns rows) h)
+returns-in-Some-clause-within c = λ known fields rows h.
+    not_too_long known c.args.limits.now fields rows c.args.nodes.now _ h
+    (c.in-Some.ensures.left known c.args.limits.now (shape_of fields) (columns rows) h)
 
 pub returns-in-None-clause-refused : goal.returns-in-None-clause-refused
-returns-in-None-clause-refused c = λ fields rows h.
-    (refl, inr (c.in-None.ensures.none c.args.limits.now (shape_of fields) (columns rows) h refl))
+returns-in-None-clause-refused c = λ known fields rows h.
+    (refl, inr (c.in-None.ensures.none known c.args.limits.now (shape_of fields) (columns rows) h refl))

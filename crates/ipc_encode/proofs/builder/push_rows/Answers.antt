@@ -4,6 +4,7 @@ use Rattle.std.proofs.lemmas.List.{take_more}
 use Rattle.ipc_model.specs.declared.value.Value.{Value}
 use Rattle.ipc_encode.specs.Buffers.{columns}
 use Rattle.ipc_encode.specs.Built.{AreColumns, ArePushesRefused}
+use Rattle.ipc_encode.specs.Numbers.{told}
 use Rattle.ipc_encode.proofs.Held.{columns_push, first_rows_refused}
 use Rattle.ipc_encode.proofs.builder.push_rows.Goals as goal
 
@@ -13,7 +14,7 @@ rows_next : (rows : List (List Value)) (i : ℕ) (row item : List Value) → tak
 rows_next rows i row item more same = ap (λ (r : List Value). take i rows ++ r ∷ []) same ∙ sym more
 
 pub returns-in_err-take_parts-clause-refused : goal.returns-in_err-take_parts-clause-refused
-returns-in_err-take_parts-clause-refused c = λ shape fresh.
+returns-in_err-take_parts-clause-refused g c = λ shape fresh.
     let limits = c.args.limits.now in
     let so_far = take c.loop-row.row-index c.args.rows.now in
     let fault = c.in_err-take_parts.field-0.0 in
@@ -26,11 +27,12 @@ returns-in_err-take_parts-clause-refused c = λ shape fresh.
     (subst (λ (given : ℕ → List Value). ArePushesRefused limits shape given fault) next told))
 
 pub loop-row-preserved : goal.loop-row-preserved
-loop-row-preserved c = λ shape fresh.
+loop-row-preserved g c = λ shape fresh.
     let limits = c.args.limits.now in
     let so_far = take c.loop-row.row-index c.args.rows.now in
     let next = columns_push so_far c.as_slice.result.now ∙ ap (λ (rs : List (List Value)). columns rs)
     (rows_next c.args.rows.now c.loop-row.row-index c.as_slice.result.now _
     (take_more c.args.rows.now c.loop-row.row-index c.row-item.result c.loop-row-test.true) (c.as_slice.ensures ∙ c.row-item.is)) in
-    subst (λ (given : ℕ → List Value). AreColumns limits shape c.take_parts.new.nodes given) next
+    subst (λ (given : ℕ → List Value). AreColumns (told (g.I.IndexOf.index c.args.indices.now)) limits shape
+    c.take_parts.new.nodes given) next
     (c.in_ok-take_parts.ensures.taken shape (columns so_far) (c.loop-row.invariant shape fresh))

@@ -7,6 +7,7 @@ use Rattle.ipc_encode.specs.Buffers.{below, joined, buffers_of, column_buffers}
 use Rattle.ipc_encode.specs.declared.column.Purpose.{Purpose}
 use Rattle.ipc_encode.specs.declared.counts.Counts.{Counts}
 use Rattle.ipc_encode.specs.Built.{AreNodes, IsNode, HasTaken, IsCounted}
+use Rattle.ipc_encode.specs.Numbers.{Numbering}
 use Rattle.ipc_model.specs.declared.limits.Limits.{Limits}
 use Rattle.ipc_model.specs.declared.value.Value.{Value}
 use Rattle.ipc_encode.proofs.Nodes.{taken_laid}
@@ -15,67 +16,68 @@ use Rattle.ipc_encode.proofs.Siblings.{at_node, first_all, bytes_next, past_next
 use Rattle.ipc_encode.proofs.fitting.+left.Goals as goal
 
 -- what a column's own buffers take
-own_bytes : (limits : Limits) (p : Purpose) (layout : Layout) (children : Shape) (values : List Value) (node : Node) (counts : Counts)
+own_bytes : (known : Numbering) (limits : Limits) (p : Purpose) (layout : Layout) (children : Shape) (values : List Value)
+    (node : Node) (counts : Counts)
     (len : ℕ)
-    → IsNode (HasTaken p limits) layout children node values → IsCounted limits (out-Node node).column.layout values counts
+    → IsNode (HasTaken known p limits) layout children node values → IsCounted limits (out-Node node).column.layout values counts
     → ((vs : List Value) → IsCounted limits (out-Node node).column.layout vs counts
     → len ≡ length (joined (column_buffers (out-Node node).column.layout vs)))
     → len ≡ length (joined (column_buffers layout values))
-own_bytes limits p layout children values node counts len h counted is =
+own_bytes known limits p layout children values node counts len h counted is =
     is values counted ∙ ap (λ (l : Layout). length (joined (column_buffers l values)))
-    (taken_laid p limits layout values (out-Node node).column h.0)
+    (taken_laid known p limits layout values (out-Node node).column h.0)
 
 pub left_behind-returns-then-len-bytes-clause-none : goal.left_behind-returns-then-len-bytes-clause-none
-left_behind-returns-then-len-bytes-clause-none t c = λ limits layout children values h e.
-    let own = own_bytes limits c.args.purpose layout children values c.args.node.now _ c.len-len.result h
-    (c.counts.ensures limits layout values h.0) (λ vs. c.len-len.ensures limits vs) in
+left_behind-returns-then-len-bytes-clause-none t c = λ known limits layout children values h e.
+    let own = own_bytes known limits c.args.purpose layout children values c.args.node.now _ c.len-len.result h
+    (c.counts.ensures known limits layout values h.0) (λ vs. c.len-len.ensures limits vs) in
     let size = parts_length layout children bare (λ j. values) in
     omega (arith, own, size, c.if-len-bytes.true)
 
 pub left_behind-returns-clause-left : goal.left_behind-returns-clause-left
-left_behind-returns-clause-left t c = λ limits layout children values h.
-    let own = own_bytes limits c.args.purpose layout children values c.args.node.now _ c.len-len.result h
-    (c.counts.ensures limits layout values h.0) (λ vs. c.len-len.ensures limits vs) in
+left_behind-returns-clause-left t c = λ known limits layout children values h.
+    let own = own_bytes known limits c.args.purpose layout children values c.args.node.now _ c.len-len.result h
+    (c.counts.ensures known limits layout values h.0) (λ vs. c.len-len.ensures limits vs) in
     let size = parts_length layout children bare (λ j. values) in
-    let held = subst (λ (ns : List Node). AreNodes (HasTaken c.args.purpose limits) children ns (below layout values))
+    let held = subst (λ (ns : List Node). AreNodes (HasTaken known c.args.purpose limits) children ns (below layout values))
     (sym c.deref.ensures.value) h.1 in
-    IfSome_then c.left_behind_all.result (c.left_behind_all.ensures.left limits children (below layout values) held)
+    IfSome_then c.left_behind_all.result (c.left_behind_all.ensures.left known limits children (below layout values) held)
     (λ n e. omega (arith, own, size, e, c.if-len-bytes.false))
 
 pub left_behind-returns-clause-none : goal.left_behind-returns-clause-none
-left_behind-returns-clause-none t c = λ limits layout children values h e.
-    let own = own_bytes limits c.args.purpose layout children values c.args.node.now _ c.len-len.result h
-    (c.counts.ensures limits layout values h.0) (λ vs. c.len-len.ensures limits vs) in
+left_behind-returns-clause-none t c = λ known limits layout children values h e.
+    let own = own_bytes known limits c.args.purpose layout children values c.args.node.now _ c.len-len.result h
+    (c.counts.ensures known limits layout values h.0) (λ vs. c.len-len.ensures limits vs) in
     let size = parts_length layout children bare (λ j. values) in
-    let held = subst (λ (ns : List Node). AreNodes (HasTaken c.args.purpose limits) children ns (below layout values))
+    let held = subst (λ (ns : List Node). AreNodes (HasTaken known c.args.purpose limits) children ns (below layout values))
     (sym c.deref.ensures.value) h.1 in
-    let more = c.left_behind_all.ensures.none limits children (below layout values) held e in
+    let more = c.left_behind_all.ensures.none known limits children (below layout values) held e in
     omega (arith, own, size, more, c.if-len-bytes.false)
 
 pub left_behind_all-returns-in_err-left-clause-none : goal.left_behind_all-returns-in_err-left-clause-none
-left_behind_all-returns-in_err-left-clause-none t c = λ limits shape given h e.
-    let P = HasTaken c.args.purpose limits in
+left_behind_all-returns-in_err-left-clause-none t c = λ known limits shape given h e.
+    let P = HasTaken known c.args.purpose limits in
     let at = at_node P c.loop-node.node-index shape c.args.nodes.now given c.node-item.result c.loop-node-test.true h in
     let held = subst (λ (n : Node). IsNode P at.0 at.1 n (given c.loop-node.node-index)) (sym c.node-item.is) at.3 in
     past_next c.loop-node.node-index shape given at.0 at.1 c.args.bytes c.loop-node.left at.2
-    (c.loop-node.invariant.left limits shape given h) (c.in_err-left.ensures.none limits at.0 at.1
+    (c.loop-node.invariant.left known limits shape given h) (c.in_err-left.ensures.none known limits at.0 at.1
     (given c.loop-node.node-index) held refl)
 
 pub left_behind_all-loop-node-preserved : goal.left_behind_all-loop-node-preserved
 left_behind_all-loop-node-preserved t c = record {
-  left = λ limits shape given h.
-      let P = HasTaken c.args.purpose limits in
+  left = λ known limits shape given h.
+      let P = HasTaken known c.args.purpose limits in
       let at = at_node P c.loop-node.node-index shape c.args.nodes.now given c.node-item.result c.loop-node-test.true h in
       let held = subst (λ (n : Node). IsNode P at.0 at.1 n (given c.loop-node.node-index)) (sym c.node-item.is) at.3 in
       let size = bytes_next c.loop-node.node-index shape given at.0 at.1 at.2 in
-      let one = c.in_ok-left.ensures.left limits at.0 at.1 (given c.loop-node.node-index) held in
-      rw add-one (omega (arith, size, one, c.loop-node.invariant.left limits shape given h));
+      let one = c.in_ok-left.ensures.left known limits at.0 at.1 (given c.loop-node.node-index) held in
+      rw add-one (omega (arith, size, one, c.loop-node.invariant.left known limits shape given h));
   fewer = omega (arith, c.in_ok-left.ensures.fewer, c.loop-node.invariant.fewer);
 }
 
 pub left_behind_all-returns-clause-left : goal.left_behind_all-returns-clause-left
-left_behind_all-returns-clause-left t c = λ limits shape given h.
-    let all = first_all (HasTaken c.args.purpose limits) c.loop-node.node-index shape c.args.nodes.now given
+left_behind_all-returns-clause-left t c = λ known limits shape given h.
+    let all = first_all (HasTaken known c.args.purpose limits) c.loop-node.node-index shape c.args.nodes.now given
     (omega (arith, c.loop-node-test.false, c.loop-node.auto.node-index-end)) h in
     subst (λ (s : Shape). length (joined (buffers_of s given)) + c.loop-node.left ≡ c.args.bytes) all
-    (c.loop-node.invariant.left limits shape given h)
+    (c.loop-node.invariant.left known limits shape given h)

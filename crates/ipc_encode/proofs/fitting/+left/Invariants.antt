@@ -4,12 +4,14 @@ use Rattle.ipc_model.specs.declared.value.Value.{Value}
 use Rattle.ipc_column.specs.Shapes.{Shape}
 use Rattle.ipc_encode.specs.Buffers.{buffers_of, joined}
 use Rattle.ipc_encode.specs.Built.{AreNodes, HasTaken}
+use Rattle.ipc_encode.specs.Numbers.{Numbering}
 use Rattle.ipc_encode.proofs.Siblings.{first}
 use Rattle.ipc_encode.proofs.fitting.+left.Given as goal
 
 abbrev pub invariant-left_behind_all-loop-node : goal.invariant-left_behind_all-loop-node
 invariant-left_behind_all-loop-node l = record {
-  left : (limits : Limits) (shape : Shape) (given : ℕ → List Value) → AreNodes (HasTaken l.purpose limits) shape l.nodes given
+  left : (known : Numbering) (limits : Limits) (shape : Shape) (given : ℕ → List Value) → AreNodes (HasTaken known l.purpose limits)
+      shape l.nodes given
       → length (joined (buffers_of (first l.node-index shape) given)) + l.left ≡ l.bytes;
   fewer : l.left ≤ l.bytes;
 }

@@ -7,13 +7,13 @@ use Rattle.ipc_encode.proofs.fitting.left_behind_leaf.Goals as goal
 
 pub returns-in_default : goal.returns-in_default
 returns-in_default c = record {
-  fit = λ layout values h.
+  fit = λ known layout values h.
       let e = h.laid in
       subst (λ (l : Layout). IfOk c.left_behind_laid-in_default.result (LeavesOf c.args.limits.now (field l bare bare)
       (λ j. values ++ c.args.value.now ∷ []) c.args.bytes)) e
       (c.left_behind_laid-in_default.ensures.fit values
       (subst (λ (l : Layout). IsCounted c.args.limits.now l values c.args.column.now.counts) (sym e) h.counted));
-  refused = λ layout values h.
+  refused = λ known layout values h.
       let e = h.laid in
       subst (λ (l : Layout). IfErr c.left_behind_laid-in_default.result (AreTooMuch c.args.limits.now c.args.bytes (field l bare bare)
       (λ j. values ++ c.args.value.now ∷ []))) e

@@ -8,8 +8,9 @@ use Rattle.ipc_encode.proofs.Siblings.{leaf_is}
 use Rattle.ipc_encode.proofs.fitting.left_behind_with.Goals as goal
 
 pub returns-then-is_empty-clause-fit : goal.returns-then-is_empty-clause-fit
-returns-then-is_empty-clause-fit c = λ layout children values h.
+returns-then-is_empty-clause-fit c = λ known layout children values h.
     let limits = c.args.limits.now in
-    let none = leaf_is (IsColumn limits) children (out-Node c.args.node.now).children.items (below layout values) (search rules) h.1 in
+    let none = leaf_is (IsColumn known limits) children (out-Node c.args.node.now).children.items (below layout values)
+    (search rules) h.1 in
     subst (λ (s : Shape). IfOk c.left_behind_leaf.result (LeavesOf limits (field layout s bare) (λ j. values ++ c.args.value.now ∷ [])
-    c.args.bytes)) (sym none) (c.left_behind_leaf.ensures.fit layout values h.0)
+    c.args.bytes)) (sym none) (c.left_behind_leaf.ensures.fit known layout values h.0)

@@ -21,13 +21,6 @@ returns-in-Numbers-clause-values c = λ vs size e.
     ∙ sym (slots_push (Number c.in-Numbers.bits) vs c.args.value.now)))
     c.push_number.ensures)
 
-pub returns-in-Indices-clause-values : goal.returns-in-Indices-clause-values
-returns-in-Indices-clause-values c = λ vs size e.
-    rw c.in-Indices.is (on_ok_weaker c.push_number-in-Indices.result
-    (λ h. h ∙ (ap (λ (bs : List ℕ). bs ++ slot_bytes (Number c.in-Indices.bits) c.args.value.now) (rw c.in-Indices.is at e)
-    ∙ sym (slots_push (Number c.in-Indices.bits) vs c.args.value.now)))
-    c.push_number-in-Indices.ensures)
-
 pub returns-in-FixedBytes-clause-values : goal.returns-in-FixedBytes-clause-values
 returns-in-FixedBytes-clause-values c = λ vs size e.
     rw c.in-FixedBytes.is (on_ok_weaker c.push_fixed.result

@@ -12,10 +12,11 @@ pub returns-clause-fits : goal.returns-clause-fits
 returns-clause-fits c = own_fits c.args.field.now c.args.value.now (search rules) (search rules)
 
 pub returns-clause-most : goal.returns-clause-most
-returns-clause-most c = λ limits layout children values h few least.
+returns-clause-most c = λ known limits layout children values h few least.
     let more = values ++ c.args.value.now ∷ [] in
     let size = length-append values (c.args.value.now ∷ []) in
-    let none = leaf_is (IsColumn limits) children (out-Node c.args.node.now).children.items (below layout values) (search rules) h.1 in
+    let none = leaf_is (IsColumn known limits) children (out-Node c.args.node.now).children.items (below layout values)
+    (search rules) h.1 in
     let counted = subst (λ (l : Layout). IsCounted limits l values (out-Node c.args.node.now).column.counts) (sym h.0.laid) h.0.counted in
     let taken = leaf_takes limits (out-Node c.args.node.now).column.layout more c.args.least c.in_ok-data.data
     (omega (arith, size, few)) (c.in_ok-data.ensures.short limits values counted) (omega (arith, size, least))

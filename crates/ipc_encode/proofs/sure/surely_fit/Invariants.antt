@@ -3,6 +3,7 @@ use Rattle.ipc_model.specs.declared.value.Value.{Value}
 use Rattle.ipc_column.specs.Shapes.{shape_of}
 use Rattle.ipc_encode.specs.Cells.{cell}
 use Rattle.ipc_encode.specs.Built.{AreColumns, TakeAtMost}
+use Rattle.ipc_encode.specs.Numbers.{Numbering}
 use Rattle.ipc_encode.proofs.Siblings.{first}
 use Rattle.ipc_encode.proofs.SurelyFit.{FirstFit}
 use Rattle.ipc_encode.proofs.sure.surely_fit.Given as goal
@@ -11,6 +12,7 @@ abbrev pub invariant-loop-i : goal.invariant-loop-i
 invariant-loop-i l = record {
   few : l.left ≤ l.limits.body;
   fit : FirstFit l.i l.fields l.row;
-  takes : (given : ℕ → List Value) → AreColumns l.limits (shape_of l.fields) l.nodes given → ((j : ℕ) → length (given j) ≡ l.rows)
+  takes : (known : Numbering) (given : ℕ → List Value) → AreColumns known l.limits (shape_of l.fields) l.nodes given →
+      ((j : ℕ) → length (given j) ≡ l.rows)
       → TakeAtMost l.limits (l.limits.body - l.left) (first l.i (shape_of l.fields)) (λ j. given j ++ cell j l.row ∷ []);
 }

@@ -10,6 +10,7 @@ use Rattle.ipc_encode.specs.declared.node.Node.{Node, out-Node}
 use Rattle.ipc_encode.specs.Buffers.{below}
 use Rattle.ipc_encode.specs.Cells.{cell, fixed_items}
 use Rattle.ipc_encode.specs.Built.{AreNodes, IsNode, HasTaken, IsColumn, ArePushesRefused}
+use Rattle.ipc_encode.specs.Numbers.{told}
 use Rattle.ipc_encode.proofs.Below.{other_gives, items_are, fixed_are, parts_are, no_fixed, no_struct}
 use Rattle.ipc_encode.proofs.Below.{lists_more, fixed_more, structs_more}
 use Rattle.ipc_encode.proofs.Growing.{own_refused, child_refused, mixed_refused, all_refused}
@@ -19,21 +20,22 @@ use Rattle.ipc_encode.proofs.tree.+take.Goals.{take_parts-in-Some+in_ok-take-in-
 use Rattle.ipc_encode.proofs.tree.+take.Goals as goal
 
 pub take-returns-then-is_empty-clause-taken : goal.take-returns-then-is_empty-clause-taken
-take-returns-then-is_empty-clause-taken t c = λ layout children values h.
-    let P = HasTaken c.args.purpose c.args.limits.now in
+take-returns-then-is_empty-clause-taken g t c = λ layout children values h.
+    let P = HasTaken (told (g.I.IndexOf.index c.args.indices.now)) c.args.purpose c.args.limits.now in
     let more = values ++ c.args.value.now ∷ [] in
     let inner = leaf_has P children (out-Node c.args.node.now).children.items (below layout values) (below layout more)
     (search rules) h.1 in
     on_ok_weaker c.take.result (λ own. node_is P layout children more _ own inner) (c.take.ensures.taken layout values h.0)
 
 pub take-returns-then-is_empty-clause-kept : goal.take-returns-then-is_empty-clause-kept
-take-returns-then-is_empty-clause-kept t c = λ limits layout children values e h.
-    node_is (IsColumn limits) layout children values _ (c.take.ensures.kept limits layout values e h.0) h.1
+take-returns-then-is_empty-clause-kept g t c = λ known limits layout children values e h.
+    node_is (IsColumn known limits) layout children values _ (c.take.ensures.kept known limits layout values e h.0) h.1
 
 pub take_deep-returns-in_err-take_below-clause-refused : goal.take_deep-returns-in_err-take_below-clause-refused
-take_deep-returns-in_err-take_below-clause-refused t c = λ layout children values h.
-    let P = HasTaken c.args.purpose c.args.limits.now in
-    let laid = taken_laid c.args.purpose c.args.limits.now layout values (out-Node c.args.node.now).column h.0 in
+take_deep-returns-in_err-take_below-clause-refused g t c = λ layout children values h.
+    let P = HasTaken (told (g.I.IndexOf.index c.args.indices.now)) c.args.purpose c.args.limits.now in
+    let laid = taken_laid (told (g.I.IndexOf.index c.args.indices.now)) c.args.purpose c.args.limits.now layout values
+    (out-Node c.args.node.now).column h.0 in
     let held = subst (λ (l : Layout). AreNodes P children c.deref_mut.result.now (below l values)) (sym laid)
     (subst (λ (ns : List Node). AreNodes P children ns (below layout values)) (sym c.deref_mut.ensures.value) h.1) in
     let told = subst (λ (l : Layout). ArePushesRefused c.args.limits.now children (below l (values ++ c.args.value.now ∷ []))
@@ -43,14 +45,15 @@ take_deep-returns-in_err-take_below-clause-refused t c = λ layout children valu
     c.in_err-take_below.field-0.0 told)
 
 pub take_deep-returns-in_err-take_below-clause-kept : goal.take_deep-returns-in_err-take_below-clause-kept
-take_deep-returns-in_err-take_below-clause-kept t c = λ limits layout children values e h.
-    lent_node (IsColumn limits) layout children values values c.args.node.now c.deref_mut.result.now c.take_below.new.nodes
-    c.deref_mut.ensures.value c.take_below.auto.nodes h (c.in_err-take_below.ensures.kept limits children (below layout values) e)
+take_deep-returns-in_err-take_below-clause-kept g t c = λ known limits layout children values e h.
+    lent_node (IsColumn known limits) layout children values values c.args.node.now c.deref_mut.result.now c.take_below.new.nodes
+    c.deref_mut.ensures.value c.take_below.auto.nodes h (c.in_err-take_below.ensures.kept known limits children (below layout values) e)
 
 pub take_deep-returns-clause-taken : goal.take_deep-returns-clause-taken
-take_deep-returns-clause-taken t c = λ layout children values h.
-    let P = HasTaken c.args.purpose c.args.limits.now in
-    let laid = taken_laid c.args.purpose c.args.limits.now layout values (out-Node c.args.node.now).column h.0 in
+take_deep-returns-clause-taken g t c = λ layout children values h.
+    let P = HasTaken (told (g.I.IndexOf.index c.args.indices.now)) c.args.purpose c.args.limits.now in
+    let laid = taken_laid (told (g.I.IndexOf.index c.args.indices.now)) c.args.purpose c.args.limits.now layout values
+    (out-Node c.args.node.now).column h.0 in
     let lent = lent_node P layout children values (values ++ c.args.value.now ∷ []) c.args.node.now
     c.deref_mut.result.now c.take_below.new.nodes c.deref_mut.ensures.value c.take_below.auto.nodes h
     (λ held. subst (λ (l : Layout). AreNodes P children c.take_below.new.nodes (below l (values ++ c.args.value.now ∷ []))) laid
@@ -60,24 +63,24 @@ take_deep-returns-clause-taken t c = λ layout children values h.
     (c.take.ensures.taken layout values lent.0)
 
 pub take_deep-returns-clause-refused : goal.take_deep-returns-clause-refused
-take_deep-returns-clause-refused t c = λ layout children values h.
-    let P = HasTaken c.args.purpose c.args.limits.now in
+take_deep-returns-clause-refused g t c = λ layout children values h.
+    let P = HasTaken (told (g.I.IndexOf.index c.args.indices.now)) c.args.purpose c.args.limits.now in
     IfErr-weaker c.take.result _ _
     (λ fault told. own_refused c.args.limits.now layout children bare (λ j. values ++ c.args.value.now ∷ []) fault told)
     (c.take.ensures.refused layout values (lent_column P layout values c.args.node.now c.take_below.new.nodes h.0))
 
 pub take_deep-returns-clause-kept : goal.take_deep-returns-clause-kept
-take_deep-returns-clause-kept t c = λ limits layout children values e h.
-    let P = IsColumn limits in
+take_deep-returns-clause-kept g t c = λ known limits layout children values e h.
+    let P = IsColumn known limits in
     let lent = lent_node P layout children values values c.args.node.now c.deref_mut.result.now c.take_below.new.nodes
-    c.deref_mut.ensures.value c.take_below.auto.nodes h (c.in_ok-take_below.ensures.kept limits children (below layout values) e) in
-    node_is P layout children values _ (c.take.ensures.kept limits layout values e lent.0) lent.1
+    c.deref_mut.ensures.value c.take_below.auto.nodes h (c.in_ok-take_below.ensures.kept known limits children (below layout values) e) in
+    node_is P layout children values _ (c.take.ensures.kept known limits layout values e lent.0) lent.1
 
 -- ---- below a column
 
 pub take_below-returns-in-List-clause-taken : goal.take_below-returns-in-List-clause-taken
-take_below-returns-in-List-clause-taken t c = λ shape values h.
-    let P = HasTaken c.args.purpose c.args.limits.now in
+take_below-returns-in-List-clause-taken g t c = λ shape values h.
+    let P = HasTaken (told (g.I.IndexOf.index c.args.indices.now)) c.args.purpose c.args.limits.now in
     let is = items_are c.args.value.now c.in-List.items c.in-List.is ∙ sym c.as_slice.ensures in
     on_ok_weaker c.take_items.result
     (λ more. subst (λ (given : ℕ → List Value). AreNodes P shape c.take_items.new.nodes given)
@@ -85,7 +88,7 @@ take_below-returns-in-List-clause-taken t c = λ shape values h.
     (c.take_items.ensures.taken shape (below c.args.layout values) h)
 
 pub take_below-returns-in-List-clause-refused : goal.take_below-returns-in-List-clause-refused
-take_below-returns-in-List-clause-refused t c = λ shape values h.
+take_below-returns-in-List-clause-refused g t c = λ shape values h.
     let is = items_are c.args.value.now c.in-List.items c.in-List.is ∙ sym c.as_slice.ensures in
     IfErr-weaker c.take_items.result _ _
     (λ fault told. subst (λ (given : ℕ → List Value). ArePushesRefused c.args.limits.now shape given fault)
@@ -93,18 +96,19 @@ take_below-returns-in-List-clause-refused t c = λ shape values h.
     (c.take_items.ensures.refused shape (below c.args.layout values) h)
 
 pub take_below-returns-in_default-value : goal.take_below-returns-in_default-value
-take_below-returns-in_default-value t c = record {
+take_below-returns-in_default-value g t c = record {
   taken = λ shape values h. nothing_below
-      (HasTaken c.args.purpose c.args.limits.now) c.args.layout shape values c.args.value.now c.args.nodes.now
+      (HasTaken (told (g.I.IndexOf.index c.args.indices.now)) c.args.purpose c.args.limits.now) c.args.layout shape values
+      c.args.value.now c.args.nodes.now
       (other_gives c.args.layout c.args.value.now c.in-Lists.is c.in_default-value.not-List) h;
   refused = λ shape values h. tt;
-  kept = λ limits shape given e h. h;
+  kept = λ known limits shape given e h. h;
   memory = λ e. tt;
 }
 
 pub take_below-returns-in-Struct-clause-taken : goal.take_below-returns-in-Struct-clause-taken
-take_below-returns-in-Struct-clause-taken t c = λ shape values h.
-    let P = HasTaken c.args.purpose c.args.limits.now in
+take_below-returns-in-Struct-clause-taken g t c = λ shape values h.
+    let P = HasTaken (told (g.I.IndexOf.index c.args.indices.now)) c.args.purpose c.args.limits.now in
     on_ok_weaker c.take_parts.result
     (λ more. subst (λ (given : ℕ → List Value). AreNodes P shape c.take_parts.new.nodes given)
     (structs_more c.args.layout values c.args.value.now (λ j. cell j c.as_slice-in-Struct.result.now) c.in-Structs.is
@@ -114,7 +118,7 @@ take_below-returns-in-Struct-clause-taken t c = λ shape values h.
     (c.take_parts.ensures.taken shape (below c.args.layout values) h)
 
 pub take_below-returns-in-Struct-clause-refused : goal.take_below-returns-in-Struct-clause-refused
-take_below-returns-in-Struct-clause-refused t c = λ shape values h.
+take_below-returns-in-Struct-clause-refused g t c = λ shape values h.
     IfErr-weaker c.take_parts.result _ _
     (λ fault told. subst (λ (given : ℕ → List Value). ArePushesRefused c.args.limits.now shape given fault)
     (structs_more c.args.layout values c.args.value.now (λ j. cell j c.as_slice-in-Struct.result.now) c.in-Structs.is
@@ -124,8 +128,8 @@ take_below-returns-in-Struct-clause-refused t c = λ shape values h.
     (c.take_parts.ensures.refused shape (below c.args.layout values) h)
 
 pub take_below-returns-in-List-value-clause-taken : goal.take_below-returns-in-List-value-clause-taken
-take_below-returns-in-List-value-clause-taken t c = λ shape values h.
-    let P = HasTaken c.args.purpose c.args.limits.now in
+take_below-returns-in-List-value-clause-taken g t c = λ shape values h.
+    let P = HasTaken (told (g.I.IndexOf.index c.args.indices.now)) c.args.purpose c.args.limits.now in
     let is = fixed_are c.in-FixedLists.size c.args.value.now c.in-List-value.items c.in-List-value.is
     ∙ sym c.as_slice-in-List-value.ensures in
     on_ok_weaker c.take_items-in-List-value.result
@@ -134,7 +138,7 @@ take_below-returns-in-List-value-clause-taken t c = λ shape values h.
     (c.take_items-in-List-value.ensures.taken shape (below c.args.layout values) h)
 
 pub take_below-returns-in-List-value-clause-refused : goal.take_below-returns-in-List-value-clause-refused
-take_below-returns-in-List-value-clause-refused t c = λ shape values h.
+take_below-returns-in-List-value-clause-refused g t c = λ shape values h.
     let is = fixed_are c.in-FixedLists.size c.args.value.now c.in-List-value.items c.in-List-value.is
     ∙ sym c.as_slice-in-List-value.ensures in
     IfErr-weaker c.take_items-in-List-value.result _ _
@@ -143,12 +147,13 @@ take_below-returns-in-List-value-clause-refused t c = λ shape values h.
     (c.take_items-in-List-value.ensures.refused shape (below c.args.layout values) h)
 
 pub take_below-returns-in_default-value-2 : goal.take_below-returns-in_default-value-2
-take_below-returns-in_default-value-2 t c =
+take_below-returns-in_default-value-2 g t c =
     let is : fixed_items c.in-FixedLists.size c.args.value.now ≡ replicate c.in-FixedLists.size Null =
     no_fixed c.in-FixedLists.size c.args.value.now c.in_default-value-2.not-List in
     record {
       taken = λ shape values h. on_ok_weaker c.take_nulls.result
-          (λ more. subst (λ (given : ℕ → List Value). AreNodes (HasTaken c.args.purpose c.args.limits.now) shape
+          (λ more. subst (λ (given : ℕ → List Value). AreNodes
+          (HasTaken (told (g.I.IndexOf.index c.args.indices.now)) c.args.purpose c.args.limits.now) shape
           c.take_nulls.new.nodes given)
           (fixed_more c.args.layout c.in-FixedLists.size values c.args.value.now (replicate c.in-FixedLists.size Null)
           c.in-FixedLists.is is) more)
@@ -163,9 +168,10 @@ take_below-returns-in_default-value-2 t c =
     }
 
 pub take_below-returns-in_default-value-3 : goal.take_below-returns-in_default-value-3
-take_below-returns-in_default-value-3 t c = record {
+take_below-returns-in_default-value-3 g t c = record {
   taken = λ shape values h. on_ok_weaker c.take_nulls-in_default-value-3.result
-      (λ more. subst (λ (given : ℕ → List Value). AreNodes (HasTaken c.args.purpose c.args.limits.now) shape
+      (λ more. subst (λ (given : ℕ → List Value). AreNodes
+      (HasTaken (told (g.I.IndexOf.index c.args.indices.now)) c.args.purpose c.args.limits.now) shape
       c.take_nulls-in_default-value-3.new.nodes given)
       (structs_more c.args.layout values c.args.value.now (λ j. Null) c.in-Structs.is
       (no_struct c.args.value.now c.in_default-value-3.not-Struct))
@@ -184,40 +190,44 @@ take_below-returns-in_default-value-3 t c = record {
 -- ---- several columns
 
 pub take_items-returns-in_err-take_all-clause-refused : goal.take_items-returns-in_err-take_all-clause-refused
-take_items-returns-in_err-take_all-clause-refused t c = λ shape given h.
-    let P = HasTaken c.args.purpose c.args.limits.now in
+take_items-returns-in_err-take_all-clause-refused g t c = λ shape given h.
+    let P = HasTaken (told (g.I.IndexOf.index c.args.indices.now)) c.args.purpose c.args.limits.now in
     let p = err_from_is_err_and c.from_residual.result c.from_residual.ensures.1 in
     rw (p.1, p.2) (mixed_refused c.args.limits.now P P c.loop-i.i shape c.loop-i.nodes given (λ j. given j ++ c.args.items.now)
     c.index-nodes-i.result c.in_err-take_all.field-0.0 (omega (arith, c.loop-i.invariant.unvisited.0, c.loop-i-test.true))
     (λ l below held. c.in_err-take_all.ensures.refused l below (given c.loop-i.i) held) (c.loop-i.invariant.taken shape given h))
 
 pub take_items-returns-in_err-take_all-clause-kept : goal.take_items-returns-in_err-take_all-clause-kept
-take_items-returns-in_err-take_all-clause-kept t c = λ limits shape given e h.
-    kept_at (IsColumn limits) c.loop-i.i shape c.loop-i.nodes given c.take_all.new.node c.index-nodes-i.result
+take_items-returns-in_err-take_all-clause-kept g t c = λ known limits shape given e h.
+    kept_at (IsColumn known limits) c.loop-i.i shape c.loop-i.nodes given c.take_all.new.node c.index-nodes-i.result
     (omega (arith, c.loop-i.invariant.unvisited.0, c.loop-i-test.true))
-    (λ l below vs held. c.in_err-take_all.ensures.kept limits l below vs e held) (c.loop-i.invariant.kept limits shape given e h)
+    (λ l below vs held. c.in_err-take_all.ensures.kept known limits l below vs e held)
+    (c.loop-i.invariant.kept known limits shape given e h)
 
 pub take_items-loop-i-preserved : goal.take_items-loop-i-preserved
-take_items-loop-i-preserved t c = record {
+take_items-loop-i-preserved g t c = record {
   unvisited = search rules;
-  taken = λ shape given h. rw add-one (mixed_more (HasTaken c.args.purpose c.args.limits.now)
-      (HasTaken c.args.purpose c.args.limits.now) c.loop-i.i shape c.loop-i.nodes given (λ j. given j ++ c.args.items.now)
+  taken = λ shape given h. rw add-one (mixed_more (HasTaken (told (g.I.IndexOf.index c.args.indices.now)) c.args.purpose c.args.limits.now)
+      (HasTaken (told (g.I.IndexOf.index c.args.indices.now)) c.args.purpose c.args.limits.now) c.loop-i.i shape c.loop-i.nodes given
+      (λ j. given j ++ c.args.items.now)
       c.take_all.new.node c.index-nodes-i.result (omega (arith, c.loop-i.invariant.unvisited.0, c.loop-i-test.true))
       (λ l below held. c.in_ok-take_all.ensures.taken l below (given c.loop-i.i) held) (c.loop-i.invariant.taken shape given h));
-  kept = λ limits shape given e h. kept_at (IsColumn limits) c.loop-i.i shape c.loop-i.nodes given c.take_all.new.node
+  kept = λ known limits shape given e h. kept_at (IsColumn known limits) c.loop-i.i shape c.loop-i.nodes given c.take_all.new.node
       c.index-nodes-i.result (omega (arith, c.loop-i.invariant.unvisited.0, c.loop-i-test.true))
-      (λ l below vs held. c.in_ok-take_all.ensures.kept limits l below vs e held) (c.loop-i.invariant.kept limits shape given e h);
+      (λ l below vs held. c.in_ok-take_all.ensures.kept known limits l below vs e held)
+      (c.loop-i.invariant.kept known limits shape given e h);
 }
 
 pub take_items-returns-clause-taken : goal.take_items-returns-clause-taken
-take_items-returns-clause-taken t c = λ shape given h.
-    mixed_all (HasTaken c.args.purpose c.args.limits.now)
-    (HasTaken c.args.purpose c.args.limits.now) c.loop-i.i shape c.loop-i.nodes given (λ j. given j ++ c.args.items.now)
+take_items-returns-clause-taken g t c = λ shape given h.
+    mixed_all (HasTaken (told (g.I.IndexOf.index c.args.indices.now)) c.args.purpose c.args.limits.now)
+    (HasTaken (told (g.I.IndexOf.index c.args.indices.now)) c.args.purpose c.args.limits.now) c.loop-i.i shape c.loop-i.nodes given
+    (λ j. given j ++ c.args.items.now)
     (omega (arith, c.loop-i.invariant.unvisited.0, c.loop-i-test.false, c.loop-i.auto.i-end)) (c.loop-i.invariant.taken shape given h)
 
 pub take_parts-returns-in_err-take-in-Some-clause-refused : goal.take_parts-returns-in_err-take-in-Some-clause-refused
-take_parts-returns-in_err-take-in-Some-clause-refused t c = λ shape given h.
-    let P = HasTaken c.args.purpose c.args.limits.now in
+take_parts-returns-in_err-take-in-Some-clause-refused g t c = λ shape given h.
+    let P = HasTaken (told (g.I.IndexOf.index c.args.indices.now)) c.args.purpose c.args.limits.now in
     let p = err_from_is_err_and c.from_residual.result c.from_residual.ensures.1 in
     rw (p.1, p.2) (mixed_refused c.args.limits.now P P c.loop-i.i shape c.loop-i.nodes given
     (λ j. given j ++ cell j c.args.parts.now ∷ [])
@@ -227,14 +237,15 @@ take_parts-returns-in_err-take-in-Some-clause-refused t c = λ shape given h.
     (c.loop-i.invariant.taken shape given h))
 
 pub take_parts-returns-in_err-take-in-Some-clause-kept : goal.take_parts-returns-in_err-take-in-Some-clause-kept
-take_parts-returns-in_err-take-in-Some-clause-kept t c = λ limits shape given e h.
-    kept_at (IsColumn limits) c.loop-i.i shape c.loop-i.nodes given c.take.new.node c.index-nodes-i.result
+take_parts-returns-in_err-take-in-Some-clause-kept g t c = λ known limits shape given e h.
+    kept_at (IsColumn known limits) c.loop-i.i shape c.loop-i.nodes given c.take.new.node c.index-nodes-i.result
     (omega (arith, c.loop-i.invariant.unvisited.0, c.loop-i-test.true))
-    (λ l below vs held. c.in_err-take-in-Some.ensures.kept limits l below vs e held) (c.loop-i.invariant.kept limits shape given e h)
+    (λ l below vs held. c.in_err-take-in-Some.ensures.kept known limits l below vs e held)
+    (c.loop-i.invariant.kept known limits shape given e h)
 
 pub take_parts-returns-in_err-take_null-in-None-clause-refused : goal.take_parts-returns-in_err-take_null-in-None-clause-refused
-take_parts-returns-in_err-take_null-in-None-clause-refused t c = λ shape given h.
-    let P = HasTaken c.args.purpose c.args.limits.now in
+take_parts-returns-in_err-take_null-in-None-clause-refused g t c = λ shape given h.
+    let P = HasTaken (told (g.I.IndexOf.index c.args.indices.now)) c.args.purpose c.args.limits.now in
     let p = err_from_is_err_and c.from_residual-in_err-take_null-in-None.result c.from_residual-in_err-take_null-in-None.ensures.1 in
     rw (p.1, p.2) (mixed_refused c.args.limits.now P P c.loop-i.i shape c.loop-i.nodes given
     (λ j. given j ++ cell j c.args.parts.now ∷ [])
@@ -245,52 +256,61 @@ take_parts-returns-in_err-take_null-in-None-clause-refused t c = λ shape given 
     (c.loop-i.invariant.taken shape given h))
 
 pub take_parts-returns-in_err-take_null-in-None-clause-kept : goal.take_parts-returns-in_err-take_null-in-None-clause-kept
-take_parts-returns-in_err-take_null-in-None-clause-kept t c = λ limits shape given e h.
-    kept_at (IsColumn limits) c.loop-i.i shape c.loop-i.nodes given c.take_null.new.node c.index-nodes-i-in-None.result
+take_parts-returns-in_err-take_null-in-None-clause-kept g t c = λ known limits shape given e h.
+    kept_at (IsColumn known limits) c.loop-i.i shape c.loop-i.nodes given c.take_null.new.node c.index-nodes-i-in-None.result
     (omega (arith, c.loop-i.invariant.unvisited.0, c.loop-i-test.true))
-    (λ l below vs held. c.in_err-take_null-in-None.ensures.kept limits l below vs e held) (c.loop-i.invariant.kept limits shape given e h)
+    (λ l below vs held. c.in_err-take_null-in-None.ensures.kept known limits l below vs e held)
+    (c.loop-i.invariant.kept known limits shape given e h)
 
 pub take_parts-loop-i-preserved : goal.take_parts-loop-i-preserved
-take_parts-loop-i-preserved t c = elim c.match-get.branch [
+take_parts-loop-i-preserved g t c = elim c.match-get.branch [
   | take_parts-in-Some+in_ok-take-in-Some w ↦ record {
     unvisited = rw w.nodes-is (search rules);
-    taken = λ shape given h. rw (w.nodes-is, add-one) (mixed_more (HasTaken c.args.purpose c.args.limits.now)
-        (HasTaken c.args.purpose c.args.limits.now) c.loop-i.i shape c.loop-i.nodes given
+    taken = λ shape given h. rw (w.nodes-is, add-one)
+        (mixed_more (HasTaken (told (g.I.IndexOf.index c.args.indices.now)) c.args.purpose c.args.limits.now)
+        (HasTaken (told (g.I.IndexOf.index c.args.indices.now)) c.args.purpose c.args.limits.now) c.loop-i.i shape c.loop-i.nodes given
         (λ j. given j ++ cell j c.args.parts.now ∷ []) w.take.new.node w.index-nodes-i.result
         (omega (arith, c.loop-i.invariant.unvisited.0, c.loop-i-test.true))
-        (λ l below held. subst (λ (v : Value). IsNode (HasTaken c.args.purpose c.args.limits.now) l below w.take.new.node
+        (λ l below held. subst (λ (v : Value). IsNode
+        (HasTaken (told (g.I.IndexOf.index c.args.indices.now)) c.args.purpose c.args.limits.now) l below w.take.new.node
         (given c.loop-i.i ++ v ∷ [])) (search rules)
         (w.in_ok-take-in-Some.ensures.taken l below (given c.loop-i.i) held)) (c.loop-i.invariant.taken shape given h));
-    kept = λ limits shape given e h. rw w.nodes-is (kept_at (IsColumn limits) c.loop-i.i shape c.loop-i.nodes given w.take.new.node
+    kept = λ known limits shape given e h. rw w.nodes-is
+        (kept_at (IsColumn known limits) c.loop-i.i shape c.loop-i.nodes given w.take.new.node
         w.index-nodes-i.result (omega (arith, c.loop-i.invariant.unvisited.0, c.loop-i-test.true))
-        (λ l below vs held. w.in_ok-take-in-Some.ensures.kept limits l below vs e held) (c.loop-i.invariant.kept limits shape given e h));
+        (λ l below vs held. w.in_ok-take-in-Some.ensures.kept known limits l below vs e held)
+        (c.loop-i.invariant.kept known limits shape given e h));
   }
   | take_parts-in-None+in_ok-take_null-in-None w ↦ record {
     unvisited = rw w.nodes-is (search rules);
-    taken = λ shape given h. rw (w.nodes-is, add-one) (mixed_more (HasTaken c.args.purpose c.args.limits.now)
-        (HasTaken c.args.purpose c.args.limits.now) c.loop-i.i shape c.loop-i.nodes given
+    taken = λ shape given h. rw (w.nodes-is, add-one)
+        (mixed_more (HasTaken (told (g.I.IndexOf.index c.args.indices.now)) c.args.purpose c.args.limits.now)
+        (HasTaken (told (g.I.IndexOf.index c.args.indices.now)) c.args.purpose c.args.limits.now) c.loop-i.i shape c.loop-i.nodes given
         (λ j. given j ++ cell j c.args.parts.now ∷ []) w.take_null.new.node w.index-nodes-i-in-None.result
         (omega (arith, c.loop-i.invariant.unvisited.0, c.loop-i-test.true))
-        (λ l below held. subst (λ (v : Value). IsNode (HasTaken c.args.purpose c.args.limits.now) l below w.take_null.new.node
+        (λ l below held. subst (λ (v : Value). IsNode
+        (HasTaken (told (g.I.IndexOf.index c.args.indices.now)) c.args.purpose c.args.limits.now) l below w.take_null.new.node
         (given c.loop-i.i ++ v ∷ [])) (search rules)
         (w.in_ok-take_null-in-None.ensures.taken l below (given c.loop-i.i) held)) (c.loop-i.invariant.taken shape given h));
-    kept = λ limits shape given e h. rw w.nodes-is (kept_at (IsColumn limits) c.loop-i.i shape c.loop-i.nodes given w.take_null.new.node
+    kept = λ known limits shape given e h. rw w.nodes-is
+        (kept_at (IsColumn known limits) c.loop-i.i shape c.loop-i.nodes given w.take_null.new.node
         w.index-nodes-i-in-None.result (omega (arith, c.loop-i.invariant.unvisited.0, c.loop-i-test.true))
-        (λ l below vs held. w.in_ok-take_null-in-None.ensures.kept limits l below vs e held)
-        (c.loop-i.invariant.kept limits shape given e h));
+        (λ l below vs held. w.in_ok-take_null-in-None.ensures.kept known limits l below vs e held)
+        (c.loop-i.invariant.kept known limits shape given e h));
   }
 ]
 
 pub take_parts-returns-clause-taken : goal.take_parts-returns-clause-taken
-take_parts-returns-clause-taken t c = λ shape given h.
-    mixed_all (HasTaken c.args.purpose c.args.limits.now)
-    (HasTaken c.args.purpose c.args.limits.now) c.loop-i.i shape c.loop-i.nodes given (λ j. given j ++ cell j c.args.parts.now ∷ [])
+take_parts-returns-clause-taken g t c = λ shape given h.
+    mixed_all (HasTaken (told (g.I.IndexOf.index c.args.indices.now)) c.args.purpose c.args.limits.now)
+    (HasTaken (told (g.I.IndexOf.index c.args.indices.now)) c.args.purpose c.args.limits.now) c.loop-i.i shape c.loop-i.nodes given
+    (λ j. given j ++ cell j c.args.parts.now ∷ [])
     (omega (arith, c.loop-i.invariant.unvisited.0, c.loop-i-test.false, c.loop-i.auto.i-end)) (c.loop-i.invariant.taken shape given h)
 
 -- ---- several values
 
 pub take_all-returns-in_err-take-clause-refused : goal.take_all-returns-in_err-take-clause-refused
-take_all-returns-in_err-take-clause-refused t c = λ layout children before h.
+take_all-returns-in_err-take-clause-refused g t c = λ layout children before h.
     let p = err_from_is_err_and c.from_residual.result c.from_residual.ensures.1 in
     let so_far = take c.loop-value.value-index c.args.values.now in
     let told = c.in_err-take.ensures.refused layout children (before ++ so_far) (c.loop-value.invariant.taken layout children before h) in

@@ -6,35 +6,41 @@ use Rattle.ipc_column.specs.Shapes.{Shape}
 use Rattle.ipc_encode.specs.declared.column.Purpose.TheVariants.{Count}
 use Rattle.ipc_encode.specs.Cells.{cell}
 use Rattle.ipc_encode.specs.Built.{AreNodes, IsNode, HasTaken, IsColumn}
+use Rattle.ipc_encode.specs.Numbers.{Numbering, told}
 use Rattle.ipc_encode.proofs.Nodes.{AreMixed}
 use Rattle.ipc_encode.proofs.tree.+take.Given as goal
 
 abbrev pub invariant-take_items-loop-i : goal.invariant-take_items-loop-i
-invariant-take_items-loop-i l = record {
-  unvisited : goal.unvisited-take_items-loop-i l;
-  taken : (shape : Shape) (given : ℕ → List Value) → AreNodes (HasTaken l.purpose l.limits) shape l.fn.nodes given
-      → AreMixed (HasTaken l.purpose l.limits) (HasTaken l.purpose l.limits) l.i shape l.nodes given (λ j. given j ++ l.items);
-  kept : (limits : Limits) (shape : Shape) (given : ℕ → List Value) → l.purpose ≡ Count → AreNodes
-      (IsColumn limits) shape l.fn.nodes given
-      → AreNodes (IsColumn limits) shape l.nodes given;
+invariant-take_items-loop-i g l = record {
+  unvisited : goal.unvisited-take_items-loop-i g l;
+  taken : (shape : Shape) (given : ℕ → List Value) → AreNodes (HasTaken (told (g.I.IndexOf.index l.indices)) l.purpose l.limits)
+      shape l.fn.nodes given
+      → AreMixed (HasTaken (told (g.I.IndexOf.index l.indices)) l.purpose l.limits)
+      (HasTaken (told (g.I.IndexOf.index l.indices)) l.purpose l.limits) l.i shape l.nodes given (λ j. given j ++ l.items);
+  kept : (known : Numbering) (limits : Limits) (shape : Shape) (given : ℕ → List Value) → l.purpose ≡ Count → AreNodes
+      (IsColumn known limits) shape l.fn.nodes given
+      → AreNodes (IsColumn known limits) shape l.nodes given;
 }
 
 abbrev pub invariant-take_parts-loop-i : goal.invariant-take_parts-loop-i
-invariant-take_parts-loop-i l = record {
-  unvisited : goal.unvisited-take_parts-loop-i l;
-  taken : (shape : Shape) (given : ℕ → List Value) → AreNodes (HasTaken l.purpose l.limits) shape l.fn.nodes given
-      → AreMixed (HasTaken l.purpose l.limits) (HasTaken l.purpose l.limits) l.i shape l.nodes given
+invariant-take_parts-loop-i g l = record {
+  unvisited : goal.unvisited-take_parts-loop-i g l;
+  taken : (shape : Shape) (given : ℕ → List Value) → AreNodes (HasTaken (told (g.I.IndexOf.index l.indices)) l.purpose l.limits)
+      shape l.fn.nodes given
+      → AreMixed (HasTaken (told (g.I.IndexOf.index l.indices)) l.purpose l.limits)
+      (HasTaken (told (g.I.IndexOf.index l.indices)) l.purpose l.limits) l.i shape l.nodes given
       (λ j. given j ++ cell j l.parts ∷ []);
-  kept : (limits : Limits) (shape : Shape) (given : ℕ → List Value) → l.purpose ≡ Count → AreNodes
-      (IsColumn limits) shape l.fn.nodes given
-      → AreNodes (IsColumn limits) shape l.nodes given;
+  kept : (known : Numbering) (limits : Limits) (shape : Shape) (given : ℕ → List Value) → l.purpose ≡ Count → AreNodes
+      (IsColumn known limits) shape l.fn.nodes given
+      → AreNodes (IsColumn known limits) shape l.nodes given;
 }
 
 abbrev pub invariant-take_all-loop-value : goal.invariant-take_all-loop-value
-invariant-take_all-loop-value l = record {
+invariant-take_all-loop-value g l = record {
   taken : (layout : Layout) (children : Shape) (before : List Value) → IsNode
-      (HasTaken l.purpose l.limits) layout children l.fn.node before
-      → IsNode (HasTaken l.purpose l.limits) layout children l.node (before ++ take l.value-index l.values);
-  kept : (limits : Limits) (layout : Layout) (children : Shape) (before : List Value) → l.purpose ≡ Count
-      → IsNode (IsColumn limits) layout children l.fn.node before → IsNode (IsColumn limits) layout children l.node before;
+      (HasTaken (told (g.I.IndexOf.index l.indices)) l.purpose l.limits) layout children l.fn.node before
+      → IsNode (HasTaken (told (g.I.IndexOf.index l.indices)) l.purpose l.limits) layout children l.node
+      (before ++ take l.value-index l.values);
+  kept : (known : Numbering) (limits : Limits) (layout : Layout) (children : Shape) (before : List Value) → l.purpose ≡ Count
+      → IsNode (IsColumn known limits) layout children l.fn.node before → IsNode (IsColumn known limits) layout children l.node before;
 }

@@ -5,16 +5,19 @@ use Rattle.ipc_model.specs.declared.value.Value.TheVariants.{Null}
 use Rattle.ipc_column.specs.Shapes.{Shape}
 use Rattle.ipc_encode.specs.declared.column.Purpose.TheVariants.{Count}
 use Rattle.ipc_encode.specs.Built.{AreNodes, HasTaken, IsColumn}
+use Rattle.ipc_encode.specs.Numbers.{Numbering, told}
 use Rattle.ipc_encode.proofs.Nodes.{AreMixed}
 use Rattle.ipc_encode.proofs.tree.+take_null.Given as goal
 
 abbrev pub invariant-take_nulls-loop-i : goal.invariant-take_nulls-loop-i
-invariant-take_nulls-loop-i l = record {
-  unvisited : goal.unvisited-take_nulls-loop-i l;
-  taken : (shape : Shape) (given : ℕ → List Value) → AreNodes (HasTaken l.purpose l.limits) shape l.fn.nodes given
-      → AreMixed (HasTaken l.purpose l.limits) (HasTaken l.purpose l.limits) l.i shape l.nodes given
+invariant-take_nulls-loop-i g l = record {
+  unvisited : goal.unvisited-take_nulls-loop-i g l;
+  taken : (shape : Shape) (given : ℕ → List Value) → AreNodes (HasTaken (told (g.I.IndexOf.index l.indices)) l.purpose l.limits)
+      shape l.fn.nodes given
+      → AreMixed (HasTaken (told (g.I.IndexOf.index l.indices)) l.purpose l.limits)
+      (HasTaken (told (g.I.IndexOf.index l.indices)) l.purpose l.limits) l.i shape l.nodes given
       (λ j. given j ++ replicate l.count Null);
-  kept : (limits : Limits) (shape : Shape) (given : ℕ → List Value) → l.purpose ≡ Count → AreNodes
-      (IsColumn limits) shape l.fn.nodes given
-      → AreNodes (IsColumn limits) shape l.nodes given;
+  kept : (known : Numbering) (limits : Limits) (shape : Shape) (given : ℕ → List Value) → l.purpose ≡ Count → AreNodes
+      (IsColumn known limits) shape l.fn.nodes given
+      → AreNodes (IsColumn known limits) shape l.nodes given;
 }

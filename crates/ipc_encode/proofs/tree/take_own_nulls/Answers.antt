@@ -4,12 +4,13 @@ use Rattle.ipc_model.specs.declared.value.Value.{Value}
 use Rattle.ipc_model.specs.declared.value.Value.TheVariants.{Null}
 use Rattle.ipc_column.specs.Shapes.{bare, field}
 use Rattle.ipc_encode.specs.Built.{ArePushesRefused, HasTaken}
+use Rattle.ipc_encode.specs.Numbers.{told}
 use Rattle.ipc_encode.proofs.Below.{null_next, nulls_first}
 use Rattle.ipc_encode.proofs.Growing.{own_refused, all_refused}
 use Rattle.ipc_encode.proofs.tree.take_own_nulls.Goals as goal
 
 pub returns-in_err-take-clause-refused : goal.returns-in_err-take-clause-refused
-returns-in_err-take-clause-refused c = λ layout children values h.
+returns-in_err-take-clause-refused g c = λ layout children values h.
     let p = err_from_is_err_and c.from_residual.result c.from_residual.ensures.1 in
     let so_far = values ++ replicate c.loop.counter Null in
     let told = own_refused c.args.limits.now layout children bare (λ j. so_far ++ Null ∷ []) c.in_err-take.field-0.0
@@ -21,14 +22,15 @@ returns-in_err-take-clause-refused c = λ layout children values h.
     next told))
 
 pub returns-in_err-take-clause-kept : goal.returns-in_err-take-clause-kept
-returns-in_err-take-clause-kept c = λ limits layout values e h.
-    c.in_err-take.ensures.kept limits layout values e (c.loop.invariant.kept limits layout values e h)
+returns-in_err-take-clause-kept g c = λ known limits layout values e h.
+    c.in_err-take.ensures.kept known limits layout values e (c.loop.invariant.kept known limits layout values e h)
 
 pub loop-preserved : goal.loop-preserved
-loop-preserved c = record {
+loop-preserved g c = record {
   taken = λ layout values h.
-      subst (λ (vs : List Value). HasTaken c.args.purpose c.args.limits.now layout vs c.take.new.self) (null_next values c.loop.counter)
+      subst (λ (vs : List Value). HasTaken (told (g.I.IndexOf.index c.args.indices.now)) c.args.purpose c.args.limits.now layout vs
+      c.take.new.self) (null_next values c.loop.counter)
       (c.in_ok-take.ensures.taken layout (values ++ replicate c.loop.counter Null) (c.loop.invariant.taken layout values h));
-  kept = λ limits layout values e h.
-      c.in_ok-take.ensures.kept limits layout values e (c.loop.invariant.kept limits layout values e h);
+  kept = λ known limits layout values e h.
+      c.in_ok-take.ensures.kept known limits layout values e (c.loop.invariant.kept known limits layout values e h);
 }

@@ -1,36 +1,36 @@
-use Rattle.std.proofs.Common.{refl}
+use Rattle.std.proofs.Common.{Err, refl, subst}
+use Rattle.std.proofs.lemmas.List.{take_rest}
 use Rattle.std.proofs.lemmas.Result.{err_from_is_err_and}
-use Rattle.ipc_decode.proofs.Decoders.{feeds_none, feeds_refused, feeds_event, feeds_frame_refused}
+use Rattle.ipc_decode.specs.Decoding.{Feeds}
+use Rattle.ipc_decode.proofs.Feeding.{fed_event, fed_more, fed_then, feeding_more, message_at}
 use Rattle.ipc_decode.proofs.decoder.Decoder.feed.Goals as goal
 
-pub returns-in_err-event-in-Ok-default-Some-clause-fed :
-    goal.returns-in_err-event-in-Ok-default-Some-clause-fed
-returns-in_err-event-in-Ok-default-Some-clause-fed c =
+pub returns-in_err-count-clause-fed : goal.returns-in_err-count-clause-fed
+returns-in_err-count-clause-fed c =
     let p = err_from_is_err_and c.from_residual.result c.from_residual.ensures.1 in
     rw (p.1, p.2)
-    (feeds_frame_refused c.self.inside.frames c.feed.new.self c.self.inside.course c.accept.new.self c.self.invariant c.in-Reading.is
-    c.self.inside.course.counted _ c.self.view_is c.in-Ok-default-Some.taken _ _
-    c.in-Ok-default-Some.frame c.in_err-event-in-Ok-default-Some.field-0.0 c.in-Ok-default-Some.field-0-1-is
-    c.in-Ok-default-Some.ensures.feeds
-    c.in_err-event-in-Ok-default-Some.ensures.brings c.in_err-event-in-Ok-default-Some.ensures.moves)
+    (fed_then c.args.self.now c.loop-count.self c.feed_message.new.self c.args.piece.now c.loop-count.taken c.loop-count.invariant
+    (Err c.in_err-count.field-0.0)
+    (subst (λ y. Feeds c.loop-count.self y c.feed_message.new.self (Err c.in_err-count.field-0.0))
+    (take_rest c.args.piece.now c.loop-count.taken) c.in_err-count.ensures.fed))
 
-pub returns-in-Err-clause-fed : goal.returns-in-Err-clause-fed
-returns-in-Err-clause-fed c =
-    feeds_refused c.self.inside.frames c.feed.new.self c.self.inside.course c.refuse.new.self c.self.invariant c.in-Reading.is
-    c.self.inside.course.counted _ c.self.view_is _ c.in-Err.fault _ c.refuse.ensures.fault
-    c.in-Err.ensures.feeds c.refuse.ensures.refused
+pub returns-in-More-clause-fed : goal.returns-in-More-clause-fed
+returns-in-More-clause-fed c =
+    fed_more c.args.self.now c.loop-count.self c.feed_message.new.self c.args.piece.now c.loop-count.taken c.loop-count.invariant
+    c.in_ok-count.count
+    (message_at _ _ _ _ c.loop-count.taken c.in_ok-count.count _ _ c.in-More.is (take_rest c.args.piece.now c.loop-count.taken)
+    c.in_ok-count.ensures.fed)
 
-pub returns-in-Ok-default-None-clause-fed : goal.returns-in-Ok-default-None-clause-fed
-returns-in-Ok-default-None-clause-fed c =
-    feeds_none c.self.inside.frames c.feed.new.self c.self.inside.course c.self.inside.course c.self.invariant c.in-Reading.is
-    c.self.inside.course.counted _ c.self.view_is c.in-Ok-default-None.taken _ _
-    c.in-Ok-default-None.field-0-1-is c.in-Ok-default-None.ensures.feeds refl
+pub returns-in-Told-clause-fed : goal.returns-in-Told-clause-fed
+returns-in-Told-clause-fed c =
+    fed_event c.args.self.now c.loop-count.self c.feed_message.new.self c.args.piece.now c.loop-count.taken c.loop-count.invariant
+    c.in_ok-count.count c.in-Told.event
+    (message_at _ _ _ _ c.loop-count.taken c.in_ok-count.count _ _ c.in-Told.is (take_rest c.args.piece.now c.loop-count.taken)
+    c.in_ok-count.ensures.fed)
 
-pub returns-in_ok-event-in-Ok-default-Some-clause-fed :
-    goal.returns-in_ok-event-in-Ok-default-Some-clause-fed
-returns-in_ok-event-in-Ok-default-Some-clause-fed c =
-    feeds_event c.self.inside.frames c.feed.new.self c.self.inside.course c.accept.new.self c.self.invariant c.in-Reading.is
-    c.self.inside.course.counted _ c.self.view_is c.in-Ok-default-Some.taken _ _
-    c.in-Ok-default-Some.frame c.in_ok-event-in-Ok-default-Some.event c.in-Ok-default-Some.field-0-1-is
-    c.in-Ok-default-Some.ensures.feeds
-    c.in_ok-event-in-Ok-default-Some.ensures.brings c.in_ok-event-in-Ok-default-Some.ensures.moves
+pub loop-count-preserved : goal.loop-count-preserved
+loop-count-preserved c =
+    feeding_more c.args.self.now c.loop-count.self c.feed_message.new.self c.args.piece.now c.loop-count.taken c.loop-count.invariant
+    c.in_ok-count.count c.feed_message.ensures.limits
+    (message_at _ _ _ _ c.loop-count.taken c.in_ok-count.count _ _ c.in-Silent.is (take_rest c.args.piece.now c.loop-count.taken)
+    c.in_ok-count.ensures.fed)

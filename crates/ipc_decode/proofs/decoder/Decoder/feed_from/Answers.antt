@@ -1,5 +1,5 @@
 use Rattle.std.proofs.Common.{refl, ap, ◌∙◌, Ok}
-use Rattle.ipc_decode.proofs.Decoders.{draws_none, draws_refused, draws_event, draws_frame_refused}
+use Rattle.ipc_decode.proofs.Decoders.{draws_none, draws_refused, draws_frame, draws_frame_refused}
 use Rattle.ipc_decode.proofs.decoder.Decoder.feed_from.Goals as goal
 use Rattle.ipc_decode.proofs.decoder.Decoder.feed_from.Goals.{in-Ok, in-Err-accept}
 
@@ -17,9 +17,9 @@ returns-in-Ok-None-clause-drawn g c =
 
 pub returns-after-accept-clause-drawn : goal.returns-after-accept-clause-drawn
 returns-after-accept-clause-drawn g c = elim c.match-accept.branch [
-  | in-Ok w ↦ rw w.result-is (draws_event c.self.inside.frames c.feed_from-count.new.self c.self.inside.course c.accept.new.self
+  | in-Ok w ↦ rw w.result-is (draws_frame c.self.inside.frames c.feed_from-count.new.self c.self.inside.course c.accept.new.self
       c.self.invariant c.in-Reading.is c.self.inside.course.counted _ c.self.view_is _ _ _ _ c.feed_from-count.ensures.takes
-      c.in-Ok-Some.frame w.in-Ok.event (c.in-Ok-Some.is ∙ ap Ok c.in-Ok-Some.field-0-is) w.in-Ok.ensures.brings w.in-Ok.ensures.moves)
+      c.in-Ok-Some.frame w.in-Ok.found (c.in-Ok-Some.is ∙ ap Ok c.in-Ok-Some.field-0-is) w.in-Ok.ensures.brings w.in-Ok.ensures.moves)
   | in-Err-accept w ↦ rw w.result-is (draws_frame_refused c.self.inside.frames c.feed_from-count.new.self c.self.inside.course
       c.accept.new.self c.self.invariant c.in-Reading.is c.self.inside.course.counted _ c.self.view_is _ _ _ _
       c.feed_from-count.ensures.takes c.in-Ok-Some.frame w.in-Err-accept.fault (c.in-Ok-Some.is ∙ ap Ok c.in-Ok-Some.field-0-is)

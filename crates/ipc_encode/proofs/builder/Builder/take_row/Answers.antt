@@ -7,15 +7,18 @@ use Rattle.ipc_column.specs.Shapes.{shape_of}
 use Rattle.ipc_encode.specs.declared.node.Node.{Node}
 use Rattle.ipc_encode.specs.Buffers.{columns}
 use Rattle.ipc_encode.specs.Built.{AreColumns, ArePushesRefused}
+use Rattle.ipc_encode.specs.Numbers.{told}
 use Rattle.ipc_encode.proofs.Held.{columns_push, rows_refused}
 use Rattle.ipc_encode.proofs.builder.Builder.take_row.Goals as goal
 
 pub returns-clause-pushed : goal.returns-clause-pushed
-returns-clause-pushed c = λ limits fields rows h within.
-    let held = subst (λ (l : Limits). AreColumns l (shape_of fields) c.deref_mut.result.now (columns rows)) (sym h.limits_are)
-    (subst (λ (ns : List Node). AreColumns limits (shape_of fields) ns (columns rows)) (sym c.deref_mut.ensures.value) h.columns_are) in
-    let more = subst (λ (l : Limits). AreColumns l (shape_of fields) c.take_parts.new.nodes (columns (rows ++ c.args.row.now ∷ [])))
-    h.limits_are (subst (λ (given : ℕ → List Value). AreColumns c.args.self.now.limits (shape_of fields) c.take_parts.new.nodes given)
+returns-clause-pushed g c = λ limits fields rows h within.
+    let known = told (g.I.IndexOf.index c.args.indices.now) in
+    let held = subst (λ (l : Limits). AreColumns known l (shape_of fields) c.deref_mut.result.now (columns rows)) (sym h.limits_are)
+    (subst (λ (ns : List Node). AreColumns known limits (shape_of fields) ns (columns rows)) (sym c.deref_mut.ensures.value)
+    h.columns_are) in
+    let more = subst (λ (l : Limits). AreColumns known l (shape_of fields) c.take_parts.new.nodes (columns (rows ++ c.args.row.now ∷ [])))
+    h.limits_are (subst (λ (given : ℕ → List Value). AreColumns known c.args.self.now.limits (shape_of fields) c.take_parts.new.nodes given)
     (columns_push rows c.args.row.now) (c.in_ok-take_parts.ensures.taken (shape_of fields) (columns rows) held)) in
     let size : length c.take_parts.new.nodes ≡ c.args.self.now.nodes.len = c.take_parts.auto.nodes ∙ c.deref_mut.ensures.len in
     let count = length-append rows (c.args.row.now ∷ []) in
@@ -23,15 +26,17 @@ returns-clause-pushed c = λ limits fields rows h within.
       limits_are = h.limits_are;
       works = refl;
       count = omega (arith, count, h.count);
-      columns_are = subst (λ (ns : List Node). AreColumns limits (shape_of fields) ns (columns (rows ++ c.args.row.now ∷ [])))
+      columns_are = subst (λ (ns : List Node). AreColumns known limits (shape_of fields) ns (columns (rows ++ c.args.row.now ∷ [])))
           (sym (with_items_is c.args.self.now.nodes c.take_parts.new.nodes size)) more;
       within = within;
     }
 
 pub returns-in_err-take_parts-clause-refused : goal.returns-in_err-take_parts-clause-refused
-returns-in_err-take_parts-clause-refused c = λ limits fields rows h.
-    let held = subst (λ (l : Limits). AreColumns l (shape_of fields) c.deref_mut.result.now (columns rows)) (sym h.limits_are)
-    (subst (λ (ns : List Node). AreColumns limits (shape_of fields) ns (columns rows)) (sym c.deref_mut.ensures.value) h.columns_are) in
+returns-in_err-take_parts-clause-refused g c = λ limits fields rows h.
+    let known = told (g.I.IndexOf.index c.args.indices.now) in
+    let held = subst (λ (l : Limits). AreColumns known l (shape_of fields) c.deref_mut.result.now (columns rows)) (sym h.limits_are)
+    (subst (λ (ns : List Node). AreColumns known limits (shape_of fields) ns (columns rows)) (sym c.deref_mut.ensures.value)
+    h.columns_are) in
     let fault = c.in_err-take_parts.field-0.0 in
     let told = subst (λ (l : Limits). ArePushesRefused l (shape_of fields) (columns (rows ++ c.args.row.now ∷ [])) fault) h.limits_are
     (subst (λ (given : ℕ → List Value). ArePushesRefused c.args.self.now.limits (shape_of fields) given fault)

@@ -11,23 +11,24 @@ use Rattle.ipc_encode.proofs.builder.Builder.with_room.Goals as goal
 
 pub returns-in_err-check_len-clause-refused : goal.returns-in_err-check_len-clause-refused
 returns-in_err-check_len-clause-refused c =
-    let held = subst (λ (ns : List Node). AreColumns c.args.limits.now (shape_of c.args.fields.now) ns (columns []))
-    (sym c.deref.ensures.value) (c.in_ok-nodes.ensures c.args.limits.now) in
-    let told = c.in_err-check_len.ensures.refused c.args.fields.now [] held in
+    let held = subst (λ (ns : List Node). AreColumns (λ id value. 0) c.args.limits.now (shape_of c.args.fields.now) ns (columns []))
+    (sym c.deref.ensures.value) (c.in_ok-nodes.ensures (λ id value. 0) c.args.limits.now) in
+    let told = c.in_err-check_len.ensures.refused (λ id value. 0) c.args.fields.now [] held in
     let returned = err_from_is_err_and c.from_residual-in_err-check_len.result c.from_residual-in_err-check_len.ensures.1 in
     rw (returned.1, returned.2)
     (subst (λ (fault : WriteFault). IsRefused c.args.limits.now c.args.fields.now [] fault) (sym told.0) told.1)
 
 pub returns-clause-rows : goal.returns-clause-rows
-returns-clause-rows c =
+returns-clause-rows c = λ known.
     let limits = c.args.limits.now in
     let fields = c.args.fields.now in
-    let fresh = c.in_ok-nodes.ensures limits in
-    let held = subst (λ (ns : List Node). AreColumns limits (shape_of fields) ns (columns [])) (sym c.deref.ensures.value) fresh in
+    let fresh = c.in_ok-nodes.ensures known limits in
+    let held = subst (λ (ns : List Node). AreColumns known limits (shape_of fields) ns (columns [])) (sym c.deref.ensures.value) fresh in
     record {
       limits_are = refl;
       works = refl;
       count = refl;
       columns_are = fresh;
-      within = built_within limits fields [] c.deref.result.now (omega arith) held (c.in_ok-check_len.ensures.within fields [] held);
+      within = built_within known limits fields [] c.deref.result.now (omega arith) held
+          (c.in_ok-check_len.ensures.within known fields [] held);
     }

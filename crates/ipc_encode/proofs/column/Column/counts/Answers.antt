@@ -7,20 +7,23 @@ use Rattle.ipc_encode.specs.declared.column.Column.{Column}
 use Rattle.ipc_encode.specs.declared.column.Purpose.{Purpose}
 use Rattle.ipc_encode.specs.declared.column.Purpose.TheVariants as purpose
 use Rattle.ipc_encode.specs.Built.{HasTaken, IsCounted}
+use Rattle.ipc_encode.specs.Numbers.{Numbering}
 use Rattle.ipc_encode.proofs.column.Column.counts.Goals as goal
 
-own : (p : Purpose) (limits : Limits) (l : Layout) (vs : List Value) (c : Column) → p ≡ purpose.Keep → HasTaken p limits l vs c
+own : (known : Numbering) (p : Purpose) (limits : Limits) (l : Layout) (vs : List Value) (c : Column) → p ≡ purpose.Keep
+    → HasTaken known p limits l vs c
     → IsCounted limits c.layout vs c.counts
-own purpose.Keep limits l vs c e h = subst (λ (lay : Layout). IsCounted limits lay vs c.counts) (sym h.laid) h.counted
-own purpose.Count limits l vs c e h = absurd cc
+own known purpose.Keep limits l vs c e h = subst (λ (lay : Layout). IsCounted limits lay vs c.counts) (sym h.laid) h.counted
+own known purpose.Count limits l vs c e h = absurd cc
 
-next : (p : Purpose) (limits : Limits) (l : Layout) (vs : List Value) (c : Column) → p ≡ purpose.Count → HasTaken p limits l vs c
+next : (known : Numbering) (p : Purpose) (limits : Limits) (l : Layout) (vs : List Value) (c : Column) → p ≡ purpose.Count
+    → HasTaken known p limits l vs c
     → IsCounted limits c.layout vs c.next
-next purpose.Keep limits l vs c e h = absurd cc
-next purpose.Count limits l vs c e h = subst (λ (lay : Layout). IsCounted limits lay vs c.next) (sym h.laid) h.counted
+next known purpose.Keep limits l vs c e h = absurd cc
+next known purpose.Count limits l vs c e h = subst (λ (lay : Layout). IsCounted limits lay vs c.next) (sym h.laid) h.counted
 
 pub returns-in-Keep : goal.returns-in-Keep
-returns-in-Keep c = λ limits layout values h. own c.args.purpose limits layout values c.args.self.now c.in-Keep.is h
+returns-in-Keep c = λ known limits layout values h. own known c.args.purpose limits layout values c.args.self.now c.in-Keep.is h
 
 pub returns-in-Count : goal.returns-in-Count
-returns-in-Count c = λ limits layout values h. next c.args.purpose limits layout values c.args.self.now c.in-Count.is h
+returns-in-Count c = λ known limits layout values h. next known c.args.purpose limits layout values c.args.self.now c.in-Count.is h

@@ -1,0 +1,24 @@
+-- The columns that the dictionaries of a schema are read by (Arrow Columnar Format, "Dictionary
+-- Messages": a dictionary batch is a record batch of one column).
+use Rattle.std.specs.Prelude.{ℤ, Bool, true, false, ◌≡◌, ◌&&◌, List, [], ◌∷◌}
+use Rattle.ipc_model.specs.declared.schema.Field.{Field}
+use Rattle.ipc_model.specs.declared.schema.Schema.{Schema}
+use Rattle.ipc_column.specs.Dictionaries.{stands_alone}
+use Rattle.ipc_column.specs.Shapes.{field_layout}
+use Rattle.ipc_dictionaries.specs.Applied.{Applied}
+use Rattle.ipc_dictionaries.specs.ValuesColumns.{columns_in}
+
+-- one column, whose values lie in it alone
+abbrev pub is_alone : List Field → Bool
+is_alone [] = false
+is_alone (f ∷ []) = stands_alone (field_layout f)
+is_alone (f ∷ g ∷ fs) = false
+
+-- each dictionary has such a column
+abbrev pub are_alone : List (ℤ × List Field) → Bool
+are_alone [] = true
+are_alone (c ∷ cs) = is_alone c.1 && are_alone cs
+
+-- the columns of these dictionaries are those of this schema
+abbrev pub HasColumnsOf : Schema → Applied → Type 0
+HasColumnsOf schema dictionaries = dictionaries.columns ≡ columns_in schema.fields

@@ -1,0 +1,4 @@
+pub mod Puts
+pub mod ValuesColumns
+pub mod Named
+pub mod Leaves

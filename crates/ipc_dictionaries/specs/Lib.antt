@@ -1,0 +1,4 @@
+pub mod Joined
+pub mod InForce
+pub mod ValuesColumns
+pub mod Applied

@@ -1,0 +1,70 @@
+//! The columns that a schema's dictionaries are read by.
+ghost use Rattle.std.specs.Prelude.{◌≡◌, ◌++◌, ◌∷◌, [], IfOk, OnOk};
+ghost use Rattle.ipc_model.specs.declared.schema.Field.{out-Field};
+ghost use Rattle.ipc_dictionaries.specs.ValuesColumns.{values_column, columns_of, columns_in};
+ghost use Rattle.ipc_dictionaries.specs.ValuesColumns.{AreOneColumn};
+
+use ipc_model::{Field, Items};
+use std::alloc::{AllocError, Global};
+
+// The column of the values of the field's dictionary.
+fn values_column(alloc: Global, field: &Field) -> Result<Field, AllocError>
+    ensures { IfOk result (λ column. column
+        ≡ values_column (out-Field field.now).name (out-Field field.now).kind) }
+{
+    Ok(Field {
+        name: field.name.clone()?,
+        nullable: true,
+        kind: field.kind.clone()?,
+        dictionary: None,
+        children: Items::from_vec(Vec::new(alloc)),
+        metadata: Items::from_vec(Vec::new(alloc)),
+    })
+}
+
+// The same as a list of one.
+fn own_columns(alloc: Global, field: &Field) -> Result<Items<Field>, AllocError>
+    ensures { IfOk result (λ columns. columns
+        ≡ values_column (out-Field field.now).name (out-Field field.now).kind ∷ []) }
+{
+    let mut columns = Vec::with_capacity(alloc, 1)?;
+    columns.push(values_column(alloc, field)?)?;
+    Ok(Items::from_vec(columns))
+}
+
+// Puts the columns of a field and of all below it behind those that were found.
+#[cycle(collect_columns)]
+fn collect_one(
+    alloc: Global,
+    found: &mut Vec<(i64, Items<Field>)>,
+    field: &Field,
+) -> Result<(), AllocError>
+    ensures { OnOk result (found.new.items ≡ found.old.items ++ columns_of field.now) }
+{
+    if let Some(dictionary) = field.dictionary {
+        let columns = own_columns(alloc, field)?;
+        found.push((dictionary.id, columns))?;
+    }
+    collect_columns(alloc, found, field.children.as_slice())
+}
+
+// The same of several fields.
+#[cycle(collect_columns)]
+pub(crate) fn collect_columns(
+    alloc: Global,
+    found: &mut Vec<(i64, Items<Field>)>,
+    fields: &[Field],
+) -> Result<(), AllocError>
+    ensures { OnOk result (found.new.items ≡ found.old.items ++ columns_in fields.now) }
+{
+    for field in fields {
+        collect_one(alloc, found, field)?;
+    }
+    Ok(())
+}
+
+/// Each dictionary that the fields of a schema name is read by one column, whose values may be
+/// null, without a dictionary, parts or pairs of its own.
+pub fn one_column()
+    ensures { AreOneColumn }
+{}

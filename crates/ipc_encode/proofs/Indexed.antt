@@ -1,0 +1,276 @@
+-- Columns whose values of dictionaries stand as the numbers of their indices.
+use Rattle.std.proofs.Common.{◌≡◌, ◌∙◌, refl, sym, ap, ℕ, zero, suc, ◌+◌, ◌<◌, ◌≤◌, Bool, true, false, cond, Option, Some, None}
+use Rattle.std.proofs.Common.{List, [], ◌∷◌, ◌++◌, length, map, take, get_or, append_assoc, length-append, arith, inl, inr}
+use Rattle.std.specs.Prelude.{ℤ, not, ◌==◌}
+use Rattle.std.specs.List.{AllByRecursion}
+use Rattle.std.proofs.lemmas.Bool.{cases_lt}
+use Rattle.ipc_model.specs.declared.limits.Limits.{Limits}
+use Rattle.ipc_model.specs.declared.schema.Field.{Field}
+use Rattle.ipc_model.specs.declared.schema.IntBits.{IntBits}
+use Rattle.ipc_model.specs.declared.value.Value.{Value, out-Value, out-roll-Value}
+use Rattle.ipc_model.specs.declared.value.Value.TheOpen.{Value-F}
+use Rattle.ipc_model.specs.declared.value.Value.TheVariants as v
+use Rattle.ipc_model.specs.declared.layout.Layout.{Layout}
+use Rattle.ipc_model.specs.declared.layout.Layout.TheVariants as l
+use Rattle.ipc_model.specs.Layouts.{number_bytes}
+use Rattle.ipc_column.specs.Shapes.{Shape, bare, field, shape_of}
+use Rattle.ipc_encode.specs.declared.column.Column.{Column}
+use Rattle.ipc_encode.specs.declared.node.Node.{Node}
+use Rattle.ipc_encode.specs.Pieces.{Valid, Number}
+use Rattle.ipc_encode.specs.Pieces as p
+use Rattle.ipc_encode.specs.Bitmaps.{bitmap}
+use Rattle.ipc_encode.specs.Cells.{is_null, is_set, flags, nulls, slots, slot_bytes}
+use Rattle.ipc_encode.specs.Buffers.{below, column_buffers, joined, buffers_of, buffers_with, stored, body_of, body_with}
+use Rattle.ipc_encode.specs.Buffers.{piece_bytes, columns}
+use Rattle.ipc_encode.specs.Columns.{validity_bytes, validity_in, indices_in, data_in, column_length, values_length}
+use Rattle.ipc_encode.specs.Numbers.{Numbering, number_or, renumbered, index_in, index_of, indices_of, as_number, numbers_of, changed}
+use Rattle.ipc_encode.specs.Indices.{InColumn, InColumns}
+use Rattle.ipc_encode.specs.Limits.{IsWithin}
+use Rattle.ipc_encode.specs.Built.{AreColumns, IsColumn}
+use Rattle.ipc_encode.proofs.Adding.{joined_append}
+use Rattle.ipc_encode.proofs.Steps.{slots_push}
+use Rattle.ipc_encode.proofs.Siblings.{IsAt, first}
+use Rattle.ipc_encode.proofs.Sizes.{column_size}
+
+-- ---- the number of one value
+
+pub null_out : out-Value v.Null ≡ Value-F.Null
+null_out = ap out-Value (sym v.rolls-Null) ∙ out-roll-Value Value-F.Null
+
+pub number_out : (i : ℕ) → out-Value (v.UInt i) ≡ Value-F.UInt i
+number_out i = ap out-Value (sym (v.rolls-UInt i)) ∙ out-roll-Value (Value-F.UInt i)
+
+-- the number of a value is null exactly where the value is
+flag_number : (f : Value → ℕ) (value : Value) → is_set Valid (as_number (index_of f value)) ≡ is_set Valid value
+flag_number f value = by (out-Value value)
+  where
+    some : is_set Valid (v.UInt (f value)) ≡ true
+    some = rw (number_out (f value)) refl
+
+    by : (w : Value-F Value) → is_set Valid (as_number (index_in (f value) w)) ≡ not (is_null w)
+    by Value-F.Null = rw null_out refl
+    by (Value-F.Bool truth) = some
+    by (Value-F.Int z) = some
+    by (Value-F.UInt n) = some
+    by (Value-F.Bytes bytes) = some
+    by (Value-F.Text text) = some
+    by (Value-F.List values) = some
+    by (Value-F.Struct values) = some
+
+-- ---- the numbers of values
+
+pub numbers_length : (f : Value → ℕ) (vs : List Value) → length (numbers_of f vs) ≡ length vs
+numbers_length f [] = refl
+numbers_length f (value ∷ vs) = ap (λ (n : ℕ). suc n) (numbers_length f vs)
+
+pub number_at : (f : Value → ℕ) (vs : List Value) (i : ℕ) → i < length vs
+    → get_or (numbers_of f vs) i v.Null ≡ as_number (index_of f (get_or vs i v.Null))
+number_at f [] i k = absurd (omega arith)
+number_at f (value ∷ vs) zero k = refl
+number_at f (value ∷ vs) (suc i) k = number_at f vs i (omega arith)
+
+flags_same : (f : Value → ℕ) (vs : List Value) → flags Valid (numbers_of f vs) ≡ flags Valid vs
+flags_same f [] = refl
+flags_same f (value ∷ vs) = let here = flag_number f value in let rest = flags_same f vs in λ q. here q ∷ rest q
+
+nulls_same : (f : Value → ℕ) (vs : List Value) → nulls (numbers_of f vs) ≡ nulls vs
+nulls_same f [] = refl
+nulls_same f (value ∷ vs) =
+    ap (λ (b : Bool). cond {A = ℕ} b 0 1 + nulls (numbers_of f vs)) (flag_number f value)
+    ∙ ap (λ (n : ℕ). cond {A = ℕ} (is_set Valid value) 0 1 + n) (nulls_same f vs)
+
+data_same : (bits : IntBits) (signed : Bool) (id : ℤ) (f : Value → ℕ) (vs : List Value)
+    → data_in (l.Indices bits signed id) (numbers_of f vs) ≡ data_in (l.Indices bits signed id) vs
+data_same bits signed id f [] = refl
+data_same bits signed id f (value ∷ vs) = ap (λ (n : ℕ). number_bytes bits + n) (data_same bits signed id f vs)
+
+-- the validity bitmap is that of the values
+pub validity_same : (f : Value → ℕ) (vs : List Value) → validity_bytes (numbers_of f vs) ≡ validity_bytes vs
+validity_same f vs =
+    ap (λ (n : ℕ). piece_bytes (cond (n == 0) p.Absent (p.Flags Valid)) (numbers_of f vs)) (nulls_same f vs) ∙ by (nulls vs == 0)
+  where
+    by : (b : Bool) → piece_bytes (cond b p.Absent (p.Flags Valid)) (numbers_of f vs) ≡ piece_bytes (cond b p.Absent (p.Flags Valid)) vs
+    by true = refl
+    by false = ap bitmap (flags_same f vs)
+
+-- ---- lengths
+
+-- the buffers of a column are as long as those of its values
+stored_size : (known : Numbering) (lay : Layout) (vs : List Value)
+    → length (joined (column_buffers lay (stored known lay vs))) ≡ length (joined (column_buffers lay vs))
+stored_size known l.Null vs = refl
+stored_size known l.Bits vs = refl
+stored_size known (l.Numbers bits signed) vs = refl
+stored_size known (l.FixedBytes width) vs = refl
+stored_size known (l.VariableBytes utf8) vs = refl
+stored_size known l.Lists vs = refl
+stored_size known l.Structs vs = refl
+stored_size known (l.FixedLists size) vs = refl
+stored_size known (l.Indices bits signed id) vs =
+    let lay = l.Indices bits signed id in
+    let ns = numbers_of (known id) vs in
+    column_size lay ns
+    ∙ (ap (λ (n : ℕ). column_length lay n (nulls ns) (values_length lay n (data_in lay ns))) (numbers_length (known id) vs)
+    ∙ (ap (λ (n : ℕ). column_length lay (length vs) n (values_length lay (length vs) (data_in lay ns))) (nulls_same (known id) vs)
+    ∙ (ap (λ (n : ℕ). column_length lay (length vs) (nulls vs) (values_length lay (length vs) n)) (data_same bits signed id (known id) vs)
+    ∙ sym (column_size lay vs))))
+
+three : (a b c : List (List ℕ)) → length (joined (a ++ (b ++ c))) ≡ length (joined a) + (length (joined b) + length (joined c))
+three a b c =
+    ap (λ (bs : List ℕ). length bs) (joined_append a (b ++ c))
+    ∙ (length-append (joined a) (joined (b ++ c))
+    ∙ ap (λ (n : ℕ). length (joined a) + n) (ap (λ (bs : List ℕ). length bs) (joined_append b c) ∙ length-append (joined b) (joined c)))
+
+-- and so are those of all columns
+buffers_size : (known : Numbering) (s : Shape) (given : ℕ → List Value)
+    → length (joined (buffers_with known s given)) ≡ length (joined (buffers_of s given))
+buffers_size known bare given = refl
+buffers_size known (field lay children rest) given =
+    let own = stored_size known lay (given 0) in
+    let inner = buffers_size known children (below lay (given 0)) in
+    let others = buffers_size known rest (λ j. given (suc j)) in
+    let some = three (column_buffers lay (stored known lay (given 0))) (buffers_with known children (below lay (given 0)))
+    (buffers_with known rest (λ j. given (suc j))) in
+    let all = three (column_buffers lay (given 0)) (buffers_of children (below lay (given 0))) (buffers_of rest (λ j. given (suc j))) in
+    omega (arith, own, inner, others, some, all)
+
+-- a body within the limits
+pub body_within : (limits : Limits) (known : Numbering) (fields : List Field) (rows : List (List Value)) (body : List ℕ)
+    → body ≡ body_with known fields rows → IsWithin limits fields rows → length body ≤ limits.body
+body_within limits known fields rows body e h =
+    let size : length body ≡ length (body_of fields rows) =
+    ap (λ (bs : List ℕ). length bs) e ∙ buffers_size known (shape_of fields) (columns rows) in
+    elim (cases_lt limits.body (length body)) as (λ _. length body ≤ limits.body)
+    [ inl x ↦ absurd (h.short (inr (omega (arith, x, size)))) | inr g ↦ omega (arith, g) ]
+
+-- ---- other numbers
+
+-- indices that are changed one by one are those that are told otherwise
+pub changed_are : (number : ℤ → ℕ → Option ℕ) (known : Numbering) (id : ℤ) (vs : List Value)
+    → map as_number (map (changed (number id)) (indices_of (known id) vs)) ≡ numbers_of (renumbered number known id) vs
+changed_are number known id [] = refl
+changed_are number known id (value ∷ vs) =
+    let here = one (known id value) (out-Value value) in
+    let rest = changed_are number known id vs in
+    λ q. as_number (here q) ∷ rest q
+  where
+    one : (i : ℕ) (w : Value-F Value) → changed (number id) (index_in i w) ≡ index_in (number_or (number id i) i) w
+    one i Value-F.Null = refl
+    one i (Value-F.Bool truth) = refl
+    one i (Value-F.Int z) = refl
+    one i (Value-F.UInt n) = refl
+    one i (Value-F.Bytes bytes) = refl
+    one i (Value-F.Text text) = refl
+    one i (Value-F.List values) = refl
+    one i (Value-F.Struct values) = refl
+
+-- numbers that agree on a value give it one index
+one_agrees : (known others : Numbering) (id : ℤ) (value : Value) (w : Value-F Value) → out-Value value ≡ w
+    → (is_set Valid value ≡ true → known id value ≡ others id value) → index_in (known id value) w ≡ index_in (others id value) w
+one_agrees known others id value Value-F.Null e same = refl
+one_agrees known others id value (Value-F.Bool truth) e same = ap (λ (i : ℕ). Some i) (same (rw e refl))
+one_agrees known others id value (Value-F.Int z) e same = ap (λ (i : ℕ). Some i) (same (rw e refl))
+one_agrees known others id value (Value-F.UInt n) e same = ap (λ (i : ℕ). Some i) (same (rw e refl))
+one_agrees known others id value (Value-F.Bytes bytes) e same = ap (λ (i : ℕ). Some i) (same (rw e refl))
+one_agrees known others id value (Value-F.Text text) e same = ap (λ (i : ℕ). Some i) (same (rw e refl))
+one_agrees known others id value (Value-F.List values) e same = ap (λ (i : ℕ). Some i) (same (rw e refl))
+one_agrees known others id value (Value-F.Struct values) e same = ap (λ (i : ℕ). Some i) (same (rw e refl))
+
+module _ (known others : Numbering) where
+  abbrev Same : IntBits → Bool → ℤ → Value → Type 0
+  Same bits signed id value = known id value ≡ others id value
+
+  values_agree : (id : ℤ) (vs : List Value) → AllByRecursion (λ value. is_set Valid value ≡ true → known id value ≡ others id value) vs
+      → indices_of (known id) vs ≡ indices_of (others id) vs
+  values_agree id [] h = refl
+  values_agree id (value ∷ vs) h =
+      let here = one_agrees known others id value (out-Value value) refl h.0 in
+      let rest = values_agree id vs h.1 in
+      λ q. here q ∷ rest q
+
+  indices_agree : (lay : Layout) (vs : List Value) → InColumn Same lay vs → indices_in known lay vs ≡ indices_in others lay vs
+  indices_agree (l.Indices bits signed id) vs h = values_agree id vs h
+  indices_agree l.Null vs h = refl
+  indices_agree l.Bits vs h = refl
+  indices_agree (l.Numbers bits signed) vs h = refl
+  indices_agree (l.FixedBytes width) vs h = refl
+  indices_agree (l.VariableBytes utf8) vs h = refl
+  indices_agree l.Lists vs h = refl
+  indices_agree l.Structs vs h = refl
+  indices_agree (l.FixedLists size) vs h = refl
+
+  column_agrees : (limits : Limits) (lay : Layout) (vs : List Value) (column : Column) → InColumn Same lay vs
+      → IsColumn known limits lay vs column → IsColumn others limits lay vs column
+  column_agrees limits lay vs column same h = record {
+    laid = h.laid;
+    counted = h.counted;
+    validity_are = h.validity_are;
+    offsets_are = h.offsets_are;
+    values_are = h.values_are;
+    indices_are = h.indices_are ∙ indices_agree lay vs same;
+    stored = h.stored;
+  }
+
+  -- columns are the same under numbers that agree on their values
+  pub columns_agree : (limits : Limits) (s : Shape) (nodes : List Node) (given : ℕ → List Value) → InColumns Same s given
+      → AreColumns known limits s nodes given → AreColumns others limits s nodes given
+  columns_agree limits bare [] given same h = tt
+  columns_agree limits bare (m ∷ ms) given same h = absurd h
+  columns_agree limits (field lay c rest) [] given same h = absurd h
+  columns_agree limits (field lay c rest) (m ∷ ms) given same h = (
+    (column_agrees limits lay (given 0) _ same.0 h.0.0, columns_agree limits c _ (below lay (given 0)) same.1.0 h.0.1),
+    columns_agree limits rest ms (λ j. given (suc j)) same.1.1 h.1,
+  )
+
+-- ---- one field more
+
+-- the buffers of one field more
+pub buffers_with_next : (known : Numbering) (i : ℕ) (shape : Shape) (given : ℕ → List Value) (lay : Layout) (c : Shape)
+    → IsAt i shape lay c
+    → buffers_with known (first (suc i) shape) given
+    ≡ buffers_with known (first i shape) given ++ buffers_with known (field lay c bare) (λ j. given i)
+buffers_with_next known i bare given lay c h = absurd h
+buffers_with_next known zero (field k d rest) given lay c h = rw (h.0, h.1) refl
+buffers_with_next known (suc i) (field k d rest) given lay c h =
+    let own = column_buffers k (stored known k (given 0)) in
+    let inner = buffers_with known d (below k (given 0)) in
+    let later = buffers_with known (first i rest) (λ j. given (suc j)) in
+    let one = buffers_with known (field lay c bare) (λ j. given (suc i)) in
+    ap (λ (bs : List (List ℕ)). own ++ (inner ++ bs)) (buffers_with_next known i rest (λ j. given (suc j)) lay c h)
+    ∙ (ap (λ (bs : List (List ℕ)). own ++ bs) (sym (append_assoc inner later one)) ∙ sym (append_assoc own (inner ++ later) one))
+
+-- ---- one index more
+
+-- the number of one index more
+numbers_more : (f : Option ℕ → Option ℕ) (xs : List (Option ℕ)) (i : ℕ) → i < length xs
+    → map as_number (map f (take (suc i) xs)) ≡ map as_number (map f (take i xs)) ++ as_number (f (get_or xs i None)) ∷ []
+numbers_more f [] i k = absurd (omega arith)
+numbers_more f (x ∷ xs) zero k = refl
+numbers_more f (x ∷ xs) (suc i) k =
+    ap (λ (vs : List Value). as_number (f x) ∷ vs) (numbers_more f xs i (omega arith))
+
+-- where the numbers of the first indices stand, and then that of the next, those of one more stand
+pub slots_more : (f : Option ℕ → Option ℕ) (bits : IntBits) (xs : List (Option ℕ)) (i : ℕ) (value : Value) (old so_far new : List ℕ)
+    → i < length xs → value ≡ as_number (f (get_or xs i None))
+    → so_far ≡ old ++ slots (Number bits) (map as_number (map f (take i xs))) → new ≡ so_far ++ slot_bytes (Number bits) value
+    → new ≡ old ++ slots (Number bits) (map as_number (map f (take (suc i) xs)))
+slots_more f bits xs i value old so_far new k e s n =
+    let before = map as_number (map f (take i xs)) in
+    n ∙ (ap (λ (bs : List ℕ). bs ++ slot_bytes (Number bits) value) s
+    ∙ (append_assoc old (slots (Number bits) before) (slot_bytes (Number bits) value)
+    ∙ (ap (λ (bs : List ℕ). old ++ bs) (sym (slots_push (Number bits) before value))
+    ∙ (ap (λ (v : Value). old ++ slots (Number bits) (before ++ v ∷ [])) e
+    ∙ ap (λ (vs : List Value). old ++ slots (Number bits) vs) (sym (numbers_more f xs i k))))))
+
+-- the buffers of a column of indices are its validity bitmap and the numbers of its indices
+pub index_buffers : (number : ℤ → ℕ → Option ℕ) (known : Numbering) (lay : Layout) (bits : IntBits) (signed : Bool) (id : ℤ)
+    (vs : List Value) (valid : List ℕ) (held : List (Option ℕ)) → lay ≡ l.Indices bits signed id → valid ≡ validity_in lay vs
+    → held ≡ indices_in known lay vs
+    → (valid ∷ []) ++ (slots (Number bits) (map as_number (map (changed (number id)) held)) ∷ [])
+    ≡ column_buffers lay (stored (renumbered number known) lay vs)
+index_buffers number known lay bits signed id vs valid held is v h =
+    let first : valid ≡ validity_bytes (numbers_of (renumbered number known id) vs) =
+    (rw is at v) ∙ sym (validity_same (renumbered number known id) vs) in
+    let second : map as_number (map (changed (number id)) held) ≡ numbers_of (renumbered number known id) vs =
+    ap (λ (xs : List (Option ℕ)). map as_number (map (changed (number id)) xs)) (rw is at h) ∙ changed_are number known id vs in
+    rw is (λ i. first i ∷ slots (Number bits) (second i) ∷ [])

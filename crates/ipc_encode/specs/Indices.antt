@@ -1,0 +1,59 @@
+-- What is asked of the indices of values (Arrow Columnar Format, "Dictionary-encoded Layout").
+use Rattle.std.specs.Prelude.{◌≡◌, ℕ, suc, ℤ, pos, Bool, true, false, List, Some, slice_get, ⊤}
+use Rattle.std.specs.List.{AllByRecursion}
+use Rattle.ipc_model.specs.Ranges.{width, IsSignedWithin, IsUnsignedWithin}
+use Rattle.ipc_model.specs.declared.schema.Field.{Field}
+use Rattle.ipc_model.specs.declared.schema.IntBits.{IntBits}
+use Rattle.ipc_model.specs.declared.value.Value.{Value}
+use Rattle.ipc_model.specs.declared.layout.Layout.{Layout}
+use Rattle.ipc_model.specs.declared.layout.Layout.TheVariants as l
+use Rattle.ipc_column.specs.Dictionaries.{Dictionaries, values_for}
+use Rattle.ipc_column.specs.Shapes.{Shape, bare, field, shape_of}
+use Rattle.ipc_encode.specs.Pieces.{Valid}
+use Rattle.ipc_encode.specs.Cells.{is_set}
+use Rattle.ipc_encode.specs.Buffers.{below, columns}
+use Rattle.ipc_encode.specs.Numbers.{Numbering}
+
+-- something is asked of each value other than null in a column of indices, by their width and sign
+-- and the dictionary's id; of the values of other columns nothing is
+abbrev pub InColumn : (IntBits → Bool → ℤ → Value → Type 0) → Layout → List Value → Type 0
+InColumn Asked (l.Indices bits signed id) values =
+    AllByRecursion (λ value. is_set Valid value ≡ true → Asked bits signed id value) values
+InColumn Asked l.Null values = ⊤
+InColumn Asked l.Bits values = ⊤
+InColumn Asked (l.Numbers bits signed) values = ⊤
+InColumn Asked (l.FixedBytes width) values = ⊤
+InColumn Asked (l.VariableBytes utf8) values = ⊤
+InColumn Asked l.Lists values = ⊤
+InColumn Asked (l.FixedLists size) values = ⊤
+InColumn Asked l.Structs values = ⊤
+
+-- the same of each column, and of each below it
+abbrev pub InColumns : (IntBits → Bool → ℤ → Value → Type 0) → Shape → (ℕ → List Value) → Type 0
+InColumns Asked bare given = ⊤
+InColumns Asked (field l children rest) given = InColumn Asked l (given 0)
+    × (InColumns Asked children (below l (given 0)) × InColumns Asked rest (λ j. given (suc j)))
+
+-- the same of the columns of rows
+abbrev pub InRows : (IntBits → Bool → ℤ → Value → Type 0) → List Field → List (List Value) → Type 0
+InRows Asked fields rows = InColumns Asked (shape_of fields) (columns rows)
+
+-- an index is one of its type (Schema.fbs, DictionaryEncoding, `indexType`)
+abbrev pub IsIndexWithin : IntBits → Bool → ℕ → Type 0
+IsIndexWithin bits true i = IsSignedWithin (width bits) (pos i)
+IsIndexWithin bits false i = IsUnsignedWithin (width bits) i
+
+-- an index is one of its type and finds the value among those of its dictionary
+pub record Finds (m : Dictionaries) (indices : Numbering) (bits : IntBits) (signed : Bool) (id : ℤ)
+    (value : Value) : Type 0 where
+  pub within : IsIndexWithin bits signed (indices id value)
+  pub found : slice_get (values_for m id) (indices id value) ≡ Some value
+
+-- under these dictionaries the index of each value in the rows finds it
+abbrev pub FindsRows : Dictionaries → Numbering → List Field → List (List Value) → Type 0
+FindsRows m indices = InRows (Finds m indices)
+
+-- the same index is told of each value in the rows
+abbrev pub AgreeOn : Numbering → Numbering → List Field → List (List Value) → Type 0
+AgreeOn indices others =
+    InRows (λ bits signed id value. indices id value ≡ others id value)

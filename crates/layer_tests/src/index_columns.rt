@@ -1,0 +1,75 @@
+//! Columns of indices, pushed row by row under a tally and numbered by its plan.
+ghost use Rattle.std.specs.Prelude.{◌≡◌, IfOk};
+ghost use Rattle.ipc_dict.specs.SchemaIds.{kept_ids, ids_of, tally_ids};
+
+use crate::dictionaries::{rows_of, schema_of};
+use ipc_dict::{Kept, Tally};
+use ipc_encode::{Builder, Parts};
+use ipc_model::{Limits, Schema, WriteFault};
+use std::alloc::Global;
+use std::test::Fail;
+
+// The parts of a batch of these letters, one for each row.
+fn pushed(
+    alloc: Global,
+    schema: &Schema,
+    kept: &mut Kept,
+    letters: &[u8],
+) -> Result<Parts, WriteFault>
+    requires { kept_ids kept.old ≡ ids_of schema.now.fields }
+    ensures { kept_ids kept.new ≡ ids_of schema.now.fields }
+{
+    let (tally, builder) = counted(alloc, schema, letters)?;
+    let plan = tally.settle(alloc, kept)?;
+    let parts = builder.finish(&plan)?;
+    plan.commit(kept);
+    Ok(parts)
+}
+
+// The same rows, counted and held.
+fn counted(alloc: Global, schema: &Schema, letters: &[u8]) -> Result<(Tally, Builder), WriteFault>
+    ensures { IfOk result (λ counted. tally_ids counted.0.entries ≡ ids_of schema.now.fields) }
+{
+    let mut tally = Tally::new(alloc, schema)?;
+    let mut builder = Builder::new(alloc, schema.fields.as_slice(), &Limits::standard())?;
+    for row in &rows_of(alloc, letters, 1)? {
+        tally.note(row.as_slice())?;
+        builder.push(row.as_slice(), &tally)?;
+    }
+    Ok((tally, builder))
+}
+
+// The bodies of batches that are written one after another.
+fn bodies(alloc: Global, batches: &[&[u8]]) -> Result<Vec<Vec<u8>>, WriteFault> {
+    let schema = schema_of(alloc, 1)?;
+    let mut kept = Kept::new(alloc, &schema)?;
+    let mut bodies = Vec::new(alloc);
+    for letters in batches {
+        let parts = pushed(alloc, &schema, &mut kept, letters)?;
+        bodies.push(parts.body)?;
+    }
+    Ok(bodies)
+}
+
+// The third batch sends {c, b}, the fifth nothing, and the sixth {b, c, d}.
+const BATCHES: [&[u8]; 6] = [b"aba-", b"b", b"cb", b"-", b"bbc", b"bbcd"];
+
+// The numbers of the indices, behind a bitmap where there is a null.
+const BODIES: [&[u8]; 6] = [
+    &[7, 0, 0, 0, 0, 0, 0, 0, 0, 1, 0, 0, 0, 0, 0, 0],
+    &[1, 0, 0, 0, 0, 0, 0, 0],
+    &[0, 1, 0, 0, 0, 0, 0, 0],
+    &[0, 0, 0, 0, 0, 0, 0, 0, 0, 0, 0, 0, 0, 0, 0, 0],
+    &[1, 1, 0, 0, 0, 0, 0, 0],
+    &[0, 0, 1, 2, 0, 0, 0, 0],
+];
+
+#[test]
+fn grows_columns_of_indices(rt: HostRuntime) -> Result<(), Fail> {
+    let bodies = bodies(rt.alloc(), &BATCHES)?;
+    assert!(rt; bodies.len() == BODIES.len());
+    for (body, wanted) in bodies.iter().zip(BODIES.iter()) {
+        assert!(rt; body.as_slice() == *wanted);
+    }
+    Ok(())
+}

@@ -1,0 +1,249 @@
+//! What writers refuse, alone and under limits, and what they send all the same: it is what another
+//! writer sends of the rows that are left. What a reader answers under limits stands in `cases/`.
+
+use crate::scripts::{Step, sent, stream_of, tell};
+use crate::tables::{Column, NUMBERS, empty};
+use ipc_model::{
+    DataType, Dictionary, Fault, Field, IndexType, IntBits, Limits, Schema, Table, WriteFault,
+};
+use ipc_stream::{Memory, StreamWriter, read_table, write_table};
+use std::alloc::{AllocError, Global};
+use std::test::Fail;
+
+// The steps that a writer is asked to take under limits on metadata, body, slots, fields, depth,
+// text and pairs; what it tells; and the steps that give the same bytes.
+struct Script {
+    limits: [u64; 7],
+    column: Column,
+    steps: &'static [Step<'static>],
+    told: &'static str,
+    same: &'static [Step<'static>],
+}
+
+const WIDE: [u64; 7] = [1 << 24, 1 << 20, 1000, 10, 4, 1000, 10];
+
+const SCRIPTS: [Script; 12] = [
+    // A row that doesn't fit is told with the number that it would have, and the others are sent.
+    Script {
+        limits: WIDE,
+        column: Column::Bytes,
+        steps: &[Step::Push(&[Some(1), Some(2), Some(128), None, Some(-128)])],
+        told: "W4 OutOfRange at row 2 path 0\nW5 NullNotAllowed at row 2 path 0\n",
+        same: &[Step::Write(&[Some(1), Some(2), Some(-128)])],
+    },
+    Script {
+        limits: WIDE,
+        column: Column::Bytes,
+        steps: &[Step::Push(&[])],
+        told: "",
+        same: &[Step::Write(&[])],
+    },
+    // Nothing of a batch that is let go goes out, alone or with the next one.
+    Script {
+        limits: WIDE,
+        column: Column::Bytes,
+        steps: &[Step::LetGo(5), Step::Push(&[Some(6)])],
+        told: "",
+        same: &[Step::Write(&[Some(6)])],
+    },
+    // A batch with a row that doesn't fit is refused, nothing goes out, and the writer writes on.
+    Script {
+        limits: WIDE,
+        column: Column::Bytes,
+        steps: &[
+            Step::Write(&[Some(128)]),
+            Step::Write(&[Some(127), None]),
+            Step::Write(&[Some(127)]),
+        ],
+        told: "W4 OutOfRange at row 0 path 0\nW5 NullNotAllowed at row 1 path 0\n",
+        same: &[Step::Write(&[Some(127)])],
+    },
+    Script {
+        limits: WIDE,
+        column: Column::UnsignedBytes,
+        steps: &[Step::Write(&[Some(255), Some(256)])],
+        told: "W4 OutOfRange at row 1 path 0\n",
+        same: &[],
+    },
+    Script {
+        limits: WIDE,
+        column: Column::Days,
+        steps: &[Step::Write(&[Some(86_400_000), Some(1)])],
+        told: "W4 OutOfRange at row 1 path 0\n",
+        same: &[],
+    },
+    // Rows that take no bytes are too many all the same, and the writer writes on.
+    Script {
+        limits: [1 << 24, 0, 2, 10, 4, 1000, 10],
+        column: Column::Absent,
+        steps: &[Step::Write(&[None, None, None]), Step::Write(&[None, None])],
+        told: "W8 TooManyRows\n",
+        same: &[Step::Write(&[None, None])],
+    },
+    // One pair of two bytes fits, and doesn't where one byte or no pair may stand.
+    Script {
+        limits: [1 << 24, 1 << 20, 1000, 10, 4, 2, 1],
+        column: Column::Absent,
+        steps: &[Step::WritePaired(&[])],
+        told: "",
+        same: &[Step::PushPaired(&[])],
+    },
+    Script {
+        limits: [1 << 24, 1 << 20, 1000, 10, 4, 1, 1],
+        column: Column::Absent,
+        steps: &[Step::WritePaired(&[])],
+        told: "W6 TooLong\n",
+        same: &[],
+    },
+    Script {
+        limits: [1 << 24, 1 << 20, 1000, 10, 4, 2, 0],
+        column: Column::Absent,
+        steps: &[Step::WritePaired(&[])],
+        told: "W6 TooLong\n",
+        same: &[],
+    },
+    // Limits that three numbers just keep, but for the metadata, and a body one byte too long.
+    Script {
+        limits: [4096, 24, 3, 1, 1, 1, 0],
+        column: Column::Numbers,
+        steps: &[Step::Write(NUMBERS)],
+        told: "",
+        same: &[Step::Write(NUMBERS)],
+    },
+    Script {
+        limits: [4096, 23, 3, 1, 1, 1, 0],
+        column: Column::Numbers,
+        steps: &[Step::Write(NUMBERS)],
+        told: "W6 TooLong\n",
+        same: &[],
+    },
+];
+
+fn limits_of(values: [u64; 7]) -> Option<Limits> {
+    let [metadata, body, slots, fields, depth, text, pairs] = values;
+    Limits::new(metadata, body, slots, fields, depth, text, pairs)
+}
+
+// Whether a writer answers and sends what the script says.
+fn is_answered(alloc: Global, script: &Script) -> Result<bool, AllocError> {
+    let Some(limits) = limits_of(script.limits) else {
+        return Ok(false);
+    };
+    let mut told = String::new(alloc);
+    let bytes = sent(alloc, limits, script.column, script.steps, &mut told)?;
+    let wanted = stream_of(alloc, script.column, script.same)?;
+    Ok(told.as_str() == script.told && bytes.as_slice() == wanted.as_slice())
+}
+
+#[test]
+fn answers_to_scripts(rt: HostRuntime) -> Result<(), Fail> {
+    for (number, script) in SCRIPTS.iter().enumerate() {
+        assert!(rt; is_answered(rt.alloc(), script)?, "script {number}");
+    }
+    Ok(())
+}
+
+// What is told of a table that is written whole, and its bytes.
+fn table_sent(alloc: Global, table: &Table, told: &mut String) -> Result<Vec<u8>, AllocError> {
+    let mut sink = empty(alloc);
+    let answer = write_table(alloc, &Limits::standard(), &mut sink, table);
+    tell(alloc, told, answer)?;
+    Ok(sink.into_bytes())
+}
+
+// Whether a table is refused for its second row, and only what begins its stream, before the end
+// mark, goes out.
+fn is_refused(alloc: Global, table: &Table, whole: &[u8]) -> Result<bool, AllocError> {
+    let mut told = String::new(alloc);
+    let bytes = table_sent(alloc, table, &mut told)?;
+    let is_begun = whole.starts_with(&bytes) && bytes.len().saturating_add(8) == whole.len();
+    Ok(is_begun && told.as_str() == "W4 OutOfRange at row 1 path 0\n")
+}
+
+const MISFITS: [(Column, [Option<i64>; 2]); 2] = [
+    (Column::UnsignedBytes, [Some(255), Some(256)]),
+    (Column::Days, [Some(86_400_000), Some(1)]),
+];
+
+#[test]
+fn tells_the_row_of_a_table(rt: HostRuntime) -> Result<(), Fail> {
+    for (column, numbers) in MISFITS {
+        let whole = stream_of(rt.alloc(), column, &[])?;
+        let table = column.table(rt.alloc(), &numbers)?;
+        assert!(rt; is_refused(rt.alloc(), &table, &whole)?);
+    }
+    Ok(())
+}
+
+// The body of the numbers, and the end mark.
+const BEHIND: [u8; 32] = [
+    1, 0, 0, 0, 0, 0, 0, 0, 254, 255, 255, 255, 255, 255, 255, 255, 255, 255, 255, 255, 255, 255,
+    255, 127, 255, 255, 255, 255, 0, 0, 0, 0,
+];
+
+#[test]
+fn writes_numbers(rt: HostRuntime) -> Result<(), Fail> {
+    let bytes = stream_of(rt.alloc(), Column::Numbers, &[Step::Write(NUMBERS)])?;
+    assert!(rt; bytes.ends_with(&BEHIND));
+    Ok(())
+}
+
+// The table of a stream.
+fn table_of(alloc: Global, bytes: Vec<u8>) -> Result<Table, Fault> {
+    let mut source = Memory::new(bytes);
+    Ok(read_table(alloc, &Limits::standard(), &mut source)?.0)
+}
+
+fn comes_back(alloc: Global, table: &Table) -> Result<bool, Fail> {
+    let mut sink = empty(alloc);
+    match write_table(alloc, &Limits::standard(), &mut sink, table) {
+        Ok(()) => Ok(table_of(alloc, sink.into_bytes())?.is_same(table)),
+        // A memory fails only where it can't grow.
+        Err(WriteFault::Write) => Err(Fail::from(WriteFault::OutOfMemory)),
+        Err(fault) => Err(Fail::from(fault)),
+    }
+}
+
+#[test]
+fn grows_a_written_table(rt: HostRuntime) -> Result<(), Fail> {
+    let table = Column::Numbers.table(rt.alloc(), NUMBERS)?;
+    assert!(rt; comes_back(rt.alloc(), &table)?);
+    Ok(())
+}
+
+const DICTIONARY: Dictionary = Dictionary {
+    id: 7,
+    index: IndexType {
+        bits: IntBits::B32,
+        signed: true,
+    },
+    ordered: false,
+};
+
+// A width that no column has; a dictionary, which is well formed and not written yet; a list
+// without its child.
+fn refused_column(alloc: Global, number: usize) -> Result<Field, AllocError> {
+    match number {
+        0 => Field::new(alloc, "a", DataType::FixedSizeBinary(1 << 31)),
+        1 => Ok(Field::new(alloc, "a", DataType::Utf8)?.with_dictionary(DICTIONARY)),
+        _ => Field::new(alloc, "a", DataType::List),
+    }
+}
+
+// Whether no writer is started for a schema, and nothing goes out.
+fn is_bad(alloc: Global, schema: &Schema) -> bool {
+    match StreamWriter::start(alloc, Limits::standard(), empty(alloc), schema) {
+        Ok(_writer) => false,
+        Err((fault, sink)) => fault == WriteFault::BadSchema && sink.into_bytes().is_empty(),
+    }
+}
+
+#[test]
+fn refuses_schemas(rt: HostRuntime) -> Result<(), Fail> {
+    for number in 0..3 {
+        let mut fields = Vec::new(rt.alloc());
+        fields.push(refused_column(rt.alloc(), number)?)?;
+        assert!(rt; is_bad(rt.alloc(), &Schema::new(fields)), "column {number}");
+    }
+    Ok(())
+}
