@@ -109,10 +109,10 @@ signed_counted s w z g taken e fits divides small =
 
 -- a string takes 8 and its bytes
 pub string_counted : (s : Slot) (t u : List ℕ) (g taken : ℕ) (o : Option ℕ) → s ≡ v.Text t → u ≡ t → IsUtf8 u
-    → Counts g (taken + (8 + 1 * length u)) ⊤ o → Counted g taken o (node s)
+    → Counts g (taken + (8 + length u)) ⊤ o → Counted g taken o (node s)
 string_counted s t u g taken o e f utf8 h =
     let i : node s ≡ (k.string u, none) = ap node e ∙ (text_is t ∙ ap (λ (z : List ℕ). (k.string z, none)) (sym f)) in
-    subst (Counted g taken o) (sym i) (counts_plain g (taken + (8 + 1 * length u)) (taken + (8 + length u)) _ o (omega arith)
+    subst (Counted g taken o) (sym i) (counts_plain g (taken + (8 + length u)) (taken + (8 + length u)) _ o refl
     (is_utf8-from_IsUtf8 u utf8, range_none) h)
 
 -- a vector of structs takes 12, and 16 for each

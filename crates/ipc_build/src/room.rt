@@ -39,6 +39,15 @@ fn pairs_room(pairs: &[(i64, i64)], taken: usize, greatest: usize) -> Option<usi
     add(taken, 12, 16, pairs.len(), greatest)
 }
 
+// What is taken with a text, where that is at most `greatest`.
+fn text_room(text: &str, taken: usize, greatest: usize) -> Option<usize>
+    requires limit { greatest < 2 ^ 31 }
+    requires taken { taken ≤ greatest }
+    ensures { Counts greatest (taken + (8 + length text.now)) ⊤ result }
+{
+    add(taken, 8, 1, text.len(), greatest)
+}
+
 // What is taken with what a field points to, where that is at most `greatest`. A scalar takes
 // nothing beside its place in the table; its arm reads it, and so its range is known.
 #[cycle(targets_room)]
@@ -55,7 +64,7 @@ fn target_room(slot: &Slot, taken: usize, greatest: usize) -> Option<usize>
         Slot::I16(_number) => Some(taken),
         Slot::I32(_number) => Some(taken),
         Slot::I64(_number) => Some(taken),
-        Slot::Text(ref text) => add(taken, 8, 1, text.as_str().len(), greatest),
+        Slot::Text(ref text) => text_room(text.as_str(), taken, greatest),
         Slot::Table(ref tree) => table_room(tree, taken, greatest),
         Slot::Tables(ref trees) => vector_room(trees.as_slice(), taken, greatest),
         Slot::Pairs(ref pairs) => pairs_room(pairs.as_slice(), taken, greatest),

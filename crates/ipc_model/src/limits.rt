@@ -94,14 +94,7 @@ impl Limits {
             (λ limits. HaveValues limits metadata body slots fields depth text pairs) }
         ensures some { IsSome result ↔ AreAllowed metadata body slots fields depth text pairs }
     {
-        let is_allowed = metadata <= GREATEST_METADATA
-            && body <= GREATEST_BODY
-            && slots <= GREATEST_SLOTS
-            && fields <= GREATEST_FIELDS
-            && depth <= GREATEST_DEPTH
-            && text <= GREATEST_TEXT
-            && pairs <= GREATEST_PAIRS;
-        if !is_allowed {
+        if !Limits::are_allowed(metadata, body, slots, fields, depth, text, pairs) {
             return None;
         }
         Some(Limits {
@@ -113,6 +106,27 @@ impl Limits {
             text,
             pairs,
         })
+    }
+
+    // Whether limits may have these values: none is above its greatest.
+    fn are_allowed(
+        metadata: u64,
+        body: u64,
+        slots: u64,
+        fields: u64,
+        depth: u64,
+        text: u64,
+        pairs: u64,
+    ) -> bool
+        ensures { IsTrue result ↔ AreAllowed metadata body slots fields depth text pairs }
+    {
+        metadata <= GREATEST_METADATA
+            && body <= GREATEST_BODY
+            && slots <= GREATEST_SLOTS
+            && fields <= GREATEST_FIELDS
+            && depth <= GREATEST_DEPTH
+            && text <= GREATEST_TEXT
+            && pairs <= GREATEST_PAIRS
     }
 
     /// Whether no value is below the other's: then what is within the others is within these.

@@ -1,6 +1,6 @@
 //! Dates, times and points in time.
 ghost use Rattle.std.specs.Prelude.{◌≡◌, ◌<◌, ◌≤◌, ◌+◌, ◌*◌, ◌/◌, ◌%◌, ◌++◌, option_map, length};
-ghost use Rattle.std.specs.Prelude.{IsSome, ◌↔◌, pos, unsigned_abs};
+ghost use Rattle.std.specs.Prelude.{IsSome, IsTrue, ◌↔◌, pos, unsigned_abs};
 ghost use Rattle.std.specs.Int.{int_div_euclid, int_rem_euclid};
 ghost use Rattle.ipc_model.specs.Ranges.{IsTimeOfDay, ticks_in_a_day};
 ghost use Rattle.ipc_moments.specs.Moments as spec;
@@ -138,6 +138,14 @@ pub fn date_text(unit: DateUnit, number: i64) -> Option<ShortText>
     }
 }
 
+// Whether so many units after midnight are a time of day: from 0 on, and below 24 hours.
+#[inline(always)]
+fn is_time_of_day(unit: TimeUnit, number: i64) -> bool
+    ensures { IsTrue result ↔ IsTimeOfDay unit number }
+{
+    number >= 0 && number < ticks_in_a_day(unit)
+}
+
 /// The text of a time of day, so many units after midnight: `hh:mm:ss`, and 0, 3, 6 or 9 digits of
 /// a second behind a point by the unit. None below 0, and from 24 hours on.
 #[inline(always)]
@@ -146,7 +154,7 @@ pub fn time_text(unit: TimeUnit, number: i64) -> Option<ShortText>
     ensures text { result ≡ spec.time_text unit number }
     ensures conforming { IsSome result ↔ IsTimeOfDay unit number }
 {
-    if number < 0 || number >= ticks_in_a_day(unit) {
+    if !is_time_of_day(unit, number) {
         return None;
     }
     let mut text = ShortText::new();

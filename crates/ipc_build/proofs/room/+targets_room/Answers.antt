@@ -13,7 +13,7 @@ use Rattle.ipc_build.proofs.room.+targets_room.Goals as goal
 
 pub target_room-returns-in-Text : goal.target_room-returns-in-Text
 target_room-returns-in-Text t c = string_counted c.args.slot.now c.in-Text.text c.as_str.result.now c.args.greatest c.args.taken
-    c.add.result c.in-Text.is c.as_str.ensures c.as_str.utf8 c.add.ensures
+    c.text_room.result c.in-Text.is c.as_str.ensures c.as_str.utf8 c.text_room.ensures
 
 pub target_room-returns-in-Tables : goal.target_room-returns-in-Tables
 target_room-returns-in-Tables t c = tables_counted c.args.slot.now c.in-Tables.trees c.as_slice.result.now c.args.greatest c.args.taken
