@@ -10,11 +10,11 @@ the crates of TREE (this repository) over the libraries that `rt ci` or `rt chec
 `rt must-fail` tries each edit in a check of its own, which costs 10 to 15 seconds to load whatever
 it turns. But a proof rests on what a function calls by contracts alone, so a function that is
 turned breaks its own proof, and those of its callers only as far as they cite it. Here edits of
-functions with different names are made together in rounds. An edit is refused where the check
-complains of the function that it turns, by more than a name that is gone. Functions that call one
-another have one proof, so a round turns one of them. The others, as those of the callers of what
-was refused, come again in the next round. What is left when a round refuses none is tried alone.
-One that no clause speaks of then has failed.
+different functions are made together in rounds. An edit is refused where the check complains of the
+function that it turns, by more than a name that is gone. Functions that call one another have one
+proof, so a round turns one of them. The others, as those of the callers of what was refused, come
+again in the next round. What is left when a round refuses none is tried alone. One that no clause
+speaks of then has failed.
 
 Each check begins with the proofs that the built library of the crate carries, and is asked for the
 functions that are turned alone: so what calls them isn't proved again, which would cost more than
@@ -48,6 +48,7 @@ NOTED = os.path.join(
 BUILD = re.compile(r"^rattle-build (\S+)$", re.M)
 CYCLE = re.compile(r"^[ \t]*#\[cycle\((\w+)\)\]", re.M)
 FUNCTION = re.compile(r"^[ \t]*(?:pub(?:\([^)]*\))?[ ]+)?(?:const[ ]+)?fn[ ]+(\w+)", re.M)
+TRAIT = re.compile(r"^[ \t]*(?:pub(?:\([^)]*\))?[ ]+)?trait[ ]+(\w+)", re.M)
 OPEN_GOAL = re.compile(r"^note: (src/\S+\.rt):(\d+):\d+: it is not proved")
 ANSWER = re.compile(r"^(?:\./)?proofs/(\S+)/\w+\.antt:\d+:\d+: error: (.*)")
 GONE = re.compile(r"has no field|is not in scope|has no `|was not admitted|was not checked")
@@ -73,11 +74,6 @@ class Function(NamedTuple):
         """The name of its proof, which the functions of a cycle share."""
         return "+" + self.cycle if self.cycle else self.name
 
-    def has_proof_in(self, folder):
-        """Whether a folder of proofs is that of a function of this name: a method's stands at its
-        type, which another file may declare."""
-        return folder.rpartition("/")[2] in (self.name, self.proof())
-
     def paths(self, known):
         """Its paths among those of a crate's functions: those in its module, where there are some,
         else all with its name, as a method's type may stand in another file."""
@@ -85,6 +81,11 @@ class Function(NamedTuple):
         module = [] if module == ["lib"] or module == ["main"] else module
         named = [it for it in known if it[-1] == self.name]
         return [it for it in named if it[: len(module)] == module] or named
+
+    def folders(self, known):
+        """The folders of which one has its proof."""
+        found = self.paths(known) or [[self.name]]
+        return {"/".join([*it[:-1], self.proof()]) for it in found}
 
 
 class Edit(NamedTuple):
@@ -124,6 +125,13 @@ def functions_in(file, text):
         found.append(Function(file, head[1], head.start(), cycle[1] if cycle else ""))
         end = head.end()
     return found
+
+
+def traits_in(folder):
+    """The names of the traits that a crate declares. The library names proofs of their methods too,
+    which are no functions that a check knows."""
+    files = [f"{at}/{it}" for at, _, names in os.walk(f"{folder}/src") for it in names]
+    return {name for it in files if it.endswith(".rt") for name in TRAIT.findall(text_of(it))}
 
 
 def function_at(file, text, place):
@@ -226,9 +234,9 @@ def complaints(said):
     return goals, folders
 
 
-def is_complained_of(function, texts, goals, folders):
+def is_complained_of(function, texts, goals, folders, known):
     """Whether a check complains of a function that is turned in these texts."""
-    if any(function.has_proof_in(it) for it in folders):
+    if not function.folders(known).isdisjoint(folders):
         return True
     places = [0]
     for it in texts[function.file].splitlines(keepends=True):
@@ -278,12 +286,14 @@ class Trial:
         """Has the kept proofs be those that the built library carries."""
         rlib = f"{self.crate.folder}/out/rlib/{self.crate.name}.rlib"
         build = BUILD.search(text_of(f"{rlib}/format"))[1].replace("/", "_")
+        traits = traits_in(self.crate.folder)
         os.makedirs(f"{self.kept}/{build}")
         with open(f"{rlib}/toolchain/checked.a", "rb") as packed:
             for line in text_of(f"{rlib}/toolchain/checked.json").splitlines():
                 name, start, size = json.loads(line)
-                if link := LINK.match(name):
-                    self.paths.append(link[1].split("."))
+                path = link[1].split(".") if (link := LINK.match(name)) else []
+                if path and not traits & {*path[-2:-1]}:
+                    self.paths.append(path)
                 if "/" not in name:
                     packed.seek(start)
                     with open(f"{self.kept}/{build}/{name}.oantt", "wb") as file:
@@ -344,14 +354,14 @@ class Trial:
         found = complaints(said)
         if len(edits) == 1:
             return edits if any(found) else []
-        refused = lambda it: any(is_complained_of(at, texts, *found) for at in it.functions)
-        return [it for it in edits if refused(it)]
+        told = lambda function: is_complained_of(function, texts, *found, self.paths)
+        return [it for it in edits if any(map(told, it.functions))]
 
     def next_round(self, edits):
         """Edits of different functions that can be made together."""
         taken, chosen = set(), []
         for edit in edits:
-            names = {it.proof() for it in edit.functions}
+            names = set().union(*(it.folders(self.paths) for it in edit.functions))
             if not taken & names and replaced(self.crate.folder, [*chosen, edit]) is not None:
                 chosen.append(edit)
                 taken |= names

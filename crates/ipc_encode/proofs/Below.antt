@@ -13,7 +13,7 @@ use Rattle.ipc_model.specs.declared.value.Value.TheVariants as v
 use Rattle.ipc_model.specs.declared.value.Value.TheViews.{out-Value, roll-Value, out-roll-Value, roll-out-Value}
 use Rattle.std.proofs.Math.Nat.{suc-mul}
 use Rattle.ipc_encode.specs.Buffers.{below, nulls_below}
-use Rattle.ipc_encode.specs.Cells.{cell, items_in, fixed_items_in, part_in, items, fixed_items, part}
+use Rattle.ipc_encode.specs.Cells.{cell, fixed_items_in, part_in, items, fixed_items, part}
 use Rattle.ipc_encode.proofs.Steps.{below_append, below_none}
 
 -- ---- a null
@@ -82,10 +82,6 @@ leaf_gives (l.FixedBytes width) value list fixed struct j = refl
 leaf_gives (l.VariableBytes utf8) value list fixed struct j = refl
 leaf_gives (l.Indices bits signed id) value list fixed struct j = refl
 
-pub items_are : (value : Value) (values : List Value) → value ≡ v.List values → items value ≡ values
-unfolding out-Value roll-Value Carrier.roll
-items_are value values e = ap (λ (w : Value). items w) e ∙ ap items_in (out-roll-Value (o.List values))
-
 pub parts_are : (value : Value) (values : List Value) → value ≡ v.Struct values → (j : ℕ) → part j value ≡ cell j values
 unfolding out-Value roll-Value Carrier.roll
 parts_are value values e j = ap (λ (w : Value). part j w) e ∙ ap (λ (w : Value-F Value). part_in j w) (out-roll-Value (o.Struct values))
@@ -93,10 +89,6 @@ parts_are value values e j = ap (λ (w : Value). part j w) e ∙ ap (λ (w : Val
 pub fixed_are : (size : ℕ) (value : Value) (values : List Value) → value ≡ v.List values → fixed_items size value ≡ values
 unfolding out-Value roll-Value Carrier.roll
 fixed_are size value values e = ap (λ (w : Value). fixed_items size w) e ∙ ap (fixed_items_in size) (out-roll-Value (o.List values))
-
-no_items_in : (f : Value-F Value) → ((values : List Value) → f ≡ o.List values → ⊥) → items_in f ≡ []
-no_items_in (o.List values) other = absurd (other values refl)
-no_items_in _ other = refl
 
 no_fixed_in : (size : ℕ) (f : Value-F Value) → ((values : List Value) → f ≡ o.List values → ⊥)
     → fixed_items_in size f ≡ replicate size v.Null
@@ -107,31 +99,25 @@ no_parts_in : (j : ℕ) (f : Value-F Value) → ((values : List Value) → f ≡
 no_parts_in j (o.Struct values) other = absurd (other values refl)
 no_parts_in j _ other = refl
 
-no_list : (value : Value) → ((values : List Value) → value ≡ v.List values → ⊥) → items value ≡ []
-unfolding roll-Value Carrier.roll
-no_list value other = no_items_in (out-Value value) (λ values e. other values (sym (roll-out-Value value) ∙ ap roll-Value e))
-
-pub no_fixed : (size : ℕ) (value : Value) → ((values : List Value) → value ≡ v.List values → ⊥)
+no_fixed : (size : ℕ) (value : Value) → ((values : List Value) → value ≡ v.List values → ⊥)
     → fixed_items size value ≡ replicate size v.Null
 unfolding roll-Value Carrier.roll
 no_fixed size value other = no_fixed_in size (out-Value value) (λ values e. other values (sym (roll-out-Value value) ∙ ap roll-Value e))
 
-pub no_struct : (value : Value) → ((values : List Value) → value ≡ v.Struct values → ⊥) → (j : ℕ) → part j value ≡ v.Null
+no_struct : (value : Value) → ((values : List Value) → value ≡ v.Struct values → ⊥) → (j : ℕ) → part j value ≡ v.Null
 unfolding roll-Value Carrier.roll
 no_struct value other j = no_parts_in j (out-Value value) (λ values e. other values (sym (roll-out-Value value) ∙ ap roll-Value e))
 
--- what is no list gives nothing to a list's child
-pub other_gives : (layout : Layout) (value : Value) → layout ≡ l.Lists → ((values : List Value) → value ≡ v.List values → ⊥) → (j : ℕ)
-    → below layout (value ∷ []) j ≡ []
-other_gives l.Lists value e other j = append-nil (items value) ∙ no_list value other
-other_gives l.Structs value e other j = absurd cc
-other_gives (l.FixedLists size) value e other j = absurd cc
-other_gives l.Null value e other j = absurd cc
-other_gives l.Bits value e other j = absurd cc
-other_gives (l.Numbers bits signed) value e other j = absurd cc
-other_gives (l.FixedBytes width) value e other j = absurd cc
-other_gives (l.VariableBytes utf8) value e other j = absurd cc
-other_gives (l.Indices bits signed id) value e other j = absurd cc
+-- what is no list gives as many nulls to the child of a column of lists of a fixed size
+pub fixed_gives : (layout : Layout) (size : ℕ) (value : Value) → layout ≡ l.FixedLists size
+    → ((values : List Value) → value ≡ v.List values → ⊥) → (j : ℕ)
+    → below layout (value ∷ []) j ≡ replicate (nulls_below layout) v.Null
+fixed_gives layout size value e other j = rw e (append-nil (fixed_items size value) ∙ no_fixed size value other)
+
+-- what is no struct gives a null to each child of a column of structs
+pub struct_gives : (layout : Layout) (value : Value) → layout ≡ l.Structs → ((values : List Value) → value ≡ v.Struct values → ⊥)
+    → (j : ℕ) → below layout (value ∷ []) j ≡ replicate (nulls_below layout) v.Null
+struct_gives layout value e other j = rw e (ap (λ (w : Value). w ∷ []) (no_struct value other j))
 
 -- what values give, behind the others
 pub more_below : (layout : Layout) (vs ws : List Value) (more : ℕ → List Value) → ((j : ℕ) → below layout ws j ≡ more j)
@@ -158,3 +144,10 @@ pub structs_more : (layout : Layout) (vs : List Value) (value : Value) (next : �
     → ◌≡◌ {A = ℕ → List Value} (λ j. below layout vs j ++ next j ∷ []) (below layout (vs ++ value ∷ []))
 structs_more layout vs value next e is =
     more_below layout vs (value ∷ []) (λ j. next j ∷ []) (λ j. rw e (ap (λ (w : Value). w ∷ []) (is j)))
+
+-- so many nulls behind the others
+pub nulls_more : (layout : Layout) (vs : List Value) (value : Value) (count : ℕ) → count ≡ nulls_below layout
+    → ((j : ℕ) → below layout (value ∷ []) j ≡ replicate (nulls_below layout) v.Null)
+    → ◌≡◌ {A = ℕ → List Value} (λ j. below layout vs j ++ replicate count v.Null) (below layout (vs ++ value ∷ []))
+nulls_more layout vs value count e gives =
+    more_below layout vs (value ∷ []) (λ j. replicate count v.Null) (λ j. gives j ∙ ap (λ (n : ℕ). replicate n v.Null) (sym e))

@@ -2,12 +2,12 @@
 use Rattle.std.proofs.Common.{◌≡◌, ◌∙◌, refl, sym, ap, subst, ℕ, zero, suc, ◌<◌, List, [], ◌∷◌, ◌++◌, length, get_or, arith}
 use Rattle.std.specs.Prelude.{slice_set, map, ⊤}
 use Rattle.std.specs.Vec.{with_items}
-use Rattle.std.proofs.lemmas.List.{with_items_is, append-nil}
+use Rattle.std.proofs.lemmas.List.{with_items_is}
 use Rattle.ipc_model.specs.declared.layout.Layout.{Layout}
 use Rattle.ipc_model.specs.declared.value.Value.{Value}
 use Rattle.ipc_column.specs.Shapes.{Shape, bare, field, shapes, field_shape, shape_of}
 use Rattle.ipc_model.specs.declared.schema.Field.{Field}
-use Rattle.ipc_encode.proofs.Steps.{below_none, below_append}
+use Rattle.ipc_encode.proofs.Steps.{below_none}
 use Rattle.ipc_encode.specs.declared.column.Column.{Column}
 use Rattle.ipc_encode.specs.declared.node.Node.{Node, out-Node}
 use Rattle.ipc_encode.specs.declared.node.Node.TheOpen.{Node-F}
@@ -128,14 +128,6 @@ lent_node P l c vs ws node lent new e size h more = (
   lent_column P l vs node new h.0,
   lent_children P c (below l ws) node lent new e size (more (subst (λ (ns : List Node). AreNodes P c ns (below l vs)) (sym e) h.1)),
 )
-
--- a value that gives nothing to the nodes below
-pub nothing_below : (P : Layout → List Value → Column → Type 0) (l : Layout) (c : Shape) (vs : List Value) (v : Value) (ns : List Node)
-    → ((j : ℕ) → below l (v ∷ []) j ≡ []) → AreNodes P c ns (below l vs) → AreNodes P c ns (below l (vs ++ v ∷ []))
-nothing_below P l c vs v ns none h =
-    subst (λ (given : ℕ → List Value). AreNodes P c ns given)
-    (λ d j. sym (below_append l vs (v ∷ []) j
-    ∙ (ap (λ (more : List Value). below l vs j ++ more) (none j) ∙ append-nil (below l vs j))) d) h
 
 -- the layout of a column that has taken values
 pub taken_laid : (known : Numbering) (p : Purpose) (limits : Limits) (l : Layout) (vs : List Value) (column : Column)

@@ -75,6 +75,17 @@ pub(crate) fn fixed_len(value: &Value, width: u32) -> usize
     }
 }
 
+/// The items of a list; none of any other value.
+#[inline(always)]
+pub(crate) fn items(value: &Value) -> &[Value]
+    ensures { result.now ≡ items value.now }
+{
+    match value {
+        Value::List(items) => items.as_slice(),
+        _ => &[],
+    }
+}
+
 /// How many items a list has; none has any other value.
 #[inline(always)]
 pub(crate) fn item_count(value: &Value) -> usize

@@ -208,7 +208,7 @@ fn left_behind_with(
         → IsNode (IsColumn known limits) layout children node.old values
         → IsNode (IsColumn known limits) layout children node.new values }
 {
-    if node.children.is_empty() {
+    if node.is_leaf() {
         return left_behind_leaf(value, &node.column, limits, bytes);
     }
     left_behind_tree(value, node, limits, bytes)

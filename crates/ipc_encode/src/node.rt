@@ -1,3 +1,6 @@
+ghost use Rattle.std.specs.Prelude.{◌≡◌, ◌↔◌, length, IsTrue};
+ghost use Rattle.ipc_encode.specs.declared.node.Node.{out-Node};
+
 use crate::column::Column;
 
 /// A column and the columns of its children.
@@ -5,4 +8,14 @@ use crate::column::Column;
 pub(crate) struct Node {
     pub(crate) column: Column,
     pub(crate) children: Vec<Node>,
+}
+
+impl Node {
+    /// Whether there is no column below its own.
+    #[inline(always)]
+    pub(crate) fn is_leaf(&self) -> bool
+        ensures { IsTrue result ↔ (length (out-Node self.now).children.items ≡ 0) }
+    {
+        self.children.is_empty()
+    }
 }

@@ -12,6 +12,7 @@ ghost use Rattle.ipc_encode.specs.Built.{AreNodes, IsNode, HasTaken, IsColumn};
 ghost use Rattle.ipc_encode.specs.Built.{ArePushesRefused};
 ghost use Rattle.ipc_encode.specs.Numbers.{Numbering, told};
 
+use crate::cells::items;
 use crate::column::{Column, Purpose};
 use crate::fault::PushFault;
 use crate::index::IndexOf;
@@ -19,6 +20,7 @@ use crate::node::Node;
 use ipc_model::{Layout, Limits, Value};
 
 // How many nulls a null gives to each column below one of this layout.
+#[inline]
 fn nulls_below(layout: Layout) -> u64
     ensures count { result ≡ nulls_below layout }
     ensures few { result < 2 ^ 32 }
@@ -158,7 +160,7 @@ pub(crate) fn take<I: IndexOf>(
     ensures memory { purpose ≡ Count
         → IfErr result (λ fault. ¬ (fault ≡ PushFault.OutOfMemory)) }
 {
-    if node.children.is_empty() {
+    if node.is_leaf() {
         return node.column.take(value, purpose, limits, indices);
     }
     take_deep(value, node, purpose, limits, indices)
@@ -231,17 +233,14 @@ fn take_below<I: IndexOf>(
         → IfErr result (λ fault. ¬ (fault ≡ PushFault.OutOfMemory)) }
 {
     match layout {
-        Layout::Lists => match value {
+        Layout::Lists => take_items(items(value), nodes, purpose, limits, indices),
+        Layout::FixedLists(_) => match value {
             Value::List(items) => take_items(items.as_slice(), nodes, purpose, limits, indices),
-            _ => Ok(()),
-        },
-        Layout::FixedLists(size) => match value {
-            Value::List(items) => take_items(items.as_slice(), nodes, purpose, limits, indices),
-            _ => take_nulls(nodes, size as u64, purpose, limits, indices),
+            _ => take_nulls(nodes, nulls_below(layout), purpose, limits, indices),
         },
         Layout::Structs => match value {
             Value::Struct(parts) => take_parts(parts.as_slice(), nodes, purpose, limits, indices),
-            _ => take_nulls(nodes, 1, purpose, limits, indices),
+            _ => take_nulls(nodes, nulls_below(layout), purpose, limits, indices),
         },
         _ => Ok(()),
     }

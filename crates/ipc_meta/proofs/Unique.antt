@@ -162,22 +162,21 @@ dictionary_refused limits root t e (head.Dictionary id batch) c f bad a =
     let tables = table_same (field root 2 table_from) a.1.0 t a.1.1 f in
     refused_pair e id batch (head.Dictionary id batch) (bad id batch (subst (λ u. DictionaryAt u id batch) tables a.1.2))
 
--- where the table of a record batch is refused, the message states no head unless memory ran out
-pub batch_refused : (limits : Limits) (root t : TableView) (e : Fault) (h : Head) → scalar root 1 1 byte 0 ≡ Ok 3
-    → field root 2 table_from ≡ Ok (Some t)
-    → Fails e (batch_read t) → HeaderAt limits root h → Fails e (Ok h)
-batch_refused limits root t e (head.Schema s) c f bad a = absurd (omega (arith, ok_same (scalar root 1 1 byte 0) 1 3 a.0 c))
-batch_refused limits root t e (head.Dictionary id batch) c f bad a = absurd (omega (arith, ok_same (scalar root 1 1 byte 0) 2 3 a.0 c))
-batch_refused limits root t e (head.Batch batch ps) c f bad a =
-    let tables = table_same (field root 2 table_from) a.0.1.0 t a.0.1.1 f in
-    refused e (batch_read t) batch (head.Batch batch ps) (batch_complete t batch (subst (λ u. BatchAt u batch) tables a.0.1.2)) bad
+abbrev pub with_pairs : BatchHead → List (List ℕ × List ℕ) → Result (BatchHead × List (List ℕ × List ℕ)) Fault
+with_pairs batch ps = Ok (batch, ps)
 
--- where the pairs of a record batch's message are refused, it states no head unless memory ran out
-pub pairs_refused : (limits : Limits) (root : TableView) (e : Fault) (h : Head) → scalar root 1 1 byte 0 ≡ Ok 3
-    → ((ps : List (List ℕ × List ℕ)) → PairsAt limits root ps → Fails e (Ok ps)) → HeaderAt limits root h → Fails e (Ok h)
-pairs_refused limits root e (head.Schema s) c bad a = absurd (omega (arith, ok_same (scalar root 1 1 byte 0) 1 3 a.0 c))
-pairs_refused limits root e (head.Dictionary id batch) c bad a = absurd (omega (arith, ok_same (scalar root 1 1 byte 0) 2 3 a.0 c))
-pairs_refused limits root e (head.Batch batch ps) c bad a = refused e (Ok ps) ps (head.Batch batch ps) refl (bad ps a.1)
+-- where the table of a record batch is refused or the pairs of its message, the message states no head unless memory ran out
+pub record_batch_refused : (limits : Limits) (root t : TableView) (e : Fault) (h : Head) → scalar root 1 1 byte 0 ≡ Ok 3
+    → field root 2 table_from ≡ Ok (Some t)
+    → ((batch : BatchHead) (ps : List (List ℕ × List ℕ)) → BatchAt t batch → PairsAt limits root ps → Fails e (with_pairs batch ps))
+    → HeaderAt limits root h → Fails e (Ok h)
+record_batch_refused limits root t e (head.Schema s) c f bad a = absurd (omega (arith, ok_same (scalar root 1 1 byte 0) 1 3 a.0 c))
+record_batch_refused limits root t e (head.Dictionary id batch) c f bad a =
+    absurd (omega (arith, ok_same (scalar root 1 1 byte 0) 2 3 a.0 c))
+record_batch_refused limits root t e (head.Batch batch ps) c f bad a =
+    let tables = table_same (field root 2 table_from) a.0.1.0 t a.0.1.1 f in
+    refused e (with_pairs batch ps) (batch, ps) (head.Batch batch ps) refl
+    (bad batch ps (subst (λ u. BatchAt u batch) tables a.0.1.2) a.1)
 
 -- where the table of a schema is refused, the message states no head unless memory ran out
 pub schema_refused : {limits : Limits} → (root t : TableView) (e : Fault) (h : Head) → scalar root 1 1 byte 0 ≡ Ok 1

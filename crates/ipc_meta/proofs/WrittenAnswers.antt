@@ -1,5 +1,5 @@
 -- What the calls that write metadata answer.
-use Rattle.std.proofs.Common.{◌≡◌, ◌∙◌, refl, ap, subst, ℕ, ◌<◌, ◌≤◌, List, [], ◌++◌, inl, inr, arith}
+use Rattle.std.proofs.Common.{◌≡◌, ◌∙◌, ap, subst, ℕ, ◌<◌, ◌≤◌, List, ◌++◌, inl, inr, arith}
 use Rattle.std.specs.Prelude.{◌⊎◌, Result, Ok, Err, IfOk, IfErr}
 use Rattle.ipc_model.specs.WellFormed.{WellFormed}
 use Rattle.ipc_model.specs.declared.fault.WriteFault.{WriteFault}
@@ -14,7 +14,7 @@ use Rattle.ipc_meta.specs.Heads.{HeadOf}
 use Rattle.ipc_model.specs.Entries.{AllowPairs}
 use Rattle.ipc_meta.specs.Rooms.{schema_room, head_room, IsTooLong}
 use Rattle.ipc_meta.specs.Rooms as too_long
-use Rattle.ipc_meta.specs.Written.{schema_tree, batch_tree, message_tree, schema_message, batch_message}
+use Rattle.ipc_meta.specs.Written.{schema_message, batch_message}
 use Rattle.ipc_meta.proofs.WrittenHeads.{schema_stated, batch_stated}
 use Rattle.ipc_meta.proofs.WrittenOrder.{schema_needs, batch_room_opens}
 use Rattle.ipc_model.specs.declared.limits.Limits.{Limits}
@@ -32,16 +32,6 @@ err_then P Q (Err e) f h = f e h
 -- memory ran out, or the tree's room is above the limit
 abbrev pub NoRoom : Limits → Tree → WriteFault → Type 0
 NoRoom limits f fault = (fault ≡ OutOfMemory) ⊎ ((fault ≡ TooLong) × (limits.metadata < room f))
-
--- a message's tree around the tree of a schema is that schema's message
-pub schema_is : (s : Schema) (ps : List (List ℕ × List ℕ)) (f g : Tree) → g ≡ message_tree 1 f 0 ps → ps ≡ [] → f ≡ schema_tree s
-    → g ≡ schema_message s
-schema_is s ps f g e none h = e ∙ rw (none, h) refl
-
--- a message's tree around the tree of a batch's head is that batch's message
-pub batch_is : (b : BatchHead) (ps : List (List ℕ × List ℕ)) (m : ℕ) (f g : Tree) → g ≡ message_tree 3 f m ps → f ≡ batch_tree b
-    → g ≡ batch_message b ps m
-batch_is b ps m f g e h = e ∙ ap (λ (x : Tree). message_tree 3 x m ps) h
 
 -- where a tree lies in some bytes, whatever comes behind them, an equal tree does
 pub lies_as : (b : List ℕ) (f g : Tree) → f ≡ g → ((rest : List ℕ) → Encodes (b ++ rest) f) → (rest : List ℕ) → Encodes (b ++ rest) g

@@ -1,28 +1,36 @@
-ghost use Rattle.std.specs.Prelude.{◌≡◌, ◌⊎◌, ℕ, List, IfOk, IfErr, OnOk, MatchResult, Ok, pos};
-ghost use Rattle.ipc_scalar.specs.Bytes.{int16};
+ghost use Rattle.std.specs.Prelude.{◌≡◌, ◌⊎◌, ◌<◌, ◌≤◌, ℕ, List, IfOk, IfErr, OnOk, Ok, pos};
+ghost use Rattle.std.specs.Prelude.{IsTrue, MatchResult};
+ghost use Rattle.ipc_scalar.specs.Bytes.{int16, int64};
 ghost use Rattle.ipc_flat.specs.Views.{scalar};
 ghost use Rattle.ipc_model.specs.Answers.{UnlessOutOfMemory, AnswersUnlessOutOfMemory};
 ghost use Rattle.ipc_meta.specs.Fields.{SchemaAt};
-ghost use Rattle.ipc_meta.specs.Heads.{PairsAt, HeaderAt, HeadOf};
+ghost use Rattle.ipc_meta.specs.Heads.{BatchAt, PairsAt, HeaderAt, HeadOf};
 ghost use Rattle.ipc_meta.specs.Supported.{IsSupported, IsUnsupported};
-ghost use Rattle.ipc_meta.specs.Reached.{HasTable, message, batch_message, schema};
+ghost use Rattle.ipc_meta.specs.Reached.{HasTable, IsHeaderCode, message, batch_message, schema};
+ghost use Rattle.ipc_meta.specs.Reached.{record_batch};
+ghost use Rattle.ipc_meta.specs.Reading.{fields_read, field_read};
+ghost use Rattle.ipc_meta.specs.Version.{v5};
 ghost use Rattle.ipc_meta.specs.Causes.{Cause};
 ghost use Rattle.ipc_model.specs.declared.limits.Limits.{Limits};
 
 use crate::batches::{read_batch, read_dictionary_batch};
 use crate::budget::Budget;
 use crate::fields::{read_fields, read_pairs};
-use crate::head::Head;
+use crate::head::{BatchHead, Head};
 use crate::lifted::lifted;
 use crate::supported::check_supported;
 use crate::version::VERSION;
 use ipc_flat::{Flat, TableRef};
-use ipc_model::{Fault, Items, Limits, Schema, Text};
+use ipc_model::{Fault, Field, Items, Limits, Schema, Text};
 use std::alloc::Global;
 
-// Message.fbs, union MessageHeader: the last of the headers that a stream has, RecordBatch. The
-// first is 1.
-const LAST_HEADER: u8 = 3;
+// Whether a stream has headers with this code (Message.fbs, union MessageHeader).
+fn is_header_code(code: u8) -> bool
+    ensures yes { IsTrue result → IsHeaderCode code }
+    ensures no { IsHeaderCode code → IsTrue result }
+{
+    matches!(code, 1 | 2 | 3)
+}
 
 // A Schema table (Schema.fbs) states that numbers begin with their lowest byte: 0 endianness.
 fn check_endianness(table: &TableRef<'_>) -> Result<(), Fault>
@@ -35,6 +43,20 @@ fn check_endianness(table: &TableRef<'_>) -> Result<(), Fault>
         return Err(Fault::BigEndian);
     }
     Ok(())
+}
+
+// The fields of a Schema table (Schema.fbs, table Schema, 1), with at most so many levels as the
+// limits allow.
+fn read_columns(
+    alloc: Global,
+    limits: &Limits,
+    table: &TableRef<'_>,
+    left: &mut Budget,
+) -> Result<Items<Field>, Fault>
+    ensures { AnswersUnlessOutOfMemory (λ fs. (fs, left.new)) result
+        (fields_read (field_read limits.now.depth) table.now 1 left.old) }
+{
+    read_fields(alloc, table, 1, limits.depth, left)
 }
 
 // A Schema table (Schema.fbs): 0 endianness, 1 fields, 2 custom_metadata.
@@ -53,7 +75,7 @@ fn read_schema(alloc: Global, limits: &Limits, table: &TableRef<'_>) -> Result<S
         pairs: limits.pairs,
     };
     let metadata = read_pairs(alloc, table, 2, &mut left)?;
-    let fields = read_fields(alloc, table, 1, limits.depth, &mut left)?;
+    let fields = read_columns(alloc, limits, table, &mut left)?;
     let schema = Schema { fields, metadata };
     schema.check(alloc, limits)?;
     Ok(schema)
@@ -81,6 +103,26 @@ fn read_batch_pairs(
     read_pairs(alloc, root, 4, &mut left)
 }
 
+// What the message of a record batch carries: the batch, whose table is the header's, and the
+// message's pairs.
+fn read_record_batch(
+    alloc: Global,
+    limits: &Limits,
+    root: &TableRef<'_>,
+    table: &TableRef<'_>,
+) -> Result<(BatchHead, Items<(Text, Text)>), Fault>
+    ensures found { IfOk result (λ r. BatchAt table.now r.0 × PairsAt limits.now root.now r.1) }
+    ensures only { (batch : BatchHead) (pairs : List (List ℕ × List ℕ)) → BatchAt table.now batch
+        → PairsAt limits.now root.now pairs
+        → AnswersUnlessOutOfMemory (λ y. y) result (Ok (batch, pairs)) }
+    ensures refused { IfErr result
+        (λ f. (b : List ℕ) → HasTable b record_batch table.now → HasTable b batch_message root.now
+        → UnlessOutOfMemory f (Cause limits.now b f)) }
+{
+    let batch = read_batch(alloc, table)?;
+    Ok((batch, read_batch_pairs(alloc, limits, root)?))
+}
+
 // The header of a Message table (Message.fbs): 1 its code in union MessageHeader, 2 its table,
 // which isn't looked at where the code is none of a stream's.
 fn read_header(alloc: Global, limits: &Limits, root: &TableRef<'_>) -> Result<Head, Fault>
@@ -92,7 +134,7 @@ fn read_header(alloc: Global, limits: &Limits, root: &TableRef<'_>) -> Result<He
         → UnlessOutOfMemory f (Cause limits.now b f)) }
 {
     let code = lifted(root.scalar_u8(1, 0))?;
-    if code == 0 || code > LAST_HEADER {
+    if !is_header_code(code) {
         return Err(Fault::BadHeader);
     }
     let Some(table) = lifted(root.table(2))? else {
@@ -105,11 +147,51 @@ fn read_header(alloc: Global, limits: &Limits, root: &TableRef<'_>) -> Result<He
             Ok(Head::Dictionary(id, batch))
         }
         3 => {
-            let batch = read_batch(alloc, &table)?;
-            Ok(Head::Batch(batch, read_batch_pairs(alloc, limits, root)?))
+            let (batch, pairs) = read_record_batch(alloc, limits, root, &table)?;
+            Ok(Head::Batch(batch, pairs))
         }
         _ => Err(Fault::BadHeader),
     }
+}
+
+// The version is the one that is read here (Message.fbs, table Message, 0).
+fn check_version(root: &TableRef<'_>) -> Result<(), Fault>
+    ensures ok { OnOk result (scalar root.now 0 2 int16 (pos 0) ≡ Ok v5) }
+    ensures only { IfErr result (λ f. ¬ (scalar root.now 0 2 int16 (pos 0) ≡ Ok v5)) }
+    ensures refused { IfErr result
+        (λ f. (limits : Limits) (b : List ℕ) → HasTable b message root.now → Cause limits b f) }
+{
+    if lifted(root.scalar_i16(0, 0))? != VERSION {
+        return Err(Fault::BadVersion);
+    }
+    Ok(())
+}
+
+// The length of the body (Message.fbs, table Message, 3), which is not below 0.
+fn read_body_length(root: &TableRef<'_>) -> Result<u64, Fault>
+    ensures found { IfOk result (λ m. scalar root.now 3 8 int64 (pos 0) ≡ Ok (pos m)) }
+    ensures only { IfErr result
+        (λ f. (m : ℕ) → ¬ (scalar root.now 3 8 int64 (pos 0) ≡ Ok (pos m))) }
+    ensures refused { IfErr result
+        (λ f. (limits : Limits) (b : List ℕ) → HasTable b message root.now → Cause limits b f) }
+{
+    let length = lifted(root.scalar_i64(3, 0))?;
+    if length < 0 {
+        return Err(Fault::BadBodyLength);
+    }
+    Ok(length.unsigned_abs())
+}
+
+// A body of this length is within the limits.
+fn check_body_length(limits: &Limits, length: u64) -> Result<(), Fault>
+    ensures ok { OnOk result (length ≤ limits.now.body) }
+    ensures refused { IfErr result
+        (λ f. (f ≡ Fault.BodyTooLong) × (limits.now.body < length)) }
+{
+    if length > limits.body {
+        return Err(Fault::BodyTooLong);
+    }
+    Ok(())
 }
 
 // What the root table states (Message.fbs, table Message): the version, the body's length and the
@@ -121,18 +203,11 @@ fn read_stated(alloc: Global, limits: &Limits, metadata: &[u8]) -> Result<(Head,
     ensures refused { IfErr result (λ f. UnlessOutOfMemory f (Cause limits.now metadata.now f)) }
 {
     let root = lifted(Flat::root(metadata))?;
-    if lifted(root.scalar_i16(0, 0))? != VERSION {
-        return Err(Fault::BadVersion);
-    }
-    let body = lifted(root.scalar_i64(3, 0))?;
-    if body < 0 {
-        return Err(Fault::BadBodyLength);
-    }
-    if body > limits.body as i64 {
-        return Err(Fault::BodyTooLong);
-    }
+    check_version(&root)?;
+    let body = read_body_length(&root)?;
+    check_body_length(limits, body)?;
     let head = read_header(alloc, limits, &root)?;
-    Ok((head, body.unsigned_abs()))
+    Ok((head, body))
 }
 
 /// Reads the metadata of one message: what its header states, and how many bytes the message's body

@@ -4,6 +4,7 @@ ghost use Rattle.ipc_build.specs.Trees.{view};
 ghost use Rattle.ipc_model.specs.Greatest.{greatest_body};
 ghost use Rattle.ipc_model.specs.declared.schema.Field.{out-Field};
 ghost use Rattle.ipc_meta.specs.Written.{field_tree, schema_tree, batch_tree, message_tree};
+ghost use Rattle.ipc_meta.specs.Written.{schema_message, batch_message};
 
 use crate::head::BatchHead;
 use crate::slots::{push_pairs, table_of, text_slot};
@@ -53,8 +54,8 @@ fn field_trees(alloc: Global, fields: &Items<Field>) -> Result<Vec<FlatTree>, Al
     Ok(trees)
 }
 
-/// Schema.fbs, table Schema.
-pub(crate) fn schema_tree(alloc: Global, schema: &Schema) -> Result<FlatTree, AllocError>
+// Schema.fbs, table Schema.
+fn schema_tree(alloc: Global, schema: &Schema) -> Result<FlatTree, AllocError>
     ensures { IfOk result (λ t. view t ≡ schema_tree schema.now) }
 {
     let fields = field_trees(alloc, &schema.fields)?;
@@ -63,8 +64,8 @@ pub(crate) fn schema_tree(alloc: Global, schema: &Schema) -> Result<FlatTree, Al
     Ok(table_of(slots))
 }
 
-/// Message.fbs, table RecordBatch.
-pub(crate) fn batch_tree(alloc: Global, head: &BatchHead) -> Result<FlatTree, AllocError>
+// Message.fbs, table RecordBatch.
+fn batch_tree(alloc: Global, head: &BatchHead) -> Result<FlatTree, AllocError>
     ensures { IfOk result (λ t. view t ≡ batch_tree head.now) }
 {
     let nodes = Items::copied(alloc, &head.nodes)?;
@@ -77,9 +78,9 @@ pub(crate) fn batch_tree(alloc: Global, head: &BatchHead) -> Result<FlatTree, Al
     Ok(table_of(slots))
 }
 
-/// Message.fbs, table Message: the header's code in union MessageHeader with its table, the length
-/// of the body, and the message's pairs.
-pub(crate) fn message_tree(
+// Message.fbs, table Message: the header's code in union MessageHeader with its table, the length
+// of the body, and the message's pairs.
+fn message_tree(
     alloc: Global,
     code: u8,
     header: FlatTree,
@@ -97,4 +98,27 @@ pub(crate) fn message_tree(
     ]?;
     push_pairs(alloc, &mut slots, 4, pairs)?;
     Ok(table_of(slots))
+}
+
+/// The message of a schema, which has no body and no pairs (Message.fbs, table Message).
+pub(crate) fn schema_message(alloc: Global, schema: &Schema) -> Result<FlatTree, AllocError>
+    ensures { IfOk result (λ t. view t ≡ schema_message schema.now) }
+{
+    let header = schema_tree(alloc, schema)?;
+    message_tree(alloc, 1, header, 0, &Items::new(alloc))
+}
+
+/// The message of a record batch with these pairs and a body of so many bytes (Message.fbs, table
+/// Message).
+pub(crate) fn batch_message(
+    alloc: Global,
+    head: &BatchHead,
+    pairs: &Items<(Text, Text)>,
+    body: u64,
+) -> Result<FlatTree, AllocError>
+    requires { body ≤ greatest_body }
+    ensures { IfOk result (λ t. view t ≡ batch_message head.now pairs.now body) }
+{
+    let header = batch_tree(alloc, head)?;
+    message_tree(alloc, 3, header, body, pairs)
 }

@@ -92,6 +92,14 @@ fn date_of(unit: i16) -> Result<DataType, Fault>
     }
 }
 
+// A Date table (Schema.fbs): 0 unit. Its code in union Type is 8.
+#[tactic(auto, unfolding(crate::specs::Tables::type_of))]
+fn read_date(table: &TableRef<'_>) -> Result<DataType, Fault>
+    ensures { result ≡ type_of 8 table.now }
+{
+    date_of(lifted(table.scalar_i16(0, 1))?)
+}
+
 // A Time table (Schema.fbs): 0 unit, 1 bitWidth. A width that isn't the unit's is `BadType`.
 fn read_time(table: &TableRef<'_>) -> Result<DataType, Fault>
     ensures { result ≡ time_at table.now }
@@ -147,7 +155,7 @@ fn type_of(alloc: Global, code: u8, table: &TableRef<'_>) -> Result<DataType, Fa
         4 => Ok(DataType::Binary),
         5 => Ok(DataType::Utf8),
         6 => Ok(DataType::Bool),
-        8 => date_of(lifted(table.scalar_i16(0, 1))?),
+        8 => read_date(table),
         9 => read_time(table),
         10 => read_timestamp(alloc, table),
         12 => Ok(DataType::List),

@@ -1,17 +1,18 @@
 //! Metadata that is written.
 ghost use Rattle.std.specs.Prelude.{◌≡◌, ◌⊎◌, ◌<◌, ◌≤◌, ◌+◌, ◌*◌, ◌/◌, ◌^◌, ◌++◌, ℕ, List, length};
-ghost use Rattle.std.specs.Prelude.{IfOk, IfErr};
+ghost use Rattle.std.specs.Prelude.{IfOk, IfErr, OnOk};
 ghost use Rattle.ipc_build.specs.Trees.{Tree, view};
 ghost use Rattle.ipc_build.specs.Encodes.{Encodes, Aligned};
 ghost use Rattle.ipc_build.specs.Ascends.{Ascends, fields};
 ghost use Rattle.ipc_build.specs.Room.{room, size};
+ghost use Rattle.ipc_model.specs.Entries.{AllowPairs};
 ghost use Rattle.ipc_model.specs.WellFormed.{WellFormed};
 ghost use Rattle.ipc_meta.specs.Heads.{HeadOf};
 ghost use Rattle.ipc_meta.specs.Rooms.{IsTooLong, head_room, schema_room};
 ghost use Rattle.ipc_meta.specs.Written.{schema_message, batch_message};
 
 use crate::head::{BatchHead, Head};
-use crate::trees::{batch_tree, message_tree, schema_tree};
+use crate::trees::{batch_message, schema_message};
 use ipc_build::{BuildFault, FlatTree, build};
 use ipc_model::{Items, Limits, Schema, Text, WriteFault};
 use std::alloc::Global;
@@ -67,9 +68,21 @@ pub fn write_schema(alloc: Global, limits: &Limits, schema: &Schema) -> Result<V
     ensures refused { IfErr result (λ f. (f ≡ WriteFault.OutOfMemory)
         ⊎ ((f ≡ WriteFault.TooLong) × (limits.now.metadata < schema_room schema.now))) }
 {
-    let header = schema_tree(alloc, schema)?;
-    let message = message_tree(alloc, 1, header, 0, &Items::new(alloc))?;
+    let message = schema_message(alloc, schema)?;
     built(alloc, limits, &message)
+}
+
+// Asks that a batch's body, with so many bytes, and its message's pairs are within the limits.
+fn check_batch(limits: &Limits, pairs: &[(Text, Text)], body: u64) -> Result<(), WriteFault>
+    ensures body { OnOk result (body ≤ limits.now.body) }
+    ensures pairs { OnOk result (AllowPairs limits.now pairs.now) }
+    ensures refused { IfErr result (λ f. (f ≡ WriteFault.TooLong)
+        × ((limits.now.body < body) ⊎ ¬ AllowPairs limits.now pairs.now)) }
+{
+    if body > limits.body || !limits.allow_pairs(pairs) {
+        return Err(WriteFault::TooLong);
+    }
+    Ok(())
 }
 
 /// The metadata of a record batch's message with a body of so many bytes (Message.fbs, tables
@@ -105,10 +118,7 @@ pub fn write_batch(
     ensures refused { IfErr result (λ f. (f ≡ WriteFault.OutOfMemory)
         ⊎ ((f ≡ WriteFault.TooLong) × IsTooLong limits.now head.now pairs.now body)) }
 {
-    if body > limits.body || !limits.allow_pairs(pairs.as_slice()) {
-        return Err(WriteFault::TooLong);
-    }
-    let header = batch_tree(alloc, head)?;
-    let message = message_tree(alloc, 3, header, body, pairs)?;
+    check_batch(limits, pairs.as_slice(), body)?;
+    let message = batch_message(alloc, head, pairs, body)?;
     built(alloc, limits, &message)
 }

@@ -1,34 +1,33 @@
-use Rattle.std.proofs.Common.{◌≡◌, ◌∙◌, refl, sym, ap, subst, ℕ, ◌+◌, ◌++◌, List, [], ◌∷◌, take, replicate, add-one, append_assoc, arith}
+use Rattle.std.proofs.Common.{◌≡◌, ◌∙◌, refl, sym, ap, subst, ℕ, ◌+◌, ◌++◌, List, [], ◌∷◌, take, add-one, append_assoc, arith}
 use Rattle.std.proofs.Common.{rules}
 use Rattle.std.proofs.lemmas.Result.{err_from_is_err_and, on_ok_weaker, IfErr-weaker}
 use Rattle.std.proofs.lemmas.List.{take_more}
 use Rattle.ipc_model.specs.declared.layout.Layout.{Layout}
 use Rattle.ipc_model.specs.declared.value.Value.{Value}
-use Rattle.ipc_model.specs.declared.value.Value.TheVariants.{Null}
 use Rattle.ipc_column.specs.Shapes.{bare, field}
 use Rattle.ipc_encode.specs.declared.node.Node.{Node, out-Node}
 use Rattle.ipc_encode.specs.Buffers.{below}
-use Rattle.ipc_encode.specs.Cells.{cell, fixed_items}
+use Rattle.ipc_encode.specs.Cells.{cell}
 use Rattle.ipc_encode.specs.Built.{AreNodes, IsNode, HasTaken, IsColumn, ArePushesRefused}
 use Rattle.ipc_encode.specs.Numbers.{told}
-use Rattle.ipc_encode.proofs.Below.{other_gives, items_are, fixed_are, parts_are, no_fixed, no_struct}
-use Rattle.ipc_encode.proofs.Below.{lists_more, fixed_more, structs_more}
+use Rattle.ipc_encode.proofs.Below.{fixed_are, parts_are, fixed_gives, struct_gives}
+use Rattle.ipc_encode.proofs.Below.{lists_more, fixed_more, nulls_more, structs_more}
 use Rattle.ipc_encode.proofs.Growing.{own_refused, child_refused, mixed_refused, all_refused}
-use Rattle.ipc_encode.proofs.Nodes.{node_is, lent_column, lent_node, nothing_below, taken_laid, mixed_more, mixed_all, kept_at}
+use Rattle.ipc_encode.proofs.Nodes.{node_is, lent_column, lent_node, taken_laid, mixed_more, mixed_all, kept_at}
 use Rattle.ipc_encode.proofs.Siblings.{leaf_has}
 use Rattle.ipc_encode.proofs.tree.+take.Goals.{take_parts-in-Some+in_ok-take-in-Some, take_parts-in-None+in_ok-take_null-in-None}
 use Rattle.ipc_encode.proofs.tree.+take.Goals as goal
 
-pub take-returns-then-is_empty-clause-taken : goal.take-returns-then-is_empty-clause-taken
-take-returns-then-is_empty-clause-taken g t c = λ layout children values h.
+pub take-returns-then-is_leaf-clause-taken : goal.take-returns-then-is_leaf-clause-taken
+take-returns-then-is_leaf-clause-taken g t c = λ layout children values h.
     let P = HasTaken (told (g.I.IndexOf.index c.args.indices.now)) c.args.purpose c.args.limits.now in
     let more = values ++ c.args.value.now ∷ [] in
     let inner = leaf_has P children (out-Node c.args.node.now).children.items (below layout values) (below layout more)
-    (search rules) h.1 in
+    (c.is_leaf.ensures.0 c.if-is_leaf.true) h.1 in
     on_ok_weaker c.take.result (λ own. node_is P layout children more _ own inner) (c.take.ensures.taken layout values h.0)
 
-pub take-returns-then-is_empty-clause-kept : goal.take-returns-then-is_empty-clause-kept
-take-returns-then-is_empty-clause-kept g t c = λ known limits layout children values e h.
+pub take-returns-then-is_leaf-clause-kept : goal.take-returns-then-is_leaf-clause-kept
+take-returns-then-is_leaf-clause-kept g t c = λ known limits layout children values e h.
     node_is (IsColumn known limits) layout children values _ (c.take.ensures.kept known limits layout values e h.0) h.1
 
 pub take_deep-returns-in_err-take_below-clause-refused : goal.take_deep-returns-in_err-take_below-clause-refused
@@ -78,33 +77,20 @@ take_deep-returns-clause-kept g t c = λ known limits layout children values e h
 
 -- ---- below a column
 
-pub take_below-returns-in-List-clause-taken : goal.take_below-returns-in-List-clause-taken
-take_below-returns-in-List-clause-taken g t c = λ shape values h.
+pub take_below-returns-in-Lists-clause-taken : goal.take_below-returns-in-Lists-clause-taken
+take_below-returns-in-Lists-clause-taken g t c = λ shape values h.
     let P = HasTaken (told (g.I.IndexOf.index c.args.indices.now)) c.args.purpose c.args.limits.now in
-    let is = items_are c.args.value.now c.in-List.items c.in-List.is ∙ sym c.as_slice.ensures in
     on_ok_weaker c.take_items.result
     (λ more. subst (λ (given : ℕ → List Value). AreNodes P shape c.take_items.new.nodes given)
-    (lists_more c.args.layout values c.args.value.now c.as_slice.result.now c.in-Lists.is is) more)
+    (lists_more c.args.layout values c.args.value.now c.items.result.now c.in-Lists.is (sym c.items.ensures)) more)
     (c.take_items.ensures.taken shape (below c.args.layout values) h)
 
-pub take_below-returns-in-List-clause-refused : goal.take_below-returns-in-List-clause-refused
-take_below-returns-in-List-clause-refused g t c = λ shape values h.
-    let is = items_are c.args.value.now c.in-List.items c.in-List.is ∙ sym c.as_slice.ensures in
+pub take_below-returns-in-Lists-clause-refused : goal.take_below-returns-in-Lists-clause-refused
+take_below-returns-in-Lists-clause-refused g t c = λ shape values h.
     IfErr-weaker c.take_items.result _ _
     (λ fault told. subst (λ (given : ℕ → List Value). ArePushesRefused c.args.limits.now shape given fault)
-    (lists_more c.args.layout values c.args.value.now c.as_slice.result.now c.in-Lists.is is) told)
+    (lists_more c.args.layout values c.args.value.now c.items.result.now c.in-Lists.is (sym c.items.ensures)) told)
     (c.take_items.ensures.refused shape (below c.args.layout values) h)
-
-pub take_below-returns-in_default-value : goal.take_below-returns-in_default-value
-take_below-returns-in_default-value g t c = record {
-  taken = λ shape values h. nothing_below
-      (HasTaken (told (g.I.IndexOf.index c.args.indices.now)) c.args.purpose c.args.limits.now) c.args.layout shape values
-      c.args.value.now c.args.nodes.now
-      (other_gives c.args.layout c.args.value.now c.in-Lists.is c.in_default-value.not-List) h;
-  refused = λ shape values h. tt;
-  kept = λ known limits shape given e h. h;
-  memory = λ e. tt;
-}
 
 pub take_below-returns-in-Struct-clause-taken : goal.take_below-returns-in-Struct-clause-taken
 take_below-returns-in-Struct-clause-taken g t c = λ shape values h.
@@ -127,65 +113,59 @@ take_below-returns-in-Struct-clause-refused g t c = λ shape values h.
     told)
     (c.take_parts.ensures.refused shape (below c.args.layout values) h)
 
-pub take_below-returns-in-List-value-clause-taken : goal.take_below-returns-in-List-value-clause-taken
-take_below-returns-in-List-value-clause-taken g t c = λ shape values h.
+pub take_below-returns-in-List-clause-taken : goal.take_below-returns-in-List-clause-taken
+take_below-returns-in-List-clause-taken g t c = λ shape values h.
     let P = HasTaken (told (g.I.IndexOf.index c.args.indices.now)) c.args.purpose c.args.limits.now in
-    let is = fixed_are c.in-FixedLists.size c.args.value.now c.in-List-value.items c.in-List-value.is
-    ∙ sym c.as_slice-in-List-value.ensures in
-    on_ok_weaker c.take_items-in-List-value.result
-    (λ more. subst (λ (given : ℕ → List Value). AreNodes P shape c.take_items-in-List-value.new.nodes given)
-    (fixed_more c.args.layout c.in-FixedLists.size values c.args.value.now c.as_slice-in-List-value.result.now c.in-FixedLists.is is) more)
-    (c.take_items-in-List-value.ensures.taken shape (below c.args.layout values) h)
+    let is = fixed_are c.in-FixedLists.field-0 c.args.value.now c.in-List.items c.in-List.is ∙ sym c.as_slice.ensures in
+    on_ok_weaker c.take_items-in-List.result
+    (λ more. subst (λ (given : ℕ → List Value). AreNodes P shape c.take_items-in-List.new.nodes given)
+    (fixed_more c.args.layout c.in-FixedLists.field-0 values c.args.value.now c.as_slice.result.now c.in-FixedLists.is is) more)
+    (c.take_items-in-List.ensures.taken shape (below c.args.layout values) h)
 
-pub take_below-returns-in-List-value-clause-refused : goal.take_below-returns-in-List-value-clause-refused
-take_below-returns-in-List-value-clause-refused g t c = λ shape values h.
-    let is = fixed_are c.in-FixedLists.size c.args.value.now c.in-List-value.items c.in-List-value.is
-    ∙ sym c.as_slice-in-List-value.ensures in
-    IfErr-weaker c.take_items-in-List-value.result _ _
+pub take_below-returns-in-List-clause-refused : goal.take_below-returns-in-List-clause-refused
+take_below-returns-in-List-clause-refused g t c = λ shape values h.
+    let is = fixed_are c.in-FixedLists.field-0 c.args.value.now c.in-List.items c.in-List.is ∙ sym c.as_slice.ensures in
+    IfErr-weaker c.take_items-in-List.result _ _
     (λ fault told. subst (λ (given : ℕ → List Value). ArePushesRefused c.args.limits.now shape given fault)
-    (fixed_more c.args.layout c.in-FixedLists.size values c.args.value.now c.as_slice-in-List-value.result.now c.in-FixedLists.is is) told)
-    (c.take_items-in-List-value.ensures.refused shape (below c.args.layout values) h)
+    (fixed_more c.args.layout c.in-FixedLists.field-0 values c.args.value.now c.as_slice.result.now c.in-FixedLists.is is) told)
+    (c.take_items-in-List.ensures.refused shape (below c.args.layout values) h)
 
-pub take_below-returns-in_default-value-2 : goal.take_below-returns-in_default-value-2
-take_below-returns-in_default-value-2 g t c =
-    let is : fixed_items c.in-FixedLists.size c.args.value.now ≡ replicate c.in-FixedLists.size Null =
-    no_fixed c.in-FixedLists.size c.args.value.now c.in_default-value-2.not-List in
+pub take_below-returns-in_default-value : goal.take_below-returns-in_default-value
+take_below-returns-in_default-value g t c =
+    let more = λ (values : List Value). nulls_more c.args.layout values c.args.value.now c.nulls_below.result c.nulls_below.ensures.count
+    (λ j. fixed_gives c.args.layout c.in-FixedLists.field-0 c.args.value.now c.in-FixedLists.is c.in_default-value.not-List j) in
     record {
       taken = λ shape values h. on_ok_weaker c.take_nulls.result
-          (λ more. subst (λ (given : ℕ → List Value). AreNodes
+          (λ taken. subst (λ (given : ℕ → List Value). AreNodes
           (HasTaken (told (g.I.IndexOf.index c.args.indices.now)) c.args.purpose c.args.limits.now) shape
-          c.take_nulls.new.nodes given)
-          (fixed_more c.args.layout c.in-FixedLists.size values c.args.value.now (replicate c.in-FixedLists.size Null)
-          c.in-FixedLists.is is) more)
+          c.take_nulls.new.nodes given) (more values) taken)
           (c.take_nulls.ensures.taken shape (below c.args.layout values) h);
       refused = λ shape values h. IfErr-weaker c.take_nulls.result _ _
           (λ fault told. subst (λ (given : ℕ → List Value). ArePushesRefused c.args.limits.now shape given fault)
-          (fixed_more c.args.layout c.in-FixedLists.size values c.args.value.now (replicate c.in-FixedLists.size Null)
-          c.in-FixedLists.is is) told)
+          (more values) told)
           (c.take_nulls.ensures.refused shape (below c.args.layout values) h);
       kept = c.take_nulls.ensures.kept;
       memory = c.take_nulls.ensures.memory;
     }
 
-pub take_below-returns-in_default-value-3 : goal.take_below-returns-in_default-value-3
-take_below-returns-in_default-value-3 g t c = record {
-  taken = λ shape values h. on_ok_weaker c.take_nulls-in_default-value-3.result
-      (λ more. subst (λ (given : ℕ → List Value). AreNodes
-      (HasTaken (told (g.I.IndexOf.index c.args.indices.now)) c.args.purpose c.args.limits.now) shape
-      c.take_nulls-in_default-value-3.new.nodes given)
-      (structs_more c.args.layout values c.args.value.now (λ j. Null) c.in-Structs.is
-      (no_struct c.args.value.now c.in_default-value-3.not-Struct))
-      more)
-      (c.take_nulls-in_default-value-3.ensures.taken shape (below c.args.layout values) h);
-  refused = λ shape values h. IfErr-weaker c.take_nulls-in_default-value-3.result _ _
-      (λ fault told. subst (λ (given : ℕ → List Value). ArePushesRefused c.args.limits.now shape given fault)
-      (structs_more c.args.layout values c.args.value.now (λ j. Null) c.in-Structs.is
-      (no_struct c.args.value.now c.in_default-value-3.not-Struct))
-      told)
-      (c.take_nulls-in_default-value-3.ensures.refused shape (below c.args.layout values) h);
-  kept = c.take_nulls-in_default-value-3.ensures.kept;
-  memory = c.take_nulls-in_default-value-3.ensures.memory;
-}
+pub take_below-returns-in_default-value-2 : goal.take_below-returns-in_default-value-2
+take_below-returns-in_default-value-2 g t c =
+    let more = λ (values : List Value). nulls_more c.args.layout values c.args.value.now c.nulls_below-in_default-value-2.result
+    c.nulls_below-in_default-value-2.ensures.count
+    (λ j. struct_gives c.args.layout c.args.value.now c.in-Structs.is c.in_default-value-2.not-Struct j) in
+    record {
+      taken = λ shape values h. on_ok_weaker c.take_nulls-in_default-value-2.result
+          (λ taken. subst (λ (given : ℕ → List Value). AreNodes
+          (HasTaken (told (g.I.IndexOf.index c.args.indices.now)) c.args.purpose c.args.limits.now) shape
+          c.take_nulls-in_default-value-2.new.nodes given) (more values) taken)
+          (c.take_nulls-in_default-value-2.ensures.taken shape (below c.args.layout values) h);
+      refused = λ shape values h. IfErr-weaker c.take_nulls-in_default-value-2.result _ _
+          (λ fault told. subst (λ (given : ℕ → List Value). ArePushesRefused c.args.limits.now shape given fault)
+          (more values) told)
+          (c.take_nulls-in_default-value-2.ensures.refused shape (below c.args.layout values) h);
+      kept = c.take_nulls-in_default-value-2.ensures.kept;
+      memory = c.take_nulls-in_default-value-2.ensures.memory;
+    }
 
 -- ---- several columns
 

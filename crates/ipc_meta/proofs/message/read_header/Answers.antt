@@ -1,45 +1,13 @@
-use Rattle.std.proofs.Common.{◌≡◌, ◌∙◌, refl, sym, ap, ℕ, zero, suc, ◌≤◌, inl, inr, arith}
+use Rattle.std.proofs.Common.{◌∙◌, sym, ap}
 use Rattle.std.specs.Prelude.{Ok}
 use Rattle.std.proofs.lemmas.Result.{err_from_is_err_and}
 use Rattle.ipc_meta.specs.Lifts.{lift}
-use Rattle.ipc_meta.proofs.Sound.{lift_ok, batch_sound}
-use Rattle.ipc_meta.proofs.Unique.{header_same, dictionary_refused, batch_refused, pairs_refused}
+use Rattle.ipc_meta.proofs.Sound.{lift_ok}
+use Rattle.ipc_meta.proofs.Unique.{dictionary_refused, record_batch_refused}
 use Rattle.ipc_scalar.specs.Bytes.{byte}
-use Rattle.ipc_meta.specs.Reached.{message, header_type, IsHeaderCode, at_header, of_schema, of_dictionary, of_batch, with_batch}
-use Rattle.ipc_meta.proofs.Refused as told
+use Rattle.ipc_meta.specs.Reached.{message, header_type, at_header, of_schema, of_dictionary, of_batch, with_batch}
 use Rattle.ipc_meta.proofs.Refused.{bad_number, bad_value}
 use Rattle.ipc_meta.proofs.message.read_header.Goals as goal
-
-one_of_three : (n : ℕ) → (n ≡ 0 → ⊥) → n ≤ 3 → IsHeaderCode n
-one_of_three zero some few = absurd (some refl)
-one_of_three (suc zero) some few = inl refl
-one_of_three (suc (suc zero)) some few = inr (inl refl)
-one_of_three (suc (suc (suc zero))) some few = inr (inr refl)
-one_of_three (suc (suc (suc (suc n)))) some few = absurd (omega arith)
-
-pub returns-in_ok-read_batch_pairs-in-3-clause-found : goal.returns-in_ok-read_batch_pairs-in-3-clause-found
-returns-in_ok-read_batch_pairs-in-3-clause-found c = (
-  (
-    lift_ok _ _ (ap lift (sym c.scalar_u8.ensures) ∙ (sym c.in_ok-code.ensures ∙ ap Ok c.in-3.is)),
-    (
-      c.in-Some.table,
-      lift_ok _ _ (ap lift (sym c.table.ensures) ∙ (sym c.in_ok-table.ensures ∙ ap Ok c.in-Some.is)),
-      batch_sound _ _ c.in_ok-batch-in-3.ensures,
-    ),
-  ),
-  c.in_ok-read_batch_pairs-in-3.ensures.found,
-)
-
-pub returns-in_ok-read_batch_pairs-in-3-clause-only : goal.returns-in_ok-read_batch_pairs-in-3-clause-only
-returns-in_ok-read_batch_pairs-in-3-clause-only c = λ h a. ap Ok (header_same c.args.limits.now _ h _ a
-    (returns-in_ok-read_batch_pairs-in-3-clause-found c))
-
-pub returns-in_err-batch-in-3-clause-only : goal.returns-in_err-batch-in-3-clause-only
-returns-in_err-batch-in-3-clause-only c = λ h a.
-    let p = err_from_is_err_and c.from_residual-in_err-batch-in-3.result c.from_residual-in_err-batch-in-3.ensures.1 in
-    rw (p.1, p.2) (batch_refused c.args.limits.now _ _ _ h (lift_ok _ _ (ap lift (sym c.scalar_u8.ensures) ∙ (sym c.in_ok-code.ensures
-    ∙ ap Ok c.in-3.is)))
-    (lift_ok _ _ (ap lift (sym c.table.ensures) ∙ (sym c.in_ok-table.ensures ∙ ap Ok c.in-Some.is))) c.in_err-batch-in-3.ensures a)
 
 pub returns-in_err-id-in-2-clause-only : goal.returns-in_err-id-in-2-clause-only
 returns-in_err-id-in-2-clause-only c = λ h a.
@@ -53,14 +21,6 @@ returns-in_err-code-clause-refused c =
     let p = err_from_is_err_and c.from_residual.result c.from_residual.ensures.1 in
     rw (p.1, p.2) (λ b has ne. bad_number c.args.limits.now b message _ 1 1 byte 0 _ has header_type
     (ap lift (sym c.scalar_u8.ensures) ∙ sym c.in_err-code.ensures))
-
-pub returns-in_err-table-clause-refused : goal.returns-in_err-table-clause-refused
-returns-in_err-table-clause-refused c =
-    let p = err_from_is_err_and c.from_residual-in_err-table.result c.from_residual-in_err-table.ensures.1 in
-    let code = lift_ok _ _ (ap lift (sym c.scalar_u8.ensures) ∙ sym c.in_ok-code.ensures) in
-    rw (p.1, p.2) (λ b has ne. bad_value c.args.limits.now b _ 2 _
-    (at_header has code (one_of_three c.in_ok-code.code c.if-code-eq0.false (omega (arith, c.if-code-gt-LAST_HEADER.false))))
-    (ap lift (sym c.table.ensures) ∙ sym c.in_err-table.ensures))
 
 pub returns-in_err-read_schema-in-1-clause-refused : goal.returns-in_err-read_schema-in-1-clause-refused
 returns-in_err-read_schema-in-1-clause-refused c =
@@ -76,25 +36,24 @@ returns-in_err-id-in-2-clause-refused c =
     let table = lift_ok _ _ (ap lift (sym c.table.ensures) ∙ (sym c.in_ok-table.ensures ∙ ap Ok c.in-Some.is)) in
     rw (p.1, p.2) (λ b has. c.in_err-id-in-2.ensures.refused c.args.limits.now b (of_dictionary has (code, table)))
 
+pub returns-in_err-batch-in-3-clause-only : goal.returns-in_err-batch-in-3-clause-only
+returns-in_err-batch-in-3-clause-only c = λ h a.
+    let p = err_from_is_err_and c.from_residual-in_err-batch-in-3.result c.from_residual-in_err-batch-in-3.ensures.1 in
+    rw (p.1, p.2) (record_batch_refused c.args.limits.now _ _ _ h
+    (lift_ok _ _ (ap lift (sym c.scalar_u8.ensures) ∙ (sym c.in_ok-code.ensures ∙ ap Ok c.in-3.is)))
+    (lift_ok _ _ (ap lift (sym c.table.ensures) ∙ (sym c.in_ok-table.ensures ∙ ap Ok c.in-Some.is))) c.in_err-batch-in-3.ensures.only a)
+
 pub returns-in_err-batch-in-3-clause-refused : goal.returns-in_err-batch-in-3-clause-refused
 returns-in_err-batch-in-3-clause-refused c =
     let p = err_from_is_err_and c.from_residual-in_err-batch-in-3.result c.from_residual-in_err-batch-in-3.ensures.1 in
     let code = lift_ok _ _ (ap lift (sym c.scalar_u8.ensures) ∙ (sym c.in_ok-code.ensures ∙ ap Ok c.in-3.is)) in
     let table = lift_ok _ _ (ap lift (sym c.table.ensures) ∙ (sym c.in_ok-table.ensures ∙ ap Ok c.in-Some.is)) in
-    rw (p.1, p.2) (λ b has ne. told.batch_refused c.args.limits.now b _ _ (of_batch has (code, table)) (c.in_err-batch-in-3.ensures
-    ne))
+    rw (p.1, p.2) (λ b has. c.in_err-batch-in-3.ensures.refused b (of_batch has (code, table)) (with_batch has (code, table)))
 
-pub returns-in_err-read_batch_pairs-in-3-clause-only : goal.returns-in_err-read_batch_pairs-in-3-clause-only
-returns-in_err-read_batch_pairs-in-3-clause-only c = λ h a.
-    let p = err_from_is_err_and c.from_residual-in_err-read_batch_pairs-in-3.result c.from_residual-in_err-read_batch_pairs-in-3.ensures.1
-    in
-    rw (p.1, p.2) (pairs_refused c.args.limits.now _ _ h (lift_ok _ _ (ap lift (sym c.scalar_u8.ensures) ∙ (sym c.in_ok-code.ensures
-    ∙ ap Ok c.in-3.is))) c.in_err-read_batch_pairs-in-3.ensures.only a)
-
-pub returns-in_err-read_batch_pairs-in-3-clause-refused : goal.returns-in_err-read_batch_pairs-in-3-clause-refused
-returns-in_err-read_batch_pairs-in-3-clause-refused c =
-    let p = err_from_is_err_and c.from_residual-in_err-read_batch_pairs-in-3.result c.from_residual-in_err-read_batch_pairs-in-3.ensures.1
-    in
-    let code = lift_ok _ _ (ap lift (sym c.scalar_u8.ensures) ∙ (sym c.in_ok-code.ensures ∙ ap Ok c.in-3.is)) in
-    let table = lift_ok _ _ (ap lift (sym c.table.ensures) ∙ (sym c.in_ok-table.ensures ∙ ap Ok c.in-Some.is)) in
-    rw (p.1, p.2) (λ b has. c.in_err-read_batch_pairs-in-3.ensures.refused b (with_batch has (code, table)))
+pub returns-in_err-table-clause-refused : goal.returns-in_err-table-clause-refused
+returns-in_err-table-clause-refused c =
+    let p = err_from_is_err_and c.from_residual-in_err-table.result c.from_residual-in_err-table.ensures.1 in
+    let code = lift_ok _ _ (ap lift (sym c.scalar_u8.ensures) ∙ sym c.in_ok-code.ensures) in
+    rw (p.1, p.2) (λ b has ne. bad_value c.args.limits.now b _ 2 _
+    (at_header has code (c.is_header_code.ensures.yes c.if-not-is_header_code.false))
+    (ap lift (sym c.table.ensures) ∙ sym c.in_err-table.ensures))

@@ -1,29 +1,29 @@
-use Rattle.std.proofs.Common.{subst, ℕ, ◌+◌, ◌*◌, ◌/◌, ◌≤◌, length}
+use Rattle.std.proofs.Common.{refl, subst, ℕ, ◌+◌, ◌*◌, ◌/◌, ◌≤◌, [], length}
 use Rattle.ipc_meta.proofs.WrittenOrder.{schema_ascends}
-use Rattle.ipc_meta.proofs.WrittenAnswers.{ok_then, err_then, schema_is, schema_states, schema_room_is, schema_refused}
+use Rattle.ipc_meta.proofs.WrittenAnswers.{ok_then, err_then, schema_states, schema_room_is, schema_refused}
 use Rattle.ipc_meta.proofs.write.write_schema.Goals as goal
 
 pub built-requires : goal.built-requires
-built-requires c = schema_ascends c.args.schema.now _ _ _ _ _ c.in_ok-message.ensures c.in_ok-header.ensures
+built-requires c = schema_ascends c.args.schema.now 1 0 [] _ _ c.in_ok-message.ensures refl
 
 pub returns-clause-states : goal.returns-clause-states
 returns-clause-states c =
-    let is = schema_is c.args.schema.now _ _ _ c.in_ok-message.ensures c.new.ensures c.in_ok-header.ensures in
+    let is = c.in_ok-message.ensures in
     ok_then _ _ c.built.result (λ b lies. schema_states b.items c.args.schema.now _ c.requires is lies) c.built.ensures.lies
 
 pub returns-clause-room : goal.returns-clause-room
 returns-clause-room c =
-    let is = schema_is c.args.schema.now _ _ _ c.in_ok-message.ensures c.new.ensures c.in_ok-header.ensures in
+    let is = c.in_ok-message.ensures in
     ok_then _ _ c.built.result (λ b h. subst (λ (n : ℕ). n ≤ c.args.limits.now.metadata) (schema_room_is c.args.schema.now _ is) h)
     c.built.ensures.room
 
 pub returns-clause-refused : goal.returns-clause-refused
 returns-clause-refused c =
-    let is = schema_is c.args.schema.now _ _ _ c.in_ok-message.ensures c.new.ensures c.in_ok-header.ensures in
+    let is = c.in_ok-message.ensures in
     err_then _ _ c.built.result (λ f h. schema_refused c.args.limits.now c.args.schema.now _ f is h) c.built.ensures.refused
 
 pub returns-clause-within : goal.returns-clause-within
 returns-clause-within c =
-    let is = schema_is c.args.schema.now _ _ _ c.in_ok-message.ensures c.new.ensures c.in_ok-header.ensures in
+    let is = c.in_ok-message.ensures in
     ok_then _ _ c.built.result (λ b h. subst (λ (n : ℕ). (length b.items + 7) / 8 * 8 ≤ n) (schema_room_is c.args.schema.now _ is) h)
     c.built.ensures.within
