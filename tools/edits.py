@@ -16,13 +16,14 @@ proof, so a round turns one of them. The others, as those of the callers of what
 again in the next round. What is left when a round refuses none is tried alone. One that no clause
 speaks of then has failed.
 
-Each check begins with the proofs that the built library of the crate carries, and is asked for the
-functions that are turned alone: so what calls them isn't proved again, which would cost more than
-all else. Only an edit of no function, as of a constant, and one of functions that are still proved,
-is tried on the whole crate. An edit that was refused stays so while the toolchain, the crate, the
-libraries below it and the edit are the same: it is noted in a folder of the user's cache, and isn't
-tried again there unless --anew asks for it. A line tells each round and each edit. The last line
-counts the edits: 'N passed, M failed'.
+Each check begins with the proofs that the built library of the crate carries, or where it carries
+statements alone with those of the checks before it, and is asked for the functions that are turned
+alone: so what calls them isn't proved again, which would cost more than all else. Only an edit of
+no function, as of a constant, and one of functions that are still proved, is tried on the whole
+crate. An edit that was refused stays so while the toolchain, the crate, the libraries below it and
+the edit are the same: it is noted in a folder of the user's cache, and isn't tried again there
+unless --anew asks for it. A line tells each round and each edit. The last line counts the edits:
+'N passed, M failed'.
 """
 import concurrent.futures
 import hashlib
@@ -52,8 +53,8 @@ TRAIT = re.compile(r"^[ \t]*(?:pub(?:\([^)]*\))?[ ]+)?trait[ ]+(\w+)", re.M)
 OPEN_GOAL = re.compile(r"^note: (src/\S+\.rt):(\d+):\d+: it is not proved")
 ANSWER = re.compile(r"^(?:\./)?proofs/(\S+)/\w+\.antt:\d+:\d+: error: (.*)")
 GONE = re.compile(r"has no field|is not in scope|has no `|was not admitted|was not checked")
-# How the built library names the proofs of a function.
-LINK = re.compile(r"^Rattle-\w+-proofs\.(.+)\.TheLink$")
+# How the built library names the proofs of a function, or where it carries none its statement.
+LINK = re.compile(r"^(?:part/)?Rattle-\w+-proofs\.(.+)\.TheLink$")
 # How a check of some functions ends.
 ONLY = re.compile(r"^only=(\d+) proved=(\d+)")
 # What `rt ci` says of a crate that it has proved, in this run or in an earlier one.
@@ -281,6 +282,7 @@ class Trial:
     def __init__(self, crate, words, seats, room):
         self.crate, self.words, self.seats, self.room = crate, words, seats, room
         self.kept, self.paths, self.spent = f"{room}/kept", [], 0
+        self.has_proofs = False
 
     def unpack(self):
         """Has the kept proofs be those that the built library carries."""
@@ -295,6 +297,7 @@ class Trial:
                 if path and not traits & {*path[-2:-1]}:
                     self.paths.append(path)
                 if "/" not in name:
+                    self.has_proofs = True
                     packed.seek(start)
                     with open(f"{self.kept}/{build}/{name}.oantt", "wb") as file:
                         file.write(packed.read(size))
@@ -324,7 +327,10 @@ class Trial:
             return said
 
     def check_over_kept(self, texts, only):
-        """A check over the crate as it stands, which stays as it is for the next one."""
+        """A check over the proofs of the crate as it stands, which stay as they are for the next
+        one. Where the library carries none, over what the checks before it have proved."""
+        if not self.has_proofs:
+            return self.check(texts, self.kept, only)
         with tempfile.TemporaryDirectory(dir=self.room) as folder:
             link_tree(self.kept, f"{folder}/kept")
             return self.check(texts, f"{folder}/kept", only)
