@@ -13,8 +13,8 @@ turned breaks its own proof, and those of its callers only as far as they cite i
 different functions are made together in rounds. An edit is refused where the check complains of the
 function that it turns, by more than a name that is gone. Functions that call one another have one
 proof, so a round turns one of them. The others, as those of the callers of what was refused, come
-again in the next round. What is left when a round refuses none is tried alone. One that no clause
-speaks of then has failed.
+again in the next round. What is left when a round refuses none is tried alone, and so is a round of
+one. One that no clause speaks of then has failed.
 
 Each check begins with the proofs that the built library of the crate carries, or where it carries
 statements alone with those of the checks before it, and is asked for the functions that are turned
