@@ -49,6 +49,8 @@ int main() {
       if (schema->fields() != nullptr) {
         for (const metadata::Field* field : *schema->fields()) ++types[field->type_type()];
       }
+    } else if (const metadata::DictionaryBatch* values = message->header_as_DictionaryBatch()) {
+      if (values->data() == nullptr) return refused("a dictionary has no data", messages);
     } else if (message->header_as_RecordBatch() == nullptr) {
       return refused("neither a schema nor a batch stands", messages);
     }

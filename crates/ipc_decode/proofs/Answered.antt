@@ -2,7 +2,6 @@
 use Rattle.std.proofs.Common.{◌≡◌, ◌∙◌, refl, sym, ap, subst, ℕ, inl, inr, List, [], ◌∷◌, ◌++◌, map, Option, Some, None, Result, Ok, Err}
 use Rattle.std.proofs.Common.{append_assoc, arith}
 use Rattle.std.specs.Prelude.{IfOk, MatchResult, true}
-use Rattle.std.specs.List.{AllByRecursion}
 use Rattle.std.specs.Io.KnownBytes.{Consumes, IsAtEnd}
 use Rattle.std.proofs.lemmas.List.{append-nil}
 use Rattle.ipc_model.specs.declared.fault.Fault.{Fault}
@@ -13,8 +12,6 @@ use Rattle.ipc_decode.specs.declared.end.End.{End}
 use Rattle.ipc_decode.specs.declared.end.End.TheVariants.{Mark, Closed}
 use Rattle.ipc_decode.specs.Failures.{FailsAs}
 use Rattle.ipc_model.specs.declared.table.BatchRows.{BatchRows}
-use Rattle.ipc_meta.specs.Supported.{are_supported}
-use Rattle.ipc_decode.specs.Readable.{IsSupportedEvent}
 use Rattle.ipc_decode.specs.Stream.{State, Event, batch, Run, events_of, Denotes}
 use Rattle.ipc_decode.specs.Reasons.{IsOutside, Reads}
 use Rattle.ipc_decode.specs.Taken.{TakesTable}
@@ -102,45 +99,36 @@ no_failure : (f0 f1 : ℕ) (e : Fault) → f1 ≡ 0 → FailsAs {T = Table × En
 no_failure f0 f1 e none tells (inl read) = absurd (omega (arith, none, tells.failed read))
 no_failure f0 f1 e none tells (inr memory) = memory
 
--- the types of the schema are read, and batches have none of their own
-all_read : (t : Table) → are_supported t.schema.fields ≡ true → AllByRecursion IsSupportedEvent (events_of t)
-all_read t read = (read, batches_read t.batches)
-  where
-    batches_read : (bs : List BatchRows) → AllByRecursion IsSupportedEvent (map batch bs)
-    batches_read [] = tt
-    batches_read (b ∷ bs) = (tt, batches_read bs)
-
 answers_known : {limits : Limits} → (z b : List ℕ) (t : Table) (end : End) (f0 f1 : ℕ) (r : Result (Table × End) Fault)
-    → are_supported t.schema.fields ≡ true
     → Reading limits z t end → TakesTable limits (Some z) (Some b) r → f1 ≡ 0 → FailsAs f0 f1 r → Answers t end r
-answers_known {limits} z b t end f0 f1 (Ok a) read reading h none fails =
+answers_known {limits} z b t end f0 f1 (Ok a) reading h none fails =
     two_readings z a.0 t a.1 end (subst (λ y. Reading limits y a.0 a.1) (sym h.bytes) (reading_taken h.x b a.0 a.1 h.gives)) reading
-answers_known {limits} z b t end f0 f1 (Err e) read reading h none fails =
+answers_known {limits} z b t end f0 f1 (Err e) reading h none fails =
     let broken = h.gives.1 in
     let joined : reading.whole ++ reading.rest ≡ broken.whole ++ (broken.rest ++ b) =
     reading.joined ∙ (h.bytes ∙ (ap (λ y. y ++ b) broken.joined ∙ append_assoc broken.whole broken.rest b)) in
-    no_failure f0 f1 e none fails (run_breaks reading.rest broken.rest b e (all_read t read) reading.run broken.run
+    no_failure f0 f1 e none fails (run_breaks reading.rest broken.rest b e reading.run broken.run
     (run_told reading.run (λ n. absurd (cc))) (stops z t end reading) broken.ends joined)
 
 answers : {limits : Limits} → (z : List ℕ) (old new : Option (List ℕ)) (t : Table) (end : End) (f0 f1 : ℕ) (r : Result (Table × End) Fault)
-    → are_supported t.schema.fields ≡ true → Reading limits z t end → old ≡ Some z → TakesTable limits old new r → f1 ≡ 0 → FailsAs f0 f1 r
+    → Reading limits z t end → old ≡ Some z → TakesTable limits old new r → f1 ≡ 0 → FailsAs f0 f1 r
     → Answers t end r
-answers {limits} z old None t end f0 f1 r read reading is h none fails = absurd (subst (λ i. Consumes i None h.x) is h.bytes)
-answers {limits} z old (Some b) t end f0 f1 r read reading is h none fails =
-    answers_known z b t end f0 f1 r read reading (subst (λ i. TakesTable limits i (Some b) r) is h) none fails
+answers {limits} z old None t end f0 f1 r reading is h none fails = absurd (subst (λ i. Consumes i None h.x) is h.bytes)
+answers {limits} z old (Some b) t end f0 f1 r reading is h none fails =
+    answers_known z b t end f0 f1 r reading (subst (λ i. TakesTable limits i (Some b) r) is h) none fails
 
 module _ {limits : Limits} (old new : Option (List ℕ)) (f0 f1 : ℕ) (r : Result (Table
     × End) Fault) (h : TakesTable limits old new r) (none : f1 ≡ 0)
     (fails : FailsAs f0 f1 r) where
   -- where bytes up to an end mark denote a table, the call answers that table, unless memory runs out
-  pub answers_marked : (x rest : List ℕ) (t : Table) → are_supported t.schema.fields ≡ true → old ≡ Some (x ++ rest)
+  pub answers_marked : (x rest : List ℕ) (t : Table) → old ≡ Some (x ++ rest)
       → Denotes limits x t Mark
       → Answers t Mark r
-  answers_marked x rest t read is d = answers (x ++ rest) old new t Mark f0 f1 r read
+  answers_marked x rest t is d = answers (x ++ rest) old new t Mark f0 f1 r
       (reading_of x rest t Mark d (λ e. absurd (cc))) is h none fails
 
   -- where all bytes of the source denote a table, the call answers that table, unless memory runs out
-  pub answers_closed : (x : List ℕ) (t : Table) → are_supported t.schema.fields ≡ true → old ≡ Some x → Denotes limits x t Closed
+  pub answers_closed : (x : List ℕ) (t : Table) → old ≡ Some x → Denotes limits x t Closed
       → Answers t Closed r
-  answers_closed x t read is d = answers x old new t Closed f0 f1 r read
+  answers_closed x t is d = answers x old new t Closed f0 f1 r
       (subst (λ y. Reading limits y t Closed) (append-nil x) (reading_of x [] t Closed d (λ e. refl))) is h none fails

@@ -7,7 +7,6 @@ use Rattle.ipc_model.specs.declared.fault.Fault.{Fault}
 use Rattle.ipc_model.specs.declared.schema.Schema.{Schema}
 use Rattle.ipc_model.specs.declared.table.BatchRows.{BatchRows}
 use Rattle.ipc_meta.specs.declared.head.Head.{Head}
-use Rattle.ipc_meta.specs.Supported.{are_supported}
 use Rattle.ipc_frame.specs.Frames.{eos}
 use Rattle.ipc_frame.proofs.OneFrame.{frame_one}
 use Rattle.ipc_decode.specs.Found.{Found, rows_of}
@@ -110,26 +109,25 @@ opens_schema old new x rest s h is o =
     let one : schema s ≡ schema new.schema = first_same rest k.0 (schema s) (schema new.schema) [] [] o h.run refl refl k.2 in
     cc
 
--- where a stream with a supported schema is at the front, opening fails only where memory runs out or the source fails
+-- where a stream with a schema is at the front, opening fails only where memory runs out or the source fails
 pub opens_fails : {limits : Limits} → (old new : Option (List ℕ)) (fault : Fault) (x rest : List ℕ) (s : Schema)
-    → are_supported s.fields ≡ true
     → OpenFails limits old new fault → old ≡ Some (x ++ rest) → OpensStream limits s x → IsOutside fault
-opens_fails {limits} old new fault x rest s read h is o =
+opens_fails {limits} old new fault x rest s h is o =
     let k = known (x ++ rest) h.x old new is h.bytes in
     let reads = subst (λ left. Reads limits None h.x left [] (Err fault)) k.1 h.reads in
     let joined : x ++ rest ≡ reads.whole ++ (reads.rest ++ k.0) =
     k.2 ∙ (ap (λ y. y ++ k.0) reads.joined ∙ append_assoc reads.whole reads.rest k.0) in
-    told_breaks rest reads.rest k.0 fault (read, tt) o (λ none. absurd (cc)) reads.run refl reads.ends joined
+    told_breaks rest reads.rest k.0 fault o (λ none. absurd (cc)) reads.run refl reads.ends joined
 
 -- the schema, or out of memory or a failure of the source
 pub opens_or : {limits : Limits} → {T E : Type 0} (r : Result T E) (view : T → Reader) (left : E → Option (List ℕ)) (fault : E
     → Fault) (old : Option (List ℕ))
-    (x rest : List ℕ) (s : Schema) → are_supported s.fields ≡ true
+    (x rest : List ℕ) (s : Schema)
     → IfOk r (λ t. Opens limits old (view t)) → IfErr r (λ e. OpenFails limits old (left e) (fault e)) → old ≡ Some (x ++ rest)
     → OpensStream limits s x
     → MatchResult r (λ t. (view t).schema ≡ s) (λ e. IsOutside (fault e))
-opens_or (Ok t) view left fault old x rest s read opened refused is o = opens_schema old (view t) x rest s opened is o
-opens_or (Err e) view left fault old x rest s read opened refused is o = opens_fails old (left e) (fault e) x rest s read refused is o
+opens_or (Ok t) view left fault old x rest s opened refused is o = opens_schema old (view t) x rest s opened is o
+opens_or (Err e) view left fault old x rest s opened refused is o = opens_fails old (left e) (fault e) x rest s refused is o
 
 -- ---- a batch
 
@@ -161,7 +159,7 @@ module _ (old new : Reader) (x u z b : List ℕ) (rows : BatchRows) (τ : State)
   gives_batch (Err fault) phase.Reading h = absurd h
   gives_batch (Err fault) (phase.Ended end) h = absurd h
   gives_batch (Err fault) phase.Refused h =
-      told_breaks u h.rest b fault (tt, tt) tells (λ none. absurd (cc)) h.run refl (ends_now (Err fault) h) (bytes_now (Err fault) h)
+      told_breaks u h.rest b fault tells (λ none. absurd (cc)) h.run refl (ends_now (Err fault) h) (bytes_now (Err fault) h)
 
 -- where messages that tell a batch are next, the call gives its rows, unless memory runs out or the source fails
 pub next_batch : (old new : Reader) (r : Result (Option Found) Fault) (x rest : List ℕ) (rows : BatchRows) → NextCall old new r

@@ -30,7 +30,6 @@ use Rattle.ipc_decode.specs.Decoding.{IsFew, EndsAt, Draws, TellsOne}
 use Rattle.ipc_decode.specs.Scopes.{state_of}
 use Rattle.ipc_decode.specs.FedMessages.{FeedsSilent}
 use Rattle.ipc_decode.specs.Found.{rows_of}
-use Rattle.ipc_decode.specs.Readable.{IsSupportedEvent}
 use Rattle.ipc_decode.specs.Stream.{State, Event, Run, done, schema, batch, IsMessage}
 use Rattle.ipc_decode.specs.Verdicts.{Decision, Reason}
 use Rattle.ipc_decode.proofs.Courses.{frame_well_formed, Brought, brought, early_reason, frame_reason, refused_stays}
@@ -78,7 +77,7 @@ module _ (old new : Decoding) (fits : old.messages ≤ 2 ^ 64 - 1) where
   still z same count =
       let run : Run old.limits old.state [] [] new.state = subst (Run old.limits old.state [] []) (sym same) done in
       record {
-        reached = record { whole = []; joined = refl; run = run; read = tt };
+        reached = record { whole = []; joined = refl; run = run };
         counted = omega (arith, count, fits, messages_none run refl);
       }
 
@@ -87,9 +86,9 @@ module _ (old new : Decoding) (fits : old.messages ≤ 2 ^ 64 - 1) where
       → Waits old new z
   waits z k same count stage undecided = (z, still z same count, stage, (k, undecided))
 
-  one_told : (x : List ℕ) (e : Event) → IsMessage old.limits old.state x (e ∷ []) new.state → IsSupportedEvent e
+  one_told : (x : List ℕ) (e : Event) → IsMessage old.limits old.state x (e ∷ []) new.state
       → new.stage ≡ taking [] → new.messages ≡ count_up old.messages 1 → TellsOne old new x e
-  one_told x e told read stage count = record {
+  one_told x e told stage count = record {
     last = record {
       silent = [];
       message = x;
@@ -97,7 +96,6 @@ module _ (old new : Decoding) (fits : old.messages ≤ 2 ^ 64 - 1) where
       between = old.state;
       run = done;
       told = told;
-      read = read;
     };
     counted = count;
     stage = stage;
@@ -105,14 +103,14 @@ module _ (old new : Decoding) (fits : old.messages ≤ 2 ^ 64 - 1) where
 
   -- a frame that is taken tells its event
   pub tells : (x : List ℕ) (e : Told) → Brought old.limits old.state new.state x (Some e) → Went old new (Some e) → Tells old new x e
-  tells x told.Schema b m = (b.0, one_told x (schema b.0) b.1 b.2 m.0 m.1)
-  tells x (told.Batch found pairs) b m = one_told x (batch (rows_of (found, pairs))) b tt m.0 m.1
+  tells x told.Schema b m = (b.0, one_told x (schema b.0) b.1 m.0 m.1)
+  tells x (told.Batch found pairs) b m = one_told x (batch (rows_of (found, pairs))) b m.0 m.1
   tells x told.End b m = (subst (λ z. Reaches old new x [] z) b.0 (still x b.1 m.1), b.2, m.0)
 
   -- or tells nothing
   pub silent : (x : List ℕ) → Brought old.limits old.state new.state x None → Went old new None → Reaches old new x [] []
   silent x b m = record {
-    reached = record { whole = x; joined = sym (append-nil x); run = run_one b.frame b.step; read = tt };
+    reached = record { whole = x; joined = sym (append-nil x); run = run_one b.frame b.step };
     counted = omega (arith, m.1, messages_one b.frame b.step);
   }
 
@@ -215,7 +213,7 @@ module _ (before after : Framing) (c d : Course) (sound : IsSound before c) (rea
       at_stage piece (Ok (n, Some e)) (
         g.0,
         tells (decoding_of before c) new fits (kept ++ take n piece) e
-            (brought c.limits (state_of c.scope) (state_of d.scope) (kept ++ take n piece) frame (Some e) g.2 g.3 b)
+            (brought c.limits (state_of c.scope) (state_of d.scope) (kept ++ take n piece) frame (Some e) g.2 b)
             (went before after c d (state_of c.scope) (state_of d.scope) c.limits frame (Some e) b g.1 reading m),
       )
 
@@ -229,7 +227,7 @@ module _ (before after : Framing) (c d : Course) (sound : IsSound before c) (rea
       let b = subst (λ q. Brings c.limits (state_of c.scope) frame (state_of d.scope) (Ok q)) told brings in
       let m = subst (λ q. Moves c d (Ok q)) told moves in
       let x = kept ++ take n piece in
-      let one = brought c.limits (state_of c.scope) (state_of d.scope) x frame None g.2 g.3 b in
+      let one = brought c.limits (state_of c.scope) (state_of d.scope) x frame None g.2 b in
       let on = went before after c d (state_of c.scope) (state_of d.scope) c.limits frame None b g.1 reading m in
       subst (λ o. FeedsSilent o piece n new) seen (record {
         kept = kept;
@@ -252,7 +250,7 @@ module _ (before after : Framing) (c d : Course) (sound : IsSound before c) (rea
       (λ other. (
         n,
         g.0,
-        frame_reason c.limits (state_of c.scope) (state_of d.scope) (kept ++ take n piece) frame e g.2 g.3 b other,
+        frame_reason c.limits (state_of c.scope) (state_of d.scope) (kept ++ take n piece) frame e g.2 b other,
       )))
 
   -- a schema that the frames bring keeps the rules
@@ -316,7 +314,7 @@ module _ (before after : Framing) (c d : Course) (sound : IsSound before c) (rea
         let f = g.gives in
         let whole = subst (λ y. IsFrame c.limits (kept ++ y) frame) (take-length g.came) f.2 in
         let x = kept ++ g.came in
-        let one = brought c.limits (state_of c.scope) (state_of d.scope) x frame None whole f.3 b in
+        let one = brought c.limits (state_of c.scope) (state_of d.scope) x frame None whole b in
         let on = went before after c d (state_of c.scope) (state_of d.scope) c.limits frame None b f.1 reading m in
         let some : g.came ≡ [] → IsAtEnd to = λ none.
         absurd (pending_frame kept frame g.few.0 g.few.1
@@ -332,7 +330,7 @@ module _ (before after : Framing) (c d : Course) (sound : IsSound before c) (rea
         drawn (Ok (Some e)) g.came g.counted g.bytes g.few tt (
           f.0,
           tells (decoding_of before c) new fits x e
-              (brought c.limits (state_of c.scope) (state_of d.scope) x frame (Some e) f.2 f.3 b)
+              (brought c.limits (state_of c.scope) (state_of d.scope) x frame (Some e) f.2 b)
               (went before after c d (state_of c.scope) (state_of d.scope) c.limits frame (Some e) b f.1 reading m),
         )
 
@@ -346,7 +344,7 @@ module _ (before after : Framing) (c d : Course) (sound : IsSound before c) (rea
           ap (stage_of after.progress) m.0,
           refused_stays c.limits (state_of c.scope) (state_of d.scope) frame e b,
           m.1,
-          λ x y. frame_reason c.limits (state_of c.scope) (state_of d.scope) (kept ++ g.came) frame e whole g.gives.3 b y,
+          λ x y. frame_reason c.limits (state_of c.scope) (state_of d.scope) (kept ++ g.came) frame e whole b y,
         )
 
     -- a schema that the frames bring keeps the rules

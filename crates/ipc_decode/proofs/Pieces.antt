@@ -1,7 +1,7 @@
 -- What is told of pieces is the verdict about their bytes.
 use Rattle.std.proofs.Common.{◌≡◌, ◌∙◌, refl, sym, ap, subst, ℕ, List, [], ◌∷◌, ◌++◌, Some, None, Ok, Result, Option, append_assoc, take}
 use Rattle.std.proofs.Common.{drop}
-use Rattle.std.specs.List.{AllByRecursion, concat}
+use Rattle.std.specs.List.{concat}
 use Rattle.std.proofs.lemmas.List.{append-nil, append_cancel_left, take-append-drop}
 use Rattle.ipc_model.specs.declared.fault.Fault.{Fault}
 use Rattle.ipc_model.specs.declared.limits.Limits.{Limits}
@@ -17,14 +17,11 @@ use Rattle.ipc_decode.specs.Decoding.{Decoding, FeedsAt, FeedsOn, taking}
 use Rattle.ipc_decode.specs.Fed.{AnyPieces, AreTold, Call, EndsWithMark, GoesOn, HasVerdict, Leaves, TablePieces, none, kept, goes_on}
 use Rattle.ipc_decode.specs.Fed.{ended}
 use Rattle.ipc_decode.specs.Found.{rows_of}
-use Rattle.ipc_decode.specs.Readable.{IsSupportedEvent}
 use Rattle.ipc_decode.specs.Stream.{Denotes, Event, Run, State, Step, batch, done, events_of, more as then, schema}
 use Rattle.ipc_decode.specs.Verdicts.{Decides, Out, Reached, Verdict}
 use Rattle.ipc_decode.specs.Verdicts as out
 use Rattle.ipc_decode.proofs.OneReading.{at_eos, one_run, step_one}
-use Rattle.ipc_decode.proofs.Reasons.{step_read}
 use Rattle.ipc_decode.proofs.Runs.{run_then, told_reached}
-use Rattle.ipc_decode.proofs.Verdicts.{all_both}
 
 -- what a call does where these bytes are kept
 feeds_on : (d e : Decoding) (z piece : List ℕ) (r : Result (ℕ × Option Told) Fault) → d.stage ≡ taking z → Call d piece e r
@@ -33,20 +30,19 @@ feeds_on d e z piece r stage call = subst (λ s. FeedsAt d s piece e r) stage ca
 
 -- whole messages, and then what is known of the bytes behind them
 reached_behind : {limits : Limits} → (σ τ υ : State) (whole x rest : List ℕ) (es fs : List Event) → Run limits σ whole es τ
-    → AllByRecursion IsSupportedEvent es → Reached limits τ x fs υ rest → Reached limits σ (whole ++ x) (es ++ fs) υ rest
-reached_behind σ τ υ whole x rest es fs run read r = record {
+    → Reached limits τ x fs υ rest → Reached limits σ (whole ++ x) (es ++ fs) υ rest
+reached_behind σ τ υ whole x rest es fs run r = record {
   whole = whole ++ r.whole;
   joined = ap (λ y. whole ++ y) r.joined ∙ sym (append_assoc whole r.whole rest);
   run = run_then σ τ υ whole r.whole es fs run r.run;
-  read = all_both es fs read r.read;
 }
 
 verdict_behind : {limits : Limits} → (σ τ : State) (whole x : List ℕ) (es fs : List Event) (o : Out) → Run limits σ whole es τ
-    → AllByRecursion IsSupportedEvent es → Verdict limits τ x fs o → Verdict limits σ (whole ++ x) (es ++ fs) o
-verdict_behind σ τ whole x es fs o run read v = record {
+    → Verdict limits τ x fs o → Verdict limits σ (whole ++ x) (es ++ fs) o
+verdict_behind σ τ whole x es fs o run v = record {
   state = v.state;
   rest = v.rest;
-  reached = reached_behind σ τ v.state whole x v.rest es fs run read v.reached;
+  reached = reached_behind σ τ v.state whole x v.rest es fs run v.reached;
   decides = v.decides;
 }
 
@@ -69,7 +65,7 @@ module _ (d e : Decoding) (front behind left : List ℕ) (rest : List ℕ) (es :
 
   all_verdict : Verdict d.limits d.state (h.whole ++ v.x) (es ++ v.events) v.out
   all_verdict =
-      verdict_behind d.state e.state h.whole v.x es v.events v.out h.run h.read
+      verdict_behind d.state e.state h.whole v.x es v.events v.out h.run
       (subst (λ l. Verdict l e.state v.x v.events v.out) same v.verdict)
 
 -- one more event before others leaves the same bytes
@@ -92,7 +88,7 @@ any_pieces d g z left k pieces events stage pending none = record {
   verdict = record {
     state = d.state;
     rest = z;
-    reached = record { whole = []; joined = refl; run = done; read = tt };
+    reached = record { whole = []; joined = refl; run = done };
     decides = pending;
   };
 }
@@ -157,15 +153,15 @@ any_pieces d g z left k pieces events stage pending (ended {e = e} {piece = piec
 
 -- where messages end before the mark, no bytes with these at their front are undecided behind messages
 stop_pending : {limits : Limits} → {σ τ υ : State} {y u : List ℕ} {es fs : List Event} (w rest : List ℕ) (k : ℕ)
-    → AllByRecursion IsSupportedEvent fs → Run limits σ y es τ → Run limits σ u fs υ → Pending limits rest k
+    → Run limits σ y es τ → Run limits σ u fs υ → Pending limits rest k
     → y ++ (eos ++ w) ≡ u ++ rest → ⊥
-stop_pending {limits} w rest k all done done p e = pending_not_end w k (subst (λ z. Pending limits z k) (sym e) p)
-stop_pending {limits} w rest k all (then {x = x} {metadata = m} {body = body} {y = y} {h = g} frame step run) done p e =
+stop_pending {limits} w rest k done done p e = pending_not_end w k (subst (λ z. Pending limits z k) (sym e) p)
+stop_pending {limits} w rest k (then {x = x} {metadata = m} {body = body} {y = y} {h = g} frame step run) done p e =
     pending_not_frame x m body (y ++ (eos ++ w)) g k frame
     (subst (λ z. Pending limits z k) (sym e ∙ append_assoc x y (eos ++ w)) p)
-stop_pending {limits} w rest k all done (then {x = x} {metadata = m} {body = body} {y = y} {h = g} frame step run) p e =
+stop_pending {limits} w rest k done (then {x = x} {metadata = m} {body = body} {y = y} {h = g} frame step run) p e =
     no_frame_at_end x m body (y ++ rest) w g frame (sym (append_assoc x y rest) ∙ sym e)
-stop_pending {limits} w rest k all
+stop_pending {limits} w rest k
     (then {σ = σ} {τ = τ} {x = x} {metadata = m} {body = body} {y = y} {h = g} {es = es} {fs = later} frame step run)
     (then {τ = τ'} {υ = υ'} {x = x'} {metadata = m'} {body = body'} {y = y'} {h = g'} {es = es'} {fs = later'} frame' step' run') p e =
     let same = frame_one x x' m m' body body' (y ++ (eos ++ w)) (y' ++ rest) g g' frame frame'
@@ -173,7 +169,7 @@ stop_pending {limits} w rest k all
     let other : Step limits σ g body es' τ' = subst (λ q. Step limits σ q body es' τ') (sym same.same_head)
     (subst (λ q. Step limits σ g' q es' τ') (sym same.same_body) step') in
     let one = step_one step other in
-    stop_pending w rest k (step_read later' step' all).1 run
+    stop_pending w rest k run
     (subst (λ q. Run limits q y' later' υ') (sym one.1) run') p same.same_rest
 
 module _ (d : Decoding) (x w left : List ℕ) (t : Table) (pieces : List (List ℕ)) (told : List Told) (h : HasVerdict d [] pieces told left)
@@ -188,7 +184,7 @@ module _ (d : Decoding) (x w left : List ℕ) (t : Table) (pieces : List (List �
 
   undecided : (k : ℕ) → left ≡ [] → Pending d.limits h.verdict.rest k → ⊥
   undecided k all p =
-      stop_pending w h.verdict.rest k h.verdict.reached.read run_told h.verdict.reached.run p
+      stop_pending w h.verdict.rest k run_told h.verdict.reached.run p
       (bytes ∙ ap (λ l. h.verdict.reached.whole ++ l) (ap (λ l. h.verdict.rest ++ l) all ∙ append-nil h.verdict.rest))
 
   told_mark : h.verdict.rest ≡ eos → (h.events ≡ events_of t) × (left ≡ w)

@@ -3,7 +3,6 @@ use Rattle.std.proofs.Common.{◌≡◌, ◌≢◌, ◌∙◌, refl, sym, ap, su
 use Rattle.std.proofs.Common.{None}
 use Rattle.std.specs.Io.KnownBytes.{IsAtEnd}
 use Rattle.std.specs.Prelude.{ℤ}
-use Rattle.std.specs.List.{AllByRecursion}
 use Rattle.std.proofs.lemmas.List.{append-nil}
 use Rattle.ipc_model.specs.declared.fault.Fault.{Fault}
 use Rattle.ipc_model.specs.declared.fault.Fault.TheVariants.{OutOfMemory}
@@ -12,7 +11,6 @@ use Rattle.ipc_model.specs.declared.value.Value.{Value}
 use Rattle.ipc_meta.specs.declared.head.Head.{Head}
 use Rattle.ipc_meta.specs.declared.head.Head.TheVariants as h
 use Rattle.ipc_meta.specs.declared.head.BatchHead.{BatchHead}
-use Rattle.ipc_meta.specs.Supported.{IsSupported}
 use Rattle.ipc_frame.specs.Frames.{Frame, Pending}
 use Rattle.ipc_frame.specs.Sees.{IsFrame, RefusesStart, StatesNoHead}
 use Rattle.ipc_frame.specs.Decisions.{RefusesNow}
@@ -32,7 +30,6 @@ use Rattle.ipc_decode.specs.Reasons.{Breaks, refused, truncated, aside, Refuses,
 use Rattle.ipc_decode.specs.Reasons.{no_rows}
 use Rattle.ipc_decode.proofs.Dictionaries.{names_none}
 use Rattle.ipc_decode.specs.Reasons.{IsOutside, IsNoSchema}
-use Rattle.ipc_decode.specs.Readable.{IsSupportedEvent}
 use Rattle.ipc_decode.proofs.OneReading.{IsStop, frame_stop, step_one}
 use Rattle.ipc_model.specs.declared.limits.Limits.{Limits}
 
@@ -85,7 +82,7 @@ stop_pending {limits} σ z k o (inr (c, is)) p (inr some) = pending_not_end c k 
 stop_refused : {limits : Limits} → (σ : State) (z b : List ℕ) (e : Fault) → σ ≢ None → IsStop (z ++ b) → Refuses limits σ z e → ⊥
 stop_refused {limits} σ z b e o s (early r) = stop_early limits z b s e r
 stop_refused {limits} σ z b e o s (no_schema fr q none is other) = o none
-stop_refused {limits} σ z b e o s (second_schema p t m body q is frame read) = stop_frame limits z b s m body (h.Schema t) frame
+stop_refused {limits} σ z b e o s (second_schema p t m body q is frame) = stop_frame limits z b s m body (h.Schema t) frame
 stop_refused {limits} σ z b e o s (dictionary p id d m body q is none frame) = stop_frame limits z b s m body (h.Dictionary id d) frame
 stop_refused {limits} σ z b e o s (no_values p id d columns m body is found frame refuses) =
     stop_frame limits z b s m body (h.Dictionary id d) frame
@@ -136,21 +133,14 @@ pub both_none : (es fs : List Event) → es ++ fs ≡ [] → (es ≡ []) × (fs 
 both_none [] fs h = (refl, h)
 both_none (e ∷ es) fs h = absurd (cc)
 
--- where all schemas that a run tells are of types that are read, so is its first head
-pub step_read : {limits : Limits} → {σ τ : State} {g : Head} {body : List ℕ} {es : List Event} (fs : List Event) → Step limits σ g body es τ
-    → AllByRecursion IsSupportedEvent (es ++ fs) → IsSupported g × AllByRecursion IsSupportedEvent fs
-step_read fs first all = (all.0, all.1)
-step_read fs (came r) all = (tt, all.1)
-step_read fs (sets found r) all = (tt, all)
-
 -- a message x and what follows are the bytes z that were taken and those that are left
 module _ {limits : Limits} (σ τ : State) (x m body u z b : List ℕ) (g : Head) (es : List Event) (frame : Frame limits x m g body) (step :
     Step limits σ g body es τ)
-    (read : IsSupported g) (joined : x ++ u ≡ z ++ b) where
+    (joined : x ++ u ≡ z ++ b) where
   message_early : (e : Fault) → RefusesNow limits z e → ⊥
   message_early e (inl r) = start_not_frame x m body u g e frame (subst (λ y. RefusesStart limits y e) (sym joined) (start_longer limits z
       b e r.0))
-  message_early e (inr r) = no_head_not_frame x m body u g e frame read
+  message_early e (inr r) = no_head_not_frame x m body u g e frame
       (subst (λ y. StatesNoHead limits y e) (sym joined) (no_head_longer z b e r.0))
 
   same_frame : (k : Head) (l other : List ℕ) → Frame limits z l k other → SameFrame x z body other u b g k
@@ -170,7 +160,7 @@ module _ {limits : Limits} (σ τ : State) (x m body u z b : List ℕ) (g : Head
   pub message_refused : (e : Fault) → Refuses limits σ z e → e ≡ OutOfMemory
   message_refused e (early r) = absurd (message_early e r)
   message_refused e (no_schema fr q none is other) = absurd (message_schema fr none is other)
-  message_refused e (second_schema o s l c q is k read) = absurd (message_steps (h.Schema s) l c o is k)
+  message_refused e (second_schema o s l c q is k) = absurd (message_steps (h.Schema s) l c o is k)
   message_refused e (dictionary o id d l c q is none k) =
       let b = message_steps (h.Dictionary id d) l c o is k in
       absurd (names_none o.schema id b.0 none b.2)
@@ -193,16 +183,15 @@ module _ {limits : Limits} (σ τ : State) (x m body u z b : List ℕ) (g : Head
 
 -- two readings of the same bytes: one to where a run may stop, the other to where it breaks off
 pub run_breaks : {limits : Limits} → {σ τ υ : State} {x y : List ℕ} {es fs : List Event} (a z b : List ℕ) (e : Fault)
-    → AllByRecursion IsSupportedEvent es
     → Run limits σ x es τ → Run limits σ y fs υ → τ ≢ None → IsStop a → Breaks limits υ z (Some b) e → x ++ a ≡ y ++ (z ++ b) → IsOutside e
-run_breaks {limits} {σ = σ} a z b e all done done o s r eq = stop_breaks σ z b e o (subst IsStop eq s) r
-run_breaks {limits} a z b e all done (more {x = x} {metadata = m} {body = body} {y = y} {h = g} frame step rest) o s r eq =
+run_breaks {limits} {σ = σ} a z b e done done o s r eq = stop_breaks σ z b e o (subst IsStop eq s) r
+run_breaks {limits} a z b e done (more {x = x} {metadata = m} {body = body} {y = y} {h = g} frame step rest) o s r eq =
     absurd (frame_stop x m body (y ++ (z ++ b)) a g frame (sym (append_assoc x y (z ++ b)) ∙ sym eq) s)
-run_breaks {limits} {σ = σ} a z b e all (more {τ = τ} {x = x} {metadata = m} {body = body} {y = y} {h = g} {es = es} {fs =
+run_breaks {limits} {σ = σ} a z b e (more {τ = τ} {x = x} {metadata = m} {body = body} {y = y} {h = g} {es = es} {fs =
     gs} frame step rest) done
     o s r eq =
-    message_breaks σ τ x m body (y ++ a) z b g es frame step (step_read gs step all).0 (sym (append_assoc x y a) ∙ eq) e r
-run_breaks {limits} a z b e all (more {σ = σ} {τ = τ} {υ = υ} {x = x} {metadata = m} {body = body} {y = y} {h = g} {es = es}
+    message_breaks σ τ x m body (y ++ a) z b g es frame step (sym (append_assoc x y a) ∙ eq) e r
+run_breaks {limits} a z b e (more {σ = σ} {τ = τ} {υ = υ} {x = x} {metadata = m} {body = body} {y = y} {h = g} {es = es}
     {fs = fs} frame step rest) (more {τ = τ'} {υ = υ'} {x = x'} {metadata = m'} {body = body'} {y = y'} {h = g'} {es = es'}
     {fs = fs'} frame' step' rest') o s r eq =
     let same = frame_one x x' m m' body body' (y ++ a) (y' ++ (z ++ b)) g g' frame frame'
@@ -210,17 +199,16 @@ run_breaks {limits} a z b e all (more {σ = σ} {τ = τ} {υ = υ} {x = x} {met
     let other : Step limits σ g body es' τ' = subst (λ q. Step limits σ q body es' τ') (sym same.same_head)
     (subst (λ q. Step limits σ g' q es' τ') (sym same.same_body) step') in
     let one = step_one step other in
-    run_breaks a z b e (step_read fs step all).1 rest (subst (λ q. Run limits q y' fs' υ') (sym one.1) rest') o s r same.same_rest
+    run_breaks a z b e rest (subst (λ q. Run limits q y' fs' υ') (sym one.1) rest') o s r same.same_rest
 
 -- two readings of the same bytes: one tells something, and the other tells nothing and breaks off
 pub told_breaks : {limits : Limits} → {σ τ υ : State} {x y : List ℕ} {es fs : List Event} (u z b : List ℕ) (e : Fault)
-    → AllByRecursion IsSupportedEvent es
     → Run limits σ x es τ → es ≢ [] → Run limits σ y fs υ → fs ≡ [] → Breaks limits υ z (Some b) e → x ++ u ≡ y ++ (z ++ b) → IsOutside e
-told_breaks u z b e all done some q none r eq = absurd (some refl)
-told_breaks {limits} {σ = σ} u z b e all (more {τ = τ} {x = x} {metadata = m} {body = body} {y = y} {h = g} {es = es} {fs =
+told_breaks u z b e done some q none r eq = absurd (some refl)
+told_breaks {limits} {σ = σ} u z b e (more {τ = τ} {x = x} {metadata = m} {body = body} {y = y} {h = g} {es = es} {fs =
     gs} frame step rest) some done none r eq =
-    message_breaks σ τ x m body (y ++ u) z b g es frame step (step_read gs step all).0 (sym (append_assoc x y u) ∙ eq) e r
-told_breaks {limits} u z b e all (more {σ = σ} {τ = τ} {υ = υ} {x = x} {metadata = m} {body = body} {y = y} {h = g} {es = es}
+    message_breaks σ τ x m body (y ++ u) z b g es frame step (sym (append_assoc x y u) ∙ eq) e r
+told_breaks {limits} u z b e (more {σ = σ} {τ = τ} {υ = υ} {x = x} {metadata = m} {body = body} {y = y} {h = g} {es = es}
     {fs = fs} frame step rest) some (more {τ = τ'} {υ = υ'} {x = x'} {metadata = m'} {body = body'} {y = y'} {h = g'} {es = es'}
     {fs = fs'} frame' step' rest') none r eq =
     let same = frame_one x x' m m' body body' (y ++ u) (y' ++ (z ++ b)) g g' frame frame'
@@ -229,5 +217,5 @@ told_breaks {limits} u z b e all (more {σ = σ} {τ = τ} {υ = υ} {x = x} {me
     (subst (λ q. Step limits σ g' q es' τ') (sym same.same_body) step') in
     let one = step_one step other in
     let parts = both_none es' fs' none in
-    told_breaks u z b e (step_read fs step all).1 rest (λ n. some (ap (λ l. l ++ fs) (one.0 ∙ parts.0) ∙ n))
+    told_breaks u z b e rest (λ n. some (ap (λ l. l ++ fs) (one.0 ∙ parts.0) ∙ n))
     (subst (λ q. Run limits q y' fs' υ') (sym one.1) rest') parts.1 r same.same_rest

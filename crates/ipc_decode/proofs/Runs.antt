@@ -71,7 +71,7 @@ told_run {limits} σ τ x e t =
 
 pub told_reached : {limits : Limits} → (σ τ : State) (x : List ℕ) (e : Event) → TellsLast limits σ x e τ
     → Reached limits σ x (e ∷ []) τ []
-told_reached σ τ x e t = record { whole = x; joined = sym (append-nil x); run = told_run σ τ x e t; read = (t.read, tt) }
+told_reached σ τ x e t = record { whole = x; joined = sym (append-nil x); run = told_run σ τ x e t }
 
 -- more messages that tell nothing before them
 pub last_after : {limits : Limits} → (σ τ υ : State) (x y : List ℕ) (e : Event) → Run limits σ x [] τ → TellsLast limits τ y e υ
@@ -83,7 +83,6 @@ last_after σ τ υ x y e r t = record {
   between = t.between;
   run = run_then σ τ t.between x t.silent [] [] r t.run;
   told = t.told;
-  read = t.read;
 }
 
 pub messages_after : {limits : Limits} → (σ τ υ : State) (x y : List ℕ) (e : Event) (r : Run limits σ x [] τ)

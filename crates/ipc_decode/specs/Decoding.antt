@@ -18,7 +18,6 @@ use Rattle.ipc_decode.specs.declared.event.Event.{Event as Told}
 use Rattle.ipc_decode.specs.declared.event.Event.TheVariants as told
 use Rattle.ipc_decode.specs.Counts.{count_up, messages_in}
 use Rattle.ipc_decode.specs.Found.{rows_of}
-use Rattle.ipc_decode.specs.Readable.{IsSupportedEvent}
 use Rattle.ipc_decode.specs.Stream.{State, Event, schema, batch, Run, IsMessage}
 use Rattle.ipc_decode.specs.Verdicts.{Decision, Reached, Reason}
 
@@ -53,7 +52,6 @@ pub record TellsLast (limits : Limits) (σ : State) (x : List ℕ) (event : Even
   pub between : State
   pub run : Run limits σ silent [] between
   pub told : IsMessage limits between message (event ∷ []) τ
-  pub read : IsSupportedEvent event
 
 -- and they lead a decoder from what it was to what it is behind that message
 pub record TellsOne (old new : Decoding) (x : List ℕ) (event : Event) : Type 0 where

@@ -1,7 +1,6 @@
 pub mod Failures
 pub mod Stream
 pub mod Found
-pub mod Readable
 pub mod Counts
 pub mod Reasons
 pub mod Verdicts

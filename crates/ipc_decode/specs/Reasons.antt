@@ -13,7 +13,6 @@ use Rattle.ipc_model.specs.declared.schema.Field.{Field}
 use Rattle.ipc_model.specs.declared.schema.Schema.{Schema}
 use Rattle.ipc_meta.specs.declared.head.BatchHead.{BatchHead}
 use Rattle.ipc_meta.specs.declared.head.Head.TheVariants as h
-use Rattle.ipc_meta.specs.Supported.{IsSupported}
 use Rattle.ipc_frame.specs.declared.frame.Frame.{Frame as Framed}
 use Rattle.ipc_frame.specs.declared.frame.Frame.TheVariants as f
 use Rattle.ipc_frame.specs.Frames.{eos, Frame, Pending}
@@ -48,7 +47,7 @@ pub data Refuses (limits : Limits) (σ : State) (z : List ℕ) (fault : Fault) :
   no_schema : (frame : Framed) → fault ≡ MissingSchema → σ ≡ None → IsFrame limits z frame
       → IsNoSchema frame → Refuses limits σ z fault
   second_schema : (o : InForce) (s : Schema) (metadata body : List ℕ) → fault ≡ SecondSchema
-      → σ ≡ Some o → Frame limits z metadata (h.Schema s) body → IsSupported (h.Schema s)
+      → σ ≡ Some o → Frame limits z metadata (h.Schema s) body
       → Refuses limits σ z fault
   dictionary : (o : InForce) (id : ℤ) (b : BatchHead) (metadata body : List ℕ)
       → fault ≡ UnknownDictionary → σ ≡ Some o → NamesNone id o.schema

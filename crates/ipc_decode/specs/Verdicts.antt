@@ -1,15 +1,12 @@
 -- What is known of the beginning of a stream, however it was cut (Arrow Columnar Format, "IPC
 -- Streaming Format" and "Encapsulated message format").
 use Rattle.std.specs.Prelude.{◌≡◌, ◌≢◌, ℕ, ◌+◌, List, ◌++◌, length, None}
-use Rattle.std.specs.List.{AllByRecursion}
 use Rattle.ipc_model.specs.declared.fault.Fault.{Fault}
 use Rattle.ipc_model.specs.declared.fault.Fault.TheVariants.{OutOfMemory}
 use Rattle.ipc_model.specs.declared.limits.Limits.{Limits}
 use Rattle.ipc_meta.specs.declared.head.Head.{Head}
-use Rattle.ipc_meta.specs.Supported.{IsSupported}
 use Rattle.ipc_frame.specs.Frames.{eos, Frame, Pending}
 use Rattle.ipc_frame.specs.Sees.{StatesNoHead}
-use Rattle.ipc_decode.specs.Readable.{IsSupportedEvent}
 use Rattle.ipc_decode.specs.Reasons.{Refuses}
 use Rattle.ipc_decode.specs.Stream.{State, Event, Run}
 
@@ -22,14 +19,14 @@ pub data Decision : Type 0 where
   at_body : Decision
 
 -- the message z ends where this decision about it falls: at four bytes, at eight, where its
--- metadata is whole and states no head that is read, or where its body is whole
+-- metadata is whole and states no head, or where its body is whole
 abbrev pub FallsAt : Limits → List ℕ → Decision → Type 0
 FallsAt limits z at_mark = length z ≡ 4
 FallsAt limits z at_size = length z ≡ 8
 FallsAt limits z at_metadata =
     (fault : Fault) × (s : StatesNoHead limits z fault) × (length z ≡ 8 + s.size)
 FallsAt limits z at_body = (metadata body : List ℕ) × (head : Head)
-    × Frame limits z metadata head body × IsSupported head
+    × Frame limits z metadata head body
 
 -- the message z is refused in this state for this fault, whose cause is true of it, and it ends
 -- where this decision falls
@@ -56,10 +53,8 @@ pub record Reached (limits : Limits) (σ : State) (x : List ℕ) (events : List 
   pub whole : List ℕ
   pub joined : x ≡ whole ++ z
   pub run : Run limits σ whole events τ
-  pub read : AllByRecursion IsSupportedEvent events
 
--- the verdict about the bytes x in this state: whole messages, of types that are read, and what is
--- behind them
+-- the verdict about the bytes x in this state: whole messages, and what is behind them
 pub record Verdict (limits : Limits) (σ : State) (x : List ℕ) (events : List Event)
     (out : Out) : Type 0 where
   pub state : State

@@ -2,7 +2,6 @@ ghost use Rattle.std.specs.Prelude.{◌≡◌, ◌≢◌, ◌≤◌, ◌-◌, �
 ghost use Rattle.std.specs.Prelude.{IfOk, IfErr, IfSome, IsSome, MatchResult, length, true};
 ghost use Rattle.ipc_model.specs.declared.schema.Schema.{Schema};
 ghost use Rattle.ipc_model.specs.declared.table.BatchRows.{BatchRows};
-ghost use Rattle.ipc_meta.specs.Supported.{are_supported};
 ghost use Rattle.ipc_decode.specs.declared.end.End.{End};
 ghost use Rattle.ipc_decode.specs.Failures.{StaysOrFails, Tells};
 ghost use Rattle.ipc_decode.specs.Reader.{BeginsEnd, GivesBatch, NextCall, Opens, OpenFails};
@@ -93,9 +92,9 @@ impl<R: Source> StreamReader<R> {
         ensures failures { MatchResult result (λ s. (R.failures source ≡ 0) × (s.failures ≡ 0))
             (λ e. Tells (R.failures source) (R.failures e.1) e.0) }
         ensures fewer { IfOk result (λ s. s.bound < R.bound source) }
-        // The message of a schema of types that are read, at the front of the source, is read,
-        // whatever follows it, unless memory runs out or the source fails.
-        ensures schema { (x rest : List ℕ) (s : Schema) → are_supported s.fields ≡ true
+        // The message of a schema, at the front of the source, is read, whatever follows it, unless
+        // memory runs out or the source fails.
+        ensures schema { (x rest : List ℕ) (s : Schema)
             → R.remaining source ≡ Some (x ++ rest) → OpensStream limits s x
             → MatchResult result (λ reader. reader.schema ≡ s) (λ e. IsOutside e.0) }
     {

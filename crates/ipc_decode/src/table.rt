@@ -2,7 +2,6 @@ ghost use Rattle.std.specs.Prelude.{◌≡◌, ◌≢◌, ◌≤◌, ◌-◌, �
 ghost use Rattle.std.specs.Prelude.{IfErr, IfOk, MatchResult, None, OnOk, Some, true};
 ghost use Rattle.std.specs.Io.KnownBytes.{Consumes, IsAtEnd};
 ghost use Rattle.ipc_model.specs.declared.table.Table.{Table};
-ghost use Rattle.ipc_meta.specs.Supported.{are_supported};
 ghost use Rattle.ipc_decode.specs.declared.end.End.TheVariants.{Closed, Mark};
 ghost use Rattle.ipc_decode.specs.Failures.{FailsAs};
 ghost use Rattle.ipc_decode.specs.Found.{rows_of};
@@ -98,15 +97,15 @@ pub fn read_table<R: Source>(
         × Consumes (R.remaining source.old) (R.remaining source.new) x
         × Denotes limits.now x a.0 a.1
         × (a.1 ≡ Closed → IsAtEnd (R.remaining source.new))) }
-    // A table of types that are read, with its mark, is answered, whatever follows, unless memory
-    // runs out or the source fails.
-    ensures marked { (x rest : List ℕ) (t : Table) → are_supported t.schema.fields ≡ true
+    // A table with its mark is answered, whatever follows, unless memory runs out or the source
+    // fails.
+    ensures marked { (x rest : List ℕ) (t : Table)
         → R.remaining source.old ≡ Some (x ++ rest) → Denotes limits.now x t Mark
         → R.failures source.new ≡ 0
         → MatchResult result (λ a. (a.0 ≡ t) × (a.1 ≡ Mark)) (λ fault. fault ≡ Fault.OutOfMemory) }
     // One without a mark is answered where nothing follows, unless memory runs out or the source
     // fails.
-    ensures closed { (x : List ℕ) (t : Table) → are_supported t.schema.fields ≡ true
+    ensures closed { (x : List ℕ) (t : Table)
         → R.remaining source.old ≡ Some x → Denotes limits.now x t Closed
         → R.failures source.new ≡ 0
         → MatchResult result (λ a. (a.0 ≡ t) × (a.1 ≡ Closed))

@@ -8,3 +8,13 @@ pub mod Ids
 pub mod Rows
 pub mod Places
 pub mod SchemaEntries
+pub mod EntryColumns
+pub mod DictionaryColumns
+pub mod UniqueIds
+pub mod Sending
+pub mod CoveredIndices
+pub mod CoveredColumns
+pub mod Covered
+pub mod PairsFitEntries
+pub mod PairsFit
+pub mod ShortMessages

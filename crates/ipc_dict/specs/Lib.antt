@@ -7,3 +7,6 @@ pub mod Planned
 pub mod SchemaIds
 pub mod Counted
 pub mod SchemaEntries
+pub mod Within
+pub mod EntryColumns
+pub mod Sending

@@ -1,5 +1,5 @@
 //! The distinct values of one dictionary.
-ghost use Rattle.std.specs.Prelude.{◌≡◌, [], not, length, take, IfOk, OnOk, OnErr};
+ghost use Rattle.std.specs.Prelude.{◌≡◌, [], not, length, take, drop, IfOk, OnOk, OnErr};
 ghost use Rattle.ipc_dict.specs.Distinct.{same, is_seen, seen, place};
 
 use indexmap::IndexSet;
@@ -62,6 +62,13 @@ impl DistinctValues {
         ensures { result.now ≡ self.now }
     {
         self.values.as_slice()
+    }
+
+    /// The values behind the first `len`.
+    pub(crate) fn since(&self, len: usize) -> &[Value]
+        ensures { result.now ≡ drop len self.now }
+    {
+        self.values.as_slice().get(len..).unwrap_or(&[])
     }
 
     /// Puts a copy of the value last, unless it is there. Answers whether it was new.

@@ -4,9 +4,11 @@
 //! A dictionary is replaced whole, and fields with one id share it.
 #![tactic(auto)]
 
+mod columns;
 mod distinct;
 mod entry;
 mod kept;
+mod messages;
 mod plan;
 mod schema_ids;
 mod settle;
@@ -17,6 +19,7 @@ pub use distinct::DistinctValues;
 pub use entry::TallyEntry;
 pub use ipc_dictionaries::{Dictionaries, one_column};
 pub use kept::{Kept, KeptEntry};
+pub use messages::has_short_messages;
 pub use plan::Plan;
 pub use schema_ids::entries_of_schema;
 pub use tally::{Tally, holds_distinct, keeps_places, places_all};

@@ -6,13 +6,14 @@ ghost use Rattle.ipc_dict.specs.Counted.{HoldsRows};
 ghost use Rattle.ipc_dict.specs.Noting.{note_all, AllFit, IsFull};
 ghost use Rattle.ipc_dict.specs.Pairs.{rows_pairs};
 ghost use Rattle.ipc_dict.specs.SchemaIds.{kept_ids, tally_ids, ids_of, unused};
+ghost use Rattle.ipc_dict.specs.Within.{AllWithin, IsOfLimits, IsOverLimit};
 
 use crate::entry::TallyEntry;
 use crate::kept::Kept;
 use crate::settle::{commit, index_of, number_of_index};
 use crate::tally::Tally;
 use ipc_encode::{IndexOf, Renumber};
-use ipc_model::{Items, Row, Schema, Value, WriteFault};
+use ipc_model::{Items, Limits, Row, Schema, Value, WriteFault};
 use std::alloc::Global;
 use std::marker::Model;
 
@@ -55,10 +56,13 @@ impl Plan {
     /// appearance: rows in their order, in a row from left to right, depth first.
     ///
     /// Refused with W7 `DictionaryFull` exactly where these are more than some index type of the
-    /// dictionary's fields can count; with W11 `OutOfMemory` where they or the lists of the plan
-    /// find no room.
+    /// dictionary's fields can count; with W8 `TooManyRows` where they are more than
+    /// `limits.slots`, and with W6 `TooLong` where as the one column of their message they have
+    /// more data than offsets reach, or more than `limits.body` bytes (Arrow Columnar Format,
+    /// "Array lengths"); with W11 `OutOfMemory` where they or the lists of the plan find no room.
     pub fn for_rows(
         alloc: Global,
+        limits: &Limits,
         schema: &Schema,
         kept: &Kept,
         rows: &[Row],
@@ -81,14 +85,21 @@ impl Plan {
         ensures ids { IfOk result (λ plan. tally_ids plan.entries ≡ ids_of schema.now.fields) }
         // No dictionary has more values than its index types count.
         ensures fits { IfOk result (λ plan. AllFit plan.entries) }
+        // Each is within the limits, as the one column of its message.
+        ensures within { IfOk result
+            (λ plan. AllWithin limits.now schema.now.fields plan.entries) }
         // At W7 one would have more.
         ensures full { IfErr result (λ fault. fault ≡ WriteFault.DictionaryFull
             → IsFull (note_all (unused schema.now.fields)
             (rows_pairs schema.now.fields rows.now))) }
-        ensures only { IfErr result (λ fault. (fault ≡ WriteFault.DictionaryFull)
-            ⊎ (fault ≡ WriteFault.OutOfMemory)) }
+        // At W6 and W8 one would be longer than the limits allow.
+        ensures over { IfErr result (λ fault. IsOfLimits fault
+            → IsOverLimit limits.now schema.now.fields (note_all (unused schema.now.fields)
+            (rows_pairs schema.now.fields rows.now)) fault) }
+        ensures only { IfErr result (λ fault. ((fault ≡ WriteFault.DictionaryFull)
+            ⊎ IsOfLimits fault) ⊎ (fault ≡ WriteFault.OutOfMemory)) }
     {
-        let mut tally = Tally::new(alloc, schema)?;
+        let mut tally = Tally::new(alloc, limits, schema)?;
         for row in rows {
             tally.note(row.as_slice())?;
         }
@@ -106,11 +117,11 @@ impl Plan {
     /// Brings what was sent up to date: the dictionaries that the plan sends take the place of
     /// those before. It takes no memory.
     ///
-    /// The caller has what the plan was made with.
-    #[tactic(auto, using(crate::proofs::Ids::same_length))]
+    /// The caller has what the plan was made with. What has another number of dictionaries stays as
+    /// it was.
     pub fn commit(self, kept: &mut Kept)
-        requires { kept_ids kept.old ≡ tally_ids self.entries }
-        ensures after { kept.new ≡ after_all kept.old self.entries self.numbers }
+        ensures after { kept_ids kept.old ≡ tally_ids self.entries
+            → kept.new ≡ after_all kept.old self.entries self.numbers }
         ensures ids { kept_ids kept.new ≡ kept_ids kept.old }
     {
         let Plan {
@@ -119,6 +130,9 @@ impl Plan {
             ..
         } = self;
         let mut entries = entries;
+        if kept.entries.len() != entries.len() {
+            return;
+        }
         commit(
             *numbers.allocator(),
             &mut entries,

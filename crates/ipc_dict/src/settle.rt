@@ -15,17 +15,18 @@ use std::alloc::{AllocError, Global};
 use std::mem;
 
 // What a batch with these values does with each dictionary.
-#[tactic(auto, using(crate::proofs::Ids::same_length))]
 pub(crate) fn settle(
     alloc: Global,
     kept: &[KeptEntry],
     entries: Vec<TallyEntry>,
 ) -> Result<Plan, AllocError>
-    requires { kept_ids kept.now ≡ tally_ids entries.items }
+    requires { length kept.now ≡ length entries.items }
     ensures entries { IfOk result (λ plan. plan.entries ≡ entries.items) }
     ensures settled { IfOk result (λ plan. AllSettled kept.now entries.items plan.numbers) }
-    ensures finds { IfOk result (λ plan. FindsAll kept.now entries.items plan.numbers) }
-    ensures finds_noted { IfOk result (λ plan. FindsNoted kept.now entries.items plan.numbers) }
+    ensures finds { kept_ids kept.now ≡ tally_ids entries.items
+        → IfOk result (λ plan. FindsAll kept.now entries.items plan.numbers) }
+    ensures finds_noted { kept_ids kept.now ≡ tally_ids entries.items
+        → IfOk result (λ plan. FindsNoted kept.now entries.items plan.numbers) }
     ensures knows { IfOk result (λ plan. KnowsAll entries.items plan.numbers) }
 {
     let numbers = settle_all(alloc, kept, &entries)?;

@@ -1,11 +1,15 @@
 //! A batch's distinct values, row by row.
+ghost use Rattle.std.specs.Prelude.{◌↔◌, [], IsTrue};
 ghost use Rattle.std.specs.Prelude.{◌≡◌, true, false, length, IfOk, IfErr, OnOk, OnErr, ◌⊎◌, Err};
 ghost use Rattle.ipc_dict.specs.Noting.{note_all, AllFit, IsFull, HoldsDistinct, lens, cut};
-ghost use Rattle.ipc_dict.specs.Noting.{KeepsPlaces, PlacesAll};
+ghost use Rattle.ipc_dict.specs.Noting.{AllGrow, KeepsPlaces, PlacesAll};
 ghost use Rattle.ipc_dict.specs.Pairs.{row_pairs};
 ghost use Rattle.ipc_dict.specs.SchemaIds.{unused, kept_ids, tally_ids};
 ghost use Rattle.ipc_dict.specs.Planning.{AllSettled, FindsAll, FindsNoted, KnowsAll};
+ghost use Rattle.ipc_dict.specs.EntryColumns.{AreCounted};
+ghost use Rattle.ipc_dict.specs.Within.{AllWithin, IsOfLimits, IsOverLimit};
 
+use crate::columns::EntryColumns;
 use crate::entry::{TallyEntry, place_in};
 use crate::kept::Kept;
 use crate::plan::Plan;
@@ -13,7 +17,7 @@ use crate::schema_ids::unused_entries;
 use crate::settle::settle;
 use crate::walk::note_each;
 use ipc_encode::IndexOf;
-use ipc_model::{Field, Items, Schema, Value, WriteFault};
+use ipc_model::{Field, Items, Limits, Schema, Value, WriteFault};
 use std::alloc::{AllocError, Global};
 use std::marker::Model;
 
@@ -26,51 +30,69 @@ pub struct Tally {
     entries: Vec<TallyEntry>,
     // How many values each dictionary had before the row.
     marks: Vec<usize>,
+    // Each dictionary's values as the one column of its message.
+    columns: EntryColumns,
     failed: bool,
 }
 
 impl Model for Tally {
     ghost use Rattle.std.specs.Prelude.{◌≡◌, length};
     ghost use Rattle.std.specs.Coded.{codes};
+    ghost use Rattle.ipc_model.specs.contracts.limits.Limits as limits;
     ghost use Rattle.ipc_model.specs.contracts.schema.Field as field;
     ghost use Rattle.ipc_dict.specs.contracts.entry.TallyEntry as entry;
     ghost use Rattle.ipc_dict.specs.Tallied.{Tallied};
     ghost use Rattle.ipc_dict.specs.Noting.{AllFit};
+    ghost use Rattle.ipc_dict.specs.EntryColumns.{AreCounted};
 
     ghost Value = { Tallied };
 
-    ghost coded = { Prim.hlevel (codes, field.the_row.coded, entry.the_row.coded) };
+    ghost coded = { Prim.hlevel
+        (codes, limits.the_row.coded, field.the_row.coded, entry.the_row.coded) };
 
     ghost view = { λ t. record {
       failed = t.failed;
+      limits = t.columns.limits;
       fields = t.fields;
       entries = t.entries.items;
     } };
 
     ghost invariant = { λ t. (length t.marks.items ≡ length t.entries.items)
-        × AllFit t.entries.items };
+        × (AllFit t.entries.items × AreCounted t.fields t.entries.items t.columns) };
 }
 
 impl Tally {
     /// No row yet: an entry without values for each id that the schema's fields name. An id may
-    /// have as many values as the index type that counts the fewest among its fields'.
+    /// have as many values as the index type that counts the fewest among its fields', and as the
+    /// limits allow the one column of its message (Arrow Columnar Format, "Dictionary Messages").
     ///
-    /// The fields are copied. Refused with `OutOfMemory` where they or the entries find no room.
-    pub fn new(alloc: Global, schema: &Schema) -> Result<Tally, WriteFault>
+    /// The fields are copied. Refused with W6 `TooLong` where even the column of no values is
+    /// longer than `limits.body` bytes: a binary or UTF-8 column has one offset; with W11
+    /// `OutOfMemory` where the fields, the entries or their columns find no room.
+    pub fn new(alloc: Global, limits: &Limits, schema: &Schema) -> Result<Tally, WriteFault>
         ensures fresh { IfOk result (λ tally. tally ≡ record {
           failed = false;
+          limits = limits.now;
           fields = schema.now.fields;
           entries = unused schema.now.fields;
         }) }
-        ensures memory { IfErr result (λ fault. fault ≡ WriteFault.OutOfMemory) }
+        ensures within { IfOk result
+            (λ tally. AllWithin limits.now schema.now.fields tally.entries) }
+        // At W6 the column of no values of a dictionary is too long.
+        ensures over { IfErr result (λ fault. fault ≡ WriteFault.TooLong
+            → IsOverLimit limits.now schema.now.fields (unused schema.now.fields) fault) }
+        ensures only { IfErr result
+            (λ fault. (fault ≡ WriteFault.TooLong) ⊎ (fault ≡ WriteFault.OutOfMemory)) }
     {
         let fields = schema.fields.clone()?;
-        let entries = unused_entries(alloc, fields.as_slice())?;
+        let entries = unused_entries(alloc, schema.fields.as_slice())?;
         let marks = marks_for(alloc, &entries)?;
+        let columns = EntryColumns::new(alloc, limits, schema, &entries)?;
         Ok(Tally {
             fields,
             entries,
             marks,
+            columns,
             failed: false,
         })
     }
@@ -79,18 +101,27 @@ impl Tally {
     /// is known already takes no memory.
     ///
     /// Refused with W7 `DictionaryFull` exactly where a dictionary would have more distinct values
-    /// than an index type of its fields can count, and then the tally is as before the row; with
-    /// W11 `OutOfMemory` where a value finds no room, and from then on with W10 `Failed`.
+    /// than an index type of its fields can count; with W8 `TooManyRows` where they would be more
+    /// than `limits.slots`, and with W6 `TooLong` where as the one column of their message they
+    /// would have more data than offsets reach, or more than `limits.body` bytes (Arrow Columnar
+    /// Format, "Array lengths"). Then the tally is as before the row. Refused with W11
+    /// `OutOfMemory` where a value finds no room, and from then on with W10 `Failed`.
     pub fn note(&mut self, row: &[Value]) -> Result<(), WriteFault>
         ensures noted { OnOk result (self.new ≡ record self.old {
           entries = note_all self.old.entries (row_pairs self.old.fields row.now);
         }) }
         ensures ids { tally_ids self.new.entries ≡ tally_ids self.old.entries }
         ensures fits { AllFit self.new.entries }
+        ensures within { AllWithin self.new.limits self.new.fields self.new.entries }
         ensures unchanged { IfErr result
             (λ fault. fault ≡ WriteFault.DictionaryFull → self.new ≡ self.old) }
+        ensures as_before { IfErr result (λ fault. IsOfLimits fault → self.new ≡ self.old) }
         ensures full { IfErr result (λ fault. fault ≡ WriteFault.DictionaryFull
             → IsFull (note_all self.old.entries (row_pairs self.old.fields row.now))) }
+        // At W6 and W8 a dictionary's column would be longer than the limits allow.
+        ensures over { IfErr result (λ fault. IsOfLimits fault
+            → IsOverLimit self.old.limits self.old.fields
+            (note_all self.old.entries (row_pairs self.old.fields row.now)) fault) }
         ensures failed { IfErr result
             (λ fault. fault ≡ WriteFault.OutOfMemory → self.new.failed ≡ true) }
         // A tally that has failed counts no row.
@@ -98,14 +129,16 @@ impl Tally {
         ensures still_failed { self.old.failed ≡ true → self.new.failed ≡ true }
         ensures before { IfErr result
             (λ fault. fault ≡ WriteFault.Failed → self.old.failed ≡ true) }
-        ensures only { IfErr result (λ fault. (fault ≡ WriteFault.DictionaryFull)
+        ensures only { IfErr result (λ fault. ((fault ≡ WriteFault.DictionaryFull)
+            ⊎ IsOfLimits fault)
             ⊎ ((fault ≡ WriteFault.OutOfMemory) ⊎ (fault ≡ WriteFault.Failed))) }
     {
         if self.failed {
             return Err(WriteFault::Failed);
         }
         let fields = self.fields.as_slice();
-        if let Err(fault) = note_row(&mut self.entries, &mut self.marks, fields, row) {
+        let (entries, columns) = (&mut self.entries, &mut self.columns);
+        if let Err(fault) = note_row(entries, &mut self.marks, columns, fields, row) {
             self.failed = matches!(fault, WriteFault::OutOfMemory);
             return Err(fault);
         }
@@ -119,33 +152,46 @@ impl Tally {
     /// The caller has the `Kept` of a writer of the same schema. A dictionary is sent exactly where
     /// it has not been or lacks a value of the batch, and then holds exactly the batch's distinct
     /// values in order of first appearance. Refused with W11 `OutOfMemory` where the lists of the
-    /// plan find no room, and with W10 `Failed` where the tally has failed.
+    /// plan find no room, and with W10 `Failed` where the tally has failed, or `kept` has another
+    /// number of dictionaries, as that of no writer of the schema has.
     pub fn settle(self, alloc: Global, kept: &Kept) -> Result<Plan, WriteFault>
-        requires { kept_ids kept.now ≡ tally_ids self.entries }
         ensures entries { IfOk result (λ plan. plan.entries ≡ self.entries) }
+        // Each dictionary is within the limits, as the one column of its message.
+        ensures within { IfOk result (λ plan. AllWithin self.limits self.fields plan.entries) }
         // Each is sent where it has not been or lacks a value, and nowhere else.
         ensures settled { IfOk result (λ plan. AllSettled kept.now self.entries plan.numbers) }
         // Each index finds its value in what was sent once the batch was.
-        ensures finds { IfOk result (λ plan. FindsAll kept.now self.entries plan.numbers) }
+        ensures finds { kept_ids kept.now ≡ tally_ids self.entries
+            → IfOk result (λ plan. FindsAll kept.now self.entries plan.numbers) }
         // So does each place that the tally gave, under the plan's number for it.
-        ensures finds_noted { IfOk result
-            (λ plan. FindsNoted kept.now self.entries plan.numbers) }
+        ensures finds_noted { kept_ids kept.now ≡ tally_ids self.entries
+            → IfOk result (λ plan. FindsNoted kept.now self.entries plan.numbers) }
         // Each value of the batch has an index.
         ensures knows { IfOk result (λ plan. KnowsAll self.entries plan.numbers) }
         // A tally that has failed gives no plan.
         ensures refused { self.failed ≡ true → result ≡ Err WriteFault.Failed }
-        ensures failed { IfErr result (λ fault. (fault ≡ WriteFault.OutOfMemory)
+        ensures failed { kept_ids kept.now ≡ tally_ids self.entries
+            → IfErr result (λ fault. (fault ≡ WriteFault.OutOfMemory)
             ⊎ ((fault ≡ WriteFault.Failed) × (self.failed ≡ true))) }
+        ensures only { IfErr result (λ fault. (fault ≡ WriteFault.OutOfMemory)
+            ⊎ (fault ≡ WriteFault.Failed)) }
     {
         let Tally {
             entries,
             failed,
             ..
         } = self;
-        if failed {
+        if failed || kept.entries.len() != entries.len() {
             return Err(WriteFault::Failed);
         }
         Ok(settle(alloc, &kept.entries, entries)?)
+    }
+
+    /// Whether there is no dictionary to count values of.
+    pub fn is_empty(&self) -> bool
+        ensures { IsTrue result ↔ (self.now.entries ≡ []) }
+    {
+        self.entries.is_empty()
     }
 }
 
@@ -176,10 +222,12 @@ fn marks_for(alloc: Global, entries: &[TallyEntry]) -> Result<Vec<usize>, AllocE
 fn note_row(
     entries: &mut [TallyEntry],
     marks: &mut [usize],
+    columns: &mut EntryColumns,
     fields: &[Field],
     row: &[Value],
 ) -> Result<(), WriteFault>
-    requires { length marks.old ≡ length entries.old }
+    requires marks { length marks.old ≡ length entries.old }
+    requires columns { AreCounted fields.now entries.old columns.old }
     ensures noted { OnOk result
         (entries.new ≡ note_all entries.old (row_pairs fields.now row.now)) }
     ensures ids { tally_ids entries.new ≡ tally_ids entries.old }
@@ -188,14 +236,52 @@ fn note_row(
     ensures full { IfErr result
         (λ fault. fault ≡ WriteFault.DictionaryFull
         → IsFull (note_all entries.old (row_pairs fields.now row.now))) }
+    ensures counted { AreCounted fields.now entries.new columns.new }
+    ensures limits { columns.new.limits ≡ columns.old.limits }
+    ensures over { IfErr result (λ fault. IsOfLimits fault
+        → IsOverLimit columns.old.limits fields.now
+        (note_all entries.old (row_pairs fields.now row.now)) fault) }
     ensures memory { IfErr result
-        (λ fault. (fault ≡ WriteFault.DictionaryFull) ⊎ (fault ≡ WriteFault.OutOfMemory)) }
+        (λ fault. ((fault ≡ WriteFault.DictionaryFull) ⊎ IsOfLimits fault)
+        ⊎ (fault ≡ WriteFault.OutOfMemory)) }
 {
     mark(entries, marks);
-    if let Err(fault) = note_each(entries, fields, row) {
+    if let Err(fault) = note_counted(entries, marks, columns, fields, row) {
         restore(entries, marks);
         return Err(fault);
     }
+    Ok(())
+}
+
+// Notes the values of a row, and counts those that came since the marks.
+fn note_counted(
+    entries: &mut [TallyEntry],
+    marks: &[usize],
+    columns: &mut EntryColumns,
+    fields: &[Field],
+    row: &[Value],
+) -> Result<(), WriteFault>
+    requires marks { marks.now ≡ lens entries.old }
+    requires columns { AreCounted fields.now entries.old columns.old }
+    ensures noted { OnOk result
+        (entries.new ≡ note_all entries.old (row_pairs fields.now row.now)) }
+    ensures fits { OnOk result (AllFit entries.old → AllFit entries.new) }
+    ensures full { IfErr result
+        (λ fault. fault ≡ WriteFault.DictionaryFull
+        → IsFull (note_all entries.old (row_pairs fields.now row.now))) }
+    ensures counted { OnOk result (AreCounted fields.now entries.new columns.new) }
+    ensures kept { OnErr result (AreCounted fields.now entries.old columns.new) }
+    ensures limits { columns.new.limits ≡ columns.old.limits }
+    ensures over { IfErr result (λ fault. IsOfLimits fault
+        → IsOverLimit columns.old.limits fields.now
+        (note_all entries.old (row_pairs fields.now row.now)) fault) }
+    ensures memory { IfErr result
+        (λ fault. ((fault ≡ WriteFault.DictionaryFull) ⊎ IsOfLimits fault)
+        ⊎ (fault ≡ WriteFault.OutOfMemory)) }
+    ensures grows { AllGrow entries.old entries.new }
+{
+    note_each(entries, fields, row)?;
+    columns.count(entries, marks)?;
     Ok(())
 }
 

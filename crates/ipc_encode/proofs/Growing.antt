@@ -212,7 +212,7 @@ later_refused limits l c rest given push.TooMany h = inr (inr h)
 later_refused limits l c rest given push.OutOfMemory h = h
 later_refused limits l c rest given push.Failed h = h
 
-first_refused : (limits : Limits) (l : Layout) (c rest : Shape) (given : ℕ → List Value) (e : PushFault)
+pub first_refused : (limits : Limits) (l : Layout) (c rest : Shape) (given : ℕ → List Value) (e : PushFault)
     → ArePushesRefused limits (field l c bare) (λ j. given 0) e → ArePushesRefused limits (field l c rest) given e
 first_refused limits l c rest given push.TooLong (inl (inl long)) = inl (inl long)
 first_refused limits l c rest given push.TooLong (inl (inr (inl long))) = inl (inr (inl long))

@@ -11,6 +11,7 @@ pub mod Growing
 pub mod Siblings
 pub mod Leaving
 pub mod Held
+pub mod CountedColumns
 pub mod Indexed
 pub mod Ranges
 pub mod ReadbackParts
@@ -21,4 +22,3 @@ pub mod Cutting
 pub mod HeldValues
 pub mod NestedValues
 pub mod Reading
-pub mod Unindexed

@@ -9,3 +9,4 @@ pub mod Built
 pub mod Numbers
 pub mod Indices
 pub mod Faults
+pub mod CountedColumns

@@ -6,6 +6,7 @@ mod batch;
 mod builder;
 mod cells;
 mod column;
+mod counted;
 mod counting;
 mod counts;
 mod fault;
@@ -23,6 +24,7 @@ mod tree;
 
 pub use batch::encode;
 pub use builder::{Builder, holds_agreeing};
+pub use counted::CountedColumn;
 pub use fault::PushFault;
 pub use index::{IndexOf, NoIndices, Renumber, SameNumbers};
 pub use parts::Parts;

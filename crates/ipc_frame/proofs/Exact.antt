@@ -9,7 +9,6 @@ use Rattle.ipc_model.specs.declared.fault.Fault.{Fault}
 use Rattle.ipc_model.specs.declared.fault.Fault.TheVariants.{NotContinued, BadMetadataLength, MetadataTooLong}
 use Rattle.ipc_model.specs.declared.limits.Limits.{Limits}
 use Rattle.ipc_meta.specs.Causes.{Cause}
-use Rattle.ipc_meta.specs.Supported.{IsUnsupported}
 use Rattle.ipc_meta.specs.Heads.{HeadOf}
 use Rattle.ipc_frame.specs.Frames.{mark, Begins, Pending, in_mark, in_size, in_metadata, in_body}
 use Rattle.ipc_frame.specs.Sees.{RefusesStart, StatesNoHead, RefusesMessage}
@@ -58,8 +57,8 @@ no_head_longer {limits} z c e s = record {
   begins = begins_longer z c s.size s.begins;
   some = s.some;
   whole = omega (arith, s.whole, length-append z c);
-  none = λ head m states read. s.none head m (subst (λ x. HeadOf limits x head m) (metadata_longer z c s.size s.whole) states) read;
-  cause = subst (λ x. Cause limits x e ⊎ IsUnsupported limits x e) (sym (metadata_longer z c s.size s.whole)) s.cause;
+  none = λ head m states. s.none head m (subst (λ x. HeadOf limits x head m) (metadata_longer z c s.size s.whole) states);
+  cause = subst (λ x. Cause limits x e) (sym (metadata_longer z c s.size s.whole)) s.cause;
 }
 
 -- ---- no more than the bytes wanted
@@ -84,15 +83,15 @@ module _ (limits : Limits) (z c : List ℕ) (k : ℕ) (few : length c ≤ k) whe
   start_exact (in_mark some e) NotContinued r = omega (arith, long, r.0)
   start_exact (in_size some e l w) NotContinued r = absurd (r.1 (mark_longer z c l w))
   start_exact (in_metadata {n = j} some e b) NotContinued r = absurd (r.1 (begins_longer z c j b).marked)
-  start_exact (in_body {n = j} some e b whole states read) NotContinued r = absurd (r.1 (begins_longer z c j b).marked)
+  start_exact (in_body {n = j} some e b whole states) NotContinued r = absurd (r.1 (begins_longer z c j b).marked)
   start_exact (in_mark some e) BadMetadataLength r = omega (arith, long, r.0)
   start_exact (in_size some e l w) BadMetadataLength r = omega (arith, long, r.0)
   start_exact (in_metadata {n = j} some e b) BadMetadataLength r = absurd (not_negative j b r.2)
-  start_exact (in_body {n = j} some e b whole states read) BadMetadataLength r = absurd (not_negative j b r.2)
+  start_exact (in_body {n = j} some e b whole states) BadMetadataLength r = absurd (not_negative j b r.2)
   start_exact (in_mark some e) MetadataTooLong r = omega (arith, long, r.0)
   start_exact (in_size some e l w) MetadataTooLong r = omega (arith, long, r.0)
   start_exact (in_metadata {n = j} some e b) MetadataTooLong r = absurd (not_longer j b r.2)
-  start_exact (in_body {n = j} some e b whole states read) MetadataTooLong r = absurd (not_longer j b r.2)
+  start_exact (in_body {n = j} some e b whole states) MetadataTooLong r = absurd (not_longer j b r.2)
   start_exact p _ r = absurd r
 
   no_head_exact : (fault : Fault) → Pending limits z k → (s : StatesNoHead limits (z ++ c) fault) → length (z ++ c) ≡ 8 + s.size
@@ -100,11 +99,11 @@ module _ (limits : Limits) (z c : List ℕ) (k : ℕ) (few : length c ≤ k) whe
   no_head_exact fault (in_size some e l w) s = omega (arith, long, s.whole, s.some)
   no_head_exact fault (in_metadata {n = j} some e b) s =
       omega (arith, long, s.whole, begins_one (z ++ c) j s.size (begins_longer z c j b) s.begins)
-  no_head_exact fault (in_body {n = j} {m = q} {head = h} some e b whole states read) s =
+  no_head_exact fault (in_body {n = j} {m = q} {head = h} some e b whole states) s =
       let same = begins_one (z ++ c) j s.size (begins_longer z c j b) s.begins in
       let here : HeadOf limits (slice_range (z ++ c) 8 (8 + j)) h q =
       subst (λ x. HeadOf limits x h q) (sym (metadata_longer z c j whole)) states in
-      absurd (s.none h q (subst (λ i. HeadOf limits (slice_range (z ++ c) 8 (8 + i)) h q) same here) read)
+      absurd (s.none h q (subst (λ i. HeadOf limits (slice_range (z ++ c) 8 (8 + i)) h q) same here))
 
   -- what is refused behind an undecided beginning, with at most the bytes that were wanted, is refused at its last byte
   pub refuses_now : Pending limits z k → (e : Fault) → RefusesMessage limits (z ++ c) e → RefusesNow limits (z ++ c) e

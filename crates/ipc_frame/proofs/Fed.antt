@@ -39,7 +39,7 @@ progress_behind limits z p f.End h = refl
 pub feeds_whole : (limits : Limits) (z piece : List ℕ) (p : Parts) (n : ℕ) (frame : Framed)
     → FeedsOn limits z piece p (Ok (n, Whole frame))
     → Feeds limits (taking z) piece (progress_of p (phase_after frame)) (Ok (n, Some frame))
-feeds_whole limits z piece p n frame h = (h.0, progress_behind limits _ p frame h.1, h.1.is, h.1.read)
+feeds_whole limits z piece p n frame h = (h.0, progress_behind limits _ p frame h.1, h.1.is)
 
 -- ---- what is kept
 

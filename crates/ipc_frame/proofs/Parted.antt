@@ -9,7 +9,6 @@ use Rattle.ipc_model.specs.declared.limits.Limits.{Limits}
 use Rattle.ipc_meta.specs.declared.head.Head.{Head}
 use Rattle.ipc_meta.specs.Causes.{Cause}
 use Rattle.ipc_meta.specs.Heads.{HeadOf}
-use Rattle.ipc_meta.specs.Supported.{IsSupported, IsUnsupported}
 use Rattle.ipc_frame.specs.Bodies.{came_in}
 use Rattle.ipc_frame.specs.Frames.{eos, Frame, Begins, Pending, in_metadata, in_body}
 use Rattle.ipc_frame.specs.Sees.{RefusesMessage}
@@ -39,8 +38,8 @@ module _ (limits : Limits) (s m b : List ℕ) (eight : length s ≡ 8) where
       record { begun = all.begun; marked = all.marked; sized = all.sized; carried = behind_start; fits = all.fits; states = states }
 
   no_head : (n : ℕ) (fault : Fault) → n ≡ length m → 0 < n → Begins limits s n
-      → ((head : Head) (k : ℕ) → HeadOf limits m head k → IsSupported head → ⊥)
-      → Cause limits m fault ⊎ IsUnsupported limits m fault → RefusesMessage limits (s ++ (m ++ b)) fault
+      → ((head : Head) (k : ℕ) → HeadOf limits m head k → ⊥)
+      → Cause limits m fault → RefusesMessage limits (s ++ (m ++ b)) fault
   no_head n fault is some begins none cause =
       let part = metadata_part n is in
       inr (record {
@@ -48,19 +47,19 @@ module _ (limits : Limits) (s m b : List ℕ) (eight : length s ≡ 8) where
         begins = begins_longer s (m ++ b) n begins;
         some = some;
         whole = omega (arith, long, is);
-        none = λ head k states read. none head k (subst (λ x. HeadOf limits x head k) part states) read;
-        cause = subst (λ x. Cause limits x fault ⊎ IsUnsupported limits x fault) (sym part) cause;
+        none = λ head k states. none head k (subst (λ x. HeadOf limits x head k) part states);
+        cause = subst (λ x. Cause limits x fault) (sym part) cause;
       })
 
   awaits_metadata : (n k : ℕ) → Begins limits s n → b ≡ [] → 0 < k → length m + k ≡ n → Pending limits (s ++ (m ++ b)) k
   awaits_metadata n k begins none some is =
       in_metadata {n = n} some (omega (arith, long, ap length none)) (begins_longer s (m ++ b) n begins)
 
-  awaits_body : (n k : ℕ) (head : Head) → Begins limits s (length m) → HeadOf limits m head n → IsSupported head → 0 < k
+  awaits_body : (n k : ℕ) (head : Head) → Begins limits s (length m) → HeadOf limits m head n → 0 < k
       → length b + k ≡ n → Pending limits (s ++ (m ++ b)) k
-  awaits_body n k head begins states read some is =
+  awaits_body n k head begins states some is =
       in_body {n = length m} {m = n} {head = head} some (omega (arith, long)) (begins_longer s (m ++ b) (length m) begins)
-      (omega (arith, long)) (subst (λ x. HeadOf limits x head n) (sym (metadata_part (length m) refl)) states) read
+      (omega (arith, long)) (subst (λ x. HeadOf limits x head n) (sym (metadata_part (length m) refl)) states)
 
 -- ---- the first eight bytes
 
@@ -107,19 +106,19 @@ module _ (limits : Limits) (p : Parts) (n : ℕ) (h : InMetadata limits p.start.
     none : length (came_in p.body) ≡ 0
     none = ap length h.no_body
 
-    pub stated : (k : ℕ) (head : Head) → HeadOf limits p.meta.items head k → IsSupported head → 0 < k
+    pub stated : (k : ℕ) (head : Head) → HeadOf limits p.meta.items head k → 0 < k
         → Undecided limits p (awaited.Body k)
-    stated k head states read some = record {
-      fits = record { eight = h.eight; begins = here; head = head; states = states; read = read; few = omega (arith, none) };
-      pending = awaits_body limits _ _ _ h.eight k _ head here states read (omega (arith, none)) (omega (arith, none));
+    stated k head states some = record {
+      fits = record { eight = h.eight; begins = here; head = head; states = states; few = omega (arith, none) };
+      pending = awaits_body limits _ _ _ h.eight k _ head here states (omega (arith, none)) (omega (arith, none));
     }
 
     pub empty_body : (head : Head) → HeadOf limits p.meta.items head 0 → Frame limits (bytes_of p) p.meta.items head (came_in p.body)
     empty_body head states =
         whole_frame limits _ _ _ h.eight head here (subst (λ j. HeadOf limits p.meta.items head j) (sym none) states)
 
-    pub refused_metadata : (fault : Fault) → ((head : Head) (k : ℕ) → HeadOf limits p.meta.items head k → IsSupported head → ⊥)
-        → Cause limits p.meta.items fault ⊎ IsUnsupported limits p.meta.items fault → RefusesMessage limits (bytes_of p) fault
+    pub refused_metadata : (fault : Fault) → ((head : Head) (k : ℕ) → HeadOf limits p.meta.items head k → ⊥)
+        → Cause limits p.meta.items fault → RefusesMessage limits (bytes_of p) fault
     refused_metadata fault states cause = no_head limits _ _ _ h.eight n fault all h.some h.begins states cause
 
 -- ---- the body
@@ -128,7 +127,7 @@ module _ (limits : Limits) (p : Parts) (n : ℕ) (h : InBody limits p.start.item
   pub body_short : length (came_in p.body) < n → Undecided limits p (awaited.Body n)
   body_short short = record {
     fits = h;
-    pending = awaits_body limits _ _ _ h.eight n _ h.head h.begins h.states h.read (omega arith) (omega arith);
+    pending = awaits_body limits _ _ _ h.eight n _ h.head h.begins h.states (omega arith) (omega arith);
   }
 
   pub whole_body : (k : ℕ) (head : Head) → n ≤ length (came_in p.body) → HeadOf limits p.meta.items head k → k ≡ n

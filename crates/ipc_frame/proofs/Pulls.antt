@@ -131,7 +131,7 @@ module _ (limits : Limits) (a b : Option (List ℕ)) (z : List ℕ) (q : Parts) 
     bytes = h.bytes;
     few = (h.wants, h.undecided, h.few);
     at_end = tt;
-    gives = (omega arith, progress_behind limits _ q frame h.gives, framed frame h.came h.gives.is, h.gives.read);
+    gives = (omega arith, progress_behind limits _ q frame h.gives, framed frame h.came h.gives.is);
   }
 
   pub takes_refused : (fault : Fault) → ReadsOn limits a b z q n (Err fault) → Takes limits a b (taking z) refused n (Err fault)

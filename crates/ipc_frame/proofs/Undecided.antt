@@ -28,19 +28,19 @@ pub pending_one : {limits : Limits} → (z : List ℕ) (j k : ℕ) → Pending l
 pending_one z j k (in_mark s e) (in_mark t d) = omega (arith, e, d)
 pending_one z j k (in_mark s e) (in_size t d l m) = omega (arith, e, d)
 pending_one z j k (in_mark s e) (in_metadata t d b) = omega (arith, e, b.begun)
-pending_one z j k (in_mark s e) (in_body t d b l w r) = omega (arith, e, b.begun)
+pending_one z j k (in_mark s e) (in_body t d b l w) = omega (arith, e, b.begun)
 pending_one z j k (in_size s e l m) (in_mark t d) = omega (arith, e, d)
 pending_one z j k (in_size s e l m) (in_size t d a b) = omega (arith, e, d)
 pending_one z j k (in_size s e l m) (in_metadata t d b) = omega (arith, e, b.begun)
-pending_one z j k (in_size s e l m) (in_body t d b a w r) = omega (arith, e, b.begun)
+pending_one z j k (in_size s e l m) (in_body t d b a w) = omega (arith, e, b.begun)
 pending_one z j k (in_metadata s e b) (in_mark t d) = omega (arith, d, b.begun)
 pending_one z j k (in_metadata s e b) (in_size t d l m) = omega (arith, d, b.begun)
 pending_one z j k (in_metadata {n = n} s e b) (in_metadata {n = m} t d a) = omega (arith, e, d, begins_one z n m b a)
-pending_one z j k (in_metadata {n = n} s e b) (in_body {n = m} t d a l w r) = omega (arith, e, l, begins_one z n m b a)
-pending_one z j k (in_body s e b l w r) (in_mark t d) = omega (arith, d, b.begun)
-pending_one z j k (in_body s e b l w r) (in_size t d a m) = omega (arith, d, b.begun)
-pending_one z j k (in_body {n = n} s e b l w r) (in_metadata {n = m} t d a) = omega (arith, d, l, begins_one z n m b a)
-pending_one z j k (in_body {n = n} {m = a} {head = g} s e b l w r) (in_body {n = m} {m = c} {head = q} t d i y v u) =
+pending_one z j k (in_metadata {n = n} s e b) (in_body {n = m} t d a l w) = omega (arith, e, l, begins_one z n m b a)
+pending_one z j k (in_body s e b l w) (in_mark t d) = omega (arith, d, b.begun)
+pending_one z j k (in_body s e b l w) (in_size t d a m) = omega (arith, d, b.begun)
+pending_one z j k (in_body {n = n} s e b l w) (in_metadata {n = m} t d a) = omega (arith, d, l, begins_one z n m b a)
+pending_one z j k (in_body {n = n} {m = a} {head = g} s e b l w) (in_body {n = m} {m = c} {head = q} t d i y v) =
     let same = begins_one z n m b i in
     omega (arith, e, d, same, stated_one z n m a c g q same w v)
 
@@ -63,15 +63,15 @@ pending_start z k NotContinued (in_size s e l m) r = r.1 m
 pending_start z k BadMetadataLength (in_size s e l m) r = omega (arith, e, s, r.0)
 pending_start z k MetadataTooLong (in_size s e l m) r = omega (arith, e, s, r.0)
 pending_start z k c (in_metadata {n = n} s e b) r = begins_start z n c b r
-pending_start z k c (in_body {n = n} s e b l w u) r = begins_start z n c b r
+pending_start z k c (in_body {n = n} s e b l w) r = begins_start z n c b r
 pending_start z k _ p r = absurd r
 
 pending_head : {limits : Limits} → (z : List ℕ) (k : ℕ) (e : Fault) → Pending limits z k → StatesNoHead limits z e → ⊥
 pending_head z k c (in_mark s e) r = omega (arith, e, s, r.whole)
 pending_head z k c (in_size s e l m) r = omega (arith, e, s, r.whole)
 pending_head z k c (in_metadata {n = n} s e b) r = omega (arith, e, s, r.whole, begins_one z n r.size b r.begins)
-pending_head {limits} z k c (in_body {n = n} {m = m} {head = g} s e b l w u) r =
-    r.none g m (subst (λ i. HeadOf limits (slice_range z 8 (8 + i)) g m) (begins_one z n r.size b r.begins) w) u
+pending_head {limits} z k c (in_body {n = n} {m = m} {head = g} s e b l w) r =
+    r.none g m (subst (λ i. HeadOf limits (slice_range z 8 (8 + i)) g m) (begins_one z n r.size b r.begins) w)
 
 -- an undecided beginning of a message is not refused
 pub pending_refused : {limits : Limits} → (z : List ℕ) (k : ℕ) (e : Fault) → Pending limits z k → RefusesMessage limits z e → ⊥

@@ -3,7 +3,6 @@
 use Rattle.std.specs.Prelude.{◌≡◌, ℕ, ◌-◌, ◌<◌, ◌≤◌, List, [], ◌++◌, length, take, Result, Ok, Err}
 use Rattle.ipc_meta.specs.declared.head.Head.{Head}
 use Rattle.ipc_meta.specs.Heads.{HeadOf}
-use Rattle.ipc_meta.specs.Supported.{IsSupported}
 use Rattle.ipc_model.specs.Answers.{UnlessOutOfMemory}
 use Rattle.ipc_model.specs.declared.fault.Fault.{Fault}
 use Rattle.ipc_model.specs.declared.limits.Limits.{Limits}
@@ -55,7 +54,6 @@ pub record InBody (limits : Limits) (start meta body : List ℕ) (size : ℕ) : 
   pub begins : Begins limits start (length meta)
   pub head : Head
   pub states : HeadOf limits meta head size
-  pub read : IsSupported head
   pub few : length body ≤ size
 
 -- the parts in front of what is awaited are whole, and no more than that came of it
@@ -76,6 +74,6 @@ abbrev pub Decides : Limits → Parts → Result Decision Fault → Type 0
 Decides limits p (Ok (decision.More a)) = Undecided limits p a
 Decides limits p (Ok decision.End) = bytes_of p ≡ eos
 Decides limits p (Ok (decision.Message head)) =
-    Frame limits (bytes_of p) p.meta.items head (came_in p.body) × IsSupported head
+    Frame limits (bytes_of p) p.meta.items head (came_in p.body)
 Decides limits p (Err fault) =
     UnlessOutOfMemory fault (RefusesMessage limits (bytes_of p) fault)

@@ -7,7 +7,7 @@ use Rattle.ipc_model.specs.declared.fault.Fault.{Fault}
 use Rattle.ipc_model.specs.declared.fault.Fault.TheVariants.{Failed, Truncated}
 use Rattle.ipc_model.specs.declared.limits.Limits.{Limits}
 use Rattle.ipc_frame.specs.Frames.{Pending}
-use Rattle.ipc_frame.specs.Sees.{IsFrame, IsSupportedFrame}
+use Rattle.ipc_frame.specs.Sees.{IsFrame}
 use Rattle.ipc_frame.specs.Decisions.{RefusesNow}
 use Rattle.ipc_frame.specs.Parts.{bytes_of, Undecided}
 use Rattle.ipc_frame.specs.declared.frame.Frame.{Frame as Framed}
@@ -57,7 +57,7 @@ abbrev pub Feeds : Limits → Progress → List ℕ → Progress → Result (ℕ
 Feeds limits (taking z) piece new (Ok (n, None)) = (n ≡ length piece)
     × (new ≡ taking (z ++ piece)) × ((k : ℕ) × Pending limits (z ++ piece) k)
 Feeds limits (taking z) piece new (Ok (n, Some frame)) = (n ≤ length piece)
-    × (new ≡ behind frame) × IsFrame limits (z ++ take n piece) frame × IsSupportedFrame frame
+    × (new ≡ behind frame) × IsFrame limits (z ++ take n piece) frame
 Feeds limits (taking z) piece new (Err fault) = (new ≡ refused) × UnlessOutOfMemory fault
     ((n : ℕ) × (n ≤ length piece) × RefusesNow limits (z ++ take n piece) fault)
 Feeds limits ended piece new r = (new ≡ ended) × (r ≡ Ok (0, None))

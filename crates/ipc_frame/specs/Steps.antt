@@ -4,7 +4,7 @@ use Rattle.std.specs.Prelude.{◌≡◌, ℕ, ◌≤◌, List, [], ◌++◌, len
 use Rattle.ipc_model.specs.Answers.{UnlessOutOfMemory}
 use Rattle.ipc_model.specs.declared.fault.Fault.{Fault}
 use Rattle.ipc_model.specs.declared.limits.Limits.{Limits}
-use Rattle.ipc_frame.specs.Sees.{IsFrame, IsSupportedFrame, RefusesMessage}
+use Rattle.ipc_frame.specs.Sees.{IsFrame, RefusesMessage}
 use Rattle.ipc_frame.specs.Decisions.{RefusesNow}
 use Rattle.ipc_frame.specs.Parts.{bytes_of, Undecided}
 use Rattle.ipc_frame.specs.declared.frame.Frame.{Frame as Framed}
@@ -13,10 +13,9 @@ use Rattle.ipc_frame.specs.declared.parts.Awaited.TheVariants.{Mark}
 use Rattle.ipc_frame.specs.declared.step.Step.{Step}
 use Rattle.ipc_frame.specs.declared.step.Step.TheVariants.{More, Whole}
 
--- the bytes are this frame, whose columns are read, and behind it nothing is kept
+-- the bytes are this frame, and behind it nothing is kept
 pub record IsWhole (limits : Limits) (z : List ℕ) (p : Parts) (frame : Framed) : Type 0 where
   pub is : IsFrame limits z frame
-  pub read : IsSupportedFrame frame
   pub empty : bytes_of p ≡ []
   pub fresh : Undecided limits p Mark
 

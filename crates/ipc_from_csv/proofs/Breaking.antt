@@ -1,9 +1,9 @@
 -- Where a conversion breaks off.
-use Rattle.std.proofs.Common.{◌≡◌, ◌⊎◌, ◌∙◌, refl, sym, ap, subst, ℕ, suc, ◌+◌, ◌<◌, ◌≤◌, inl, inr, List, [], ◌∷◌, ◌++◌, length}
-use Rattle.std.proofs.Common.{map, take, Option, Some, None, Err, false, arith}
+use Rattle.std.proofs.Common.{◌≡◌, ◌⊎◌, ◌∙◌, refl, sym, ap, subst, ℕ, ◌+◌, ◌<◌, ◌≤◌, inl, inr, List, [], ◌∷◌, ◌++◌, length}
+use Rattle.std.proofs.Common.{Option, Some, Err, false, arith}
 use Rattle.std.specs.List.{AllByRecursion}
 use Rattle.std.proofs.Math.Nat.{eq-or-lt_of_le}
-use Rattle.std.proofs.Math.Seq.{drop-append_seam, take-append_seam}
+use Rattle.std.proofs.Math.Seq.{get_or-append_seam, take-append_seam}
 use Rattle.std.proofs.lemmas.Bool.{false≢true}
 use Rattle.std.proofs.lemmas.List.{append-nil, length_push}
 use Rattle.ipc_model.specs.declared.fault.WriteFault.{WriteFault}
@@ -13,42 +13,42 @@ use Rattle.ipc_model.specs.declared.schema.Schema.{Schema}
 use Rattle.ipc_model.specs.declared.table.BatchRows.{BatchRows}
 use Rattle.ipc_model.specs.declared.value.Value.{Value}
 use Rattle.ipc_stream.specs.Pushed.{RefusesHeld, StaysAt, no_rows}
-use Rattle.ipc_decode.specs.Stream.{begun, Event, Run, batch, schema, AddsBatch}
-use Rattle.ipc_stream.specs.Writer.{Leaves, Writer}
-use Rattle.ipc_stream.specs.Writing.{AcceptsBatch, AddsNext, BreaksOff, IsBatchTooLong, NotSentWhole, RefusesBatch, RefusesFirst}
-use Rattle.ipc_stream.specs.Writing.{long_columns, long_metadata, other_pairs}
+use Rattle.ipc_stream.specs.Dictionaries.{SendsBatch, SendsTable, kept_after, none_sent}
+use Rattle.ipc_stream.specs.Writer.{Leaves, LeavesBatch, Writer}
+use Rattle.ipc_stream.specs.Writing.{AcceptsBatch, BreaksOff, NotSentWhole, RefusesBatch}
 use Rattle.ipc_stream.proofs.FirstRows.{refused_at_first}
+use Rattle.ipc_stream.proofs.TablesWritten as tables
 use Rattle.ipc_csv.specs.RowCsv.{names}
 use Rattle.ipc_from_csv.specs.Batches.{batch_of, last_batch}
-use Rattle.ipc_from_csv.specs.Conversion.{AreAccepted, SendsFull, StopsBehind, StopsFor, StopsWriting, table_of}
+use Rattle.ipc_from_csv.specs.Conversion.{AreAccepted, IsOfLengths, SendsFull, StopsBehind, StopsFor, StopsWriting, table_of}
 use Rattle.ipc_from_csv.specs.Conversion.{in_record, exhausted_behind, behind}
 use Rattle.ipc_from_csv.specs.Records.{AreRecordsOf}
 use Rattle.ipc_from_csv.specs.Steps.{Came, IsOut, RefusesNext}
 use Rattle.ipc_from_csv.specs.declared.rows.RowReader.{RowReader}
 use Rattle.ipc_from_csv.specs.declared.stop.Stop.{Stop}
 use Rattle.ipc_from_csv.proofs.Reading.{are_first}
-use Rattle.ipc_from_csv.proofs.Sending.{all_accepted, came_before, came_fill, came_filled}
+use Rattle.ipc_from_csv.proofs.Sending.{all_accepted, as_out, came_before, came_fill, came_filled}
 
 -- ---- what isn't sent of a batch that is refused
 
 -- a writer that works doesn't answer that it failed before
-pub not_failed : (IsWhole : List ℕ → Type 0) (old new : Writer) (fault : WriteFault) → old.failed ≡ false
-    → Leaves IsWhole old new (Err fault) → ¬ (fault ≡ w.Failed)
-not_failed IsWhole old new fault works leaves = λ is.
-    let before = subst (λ f. Leaves IsWhole old new (Err f)) is leaves in
+pub not_failed : (IsWhole : List ℕ → Type 0) (kept : _) (old new : Writer) (fault : WriteFault) → old.failed ≡ false
+    → Leaves IsWhole kept old new (Err fault) → ¬ (fault ≡ w.Failed)
+not_failed IsWhole kept old new fault works leaves = λ is.
+    let before = subst (λ f. Leaves IsWhole kept old new (Err f)) is leaves in
     false≢true (sym works ∙ before.0)
 
 -- what isn't out where a call of a writer that works is refused
-pub leaves_unsent : (IsWhole : List ℕ → Type 0) (old new : Writer) (fault : WriteFault) → old.failed ≡ false
-    → Leaves IsWhole old new (Err fault) → NotSentWhole IsWhole old.written new.written old.failures new.failures fault
-leaves_unsent IsWhole old new w.BadSchema works leaves = (ap (λ v. v.written) leaves.1, ap (λ v. v.failures) leaves.1)
-leaves_unsent IsWhole old new (w.Row row cause) works leaves = (ap (λ v. v.written) leaves.1, ap (λ v. v.failures) leaves.1)
-leaves_unsent IsWhole old new w.TooLong works leaves = (ap (λ v. v.written) leaves.1, ap (λ v. v.failures) leaves.1)
-leaves_unsent IsWhole old new w.DictionaryFull works leaves = (ap (λ v. v.written) leaves.1, ap (λ v. v.failures) leaves.1)
-leaves_unsent IsWhole old new w.TooManyRows works leaves = (ap (λ v. v.written) leaves.1, ap (λ v. v.failures) leaves.1)
-leaves_unsent IsWhole old new w.Write works leaves = leaves.1
-leaves_unsent IsWhole old new w.Failed works leaves = absurd (false≢true (sym works ∙ leaves.0))
-leaves_unsent IsWhole old new w.OutOfMemory works leaves = (ap (λ v. v.written) leaves.1, ap (λ v. v.failures) leaves.1)
+pub leaves_unsent : (IsWhole : List ℕ → Type 0) (kept : _) (old new : Writer) (fault : WriteFault) → old.failed ≡ false
+    → Leaves IsWhole kept old new (Err fault) → NotSentWhole IsWhole old.written new.written old.failures new.failures fault
+leaves_unsent IsWhole kept old new w.BadSchema works leaves = (ap (λ v. v.written) leaves.1, ap (λ v. v.failures) leaves.1)
+leaves_unsent IsWhole kept old new (w.Row row cause) works leaves = (ap (λ v. v.written) leaves.1, ap (λ v. v.failures) leaves.1)
+leaves_unsent IsWhole kept old new w.TooLong works leaves = (ap (λ v. v.written) leaves.1, ap (λ v. v.failures) leaves.1)
+leaves_unsent IsWhole kept old new w.DictionaryFull works leaves = (ap (λ v. v.written) leaves.1, ap (λ v. v.failures) leaves.1)
+leaves_unsent IsWhole kept old new w.TooManyRows works leaves = (ap (λ v. v.written) leaves.1, ap (λ v. v.failures) leaves.1)
+leaves_unsent IsWhole kept old new w.Write works leaves = leaves.1
+leaves_unsent IsWhole kept old new w.Failed works leaves = absurd (false≢true (sym works ∙ leaves.0))
+leaves_unsent IsWhole kept old new w.OutOfMemory works leaves = (ap (λ v. v.written) leaves.1, ap (λ v. v.failures) leaves.1)
 
 module _ (IsWhole : List ℕ → Type 0) (limits : Limits) (s : Schema) (b : BatchRows) (old new : Writer) where
   -- nothing is out where a row isn't taken
@@ -80,48 +80,53 @@ pub held_unwritten : (limits : Limits) (s : Schema) (b : BatchRows) (failed : _)
     → RefusesHeld limits s b failed fault → ¬ (fault ≡ w.Write)
 held_unwritten limits s b failed fault refuses = λ is. subst (λ f. RefusesHeld limits s b failed f) is refuses
 
--- a batch that is accepted isn't too long
-accepted_short : (limits : Limits) (s : Schema) (b : BatchRows) → AcceptsBatch limits s b → IsBatchTooLong limits s b → ⊥
-accepted_short limits s b accepts (long_columns long) = accepts.within.lengths.short long
-accepted_short limits s b accepts (long_metadata long) = omega (arith, long, accepts.within.short_metadata)
-accepted_short limits s b accepts (other_pairs other) = other accepts.within.allowed_pairs
+-- a failed sink and want of memory are none of these faults
+outside_other : (fault : WriteFault) → tables.IsOutside fault → ¬ IsOfLengths fault
+outside_other fault (inl is) = λ other. subst IsOfLengths is other
+outside_other fault (inr is) = λ other. subst IsOfLengths is other
 
--- so one that is refused all the same is refused for another cause
+-- a batch that is accepted but refused all the same is refused for a failed sink or for want of memory
 pub accepted_other : (limits : Limits) (s : Schema) (b : BatchRows) (fault : WriteFault) → AcceptsBatch limits s b
-    → RefusesBatch limits s b fault → ¬ (fault ≡ w.TooLong)
-accepted_other limits s b fault accepts refuses = λ is. accepted_short limits s b accepts (subst (RefusesBatch limits s b) is refuses)
+    → RefusesBatch limits s b fault → ¬ IsOfLengths fault
+accepted_other limits s b w.TooLong accepts refuses = λ is. outside_other w.TooLong (tables.rows_outside s b accepts w.TooLong refuses) is
+accepted_other limits s b w.DictionaryFull accepts refuses = λ is.
+    outside_other w.DictionaryFull (tables.rows_outside s b accepts w.DictionaryFull refuses) is
+accepted_other limits s b w.TooManyRows accepts refuses = λ is.
+    outside_other w.TooManyRows (tables.rows_outside s b accepts w.TooManyRows refuses) is
+accepted_other limits s b w.BadSchema accepts refuses = λ is. is
+accepted_other limits s b (w.Row row cause) accepts refuses = λ is. is
+accepted_other limits s b w.Write accepts refuses = λ is. is
+accepted_other limits s b w.Failed accepts refuses = λ is. is
+accepted_other limits s b w.OutOfMemory accepts refuses = λ is. is
 
 -- ---- the table with the batch that is refused
 
--- the events of the first batches
-pub take_events : (batches more : List BatchRows) → take (length batches) (map batch (batches ++ more)) ≡ map batch batches
-take_events [] more = refl
-take_events (b ∷ batches) more = ap (λ es. batch b ∷ es) (take_events batches more)
+-- the messages that are out are the first ones of a table with more batches
+pub first_out : (s : Schema) (batches more : List BatchRows) (old : Option (List ℕ)) (failures : ℕ) (writer : Writer)
+    → IsOut s batches old failures writer
+    → tables.IsOut writer.limits (table_of s (batches ++ more)) old writer.written failures writer.failures (length batches)
+first_out s batches more old failures writer out = record {
+  bytes = out.sent.x;
+  sent = subst (λ bs. SendsTable writer.limits (table_of s bs) out.sent.x) (sym (take-append_seam batches more)) out.sent.whole;
+  appended = out.sent.bytes;
+  worked = out.sent.worked;
+  works = out.sent.works;
+  accepts_schema = out.accepts_schema;
+  accepts = subst (AllByRecursion (AcceptsBatch writer.limits s)) (sym (take-append_seam batches more)) out.accepts;
+}
 
 -- where the batch behind those that are out is refused, writing the table with it broke off before it
 pub batch_breaks : (s : Schema) (batches : List BatchRows) (old : Option (List ℕ)) (failures : ℕ) (writer new : Writer) (b : BatchRows)
     (fault : WriteFault) → IsOut s batches old failures writer → RefusesBatch writer.limits s b fault
-    → NotSentWhole (AddsBatch writer.limits s b) writer.written new.written writer.failures new.failures fault
-    → BreaksOff writer.limits (table_of s (batches ++ b ∷ [])) old new.written failures new.failures fault
+    → NotSentWhole (SendsBatch writer.limits s (kept_after s.fields (none_sent s) batches) b) writer.written new.written writer.failures
+    new.failures fault → BreaksOff writer.limits (table_of s (batches ++ b ∷ [])) old new.written failures new.failures fault
 batch_breaks s batches old failures writer new b fault out refuses unsent =
-    let next = sym (drop-append_seam batches (b ∷ [])) in
-    record {
-      count = suc (length batches);
-      accepts = (
-        out.accepts_schema,
-        subst (AllByRecursion (AcceptsBatch writer.limits s)) (sym (take-append_seam batches (b ∷ []))) out.accepts,
-      );
-      refuses = subst (λ l. RefusesFirst writer.limits s l fault) next refuses;
-      state = Some (begun s);
-      x = out.sent.x;
-      run = subst (λ (es : List Event). Run writer.limits None out.sent.x (schema s ∷ es) (Some (begun s)))
-          (sym (take_events batches (b ∷ []))) out.sent.whole;
-      between = writer.written;
-      bytes = out.sent.bytes;
-      unsent = subst (λ l. NotSentWhole (AddsNext writer.limits s l) writer.written new.written failures new.failures fault) next
-          (subst (λ n. NotSentWhole (AddsBatch writer.limits s b) writer.written new.written n new.failures fault)
-          (out.sent.works ∙ sym out.sent.worked) unsent);
-    }
+    let long = length_push batches b in
+    tables.batch_breaks (table_of s (batches ++ b ∷ [])) old writer.written new.written failures writer.failures new.failures
+    (length batches) (first_out s batches (b ∷ []) old failures writer out) b (omega (arith, long))
+    (sym (get_or-append_seam batches b [] b)) fault refuses
+    (subst (λ bs. NotSentWhole (SendsBatch writer.limits s (kept_after s.fields (none_sent s) bs) b) writer.written new.written
+    writer.failures new.failures fault) (sym (take-append_seam batches (b ∷ []))) unsent)
 
 -- where rows are left over they are the last batch
 pub last_is : (left : List (List Value)) → 0 < length left → last_batch left ≡ batch_of left ∷ []
@@ -148,7 +153,7 @@ module _ {R : Type 0} (remaining : R → Option (List ℕ)) (input : Option (Lis
       };
       sent = record {
         x = came.out.sent.x;
-        whole = (Some (begun s), came.out.sent.whole);
+        whole = (Some came.out.sent.whole.0, came.out.sent.whole.1.1);
         bytes = came.out.sent.bytes;
         worked = came.out.sent.worked;
         works = came.out.sent.works;
@@ -182,8 +187,9 @@ module _ {R : Type 0} (remaining : R → Option (List ℕ)) (input : Option (Lis
 
   module _ (left : List (List Value)) (came : Came remaining input s size old failures now writer left) (new : Writer) (fault : WriteFault)
       (refuses : RefusesBatch writer.limits s (batch_of left) fault)
-      (unsent : NotSentWhole (AddsBatch writer.limits s (batch_of left)) writer.written new.written writer.failures new.failures fault)
-      (first : fault ≡ w.TooLong → (before : List (List (List ℕ))) (texts : List (List ℕ)) → came.records ≡ before ++ texts ∷ []
+      (unsent : NotSentWhole (SendsBatch writer.limits s (kept_after s.fields (none_sent s) came.batches) (batch_of left)) writer.written
+      new.written writer.failures new.failures fault)
+      (first : IsOfLengths fault → (before : List (List (List ℕ))) (texts : List (List ℕ)) → came.records ≡ before ++ texts ∷ []
       → AreAccepted writer.limits s size before) where
     breaks_here : BreaksOff writer.limits (table_of s (came.batches ++ batch_of left ∷ [])) old new.written failures new.failures fault
     breaks_here = batch_breaks s came.batches old failures writer new (batch_of left) fault came.out refuses unsent
@@ -238,9 +244,9 @@ module _ {R : Type 0} (remaining : R → Option (List ℕ)) (input : Option (Lis
     }
 
     row_refused : (new : Writer) (fault : WriteFault) → RefusesBatch writer.limits s (batch_of (left ++ row ∷ [])) fault
-        → NotSentWhole (AddsBatch writer.limits s (batch_of (left ++ row ∷ []))) writer.written new.written writer.failures new.failures
-        fault → ¬ (fault ≡ w.Write) → (length left + 1 ≡ size) ⊎ (length left + 1 < size)
-        → StopsWriting input s size old new.written failures new.failures fault
+        → NotSentWhole (SendsBatch writer.limits s (kept_after s.fields (none_sent s) came.batches) (batch_of (left ++ row ∷ [])))
+        writer.written new.written writer.failures new.failures fault → ¬ (fault ≡ w.Write)
+        → (length left + 1 ≡ size) ⊎ (length left + 1 < size) → StopsWriting input s size old new.written failures new.failures fault
     row_refused new fault refuses unsent other (inl full) =
         let longer = length_push left row in
         full_stops (left ++ row ∷ []) came new fault refuses unsent (λ _. accepts_before) (omega (arith, full))
@@ -281,16 +287,19 @@ module _ {R : Type 0} (remaining : R → Option (List ℕ)) (input : Option (Lis
   -- a conversion stops where an accepted batch isn't sent
   pub send_stops : (left : List (List Value)) (came : Came remaining input s size old failures now writer left) (new : Writer)
       (fault : WriteFault) → 0 < size → AcceptsBatch writer.limits s (batch_of left)
-      → Leaves (AddsBatch writer.limits writer.schema (batch_of left)) writer new (Err fault)
+      → LeavesBatch writer (batch_of left) new (Err fault)
       → (¬ (fault ≡ w.Failed) → RefusesBatch writer.limits writer.schema (batch_of left) fault)
       → (length left ≡ size)
       ⊎ ((0 < length left) × (length left < size) × AreRecordsOf input (names s.fields ∷ came.records))
       → StopsWriting input s size old new.written failures new.failures fault
   send_stops left came new fault some accepts leaves judged whole =
-      let same = subst (λ z. Leaves (AddsBatch writer.limits z (batch_of left)) writer new (Err fault)) came.out.same_schema leaves in
+      let sent = kept_after writer.schema.fields writer.kept (batch_of left ∷ []) in
       let refuses = subst (λ z. RefusesBatch writer.limits z (batch_of left) fault) came.out.same_schema
-      (judged (not_failed _ writer new fault came.out.works same)) in
-      let unsent = leaves_unsent _ writer new fault came.out.works same in
+      (judged (not_failed _ sent writer new fault came.out.works leaves)) in
+      let unsent = as_out s came.batches old failures writer new came.out (batch_of left)
+      (λ z. NotSentWhole (SendsBatch z.limits z.schema z.kept (batch_of left)) writer.written new.written writer.failures new.failures
+      fault)
+      (leaves_unsent _ sent writer new fault came.out.works leaves) in
       let other = accepted_other writer.limits s (batch_of left) fault accepts refuses in
       elim whole [
         | inl full ↦ full_stops left came new fault refuses unsent (λ is. absurd (other is)) some full

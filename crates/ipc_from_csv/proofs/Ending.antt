@@ -1,10 +1,8 @@
 -- How a conversion ends.
-use Rattle.std.proofs.Common.{◌≡◌, ◌∙◌, refl, sym, ap, subst, ℕ, suc, ◌<◌, List, [], ◌∷◌, ◌++◌, length, map, take, Option, Some, None}
-use Rattle.std.proofs.Common.{Ok, Err, inl, inr, true, false}
+use Rattle.std.proofs.Common.{◌≡◌, ◌∙◌, refl, sym, ap, subst, ℕ, ◌<◌, List, [], ◌∷◌, ◌++◌, length, Option, Some, None}
+use Rattle.std.proofs.Common.{Ok, Err, inl, inr, true, false, arith}
 use Rattle.std.specs.Prelude.{Bool, IfErr, OnOk, Result}
-use Rattle.std.specs.List.{AllByRecursion}
-use Rattle.std.proofs.KnownBytes.{Appends-nil, Appends-trans}
-use Rattle.std.proofs.Math.Seq.{drop-length, take-length}
+use Rattle.std.proofs.KnownBytes.{Appends-trans}
 use Rattle.std.proofs.lemmas.Bool.{false≢true}
 use Rattle.std.proofs.lemmas.List.{append-nil}
 use Rattle.csv.specs.declared.reader.Reader.{Reader}
@@ -17,10 +15,10 @@ use Rattle.ipc_model.specs.declared.table.BatchRows.{BatchRows}
 use Rattle.ipc_model.specs.declared.value.Value.{Value}
 use Rattle.ipc_stream.specs.declared.pushed.PushedRows.{PushedRows}
 use Rattle.ipc_stream.specs.Pushed.{HoldsBatch}
-use Rattle.ipc_decode.specs.Stream.{begun, Event, Run, batch, done, schema, AddsBatch, EndsStream}
-use Rattle.ipc_stream.specs.Writer.{Finishes, FinishFails, Leaves, StartFails, Writer}
-use Rattle.ipc_stream.specs.Writing.{AcceptsBatch, AddsNext, BreaksOff, CutShort, NotSentWhole, RefusesBatch}
-use Rattle.ipc_stream.specs.Writing.{RefusesFirst}
+use Rattle.ipc_decode.specs.Stream.{EndsStream}
+use Rattle.ipc_stream.specs.Writer.{Finishes, FinishFails, LeavesBatch, StartFails, Writer}
+use Rattle.ipc_stream.specs.Writing.{AcceptsBatch, BreaksOff, CutShort, RefusesBatch}
+use Rattle.ipc_stream.proofs.TablesWritten as tables
 use Rattle.ipc_csv.specs.RowCsv.{flat_fault, names}
 use Rattle.ipc_from_csv.specs.Batches.{batch_of, last_batch}
 use Rattle.ipc_from_csv.specs.Conversion.{Answers, AnswersHeader, Converts, StopsFor, StopsWriting, before, in_header, table_of}
@@ -29,7 +27,7 @@ use Rattle.ipc_from_csv.specs.Steps.{Came, HoldsLast, IsOut, SendsAll, SendsBatc
 use Rattle.ipc_from_csv.specs.declared.rows.RowReader.{RowReader}
 use Rattle.ipc_from_csv.specs.declared.stop.Stop.{Stop}
 use Rattle.ipc_from_csv.specs.declared.stop.Stop.TheVariants as stop
-use Rattle.ipc_from_csv.proofs.Breaking.{last_is, send_stops, take_events}
+use Rattle.ipc_from_csv.proofs.Breaking.{first_out, last_is, send_stops}
 use Rattle.ipc_from_csv.proofs.Pushing.{holds_accepted}
 use Rattle.ipc_from_csv.proofs.Reading.{are_first}
 use Rattle.ipc_from_csv.proofs.Sending.{batch_out, came_fill, came_sent}
@@ -55,7 +53,7 @@ module _ {R : Type 0} (remaining : R → Option (List ℕ)) (input : Option (Lis
       (sym (ap (λ l. came.batches ++ last_batch l) none ∙ append-nil came.batches)) came.out)
 
   -- where the last batch was sent, all is out
-  pub ends_last : (new : Writer) → 0 < length left → Leaves (AddsBatch writer.limits writer.schema (batch_of left)) writer new (Ok tt)
+  pub ends_last : (new : Writer) → 0 < length left → LeavesBatch writer (batch_of left) new (Ok tt)
       → AcceptsBatch writer.limits writer.schema (batch_of left) → SendsAll input s size old failures new
   ends_last new some leaves accepts = all_sent new (subst (λ bs. IsOut s (came.batches ++ bs) old failures new)
       (sym (last_is left some)) (batch_out s came.batches old failures writer new came.out (batch_of left) leaves accepts))
@@ -65,7 +63,7 @@ module _ {R : Type 0} (remaining : R → Option (List ℕ)) (input : Option (Lis
   -- how far a conversion came where the rows that are held went out
   pub held_sent : (full : Bool) → HoldsLast remaining input s size old failures now writer held full → 0 < size
       → ((b : BatchRows) → HoldsBatch writer.limits writer.schema b held
-      → Leaves (AddsBatch writer.limits writer.schema b) writer new (Ok tt))
+      → LeavesBatch writer b new (Ok tt))
       → ((b : BatchRows) → HoldsBatch writer.limits writer.schema b held → AcceptsBatch writer.limits writer.schema b)
       → SendsBatch remaining input s size old failures now new (Ok full)
   held_sent true (left, holds, full) some leaves accepts =
@@ -78,7 +76,7 @@ module _ {R : Type 0} (remaining : R → Option (List ℕ)) (input : Option (Lis
   -- and why it stops where they did not
   pub held_unsent : (full : Bool) → HoldsLast remaining input s size old failures now writer held full → 0 < size → (fault : WriteFault)
       → ((b : BatchRows) → HoldsBatch writer.limits writer.schema b held
-      → Leaves (AddsBatch writer.limits writer.schema b) writer new (Err fault))
+      → LeavesBatch writer b new (Err fault))
       → ((b : BatchRows) → HoldsBatch writer.limits writer.schema b held → ¬ (fault ≡ w.Failed)
       → RefusesBatch writer.limits writer.schema b fault) → StopsWriting input s size old new.written failures new.failures fault
   held_unsent true (left, holds, full) some fault leaves judged =
@@ -109,17 +107,7 @@ start_stops remaining input s size old new f0 f1 reader limits fault standard so
   batches = [];
   left = [];
   batched = record { flat = flat; rows = []; read = tt; fill = record { full = tt; few = some; joined = refl } };
-  breaks = record {
-    count = 0;
-    accepts = tt;
-    refuses = fails.cause;
-    state = None;
-    x = [];
-    run = done;
-    between = old;
-    bytes = Appends-nil old;
-    unsent = fails.unsent;
-  };
+  breaks = tables.start_breaks (table_of s []) old new f0 f1 fault fails.cause fails.unsent;
   all = λ _ some_left. absurd (some_left refl);
   first = λ _ front texts is. absurd (none_last front texts is);
 }
@@ -142,7 +130,7 @@ module _ (input : Option (List ℕ)) (s : Schema) (size : ℕ) (old : Option (Li
       whole = (
         sends.out.sent.x,
         ap (λ y. sends.out.sent.x ++ y) finishes.sent.whole,
-        (Some (begun s), sends.out.sent.whole),
+        (Some sends.out.sent.whole.0, sends.out.sent.whole.1.1),
       );
       bytes = Appends-trans old writer.written new sends.out.sent.x finishes.sent.x sends.out.sent.bytes finishes.sent.bytes;
       worked = sends.out.sent.worked;
@@ -154,26 +142,10 @@ module _ (input : Option (List ℕ)) (s : Schema) (size : ℕ) (old : Option (Li
       → BreaksOff writer.limits (table_of s (sends.batches ++ last_batch sends.left)) old new failures failures_new w.Write
   cut_breaks new failures_new cut =
       let batches = sends.batches ++ last_batch sends.left in
-      let none = sym (drop-length batches) in
-      record {
-        count = suc (length batches);
-        accepts = (
-          sends.out.accepts_schema,
-          subst (AllByRecursion (AcceptsBatch writer.limits s)) (sym (take-length batches)) sends.out.accepts,
-        );
-        refuses = subst (λ l. RefusesFirst writer.limits s l w.Write) none refl;
-        state = Some (begun s);
-        x = sends.out.sent.x;
-        run = subst (λ (es : List Event). Run writer.limits None sends.out.sent.x (schema s ∷ es) (Some (begun s)))
-            (sym (ap (λ bs. take (length batches) (map batch bs)) (sym (append-nil batches)) ∙ take_events batches []))
-            sends.out.sent.whole;
-        between = writer.written;
-        bytes = sends.out.sent.bytes;
-        unsent = subst (λ l. NotSentWhole (AddsNext writer.limits s l) writer.written new failures failures_new w.Write) none cut;
-      }
-
-  written_whole : ¬ (w.Write ≡ w.TooLong)
-  written_whole is = cc
+      let out = subst (λ bs. tables.IsOut writer.limits (table_of s bs) old writer.written failures writer.failures (length batches))
+      (append-nil batches) (first_out s batches [] old failures writer sends.out) in
+      tables.end_broken (table_of s batches) old writer.written new failures writer.failures failures_new (length batches) out
+      (omega arith) (Err w.Write) cut refl
 
   cut_stops : (new : Option (List ℕ)) (failures_new : ℕ) → CutShort EndsStream writer.written new failures_new
       → StopsWriting input s size old new failures failures_new w.Write
@@ -187,7 +159,7 @@ module _ (input : Option (List ℕ)) (s : Schema) (size : ℕ) (old : Option (Li
     batched = sends.batched;
     breaks = cut_breaks new failures_new cut;
     all = λ _ _. sends.all;
-    first = λ is. absurd (written_whole is);
+    first = λ is. absurd is;
   }
 
   -- a conversion stops where the end mark isn't out whole

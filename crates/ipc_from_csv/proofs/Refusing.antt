@@ -11,7 +11,8 @@ use Rattle.ipc_model.specs.declared.schema.Field.{Field}
 use Rattle.ipc_model.specs.declared.schema.Schema.{Schema}
 use Rattle.ipc_model.specs.declared.table.BatchRows.{BatchRows}
 use Rattle.ipc_model.specs.declared.value.Value.{Value}
-use Rattle.ipc_stream.specs.Writing.{Misfits, RefusesBatch, RefusesFirst, RefusesNext, RefusesSchema}
+use Rattle.ipc_stream.specs.Writing.{Misfits, RefusesBatch, RefusesFirst, RefusesNext, RefusesSchema, many_slots, many_values}
+use Rattle.ipc_stream.proofs.OverLimit.{none_full, none_over}
 use Rattle.ipc_csv.specs.CsvRows.{EachReadsAs}
 use Rattle.ipc_from_csv.specs.Batches.{IsFull, last_batch}
 use Rattle.ipc_from_csv.specs.Conversion.{Answers, IsLeftToRefuse, StopsFor, StopsWriting, table_of}
@@ -86,7 +87,7 @@ good_batches fields size (b ∷ batches) left few full fit =
 
 -- ---- what is left
 
-schema_left : (limits : Limits) (s : Schema) (fault : WriteFault) → RefusesSchema limits s fault → IsLeftToRefuse fault
+schema_left : (limits : Limits) (s : Schema) (fault : WriteFault) → RefusesSchema limits s fault → IsLeftToRefuse s fault
 schema_left limits s w.BadSchema r = tt
 schema_left limits s w.TooLong r = tt
 schema_left limits s w.Write r = tt
@@ -101,31 +102,32 @@ module _ (limits : Limits) (s : Schema) (size : ℕ) (flat : AreFlat s.fields) (
   none_misfits : (fault : WriteFault) → Misfits s.fields b.rows fault → ⊥
   none_misfits fault m = m.misfit (all_at (RowFits s.fields) b.rows [] m.number m.inside good.fit)
 
-  batch_left : (fault : WriteFault) → RefusesBatch limits s b fault → IsLeftToRefuse fault
+  batch_left : (fault : WriteFault) → RefusesBatch limits s b fault → IsLeftToRefuse s fault
   batch_left w.BadSchema r = tt
   batch_left w.TooLong r = tt
   batch_left w.Write r = tt
   batch_left w.OutOfMemory r = tt
   batch_left (w.Row row cause) r = absurd (none_misfits (w.Row row cause) r)
-  batch_left w.DictionaryFull r = absurd (none_misfits w.DictionaryFull r)
-  batch_left w.TooManyRows r = absurd (flat_rows limits s.fields b.rows flat (omega (arith, within, good.few)) r)
+  batch_left w.DictionaryFull r = λ none. none_full s b.rows none r
+  batch_left w.TooManyRows (many_slots r) = absurd (flat_rows limits s.fields b.rows flat (omega (arith, within, good.few)) r)
+  batch_left w.TooManyRows (many_values r) = λ none. none_over limits s b.rows w.TooManyRows none r
   batch_left w.Failed r = absurd (none_misfits w.Failed r)
 
 first_left : (limits : Limits) (s : Schema) (size : ℕ) → AreFlat s.fields → size ≤ limits.slots → (batches : List BatchRows)
-    → AllByRecursion (IsGood s.fields size) batches → (fault : WriteFault) → RefusesFirst limits s batches fault → IsLeftToRefuse fault
-first_left limits s size flat within [] good fault r = subst IsLeftToRefuse (sym r) tt
+    → AllByRecursion (IsGood s.fields size) batches → (fault : WriteFault) → RefusesFirst limits s batches fault → IsLeftToRefuse s fault
+first_left limits s size flat within [] good fault r = subst (IsLeftToRefuse s) (sym r) tt
 first_left limits s size flat within (b ∷ batches) good fault r = batch_left limits s size flat within b good.0 fault r
 
 next_left : (limits : Limits) (s : Schema) (size : ℕ) → AreFlat s.fields → size ≤ limits.slots → (batches : List BatchRows)
     → AllByRecursion (IsGood s.fields size) batches → (count : ℕ) (fault : WriteFault) → RefusesNext limits (table_of s batches) count fault
-    → IsLeftToRefuse fault
+    → IsLeftToRefuse s fault
 next_left limits s size flat within batches good zero fault r = schema_left limits s fault r
 next_left limits s size flat within batches good (suc count) fault r =
     first_left limits s size flat within (drop count batches) (all_drop (IsGood s.fields size) batches count good) fault r
 
 -- of the rows of records the writer refuses only what is left
 pub left_to_refuse : (input : Option (List ℕ)) (s : Schema) (size : ℕ) (old new : Option (List ℕ)) (f0 f1 : ℕ) (fault : WriteFault)
-    → size ≤ 2 ^ 31 - 1 → StopsWriting input s size old new f0 f1 fault → IsLeftToRefuse fault
+    → size ≤ 2 ^ 31 - 1 → StopsWriting input s size old new f0 f1 fault → IsLeftToRefuse s fault
 left_to_refuse input s size old new f0 f1 fault within stops =
     let fill = stops.batched.fill in
     let fit = rows_fit s.fields stops.records stops.batched.rows stops.batched.read in
@@ -137,7 +139,7 @@ left_to_refuse input s size old new f0 f1 fault within stops =
 -- the same of an answer
 pub answers_left : (input : Option (List ℕ)) (s : Schema) (size : ℕ) (old new : Option (List ℕ)) (f0 f1 : ℕ) (r : Result Unit Stop)
     → size ≤ 2 ^ 31 - 1 → Answers input s size old new f0 f1 r
-    → IfErr r (λ why. (fault : WriteFault) → why ≡ stop.Write fault → IsLeftToRefuse fault)
+    → IfErr r (λ why. (fault : WriteFault) → why ≡ stop.Write fault → IsLeftToRefuse s fault)
 answers_left input s size old new f0 f1 (Ok x) within answers = tt
 answers_left input s size old new f0 f1 (Err why) within answers = λ fault is.
     left_to_refuse input s size old new f0 f1 fault within (subst (λ z. StopsFor input s size old new f0 f1 z) is answers)

@@ -1,22 +1,24 @@
 -- Rows gathered in batches, and batches sent.
-use Rattle.std.proofs.Common.{◌≡◌, ◌∙◌, refl, sym, ap, subst, ℕ, ◌<◌, List, [], ◌∷◌, ◌++◌, length, map}
-use Rattle.std.proofs.Common.{Option, Some, None, append_assoc, arith}
+use Rattle.std.proofs.Common.{◌≡◌, ◌∙◌, refl, sym, ap, subst, ℕ, ◌<◌, List, [], ◌∷◌, ◌++◌, length}
+use Rattle.std.proofs.Common.{Option, append_assoc, arith}
 use Rattle.std.specs.Prelude.{flat_map, Ok, true}
 use Rattle.std.specs.List.{AllByRecursion}
 use Rattle.std.proofs.KnownBytes.{Appends-trans}
-use Rattle.std.proofs.lemmas.List.{append-nil, map-append}
+use Rattle.std.proofs.lemmas.List.{append-nil}
 use Rattle.std.proofs.lemmas.List.Concat.{flat_map-append}
 use Rattle.ipc_model.specs.declared.schema.Field.{Field}
 use Rattle.ipc_model.specs.declared.schema.Schema.{Schema}
 use Rattle.ipc_model.specs.declared.table.BatchRows.{BatchRows}
 use Rattle.ipc_model.specs.declared.value.Value.{Value}
-use Rattle.ipc_decode.specs.Stream.{begun, Event, Run, batch, schema, AddsBatch, OpensStream}
-use Rattle.ipc_stream.specs.Writer.{Leaves, Starts, Writer}
+use Rattle.ipc_stream.specs.Dictionaries.{SendsBatch, SendsTable, kept_after, none_sent}
+use Rattle.ipc_stream.specs.OpenStreams.{Opened}
+use Rattle.ipc_stream.specs.Writer.{LeavesBatch, Starts, Writer}
 use Rattle.ipc_stream.specs.Writing.{AcceptsBatch, AcceptsSchema, Sent}
-use Rattle.ipc_decode.proofs.Runs.{run_then}
+use Rattle.ipc_stream.proofs.Chains.{kept_then, schema_sends, table_then}
 use Rattle.ipc_model.specs.Limits.{IsStandard}
 use Rattle.ipc_csv.specs.CsvRows.{RecordReadsAs}
 use Rattle.ipc_from_csv.specs.Batches.{AreBatched, IsFull, batch_of, last_batch}
+use Rattle.ipc_from_csv.specs.Conversion.{table_of}
 use Rattle.ipc_from_csv.specs.Records.{EachRecordReadsAs}
 use Rattle.ipc_from_csv.specs.Steps.{Begins, Came, FindsRow, IsOut}
 use Rattle.ipc_from_csv.specs.declared.rows.RowReader.{RowReader}
@@ -52,43 +54,54 @@ each_front fields (t ∷ records) (r ∷ rows) texts row each = (each.0, each_fr
 -- behind its start a writer has sent the schema, and no batch
 pub starts_out : (s : Schema) (old : Option (List ℕ)) (failures : ℕ) (writer : Writer) {limits : _} → IsStandard limits
     → Starts limits s old failures writer → IsOut s [] old failures writer
-starts_out s old failures writer standard starts = record {
+starts_out s old failures writer {limits} standard starts = record {
   standard = subst IsStandard (sym starts.same_limits) standard;
   same_schema = starts.same_schema;
   works = starts.works;
-  sent = subst (λ l. Sent (OpensStream l s) old writer.written failures writer.failures) (sym starts.same_limits) starts.sent;
+  sent = subst (λ l. Sent (SendsTable l (table_of s [])) old writer.written failures writer.failures) (sym starts.same_limits) (record {
+    x = starts.sent.x;
+    whole = schema_sends limits s starts.sent.x starts.sent.whole;
+    bytes = starts.sent.bytes;
+    worked = starts.sent.worked;
+    works = starts.sent.works;
+  });
+  kept = starts.nothing_kept;
   accepts_schema = subst (λ l. AcceptsSchema l s) (sym starts.same_limits) starts.accepts;
   accepts = tt;
 }
 
 module _ (s : Schema) (batches : List BatchRows) (old : Option (List ℕ)) (failures : ℕ) (writer new : Writer)
     (out : IsOut s batches old failures writer) (b : BatchRows) where
-  sent_more : Sent (AddsBatch writer.limits s b) writer.written new.written writer.failures new.failures
-      → Sent (λ x. Run writer.limits None x (schema s ∷ map batch (batches ++ b ∷ [])) (Some (begun s))) old new.written
-      failures new.failures
+  -- what is true of the schema of the writer and of what it sent is true of these batches'
+  pub as_out : (P : Opened → Type 0) → P (record { limits = writer.limits; schema = writer.schema; kept = writer.kept })
+      → P (record { limits = writer.limits; schema = s; kept = kept_after s.fields (none_sent s) batches })
+  as_out P h = subst P (λ i. record { limits = writer.limits; schema = out.same_schema i; kept = out.kept i }) h
+
+  sent_more : Sent (SendsBatch writer.limits s (kept_after s.fields (none_sent s) batches) b) writer.written new.written writer.failures
+      new.failures → Sent (SendsTable writer.limits (table_of s (batches ++ b ∷ []))) old new.written failures new.failures
   sent_more sent = record {
     x = out.sent.x ++ sent.x;
-    whole = subst (λ (es : List Event). Run writer.limits None (out.sent.x ++ sent.x) (schema s ∷ es) (Some (begun s)))
-        (sym (map-append batch batches (b ∷ []))) (run_then _ _ _ out.sent.x sent.x _ _ out.sent.whole sent.whole);
+    whole = table_then writer.limits s batches (b ∷ []) out.sent.x sent.x out.sent.whole sent.whole;
     bytes = Appends-trans old writer.written new.written out.sent.x sent.x out.sent.bytes sent.bytes;
     worked = out.sent.worked;
     works = sent.works;
   }
 
   -- a batch that was sent is one batch more that is out
-  pub batch_out : Leaves (AddsBatch writer.limits writer.schema b) writer new (Ok tt) → AcceptsBatch writer.limits writer.schema b
+  pub batch_out : LeavesBatch writer b new (Ok tt) → AcceptsBatch writer.limits writer.schema b
       → IsOut s (batches ++ b ∷ []) old failures new
   batch_out leaves accepts =
-      let (worked, sent, same_schema, same_limits, works) = leaves in
-      let first = subst (λ z. Sent (AddsBatch writer.limits z b) writer.written new.written writer.failures new.failures) out.same_schema
-      sent in
-      let fits = subst (λ z. AcceptsBatch writer.limits z b) out.same_schema accepts in
+      let (worked, sent, same_schema, same_limits, works, kept) = leaves in
+      let first = as_out (λ z. Sent (SendsBatch z.limits z.schema z.kept b) writer.written new.written writer.failures new.failures) sent in
+      let fits = as_out (λ z. AcceptsBatch z.limits z.schema b) accepts in
+      let kept_here = as_out (λ z. new.kept ≡ kept_after z.schema.fields z.kept (b ∷ [])) kept in
       record {
         standard = subst IsStandard (sym same_limits) out.standard;
         same_schema = same_schema ∙ out.same_schema;
         works = works;
-        sent = subst (λ l. Sent (λ x. Run l None x (schema s ∷ map batch (batches ++ b ∷ [])) (Some (begun s))) old
-            new.written failures new.failures) (sym same_limits) (sent_more first);
+        sent = subst (λ l. Sent (SendsTable l (table_of s (batches ++ b ∷ []))) old new.written failures new.failures) (sym same_limits)
+            (sent_more first);
+        kept = kept_here ∙ sym (kept_then s.fields (none_sent s) batches (b ∷ []));
         accepts_schema = subst (λ l. AcceptsSchema l s) (sym same_limits) out.accepts_schema;
         accepts = subst (λ l. AllByRecursion (AcceptsBatch l s) (batches ++ b ∷ [])) (sym same_limits)
             (all_push (AcceptsBatch writer.limits s) batches b out.accepts fits);
@@ -147,7 +160,7 @@ module _ {R : Type 0} (remaining : R → Option (List ℕ)) (input : Option (Lis
 
     -- the rows that were left went out as a full batch
     pub came_sent : (new : Writer) → 0 < size → length left ≡ size
-        → Leaves (AddsBatch writer.limits writer.schema (batch_of left)) writer new (Ok tt)
+        → LeavesBatch writer (batch_of left) new (Ok tt)
         → AcceptsBatch writer.limits writer.schema (batch_of left) → Came remaining input s size old failures now new []
     unfolding came_filled
     came_sent new some full leaves accepts = record {

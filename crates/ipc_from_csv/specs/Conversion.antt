@@ -13,6 +13,7 @@ use Rattle.ipc_model.specs.declared.table.Table.{Table}
 use Rattle.ipc_model.specs.declared.value.Value.{Value}
 use Rattle.ipc_decode.specs.declared.end.End.TheVariants.{Closed, Mark}
 use Rattle.ipc_decode.specs.Stream.{Denotes}
+use Rattle.ipc_stream.specs.Dictionaries.{none_sent}
 use Rattle.ipc_stream.specs.Writing.{AcceptsTable, BreaksOff, Sent}
 use Rattle.ipc_csv.specs.CsvRows.{IsHeaderFault, IsRecordFault}
 use Rattle.ipc_csv.specs.RowCsv.{flat_fault, names}
@@ -114,8 +115,17 @@ pub record AreAccepted (limits : Limits) (s : Schema) (size : ℕ)
   pub batched : AreBatched s size records batches left
   pub accepts : AcceptsTable limits (table_of s (batches ++ last_batch left))
 
--- Writing the table of some first records broke off. W6 comes at the last of these: the table of
--- those before it is accepted. W9 comes only where the last batch is full, or all records were read
+-- the faults of rows that fit: a batch or the values of a dictionary are too long or too many (W6
+-- to W8)
+abbrev pub IsOfLengths : WriteFault → Type 0
+IsOfLengths write.TooLong = ⊤
+IsOfLengths write.DictionaryFull = ⊤
+IsOfLengths write.TooManyRows = ⊤
+IsOfLengths fault = ⊥
+
+-- Writing the table of some first records broke off. W6 to W8 come at the last of these: the table
+-- of those before it is accepted. W9 comes only where the last batch is full, or all records were
+-- read
 pub record StopsWriting (input : Option (List ℕ)) (s : Schema) (size : ℕ) (old new : Option
     (List ℕ))
     (failures_old failures_new : ℕ) (fault : WriteFault) : Type 0 where
@@ -129,17 +139,20 @@ pub record StopsWriting (input : Option (List ℕ)) (s : Schema) (size : ℕ) (o
   pub breaks : BreaksOff limits (table_of s (batches ++ last_batch left)) old new failures_old
       failures_new fault
   pub all : fault ≡ write.Write → left ≢ [] → AreRecordsOf input (names s.fields ∷ records)
-  pub first : fault ≡ write.TooLong → (before : List (List (List ℕ))) (texts : List (List ℕ))
+  pub first : IsOfLengths fault → (before : List (List (List ℕ))) (texts : List (List ℕ))
       → records ≡ before ++ texts ∷ [] → AreAccepted limits s size before
 
--- what the writer may refuse of rows that fit, in batches that aren't too large: the schema (W1,
--- W6), a batch that is too long (W6), for a sink that failed (W9) or for want of memory (W11)
-abbrev pub IsLeftToRefuse : WriteFault → Type 0
-IsLeftToRefuse write.BadSchema = ⊤
-IsLeftToRefuse write.TooLong = ⊤
-IsLeftToRefuse write.Write = ⊤
-IsLeftToRefuse write.OutOfMemory = ⊤
-IsLeftToRefuse fault = ⊥
+-- What the writer may refuse of rows that fit, in batches that aren't too large: the schema (W1,
+-- W6), a batch that is too long (W6), where the schema names a dictionary its values as too many
+-- (W7, W8), and a batch for a sink that failed (W9) or for want of memory (W11)
+abbrev pub IsLeftToRefuse : Schema → WriteFault → Type 0
+IsLeftToRefuse s write.BadSchema = ⊤
+IsLeftToRefuse s write.TooLong = ⊤
+IsLeftToRefuse s write.DictionaryFull = none_sent s ≢ []
+IsLeftToRefuse s write.TooManyRows = none_sent s ≢ []
+IsLeftToRefuse s write.Write = ⊤
+IsLeftToRefuse s write.OutOfMemory = ⊤
+IsLeftToRefuse s fault = ⊥
 
 -- why no whole stream was made, and what went out
 abbrev pub StopsFor : Option (List ℕ) → Schema → ℕ → Option (List ℕ) → Option (List ℕ) → ℕ → ℕ

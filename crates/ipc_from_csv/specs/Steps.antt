@@ -1,6 +1,6 @@
 -- How far a conversion came.
 use Rattle.std.specs.Prelude.{◌≡◌, ◌⊎◌, ℕ, ◌<◌, ◌+◌, Bool, true, false, List, [], ◌∷◌, ◌++◌}
-use Rattle.std.specs.Prelude.{flat_map, length, map, Option, Some, None, Result, Ok, Err}
+use Rattle.std.specs.Prelude.{flat_map, length, Option, None, Result, Ok, Err}
 use Rattle.std.specs.List.{AllByRecursion}
 use Rattle.ipc_model.specs.Limits.{IsStandard}
 use Rattle.ipc_model.specs.declared.schema.Schema.{Schema}
@@ -9,13 +9,13 @@ use Rattle.ipc_model.specs.declared.value.Value.{Value}
 use Rattle.ipc_moments.specs.declared.fault.TextFault.TheVariants.{OutOfMemory}
 use Rattle.ipc_stream.specs.declared.pushed.PushedRows.{PushedRows}
 use Rattle.ipc_stream.specs.Pushed.{HoldsBatch}
-use Rattle.ipc_decode.specs.Stream.{begun, Run, batch, schema}
+use Rattle.ipc_stream.specs.Dictionaries.{SendsTable, kept_after, none_sent}
 use Rattle.ipc_stream.specs.Writer.{Writer}
 use Rattle.ipc_stream.specs.Writing.{AcceptsBatch, AcceptsSchema, Sent}
 use Rattle.ipc_csv.specs.CsvRows.{IsRecordFault}
 use Rattle.ipc_csv.specs.RowCsv.{flat_fault, names}
 use Rattle.ipc_from_csv.specs.Batches.{AreBatched, IsFull, batch_of, last_batch}
-use Rattle.ipc_from_csv.specs.Conversion.{StopsFor}
+use Rattle.ipc_from_csv.specs.Conversion.{StopsFor, table_of}
 use Rattle.ipc_from_csv.specs.Records.{AreFirstRecordsOf, AreRecordsOf, EachRecordReadsAs, Stands}
 use Rattle.ipc_from_csv.specs.declared.rows.RowReader.{RowReader}
 use Rattle.ipc_from_csv.specs.declared.stop.Stop.{Stop}
@@ -49,14 +49,16 @@ RefusesNext input s records why = (why ≡ stop.Input) ⊎ (why ≡ stop.Text Ou
 
 -- ---- rows sent in batches
 
--- the schema and these batches went out to a sink, each of them accepted, and its writer goes on
+-- the schema and these batches went out to a sink, each of them accepted and behind its
+-- dictionaries, and its writer goes on
 pub record IsOut (s : Schema) (batches : List BatchRows) (old : Option (List ℕ)) (failures : ℕ)
     (writer : Writer) : Type 0 where
   pub standard : IsStandard writer.limits
   pub same_schema : writer.schema ≡ s
   pub works : writer.failed ≡ false
-  pub sent : Sent (λ x. Run writer.limits None x (schema s ∷ map batch batches)
-      (Some (begun s))) old writer.written failures writer.failures
+  pub sent : Sent (SendsTable writer.limits (table_of s batches)) old writer.written failures
+      writer.failures
+  pub kept : writer.kept ≡ kept_after s.fields (none_sent s) batches
   pub accepts_schema : AcceptsSchema writer.limits s
   pub accepts : AllByRecursion (AcceptsBatch writer.limits s) batches
 

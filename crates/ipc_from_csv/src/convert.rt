@@ -144,19 +144,21 @@ fn send_stream<R: Read, W: Sink>(
 /// A byte order mark at the start is dropped, and blank lines are no records. The first record is
 /// the header, with the names of the columns in their order. Each record behind it becomes a row by
 /// `ipc_text::row_from_csv`. No record makes a stream without batches. Under `Limits::standard()`
-/// the schema goes out once the header is right, each batch as soon as its last record is read, and
-/// at the end the end-of-stream mark; then the sink is flushed. One record is kept, one row, and
-/// the buffers of one batch.
+/// the schema goes out once the header is right, each batch, behind the dictionaries that it needs,
+/// as soon as its last record is read, and at the end the end-of-stream mark; then the sink is
+/// flushed. One record is kept, one row, the buffers of one batch, and the values of the
+/// dictionaries.
 ///
 /// `batch` is from 1 to 2^31 - 1. What went out before a refusal stands: the full batches of the
 /// records before it. Text X1 and X2 come before anything is read; X5 and X4 of record 0, the
 /// header, before anything goes out, and so X5 where there is no record; X5 and X4 of a record
 /// behind it, counted from 1, where it reads as no row. Write has the refusals of
-/// `StreamWriter::start` and `finish` and of `BatchWriter`: W1 and W6 for the schema, W6 at the
-/// record with which its batch is too long, before the next is read, W9 where the sink failed, W11
-/// where memory was refused. Input is returned where the reader failed or gave more than 2^64 - 1
-/// records behind the header, and Text OutOfMemory where memory for a record or its row was
-/// refused.
+/// `StreamWriter::start` and `finish` and of `BatchWriter`: W1 and W6 for the schema; at a record,
+/// before the next is read, W6 where with it the batch or the values of a dictionary in it are too
+/// long, W7 where these are more than an index type of the dictionary's fields counts, W8 where
+/// they are more than `limits.slots`; W9 where the sink failed, W11 where memory was refused. Input
+/// is returned where the reader failed or gave more than 2^64 - 1 records behind the header, and
+/// Text OutOfMemory where memory for a record or its row was refused.
 pub fn from_csv<R: Read, W: Sink>(
     alloc: Global,
     input: R,
@@ -174,9 +176,10 @@ pub fn from_csv<R: Read, W: Sink>(
     // At a refusal, its cause, and exactly what went out before it.
     ensures stopped { IfErr result.0 (λ why. StopsFor (R.remaining input) schema.now batch
         (W.written sink) (W.written result.2) (W.failures sink) (W.failures result.2) why) }
-    // The rows fit and the batches aren't too large, so W2 to W5 and W8 don't come.
+    // The rows fit and the batches aren't too large, so W2 to W5 don't come, and W7 and W8 only of
+    // the values of a dictionary.
     ensures left { IfErr result.0 (λ why. (fault : WriteFault) → why ≡ stop.Write fault
-        → IsLeftToRefuse fault) }
+        → IsLeftToRefuse schema.now fault) }
     // W9 comes only where the sink failed.
     ensures failed { result.0 ≡ Err (stop.Write WriteFault.Write) → W.failures result.2 ≡ 1 }
     // Any other answer leaves a sink that works as one.

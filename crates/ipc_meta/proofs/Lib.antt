@@ -23,5 +23,4 @@ pub mod WrittenHeads
 pub mod WrittenTrees
 pub mod WrittenOrder
 pub mod WrittenAnswers
-pub mod SupportedLemmas
 pub mod Wider

@@ -1,6 +1,8 @@
 -- What the calls that write metadata answer.
 use Rattle.std.proofs.Common.{◌≡◌, ◌∙◌, ap, subst, ℕ, ◌<◌, ◌≤◌, List, ◌++◌, inl, inr, arith}
-use Rattle.std.specs.Prelude.{◌⊎◌, Result, Ok, Err, IfOk, IfErr}
+use Rattle.std.specs.Prelude.{ℤ, FitsSigned, ◌⊎◌, Result, Ok, Err, IfOk, IfErr}
+use Rattle.std.specs.Int.{w64, cast_signed, cast_unsigned}
+use Rattle.std.proofs.lemmas.Int.{to_z-of_z}
 use Rattle.ipc_model.specs.WellFormed.{WellFormed}
 use Rattle.ipc_model.specs.declared.fault.WriteFault.{WriteFault}
 use Rattle.ipc_model.specs.declared.fault.WriteFault.TheVariants.{TooLong, OutOfMemory}
@@ -12,11 +14,11 @@ use Rattle.ipc_meta.specs.declared.head.BatchHead.{BatchHead}
 use Rattle.ipc_meta.specs.declared.head.Head.TheVariants as head
 use Rattle.ipc_meta.specs.Heads.{HeadOf}
 use Rattle.ipc_model.specs.Entries.{AllowPairs}
-use Rattle.ipc_meta.specs.Rooms.{schema_room, head_room, IsTooLong}
+use Rattle.ipc_meta.specs.Rooms.{schema_room, head_room, IsTooLong, dictionary_head_room, IsDictionaryTooLong}
 use Rattle.ipc_meta.specs.Rooms as too_long
-use Rattle.ipc_meta.specs.Written.{schema_message, batch_message}
-use Rattle.ipc_meta.proofs.WrittenHeads.{schema_stated, batch_stated}
-use Rattle.ipc_meta.proofs.WrittenOrder.{schema_needs, batch_room_opens}
+use Rattle.ipc_meta.specs.Written.{schema_message, batch_message, dictionary_message}
+use Rattle.ipc_meta.proofs.WrittenHeads.{schema_stated, batch_stated, dictionary_stated}
+use Rattle.ipc_meta.proofs.WrittenOrder.{schema_needs, batch_room_opens, dictionary_room_opens}
 use Rattle.ipc_model.specs.declared.limits.Limits.{Limits}
 
 -- what follows of each answer of a call follows where the call answers
@@ -78,3 +80,35 @@ pub not_too_long : (limits : Limits) (h : BatchHead) (ps : List (List ℕ × Lis
 not_too_long limits h ps m room body allowed (too_long.long_metadata long) = absurd (omega (arith, room, long))
 not_too_long limits h ps m room body allowed (too_long.long_body long) = absurd (omega (arith, body, long))
 not_too_long limits h ps m room body allowed (too_long.other_pairs other) = other allowed
+
+-- the id that the bits of a dictionary's id stand for is that id
+pub dictionary_is : (id : ℤ) (h : BatchHead) (m : ℕ) (f : Tree) → FitsSigned w64 id
+    → f ≡ dictionary_message (cast_signed w64 (cast_unsigned w64 id)) h m → f ≡ dictionary_message id h m
+dictionary_is id h m f fits e = e ∙ ap (λ (z : ℤ). dictionary_message z h m) (to_z-of_z w64 id fits)
+
+-- bytes in which the message of a dictionary batch lies state its id, its head and the length of its body
+pub dictionary_states : {limits : Limits} → (b : List ℕ) (id : ℤ) (h : BatchHead) (m : ℕ) (f : Tree) → m ≤ limits.body
+    → f ≡ dictionary_message id h m → ((rest : List ℕ) → Encodes (b ++ rest) f)
+    → (rest : List ℕ) → HeadOf limits (b ++ rest) (head.Dictionary id h) m
+dictionary_states b id h m f small e lies rest =
+    dictionary_stated (b ++ rest) id h m small (lies_as b f (dictionary_message id h m) e lies rest)
+
+-- the room of a dictionary batch's message is the one that the definition gives
+pub dictionary_room_is : (id : ℤ) (h : BatchHead) (m : ℕ) (f : Tree) → f ≡ dictionary_message id h m → room f ≡ dictionary_head_room id h m
+dictionary_room_is id h m f e = ap room e ∙ dictionary_room_opens id h m
+
+-- a dictionary batch is refused where memory ran out, or where its message is longer than metadata may be
+pub dictionary_refused : (limits : Limits) (id : ℤ) (h : BatchHead) (m : ℕ) (f : Tree) (fault : WriteFault)
+    → f ≡ dictionary_message id h m → NoRoom limits f fault
+    → (fault ≡ OutOfMemory) ⊎ ((fault ≡ TooLong) × IsDictionaryTooLong limits id h m)
+dictionary_refused limits id h m f fault e (inl o) = inl o
+dictionary_refused limits id h m f fault e (inr t) = inr (
+  t.0,
+  too_long.IsDictionaryTooLong.long_metadata (subst (λ (n : ℕ). limits.metadata < n) (dictionary_room_is id h m f e) t.1),
+)
+
+-- a dictionary batch that has room and a body within the limit is not too long
+pub dictionary_not_too_long : (limits : Limits) (id : ℤ) (h : BatchHead) (m : ℕ) → dictionary_head_room id h m ≤ limits.metadata
+    → m ≤ limits.body → IsDictionaryTooLong limits id h m → ⊥
+dictionary_not_too_long limits id h m room body (too_long.long_metadata long) = absurd (omega (arith, room, long))
+dictionary_not_too_long limits id h m room body (too_long.long_body long) = absurd (omega (arith, body, long))

@@ -1,5 +1,5 @@
 -- Heads that were written are those that are read.
-use Rattle.std.proofs.Common.{◌≡◌, ◌∙◌, refl, ap, subst, ℕ, ◌+◌, ◌≤◌, List, [], ◌∷◌, length, arith}
+use Rattle.std.proofs.Common.{◌≡◌, ◌∙◌, refl, ap, subst, ℕ, ◌+◌, ◌≤◌, false, List, [], ◌∷◌, length, arith}
 use Rattle.std.specs.Prelude.{ℤ, pos, Option, Some, Result, Ok}
 use Rattle.ipc_scalar.specs.Bytes.{byte, int16, int64}
 use Rattle.ipc_scalar.specs.declared.fault.FlatFault.{FlatFault}
@@ -15,10 +15,11 @@ use Rattle.ipc_model.specs.Entries.{AllowPairs}
 use Rattle.ipc_meta.specs.Fields.{SchemaAt, FieldAt, VectorAt, PairAt}
 use Rattle.ipc_meta.specs.declared.head.BatchHead.{BatchHead}
 use Rattle.ipc_meta.specs.declared.head.Head.TheVariants as head
-use Rattle.ipc_meta.specs.Heads.{number_pairs, pairs_in, numbers_at, BatchAt, HeadOf}
+use Rattle.ipc_meta.specs.Heads.{number_pairs, pairs_in, numbers_at, BatchAt, DictionaryAt, HeadOf}
 use Rattle.ipc_meta.specs.Written.{field_tree, schema_tree, batch_tree, message_tree, schema_message, batch_message}
+use Rattle.ipc_meta.specs.Written.{dictionary_batch_tree, dictionary_message}
 use Rattle.ipc_meta.proofs.Standing.{Any, tab, Holds, scalar_there, scalar_absent, field_there, field_absent, table_there, structs_there}
-use Rattle.ipc_meta.proofs.WrittenParts.{vector_lies, pairs_there, neither, no_pairs, pairs_absent}
+use Rattle.ipc_meta.proofs.WrittenParts.{flag_there, vector_lies, pairs_there, neither, no_pairs, pairs_absent}
 use Rattle.ipc_meta.proofs.WrittenFields.{fields_written}
 use Rattle.ipc_model.specs.declared.limits.Limits.{Limits}
 
@@ -70,6 +71,23 @@ batch_there b t h held =
       uncompressed = field_absent b t 3 table_from
           (held.stands.absent 3 4 (neither (λ e. omega (arith, e))
           (neither (λ e. omega (arith, e)) (neither (λ e. omega (arith, e)) (λ z. z)))));
+    }
+
+-- a table written for a dictionary batch states its id and its head, and is no delta
+pub dictionary_there : (b : List ℕ) (t : ℕ) (id : ℤ) (h : BatchHead) → Holds b t (dictionary_batch_tree id h) → DictionaryAt (tab b t) id h
+unfolding EncodesTable
+dictionary_there b t id h held =
+    let named = held.lies.0 in
+    let values = held.lies.1.0 in
+    let whole = held.lies.1.1.0 in
+    record {
+      named = scalar_there b t 0 8 named.0 int64 (pos 0) named.1.0 ∙ ap Ok named.3;
+      values = (
+        tab b values.3.0,
+        field_there b t 1 values.0 table_from (tab b values.3.0) values.1.0 (table_there b values.0 values.3.0 values.3.1),
+        batch_there b values.3.0 h (record { stands = values.3.2; lies = values.3.3 }),
+      );
+      whole = flag_there b t 2 whole.0 false whole.1.0 whole.3;
     }
 
 -- ---- messages
@@ -140,4 +158,19 @@ batch_stated b h pairs body small allowed lies =
         (m.coded, (tab b m.u, m.headed, batch_there b m.u h m.held)),
         record { stated = m.paired; allowed = allowed },
       );
+    }
+
+-- metadata in which the message of a dictionary batch lies states its id, its head and the length of its body
+pub dictionary_stated : {limits : Limits} → (b : List ℕ) (id : ℤ) (h : BatchHead) (body : ℕ) → body ≤ limits.body
+    → Encodes b (dictionary_message id h body)
+    → HeadOf limits b (head.Dictionary id h) body
+dictionary_stated b id h body small lies =
+    let m = message_there b 2 body (dictionary_batch_tree id h) [] lies in
+    record {
+      root = tab b m.t;
+      stands = m.stands;
+      version = m.version;
+      body = m.body;
+      fits = small;
+      header = (m.coded, (tab b m.u, m.headed, dictionary_there b m.u id h m.held));
     }

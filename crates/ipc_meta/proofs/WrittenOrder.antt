@@ -16,9 +16,10 @@ use Rattle.ipc_build.specs.Ascends.{fields, elements, Ascends}
 use Rattle.ipc_build.specs.Room.{room, targets_room}
 use Rattle.ipc_meta.specs.declared.head.BatchHead.{BatchHead}
 use Rattle.ipc_model.specs.Entries.{pair_text}
-use Rattle.ipc_meta.specs.Rooms.{schema_room, head_room, zeros, batch_room}
+use Rattle.ipc_meta.specs.Rooms.{schema_room, head_room, zeros, batch_room, dictionary_head_room, dictionary_room}
 use Rattle.ipc_meta.specs.Written.{pair_tree, with_pairs, with_tables, int_tree, type_tree, dictionary_tree, with_dictionary, field_step}
 use Rattle.ipc_meta.specs.Written.{field_tree, schema_tree, batch_tree, message_tree, schema_message, batch_message}
+use Rattle.ipc_meta.specs.Written.{dictionary_batch_tree, dictionary_message}
 
 abbrev InOrder : Tree → Type 0
 InOrder f = Ascends (fields 0) f
@@ -147,6 +148,11 @@ batch_in_order : (b : BatchHead) → InOrder (batch_tree b)
 unfolding Ascends
 batch_in_order b = (omega arith, omega arith, tt, (omega arith, omega arith, tt, (omega arith, omega arith, tt, tt)))
 
+dictionary_batch_in_order : (id : ℤ) (b : BatchHead) → InOrder (dictionary_batch_tree id b)
+unfolding Ascends
+dictionary_batch_in_order id b =
+    (omega arith, omega arith, tt, (omega arith, omega arith, batch_in_order b, (omega arith, omega arith, tt, tt)))
+
 -- in each table of a schema's message the numbers of the fields ascend
 pub schema_ascends : (s : Schema) (code m : ℕ) (ps : List (List ℕ × List ℕ)) (f g : Tree) → g ≡ message_tree code f m ps
     → f ≡ schema_tree s → Ascends (fields 0) g
@@ -158,6 +164,11 @@ pub batch_ascends : (b : BatchHead) (ps : List (List ℕ × List ℕ)) (m : ℕ)
     → Ascends (fields 0) g
 batch_ascends b ps m f g e h = subst (λ (x : Tree). InOrder x) (sym e)
     (subst (λ (x : Tree). InOrder (message_tree 3 x m ps)) (sym h) (message_in_order 3 m (batch_tree b) ps (batch_in_order b)))
+
+-- in each table of a dictionary batch's message the numbers of the fields ascend
+pub dictionary_ascends : (id : ℤ) (b : BatchHead) (m : ℕ) (f : Tree) → f ≡ dictionary_message id b m → Ascends (fields 0) f
+dictionary_ascends id b m f e =
+    subst (λ (x : Tree). InOrder x) (sym e) (message_in_order 2 m (dictionary_batch_tree id b) [] (dictionary_batch_in_order id b))
 
 -- ---- room
 
@@ -201,6 +212,34 @@ batch_counts nodes buffers ps =
 pub batch_needs : (b : BatchHead) (ps : List (List ℕ × List ℕ)) (m : ℕ)
     → head_room b ps m ≡ batch_room (length b.nodes) (length b.buffers) ps
 batch_needs b ps m = let h = head_counts b ps m in let c = batch_counts (length b.nodes) (length b.buffers) ps in omega (arith, h, c)
+
+-- in numbers: 212, and 16 for each node and each buffer
+pub dictionary_head_counts : (id : ℤ) (b : BatchHead) (m : ℕ)
+    → dictionary_head_room id b m ≡ 212 + 16 * length b.nodes + 16 * length b.buffers
+unfolding targets_room entry_count members dictionary_head_room
+dictionary_head_counts id b m = omega arith
+
+-- the room of a dictionary batch's message is 212 bytes, and 16 for each node and each buffer
+pub dictionary_counts : (nodes buffers : ℕ) → dictionary_room nodes buffers ≡ 212 + 16 * nodes + 16 * buffers
+unfolding dictionary_room
+dictionary_counts nodes buffers =
+    let n = length-replicate {A = ℤ × ℤ} nodes (pos 0, pos 0) in
+    let b = length-replicate {A = ℤ × ℤ} buffers (pos 0, pos 0) in
+    let h = dictionary_head_counts (pos 0) (record { length = pos 0; nodes = zeros nodes; buffers = zeros buffers }) 0 in
+    omega (arith, h, n, b)
+
+-- the room of a dictionary batch's message depends on the numbers of its nodes and buffers alone
+pub dictionary_needs : (id : ℤ) (b : BatchHead) (m : ℕ)
+    → dictionary_head_room id b m ≡ dictionary_room (length b.nodes) (length b.buffers)
+dictionary_needs id b m =
+    let h = dictionary_head_counts id b m in
+    let c = dictionary_counts (length b.nodes) (length b.buffers) in
+    omega (arith, h, c)
+
+-- the room of a dictionary batch's message is that of its tree
+pub dictionary_room_opens : (id : ℤ) (b : BatchHead) (m : ℕ) → room (dictionary_message id b m) ≡ dictionary_head_room id b m
+unfolding dictionary_head_room
+dictionary_room_opens id b m = refl
 
 -- the room of a batch's message is that of its tree
 pub batch_room_opens : (b : BatchHead) (ps : List (List ℕ × List ℕ)) (m : ℕ) → room (batch_message b ps m) ≡ head_room b ps m

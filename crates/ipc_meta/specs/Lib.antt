@@ -1,4 +1,3 @@
-pub mod Supported
 pub mod Lifts
 pub mod Budgets
 pub mod Tables

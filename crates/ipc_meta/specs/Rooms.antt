@@ -6,7 +6,7 @@ use Rattle.ipc_model.specs.Entries.{AllowPairs}
 use Rattle.ipc_model.specs.declared.limits.Limits.{Limits}
 use Rattle.ipc_model.specs.declared.schema.Schema.{Schema}
 use Rattle.ipc_meta.specs.declared.head.BatchHead.{BatchHead}
-use Rattle.ipc_meta.specs.Written.{schema_message, batch_message}
+use Rattle.ipc_meta.specs.Written.{schema_message, batch_message, dictionary_message}
 
 -- the room of the metadata of a schema
 unfoldable pub schema_room : Schema → ℕ
@@ -32,3 +32,19 @@ pub data IsTooLong (limits : Limits) (head : BatchHead) (pairs : List (List ℕ 
 unfoldable pub batch_room : ℕ → ℕ → List (List ℕ × List ℕ) → ℕ
 batch_room nodes buffers pairs = head_room
     (record { length = pos 0; nodes = zeros nodes; buffers = zeros buffers }) pairs 0
+
+-- the room of the metadata of this dictionary batch with this id and a body of m bytes
+unfoldable pub dictionary_head_room : ℤ → BatchHead → ℕ → ℕ
+dictionary_head_room id head m = room (dictionary_message id head m)
+
+-- what is too long to be written of a dictionary batch: its metadata or its body
+pub data IsDictionaryTooLong (limits : Limits) (id : ℤ) (head : BatchHead) (m : ℕ) : Type 0 where
+  long_metadata : limits.metadata < dictionary_head_room id head m
+      → IsDictionaryTooLong limits id head m
+  long_body : limits.body < m → IsDictionaryTooLong limits id head m
+
+-- the room of the metadata of a dictionary batch with so many nodes and buffers, whatever its id is
+-- and whatever numbers they hold (`DictionaryRoomByCounts`)
+unfoldable pub dictionary_room : ℕ → ℕ → ℕ
+dictionary_room nodes buffers = dictionary_head_room (pos 0)
+    (record { length = pos 0; nodes = zeros nodes; buffers = zeros buffers }) 0

@@ -1,7 +1,7 @@
 -- What is written of schemas and batches: in each table the fields that are present, by their
 -- numbers, and what they hold. A field that has no place here is absent (Message.fbs, Schema.fbs).
-use Rattle.std.specs.Prelude.{ℕ, ℤ, pos, Bool, if◌then◌else◌, List, [], ◌∷◌, map, Option, None}
-use Rattle.std.specs.Prelude.{Some}
+use Rattle.std.specs.Prelude.{ℕ, ℤ, pos, Bool, false, if◌then◌else◌, List, [], ◌∷◌, map, Option}
+use Rattle.std.specs.Prelude.{None, Some}
 use Rattle.std.specs.Int.{Width, w16, w32, w64, cast_signed}
 use Rattle.ipc_build.specs.declared.tree.Slot.{Slot}
 use Rattle.ipc_build.specs.Trees.{Tree, none, field, byte, signed, string, pairs, table, tables}
@@ -137,6 +137,11 @@ schema_tree s = with_tables 1 (map field_tree s.fields) (with_pairs 2 s.metadata
 abbrev pub batch_tree : BatchHead → Tree
 batch_tree b = with_signed 0 w64 b.length (with_numbers 1 b.nodes (with_numbers 2 b.buffers none))
 
+-- Message.fbs, table DictionaryBatch: 0 id, 1 data, 2 isDelta, which is false
+abbrev pub dictionary_batch_tree : ℤ → BatchHead → Tree
+dictionary_batch_tree id b =
+    with_signed 0 w64 id (with_table 1 (batch_tree b) (with_byte 2 (flag false) none))
+
 -- Message.fbs, table Message: 0 version, 1 and 2 header, 3 bodyLength, 4 custom_metadata
 abbrev pub message_tree : ℕ → Tree → ℕ → List (List ℕ × List ℕ) → Tree
 message_tree code header m ps = with_signed 0 w16 v5
@@ -149,3 +154,7 @@ schema_message s = message_tree 1 (schema_tree s) 0 []
 -- Message.fbs, union MessageHeader: RecordBatch is 3
 abbrev pub batch_message : BatchHead → List (List ℕ × List ℕ) → ℕ → Tree
 batch_message b ps m = message_tree 3 (batch_tree b) m ps
+
+-- Message.fbs, union MessageHeader: DictionaryBatch is 2; its message has no pairs
+abbrev pub dictionary_message : ℤ → BatchHead → ℕ → Tree
+dictionary_message id b m = message_tree 2 (dictionary_batch_tree id b) m []

@@ -1,4 +1,4 @@
-ghost use Rattle.ipc_meta.specs.Laws.{OneHead, RoomByCounts};
+ghost use Rattle.ipc_meta.specs.Laws.{OneHead, RoomByCounts, DictionaryRoomByCounts};
 
 /// The law that the same metadata states one head and one length of the body at most (Message.fbs,
 /// table Message). It does nothing when it is called.
@@ -10,4 +10,10 @@ pub fn one_head_per_metadata()
 /// buffers alone. It does nothing when it is called.
 pub fn room_by_counts()
     ensures { RoomByCounts }
+{}
+
+/// The law that the room of a dictionary batch's metadata depends on the numbers of its nodes and
+/// buffers alone. It does nothing when it is called.
+pub fn dictionary_room_by_counts()
+    ensures { DictionaryRoomByCounts }
 {}

@@ -13,7 +13,6 @@ mod laws;
 mod lifted;
 mod message;
 mod slots;
-mod supported;
 mod trees;
 mod type_slots;
 mod types;
@@ -21,7 +20,6 @@ mod version;
 mod write;
 
 pub use head::{BatchHead, Head};
-pub use laws::{one_head_per_metadata, room_by_counts};
+pub use laws::{dictionary_room_by_counts, one_head_per_metadata, room_by_counts};
 pub use message::read_message;
-pub use supported::are_supported;
-pub use write::{write_batch, write_schema};
+pub use write::{dictionary_room, write_batch, write_dictionary, write_schema};

@@ -1,11 +1,10 @@
-ghost use Rattle.std.specs.Prelude.{◌≡◌, ◌⊎◌, ◌<◌, ◌≤◌, ℕ, List, IfOk, IfErr, OnOk, Ok, pos};
+ghost use Rattle.std.specs.Prelude.{◌≡◌, ◌<◌, ◌≤◌, ℕ, List, IfOk, IfErr, OnOk, Ok, pos};
 ghost use Rattle.std.specs.Prelude.{IsTrue, MatchResult};
 ghost use Rattle.ipc_scalar.specs.Bytes.{int16, int64};
 ghost use Rattle.ipc_flat.specs.Views.{scalar};
 ghost use Rattle.ipc_model.specs.Answers.{UnlessOutOfMemory, AnswersUnlessOutOfMemory};
 ghost use Rattle.ipc_meta.specs.Fields.{SchemaAt};
 ghost use Rattle.ipc_meta.specs.Heads.{BatchAt, PairsAt, HeaderAt, HeadOf};
-ghost use Rattle.ipc_meta.specs.Supported.{IsSupported, IsUnsupported};
 ghost use Rattle.ipc_meta.specs.Reached.{HasTable, IsHeaderCode, message, batch_message, schema};
 ghost use Rattle.ipc_meta.specs.Reached.{record_batch};
 ghost use Rattle.ipc_meta.specs.Reading.{fields_read, field_read};
@@ -18,7 +17,6 @@ use crate::budget::Budget;
 use crate::fields::{read_fields, read_pairs};
 use crate::head::{BatchHead, Head};
 use crate::lifted::lifted;
-use crate::supported::check_supported;
 use crate::version::VERSION;
 use ipc_flat::{Flat, TableRef};
 use ipc_model::{Fault, Field, Items, Limits, Schema, Text};
@@ -194,33 +192,16 @@ fn check_body_length(limits: &Limits, length: u64) -> Result<(), Fault>
     Ok(())
 }
 
-// What the root table states (Message.fbs, table Message): the version, the body's length and the
-// header, whether or not columns of its types are read here.
-fn read_stated(alloc: Global, limits: &Limits, metadata: &[u8]) -> Result<(Head, u64), Fault>
-    ensures found { IfOk result (λ r. HeadOf limits.now metadata.now r.0 r.1) }
-    ensures only { (head : Head) (m : ℕ) → HeadOf limits.now metadata.now head m
-        → MatchResult result (λ r. (r.0 ≡ head) × (r.1 ≡ m)) (λ f. f ≡ Fault.OutOfMemory) }
-    ensures refused { IfErr result (λ f. UnlessOutOfMemory f (Cause limits.now metadata.now f)) }
-{
-    let root = lifted(Flat::root(metadata))?;
-    check_version(&root)?;
-    let body = read_body_length(&root)?;
-    check_body_length(limits, body)?;
-    let head = read_header(alloc, limits, &root)?;
-    Ok((head, body))
-}
-
 /// Reads the metadata of one message: what its header states, and how many bytes the message's body
 /// has, from 0 to `limits.body` (Message.fbs, table Message).
 ///
 /// The body's length, the fields, the text and the pairs are within `limits`; how long the metadata
 /// itself is isn't asked. `metadata` is the FlatBuffer alone, without the mark and the size before
 /// it; padding behind it may hold anything (Arrow Columnar Format, "Encapsulated message format").
-/// A schema that is answered is well formed, and columns of each of its fields are read here
-/// (`are_supported`). The pairs of the message itself are read where it is a record batch's, and
-/// aren't looked at in others. An absent vector is empty, an absent name, key or value is the empty
-/// text, and an absent timezone is none, unlike an empty one. Memory for texts, fields, nodes and
-/// buffers is taken from `alloc`.
+/// A schema that is answered is well formed. The pairs of the message itself are read where it is
+/// a record batch's, and aren't looked at in others. An absent vector is empty, an absent name, key
+/// or value is the empty text, and an absent timezone is none, unlike an empty one. Memory for
+/// texts, fields, nodes and buffers is taken from `alloc`.
 ///
 /// # Errors
 ///
@@ -234,9 +215,8 @@ fn read_stated(alloc: Global, limits: &Limits, metadata: &[u8]) -> Result<(Head,
 /// - `BadBodyLength` (F8): the body has fewer than 0 bytes.
 /// - `BodyTooLong` (F9): the body has more than `limits.body` bytes.
 /// - `BigEndian` (F12): the schema's endianness is not Little.
-/// - `UnsupportedType` (F13): a field's type is none of those that are known here, or the metadata
-///   states a schema with a field whose columns are not read here (`are_supported`); with the
-///   type's code in union Type (Schema.fbs).
+/// - `UnsupportedType` (F13): a field's type is none of those that are known here; with the type's
+///   code in union Type (Schema.fbs).
 /// - `BadType` (F14): a field's type has no table, or a width or a unit that no type has.
 /// - `BadChildren` (F15): a list without exactly one child, or children of a type that has none.
 /// - `NameNotUtf8` (F16): a name, a key, a value or a timezone is not UTF-8.
@@ -253,14 +233,14 @@ fn read_stated(alloc: Global, limits: &Limits, metadata: &[u8]) -> Result<(Head,
 /// - `OutOfMemory` (F37): `alloc` refused memory.
 pub fn read_message(alloc: Global, limits: &Limits, metadata: &[u8]) -> Result<(Head, u64), Fault>
     ensures found { IfOk result (λ r. HeadOf limits.now metadata.now r.0 r.1) }
-    ensures read { IfOk result (λ r. IsSupported r.0) }
-    ensures only { (head : Head) (m : ℕ) → HeadOf limits.now metadata.now head m → IsSupported head
+    ensures only { (head : Head) (m : ℕ) → HeadOf limits.now metadata.now head m
         → MatchResult result (λ r. (r.0 ≡ head) × (r.1 ≡ m)) (λ f. f ≡ Fault.OutOfMemory) }
-    ensures refused { IfErr result
-        (λ f. UnlessOutOfMemory f (Cause limits.now metadata.now f
-        ⊎ IsUnsupported limits.now metadata.now f)) }
+    ensures refused { IfErr result (λ f. UnlessOutOfMemory f (Cause limits.now metadata.now f)) }
 {
-    let (head, body) = read_stated(alloc, limits, metadata)?;
-    check_supported(&head)?;
+    let root = lifted(Flat::root(metadata))?;
+    check_version(&root)?;
+    let body = read_body_length(&root)?;
+    check_body_length(limits, body)?;
+    let head = read_header(alloc, limits, &root)?;
     Ok((head, body))
 }

@@ -5,6 +5,7 @@ ghost use Rattle.ipc_model.specs.Greatest.{greatest_body};
 ghost use Rattle.ipc_model.specs.declared.schema.Field.{out-Field};
 ghost use Rattle.ipc_meta.specs.Written.{field_tree, schema_tree, batch_tree, message_tree};
 ghost use Rattle.ipc_meta.specs.Written.{schema_message, batch_message};
+ghost use Rattle.ipc_meta.specs.Written.{dictionary_batch_tree, dictionary_message};
 
 use crate::head::BatchHead;
 use crate::slots::{push_pairs, table_of, text_slot};
@@ -78,6 +79,19 @@ fn batch_tree(alloc: Global, head: &BatchHead) -> Result<FlatTree, AllocError>
     Ok(table_of(slots))
 }
 
+// Message.fbs, table DictionaryBatch: all the values of the dictionary with this id, and no delta.
+fn dictionary_batch_tree(alloc: Global, id: i64, head: &BatchHead) -> Result<FlatTree, AllocError>
+    ensures { IfOk result (λ t. view t ≡ dictionary_batch_tree id head.now) }
+{
+    let data = batch_tree(alloc, head)?;
+    let slots = vec![in alloc;
+        (0, Slot::I64(id)),
+        (1, Slot::Table(data)),
+        (2, Slot::Bool(false)),
+    ]?;
+    Ok(table_of(slots))
+}
+
 // Message.fbs, table Message: the header's code in union MessageHeader with its table, the length
 // of the body, and the message's pairs.
 fn message_tree(
@@ -121,4 +135,19 @@ pub(crate) fn batch_message(
 {
     let header = batch_tree(alloc, head)?;
     message_tree(alloc, 3, header, body, pairs)
+}
+
+/// The message of a dictionary batch with this id and a body of so many bytes, which has no pairs
+/// (Message.fbs, table Message).
+pub(crate) fn dictionary_message(
+    alloc: Global,
+    id: i64,
+    head: &BatchHead,
+    body: u64,
+) -> Result<FlatTree, AllocError>
+    requires { body ≤ greatest_body }
+    ensures { IfOk result (λ t. view t ≡ dictionary_message id head.now body) }
+{
+    let header = dictionary_batch_tree(alloc, id, head)?;
+    message_tree(alloc, 2, header, body, &Items::new(alloc))
 }

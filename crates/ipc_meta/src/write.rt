@@ -8,11 +8,12 @@ ghost use Rattle.ipc_build.specs.Room.{room, size};
 ghost use Rattle.ipc_model.specs.Entries.{AllowPairs};
 ghost use Rattle.ipc_model.specs.WellFormed.{WellFormed};
 ghost use Rattle.ipc_meta.specs.Heads.{HeadOf};
-ghost use Rattle.ipc_meta.specs.Rooms.{IsTooLong, head_room, schema_room};
-ghost use Rattle.ipc_meta.specs.Written.{schema_message, batch_message};
+ghost use Rattle.ipc_meta.specs.Rooms.{dictionary_room, IsTooLong, head_room, schema_room};
+ghost use Rattle.ipc_meta.specs.Rooms.{IsDictionaryTooLong, dictionary_head_room};
+ghost use Rattle.ipc_meta.specs.Written.{schema_message, batch_message, dictionary_message};
 
 use crate::head::{BatchHead, Head};
-use crate::trees::{batch_message, schema_message};
+use crate::trees::{batch_message, dictionary_message, schema_message};
 use ipc_build::{BuildFault, FlatTree, build};
 use ipc_model::{Items, Limits, Schema, Text, WriteFault};
 use std::alloc::Global;
@@ -120,5 +121,53 @@ pub fn write_batch(
 {
     check_batch(limits, pairs.as_slice(), body)?;
     let message = batch_message(alloc, head, pairs, body)?;
+    built(alloc, limits, &message)
+}
+
+/// The room of the metadata of a dictionary batch's message with so many nodes and buffers, in
+/// bytes: what it may need at most, whatever the numbers in it (Message.fbs, table
+/// DictionaryBatch).
+#[tactic(auto, using(crate::proofs::WrittenOrder::dictionary_counts))]
+pub fn dictionary_room(nodes: u32, buffers: u32) -> u64
+    ensures { result ≡ dictionary_room nodes buffers }
+{
+    212 + 16 * u64::from(nodes) + 16 * u64::from(buffers)
+}
+
+/// The metadata of a dictionary batch's message with a body of so many bytes (Message.fbs, tables
+/// Message and DictionaryBatch): the dictionary's id and the numbers of the head are written as
+/// they are, and isDelta is written as false. The message has no pairs. Its layout and its padding
+/// are those of `write_schema`'s.
+///
+/// # Errors
+///
+/// - `TooLong` (W6): the body has more than `limits.body` bytes, or the room of the metadata is
+///   above `limits.metadata`: 212, and 16 for each node and each buffer.
+/// - `OutOfMemory` (W11): `alloc` refused memory.
+pub fn write_dictionary(
+    alloc: Global,
+    limits: &Limits,
+    id: i64,
+    head: &BatchHead,
+    body: u64,
+) -> Result<Vec<u8>, WriteFault>
+    ensures lies { IfOk result (λ b. (rest : List ℕ)
+        → Encodes (b.items ++ rest) (dictionary_message id head.now body)) }
+    ensures aligned { IfOk result (λ b. Aligned b.items (dictionary_message id head.now body)) }
+    ensures states { IfOk result (λ b. (rest : List ℕ)
+        → HeadOf limits.now (b.items ++ rest) (Head.Dictionary id head.now) body) }
+    ensures size { IfOk result
+        (λ b. length b.items ≡ size (dictionary_message id head.now body)) }
+    ensures within { IfOk result
+        (λ b. (length b.items + 7) / 8 * 8 ≤ dictionary_head_room id head.now body) }
+    ensures short { IfOk result (λ b. (length b.items + 7) / 8 * 8 ≤ limits.now.metadata) }
+    ensures room { IfOk result (λ b. ¬ IsDictionaryTooLong limits.now id head.now body) }
+    ensures refused { IfErr result (λ f. (f ≡ WriteFault.OutOfMemory)
+        ⊎ ((f ≡ WriteFault.TooLong) × IsDictionaryTooLong limits.now id head.now body)) }
+{
+    if body > limits.body {
+        return Err(WriteFault::TooLong);
+    }
+    let message = dictionary_message(alloc, id, head, body)?;
     built(alloc, limits, &message)
 }

@@ -1,5 +1,5 @@
 -- Batches that are read and sent.
-use Rattle.std.proofs.Common.{◌≡◌, ◌∙◌, refl, sym, ap, subst, ℕ, suc, ◌+◌, List, [], ◌∷◌, ◌++◌, map, Option, Some, None, Result, Ok}
+use Rattle.std.proofs.Common.{◌≡◌, ◌∙◌, refl, sym, ap, subst, ℕ, suc, ◌+◌, List, [], ◌∷◌, ◌++◌, map, Some, None, Result, Ok}
 use Rattle.std.proofs.Common.{Err, append-nil, append_assoc, arith, false}
 use Rattle.std.specs.List.{AllByRecursion}
 use Rattle.std.specs.Io.KnownBytes.{Consumes}
@@ -8,7 +8,6 @@ use Rattle.std.proofs.lemmas.List.{map-append}
 use Rattle.ipc_model.specs.declared.fault.Fault.{Fault}
 use Rattle.ipc_model.specs.declared.fault.WriteFault.{WriteFault}
 use Rattle.ipc_model.specs.declared.limits.Limits.{Limits}
-use Rattle.ipc_model.specs.declared.schema.Schema.{Schema}
 use Rattle.ipc_model.specs.declared.table.BatchRows.{BatchRows}
 use Rattle.ipc_decode.specs.declared.end.End.{End}
 use Rattle.ipc_decode.specs.declared.phase.Phase.{Phase}
@@ -17,12 +16,15 @@ use Rattle.ipc_decode.specs.Found.{Found, rows_of}
 use Rattle.ipc_decode.specs.Decoding.{TellsLast}
 use Rattle.ipc_decode.specs.Reader.{EndsBehind, LeadsTo, Reader, in_force_of, NextAnswer, NextCall}
 use Rattle.ipc_decode.specs.Reasons.{Ends}
-use Rattle.ipc_decode.specs.Stream.{State, Event, batch, begun, Run, done, AddsBatch}
+use Rattle.ipc_decode.specs.Stream.{State, Event, batch, Run, done}
 use Rattle.ipc_decode.specs.Counts.{count_up, messages_in}
+use Rattle.ipc_stream.specs.Dictionaries.{SendsBatch, SendsBatches, kept_after}
+use Rattle.ipc_stream.specs.OpenStreams.{Opened}
 use Rattle.ipc_stream.specs.Writer.{Writer}
 use Rattle.ipc_stream.specs.Writing.{AcceptsBatch, RefusesBatch, Sent, NotSentWhole}
 use Rattle.ipc_decode.proofs.Runs.{run_one, run_then, messages_one, messages_then}
-use Rattle.ipc_rewrite.specs.Rewriting.{AddsBatches, CopiesRest, RefusesLast}
+use Rattle.ipc_stream.proofs.Chains.{batches_then, kept_then, none_sends}
+use Rattle.ipc_rewrite.specs.Rewriting.{CopiesRest, RefusesLast}
 
 -- these batches were read behind the schema, and sent
 pub record Copied (old now : Reader) (before after : Writer) : Type 0 where
@@ -36,9 +38,10 @@ pub record Copied (old now : Reader) (before after : Writer) : Type 0 where
   pub source_works : now.failures ≡ 0
   pub counted : (k : ℕ) → old.messages ≡ count_up 0 k → now.messages ≡ count_up 0 (k + messages_in run)
   pub accepts : AllByRecursion (AcceptsBatch before.limits old.schema) batches
-  pub sent : Sent (AddsBatches before.limits old.schema batches) before.written after.written before.failures after.failures
+  pub sent : Sent (SendsBatches before.limits old.schema before.kept batches) before.written after.written before.failures after.failures
   pub sent_schema : after.schema ≡ old.schema
   pub sent_limits : after.limits ≡ before.limits
+  pub kept : after.kept ≡ kept_after old.schema.fields before.kept batches
   pub works : after.failed ≡ false
 
 zero_more : (k : ℕ) → k + 0 ≡ k
@@ -58,9 +61,16 @@ copied_none r w reading source works sink is = record {
   source_works = source;
   counted = λ k is. is ∙ ap (count_up 0) (sym (zero_more k));
   accepts = tt;
-  sent = record { x = []; whole = done; bytes = Appends-nil w.written; worked = sink; works = sink };
+  sent = record {
+    x = [];
+    whole = none_sends w.limits r.schema w.kept;
+    bytes = Appends-nil w.written;
+    worked = sink;
+    works = sink;
+  };
   sent_schema = is;
   sent_limits = refl;
+  kept = refl;
   works = works;
 }
 
@@ -117,12 +127,6 @@ counted_then limits σ τ υ batches last x y n run next =
     subst (λ (es : List Event). Counted limits σ (x ++ y) es υ (messages_in run + n)) (sym (map-append batch batches (last ∷ [])))
     (run_then σ τ υ x y (map batch batches) (batch last ∷ []) run next.0, omega (arith, both, next.1))
 
--- batches and one more are one list of messages
-batches_then : (limits : Limits) (s : Schema) (batches : List BatchRows) (last : BatchRows) (x y : List ℕ) → AddsBatches limits s batches x
-    → AddsBatch limits s last y → AddsBatches limits s (batches ++ last ∷ []) (x ++ y)
-batches_then limits s batches last x y run next =
-    (counted_then limits (Some (begun s)) (Some (begun s)) (Some (begun s)) batches last x y (messages_in next) run (next, refl)).0
-
 -- the messages of a batch that came, and how many they are
 record Came (limits : Limits) (now new : Reader) (x : List ℕ) (found : Found) : Type 0 where
   pub count : ℕ
@@ -158,16 +162,20 @@ module _ (old now new : Reader) (before after : Writer) (b : Copied old now befo
       → new.messages ≡ count_up 0 (k + messages_in (all_came found t).0)
   counted_more found t k is = omega (arith, b.counted k is, (came found t).1.messages, (all_came found t).1)
 
+  -- what is true of the writer's limits, its schema and what it sent is true of those that it had, with these batches
+  as_before : (P : Opened → Type 0) → P (record { limits = after.limits; schema = after.schema; kept = after.kept })
+      → P (record { limits = before.limits; schema = old.schema; kept = kept_after old.schema.fields before.kept b.batches })
+  as_before P h = subst P (λ i. record { limits = b.sent_limits i; schema = b.sent_schema i; kept = b.kept i }) h
+
   -- where one batch more is read and sent, the batches that were sent are those from before and it
   pub copied_more : (found : Found) (next : Writer) → NextCall now new (Ok (Some found)) → new.failures ≡ now.failures
-      → Sent (AddsBatch after.limits after.schema (rows_of found)) after.written next.written after.failures next.failures
+      → Sent (SendsBatch after.limits after.schema after.kept (rows_of found)) after.written next.written after.failures next.failures
       → AcceptsBatch after.limits after.schema (rows_of found) → next.limits ≡ after.limits → next.schema ≡ after.schema
-      → next.failed ≡ false → Copied old new before next
-  copied_more found next t works sent accepts limits schema ready =
-      let sent_here = subst (λ s. AddsBatch before.limits s (rows_of found) sent.x) b.sent_schema
-      (subst (λ l. AddsBatch l after.schema (rows_of found) sent.x) b.sent_limits sent.whole) in
-      let accepts_here = subst (λ s. AcceptsBatch before.limits s (rows_of found)) b.sent_schema
-      (subst (λ l. AcceptsBatch l after.schema (rows_of found)) b.sent_limits accepts) in
+      → next.kept ≡ kept_after after.schema.fields after.kept (rows_of found ∷ []) → next.failed ≡ false → Copied old new before next
+  copied_more found next t works sent accepts limits schema kept ready =
+      let sent_here = as_before (λ w. SendsBatch w.limits w.schema w.kept (rows_of found) sent.x) sent.whole in
+      let accepts_here = as_before (λ w. AcceptsBatch w.limits w.schema (rows_of found)) accepts in
+      let kept_here = as_before (λ w. next.kept ≡ kept_after w.schema.fields w.kept (rows_of found ∷ [])) kept in
       record {
         x = b.x ++ t.x;
         batches = b.batches ++ rows_of found ∷ [];
@@ -181,20 +189,21 @@ module _ (old now new : Reader) (before after : Writer) (b : Copied old now befo
         accepts = all_last (AcceptsBatch before.limits old.schema) b.batches (rows_of found) b.accepts accepts_here;
         sent = record {
           x = b.sent.x ++ sent.x;
-          whole = batches_then before.limits old.schema b.batches (rows_of found) b.sent.x sent.x b.sent.whole sent_here;
+          whole = batches_then before.limits old.schema before.kept b.batches (rows_of found ∷ []) b.sent.x sent.x b.sent.whole sent_here;
           bytes = Appends-trans before.written after.written next.written b.sent.x sent.x b.sent.bytes sent.bytes;
           worked = b.sent.worked;
           works = sent.works;
         };
         sent_schema = schema ∙ b.sent_schema;
         sent_limits = limits ∙ b.sent_limits;
+        kept = kept_here ∙ sym (kept_then old.schema.fields before.kept b.batches (rows_of found ∷ []));
         works = ready;
       }
 
   -- where the batch that came is refused, it is the last that was read, and those before it were sent
   pub copied_refused : (found : Found) (next : Writer) (fault : WriteFault) → NextCall now new (Ok (Some found))
-      → NotSentWhole (AddsBatch after.limits after.schema (rows_of found)) after.written next.written after.failures next.failures fault
-      → RefusesBatch after.limits after.schema (rows_of found) fault → RefusesLast old new before next fault
+      → NotSentWhole (SendsBatch after.limits after.schema after.kept (rows_of found)) after.written next.written after.failures
+      next.failures fault → RefusesBatch after.limits after.schema (rows_of found) fault → RefusesLast old new before next fault
   copied_refused found next fault t unsent refuses = record {
     x = b.x ++ t.x;
     batches = b.batches;
@@ -205,12 +214,9 @@ module _ (old now new : Reader) (before after : Writer) (b : Copied old now befo
     between = after.written;
     failures = after.failures;
     sent = b.sent;
-    refuses = subst (λ s. RefusesBatch before.limits s (rows_of found) fault) b.sent_schema
-        (subst (λ l. RefusesBatch l after.schema (rows_of found) fault) b.sent_limits refuses);
-    unsent = subst (λ s. NotSentWhole (AddsBatch before.limits s (rows_of found)) after.written next.written after.failures next.failures
-        fault) b.sent_schema
-        (subst (λ l. NotSentWhole (AddsBatch l after.schema (rows_of found)) after.written next.written after.failures next.failures fault)
-        b.sent_limits unsent);
+    refuses = as_before (λ w. RefusesBatch w.limits w.schema (rows_of found) fault) refuses;
+    unsent = as_before (λ w. NotSentWhole (SendsBatch w.limits w.schema w.kept (rows_of found)) after.written next.written after.failures
+        next.failures fault) unsent;
   }
 
   -- the messages that tell nothing behind the batches, and how many all are

@@ -1,7 +1,7 @@
 -- Where a source holds a table, that table is sent, or writing it breaks off, or memory runs out in reading.
 use Rattle.std.proofs.Common.{◌≡◌, ◌∙◌, refl, sym, subst, ℕ, ◌<◌, List, [], ◌∷◌, ◌++◌, length, map, Option, Some, None}
 use Rattle.std.proofs.Common.{Result, Ok, Err, append_assoc, append-nil, arith}
-use Rattle.std.specs.Prelude.{⊤, true}
+use Rattle.std.specs.Prelude.{⊤}
 use Rattle.std.specs.List.{AllByRecursion}
 use Rattle.std.specs.Io.KnownBytes.{Consumes, IsAtEnd}
 use Rattle.std.proofs.lemmas.List.{length-append}
@@ -14,14 +14,14 @@ use Rattle.ipc_model.specs.declared.limits.Limits.{Limits}
 use Rattle.ipc_model.specs.declared.schema.Schema.{Schema}
 use Rattle.ipc_model.specs.declared.table.BatchRows.{BatchRows}
 use Rattle.ipc_model.specs.declared.table.Table.{Table}
-use Rattle.ipc_meta.specs.Supported.{are_supported}
 use Rattle.ipc_frame.specs.Frames.{eos}
 use Rattle.ipc_decode.specs.declared.end.End.{End}
 use Rattle.ipc_decode.specs.declared.end.End.TheVariants.{Mark, Closed}
 use Rattle.ipc_decode.specs.Failures.{Tells}
 use Rattle.ipc_decode.specs.Reasons.{Reads}
-use Rattle.ipc_decode.specs.Stream.{schema, batch, begun, Run, events_of, Denotes, AddsBatch, EndsStream, IsTableOf, OpensStream}
+use Rattle.ipc_decode.specs.Stream.{schema, batch, begun, events_of, Denotes, EndsStream, IsTableOf, OpensStream}
 use Rattle.ipc_decode.specs.Taken.{TakesTable}
+use Rattle.ipc_stream.specs.Dictionaries.{SendsBatch, SendsTable, kept_after, none_sent}
 use Rattle.ipc_stream.specs.Writing.{AcceptsBatch, AcceptsTable, BreaksOff, CutShort, NotSentWhole}
 use Rattle.ipc_stream.specs.Writing.{RefusesBatch, RefusesSchema, Sent}
 use Rattle.ipc_decode.proofs.Answered.{answers_marked, answers_closed}
@@ -31,7 +31,7 @@ use Rattle.ipc_stream.proofs.TablesWritten.{IsOut, batch_breaks, end_broken, sta
 use Rattle.ipc_rewrite.specs.declared.stop.Stop.{Stop}
 use Rattle.ipc_rewrite.specs.declared.stop.Stop.TheVariants as stop
 use Rattle.ipc_rewrite.specs.Raised.{raised_of}
-use Rattle.ipc_rewrite.specs.Rewriting.{AnswersTable, AreMessagesOf, BreaksReading, unopened, broken, BreaksWriting, unstarted, refused}
+use Rattle.ipc_rewrite.specs.Rewriting.{AnswersTable, BreaksReading, unopened, broken, BreaksWriting, unstarted, refused}
 use Rattle.ipc_rewrite.specs.Rewriting.{unended, Rewrites, TellsFailures, with_batch}
 use Rattle.ipc_rewrite.proofs.Beginnings.{Holds, front_begins, holds_closed, holds_marked, schema_begins, table_begins}
 
@@ -66,11 +66,11 @@ inside_behind xs more last = let long = length-append xs (last ∷ more) in omeg
 
 -- the messages of a table are the first ones of the table with more batches
 first_out : {limits : Limits} → (t : Table) (more : List BatchRows) (w0 w1 : Option (List ℕ)) (f0 f1 : ℕ) → AcceptsTable limits t
-    → Sent (AreMessagesOf limits t) w0 w1 f0 f1
+    → Sent (SendsTable limits t) w0 w1 f0 f1
     → IsOut limits (record { schema = t.schema; batches = t.batches ++ more }) w0 w1 f0 f1 (length t.batches)
 first_out {limits} t more w0 w1 f0 f1 accepts sent = record {
   bytes = sent.x;
-  run = subst (λ (bs : List BatchRows). Run limits None sent.x (schema t.schema ∷ map batch bs) (Some (begun t.schema)))
+  sent = subst (λ (bs : List BatchRows). SendsTable limits (record { schema = t.schema; batches = bs }) sent.x)
       (sym (take-append_seam t.batches more)) sent.whole;
   appended = sent.bytes;
   worked = sent.worked;
@@ -82,17 +82,19 @@ first_out {limits} t more w0 w1 f0 f1 accepts sent = record {
 
 -- where the batch behind the first ones is refused, writing the whole table breaks off there
 last_breaks : {limits : Limits} → (t : Table) (last : BatchRows) (more : List BatchRows) (w0 between w1 : Option (List ℕ)) (f0 f f1 : ℕ)
-    (fault : WriteFault) → AcceptsTable limits t → Sent (AreMessagesOf limits t) w0 between f0 f → RefusesBatch limits t.schema last fault
-    → NotSentWhole (AddsBatch limits t.schema last) between w1 f f1 fault
+    (fault : WriteFault) → AcceptsTable limits t → Sent (SendsTable limits t) w0 between f0 f → RefusesBatch limits t.schema last fault
+    → NotSentWhole (SendsBatch limits t.schema (kept_after t.schema.fields (none_sent t.schema) t.batches) last) between w1 f f1 fault
     → BreaksOff limits (record { schema = t.schema; batches = t.batches ++ last ∷ more }) w0 w1 f0 f1 fault
-last_breaks t last more w0 between w1 f0 f f1 fault accepts sent refuses unsent =
+last_breaks {limits} t last more w0 between w1 f0 f f1 fault accepts sent refuses unsent =
     batch_breaks (record { schema = t.schema; batches = t.batches ++ last ∷ more }) w0 between w1 f0 f f1 (length t.batches)
     (first_out t (last ∷ more) w0 between f0 f accepts sent) last (inside_behind t.batches more last)
-    (sym (get_or-append_seam t.batches last more last)) fault refuses unsent
+    (sym (get_or-append_seam t.batches last more last)) fault refuses
+    (subst (λ (bs : List BatchRows). NotSentWhole (SendsBatch limits t.schema (kept_after t.schema.fields (none_sent t.schema) bs) last)
+    between w1 f f1 fault) (sym (take-append_seam t.batches (last ∷ more))) unsent)
 
 -- where the sink failed at the end mark, writing the table breaks off there
 mark_breaks : {limits : Limits} → (t : Table) (w0 between w1 : Option (List ℕ)) (f0 f f1 : ℕ) → AcceptsTable limits t
-    → Sent (AreMessagesOf limits t) w0 between f0 f → CutShort EndsStream between w1 f1 → BreaksOff limits t w0 w1 f0 f1 w.Write
+    → Sent (SendsTable limits t) w0 between f0 f → CutShort EndsStream between w1 f1 → BreaksOff limits t w0 w1 f0 f1 w.Write
 mark_breaks {limits} t w0 between w1 f0 f f1 accepts sent cut =
     let whole : record { schema = t.schema; batches = t.batches ++ [] } ≡ t = λ i. record
     { schema = t.schema; batches = append-nil t.batches i } in
@@ -152,20 +154,20 @@ module _ {limits : Limits} (new : Option (List ℕ)) (z : List ℕ) (t : Table) 
 module _ {limits : Limits} (old new w0 w1 : Option (List ℕ)) (g0 g1 f0 f1 : ℕ) (r : Result ⊤ Stop) (tells : TellsFailures g0 g1 f0 f1 r)
     (c : Rewrites limits old new w0 w1 f0 f1 r) (none : g1 ≡ 0) where
   -- where bytes up to an end mark denote a table, that one is written or refused, unless memory runs out
-  pub answered_marked : (x rest : List ℕ) (t : Table) → are_supported t.schema.fields ≡ true → old ≡ Some (x ++ rest)
+  pub answered_marked : (x rest : List ℕ) (t : Table) → old ≡ Some (x ++ rest)
       → Denotes limits x t Mark → AnswersTable (raised_of limits) t w0 w1 f0 f1 r
-  answered_marked x rest t read is d =
+  answered_marked x rest t is d =
       let z = x ++ rest in
       answered new z t (holds_marked x rest t d) w0 w1 f0 f1
-      (λ u end takes. (answers_marked (Some z) new 0 0 (Ok (u, end)) takes refl (refl, refl) x rest t read refl d).0) g0 g1
-      (λ fault takes failed. answers_marked (Some z) new g0 g1 (Err fault) takes none failed x rest t read refl d)
+      (λ u end takes. (answers_marked (Some z) new 0 0 (Ok (u, end)) takes refl (refl, refl) x rest t refl d).0) g0 g1
+      (λ fault takes failed. answers_marked (Some z) new g0 g1 (Err fault) takes none failed x rest t refl d)
       r tells (subst (λ (o : Option (List ℕ)). Rewrites limits o new w0 w1 f0 f1 r) is c)
 
   -- where all bytes of the source denote a table, that one is written or refused, unless memory runs out
-  pub answered_closed : (x : List ℕ) (t : Table) → are_supported t.schema.fields ≡ true → old ≡ Some x → Denotes limits x t Closed
+  pub answered_closed : (x : List ℕ) (t : Table) → old ≡ Some x → Denotes limits x t Closed
       → AnswersTable (raised_of limits) t w0 w1 f0 f1 r
-  answered_closed x t read is d =
+  answered_closed x t is d =
       answered new x t (holds_closed x t d) w0 w1 f0 f1
-      (λ u end takes. (answers_closed (Some x) new 0 0 (Ok (u, end)) takes refl (refl, refl) x t read refl d).0) g0 g1
-      (λ fault takes failed. answers_closed (Some x) new g0 g1 (Err fault) takes none failed x t read refl d)
+      (λ u end takes. (answers_closed (Some x) new 0 0 (Ok (u, end)) takes refl (refl, refl) x t refl d).0) g0 g1
+      (λ fault takes failed. answers_closed (Some x) new g0 g1 (Err fault) takes none failed x t refl d)
       r tells (subst (λ (o : Option (List ℕ)). Rewrites limits o new w0 w1 f0 f1 r) is c)

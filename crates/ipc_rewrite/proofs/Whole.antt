@@ -14,8 +14,10 @@ use Rattle.ipc_model.specs.declared.table.Table.{Table}
 use Rattle.ipc_decode.specs.declared.end.End.{End}
 use Rattle.ipc_decode.specs.Reader.{Reader, in_force_of, Opens, OpenFails}
 use Rattle.ipc_decode.specs.Reasons.{Reads}
-use Rattle.ipc_decode.specs.Stream.{InForce, schema, batch, Run, events_of, DenotesClosed, AddsBatch, EndsStream, OpensStream}
+use Rattle.ipc_decode.specs.Stream.{InForce, schema, batch, Run, events_of, DenotesClosed, EndsStream, OpensStream}
 use Rattle.ipc_decode.specs.Counts.{count_up, messages_in}
+use Rattle.ipc_stream.specs.Dictionaries.{SendsBatch, SendsBatches, SendsTable, kept_after, none_sent}
+use Rattle.ipc_stream.specs.OpenStreams.{Opened}
 use Rattle.ipc_stream.specs.Writer.{Writer, Starts, StartFails}
 use Rattle.ipc_stream.specs.Writing.{AcceptsBatch, AcceptsSchema, AcceptsTable, CutShort, NotSentWhole}
 use Rattle.ipc_stream.specs.Writing.{RefusesBatch, Sent}
@@ -24,13 +26,9 @@ use Rattle.ipc_decode.proofs.Runs.{run_then, reads_after}
 use Rattle.ipc_rewrite.specs.declared.stop.Stop.{Stop}
 use Rattle.ipc_rewrite.specs.declared.stop.Stop.TheVariants as stop
 use Rattle.ipc_rewrite.specs.Raised.{raised_of}
-use Rattle.ipc_rewrite.specs.Rewriting.{AreMessagesOf, AddsBatches, CopiesTable, BreaksReading, unopened, broken, BreaksWriting, unstarted}
+use Rattle.ipc_stream.proofs.Chains.{table_sends}
+use Rattle.ipc_rewrite.specs.Rewriting.{CopiesTable, BreaksReading, unopened, broken, BreaksWriting, unstarted}
 use Rattle.ipc_rewrite.specs.Rewriting.{refused, unended, Rewrites, CopiesRest, CopiesBatches}
-
--- a table's messages are its schema's and then those of its batches
-messages_of : (limits : Limits) (t : Table) (x y : List ℕ) → OpensStream limits t.schema x
-    → AddsBatches limits t.schema t.batches y → AreMessagesOf limits t (x ++ y)
-messages_of limits t x y first rest = run_then _ _ _ x y (schema t.schema ∷ []) (map batch t.batches) first rest
 
 -- behind the schema's message no dictionary is in force
 in_force_here : {limits : Limits} → (start : Option (List ℕ)) (s : Reader) → Opens limits start s
@@ -59,15 +57,20 @@ module _ {limits : Limits} (start : Option (List ℕ)) (s t : Reader) (before : 
   abbrev table_with : List BatchRows → Table
   table_with batches = record { schema = s.schema; batches = batches }
 
+  -- what is true of the new stream's limits, and of nothing sent but its schema, is true of the raised ones
+  raised_too : (P : Opened → Type 0) → P (record { limits = before.limits; schema = s.schema; kept = before.kept })
+      → P (record { limits = raised_of limits; schema = s.schema; kept = none_sent s.schema })
+  raised_too P h = subst P (λ i. record { limits = raised_here i; schema = s.schema; kept = begun.nothing_kept i }) h
+
   -- the messages of the schema and of these batches were sent
   all_sent : (batches : List BatchRows) (w1 : Option (List ℕ)) (f1 : ℕ)
-      → Sent (AddsBatches before.limits s.schema batches) before.written w1 before.failures f1
-      → Sent (AreMessagesOf (raised_of limits) (table_with batches)) w0 w1 f0 f1
+      → Sent (SendsBatches before.limits s.schema before.kept batches) before.written w1 before.failures f1
+      → Sent (SendsTable (raised_of limits) (table_with batches)) w0 w1 f0 f1
   all_sent batches w1 f1 sent = record {
     x = begun.sent.x ++ sent.x;
-    whole = messages_of (raised_of limits) (table_with batches) begun.sent.x sent.x
+    whole = table_sends (raised_of limits) s.schema batches begun.sent.x sent.x
         (subst (λ l. OpensStream (raised_of l) s.schema begun.sent.x) o.same_limits begun.sent.whole)
-        (subst (λ l. AddsBatches l s.schema batches sent.x) raised_here sent.whole);
+        (raised_too (λ w. SendsBatches w.limits w.schema w.kept batches sent.x) sent.whole);
     bytes = Appends-trans w0 before.written w1 begun.sent.x sent.x begun.sent.bytes sent.bytes;
     worked = begun.sent.worked;
     works = sent.works;
@@ -118,7 +121,7 @@ module _ {limits : Limits} (start : Option (List ℕ)) (s t : Reader) (before : 
         accepts = all_accepted r.batches r.accepts;
         sent = record {
           x = sent.x ++ mark.x;
-          whole = (sent.x, ap (λ y. sent.x ++ y) mark.whole, (Some (record { schema = s.schema; dictionaries = [] }), sent.whole));
+          whole = (sent.x, ap (λ y. sent.x ++ y) mark.whole, (Some sent.whole.0, sent.whole.1.1));
           bytes = Appends-trans w0 after.written w1 sent.x mark.x sent.bytes mark.bytes;
           worked = sent.worked;
           works = mark.works;
@@ -162,7 +165,8 @@ module _ {limits : Limits} (start : Option (List ℕ)) (s t : Reader) (before : 
       (all_read (r.batches ++ r.last ∷ []) r.x r.run)
       (all_accepted r.batches r.accepts) (all_sent r.batches r.between r.failures r.sent)
       (subst (λ l. RefusesBatch l s.schema r.last fault) raised_here r.refuses)
-      (subst (λ l. NotSentWhole (AddsBatch l s.schema r.last) r.between after.written r.failures after.failures fault) raised_here r.unsent)
+      (raised_too (λ w. NotSentWhole (SendsBatch w.limits w.schema (kept_after w.schema.fields w.kept r.batches) r.last) r.between
+      after.written r.failures after.failures fault) r.unsent)
 
   -- where the batches were not all read and sent, neither was the stream
   pub batches_broken : (after : Writer) (w1 : Option (List ℕ)) (f1 : ℕ) (why : Stop) → w1 ≡ after.written → f1 ≡ after.failures

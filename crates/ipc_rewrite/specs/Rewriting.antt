@@ -16,8 +16,10 @@ use Rattle.ipc_decode.specs.declared.end.End.TheVariants.{Closed}
 use Rattle.ipc_decode.specs.Failures.{Tells}
 use Rattle.ipc_decode.specs.Reader.{Reader, in_force_of}
 use Rattle.ipc_decode.specs.Reasons.{Reads}
-use Rattle.ipc_decode.specs.Stream.{batch, begun, Run, events_of, Denotes, DenotesClosed, AddsBatch}
+use Rattle.ipc_decode.specs.Stream.{batch, begun, Run, Denotes, DenotesClosed}
 use Rattle.ipc_decode.specs.Counts.{count_up, messages_in}
+use Rattle.ipc_stream.specs.Dictionaries.{SendsBatch, SendsBatches, SendsTable, kept_after}
+use Rattle.ipc_stream.specs.Dictionaries.{none_sent}
 use Rattle.ipc_stream.specs.Writer.{Writer}
 use Rattle.ipc_stream.specs.Writing.{AcceptsBatch, AcceptsTable, BreaksOff, CutShort}
 use Rattle.ipc_decode.specs.Stream.{EndsStream, IsTableOf, OpensStream}
@@ -26,16 +28,6 @@ use Rattle.ipc_stream.specs.Writing.{RefusesBatch, RefusesSchema, Sent}
 use Rattle.ipc_rewrite.specs.declared.stop.Stop.{Stop}
 use Rattle.ipc_rewrite.specs.declared.stop.Stop.TheVariants as stop
 use Rattle.ipc_rewrite.specs.Raised.{raised_of}
-
--- x is the messages of a table, which set no dictionary: its schema's, and those of its batches in
--- order (Arrow Columnar Format, "IPC Streaming Format")
-abbrev pub AreMessagesOf : Limits → Table → List ℕ → Type 0
-AreMessagesOf limits t x = Run limits None x (events_of t) (Some (begun t.schema))
-
--- x is the messages of batches, behind the schema, which set no dictionary (Arrow Columnar Format,
--- "IPC Streaming Format")
-abbrev pub AddsBatches : Limits → Schema → List BatchRows → List ℕ → Type 0
-AddsBatches limits s batches x = Run limits (Some (begun s)) x (map batch batches) (Some (begun s))
 
 -- a table with one batch more
 abbrev pub with_batch : Table → BatchRows → Table
@@ -68,7 +60,7 @@ pub data BreaksReading (limits : Limits) (old new written_old written_new : Opti
       → (reads : Reads limits (Some (begun table.schema)) y new (map batch table.batches)
       (Err fault)) → message ≡ count_up 1 (messages_in reads.run)
       → AcceptsTable (raised_of limits) table
-      → Sent (AreMessagesOf (raised_of limits) table) written_old written_new failures_old
+      → Sent (SendsTable (raised_of limits) table) written_old written_new failures_old
       failures_new
       → BreaksReading limits old new written_old written_new failures_old failures_new fault message
 
@@ -86,16 +78,17 @@ pub data BreaksWriting (limits : Limits) (old new written_old written_new : Opti
   refused : (x : List ℕ) (table : Table) (last : BatchRows) (between : Option (List ℕ))
       (failures : ℕ) → Consumes old new x → DenotesClosed limits x (with_batch table last)
       → AcceptsTable (raised_of limits) table
-      → Sent (AreMessagesOf (raised_of limits) table) written_old between failures_old failures
+      → Sent (SendsTable (raised_of limits) table) written_old between failures_old failures
       → RefusesBatch (raised_of limits) table.schema last fault
-      → NotSentWhole (AddsBatch (raised_of limits) table.schema last) between written_new failures
-      failures_new fault
+      → NotSentWhole (SendsBatch (raised_of limits) table.schema
+      (kept_after table.schema.fields (none_sent table.schema) table.batches) last) between
+      written_new failures failures_new fault
       → BreaksWriting limits old new written_old written_new failures_old failures_new fault
   -- the stream was read to its end, and all its messages were sent, but not the end mark
   unended : (x : List ℕ) (table : Table) (end : End) (between : Option (List ℕ)) (failures : ℕ)
       → Consumes old new x → Denotes limits x table end → (end ≡ Closed → IsAtEnd new)
       → AcceptsTable (raised_of limits) table
-      → Sent (AreMessagesOf (raised_of limits) table) written_old between failures_old failures
+      → Sent (SendsTable (raised_of limits) table) written_old between failures_old failures
       → fault ≡ w.Write → CutShort EndsStream between written_new failures_new
       → BreaksWriting limits old new written_old written_new failures_old failures_new fault
 
@@ -154,8 +147,8 @@ pub record CopiesRest (old new : Reader) (before after : Writer)
   pub counted : (k : ℕ) → old.messages ≡ count_up 0 k → new.messages ≡ count_up 0 (k
       + messages_in reads.run)
   pub accepts : AllByRecursion (AcceptsBatch before.limits old.schema) batches
-  pub sent : Sent (AddsBatches before.limits old.schema batches) before.written after.written
-      before.failures after.failures
+  pub sent : Sent (SendsBatches before.limits old.schema before.kept batches) before.written
+      after.written before.failures after.failures
 
 -- batches that were read behind the schema, of which all but the last were sent
 pub record RefusesLast (old new : Reader) (before after : Writer)
@@ -169,10 +162,11 @@ pub record RefusesLast (old new : Reader) (before after : Writer)
   pub accepts : AllByRecursion (AcceptsBatch before.limits old.schema) batches
   pub between : Option (List ℕ)
   pub failures : ℕ
-  pub sent : Sent (AddsBatches before.limits old.schema batches) before.written between
-      before.failures failures
+  pub sent : Sent (SendsBatches before.limits old.schema before.kept batches) before.written
+      between before.failures failures
   pub refuses : RefusesBatch before.limits old.schema last fault
-  pub unsent : NotSentWhole (AddsBatch before.limits old.schema last) between after.written failures
+  pub unsent : NotSentWhole (SendsBatch before.limits old.schema
+      (kept_after old.schema.fields before.kept batches) last) between after.written failures
       after.failures fault
 
 -- what an answer says of the batches behind the schema

@@ -1,14 +1,14 @@
 //! A stream is read batch by batch, and each batch is written as soon as it is read.
-ghost use Rattle.std.specs.Prelude.{◌≡◌, ◌++◌, ℕ, List, [], IfErr, IfOk, MatchResult};
+ghost use Rattle.std.specs.Prelude.{◌≡◌, ◌++◌, ◌∷◌, ℕ, List, [], IfErr, IfOk, MatchResult};
 ghost use Rattle.std.specs.Prelude.{OnOk, Option, Some, false, true};
 ghost use Rattle.ipc_model.specs.declared.limits.Limits.{Limits};
 ghost use Rattle.ipc_model.specs.declared.table.Table.{Table};
-ghost use Rattle.ipc_meta.specs.Supported.{are_supported};
 ghost use Rattle.ipc_decode.specs.declared.end.End.TheVariants.{Closed, Mark};
 ghost use Rattle.ipc_decode.specs.declared.phase.Phase.TheVariants.{Reading};
 ghost use Rattle.ipc_decode.specs.Found.{rows_of};
 ghost use Rattle.ipc_decode.specs.Reader.{Opens};
-ghost use Rattle.ipc_decode.specs.Stream.{Denotes, AddsBatch, EndsStream};
+ghost use Rattle.ipc_decode.specs.Stream.{Denotes, EndsStream};
+ghost use Rattle.ipc_stream.specs.Dictionaries.{SendsBatch, kept_after};
 ghost use Rattle.ipc_stream.specs.Writer.{Starts, StartFails};
 ghost use Rattle.ipc_stream.specs.Pushed.{HoldsBatch, no_rows};
 ghost use Rattle.ipc_stream.specs.Writing.{AcceptsBatch, CutShort};
@@ -65,7 +65,8 @@ fn copy_batch<W: Sink>(
 ) -> Result<(), WriteFault>
     requires works { writer.old.failed ≡ false }
     ensures sends { Sends
-        (AddsBatch writer.old.limits writer.old.schema (rows_of (batch.now, pairs)))
+        (SendsBatch writer.old.limits writer.old.schema writer.old.kept
+        (rows_of (batch.now, pairs)))
         writer.old.written writer.new.written writer.old.failures writer.new.failures result }
     ensures judged { MatchResult result
         (λ _. AcceptsBatch writer.old.limits writer.old.schema (rows_of (batch.now, pairs)))
@@ -73,6 +74,8 @@ fn copy_batch<W: Sink>(
         fault) }
     ensures limits { OnOk result (writer.new.limits ≡ writer.old.limits) }
     ensures schema { OnOk result (writer.new.schema ≡ writer.old.schema) }
+    ensures kept { OnOk result (writer.new.kept ≡ kept_after writer.old.schema.fields
+        writer.old.kept (rows_of (batch.now, pairs) ∷ [])) }
     ensures works { OnOk result (writer.new.failed ≡ false) }
 {
     let mut rows = writer.batch(pairs)?;
@@ -165,8 +168,9 @@ fn copy_stream<R: Source, W: Sink>(
 
 /// Reads a stream from `source` under the limits and writes it anew to `sink`, with the
 /// end-of-stream mark (Arrow Columnar Format, "IPC Streaming Format"): the schema's message goes
-/// out once it is read, and each batch, with its pairs and rows, before the next is read. One batch
-/// is kept at a time, as rows of its own. What is written is within the limits that `raised` makes
+/// out once it is read, and each batch, with its pairs and rows and behind the dictionaries that it
+/// needs, before the next is read. One batch is kept at a time, as rows of its own, and of each
+/// dictionary the values that were sent. What is written is within the limits that `raised` makes
 /// of those that are given. Source and sink come back beside the answer.
 ///
 /// `Stop::Read` has the refusals of `StreamReader`, F1 to F37 without F35, with the number of the
@@ -188,15 +192,15 @@ pub fn rewrite<R: Source, W: Sink>(
     // F36 and W9 are answered exactly where the source or the sink failed in this call.
     ensures devices { TellsFailures (R.failures source) (R.failures result.1) (W.failures sink)
         (W.failures result.2) result.0 }
-    // A table of types that are read, with its mark, is written whatever follows it, or refused as
-    // it is by a writer, unless memory runs out or the source fails.
-    ensures marked { (x rest : List ℕ) (t : Table) → are_supported t.schema.fields ≡ true
+    // A table with its mark is written whatever follows it, or refused as it is by a writer, unless
+    // memory runs out or the source fails.
+    ensures marked { (x rest : List ℕ) (t : Table)
         → R.remaining source ≡ Some (x ++ rest) → Denotes limits x t Mark
         → R.failures result.1 ≡ 0
         → AnswersTable (raised_of limits) t (W.written sink) (W.written result.2)
         (W.failures sink) (W.failures result.2) result.0 }
     // So is one without a mark where nothing follows.
-    ensures closed { (x : List ℕ) (t : Table) → are_supported t.schema.fields ≡ true
+    ensures closed { (x : List ℕ) (t : Table)
         → R.remaining source ≡ Some x → Denotes limits x t Closed → R.failures result.1 ≡ 0
         → AnswersTable (raised_of limits) t (W.written sink) (W.written result.2)
         (W.failures sink) (W.failures result.2) result.0 }

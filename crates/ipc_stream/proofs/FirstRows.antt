@@ -14,8 +14,10 @@ use Rattle.ipc_model.specs.declared.schema.Field.{Field}
 use Rattle.ipc_model.specs.declared.schema.Schema.{Schema}
 use Rattle.ipc_model.specs.declared.value.Value.{Value}
 use Rattle.ipc_encode.proofs.Growing.{refused_more}
-use Rattle.ipc_stream.specs.Writing.{RefusesBatch, Misfits, long_columns, long_metadata, other_pairs}
+use Rattle.ipc_stream.specs.Writing.{RefusesBatch, Misfits, long_columns, long_message, long_metadata, long_values, many_slots, many_values}
+use Rattle.ipc_stream.specs.Writing.{other_pairs}
 use Rattle.ipc_stream.specs.Pushed.{RefusesHeld}
+use Rattle.ipc_stream.proofs.OverLimit.{full_more, over_more}
 
 -- the first row that doesn't fit is the first one of more rows
 misfits_more : (fields : List Field) (rows more : List (List Value)) (fault : WriteFault) → Misfits fields rows fault
@@ -42,13 +44,18 @@ refused_with_more : (limits : Limits) (s : Schema) (pairs : List (List ℕ × Li
 refused_with_more limits s pairs rows more w.TooLong (long_columns h) = long_columns (refused_more limits s.fields rows more w.TooLong h)
 refused_with_more limits s pairs rows more w.TooLong (long_metadata h) = long_metadata h
 refused_with_more limits s pairs rows more w.TooLong (other_pairs h) = other_pairs h
-refused_with_more limits s pairs rows more w.TooManyRows h = refused_more limits s.fields rows more w.TooManyRows h
+refused_with_more limits s pairs rows more w.TooLong (long_values h) = long_values (over_more limits s.fields rows more w.TooLong h)
+refused_with_more limits s pairs rows more w.TooLong (long_message h) = long_message h
+refused_with_more limits s pairs rows more w.TooManyRows (many_slots h) =
+    many_slots (refused_more limits s.fields rows more w.TooManyRows h)
+refused_with_more limits s pairs rows more w.TooManyRows (many_values h) =
+    many_values (over_more limits s.fields rows more w.TooManyRows h)
 refused_with_more limits s pairs rows more w.OutOfMemory h = tt
 refused_with_more limits s pairs rows more w.Write h = absurd h
 refused_with_more limits s pairs rows more w.Failed h = cc
 refused_with_more limits s pairs rows more w.BadSchema h = misfits_more s.fields rows more w.BadSchema h
 refused_with_more limits s pairs rows more (w.Row number cause) h = misfits_more s.fields rows more (w.Row number cause) h
-refused_with_more limits s pairs rows more w.DictionaryFull h = misfits_more s.fields rows more w.DictionaryFull h
+refused_with_more limits s pairs rows more w.DictionaryFull h = full_more s.fields rows more h
 
 -- what the first rows of a batch are refused for is a cause of refusing it
 pub refused_at_first : (limits : Limits) (s : Schema) (pairs : List (List ℕ × List ℕ)) (rows : List (List Value)) (i : ℕ)

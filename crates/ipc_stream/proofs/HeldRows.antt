@@ -17,14 +17,20 @@ use Rattle.ipc_model.specs.declared.table.BatchRows.{BatchRows}
 use Rattle.ipc_model.specs.declared.value.Value.{Value}
 use Rattle.ipc_encode.specs.Limits.{IsRefused, IsWithin}
 use Rattle.ipc_encode.specs.Built.{HasRows}
-use Rattle.ipc_encode.specs.Numbers.{no_indices}
+use Rattle.ipc_encode.specs.Numbers.{told}
+use Rattle.ipc_dict.specs.declared.entry.TallyEntry.{TallyEntry}
+use Rattle.ipc_dict.specs.declared.kept.KeptEntry.{KeptEntry}
+use Rattle.ipc_dict.specs.Noting.{AllFit, noted_place}
+use Rattle.ipc_dict.specs.Sending.{tallied}
+use Rattle.ipc_dict.specs.Tallied.{Tallied}
+use Rattle.ipc_dict.specs.Within.{AllWithin}
 use Rattle.ipc_stream.specs.declared.pushed.PushedRows.{PushedRows}
-use Rattle.ipc_stream.specs.Writing.{AcceptsBatch, RefusesBatch, Misfits, long_columns, long_metadata, other_pairs}
-use Rattle.ipc_decode.specs.Stream.{AddsBatch}
-use Rattle.ipc_stream.specs.Writing.{NotSentWhole}
+use Rattle.ipc_stream.specs.Writing.{AcceptsBatch, Misfits, long_columns, long_metadata, many_slots, other_pairs}
+use Rattle.ipc_stream.specs.Writing.{NotSentWhole, RefusesBatch}
 use Rattle.ipc_stream.specs.Parts.{AcceptsPairs, RefusesPairs}
 use Rattle.ipc_stream.specs.Writer.{Writer, Leaves}
-use Rattle.ipc_stream.specs.Pushed.{HoldsBatch, RefusesHeld, with_row}
+use Rattle.ipc_stream.specs.Pushed.{HoldsBatch, RefusesHeld, no_rows, with_row}
+use Rattle.ipc_stream.proofs.HeldTallies.{tally_of, tallied_none}
 use Rattle.ipc_stream.proofs.MessagesWritten.{all_last, misfit}
 
 -- a row behind those that fit, which doesn't, is the first of the batch that doesn't
@@ -40,7 +46,7 @@ misfit_last fields rows row cause r fault fit fits judged failed told =
 pub refused_row : (limits : Limits) (s : Schema) (b : BatchRows) (row : List Value) (fault : WriteFault)
     → IsRefused limits s.fields (b.rows ++ row ∷ []) fault → RefusesHeld limits s (with_row b row) false fault
 refused_row limits s b row w.TooLong h = long_columns h
-refused_row limits s b row w.TooManyRows h = h
+refused_row limits s b row w.TooManyRows h = many_slots h
 refused_row limits s b row w.OutOfMemory h = tt
 refused_row limits s b row w.BadSchema h = absurd h
 refused_row limits s b row (w.Row number fault) h = absurd h
@@ -48,45 +54,67 @@ refused_row limits s b row w.DictionaryFull h = absurd h
 refused_row limits s b row w.Write h = absurd h
 refused_row limits s b row w.Failed h = absurd h
 
--- a batch with a row more that fits and is within the limits is accepted as the batch was
-pub accepted_row : (limits : Limits) (s : Schema) (b : BatchRows) (row : List Value) → AcceptsBatch limits s b → RowFits s.fields row
-    → IsWithin limits s.fields (b.rows ++ row ∷ []) → AcceptsBatch limits s (with_row b row)
-accepted_row limits s b row accepts fits within = record {
-  fit = all_last (RowFits s.fields) b.rows row accepts.fit fits;
-  within = record {
-    lengths = within;
-    short_metadata = accepts.within.short_metadata;
-    allowed_pairs = accepts.within.allowed_pairs;
+-- a builder's rows under the places of its own tally
+pub own_rows : (limits : Limits) (s : Schema) (b : BatchRows) (held : PushedRows) → HoldsBatch limits s b held
+    → HasRows (told (noted_place held.tally.entries)) limits s.fields b.rows held.builder
+own_rows limits s b held h =
+    subst (λ (t : Tallied). HasRows (told (noted_place t.entries)) limits s.fields b.rows held.builder) (sym h.tally) h.rows
+
+-- a batch with a row more that fits and is within the limits, as its dictionaries are, is held
+pub held_row : (limits : Limits) (s : Schema) (b : BatchRows) (row : List Value) (old new : PushedRows)
+    → HoldsBatch limits s b old → RowFits s.fields row → IsWithin limits s.fields (b.rows ++ row ∷ [])
+    → new.tally ≡ tally_of limits s.fields (b.rows ++ row ∷ [])
+    → AllFit new.tally.entries → AllWithin new.tally.limits new.tally.fields new.tally.entries
+    → HasRows (told (noted_place new.tally.entries)) limits s.fields (b.rows ++ row ∷ []) new.builder → new.pairs ≡ old.pairs
+    → HoldsBatch limits s (with_row b row) new
+held_row limits s b row old new held fits within tally fit short rows same = record {
+  tally = tally;
+  rows = subst (λ (t : Tallied). HasRows (told (noted_place t.entries)) limits s.fields (b.rows ++ row ∷ []) new.builder) tally rows;
+  pairs = same ∙ held.pairs;
+  accepted = record {
+    fit = all_last (RowFits s.fields) b.rows row held.accepted.fit fits;
+    within = record {
+      lengths = within;
+      dictionaries = record {
+        counted = subst (λ (t : Tallied). AllFit t.entries) tally fit;
+        lengths = subst (λ (t : Tallied). AllWithin t.limits t.fields t.entries) tally short;
+        short_messages = held.accepted.within.dictionaries.short_messages;
+      };
+      short_metadata = held.accepted.within.short_metadata;
+      allowed_pairs = held.accepted.within.allowed_pairs;
+    };
   };
 }
 
--- where a row went into the columns, the batch with it is held
-pub held_row : (limits : Limits) (s : Schema) (b : BatchRows) (row : List Value) (old new : PushedRows)
-    → HoldsBatch limits s b old → RowFits s.fields row → IsWithin limits s.fields (b.rows ++ row ∷ [])
-    → HasRows no_indices limits s.fields (b.rows ++ row ∷ []) new.builder → new.pairs ≡ old.pairs
-    → HoldsBatch limits s (with_row b row) new
-held_row limits s b row old new held fits within rows same = record {
-  rows = rows;
-  pairs = same ∙ held.pairs;
-  accepted = accepted_row limits s b row held.accepted fits within;
-}
+-- the same where no field names a dictionary
+pub held_plain : (limits : Limits) (s : Schema) (b : BatchRows) (row : List Value) (old new : PushedRows)
+    → HoldsBatch limits s b old → old.tally.entries ≡ [] → RowFits s.fields row → IsWithin limits s.fields (b.rows ++ row ∷ [])
+    → HasRows (told (noted_place old.tally.entries)) limits s.fields (b.rows ++ row ∷ []) new.builder → new.tally ≡ old.tally
+    → new.pairs ≡ old.pairs → HoldsBatch limits s (with_row b row) new
+held_plain limits s b row old new held none fits within rows same_tally same =
+    let empty : tallied s.fields b.rows ≡ [] = sym (ap (λ (t : Tallied). t.entries) held.tally) ∙ none in
+    let more : tally_of limits s.fields (b.rows ++ row ∷ []) ≡ tally_of limits s.fields b.rows =
+    ap (λ (es : List TallyEntry). record { failed = false; limits = limits; fields = s.fields; entries = es })
+    (tallied_none s.fields b.rows row empty) in
+    let tally : new.tally ≡ tally_of limits s.fields (b.rows ++ row ∷ []) = same_tally ∙ held.tally ∙ sym more in
+    let now : new.tally ≡ tally_of limits s.fields b.rows = same_tally ∙ held.tally in
+    let was = held.accepted.within.dictionaries in
+    held_row limits s b row old new held fits within tally
+    (subst (λ (t : Tallied). AllFit t.entries) (sym now) was.counted)
+    (subst (λ (t : Tallied). AllWithin t.limits t.fields t.entries) (sym now) was.lengths)
+    (subst (λ (t : Tallied). HasRows (told (noted_place t.entries)) limits s.fields (b.rows ++ row ∷ []) new.builder) (sym same_tally) rows)
+    same
 
 -- where the builder has the rows that it had, the batch is still held
 pub held_still : (limits : Limits) (s : Schema) (b : BatchRows) (old new : PushedRows) → HoldsBatch limits s b old
-    → HasRows no_indices limits s.fields b.rows new.builder → new.pairs ≡ old.pairs → HoldsBatch limits s b new
-held_still limits s b old new held rows same = record { rows = rows; pairs = same ∙ held.pairs; accepted = held.accepted }
-
--- rows within the limits are refused for memory alone
-pub memory_alone : (limits : Limits) (fields : List Field) (rows : List (List Value)) (fault : WriteFault) → IsWithin limits fields rows
-    → IsRefused limits fields rows fault → fault ≡ w.OutOfMemory
-memory_alone limits fields rows w.TooLong within h = absurd (within.short h)
-memory_alone limits fields rows w.TooManyRows within h = absurd (within.few h)
-memory_alone limits fields rows w.OutOfMemory within h = refl
-memory_alone limits fields rows w.BadSchema within h = absurd h
-memory_alone limits fields rows (w.Row number cause) within h = absurd h
-memory_alone limits fields rows w.DictionaryFull within h = absurd h
-memory_alone limits fields rows w.Write within h = absurd h
-memory_alone limits fields rows w.Failed within h = absurd h
+    → new.tally ≡ old.tally → HasRows (told (noted_place old.tally.entries)) limits s.fields b.rows new.builder → new.pairs ≡ old.pairs
+    → HoldsBatch limits s b new
+held_still limits s b old new held same_tally rows same = record {
+  tally = same_tally ∙ held.tally;
+  rows = subst (λ (t : Tallied). HasRows (told (noted_place t.entries)) limits s.fields b.rows new.builder) held.tally rows;
+  pairs = same ∙ held.pairs;
+  accepted = held.accepted;
+}
 
 -- what is told of a row by a writer that works is told by any
 pub judged_row : (A : Type 0) (limits : Limits) (s : Schema) (b : BatchRows) (failed : Bool) (r : Result Unit WriteFault) → OnOk r A
@@ -101,26 +129,52 @@ judged_row A limits s b failed (Err w.OutOfMemory) held refused = refused
 judged_row A limits s b failed (Err w.Write) held refused = refused
 judged_row A limits s b failed (Err w.Failed) held refused = cc
 
--- ---- a batch whose rows are judged
-
--- rows that fit and are within the limits are refused with their pairs alone
-pub judged_with_pairs : {T : Type 0} (limits : Limits) (s : Schema) (b : BatchRows) (r : Result T WriteFault)
-    → AllByRecursion (RowFits s.fields) b.rows → IsWithin limits s.fields b.rows
-    → MatchResult r (λ x. AcceptsPairs limits s b.pairs) (λ fault. RefusesPairs limits s b.pairs fault)
+-- a batch that is held is refused only for a sink that failed, or out of memory
+pub judged_sent : (limits : Limits) (s : Schema) (b : BatchRows) (r : Result Unit WriteFault) → AcceptsBatch limits s b
+    → IfErr r (λ fault. (fault ≡ w.Write) ⊎ (fault ≡ w.OutOfMemory))
     → MatchResult r (λ x. AcceptsBatch limits s b) (λ fault. RefusesBatch limits s b fault)
-judged_with_pairs limits s b (Ok x) fit within judged = record {
-  fit = fit;
-  within = record { lengths = within; short_metadata = judged.short_metadata; allowed_pairs = judged.allowed_pairs };
-}
-judged_with_pairs limits s b (Err w.TooLong) fit within (inl long) = long_metadata long
-judged_with_pairs limits s b (Err w.TooLong) fit within (inr other) = other_pairs other
-judged_with_pairs limits s b (Err w.OutOfMemory) fit within judged = tt
-judged_with_pairs limits s b (Err w.BadSchema) fit within judged = absurd judged
-judged_with_pairs limits s b (Err (w.Row number cause)) fit within judged = absurd judged
-judged_with_pairs limits s b (Err w.DictionaryFull) fit within judged = absurd judged
-judged_with_pairs limits s b (Err w.TooManyRows) fit within judged = absurd judged
-judged_with_pairs limits s b (Err w.Write) fit within judged = absurd judged
-judged_with_pairs limits s b (Err w.Failed) fit within judged = absurd judged
+judged_sent limits s b (Ok x) accepts only = accepts
+judged_sent limits s b (Err w.Write) accepts only = accepts
+judged_sent limits s b (Err w.OutOfMemory) accepts only = tt
+judged_sent limits s b (Err w.BadSchema) accepts (inl e) = cc
+judged_sent limits s b (Err w.BadSchema) accepts (inr e) = cc
+judged_sent limits s b (Err (w.Row number cause)) accepts (inl e) = cc
+judged_sent limits s b (Err (w.Row number cause)) accepts (inr e) = cc
+judged_sent limits s b (Err w.TooLong) accepts (inl e) = cc
+judged_sent limits s b (Err w.TooLong) accepts (inr e) = cc
+judged_sent limits s b (Err w.DictionaryFull) accepts (inl e) = cc
+judged_sent limits s b (Err w.DictionaryFull) accepts (inr e) = cc
+judged_sent limits s b (Err w.TooManyRows) accepts (inl e) = cc
+judged_sent limits s b (Err w.TooManyRows) accepts (inr e) = cc
+judged_sent limits s b (Err w.Failed) accepts (inl e) = cc
+judged_sent limits s b (Err w.Failed) accepts (inr e) = cc
+
+-- ---- a batch without rows
+
+-- what is told of its pairs is told of it
+pub refused_pairs : (limits : Limits) (s : Schema) (pairs : List (List ℕ × List ℕ)) (fault : WriteFault)
+    → RefusesPairs limits s pairs fault → RefusesHeld limits s (no_rows pairs) false fault
+refused_pairs limits s pairs w.TooLong (inl long) = long_metadata long
+refused_pairs limits s pairs w.TooLong (inr other) = other_pairs other
+refused_pairs limits s pairs w.OutOfMemory h = tt
+refused_pairs limits s pairs w.BadSchema h = absurd h
+refused_pairs limits s pairs (w.Row number cause) h = absurd h
+refused_pairs limits s pairs w.DictionaryFull h = absurd h
+refused_pairs limits s pairs w.TooManyRows h = absurd h
+refused_pairs limits s pairs w.Write h = absurd h
+refused_pairs limits s pairs w.Failed h = absurd h
+
+-- so is what is told of its columns
+pub refused_columns : (limits : Limits) (s : Schema) (pairs : List (List ℕ × List ℕ)) (fault : WriteFault)
+    → IsRefused limits s.fields [] fault → RefusesHeld limits s (no_rows pairs) false fault
+refused_columns limits s pairs w.TooLong h = long_columns h
+refused_columns limits s pairs w.TooManyRows h = many_slots h
+refused_columns limits s pairs w.OutOfMemory h = tt
+refused_columns limits s pairs w.BadSchema h = absurd h
+refused_columns limits s pairs (w.Row number cause) h = absurd h
+refused_columns limits s pairs w.DictionaryFull h = absurd h
+refused_columns limits s pairs w.Write h = absurd h
+refused_columns limits s pairs w.Failed h = absurd h
 
 -- pairs that are within the limits aren't refused
 pub accepted_pairs : {T : Type 0} (limits : Limits) (s : Schema) (b : BatchRows) (r : Result T WriteFault) → AcceptsBatch limits s b
@@ -140,11 +194,12 @@ accepted_pairs limits s b (Err w.Failed) accepts judged = absurd judged
 
 -- ---- what is left of the writer
 
-module _ (IsWhole : List ℕ → Type 0) (old : Writer) (written : Option (List ℕ)) (failures : ℕ) (works : old.failed ≡ false) where
+module _ (IsWhole : List ℕ → Type 0) (kept : List KeptEntry) (old : Writer) (written : Option (List ℕ)) (failures : ℕ)
+    (works : old.failed ≡ false) where
   -- where the batch doesn't go out whole, for a sink that failed or out of memory, the writer fails
   pub leaves_failed : (fault : WriteFault) → (fault ≡ w.Write) ⊎ (fault ≡ w.OutOfMemory)
       → NotSentWhole IsWhole old.written written old.failures failures fault
-      → Leaves IsWhole old (record old { written = written; failures = failures; failed = true }) (Err fault)
+      → Leaves IsWhole kept old (record old { written = written; failures = failures; failed = true }) (Err fault)
   leaves_failed w.Write only unsent = (works, unsent, refl)
   leaves_failed w.OutOfMemory only unsent = (
     works,
@@ -163,13 +218,3 @@ module _ (IsWhole : List ℕ → Type 0) (old : Writer) (written : Option (List 
   leaves_failed w.TooManyRows (inr e) unsent = cc
   leaves_failed w.Failed (inl e) unsent = cc
   leaves_failed w.Failed (inr e) unsent = cc
-
--- the same where the writer is seen as it was
-pub batch_failed : (inside old : Writer) (b : BatchRows) (written : Option (List ℕ)) (failures : ℕ) (fault : WriteFault) → inside ≡ old
-    → inside.failed ≡ false → (fault ≡ w.Write) ⊎ (fault ≡ w.OutOfMemory)
-    → NotSentWhole (AddsBatch inside.limits inside.schema b) inside.written written inside.failures failures fault
-    → Leaves (AddsBatch old.limits old.schema b) old (record inside { written = written; failures = failures; failed = true }) (Err fault)
-batch_failed inside old b written failures fault same works only unsent =
-    subst (λ (before : Writer). Leaves (AddsBatch before.limits before.schema b) before
-    (record inside { written = written; failures = failures; failed = true }) (Err fault)) same
-    (leaves_failed (AddsBatch inside.limits inside.schema b) inside written failures works fault only unsent)

@@ -5,3 +5,10 @@ pub mod HeldRows
 pub mod FirstRows
 pub mod TablesWritten
 pub mod RoundTrips
+pub mod InForce
+pub mod PlanFinds
+pub mod WithinLimits
+pub mod HeldTallies
+pub mod BatchSent
+pub mod Chains
+pub mod OverLimit

@@ -1,3 +1,5 @@
+pub mod OpenStreams
+pub mod Dictionaries
 pub mod Failures
 pub mod Writing
 pub mod Texts

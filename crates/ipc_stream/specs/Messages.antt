@@ -1,7 +1,36 @@
--- The bytes of a batch's message (Arrow Columnar Format, "Encapsulated message format").
-use Rattle.std.specs.Prelude.{ℕ, List, ◌++◌}
-use Rattle.ipc_stream.specs.declared.messages.BatchMessage.{BatchMessage}
+-- The bytes of messages (Arrow Columnar Format, "Encapsulated message format").
+use Rattle.std.specs.Prelude.{◌≡◌, ℕ, ℤ, List, [], ◌∷◌, ◌++◌, length, Some, ⊤}
+use Rattle.ipc_model.specs.declared.limits.Limits.{Limits}
+use Rattle.ipc_model.specs.declared.schema.Schema.{Schema}
+use Rattle.ipc_model.specs.declared.value.Value.{Value}
+use Rattle.ipc_decode.specs.Stream.{InForce, Run, with_dictionary}
+use Rattle.ipc_stream.specs.declared.message.Message.{Message}
 
 -- all of them: what stands before the body, and the body
-abbrev pub bytes_of : BatchMessage → List ℕ
+abbrev pub bytes_of : Message → List ℕ
 bytes_of message = message.front.items ++ message.body.items
+
+-- those of messages, one after another
+abbrev pub all_bytes : List Message → List ℕ
+all_bytes [] = []
+all_bytes (message ∷ more) = bytes_of message ++ all_bytes more
+
+-- a message sets the dictionary with the id to the values of these rows, and tells nothing (Arrow
+-- Columnar Format, "Dictionary Messages")
+abbrev pub SetsDictionary : Limits → Schema → ℤ → List (List Value) → Message → Type 0
+SetsDictionary limits s id rows message = (o : InForce) → o.schema ≡ s
+    → Run limits (Some o) (bytes_of message) []
+    (Some (with_dictionary o id rows (length message.body.items)))
+
+-- each of the messages does so for the id and the rows beside it
+abbrev pub SetDictionaries : Limits → Schema → List (ℤ × List (List Value)) → List Message → Type 0
+SetDictionaries limits s [] [] = ⊤
+SetDictionaries limits s (send ∷ sends) (message ∷ more) =
+    SetsDictionary limits s send.0 send.1 message × SetDictionaries limits s sends more
+SetDictionaries limits s _ _ = ⊥
+
+-- one message more, which does so
+abbrev pub AddsDictionary : Limits → Schema → ℤ × List (List Value) → List Message → List Message
+    → Type 0
+AddsDictionary limits s send old new = (message : Message)
+    × ((new ≡ old ++ message ∷ []) × SetsDictionary limits s send.0 send.1 message)

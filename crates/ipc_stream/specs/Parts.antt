@@ -1,18 +1,28 @@
 -- The message of a batch from its parts, and why its pairs are refused (Message.fbs, RecordBatch).
-use Rattle.std.specs.Prelude.{ℕ, ◌<◌, ◌≤◌, ⊤, ◌⊎◌, List, pos}
+use Rattle.std.specs.Prelude.{◌≡◌, ℕ, ◌<◌, ◌≤◌, ⊤, ◌⊎◌, List, [], ◌∷◌, pos, Some}
 use Rattle.ipc_model.specs.Entries.{AllowPairs}
 use Rattle.ipc_model.specs.declared.fault.WriteFault.{WriteFault}
 use Rattle.ipc_model.specs.declared.fault.WriteFault.TheVariants as w
 use Rattle.ipc_model.specs.declared.limits.Limits.{Limits}
 use Rattle.ipc_model.specs.declared.schema.Schema.{Schema}
 use Rattle.ipc_meta.specs.declared.head.BatchHead.{BatchHead}
+use Rattle.ipc_model.specs.declared.table.BatchRows.{BatchRows}
+use Rattle.ipc_column.specs.Dictionaries.{Dictionaries}
 use Rattle.ipc_encode.specs.declared.parts.Parts.{Parts}
+use Rattle.ipc_decode.specs.Stream.{InForce, Run, batch, values_in}
+use Rattle.ipc_stream.specs.Messages.{bytes_of}
 use Rattle.ipc_stream.specs.Writing.{batch_room_of}
+use Rattle.ipc_stream.specs.declared.message.Message.{Message}
 
 -- the head of a batch of so many rows with these parts
 abbrev pub head_of : ℕ → Parts → BatchHead
 head_of count parts =
     record { length = pos count; nodes = parts.nodes; buffers = parts.buffers }
+
+-- a message tells this batch where these dictionaries are in force, which stay so
+abbrev pub TellsRows : Limits → Dictionaries → Schema → BatchRows → Message → Type 0
+TellsRows limits m s b message = (o : InForce) → o.schema ≡ s → values_in o.dictionaries ≡ m
+    → Run limits (Some o) (bytes_of message) (batch b ∷ []) (Some o)
 
 -- the metadata of a batch with these pairs is within the limits, and so are the pairs
 pub record AcceptsPairs (limits : Limits) (s : Schema) (pairs : List (List ℕ × List ℕ)) :

@@ -7,7 +7,9 @@ use Rattle.ipc_model.specs.declared.schema.Schema.{Schema}
 use Rattle.ipc_model.specs.declared.table.BatchRows.{BatchRows}
 use Rattle.ipc_model.specs.declared.value.Value.{Value}
 use Rattle.ipc_encode.specs.Built.{HasRows}
-use Rattle.ipc_encode.specs.Numbers.{no_indices}
+use Rattle.ipc_encode.specs.Numbers.{told}
+use Rattle.ipc_dict.specs.Noting.{noted_place}
+use Rattle.ipc_dict.specs.Sending.{tallied}
 use Rattle.ipc_stream.specs.declared.pushed.PushedRows.{PushedRows}
 use Rattle.ipc_stream.specs.Writing.{AcceptsBatch, RefusesBatch}
 use Rattle.ipc_stream.specs.Writer.{Writer}
@@ -20,11 +22,22 @@ no_rows pairs = record { pairs = pairs; rows = [] }
 abbrev pub with_row : BatchRows → List Value → BatchRows
 with_row b row = record { pairs = b.pairs; rows = b.rows ++ row ∷ [] }
 
--- The rows and the pairs that are held are exactly this batch, and no argument is a cause of
--- refusing it.
+-- a batch with these pairs and rows
+abbrev pub with_rows : List (List ℕ × List ℕ) → List (List Value) → BatchRows
+with_rows pairs rows = record { pairs = pairs; rows = rows }
+
+-- The rows and the pairs that are held are exactly this batch, its distinct values are counted, and
+-- no argument is a cause of refusing it.
 pub record HoldsBatch (limits : Limits) (s : Schema) (b : BatchRows)
     (held : PushedRows) : Type 0 where
-  pub rows : HasRows no_indices limits s.fields b.rows held.builder
+  pub tally : held.tally ≡ record {
+    failed = false;
+    limits = limits;
+    fields = s.fields;
+    entries = tallied s.fields b.rows;
+  }
+  pub rows : HasRows (told (noted_place (tallied s.fields b.rows))) limits s.fields b.rows
+      held.builder
   pub pairs : held.pairs ≡ b.pairs
   pub accepted : AcceptsBatch limits s b
 

@@ -2,8 +2,7 @@ ghost use Rattle.std.specs.Prelude.{◌≡◌, Err, IfErr, IfOk, MatchResult, tr
 ghost use Rattle.ipc_model.specs.declared.table.BatchRows.{BatchRows};
 ghost use Rattle.ipc_stream.specs.Pushed.{HoldsBatch, RefusesHeld, Stays, StaysAt};
 ghost use Rattle.ipc_stream.specs.Pushed.{no_rows, with_row};
-ghost use Rattle.ipc_stream.specs.Writer.{Leaves};
-ghost use Rattle.ipc_decode.specs.Stream.{AddsBatch};
+ghost use Rattle.ipc_stream.specs.Writer.{LeavesBatch};
 ghost use Rattle.ipc_stream.specs.Writing.{AcceptsBatch, RefusesBatch};
 
 use crate::pushed::PushedRows;
@@ -41,7 +40,8 @@ impl<W: Sink> StreamWriter<W> {
     ///
     /// W6 is returned where the metadata may need more than `limits.metadata` bytes, the pairs are
     /// more than `limits.pairs` or have more than `limits.text` bytes, or even the buffers of no
-    /// rows have more than `limits.body`; W10 after W9 or W11; W11 where memory was refused.
+    /// rows, or the message of a dictionary without values, are more than the limits allow; W10
+    /// after W9 or W11; W11 where memory was refused.
     pub fn batch(&mut self, pairs: Items<(Text, Text)>) -> Result<BatchWriter<'_, W>, WriteFault>
         ensures* rests { sem 𝓛 (RestsIfErr (the_row W.row W.Sink) self.entry
             (λ b. b.writer.ghost_name) result (λ last. IfErr result (StaysAt self.old last))) }
@@ -67,9 +67,10 @@ impl<W: Sink> BatchWriter<'_, W> {
     /// W2 to W5 are returned where `conforms` refuses the row, with the number that it would have
     /// and the path in it; W6 where with this row a binary or UTF-8 column would have more than
     /// 2^31 - 1 bytes of data, or the body more than `limits.body`; W8 where there would be more
-    /// than `limits.slots` rows, or as many items in all lists of a column. Such a row isn't kept,
-    /// and the next may come. W10 is returned
-    /// after W9 or W11, and W11 where memory was refused.
+    /// than `limits.slots` rows, or as many items in all lists of a column; W6, W7 or W8 where with
+    /// this row the distinct values of a dictionary would be too long or too many, as `write_batch`
+    /// has it. Such a row isn't kept, and the next may come. W10 is returned after W9 or W11, and
+    /// W11 where memory was refused.
     #[inline(always)]
     pub fn push(&mut self, row: &[Value]) -> Result<(), WriteFault>
         ensures same_reference { self.new.writer.ghost_name ≡ self.old.writer.ghost_name }
@@ -91,15 +92,15 @@ impl<W: Sink> BatchWriter<'_, W> {
         self.writer.push_row(&mut self.batch, row)
     }
 
-    /// Sends the message of the batch with the rows that were pushed.
+    /// Sends the message of the batch with the rows that were pushed, behind those of the
+    /// dictionaries that it needs, as `write_batch` does.
     ///
     /// W9 is returned where the sink failed, W10 after W9 or W11, and W11 where memory was refused.
     pub fn send(self) -> Result<(), WriteFault>
         ensures sends { (b : BatchRows)
             → HoldsBatch self.entry.writer.now.limits self.entry.writer.now.schema b
             self.entry.batch
-            → Leaves (AddsBatch self.entry.writer.now.limits self.entry.writer.now.schema b)
-            self.entry.writer.now self.exit.0.now result }
+            → LeavesBatch self.entry.writer.now b self.exit.0.now result }
         ensures judged { (b : BatchRows)
             → HoldsBatch self.entry.writer.now.limits self.entry.writer.now.schema b
             self.entry.batch

@@ -1,19 +1,24 @@
-ghost use Rattle.std.specs.Prelude.{◌≡◌, ◌++◌, [], ◌∷◌, false, IfErr, IfOk, OnOk};
+ghost use Rattle.std.specs.Prelude.{◌≡◌, ◌++◌, ℕ, List, [], ◌∷◌, false, IfErr, IfOk, OnOk};
+ghost use Rattle.std.specs.Prelude.{MatchResult};
 ghost use Rattle.ipc_model.specs.Fits.{RowFits};
 ghost use Rattle.ipc_model.specs.RowFaults.{HasShortPaths};
+ghost use Rattle.ipc_model.specs.WellFormed.{WellFormed};
 ghost use Rattle.ipc_model.specs.declared.limits.Limits.{Limits};
 ghost use Rattle.ipc_model.specs.declared.schema.Schema.{Schema};
 ghost use Rattle.ipc_model.specs.declared.table.BatchRows.{BatchRows};
+ghost use Rattle.ipc_model.specs.declared.value.Value.{Value};
 ghost use Rattle.ipc_encode.specs.Faults.{write_fault};
 ghost use Rattle.ipc_encode.specs.Limits.{IsWithin};
-ghost use Rattle.ipc_stream.specs.Writing.{IsWritable, RefusesBatch};
+ghost use Rattle.ipc_dict.specs.Within.{HaveShortMessages};
+ghost use Rattle.ipc_stream.specs.Parts.{AcceptsPairs};
+ghost use Rattle.ipc_stream.specs.Writing.{RefusesBatch};
 ghost use Rattle.ipc_stream.specs.Pushed.{HoldsBatch, RefusesHeld, no_rows, with_row};
+ghost use Rattle.ipc_stream.specs.Pushed.{with_rows};
 
-use crate::messages::batch_message;
-use ipc_encode::{Builder, NoIndices, PushFault, Room};
-use ipc_model::{
-    BatchRows, Items, Limits, Schema, Text, Value, WriteFault, conforms, is_conforming,
-};
+use crate::messages::parts_message;
+use ipc_dict::Tally;
+use ipc_encode::{Builder, NoIndices, PushFault, Room, encode};
+use ipc_model::{Items, Limits, Row, Schema, Text, Value, WriteFault, conforms, is_conforming};
 use std::alloc::Global;
 
 /// The rows of a batch that isn't sent yet, and its pairs (Message.fbs, RecordBatch).
@@ -22,12 +27,32 @@ use std::alloc::Global;
 #[derive(Debug, Drop)]
 pub struct PushedRows {
     pub(crate) builder: Builder,
+    // The distinct values of each dictionary.
+    pub(crate) tally: Tally,
     pub(crate) pairs: Items<(Text, Text)>,
 }
 
+// Whether a batch with these pairs and no rows is within the limits. Its message is made and let
+// go, so that what is too long whatever the rows is refused here.
+fn check_pairs(
+    alloc: Global,
+    limits: &Limits,
+    schema: &Schema,
+    pairs: &Items<(Text, Text)>,
+) -> Result<(), WriteFault>
+    requires { WellFormed limits.now schema.now }
+    ensures judged { MatchResult result (λ _. AcceptsPairs limits.now schema.now pairs.now
+        × IsWithin limits.now schema.now.fields [])
+        (RefusesHeld limits.now schema.now (no_rows pairs.now) false) }
+{
+    let parts = encode(alloc, limits, schema.fields.as_slice(), &[], &NoIndices)?;
+    parts_message(alloc, limits, pairs, 0, parts)?;
+    Ok(())
+}
+
 impl PushedRows {
-    // No rows, with these pairs, in the room of a batch that was sent. The message of this batch is
-    // made and let go, so that what is too long whatever the rows is refused here.
+    // No rows, with these pairs, in the room of a batch that was sent. The metadata of each
+    // dictionary's message is within the limits.
     pub(crate) fn new(
         alloc: Global,
         limits: &Limits,
@@ -35,19 +60,18 @@ impl PushedRows {
         pairs: Items<(Text, Text)>,
         room: Room,
     ) -> Result<PushedRows, WriteFault>
-        requires { IsWritable limits.now schema.now }
+        requires well_formed { WellFormed limits.now schema.now }
+        requires short { HaveShortMessages limits.now schema.now.fields }
         ensures holds { IfOk result (HoldsBatch limits.now schema.now (no_rows pairs)) }
         ensures refused { IfErr result
             (RefusesHeld limits.now schema.now (no_rows pairs) false) }
     {
-        let batch = BatchRows {
-            pairs,
-            rows: Items::new(alloc),
-        };
-        batch_message(alloc, limits, schema, &batch)?;
+        check_pairs(alloc, limits, schema, &pairs)?;
+        let tally = Tally::new(alloc, limits, schema)?;
         Ok(PushedRows {
             builder: Builder::with_room(alloc, schema.fields.as_slice(), limits, room)?,
-            pairs: batch.pairs,
+            tally,
+            pairs,
         })
     }
 
@@ -66,45 +90,43 @@ impl PushedRows {
         }
     }
 
-    // Takes one row more that conforms and is within the limits with those that are held.
+    // Takes one row more that conforms and is within the limits with those that are held, where no
+    // field names a dictionary.
     #[inline(always)]
     fn take_fitting(&mut self, row: &[Value]) -> Result<(), PushFault>
         ensures holds { (limits : Limits) (schema : Schema) (b : BatchRows)
-            → RowFits schema.fields row.now
+            → self.old.tally.entries ≡ [] → RowFits schema.fields row.now
             → IsWithin limits schema.fields (b.rows ++ row.now ∷ [])
             → HoldsBatch limits schema b self.old
             → OnOk result (HoldsBatch limits schema (with_row b row.now) self.new) }
-        ensures refused { (limits : Limits) (schema : Schema) (b : BatchRows)
-            → HoldsBatch limits schema b self.old
-            → IfErr result (λ fault. RefusesHeld limits schema (with_row b row.now) false
-            (write_fault fault)) }
         ensures memory { (limits : Limits) (schema : Schema) (b : BatchRows)
             → IsWithin limits schema.fields (b.rows ++ row.now ∷ [])
             → HoldsBatch limits schema b self.old
             → IfErr result (λ fault. write_fault fault ≡ WriteFault.OutOfMemory) }
     {
-        self.builder.take_row(row, &NoIndices)?;
+        self.builder.take_row(row, &self.tally)?;
         Ok(())
     }
 
     // Takes one row more that conforms. After a refusal for memory what is held is of no use, after
     // any other it is the batch that it was.
     #[inline(never)]
-    fn take(&mut self, row: &[Value]) -> Result<(), PushFault>
+    fn take(&mut self, row: &[Value]) -> Result<(), WriteFault>
         ensures holds { (limits : Limits) (schema : Schema) (b : BatchRows)
-            → RowFits schema.fields row.now → HoldsBatch limits schema b self.old
+            → WellFormed limits schema → RowFits schema.fields row.now
+            → HoldsBatch limits schema b self.old
             → OnOk result (HoldsBatch limits schema (with_row b row.now) self.new) }
         ensures refused { (limits : Limits) (schema : Schema) (b : BatchRows)
-            → HoldsBatch limits schema b self.old
-            → IfErr result (λ fault. RefusesHeld limits schema (with_row b row.now) false
-            (write_fault fault)) }
+            → WellFormed limits schema → HoldsBatch limits schema b self.old
+            → IfErr result (RefusesHeld limits schema (with_row b row.now) false) }
         ensures kept { (limits : Limits) (schema : Schema) (b : BatchRows)
-            → HoldsBatch limits schema b self.old
-            → IfErr result (λ fault. ¬ (write_fault fault ≡ WriteFault.OutOfMemory)
+            → WellFormed limits schema → HoldsBatch limits schema b self.old
+            → IfErr result (λ fault. ¬ (fault ≡ WriteFault.OutOfMemory)
             → HoldsBatch limits schema b self.new) }
     {
         self.builder.fit_row(row)?;
-        self.builder.take_row(row, &NoIndices)?;
+        self.tally.note(row)?;
+        self.builder.take_row(row, &self.tally)?;
         Ok(())
     }
 
@@ -113,24 +135,46 @@ impl PushedRows {
     #[inline(always)]
     pub(crate) fn push(&mut self, schema: &Schema, row: &[Value]) -> Result<(), WriteFault>
         requires { HasShortPaths schema.now }
-        ensures holds { (limits : Limits) (b : BatchRows) → HoldsBatch limits schema.now b self.old
+        ensures holds { (limits : Limits) (b : BatchRows) → WellFormed limits schema.now
+            → HoldsBatch limits schema.now b self.old
             → OnOk result (HoldsBatch limits schema.now (with_row b row.now) self.new) }
-        ensures refused { (limits : Limits) (b : BatchRows)
+        ensures refused { (limits : Limits) (b : BatchRows) → WellFormed limits schema.now
             → HoldsBatch limits schema.now b self.old
             → IfErr result (RefusesHeld limits schema.now (with_row b row.now) false) }
-        ensures kept { (limits : Limits) (b : BatchRows)
+        ensures kept { (limits : Limits) (b : BatchRows) → WellFormed limits schema.now
             → HoldsBatch limits schema.now b self.old
             → IfErr result (λ fault. ¬ (fault ≡ WriteFault.OutOfMemory)
             → HoldsBatch limits schema.now b self.new) }
     {
-        if self.builder.surely_takes(schema.fields.as_slice(), row) {
+        if self.tally.is_empty() && self.builder.surely_takes(schema.fields.as_slice(), row) {
             self.take_fitting(row)?;
             return Ok(());
         }
         if !is_conforming(schema, row) {
             return Err(self.misfit(schema, row));
         }
-        self.take(row)?;
+        self.take(row)
+    }
+
+    // Takes several rows, one after another, in a batch without rows.
+    pub(crate) fn push_all(&mut self, schema: &Schema, rows: &[Row]) -> Result<(), WriteFault>
+        requires { HasShortPaths schema.now }
+        ensures holds { (limits : Limits) (pairs : List (List ℕ × List ℕ))
+            → WellFormed limits schema.now
+            → HoldsBatch limits schema.now (no_rows pairs) self.old
+            → OnOk result (HoldsBatch limits schema.now (with_rows pairs rows.now) self.new) }
+        ensures refused { (limits : Limits) (pairs : List (List ℕ × List ℕ))
+            → WellFormed limits schema.now
+            → HoldsBatch limits schema.now (no_rows pairs) self.old
+            → IfErr result (RefusesBatch limits schema.now (with_rows pairs rows.now)) }
+        ensures only { (limits : Limits) (pairs : List (List ℕ × List ℕ))
+            → WellFormed limits schema.now
+            → HoldsBatch limits schema.now (no_rows pairs) self.old
+            → IfErr result (λ fault. ¬ (fault ≡ WriteFault.Write)) }
+    {
+        for row in rows {
+            self.push(schema, row.as_slice())?;
+        }
         Ok(())
     }
 }

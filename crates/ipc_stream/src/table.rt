@@ -3,7 +3,8 @@ ghost use Rattle.ipc_model.specs.Fits.{TableFits};
 ghost use Rattle.ipc_decode.specs.Stream.{IsTableOf};
 ghost use Rattle.ipc_stream.specs.Writing.{AcceptsTable, BreaksOff, IsWithinLimits, Sent};
 
-use crate::sending::{send_batch, send_end, send_schema};
+use crate::open_stream::OpenStream;
+use crate::sending::send_end;
 use crate::sink::Sink;
 use ipc_model::{Limits, Table, WriteFault};
 use std::alloc::Global;
@@ -22,9 +23,9 @@ fn write_messages<W: Sink>(
     ensures broken { IfErr result (λ fault. BreaksOff limits.now table.now (W.written sink.old)
         (W.written sink.new) (W.failures sink.old) (W.failures sink.new) fault) }
 {
-    let schema = send_schema(alloc, limits, sink, &table.schema)?;
+    let mut stream = OpenStream::begin(alloc, limits, sink, &table.schema)?;
     for batch in table.batches.as_slice() {
-        send_batch(alloc, limits, sink, &schema, batch)?;
+        stream.send_batch(sink, batch)?;
     }
     send_end(sink)
 }
@@ -34,8 +35,9 @@ fn write_messages<W: Sink>(
 /// `write_batch` and `finish` do.
 ///
 /// The refusals are theirs: W1 for the schema, W2 to W5 for the first row of a batch that doesn't
-/// fit, with its number in its batch and its path, W6 and W8 for lengths above the limits, W9 where
-/// the sink failed and W11 where memory was refused. What was sent before stands.
+/// fit, with its number in its batch and its path, W6 and W8 for lengths above the limits, W7 for
+/// more values of a dictionary than its indices count, W9 where the sink failed and W11 where
+/// memory was refused. What was sent before stands.
 pub fn write_table<W: Sink>(
     alloc: Global,
     limits: &Limits,

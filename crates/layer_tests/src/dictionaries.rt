@@ -1,15 +1,16 @@
 //! Dictionaries: those that a reader has in force, and what a writer sends of one with each batch.
 //!
 //! A letter stands for a value, its text, and `-` for a null.
-ghost use Rattle.std.specs.Prelude.{◌≡◌, IfOk};
-ghost use Rattle.ipc_dict.specs.SchemaIds.{kept_ids, ids_of, tally_ids};
+ghost use Rattle.std.specs.Prelude.{◌≡◌};
+ghost use Rattle.ipc_dict.specs.SchemaIds.{kept_ids, ids_of};
 
 use crate::columns::batch;
 use ipc_column::{Batch, Cell};
 use ipc_dict::{Dictionaries, Kept, Plan, Tally};
 use ipc_encode::{IndexOf, Renumber, SameNumbers};
 use ipc_model::{
-    DataType, Dictionary, Fault, Field, IndexType, IntBits, Items, Row, Schema, Value, WriteFault,
+    DataType, Dictionary, Fault, Field, IndexType, IntBits, Items, Limits, Row, Schema, Value,
+    WriteFault,
 };
 use std::alloc::{AllocError, Global};
 use std::rc::Rc;
@@ -136,10 +137,19 @@ fn tell_planned(
     requires { kept_ids kept.old ≡ ids_of schema.now.fields }
     ensures { kept_ids kept.new ≡ ids_of schema.now.fields }
 {
-    let plan = Plan::for_rows(alloc, schema, kept, rows)?;
+    let limits = Limits::standard();
+    schema.check(alloc, &limits)?;
+    let plan = Plan::for_rows(alloc, &limits, schema, kept, rows)?;
     tell_plan(alloc, told, &plan, rows)?;
     plan.commit(kept);
     Ok(())
+}
+
+// A tally of a schema that is well formed.
+pub(crate) fn tally_of(alloc: Global, schema: &Schema) -> Result<Tally, WriteFault> {
+    let limits = Limits::standard();
+    schema.check(alloc, &limits)?;
+    Tally::new(alloc, &limits, schema)
 }
 
 // Counts rows, and finds each index right behind its row.
@@ -147,10 +157,8 @@ fn counted(
     alloc: Global,
     schema: &Schema,
     rows: &[Row],
-) -> Result<(Tally, Vec<Option<u64>>), WriteFault>
-    ensures { IfOk result (λ counted. tally_ids counted.0.entries ≡ ids_of schema.now.fields) }
-{
-    let mut tally = Tally::new(alloc, schema)?;
+) -> Result<(Tally, Vec<Option<u64>>), WriteFault> {
+    let mut tally = tally_of(alloc, schema)?;
     let mut indices = Vec::new(alloc);
     for row in rows {
         tally.note(row.as_slice())?;
@@ -286,7 +294,7 @@ fn taken(alloc: Global, texts: usize) -> Result<usize, WriteFault> {
 
 fn tally_of_two(alloc: Global) -> Result<Tally, WriteFault> {
     let schema = schema_of(alloc, 2)?;
-    Ok(Tally::new(alloc, &schema)?)
+    tally_of(alloc, &schema)
 }
 
 #[test]
@@ -319,6 +327,18 @@ fn a_refused_row_is_cut_off(rt: HostRuntime) -> Result<(), Fail> {
     assert!(rt; tally.index_of(7, &first).is_none());
     assert!(rt; take_one(rt.alloc(), &mut tally) == Ok(()));
     assert!(rt; tally.index_of(7, &first) == Some(127));
+    Ok(())
+}
+
+// Why a tally gives no plan to a writer of no columns.
+fn refusal(alloc: Global) -> Result<Option<WriteFault>, WriteFault> {
+    let kept = Kept::new(alloc, &schema_of(alloc, 0)?)?;
+    Ok(tally_of_two(alloc)?.settle(alloc, &kept).err())
+}
+
+#[test]
+fn no_plan_for_another_writer(rt: HostRuntime) -> Result<(), Fail> {
+    assert!(rt; refusal(rt.alloc())? == Some(WriteFault::Failed));
     Ok(())
 }
 

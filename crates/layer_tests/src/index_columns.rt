@@ -1,8 +1,6 @@
 //! Columns of indices, pushed row by row under a tally and numbered by its plan.
-ghost use Rattle.std.specs.Prelude.{◌≡◌, IfOk};
-ghost use Rattle.ipc_dict.specs.SchemaIds.{kept_ids, ids_of, tally_ids};
 
-use crate::dictionaries::{rows_of, schema_of};
+use crate::dictionaries::{rows_of, schema_of, tally_of};
 use ipc_dict::{Kept, Tally};
 use ipc_encode::{Builder, Parts};
 use ipc_model::{Limits, Schema, WriteFault};
@@ -15,10 +13,7 @@ fn pushed(
     schema: &Schema,
     kept: &mut Kept,
     letters: &[u8],
-) -> Result<Parts, WriteFault>
-    requires { kept_ids kept.old ≡ ids_of schema.now.fields }
-    ensures { kept_ids kept.new ≡ ids_of schema.now.fields }
-{
+) -> Result<Parts, WriteFault> {
     let (tally, builder) = counted(alloc, schema, letters)?;
     let plan = tally.settle(alloc, kept)?;
     let parts = builder.finish(&plan)?;
@@ -27,10 +22,8 @@ fn pushed(
 }
 
 // The same rows, counted and held.
-fn counted(alloc: Global, schema: &Schema, letters: &[u8]) -> Result<(Tally, Builder), WriteFault>
-    ensures { IfOk result (λ counted. tally_ids counted.0.entries ≡ ids_of schema.now.fields) }
-{
-    let mut tally = Tally::new(alloc, schema)?;
+fn counted(alloc: Global, schema: &Schema, letters: &[u8]) -> Result<(Tally, Builder), WriteFault> {
+    let mut tally = tally_of(alloc, schema)?;
     let mut builder = Builder::new(alloc, schema.fields.as_slice(), &Limits::standard())?;
     for row in &rows_of(alloc, letters, 1)? {
         tally.note(row.as_slice())?;

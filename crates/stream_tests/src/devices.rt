@@ -134,18 +134,12 @@ fn is_not_finished_where_a_flush_fails(rt: HostRuntime) -> Result<(), Fail> {
 fn limited(
     alloc: Global,
     (step, calls): (usize, u64),
+    column: Column,
     steps: &[Step<'_>],
     told: &mut String,
 ) -> Result<Vec<u8>, AllocError> {
     let sink = Limited::new(empty(alloc), step.max(1), calls);
-    let sink = played(
-        alloc,
-        Limits::standard(),
-        sink,
-        Column::Numbers,
-        steps,
-        told,
-    )?;
+    let sink = played(alloc, Limits::standard(), sink, column, steps, told)?;
     Ok(sink.into_inner().into_bytes())
 }
 
@@ -156,24 +150,25 @@ fn writes_the_same_bytes(rt: HostRuntime) -> Result<(), Fail> {
     let whole = stream_of(rt.alloc(), Column::Numbers, &[Step::WritePaired(NUMBERS)])?;
     for step in [1, 3, 288, 1 << 20] {
         for steps in [[Step::WritePaired(NUMBERS)], [Step::PushPaired(NUMBERS)]] {
-            let bytes = limited(rt.alloc(), (step, u64::MAX), &steps, &mut told)?;
+            let device = (step, u64::MAX);
+            let bytes = limited(rt.alloc(), device, Column::Numbers, &steps, &mut told)?;
             assert!(rt; bytes.as_slice() == whole.as_slice() && told.is_empty());
         }
     }
     Ok(())
 }
 
-// Whether a sink that takes so many bytes in each of so many calls has so many bytes of a stream
-// without rows then, and this is told.
+// Whether a sink that takes so many bytes in each of so many calls has so many bytes of the stream
+// then, and this is told.
 fn is_cut(
     alloc: Global,
     device: (usize, u64),
-    steps: &[Step<'_>],
+    (column, steps): (Column, &[Step<'_>]),
     (wanted, count): (&str, usize),
 ) -> Result<bool, AllocError> {
     let mut told = String::new(alloc);
-    let bytes = limited(alloc, device, steps, &mut told)?;
-    let whole = stream_of(alloc, Column::Numbers, steps)?;
+    let bytes = limited(alloc, device, column, steps, &mut told)?;
+    let whole = stream_of(alloc, column, steps)?;
     Ok(whole.get(..count) == Some(bytes.as_slice()) && told.as_str() == wanted)
 }
 
@@ -183,12 +178,27 @@ fn is_cut(
 fn stays_failed(rt: HostRuntime) -> Result<(), Fail> {
     let alloc = rt.alloc();
     let size = stream_of(alloc, Column::Numbers, &[])?.len();
-    assert!(rt; is_cut(alloc, (5, 1), &[], ("W9 Write\n", 5))?);
-    assert!(rt; is_cut(alloc, (1 << 20, 2), &[], ("W9 Write\n", size))?);
+    let none: (Column, &[Step<'_>]) = (Column::Numbers, &[]);
+    assert!(rt; is_cut(alloc, (5, 1), none, ("W9 Write\n", 5))?);
+    assert!(rt; is_cut(alloc, (1 << 20, 2), none, ("W9 Write\n", size))?);
     let begun = size.saturating_sub(8);
     let calls = (begun as u64).div_ceil(5) + 1;
     let steps = [Step::Write(&[]); 3];
     let told = "W9 Write\nW10 Failed\nW10 Failed\nW10 Failed\n";
-    assert!(rt; is_cut(alloc, (5, calls), &steps, (told, begun.saturating_add(5)))?);
+    let wanted = (told, begun.saturating_add(5));
+    assert!(rt; is_cut(alloc, (5, calls), (Column::Numbers, &steps), wanted)?);
+    Ok(())
+}
+
+// A sink that fails behind three bytes of a dictionary's message, which stands in front of its
+// batch's.
+#[test]
+fn stays_failed_in_a_dictionary(rt: HostRuntime) -> Result<(), Fail> {
+    let size = stream_of(rt.alloc(), Column::Letters, &[])?.len();
+    let count = size.saturating_sub(5);
+    let steps = [Step::Write(&[Some(1)]); 2];
+    let device = (1, count as u64);
+    let told = "W9 Write\nW10 Failed\nW10 Failed\n";
+    assert!(rt; is_cut(rt.alloc(), device, (Column::Letters, &steps), (told, count))?);
     Ok(())
 }

@@ -1,10 +1,12 @@
 //! Tests of streams that need Rust: devices that fail, limits of calls, bytes in pieces, refusals
-//! of the writer, and what comes after a refusal. What the library answers to streams stands in
-//! `cases/`.
+//! of the writer, dictionaries that it sends, and what comes after a refusal. What the library
+//! answers to streams stands in `cases/`.
 #![tactic(auto)]
 
 #[cfg(test)]
 mod devices;
+#[cfg(test)]
+mod dictionaries;
 #[cfg(test)]
 mod pieces;
 #[cfg(test)]

@@ -1,12 +1,14 @@
-//! Columns, rows and tables of numbers that the tests write and read back.
+//! Columns, rows and tables of numbers and letters that the tests write and read back.
 
 use ipc_model::{
-    BatchRows, DataType, DateUnit, Field, IntBits, Items, Row, Schema, Table, Text, Value,
+    BatchRows, DataType, DateUnit, Dictionary, Field, IndexType, IntBits, Items, Row, Schema,
+    Table, Text, Value,
 };
 use ipc_stream::Memory;
 use std::alloc::{AllocError, Global};
 
-/// The columns of a table: one required column, or none.
+/// The columns of a table: one required column, none, or columns with dictionary 7 of texts of one
+/// letter, whose values may be null.
 #[derive(Clone, Copy)]
 pub enum Column {
     /// There is none.
@@ -19,6 +21,13 @@ pub enum Column {
     Numbers,
     /// Days in milliseconds.
     Days,
+    /// One column of letters. A number is a letter.
+    Letters,
+    /// Two columns of letters. A number has the second letter in its lowest byte, and the first in
+    /// the next one.
+    LetterPairs,
+    /// Lists of two letters, which a number has as above.
+    LetterLists,
 }
 
 /// The numbers of rows: None stands for null.
@@ -27,46 +36,110 @@ pub type Rows<'a> = &'a [Option<i64>];
 /// The numbers 1, -2 and the greatest of 64 bits.
 pub const NUMBERS: Rows<'static> = &[Some(1), Some(-2), Some(i64::MAX)];
 
+/// The letters of a number: a and b, b and c, c and d.
+pub const AB: Option<i64> = Some(0x6162);
+
+pub const BC: Option<i64> = Some(0x6263);
+
+pub const CD: Option<i64> = Some(0x6364);
+
 fn int(bits: IntBits, signed: bool) -> DataType {
     DataType::Int { bits, signed }
 }
 
+// Dictionary 7, under signed indices of 8 bits.
+const LETTERS: Dictionary = Dictionary {
+    id: 7,
+    index: IndexType {
+        bits: IntBits::B8,
+        signed: true,
+    },
+    ordered: false,
+};
+
+fn letters(alloc: Global) -> Result<Field, AllocError> {
+    let field = Field::new(alloc, "a", DataType::Utf8)?.nullable();
+    Ok(field.with_dictionary(LETTERS))
+}
+
+fn letter_lists(alloc: Global) -> Result<Field, AllocError> {
+    let mut children = Vec::new(alloc);
+    children.push(letters(alloc)?)?;
+    let field = Field::new(alloc, "a", DataType::List)?.nullable();
+    Ok(field.with_children(children))
+}
+
+// The text of one letter.
+fn letter(alloc: Global, letter: u8) -> Result<Value, AllocError> {
+    let mut text = String::new(alloc);
+    text.push(letter as char)?;
+    Value::text(alloc, &text)
+}
+
+// Both letters of a number.
+fn letter_pair(alloc: Global, number: i64) -> Result<Row, AllocError> {
+    let bytes = number.to_le_bytes();
+    let mut pair = Vec::new(alloc);
+    pair.push(letter(alloc, bytes[1])?)?;
+    pair.push(letter(alloc, bytes[0])?)?;
+    Ok(Items::from_vec(pair))
+}
+
 impl Column {
-    fn kind(self) -> Option<DataType> {
+    fn width(self) -> usize {
         match self {
-            Column::Absent => None,
-            Column::Bytes => Some(int(IntBits::B8, true)),
-            Column::UnsignedBytes => Some(int(IntBits::B8, false)),
-            Column::Numbers => Some(int(IntBits::B64, true)),
-            Column::Days => Some(DataType::Date(DateUnit::Millisecond)),
+            Column::Absent => 0,
+            Column::LetterPairs => 2,
+            _ => 1,
         }
+    }
+
+    fn field(self, alloc: Global) -> Result<Field, AllocError> {
+        let kind = match self {
+            Column::Bytes => int(IntBits::B8, true),
+            Column::UnsignedBytes => int(IntBits::B8, false),
+            Column::Absent | Column::Numbers => int(IntBits::B64, true),
+            Column::Days => DataType::Date(DateUnit::Millisecond),
+            Column::Letters | Column::LetterPairs => return letters(alloc),
+            Column::LetterLists => return letter_lists(alloc),
+        };
+        Field::new(alloc, "a", kind)
     }
 
     /// The schema of the column.
     pub fn schema(self, alloc: Global) -> Result<Schema, AllocError> {
         let mut fields = Vec::new(alloc);
-        if let Some(kind) = self.kind() {
-            fields.push(Field::new(alloc, "a", kind)?)?;
+        for _column in 0..self.width() {
+            fields.push(self.field(alloc)?)?;
         }
         Ok(Schema::new(fields))
     }
 
-    fn value(self, number: i64) -> Value {
-        match self {
+    fn value(self, alloc: Global, number: i64) -> Result<Value, AllocError> {
+        Ok(match self {
             Column::UnsignedBytes => Value::UInt(number.unsigned_abs()),
+            Column::Letters => letter(alloc, number.to_le_bytes()[0])?,
+            Column::LetterLists => Value::List(letter_pair(alloc, number)?),
             _ => Value::Int(number),
-        }
+        })
+    }
+
+    // A row of one value.
+    fn single(self, alloc: Global, number: Option<i64>) -> Result<Row, AllocError> {
+        let mut row = Vec::new(alloc);
+        row.push(match number {
+            Some(number) => self.value(alloc, number)?,
+            None => Value::Null,
+        })?;
+        Ok(Items::from_vec(row))
     }
 
     fn row(self, alloc: Global, number: Option<i64>) -> Result<Row, AllocError> {
-        let mut row = Vec::new(alloc);
-        if !matches!(self, Column::Absent) {
-            row.push(match number {
-                Some(number) => self.value(number),
-                None => Value::Null,
-            })?;
+        match self {
+            Column::Absent => Ok(Items::new(alloc)),
+            Column::LetterPairs => letter_pair(alloc, number.unwrap_or(0)),
+            _ => self.single(alloc, number),
         }
-        Ok(Items::from_vec(row))
     }
 
     /// A row for each of the numbers.

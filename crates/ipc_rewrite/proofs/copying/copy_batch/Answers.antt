@@ -1,7 +1,7 @@
 use Rattle.std.proofs.Common.{◌≡◌, ◌∙◌, ap, rules}
 use Rattle.std.proofs.lemmas.Result.{err_from_is_err_and}
 use Rattle.ipc_stream.specs.Writer.{Writer}
-use Rattle.ipc_rewrite.proofs.Pushing.{refused_none, not_sent, sent_of, limits_of, schema_of, works_of, judged_of}
+use Rattle.ipc_rewrite.proofs.Pushing.{refused_none, not_sent, sent_of, limits_of, schema_of, kept_of, works_of, judged_of}
 use Rattle.ipc_rewrite.proofs.copying.copy_batch.Goals as goal
 
 pub returns-in_err-rows-clause-judged : goal.returns-in_err-rows-clause-judged
@@ -33,7 +33,7 @@ returns-clause-sends g c =
     let now = c.in_ok-push_rows.ensures.same ∙ c.in_ok-rows.ensures.begun.1 in
     let held = (rw c.in_ok-rows.ensures.begun.1 at c.in_ok-push_rows.ensures.judged) c.args.pairs c.in_ok-rows.ensures.judged in
     let left = (rw now at c.send.ensures.sends) _ held in
-    rw same (sent_of _ _ _ _ c.requires.works left)
+    rw same (sent_of _ _ _ _ _ c.requires.works left)
 
 pub returns-clause-judged : goal.returns-clause-judged
 returns-clause-judged g c =
@@ -41,25 +41,32 @@ returns-clause-judged g c =
     let held = (rw c.in_ok-rows.ensures.begun.1 at c.in_ok-push_rows.ensures.judged) c.args.pairs c.in_ok-rows.ensures.judged in
     let left = (rw now at c.send.ensures.sends) _ held in
     let told = (rw now at c.send.ensures.judged) _ held in
-    judged_of _ _ _ _ _ c.send.result c.requires.works left told
+    judged_of _ _ _ _ _ _ c.send.result c.requires.works left told
 
 pub returns-clause-limits : goal.returns-clause-limits
 returns-clause-limits g c =
     let same : c.writer-2-1.given.0 ≡ c.send.new.self.0 = search rules in
     let now = c.in_ok-push_rows.ensures.same ∙ c.in_ok-rows.ensures.begun.1 in
     let held = (rw c.in_ok-rows.ensures.begun.1 at c.in_ok-push_rows.ensures.judged) c.args.pairs c.in_ok-rows.ensures.judged in
-    rw same (limits_of _ _ _ c.send.result ((rw now at c.send.ensures.sends) _ held))
+    rw same (limits_of _ _ _ _ c.send.result ((rw now at c.send.ensures.sends) _ held))
 
 pub returns-clause-schema : goal.returns-clause-schema
 returns-clause-schema g c =
     let same : c.writer-2-1.given.0 ≡ c.send.new.self.0 = search rules in
     let now = c.in_ok-push_rows.ensures.same ∙ c.in_ok-rows.ensures.begun.1 in
     let held = (rw c.in_ok-rows.ensures.begun.1 at c.in_ok-push_rows.ensures.judged) c.args.pairs c.in_ok-rows.ensures.judged in
-    rw same (schema_of _ _ _ c.send.result ((rw now at c.send.ensures.sends) _ held))
+    rw same (schema_of _ _ _ _ c.send.result ((rw now at c.send.ensures.sends) _ held))
+
+pub returns-clause-kept : goal.returns-clause-kept
+returns-clause-kept g c =
+    let same : c.writer-2-1.given.0 ≡ c.send.new.self.0 = search rules in
+    let now = c.in_ok-push_rows.ensures.same ∙ c.in_ok-rows.ensures.begun.1 in
+    let held = (rw c.in_ok-rows.ensures.begun.1 at c.in_ok-push_rows.ensures.judged) c.args.pairs c.in_ok-rows.ensures.judged in
+    rw same (kept_of _ _ _ _ c.send.result ((rw now at c.send.ensures.sends) _ held))
 
 pub returns-clause-works : goal.returns-clause-works
 returns-clause-works g c =
     let same : c.writer-2-1.given.0 ≡ c.send.new.self.0 = search rules in
     let now = c.in_ok-push_rows.ensures.same ∙ c.in_ok-rows.ensures.begun.1 in
     let held = (rw c.in_ok-rows.ensures.begun.1 at c.in_ok-push_rows.ensures.judged) c.args.pairs c.in_ok-rows.ensures.judged in
-    rw same (works_of _ _ _ c.send.result ((rw now at c.send.ensures.sends) _ held))
+    rw same (works_of _ _ _ _ c.send.result ((rw now at c.send.ensures.sends) _ held))

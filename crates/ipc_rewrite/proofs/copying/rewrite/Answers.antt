@@ -5,26 +5,26 @@ use Rattle.ipc_rewrite.proofs.Whole.{none_read}
 use Rattle.ipc_rewrite.proofs.copying.rewrite.Goals as goal
 
 pub returns-in-Ok-clause-marked : goal.returns-in-Ok-clause-marked
-returns-in-Ok-clause-marked g c = λ x rest t read is d none.
+returns-in-Ok-clause-marked g c = λ x rest t is d none.
     answered_marked _ _ _ _ _ _ _ _ c.copy_stream-result.result.0 c.copy_stream-result.ensures.devices
-    (c.copy_stream-result.ensures.rewrites _ _ c.in-Ok.ensures.opened) (sym c.into_inner.ensures.failures ∙ none) x rest t read is d
+    (c.copy_stream-result.ensures.rewrites _ _ c.in-Ok.ensures.opened) (sym c.into_inner.ensures.failures ∙ none) x rest t is d
 
 pub returns-in-Ok-clause-closed : goal.returns-in-Ok-clause-closed
-returns-in-Ok-clause-closed g c = λ x t read is d none.
+returns-in-Ok-clause-closed g c = λ x t is d none.
     answered_closed _ _ _ _ _ _ _ _ c.copy_stream-result.result.0 c.copy_stream-result.ensures.devices
-    (c.copy_stream-result.ensures.rewrites _ _ c.in-Ok.ensures.opened) (sym c.into_inner.ensures.failures ∙ none) x t read is d
+    (c.copy_stream-result.ensures.rewrites _ _ c.in-Ok.ensures.opened) (sym c.into_inner.ensures.failures ∙ none) x t is d
 
 pub returns-in-Err-clause-rewrites : goal.returns-in-Err-clause-rewrites
 returns-in-Err-clause-rewrites g c = none_read _ _ _ _ _ c.in-Err.ensures.refused
 
 pub returns-in-Err-clause-marked : goal.returns-in-Err-clause-marked
-returns-in-Err-clause-marked g c = λ x rest t read is d none.
+returns-in-Err-clause-marked g c = λ x rest t is d none.
     answered_marked _ _ (g.W.Sink.written c.args.sink) (g.W.Sink.written c.args.sink) _ _ (g.W.Sink.failures c.args.sink)
     (g.W.Sink.failures c.args.sink) (Err (stop.Read c.in-Err.fault 0)) (c.in-Err.ensures.failures, refl)
-    (none_read _ _ _ _ _ c.in-Err.ensures.refused) none x rest t read is d
+    (none_read _ _ _ _ _ c.in-Err.ensures.refused) none x rest t is d
 
 pub returns-in-Err-clause-closed : goal.returns-in-Err-clause-closed
-returns-in-Err-clause-closed g c = λ x t read is d none.
+returns-in-Err-clause-closed g c = λ x t is d none.
     answered_closed _ _ (g.W.Sink.written c.args.sink) (g.W.Sink.written c.args.sink) _ _ (g.W.Sink.failures c.args.sink)
     (g.W.Sink.failures c.args.sink) (Err (stop.Read c.in-Err.fault 0)) (c.in-Err.ensures.failures, refl)
-    (none_read _ _ _ _ _ c.in-Err.ensures.refused) none x t read is d
+    (none_read _ _ _ _ _ c.in-Err.ensures.refused) none x t is d

@@ -1,11 +1,15 @@
-use Rattle.std.proofs.Common.{◌≡◌, ◌∙◌, sym, ap, subst, arith, drop, ◌+◌, ◌++◌, IfErr, Result, Err}
+use Rattle.std.proofs.Common.{◌≡◌, ◌∙◌, sym, ap, subst, arith, drop, ◌+◌, ◌++◌, IfErr, List, Result, Err}
 use Rattle.std.proofs.lemmas.Result.{err_from_is_err_and}
 use Rattle.ipc_model.specs.declared.fault.WriteFault.{WriteFault}
 use Rattle.ipc_model.specs.declared.fault.WriteFault.TheVariants as fault
+use Rattle.ipc_model.specs.declared.limits.Limits.{Limits}
+use Rattle.ipc_model.specs.declared.schema.Field.{Field}
 use Rattle.ipc_dict.specs.Counted.{HoldsRows}
 use Rattle.ipc_dict.specs.Noting.{note_all, AllFit, IsFull}
 use Rattle.ipc_dict.specs.Pairs.{row_pairs, rows_pairs}
 use Rattle.ipc_dict.specs.SchemaIds.{tally_ids, unused}
+use Rattle.ipc_dict.specs.Within.{AllWithin, IsOfLimits, IsOverLimit}
+use Rattle.ipc_dict.proofs.EntryColumns.{over_first, over_step}
 use Rattle.ipc_dict.proofs.Notes.{if_ok}
 use Rattle.ipc_dict.proofs.Rows.{rows-step, rows-end, ids_note_all, holds_rows}
 use Rattle.ipc_dict.proofs.Walks.{noted-step, full-step}
@@ -33,6 +37,34 @@ returns-in_err-note-clause-full c =
     (λ e h same.
     full-step (unused fs) u.entries u.entries (rows_pairs fs rs) (rows_pairs fs (drop i rs)) one rest inv.noted step (h same))
 
+pub returns-in_err-tally-clause-over : goal.returns-in_err-tally-clause-over
+returns-in_err-tally-clause-over c =
+    let fs = c.args.schema.now.fields in
+    let fault = c.in_err-tally.field-0.0 in
+    let p = err_from_is_err_and c.from_residual.result c.from_residual.ensures.1 in
+    rw (p.1, p.2) (over_first c.args.limits.now fs (unused fs) (rows_pairs fs c.args.rows.now) fault c.in_err-tally.ensures.over
+    c.in_err-tally.ensures.only)
+
+pub returns-in_err-note-clause-over : goal.returns-in_err-note-clause-over
+returns-in_err-note-clause-over c =
+    let inv = c.loop-row.invariant in
+    let limits = c.args.limits.now in
+    let fs = c.args.schema.now.fields in
+    let rs = c.args.rows.now in
+    let i = c.loop-row.row-index in
+    let r = c.row-item.result in
+    let u = c.loop-row.tally in
+    let one = row_pairs u.fields c.as_slice.result.now in
+    let rest = rows_pairs fs (drop (i + 1) rs) in
+    let step : rows_pairs fs (drop i rs) ≡ one ++ rest =
+    rows-step fs rs i r (omega arith) c.row-item.is ∙ ap (λ p. p ++ rest) (sym (λ j. row_pairs (inv.fields j) (c.as_slice.ensures j))) in
+    left (λ e. IsOfLimits e → IsOverLimit u.limits u.fields (note_all u.entries one) e) c.in_err-note.field-0.0
+    (err_from_is_err_and c.from_residual-in_err-note.result c.from_residual-in_err-note.ensures.1) c.in_err-note.ensures.over
+    (λ e h same.
+    let here = subst (λ (l : Limits). IsOverLimit l fs (note_all u.entries one) e) inv.limits
+    (subst (λ (fields : List Field). IsOverLimit u.limits fields (note_all u.entries one) e) inv.fields (h same)) in
+    over_step limits fs (unused fs) u.entries (rows_pairs fs rs) (rows_pairs fs (drop i rs)) one rest e inv.noted step here)
+
 pub loop-row-preserved : goal.loop-row-preserved
 loop-row-preserved c =
     let inv = c.loop-row.invariant in
@@ -45,6 +77,7 @@ loop-row-preserved c =
     let now : c.note.new.self.entries ≡ note_all u.entries (row_pairs fs r) =
     ap (λ t. t.entries) after ∙ (λ j. note_all u.entries (row_pairs (inv.fields j) (c.as_slice.ensures j))) in
     record {
+      limits = ap (λ t. t.limits) after ∙ inv.limits;
       failed = ap (λ t. t.failed) after ∙ inv.failed;
       fields = ap (λ t. t.fields) after ∙ inv.fields;
       noted = noted-step (unused fs) u.entries c.note.new.self.entries (rows_pairs fs rs) (rows_pairs fs (drop i rs)) (row_pairs fs r)
@@ -67,3 +100,11 @@ returns-clause-ids c = if_ok c.settle.result c.settle.ensures.entries (λ plan e
 
 pub returns-clause-fits : goal.returns-clause-fits
 returns-clause-fits c = if_ok c.settle.result c.settle.ensures.entries (λ plan e. subst AllFit (sym e) c.loop-row.invariant.fits)
+
+pub returns-clause-within : goal.returns-clause-within
+returns-clause-within c =
+    let inv = c.loop-row.invariant in
+    let u = c.loop-row.tally in
+    if_ok c.settle.result c.settle.ensures.within (λ plan h.
+    subst (λ (l : Limits). AllWithin l c.args.schema.now.fields plan.entries) inv.limits
+    (subst (λ (fields : List Field). AllWithin u.limits fields plan.entries) inv.fields h))

@@ -6,6 +6,7 @@ use Rattle.ipc_dict.proofs.plan.Plan.for_rows.Given as goal
 
 abbrev pub invariant-loop-row : goal.invariant-loop-row
 invariant-loop-row l = record {
+  limits : l.tally.limits ≡ l.limits;
   failed : l.tally.failed ≡ false;
   fields : l.tally.fields ≡ l.schema.fields;
   noted : note_all l.tally.entries (rows_pairs l.schema.fields (drop l.row-index l.rows))

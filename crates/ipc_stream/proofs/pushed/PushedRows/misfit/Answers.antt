@@ -1,7 +1,9 @@
 use Rattle.std.proofs.Common.{ap}
 use Rattle.ipc_model.specs.Refusals.{refusal_of}
 use Rattle.ipc_stream.proofs.HeldRows.{misfit_last}
-use Rattle.ipc_encode.specs.Numbers.{no_indices}
+use Rattle.ipc_encode.specs.Numbers.{told}
+use Rattle.ipc_dict.specs.Noting.{noted_place}
+use Rattle.ipc_dict.specs.Sending.{tallied}
 use Rattle.ipc_stream.proofs.pushed.PushedRows.misfit.Goals as goal
 
 pub returns : goal.returns
@@ -9,4 +11,6 @@ returns c = λ limits b h.
     rw c.at_row.ensures
     (misfit_last c.args.schema.now.fields b.rows c.args.row.now c.in-Err.fault c.conforms.result _ h.accepted.fit c.conforms.ensures.fits.1
     c.conforms.ensures.first c.in-Err.is
-    (ap (refusal_of c.in-Err.fault) (c.row_count.ensures no_indices limits c.args.schema.now.fields b.rows h.rows)))
+    (ap (refusal_of c.in-Err.fault)
+    (c.row_count.ensures (told (noted_place (tallied c.args.schema.now.fields b.rows))) limits c.args.schema.now.fields b.rows
+    h.rows)))

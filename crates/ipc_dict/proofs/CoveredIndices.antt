@@ -1,0 +1,130 @@
+-- An index of a dictionary's values is one of its index type, and each value that was noted has one.
+use Rattle.std.proofs.Common.{◌≡◌, ◌∙◌, refl, sym, ap, subst, ℕ, zero, suc, ◌+◌, ◌-◌, ◌^◌, ◌<◌, ◌≤◌, Bool, true, false, cond}
+use Rattle.std.proofs.Common.{ℤ, List, [], ◌∷◌, length, Some, IsSome, int_eq, arith}
+use Rattle.std.specs.Prelude.{min}
+use Rattle.std.specs.List.{Contains}
+use Rattle.std.proofs.lemmas.Int.{ints}
+use Rattle.std.proofs.lemmas.Bool.Decides.{Decides-int_eq}
+use Rattle.std.proofs.lemmas.List.Elements.{All-contains, All-from_recursion}
+use Rattle.std.proofs.lemmas.List.Quantifiers.{position-Some}
+use Rattle.ipc_model.specs.declared.schema.Dictionary.{Dictionary}
+use Rattle.ipc_model.specs.declared.schema.Field.{Field}
+use Rattle.ipc_model.specs.declared.schema.IntBits.{IntBits}
+use Rattle.ipc_model.specs.declared.schema.IntBits.TheVariants as b
+use Rattle.ipc_model.specs.declared.value.Value.{Value}
+use Rattle.ipc_encode.specs.Indices.{IsIndexWithin}
+use Rattle.ipc_dict.specs.declared.entry.TallyEntry.{TallyEntry}
+use Rattle.ipc_dict.specs.Distinct.{same, place}
+use Rattle.ipc_dict.specs.Noting.{note_entry, note_one, note_all, noted_for, noted_place, AllFit}
+use Rattle.ipc_dict.specs.SchemaIds.{counted, count_of, of_fields, unused}
+use Rattle.ipc_dict.specs.SchemaEntries.{counts_for, least, AreInOrder}
+use Rattle.ipc_dict.proofs.Places.{places_all}
+use Rattle.ipc_dict.proofs.SchemaEntries.{are_of_schema}
+
+-- ---- an index of its type
+
+within : (bits : IntBits) (signed : Bool) (i : ℕ) → i < min (counted bits signed) (2 ^ 64 - 1) → IsIndexWithin bits signed i
+within b.B8 true i h = (omega (arith, ints), omega (arith, ints))
+within b.B8 false i h = omega arith
+within b.B16 true i h = (omega (arith, ints), omega (arith, ints))
+within b.B16 false i h = omega arith
+within b.B32 true i h = (omega (arith, ints), omega (arith, ints))
+within b.B32 false i h = omega arith
+within b.B64 true i h = (omega (arith, ints), omega (arith, ints))
+within b.B64 false i h = omega arith
+
+-- an index below the count of its type is one of the type
+pub index_within : (d : Dictionary) (i : ℕ) → i < count_of d → IsIndexWithin d.index.bits d.index.signed i
+index_within d i h = within d.index.bits d.index.signed i h
+
+-- ---- an index below the count
+
+-- the least count of an id is at most that of each field with it
+least_counts : (ds : List Dictionary) (d : Dictionary) → Contains ds d → least (counts_for ds d.id) ≤ count_of d
+least_counts [] d named = absurd (omega (arith, named.1))
+least_counts (x ∷ ds) d (zero, low, at) =
+    let here : int_eq x.id d.id ≡ true = (Decides-int_eq x.id d.id).1 (ap (λ (y : Dictionary). y.id) at) in
+    let counts : count_of x ≡ count_of d = ap count_of at in
+    subst (λ c. least (cond c (count_of x ∷ counts_for ds d.id) (counts_for ds d.id)) ≤ count_of d) (sym here) (omega (arith, counts))
+least_counts (x ∷ ds) d (suc k, low, at) =
+    let rest : least (counts_for ds d.id) ≤ count_of d = least_counts ds d (k, omega (arith, low), at) in
+    elim (int_eq x.id d.id) as (λ c. least (cond c (count_of x ∷ counts_for ds d.id) (counts_for ds d.id)) ≤ count_of d)
+    [ true ↦ omega (arith, rest) | false ↦ rest ]
+
+module _ (id : ℤ) (n : ℕ) where
+  -- each entry of the id has at most so many values
+  abbrev Limited : List TallyEntry → Type 0
+  Limited [] = Unit {0}
+  Limited (e ∷ es) = (int_eq e.id id ≡ true → e.limit ≤ n) × Limited es
+
+  limited-note_one : (t : List TallyEntry) (k : ℤ) (w : Value) → Limited t → Limited (note_one t k w)
+  limited-note_one [] k w h = h
+  limited-note_one (e ∷ es) k w h =
+      elim (int_eq e.id k) as (λ c. Limited (cond c (note_entry w e ∷ es) (e ∷ note_one es k w)))
+      [ true ↦ (h.0, h.1) | false ↦ (h.0, limited-note_one es k w h.1) ]
+
+  limited-note_all : (t : List TallyEntry) (ps : List (ℤ × Value)) → Limited t → Limited (note_all t ps)
+  limited-note_all t [] h = h
+  limited-note_all t (p ∷ ps) h = limited-note_all (note_one t p.0 p.1) ps (limited-note_one t p.0 p.1 h)
+
+  limited-order : (ds : List Dictionary) → least (counts_for ds id) ≤ n → (from : ℕ) (es : List TallyEntry) → AreInOrder ds from es
+      → Limited es
+  limited-order ds low from [] h = tt
+  limited-order ds low from (e ∷ es) (k, (after, (place, (limit, (none, rest))))) = (
+    λ is. subst (λ m. m ≤ n) (sym (limit ∙ ap (λ x. least (counts_for ds x)) ((Decides-int_eq e.id id).0 is))) low,
+    limited-order ds low (k + 1) es rest,
+  )
+
+  -- a place is below what the entry may have
+  placed_below : (t : List TallyEntry) (v : Value) (i : ℕ) → Limited t → AllFit t → noted_place t id v ≡ Some i → i < n
+  placed_below [] v i h fit found = absurd cc
+  placed_below (e ∷ es) v i h fit found = by (placed_below es v i h.1 fit.1) (int_eq e.id id) refl found
+    where
+      by : (noted_place es id v ≡ Some i → i < n) → (c : Bool) → int_eq e.id id ≡ c
+          → cond c (place v e.values) (noted_place es id v) ≡ Some i → i < n
+      by rest true q at = omega (arith, (position-Some (same v) e.values i v at).0, fit.0, h.0 q)
+      by rest false q at = rest at
+
+  -- so are the values together
+  noted_below : (t : List TallyEntry) (xs : List Value) → Limited t → AllFit t → noted_for t id ≡ Some xs → length xs ≤ n
+  noted_below [] xs h fit found = absurd cc
+  noted_below (e ∷ es) xs h fit found = by (noted_below es xs h.1 fit.1) (int_eq e.id id) refl found
+    where
+      by : (noted_for es id ≡ Some xs → length xs ≤ n) → (c : Bool) → int_eq e.id id ≡ c
+          → cond c (Some e.values) (noted_for es id) ≡ Some xs → length xs ≤ n
+      by rest true q at =
+          let same : e.values ≡ xs = cc in
+          subst (λ (ys : List Value). length ys ≤ n) same (omega (arith, fit.0, h.0 q))
+      by rest false q at = rest at
+
+-- the place of a value is one that the index type counts
+pub entry_counts : (fields : List Field) (ps : List (ℤ × Value)) (d : Dictionary) (v : Value) (i : ℕ) → Contains (of_fields fields) d
+    → AllFit (note_all (unused fields) ps) → noted_place (note_all (unused fields) ps) d.id v ≡ Some i → i < count_of d
+entry_counts fields ps d v i named fit found =
+    let low = least_counts (of_fields fields) d named in
+    let limited = limited-order d.id (count_of d) (of_fields fields) low 0 (unused fields) (are_of_schema fields).ordered in
+    let kept = limited-note_all d.id (count_of d) (unused fields) ps limited in
+    placed_below d.id (count_of d) (note_all (unused fields) ps) v i kept fit found
+
+-- the values of a dictionary are no more than each of its index types counts
+pub noted_counts : (fields : List Field) (ps : List (ℤ × Value)) (d : Dictionary) (xs : List Value) → Contains (of_fields fields) d
+    → AllFit (note_all (unused fields) ps) → noted_for (note_all (unused fields) ps) d.id ≡ Some xs → length xs ≤ count_of d
+noted_counts fields ps d xs named fit found =
+    let low = least_counts (of_fields fields) d named in
+    let limited = limited-order d.id (count_of d) (of_fields fields) low 0 (unused fields) (are_of_schema fields).ordered in
+    let kept = limited-note_all d.id (count_of d) (unused fields) ps limited in
+    noted_below d.id (count_of d) (note_all (unused fields) ps) xs kept fit found
+
+-- a dictionary that the fields name has its entry
+pub has_entry : (fields : List Field) (d : Dictionary) → Contains (of_fields fields) d → IsSome (noted_for (unused fields) d.id)
+has_entry fields d named =
+    let Has : Dictionary → Type 0 = λ x. IsSome (noted_for (unused fields) x.id) in
+    All-contains Has (of_fields fields) d (All-from_recursion Has (of_fields fields) (are_of_schema fields).all) named
+
+-- each value that was noted of a dictionary that the fields name has a place
+pub pair_placed : (fields : List Field) (ps : List (ℤ × Value)) (d : Dictionary) (v : Value) → Contains (of_fields fields) d
+    → Contains ps (d.id, v) → IsSome (noted_place (note_all (unused fields) ps) d.id v)
+pair_placed fields ps d v named there =
+    let Has : Dictionary → Type 0 = λ x. IsSome (noted_for (unused fields) x.id) in
+    places_all (unused fields) ps d.id v there
+    (All-contains Has (of_fields fields) d (All-from_recursion Has (of_fields fields) (are_of_schema fields).all) named)

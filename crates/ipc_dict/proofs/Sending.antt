@@ -1,0 +1,188 @@
+-- What was sent once a plan's batch is.
+use Rattle.std.proofs.Common.{◌≡◌, ◌∙◌, refl, sym, ap, subst, ℕ, zero, suc, ◌<◌, Bool, true, false, cond, ◌&&◌, ℤ, List, [], ◌∷◌, ◌++◌}
+use Rattle.std.proofs.Common.{map, length, get_or, Option, Some, None, int_eq, true≢false, ◌≤◌, ◌||◌}
+use Rattle.std.specs.Prelude.{if◌then◌else◌}
+use Rattle.std.specs.List.{AllByRecursion, list_all, list_any, Contains}
+use Rattle.std.specs.Map.{keys_of}
+use Rattle.std.specs.Option.{option_map, is_some, IfSome, IsSome}
+use Rattle.std.proofs.lemmas.Bool.Decides.{Decides-int_eq}
+use Rattle.std.proofs.lemmas.List.Folds.{list_all_at}
+use Rattle.std.proofs.lemmas.Map.Made.{is_some-lookup}
+use Rattle.indexmap.proofs.MapLemmas.{some_index}
+use Rattle.ipc_model.specs.declared.schema.Dictionary.{Dictionary}
+use Rattle.ipc_model.specs.declared.schema.Field.{Field}
+use Rattle.ipc_model.specs.declared.value.Value.{Value}
+use Rattle.ipc_dict.specs.declared.entry.TallyEntry.{TallyEntry}
+use Rattle.ipc_dict.specs.declared.kept.KeptEntry.{KeptEntry}
+use Rattle.ipc_dict.specs.Distinct.{same, is_seen, place}
+use Rattle.ipc_dict.specs.Counted.{HoldsRows}
+use Rattle.ipc_dict.specs.Noting.{AllFit, noted_for}
+use Rattle.ipc_dict.specs.Planning.{AreNumbers, IsSettled, AllSettled, SameIds, after, after_all, sent_for}
+use Rattle.ipc_dict.specs.Pairs.{rows_pairs}
+use Rattle.ipc_dict.specs.SchemaIds.{count_of, ids_of, kept_ids, of_fields, tally_ids, unsent, unused}
+use Rattle.ipc_dict.specs.Sending.{AreCounted, batch_values, tallied, sent_next, sent_after}
+use Rattle.ipc_dict.proofs.CoveredIndices.{has_entry, noted_counts}
+use Rattle.ipc_dict.proofs.Ids.{same_ids}
+use Rattle.ipc_dict.proofs.Rows.{holds_rows, ids_note_all}
+use Rattle.ipc_dict.proofs.UniqueIds.{IsOther, AreUnique, unique_ids, flipped}
+
+-- ---- one dictionary
+
+keys-alone : (xs : List Value) → keys_of (map (λ (x : Value). (x, true)) xs) ≡ xs
+keys-alone [] = refl
+keys-alone (x ∷ xs) = ap (λ l. x ∷ l) (keys-alone xs)
+
+-- a value has a place exactly where it is among the values
+pub placed-seen : (v : Value) (xs : List Value) → is_some (place v xs) ≡ is_seen xs v
+placed-seen v xs =
+    let es : List (Value × Bool) = map (λ (x : Value). (x, true)) xs in
+    ap (λ l. is_some (place v l)) (sym (keys-alone xs)) ∙ some_index (same v) es ∙ is_some-lookup (same v) es
+    ∙ ap (list_any (same v)) (keys-alone xs)
+
+all_seen : (known values : List Value) (to : List ℕ) → AreNumbers known values to → list_all (is_seen known) values ≡ true
+all_seen known [] to h = refl
+all_seen known (v ∷ values) [] h = absurd cc
+all_seen known (v ∷ values) (i ∷ to) h =
+    let head : place v known ≡ Some i = cc in
+    let rest : AreNumbers known values to = cc in
+    ap (λ b. b && list_all (is_seen known) values) (sym (placed-seen v known) ∙ ap is_some head) ∙ all_seen known values to rest
+
+settled_next : (sent : Option (List Value)) (values : List Value) (o : Option (List ℕ)) → IsSettled sent values o
+    → after sent values o ≡ sent_next sent values
+settled_next None values None h = refl
+settled_next None values (Some to) h = absurd h
+settled_next (Some known) values (Some to) h = sym (ap (λ b. cond b (Some known) (Some values)) (all_seen known values to h))
+settled_next (Some known) values None (v, (there, none)) =
+    let unseen : is_seen known v ≡ false = sym (placed-seen v known) ∙ ap is_some none in
+    let lacks : list_all (is_seen known) values ≡ false =
+    list_all_at (is_seen known) values there.0 v there.1 (ap (is_seen known) there.2 ∙ unseen) in
+    sym (ap (λ b. cond b (Some known) (Some values)) lacks)
+
+-- ---- all of them
+
+module _ (fields : List Field) (rows : List (List Value)) where
+  -- each entry has the distinct values of the rows
+  abbrev HoldEach : List TallyEntry → Type 0
+  HoldEach es = AllByRecursion (λ e. e.values ≡ batch_values fields rows e.id) es
+
+  all_next : (ks : List KeptEntry) (es : List TallyEntry) (os : List (Option (List ℕ))) → SameIds ks es → AllSettled ks es os → HoldEach es
+      → after_all ks es os ≡ sent_after fields rows ks
+  all_next [] es os ids settled each = refl
+  all_next (k ∷ ks) [] os ids settled each = absurd ids
+  all_next (k ∷ ks) (e ∷ es) [] ids settled each = absurd settled
+  all_next (k ∷ ks) (e ∷ es) (o ∷ os) ids settled each =
+      let values : e.values ≡ batch_values fields rows k.id = each.0 ∙ ap (batch_values fields rows) (sym ids.0) in
+      ap (λ x. record k { values = x } ∷ after_all ks es os) (settled_next k.values e.values o settled.0 ∙ ap (sent_next k.values) values)
+      ∙ ap (λ l. record k { values = sent_next k.values (batch_values fields rows k.id) } ∷ l) (all_next ks es os ids.1 settled.1 each.1)
+
+  -- ---- each entry is found by its id
+
+  abbrev AllFound : List TallyEntry → List TallyEntry → Type 0
+  AllFound all es = AllByRecursion (λ e. noted_for all e.id ≡ Some e.values) es
+
+  found-behind : (e : TallyEntry) (all es : List TallyEntry) → IsOther e.id (tally_ids es) → AllFound all es → AllFound (e ∷ all) es
+  found-behind e all [] other found = tt
+  found-behind e all (x ∷ es) other found = (
+    ap (λ b. cond b (Some e.values) (noted_for all x.id)) (flipped x.id e.id other.0) ∙ found.0,
+    found-behind e all es other.1 found.1,
+  )
+
+  found-each : (es : List TallyEntry) → AreUnique (tally_ids es) → AllFound es es
+  found-each [] unique = tt
+  found-each (e ∷ es) unique = (
+    ap (λ b. cond b (Some e.values) (noted_for es e.id)) ((Decides-int_eq e.id e.id).1 refl),
+    found-behind e es es unique.0 (found-each es unique.1),
+  )
+
+  one_value : (xs ys : List Value) (o : Option (List Value)) → Some xs ≡ option_map (λ none. ys) o → xs ≡ ys
+  one_value xs ys None h = absurd cc
+  one_value xs ys (Some zs) h = cc
+
+  hold_each : (all es : List TallyEntry) → HoldsRows fields rows all → AllFound all es → HoldEach es
+  hold_each all [] holds found = tt
+  hold_each all (e ∷ es) holds found = (
+    one_value e.values (batch_values fields rows e.id) (noted_for (unused fields) e.id) (sym found.0 ∙ holds e.id),
+    hold_each all es holds found.1,
+  )
+
+  pub tallied_ids : tally_ids (tallied fields rows) ≡ ids_of fields
+  tallied_ids = ids_note_all (unused fields) (rows_pairs fields rows)
+
+  pub tallied_unique : AreUnique (tally_ids (tallied fields rows))
+  tallied_unique = subst AreUnique (sym tallied_ids) (unique_ids fields)
+
+  -- the entries of a tally have the distinct values of the rows
+  pub tallied_values : HoldEach (tallied fields rows)
+  tallied_values = hold_each (tallied fields rows) (tallied fields rows) (holds_rows fields rows)
+      (found-each (tallied fields rows) tallied_unique)
+
+  -- what a plan leaves of what was sent
+  pub sent_is : (kept : List KeptEntry) (os : List (Option (List ℕ))) → kept_ids kept ≡ ids_of fields
+      → AllSettled kept (tallied fields rows) os → after_all kept (tallied fields rows) os ≡ sent_after fields rows kept
+  sent_is kept os ids settled = all_next kept (tallied fields rows) os
+      (same_ids kept (tallied fields rows) (ids ∙ sym tallied_ids)) settled tallied_values
+
+-- ---- how many values are sent
+
+-- what was sent of an id once a batch was
+sent_for_after : (fields : List Field) (rows : List (List Value)) (kept : List KeptEntry) (id : ℤ)
+    → sent_for (sent_after fields rows kept) id
+    ≡ (if list_any (λ e. int_eq e.id id) kept then sent_next (sent_for kept id) (batch_values fields rows id) else None)
+sent_for_after fields rows [] id = refl
+sent_for_after fields rows (k ∷ kept) id = by (sent_for_after fields rows kept id) (int_eq k.id id) refl
+  where
+    by : sent_for (sent_after fields rows kept) id
+        ≡ (if list_any (λ e. int_eq e.id id) kept then sent_next (sent_for kept id) (batch_values fields rows id) else None)
+        → (b : Bool) → int_eq k.id id ≡ b
+        → cond b (sent_next k.values (batch_values fields rows k.id)) (sent_for (sent_after fields rows kept) id)
+        ≡ cond (b || list_any (λ e. int_eq e.id id) kept)
+        (sent_next (cond b k.values (sent_for kept id)) (batch_values fields rows id)) None
+    by rest true q = ap (λ i. sent_next k.values (batch_values fields rows i)) ((Decides-int_eq k.id id).0 q)
+    by rest false q = rest
+
+-- the values of a batch are no more than each index type counts
+batch_counts : (fields : List Field) (rows : List (List Value)) (d : Dictionary) → Contains (of_fields fields) d
+    → AllFit (tallied fields rows) → length (batch_values fields rows d.id) ≤ count_of d
+batch_counts fields rows d named fit = by (noted_for (unused fields) d.id) refl (has_entry fields d named)
+  where
+    by : (o : Option (List Value)) → noted_for (unused fields) d.id ≡ o → IsSome o → length (batch_values fields rows d.id) ≤ count_of d
+    by None e some = absurd (true≢false (sym some))
+    by (Some none) e some = noted_counts fields (rows_pairs fields rows) d (batch_values fields rows d.id) named fit
+        (holds_rows fields rows d.id ∙ ap (option_map (λ none. batch_values fields rows d.id)) e)
+
+-- so are those that were sent, where those before were
+pub counted_after : (fields : List Field) (rows : List (List Value)) (kept : List KeptEntry) → AllFit (tallied fields rows)
+    → AreCounted fields kept → AreCounted fields (sent_after fields rows kept)
+counted_after fields rows kept fit before d named =
+    subst (λ o. IfSome o (λ known. length known ≤ count_of d)) (sym (sent_for_after fields rows kept d.id))
+    (by (list_any (λ e. int_eq e.id d.id) kept) (sent_for kept d.id) (before d named))
+  where
+    few : length (batch_values fields rows d.id) ≤ count_of d
+    few = batch_counts fields rows d named fit
+
+    next : (known : List Value) → length known ≤ count_of d → (b : Bool)
+        → IfSome (cond b (Some known) (Some (batch_values fields rows d.id))) (λ known. length known ≤ count_of d)
+    next known h true = h
+    next known h false = few
+
+    by : (b : Bool) (o : Option (List Value)) → IfSome o (λ known. length known ≤ count_of d)
+        → IfSome (cond b (sent_next o (batch_values fields rows d.id)) None) (λ known. length known ≤ count_of d)
+    by false o h = tt
+    by true None h = few
+    by true (Some known) h = next known h (list_all (is_seen known) (batch_values fields rows d.id))
+
+-- ---- where nothing was sent
+
+pub sent_unsent : (ids : List ℤ) (id : ℤ) → sent_for (unsent ids) id ≡ None
+sent_unsent [] id = refl
+sent_unsent (i ∷ ids) id = by (sent_unsent ids id) (int_eq i id)
+  where
+    by : sent_for (unsent ids) id ≡ None → (b : Bool) → cond b None (sent_for (unsent ids) id) ≡ None
+    by rest true = refl
+    by rest false = rest
+
+-- what is sent changes no id
+pub ids_sent_after : (fields : List Field) (rows : List (List Value)) (kept : List KeptEntry)
+    → kept_ids (sent_after fields rows kept) ≡ kept_ids kept
+ids_sent_after fields rows [] = refl
+ids_sent_after fields rows (k ∷ kept) = ap (λ l. k.id ∷ l) (ids_sent_after fields rows kept)

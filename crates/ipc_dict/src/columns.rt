@@ -1,0 +1,144 @@
+//! How many values dictionaries have, and how much these are, as the columns that they are sent as.
+ghost use Rattle.std.specs.Prelude.{◌≡◌, ◌<◌, List, [], ◌∷◌, length, Some, IfOk, IfErr, OnOk};
+ghost use Rattle.std.specs.Prelude.{OnErr, ◌⊎◌};
+ghost use Rattle.ipc_model.specs.declared.schema.Field.{Field};
+ghost use Rattle.ipc_encode.specs.CountedColumns.{CountsRows};
+ghost use Rattle.ipc_encode.specs.Faults.{write_fault};
+ghost use Rattle.ipc_encode.specs.Limits.{IsTooLong};
+ghost use Rattle.ipc_dictionaries.specs.ValuesColumns.{columns_for, IsOneColumn};
+ghost use Rattle.ipc_dict.specs.declared.entry.TallyEntry.{TallyEntry};
+ghost use Rattle.ipc_dict.specs.EntryColumns.{AllCounted, AreCounted};
+ghost use Rattle.ipc_dict.specs.Noting.{cut};
+ghost use Rattle.ipc_dict.specs.SchemaIds.{unused};
+ghost use Rattle.ipc_dict.specs.Within.{IsOverLimit};
+
+use crate::entry::TallyEntry;
+use ipc_dictionaries::Dictionaries;
+use ipc_encode::{CountedColumn, PushFault};
+use ipc_model::{Limits, Schema, WriteFault};
+use std::alloc::Global;
+use std::mem;
+
+/// The numbers of the columns that dictionaries are sent as, side by side with the entries of a
+/// tally.
+#[derive(Debug, Drop)]
+pub(crate) struct EntryColumns {
+    pub(crate) limits: Limits,
+    pub(crate) counted: Vec<CountedColumn>,
+    // The numbers with the values of the next row; what they are between two rows has no meaning.
+    pub(crate) next: Vec<CountedColumn>,
+}
+
+impl EntryColumns {
+    /// The columns of these entries, which have no values yet.
+    ///
+    /// Refused with W6 `TooLong` where even the column of no values is longer than a body may be,
+    /// and with W11 `OutOfMemory` where the columns find no room.
+    pub(crate) fn new(
+        alloc: Global,
+        limits: &Limits,
+        schema: &Schema,
+        entries: &[TallyEntry],
+    ) -> Result<EntryColumns, WriteFault>
+        requires { entries.now ≡ unused schema.now.fields }
+        ensures counted { IfOk result (AreCounted schema.now.fields entries.now) }
+        ensures limits { IfOk result (λ columns. columns.limits ≡ limits.now) }
+        ensures over { IfErr result (λ fault. fault ≡ WriteFault.TooLong
+            → IsOverLimit limits.now schema.now.fields entries.now fault) }
+        ensures only { IfErr result
+            (λ fault. (fault ≡ WriteFault.TooLong) ⊎ (fault ≡ WriteFault.OutOfMemory)) }
+    {
+        let Ok(dictionaries) = Dictionaries::new(alloc, schema) else {
+            return Err(WriteFault::OutOfMemory);
+        };
+        let mut counted = Vec::with_capacity(alloc, entries.len())?;
+        let mut next = Vec::with_capacity(alloc, entries.len())?;
+        for entry in entries {
+            let column = fresh_column(&dictionaries, entry, limits)?;
+            counted.push(column)?;
+            next.push(column)?;
+        }
+        Ok(EntryColumns {
+            limits: *limits,
+            counted,
+            next,
+        })
+    }
+
+    /// Counts the values of each entry behind the first so many, which are counted already. Where
+    /// they are refused, the columns are as before.
+    ///
+    /// Refused with `TooLong` or `TooMany` where an entry's values are more than the limits allow a
+    /// column.
+    pub(crate) fn count(&mut self, entries: &[TallyEntry], marks: &[usize]) -> Result<(), PushFault>
+        requires columns { length self.old.counted.items ≡ length entries.now }
+        requires room { length self.old.next.items ≡ length entries.now }
+        requires marks { length marks.now ≡ length entries.now }
+        ensures counted { (fields : List Field)
+            → AreCounted fields (cut marks.now entries.now) self.old
+            → OnOk result (AreCounted fields entries.now self.new) }
+        ensures refused { (fields : List Field)
+            → AreCounted fields (cut marks.now entries.now) self.old
+            → IfErr result (λ fault.
+            IsOverLimit self.old.limits fields entries.now (write_fault fault)) }
+        ensures kept { (fields : List Field) (others : List TallyEntry)
+            → AreCounted fields others self.old → OnErr result (AreCounted fields others self.new) }
+        ensures limits { self.new.limits ≡ self.old.limits }
+    {
+        count_next(&mut self.next, &self.counted, entries, marks, &self.limits)?;
+        mem::swap(&mut self.counted, &mut self.next);
+        Ok(())
+    }
+}
+
+// The numbers of the entry's column without values.
+fn fresh_column(
+    dictionaries: &Dictionaries,
+    entry: &TallyEntry,
+    limits: &Limits,
+) -> Result<CountedColumn, PushFault>
+    requires { (columns : List Field)
+        × ((columns_for dictionaries.now.columns entry.now.id ≡ Some columns)
+        × IsOneColumn columns) }
+    ensures counted { (columns : List Field)
+        → columns_for dictionaries.now.columns entry.now.id ≡ Some columns
+        → IfOk result (CountsRows limits.now columns []) }
+    ensures refused { (columns : List Field)
+        → columns_for dictionaries.now.columns entry.now.id ≡ Some columns
+        → IfErr result
+        (λ fault. (fault ≡ PushFault.TooLong) × IsTooLong limits.now columns []) }
+{
+    let Some(columns) = dictionaries.fields_of(entry.id) else {
+        unreachable!();
+    };
+    let Some(column) = columns.as_slice().first() else {
+        unreachable!();
+    };
+    CountedColumn::new(column, limits)
+}
+
+// The numbers of each column with the values behind the first so many.
+fn count_next(
+    next: &mut [CountedColumn],
+    before: &[CountedColumn],
+    entries: &[TallyEntry],
+    marks: &[usize],
+    limits: &Limits,
+) -> Result<(), PushFault>
+    requires columns { length before.now ≡ length entries.now }
+    requires room { length next.old ≡ length entries.now }
+    requires marks { length marks.now ≡ length entries.now }
+    ensures counted { (fields : List Field)
+        → AllCounted limits.now fields (cut marks.now entries.now) before.now
+        → OnOk result (AllCounted limits.now fields entries.now next.new) }
+    ensures refused { (fields : List Field)
+        → AllCounted limits.now fields (cut marks.now entries.now) before.now
+        → IfErr result (λ fault.
+        IsOverLimit limits.now fields entries.now (write_fault fault)) }
+{
+    for (i, entry) in entries.iter().enumerate() {
+        let mark = marks[i];
+        next[i] = before[i].with(entry.values.since(mark), limits)?;
+    }
+    Ok(())
+}

@@ -1,0 +1,60 @@
+//! Whether the messages of dictionaries have metadata within the limits.
+ghost use Rattle.std.specs.Prelude.{◌≡◌, ◌<◌, ◌≤◌, List, Some, true, false, IfErr, IfOk};
+ghost use Rattle.ipc_model.specs.declared.schema.Field.{Field};
+ghost use Rattle.ipc_dictionaries.specs.ValuesColumns.{IsOneColumn, columns_for, columns_in};
+ghost use Rattle.ipc_dict.specs.Within.{HasLongMessage, HaveShortMessages, dictionary_room_of};
+
+use crate::entry::TallyEntry;
+use crate::schema_ids::unused_entries;
+use ipc_dictionaries::Dictionaries;
+use ipc_meta::dictionary_room;
+use ipc_model::{Limits, Schema, WriteFault, layout_of};
+use std::alloc::Global;
+
+// Whether the message of this dictionary has: it holds one node and the buffers of the column.
+fn is_short(limits: &Limits, columns: &Dictionaries, entry: &TallyEntry) -> bool
+    requires { (fields : List Field)
+        × ((columns_for columns.now.columns entry.now.id ≡ Some fields) × IsOneColumn fields) }
+    ensures short { (fields : List Field)
+        → columns_for columns.now.columns entry.now.id ≡ Some fields
+        → result ≡ true → dictionary_room_of fields ≤ limits.now.metadata }
+    ensures long { (fields : List Field)
+        → columns_for columns.now.columns entry.now.id ≡ Some fields
+        → result ≡ false → limits.now.metadata < dictionary_room_of fields }
+{
+    let Some(fields) = columns.fields_of(entry.id) else {
+        unreachable!();
+    };
+    let Some(column) = fields.as_slice().first() else {
+        unreachable!();
+    };
+    let layout = layout_of(&column.kind, column.dictionary);
+    dictionary_room(1, layout.own_buffers() as u32) <= limits.metadata
+}
+
+/// Whether the metadata of the message of each dictionary that the schema's fields name is within
+/// the limits, whatever the values (Message.fbs, table DictionaryBatch).
+///
+/// The caller has the columns of the schema's dictionaries. Refused with W11 `OutOfMemory` where
+/// their ids find no room.
+pub fn has_short_messages(
+    alloc: Global,
+    limits: &Limits,
+    schema: &Schema,
+    columns: &Dictionaries,
+) -> Result<bool, WriteFault>
+    requires { columns.now.columns ≡ columns_in schema.now.fields }
+    ensures short { IfOk result
+        (λ short. short ≡ true → HaveShortMessages limits.now schema.now.fields) }
+    ensures long { IfOk result
+        (λ short. short ≡ false → HasLongMessage limits.now schema.now.fields) }
+    ensures memory { IfErr result (λ fault. fault ≡ WriteFault.OutOfMemory) }
+{
+    let entries = unused_entries(alloc, schema.fields.as_slice())?;
+    for entry in &entries {
+        if !is_short(limits, columns, entry) {
+            return Ok(false);
+        }
+    }
+    Ok(true)
+}

@@ -1,0 +1,89 @@
+//! A column whose values are counted and not kept.
+ghost use Rattle.std.specs.Prelude.{◌≡◌, ◌≤◌, ◌++◌, List, [], ◌∷◌, length, IfOk, IfErr};
+ghost use Rattle.ipc_model.specs.declared.schema.Field.{Field};
+ghost use Rattle.ipc_model.specs.declared.value.Value.{Value};
+ghost use Rattle.ipc_column.specs.Shapes.{bare, field, field_children, shape_of};
+ghost use Rattle.ipc_encode.specs.Buffers.{columns};
+ghost use Rattle.ipc_encode.specs.Built.{IsCounted};
+ghost use Rattle.ipc_encode.specs.CountedColumns.{as_rows, CountsRows};
+ghost use Rattle.ipc_encode.specs.Faults.{write_fault};
+ghost use Rattle.ipc_encode.specs.Limits.{IsRefused, IsTooLong};
+
+use crate::counts::Counts;
+use crate::fault::PushFault;
+use ipc_model::{Field, Layout, Limits, Value, WriteFault, layout_of};
+
+/// The numbers of one column without children: how many slots it has, how many of them are null,
+/// and how much data they have. Its values are counted and not kept, so that it takes no memory.
+///
+/// It is for the values of a dictionary, which are one column of a message (Arrow Columnar Format,
+/// "Dictionary Messages").
+#[derive(Clone, Copy, Debug, Drop)]
+pub struct CountedColumn {
+    layout: Layout,
+    counts: Counts,
+}
+
+impl CountedColumn {
+    /// The numbers of a column of this field without values. The caller has a field without
+    /// children.
+    ///
+    /// Refused with `TooLong` where even the buffers of no values have more than `limits.body`
+    /// bytes: a binary or UTF-8 column has one offset (Arrow Columnar Format, "Variable-size Binary
+    /// Layout").
+    pub fn new(field: &Field, limits: &Limits) -> Result<CountedColumn, PushFault>
+        requires { field_children field.now ≡ bare }
+        ensures counts { IfOk result (CountsRows limits.now (field.now ∷ []) []) }
+        ensures refused { IfErr result (λ fault. (fault ≡ PushFault.TooLong)
+            × IsTooLong limits.now (field.now ∷ []) []) }
+    {
+        let column = CountedColumn {
+            layout: layout_of(&field.kind, field.dictionary),
+            counts: Counts::none(),
+        };
+        column.within_body(limits)
+    }
+
+    /// The numbers with these values more.
+    ///
+    /// Refused with `TooMany` where the slots would be more than `limits.slots`, and with `TooLong`
+    /// where the data of a binary or UTF-8 column would be more than offsets reach, or the buffers
+    /// more than `limits.body` bytes (Arrow Columnar Format, "Array lengths"). It takes no memory.
+    pub fn with(self, values: &[Value], limits: &Limits) -> Result<CountedColumn, PushFault>
+        ensures counts { (fields : List Field) (rows : List (List Value))
+            → CountsRows limits.now fields rows self
+            → IfOk result (CountsRows limits.now fields (rows ++ as_rows values.now)) }
+        ensures refused { (fields : List Field) (rows : List (List Value))
+            → CountsRows limits.now fields rows self
+            → IfErr result (λ fault. IsRefused limits.now fields (rows ++ as_rows values.now)
+            (write_fault fault) × ¬ (write_fault fault ≡ WriteFault.OutOfMemory)) }
+    {
+        let mut counts = self.counts;
+        for value in values {
+            counts = counts.with(self.layout, value, limits)?;
+        }
+        let column = CountedColumn {
+            layout: self.layout,
+            counts,
+        };
+        column.within_body(limits)
+    }
+
+    // The same numbers, where the buffers are within a body.
+    fn within_body(self, limits: &Limits) -> Result<CountedColumn, PushFault>
+        ensures counts { (fields : List Field) (rows : List (List Value))
+            → shape_of fields ≡ field self.layout bare bare
+            → IsCounted limits.now self.layout (columns rows 0) self.counts
+            → IfOk result (CountsRows limits.now fields rows) }
+        ensures refused { (fields : List Field) (rows : List (List Value))
+            → shape_of fields ≡ field self.layout bare bare
+            → IsCounted limits.now self.layout (columns rows 0) self.counts
+            → IfErr result (λ fault. (fault ≡ PushFault.TooLong)
+            × IsTooLong limits.now fields rows) }
+    {
+        if self.counts.len(self.layout) > limits.body {
+            return Err(PushFault::TooLong);
+        }
+        Ok(self)
+    }
+}

@@ -1,0 +1,148 @@
+-- The distinct values of rows that are pushed one by one.
+use Rattle.std.proofs.Common.{◌≡◌, ◌∙◌, refl, sym, ap, subst, ℕ, ℤ, false, true, List, []}
+use Rattle.std.proofs.Common.{◌∷◌, ◌++◌, append_assoc, Option, Some, None, IsSome, inl, inr}
+use Rattle.std.proofs.Common.{true≢false}
+use Rattle.std.specs.Prelude.{◌⊎◌}
+use Rattle.std.specs.List.{AllByRecursion, Contains}
+use Rattle.std.proofs.lemmas.List.{append-nil}
+use Rattle.ipc_model.specs.Entries.{entries}
+use Rattle.ipc_model.specs.WellFormed.{IsFieldWellFormed, WellFormed}
+use Rattle.ipc_model.specs.declared.fault.WriteFault.{WriteFault}
+use Rattle.ipc_model.specs.declared.fault.WriteFault.TheVariants as w
+use Rattle.ipc_model.specs.declared.limits.Limits.{Limits}
+use Rattle.ipc_model.specs.declared.schema.Dictionary.{Dictionary}
+use Rattle.ipc_model.specs.declared.schema.Field.{Field}
+use Rattle.ipc_model.specs.declared.schema.Schema.{Schema}
+use Rattle.ipc_model.specs.declared.table.BatchRows.{BatchRows}
+use Rattle.ipc_model.specs.declared.value.Value.{Value}
+use Rattle.ipc_column.specs.Shapes.{shape_of}
+use Rattle.ipc_encode.specs.declared.builder.Builder.{Builder}
+use Rattle.ipc_encode.specs.Buffers.{columns}
+use Rattle.ipc_encode.specs.Built.{HasRows}
+use Rattle.ipc_encode.specs.Indices.{AgreeOn}
+use Rattle.ipc_encode.specs.Numbers.{number_or, told}
+use Rattle.ipc_encode.proofs.Indexed.{columns_agree}
+use Rattle.ipc_dict.specs.declared.entry.TallyEntry.{TallyEntry}
+use Rattle.ipc_dict.specs.Noting.{AllFit, IsFull, note_all, noted_place}
+use Rattle.ipc_dict.specs.Pairs.{row_pairs, rows_pairs}
+use Rattle.ipc_dict.specs.SchemaIds.{of_fields, unused}
+use Rattle.ipc_dict.specs.Sending.{tallied}
+use Rattle.ipc_dict.specs.Tallied.{Tallied}
+use Rattle.ipc_dict.specs.Within.{AllWithin, IsOfLimits, IsOverLimit}
+use Rattle.ipc_dict.proofs.Covered.{covered}
+use Rattle.ipc_dict.proofs.CoveredIndices.{pair_placed}
+use Rattle.ipc_dict.proofs.Notes.{note_all-append}
+use Rattle.ipc_dict.proofs.Places.{keeps_places}
+use Rattle.ipc_stream.specs.Pushed.{RefusesHeld, with_row}
+use Rattle.ipc_stream.specs.Writing.{long_values, many_values}
+
+-- the pairs of rows and of one more
+pairs_end : (fields : List Field) (rows : List (List Value)) (row : List Value)
+    → rows_pairs fields (rows ++ row ∷ []) ≡ rows_pairs fields rows ++ row_pairs fields row
+pairs_end fields [] row = append-nil (row_pairs fields row)
+pairs_end fields (r ∷ rows) row =
+    ap (λ ps. row_pairs fields r ++ ps) (pairs_end fields rows row)
+    ∙ sym (append_assoc (row_pairs fields r) (rows_pairs fields rows) (row_pairs fields row))
+
+-- what is tallied with one row more
+pub tallied_next : (fields : List Field) (rows : List (List Value)) (row : List Value)
+    → tallied fields (rows ++ row ∷ []) ≡ note_all (tallied fields rows) (row_pairs fields row)
+tallied_next fields rows row =
+    ap (note_all (unused fields)) (pairs_end fields rows row)
+    ∙ note_all-append (unused fields) (rows_pairs fields rows) (row_pairs fields row)
+
+-- where no field names a dictionary, nothing is
+pub tallied_none : (fields : List Field) (rows : List (List Value)) (row : List Value) → tallied fields rows ≡ []
+    → tallied fields (rows ++ row ∷ []) ≡ tallied fields rows
+tallied_none fields rows row none =
+    tallied_next fields rows row ∙ ap (λ t. note_all t (row_pairs fields row)) none ∙ nothing (row_pairs fields row) ∙ sym none
+  where
+    nothing : (ps : List (ℤ × Value)) → note_all [] ps ≡ []
+    nothing [] = refl
+    nothing (p ∷ ps) = nothing ps
+
+-- each value of the rows keeps the index that it was told
+pub places_agree : (limits : Limits) (fields : List Field) (rows : List (List Value)) (row : List Value)
+    → AllByRecursion (IsFieldWellFormed limits) (entries fields)
+    → AgreeOn (told (noted_place (tallied fields rows))) (told (noted_place (tallied fields (rows ++ row ∷ [])))) fields rows
+places_agree limits fields rows row fine =
+    covered (λ bits signed id value. told (noted_place (tallied fields rows)) id value
+    ≡ told (noted_place (tallied fields (rows ++ row ∷ []))) id value) limits fields rows fine
+    (λ d v named pair. by d v (noted_place (tallied fields rows) d.id v) refl (pair_placed fields (rows_pairs fields rows) d v named pair))
+  where
+    by : (d : Dictionary) (v : Value) (o : Option ℕ) → noted_place (tallied fields rows) d.id v ≡ o → IsSome o
+        → told (noted_place (tallied fields rows)) d.id v ≡ told (noted_place (tallied fields (rows ++ row ∷ []))) d.id v
+    by d v None e some = absurd (true≢false (sym some))
+    by d v (Some i) e some =
+        let now : noted_place (tallied fields (rows ++ row ∷ [])) d.id v ≡ Some i =
+        ap (λ t. noted_place t d.id v) (tallied_next fields rows row)
+        ∙ keeps_places (tallied fields rows) (row_pairs fields row) d.id v i e in
+        ap (λ o. number_or o 0) (e ∙ sym now)
+
+-- so that a builder holds the same rows under the indices with one row more
+pub rows_kept : (limits : Limits) (fields : List Field) (rows : List (List Value)) (row : List Value) (builder : Builder)
+    → AllByRecursion (IsFieldWellFormed limits) (entries fields)
+    → HasRows (told (noted_place (tallied fields rows))) limits fields rows builder
+    → HasRows (told (noted_place (tallied fields (rows ++ row ∷ [])))) limits fields rows builder
+rows_kept limits fields rows row builder fine h = record {
+  limits_are = h.limits_are;
+  works = h.works;
+  count = h.count;
+  columns_are = columns_agree (told (noted_place (tallied fields rows))) (told (noted_place (tallied fields (rows ++ row ∷ [])))) limits
+      (shape_of fields) builder.nodes.items (columns rows) (places_agree limits fields rows row fine) h.columns_are;
+  within = h.within;
+}
+
+-- the tally of rows
+abbrev pub tally_of : Limits → List Field → List (List Value) → Tallied
+tally_of limits fields rows = record { failed = false; limits = limits; fields = fields; entries = tallied fields rows }
+
+-- a tally that noted a row is that of one row more
+pub tally_next : (limits : Limits) (fields : List Field) (rows : List (List Value)) (row : List Value) (old new : Tallied)
+    → old ≡ tally_of limits fields rows → new ≡ record old { entries = note_all old.entries (row_pairs old.fields row) }
+    → new ≡ tally_of limits fields (rows ++ row ∷ [])
+tally_next limits fields rows row old new same noted =
+    noted ∙ ap (λ (t : Tallied). record t { entries = note_all t.entries (row_pairs t.fields row) }) same
+    ∙ ap (λ (es : List TallyEntry). record { failed = false; limits = limits; fields = fields; entries = es })
+    (sym (tallied_next fields rows row))
+
+-- why a row isn't noted is why the batch with it is refused
+pub note_refused : (limits : Limits) (s : Schema) (b : BatchRows) (row : List Value) (old : Tallied) (fault : WriteFault)
+    → old ≡ tally_of limits s.fields b.rows
+    → (fault ≡ w.DictionaryFull → IsFull (note_all old.entries (row_pairs old.fields row)))
+    → (IsOfLimits fault → IsOverLimit old.limits old.fields (note_all old.entries (row_pairs old.fields row)) fault)
+    → (fault ≡ w.Failed → old.failed ≡ true)
+    → ((fault ≡ w.DictionaryFull) ⊎ IsOfLimits fault) ⊎ ((fault ≡ w.OutOfMemory) ⊎ (fault ≡ w.Failed))
+    → RefusesHeld limits s (with_row b row) false fault
+note_refused limits s b row old fault same full over before only = by fault full over before only
+  where
+    now : (P : Limits → List Field → List TallyEntry → Type 0) → P old.limits old.fields (note_all old.entries (row_pairs old.fields row))
+        → P limits s.fields (tallied s.fields (b.rows ++ row ∷ []))
+    now P h = subst (λ es. P limits s.fields es) (sym (tallied_next s.fields b.rows row))
+        (subst (λ (t : Tallied). P t.limits t.fields (note_all t.entries (row_pairs t.fields row))) same h)
+
+    by : (f : WriteFault) → (f ≡ w.DictionaryFull → IsFull (note_all old.entries (row_pairs old.fields row)))
+        → (IsOfLimits f → IsOverLimit old.limits old.fields (note_all old.entries (row_pairs old.fields row)) f)
+        → (f ≡ w.Failed → old.failed ≡ true)
+        → ((f ≡ w.DictionaryFull) ⊎ IsOfLimits f) ⊎ ((f ≡ w.OutOfMemory) ⊎ (f ≡ w.Failed))
+        → RefusesHeld limits s (with_row b row) false f
+    by w.TooLong full over before only = long_values (now (λ l fs es. IsOverLimit l fs es w.TooLong) (over (inl refl)))
+    by w.TooManyRows full over before only = many_values (now (λ l fs es. IsOverLimit l fs es w.TooManyRows) (over (inr refl)))
+    by w.DictionaryFull full over before only = now (λ l fs es. IsFull es) (full refl)
+    by w.OutOfMemory full over before only = tt
+    by w.Failed full over before only = sym (ap (λ (t : Tallied). t.failed) same) ∙ before refl
+    by w.Write full over before (inl (inl e)) = absurd cc
+    by w.Write full over before (inl (inr (inl e))) = absurd cc
+    by w.Write full over before (inl (inr (inr e))) = absurd cc
+    by w.Write full over before (inr (inl e)) = absurd cc
+    by w.Write full over before (inr (inr e)) = absurd cc
+    by w.BadSchema full over before (inl (inl e)) = absurd cc
+    by w.BadSchema full over before (inl (inr (inl e))) = absurd cc
+    by w.BadSchema full over before (inl (inr (inr e))) = absurd cc
+    by w.BadSchema full over before (inr (inl e)) = absurd cc
+    by w.BadSchema full over before (inr (inr e)) = absurd cc
+    by (w.Row number cause) full over before (inl (inl e)) = absurd cc
+    by (w.Row number cause) full over before (inl (inr (inl e))) = absurd cc
+    by (w.Row number cause) full over before (inl (inr (inr e))) = absurd cc
+    by (w.Row number cause) full over before (inr (inl e)) = absurd cc
+    by (w.Row number cause) full over before (inr (inr e)) = absurd cc

@@ -1,0 +1,61 @@
+-- The indices of a plan find their values in what is in force once its dictionaries were sent.
+use Rattle.std.proofs.Common.{◌≡◌, ◌∙◌, refl, sym, ap, subst, ℕ, ◌<◌, ◌≤◌, ℤ, List}
+use Rattle.std.proofs.Common.{[], length, get_or, slice_get, Option, Some, None, IsSome}
+use Rattle.std.proofs.Common.{arith, true≢false}
+use Rattle.std.specs.List.{AllByRecursion, Contains}
+use Rattle.std.specs.Option.{IfSome, unwrap_or}
+use Rattle.std.proofs.lemmas.Option.{slice_get_within}
+use Rattle.ipc_model.specs.Entries.{entries}
+use Rattle.ipc_model.specs.WellFormed.{IsFieldWellFormed, WellFormed}
+use Rattle.ipc_model.specs.declared.limits.Limits.{Limits}
+use Rattle.ipc_model.specs.declared.schema.Dictionary.{Dictionary}
+use Rattle.ipc_model.specs.declared.schema.Schema.{Schema}
+use Rattle.ipc_model.specs.declared.value.Value.{Value}
+use Rattle.ipc_column.specs.Dictionaries.{Dictionaries, values_for}
+use Rattle.ipc_encode.specs.Indices.{Finds, FindsRows, IsIndexWithin}
+use Rattle.ipc_encode.specs.Numbers.{number_or, renumbered, told}
+use Rattle.ipc_dictionaries.specs.InForce.{at}
+use Rattle.ipc_dict.specs.declared.kept.KeptEntry.{KeptEntry}
+use Rattle.ipc_dict.specs.Noting.{AllFit, noted_place}
+use Rattle.ipc_dict.specs.Pairs.{rows_pairs}
+use Rattle.ipc_dict.specs.Planning.{FindsNoted, after_all, number, sent_for}
+use Rattle.ipc_dict.specs.SchemaIds.{count_of, of_fields}
+use Rattle.ipc_dict.specs.Sending.{AreCounted, tallied}
+use Rattle.ipc_dict.proofs.Covered.{covered}
+use Rattle.ipc_dict.proofs.CoveredIndices.{index_within, pair_placed}
+
+module _ (limits : Limits) (s : Schema) (rows : List (List Value)) (kept : List KeptEntry) (os : List (Option (List ℕ)))
+    (m : Dictionaries) where
+  -- under the plan's number the value of a pair is found
+  pair_found : ((id : ℤ) → at m id ≡ sent_for (after_all kept (tallied s.fields rows) os) id)
+      → AreCounted s.fields (after_all kept (tallied s.fields rows) os) → FindsNoted kept (tallied s.fields rows) os
+      → (d : Dictionary) (v : Value) → Contains (of_fields s.fields) d → Contains (rows_pairs s.fields rows) (d.id, v)
+      → Finds m (renumbered (number (tallied s.fields rows) os) (told (noted_place (tallied s.fields rows)))) d.index.bits
+      d.index.signed d.id v
+  pair_found values counted finds d v named there =
+      by (noted_place (tallied s.fields rows) d.id v) refl (pair_placed s.fields (rows_pairs s.fields rows) d v named there)
+    where
+      by : (o : Option ℕ) → noted_place (tallied s.fields rows) d.id v ≡ o → IsSome o
+          → Finds m (renumbered (number (tallied s.fields rows) os) (told (noted_place (tallied s.fields rows)))) d.index.bits
+          d.index.signed
+          d.id v
+      by None e some = absurd (true≢false (sym some))
+      by (Some i) e some =
+          let found = finds d.id v i e in
+          let j = number_or (number (tallied s.fields rows) os d.id i) i in
+          let index : renumbered (number (tallied s.fields rows) os) (told (noted_place (tallied s.fields rows))) d.id v ≡ j =
+          ap (λ o. number_or (number (tallied s.fields rows) os d.id (number_or o 0)) (number_or o 0)) e in
+          let here : values_for m d.id ≡ found.0 = ap (λ o. unwrap_or o []) (values d.id ∙ found.1.0) in
+          let few : length found.0 ≤ count_of d = subst (λ o. IfSome o (λ known. length known ≤ count_of d)) found.1.0 (counted d named) in
+          let low : j < count_of d = omega (arith, few, slice_get_within found.0 j v found.1.1) in
+          record {
+            within = subst (λ k. IsIndexWithin d.index.bits d.index.signed k) (sym index) (index_within d j low);
+            found = ap (λ k. slice_get (values_for m d.id) k) index ∙ ap (λ xs. slice_get xs j) here ∙ found.1.1;
+          }
+
+  pub plan_finds : WellFormed limits s → ((id : ℤ) → at m id ≡ sent_for (after_all kept (tallied s.fields rows) os) id)
+      → AreCounted s.fields (after_all kept (tallied s.fields rows) os) → FindsNoted kept (tallied s.fields rows) os
+      → FindsRows m (renumbered (number (tallied s.fields rows) os) (told (noted_place (tallied s.fields rows)))) s.fields rows
+  plan_finds well values counted finds =
+      covered (Finds m (renumbered (number (tallied s.fields rows) os) (told (noted_place (tallied s.fields rows))))) limits s.fields rows
+      well.each (pair_found values counted finds)

@@ -1,0 +1,70 @@
+use Rattle.std.proofs.Common.{◌≡◌, ◌∙◌, sym, subst, ℕ, List}
+use Rattle.std.proofs.lemmas.Result.{err_from_is_err_and}
+use Rattle.ipc_model.specs.declared.limits.Limits.{Limits}
+use Rattle.ipc_model.specs.declared.schema.Schema.{Schema}
+use Rattle.ipc_model.specs.declared.table.BatchRows.{BatchRows}
+use Rattle.ipc_model.specs.declared.value.Value.{Value}
+use Rattle.ipc_model.proofs.Depths.{short_paths}
+use Rattle.ipc_dict.specs.declared.kept.KeptEntry.{KeptEntry}
+use Rattle.ipc_stream.specs.OpenStreams.{Opened}
+use Rattle.ipc_stream.specs.Pushed.{HoldsBatch, RefusesHeld, no_rows, with_rows}
+use Rattle.ipc_stream.specs.declared.pushed.PushedRows.{PushedRows}
+use Rattle.std.specs.Prelude.{false}
+use Rattle.ipc_stream.proofs.FirstRows.{refused_at_first}
+use Rattle.ipc_stream.proofs.HeldRows.{judged_sent}
+use Rattle.ipc_stream.proofs.open_stream.OpenStream.send_batch.Goals as goal
+
+-- the batch whose rows were pushed is held
+all_held : (old begun : Opened) (limits : Limits) (s : Schema) (kept : List KeptEntry) (b : BatchRows)
+    (pairs : List (List ℕ × List ℕ)) (rows : List (List Value)) (held new : PushedRows)
+    → record { limits = limits; schema = s; kept = kept } ≡ begun → begun ≡ old → pairs ≡ b.pairs → rows ≡ b.rows
+    → HoldsBatch old.limits old.schema (no_rows pairs) held
+    → (HoldsBatch limits s (no_rows pairs) held → HoldsBatch limits s (with_rows pairs rows) new)
+    → HoldsBatch begun.limits begun.schema b new
+all_held old begun limits s kept b pairs rows held new view same copied all begins pushes =
+    let first = subst (λ (o : Opened). HoldsBatch o.limits o.schema (no_rows pairs) held) (sym (view ∙ same)) begins in
+    let given = subst (λ (rs : List (List Value)). HoldsBatch limits s (with_rows pairs rs) new) all (pushes first) in
+    let whole = subst (λ (ps : List (List ℕ × List ℕ)). HoldsBatch limits s (with_rows ps b.rows) new) copied given in
+    subst (λ (o : Opened). HoldsBatch o.limits o.schema b new) view whole
+
+pub returns-in_err-held-clause-judged : goal.returns-in_err-held-clause-judged
+returns-in_err-held-clause-judged g c =
+    let copied = c.in_ok-clone.ensures.cases.1 (λ p q same i. (same.0 i, same.1 i)) in
+    let p = err_from_is_err_and c.from_residual-in_err-held.result c.from_residual-in_err-held.ensures.1 in
+    rw (p.1, p.2)
+    (refused_at_first c.args.self.now.limits c.args.self.now.schema c.args.batch.now.pairs c.args.batch.now.rows 0 _
+    (subst (λ (ps : List (List ℕ × List ℕ)).
+    RefusesHeld c.args.self.now.limits c.args.self.now.schema (no_rows ps) false c.in_err-held.field-0.0)
+    copied c.in_err-held.ensures.refused))
+
+pub push_all-requires : goal.push_all-requires
+push_all-requires g c = short_paths {limits = c.self.inside.limits} c.self.inside.schema c.self.invariant.well_formed
+
+pub returns-clause-sends : goal.returns-clause-sends
+returns-clause-sends g c =
+    let copied = c.in_ok-clone.ensures.cases.1 (λ p q same i. (same.0 i, same.1 i)) in
+    rw (← c.begin_batch.ensures.same)
+    (c.send_rows.ensures.sends c.args.batch.now
+    (all_held c.args.self.now c.begin_batch.new.self c.self.inside.limits c.self.inside.schema c.self.inside.kept c.args.batch.now _ _ _ _
+    c.self.view_is c.begin_batch.ensures.same copied c.as_slice.ensures c.in_ok-held.ensures.holds
+    (λ h. c.in_ok-push_all.ensures.holds c.self.inside.limits c.in_ok-clone.field-0 c.self.invariant.well_formed h)))
+
+pub returns-clause-sent : goal.returns-clause-sent
+returns-clause-sent g c =
+    let copied = c.in_ok-clone.ensures.cases.1 (λ p q same i. (same.0 i, same.1 i)) in
+    rw (← c.begin_batch.ensures.same)
+    (c.send_rows.ensures.sent c.args.batch.now
+    (all_held c.args.self.now c.begin_batch.new.self c.self.inside.limits c.self.inside.schema c.self.inside.kept c.args.batch.now _ _ _ _
+    c.self.view_is c.begin_batch.ensures.same copied c.as_slice.ensures c.in_ok-held.ensures.holds
+    (λ h. c.in_ok-push_all.ensures.holds c.self.inside.limits c.in_ok-clone.field-0 c.self.invariant.well_formed h)))
+
+pub returns-clause-judged : goal.returns-clause-judged
+returns-clause-judged g c =
+    let copied = c.in_ok-clone.ensures.cases.1 (λ p q same i. (same.0 i, same.1 i)) in
+    let held =
+    all_held c.args.self.now c.begin_batch.new.self c.self.inside.limits c.self.inside.schema c.self.inside.kept c.args.batch.now _ _ _ _
+    c.self.view_is c.begin_batch.ensures.same copied c.as_slice.ensures c.in_ok-held.ensures.holds
+    (λ h. c.in_ok-push_all.ensures.holds c.self.inside.limits c.in_ok-clone.field-0 c.self.invariant.well_formed h) in
+    rw (← c.begin_batch.ensures.same)
+    (judged_sent c.begin_batch.new.self.limits c.begin_batch.new.self.schema c.args.batch.now c.send_rows.result held.accepted
+    (c.send_rows.ensures.only c.args.batch.now held))

@@ -1,0 +1,68 @@
+-- The dictionaries of a stream that is written (Arrow Columnar Format, "Dictionary Messages").
+use Rattle.std.specs.Prelude.{◌≡◌, ℕ, zero, suc, ℤ, List, [], ◌∷◌, map, take, ⊤, Some, None}
+use Rattle.ipc_model.specs.declared.limits.Limits.{Limits}
+use Rattle.ipc_model.specs.declared.schema.Field.{Field}
+use Rattle.ipc_model.specs.declared.schema.Schema.{Schema}
+use Rattle.ipc_model.specs.declared.table.BatchRows.{BatchRows}
+use Rattle.ipc_model.specs.declared.table.Table.{Table}
+use Rattle.ipc_model.specs.declared.value.Value.{Value}
+use Rattle.ipc_dictionaries.specs.InForce.{at}
+use Rattle.ipc_dict.specs.declared.kept.KeptEntry.{KeptEntry}
+use Rattle.ipc_dict.specs.Noting.{AllFit}
+use Rattle.ipc_dict.specs.Planning.{sent_for}
+use Rattle.ipc_dict.specs.SchemaIds.{ids_of, unsent}
+use Rattle.ipc_dict.specs.Sending.{AreCounted, tallied, sent_after}
+use Rattle.ipc_dict.specs.Within.{AllWithin, HaveShortMessages}
+use Rattle.ipc_decode.specs.Stream.{InForce, State, Run, batch, events_of, values_in}
+
+-- no dictionary of the schema was sent
+abbrev pub none_sent : Schema → List KeptEntry
+none_sent s = unsent (ids_of s.fields)
+
+-- what was sent of each dictionary once these batches were, one after another
+abbrev pub kept_after : List Field → List KeptEntry → List BatchRows → List KeptEntry
+kept_after fields kept [] = kept
+kept_after fields kept (b ∷ more) = kept_after fields (sent_after fields b.rows kept) more
+
+-- What was sent is what is in force for a reader: the schema, and of each dictionary the values
+-- that were sent last, whatever bytes set them. They are no more than its index types count.
+pub record IsInForce (s : Schema) (kept : List KeptEntry) (o : InForce) : Type 0 where
+  pub schema_is : o.schema ≡ s
+  pub values_are : (id : ℤ) → at (values_in o.dictionaries) id ≡ sent_for kept id
+  pub counted : AreCounted s.fields kept
+
+-- x is messages that tell these batches and nothing else, from each state in which what was sent is
+-- in force to one in which it is with them
+abbrev pub SendsBatches : Limits → Schema → List KeptEntry → List BatchRows → List ℕ → Type 0
+SendsBatches limits s kept batches x = (o : InForce) → IsInForce s kept o
+    → (τ : InForce) × (IsInForce s (kept_after s.fields kept batches) τ
+    × Run limits (Some o) x (map batch batches) (Some τ))
+
+-- x is the message of a batch with these pairs and rows, behind those of the dictionaries that it
+-- needs
+abbrev pub SendsBatch : Limits → Schema → List KeptEntry → BatchRows → List ℕ → Type 0
+SendsBatch limits s kept b x = SendsBatches limits s kept (b ∷ []) x
+
+-- x is the messages of a table: its schema's, and those of its batches in order, each behind those
+-- of its dictionaries
+abbrev pub SendsTable : Limits → Table → List ℕ → Type 0
+SendsTable limits t x = (τ : InForce)
+    × (IsInForce t.schema (kept_after t.schema.fields (none_sent t.schema) t.batches) τ
+    × Run limits None x (events_of t) (Some τ))
+
+-- the state behind the messages of so many events of a table: nothing, or the schema with what the
+-- batches sent of each dictionary
+abbrev pub IsStateOf : Table → ℕ → State → Type 0
+IsStateOf t zero σ = σ ≡ None
+IsStateOf t (suc count) None = ⊥
+IsStateOf t (suc count) (Some o) = IsInForce t.schema
+    (kept_after t.schema.fields (none_sent t.schema) (take count t.batches)) o
+
+-- The distinct values that rows have of each dictionary are counted by each index type of its
+-- fields, and as the column of one message they are within the limits; so is the metadata of that
+-- message.
+pub record AreDictionariesWithin (limits : Limits) (fields : List Field)
+    (rows : List (List Value)) : Type 0 where
+  pub counted : AllFit (tallied fields rows)
+  pub lengths : AllWithin limits fields (tallied fields rows)
+  pub short_messages : HaveShortMessages limits fields

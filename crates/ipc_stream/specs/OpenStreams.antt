@@ -1,0 +1,47 @@
+-- What is seen of a stream whose schema was sent (Arrow Columnar Format, "IPC Streaming Format").
+use Rattle.std.specs.Prelude.{◌≡◌, ◌≤◌, ℤ, List, Some}
+use Rattle.std.specs.List.{AllByRecursion}
+use Rattle.ipc_model.specs.Entries.{entries}
+use Rattle.ipc_model.specs.Fits.{RowFits}
+use Rattle.ipc_model.specs.WellFormed.{IsFieldWellFormed, WellFormed}
+use Rattle.ipc_model.specs.declared.limits.Limits.{Limits}
+use Rattle.ipc_model.specs.declared.schema.Field.{Field}
+use Rattle.ipc_model.specs.declared.schema.Schema.{Schema}
+use Rattle.ipc_model.specs.declared.value.Value.{Value}
+use Rattle.ipc_encode.specs.Limits.{IsWithin}
+use Rattle.ipc_dictionaries.specs.Applied.{Applied}
+use Rattle.ipc_dictionaries.specs.ValuesColumns.{IsOneColumn, columns_for, columns_in}
+use Rattle.ipc_dict.specs.declared.kept.KeptEntry.{KeptEntry}
+use Rattle.ipc_dict.specs.Planned.{Planned}
+use Rattle.ipc_dict.specs.Planning.{after_all}
+use Rattle.ipc_dict.specs.SchemaIds.{ids_of, kept_ids, tally_ids}
+use Rattle.ipc_dict.specs.Within.{dictionary_room_of}
+
+-- its limits, its schema, and the values that were sent of each dictionary
+pub record Opened : Type 0 where
+  pub limits : Limits
+  pub schema : Schema
+  pub kept : List KeptEntry
+
+-- These are the columns of the schema's dictionaries, and what was sent of them.
+pub record IsGoingOn (limits : Limits) (s : Schema) (columns : Applied)
+    (kept : List KeptEntry) : Type 0 where
+  pub well_formed : WellFormed limits s
+  pub columns_are : columns.columns ≡ columns_in s.fields
+  pub ids : kept_ids kept ≡ ids_of s.fields
+
+-- Rows of the one column of a dictionary, beside its id, which its message can have: the column is
+-- well formed, the rows fit it, and they and the message are within the limits.
+pub record CanBeSent (limits : Limits) (s : Schema) (send : ℤ × List (List Value)) : Type 0 where
+  pub columns : List Field
+  pub named : columns_for (columns_in s.fields) send.0 ≡ Some columns
+  pub one : IsOneColumn columns
+  pub fine : AllByRecursion (IsFieldWellFormed limits) (entries columns)
+  pub fit : AllByRecursion (RowFits columns) send.1
+  pub within : IsWithin limits columns send.1
+  pub short : dictionary_room_of columns ≤ limits.metadata
+
+-- a plan leads from what was sent to this
+pub record Leads (old new : List KeptEntry) (plan : Planned) : Type 0 where
+  pub ids : kept_ids old ≡ tally_ids plan.entries
+  pub after : after_all old plan.entries plan.numbers ≡ new

@@ -1,0 +1,134 @@
+ghost use Rattle.std.specs.Prelude.{◌≡◌, ◌<◌, length, FitsSigned, IfErr, IfOk, OnOk};
+ghost use Rattle.std.specs.Int.{w64};
+ghost use Rattle.std.specs.List.{AllByRecursion};
+ghost use Rattle.ipc_model.specs.declared.schema.Schema.{Schema};
+ghost use Rattle.ipc_model.specs.declared.table.BatchRows.{BatchRows};
+ghost use Rattle.ipc_dictionaries.specs.ValuesColumns.{columns_in};
+ghost use Rattle.ipc_dict.specs.Sending.{sent_after};
+ghost use Rattle.ipc_stream.specs.Dictionaries.{SendsBatch};
+ghost use Rattle.ipc_stream.specs.Messages.{AddsDictionary, SetDictionaries, all_bytes};
+ghost use Rattle.ipc_stream.specs.OpenStreams.{CanBeSent, IsGoingOn, Leads};
+ghost use Rattle.ipc_stream.specs.Pushed.{HoldsBatch};
+
+use crate::message::Message;
+use crate::messages::{dictionary_message, parts_message};
+use crate::pushed::PushedRows;
+use ipc_dict::{Dictionaries, Kept, Plan};
+use ipc_encode::Room;
+use ipc_model::{Items, Limits, Row, WriteFault};
+use std::alloc::Global;
+
+/// The messages of a batch, of which none is sent yet: those of the dictionaries that it needs, and
+/// its own last (Arrow Columnar Format, "IPC Streaming Format").
+#[derive(Debug, Drop)]
+pub struct BatchMessages {
+    messages: Vec<Message>,
+    // The lists of the columns.
+    room: Room,
+}
+
+impl BatchMessages {
+    /// The messages.
+    pub fn as_slice(&self) -> &[Message]
+        ensures { result.now ≡ self.now.messages.items }
+    {
+        self.messages.as_slice()
+    }
+
+    /// The room of its lists, for the batch behind it.
+    pub fn into_room(self) -> Room {
+        let BatchMessages { messages, mut room } = self;
+        let mut messages = messages;
+        if let Some(last) = messages.pop() {
+            room.keep_body(last.body);
+        }
+        room
+    }
+}
+
+// The id of a dictionary.
+fn id_of(id: &i64) -> i64
+    ensures is { result ≡ id.now }
+    ensures fits { FitsSigned w64 result }
+{
+    *id
+}
+
+// The message of one dictionary, behind those of others. A dictionary that no field names has none.
+fn add_dictionary(
+    alloc: Global,
+    limits: &Limits,
+    columns: &Dictionaries,
+    send: &(i64, Items<Row>),
+    messages: &mut Vec<Message>,
+) -> Result<(), WriteFault>
+    ensures set { (s : Schema) → columns.now.columns ≡ columns_in s.fields
+        → CanBeSent limits.now s send.now
+        → OnOk result (AddsDictionary limits.now s send.now messages.old.items messages.new.items) }
+    ensures only { (s : Schema) → columns.now.columns ≡ columns_in s.fields
+        → CanBeSent limits.now s send.now
+        → IfErr result (λ fault. fault ≡ WriteFault.OutOfMemory) }
+{
+    let id = id_of(&send.0);
+    let Some(fields) = columns.fields_of(id) else {
+        return Ok(());
+    };
+    let message = dictionary_message(alloc, limits, id, fields.as_slice(), send.1.as_slice())?;
+    messages.push(message)?;
+    Ok(())
+}
+
+// The messages of dictionaries, in their order.
+fn dictionary_messages(
+    alloc: Global,
+    limits: &Limits,
+    columns: &Dictionaries,
+    sends: &[(i64, Items<Row>)],
+) -> Result<Vec<Message>, WriteFault>
+    ensures set { (s : Schema) → columns.now.columns ≡ columns_in s.fields
+        → AllByRecursion (CanBeSent limits.now s) sends.now
+        → IfOk result (λ messages. SetDictionaries limits.now s sends.now messages.items) }
+    ensures only { (s : Schema) → columns.now.columns ≡ columns_in s.fields
+        → AllByRecursion (CanBeSent limits.now s) sends.now
+        → IfErr result (λ fault. fault ≡ WriteFault.OutOfMemory) }
+{
+    let mut messages = Vec::with_capacity(alloc, sends.len() + 1)?;
+    for send in sends {
+        add_dictionary(alloc, limits, columns, send, &mut messages)?;
+    }
+    Ok(messages)
+}
+
+// The messages of the batch that is held, and what it does with each dictionary. Its rows, its
+// pairs and its dictionaries are within the limits.
+pub fn held_messages(
+    alloc: Global,
+    limits: &Limits,
+    columns: &Dictionaries,
+    kept: &Kept,
+    held: PushedRows,
+) -> Result<(BatchMessages, Plan), WriteFault>
+    ensures messages { (s : Schema) (b : BatchRows) → IsGoingOn limits.now s columns.now kept.now
+        → HoldsBatch limits.now s b held
+        → IfOk result (λ r. SendsBatch limits.now s kept.now b (all_bytes r.0.messages.items)) }
+    ensures sent { (s : Schema) (b : BatchRows) → IsGoingOn limits.now s columns.now kept.now
+        → HoldsBatch limits.now s b held
+        → IfOk result (λ r. Leads kept.now (sent_after s.fields b.rows kept.now) r.1) }
+    ensures only { (s : Schema) (b : BatchRows) → IsGoingOn limits.now s columns.now kept.now
+        → HoldsBatch limits.now s b held
+        → IfErr result (λ fault. fault ≡ WriteFault.OutOfMemory) }
+    ensures some { IfOk result (λ r. 0 < length r.0.messages.items) }
+{
+    let PushedRows {
+        builder,
+        tally,
+        pairs,
+    } = held;
+    let count = builder.row_count();
+    let plan = tally.settle(alloc, kept)?;
+    let parts = builder.finish(&plan)?;
+    let mut messages = dictionary_messages(alloc, limits, columns, plan.sends())?;
+    let (message, room) = parts_message(alloc, limits, &pairs, count, parts)?;
+    messages.push(message)?;
+    Ok((BatchMessages { messages, room }, plan))
+}

@@ -1,0 +1,186 @@
+ghost use Rattle.std.specs.Prelude.{◌≡◌, ◌⊎◌, IfErr, IfOk, MatchResult, OnErr, OnOk, false};
+ghost use Rattle.ipc_model.specs.declared.table.BatchRows.{BatchRows};
+ghost use Rattle.ipc_dictionaries.specs.ValuesColumns.{columns_in};
+ghost use Rattle.ipc_dict.specs.Sending.{sent_after};
+ghost use Rattle.ipc_decode.specs.Stream.{OpensStream};
+ghost use Rattle.ipc_stream.specs.Dictionaries.{SendsBatch, none_sent};
+ghost use Rattle.ipc_stream.specs.Pushed.{HoldsBatch, RefusesHeld, no_rows, with_row};
+ghost use Rattle.ipc_stream.specs.Writing.{AcceptsBatch, AcceptsSchema, RefusesBatch};
+ghost use Rattle.ipc_stream.specs.Writing.{RefusesSchema, Sends};
+
+use crate::batch_messages::held_messages;
+use crate::messages::schema_message;
+use crate::pushed::PushedRows;
+use crate::sending::{send, send_messages};
+use crate::sink::Sink;
+use ipc_dict::{Dictionaries, Kept, has_short_messages};
+use ipc_encode::Room;
+use ipc_model::{BatchRows, Items, Limits, Schema, Text, Value, WriteFault};
+use std::alloc::Global;
+use std::marker::Model;
+use std::mem;
+
+/// A stream whose schema was sent (Arrow Columnar Format, "IPC Streaming Format"): what its next
+/// messages go on from.
+#[derive(Debug, Drop)]
+pub(crate) struct OpenStream {
+    limits: Limits,
+    schema: Schema,
+    // The columns by which dictionaries are written.
+    columns: Dictionaries,
+    // What was sent of each dictionary.
+    kept: Kept,
+    // The lists of the last batch that was sent, for those of the next.
+    room: Room,
+    alloc: Global,
+}
+
+impl Model for OpenStream {
+    ghost use Rattle.std.specs.Coded.{codes};
+    ghost use Rattle.ipc_model.specs.contracts.schema.Field as field;
+    ghost use Rattle.ipc_dict.specs.contracts.kept.KeptEntry as entry;
+    ghost use Rattle.ipc_stream.specs.OpenStreams.{IsGoingOn, Opened};
+
+    ghost Value = { Opened };
+
+    ghost coded = { Prim.hlevel (codes, field.the_row.coded, entry.the_row.coded) };
+
+    ghost view = { λ s. record { limits = s.limits; schema = s.schema; kept = s.kept } };
+
+    ghost invariant = { λ s. IsGoingOn s.limits s.schema s.columns s.kept };
+}
+
+// The columns by which the dictionaries of a schema are written.
+fn columns_of(alloc: Global, schema: &Schema) -> Result<Dictionaries, WriteFault>
+    ensures is { IfOk result (λ d. d.columns ≡ columns_in schema.now.fields) }
+    ensures memory { IfErr result (λ fault. fault ≡ WriteFault.OutOfMemory) }
+{
+    match Dictionaries::new(alloc, schema) {
+        Ok(columns) => Ok(columns),
+        Err(_) => Err(WriteFault::OutOfMemory),
+    }
+}
+
+impl OpenStream {
+    // Sends the message of a schema.
+    pub(crate) fn begin<W: Sink>(
+        alloc: Global,
+        limits: &Limits,
+        sink: &mut W,
+        schema: &Schema,
+    ) -> Result<OpenStream, WriteFault>
+        ensures opened { IfOk result (λ stream. stream ≡ record {
+          limits = limits.now;
+          schema = schema.now;
+          kept = none_sent schema.now;
+        }) }
+        ensures sends { Sends (OpensStream limits.now schema.now) (W.written sink.old)
+            (W.written sink.new) (W.failures sink.old) (W.failures sink.new) result }
+        ensures judged { MatchResult result (λ _. AcceptsSchema limits.now schema.now)
+            (λ fault. RefusesSchema limits.now schema.now fault) }
+    {
+        let bytes = schema_message(alloc, limits, schema)?;
+        let schema = schema.clone()?;
+        let columns = columns_of(alloc, &schema)?;
+        let kept = Kept::new(alloc, &schema)?;
+        let stream = OpenStream {
+            limits: *limits,
+            schema,
+            columns,
+            kept,
+            room: Room::new(alloc),
+            alloc,
+        };
+        send(sink, &bytes)?;
+        Ok(stream)
+    }
+
+    // Begins a batch with these pairs, whose rows are pushed. Nothing is sent.
+    pub(crate) fn begin_batch(
+        &mut self,
+        pairs: Items<(Text, Text)>,
+    ) -> Result<PushedRows, WriteFault>
+        ensures same { self.new ≡ self.old }
+        ensures holds { IfOk result
+            (HoldsBatch self.old.limits self.old.schema (no_rows pairs)) }
+        ensures refused { IfErr result
+            (RefusesHeld self.old.limits self.old.schema (no_rows pairs) false) }
+    {
+        if !has_short_messages(self.alloc, &self.limits, &self.schema, &self.columns)? {
+            return Err(WriteFault::TooLong);
+        }
+        let room = mem::replace(&mut self.room, Room::new(self.alloc));
+        PushedRows::new(self.alloc, &self.limits, &self.schema, pairs, room)
+    }
+
+    // Takes one row more into a batch of this stream's. Nothing is sent.
+    #[inline(always)]
+    pub(crate) fn push_row(&self, held: &mut PushedRows, row: &[Value]) -> Result<(), WriteFault>
+        ensures holds { (b : BatchRows) → HoldsBatch self.now.limits self.now.schema b held.old
+            → OnOk result
+            (HoldsBatch self.now.limits self.now.schema (with_row b row.now) held.new) }
+        ensures refused { (b : BatchRows) → HoldsBatch self.now.limits self.now.schema b held.old
+            → IfErr result
+            (RefusesHeld self.now.limits self.now.schema (with_row b row.now) false) }
+        ensures kept { (b : BatchRows) → HoldsBatch self.now.limits self.now.schema b held.old
+            → IfErr result (λ fault. ¬ (fault ≡ WriteFault.OutOfMemory)
+            → HoldsBatch self.now.limits self.now.schema b held.new) }
+    {
+        held.push(&self.schema, row)
+    }
+
+    // Sends the messages of a batch whose rows were pushed: those of the dictionaries that it
+    // needs, and its own. All of them are ready before the first goes out.
+    pub(crate) fn send_rows<W: Sink>(
+        &mut self,
+        sink: &mut W,
+        held: PushedRows,
+    ) -> Result<(), WriteFault>
+        ensures sends { (b : BatchRows) → HoldsBatch self.old.limits self.old.schema b held
+            → Sends (SendsBatch self.old.limits self.old.schema self.old.kept b)
+            (W.written sink.old) (W.written sink.new) (W.failures sink.old)
+            (W.failures sink.new) result }
+        ensures sent { (b : BatchRows) → HoldsBatch self.old.limits self.old.schema b held
+            → OnOk result (self.new ≡ record self.old {
+              kept = sent_after self.old.schema.fields b.rows self.old.kept;
+            }) }
+        ensures err { OnErr result (self.new ≡ self.old) }
+        ensures only { (b : BatchRows) → HoldsBatch self.old.limits self.old.schema b held
+            → IfErr result
+            (λ fault. (fault ≡ WriteFault.Write) ⊎ (fault ≡ WriteFault.OutOfMemory)) }
+    {
+        let (messages, plan) = held_messages(
+            self.alloc,
+            &self.limits,
+            &self.columns,
+            &self.kept,
+            held,
+        )?;
+        send_messages(sink, messages.as_slice())?;
+        plan.commit(&mut self.kept);
+        self.room = messages.into_room();
+        Ok(())
+    }
+
+    // Sends the messages of a batch with these pairs and rows.
+    pub(crate) fn send_batch<W: Sink>(
+        &mut self,
+        sink: &mut W,
+        batch: &BatchRows,
+    ) -> Result<(), WriteFault>
+        ensures sends { Sends (SendsBatch self.old.limits self.old.schema self.old.kept batch.now)
+            (W.written sink.old) (W.written sink.new) (W.failures sink.old)
+            (W.failures sink.new) result }
+        ensures sent { OnOk result (self.new ≡ record self.old {
+          kept = sent_after self.old.schema.fields batch.now.rows self.old.kept;
+        }) }
+        ensures err { OnErr result (self.new ≡ self.old) }
+        ensures judged { MatchResult result
+            (λ _. AcceptsBatch self.old.limits self.old.schema batch.now)
+            (λ fault. RefusesBatch self.old.limits self.old.schema batch.now fault) }
+    {
+        let mut held = self.begin_batch(batch.pairs.clone()?)?;
+        held.push_all(&self.schema, batch.rows.as_slice())?;
+        self.send_rows(sink, held)
+    }
+}
