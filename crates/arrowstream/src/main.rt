@@ -10,7 +10,7 @@ use ipc_stream::Device;
 use std::alloc::{AllocError, Global};
 use std::env::Args;
 use std::fs::File;
-use std::io::Write;
+use std::io::{IsTerminal, Write};
 use std::process::ExitCode;
 use std::{env, io};
 
@@ -46,11 +46,32 @@ fn open_schema(rt: &HostRuntime, job: &Job) -> Result<Option<Device<File>>, Usag
     }
 }
 
+// The words of a command line that asks for the usage.
+fn help_words(alloc: Global) -> Result<Vec<String>, AllocError> {
+    let mut words = Vec::new(alloc);
+    words.push(String::from_str(alloc, "arrowstream")?)?;
+    words.push(String::from_str(alloc, "--help")?)?;
+    Ok(words)
+}
+
+// A terminal as standard input has no stream: the usage is told, as of wrong words.
+fn ask_input(rt: &HostRuntime) -> Result<(), Usage> {
+    if !rt.stdin().is_terminal() {
+        return Ok(());
+    }
+    match read_words(rt.alloc(), help_words(rt.alloc())?) {
+        Err(Usage::Help(text)) => Err(Usage::Wrong(text)),
+        Err(usage) => Err(usage),
+        Ok(_) => Ok(()),
+    }
+}
+
 // The job of the command line, with its schema's file.
 fn read_job_and_schema(rt: &HostRuntime) -> Result<(Job, Option<Device<File>>), Usage>
     ensures { IfOk result (λ read. HasGoodSize read.0) }
 {
     let job = read_job(rt)?;
+    ask_input(rt)?;
     let schema = open_schema(rt, &job)?;
     Ok((job, schema))
 }

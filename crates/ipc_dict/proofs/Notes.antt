@@ -125,3 +125,10 @@ cut_back (e ∷ es) (f ∷ fs) h =
 pub fit_push : (t : List TallyEntry) (e : TallyEntry) → AllFit t → length e.values ≤ e.limit → AllFit (t ++ e ∷ [])
 fit_push [] e h k = (k, tt)
 fit_push (x ∷ t) e h k = (h.0, fit_push t e h.1 k)
+
+-- ---- without entries
+
+-- nothing is noted
+pub none_noted : (ps : List (ℤ × Value)) → note_all [] ps ≡ []
+none_noted [] = refl
+none_noted (p ∷ ps) = none_noted ps

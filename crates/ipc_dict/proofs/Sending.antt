@@ -17,10 +17,10 @@ use Rattle.ipc_dict.specs.declared.kept.KeptEntry.{KeptEntry}
 use Rattle.ipc_dict.specs.Distinct.{same, is_seen, place}
 use Rattle.ipc_dict.specs.Counted.{HoldsRows}
 use Rattle.ipc_dict.specs.Noting.{AllFit, noted_for}
-use Rattle.ipc_dict.specs.Planning.{AreNumbers, IsSettled, AllSettled, SameIds, after, after_all, sent_for}
+use Rattle.ipc_dict.specs.Planning.{AreNumbers, IsSettled, AllSettled, SameIds, after, after_all, own_send, sends_of, sent_for}
 use Rattle.ipc_dict.specs.Pairs.{rows_pairs}
 use Rattle.ipc_dict.specs.SchemaIds.{count_of, ids_of, kept_ids, of_fields, tally_ids, unsent, unused}
-use Rattle.ipc_dict.specs.Sending.{AreCounted, batch_values, tallied, sent_next, sent_after}
+use Rattle.ipc_dict.specs.Sending.{AreCounted, batch_values, needed, needed_of, tallied, sent_next, sent_after}
 use Rattle.ipc_dict.proofs.CoveredIndices.{has_entry, noted_counts}
 use Rattle.ipc_dict.proofs.Ids.{same_ids}
 use Rattle.ipc_dict.proofs.Rows.{holds_rows, ids_note_all}
@@ -58,6 +58,18 @@ settled_next (Some known) values None (v, (there, none)) =
     list_all_at (is_seen known) values there.0 v there.1 (ap (is_seen known) there.2 ∙ unseen) in
     sym (ap (λ b. cond b (Some known) (Some values)) lacks)
 
+settled_needs : (sent : Option (List Value)) (n : TallyEntry) (o : Option (List ℕ)) → IsSettled sent n.values o
+    → own_send n o ≡ needed_of sent n.id n.values
+settled_needs None n None h = refl
+settled_needs None n (Some to) h = absurd h
+settled_needs (Some known) n (Some to) h =
+    sym (ap (λ b. cond b [] ((n.id, map (λ v. v ∷ []) n.values) ∷ [])) (all_seen known n.values to h))
+settled_needs (Some known) n None (v, (there, none)) =
+    let unseen : is_seen known v ≡ false = sym (placed-seen v known) ∙ ap is_some none in
+    let lacks : list_all (is_seen known) n.values ≡ false =
+    list_all_at (is_seen known) n.values there.0 v there.1 (ap (is_seen known) there.2 ∙ unseen) in
+    sym (ap (λ b. cond b [] ((n.id, map (λ v. v ∷ []) n.values) ∷ [])) lacks)
+
 -- ---- all of them
 
 module _ (fields : List Field) (rows : List (List Value)) where
@@ -74,6 +86,20 @@ module _ (fields : List Field) (rows : List (List Value)) where
       let values : e.values ≡ batch_values fields rows k.id = each.0 ∙ ap (batch_values fields rows) (sym ids.0) in
       ap (λ x. record k { values = x } ∷ after_all ks es os) (settled_next k.values e.values o settled.0 ∙ ap (sent_next k.values) values)
       ∙ ap (λ l. record k { values = sent_next k.values (batch_values fields rows k.id) } ∷ l) (all_next ks es os ids.1 settled.1 each.1)
+
+  all_needed : (ks : List KeptEntry) (es : List TallyEntry) (os : List (Option (List ℕ))) → SameIds ks es → AllSettled ks es os
+      → HoldEach es → sends_of es os ≡ needed fields rows ks
+  all_needed [] [] [] ids settled each = refl
+  all_needed [] [] (o ∷ os) ids settled each = absurd settled
+  all_needed [] (e ∷ es) os ids settled each = absurd ids
+  all_needed (k ∷ ks) [] os ids settled each = absurd ids
+  all_needed (k ∷ ks) (e ∷ es) [] ids settled each = absurd settled
+  all_needed (k ∷ ks) (e ∷ es) (o ∷ os) ids settled each =
+      let id : e.id ≡ k.id = sym ids.0 in
+      let values : e.values ≡ batch_values fields rows k.id = each.0 ∙ ap (batch_values fields rows) id in
+      ap (λ l. l ++ sends_of es os)
+      (settled_needs k.values e o settled.0 ∙ ap (λ i. needed_of k.values i e.values) id ∙ ap (needed_of k.values k.id) values)
+      ∙ ap (λ l. needed_of k.values k.id (batch_values fields rows k.id) ++ l) (all_needed ks es os ids.1 settled.1 each.1)
 
   -- ---- each entry is found by its id
 
@@ -120,6 +146,12 @@ module _ (fields : List Field) (rows : List (List Value)) where
   pub sent_is : (kept : List KeptEntry) (os : List (Option (List ℕ))) → kept_ids kept ≡ ids_of fields
       → AllSettled kept (tallied fields rows) os → after_all kept (tallied fields rows) os ≡ sent_after fields rows kept
   sent_is kept os ids settled = all_next kept (tallied fields rows) os
+      (same_ids kept (tallied fields rows) (ids ∙ sym tallied_ids)) settled tallied_values
+
+  -- what a plan sends
+  pub needed_is : (kept : List KeptEntry) (os : List (Option (List ℕ))) → kept_ids kept ≡ ids_of fields
+      → AllSettled kept (tallied fields rows) os → sends_of (tallied fields rows) os ≡ needed fields rows kept
+  needed_is kept os ids settled = all_needed kept (tallied fields rows) os
       (same_ids kept (tallied fields rows) (ids ∙ sym tallied_ids)) settled tallied_values
 
 -- ---- how many values are sent

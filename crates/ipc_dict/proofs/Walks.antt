@@ -1,5 +1,5 @@
 -- One step of a walk over a row.
-use Rattle.std.proofs.Common.{◌≡◌, ℕ, ◌+◌, ◌<◌, ℤ, List, ◌++◌, map, length, get_or, drop, refl, sym, ap, subst, ◌∙◌, add-one, drop-cons}
+use Rattle.std.proofs.Common.{◌≡◌, ℕ, ◌+◌, ◌<◌, ℤ, List, [], ◌++◌, map, length, get_or, drop, refl, sym, ap, subst, ◌∙◌, add-one, drop-cons}
 use Rattle.std.proofs.Common.{rules, Option, None}
 use Rattle.ipc_model.specs.declared.schema.DataType.{DataType}
 use Rattle.ipc_model.specs.declared.schema.DataType.TheVariants as kind
@@ -11,7 +11,7 @@ use Rattle.ipc_model.specs.declared.value.Value.TheOpen.{Value-F}
 use Rattle.ipc_model.specs.declared.value.Value.{Value}
 use Rattle.ipc_dict.specs.declared.entry.TallyEntry.{TallyEntry}
 use Rattle.ipc_dict.specs.Noting.{note_all, IsFull}
-use Rattle.ipc_dict.specs.Pairs.{Walk, pairs, pairs_step, items_pairs, each_pairs, pairs_in}
+use Rattle.ipc_dict.specs.Pairs.{Walk, pairs, pairs_step, inner_pairs, items_pairs, each_pairs, pairs_in}
 use Rattle.ipc_dict.proofs.Notes.{note_all-append, full-append}
 
 pub items-step : (w : Walk) (vs : List Value) (i : ℕ) (v : Value) → i < length vs → v ≡ get_or vs i v
@@ -44,3 +44,18 @@ struct_pairs f v ws cs vs plain of_kind children is same =
     ap (λ (w : Walk). w v) (fold_out-Field Walk pairs_step f)
     ∙ ap (λ fs. pairs_in (out-Field f).dictionary (out-Field f).kind (map pairs fs) v) (sym children)
     ∙ inside (out-Field f).dictionary (out-Field f).kind plain of_kind
+
+-- without children nothing stands below
+nothing_below : (k : DataType) (v : Value-F Value) → inner_pairs k [] v ≡ []
+nothing_below kind.Struct (Value-F.Struct vs) = refl
+nothing_below kind.Struct v = refl
+nothing_below k v = refl
+
+-- a field without a dictionary and without children gives nothing
+pub plain_pairs : (f : Field) (v : Value) → (out-Field f).dictionary ≡ None → (out-Field f).children ≡ [] → pairs f v ≡ []
+plain_pairs f v plain alone =
+    let inside : (d : Option Dictionary) (k : DataType) → d ≡ None → pairs_in d k [] v ≡ [] =
+    λ d k p. rw p (nothing_below k (out-Value v)) in
+    ap (λ (w : Walk). w v) (fold_out-Field Walk pairs_step f)
+    ∙ ap (λ fs. pairs_in (out-Field f).dictionary (out-Field f).kind (map pairs fs) v) alone
+    ∙ inside (out-Field f).dictionary (out-Field f).kind plain

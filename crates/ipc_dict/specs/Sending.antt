@@ -1,7 +1,7 @@
 -- What a writer has sent of each dictionary once a batch is sent (Arrow Columnar Format,
 -- "Dictionary Messages").
-use Rattle.std.specs.Prelude.{ℕ, ◌≤◌, ℤ, List, length, map, Option, Some, None, Contains}
-use Rattle.std.specs.Prelude.{if◌then◌else◌}
+use Rattle.std.specs.Prelude.{ℕ, ◌≤◌, ℤ, List, [], ◌∷◌, ◌++◌, length, map, Option, Some, None}
+use Rattle.std.specs.Prelude.{Contains, if◌then◌else◌}
 use Rattle.std.specs.List.{list_all}
 use Rattle.std.specs.Option.{IfSome}
 use Rattle.ipc_model.specs.declared.schema.Dictionary.{Dictionary}
@@ -39,6 +39,21 @@ sent_entry fields rows e =
 -- what was sent of each
 abbrev pub sent_after : List Field → List (List Value) → List KeptEntry → List KeptEntry
 sent_after fields rows kept = map (sent_entry fields rows) kept
+
+-- what is sent of a dictionary before a batch with these values, its id and each of its values as a
+-- row of one column: nothing where values were sent before and all of these are among them
+abbrev pub needed_of : Option (List Value) → ℤ → List Value → List (ℤ × List (List Value))
+needed_of None id values = (id, map (λ v. v ∷ []) values) ∷ []
+needed_of (Some known) id values =
+    if list_all (is_seen known) values then [] else (id, map (λ v. v ∷ []) values) ∷ []
+
+-- The dictionaries that are sent before a batch of these rows, in the order of what was sent, which
+-- is that in which their ids first stand in the schema. Each has exactly the distinct values other
+-- than null that the batch has for the id, in order of first appearance
+abbrev pub needed : List Field → List (List Value) → List KeptEntry → List (ℤ × List (List Value))
+needed fields rows [] = []
+needed fields rows (e ∷ kept) =
+    needed_of e.values e.id (batch_values fields rows e.id) ++ needed fields rows kept
 
 -- no more values were sent of a dictionary than each index type of its fields counts
 abbrev pub AreCounted : List Field → List KeptEntry → Type 0

@@ -136,6 +136,9 @@ impl Tally {
         if self.failed {
             return Err(WriteFault::Failed);
         }
+        if self.is_empty() {
+            return Ok(());
+        }
         let fields = self.fields.as_slice();
         let (entries, columns) = (&mut self.entries, &mut self.columns);
         if let Err(fault) = note_row(entries, &mut self.marks, columns, fields, row) {

@@ -1,16 +1,47 @@
 //! The values of dictionaries in a row: from left to right, those below a list or a struct in its
 //! place, nulls left out.
-ghost use Rattle.std.specs.Prelude.{◌≡◌, map, IfErr, OnOk, ◌⊎◌};
+ghost use Rattle.std.specs.Prelude.{◌≡◌, [], map, IfErr, IsTrue, OnOk, ◌⊎◌};
+ghost use Rattle.ipc_model.specs.declared.value.Value.{Value};
 ghost use Rattle.ipc_dict.specs.Noting.{note_all, AllFit, IsFull, AllGrow};
 ghost use Rattle.ipc_dict.specs.Pairs.{pairs, items_pairs, each_pairs};
 
 use crate::entry::{TallyEntry, note_one};
 use ipc_model::{DataType, Field, Value, WriteFault};
 
-// Notes the values of dictionaries in one value of a field.
+// Whether a field surely names no dictionary, nor does any below it.
+#[inline(always)]
+#[tactic(auto, using(crate::proofs::Walks::plain_pairs))]
+fn is_plain(field: &Field) -> bool
+    ensures { IsTrue result → (value : Value) → pairs field.now value ≡ [] }
+{
+    field.dictionary.is_none() && field.children.is_empty()
+}
+
+// Notes the values of dictionaries in one value of a field. It stands by itself, so that what has
+// no dictionary costs no call.
 #[cycle(note)]
+#[inline(always)]
 #[tactic(auto, using(crate::proofs::Notes::all_grow_same, crate::proofs::Notes::all_grow_trans))]
 fn note_value(entries: &mut [TallyEntry], field: &Field, value: &Value) -> Result<(), WriteFault>
+    ensures noted { OnOk result (entries.new ≡ note_all entries.old (pairs field.now value.now)) }
+    ensures fits { OnOk result (AllFit entries.old → AllFit entries.new) }
+    ensures full { IfErr result
+        (λ fault. fault ≡ WriteFault.DictionaryFull
+        → IsFull (note_all entries.old (pairs field.now value.now))) }
+    ensures memory { IfErr result
+        (λ fault. (fault ≡ WriteFault.DictionaryFull) ⊎ (fault ≡ WriteFault.OutOfMemory)) }
+    ensures grows { AllGrow entries.old entries.new }
+{
+    if is_plain(field) {
+        return Ok(());
+    }
+    note_named(entries, field, value)
+}
+
+// The same of a field that may name a dictionary.
+#[cycle(note)]
+#[tactic(auto, using(crate::proofs::Notes::all_grow_same, crate::proofs::Notes::all_grow_trans))]
+fn note_named(entries: &mut [TallyEntry], field: &Field, value: &Value) -> Result<(), WriteFault>
     ensures noted { OnOk result (entries.new ≡ note_all entries.old (pairs field.now value.now)) }
     ensures fits { OnOk result (AllFit entries.old → AllFit entries.new) }
     ensures full { IfErr result

@@ -16,6 +16,7 @@ use Rattle.ipc_stream.specs.Pushed.{RefusesHeld, StaysAt, no_rows}
 use Rattle.ipc_stream.specs.Dictionaries.{SendsBatch, SendsTable, kept_after, none_sent}
 use Rattle.ipc_stream.specs.Writer.{Leaves, LeavesBatch, Writer}
 use Rattle.ipc_stream.specs.Writing.{AcceptsBatch, BreaksOff, NotSentWhole, RefusesBatch}
+use Rattle.ipc_stream.proofs.Chains.{table_tells}
 use Rattle.ipc_stream.proofs.FirstRows.{refused_at_first}
 use Rattle.ipc_stream.proofs.TablesWritten as tables
 use Rattle.ipc_csv.specs.RowCsv.{names}
@@ -153,7 +154,8 @@ module _ {R : Type 0} (remaining : R → Option (List ℕ)) (input : Option (Lis
       };
       sent = record {
         x = came.out.sent.x;
-        whole = (Some came.out.sent.whole.0, came.out.sent.whole.1.1);
+        whole =
+            let told = table_tells writer.limits (table_of s came.batches) came.out.sent.x came.out.sent.whole in (Some told.0, told.1.1);
         bytes = came.out.sent.bytes;
         worked = came.out.sent.worked;
         works = came.out.sent.works;

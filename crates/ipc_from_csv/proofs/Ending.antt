@@ -18,6 +18,7 @@ use Rattle.ipc_stream.specs.Pushed.{HoldsBatch}
 use Rattle.ipc_decode.specs.Stream.{EndsStream}
 use Rattle.ipc_stream.specs.Writer.{Finishes, FinishFails, LeavesBatch, StartFails, Writer}
 use Rattle.ipc_stream.specs.Writing.{AcceptsBatch, BreaksOff, CutShort, RefusesBatch}
+use Rattle.ipc_stream.proofs.Chains.{table_tells}
 use Rattle.ipc_stream.proofs.TablesWritten as tables
 use Rattle.ipc_csv.specs.RowCsv.{flat_fault, names}
 use Rattle.ipc_from_csv.specs.Batches.{batch_of, last_batch}
@@ -130,7 +131,8 @@ module _ (input : Option (List ℕ)) (s : Schema) (size : ℕ) (old : Option (Li
       whole = (
         sends.out.sent.x,
         ap (λ y. sends.out.sent.x ++ y) finishes.sent.whole,
-        (Some sends.out.sent.whole.0, sends.out.sent.whole.1.1),
+        (let told = table_tells writer.limits (table_of s (sends.batches ++ last_batch sends.left)) sends.out.sent.x sends.out.sent.whole in
+            (Some told.0, told.1.1)),
       );
       bytes = Appends-trans old writer.written new sends.out.sent.x finishes.sent.x sends.out.sent.bytes finishes.sent.bytes;
       worked = sends.out.sent.worked;

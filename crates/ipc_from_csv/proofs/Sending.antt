@@ -14,7 +14,7 @@ use Rattle.ipc_stream.specs.Dictionaries.{SendsBatch, SendsTable, kept_after, no
 use Rattle.ipc_stream.specs.OpenStreams.{Opened}
 use Rattle.ipc_stream.specs.Writer.{LeavesBatch, Starts, Writer}
 use Rattle.ipc_stream.specs.Writing.{AcceptsBatch, AcceptsSchema, Sent}
-use Rattle.ipc_stream.proofs.Chains.{kept_then, schema_sends, table_then}
+use Rattle.ipc_stream.proofs.Chains.{kept_then, schema_sends, table_more}
 use Rattle.ipc_model.specs.Limits.{IsStandard}
 use Rattle.ipc_csv.specs.CsvRows.{RecordReadsAs}
 use Rattle.ipc_from_csv.specs.Batches.{AreBatched, IsFull, batch_of, last_batch}
@@ -81,7 +81,7 @@ module _ (s : Schema) (batches : List BatchRows) (old : Option (List ℕ)) (fail
       new.failures → Sent (SendsTable writer.limits (table_of s (batches ++ b ∷ []))) old new.written failures new.failures
   sent_more sent = record {
     x = out.sent.x ++ sent.x;
-    whole = table_then writer.limits s batches (b ∷ []) out.sent.x sent.x out.sent.whole sent.whole;
+    whole = table_more writer.limits s batches b out.sent.x sent.x out.sent.whole sent.whole;
     bytes = Appends-trans old writer.written new.written out.sent.x sent.x out.sent.bytes sent.bytes;
     worked = out.sent.worked;
     works = sent.works;

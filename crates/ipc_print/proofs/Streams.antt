@@ -59,7 +59,7 @@ at_end limits σ rest left Mark e is = absurd (cc)
 at_end limits σ rest left Closed e is = e.2
 
 -- the events of a table with one batch more
-one_more : (t : Table) (rows : BatchRows) → schema t.schema ∷ map batch (t.batches ++ rows ∷ []) ≡ events_of t ++ batch rows ∷ []
+pub one_more : (t : Table) (rows : BatchRows) → schema t.schema ∷ map batch (t.batches ++ rows ∷ []) ≡ events_of t ++ batch rows ∷ []
 one_more t rows = ap (λ (es : List Event). schema t.schema ∷ es) (map-append batch t.batches (rows ∷ []))
 
 -- why rows weren't printed is no refusal
@@ -123,7 +123,7 @@ module _ {limits : Limits} (form : Form) (old : Option (List ℕ)) (s t : Reader
         text = subst (λ (n : ℕ). Appends w0 w1 (printed form s.schema r.batches ++ tail_text form end n r.batches)) taken
             (grows_appends w0 w1 _ (grows_then w0 all.middle.written w1 [] all.middle.kept [] _ _ r.puts.bytes all.tail.bytes));
       }
-  prints_rows (Err (stop.Read fault n)) r =
+  prints_rows (Err (stop.Read fault n)) (r, tells) =
       broken (o.x ++ r.x) (record { schema = s.schema; batches = r.batches }) (all_bytes (output w1 n1 []) (Err fault) r)
       (all_reads (output w1 n1 []) (Err fault) r) r.have (grows_appends w0 w1 (printed form s.schema r.batches) r.puts.bytes)
   prints_rows (Err (stop.Text fault)) (inl other) =

@@ -2,9 +2,10 @@
 use Rattle.ipc_model.specs.declared.table.BatchRows.{BatchRows}
 use Rattle.std.specs.Prelude.{◌≡◌, ◌≢◌, ◌⊎◌, ◌+◌, ℕ, List, [], ◌∷◌, ◌++◌, length, map, take, Option}
 use Rattle.std.specs.Prelude.{Some, None}
-use Rattle.std.specs.Prelude.{Result, Ok, Err, ⊤}
+use Rattle.std.specs.Prelude.{Result, Ok, Err, ⊤, Contains}
 use Rattle.std.specs.Io.KnownBytes.{Appends, Consumes, IsAtEnd, Keeps}
 use Rattle.ipc_model.specs.declared.fault.Fault.{Fault}
+use Rattle.ipc_model.specs.declared.fault.Fault.TheVariants.{OutOfMemory}
 use Rattle.ipc_model.specs.declared.fault.WriteFault.{WriteFault}
 use Rattle.ipc_model.specs.declared.fault.WriteFault.TheVariants as w
 use Rattle.ipc_model.specs.Numbering.{fault_status, write_fault_status}
@@ -134,6 +135,27 @@ Prints form limits old new written_old written_new (Err (stop.Text fault)) =
 Prints form limits old new written_old written_new (Err (stop.Write fault)) =
     (write_fault_status fault ≢ 1) × PrintsSome form limits old new written_old written_new
 
+-- the columns of a table have no place in the form, or a row of it is the first of its batch that
+-- isn't printed
+abbrev pub LacksText : Form → Table → TextFault → Type 0
+LacksText form t fault = (form_fault form t.schema.fields ≡ Some fault)
+    ⊎ ((b : BatchRows) × ((count : ℕ)
+    × (Contains t.batches b × Refuses form t.schema.fields b.rows count fault)))
+
+-- What is answered where the source holds a table and its end, in so many bytes, and doesn't fail:
+-- its text is printed, or what stands in the way is in the table, or the sink failed or memory ran
+-- out.
+abbrev pub AnswersTable : Form → Table → End → ℕ → Option (List ℕ) → Option (List ℕ)
+    → Result ⊤ Stop → Type 0
+AnswersTable form t end bytes written_old written_new (Ok done) = Appends written_old written_new
+    (printed form t.schema t.batches ++ tail_text form end (count_up 0 bytes) t.batches)
+AnswersTable form t end bytes written_old written_new (Err (stop.Read fault message)) =
+    fault ≡ OutOfMemory
+AnswersTable form t end bytes written_old written_new (Err (stop.Text fault)) =
+    LacksText form t fault
+AnswersTable form t end bytes written_old written_new (Err (stop.Write fault)) =
+    write_fault_status fault ≢ 1
+
 -- ---- the steps in between
 
 -- how many batches there are, and how many rows they have
@@ -248,6 +270,7 @@ PrintsStream form old new before after (Ok done) =
     × ((end : End) × PrintsWhole form (front_text form old.schema) old new before after end)
 PrintsStream form old new before after (Err (stop.Read fault message)) =
     PrintsRows form (front_text form old.schema) old new before after (Err fault)
+    × Tells old.failures new.failures fault
 PrintsStream form old new before after (Err (stop.Text fault)) =
     Unfit form old new before after fault
     ⊎ RefusesRow form (front_text form old.schema) old new before after fault

@@ -1,12 +1,16 @@
 //! A stream is read, and its rows are printed as they come.
-ghost use Rattle.std.specs.Prelude.{◌≡◌, ◌++◌, ◌∷◌, [], Some, IfErr, IfOk, OnOk};
+ghost use Rattle.std.specs.Prelude.{◌≡◌, ◌++◌, ◌∷◌, ℕ, List, [], length, Some, IfErr, IfOk, OnOk};
 ghost use Rattle.std.specs.Prelude.{decimal, None, Ok};
+ghost use Rattle.ipc_decode.specs.Stream.{Denotes};
+ghost use Rattle.ipc_decode.specs.declared.end.End.TheVariants.{Closed, Mark};
 ghost use Rattle.ipc_decode.specs.declared.phase.Phase.TheVariants.{Reading};
+ghost use Rattle.ipc_model.specs.declared.table.Table.{Table};
 ghost use Rattle.ipc_csv.specs.RowCsv.{unless_fault};
 ghost use Rattle.ipc_json.specs.SchemaJson.{schema_text};
 ghost use Rattle.ipc_print.specs.Forms.{counts_text, form_fault, front_text};
 ghost use Rattle.ipc_print.specs.Output.{output, PrintsAs};
-ghost use Rattle.ipc_print.specs.Streams.{IsWhole, Prints, PrintsAll, PrintsBatches};
+ghost use Rattle.ipc_print.specs.Streams.{AnswersTable, IsWhole, Prints, PrintsAll};
+ghost use Rattle.ipc_print.specs.Streams.{PrintsBatches};
 ghost use Rattle.ipc_print.specs.Streams.{PrintsSome, PrintsStream, TellsDevices, exit_status};
 ghost use Rattle.ipc_print.specs.Streams.{outcome_tail, write_fault};
 
@@ -240,6 +244,17 @@ pub fn print<R: Source, W: Sink>(
     // F36 and W9 are answered exactly where the source or the sink failed.
     ensures devices { TellsDevices (R.failures source) (R.failures result.1) (W.failures sink.old)
         (W.failures sink.new) (exit_status result.0) }
+    // A table with its mark is printed whatever follows it, unless its columns or a row have no
+    // text, the source or the sink fails, or memory runs out.
+    ensures marked { (x rest : List ℕ) (t : Table)
+        → R.remaining source ≡ Some (x ++ rest) → Denotes limits x t Mark
+        → R.failures result.1 ≡ 0
+        → AnswersTable form t Mark (length x) (W.written sink.old) (W.written sink.new) result.0 }
+    // So is one without a mark where nothing follows.
+    ensures closed { (x : List ℕ) (t : Table)
+        → R.remaining source ≡ Some x → Denotes limits x t Closed → R.failures result.1 ≡ 0
+        → AnswersTable form t Closed (length x) (W.written sink.old) (W.written sink.new)
+        result.0 }
 {
     match StreamReader::open(alloc, limits, source) {
         Ok(stream) => {

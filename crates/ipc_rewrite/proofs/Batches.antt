@@ -18,12 +18,12 @@ use Rattle.ipc_decode.specs.Reader.{EndsBehind, LeadsTo, Reader, in_force_of, Ne
 use Rattle.ipc_decode.specs.Reasons.{Ends}
 use Rattle.ipc_decode.specs.Stream.{State, Event, batch, Run, done}
 use Rattle.ipc_decode.specs.Counts.{count_up, messages_in}
-use Rattle.ipc_stream.specs.Dictionaries.{SendsBatch, SendsBatches, kept_after}
+use Rattle.ipc_stream.specs.Dictionaries.{SendsBatch, SendsBatches, kept_after, sends_none}
 use Rattle.ipc_stream.specs.OpenStreams.{Opened}
 use Rattle.ipc_stream.specs.Writer.{Writer}
 use Rattle.ipc_stream.specs.Writing.{AcceptsBatch, RefusesBatch, Sent, NotSentWhole}
 use Rattle.ipc_decode.proofs.Runs.{run_one, run_then, messages_one, messages_then}
-use Rattle.ipc_stream.proofs.Chains.{batches_then, kept_then, none_sends}
+use Rattle.ipc_stream.proofs.Chains.{batches_more, kept_then}
 use Rattle.ipc_rewrite.specs.Rewriting.{CopiesRest, RefusesLast}
 
 -- these batches were read behind the schema, and sent
@@ -63,7 +63,7 @@ copied_none r w reading source works sink is = record {
   accepts = tt;
   sent = record {
     x = [];
-    whole = none_sends w.limits r.schema w.kept;
+    whole = sends_none;
     bytes = Appends-nil w.written;
     worked = sink;
     works = sink;
@@ -189,7 +189,7 @@ module _ (old now new : Reader) (before after : Writer) (b : Copied old now befo
         accepts = all_last (AcceptsBatch before.limits old.schema) b.batches (rows_of found) b.accepts accepts_here;
         sent = record {
           x = b.sent.x ++ sent.x;
-          whole = batches_then before.limits old.schema before.kept b.batches (rows_of found ∷ []) b.sent.x sent.x b.sent.whole sent_here;
+          whole = batches_more before.limits old.schema before.kept b.batches (rows_of found) b.sent.x sent.x b.sent.whole sent_here;
           bytes = Appends-trans before.written after.written next.written b.sent.x sent.x b.sent.bytes sent.bytes;
           worked = b.sent.worked;
           works = sent.works;

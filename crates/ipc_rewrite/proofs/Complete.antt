@@ -27,38 +27,13 @@ use Rattle.ipc_stream.specs.Writing.{RefusesBatch, RefusesSchema, Sent}
 use Rattle.ipc_decode.proofs.Answered.{answers_marked, answers_closed}
 use Rattle.ipc_decode.proofs.Reasons.{run_told}
 use Rattle.ipc_decode.proofs.Runs.{reads_after}
+use Rattle.ipc_stream.proofs.Beginnings.{Holds, front_begins, holds_closed, holds_marked, left_of, reads_of, schema_begins, table_begins}
 use Rattle.ipc_stream.proofs.TablesWritten.{IsOut, batch_breaks, end_broken, start_breaks}
 use Rattle.ipc_rewrite.specs.declared.stop.Stop.{Stop}
 use Rattle.ipc_rewrite.specs.declared.stop.Stop.TheVariants as stop
 use Rattle.ipc_rewrite.specs.Raised.{raised_of}
 use Rattle.ipc_rewrite.specs.Rewriting.{AnswersTable, BreaksReading, unopened, broken, BreaksWriting, unstarted, refused}
 use Rattle.ipc_rewrite.specs.Rewriting.{unended, Rewrites, TellsFailures, with_batch}
-use Rattle.ipc_rewrite.proofs.Beginnings.{Holds, front_begins, holds_closed, holds_marked, schema_begins, table_begins}
-
--- what denotes a table and its end is read to that end
-reads_of : {limits : Limits} → (x : List ℕ) (left : Option (List ℕ)) (t : Table) (end : End) → Denotes limits x t end
-    → (end ≡ Closed → IsAtEnd left) → Reads limits None x left (events_of t) (Ok end)
-reads_of x left t Mark d closed = record {
-  state = d.2.0;
-  whole = d.0;
-  rest = eos;
-  joined = d.1;
-  run = d.2.1;
-  ends = (refl, run_told d.2.1 (λ none. absurd (cc)));
-}
-reads_of x left t Closed d closed = record {
-  state = d.0;
-  whole = x;
-  rest = [];
-  joined = sym (append-nil x);
-  run = d.1;
-  ends = (refl, run_told d.1 (λ none. absurd (cc)), closed refl);
-}
-
--- a source that holds known bytes leaves the rest of them
-left_of : (z : List ℕ) (new : Option (List ℕ)) (x : List ℕ) → Consumes (Some z) new x → (b : List ℕ) × (z ≡ x ++ b)
-left_of z None x c = absurd c
-left_of z (Some b) x c = (b, c)
 
 -- the batch behind the first ones is inside
 inside_behind : (xs more : List BatchRows) (last : BatchRows) → length xs < length (xs ++ last ∷ more)

@@ -1,5 +1,4 @@
 pub mod Batches
 pub mod Pushing
-pub mod Beginnings
 pub mod Complete
 pub mod Whole

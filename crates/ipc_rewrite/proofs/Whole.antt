@@ -26,7 +26,7 @@ use Rattle.ipc_decode.proofs.Runs.{run_then, reads_after}
 use Rattle.ipc_rewrite.specs.declared.stop.Stop.{Stop}
 use Rattle.ipc_rewrite.specs.declared.stop.Stop.TheVariants as stop
 use Rattle.ipc_rewrite.specs.Raised.{raised_of}
-use Rattle.ipc_stream.proofs.Chains.{table_sends}
+use Rattle.ipc_stream.proofs.Chains.{table_sends, table_tells}
 use Rattle.ipc_rewrite.specs.Rewriting.{CopiesTable, BreaksReading, unopened, broken, BreaksWriting, unstarted}
 use Rattle.ipc_rewrite.specs.Rewriting.{refused, unended, Rewrites, CopiesRest, CopiesBatches}
 
@@ -111,6 +111,7 @@ module _ {limits : Limits} (start : Option (List ℕ)) (s t : Reader) (before : 
       let h = taken_denotes start t.remaining (Ok (table_with r.batches, end))
       (record { x = o.x ++ r.x; bytes = taken after (Ok end) r; gives = reads after (Ok end) r }) in
       let sent = all_sent r.batches after.written after.failures r.sent in
+      let told = table_tells (raised_of limits) (table_with r.batches) sent.x sent.whole in
       record {
         x = h.0;
         table = table_with r.batches;
@@ -121,7 +122,7 @@ module _ {limits : Limits} (start : Option (List ℕ)) (s t : Reader) (before : 
         accepts = all_accepted r.batches r.accepts;
         sent = record {
           x = sent.x ++ mark.x;
-          whole = (sent.x, ap (λ y. sent.x ++ y) mark.whole, (Some sent.whole.0, sent.whole.1.1));
+          whole = (sent.x, ap (λ y. sent.x ++ y) mark.whole, (Some told.0, told.1.1));
           bytes = Appends-trans w0 after.written w1 sent.x mark.x sent.bytes mark.bytes;
           worked = sent.worked;
           works = mark.works;

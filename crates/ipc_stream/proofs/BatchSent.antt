@@ -34,11 +34,11 @@ use Rattle.ipc_dict.specs.Sending.{AreCounted, batch_values, sent_after, tallied
 use Rattle.ipc_dict.specs.Within.{AllShort, AllWithin, dictionary_room_of}
 use Rattle.ipc_dict.proofs.Ids.{same_ids}
 use Rattle.ipc_dict.proofs.PairsFit.{column_fine, column_leaf, pair_fits}
-use Rattle.ipc_dict.proofs.Sending.{counted_after, sent_is, tallied_ids, tallied_unique, tallied_values}
-use Rattle.ipc_decode.specs.Stream.{InForce, Run, batch, values_in}
-use Rattle.ipc_decode.proofs.Runs.{run_then}
+use Rattle.ipc_dict.proofs.Sending.{counted_after, needed_is, sent_is, tallied_ids, tallied_unique, tallied_values}
+use Rattle.ipc_decode.specs.Stream.{InForce, IsMessage, Run, batch, values_in}
+use Rattle.ipc_decode.proofs.Runs.{run_one, run_then}
 use Rattle.ipc_stream.specs.declared.message.Message.{Message}
-use Rattle.ipc_stream.specs.Dictionaries.{IsInForce, SendsBatch}
+use Rattle.ipc_stream.specs.Dictionaries.{DictionaryMessages, IsInForce, SendsBatch, TellsBatches, sets_none, sets_more}
 use Rattle.ipc_stream.specs.Messages.{SetDictionaries, SetsDictionary, all_bytes, bytes_of}
 use Rattle.ipc_stream.specs.OpenStreams.{CanBeSent}
 use Rattle.ipc_stream.specs.Parts.{TellsRows, head_of}
@@ -66,6 +66,14 @@ set_push limits s [] [] send m h one = (one, tt)
 set_push limits s [] (x ∷ ms) send m h one = absurd h
 set_push limits s (y ∷ sends) [] send m h one = absurd h
 set_push limits s (y ∷ sends) (x ∷ ms) send m h one = (h.0, set_push limits s sends ms send m h.1 one)
+
+-- the messages of dictionaries are one for each
+set_messages : (limits : Limits) (s : Schema) (sends : List (ℤ × List (List Value))) (ms : List Message) → SetDictionaries limits s sends ms
+    → DictionaryMessages limits s sends (all_bytes ms)
+set_messages limits s [] [] h = sets_none
+set_messages limits s [] (m ∷ ms) h = absurd h
+set_messages limits s (y ∷ sends) [] h = absurd h
+set_messages limits s (y ∷ sends) (m ∷ ms) h = sets_more h.0 (set_messages limits s sends ms h.1)
 
 -- ---- what can be sent
 
@@ -164,36 +172,74 @@ short_tallied limits fields rows h = short_same limits fields (unused fields) (t
 
 module _ (limits : Limits) (s : Schema) (b : BatchRows) (kept : List KeptEntry) (os : List (Option (List ℕ))) (ms : List Message)
     (m : Message) where
-  -- the messages of a plan's dictionaries, and behind them one that tells the batch where they are in force
-  pub batch_sent : WellFormed limits s → AllFit (tallied s.fields b.rows) → kept_ids kept ≡ ids_of s.fields
-      → AllSettled kept (tallied s.fields b.rows) os → FindsNoted kept (tallied s.fields b.rows) os
-      → SetDictionaries limits s (sends_of (tallied s.fields b.rows) os) ms
-      → ((ds : Dictionaries)
-      → FindsRows ds (renumbered (number (tallied s.fields b.rows) os) (told (noted_place (tallied s.fields b.rows))))
-      s.fields b.rows → TellsRows limits ds s b m)
-      → SendsBatch limits s kept b (all_bytes (ms ++ m ∷ []))
-  batch_sent well fit ids settled finds sets tells o in_force =
+  -- what the plan's numbers find, where this is in force
+  abbrev Tells : Type 0
+  Tells = (ds : Dictionaries)
+      → FindsRows ds (renumbered (number (tallied s.fields b.rows) os) (told (noted_place (tallied s.fields b.rows)))) s.fields b.rows
+      → TellsRows limits ds s b m
+
+  -- the batch is told where its dictionaries are in force
+  tells_own : WellFormed limits s → kept_ids kept ≡ ids_of s.fields → AllSettled kept (tallied s.fields b.rows) os
+      → FindsNoted kept (tallied s.fields b.rows) os → Tells → (o : InForce) → IsInForce s (sent_after s.fields b.rows kept) o
+      → IsMessage limits (Some o) (bytes_of m) (batch b ∷ []) (Some o)
+  tells_own well ids settled finds tells o in_force =
+      let after = sent_is s.fields b.rows kept os ids settled in
+      let found = plan_finds limits s b.rows kept os (values_in o.dictionaries) well
+      (λ id. in_force.values_are id ∙ ap (λ k. sent_for k id) (sym after))
+      (subst (AreCounted s.fields) (sym after) in_force.counted) finds in
+      tells (values_in o.dictionaries) found o in_force.schema_is refl
+
+  -- the messages of its dictionaries bring it there
+  sets_first : AllFit (tallied s.fields b.rows) → kept_ids kept ≡ ids_of s.fields → AllSettled kept (tallied s.fields b.rows) os
+      → SetDictionaries limits s (sends_of (tallied s.fields b.rows) os) ms → (o : InForce) → IsInForce s kept o
+      → (τ : InForce) × (IsInForce s (sent_after s.fields b.rows kept) τ × Run limits (Some o) (all_bytes ms) [] (Some τ))
+  sets_first fit ids settled sets o in_force =
       let entries = tallied s.fields b.rows in
       let after = sent_is s.fields b.rows kept os ids settled in
-      let counted = counted_after s.fields b.rows kept fit in_force.counted in
       let first = sent_run limits s kept entries os ms o in_force.schema_is in_force.values_are
-      (same_ids kept entries (ids ∙ sym (tallied_ids s.fields b.rows))) (tallied_unique s.fields b.rows) sets in
-      let τ = first.0 in
-      let found = plan_finds limits s b.rows kept os (values_in τ.dictionaries) well first.1.1.0
-      (subst (AreCounted s.fields) (sym after) counted) finds in
-      let last = tells (values_in τ.dictionaries) found τ first.1.0 refl in
-      let run = subst (λ (x : List ℕ). Run limits (Some o) x (batch b ∷ []) (Some τ)) (sym (bytes_end ms m))
-      (run_then (Some o) (Some τ) (Some τ) (all_bytes ms) (bytes_of m) [] (batch b ∷ []) first.1.1.1 last) in (
-        τ,
+      (same_ids kept entries (ids ∙ sym (tallied_ids s.fields b.rows))) (tallied_unique s.fields b.rows) sets in (
+        first.0,
         (
           record {
             schema_is = first.1.0;
             values_are = λ id. first.1.1.0 id ∙ ap (λ k. sent_for k id) after;
-            counted = counted;
+            counted = counted_after s.fields b.rows kept fit in_force.counted;
           },
-          run,
+          first.1.1.1,
         ),
       )
+
+  both_told : ((o : InForce) → IsInForce s kept o
+      → (τ : InForce) × (IsInForce s (sent_after s.fields b.rows kept) τ × Run limits (Some o) (all_bytes ms) [] (Some τ)))
+      → ((o : InForce) → IsInForce s (sent_after s.fields b.rows kept) o
+      → IsMessage limits (Some o) (bytes_of m) (batch b ∷ []) (Some o)) → TellsBatches limits s kept (b ∷ []) (all_bytes (ms ++ m ∷ []))
+  both_told sets tells o in_force =
+      let first = sets o in_force in
+      let τ = first.0 in
+      let own = tells τ first.1.0 in (
+        τ,
+        (
+          first.1.0,
+          subst (λ (x : List ℕ). Run limits (Some o) x (batch b ∷ []) (Some τ)) (sym (bytes_end ms m))
+              (run_then (Some o) (Some τ) (Some τ) (all_bytes ms) (bytes_of m) [] (batch b ∷ []) first.1.1 (run_one own.frame own.step)),
+        ),
+      )
+
+  -- the messages of a plan's dictionaries, and behind them one that tells the batch where they are in force
+  pub batch_sent : WellFormed limits s → AllFit (tallied s.fields b.rows) → kept_ids kept ≡ ids_of s.fields
+      → AllSettled kept (tallied s.fields b.rows) os → FindsNoted kept (tallied s.fields b.rows) os
+      → SetDictionaries limits s (sends_of (tallied s.fields b.rows) os) ms → Tells → SendsBatch limits s kept b (all_bytes (ms ++ m ∷ []))
+  batch_sent well fit ids settled finds sets tells =
+      let own = tells_own well ids settled finds tells in
+      record {
+        dictionaries = all_bytes ms;
+        own = bytes_of m;
+        bytes = bytes_end ms m;
+        set = subst (λ sends. DictionaryMessages limits s sends (all_bytes ms)) (needed_is s.fields b.rows kept os ids settled)
+            (set_messages limits s (sends_of (tallied s.fields b.rows) os) ms sets);
+        told = own;
+        in_turn = both_told (sets_first fit ids settled sets) own;
+      }
 
 -- ---- parts
 

@@ -1,7 +1,8 @@
 -- What is in force along the batches of a stream, one after another.
-use Rattle.std.proofs.Common.{◌≡◌, refl, sym, ap, subst, ℕ, zero, suc, take, ◌≤◌, List, [], ◌∷◌, ◌++◌, length, map, Some, None}
+use Rattle.std.proofs.Common.{◌≡◌, ◌∙◌, refl, sym, ap, subst, ℕ, zero, suc, take, ◌≤◌, List, [], ◌∷◌, ◌++◌, length, map, Some, None}
+use Rattle.std.proofs.Common.{append_assoc}
 use Rattle.std.specs.Option.{IfSome}
-use Rattle.std.proofs.lemmas.List.{map-append}
+use Rattle.std.proofs.lemmas.List.{append-nil, map-append}
 use Rattle.ipc_model.specs.declared.limits.Limits.{Limits}
 use Rattle.ipc_model.specs.declared.schema.Field.{Field}
 use Rattle.ipc_model.specs.declared.schema.Schema.{Schema}
@@ -12,7 +13,9 @@ use Rattle.ipc_dict.specs.Sending.{sent_after}
 use Rattle.ipc_dict.proofs.Sending.{sent_unsent}
 use Rattle.ipc_decode.specs.Stream.{Event, schema, batch, begun, Run, done, OpensStream}
 use Rattle.ipc_decode.proofs.Runs.{run_then}
-use Rattle.ipc_stream.specs.Dictionaries.{IsInForce, SendsBatches, SendsTable, kept_after, none_sent}
+use Rattle.ipc_model.specs.declared.table.Table.{Table}
+use Rattle.ipc_stream.specs.Dictionaries.{IsInForce, SendsBatch, SendsBatches, SendsTable, TellsBatches, TellsTable, kept_after, none_sent}
+use Rattle.ipc_stream.specs.Dictionaries.{sends_none, sends_more}
 
 -- behind the schema's message nothing is in force, and nothing was sent
 pub begun_in_force : (s : Schema) → IsInForce s (none_sent s) (begun s)
@@ -28,15 +31,11 @@ pub kept_then : (fields : List Field) (kept : List KeptEntry) (front more : List
 kept_then fields kept [] more = refl
 kept_then fields kept (b ∷ front) more = kept_then fields (sent_after fields b.rows kept) front more
 
--- no batches are no messages
-pub none_sends : (limits : Limits) (s : Schema) (kept : List KeptEntry) → SendsBatches limits s kept [] []
-none_sends limits s kept = λ o force. (o, (force, done))
-
 module _ (limits : Limits) (s : Schema) where
-  -- batches and then others are all of them
-  pub batches_then : (kept : List KeptEntry) (front more : List BatchRows) (x y : List ℕ) → SendsBatches limits s kept front x
-      → SendsBatches limits s (kept_after s.fields kept front) more y → SendsBatches limits s kept (front ++ more) (x ++ y)
-  batches_then kept front more x y first next = λ o force.
+  -- messages that tell batches, and behind them some that tell others
+  tells_then : (kept : List KeptEntry) (front more : List BatchRows) (x y : List ℕ) → TellsBatches limits s kept front x
+      → TellsBatches limits s (kept_after s.fields kept front) more y → TellsBatches limits s kept (front ++ more) (x ++ y)
+  tells_then kept front more x y first next = λ o force.
       let a = first o force in
       let b = next a.0 a.1.0 in (
         b.0,
@@ -47,28 +46,56 @@ module _ (limits : Limits) (s : Schema) where
         ),
       )
 
+  -- the messages of batches tell them
+  pub batches_tell : (kept : List KeptEntry) (batches : List BatchRows) (x : List ℕ) → SendsBatches limits s kept batches x
+      → TellsBatches limits s kept batches x
+  batches_tell kept batches x sends_none = λ o force. (o, (force, done))
+  batches_tell kept batches x (sends_more {b = b} {batches = rest} {x = u} {y = v} first next) =
+      tells_then kept (b ∷ []) rest u v first.in_turn (batches_tell (sent_after s.fields b.rows kept) rest v next)
+
+  -- those of one more
+  pub batches_more : (kept : List KeptEntry) (batches : List BatchRows) (b : BatchRows) (x y : List ℕ)
+      → SendsBatches limits s kept batches x
+      → SendsBatch limits s (kept_after s.fields kept batches) b y → SendsBatches limits s kept (batches ++ b ∷ []) (x ++ y)
+  batches_more kept batches b x y sends_none last = subst (SendsBatches limits s kept (b ∷ [])) (append-nil y) (sends_more last sends_none)
+  batches_more kept batches b x y (sends_more {b = a} {batches = rest} {x = u} {y = v} first next) last =
+      subst (SendsBatches limits s kept (a ∷ rest ++ b ∷ [])) (sym (append_assoc u v y))
+      (sends_more first (batches_more (sent_after s.fields a.rows kept) rest b v y next last))
+
   -- the schema's message is that of a table without batches
   pub schema_sends : (x : List ℕ) → OpensStream limits s x → SendsTable limits (record { schema = s; batches = [] }) x
-  schema_sends x opens = (begun s, (begun_in_force s, opens))
+  schema_sends x opens = record { front = x; rest = []; bytes = sym (append-nil x); opens = opens; sends = sends_none }
 
-  -- the messages of a table, and then those of more batches
-  pub table_then : (front more : List BatchRows) (x y : List ℕ) → SendsTable limits (record { schema = s; batches = front }) x
-      → SendsBatches limits s (kept_after s.fields (none_sent s) front) more y
-      → SendsTable limits (record { schema = s; batches = front ++ more }) (x ++ y)
-  table_then front more x y first next =
-      let b = next first.0 first.1.0 in (
-        b.0,
-        (
-          subst (λ k. IsInForce s k b.0) (sym (kept_then s.fields (none_sent s) front more)) b.1.0,
-          subst (λ (es : List Event). Run limits None (x ++ y) (schema s ∷ es) (Some b.0)) (sym (map-append batch front more))
-              (run_then None (Some first.0) (Some b.0) x y (schema s ∷ map batch front) (map batch more) first.1.1 b.1.1),
-        ),
-      )
+  -- the messages of a table with one batch more
+  pub table_more : (batches : List BatchRows) (b : BatchRows) (x y : List ℕ)
+      → SendsTable limits (record { schema = s; batches = batches }) x
+      → SendsBatch limits s (kept_after s.fields (none_sent s) batches) b y
+      → SendsTable limits (record { schema = s; batches = batches ++ b ∷ [] }) (x ++ y)
+  table_more batches b x y first next = record {
+    front = first.front;
+    rest = first.rest ++ y;
+    bytes = ap (λ (z : List ℕ). z ++ y) first.bytes ∙ append_assoc first.front first.rest y;
+    opens = first.opens;
+    sends = batches_more (none_sent s) batches b first.rest y first.sends next;
+  }
 
   -- the schema's message, and then those of a table's batches
   pub table_sends : (batches : List BatchRows) (x y : List ℕ) → OpensStream limits s x → SendsBatches limits s (none_sent s) batches y
       → SendsTable limits (record { schema = s; batches = batches }) (x ++ y)
-  table_sends batches x y opens rest = table_then [] batches x y (schema_sends x opens) rest
+  table_sends batches x y opens rest = record { front = x; rest = y; bytes = refl; opens = opens; sends = rest }
+
+-- the messages of a table tell it
+pub table_tells : (limits : Limits) (t : Table) (x : List ℕ) → SendsTable limits t x → TellsTable limits t x
+table_tells limits t x sent =
+    let s = t.schema in
+    let b = batches_tell limits s (none_sent s) t.batches sent.rest sent.sends (begun s) (begun_in_force s) in (
+      b.0,
+      (
+        b.1.0,
+        subst (λ (z : List ℕ). Run limits None z (schema s ∷ map batch t.batches) (Some b.0)) (sym sent.bytes)
+            (run_then None (Some (begun s)) (Some b.0) sent.front sent.rest (schema s ∷ []) (map batch t.batches) sent.opens b.1.1),
+      ),
+    )
 
 -- ---- events of a table
 

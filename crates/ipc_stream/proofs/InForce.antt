@@ -22,10 +22,9 @@ use Rattle.ipc_dict.specs.declared.kept.KeptEntry.{KeptEntry}
 use Rattle.ipc_dict.specs.Planning.{SameIds, after, after_all, own_send, sends_of, sent_for}
 use Rattle.ipc_dict.specs.SchemaIds.{tally_ids}
 use Rattle.ipc_dict.proofs.UniqueIds.{IsOther, AreUnique}
-use Rattle.ipc_decode.specs.Stream.{InForce, DictionaryInForce, Run, done, values_in, with_dictionary}
-use Rattle.ipc_decode.proofs.Runs.{run_then}
+use Rattle.ipc_decode.specs.Stream.{InForce, DictionaryInForce, Run, done, more, values_in, with_dictionary}
 use Rattle.ipc_stream.specs.declared.message.Message.{Message}
-use Rattle.ipc_stream.specs.Messages.{SetDictionaries, all_bytes, bytes_of}
+use Rattle.ipc_stream.specs.Messages.{SetDictionaries, all_bytes}
 
 -- ---- a map with one entry more
 
@@ -147,14 +146,16 @@ module _ (limits : Limits) (s : Schema) where
       kept id true e = sent_now-other ns os id _ (subst (λ z. IsOther z (tally_ids ns)) ((Decides-int_eq n.id id).0 e) unique.0)
   dictionaries_run (n ∷ ns) (None ∷ os) [] o same unique sets = absurd sets
   dictionaries_run (n ∷ ns) (None ∷ os) (m ∷ ms) o same unique sets =
-      let next = with_dictionary o n.id (map (λ v. v ∷ []) n.values) (length m.body.items) in
+      let bytes = sets.0.0 in
+      let next = with_dictionary o n.id (map (λ v. v ∷ []) n.values) bytes in
+      let first = sets.0.1 o same in
       let rest = dictionaries_run ns os ms next same unique.1 sets.1 in (
         rest.0,
         (
           rest.1.0,
           (
-            λ id. rest.1.1.0 id ∙ ap (sent_now ns os id) (set_at o n.id n.values (length m.body.items) id) ∙ now id (int_eq n.id id) refl,
-            run_then (Some o) (Some next) (Some rest.0) (bytes_of m) (all_bytes ms) [] [] (sets.0 o same) rest.1.1.1,
+            λ id. rest.1.1.0 id ∙ ap (sent_now ns os id) (set_at o n.id n.values bytes id) ∙ now id (int_eq n.id id) refl,
+            more first.frame first.step rest.1.1.1,
           ),
         ),
       )

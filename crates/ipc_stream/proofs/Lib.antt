@@ -12,3 +12,4 @@ pub mod HeldTallies
 pub mod BatchSent
 pub mod Chains
 pub mod OverLimit
+pub mod Beginnings

@@ -1,5 +1,5 @@
 -- The dictionaries of a stream that is written (Arrow Columnar Format, "Dictionary Messages").
-use Rattle.std.specs.Prelude.{◌≡◌, ℕ, zero, suc, ℤ, List, [], ◌∷◌, map, take, ⊤, Some, None}
+use Rattle.std.specs.Prelude.{◌≡◌, ℕ, zero, suc, ℤ, List, [], ◌∷◌, ◌++◌, map, take, ⊤, Some, None}
 use Rattle.ipc_model.specs.declared.limits.Limits.{Limits}
 use Rattle.ipc_model.specs.declared.schema.Field.{Field}
 use Rattle.ipc_model.specs.declared.schema.Schema.{Schema}
@@ -11,9 +11,11 @@ use Rattle.ipc_dict.specs.declared.kept.KeptEntry.{KeptEntry}
 use Rattle.ipc_dict.specs.Noting.{AllFit}
 use Rattle.ipc_dict.specs.Planning.{sent_for}
 use Rattle.ipc_dict.specs.SchemaIds.{ids_of, unsent}
-use Rattle.ipc_dict.specs.Sending.{AreCounted, tallied, sent_after}
+use Rattle.ipc_dict.specs.Sending.{AreCounted, needed, tallied, sent_after}
 use Rattle.ipc_dict.specs.Within.{AllWithin, HaveShortMessages}
-use Rattle.ipc_decode.specs.Stream.{InForce, State, Run, batch, events_of, values_in}
+use Rattle.ipc_frame.specs.Frames.{eos}
+use Rattle.ipc_decode.specs.Stream.{InForce, State, Run, IsMessage, OpensStream, batch, events_of}
+use Rattle.ipc_decode.specs.Stream.{values_in, with_dictionary}
 
 -- no dictionary of the schema was sent
 abbrev pub none_sent : Schema → List KeptEntry
@@ -33,22 +35,64 @@ pub record IsInForce (s : Schema) (kept : List KeptEntry) (o : InForce) : Type 0
 
 -- x is messages that tell these batches and nothing else, from each state in which what was sent is
 -- in force to one in which it is with them
-abbrev pub SendsBatches : Limits → Schema → List KeptEntry → List BatchRows → List ℕ → Type 0
-SendsBatches limits s kept batches x = (o : InForce) → IsInForce s kept o
+abbrev pub TellsBatches : Limits → Schema → List KeptEntry → List BatchRows → List ℕ → Type 0
+TellsBatches limits s kept batches x = (o : InForce) → IsInForce s kept o
     → (τ : InForce) × (IsInForce s (kept_after s.fields kept batches) τ
     × Run limits (Some o) x (map batch batches) (Some τ))
 
--- x is the message of a batch with these pairs and rows, behind those of the dictionaries that it
--- needs
-abbrev pub SendsBatch : Limits → Schema → List KeptEntry → BatchRows → List ℕ → Type 0
-SendsBatch limits s kept b x = SendsBatches limits s kept (b ∷ []) x
-
--- x is the messages of a table: its schema's, and those of its batches in order, each behind those
--- of its dictionaries
-abbrev pub SendsTable : Limits → Table → List ℕ → Type 0
-SendsTable limits t x = (τ : InForce)
+-- x is messages that tell a table, and behind which is in force what its batches sent
+abbrev pub TellsTable : Limits → Table → List ℕ → Type 0
+TellsTable limits t x = (τ : InForce)
     × (IsInForce t.schema (kept_after t.schema.fields (none_sent t.schema) t.batches) τ
     × Run limits None x (events_of t) (Some τ))
+
+-- x is one message, which sets the dictionary with this id to the values of these rows, whatever
+-- was in force before
+abbrev pub IsDictionaryMessage : Limits → Schema → ℤ × List (List Value) → List ℕ → Type 0
+IsDictionaryMessage limits s send x = (bytes : ℕ) × ((o : InForce) → o.schema ≡ s
+    → IsMessage limits (Some o) x [] (Some (with_dictionary o send.0 send.1 bytes)))
+
+-- such messages, one for each of these dictionaries, in their order
+pub data DictionaryMessages (limits : Limits) (s : Schema) : List (ℤ × List (List Value)) → List ℕ
+    → Type 0 where
+  sets_none : DictionaryMessages limits s [] []
+  sets_more : {send : ℤ × List (List Value)} {sends : List (ℤ × List (List Value))} {x y : List ℕ}
+      → IsDictionaryMessage limits s send x → DictionaryMessages limits s sends y
+      → DictionaryMessages limits s (send ∷ sends) (x ++ y)
+
+-- x is the messages of a batch with these pairs and rows, where these values were sent of each
+-- dictionary: one for each dictionary that is sent before it, and behind them one of its own. Read
+-- in turn they tell this batch alone
+pub record SendsBatch (limits : Limits) (s : Schema) (kept : List KeptEntry) (b : BatchRows)
+    (x : List ℕ) : Type 0 where
+  pub dictionaries : List ℕ
+  pub own : List ℕ
+  pub bytes : x ≡ dictionaries ++ own
+  pub set : DictionaryMessages limits s (needed s.fields b.rows kept) dictionaries
+  pub told : (o : InForce) → IsInForce s (sent_after s.fields b.rows kept) o
+      → IsMessage limits (Some o) own (batch b ∷ []) (Some o)
+  pub in_turn : TellsBatches limits s kept (b ∷ []) x
+
+-- those of several batches, one after another
+pub data SendsBatches (limits : Limits) (s : Schema) : List KeptEntry → List BatchRows → List ℕ
+    → Type 0 where
+  sends_none : {kept : List KeptEntry} → SendsBatches limits s kept [] []
+  sends_more : {kept : List KeptEntry} {b : BatchRows} {batches : List BatchRows} {x y : List ℕ}
+      → SendsBatch limits s kept b x
+      → SendsBatches limits s (sent_after s.fields b.rows kept) batches y
+      → SendsBatches limits s kept (b ∷ batches) (x ++ y)
+
+-- x is the messages of a table: its schema's, and those of its batches in order
+pub record SendsTable (limits : Limits) (t : Table) (x : List ℕ) : Type 0 where
+  pub front : List ℕ
+  pub rest : List ℕ
+  pub bytes : x ≡ front ++ rest
+  pub opens : OpensStream limits t.schema front
+  pub sends : SendsBatches limits t.schema (none_sent t.schema) t.batches rest
+
+-- x is these and the end mark
+abbrev pub SendsStream : Limits → Table → List ℕ → Type 0
+SendsStream limits t x = (y : List ℕ) × (x ≡ y ++ eos) × SendsTable limits t y
 
 -- the state behind the messages of so many events of a table: nothing, or the schema with what the
 -- batches sent of each dictionary

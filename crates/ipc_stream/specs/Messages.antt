@@ -1,10 +1,10 @@
 -- The bytes of messages (Arrow Columnar Format, "Encapsulated message format").
-use Rattle.std.specs.Prelude.{◌≡◌, ℕ, ℤ, List, [], ◌∷◌, ◌++◌, length, Some, ⊤}
+use Rattle.std.specs.Prelude.{◌≡◌, ℕ, ℤ, List, [], ◌∷◌, ◌++◌, ⊤}
 use Rattle.ipc_model.specs.declared.limits.Limits.{Limits}
 use Rattle.ipc_model.specs.declared.schema.Schema.{Schema}
 use Rattle.ipc_model.specs.declared.value.Value.{Value}
-use Rattle.ipc_decode.specs.Stream.{InForce, Run, with_dictionary}
 use Rattle.ipc_stream.specs.declared.message.Message.{Message}
+use Rattle.ipc_stream.specs.Dictionaries.{IsDictionaryMessage}
 
 -- all of them: what stands before the body, and the body
 abbrev pub bytes_of : Message → List ℕ
@@ -15,12 +15,10 @@ abbrev pub all_bytes : List Message → List ℕ
 all_bytes [] = []
 all_bytes (message ∷ more) = bytes_of message ++ all_bytes more
 
--- a message sets the dictionary with the id to the values of these rows, and tells nothing (Arrow
--- Columnar Format, "Dictionary Messages")
+-- a message sets the dictionary with the id to the values of these rows (Arrow Columnar Format,
+-- "Dictionary Messages")
 abbrev pub SetsDictionary : Limits → Schema → ℤ → List (List Value) → Message → Type 0
-SetsDictionary limits s id rows message = (o : InForce) → o.schema ≡ s
-    → Run limits (Some o) (bytes_of message) []
-    (Some (with_dictionary o id rows (length message.body.items)))
+SetsDictionary limits s id rows message = IsDictionaryMessage limits s (id, rows) (bytes_of message)
 
 -- each of the messages does so for the id and the rows beside it
 abbrev pub SetDictionaries : Limits → Schema → List (ℤ × List (List Value)) → List Message → Type 0

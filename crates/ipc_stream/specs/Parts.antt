@@ -9,7 +9,7 @@ use Rattle.ipc_meta.specs.declared.head.BatchHead.{BatchHead}
 use Rattle.ipc_model.specs.declared.table.BatchRows.{BatchRows}
 use Rattle.ipc_column.specs.Dictionaries.{Dictionaries}
 use Rattle.ipc_encode.specs.declared.parts.Parts.{Parts}
-use Rattle.ipc_decode.specs.Stream.{InForce, Run, batch, values_in}
+use Rattle.ipc_decode.specs.Stream.{InForce, IsMessage, batch, values_in}
 use Rattle.ipc_stream.specs.Messages.{bytes_of}
 use Rattle.ipc_stream.specs.Writing.{batch_room_of}
 use Rattle.ipc_stream.specs.declared.message.Message.{Message}
@@ -22,7 +22,7 @@ head_of count parts =
 -- a message tells this batch where these dictionaries are in force, which stay so
 abbrev pub TellsRows : Limits → Dictionaries → Schema → BatchRows → Message → Type 0
 TellsRows limits m s b message = (o : InForce) → o.schema ≡ s → values_in o.dictionaries ≡ m
-    → Run limits (Some o) (bytes_of message) (batch b ∷ []) (Some o)
+    → IsMessage limits (Some o) (bytes_of message) (batch b ∷ []) (Some o)
 
 -- the metadata of a batch with these pairs is within the limits, and so are the pairs
 pub record AcceptsPairs (limits : Limits) (s : Schema) (pairs : List (List ℕ × List ℕ)) :

@@ -36,7 +36,7 @@ impl BatchMessages {
     }
 
     /// The room of its lists, for the batch behind it.
-    pub fn into_room(self) -> Room {
+    pub(crate) fn into_room(self) -> Room {
         let BatchMessages { messages, mut room } = self;
         let mut messages = messages;
         if let Some(last) = messages.pop() {

@@ -1,6 +1,7 @@
 ghost use Rattle.std.specs.Prelude.{◌≡◌, ◌⊎◌, [], IfErr, OnOk, Some};
 ghost use Rattle.ipc_model.specs.Fits.{TableFits};
 ghost use Rattle.ipc_decode.specs.Stream.{IsTableOf};
+ghost use Rattle.ipc_stream.specs.Dictionaries.{SendsStream};
 ghost use Rattle.ipc_stream.specs.Writing.{AcceptsTable, BreaksOff, IsWithinLimits, Sent};
 
 use crate::open_stream::OpenStream;
@@ -16,7 +17,7 @@ fn write_messages<W: Sink>(
     sink: &mut W,
     table: &Table,
 ) -> Result<(), WriteFault>
-    ensures denotes { OnOk result (Sent (IsTableOf limits.now table.now) (W.written sink.old)
+    ensures sends { OnOk result (Sent (SendsStream limits.now table.now) (W.written sink.old)
         (W.written sink.new) (W.failures sink.old) (W.failures sink.new)) }
     ensures handed_on { OnOk result (W.held_back sink.new ≡ Some []) }
     ensures accepted { OnOk result (AcceptsTable limits.now table.now) }
@@ -46,6 +47,10 @@ pub fn write_table<W: Sink>(
 ) -> Result<(), WriteFault>
     // What was written denotes the table, with its mark, and no call of the sink failed.
     ensures denotes { OnOk result (Sent (IsTableOf limits.now table.now) (W.written sink.old)
+        (W.written sink.new) (W.failures sink.old) (W.failures sink.new)) }
+    // It is the schema's message and those of the batches in order, each behind one message of each
+    // dictionary that it needs, and the mark.
+    ensures sends { OnOk result (Sent (SendsStream limits.now table.now) (W.written sink.old)
         (W.written sink.new) (W.failures sink.old) (W.failures sink.new)) }
     // Nothing is held back.
     ensures handed_on { OnOk result (W.held_back sink.new ≡ Some []) }

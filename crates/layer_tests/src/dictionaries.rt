@@ -5,6 +5,7 @@ ghost use Rattle.std.specs.Prelude.{◌≡◌};
 ghost use Rattle.ipc_dict.specs.SchemaIds.{kept_ids, ids_of};
 
 use crate::columns::batch;
+use crate::indices::indexed;
 use ipc_column::{Batch, Cell};
 use ipc_dict::{Dictionaries, Kept, Plan, Tally};
 use ipc_encode::{IndexOf, Renumber, SameNumbers};
@@ -442,6 +443,27 @@ fn grows_dictionaries_in_force(rt: HostRuntime) -> Result<(), Fail> {
     let mut dictionaries = in_force(rt.alloc(), 1)?;
     assert!(rt; replaced(rt.alloc(), &mut told, &mut dictionaries)? == [24, 16]);
     assert!(rt; told.as_slice() == b"ab c ".as_slice());
+    Ok(())
+}
+
+// A batch of two indices under the values in force, a and b, and then c in their place.
+fn read_before(alloc: Global, dictionaries: &mut Dictionaries) -> Result<Batch, Fault> {
+    set(alloc, dictionaries, ab(alloc)?)?;
+    let found = indexed(alloc, (2, 0), &[1, 0], dictionaries.current())?;
+    set(alloc, dictionaries, c(alloc)?)?;
+    Ok(found)
+}
+
+// A batch that was handed out keeps its dictionary, and one that is read later takes the new one.
+#[test]
+fn grows_a_batch_read_before(rt: HostRuntime) -> Result<(), Fail> {
+    let mut told = Vec::new(rt.alloc());
+    let mut dictionaries = in_force(rt.alloc(), 1)?;
+    let before = read_before(rt.alloc(), &mut dictionaries)?;
+    let after = indexed(rt.alloc(), (1, 0), &[0], dictionaries.current())?;
+    tell_letters(&mut told, &before)?;
+    tell_letters(&mut told, &after)?;
+    assert!(rt; told.as_slice() == b"bac".as_slice());
     Ok(())
 }
 

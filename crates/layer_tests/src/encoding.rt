@@ -76,7 +76,7 @@ fn rows_of(alloc: Global, cells: &[Given<'_>]) -> Result<Vec<Row>, AllocError> {
     Ok(rows)
 }
 
-fn fit(schema: &Schema, rows: &[Row]) -> bool
+pub(crate) fn fit(schema: &Schema, rows: &[Row]) -> bool
     requires { HasShortPaths schema.now }
     ensures { IsTrue result → AllByRecursion (RowFits schema.now.fields) rows.now }
 {

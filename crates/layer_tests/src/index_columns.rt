@@ -1,9 +1,13 @@
-//! Columns of indices, pushed row by row under a tally and numbered by its plan.
+//! Columns of indices, pushed row by row under a tally and numbered by its plan, or encoded at once
+//! under a plan.
+ghost use Rattle.std.specs.Prelude.{◌≡◌};
+ghost use Rattle.ipc_dict.specs.SchemaIds.{kept_ids, ids_of};
 
 use crate::dictionaries::{rows_of, schema_of, tally_of};
-use ipc_dict::{Kept, Tally};
-use ipc_encode::{Builder, Parts};
-use ipc_model::{Limits, Schema, WriteFault};
+use crate::encoding::fit;
+use ipc_dict::{Kept, Plan, Tally};
+use ipc_encode::{Builder, Parts, encode};
+use ipc_model::{Limits, Row, Schema, WriteFault};
 use std::alloc::Global;
 use std::test::Fail;
 
@@ -64,5 +68,41 @@ fn grows_columns_of_indices(rt: HostRuntime) -> Result<(), Fail> {
     for (body, wanted) in bodies.iter().zip(BODIES.iter()) {
         assert!(rt; body.as_slice() == *wanted);
     }
+    Ok(())
+}
+
+// The body of rows that are encoded at once, where they fit, under the plan of all.
+#[tactic(auto, using(ipc_model::proofs::Depths::short_paths))]
+fn encoded(
+    alloc: Global,
+    schema: &Schema,
+    kept: &Kept,
+    rows: &[Row],
+) -> Result<Option<Vec<u8>>, WriteFault>
+    requires { kept_ids kept.now ≡ ids_of schema.now.fields }
+{
+    let limits = Limits::standard();
+    schema.check(alloc, &limits)?;
+    if !fit(schema, rows) {
+        return Ok(None);
+    }
+    let plan = Plan::for_rows(alloc, &limits, schema, kept, rows)?;
+    let parts = encode(alloc, &limits, schema.fields.as_slice(), rows, &plan)?;
+    Ok(Some(parts.body))
+}
+
+// The body of the first batch of a writer, which has these letters, one for each row.
+fn first_body(alloc: Global, letters: &[u8]) -> Result<Option<Vec<u8>>, WriteFault> {
+    let schema = schema_of(alloc, 1)?;
+    let kept = Kept::new(alloc, &schema)?;
+    let rows = rows_of(alloc, letters, 1)?;
+    encoded(alloc, &schema, &kept, &rows)
+}
+
+// The rows of the first batch have the same body where they are encoded at once.
+#[test]
+fn grows_an_encoded_column_of_indices(rt: HostRuntime) -> Result<(), Fail> {
+    let body = first_body(rt.alloc(), BATCHES[0])?;
+    assert!(rt; matches!(&body, Some(body) if body.as_slice() == BODIES[0]));
     Ok(())
 }

@@ -38,7 +38,7 @@ fn column(alloc: Global) -> Result<Field, AllocError> {
 }
 
 // A batch of so many indices of 8 bits, of which so many are null.
-fn indexed(
+pub(crate) fn indexed(
     alloc: Global,
     node: (i64, i64),
     body: &[u8],
@@ -152,49 +152,125 @@ fn null_among_the_values(rt: HostRuntime) -> Result<(), Fail> {
     Ok(())
 }
 
-// A thousand lists of one index each: a bitmap, offsets, and indices of which only the last may be
-// of no value.
-fn thousand(alloc: Global, last_valid: bool, last: u8) -> Result<Vec<u8>, AllocError> {
+// How a thousand indices stand in a thousand lists: one in each, or all of them in the first.
+#[derive(Clone, Copy)]
+enum Spread {
+    OneInEach,
+    AllInFirst,
+}
+
+// A bitmap, in which only the last slot may be null.
+fn bitmap(alloc: Global, last_valid: bool) -> Result<Vec<u8>, AllocError> {
     let mut body = vec![in alloc; 0xff; 124]?;
     body.push(if last_valid { 0xff } else { 0x7f })?;
     body.extend_from_slice(&[0, 0, 0])?;
-    for offset in 0..=1000_u16 {
-        body.extend_from_slice(&offset.to_le_bytes())?;
+    Ok(body)
+}
+
+// The offset behind so many lists.
+fn offset_behind(spread: Spread, lists: u16) -> u16 {
+    match (spread, lists) {
+        (Spread::AllInFirst, 0) => 0,
+        (Spread::AllInFirst, _) => 1000,
+        (Spread::OneInEach, lists) => lists,
+    }
+}
+
+// The offsets of a thousand lists.
+fn add_offsets(body: &mut Vec<u8>, spread: Spread) -> Result<(), AllocError> {
+    for lists in 0..=1000_u16 {
+        body.extend_from_slice(&offset_behind(spread, lists).to_le_bytes())?;
         body.extend_from_slice(&[0, 0])?;
     }
+    Ok(())
+}
+
+// A bitmap, offsets, and indices of which only the last may be of no value.
+fn thousand(
+    alloc: Global,
+    spread: Spread,
+    last_valid: bool,
+    last: u8,
+) -> Result<Vec<u8>, AllocError> {
+    let mut body = bitmap(alloc, last_valid)?;
+    add_offsets(&mut body, spread)?;
     body.extend_from_slice(&[0; 999])?;
     body.push(last)?;
     Ok(body)
 }
 
-// How many slots of them are tested, over the values that are only c.
-fn tests(alloc: Global, last_valid: bool, last: u8) -> Result<u64, Fault> {
-    let dictionaries = in_force(alloc, only_c(alloc)?)?;
-    let body = thousand(alloc, last_valid, last)?;
-    Ok(lists(alloc, last_valid, &body, &dictionaries)?.tests())
+// How many are null and how many bytes the bitmap has, of the lists and of the indices: the lists
+// have the bitmap where each has one index, and the indices have it otherwise.
+fn bitmaps(spread: Spread, nulls: i64) -> [(i64, i64); 2] {
+    match spread {
+        Spread::OneInEach => [(nulls, 125), (0, 0)],
+        Spread::AllInFirst => [(0, 0), (nulls, 125)],
+    }
 }
 
+// A thousand lists of these bytes.
 fn lists(
     alloc: Global,
-    last_valid: bool,
+    bitmaps: [(i64, i64); 2],
     body: &[u8],
     dictionaries: &BTreeMap<i64, Rc<Batch>>,
 ) -> Result<Batch, Fault>
     requires { AreDictionaries dictionaries.now }
 {
-    let nulls = if last_valid { 0 } else { 1 };
-    let buffers = [(0, 125), (128, 4004), (0, 0), (4132, 1000)];
-    let parts: Parts<'_> = (&[(1000, nulls), (1000, 0)], &buffers);
+    let [of_lists, of_indices] = bitmaps;
+    let nodes = [(1000, of_lists.0), (1000, of_indices.0)];
+    let buffers = [
+        (0, of_lists.1),
+        (128, 4004),
+        (0, of_indices.1),
+        (4132, 1000),
+    ];
+    let parts: Parts<'_> = (&nodes, &buffers);
     let field = over(alloc, DataType::List, column(alloc)?)?;
     batch_under(alloc, field, parts, body, dictionaries)
+}
+
+// How many slots of them are tested over these values.
+fn tests(
+    alloc: Global,
+    spread: Spread,
+    last_valid: bool,
+    last: u8,
+    values: Batch,
+) -> Result<u64, Fault> {
+    let dictionaries = in_force(alloc, values)?;
+    let body = thousand(alloc, spread, last_valid, last)?;
+    let bitmaps = bitmaps(spread, if last_valid { 0 } else { 1 });
+    Ok(lists(alloc, bitmaps, &body, &dictionaries)?.tests())
+}
+
+// The same of lists of one index each, over the values that are only c.
+fn tests_of_each(alloc: Global, last_valid: bool, last: u8) -> Result<u64, Fault> {
+    tests(alloc, Spread::OneInEach, last_valid, last, only_c(alloc)?)
 }
 
 #[test]
 fn a_thousand_lists(rt: HostRuntime) -> Result<(), Fail> {
     let alloc = rt.alloc();
-    assert!(rt; tests(alloc, true, 1) == Err(Fault::BadIndex));
-    assert!(rt; tests(alloc, true, 0) == Ok(0));
-    let hidden = tests(alloc, false, 1)?;
+    assert!(rt; tests_of_each(alloc, true, 1) == Err(Fault::BadIndex));
+    assert!(rt; tests_of_each(alloc, true, 0) == Ok(0));
+    let hidden = tests_of_each(alloc, false, 1)?;
+    assert!(rt; 0 < hidden && hidden <= 2000);
+    Ok(())
+}
+
+// The same of lists of which the first has all indices, over the values a and b.
+fn tests_of_first(alloc: Global, last_valid: bool, last: u8) -> Result<u64, Fault> {
+    tests(alloc, Spread::AllInFirst, last_valid, last, a_and_b(alloc)?)
+}
+
+// The first list shows all indices, of which only a null one may be of no value.
+#[test]
+fn a_list_of_a_thousand(rt: HostRuntime) -> Result<(), Fail> {
+    let alloc = rt.alloc();
+    assert!(rt; tests_of_first(alloc, true, 2) == Err(Fault::BadIndex));
+    assert!(rt; tests_of_first(alloc, true, 1)? <= 2000);
+    let hidden = tests_of_first(alloc, false, 9)?;
     assert!(rt; 0 < hidden && hidden <= 2000);
     Ok(())
 }

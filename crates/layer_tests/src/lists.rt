@@ -3,9 +3,10 @@
 ghost use Rattle.ipc_column.specs.Dictionaries.{AreDictionaries};
 
 use crate::columns::cell_of;
+use crate::nested::{LISTS_OF_LISTS, row_of};
 use ipc_column::{Batch, Cell, Slot, SlotView};
 use ipc_meta::BatchHead;
-use ipc_model::{DataType, Fault, Field, IntBits, Items, Limits, Schema};
+use ipc_model::{DataType, Fault, Field, IntBits, Items, Limits, Row, Schema};
 use std::alloc::{AllocError, Global};
 use std::collections::BTreeMap;
 use std::rc::Rc;
@@ -177,6 +178,23 @@ fn most_slots_below_eight_lists(rt: HostRuntime) -> Result<(), Fail> {
     Ok(())
 }
 
+// Lists of one slot each, eight times over each other, and over as many nulls as there may be.
+fn most_lists_of_one(alloc: Global) -> Result<Batch, Fault> {
+    let mut field = leaf(alloc, DataType::Null)?;
+    for _ in 0..8 {
+        field = over(alloc, DataType::FixedSizeList(1), field)?;
+    }
+    batch(alloc, field, &[(MOST, 0); 9], &[(0, 0); 8], &[])
+}
+
+// They are as many rows, and none of their slots is tested.
+#[test]
+fn most_rows_of_eight_lists(rt: HostRuntime) -> Result<(), Fail> {
+    let found = most_lists_of_one(rt.alloc())?;
+    assert!(rt; found.rows() == 2_147_483_647 && found.tests() == 0);
+    Ok(())
+}
+
 // Nodes of a thousand slots each, of which the last has one null.
 const THOUSANDS: [(i64, i64); 9] = [
     (1000, 0),
@@ -299,17 +317,22 @@ fn sum(batch: &Batch, row: usize) -> Option<i64> {
     Some(sum)
 }
 
-// The lists [1, 2], null and [null].
-fn three_lists(alloc: Global) -> Result<Batch, Fault> {
+// A field of lists of signed numbers of 8 bits.
+fn list_of_bytes(alloc: Global) -> Result<Field, AllocError> {
     let byte = DataType::Int {
         bits: IntBits::B8,
         signed: true,
     };
+    over(alloc, DataType::List, leaf(alloc, byte)?)
+}
+
+// The lists [1, 2], null and [null].
+fn three_lists(alloc: Global) -> Result<Batch, Fault> {
     let body = [
         0b101, 0b011, 0, 0, 0, 0, 0, 0, 2, 0, 0, 0, 2, 0, 0, 0, 3, 0, 0, 0, 1, 2, 3,
     ];
     let buffers = [(0, 1), (4, 16), (1, 1), (20, 3)];
-    let field = over(alloc, DataType::List, leaf(alloc, byte)?)?;
+    let field = list_of_bytes(alloc)?;
     batch(alloc, field, &[(3, 1), (3, 1)], &buffers, &body)
 }
 
@@ -320,5 +343,40 @@ fn values_in_order(rt: HostRuntime) -> Result<(), Fail> {
     assert!(rt; sum(&found, 1) == None && sum(&found, 2) == Some(100));
     let last = slots_of(&found).and_then(|slots| slot_of(&slots, 2));
     assert!(rt; matches!(last, Some(Slot::List { from: 2, to: 3 })));
+    Ok(())
+}
+
+// The rows of three such lists.
+fn three_rows(alloc: Global) -> Result<Vec<Row>, AllocError> {
+    let mut rows = Vec::new(alloc);
+    for text in THREE_ROWS {
+        rows.push(row_of(alloc, text)?)?;
+    }
+    Ok(rows)
+}
+
+const THREE_ROWS: [&[u8]; 3] = [b"[12]", b"-", b"[-]"];
+
+// The rows are lists of their own, with their nulls.
+#[test]
+fn grows_rows_of_lists(rt: HostRuntime) -> Result<(), Fail> {
+    let wanted = three_rows(rt.alloc())?;
+    let rows = three_lists(rt.alloc())?.to_rows(rt.alloc())?;
+    assert!(rt; rows.as_slice() == wanted.as_slice());
+    Ok(())
+}
+
+// The lists [[1], []], null and [], as they are written.
+fn lists_of_lists(alloc: Global) -> Result<Batch, Fault> {
+    let field = over(alloc, DataType::List, list_of_bytes(alloc)?)?;
+    let written = LISTS_OF_LISTS;
+    batch(alloc, field, written.nodes, written.buffers, written.body)
+}
+
+// Each of their six slots is tested once at most.
+#[test]
+fn few_tests_of_lists_of_lists(rt: HostRuntime) -> Result<(), Fail> {
+    let found = lists_of_lists(rt.alloc())?;
+    assert!(rt; found.rows() == 3 && found.tests() <= 6);
     Ok(())
 }

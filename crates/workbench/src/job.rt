@@ -1,4 +1,5 @@
 //! What a command line asks for.
+use crate::cells::Order;
 use crate::rows::Data;
 use std::env::Args;
 
@@ -24,6 +25,18 @@ pub enum Job {
         /// Whether each batch is given back to the reader.
         reuses: bool,
     },
+    /// Checks each batch of standard input again and again.
+    Check {
+        /// How many times.
+        times: u32,
+    },
+    /// Reads the cells of each batch of standard input again and again.
+    Cells {
+        /// In which order.
+        order: Order,
+        /// How many times.
+        times: u32,
+    },
 }
 
 fn number(words: &mut Args) -> Option<u32> {
@@ -43,6 +56,17 @@ fn named(name: &str, words: &mut Args) -> Option<Job> {
         },
         "pull" => Job::Pull { reuses: false },
         "pull-over" => Job::Pull { reuses: true },
+        "check" => Job::Check {
+            times: number(words)?,
+        },
+        "cells" => Job::Cells {
+            order: Order::Columns,
+            times: number(words)?,
+        },
+        "cells-by-row" => Job::Cells {
+            order: Order::Rows,
+            times: number(words)?,
+        },
         _ => return None,
     })
 }

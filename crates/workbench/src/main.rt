@@ -1,21 +1,33 @@
 //! The program `workbench`, whose first word says the job:
 //!
-//!     workbench push-rows i64|mixed BATCHES ROWS > STREAM
+//!     workbench push-rows i64|mixed|dictionary|nested|flat BATCHES ROWS > STREAM
 //!     workbench push SIZE < STREAM
 //!     workbench pull|pull-over < STREAM
+//!     workbench check|cells|cells-by-row TIMES < STREAM
 //!
 //! `push-rows` makes 1,024 rows and pushes them in turn, so many for each of so many batches.
 //! `push` reads standard input in pieces of at most so many bytes, pushes each to a decoder and
 //! counts. `pull` reads it by a reader and counts; `pull-over` gives each batch back to the reader.
+//! `check` reads it to its end, and then checks each batch so many times; `cells` adds up the cells
+//! of each batch so many times, column by column, and `cells-by-row` row by row.
 #![tactic(auto)]
 
+mod cells;
+mod checks;
+mod cities;
 mod job;
+mod messages;
+mod nested;
 mod pulls;
 mod pushed;
 mod pushes;
 mod rows;
+mod tree;
+mod values;
 
 use anyhow::Result;
+use cells::{Cells, read_cells};
+use checks::{Checked, check_stream};
 use job::Job;
 use pulls::pull_stream;
 use pushed::push_rows;
@@ -24,13 +36,26 @@ use std::process::ExitCode;
 use std::{env, io};
 
 const USAGE: &str = "\
-usage: workbench push-rows i64|mixed BATCHES ROWS > STREAM
+usage: workbench push-rows i64|mixed|dictionary|nested|flat BATCHES ROWS > STREAM
        workbench push SIZE < STREAM
-       workbench pull|pull-over < STREAM";
+       workbench pull|pull-over < STREAM
+       workbench check|cells|cells-by-row TIMES < STREAM";
 
 fn tell(rt: &HostRuntime, counts: Counts) -> Result<()> {
     let Counts { batches, rows } = counts;
     println!(rt; "{batches} batches, {rows} rows")?;
+    Ok(())
+}
+
+fn tell_checked(rt: &HostRuntime, checked: Checked) -> Result<()> {
+    let Checked { rows, bytes } = checked;
+    println!(rt; "{rows} rows, {bytes} bytes")?;
+    Ok(())
+}
+
+fn tell_cells(rt: &HostRuntime, cells: Cells) -> Result<()> {
+    let Cells { rows, sum } = cells;
+    println!(rt; "{rows} rows, {sum} in sum")?;
     Ok(())
 }
 
@@ -46,6 +71,10 @@ fn run(rt: &HostRuntime, job: Job) -> Result<()> {
         }
         Job::Push { size } => tell(rt, push_stream(rt.alloc(), rt.reader(), size as usize)?.0),
         Job::Pull { reuses } => tell(rt, pull_stream(rt.alloc(), rt.reader(), reuses)?.0),
+        Job::Check { times } => tell_checked(rt, check_stream(rt.alloc(), rt.reader(), times)?),
+        Job::Cells { order, times } => {
+            tell_cells(rt, read_cells(rt.alloc(), rt.reader(), order, times)?)
+        }
     }
 }
 

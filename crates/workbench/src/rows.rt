@@ -1,17 +1,9 @@
 //! Schemas and their rows, by which writing is measured.
+use crate::cities::{row_of_city, schema_of_cities};
+use crate::nested::{flat_row, flat_schema, nested_row, nested_schema};
+use crate::values::{signed, spread, word};
 use ipc_model::{DataType, Field, IntBits, Row, Schema, Text, TimeUnit, Value};
 use std::alloc::{AllocError, Global};
-
-const WORDS: [&str; 8] = [
-    "a",
-    "Bern",
-    "copper",
-    "",
-    "électricité",
-    "f,g",
-    "hexadecimal text of some length",
-    "i",
-];
 
 /// What the rows hold.
 #[derive(Clone, Copy, Debug, PartialEq, Eq)]
@@ -20,6 +12,12 @@ pub enum Data {
     Numbers,
     /// Numbers of two widths, texts, truths and timestamps, most of them nullable.
     Mixed,
+    /// One nullable column of texts with a dictionary.
+    Cities,
+    /// A list of signed 64-bit integers, and a struct of a number and a text.
+    Nested,
+    /// The values of `Nested`, each in a column of its own.
+    Flat,
 }
 
 impl Data {
@@ -28,6 +26,9 @@ impl Data {
         match word {
             "i64" => Some(Data::Numbers),
             "mixed" => Some(Data::Mixed),
+            "dictionary" => Some(Data::Cities),
+            "nested" => Some(Data::Nested),
+            "flat" => Some(Data::Flat),
             _ => None,
         }
     }
@@ -37,6 +38,9 @@ impl Data {
         match self {
             Data::Numbers => schema_of_numbers(alloc),
             Data::Mixed => mixed_schema(alloc),
+            Data::Cities => schema_of_cities(alloc),
+            Data::Nested => nested_schema(alloc),
+            Data::Flat => flat_schema(alloc),
         }
     }
 
@@ -45,12 +49,11 @@ impl Data {
         match self {
             Data::Numbers => row_of_numbers(alloc, number),
             Data::Mixed => mixed_row(alloc, number),
+            Data::Cities => row_of_city(alloc, number),
+            Data::Nested => nested_row(alloc, number),
+            Data::Flat => flat_row(alloc, number),
         }
     }
-}
-
-fn signed(bits: IntBits) -> DataType {
-    DataType::Int { bits, signed: true }
 }
 
 fn schema_of_numbers(alloc: Global) -> Result<Schema, AllocError> {
@@ -64,10 +67,8 @@ fn schema_of_numbers(alloc: Global) -> Result<Schema, AllocError> {
 // Numbers that are spread over all lengths.
 fn row_of_numbers(alloc: Global, number: u16) -> Result<Row, AllocError> {
     let mut values = Vec::with_capacity(alloc, 4)?;
-    let mut value = i64::from(number);
-    for _ in 0..4 {
-        values.push(Value::Int(value))?;
-        value = value.wrapping_mul(-65_599);
+    for place in 0..4 {
+        values.push(Value::Int(spread(number, place)))?;
     }
     Ok(Row::from(values))
 }
@@ -93,11 +94,10 @@ fn unless(is_null: bool, value: Value) -> Value {
 
 fn mixed_row(alloc: Global, number: u16) -> Result<Row, AllocError> {
     let long = i64::from(number);
-    let word = WORDS[usize::from(number) % WORDS.len()];
     Ok(Row::from(vec![in alloc;
-        Value::Int(long.wrapping_mul(-65_599).wrapping_mul(-65_599)),
+        Value::Int(spread(number, 2)),
         unless(number % 7 == 0, Value::Int(long * 31)),
-        unless(number % 5 == 0, Value::text(alloc, word)?),
+        unless(number % 5 == 0, Value::text(alloc, word(number))?),
         unless(number % 11 == 0, Value::Bool(number % 2 == 0)),
         unless(number % 13 == 0, Value::Int(long * 86_400_000_000)),
     ]?))

@@ -74,8 +74,8 @@ note_items-loop-value-preserved t c =
       grows = all_grow_trans _ _ _ inv.grows c.in_ok-note_value.ensures.grows;
     }
 
-pub note_value-returns-in-Struct-Struct-clause-full : goal.note_value-returns-in-Struct-Struct-clause-full
-note_value-returns-in-Struct-Struct-clause-full t c =
+pub note_named-returns-in-Struct-Struct-clause-full : goal.note_named-returns-in-Struct-Struct-clause-full
+note_named-returns-in-Struct-Struct-clause-full t c =
     let e = struct_pairs c.args.field.now c.args.value.now c.in-Struct-Struct.values c.as_slice-children.result.now c.as_slice.result.now
     c.in_default.is c.in-Struct-Struct.is-0 c.as_slice-children.ensures c.in-Struct-Struct.is-1 c.as_slice.ensures in
     subst (λ ps. IfErr c.note_each.result (λ e. e ≡ fault.DictionaryFull → IsFull (note_all c.args.entries.now ps)))

@@ -1,10 +1,11 @@
-use Rattle.std.proofs.Common.{◌∙◌, refl, ℕ, Err, inl, arith}
+use Rattle.std.proofs.Common.{◌∙◌, refl, sym, ℕ, None, Err, inl, arith}
 use Rattle.ipc_model.specs.declared.fault.Fault.{Fault}
 use Rattle.ipc_model.specs.declared.fault.Fault.TheVariants as f
 use Rattle.ipc_model.specs.Numbering.{fault_status}
 use Rattle.ipc_decode.specs.Failures.{Tells}
 use Rattle.ipc_print.specs.Streams.{TellsDevices}
 use Rattle.ipc_print.specs.declared.stop.Stop.TheVariants.{Read}
+use Rattle.ipc_print.proofs.Held.{printed_closed, printed_marked, stream_tells}
 use Rattle.ipc_print.proofs.Streams.{part_of, prints_all, prints_none}
 use Rattle.ipc_print.proofs.printing.print.Goals as goal
 
@@ -39,3 +40,27 @@ tells_source old new sink fault t = record {
 
 pub returns-in-Err-clause-devices : goal.returns-in-Err-clause-devices
 returns-in-Err-clause-devices g c = tells_source _ _ _ c.in-Err.fault c.in-Err.ensures.failures
+
+pub returns-in-Ok-clause-marked : goal.returns-in-Ok-clause-marked
+returns-in-Ok-clause-marked g c = λ x rest t is d none.
+    printed_marked c.args.form _ _ _ _ _ _ (sym c.into_inner.ensures.failures ∙ none) c.print_open-result.result
+    (stream_tells c.args.form _ _ _ _ c.print_open-result.result c.print_open-result.ensures.prints)
+    (prints_all c.args.form _ _ c.in-Ok.stream _ _ _ _ _ c.print_open-result.result c.in-Ok.ensures.opened c.into_inner.ensures.remaining
+    c.print_open-result.ensures.prints) x rest t is d
+
+pub returns-in-Err-clause-marked : goal.returns-in-Err-clause-marked
+returns-in-Err-clause-marked g c = λ x rest t is d none.
+    printed_marked c.args.form _ _ None None _ _ none (Err (Read c.in-Err.fault 0)) c.in-Err.ensures.failures
+    (prints_none c.args.form _ _ None c.in-Err.fault c.in-Err.ensures.refused) x rest t is d
+
+pub returns-in-Ok-clause-closed : goal.returns-in-Ok-clause-closed
+returns-in-Ok-clause-closed g c = λ x t is d none.
+    printed_closed c.args.form _ _ _ _ _ _ (sym c.into_inner.ensures.failures ∙ none) c.print_open-result.result
+    (stream_tells c.args.form _ _ _ _ c.print_open-result.result c.print_open-result.ensures.prints)
+    (prints_all c.args.form _ _ c.in-Ok.stream _ _ _ _ _ c.print_open-result.result c.in-Ok.ensures.opened c.into_inner.ensures.remaining
+    c.print_open-result.ensures.prints) x t is d
+
+pub returns-in-Err-clause-closed : goal.returns-in-Err-clause-closed
+returns-in-Err-clause-closed g c = λ x t is d none.
+    printed_closed c.args.form _ _ None None _ _ none (Err (Read c.in-Err.fault 0)) c.in-Err.ensures.failures
+    (prints_none c.args.form _ _ None c.in-Err.fault c.in-Err.ensures.refused) x t is d

@@ -11,7 +11,7 @@ use Rattle.ipc_stream.proofs.MessagesWritten.{sets_rows, few_slots, signed_count
 use Rattle.ipc_stream.proofs.messages.dictionary_message.Goals as goal
 
 pub returns-clause-sets : goal.returns-clause-sets
-returns-clause-sets c = λ s named fine fit one within o same.
+returns-clause-sets c = λ s named fine fit one within.
     let parts = c.in_ok-nodes.field-0 in
     let rows = c.args.rows.now in
     let found = c.in_ok-nodes.ensures.rows fine fit one within in
@@ -38,4 +38,4 @@ returns-clause-sets c = λ s named fine fit one within o same.
     (subst (λ (z : ℤ). (rest : List ℕ)
     → HeadOf c.args.limits.now (c.deref.result.now ++ rest) (h.Dictionary c.args.id (of_length z)) len)
     signed states))
-    named found o same
+    named found

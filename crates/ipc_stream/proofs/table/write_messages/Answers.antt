@@ -1,6 +1,6 @@
 use Rattle.std.proofs.Common.{◌∙◌, ap, arith, get_or, length}
 use Rattle.std.proofs.lemmas.Result.{err_from_is_err_and}
-use Rattle.ipc_stream.proofs.TablesWritten.{opened, batch_out, next_stream, start_breaks, batch_breaks, end_denotes}
+use Rattle.ipc_stream.proofs.TablesWritten.{opened, batch_out, next_stream, start_breaks, batch_breaks, end_sends}
 use Rattle.ipc_stream.proofs.TablesWritten.{all_accepted, end_broken}
 use Rattle.ipc_stream.proofs.table.write_messages.Goals as goal
 
@@ -37,8 +37,8 @@ returns-in_err-send_batch-clause-broken g c =
     rw (p.1, p.2) (batch_breaks c.args.table.now _ _ _ _ _ _ i c.loop-batch.invariant.0 c.batch-item.result
     (omega (arith, ap length c.as_slice-batch-items.ensures)) is c.in_err-send_batch.field-0.0 refused unsent)
 
-pub returns-clause-denotes : goal.returns-clause-denotes
-returns-clause-denotes g c = end_denotes c.args.table.now _ _ _ _ _ _ c.loop-batch.batch-index c.loop-batch.invariant.0
+pub returns-clause-sends : goal.returns-clause-sends
+returns-clause-sends g c = end_sends c.args.table.now _ _ _ _ _ _ c.loop-batch.batch-index c.loop-batch.invariant.0
     (omega (arith, ap length c.as_slice-batch-items.ensures)) c.send_end.result c.send_end.ensures.sends
 
 pub returns-clause-accepted : goal.returns-clause-accepted

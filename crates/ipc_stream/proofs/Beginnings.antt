@@ -1,5 +1,6 @@
 -- Where bytes hold a table, messages at their front are the first messages of that table.
-use Rattle.std.proofs.Common.{◌≡◌, ◌∙◌, refl, sym, ap, subst, ℕ, inl, List, [], ◌∷◌, ◌++◌, map, append_assoc, None}
+use Rattle.std.proofs.Common.{◌≡◌, ◌∙◌, refl, sym, ap, subst, ℕ, inl, List, [], ◌∷◌, ◌++◌, map, append_assoc, Option, Some, None, Ok}
+use Rattle.std.specs.Io.KnownBytes.{Consumes, IsAtEnd}
 use Rattle.std.proofs.lemmas.List.{append-nil}
 use Rattle.ipc_model.specs.declared.limits.Limits.{Limits}
 use Rattle.ipc_model.specs.declared.schema.Schema.{Schema}
@@ -7,7 +8,10 @@ use Rattle.ipc_model.specs.declared.table.BatchRows.{BatchRows}
 use Rattle.ipc_model.specs.declared.table.Table.{Table}
 use Rattle.ipc_frame.specs.Frames.{eos}
 use Rattle.ipc_frame.proofs.OneFrame.{frame_one}
+use Rattle.ipc_decode.specs.declared.end.End.{End}
 use Rattle.ipc_decode.specs.declared.end.End.TheVariants.{Mark, Closed}
+use Rattle.ipc_decode.specs.Reasons.{Reads}
+use Rattle.ipc_decode.proofs.Reasons.{run_told}
 use Rattle.ipc_decode.specs.Stream.{State, Event, schema, batch, Step, Run, done, more, events_of, Denotes}
 use Rattle.ipc_decode.proofs.OneReading.{IsStop, at_eos, frame_stop, step_one}
 
@@ -84,3 +88,28 @@ holds_closed x t d = record { state = d.0; whole = x; rest = []; run = d.1; join
 pub front_begins : {limits : Limits} → (z x b : List ℕ) (t : Table) (fs : List Event) (υ : State) → Holds limits z t → z ≡ x ++ b
     → Run limits None x fs υ → (rest : List Event) × (events_of t ≡ fs ++ rest)
 front_begins z x b t fs υ h is run = run_begins h.rest b h.run run h.stop (h.joined ∙ is)
+
+-- what denotes a table and its end is read to that end
+pub reads_of : {limits : Limits} → (x : List ℕ) (left : Option (List ℕ)) (t : Table) (end : End) → Denotes limits x t end
+    → (end ≡ Closed → IsAtEnd left) → Reads limits None x left (events_of t) (Ok end)
+reads_of x left t Mark d closed = record {
+  state = d.2.0;
+  whole = d.0;
+  rest = eos;
+  joined = d.1;
+  run = d.2.1;
+  ends = (refl, run_told d.2.1 (λ none. absurd (cc)));
+}
+reads_of x left t Closed d closed = record {
+  state = d.0;
+  whole = x;
+  rest = [];
+  joined = sym (append-nil x);
+  run = d.1;
+  ends = (refl, run_told d.1 (λ none. absurd (cc)), closed refl);
+}
+
+-- a source that holds known bytes leaves the rest of them
+pub left_of : (z : List ℕ) (new : Option (List ℕ)) (x : List ℕ) → Consumes (Some z) new x → (b : List ℕ) × (z ≡ x ++ b)
+left_of z None x c = absurd c
+left_of z (Some b) x c = (b, c)

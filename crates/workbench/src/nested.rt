@@ -1,0 +1,75 @@
+//! Rows with a list and a struct, and rows with the same values in columns of their own, by which
+//! it is measured what nesting costs.
+use crate::values::{signed, spread, word};
+use ipc_model::{DataType, Field, IntBits, Items, Row, Schema, Value};
+use std::alloc::{AllocError, Global};
+
+// How many values a list has at most.
+const MOST: u16 = 3;
+
+// How many values the list of a row has.
+fn length(number: u16) -> u16 {
+    number % (MOST + 1)
+}
+
+fn list_field(alloc: Global) -> Result<Field, AllocError> {
+    let item = Field::new(alloc, "item", signed(IntBits::B64))?;
+    Ok(Field::new(alloc, "numbers", DataType::List)?.with_children(vec![in alloc; item]?))
+}
+
+fn struct_field(alloc: Global) -> Result<Field, AllocError> {
+    let a = Field::new(alloc, "a", signed(IntBits::B32))?;
+    let b = Field::new(alloc, "b", DataType::Utf8)?;
+    Ok(Field::new(alloc, "pair", DataType::Struct)?.with_children(vec![in alloc; a, b]?))
+}
+
+/// A list of numbers, and a struct of a number and a text.
+pub fn nested_schema(alloc: Global) -> Result<Schema, AllocError> {
+    Ok(Schema::new(vec![in alloc; list_field(alloc)?, struct_field(alloc)?]?))
+}
+
+/// The same values: as many nullable columns of numbers as a list has values at most, a number and
+/// a text.
+pub fn flat_schema(alloc: Global) -> Result<Schema, AllocError> {
+    let mut fields = Vec::new(alloc);
+    for name in ["x", "y", "z"] {
+        fields.push(Field::new(alloc, name, signed(IntBits::B64))?.nullable())?;
+    }
+    fields.push(Field::new(alloc, "a", signed(IntBits::B32))?)?;
+    fields.push(Field::new(alloc, "b", DataType::Utf8)?)?;
+    Ok(Schema::new(fields))
+}
+
+// The number of a pair.
+fn count(number: u16) -> Value {
+    Value::Int(i64::from(number) * 31)
+}
+
+/// A row that goes by its number, whose list has no value to three.
+pub fn nested_row(alloc: Global, number: u16) -> Result<Row, AllocError> {
+    let mut numbers = Vec::with_capacity(alloc, usize::from(MOST))?;
+    for place in 0..length(number) {
+        numbers.push(Value::Int(spread(number, place)))?;
+    }
+    let pair = vec![in alloc; count(number), Value::text(alloc, word(number))?]?;
+    Ok(Row::from(vec![in alloc;
+        Value::List(Items::from_vec(numbers)),
+        Value::Struct(Items::from_vec(pair)),
+    ]?))
+}
+
+/// The same values side by side, where null stands for a value that the list doesn't have.
+pub fn flat_row(alloc: Global, number: u16) -> Result<Row, AllocError> {
+    let mut values = Vec::with_capacity(alloc, usize::from(MOST) + 2)?;
+    for place in 0..MOST {
+        let value = if place < length(number) {
+            Value::Int(spread(number, place))
+        } else {
+            Value::Null
+        };
+        values.push(value)?;
+    }
+    values.push(count(number))?;
+    values.push(Value::text(alloc, word(number))?)?;
+    Ok(Row::from(values))
+}
