@@ -2,6 +2,8 @@ pub mod Fields
 pub mod Parts
 pub mod Entries
 pub mod Cells
+mod Chunks
+mod Indexed
 pub mod Goods
 pub mod Slots
 pub mod FixedLists

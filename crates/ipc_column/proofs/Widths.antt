@@ -1,12 +1,10 @@
 -- Slots of a fixed width, and the numbers in them.
-use Rattle.std.proofs.Common.{◌≡◌, ◌∙◌, refl, sym, ℕ, suc, ◌+◌, ◌*◌, ◌/◌, ◌^◌, ◌<◌, ◌≤◌, true, List, length, get_or, arith, le-leb, inl}
+use Rattle.std.proofs.Common.{◌≡◌, ◌∙◌, sym, ℕ, ◌+◌, ◌*◌, ◌/◌, ◌<◌, ◌≤◌, true, List, get_or, arith, le-leb, inl}
 use Rattle.std.proofs.Common.{inr}
-use Rattle.std.specs.Prelude.{nat_le, unwrap_or}
-use Rattle.std.specs.Int.{w64, cast_signed, cast_unsigned}
+use Rattle.std.specs.Prelude.{nat_le}
 use Rattle.std.proofs.Math.Nat.{le-div_iff_mul-le, mul-le-mul_left}
 use Rattle.std.proofs.lemmas.Bool.{leb-true, lt-leb, cases_lt}
-use Rattle.std.proofs.lemmas.Int.{of_z-to_z}
-use Rattle.ipc_scalar.specs.Bytes.{num, byte, read}
+use Rattle.ipc_scalar.specs.Bytes.{num, byte}
 
 -- a quotient tells whether a product fits
 pub holds_by_quotient : (w n bytes : ℕ) → 0 < w → nat_le n (bytes / w) ≡ nat_le (w * n) bytes
@@ -37,28 +35,3 @@ slot_inside w n i bytes h l =
 pub byte_is : (b : List ℕ) (p : ℕ) → byte b (1 * p) ≡ get_or b p 0
 unfolding num
 byte_is b p = let same : 1 * p ≡ p = omega arith in rw same (omega arith)
-
--- the number of eight bytes has 64 bits
-eight_bytes-lt : (b : List ℕ) (p : ℕ) → ((k : ℕ) → get_or b k 0 < 256) → num b p 8 < 2 ^ 64
-unfolding num
-eight_bytes-lt b p small =
-    let at : ℕ → ℕ = λ i. p + i in
-    omega (
-      arith,
-      small p,
-      small (suc p),
-      small (suc (suc p)),
-      small (suc (suc (suc p))),
-      small (suc (suc (suc (suc p)))),
-      small (suc (suc (suc (suc (suc p))))),
-      small (suc (suc (suc (suc (suc (suc p)))))),
-      small (suc (suc (suc (suc (suc (suc (suc p))))))),
-    )
-
--- read as signed and back, it is the same
-pub eight_bytes : (b : List ℕ) (p : ℕ) → ((k : ℕ) → get_or b k 0 < 256) → cast_unsigned w64 (cast_signed w64 (num b p 8)) ≡ num b p 8
-eight_bytes b p small = of_z-to_z w64 (num b p 8) (eight_bytes-lt b p small)
-
--- what is read inside
-pub read_or : {X : Type 0} (b : List ℕ) (p w : ℕ) (x d : X) → p + w ≤ length b → unwrap_or (read b p w x) d ≡ x
-read_or b p w x d h = rw (le-leb (p + w) (length b) h) refl

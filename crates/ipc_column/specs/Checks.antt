@@ -190,10 +190,9 @@ abbrev pub index_good : List ℕ → IntBits → Bool → ℕ → List ℕ → �
 index_good validity bits signed n values i =
     not (is_valid validity i) || is_some (place_below n (number_in bits signed values i))
 
--- the slots of one text, from slot i up to slot j, begin where that may be cut
+-- the slots from slot i up to slot j begin where these bytes may be cut
 abbrev pub AreCuts : List ℕ → List ℕ → ℕ → ℕ → Type 0
-AreCuts offsets text i j = (k : ℕ) → i ≤ k → k < j
-    → IsCharBoundary text (place offsets k - place offsets i)
+AreCuts offsets bytes i j = (k : ℕ) → i ≤ k → k < j → IsCharBoundary bytes (place offsets k)
 
 -- the nulls among the first n slots
 abbrev pub nulls_in : List ℕ → ℕ → ℕ

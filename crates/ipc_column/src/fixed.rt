@@ -4,7 +4,33 @@ ghost use Rattle.ipc_model.specs.Layouts.{number_bytes};
 ghost use Rattle.ipc_column.specs.Values.{number_in, place_below, signed_at};
 
 use ipc_model::IntBits;
-use ipc_scalar::{get_i32, get_i64, get_u16, get_u32};
+
+/// The unsigned number in a slot of two bytes.
+#[inline(always)]
+pub(crate) fn u16_at(values: &[u8], slot: usize) -> u16
+    requires { 2 * (slot + 1) ≤ length values.now }
+    ensures { result ≡ num values.now (2 * slot) 2 }
+{
+    u16::from_le_bytes(values.as_chunks::<2>().0[slot])
+}
+
+/// The unsigned number in a slot of four bytes.
+#[inline(always)]
+pub(crate) fn u32_at(values: &[u8], slot: usize) -> u32
+    requires { 4 * (slot + 1) ≤ length values.now }
+    ensures { result ≡ num values.now (4 * slot) 4 }
+{
+    u32::from_le_bytes(values.as_chunks::<4>().0[slot])
+}
+
+/// The unsigned number in a slot of eight bytes.
+#[inline(always)]
+pub(crate) fn u64_at(values: &[u8], slot: usize) -> u64
+    requires { 8 * (slot + 1) ≤ length values.now }
+    ensures { result ≡ num values.now (8 * slot) 8 }
+{
+    u64::from_le_bytes(values.as_chunks::<8>().0[slot])
+}
 
 /// The signed number in a slot.
 #[inline(always)]
@@ -14,9 +40,9 @@ pub(crate) fn signed_at(bits: IntBits, values: &[u8], slot: usize) -> i64
 {
     match bits {
         IntBits::B8 => i64::from(values[slot].cast_signed()),
-        IntBits::B16 => i64::from(get_u16(values, 2 * slot).unwrap_or(0).cast_signed()),
-        IntBits::B32 => i64::from(get_i32(values, 4 * slot).unwrap_or(0)),
-        IntBits::B64 => get_i64(values, 8 * slot).unwrap_or(0),
+        IntBits::B16 => i64::from(u16_at(values, slot).cast_signed()),
+        IntBits::B32 => i64::from(u32_at(values, slot).cast_signed()),
+        IntBits::B64 => u64_at(values, slot).cast_signed(),
     }
 }
 
@@ -28,9 +54,9 @@ pub(crate) fn unsigned_at(bits: IntBits, values: &[u8], slot: usize) -> u64
 {
     match bits {
         IntBits::B8 => u64::from(values[slot]),
-        IntBits::B16 => u64::from(get_u16(values, 2 * slot).unwrap_or(0)),
-        IntBits::B32 => u64::from(get_u32(values, 4 * slot).unwrap_or(0)),
-        IntBits::B64 => get_i64(values, 8 * slot).unwrap_or(0).cast_unsigned(),
+        IntBits::B16 => u64::from(u16_at(values, slot)),
+        IntBits::B32 => u64::from(u32_at(values, slot)),
+        IntBits::B64 => u64_at(values, slot),
     }
 }
 

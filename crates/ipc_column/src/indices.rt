@@ -6,6 +6,7 @@ ghost use Rattle.ipc_column.specs.Checks.{all_slots, has_bitmap, index_good};
 ghost use Rattle.ipc_column.specs.Values.{number_in, place_below};
 
 use crate::fixed::index_in;
+use crate::largest::largest;
 use crate::slot_visit::visit;
 use ipc_model::IntBits;
 
@@ -18,8 +19,21 @@ fn is_index(bits: IntBits, signed: bool, indices: &[u8], slot: usize, count: usi
     index_in(bits, signed, indices, slot, count).is_some()
 }
 
+// The largest signed number of a width.
+fn largest_signed(bits: IntBits) -> u64
+    ensures { result + 1 ≡ 2 ^ (8 * number_bytes bits - 1) }
+{
+    match bits {
+        IntBits::B8 => 0x7f,
+        IntBits::B16 => 0x7fff,
+        IntBits::B32 => 0x7fff_ffff,
+        IntBits::B64 => 0x7fff_ffff_ffff_ffff,
+    }
+}
+
 /// Whether the slots from one up to another all hold indices of one of so many values, null slots
-/// included.
+/// included. The largest of them tells: taken as unsigned, a negative number is above all that
+/// aren't.
 pub(crate) fn are_indices(
     bits: IntBits,
     signed: bool,
@@ -33,12 +47,8 @@ pub(crate) fn are_indices(
     ensures { IsTrue result → (validity : List ℕ)
         → all_slots (index_good validity bits signed count indices.now) from (to - from) ≡ true }
 {
-    for slot in from..to {
-        if !is_index(bits, signed, indices, slot, count) {
-            return false;
-        }
-    }
-    true
+    let largest = largest(bits, indices, from, to);
+    largest < count as u64 && (!signed || largest <= largest_signed(bits))
 }
 
 // Whether a slot is null or holds an index of one of so many values. The slot is visited.

@@ -13,6 +13,7 @@ mod dictionary;
 mod fixed;
 mod head;
 mod indices;
+mod largest;
 mod numbers;
 mod offsets;
 mod range_bytes;

@@ -1,10 +1,11 @@
-ghost use Rattle.std.specs.Prelude.{◌≡◌, ◌≤◌, ◌<◌, ◌+◌, ◌*◌, ◌^◌, ℕ, List, length, true};
+ghost use Rattle.std.specs.Prelude.{◌≡◌, ◌≤◌, ◌<◌, ◌+◌, ◌*◌, ◌^◌, ℕ, List, length, true, pos};
+ghost use Rattle.std.specs.Prelude.{int_le};
 ghost use Rattle.ipc_column.specs.Checks.{are_ascending, have_slots};
 ghost use Rattle.ipc_column.specs.Values.{offset, place, between};
 ghost use Rattle.ipc_column.specs.Views.{columns};
 
+use crate::fixed::u32_at;
 use crate::ranges::ColumnRanges;
-use ipc_scalar::get_i32;
 
 // Offset `i`.
 #[inline(always)]
@@ -12,7 +13,7 @@ fn offset_at(offsets: &[u8], i: usize) -> i32
     requires { 4 * (i + 1) ≤ length offsets.now }
     ensures { result ≡ offset offsets.now i }
 {
-    get_i32(offsets, 4 * i).unwrap_or(0)
+    u32_at(offsets, i).cast_signed()
 }
 
 /// Where offset `i` points, if it isn't negative.
@@ -22,6 +23,16 @@ pub(crate) fn place_at(offsets: &[u8], i: usize) -> usize
     ensures { result ≡ place offsets.now i }
 {
     offset_at(offsets, i).unsigned_abs() as usize
+}
+
+/// Where offset `i` points, which isn't negative.
+#[inline(always)]
+pub(crate) fn start_at(offsets: &[u8], i: usize) -> usize
+    requires bytes { 4 * (i + 1) ≤ length offsets.now }
+    requires positive { int_le (pos 0) (offset offsets.now i) ≡ true }
+    ensures { result ≡ place offsets.now i }
+{
+    u32_at(offsets, i) as usize
 }
 
 /// Where the slots of the child begin that belong to a slot of lists of a fixed size; 0 where there
@@ -49,15 +60,11 @@ pub(crate) fn are_in_order(offsets: &[u8], slots: usize, size: usize) -> bool
     requires { 4 * (slots + 1) ≤ length offsets.now }
     ensures { result ≡ are_ascending offsets.now slots size }
 {
-    let first = offset_at(offsets, 0);
-    let mut before = first;
     let mut ordered = true;
     for i in 0..slots {
-        let next = offset_at(offsets, i + 1);
-        ordered = ordered && before <= next;
-        before = next;
+        ordered &= offset_at(offsets, i) <= offset_at(offsets, i + 1);
     }
-    0 <= first && ordered && before.unsigned_abs() as usize <= size
+    0 <= offset_at(offsets, 0) && ordered && place_at(offsets, slots) <= size
 }
 
 /// The bytes of a slot, one of so many.

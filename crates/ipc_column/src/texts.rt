@@ -1,10 +1,10 @@
 ghost use Rattle.std.specs.Prelude.{◌≡◌, ◌≤◌, ◌<◌, ◌+◌, ◌-◌, ◌*◌, ◌^◌, ℕ, List, length, true};
 ghost use Rattle.std.specs.Prelude.{IsTrue, IsUtf8};
-ghost use Rattle.std.specs.Str.{is_utf8, IsCharBoundary};
+ghost use Rattle.std.specs.Str.{is_utf8};
 ghost use Rattle.ipc_column.specs.Checks.{AreCuts, all_slots, has_bitmap, are_ascending, text_good};
 ghost use Rattle.ipc_column.specs.Values.{place};
 
-use crate::offsets::{bytes_between, place_at};
+use crate::offsets::{bytes_between, place_at, start_at};
 use crate::slot_visit::visit;
 
 /// The text of bytes that were found UTF-8.
@@ -22,30 +22,51 @@ fn is_text(bytes: &[u8]) -> bool
     simdutf8::is_utf8(bytes)
 }
 
-// Whether a text may be cut at a place.
-fn may_cut(text: &[u8], at: usize) -> bool
-    requires { at ≤ length text.now }
-    ensures { IsTrue result → IsCharBoundary text.now at }
+// Whether a byte of a text begins a character.
+#[inline(always)]
+fn is_first(byte: u8) -> bool
+    ensures { IsTrue result → 128 ≤ byte → 192 ≤ byte }
 {
-    at == text.len() || text[at] < 128 || 192 <= text[at]
+    byte < 128 || 192 <= byte
 }
 
-// Whether each slot of one text, from one slot up to another, begins where that may be cut.
-fn are_cuts(offsets: &[u8], text: &[u8], slots: usize, from: usize, to: usize) -> bool
+// Of the slots from one up to another, the first that begins where the last ends, as each behind it
+// does; the end of the slots where none does.
+fn first_at_end(offsets: &[u8], slots: usize, from: usize, to: usize) -> usize
     requires range { from ≤ to }
     requires inside { to ≤ slots }
     requires bytes { 4 * (slots + 1) ≤ length offsets.now }
     requires order { are_ascending offsets.now slots (place offsets.now slots) ≡ true }
-    requires text { place offsets.now to ≤ place offsets.now from + length text.now }
-    ensures { IsTrue result → AreCuts offsets.now text.now from to }
+    ensures above { from ≤ result }
+    ensures below { result ≤ to }
+    ensures before { from < result → place offsets.now (result - 1) < place offsets.now to }
+    ensures rest { (slot : ℕ) → result ≤ slot → slot < to
+        → place offsets.now slot ≡ place offsets.now to }
 {
-    let first = place_at(offsets, from);
-    for slot in from..to {
-        if !may_cut(text, place_at(offsets, slot) - first) {
-            return false;
-        }
+    let end = start_at(offsets, to);
+    let mut slot = to;
+    while from < slot && start_at(offsets, slot - 1) == end {
+        slot -= 1;
     }
-    true
+    slot
+}
+
+// Whether each slot of texts, from one slot up to another, begins where the bytes up to the end of
+// the last may be cut. No slot ends the loop early, so that the compiler may look at several at a
+// time; those that begin at that end have no byte to look at.
+fn are_cuts(offsets: &[u8], front: &[u8], slots: usize, from: usize, to: usize) -> bool
+    requires range { from ≤ to }
+    requires inside { to ≤ slots }
+    requires bytes { 4 * (slots + 1) ≤ length offsets.now }
+    requires order { are_ascending offsets.now slots (place offsets.now slots) ≡ true }
+    requires end { place offsets.now to ≡ length front.now }
+    ensures { IsTrue result → AreCuts offsets.now front.now from to }
+{
+    let mut cuts = true;
+    for slot in from..first_at_end(offsets, slots, from, to) {
+        cuts &= is_first(front[start_at(offsets, slot)]);
+    }
+    cuts
 }
 
 /// Whether the slots from one up to another are one text that may be cut where they begin.
@@ -57,8 +78,9 @@ pub(crate) fn is_whole(offsets: &[u8], values: &[u8], slots: usize, from: usize,
     ensures { IsTrue result → (validity : List ℕ)
         → all_slots (text_good validity offsets.now values.now) from (to - from) ≡ true }
 {
-    let text = &values[place_at(offsets, from)..place_at(offsets, to)];
-    is_text(text) && are_cuts(offsets, text, slots, from, to)
+    let end = place_at(offsets, to);
+    is_text(&values[place_at(offsets, from)..end])
+        && are_cuts(offsets, &values[..end], slots, from, to)
 }
 
 // Whether a slot, one of so many, is null or holds UTF-8. The slot is visited.

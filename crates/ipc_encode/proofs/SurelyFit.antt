@@ -1,5 +1,5 @@
 -- Columns whose values are surely within the limits.
-use Rattle.std.proofs.Common.{◌≡◌, refl, sym, ap, subst, ℕ, zero, suc, ◌+◌, ◌*◌, ◌≤◌, List, [], ◌∷◌, length, get_or}
+use Rattle.std.proofs.Common.{◌≡◌, refl, sym, ap, subst, ℕ, zero, suc, ◌+◌, ◌-◌, ◌*◌, ◌≤◌, List, [], ◌∷◌, length, get_or}
 use Rattle.std.proofs.Common.{Bool, cond, true, false, arith, inl, inr}
 use Rattle.std.specs.Prelude.{◌==◌, ◌⊎◌, ℤ, ⊤}
 use Rattle.ipc_model.specs.declared.limits.Limits.{Limits}
@@ -46,6 +46,11 @@ small_is layout (inl e) = rw e tt
 small_is layout (inr (inl e)) = rw e tt
 small_is layout (inr (inr (inl h))) = rw h.2 tt
 small_is layout (inr (inr (inr h))) = rw h.3 tt
+
+pub plain_is : (layout : Layout)
+    → ((bits : IntBits) × (signed : Bool) × (layout ≡ l.Numbers bits signed)) ⊎ (layout ≡ l.Bits) → IsSmall layout
+plain_is layout (inl h) = rw h.2 tt
+plain_is layout (inr e) = rw e tt
 
 number_few : (bits : IntBits) → number_bytes bits ≤ 8
 number_few b.B8 = omega arith
@@ -137,9 +142,18 @@ leaf_takes limits layout vs least amount few short most held = record {
       omega (arith, whole, own, most, held);
 }
 
--- no columns take nothing
-pub none_take : (limits : Limits) (shape : Shape) (given : ℕ → List Value) → TakeAtMost limits 0 (first 0 shape) given
-none_take limits shape given = record { few = λ h. h; short = λ h. h; bytes = omega arith }
+-- no columns take no more than anything
+pub none_take : (limits : Limits) (shape : Shape) (given : ℕ → List Value) (most : ℕ) → TakeAtMost limits most (first 0 shape) given
+none_take limits shape given most = record { few = λ h. h; short = λ h. h; bytes = omega arith }
+
+-- what one column more takes, where the rest of the least of all is set aside
+pub sum_next : (p q m body all left most : ℕ) → q ≡ p + m → left + all ≤ body → most ≤ left
+    → p + (body - (all + left)) + (m + most) ≤ q + (body - (all + (left - most)))
+sum_next p q m body all left most e few less = omega arith
+
+-- the same where it takes no more than the least
+pub sum_least : (p q m body all left : ℕ) → q ≡ p + m → p + (body - (all + left)) + m ≤ q + (body - (all + left))
+sum_least p q m body all left e = omega arith
 
 -- one column more takes what it takes beside the first
 pub takes_next : (limits : Limits) (i : ℕ) (shape : Shape) (given : ℕ → List Value) (layout : Layout) (c : Shape) (so_far one all : ℕ)
@@ -189,6 +203,15 @@ own_fits f v none own =
     inside : (fs : List Field) → length fs ≡ 0 → InnerFit Fits (out-Field f).kind fs (out-Value v)
     inside [] e = nothing_inside (out-Field f).kind (out-Value v)
     inside (g ∷ gs) e = absurd (omega (arith, e))
+
+-- a number that is one of the field's own fits a field of numbers, which has nothing inside
+pub number_fits : (f : Field) (v : Value) (bits : IntBits) (signed : Bool) → (out-Field f).kind ≡ t.Int bits signed
+    → IsOwn (out-Field f).kind (out-Field f).nullable (length (out-Field f).children) (out-Value v) → Fits f v
+number_fits f v bits signed e own =
+    subst (λ (T : Type 0). T) (sym (fits_parts f v)) (
+      own,
+      subst (λ (kind : DataType). InnerFit Fits kind (out-Field f).children (out-Value v)) (sym e) tt,
+    )
 
 -- each of the first values fits the field beside it
 abbrev pub FirstFit : ℕ → List Field → List Value → Type 0

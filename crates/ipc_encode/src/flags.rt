@@ -5,6 +5,7 @@ ghost use Rattle.ipc_encode.specs.Bitmaps.{bitmap};
 use std::alloc::AllocError;
 
 /// Appends a bit to so many packed ones. Bits behind the last are 0.
+#[inline(always)]
 pub(crate) fn push_bit(bytes: &mut Vec<u8>, bits: usize, bit: bool) -> Result<(), AllocError>
     ensures { (flags : List Bool) → length flags ≡ bits → bytes.old.items ≡ bitmap flags
         → OnOk result (bytes.new.items ≡ bitmap (flags ++ bit ∷ [])) }

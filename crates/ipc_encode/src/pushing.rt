@@ -1,10 +1,12 @@
 ghost use Rattle.std.specs.Prelude.{◌≡◌, ◌++◌, List, [], ◌∷◌, length, IfOk, IfErr, OnOk};
 ghost use Rattle.std.specs.Int.{bytes_low_first};
+ghost use Rattle.ipc_model.specs.Layouts.{number_bytes};
 ghost use Rattle.ipc_model.specs.declared.layout.Layout.{Layout};
+ghost use Rattle.ipc_model.specs.declared.layout.Layout.TheVariants.{Bits, Numbers, VariableBytes};
 ghost use Rattle.ipc_model.specs.declared.limits.Limits.{Limits};
 ghost use Rattle.ipc_model.specs.declared.value.Value.{Value};
 ghost use Rattle.ipc_encode.specs.Pieces.{Number, Fixed};
-ghost use Rattle.ipc_encode.specs.Cells.{nulls, slot_bytes, content, HasUtf8};
+ghost use Rattle.ipc_encode.specs.Cells.{nulls, number_bits, slot_bytes, content, HasUtf8};
 ghost use Rattle.ipc_encode.specs.Columns.{validity_bytes, validity_in, offsets_in, values_in};
 ghost use Rattle.ipc_encode.specs.Columns.{data_in, indices_in};
 ghost use Rattle.ipc_encode.specs.Numbers.{Numbering, index_of, told};
@@ -63,6 +65,7 @@ fn push_validity(
 
 // Appends a number of 64 bits. It isn't `inline(always)`, and neither is `push_four`: so the length
 // is known where the list's own code is taken in, and what is left is one store.
+#[inline]
 fn push_eight(values: &mut Vec<u8>, number: u64) -> Result<(), AllocError>
     ensures { OnOk result (values.new.items ≡ values.old.items ++ bytes_low_first 0 8 number) }
 {
@@ -70,10 +73,25 @@ fn push_eight(values: &mut Vec<u8>, number: u64) -> Result<(), AllocError>
 }
 
 // Appends the low 32 bits of a number.
+#[inline]
 fn push_four(values: &mut Vec<u8>, number: u64) -> Result<(), AllocError>
     ensures { OnOk result (values.new.items ≡ values.old.items ++ bytes_low_first 0 4 number) }
 {
     values.extend_from_slice(&number.to_le_bytes()[..4])
+}
+
+// Appends so many low bits of a number.
+#[inline(always)]
+fn push_bits(values: &mut Vec<u8>, number: u64, bits: IntBits) -> Result<(), AllocError>
+    ensures { OnOk result (values.new.items
+        ≡ values.old.items ++ bytes_low_first 0 (number_bytes bits) number) }
+{
+    match bits {
+        IntBits::B8 => values.extend_from_slice(&number.to_le_bytes()[..1]),
+        IntBits::B16 => values.extend_from_slice(&number.to_le_bytes()[..2]),
+        IntBits::B32 => push_four(values, number),
+        IntBits::B64 => push_eight(values, number),
+    }
 }
 
 /// Appends the low bytes of a value's number.
@@ -86,13 +104,7 @@ pub(crate) fn push_number(
     ensures { OnOk result (values.new.items
         ≡ values.old.items ++ slot_bytes (Number bits) value.now) }
 {
-    let number = number_bits(value);
-    match bits {
-        IntBits::B8 => values.extend_from_slice(&number.to_le_bytes()[..1]),
-        IntBits::B16 => values.extend_from_slice(&number.to_le_bytes()[..2]),
-        IntBits::B32 => push_four(values, number),
-        IntBits::B64 => push_eight(values, number),
-    }
+    push_bits(values, number_bits(value), bits)
 }
 
 // Appends the bytes of a binary value, or so many zeros.
@@ -122,14 +134,17 @@ fn push_offset(offsets: &mut Vec<u8>, end: usize) -> Result<(), AllocError>
     push_four(offsets, end as u64)
 }
 
-// Appends what a value gives to the buffer of values of a column with so many slots.
+// Appends what a value, whose number has these bits, gives to the buffer of values of a column with
+// so many slots.
 #[inline(always)]
 fn push_value(
     layout: Layout,
     slots: usize,
     values: &mut Vec<u8>,
     value: &Value,
+    number: u64,
 ) -> Result<(), AllocError>
+    requires { number ≡ number_bits value.now }
     ensures values { (vs : List Value) → length vs ≡ slots → values.old.items ≡ values_in layout vs
         → OnOk result (values.new.items ≡ values_in layout (vs ++ value.now ∷ [])) }
     ensures stored { (vs : List Value) → AreStored layout vs
@@ -142,7 +157,7 @@ fn push_value(
         | Layout::Structs
         | Layout::Indices { .. } => Ok(()),
         Layout::Bits => push_bit(values, slots, is_true(value)),
-        Layout::Numbers { bits, .. } => push_number(values, value, bits),
+        Layout::Numbers { bits, .. } => push_bits(values, number, bits),
         Layout::FixedBytes(width) => push_fixed(values, value, width),
         Layout::VariableBytes { .. } => push_content(values, value),
     }
@@ -281,19 +296,131 @@ impl Column {
     {
         let Counts { slots, nulls, .. } = self.counts;
         let counts = self.counts.with(layout, value, limits)?;
+        // The value is read before anything is written, and so once.
+        let number = number_bits(value);
         push_validity(layout, &mut self.validity, slots, nulls, value)?;
-        push_value(layout, slots, &mut self.values, value)?;
+        push_value(layout, slots, &mut self.values, value, number)?;
         push_end(layout, &mut self.offsets, counts.amount)?;
         push_index(layout, &mut self.indices, value, indices)?;
         self.counts = counts;
         Ok(())
     }
 
-    /// Takes one value more. After a refusal the column is of no use.
-    ///
-    /// Refused as `Counts::with`, and with `OutOfMemory` where a buffer can't grow.
+    // The same of numbers of this width, or null.
+    #[inline(never)]
+    fn push_numbers<I: IndexOf>(
+        &mut self,
+        bits: IntBits,
+        signed: bool,
+        value: &Value,
+        limits: &Limits,
+        indices: &I,
+    ) -> Result<(), PushFault>
+        ensures pushed { (values : List Value)
+            → IsColumn (told (I.IndexOf.index indices.now)) limits.now (Numbers bits signed) values
+            self.old
+            → OnOk result (IsColumn (told (I.IndexOf.index indices.now)) limits.now
+            (Numbers bits signed) (values ++ value.now ∷ []) self.new) }
+        ensures refused { (values : List Value)
+            → IsColumn (told (I.IndexOf.index indices.now)) limits.now (Numbers bits signed) values
+            self.old
+            → IfErr result (IsPushRefused limits.now (Numbers bits signed)
+            (values ++ value.now ∷ [])) }
+    {
+        self.push_laid(Layout::Numbers { bits, signed }, value, limits, indices)
+    }
+
+    // The same of truths.
+    #[inline(never)]
+    fn push_truth<I: IndexOf>(
+        &mut self,
+        value: &Value,
+        limits: &Limits,
+        indices: &I,
+    ) -> Result<(), PushFault>
+        ensures pushed { (values : List Value)
+            → IsColumn (told (I.IndexOf.index indices.now)) limits.now Bits values self.old
+            → OnOk result (IsColumn (told (I.IndexOf.index indices.now)) limits.now Bits
+            (values ++ value.now ∷ []) self.new) }
+        ensures refused { (values : List Value)
+            → IsColumn (told (I.IndexOf.index indices.now)) limits.now Bits values self.old
+            → IfErr result (IsPushRefused limits.now Bits (values ++ value.now ∷ [])) }
+    {
+        self.push_laid(Layout::Bits, value, limits, indices)
+    }
+
+    // The same of binary values or texts.
+    #[inline(never)]
+    fn push_run<I: IndexOf>(
+        &mut self,
+        utf8: bool,
+        value: &Value,
+        limits: &Limits,
+        indices: &I,
+    ) -> Result<(), PushFault>
+        ensures pushed { (values : List Value)
+            → IsColumn (told (I.IndexOf.index indices.now)) limits.now (VariableBytes utf8) values
+            self.old
+            → OnOk result (IsColumn (told (I.IndexOf.index indices.now)) limits.now
+            (VariableBytes utf8) (values ++ value.now ∷ []) self.new) }
+        ensures refused { (values : List Value)
+            → IsColumn (told (I.IndexOf.index indices.now)) limits.now (VariableBytes utf8) values
+            self.old
+            → IfErr result (IsPushRefused limits.now (VariableBytes utf8)
+            (values ++ value.now ∷ [])) }
+    {
+        self.push_laid(Layout::VariableBytes { utf8 }, value, limits, indices)
+    }
+
+    // The same of any other layout.
+    #[inline(never)]
+    fn push_other<I: IndexOf>(
+        &mut self,
+        layout: Layout,
+        value: &Value,
+        limits: &Limits,
+        indices: &I,
+    ) -> Result<(), PushFault>
+        ensures pushed { (values : List Value)
+            → IsColumn (told (I.IndexOf.index indices.now)) limits.now layout values self.old
+            → OnOk result (IsColumn (told (I.IndexOf.index indices.now)) limits.now layout
+            (values ++ value.now ∷ []) self.new) }
+        ensures refused { (values : List Value)
+            → IsColumn (told (I.IndexOf.index indices.now)) limits.now layout values self.old
+            → IfErr result (IsPushRefused limits.now layout (values ++ value.now ∷ [])) }
+    {
+        self.push_laid(layout, value, limits, indices)
+    }
+
+    // The same of any layout. What each asks for stands by itself, so that none pays for another.
+    #[inline(never)]
+    fn push_any<I: IndexOf>(
+        &mut self,
+        value: &Value,
+        limits: &Limits,
+        indices: &I,
+    ) -> Result<(), PushFault>
+        ensures pushed { (layout : Layout) (values : List Value)
+            → IsColumn (told (I.IndexOf.index indices.now)) limits.now layout values self.old
+            → OnOk result (IsColumn (told (I.IndexOf.index indices.now)) limits.now layout
+            (values ++ value.now ∷ []) self.new) }
+        ensures refused { (layout : Layout) (values : List Value)
+            → IsColumn (told (I.IndexOf.index indices.now)) limits.now layout values self.old
+            → IfErr result (IsPushRefused limits.now layout (values ++ value.now ∷ [])) }
+    {
+        match self.layout {
+            Layout::Numbers { bits, signed } => {
+                self.push_numbers(bits, signed, value, limits, indices)
+            }
+            Layout::Bits => self.push_truth(value, limits, indices),
+            Layout::VariableBytes { utf8 } => self.push_run(utf8, value, limits, indices),
+            layout => self.push_other(layout, value, limits, indices),
+        }
+    }
+
+    // The same, where the value is a number. Those of 64 and 32 bits are taken here by few steps.
     #[inline(always)]
-    pub(crate) fn push<I: IndexOf>(
+    fn push_int<I: IndexOf>(
         &mut self,
         value: &Value,
         limits: &Limits,
@@ -318,14 +445,41 @@ impl Column {
                 };
                 self.push_laid(layout, value, limits, indices)
             }
-            Layout::Numbers { bits, signed } => {
-                self.push_laid(Layout::Numbers { bits, signed }, value, limits, indices)
+            Layout::Numbers {
+                bits: IntBits::B32,
+                signed,
+            } => {
+                let layout = Layout::Numbers {
+                    bits: IntBits::B32,
+                    signed,
+                };
+                self.push_laid(layout, value, limits, indices)
             }
-            Layout::Bits => self.push_laid(Layout::Bits, value, limits, indices),
-            Layout::VariableBytes { utf8 } => {
-                self.push_laid(Layout::VariableBytes { utf8 }, value, limits, indices)
-            }
-            layout => self.push_laid(layout, value, limits, indices),
+            _ => self.push_any(value, limits, indices),
+        }
+    }
+
+    /// Takes one value more. After a refusal the column is of no use.
+    ///
+    /// Refused as `Counts::with`, and with `OutOfMemory` where a buffer can't grow.
+    #[inline(always)]
+    pub(crate) fn push<I: IndexOf>(
+        &mut self,
+        value: &Value,
+        limits: &Limits,
+        indices: &I,
+    ) -> Result<(), PushFault>
+        ensures pushed { (layout : Layout) (values : List Value)
+            → IsColumn (told (I.IndexOf.index indices.now)) limits.now layout values self.old
+            → OnOk result (IsColumn (told (I.IndexOf.index indices.now)) limits.now layout
+            (values ++ value.now ∷ []) self.new) }
+        ensures refused { (layout : Layout) (values : List Value)
+            → IsColumn (told (I.IndexOf.index indices.now)) limits.now layout values self.old
+            → IfErr result (IsPushRefused limits.now layout (values ++ value.now ∷ [])) }
+    {
+        match value {
+            Value::Int(_) => self.push_int(value, limits, indices),
+            _ => self.push_any(value, limits, indices),
         }
     }
 }

@@ -1,7 +1,9 @@
 ghost use Rattle.std.specs.Prelude.{◌≡◌, ◌≤◌, ◌<◌, ◌+◌, ◌*◌, ◌^◌, ◌++◌, ℕ, List, [], ◌∷◌, length};
-ghost use Rattle.std.specs.Prelude.{IfSome, IsTrue};
+ghost use Rattle.std.specs.Prelude.{IfSome, IsTrue, true};
 ghost use Rattle.ipc_model.specs.Fits.{EachFits, Fits, IsOwn};
 ghost use Rattle.ipc_model.specs.declared.schema.Field.{out-Field};
+ghost use Rattle.ipc_model.specs.declared.schema.DataType.TheVariants.{Int};
+ghost use Rattle.ipc_model.specs.declared.schema.IntBits.TheVariants.{B64};
 ghost use Rattle.ipc_model.specs.declared.value.Value.{out-Value};
 ghost use Rattle.ipc_model.specs.declared.layout.Layout.{Layout};
 ghost use Rattle.ipc_model.specs.declared.limits.Limits.{Limits};
@@ -22,9 +24,8 @@ use crate::node::Node;
 use ipc_model::{DataType, Field, IntBits, Layout, Limits, Value};
 
 // The bytes of a column's data with one value more, beside 8 for each slot, at most. None where
-// the layout asks for a closer look, or offsets don't reach. It stands by itself, so that numbers
-// are told by one comparison.
-#[inline(never)]
+// the layout asks for a closer look, or offsets don't reach.
+#[inline(always)]
 fn most_content(layout: Layout, counts: Counts, value: &Value) -> Option<u64>
     ensures most { (limits : Limits) (values : List Value) → IsCounted limits layout values counts
         → IfSome result (λ most. data_in layout (values ++ value.now ∷ [])
@@ -47,7 +48,27 @@ fn most_content(layout: Layout, counts: Counts, value: &Value) -> Option<u64>
     }
 }
 
-// The same, with numbers first.
+// Whether the slots of a column are numbers, which have at most 8 bytes.
+#[inline(always)]
+fn has_numbers(layout: Layout) -> bool
+    ensures small { IsTrue result → (values : List Value) → data_in layout values
+        ≤ 8 * length values + 0 }
+    ensures short { IsTrue result → (values : List Value) → ¬ HasLongData layout values }
+{
+    matches!(layout, Layout::Numbers { .. })
+}
+
+// The same of numbers or truths.
+#[inline(always)]
+fn has_small(layout: Layout) -> bool
+    ensures small { IsTrue result → (values : List Value) → data_in layout values
+        ≤ 8 * length values + 0 }
+    ensures short { IsTrue result → (values : List Value) → ¬ HasLongData layout values }
+{
+    matches!(layout, Layout::Numbers { .. } | Layout::Bits)
+}
+
+// The same, with those first that take no more than 8 for each slot.
 #[inline(always)]
 fn most_data(layout: Layout, counts: Counts, value: &Value) -> Option<u64>
     ensures most { (limits : Limits) (values : List Value) → IsCounted limits layout values counts
@@ -57,28 +78,18 @@ fn most_data(layout: Layout, counts: Counts, value: &Value) -> Option<u64>
         → IfSome result (λ most. ¬ HasLongData layout (values ++ value.now ∷ [])) }
     ensures few { IfSome result (λ most. most < 2 ^ 63 + 2 ^ 43) }
 {
-    if let Layout::Numbers { .. } = layout {
+    if has_small(layout) {
         return Some(0);
     }
     most_content(layout, counts, value)
 }
 
-// Whether a value is one of a field's own. It stands by itself, so that numbers of 64 bits are told
-// by few comparisons.
-#[inline(never)]
-fn is_fields_own(field: &Field, value: &Value) -> bool
-    ensures { IsTrue result → IsOwn (out-Field field.now).kind (out-Field field.now).nullable
-        (length (out-Field field.now).children) (out-Value value.now) }
-{
-    field.is_own(value)
-}
-
-// Whether a value is one of a field's own. Numbers of 64 bits, which all are in range, are told by
-// three comparisons.
+// Whether a value is a number of 64 bits in a field of such numbers.
 #[inline(always)]
-fn is_own(field: &Field, value: &Value) -> bool
-    ensures { IsTrue result → IsOwn (out-Field field.now).kind (out-Field field.now).nullable
+fn is_long(field: &Field, value: &Value) -> bool
+    ensures own { IsTrue result → IsOwn (out-Field field.now).kind (out-Field field.now).nullable
         (length (out-Field field.now).children) (out-Value value.now) }
+    ensures kind { IsTrue result → (out-Field field.now).kind ≡ Int B64 true }
 {
     match (value, &field.kind) {
         (
@@ -86,34 +97,105 @@ fn is_own(field: &Field, value: &Value) -> bool
             DataType::Int {
                 bits: IntBits::B64,
                 signed: true,
-            }
-            | DataType::Timestamp { .. },
+            },
         ) => {
             let _in_range = *number;
             true
         }
-        _ => is_fields_own(field, value),
+        _ => false,
     }
 }
 
-// The bytes that the buffers of a column without children take at most with one value more, where
-// the value fits the field. So many of them don't hang on the value.
+// Whether a value is one of a field's own, where that is told by one look at its type.
 #[inline(always)]
-fn most_with(field: &Field, value: &Value, node: &Node, least: u64) -> Option<u64>
-    requires { least < 2 ^ 43 }
-    ensures fits { IfSome result (λ most. Fits field.now value.now) }
+fn is_plain(field: &Field, value: &Value) -> bool
+    ensures { IsTrue result → IsOwn (out-Field field.now).kind (out-Field field.now).nullable
+        (length (out-Field field.now).children) (out-Value value.now) }
+{
+    match (value, &field.kind) {
+        (Value::Null, _) => field.nullable,
+        (Value::Bool(_), DataType::Bool) | (Value::Text(_), DataType::Utf8) => true,
+        (Value::Int(number), DataType::Timestamp { .. }) => {
+            let _in_range = *number;
+            true
+        }
+        (
+            Value::Int(number),
+            DataType::Int {
+                bits: IntBits::B32,
+                signed: true,
+            },
+        ) => i32::try_from(*number).is_ok(),
+        _ => false,
+    }
+}
+
+// The same, where the field has no children.
+#[inline(always)]
+fn fits_plainly(field: &Field, value: &Value) -> bool
+    ensures { IsTrue result → Fits field.now value.now }
+{
+    field.children.is_empty() && is_plain(field, value)
+}
+
+// The same, with numbers of 64 bits first: those are told by few comparisons.
+#[inline(always)]
+fn fits_surely(field: &Field, value: &Value) -> bool
+    ensures { IsTrue result → Fits field.now value.now }
+{
+    is_long(field, value) || fits_plainly(field, value)
+}
+
+// Whether a field has no children and a value fits it, by a closer look.
+#[inline(never)]
+fn fits_alone(field: &Field, value: &Value) -> bool
+    ensures { IsTrue result → Fits field.now value.now }
+{
+    field.children.is_empty() && field.is_own(value)
+}
+
+// Whether a value surely fits its field, and a column of numbers without children is its own: then
+// nothing of what the column takes at most hangs on the value.
+#[inline(always)]
+fn is_sure(field: &Field, value: &Value, node: &Node) -> bool
+    ensures fits { IsTrue result → Fits field.now value.now }
     ensures most { (known : Numbering) (limits : Limits) (layout : Layout)
-        (children : Shape) (values : List Value)
+        (children : Shape) (values : List Value) (least : ℕ)
         → IsNode (IsColumn known limits) layout children node.now values
         → length values < limits.slots → 14 * (length values + 1) + 25 ≤ least
-        → IfSome result (λ most. TakeAtMost limits most (shapes.field layout children bare)
-        (λ j. values ++ value.now ∷ [])) }
+        → IsTrue result → TakeAtMost limits least (shapes.field layout children bare)
+        (λ j. values ++ value.now ∷ []) }
 {
-    if !node.children.is_empty() || !field.children.is_empty() || !is_own(field, value) {
+    if !node.is_leaf() || !fits_surely(field, value) {
+        return false;
+    }
+    has_numbers(node.column.layout)
+}
+
+// Whether a value fits a field.
+#[inline(always)]
+fn fits(field: &Field, value: &Value) -> bool
+    ensures { IsTrue result → Fits field.now value.now }
+{
+    fits_surely(field, value) || fits_alone(field, value)
+}
+
+// The bytes that the buffers of a column without children take at most with one value more, beside
+// those that don't hang on the value, where the value fits the field.
+#[inline(always)]
+fn most_with(field: &Field, value: &Value, node: &Node) -> Option<u64>
+    ensures fits { IfSome result (λ most. Fits field.now value.now) }
+    ensures most { (known : Numbering) (limits : Limits) (layout : Layout)
+        (children : Shape) (values : List Value) (least : ℕ)
+        → IsNode (IsColumn known limits) layout children node.now values
+        → length values < limits.slots → 14 * (length values + 1) + 25 ≤ least
+        → IfSome result (λ most. TakeAtMost limits (least + most)
+        (shapes.field layout children bare) (λ j. values ++ value.now ∷ [])) }
+{
+    if !node.is_leaf() || !fits(field, value) {
         return None;
     }
-    let data = most_data(node.column.layout, node.column.counts, value)?;
-    Some(least + data)
+    most_data(node.column.layout, node.column.counts, value)
 }
 
 /// Whether a row surely fits these fields, and with it their columns of so many rows the limits.
@@ -136,8 +218,18 @@ pub(crate) fn surely_fit(
         → IsTrue result
         → AreWithin limits.now (shape_of fields.now) (λ j. given j ++ cell j row.now ∷ []) }
 {
+    // Asked once, so that no step of the loop has to ask.
+    if row.len() < nodes.len() {
+        return false;
+    }
     let least = 14 * (rows as u64 + 1) + 25;
-    let mut left = limits.body;
+    let Some(least_of_all) = (nodes.len() as u64).checked_mul(least) else {
+        return false;
+    };
+    if least_of_all > limits.body {
+        return false;
+    }
+    let mut left = limits.body - least_of_all;
     for i in 0..nodes.len() {
         let Some(field) = fields.get(i) else {
             return false;
@@ -145,13 +237,15 @@ pub(crate) fn surely_fit(
         let Some(value) = row.get(i) else {
             return false;
         };
-        let Some(most) = most_with(field, value, &nodes[i], least) else {
-            return false;
-        };
-        if most > left {
-            return false;
+        if !is_sure(field, value, &nodes[i]) {
+            let Some(most) = most_with(field, value, &nodes[i]) else {
+                return false;
+            };
+            if most > left {
+                return false;
+            }
+            left -= most;
         }
-        left -= most;
     }
     true
 }

@@ -1,7 +1,9 @@
 use Rattle.std.proofs.Common.{◌∙◌, sym, ap, ℕ, Bool, List, [], ◌∷◌, ◌++◌}
+use Rattle.std.specs.Int.{bytes_low_first}
+use Rattle.ipc_model.specs.Layouts.{number_bytes}
 use Rattle.ipc_encode.specs.Pieces.{True, Number, Fixed, Content}
 use Rattle.ipc_encode.specs.Bitmaps.{bitmap}
-use Rattle.ipc_encode.specs.Cells.{flags, content, fixed, slot_bytes}
+use Rattle.ipc_encode.specs.Cells.{flags, content, fixed, slots}
 use Rattle.ipc_encode.proofs.Bits.{flags_length}
 use Rattle.ipc_encode.proofs.Steps.{flags_push, slots_push}
 use Rattle.std.proofs.lemmas.Result.{on_ok_weaker}
@@ -16,10 +18,12 @@ returns-in-Bits-clause-values c = λ vs size e.
 
 pub returns-in-Numbers-clause-values : goal.returns-in-Numbers-clause-values
 returns-in-Numbers-clause-values c = λ vs size e.
-    rw c.in-Numbers.is (on_ok_weaker c.push_number.result
-    (λ h. h ∙ (ap (λ (bs : List ℕ). bs ++ slot_bytes (Number c.in-Numbers.bits) c.args.value.now) (rw c.in-Numbers.is at e)
-    ∙ sym (slots_push (Number c.in-Numbers.bits) vs c.args.value.now)))
-    c.push_number.ensures)
+    let bits = c.in-Numbers.bits in
+    rw c.in-Numbers.is (on_ok_weaker c.push_bits.result
+    (λ h. h ∙ (ap (λ (bs : List ℕ). bs ++ bytes_low_first 0 (number_bytes bits) c.args.number) (rw c.in-Numbers.is at e)
+    ∙ (ap (λ (n : ℕ). slots (Number bits) vs ++ bytes_low_first 0 (number_bytes bits) n) c.requires
+    ∙ sym (slots_push (Number bits) vs c.args.value.now))))
+    c.push_bits.ensures)
 
 pub returns-in-FixedBytes-clause-values : goal.returns-in-FixedBytes-clause-values
 returns-in-FixedBytes-clause-values c = λ vs size e.

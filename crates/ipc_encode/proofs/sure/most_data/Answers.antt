@@ -1,8 +1,8 @@
-use Rattle.std.proofs.Common.{◌++◌, [], ◌∷◌, inl, inr}
-use Rattle.ipc_encode.proofs.SurelyFit.{small_data, small_is}
+use Rattle.std.proofs.Common.{◌++◌, [], ◌∷◌, rules}
 use Rattle.ipc_encode.proofs.sure.most_data.Goals as goal
 
-pub returns-in-Numbers-clause-most : goal.returns-in-Numbers-clause-most
-returns-in-Numbers-clause-most c = λ limits values h.
-    small_data c.args.layout (values ++ c.args.value.now ∷ []) (small_is c.args.layout
-    (inr (inr (inl (c.in-Numbers.bits, c.in-Numbers.signed, c.in-Numbers.is)))))
+pub returns-then-has_small-clause-most : goal.returns-then-has_small-clause-most
+returns-then-has_small-clause-most c = λ limits values h. c.has_small.ensures.small (search rules) (values ++ c.args.value.now ∷ [])
+
+pub returns-then-has_small-clause-short : goal.returns-then-has_small-clause-short
+returns-then-has_small-clause-short c = λ limits values h. c.has_small.ensures.short (search rules) (values ++ c.args.value.now ∷ [])

@@ -1,0 +1,98 @@
+-- Numbers in the chunks of a list of bytes, which are slots of as many bytes each.
+use Rattle.std.proofs.Common.{◌≡◌, ◌∙◌, refl, sym, ap, true, ◌^◌, ℕ, zero, suc, ◌+◌, ◌*◌, ◌/◌, ◌<◌, ◌≤◌, List, length, take, drop}
+use Rattle.std.proofs.Common.{get_or, arith, inl, inr}
+use Rattle.std.specs.Int.{w16, w32, w64, cast_signed, from_le_bytes}
+use Rattle.std.specs.Prelude.{pos, int_le, unsigned_abs}
+use Rattle.std.specs.Ordering.{ord_max, nat_cmp}
+use Rattle.std.specs.Simd.{first_chunks}
+use Rattle.std.proofs.lemmas.Bool.{cases_lt, cases_order, false≢true, le-ltb}
+use Rattle.std.proofs.lemmas.Int.{to_z_pos}
+use Rattle.std.proofs.lemmas.Bool.Decides.{nat_tests}
+use Rattle.std.proofs.lemmas.List.{drop-drop}
+use Rattle.std.proofs.lemmas.Simd.{get_or-chunk}
+use Rattle.ipc_scalar.specs.Bytes.{num}
+
+-- the chunk behind i others
+chunk_at : (w k i : ℕ) (xs d : List ℕ) → i < k → get_or (first_chunks w k xs) i d ≡ take w (drop (w * i) xs)
+chunk_at w zero i xs d inside = absurd (omega (arith, inside))
+chunk_at w (suc k) zero xs d inside = let e : w * 0 ≡ 0 = omega arith in rw e refl
+chunk_at w (suc k) (suc i) xs d inside =
+    let place : w + w * i ≡ w * suc i = omega arith in
+    chunk_at w k i (drop w xs) d (omega (arith, inside)) ∙ (ap (take w) (drop-drop (w * i) w xs) ∙ ap (λ (n : ℕ). take w (drop n xs)) place)
+
+-- byte k of the chunk at p
+byte_in : (w p : ℕ) (xs : List ℕ) (k q : ℕ) → k < w → p + k ≡ q → get_or (take w (drop p xs)) k 0 ≡ get_or xs q 0
+byte_in w p xs k q h e = get_or-chunk p w xs k 0 h ∙ ap (λ (n : ℕ). get_or xs n 0) e
+
+-- the number in two bytes
+number_2 : (xs : List ℕ) (p : ℕ) → from_le_bytes w16 (take 2 (drop p xs)) ≡ num xs p 2
+unfolding num
+number_2 xs p =
+    let b0 = byte_in 2 p xs 0 (p) (omega arith) (omega arith) in
+    let b1 = byte_in 2 p xs 1 (suc p) (omega arith) (omega arith) in
+    omega (arith, b0, b1)
+
+-- the number in four
+number_4 : (xs : List ℕ) (p : ℕ) → from_le_bytes w32 (take 4 (drop p xs)) ≡ num xs p 4
+unfolding num
+number_4 xs p =
+    let b0 = byte_in 4 p xs 0 (p) (omega arith) (omega arith) in
+    let b1 = byte_in 4 p xs 1 (suc p) (omega arith) (omega arith) in
+    let b2 = byte_in 4 p xs 2 (suc (suc p)) (omega arith) (omega arith) in
+    let b3 = byte_in 4 p xs 3 (suc (suc (suc p))) (omega arith) (omega arith) in
+    omega (arith, b0, b1, b2, b3)
+
+-- the number in eight
+number_8 : (xs : List ℕ) (p : ℕ) → from_le_bytes w64 (take 8 (drop p xs)) ≡ num xs p 8
+unfolding num
+number_8 xs p =
+    let b0 = byte_in 8 p xs 0 (p) (omega arith) (omega arith) in
+    let b1 = byte_in 8 p xs 1 (suc p) (omega arith) (omega arith) in
+    let b2 = byte_in 8 p xs 2 (suc (suc p)) (omega arith) (omega arith) in
+    let b3 = byte_in 8 p xs 3 (suc (suc (suc p))) (omega arith) (omega arith) in
+    let b4 = byte_in 8 p xs 4 (suc (suc (suc (suc p)))) (omega arith) (omega arith) in
+    let b5 = byte_in 8 p xs 5 (suc (suc (suc (suc (suc p))))) (omega arith) (omega arith) in
+    let b6 = byte_in 8 p xs 6 (suc (suc (suc (suc (suc (suc p)))))) (omega arith) (omega arith) in
+    let b7 = byte_in 8 p xs 7 (suc (suc (suc (suc (suc (suc (suc p))))))) (omega arith) (omega arith) in
+    omega (arith, b0, b1, b2, b3, b4, b5, b6, b7)
+
+-- the number in slot i of two bytes each
+pub slot_2 : (xs : List ℕ) (all : List (List ℕ)) (i : ℕ) (d : List ℕ) → all ≡ first_chunks 2 (length xs / 2) xs → 2 * (i + 1) ≤ length xs
+    → from_le_bytes w16 (get_or all i d) ≡ num xs (2 * i) 2
+slot_2 xs all i d is inside =
+    ap (λ (c : List (List ℕ)). from_le_bytes w16 (get_or c i d)) is
+    ∙ (ap (from_le_bytes w16) (chunk_at 2 (length xs / 2) i xs d (omega arith)) ∙ number_2 xs (2 * i))
+
+-- the number in slot i of four
+pub slot_4 : (xs : List ℕ) (all : List (List ℕ)) (i : ℕ) (d : List ℕ) → all ≡ first_chunks 4 (length xs / 4) xs → 4 * (i + 1) ≤ length xs
+    → from_le_bytes w32 (get_or all i d) ≡ num xs (4 * i) 4
+slot_4 xs all i d is inside =
+    ap (λ (c : List (List ℕ)). from_le_bytes w32 (get_or c i d)) is
+    ∙ (ap (from_le_bytes w32) (chunk_at 4 (length xs / 4) i xs d (omega arith)) ∙ number_4 xs (4 * i))
+
+-- the number in slot i of eight
+pub slot_8 : (xs : List ℕ) (all : List (List ℕ)) (i : ℕ) (d : List ℕ) → all ≡ first_chunks 8 (length xs / 8) xs → 8 * (i + 1) ≤ length xs
+    → from_le_bytes w64 (get_or all i d) ≡ num xs (8 * i) 8
+slot_8 xs all i d is inside =
+    ap (λ (c : List (List ℕ)). from_le_bytes w64 (get_or c i d)) is
+    ∙ (ap (from_le_bytes w64) (chunk_at 8 (length xs / 8) i xs d (omega arith)) ∙ number_8 xs (8 * i))
+
+-- a bound of the numbers in one slot more
+pub bound_more : (f : ℕ → ℕ) (a i x y : ℕ) → ((k : ℕ) → a ≤ k → k < i → f k ≤ x) → x ≤ y → f i ≤ y → (k : ℕ) → a ≤ k → k < i + 1 → f k ≤ y
+bound_more f a i x y all up here k from below =
+    elim (cases_order k i) as (λ _. f k ≤ y) [
+      | inl e ↦ rw e here
+      | inr r ↦ elim r as (λ _. f k ≤ y) [ inl m ↦ omega (arith, all k from m) | inr m ↦ absurd (omega arith) ]
+    ]
+
+-- the larger of two numbers is above both
+pub max_above : (x y : ℕ) → (x ≤ ord_max nat_cmp x y) × (y ≤ ord_max nat_cmp x y)
+max_above x y = (grind (arith, nat_tests), grind (arith, nat_tests))
+
+-- a number of four bytes that isn't negative where it is seen as signed
+pub positive_is : (n : ℕ) → int_le (pos 0) (cast_signed w32 n) ≡ true → n ≡ unsigned_abs (cast_signed w32 n)
+positive_is n h =
+    elim (cases_lt n (2 ^ 31)) as (λ _. n ≡ unsigned_abs (cast_signed w32 n)) [
+      | inl l ↦ ap unsigned_abs (sym (to_z_pos w32 n l))
+      | inr l ↦ absurd (false≢true (rw (le-ltb n (2 ^ 31) l) at h))
+    ]

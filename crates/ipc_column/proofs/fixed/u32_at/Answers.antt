@@ -1,0 +1,6 @@
+use Rattle.std.proofs.Common.{◌∙◌}
+use Rattle.ipc_column.proofs.Chunks.{slot_4}
+use Rattle.ipc_column.proofs.fixed.u32_at.Goals as goal
+
+pub returns : goal.returns
+returns c = c.from_le_bytes.ensures ∙ slot_4 c.args.values.now _ c.args.slot _ c.as_chunks.ensures.front c.requires
