@@ -1,6 +1,8 @@
 -- What a text stands for fits a field where it is one of the field's own.
-use Rattle.std.proofs.Common.{◌≡◌, ℕ, List, [], ◌∷◌, length, sym, ap, ◌∙◌, subst}
-use Rattle.ipc_model.specs.Fits.{Fits, IsOwn, InnerFit}
+use Rattle.std.proofs.Common.{◌≡◌, ◌≢◌, ℕ, List, [], ◌∷◌, length, sym, ap, ◌∙◌, subst, Bool, Result, Ok, Err}
+use Rattle.std.specs.Prelude.{IfOk, IsTrue}
+use Rattle.std.proofs.lemmas.Option.{same_Some}
+use Rattle.ipc_model.specs.Fits.{Fits, IsOwn, IsOfKind, InnerFit}
 use Rattle.ipc_model.specs.declared.schema.DataType.{DataType}
 use Rattle.ipc_model.specs.declared.schema.DataType.TheVariants as t
 use Rattle.ipc_model.specs.declared.schema.Field.{Field, out-Field}
@@ -8,6 +10,8 @@ use Rattle.ipc_model.specs.declared.value.Value.{Value, out-Value, roll-Value, r
 use Rattle.ipc_model.specs.declared.value.Value.TheOpen.{Value-F}
 use Rattle.ipc_model.proofs.FitsLemmas.{fits_parts}
 use Rattle.ipc_csv.specs.CsvRows.{StandsFor, ReadsAs}
+use Rattle.ipc_csv.specs.RowCsv.{null_text}
+use Rattle.ipc_moments.specs.declared.fault.TextFault.{TextFault}
 
 -- what a text stands for has no values inside it
 inner_fits : (kind : DataType) (fs : List Field) (text : List ℕ) (w : Value-F Value) → StandsFor kind text w → InnerFit Fits kind fs w
@@ -24,6 +28,25 @@ pub reads_own : (f : Field) (text : List ℕ) (v : Value)
 reads_own f text v own s =
     (subst (λ T. T) (sym (fits_parts f v)) (own, inner_fits (out-Field f).kind (out-Field f).children text (out-Value v) s), s)
 
+-- where both were told of what was read, it reads as it
+pub read_both : (f : Field) (text : List ℕ) (v : Value) (r : Result Bool TextFault)
+    → IfOk r (λ read. IsTrue read → IsOwn (out-Field f).kind (out-Field f).nullable (length (out-Field f).children) (out-Value v))
+    → IfOk r (λ read. IsTrue read → StandsFor (out-Field f).kind text (out-Value v))
+    → IfOk r (λ read. IsTrue read → ReadsAs f text v)
+read_both f text v (Ok read) own stands = λ h. reads_own f text v (own h) (stands h)
+read_both f text v (Err fault) own stands = tt
+
+of_kind : (kind : DataType) (nullable : Bool) (n : ℕ) (text : List ℕ) (w : Value-F Value) → text ≢ null_text → IsOwn kind nullable n w
+    → StandsFor kind text w → IsOfKind kind n w
+of_kind kind nullable n text Value-F.Null other own s = absurd (other (sym (same_Some _ _ s)))
+of_kind kind nullable n text (Value-F.Bool b) other own s = own
+of_kind kind nullable n text (Value-F.Int z) other own s = own
+of_kind kind nullable n text (Value-F.UInt m) other own s = own
+of_kind kind nullable n text (Value-F.Bytes bytes) other own s = own
+of_kind kind nullable n text (Value-F.Text chars) other own s = own
+of_kind kind nullable n text (Value-F.List vs) other own s = own
+of_kind kind nullable n text (Value-F.Struct vs) other own s = own
+
 -- what fits a field is one of its own
 pub own_of_fits : (f : Field) (v : Value) → Fits f v
     → IsOwn (out-Field f).kind (out-Field f).nullable (length (out-Field f).children) (out-Value v)
@@ -32,3 +55,13 @@ own_of_fits f v h = (subst (λ T. T) (fits_parts f v) h).0
 -- two values are one where they have the same parts
 pub out_same : (v w : Value) → out-Value v ≡ out-Value w → v ≡ w
 out_same v w e = sym (roll-out-Value v) ∙ ap roll-Value e ∙ roll-out-Value w
+
+-- a text that isn't that of null reads as no null
+pub read_any : (f : Field) (text : List ℕ) (new : Value) (r : Result Bool TextFault) → text ≢ null_text
+    → IfOk r (λ read. (v : Value) → IsOfKind (out-Field f).kind (length (out-Field f).children) (out-Value v)
+    → StandsFor (out-Field f).kind text (out-Value v) → IsTrue read × (new ≡ v))
+    → IfOk r (λ read. (v : Value) → ReadsAs f text v → IsTrue read × (new ≡ v))
+read_any f text new (Ok read) other all = λ v h.
+    let own = own_of_fits f v h.0 in
+    all v (of_kind (out-Field f).kind (out-Field f).nullable (length (out-Field f).children) text (out-Value v) other own h.1) h.1
+read_any f text new (Err fault) other all = tt

@@ -2,6 +2,7 @@ pub mod CsvBack
 pub mod CsvFits
 pub mod CsvSteps
 pub mod HexPairs
+pub mod InstantTexts
 pub mod NullText
 pub mod PlainDigits
 pub mod Quoted

@@ -35,6 +35,7 @@ pub(crate) fn read_short(digits: &[u8]) -> Option<u64>
 }
 
 /// The number of at most 18 digits whose decimal text this is. None for any other text.
+#[inline(never)]
 pub(crate) fn read_short_signed(text: &[u8]) -> Option<i64>
     ensures only { IfSome result (λ z. signed_decimal z ≡ text.now) }
     ensures fits { IfSome result (λ z. FitsSigned w64 z) }

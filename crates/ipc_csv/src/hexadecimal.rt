@@ -50,6 +50,7 @@ fn are_values(high: u8, low: u8) -> bool
 
 /// Writes the bytes of pairs of digits, in either case, and says whether all are digits. No branch
 /// depends on them.
+#[inline(never)]
 pub(crate) fn decode_pairs(text: &[u8], bytes: &mut [u8]) -> bool
     requires { length text.now ≡ 2 * length bytes.old }
     ensures bytes { IsTrue result → bytes_of text.now ≡ Some bytes.new }

@@ -4,6 +4,7 @@
 mod cell;
 mod digits;
 mod hexadecimal;
+mod instants;
 mod reader;
 mod record;
 

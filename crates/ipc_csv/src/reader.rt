@@ -2,30 +2,33 @@
 ghost use Rattle.std.specs.Prelude.{◌≡◌, ◌<◌, ◌^◌, ℕ, ℤ, List, IfOk, IfErr, IfSome, MatchResult};
 ghost use Rattle.std.specs.Prelude.{Some, Bool, FitsSigned, decimal, option_map, length, OnOk};
 ghost use Rattle.std.specs.Prelude.{None, Ok, [], string_bytes};
-ghost use Rattle.std.specs.Prelude.{IsTrue, ◌↔◌};
+ghost use Rattle.std.specs.Prelude.{IsTrue, IsSome, ◌↔◌, false};
 ghost use Rattle.std.specs.List.{AllByRecursion};
 ghost use Rattle.std.specs.Fmt.{signed_decimal};
 ghost use Rattle.std.specs.Int.{w64};
 ghost use Rattle.std.specs.Str.{IsUtf8};
 ghost use Rattle.csv.specs.Records.{fields_of};
-ghost use Rattle.ipc_model.specs.declared.value.Value.{Value, out-Value};
+ghost use Rattle.ipc_model.specs.declared.value.Value.{Null, Value, out-Value};
 ghost use Rattle.ipc_model.specs.declared.value.Value.TheOpen.{Value-F};
 ghost use Rattle.ipc_model.specs.declared.schema.Field.{out-Field};
 ghost use Rattle.ipc_model.specs.Fits.{IsOwn, IsOfKind, RowFits};
+ghost use Rattle.ipc_model.specs.Ranges.{IsSignedWithin, width};
+ghost use Rattle.ipc_model.specs.declared.schema.DataType.TheVariants.{FixedSizeBinary};
 ghost use Rattle.ipc_csv.specs.CsvCells.{bytes_of};
 ghost use Rattle.ipc_csv.specs.CsvRows.{StandsFor, ReadsAs, RecordReadsAs, IsRecordFault};
 ghost use Rattle.ipc_csv.specs.CsvRows.{IsCharsOf, EachReadsAs, IsBadField, IsFirstUnlike};
 ghost use Rattle.ipc_csv.specs.CsvRows.{IsHeaderFault, IsStored};
-ghost use Rattle.ipc_moments.specs.Moments.{timestamp_text};
+ghost use Rattle.ipc_moments.specs.Moments.{date_text, time_text, timestamp_text};
 ghost use Rattle.ipc_csv.specs.RowCsv.{int_text, bool_text, backslashed, names, flat_fault};
 ghost use Rattle.ipc_csv.specs.RowCsv.{row_texts};
 
 use crate::cell::{decode_bytes, read_int, read_text, read_uint};
 use crate::digits::{read_short, read_short_signed};
+use crate::instants::{read_day, read_instant};
 use crate::record::check_flat;
 use csv::ByteRecord;
-use ipc_model::{DataType, Field, Items, Row, Schema, Text, TimeUnit, Value};
-use ipc_moments::{TextFault, read_date, read_time, read_timestamp};
+use ipc_model::{DataType, DateUnit, Field, IntBits, Items, Row, Schema, Text, TimeUnit, Value};
+use ipc_moments::{TextFault, read_date, read_time};
 use std::alloc::{AllocError, Global};
 use std::mem;
 
@@ -36,22 +39,8 @@ fn read_zoned(unit: TimeUnit, timezone: &Option<Text>, text: &[u8]) -> Option<i6
         → result ≡ Some z }
 {
     match timezone {
-        Some(zone) => read_timestamp(unit, Some(zone.as_str()), text),
-        None => read_timestamp(unit, None, text),
-    }
-}
-
-// The signed number of this type whose text this is.
-fn read_signed(kind: &DataType, text: &[u8]) -> Option<i64>
-    ensures only { IfSome result (λ z. int_text kind.now z ≡ Some text.now) }
-    ensures all { (z : ℤ) → FitsSigned w64 z → int_text kind.now z ≡ Some text.now
-        → result ≡ Some z }
-{
-    match kind {
-        DataType::Date(unit) => read_date(*unit, text),
-        DataType::Time(unit) => read_time(*unit, text),
-        DataType::Timestamp { unit, timezone } => read_zoned(*unit, timezone, text),
-        _ => read_decimal(text),
+        Some(zone) => read_instant(unit, Some(zone.as_str()), text),
+        None => read_instant(unit, None, text),
     }
 }
 
@@ -88,12 +77,10 @@ fn read_truth(text: &[u8]) -> Option<bool>
     ensures only { IfSome result (λ truth. bool_text truth ≡ text.now) }
     ensures all { (truth : Bool) → bool_text truth ≡ text.now → result ≡ Some truth }
 {
-    if text == b"true".as_slice() {
-        Some(true)
-    } else if text == b"false".as_slice() {
-        Some(false)
-    } else {
-        None
+    match text {
+        [b't', b'r', b'u', b'e'] => Some(true),
+        [b'f', b'a', b'l', b's', b'e'] => Some(false),
+        _ => None,
     }
 }
 
@@ -111,116 +98,247 @@ fn room_for_text(alloc: Global, kept: Value) -> String
     }
 }
 
-// The text whose field this is, as a value in the room of one that is let go.
-fn read_chars(alloc: Global, text: &[u8], kept: Value) -> Result<Option<Value>, TextFault>
-    ensures only { IfOk result (λ read. IfSome read (λ v. IsCharsOf text.now (out-Value v))) }
+// Puts the text whose field this is in the place of a value, in its room where that is a text, and
+// says whether there is one.
+#[inline(never)]
+fn put_chars(alloc: Global, text: &[u8], place: &mut Value) -> Result<bool, TextFault>
+    ensures only { IfOk result (λ read. IsTrue read → IsCharsOf text.now (out-Value place.new)) }
     ensures all { IfOk result (λ read. (chars : List ℕ) → IsUtf8 chars
         → backslashed chars ≡ text.now
-        → option_map out-Value read ≡ Some (Value-F.Text chars)) }
+        → IsTrue read × (out-Value place.new ≡ Value-F.Text chars)) }
     ensures refused { IfErr result (λ fault. fault ≡ TextFault.OutOfMemory) }
 {
     let Some(chars) = read_text(text) else {
-        return Ok(None);
+        return Ok(false);
     };
     let Ok(chars) = str::from_utf8(chars) else {
-        return Ok(None);
+        return Ok(false);
     };
-    let mut string = room_for_text(alloc, kept);
+    let mut string = room_for_text(alloc, mem::replace(place, Value::Null));
     string.push_str(chars)?;
-    Ok(Some(Value::Text(Text::from_string(string))))
+    *place = Value::Text(Text::from_string(string));
+    Ok(true)
 }
 
-// An empty list of bytes with the room of a value that is let go, where that is bytes.
-fn room_for_bytes(alloc: Global, kept: Value) -> Vec<u8>
-    ensures { result.items ≡ [] }
-{
+// The list of bytes of a value that is let go, where that is bytes. What it holds means nothing.
+fn room_for_bytes(alloc: Global, kept: Value) -> Vec<u8> {
     match kept {
-        Value::Bytes(bytes) => {
-            let mut bytes = bytes.into_vec();
-            bytes.clear();
-            bytes
-        }
+        Value::Bytes(bytes) => bytes.into_vec(),
         _ => Vec::new(alloc),
     }
 }
 
-// The bytes whose digits these are, as a value in the room of one that is let go.
-fn read_binary(alloc: Global, text: &[u8], kept: Value) -> Result<Option<Value>, TextFault>
-    ensures bytes { IfOk result (λ read. option_map out-Value read
-        ≡ option_map Value-F.Bytes (bytes_of text.now)) }
+// Puts the bytes whose digits these are in the place of a value, in its room where that is bytes,
+// and says whether there are such.
+#[inline(never)]
+fn put_binary(alloc: Global, text: &[u8], place: &mut Value) -> Result<bool, TextFault>
+    ensures bytes { IfOk result (λ read. IsTrue read
+        → option_map Value-F.Bytes (bytes_of text.now) ≡ Some (out-Value place.new)) }
+    ensures none { IfOk result (λ read. read ≡ false → bytes_of text.now ≡ None) }
     ensures refused { IfErr result (λ fault. fault ≡ TextFault.OutOfMemory) }
 {
-    let mut bytes = room_for_bytes(alloc, kept);
-    if decode_bytes(&mut bytes, text)? {
-        Ok(Some(Value::Bytes(Items::from_vec(bytes))))
-    } else {
-        Ok(None)
+    let mut bytes = room_for_bytes(alloc, mem::replace(place, Value::Null));
+    if !decode_bytes(&mut bytes, text)? {
+        return Ok(false);
+    }
+    *place = Value::Bytes(Items::from_vec(bytes));
+    Ok(true)
+}
+
+// A number that is one of so many bits.
+#[inline(always)]
+fn within(bits: IntBits, number: Option<i64>) -> Option<i64>
+    ensures number { IfSome result (λ z. number ≡ Some z) }
+    ensures small { IfSome result (λ z. IsSignedWithin (width bits) z) }
+    ensures all { (z : ℤ) → number ≡ Some z → IsSignedWithin (width bits) z → result ≡ Some z }
+{
+    let number = number?;
+    let is_within = match bits {
+        IntBits::B8 => i8::try_from(number).is_ok(),
+        IntBits::B16 => i16::try_from(number).is_ok(),
+        IntBits::B32 => i32::try_from(number).is_ok(),
+        IntBits::B64 => true,
+    };
+    if is_within { Some(number) } else { None }
+}
+
+// Whether a value is so many bytes.
+#[inline(always)]
+fn has_size(size: u32, value: &Value) -> bool
+    ensures { IsTrue result ↔ IsOfKind (FixedSizeBinary size) 0 (out-Value value.now) }
+{
+    match value {
+        Value::Bytes(bytes) => bytes.len() == size as usize,
+        _ => false,
     }
 }
 
-// The value of this type whose text this is, null aside, in the room of one that is let go.
-fn read_own(
-    alloc: Global,
-    kind: &DataType,
-    text: &[u8],
-    kept: Value,
-) -> Result<Option<Value>, TextFault>
-    ensures only { IfOk result (λ read.
-        IfSome read (λ v. StandsFor kind.now text.now (out-Value v))) }
-    ensures all { IfOk result (λ read. (children : ℕ) (v : Value)
-        → IsOfKind kind.now children (out-Value v) → StandsFor kind.now text.now (out-Value v)
-        → read ≡ Some v) }
-    ensures refused { IfErr result (λ fault. fault ≡ TextFault.OutOfMemory) }
+// Puts a value in the place of another, where there is one.
+#[inline(always)]
+fn put(value: Option<Value>, place: &mut Value) -> bool
+    ensures put { IsTrue result → value ≡ Some place.new }
+    ensures all { (v : Value) → value ≡ Some v → IsTrue result }
 {
-    match kind {
-        DataType::Null | DataType::List | DataType::FixedSizeList(_) | DataType::Struct => Ok(None),
-        DataType::Bool => Ok(read_truth(text).map(Value::Bool)),
-        DataType::Int { signed: false, .. } => Ok(read_count(text).map(Value::UInt)),
-        DataType::Utf8 => read_chars(alloc, text, kept),
-        DataType::Binary | DataType::FixedSizeBinary(_) => read_binary(alloc, text, kept),
-        _ => Ok(read_signed(kind, text).map(Value::Int)),
+    match value {
+        Some(value) => {
+            *place = value;
+            true
+        }
+        None => false,
     }
 }
 
-// The value of this type whose text this is, in the room of one that is let go.
-fn read_value(
-    alloc: Global,
-    kind: &DataType,
-    text: &[u8],
-    kept: Value,
-) -> Result<Option<Value>, TextFault>
-    ensures only { IfOk result (λ read.
-        IfSome read (λ v. StandsFor kind.now text.now (out-Value v))) }
-    ensures all { IfOk result (λ read. (nullable : Bool) (children : ℕ) (v : Value)
-        → IsOwn kind.now nullable children (out-Value v)
-        → StandsFor kind.now text.now (out-Value v) → read ≡ Some v) }
-    ensures refused { IfErr result (λ fault. fault ≡ TextFault.OutOfMemory) }
+// The same of a signed number. In the place of another nothing has to be let go.
+#[inline(always)]
+fn put_int(number: Option<i64>, place: &mut Value) -> bool
+    ensures only { IsTrue result → IfSome number (λ z. out-Value place.new ≡ Value-F.Int z) }
+    ensures some { IsTrue result ↔ IsSome number }
 {
-    if text == b"\\N".as_slice() {
-        return Ok(Some(Value::Null));
+    let Some(number) = number else {
+        return false;
+    };
+    match place {
+        Value::Int(kept) => *kept = number,
+        _ => *place = Value::Int(number),
     }
-    read_own(alloc, kind, text, kept)
+    true
 }
 
-// The value of this field as which the text reads, in the room of one that is let go.
+// The same, where it is one of the field's own.
+fn put_own(field: &Field, value: Option<Value>, place: &mut Value) -> bool
+    ensures put { IsTrue result → value ≡ Some place.new }
+    ensures own { IsTrue result → IsOwn (out-Field field.now).kind (out-Field field.now).nullable
+        (length (out-Field field.now).children) (out-Value place.new) }
+    ensures all { (v : Value) → value ≡ Some v
+        → IsOwn (out-Field field.now).kind (out-Field field.now).nullable
+        (length (out-Field field.now).children) (out-Value v) → IsTrue result }
+{
+    let Some(value) = value else {
+        return false;
+    };
+    if !field.is_own(&value) {
+        return false;
+    }
+    *place = value;
+    true
+}
+
+// Puts null in the place of a value, where it is one of the field's own. What is seldom read stands
+// in functions of its own, so that no other value pays for its room.
+#[inline(never)]
+fn put_null(field: &Field, place: &mut Value) -> bool
+    ensures put { IsTrue result → place.new ≡ Null }
+    ensures own { IsTrue result ↔ IsOwn (out-Field field.now).kind (out-Field field.now).nullable
+        (length (out-Field field.now).children) Value-F.Null }
+{
+    put_own(field, Some(Value::Null), place)
+}
+
+// The same of the unsigned number whose text this is.
+#[inline(never)]
+fn put_count(field: &Field, text: &[u8], place: &mut Value) -> bool
+    ensures own { IsTrue result → IsOwn (out-Field field.now).kind (out-Field field.now).nullable
+        (length (out-Field field.now).children) (out-Value place.new) }
+    ensures only { IsTrue result
+        → (n : ℕ) × (out-Value place.new ≡ Value-F.UInt n) × (decimal n ≡ text.now) }
+    ensures all { (n : ℕ) → n < 2 ^ 64 → decimal n ≡ text.now
+        → IsOwn (out-Field field.now).kind (out-Field field.now).nullable
+        (length (out-Field field.now).children) (Value-F.UInt n)
+        → IsTrue result × (out-Value place.new ≡ Value-F.UInt n) }
+{
+    put_own(field, read_count(text).map(Value::UInt), place)
+}
+
+// The same of the date in milliseconds whose text this is.
+#[inline(never)]
+fn put_date(field: &Field, text: &[u8], place: &mut Value) -> bool
+    ensures own { IsTrue result → IsOwn (out-Field field.now).kind (out-Field field.now).nullable
+        (length (out-Field field.now).children) (out-Value place.new) }
+    ensures only { IsTrue result → (z : ℤ) × (out-Value place.new ≡ Value-F.Int z)
+        × (date_text DateUnit.Millisecond z ≡ Some text.now) }
+    ensures all { (z : ℤ) → date_text DateUnit.Millisecond z ≡ Some text.now
+        → IsOwn (out-Field field.now).kind (out-Field field.now).nullable
+        (length (out-Field field.now).children) (Value-F.Int z)
+        → IsTrue result × (out-Value place.new ≡ Value-F.Int z) }
+{
+    put_own(
+        field,
+        read_date(DateUnit::Millisecond, text).map(Value::Int),
+        place,
+    )
+}
+
+// The same of the time whose text this is.
+#[inline(never)]
+fn put_time(field: &Field, unit: TimeUnit, text: &[u8], place: &mut Value) -> bool
+    ensures own { IsTrue result → IsOwn (out-Field field.now).kind (out-Field field.now).nullable
+        (length (out-Field field.now).children) (out-Value place.new) }
+    ensures only { IsTrue result → (z : ℤ) × (out-Value place.new ≡ Value-F.Int z)
+        × (time_text unit z ≡ Some text.now) }
+    ensures all { (z : ℤ) → time_text unit z ≡ Some text.now
+        → IsOwn (out-Field field.now).kind (out-Field field.now).nullable
+        (length (out-Field field.now).children) (Value-F.Int z)
+        → IsTrue result × (out-Value place.new ≡ Value-F.Int z) }
+{
+    put_own(field, read_time(unit, text).map(Value::Int), place)
+}
+
+// Reads the value of this field whose text this is, null aside, into the place of another, and says
+// whether there is one. What the place holds where there is none means nothing.
+#[inline(always)]
+fn read_own(alloc: Global, field: &Field, text: &[u8], place: &mut Value) -> Result<bool, TextFault>
+    ensures own { IfOk result (λ read. IsTrue read
+        → IsOwn (out-Field field.now).kind (out-Field field.now).nullable
+        (length (out-Field field.now).children) (out-Value place.new)) }
+    ensures stands { IfOk result (λ read. IsTrue read
+        → StandsFor (out-Field field.now).kind text.now (out-Value place.new)) }
+    ensures all { IfOk result (λ read. (v : Value)
+        → IsOfKind (out-Field field.now).kind (length (out-Field field.now).children) (out-Value v)
+        → StandsFor (out-Field field.now).kind text.now (out-Value v)
+        → IsTrue read × (place.new ≡ v)) }
+    ensures refused { IfErr result (λ fault. fault ≡ TextFault.OutOfMemory) }
+{
+    let read = match &field.kind {
+        DataType::Null | DataType::List | DataType::FixedSizeList(_) | DataType::Struct => false,
+        DataType::Bool => put(read_truth(text).map(Value::Bool), place),
+        DataType::Int { signed: false, .. } => put_count(field, text, place),
+        DataType::Int { bits, signed: true } => {
+            put_int(within(*bits, read_decimal(text)), place)
+        }
+        DataType::Duration(_) => put_int(read_decimal(text), place),
+        DataType::Date(DateUnit::Day) => { put_int(within(IntBits::B32, read_day(text)), place) }
+        DataType::Date(DateUnit::Millisecond) => put_date(field, text, place),
+        DataType::Time(unit) => put_time(field, *unit, text, place),
+        DataType::Timestamp { unit, timezone } => {
+            put_int(read_zoned(*unit, timezone, text), place)
+        }
+        DataType::Utf8 => put_chars(alloc, text, place)?,
+        DataType::Binary => put_binary(alloc, text, place)?,
+        DataType::FixedSizeBinary(size) => {
+            put_binary(alloc, text, place)? && has_size(*size, place)
+        }
+    };
+    Ok(read)
+}
+
+// Reads the value of this field as which the text reads into the place of another, and says whether
+// there is one.
+#[inline(always)]
 fn read_field(
     alloc: Global,
     field: &Field,
     text: &[u8],
-    kept: Value,
-) -> Result<Option<Value>, TextFault>
-    ensures only { IfOk result (λ read. IfSome read (λ v. ReadsAs field.now text.now v)) }
-    ensures all { IfOk result (λ read. (v : Value) → ReadsAs field.now text.now v → read ≡ Some v) }
+    place: &mut Value,
+) -> Result<bool, TextFault>
+    ensures only { IfOk result (λ read. IsTrue read → ReadsAs field.now text.now place.new) }
+    ensures all { IfOk result (λ read. (v : Value) → ReadsAs field.now text.now v
+        → IsTrue read × (place.new ≡ v)) }
     ensures refused { IfErr result (λ fault. fault ≡ TextFault.OutOfMemory) }
 {
-    let Some(value) = read_value(alloc, &field.kind, text, kept)? else {
-        return Ok(None);
-    };
-    if field.is_own(&value) {
-        Ok(Some(value))
-    } else {
-        Ok(None)
+    if text == b"\\N".as_slice() {
+        return Ok(put_null(field, place));
     }
+    read_own(alloc, field, text, place)
 }
 
 // Makes so many values of a row, of which those that were there stay in front.
@@ -260,11 +378,9 @@ fn read_fields(
         let Some(text) = fields.get(column) else {
             return Err(bad);
         };
-        let kept = mem::replace(&mut row[column], Value::Null);
-        let Some(value) = read_field(alloc, field, text, kept)? else {
+        if !read_field(alloc, field, text, &mut row[column])? {
             return Err(bad);
-        };
-        row[column] = value;
+        }
     }
     Ok(())
 }

@@ -1,7 +1,7 @@
 -- Columns without children are no longer than their rows.
-use Rattle.std.proofs.Common.{◌≡◌, sym, ap, subst, ℕ, suc, ◌<◌, ◌≤◌, Bool, true, false, List, [], ◌∷◌, length, map, arith}
+use Rattle.std.proofs.Common.{◌≡◌, sym, ap, subst, ℕ, suc, ◌≤◌, Bool, true, false, List, [], ◌∷◌, length, arith}
 use Rattle.std.proofs.Common.{inl, inr, refl, Option, None, Some}
-use Rattle.std.specs.Prelude.{◌||◌, ◌⊎◌, if◌then◌else◌}
+use Rattle.std.specs.Prelude.{◌||◌, if◌then◌else◌}
 use Rattle.std.specs.List.{list_any}
 use Rattle.ipc_model.specs.declared.schema.DataType.{DataType}
 use Rattle.ipc_model.specs.declared.schema.DataType.TheVariants as t
@@ -13,7 +13,7 @@ use Rattle.ipc_model.specs.declared.value.Value.{Value}
 use Rattle.ipc_model.specs.declared.layout.Layout.{Layout}
 use Rattle.ipc_model.specs.declared.limits.Limits.{Limits}
 use Rattle.ipc_model.specs.Layouts.{layout}
-use Rattle.ipc_column.specs.Shapes.{Shape, bare, field, field_shape, field_step, shape_of, shapes}
+use Rattle.ipc_column.specs.Shapes.{Shape, bare, field, field_shape, field_step, shape_of}
 use Rattle.ipc_encode.specs.Buffers.{below, columns}
 use Rattle.ipc_encode.specs.Limits.{HasLongNode, IsTooMany}
 use Rattle.ipc_encode.proofs.Steps.{below_none, cells_length}

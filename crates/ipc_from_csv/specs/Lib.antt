@@ -2,3 +2,4 @@ pub mod Records
 pub mod Batches
 pub mod Conversion
 pub mod Steps
+pub mod Stops

@@ -4,11 +4,11 @@ ghost use Rattle.csv.specs.Reading.{error_kind, has_failed, is_io};
 ghost use Rattle.csv.specs.Records.{fields_of};
 ghost use Rattle.csv.specs.declared.error.ErrorKind.TheVariants as kind;
 ghost use Rattle.ipc_moments.specs.declared.fault.TextFault.TheVariants.{OutOfMemory};
-ghost use Rattle.ipc_from_csv.specs.declared.stop.Stop.TheVariants as stop;
+ghost use Rattle.ipc_from_csv.specs.declared.stop.NoRow.TheVariants as none;
 ghost use Rattle.ipc_from_csv.specs.Records.{Finds, IsSetUp, Stands};
 ghost use Rattle.ipc_from_csv.specs.Conversion.{AnswersHeader};
 
-use crate::stop::Stop;
+use crate::stop::{NoRow, Stop};
 use csv::{ByteRecord, Error, Reader, ReaderBuilder};
 use ipc_csv::{check_flat, check_header};
 use ipc_model::Schema;
@@ -28,31 +28,31 @@ pub fn reader_of<R: Read>(alloc: Global, input: R) -> Reader<R>
 }
 
 // Why the next record could not be read.
-fn stop_of(error: Error) -> Stop
+fn no_record(error: Error) -> NoRow
     requires { (is_io (error_kind error) ≡ true) ⊎ (error_kind error ≡ kind.OutOfMemory) }
-    ensures io { is_io (error_kind error) ≡ true → result ≡ stop.Input }
-    ensures memory { error_kind error ≡ kind.OutOfMemory → result ≡ stop.Text OutOfMemory }
+    ensures io { is_io (error_kind error) ≡ true → result ≡ none.Input }
+    ensures memory { error_kind error ≡ kind.OutOfMemory → result ≡ none.Text OutOfMemory }
 {
     if error.is_io_error() {
-        Stop::Input
+        NoRow::Input
     } else {
-        Stop::Text(TextFault::OutOfMemory)
+        NoRow::Text(TextFault::OutOfMemory)
     }
 }
 
 // Reads the next record, and says whether there was one.
-pub fn next_record<R: Read>(reader: &mut Reader<R>, fields: &mut ByteRecord) -> Result<bool, Stop>
+pub fn next_record<R: Read>(reader: &mut Reader<R>, fields: &mut ByteRecord) -> Result<bool, NoRow>
     requires { IsSetUp reader.old }
     ensures set_up { OnOk result (IsSetUp reader.new) }
     ensures finds { IfOk result (λ found. (input : Option (List ℕ)) (records : List (List (List ℕ)))
         → Stands R.remaining input records reader.old
         → Finds R.remaining input records reader.new found (fields_of fields.new)) }
-    ensures stopped { IfErr result (λ why. (why ≡ stop.Input) ⊎ (why ≡ stop.Text OutOfMemory)) }
+    ensures stopped { IfErr result (λ why. (why ≡ none.Input) ⊎ (why ≡ none.Text OutOfMemory)) }
     ensures failed { OnErr result (has_failed reader.new ≡ true) }
 {
     match reader.read_byte_record(fields) {
         Ok(found) => Ok(found),
-        Err(error) => Err(stop_of(error)),
+        Err(error) => Err(no_record(error)),
     }
 }
 

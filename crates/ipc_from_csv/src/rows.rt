@@ -4,9 +4,10 @@ ghost use Rattle.std.specs.Prelude.{false};
 ghost use Rattle.ipc_model.specs.declared.value.Value.{Value};
 ghost use Rattle.ipc_from_csv.specs.Records.{IsSetUp};
 ghost use Rattle.ipc_from_csv.specs.Steps.{FindsRow, HasRead, RefusesNext};
+ghost use Rattle.ipc_from_csv.specs.Stops.{stop_of};
 
 use crate::records::next_record;
-use crate::stop::Stop;
+use crate::stop::NoRow;
 use csv::{ByteRecord, Reader};
 use ipc_csv::fill_row_from_csv;
 use ipc_model::{Items, Row, Schema};
@@ -38,7 +39,7 @@ impl<R: Read> RowReader<R> {
 
     // Reads the next record and makes the kept row the one as which it reads, and says whether
     // there was a record.
-    pub fn next(&mut self, alloc: Global, schema: &Schema) -> Result<bool, Stop>
+    pub fn next(&mut self, alloc: Global, schema: &Schema) -> Result<bool, NoRow>
         requires set_up { IsSetUp self.old.reader }
         ensures set_up { OnOk result (IsSetUp self.new.reader) }
         ensures finds { IfOk result (λ found. (input : Option (List ℕ))
@@ -48,7 +49,7 @@ impl<R: Read> RowReader<R> {
         ensures refused { IfErr result (λ why. (input : Option (List ℕ))
             (records : List (List (List ℕ))) (rows : List (List Value))
             → HasRead R.remaining input schema.now records rows self.old
-            → RefusesNext input schema.now records why) }
+            → RefusesNext input schema.now records (stop_of why)) }
         ensures counted { IfOk result (λ found. found ≡ true
             → (self.new.count ≡ self.old.count + 1) × (self.new.count < 2 ^ 64)) }
         ensures stayed { IfOk result (λ found. found ≡ false → self.new.count ≡ self.old.count) }
@@ -57,7 +58,7 @@ impl<R: Read> RowReader<R> {
             return Ok(false);
         }
         let Some(count) = self.count.checked_add(1) else {
-            return Err(Stop::Input);
+            return Err(NoRow::Input);
         };
         self.count = count;
         fill_row_from_csv(alloc, schema, count, &self.fields, &mut self.row)?;

@@ -20,6 +20,39 @@ pub enum Stop {
     Text(TextFault),
 }
 
+/// Why no row is read of a record. It takes little room: a `Stop` holds the way to a value too, and
+/// each call that may answer one clears its room.
+#[derive(Debug, PartialEq, Eq, Drop)]
+pub(crate) enum NoRow {
+    /// The input's reader failed, or gave too many records.
+    Input,
+    /// The record is no row, or memory ran out.
+    Text(TextFault),
+}
+
+impl From<NoRow> for Stop {
+    ghost use Rattle.ipc_from_csv.specs.Stops.{stop_of};
+
+    ghost from_gives = { λ no_row why. why ≡ stop_of no_row };
+
+    fn from(no_row: NoRow) -> Stop {
+        match no_row {
+            NoRow::Input => Stop::Input,
+            NoRow::Text(fault) => Stop::Text(fault),
+        }
+    }
+}
+
+impl From<TextFault> for NoRow {
+    ghost use Rattle.ipc_from_csv.specs.declared.stop.NoRow.TheVariants.{Text};
+
+    ghost from_gives = { λ fault no_row. no_row ≡ Text fault };
+
+    fn from(fault: TextFault) -> NoRow {
+        NoRow::Text(fault)
+    }
+}
+
 impl From<TextFault> for Stop {
     ghost from_gives = { λ fault why. why ≡ stop.Text fault };
 

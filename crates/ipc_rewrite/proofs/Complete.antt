@@ -14,18 +14,15 @@ use Rattle.ipc_model.specs.declared.limits.Limits.{Limits}
 use Rattle.ipc_model.specs.declared.schema.Schema.{Schema}
 use Rattle.ipc_model.specs.declared.table.BatchRows.{BatchRows}
 use Rattle.ipc_model.specs.declared.table.Table.{Table}
-use Rattle.ipc_frame.specs.Frames.{eos}
 use Rattle.ipc_decode.specs.declared.end.End.{End}
 use Rattle.ipc_decode.specs.declared.end.End.TheVariants.{Mark, Closed}
 use Rattle.ipc_decode.specs.Failures.{Tells}
-use Rattle.ipc_decode.specs.Reasons.{Reads}
 use Rattle.ipc_decode.specs.Stream.{schema, batch, begun, events_of, Denotes, EndsStream, IsTableOf, OpensStream}
 use Rattle.ipc_decode.specs.Taken.{TakesTable}
 use Rattle.ipc_stream.specs.Dictionaries.{SendsBatch, SendsTable, kept_after, none_sent}
 use Rattle.ipc_stream.specs.Writing.{AcceptsBatch, AcceptsTable, BreaksOff, CutShort, NotSentWhole}
 use Rattle.ipc_stream.specs.Writing.{RefusesBatch, RefusesSchema, Sent}
 use Rattle.ipc_decode.proofs.Answered.{answers_marked, answers_closed}
-use Rattle.ipc_decode.proofs.Reasons.{run_told}
 use Rattle.ipc_decode.proofs.Runs.{reads_after}
 use Rattle.ipc_stream.proofs.Beginnings.{Holds, front_begins, holds_closed, holds_marked, left_of, reads_of, schema_begins, table_begins}
 use Rattle.ipc_stream.proofs.TablesWritten.{IsOut, batch_breaks, end_broken, start_breaks}

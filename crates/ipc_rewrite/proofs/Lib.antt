@@ -1,3 +1,4 @@
+pub mod LentRows
 pub mod Batches
 pub mod Pushing
 pub mod Complete

@@ -1,2 +1,3 @@
+pub mod LentRows
 pub mod Raised
 pub mod Rewriting

@@ -19,12 +19,14 @@ ghost use Rattle.ipc_rewrite.specs.Rewriting.{AnswersTable, CopiesBatches, Rewri
 ghost use Rattle.ipc_rewrite.specs.Rewriting.{TellsFailures};
 
 use crate::limits::raised;
+use crate::rows::{columns_of, read_row};
 use crate::stop::Stop;
 use ipc_model::{Items, Limits, Schema, Text, Value, WriteFault};
 use ipc_stream::{Batch, BatchWriter, Sink, Source, StreamReader, StreamWriter};
 use std::alloc::Global;
 
-// Pushes the rows of a batch, each from the values of one kept row.
+// Pushes the rows of a batch, each from the values of one kept row. Its columns are found before
+// the first.
 fn push_rows<W: Sink>(
     alloc: Global,
     batch: &Batch,
@@ -46,8 +48,9 @@ fn push_rows<W: Sink>(
         × RefusesBatch rows.old.writer.now.limits rows.old.writer.now.schema
         (record { pairs = pairs; rows = batch.now.rows }) fault) }
 {
+    let columns = columns_of(alloc, batch)?;
     for at in 0..batch.rows() {
-        let Ok(()) = batch.read_row(alloc, at, row) else {
+        let Ok(()) = read_row(alloc, batch, &columns, at, row) else {
             return Err(WriteFault::OutOfMemory);
         };
         rows.push(row.as_slice())?;

@@ -4,6 +4,7 @@
 
 mod copying;
 mod limits;
+mod rows;
 mod stop;
 
 pub use copying::rewrite;

@@ -1,33 +1,41 @@
-use Rattle.std.proofs.Common.{◌∙◌, sym, length, subst}
+use Rattle.std.proofs.Common.{◌≡◌, ◌≢◌, ◌∙◌, Some, ap, sym, subst, rules, length}
 use Rattle.ipc_model.specs.Fits.{IsOwn}
-use Rattle.ipc_model.specs.declared.value.Value.{out-Value}
-use Rattle.std.proofs.lemmas.Option.{same_Some}
 use Rattle.ipc_model.specs.declared.schema.Field.{out-Field}
-use Rattle.ipc_csv.proofs.CsvFits.{reads_own, own_of_fits}
+use Rattle.ipc_model.specs.declared.value.Value.{out-Value, Null}
+use Rattle.ipc_csv.specs.CsvRows.{StandsFor}
+use Rattle.ipc_csv.specs.RowCsv.{null_text}
+use Rattle.ipc_csv.proofs.CsvFits.{out_same, own_of_fits, reads_own, read_both, read_any}
+use Rattle.ipc_csv.proofs.NullText.{null_only}
 use Rattle.ipc_csv.proofs.reader.read_field.Goals as goal
 
-pub returns-in_default-clause-all : goal.returns-in_default-clause-all
-returns-in_default-clause-all c v h =
+pub returns-then-eq-clause-only : goal.returns-then-eq-clause-only
+unfolding out-Value denote.Hole.Carrier.out
+returns-then-eq-clause-only c h =
+    let e : c.args.text.now ≡ null_text = search rules in
+    let is = sym (c.put_null.ensures.put h) in
+    let s : StandsFor (out-Field c.args.field.now).kind c.args.text.now (out-Value Null) = ap Some (sym e) in
     let f = out-Field c.args.field.now in
-    let r = c.in_ok-value.ensures.all f.nullable (length f.children) v (own_of_fits c.args.field.now v h.0) h.1 in
-    absurd (c.in_default.not-Some v r)
+    reads_own c.args.field.now c.args.text.now c.put_null.new.place
+    (subst (λ v. IsOwn f.kind f.nullable (length f.children) (out-Value v)) is (c.put_null.ensures.own.0 h))
+    (subst (λ v. StandsFor (out-Field c.args.field.now).kind c.args.text.now (out-Value v)) is s)
 
-pub returns-then-is_own-clause-only : goal.returns-then-is_own-clause-only
-returns-then-is_own-clause-only c =
-    reads_own c.args.field.now c.args.text.now c.in-Some.value (c.is_own.ensures.0 c.if-is_own.true)
-    (rw c.in-Some.is at c.in_ok-value.ensures.only)
-
-pub returns-then-is_own-clause-all : goal.returns-then-is_own-clause-all
-returns-then-is_own-clause-all c v h =
+pub returns-then-eq-clause-all : goal.returns-then-eq-clause-all
+unfolding out-Value denote.Hole.Carrier.out
+returns-then-eq-clause-all c v h =
     let f = out-Field c.args.field.now in
-    let r = c.in_ok-value.ensures.all f.nullable (length f.children) v (own_of_fits c.args.field.now v h.0) h.1 in
-    sym c.in-Some.is ∙ r
+    let e : c.args.text.now ≡ null_text = search rules in
+    let own = own_of_fits c.args.field.now v h.0 in
+    let n = null_only f.kind f.nullable (length f.children) (out-Value v) own
+    (subst (λ t. StandsFor f.kind t (out-Value v)) e h.1) in
+    let null : Null ≡ v = sym (out_same v Null n) in
+    let read = c.put_null.ensures.own.1 (subst (λ w. IsOwn f.kind f.nullable (length f.children) w) n own) in
+    (read, c.put_null.ensures.put read ∙ null)
 
-pub returns-else-is_own-clause-all : goal.returns-else-is_own-clause-all
-returns-else-is_own-clause-all c v h =
-    let f = out-Field c.args.field.now in
-    let r = c.in_ok-value.ensures.all f.nullable (length f.children) v (own_of_fits c.args.field.now v h.0) h.1 in
-    let e = same_Some _ _ (sym c.in-Some.is ∙ r) in
-    let own = c.is_own.ensures.1
-    (subst (λ w. IsOwn f.kind f.nullable (length f.children) (out-Value w)) (sym e) (own_of_fits c.args.field.now v h.0)) in
-    let no = c.if-is_own.false in absurd cc
+pub returns-clause-only : goal.returns-clause-only
+returns-clause-only c =
+    read_both c.args.field.now c.args.text.now c.read_own.new.place c.read_own.result c.read_own.ensures.own c.read_own.ensures.stands
+
+pub returns-clause-all : goal.returns-clause-all
+returns-clause-all c =
+    let other : c.args.text.now ≢ null_text = λ e. let no = c.if-eq.ensures in absurd (search (rules, e, no)) in
+    read_any c.args.field.now c.args.text.now c.read_own.new.place c.read_own.result other c.read_own.ensures.all

@@ -1,10 +1,8 @@
 use Rattle.std.proofs.Common.{◌∙◌, ◌<◌, sym, refl, inr, arith, length, take, subst}
-use Rattle.std.proofs.lemmas.List.{drop_all, length-set, take_all}
+use Rattle.std.proofs.lemmas.List.{drop_all, length-set, take_all, take_more_set}
 use Rattle.csv.specs.Records.{fields_of}
 use Rattle.ipc_csv.specs.CsvRows.{EachReadsAs}
 use Rattle.ipc_csv.proofs.CsvSteps.{fields_from, texts_from, some_text, read_more, all_more, bad_here, bad_behind, read_all, all_read}
-use Rattle.ipc_csv.proofs.CsvSteps.{front_more}
-use Rattle.std.proofs.lemmas.Option.{same_Some}
 use Rattle.ipc_csv.proofs.reader.read_fields.Goals as goal
 
 pub returns-in_default-clause-refused : goal.returns-in_default-clause-refused
@@ -12,35 +10,6 @@ returns-in_default-clause-refused c =
     let e = c.in_default.ensures.value in
     let h = c.requires.fields in
     absurd (some_text (fields_of c.args.fields.now) c.loop-column.column (omega arith) (sym e))
-
-pub returns-in_default-2-clause-refused : goal.returns-in_default-2-clause-refused
-returns-in_default-2-clause-refused c =
-    let p = fields_from c.args.columns.now c.loop-column.column c.index-columns-column.result (omega arith) c.index-columns-column.is in
-    let q = texts_from (fields_of c.args.fields.now) c.loop-column.column c.in-Some.text.now (sym c.in-Some.ensures.value) in
-    inr (
-      c.loop-column.column,
-      refl,
-      c.loop-column.invariant.bad c.loop-column.column
-          (bad_here p q c.loop-column.column (λ v h. c.in_default-2.not-Some v (c.in_ok-value.ensures.all v h))),
-    )
-
-pub loop-column-preserved : goal.loop-column-preserved
-loop-column-preserved c =
-    let i = c.loop-column.invariant in
-    let row = c.loop-column.row.items in
-    let at = c.loop-column.column in
-    let p = fields_from c.args.columns.now c.loop-column.column c.index-columns-column.result (omega arith) c.index-columns-column.is in
-    let q = texts_from (fields_of c.args.fields.now) c.loop-column.column c.in-Some.text.now (sym c.in-Some.ensures.value) in
-    let r = rw c.in-Some-2.is at c.in_ok-value.ensures.only in
-    let inside : at < length row = omega (arith, i.long) in
-    let e = front_more row at c.replace-kept.new.dest c.in-Some-2.value inside in
-    record {
-      long = length-set _ at c.in-Some-2.value ∙ (length-set row at c.replace-kept.new.dest ∙ i.long);
-      read = read_more p q c.args.columns.now (fields_of c.args.fields.now) (take at row) _ c.in-Some-2.value r e i.read;
-      all = all_more p q c.args.columns.now (fields_of c.args.fields.now) (take at row) _ c.in-Some-2.value
-          (λ w h. same_Some _ _ (sym c.in-Some-2.is ∙ c.in_ok-value.ensures.all w h)) e i.all;
-      bad = λ column h. i.bad column (bad_behind p q at column c.in-Some-2.value r h);
-    }
 
 pub returns-clause-read : goal.returns-clause-read
 returns-clause-read c =
@@ -58,3 +27,34 @@ returns-clause-all c row h =
     let q = drop_all c.loop-column.column (fields_of c.args.fields.now) (omega arith) in
     sym (take_all c.loop-column.column c.loop-column.row.items (omega (arith, c.loop-column.invariant.long)))
     ∙ all_read _ _ _ _ (take c.loop-column.column c.loop-column.row.items) p q c.loop-column.invariant.all row h
+
+pub returns-then-not-branch-clause-refused : goal.returns-then-not-branch-clause-refused
+returns-then-not-branch-clause-refused c =
+    let p = fields_from c.args.columns.now c.loop-column.column c.index-columns-column.result (omega arith) c.index-columns-column.is in
+    let q = texts_from (fields_of c.args.fields.now) c.loop-column.column c.in-Some.text.now (sym c.in-Some.ensures.value) in
+    let none = c.if-not-branch.true in
+    inr (
+      c.loop-column.column,
+      refl,
+      c.loop-column.invariant.bad c.loop-column.column
+          (bad_here p q c.loop-column.column (λ v h. let read = (c.in_ok-read_field.ensures.all v h).0 in cc)),
+    )
+
+pub loop-column-preserved : goal.loop-column-preserved
+loop-column-preserved c =
+    let i = c.loop-column.invariant in
+    let row = c.loop-column.row.items in
+    let at = c.loop-column.column in
+    let v = c.read_field.new.place in
+    let p = fields_from c.args.columns.now c.loop-column.column c.index-columns-column.result (omega arith) c.index-columns-column.is in
+    let q = texts_from (fields_of c.args.fields.now) c.loop-column.column c.in-Some.text.now (sym c.in-Some.ensures.value) in
+    let r = c.in_ok-read_field.ensures.only c.if-not-branch.false in
+    let inside : at < length row = omega (arith, i.long) in
+    let e = take_more_set row at v inside in
+    record {
+      long = length-set row at v ∙ i.long;
+      read = read_more p q c.args.columns.now (fields_of c.args.fields.now) (take at row) _ v r e i.read;
+      all = all_more p q c.args.columns.now (fields_of c.args.fields.now) (take at row) _ v
+          (λ w h. (c.in_ok-read_field.ensures.all w h).1) e i.all;
+      bad = λ column h. i.bad column (bad_behind p q at column v r h);
+    }

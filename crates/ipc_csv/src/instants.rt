@@ -1,0 +1,282 @@
+//! Dates and points in time, read in one pass over the places of their digits.
+//!
+//! What is read so is known to have this text, which isn't made again. Any other text is left to
+//! `ipc_moments`.
+ghost use Rattle.std.specs.Prelude.{◌≡◌, ◌<◌, ◌≤◌, ◌+◌, ◌*◌, ◌/◌, ◌%◌, ◌++◌, ◌^◌, ℤ, pos, length};
+ghost use Rattle.std.specs.Prelude.{get_or, take, unsigned_abs, IfSome, Some, option_map};
+ghost use Rattle.std.specs.Prelude.{FitsSigned};
+ghost use Rattle.std.specs.Int.{w64, int_div_euclid, int_rem_euclid};
+ghost use Rattle.ipc_model.specs.Ranges.{ticks_in_a_day};
+ghost use Rattle.ipc_moments.specs.Calendar.{day_text};
+ghost use Rattle.ipc_moments.specs.Moments.{timestamp_text, per_second};
+ghost use Rattle.ipc_moments.specs.Moments.{clock_text, fraction_text, zone_text};
+ghost use Rattle.jiff_core.specs.Calendar.{IsEpochDay};
+
+use ipc_model::{DateUnit, TimeUnit};
+use ipc_moments::{read_date, read_timestamp};
+use jiff_core::civil::Date;
+
+// The number of the day 0001-01-01, the first that has a text.
+const FIRST_DAY: i64 = -719_162;
+
+// On so many days before and after 1970-01-01 nanoseconds surely fit.
+const DAYS_OF_NANOSECONDS: i64 = 106_000;
+
+// The number whose digit stands at a place, or 10 and more where none does.
+#[inline(always)]
+fn digit_at(text: &[u8], place: usize) -> u32
+    requires { place < length text.now }
+    ensures { result < 10 → get_or text.now place 0 ≡ 48 + result }
+{
+    u32::from(text[place].wrapping_sub(b'0'))
+}
+
+// The number whose two digits stand from a place on, or 100 where others stand there.
+#[inline(always)]
+fn pair_at(text: &[u8], place: usize) -> u32
+    requires { place + 1 < length text.now }
+    ensures first { result < 100 → get_or text.now place 0 ≡ 48 + result / 10 }
+    ensures second { result < 100 → get_or text.now (place + 1) 0 ≡ 48 + result % 10 }
+    ensures small { result ≤ 100 }
+{
+    let tens = digit_at(text, place);
+    let ones = digit_at(text, place + 1);
+    if tens > 9 || ones > 9 {
+        return 100;
+    }
+    tens * 10 + ones
+}
+
+// The number whose three digits stand from a place on, or 1,000 where others stand there.
+#[inline(always)]
+fn three_at(text: &[u8], place: usize) -> u32
+    requires { place + 2 < length text.now }
+    ensures first { result < 1_000 → get_or text.now place 0 ≡ 48 + result / 100 }
+    ensures second { result < 1_000 → get_or text.now (place + 1) 0 ≡ 48 + result % 100 / 10 }
+    ensures third { result < 1_000 → get_or text.now (place + 2) 0 ≡ 48 + result % 100 % 10 }
+    ensures small { result ≤ 1_000 }
+{
+    let hundreds = digit_at(text, place);
+    let rest = pair_at(text, place + 1);
+    if hundreds > 9 || rest > 99 {
+        return 1_000;
+    }
+    hundreds * 100 + rest
+}
+
+// The number of the day whose text stands in front.
+#[inline(always)]
+fn day_in_front(text: &[u8]) -> Option<i64>
+    requires { 10 ≤ length text.now }
+    ensures text { IfSome result (λ z. day_text z ≡ Some (take 10 text.now)) }
+    ensures small { IfSome result (λ z. IsEpochDay z) }
+{
+    if text[4] != b'-' || text[7] != b'-' {
+        return None;
+    }
+    let hundreds = pair_at(text, 0);
+    let years = pair_at(text, 2);
+    let month = pair_at(text, 5);
+    let day = pair_at(text, 8);
+    if hundreds > 99 || years > 99 {
+        return None;
+    }
+    let Ok(date) = Date::new((hundreds * 100 + years) as i16, month as i8, day as i8) else {
+        return None;
+    };
+    let number = i64::from(date.to_unix_epoch_day());
+    if number < FIRST_DAY {
+        return None;
+    }
+    Some(number)
+}
+
+// The seconds after midnight whose text stands in front.
+#[inline(always)]
+fn clock_in_front(text: &[u8]) -> Option<u64>
+    requires { 8 ≤ length text.now }
+    ensures text { IfSome result (λ n. take 8 text.now ≡ clock_text n) }
+    ensures small { IfSome result (λ n. n < 86_400) }
+{
+    if text[2] != b':' || text[5] != b':' {
+        return None;
+    }
+    let hours = pair_at(text, 0);
+    let minutes = pair_at(text, 3);
+    let seconds = pair_at(text, 6);
+    if hours > 23 || minutes > 59 || seconds > 59 {
+        return None;
+    }
+    Some(u64::from(hours * 3_600 + minutes * 60 + seconds))
+}
+
+// The number whose three digits are a text behind a point.
+#[inline(always)]
+fn thousandths(text: &[u8]) -> Option<u64>
+    ensures text { IfSome result (λ n. text.now ≡ fraction_text TimeUnit.Millisecond n) }
+    ensures small { IfSome result (λ n. n < 1_000) }
+{
+    if text.len() != 4 || text[0] != b'.' {
+        return None;
+    }
+    let part = three_at(text, 1);
+    if part > 999 {
+        return None;
+    }
+    Some(u64::from(part))
+}
+
+// The same of six digits.
+#[inline(always)]
+fn millionths(text: &[u8]) -> Option<u64>
+    ensures text { IfSome result (λ n. text.now ≡ fraction_text TimeUnit.Microsecond n) }
+    ensures small { IfSome result (λ n. n < 1_000_000) }
+{
+    if text.len() != 7 || text[0] != b'.' {
+        return None;
+    }
+    let first = three_at(text, 1);
+    let second = three_at(text, 4);
+    if first > 999 || second > 999 {
+        return None;
+    }
+    Some(u64::from(first * 1_000 + second))
+}
+
+// The same of nine digits.
+#[inline(always)]
+fn billionths(text: &[u8]) -> Option<u64>
+    ensures text { IfSome result (λ n. text.now ≡ fraction_text TimeUnit.Nanosecond n) }
+    ensures small { IfSome result (λ n. n < 1_000_000_000) }
+{
+    if text.len() != 10 || text[0] != b'.' {
+        return None;
+    }
+    let first = three_at(text, 1);
+    let second = three_at(text, 4);
+    let third = three_at(text, 7);
+    if first > 999 || second > 999 || third > 999 {
+        return None;
+    }
+    Some(u64::from(first * 1_000_000 + second * 1_000 + third))
+}
+
+// The part of a second in this unit whose text this is.
+#[inline(always)]
+fn fraction(unit: TimeUnit, text: &[u8]) -> Option<u64>
+    ensures text { IfSome result (λ n. text.now ≡ fraction_text unit n) }
+    ensures small { IfSome result (λ n. n < per_second unit) }
+{
+    match unit {
+        TimeUnit::Second if text.is_empty() => Some(0),
+        TimeUnit::Second => None,
+        TimeUnit::Millisecond => thousandths(text),
+        TimeUnit::Microsecond => millionths(text),
+        TimeUnit::Nanosecond => billionths(text),
+    }
+}
+
+// The units of so many seconds and a part of one.
+#[inline(always)]
+fn units_of(unit: TimeUnit, seconds: u64, part: u64) -> u64
+    requires seconds { seconds < 86_400 }
+    requires part { part < per_second unit }
+    ensures units { result ≡ seconds * per_second unit + part }
+    ensures within { result < ticks_in_a_day unit }
+{
+    match unit {
+        TimeUnit::Second => seconds + part,
+        TimeUnit::Millisecond => seconds * 1_000 + part,
+        TimeUnit::Microsecond => seconds * 1_000_000 + part,
+        TimeUnit::Nanosecond => seconds * 1_000_000_000 + part,
+    }
+}
+
+// The number of so many units after the midnight with which a day begins, where it surely fits.
+#[inline(always)]
+fn number_of(unit: TimeUnit, day: i64, units: u64) -> Option<i64>
+    requires day { IsEpochDay day }
+    requires units { units < ticks_in_a_day unit }
+    ensures day { IfSome result (λ z. int_div_euclid z (pos (ticks_in_a_day unit)) ≡ day) }
+    ensures units { IfSome result
+        (λ z. unsigned_abs (int_rem_euclid z (pos (ticks_in_a_day unit))) ≡ units) }
+{
+    match unit {
+        TimeUnit::Second => Some(day * 86_400 + units as i64),
+        TimeUnit::Millisecond => Some(day * 86_400_000 + units as i64),
+        TimeUnit::Microsecond => Some(day * 86_400_000_000 + units as i64),
+        TimeUnit::Nanosecond => {
+            if day < -DAYS_OF_NANOSECONDS || day > DAYS_OF_NANOSECONDS {
+                return None;
+            }
+            Some(day * 86_400_000_000_000 + units as i64)
+        }
+    }
+}
+
+// A text without the `Z` that stands behind it where there is a time zone that isn't empty.
+#[inline(always)]
+fn without_zone<'a>(timezone: Option<&str>, text: &'a [u8]) -> Option<&'a [u8]>
+    ensures { IfSome result (λ front. text.now ≡ front.now
+        ++ zone_text (option_map (λ zone. zone.now) timezone.entry)) }
+{
+    match timezone {
+        Some(zone) if !zone.is_empty() => match text {
+            [front @ .., b'Z'] => Some(front),
+            _ => None,
+        },
+        _ => Some(text),
+    }
+}
+
+// The number of a point in time whose text this is, where it is told by the places of its digits.
+#[inline(never)]
+fn plain_timestamp(unit: TimeUnit, timezone: Option<&str>, text: &[u8]) -> Option<i64>
+    ensures { IfSome result (λ z. timestamp_text unit
+        (option_map (λ zone. zone.now) timezone.entry) z ≡ Some text.now) }
+{
+    let text = without_zone(timezone, text)?;
+    if text.len() < 19 || text[10] != b'T' {
+        return None;
+    }
+    let day = day_in_front(text)?;
+    let seconds = clock_in_front(&text[11..])?;
+    let part = fraction(unit, &text[19..])?;
+    number_of(unit, day, units_of(unit, seconds, part))
+}
+
+// The number of a day whose text this is, where it is told by the places of its digits.
+#[inline(never)]
+fn plain_day(text: &[u8]) -> Option<i64>
+    ensures text { IfSome result (λ z. day_text z ≡ Some text.now) }
+    ensures fits { IfSome result (λ z. FitsSigned w64 z) }
+{
+    if text.len() != 10 {
+        return None;
+    }
+    day_in_front(text)
+}
+
+/// The number of a point in time whose text this is, as `ipc_moments::read_timestamp`.
+pub(crate) fn read_instant(unit: TimeUnit, timezone: Option<&str>, text: &[u8]) -> Option<i64>
+    ensures only { IfSome result (λ z. timestamp_text unit
+        (option_map (λ zone. zone.now) timezone.entry) z ≡ Some text.now) }
+    ensures all { (z : ℤ) → FitsSigned w64 z → timestamp_text unit
+        (option_map (λ zone. zone.now) timezone.entry) z ≡ Some text.now → result ≡ Some z }
+{
+    if let Some(number) = plain_timestamp(unit, timezone, text) {
+        return Some(number);
+    }
+    read_timestamp(unit, timezone, text)
+}
+
+/// The number of a day whose text this is, as `ipc_moments::read_date`.
+pub(crate) fn read_day(text: &[u8]) -> Option<i64>
+    ensures only { IfSome result (λ z. day_text z ≡ Some text.now) }
+    ensures all { (z : ℤ) → day_text z ≡ Some text.now → result ≡ Some z }
+{
+    if let Some(number) = plain_day(text) {
+        return Some(number);
+    }
+    read_date(DateUnit::Day, text)
+}
