@@ -1,20 +1,16 @@
 //! The rows of a batch as text, in each form.
-ghost use Rattle.std.specs.Prelude.{◌≡◌, ◌≢◌, ◌≤◌, ◌<◌, [], length, take, Bool, IfErr, IfOk};
-ghost use Rattle.std.specs.Prelude.{IsTrue, None};
-ghost use Rattle.ipc_moments.specs.declared.fault.TextFault.TheVariants.{OutOfMemory};
+ghost use Rattle.std.specs.Prelude.{◌≡◌, [], length, Bool, IfOk, IsTrue, None};
 ghost use Rattle.ipc_csv.specs.RowCsv.{flat_fault};
 ghost use Rattle.ipc_print.specs.Columns.{AreShownColumns};
-ghost use Rattle.ipc_print.specs.LentRows.{AreColumns, HaveRow, row_at};
-ghost use Rattle.ipc_print.specs.Forms as spec;
-ghost use Rattle.ipc_print.specs.Forms.{HasLine, Lacks, form_fault, head_of, pairs_line};
+ghost use Rattle.ipc_print.specs.LentRows.{AreColumns};
+ghost use Rattle.ipc_print.specs.Forms.{form_fault, head_of, pairs_line};
 ghost use Rattle.ipc_print.specs.Streams.{PutsRows};
 ghost use Rattle.ipc_print.specs.Output.{PrintsAs, output};
 ghost use Rattle.ipc_print.specs.Rows.{AreShownRows};
 
 use crate::column::Column;
-use crate::csv_row::csv_line;
 use crate::form::Form;
-use crate::json_row::json_line;
+use crate::line::{LINE, fitted_line_of};
 use crate::rows::{Lines, PrintFault, numbers_of};
 use crate::types::are_numbers;
 use ipc_column::Batch;
@@ -23,31 +19,6 @@ use ipc_model::{Field, Text};
 use ipc_moments::TextFault;
 use ipc_stream::Sink;
 use std::alloc::{AllocError, Global};
-
-// Writes the line of a row to the front of a buffer, and returns where it ends.
-fn line_of(
-    form: Form,
-    text: &mut Vec<u8>,
-    fields: &[Field],
-    columns: &[Column<'_>],
-    row: usize,
-) -> Result<usize, TextFault>
-    requires columns { length columns.now ≡ length fields.now }
-    requires row { HaveRow columns.now row }
-    requires fits { form_fault form fields.now ≡ None }
-    ensures inside { IfOk result (λ end. end ≤ length text.new.items) }
-    ensures text { IfOk result (λ end. take end text.new.items
-        ≡ spec.line_of form fields.now (row_at columns.now row)) }
-    ensures ok { IfOk result (λ end. HasLine form fields.now (row_at columns.now row)) }
-    ensures refused { IfErr result (λ fault. fault ≢ OutOfMemory
-        → Lacks form fields.now (row_at columns.now row) fault) }
-{
-    match form {
-        Form::Counts => Ok(0),
-        Form::Rows { .. } => Ok(json_line(text, fields, columns, row)?),
-        Form::Records => csv_line(text, fields, columns, row),
-    }
-}
 
 // The columns of a batch, each found once for all rows.
 fn columns_of(alloc: Global, batch: &Batch) -> Result<Vec<Column<'_>>, AllocError>
@@ -77,9 +48,12 @@ fn print_lines<W: Sink>(
         (W.failures sink.new) lines.new result }
 {
     let columns = columns_of(alloc, batch)?;
-    let mut text = Vec::new(alloc);
+    let mut text = vec![in alloc; 0u8; LINE]?;
     for row in 0..batch.rows() {
-        let end = match line_of(form, &mut text, fields, &columns, row) {
+        if lines.put_line(form, fields, &columns, row) {
+            continue;
+        }
+        let end = match fitted_line_of(form, &mut text, fields, &columns, row) {
             Ok(end) => end,
             Err(TextFault::OutOfMemory) => return Err(PrintFault::OutOfMemory),
             Err(fault) => return Ok(Some(fault)),

@@ -15,6 +15,7 @@ use crate::fields::{
 };
 use crate::moments;
 use crate::room::{put, reserve};
+use crate::truth::put_truth;
 use ipc_column::Cell;
 use ipc_model::{DataType, Field};
 use ipc_moments::TextFault;
@@ -24,12 +25,12 @@ const ROOM: usize = 64;
 
 // The comma in front of the column with this number, of which the first has none.
 #[inline(always)]
-fn put_comma(text: &mut Vec<u8>, at: usize, column: usize) -> usize
-    requires { at + 1 ≤ length text.old.items }
+fn put_comma(text: &mut [u8], at: usize, column: usize) -> usize
+    requires { at + 1 ≤ length text.old }
     ensures end { result ≤ at + 1 }
-    ensures same_room { length text.new.items ≡ length text.old.items }
-    ensures text { take result text.new.items
-        ≡ take at text.old.items ++ next_sep default_writer column }
+    ensures same_room { length text.new ≡ length text.old }
+    ensures text { take result text.new
+        ≡ take at text.old ++ next_sep default_writer column }
 {
     if column == 0 {
         return at;
@@ -40,16 +41,16 @@ fn put_comma(text: &mut Vec<u8>, at: usize, column: usize) -> usize
 // A date, a time or a point in time.
 #[inline(always)]
 fn put_moment(
-    text: &mut Vec<u8>,
+    text: &mut [u8],
     at: usize,
     column: u64,
     kind: &DataType,
     number: i64,
 ) -> Result<usize, TextFault>
-    requires { at + 32 ≤ length text.old.items }
-    ensures inside { IfOk result (λ end. end ≤ length text.new.items) }
-    ensures ok { IfOk result (λ end. Appended (take at text.old.items)
-        (moment_text kind.now number) (take end text.new.items)) }
+    requires { at + 32 ≤ length text.old }
+    ensures inside { IfOk result (λ end. end ≤ length text.new) }
+    ensures ok { IfOk result (λ end. Appended (take at text.old)
+        (moment_text kind.now number) (take end text.new)) }
     ensures refused { IfErr result (LacksText column (moment_text kind.now number)) }
 {
     match moments::put_moment(text, at, kind, number) {
@@ -61,16 +62,16 @@ fn put_moment(
 // A signed number of this type.
 #[inline(always)]
 fn put_int(
-    text: &mut Vec<u8>,
+    text: &mut [u8],
     at: usize,
     column: u64,
     kind: &DataType,
     number: i64,
 ) -> Result<usize, TextFault>
-    requires { at + 32 ≤ length text.old.items }
-    ensures inside { IfOk result (λ end. end ≤ length text.new.items) }
-    ensures ok { IfOk result (λ end. Appended (take at text.old.items)
-        (int_text kind.now number) (take end text.new.items)) }
+    requires { at + 32 ≤ length text.old }
+    ensures inside { IfOk result (λ end. end ≤ length text.new) }
+    ensures ok { IfOk result (λ end. Appended (take at text.old)
+        (int_text kind.now number) (take end text.new)) }
     ensures refused { IfErr result (LacksText column (int_text kind.now number)) }
 {
     match kind {
@@ -82,40 +83,37 @@ fn put_int(
 }
 
 #[inline(always)]
-fn put_null(text: &mut Vec<u8>, at: usize) -> usize
-    requires { at + 2 ≤ length text.old.items }
-    ensures inside { result ≤ length text.new.items }
-    ensures text { take result text.new.items ≡ with_field (take at text.old.items) null_text }
+fn put_null(text: &mut [u8], at: usize) -> usize
+    requires { at + 2 ≤ length text.old }
+    ensures inside { result ≤ length text.new }
+    ensures text { take result text.new ≡ with_field (take at text.old) null_text }
 {
     put(text, at, b"\\N")
 }
 
 #[inline(always)]
-fn put_bool(text: &mut Vec<u8>, at: usize, truth: bool) -> usize
-    requires { at + 5 ≤ length text.old.items }
-    ensures inside { result ≤ length text.new.items }
-    ensures text { take result text.new.items
-        ≡ with_field (take at text.old.items) (bool_text truth) }
+fn put_bool(text: &mut [u8], at: usize, truth: bool) -> usize
+    requires { at + 5 ≤ length text.old }
+    ensures inside { result ≤ length text.new }
+    ensures text { take result text.new
+        ≡ with_field (take at text.old) (bool_text truth) }
 {
-    match truth {
-        true => put(text, at, b"true"),
-        false => put(text, at, b"false"),
-    }
+    put_truth(text, at, truth)
 }
 
 // A value of a column of this type.
 #[inline(always)]
 fn put_cell(
-    text: &mut Vec<u8>,
+    text: &mut [u8],
     at: usize,
     column: u64,
     kind: &DataType,
     cell: Cell<'_>,
 ) -> Result<usize, TextFault>
-    requires { at + 32 ≤ length text.old.items }
-    ensures inside { IfOk result (λ end. end ≤ length text.new.items) }
-    ensures ok { IfOk result (λ end. Appended (take at text.old.items)
-        (text_in kind.now (cell_value cell.entry)) (take end text.new.items)) }
+    requires { at + 32 ≤ length text.old }
+    ensures inside { IfOk result (λ end. end ≤ length text.new) }
+    ensures ok { IfOk result (λ end. Appended (take at text.old)
+        (text_in kind.now (cell_value cell.entry)) (take end text.new)) }
     ensures refused { IfErr result (LacksText column (text_in kind.now (cell_value cell.entry))) }
 {
     match cell {
@@ -133,11 +131,11 @@ fn put_cell(
 
 // Sees to the room of a value, and writes the comma in front of the column with this number.
 #[inline(always)]
-fn start_field(text: &mut Vec<u8>, start: usize, column: usize) -> Result<usize, TextFault>
-    requires { start ≤ length text.old.items }
-    ensures room { IfOk result (λ at. at + 32 ≤ length text.new.items) }
-    ensures text { IfOk result (λ at. take at text.new.items
-        ≡ take start text.old.items ++ next_sep default_writer column) }
+fn start_field(text: &mut [u8], start: usize, column: usize) -> Result<usize, TextFault>
+    requires { start ≤ length text.old }
+    ensures room { IfOk result (λ at. at + 32 ≤ length text.new) }
+    ensures text { IfOk result (λ at. take at text.new
+        ≡ take start text.old ++ next_sep default_writer column) }
     ensures refused { IfErr result (λ fault. fault ≡ TextFault.OutOfMemory) }
 {
     reserve(text, start, ROOM)?;
@@ -146,16 +144,16 @@ fn start_field(text: &mut Vec<u8>, start: usize, column: usize) -> Result<usize,
 
 // The fields of a row of a batch, of which each column is lent, from the front of the buffer on.
 fn put_cells(
-    text: &mut Vec<u8>,
+    text: &mut [u8],
     fields: &[Field],
     columns: &[Column<'_>],
     row: usize,
 ) -> Result<usize, TextFault>
     requires columns { length columns.now ≡ length fields.now }
     requires row { HaveRow columns.now row }
-    ensures inside { IfOk result (λ end. end ≤ length text.new.items) }
+    ensures inside { IfOk result (λ end. end ≤ length text.new) }
     ensures ok { IfOk result (λ end. put_texts [] fields.now
-        (row_at columns.now row) ≡ Ok (take end text.new.items)) }
+        (row_at columns.now row) ≡ Ok (take end text.new)) }
     ensures refused { IfErr result (IsRefusal (put_texts [] fields.now
         (row_at columns.now row))) }
 {
@@ -170,12 +168,13 @@ fn put_cells(
 
 /// Writes the record of a row to the front of a buffer, its fields and a line feed, and returns
 /// where it ends. What the buffer holds before means nothing: it is room to be used again. X3 with
-/// the first column whose value has no text. What memory refuses is `OutOfMemory`.
+/// the first column whose value has no text. `OutOfMemory` where the buffer
+/// ends before the line.
 ///
 /// The caller gives the columns of a batch, a row below its `rows`, and the fields of the columns,
 /// which CSV has a place for.
 pub fn csv_line(
-    text: &mut Vec<u8>,
+    text: &mut [u8],
     fields: &[Field],
     columns: &[Column<'_>],
     row: usize,
@@ -183,9 +182,9 @@ pub fn csv_line(
     requires columns { length columns.now ≡ length fields.now }
     requires row { HaveRow columns.now row }
     requires fits { flat_fault fields.now ≡ None }
-    ensures inside { IfOk result (λ end. end ≤ length text.new.items) }
+    ensures inside { IfOk result (λ end. end ≤ length text.new) }
     ensures ok { IfOk result (λ end. row_csv fields.now (row_at columns.now row)
-        ≡ Ok (take end text.new.items)) }
+        ≡ Ok (take end text.new)) }
     ensures refused { IfErr result
         (IsRefusal (row_csv fields.now (row_at columns.now row))) }
 {

@@ -1,7 +1,8 @@
 //! Fields of CSV at a place: one look at the bytes and one copy, where none calls for quotes.
-ghost use Rattle.std.specs.Prelude.{◌≡◌, ◌≤◌, ◌<◌, ◌+◌, ◌++◌, length, take, decimal, OnOk};
+ghost use Rattle.std.specs.Prelude.{◌≡◌, ◌≤◌, ◌+◌, ◌++◌, ◌∷◌, [], length, take, decimal};
 ghost use Rattle.std.specs.Prelude.{IfOk};
 ghost use Rattle.std.specs.Fmt.{signed_decimal};
+ghost use Rattle.csv.specs.Writing as csv;
 ghost use Rattle.csv.specs.Writing.{default_writer};
 ghost use Rattle.hex.specs.Hex.{encode_lower};
 ghost use Rattle.ipc_csv.specs.RowCsv.{backslashed, with_field, Ended};
@@ -9,89 +10,146 @@ ghost use Rattle.ipc_csv.specs.RowCsv.{backslashed, with_field, Ended};
 use crate::digits::{put_signed, put_unsigned};
 use crate::hexadecimal::put_hexadecimal;
 use crate::room::{put, reserve};
+use crate::rows::put_word;
 use crate::unquoted::put_if_unquoted;
-use ipc_csv::{push_field, push_text};
 use std::alloc::AllocError;
 
-// Appends a field behind the first `at` bytes, in quotes, and returns where it ends.
+// Whether a field stands in quotes.
+fn needs_quotes(field: &[u8]) -> bool
+    ensures { result ≡ csv.needs_quotes default_writer field.now }
+{
+    field
+        .iter()
+        .any(|byte| matches!(*byte, b',' | b'"' | b'\r' | b'\n'))
+}
+
+// Writes a byte that stands between quotes from `at` on, a quote as two, and returns where it ends.
+#[tactic(auto, unfolding(csv::specs::Writing::escaped))]
+fn put_between(text: &mut [u8], at: usize, byte: u8) -> usize
+    requires { at + 2 ≤ length text.old }
+    ensures end { result ≤ at + 2 }
+    ensures text { take result text.new
+        ≡ take at text.old ++ csv.escaped default_writer (byte ∷ []) }
+{
+    if byte == b'"' {
+        return put_word(text, at, b"\"\"");
+    }
+    put_word(text, at, &[byte])
+}
+
+// The same of each byte of a field.
+fn put_each_between(text: &mut [u8], at: usize, field: &[u8]) -> Result<usize, AllocError>
+    requires { at ≤ length text.old }
+    ensures inside { IfOk result (λ end. end ≤ length text.new) }
+    ensures text { IfOk result (λ end. take end text.new
+        ≡ take at text.old ++ csv.escaped default_writer field.now) }
+{
+    let mut end = at;
+    for byte in field {
+        reserve(text, end, 2)?;
+        end = put_between(text, end, *byte);
+    }
+    Ok(end)
+}
+
+// Writes a field from `at` on, in quotes, and returns where it ends. What opens it has the first
+// quote.
+fn put_quoted(text: &mut [u8], at: usize, opening: &[u8], field: &[u8]) -> Result<usize, AllocError>
+    requires { at ≤ length text.old }
+    ensures inside { IfOk result (λ end. end ≤ length text.new) }
+    ensures text { IfOk result (λ end. take end text.new ≡ take at text.old
+        ++ opening.now ++ csv.escaped default_writer field.now ++ 34 ∷ []) }
+{
+    reserve(text, at, opening.len())?;
+    let start = put(text, at, opening);
+    let end = put_each_between(text, start, field)?;
+    reserve(text, end, 1)?;
+    Ok(put(text, end, b"\""))
+}
+
+// Writes a field from `at` on, where a look at many bytes at a time didn't tell that it needs no
+// quotes, and returns where it ends.
 #[cold]
 #[inline(never)]
-fn put_quoted(text: &mut Vec<u8>, at: usize, field: &[u8]) -> Result<usize, AllocError>
-    requires { at ≤ length text.old.items }
-    ensures inside { IfOk result (λ end. end ≤ length text.new.items) }
+fn put_looked_at(text: &mut [u8], at: usize, field: &[u8]) -> Result<usize, AllocError>
+    requires { at ≤ length text.old }
+    ensures inside { IfOk result (λ end. end ≤ length text.new) }
     ensures text { IfOk result
-        (λ end. take end text.new.items ≡ with_field (take at text.old.items) field.now) }
+        (λ end. take end text.new ≡ with_field (take at text.old) field.now) }
 {
-    text.truncate(at);
-    push_field(text, field)?;
-    Ok(text.len())
+    if needs_quotes(field) {
+        return put_quoted(text, at, b"\"", field);
+    }
+    reserve(text, at, field.len())?;
+    Ok(put(text, at, field))
 }
 
 // Writes a field of CSV from `at` on, in quotes where it needs them, and returns where it ends.
 #[inline(always)]
-pub(crate) fn put_field(text: &mut Vec<u8>, at: usize, field: &[u8]) -> Result<usize, AllocError>
-    requires { at ≤ length text.old.items }
-    ensures inside { IfOk result (λ end. end ≤ length text.new.items) }
+pub(crate) fn put_field(text: &mut [u8], at: usize, field: &[u8]) -> Result<usize, AllocError>
+    requires { at ≤ length text.old }
+    ensures inside { IfOk result (λ end. end ≤ length text.new) }
     ensures text { IfOk result
-        (λ end. take end text.new.items ≡ with_field (take at text.old.items) field.now) }
+        (λ end. take end text.new ≡ with_field (take at text.old) field.now) }
 {
     reserve(text, at, field.len())?;
-    if put_if_unquoted(text.as_mut_slice(), at, field) {
+    if put_if_unquoted(text, at, field) {
         return Ok(at + field.len());
     }
-    put_quoted(text, at, field)
+    put_looked_at(text, at, field)
 }
 
-// Appends a text behind the first `at` bytes, with one more backslash in front.
+// Writes a text that begins with a backslash as a field of CSV from `at` on, with one more in
+// front, and returns where it ends.
 #[cold]
 #[inline(never)]
-fn put_backslashed(text: &mut Vec<u8>, at: usize, chars: &str) -> Result<usize, AllocError>
-    requires { at ≤ length text.old.items }
-    ensures inside { IfOk result (λ end. end ≤ length text.new.items) }
-    ensures text { IfOk result (λ end. take end text.new.items
-        ≡ with_field (take at text.old.items) (backslashed chars.now)) }
+fn put_backslashed(text: &mut [u8], at: usize, chars: &[u8]) -> Result<usize, AllocError>
+    requires { at ≤ length text.old }
+    ensures inside { IfOk result (λ end. end ≤ length text.new) }
+    ensures text { IfOk result
+        (λ end. take end text.new ≡ with_field (take at text.old) (92 ∷ chars.now)) }
 {
-    text.truncate(at);
-    push_text(text, chars)?;
-    Ok(text.len())
+    if needs_quotes(chars) {
+        return put_quoted(text, at, b"\"\\", chars);
+    }
+    reserve(text, at, 1)?;
+    let start = put(text, at, b"\\");
+    reserve(text, start, chars.len())?;
+    Ok(put(text, start, chars))
 }
 
 // Writes a text as a field of CSV from `at` on, and returns where it ends.
 #[inline(always)]
-pub(crate) fn put_text_field(
-    text: &mut Vec<u8>,
-    at: usize,
-    chars: &str,
-) -> Result<usize, AllocError>
-    requires { at ≤ length text.old.items }
-    ensures inside { IfOk result (λ end. end ≤ length text.new.items) }
-    ensures text { IfOk result (λ end. take end text.new.items
-        ≡ with_field (take at text.old.items) (backslashed chars.now)) }
+pub(crate) fn put_text_field(text: &mut [u8], at: usize, chars: &str) -> Result<usize, AllocError>
+    requires { at ≤ length text.old }
+    ensures inside { IfOk result (λ end. end ≤ length text.new) }
+    ensures text { IfOk result (λ end. take end text.new
+        ≡ with_field (take at text.old) (backslashed chars.now)) }
 {
     if chars.as_bytes().first() == Some(&b'\\') {
-        return put_backslashed(text, at, chars);
+        return put_backslashed(text, at, chars.as_bytes());
     }
     put_field(text, at, chars.as_bytes())
 }
 
 // Writes a signed number as a field of CSV from `at` on, and returns where it ends.
 #[inline(always)]
-pub(crate) fn put_signed_field(text: &mut Vec<u8>, at: usize, number: i64) -> usize
-    requires { at + 25 ≤ length text.old.items }
-    ensures inside { result ≤ length text.new.items }
-    ensures text { take result text.new.items
-        ≡ with_field (take at text.old.items) (signed_decimal number) }
+pub(crate) fn put_signed_field(text: &mut [u8], at: usize, number: i64) -> usize
+    requires { at + 25 ≤ length text.old }
+    ensures inside { result ≤ length text.new }
+    ensures text { take result text.new
+        ≡ with_field (take at text.old) (signed_decimal number) }
 {
     put_signed(text, at, number)
 }
 
 // Writes an unsigned number as a field of CSV from `at` on, and returns where it ends.
 #[inline(always)]
-pub(crate) fn put_unsigned_field(text: &mut Vec<u8>, at: usize, number: u64) -> usize
-    requires { at + 24 ≤ length text.old.items }
-    ensures inside { result ≤ length text.new.items }
-    ensures text { take result text.new.items
-        ≡ with_field (take at text.old.items) (decimal number) }
+pub(crate) fn put_unsigned_field(text: &mut [u8], at: usize, number: u64) -> usize
+    requires { at + 24 ≤ length text.old }
+    ensures inside { result ≤ length text.new }
+    ensures text { take result text.new
+        ≡ with_field (take at text.old) (decimal number) }
 {
     put_unsigned(text, at, number)
 }
@@ -99,26 +157,22 @@ pub(crate) fn put_unsigned_field(text: &mut Vec<u8>, at: usize, number: u64) -> 
 // Writes bytes as a field of CSV from `at` on, two lower-case hexadecimal digits for each, and
 // returns where it ends.
 #[inline(always)]
-pub(crate) fn put_bytes_field(
-    text: &mut Vec<u8>,
-    at: usize,
-    bytes: &[u8],
-) -> Result<usize, AllocError>
-    requires { at ≤ length text.old.items }
-    ensures inside { IfOk result (λ end. end ≤ length text.new.items) }
-    ensures text { IfOk result (λ end. take end text.new.items
-        ≡ with_field (take at text.old.items) (encode_lower bytes.now)) }
+pub(crate) fn put_bytes_field(text: &mut [u8], at: usize, bytes: &[u8]) -> Result<usize, AllocError>
+    requires { at ≤ length text.old }
+    ensures inside { IfOk result (λ end. end ≤ length text.new) }
+    ensures text { IfOk result (λ end. take end text.new
+        ≡ with_field (take at text.old) (encode_lower bytes.now)) }
 {
     put_hexadecimal(text, at, bytes)
 }
 
 // Ends a record whose fields are the first `at` bytes, and returns where it ends: a line feed,
 // behind two quotes where nothing stands there.
-pub(crate) fn put_end(text: &mut Vec<u8>, at: usize) -> Result<usize, AllocError>
-    requires { at ≤ length text.old.items }
-    ensures inside { IfOk result (λ end. end ≤ length text.new.items) }
+pub(crate) fn put_end(text: &mut [u8], at: usize) -> Result<usize, AllocError>
+    requires { at ≤ length text.old }
+    ensures inside { IfOk result (λ end. end ≤ length text.new) }
     ensures ended { IfOk result
-        (λ end. Ended 0 (take at text.old.items) (take end text.new.items)) }
+        (λ end. Ended 0 (take at text.old) (take end text.new)) }
 {
     reserve(text, at, 3)?;
     if at == 0 {

@@ -71,17 +71,17 @@ fn put_many_digits(text: &mut [u8], at: usize, bytes: &[u8]) -> usize
 }
 
 /// Writes two lower-case digits for each byte from `at` on, and returns where they end. It refuses
-/// only where memory ran out.
+/// only where the buffer ends before.
 #[inline(always)]
-pub fn put_hexadecimal(text: &mut Vec<u8>, at: usize, bytes: &[u8]) -> Result<usize, AllocError>
-    requires { at ≤ length text.old.items }
-    ensures inside { IfOk result (λ end. end ≤ length text.new.items) }
-    ensures text { IfOk result (λ end. take end text.new.items
-        ≡ take at text.old.items ++ encode_lower bytes.now) }
+pub fn put_hexadecimal(text: &mut [u8], at: usize, bytes: &[u8]) -> Result<usize, AllocError>
+    requires { at ≤ length text.old }
+    ensures inside { IfOk result (λ end. end ≤ length text.new) }
+    ensures text { IfOk result (λ end. take end text.new
+        ≡ take at text.old ++ encode_lower bytes.now) }
 {
     let Some(count) = bytes.len().checked_mul(2) else {
         return Err(AllocError);
     };
     reserve(text, at, count)?;
-    Ok(put_many_digits(text.as_mut_slice(), at, bytes))
+    Ok(put_many_digits(text, at, bytes))
 }

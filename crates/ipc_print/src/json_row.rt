@@ -24,6 +24,7 @@ use crate::moments::put_moment;
 use crate::room::{put, reserve};
 use crate::strings::put_string;
 use crate::tree::ColumnTree;
+use crate::truth::put_truth;
 use ipc_column::{Cell, Slot};
 use ipc_model::{DataType, Field};
 use std::alloc::AllocError;
@@ -33,11 +34,11 @@ const ROOM: usize = 64;
 
 // A comma, where something stands before.
 #[inline(always)]
-fn put_comma(text: &mut Vec<u8>, at: usize, later: bool) -> usize
-    requires { at + 1 ≤ length text.old.items }
+fn put_comma(text: &mut [u8], at: usize, later: bool) -> usize
+    requires { at + 1 ≤ length text.old }
     ensures end { result ≤ at + 1 }
-    ensures same_room { length text.new.items ≡ length text.old.items }
-    ensures text { take result text.new.items ≡ take at text.old.items ++ comma_if later }
+    ensures same_room { length text.new ≡ length text.old }
+    ensures text { take result text.new ≡ take at text.old ++ comma_if later }
 {
     if !later {
         return at;
@@ -46,34 +47,31 @@ fn put_comma(text: &mut Vec<u8>, at: usize, later: bool) -> usize
 }
 
 #[inline(always)]
-fn put_null(text: &mut Vec<u8>, at: usize) -> usize
-    requires { at + 4 ≤ length text.old.items }
-    ensures inside { result ≤ length text.new.items }
-    ensures text { take result text.new.items ≡ take at text.old.items ++ compact_text null }
+fn put_null(text: &mut [u8], at: usize) -> usize
+    requires { at + 4 ≤ length text.old }
+    ensures inside { result ≤ length text.new }
+    ensures text { take result text.new ≡ take at text.old ++ compact_text null }
 {
     put(text, at, b"null")
 }
 
 #[inline(always)]
-fn put_bool(text: &mut Vec<u8>, at: usize, truth: bool) -> usize
-    requires { at + 5 ≤ length text.old.items }
-    ensures inside { result ≤ length text.new.items }
-    ensures text { take result text.new.items
-        ≡ take at text.old.items ++ compact_text (boolean truth) }
+fn put_bool(text: &mut [u8], at: usize, truth: bool) -> usize
+    requires { at + 5 ≤ length text.old }
+    ensures inside { result ≤ length text.new }
+    ensures text { take result text.new
+        ≡ take at text.old ++ compact_text (boolean truth) }
 {
-    match truth {
-        true => put(text, at, b"true"),
-        false => put(text, at, b"false"),
-    }
+    put_truth(text, at, truth)
 }
 
 // A date, a time or a point in time as its text where it has one, and else the number.
 #[inline(always)]
-fn put_int(text: &mut Vec<u8>, at: usize, kind: &DataType, number: i64) -> usize
-    requires { at + 34 ≤ length text.old.items }
-    ensures inside { result ≤ length text.new.items }
-    ensures text { take result text.new.items
-        ≡ take at text.old.items ++ compact_text (int_json kind.now number) }
+fn put_int(text: &mut [u8], at: usize, kind: &DataType, number: i64) -> usize
+    requires { at + 34 ≤ length text.old }
+    ensures inside { result ≤ length text.new }
+    ensures text { take result text.new
+        ≡ take at text.old ++ compact_text (int_json kind.now number) }
 {
     let start = put(text, at, b"\"");
     match put_moment(text, start, kind, number) {
@@ -84,11 +82,11 @@ fn put_int(text: &mut Vec<u8>, at: usize, kind: &DataType, number: i64) -> usize
 
 // Bytes as a text of lower-case hexadecimal digits.
 #[inline(always)]
-fn put_bytes(text: &mut Vec<u8>, at: usize, bytes: &[u8]) -> Result<usize, AllocError>
-    requires { at + 1 ≤ length text.old.items }
-    ensures inside { IfOk result (λ end. end ≤ length text.new.items) }
-    ensures text { IfOk result (λ end. take end text.new.items
-        ≡ take at text.old.items ++ quoted (encode_lower bytes.now)) }
+fn put_bytes(text: &mut [u8], at: usize, bytes: &[u8]) -> Result<usize, AllocError>
+    requires { at + 1 ≤ length text.old }
+    ensures inside { IfOk result (λ end. end ≤ length text.new) }
+    ensures text { IfOk result (λ end. take end text.new
+        ≡ take at text.old ++ quoted (encode_lower bytes.now)) }
 {
     let at = put(text, at, b"\"");
     let at = put_hexadecimal(text, at, bytes)?;
@@ -98,11 +96,11 @@ fn put_bytes(text: &mut Vec<u8>, at: usize, bytes: &[u8]) -> Result<usize, Alloc
 
 // Sees to the room of a value, and writes a comma where something stands before it.
 #[inline(always)]
-fn start_item(text: &mut Vec<u8>, start: usize, later: bool) -> Result<usize, AllocError>
-    requires { start ≤ length text.old.items }
-    ensures room { IfOk result (λ at. at + 34 ≤ length text.new.items) }
+fn start_item(text: &mut [u8], start: usize, later: bool) -> Result<usize, AllocError>
+    requires { start ≤ length text.old }
+    ensures room { IfOk result (λ at. at + 34 ≤ length text.new) }
     ensures text { IfOk result
-        (λ at. take at text.new.items ≡ take start text.old.items ++ comma_if later) }
+        (λ at. take at text.new ≡ take start text.old ++ comma_if later) }
 {
     reserve(text, start, ROOM)?;
     Ok(put_comma(text, start, later))
@@ -110,11 +108,11 @@ fn start_item(text: &mut Vec<u8>, start: usize, later: bool) -> Result<usize, Al
 
 // The closing bracket.
 #[inline(always)]
-fn put_end(text: &mut Vec<u8>, at: usize) -> Result<usize, AllocError>
-    requires { at ≤ length text.old.items }
-    ensures inside { IfOk result (λ end. end ≤ length text.new.items) }
+fn put_end(text: &mut [u8], at: usize) -> Result<usize, AllocError>
+    requires { at ≤ length text.old }
+    ensures inside { IfOk result (λ end. end ≤ length text.new) }
     ensures text { IfOk result
-        (λ end. take end text.new.items ≡ take at text.old.items ++ 93 ∷ []) }
+        (λ end. take end text.new ≡ take at text.old ++ 93 ∷ []) }
 {
     reserve(text, at, 1)?;
     Ok(put(text, at, b"]"))
@@ -123,16 +121,16 @@ fn put_end(text: &mut Vec<u8>, at: usize) -> Result<usize, AllocError>
 // What a slot of a column holds, by the column's field.
 #[cycle(slot)]
 fn put_slot(
-    text: &mut Vec<u8>,
+    text: &mut [u8],
     at: usize,
     field: &Field,
     column: &ColumnTree<'_>,
     slot: usize,
 ) -> Result<usize, AllocError>
-    requires room { at + 34 ≤ length text.old.items }
+    requires room { at + 34 ≤ length text.old }
     requires slot { slot < length (slot_values column.now) }
-    ensures inside { IfOk result (λ end. end ≤ length text.new.items) }
-    ensures text { IfOk result (λ end. take end text.new.items ≡ take at text.old.items
+    ensures inside { IfOk result (λ end. end ≤ length text.new) }
+    ensures text { IfOk result (λ end. take end text.new ≡ take at text.old
         ++ compact_text (cell_json field.now (slot_value column.now slot))) }
 {
     match column.at(slot) {
@@ -152,17 +150,17 @@ fn put_slot(
 // The values of a list, which stand in slots of the first child, by its field's one child.
 #[cycle(slot)]
 fn put_list(
-    text: &mut Vec<u8>,
+    text: &mut [u8],
     at: usize,
     children: &[Field],
     column: &ColumnTree<'_>,
     from: usize,
     to: usize,
 ) -> Result<usize, AllocError>
-    requires room { at + 34 ≤ length text.old.items }
+    requires room { at + 34 ≤ length text.old }
     requires slots { LeadsTo column.now from to }
-    ensures inside { IfOk result (λ end. end ≤ length text.new.items) }
-    ensures text { IfOk result (λ end. take end text.new.items ≡ take at text.old.items
+    ensures inside { IfOk result (λ end. end ≤ length text.new) }
+    ensures text { IfOk result (λ end. take end text.new ≡ take at text.old
         ++ compact_text (array (list_json (map cell_json children.now)
         (list_values column.now from to)))) }
 {
@@ -176,17 +174,17 @@ fn put_list(
 // The values of a list and the closing bracket.
 #[cycle(slot)]
 fn put_items(
-    text: &mut Vec<u8>,
+    text: &mut [u8],
     start: usize,
     child: &Field,
     column: &ColumnTree<'_>,
     from: usize,
     to: usize,
 ) -> Result<usize, AllocError>
-    requires start { start ≤ length text.old.items }
+    requires start { start ≤ length text.old }
     requires slots { LeadsTo column.now from to }
-    ensures inside { IfOk result (λ end. end ≤ length text.new.items) }
-    ensures text { IfOk result (λ end. take end text.new.items ≡ take start text.old.items
+    ensures inside { IfOk result (λ end. end ≤ length text.new) }
+    ensures text { IfOk result (λ end. take end text.new ≡ take start text.old
         ++ items_text false (items_json (cell_json child.now) (list_values column.now from to))) }
 {
     if column.children() == 0 {
@@ -196,11 +194,11 @@ fn put_items(
 }
 
 // So many nulls and the closing bracket.
-fn put_nulls(text: &mut Vec<u8>, start: usize, count: usize) -> Result<usize, AllocError>
-    requires start { start ≤ length text.old.items }
-    ensures inside { IfOk result (λ end. end ≤ length text.new.items) }
+fn put_nulls(text: &mut [u8], start: usize, count: usize) -> Result<usize, AllocError>
+    requires start { start ≤ length text.old }
+    ensures inside { IfOk result (λ end. end ≤ length text.new) }
     ensures text { (field : Field) → IfOk result
-        (λ end. take end text.new.items ≡ take start text.old.items
+        (λ end. take end text.new ≡ take start text.old
         ++ items_text false (items_json (cell_json field) (replicate count v.Null))) }
 {
     let mut at = start;
@@ -214,17 +212,17 @@ fn put_nulls(text: &mut Vec<u8>, start: usize, count: usize) -> Result<usize, Al
 // What so many slots of a column hold, and the closing bracket.
 #[cycle(slot)]
 fn put_slots(
-    text: &mut Vec<u8>,
+    text: &mut [u8],
     start: usize,
     field: &Field,
     column: &ColumnTree<'_>,
     from: usize,
     count: usize,
 ) -> Result<usize, AllocError>
-    requires start { start ≤ length text.old.items }
+    requires start { start ≤ length text.old }
     requires slots { from + count ≤ length (slot_values column.now) }
-    ensures inside { IfOk result (λ end. end ≤ length text.new.items) }
-    ensures text { IfOk result (λ end. take end text.new.items ≡ take start text.old.items
+    ensures inside { IfOk result (λ end. end ≤ length text.new) }
+    ensures text { IfOk result (λ end. take end text.new ≡ take start text.old
         ++ items_text false (items_json (cell_json field.now)
         (values_between column.now from count))) }
 {
@@ -242,16 +240,16 @@ fn put_slots(
 // The values of a struct, each by its child of the field.
 #[cycle(slot)]
 fn put_struct(
-    text: &mut Vec<u8>,
+    text: &mut [u8],
     at: usize,
     children: &[Field],
     column: &ColumnTree<'_>,
     slot: usize,
 ) -> Result<usize, AllocError>
-    requires room { at + 34 ≤ length text.old.items }
+    requires room { at + 34 ≤ length text.old }
     requires slot { HaveSlot column.now slot }
-    ensures inside { IfOk result (λ end. end ≤ length text.new.items) }
-    ensures text { IfOk result (λ end. take end text.new.items ≡ take at text.old.items
+    ensures inside { IfOk result (λ end. end ≤ length text.new) }
+    ensures text { IfOk result (λ end. take end text.new ≡ take at text.old
         ++ compact_text (array (each_json (map cell_json children.now)
         (row (below column.now) slot)))) }
 {
@@ -262,16 +260,16 @@ fn put_struct(
 // Values beside their fields and the closing bracket.
 #[cycle(slot)]
 fn put_each(
-    text: &mut Vec<u8>,
+    text: &mut [u8],
     start: usize,
     fields: &[Field],
     column: &ColumnTree<'_>,
     slot: usize,
 ) -> Result<usize, AllocError>
-    requires start { start ≤ length text.old.items }
+    requires start { start ≤ length text.old }
     requires slot { HaveSlot column.now slot }
-    ensures inside { IfOk result (λ end. end ≤ length text.new.items) }
-    ensures text { IfOk result (λ end. take end text.new.items ≡ take start text.old.items
+    ensures inside { IfOk result (λ end. end ≤ length text.new) }
+    ensures text { IfOk result (λ end. take end text.new ≡ take start text.old
         ++ items_text false (each_json (map cell_json fields.now) (row (below column.now) slot))) }
 {
     let mut at = start;
@@ -292,17 +290,17 @@ fn put_each(
 #[cold]
 #[inline(never)]
 fn put_nested(
-    text: &mut Vec<u8>,
+    text: &mut [u8],
     at: usize,
     field: &Field,
     column: &Column<'_>,
     row: usize,
 ) -> Result<usize, AllocError>
-    requires room { at + 34 ≤ length text.old.items }
+    requires room { at + 34 ≤ length text.old }
     requires row { row < length column.now }
-    ensures inside { IfOk result (λ end. end ≤ length text.new.items) }
+    ensures inside { IfOk result (λ end. end ≤ length text.new) }
     ensures text { (value : Value) → slice_get column.now row ≡ Some value
-        → IfOk result (λ end. take end text.new.items ≡ take at text.old.items
+        → IfOk result (λ end. take end text.new ≡ take at text.old
         ++ compact_text (cell_json field.now value)) }
 {
     put_slot(text, at, field, column.tree(), row)
@@ -311,18 +309,18 @@ fn put_nested(
 // What a column has in a row, where that is this cell.
 #[inline(always)]
 fn put_cell(
-    text: &mut Vec<u8>,
+    text: &mut [u8],
     at: usize,
     field: &Field,
     cell: Cell<'_>,
     column: &Column<'_>,
     row: usize,
 ) -> Result<usize, AllocError>
-    requires room { at + 34 ≤ length text.old.items }
+    requires room { at + 34 ≤ length text.old }
     requires row { row < length column.now }
     requires cell { slice_get column.now row ≡ Some (cell_value cell) }
-    ensures inside { IfOk result (λ end. end ≤ length text.new.items) }
-    ensures text { IfOk result (λ end. take end text.new.items ≡ take at text.old.items
+    ensures inside { IfOk result (λ end. end ≤ length text.new) }
+    ensures text { IfOk result (λ end. take end text.new ≡ take at text.old
         ++ compact_text (cell_json field.now (cell_value cell.entry))) }
 {
     match cell {
@@ -339,7 +337,7 @@ fn put_cell(
 
 // The cells of a row and the closing bracket.
 fn put_cells(
-    text: &mut Vec<u8>,
+    text: &mut [u8],
     start: usize,
     fields: &[Field],
     columns: &[Column<'_>],
@@ -347,9 +345,9 @@ fn put_cells(
 ) -> Result<usize, AllocError>
     requires columns { length columns.now ≡ length fields.now }
     requires row { HaveRow columns.now row }
-    requires start { start ≤ length text.old.items }
-    ensures inside { IfOk result (λ end. end ≤ length text.new.items) }
-    ensures text { IfOk result (λ end. take end text.new.items ≡ take start text.old.items
+    requires start { start ≤ length text.old }
+    ensures inside { IfOk result (λ end. end ≤ length text.new) }
+    ensures text { IfOk result (λ end. take end text.new ≡ take start text.old
         ++ items_text false (each_json (map cell_json fields.now)
         (row_at columns.now row))) }
 {
@@ -366,19 +364,19 @@ fn put_cells(
 
 /// Writes the JSON text of a row and a line feed to the front of a buffer, and returns where it
 /// ends. What the buffer holds before means nothing: it is room to be used again. It refuses only
-/// where memory ran out.
+/// where the buffer ends before the line.
 ///
 /// The caller gives the columns of a batch, a row below its `rows`, and the fields of the columns.
 pub fn json_line(
-    text: &mut Vec<u8>,
+    text: &mut [u8],
     fields: &[Field],
     columns: &[Column<'_>],
     row: usize,
 ) -> Result<usize, AllocError>
     requires columns { length columns.now ≡ length fields.now }
     requires row { HaveRow columns.now row }
-    ensures inside { IfOk result (λ end. end ≤ length text.new.items) }
-    ensures text { IfOk result (λ end. take end text.new.items
+    ensures inside { IfOk result (λ end. end ≤ length text.new) }
+    ensures text { IfOk result (λ end. take end text.new
         ≡ row_text fields.now (row_at columns.now row) ++ 10 ∷ []) }
 {
     reserve(text, 0, 1)?;

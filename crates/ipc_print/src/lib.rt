@@ -10,6 +10,7 @@ mod fields;
 mod form;
 mod hexadecimal;
 mod json_row;
+mod line;
 mod moments;
 mod plain;
 mod printing;
@@ -18,6 +19,7 @@ mod rows;
 mod stop;
 mod strings;
 mod tree;
+mod truth;
 mod types;
 mod unquoted;
 

@@ -8,36 +8,35 @@ ghost use Rattle.ipc_moments.specs.Moments as spec;
 ghost use Rattle.ipc_moments.specs.Moments.{moment_text};
 ghost use Rattle.ipc_moments.specs.ShortTexts.{IsPlain};
 
-use crate::room::put_short;
 use ipc_model::{DataType, DateUnit, Text, TimeUnit};
 use ipc_moments::{ShortText, date_text, time_text, timestamp_text};
 
 // Writes a text, if there is one, from `at` on, and returns where it ends.
 #[inline(always)]
-fn put_found(text: &mut Vec<u8>, at: usize, found: Option<ShortText>) -> Option<usize>
-    requires { at + 32 ≤ length text.old.items }
+fn put_found(text: &mut [u8], at: usize, found: Option<ShortText>) -> Option<usize>
+    requires { at + 32 ≤ length text.old }
     ensures end { IfSome result (λ end. end ≤ at + 32) }
-    ensures same_room { length text.new.items ≡ length text.old.items }
-    ensures unchanged { IsNone result → text.new.items ≡ text.old.items }
-    ensures text { option_map (λ end. take end text.new.items) result
-        ≡ option_map (λ moment. take at text.old.items ++ moment) found }
+    ensures same_room { length text.new ≡ length text.old }
+    ensures unchanged { IsNone result → text.new ≡ text.old }
+    ensures text { option_map (λ end. take end text.new) result
+        ≡ option_map (λ moment. take at text.old ++ moment) found }
     ensures plain { IfSome found IsPlain }
 {
     match found {
-        Some(moment) => Some(put_short(text, at, &moment)),
+        Some(moment) => Some(moment.put(text, at)),
         None => None,
     }
 }
 
 // A date.
 #[inline(always)]
-fn put_date(text: &mut Vec<u8>, at: usize, unit: DateUnit, number: i64) -> Option<usize>
-    requires { at + 32 ≤ length text.old.items }
+fn put_date(text: &mut [u8], at: usize, unit: DateUnit, number: i64) -> Option<usize>
+    requires { at + 32 ≤ length text.old }
     ensures end { IfSome result (λ end. end ≤ at + 32) }
-    ensures same_room { length text.new.items ≡ length text.old.items }
-    ensures unchanged { IsNone result → text.new.items ≡ text.old.items }
-    ensures text { option_map (λ end. take end text.new.items) result
-        ≡ option_map (λ moment. take at text.old.items ++ moment) (spec.date_text unit number) }
+    ensures same_room { length text.new ≡ length text.old }
+    ensures unchanged { IsNone result → text.new ≡ text.old }
+    ensures text { option_map (λ end. take end text.new) result
+        ≡ option_map (λ moment. take at text.old ++ moment) (spec.date_text unit number) }
     ensures plain { IfSome (spec.date_text unit number) IsPlain }
 {
     match unit {
@@ -49,18 +48,18 @@ fn put_date(text: &mut Vec<u8>, at: usize, unit: DateUnit, number: i64) -> Optio
 // A point in time.
 #[inline(always)]
 fn put_timestamp(
-    text: &mut Vec<u8>,
+    text: &mut [u8],
     at: usize,
     unit: TimeUnit,
     zone: Option<&str>,
     number: i64,
 ) -> Option<usize>
-    requires { at + 32 ≤ length text.old.items }
+    requires { at + 32 ≤ length text.old }
     ensures end { IfSome result (λ end. end ≤ at + 32) }
-    ensures same_room { length text.new.items ≡ length text.old.items }
-    ensures unchanged { IsNone result → text.new.items ≡ text.old.items }
-    ensures text { option_map (λ end. take end text.new.items) result
-        ≡ option_map (λ moment. take at text.old.items ++ moment)
+    ensures same_room { length text.new ≡ length text.old }
+    ensures unchanged { IsNone result → text.new ≡ text.old }
+    ensures text { option_map (λ end. take end text.new) result
+        ≡ option_map (λ moment. take at text.old ++ moment)
         (spec.timestamp_text unit (option_map (λ zone. zone.now) zone.entry) number) }
     ensures plain { IfSome (spec.timestamp_text unit (option_map (λ zone. zone.now) zone.entry)
         number) IsPlain }
@@ -101,13 +100,13 @@ fn zone_of(timezone: &Option<Text>) -> Option<&str>
 /// Writes the text of a number of this type that is a date, a time or a point in time from `at` on,
 /// where it has one, and returns where it ends. Else, and of another type, nothing is written.
 #[inline(always)]
-pub fn put_moment(text: &mut Vec<u8>, at: usize, kind: &DataType, number: i64) -> Option<usize>
-    requires { at + 32 ≤ length text.old.items }
+pub fn put_moment(text: &mut [u8], at: usize, kind: &DataType, number: i64) -> Option<usize>
+    requires { at + 32 ≤ length text.old }
     ensures end { IfSome result (λ end. end ≤ at + 32) }
-    ensures same_room { length text.new.items ≡ length text.old.items }
-    ensures unchanged { IsNone result → text.new.items ≡ text.old.items }
-    ensures text { option_map (λ end. take end text.new.items) result
-        ≡ option_map (λ moment. take at text.old.items ++ moment) (moment_text kind.now number) }
+    ensures same_room { length text.new ≡ length text.old }
+    ensures unchanged { IsNone result → text.new ≡ text.old }
+    ensures text { option_map (λ end. take end text.new) result
+        ≡ option_map (λ moment. take at text.old ++ moment) (moment_text kind.now number) }
     ensures plain { IfSome (moment_text kind.now number) IsPlain }
 {
     match kind {

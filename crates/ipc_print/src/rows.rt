@@ -2,7 +2,7 @@
 //! line of its own.
 ghost use Rattle.std.specs.Prelude.{◌≡◌, ◌≤◌, ◌<◌, ◌+◌, ◌++◌, ◌∷◌, [], length, take, vec_len};
 ghost use Rattle.std.specs.Prelude.{slice_index_or, IfErr, IfOk, IfSome, MatchResult, Some, OnOk};
-ghost use Rattle.std.specs.Prelude.{ℕ, List};
+ghost use Rattle.std.specs.Prelude.{ℕ, List, IsFalse, IsTrue, None};
 ghost use Rattle.std.specs.Fmt.{signed_decimal};
 ghost use Rattle.std.specs.Int.{cast_signed, from_le_bytes, w64};
 ghost use Rattle.ipc_model.specs.declared.value.Value.{Value};
@@ -11,13 +11,18 @@ ghost use Rattle.ipc_column.specs.Lending.{AreNumbers};
 ghost use Rattle.ipc_column.specs.Lent.{AreOfColumn};
 ghost use Rattle.ipc_column.specs.Nested.{Nested, slot_values};
 ghost use Rattle.ipc_print.specs.Columns.{AreLent, IsLane, row_in, AreLong, number_record};
+ghost use Rattle.ipc_print.specs.Forms.{HasLine, form_fault, line_of};
+ghost use Rattle.ipc_print.specs.LentRows.{HaveRow, row_at};
 ghost use Rattle.ipc_print.specs.Output.{PrintsAs, PrintsAt, output};
 ghost use Rattle.ipc_print.specs.Rows.{AreShownRows, IsShown, cell_text, closed, comma, line};
 ghost use Rattle.ipc_print.specs.Rows.{lines};
 
+use crate::column::Column;
 use crate::digits::put_i64;
+use crate::form::Form;
+use crate::line::add_line;
 use ipc_column::{Batch, Cell, Numbers};
-use ipc_model::IntBits;
+use ipc_model::{Field, IntBits};
 use ipc_stream::Sink;
 use std::alloc::{AllocError, Global};
 use std::marker::Model;
@@ -507,6 +512,35 @@ impl Lines {
     {
         self.at = put_text(sink, &mut self.text, self.at, text)?;
         Ok(())
+    }
+
+    /// Adds the line of a row in this form, and says whether it did: not where what is kept leaves
+    /// no room, and where the row has no line.
+    ///
+    /// The caller gives the columns of a batch, a row below its `rows`, and the fields of the
+    /// columns, which the form has a place for.
+    pub fn put_line(
+        &mut self,
+        form: Form,
+        fields: &[Field],
+        columns: &[Column<'_>],
+        row: usize,
+    ) -> bool
+        requires columns { length columns.now ≡ length fields.now }
+        requires row { HaveRow columns.now row }
+        requires fits { form_fault form fields.now ≡ None }
+        ensures line { IsTrue result
+            → self.new ≡ self.old ++ line_of form fields.now (row_at columns.now row) }
+        ensures ok { IsTrue result → HasLine form fields.now (row_at columns.now row) }
+        ensures none { IsFalse result → self.new ≡ self.old }
+    {
+        match add_line(form, &mut self.text, self.at, fields, columns, row) {
+            Ok(end) => {
+                self.at = end;
+                true
+            }
+            Err(_) => false,
+        }
     }
 
     /// Adds each row of a batch as a JSON array on a line of its own. Full text goes to the sink.

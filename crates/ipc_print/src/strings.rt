@@ -1,60 +1,67 @@
 //! Texts of JSON at a place: one look at the bytes and one copy, where none has another form.
-ghost use Rattle.std.specs.Prelude.{◌≡◌, ◌≤◌, ◌+◌, ◌++◌, ◌∷◌, [], length, take, OnOk};
-ghost use Rattle.std.specs.Prelude.{IfOk};
+ghost use Rattle.std.specs.Prelude.{◌≡◌, ◌≤◌, ◌+◌, ◌++◌, length, take, IfOk};
 ghost use Rattle.std.specs.Bool.{OnTrue};
 ghost use Rattle.json.specs.Print.{escape, escape_byte, quoted};
 
 use crate::hexadecimal::hex_digit;
 use crate::plain::put_if_plain;
-use crate::room::reserve;
+use crate::room::{put, reserve};
 use crate::rows::put_word;
 use std::alloc::AllocError;
 
+// Writes what stands in a text of JSON for a byte from `at` on, and returns where it ends.
 #[tactic(auto, unfolding(json::specs::Print::escape_byte))]
-fn push_escaped(out: &mut Vec<u8>, byte: u8) -> Result<(), AllocError>
-    ensures { OnOk result (out.new.items ≡ out.old.items ++ escape_byte byte) }
+fn put_escape(text: &mut [u8], at: usize, byte: u8) -> usize
+    requires { at + 6 ≤ length text.old }
+    ensures end { result ≤ at + 6 }
+    ensures text { take result text.new ≡ take at text.old ++ escape_byte byte }
 {
     match byte {
-        b'"' => out.extend_from_slice(b"\\\"")?,
-        b'\\' => out.extend_from_slice(b"\\\\")?,
-        8 => out.extend_from_slice(b"\\b")?,
-        12 => out.extend_from_slice(b"\\f")?,
-        10 => out.extend_from_slice(b"\\n")?,
-        13 => out.extend_from_slice(b"\\r")?,
-        9 => out.extend_from_slice(b"\\t")?,
+        b'"' => put_word(text, at, b"\\\""),
+        b'\\' => put_word(text, at, b"\\\\"),
+        8 => put_word(text, at, b"\\b"),
+        12 => put_word(text, at, b"\\f"),
+        10 => put_word(text, at, b"\\n"),
+        13 => put_word(text, at, b"\\r"),
+        9 => put_word(text, at, b"\\t"),
         0..=31 => {
-            out.extend_from_slice(b"\\u00")?;
-            out.push(hex_digit(byte / 16))?;
-            out.push(hex_digit(byte % 16))?;
+            let digits = [hex_digit(byte / 16), hex_digit(byte % 16)];
+            let start = put_word(text, at, b"\\u00");
+            put_word(text, start, &digits)
         }
-        _ => out.push(byte)?,
+        _ => put_word(text, at, &[byte]),
     }
-    Ok(())
 }
 
-fn push_each_escaped(out: &mut Vec<u8>, chars: &[u8]) -> Result<(), AllocError>
-    ensures { OnOk result (out.new.items ≡ out.old.items ++ escape chars.now) }
+// The same of each byte of a text.
+fn put_each_escape(text: &mut [u8], at: usize, chars: &[u8]) -> Result<usize, AllocError>
+    requires { at ≤ length text.old }
+    ensures inside { IfOk result (λ end. end ≤ length text.new) }
+    ensures text { IfOk result
+        (λ end. take end text.new ≡ take at text.old ++ escape chars.now) }
 {
+    let mut end = at;
     for byte in chars {
-        push_escaped(out, *byte)?;
+        reserve(text, end, 6)?;
+        end = put_escape(text, end, *byte);
     }
-    Ok(())
+    Ok(end)
 }
 
-// Appends a text behind the first `at` bytes, byte by byte, and returns where it ends.
+// Writes a text between two quotation marks from `at` on, byte by byte, and returns where it ends.
 #[cold]
 #[inline(never)]
-fn put_escaped(text: &mut Vec<u8>, at: usize, chars: &[u8]) -> Result<usize, AllocError>
-    requires { at ≤ length text.old.items }
-    ensures inside { IfOk result (λ end. end ≤ length text.new.items) }
+fn put_escaped(text: &mut [u8], at: usize, chars: &[u8]) -> Result<usize, AllocError>
+    requires { at ≤ length text.old }
+    ensures inside { IfOk result (λ end. end ≤ length text.new) }
     ensures text { IfOk result
-        (λ end. take end text.new.items ≡ take at text.old.items ++ quoted chars.now) }
+        (λ end. take end text.new ≡ take at text.old ++ quoted chars.now) }
 {
-    text.truncate(at);
-    text.push(b'"')?;
-    push_each_escaped(text, chars)?;
-    text.push(b'"')?;
-    Ok(text.len())
+    reserve(text, at, 1)?;
+    let start = put(text, at, b"\"");
+    let end = put_each_escape(text, start, chars)?;
+    reserve(text, end, 1)?;
+    Ok(put(text, end, b"\""))
 }
 
 // Writes a text between two quotation marks, and says whether each of its bytes stands as it is.
@@ -73,14 +80,14 @@ fn put_plain(text: &mut [u8], at: usize, chars: &[u8]) -> bool
 
 /// Writes a text of JSON from `at` on, and returns where it ends.
 #[inline(always)]
-pub fn put_string(text: &mut Vec<u8>, at: usize, chars: &[u8]) -> Result<usize, AllocError>
-    requires { at ≤ length text.old.items }
-    ensures inside { IfOk result (λ end. end ≤ length text.new.items) }
+pub fn put_string(text: &mut [u8], at: usize, chars: &[u8]) -> Result<usize, AllocError>
+    requires { at ≤ length text.old }
+    ensures inside { IfOk result (λ end. end ≤ length text.new) }
     ensures text { IfOk result
-        (λ end. take end text.new.items ≡ take at text.old.items ++ quoted chars.now) }
+        (λ end. take end text.new ≡ take at text.old ++ quoted chars.now) }
 {
     reserve(text, at, chars.len() + 2)?;
-    if put_plain(text.as_mut_slice(), at, chars) {
+    if put_plain(text, at, chars) {
         return Ok(at + chars.len() + 2);
     }
     put_escaped(text, at, chars)

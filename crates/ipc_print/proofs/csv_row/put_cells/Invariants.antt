@@ -8,7 +8,7 @@ abbrev pub invariant-loop-column : goal.invariant-loop-column
 invariant-loop-column l =
     let row = row_at l.columns l.row in
     record {
-      inside : l.at ≤ length l.text.items;
-      text : with_fields l.column (take l.at l.text.items) (all_texts l.column (each_text (drop l.column l.fields) (drop l.column row)))
+      inside : l.at ≤ length l.text;
+      text : with_fields l.column (take l.at l.text) (all_texts l.column (each_text (drop l.column l.fields) (drop l.column row)))
           ≡ with_fields 0 [] (all_texts 0 (each_text l.fields row));
     }

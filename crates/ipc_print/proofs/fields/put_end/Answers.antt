@@ -1,4 +1,4 @@
-use Rattle.std.proofs.Common.{◌≡◌, ◌<◌, ◌∙◌, ◌++◌, refl, ap, sym, List, ℕ, [], ◌∷◌, length, take, arith}
+use Rattle.std.proofs.Common.{◌≡◌, ◌<◌, ◌∙◌, ◌++◌, refl, ap, sym, List, ℕ, length, take, arith}
 use Rattle.std.proofs.lemmas.List.{length-take-le}
 use Rattle.ipc_csv.proofs.Records.{ended}
 use Rattle.ipc_print.proofs.RecordEnds.{end_of_none, end_of_some}
@@ -6,16 +6,15 @@ use Rattle.ipc_print.proofs.fields.put_end.Goals as goal
 
 pub returns-then-at-eq0-clause-ended : goal.returns-then-at-eq0-clause-ended
 returns-then-at-eq0-clause-ended c =
-    let before = take c.args.at c.args.text.now.items in
-    let none : length before ≡ 0 = length-take-le c.args.at c.args.text.now.items c.requires ∙ c.if-at-eq0.true in
+    let before = take c.args.at c.args.text.now in
+    let none : length before ≡ 0 = length-take-le c.args.at c.args.text.now c.requires ∙ c.if-at-eq0.true in
     let zero = c.if-at-eq0.true in
     ended 0 before _ (c.put.ensures.text ∙ (rw zero refl ∙ ap (λ (t : List ℕ). before ++ t) (sym (end_of_none before none))))
 
 pub returns-clause-ended : goal.returns-clause-ended
 returns-clause-ended c =
-    let before = take c.args.at c.args.text.now.items in
-    let size : length before ≡ c.args.at = length-take-le c.args.at c.args.text.now.items c.requires in
+    let before = take c.args.at c.args.text.now in
+    let size : length before ≡ c.args.at = length-take-le c.args.at c.args.text.now c.requires in
     let other = c.if-at-eq0.false in
     let some : 0 < length before = omega (arith, size, other) in
-    ended 0 before _ (c.put-2.ensures.text ∙ (ap (λ (t : List ℕ). t ++ (10 ∷ [])) c.in_ok-reserve.ensures.front
-    ∙ ap (λ (t : List ℕ). before ++ t) (sym (end_of_some before some))))
+    ended 0 before _ (c.put-2.ensures.text ∙ ap (λ (t : List ℕ). before ++ t) (sym (end_of_some before some)))

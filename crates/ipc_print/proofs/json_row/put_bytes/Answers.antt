@@ -6,7 +6,6 @@ pub returns-clause-text : goal.returns-clause-text
 returns-clause-text c =
     rw (
       c.put.ensures.text,
-      c.in_ok-reserve.ensures.front,
       c.in_ok-at.ensures.text,
       c.put-at.ensures.text,
       own_digits c.args.bytes.now (λ k. (c.type_inv.bytes k).fits),

@@ -9,7 +9,7 @@ abbrev pub invariant-loop-column : goal.invariant-loop-column
 invariant-loop-column l =
     let row = row_at l.columns l.row in
     record {
-      inside : l.at ≤ length l.text.items;
-      text : take l.at l.text.items ++ items_text l.later (each_json (map cell_json (drop l.column l.fields)) (drop l.column row))
-          ≡ take l.start l.initial.text.items ++ items_text false (each_json (map cell_json l.fields) row);
+      inside : l.at ≤ length l.text;
+      text : take l.at l.text ++ items_text l.later (each_json (map cell_json (drop l.column l.fields)) (drop l.column row))
+          ≡ take l.start l.initial.text ++ items_text false (each_json (map cell_json l.fields) row);
     }

@@ -17,7 +17,7 @@ returns-in-None-clause-text c =
     let z = to_z-of_z w64 c.args.number fits in
     let same = (rw c.in-None.is at c.put_moment.ensures.unchanged) refl in
     let text = rw (same, z) at c.put_signed.ensures.text in
-    let front = before_byte c.args.text.now.items c.put-start.new.text.items c.args.at 34 (omega (arith, c.requires))
+    let front = before_byte c.args.text.now c.put-start.new.text c.args.at 34 (omega (arith, c.requires))
     (rw c.put-start.ensures.end at c.put-start.ensures.text) in
     shown_number _ _ _ (moment_text c.args.kind.now c.args.number) c.args.number (rw (c.in-None.is, z) at c.put_moment.ensures.text)
     (rw front at text)

@@ -11,5 +11,5 @@ pub returns-clause-text : goal.returns-clause-text
 returns-clause-text c = λ value at.
     let same = ap (λ (vs : List Value). slice_index_or vs c.args.row v.Null) c.tree.ensures
     ∙ get_or_from_slice_get c.args.column.now c.args.row value v.Null at in
-    subst (λ (v : Value). IfOk c.put_slot.result (λ end. take end c.put_slot.new.text.items
-    ≡ take c.args.at c.args.text.now.items ++ compact_text (cell_json c.args.field.now v))) same c.put_slot.ensures.text
+    subst (λ (v : Value). IfOk c.put_slot.result (λ end. take end c.put_slot.new.text
+    ≡ take c.args.at c.args.text.now ++ compact_text (cell_json c.args.field.now v))) same c.put_slot.ensures.text

@@ -9,8 +9,8 @@ use Rattle.ipc_print.proofs.json_row.put_nulls.Given as goal
 -- the first of the nulls were written
 abbrev pub invariant-loop-number : goal.invariant-loop-number
 invariant-loop-number l = record {
-  inside : l.at ≤ length l.text.items;
-  text : (field : Field) → take l.at l.text.items
+  inside : l.at ≤ length l.text;
+  text : (field : Field) → take l.at l.text
       ++ items_text (nat_lt 0 l.number) (items_json (cell_json field) (drop l.number (replicate l.count v.Null)))
-      ≡ take l.start l.initial.text.items ++ items_text false (items_json (cell_json field) (replicate l.count v.Null));
+      ≡ take l.start l.initial.text ++ items_text false (items_json (cell_json field) (replicate l.count v.Null));
 }
