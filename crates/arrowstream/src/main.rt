@@ -5,11 +5,12 @@
 ghost use Rattle.std.specs.Prelude.{IfOk};
 ghost use Rattle.ipc_command.specs.Words.{HasGoodSize};
 
-use ipc_command::{Job, Usage, read_words, run};
-use ipc_stream::Device;
+use ipc_command::{Job, Usage, read_words, run_with_seed};
+use ipc_stream::{Device, Seed};
 use std::alloc::{AllocError, Global};
 use std::env::Args;
 use std::fs::File;
+use std::hash::RandomState;
 use std::io::{IsTerminal, Write};
 use std::process::ExitCode;
 use std::{env, io};
@@ -94,6 +95,15 @@ fn tell_usage(rt: &HostRuntime, usage: &Usage) -> u8 {
     }
 }
 
+// What the values of dictionaries are hashed with, drawn at random where the system gives such
+// numbers.
+fn draw_seed(rt: &HostRuntime) -> Seed {
+    match RandomState::new(rt) {
+        Ok(state) => Seed::Random(state),
+        Err(_) => Seed::Fixed,
+    }
+}
+
 fn main(rt: HostRuntime) -> ExitCode {
     let (job, schema) = match read_job_and_schema(&rt) {
         Ok(read) => read,
@@ -101,8 +111,9 @@ fn main(rt: HostRuntime) -> ExitCode {
     };
     let output = Device::new(io::writer(&rt));
     let mut messages = rt.stderr();
-    let (status, _input, _output, _schema) = run(
+    let (status, _input, _output, _schema) = run_with_seed(
         rt.alloc(),
+        draw_seed(&rt),
         job,
         schema,
         rt.reader(),

@@ -7,6 +7,6 @@ mod schema_file;
 mod stop;
 mod words;
 
-pub use running::run;
+pub use running::{run, run_with_seed};
 pub use stop::Stop;
 pub use words::{Job, Usage, read_words};

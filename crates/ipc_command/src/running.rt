@@ -8,11 +8,11 @@ ghost use Rattle.ipc_command.specs.declared.stop.Stop.{Stop};
 use crate::schema_file::read_schema;
 use crate::stop::Stop;
 use crate::words::Job;
-use ipc_from_csv::from_csv;
+use ipc_from_csv::from_csv_with_seed;
 use ipc_model::Limits;
 use ipc_print::{Form, print};
-use ipc_rewrite::rewrite;
-use ipc_stream::{Device, Sink, Source};
+use ipc_rewrite::rewrite_with_seed;
+use ipc_stream::{Device, Seed, Sink, Source};
 use std::alloc::Global;
 use std::io::{Read, Write};
 
@@ -41,6 +41,7 @@ fn print_job<R: Read, W: Sink>(
 // Writes a stream anew.
 fn rewrite_job<R: Read, W: Sink>(
     alloc: Global,
+    seed: Seed,
     limits: Limits,
     input: R,
     sink: W,
@@ -50,7 +51,7 @@ fn rewrite_job<R: Read, W: Sink>(
     ensures handed_on { OnOk result.0 (W.held_back result.2 ≡ Some []) }
     ensures works { exit_status result.0 ≢ 3 → W.failures sink ≡ 0 → W.failures result.2 ≡ 0 }
 {
-    let (result, source, sink) = rewrite(alloc, limits, Device::new(input), sink);
+    let (result, source, sink) = rewrite_with_seed(alloc, seed, limits, Device::new(input), sink);
     let result = match result {
         Ok(()) => Ok(()),
         Err(why) => Err(why.into()),
@@ -71,6 +72,7 @@ fn csv_result(answer: Result<(), ipc_from_csv::Stop>) -> Result<(), Stop>
 // Writes records of CSV as a stream, by the schema of a file.
 fn csv_job<P: Source, R: Read, W: Sink>(
     alloc: Global,
+    seed: Seed,
     file: Option<P>,
     batch: u64,
     input: R,
@@ -88,13 +90,14 @@ fn csv_job<P: Source, R: Read, W: Sink>(
         Ok(schema) => schema,
         Err(why) => return (Err(why), input, sink, file),
     };
-    let (result, input, sink) = from_csv(alloc, input, sink, &schema, batch);
+    let (result, input, sink) = from_csv_with_seed(alloc, seed, input, sink, &schema, batch);
     (csv_result(result), input, sink, file)
 }
 
 // Does a job, as `run`.
 fn do_job<P: Source, R: Read, W: Sink>(
     alloc: Global,
+    seed: Seed,
     job: Job,
     schema: Option<P>,
     input: R,
@@ -113,8 +116,10 @@ fn do_job<P: Source, R: Read, W: Sink>(
             print_job(alloc, Form::Rows { pairs }, limits, input, sink)
         }
         Job::ToCsv(limits) => print_job(alloc, Form::Records, limits, input, sink),
-        Job::Rewrite(limits) => rewrite_job(alloc, limits, input, sink),
-        Job::FromCsv { schema: _, batch } => return csv_job(alloc, schema, batch, input, sink),
+        Job::Rewrite(limits) => rewrite_job(alloc, seed, limits, input, sink),
+        Job::FromCsv { schema: _, batch } => return csv_job(
+            alloc, seed, schema, batch, input, sink,
+        ),
     };
     (result, input, sink, schema)
 }
@@ -150,7 +155,34 @@ pub fn run<P: Source, R: Read, W: Sink, E: Write>(
     // There is no other status.
     ensures one { (result.0 ≡ 0) ⊎ (result.0 ≡ 1) ⊎ (result.0 ≡ 3) ⊎ (result.0 ≡ 4) }
 {
-    let (result, input, sink, schema) = do_job(alloc, job, schema, input, sink);
+    run_with_seed(alloc, Seed::Fixed, job, schema, input, sink, messages)
+}
+
+/// The same, where the values of dictionaries that are written are hashed with this seed: nobody
+/// who doesn't know it can choose values whose hashes collide.
+pub fn run_with_seed<P: Source, R: Read, W: Sink, E: Write>(
+    alloc: Global,
+    seed: Seed,
+    job: Job,
+    schema: Option<P>,
+    input: R,
+    sink: W,
+    messages: &mut E,
+) -> (u8, R, W, Option<P>)
+    requires { HasGoodSize job }
+    // The status is that of an answer, which says what was read and what went out.
+    ensures answers { (r : Result ⊤ Stop) × (result.0 ≡ exit_status r)
+        × Answers job (bytes_of P.remaining schema) (failures_of P.failures result.3)
+        (R.remaining input) (R.remaining result.1) (W.written sink) (W.written result.2)
+        (W.failures sink) (W.failures result.2) r }
+    // Where all was done the sink holds nothing back.
+    ensures handed_on { result.0 ≡ 0 → W.held_back result.2 ≡ Some [] }
+    // A sink fails only at 3.
+    ensures works { result.0 ≢ 3 → W.failures sink ≡ 0 → W.failures result.2 ≡ 0 }
+    // There is no other status.
+    ensures one { (result.0 ≡ 0) ⊎ (result.0 ≡ 1) ⊎ (result.0 ≡ 3) ⊎ (result.0 ≡ 4) }
+{
+    let (result, input, sink, schema) = do_job(alloc, seed, job, schema, input, sink);
     match result {
         Ok(()) => (0, input, sink, schema),
         Err(stop) => {

@@ -18,3 +18,5 @@ pub mod Covered
 pub mod PairsFitEntries
 pub mod PairsFit
 pub mod ShortMessages
+pub mod NoteFaults
+pub mod FirstPlaces

@@ -122,6 +122,17 @@ cut_back (e ∷ es) (f ∷ fs) h =
     let rest = cut_back es fs h.1 in
     λ i. record { id = h.0.id i; limit = h.0.limit i; values = h.0.front i } ∷ rest i
 
+cut_all : (t : List TallyEntry) → cut (lens t) t ≡ t
+cut_all [] = refl
+cut_all (e ∷ es) =
+    let rest = cut_all es in
+    let whole = take-length e.values in
+    λ i. record { id = e.id; limit = e.limit; values = whole i } ∷ rest i
+
+-- what grew by nothing is as before
+pub grown_by_none : (t u : List TallyEntry) → AllGrow t u → lens u ≡ lens t → u ≡ t
+grown_by_none t u grows same = sym (cut_all u) ∙ ap (λ ns. cut ns u) same ∙ cut_back t u grows
+
 pub fit_push : (t : List TallyEntry) (e : TallyEntry) → AllFit t → length e.values ≤ e.limit → AllFit (t ++ e ∷ [])
 fit_push [] e h k = (k, tt)
 fit_push (x ∷ t) e h k = (h.0, fit_push t e h.1 k)

@@ -1,12 +1,13 @@
 -- One step of a walk over a row.
-use Rattle.std.proofs.Common.{◌≡◌, ℕ, ◌+◌, ◌<◌, ℤ, List, [], ◌++◌, map, length, get_or, drop, refl, sym, ap, subst, ◌∙◌, add-one, drop-cons}
+use Rattle.std.proofs.Common.{◌≡◌, ℕ, ◌+◌, ◌<◌, ℤ, List, [], ◌∷◌, ◌++◌, map, length, get_or}
+use Rattle.std.proofs.Common.{drop, refl, sym, ap, subst, ◌∙◌, add-one, drop-cons}
 use Rattle.std.proofs.Common.{rules, Option, None}
 use Rattle.ipc_model.specs.declared.schema.DataType.{DataType}
 use Rattle.ipc_model.specs.declared.schema.DataType.TheVariants as kind
 use Rattle.ipc_model.specs.declared.schema.Dictionary.{Dictionary}
 use Rattle.ipc_model.specs.declared.schema.Field.{Field, out-Field, fold_out-Field}
 use Rattle.ipc_model.specs.declared.value.Value as value
-use Rattle.ipc_model.specs.declared.value.Value.{out-Value, the_lemmas}
+use Rattle.ipc_model.specs.declared.value.Value.{out-Value, roll-Value, roll-out-Value, the_lemmas}
 use Rattle.ipc_model.specs.declared.value.Value.TheOpen.{Value-F}
 use Rattle.ipc_model.specs.declared.value.Value.{Value}
 use Rattle.ipc_dict.specs.declared.entry.TallyEntry.{TallyEntry}
@@ -59,3 +60,29 @@ plain_pairs f v plain alone =
     ap (λ (w : Walk). w v) (fold_out-Field Walk pairs_step f)
     ∙ ap (λ fs. pairs_in (out-Field f).dictionary (out-Field f).kind (map pairs fs) v) alone
     ∙ inside (out-Field f).dictionary (out-Field f).kind plain
+
+-- ---- a value that stands in a field of another type
+
+nothing_inside : (k : DataType) (walks : List Walk) (o : Value-F Value)
+    → ((vs : List Value) → k ≡ kind.List → o ≡ Value-F.List vs → ⊥)
+    → ((n : ℕ) (vs : List Value) → k ≡ kind.FixedSizeList n → o ≡ Value-F.List vs → ⊥)
+    → ((vs : List Value) → k ≡ kind.Struct → o ≡ Value-F.Struct vs → ⊥) → inner_pairs k walks o ≡ []
+nothing_inside kind.List (walk ∷ walks) (Value-F.List vs) list fixed struct = absurd (list vs refl refl)
+nothing_inside (kind.FixedSizeList n) (walk ∷ walks) (Value-F.List vs) list fixed struct = absurd (fixed n vs refl refl)
+nothing_inside kind.Struct walks (Value-F.Struct vs) list fixed struct = absurd (struct vs refl refl)
+nothing_inside k walks o list fixed struct = refl
+
+-- a field without a dictionary gives nothing of a value that is no list where it has lists, nor a struct where it has structs
+pub no_pairs : (f : Field) (v : Value) → (out-Field f).dictionary ≡ None
+    → ((vs : List Value) → (out-Field f).kind ≡ kind.List → v ≡ value.List vs → ⊥)
+    → ((n : ℕ) (vs : List Value) → (out-Field f).kind ≡ kind.FixedSizeList n → v ≡ value.List vs → ⊥)
+    → ((vs : List Value) → (out-Field f).kind ≡ kind.Struct → v ≡ value.Struct vs → ⊥) → pairs f v ≡ []
+unfolding roll-Value denote.Hole.Carrier.roll
+no_pairs f v plain list fixed struct =
+    let rolled : (o : Value-F Value) → out-Value v ≡ o → v ≡ roll-Value o =
+    λ o e. sym (roll-out-Value v) ∙ ap roll-Value e in
+    let inside : (d : Option Dictionary) → d ≡ None → pairs_in d (out-Field f).kind (map pairs (out-Field f).children) v ≡ [] =
+    λ d p. rw p (nothing_inside (out-Field f).kind (map pairs (out-Field f).children) (out-Value v)
+    (λ vs k o. list vs k (rolled (Value-F.List vs) o)) (λ n vs k o. fixed n vs k (rolled (Value-F.List vs) o))
+    (λ vs k o. struct vs k (rolled (Value-F.Struct vs) o))) in
+    ap (λ (w : Walk). w v) (fold_out-Field Walk pairs_step f) ∙ inside (out-Field f).dictionary plain

@@ -10,3 +10,5 @@ pub mod SchemaEntries
 pub mod Within
 pub mod EntryColumns
 pub mod Sending
+pub mod Seeds
+pub mod Faults

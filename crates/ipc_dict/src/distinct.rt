@@ -1,7 +1,9 @@
 //! The distinct values of one dictionary.
-ghost use Rattle.std.specs.Prelude.{◌≡◌, [], not, length, take, drop, IfOk, OnOk, OnErr};
+ghost use Rattle.std.specs.Prelude.{◌≡◌, [], not, length, take, drop, IfOk, OnOk, OnErr, IsTrue};
+ghost use Rattle.std.specs.Prelude.{Some};
 ghost use Rattle.ipc_dict.specs.Distinct.{same, is_seen, seen, place};
 
+use crate::seed::Seed;
 use indexmap::IndexSet;
 use ipc_model::Value;
 use std::alloc::{AllocError, Global};
@@ -10,7 +12,7 @@ use std::marker::Model;
 /// Values without repeats, distinct from 0 in the order of their first appearance.
 #[derive(Debug, Drop)]
 pub struct DistinctValues {
-    values: IndexSet<Value>,
+    values: IndexSet<Value, Seed>,
 }
 
 impl Model for DistinctValues {
@@ -31,8 +33,15 @@ impl DistinctValues {
     pub fn new(alloc: Global) -> DistinctValues
         ensures { result ≡ [] }
     {
+        DistinctValues::with_seed(alloc, Seed::Fixed)
+    }
+
+    /// No value, and hashes that begin with this seed. It takes no memory.
+    pub fn with_seed(alloc: Global, seed: Seed) -> DistinctValues
+        ensures { result ≡ [] }
+    {
         DistinctValues {
-            values: IndexSet::new(alloc),
+            values: IndexSet::with_hasher(alloc, seed),
         }
     }
 
@@ -55,6 +64,17 @@ impl DistinctValues {
         ensures { result ≡ place value.now self.now }
     {
         self.values.get_index_of(value)
+    }
+
+    /// Whether the value has this number. It is one comparison, where `index_of` looks it up.
+    #[inline]
+    pub(crate) fn is_at(&self, number: usize, value: &Value) -> bool
+        ensures { IsTrue result → place value.now self.now ≡ Some number }
+    {
+        match self.values.as_slice().get(number) {
+            Some(known) => known == value,
+            None => false,
+        }
     }
 
     /// The values in order.

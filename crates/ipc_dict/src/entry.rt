@@ -8,7 +8,8 @@ ghost use Rattle.ipc_dict.specs.Noting.{note_entry, note_one, noted_place, AllFi
 ghost use Rattle.ipc_dict.specs.Noting.{Grows, AllGrow};
 
 use crate::distinct::DistinctValues;
-use ipc_model::{Value, WriteFault};
+use crate::fault::NoteFault;
+use ipc_model::Value;
 
 /// The distinct values of one dictionary.
 #[derive(Debug, Drop)]
@@ -42,53 +43,83 @@ pub(crate) fn find(entries: &[TallyEntry], id: i64) -> Option<usize>
     None
 }
 
-// One more value of a dictionary.
-fn note_in(entry: &mut TallyEntry, value: &Value) -> Result<(), WriteFault>
+// One more value of a dictionary. Answers where it stands.
+fn note_in(entry: &mut TallyEntry, value: &Value) -> Result<usize, NoteFault>
     ensures noted { OnOk result (entry.new ≡ note_entry value.now entry.old) }
     ensures fits { OnOk result
         (length entry.old.values ≤ entry.old.limit → length entry.new.values ≤ entry.new.limit) }
     ensures full { IfErr result
-        (λ fault. fault ≡ WriteFault.DictionaryFull
+        (λ fault. fault ≡ NoteFault.DictionaryFull
         → (entry.new ≡ note_entry value.now entry.old)
         × (entry.new.limit < length entry.new.values)) }
     ensures memory { IfErr result
-        (λ fault. (fault ≡ WriteFault.DictionaryFull) ⊎ (fault ≡ WriteFault.OutOfMemory)) }
+        (λ fault. (fault ≡ NoteFault.DictionaryFull) ⊎ (fault ≡ NoteFault.OutOfMemory)) }
     ensures grows { Grows entry.old entry.new }
 {
-    if entry.values.add(value)? && entry.values.len() > entry.limit {
-        return Err(WriteFault::DictionaryFull);
+    if let Some(place) = entry.values.index_of(value) {
+        return Ok(place);
     }
-    Ok(())
+    let place = entry.values.len();
+    if entry.values.add(value)? && entry.values.len() > entry.limit {
+        return Err(NoteFault::DictionaryFull);
+    }
+    Ok(place)
 }
 
-// One more value of the dictionary with the id, where there is one.
-pub(crate) fn note_one(entries: &mut [TallyEntry], id: i64, value: &Value) -> Result<(), WriteFault>
+// Keeps where the value stands that was noted last.
+fn keep_place(latest: &mut [usize], at: usize, place: usize) {
+    if let Some(kept) = latest.get_mut(at) {
+        *kept = place;
+    }
+}
+
+// One more value of the dictionary with the id, where there is one. Of each dictionary it is kept
+// where the value stands that was noted last.
+pub(crate) fn note_one(
+    entries: &mut [TallyEntry],
+    latest: &mut [usize],
+    id: i64,
+    value: &Value,
+) -> Result<(), NoteFault>
     ensures noted { OnOk result (entries.new ≡ note_one entries.old id value.now) }
     ensures fits { OnOk result (AllFit entries.old → AllFit entries.new) }
     ensures full { IfErr result
-        (λ fault. fault ≡ WriteFault.DictionaryFull → IsFull (note_one entries.old id value.now)) }
+        (λ fault. fault ≡ NoteFault.DictionaryFull → IsFull (note_one entries.old id value.now)) }
     ensures memory { IfErr result
-        (λ fault. (fault ≡ WriteFault.DictionaryFull) ⊎ (fault ≡ WriteFault.OutOfMemory)) }
+        (λ fault. (fault ≡ NoteFault.DictionaryFull) ⊎ (fault ≡ NoteFault.OutOfMemory)) }
     ensures grows { AllGrow entries.old entries.new }
 {
     let Some(at) = find(entries, id) else {
         return Ok(());
     };
     let entry = &mut entries[at];
-    note_in(entry, value)
+    let place = note_in(entry, value)?;
+    keep_place(latest, at, place);
+    Ok(())
 }
 
-// Where a value stands among those of the dictionary with the id.
-pub(crate) fn place_in(entries: &[TallyEntry], id: i64, value: &Value) -> Option<u64>
+// Where a value stands among those of the dictionary with the id. Where the one stands that was
+// noted last is looked at first: a row's values are asked for behind their noting.
+pub(crate) fn place_in(
+    entries: &[TallyEntry],
+    latest: &[usize],
+    id: i64,
+    value: &Value,
+) -> Option<u64>
     ensures { result ≡ noted_place entries.now id value.now }
 {
     let i = find(entries, id)?;
-    place_of(&entries[i].values, value)
+    let guess = latest.get(i).copied().unwrap_or(0);
+    place_of(&entries[i].values, guess, value)
 }
 
-fn place_of(values: &DistinctValues, value: &Value) -> Option<u64>
+// The same among the values of one dictionary, where it may stand at this place.
+fn place_of(values: &DistinctValues, guess: usize, value: &Value) -> Option<u64>
     ensures { result ≡ place value.now values.now }
 {
+    if values.is_at(guess, value) {
+        return Some(guess as u64);
+    }
     let at = values.index_of(value)?;
     Some(at as u64)
 }

@@ -5,6 +5,7 @@ ghost use Rattle.ipc_dict.specs.SchemaIds.{ids_of, kept_ids, tally_ids, unsent};
 use crate::distinct::DistinctValues;
 use crate::entry::TallyEntry;
 use crate::schema_ids::unused_entries;
+use crate::seed::Seed;
 use ipc_model::{Schema, WriteFault};
 use std::alloc::{AllocError, Global};
 use std::marker::Model;
@@ -52,7 +53,7 @@ impl Kept {
         ensures ids { IfOk result (λ kept. kept_ids kept ≡ ids_of schema.now.fields) }
         ensures memory { IfErr result (λ fault. fault ≡ WriteFault.OutOfMemory) }
     {
-        let entries = unused_entries(alloc, schema.fields.as_slice())?;
+        let entries = unused_entries(alloc, Seed::Fixed, schema.fields.as_slice())?;
         let entries = unsent(alloc, &entries)?;
         Ok(Kept { entries })
     }

@@ -7,19 +7,23 @@
 mod columns;
 mod distinct;
 mod entry;
+mod fault;
 mod kept;
 mod messages;
 mod plan;
 mod schema_ids;
+mod seed;
 mod settle;
 mod tally;
 mod walk;
 
 pub use distinct::DistinctValues;
 pub use entry::TallyEntry;
+pub use fault::NoteFault;
 pub use ipc_dictionaries::{Dictionaries, one_column};
 pub use kept::{Kept, KeptEntry};
 pub use messages::has_short_messages;
 pub use plan::Plan;
 pub use schema_ids::entries_of_schema;
+pub use seed::Seed;
 pub use tally::{Tally, holds_distinct, keeps_places, places_all};

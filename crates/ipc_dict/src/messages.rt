@@ -6,6 +6,7 @@ ghost use Rattle.ipc_dict.specs.Within.{HasLongMessage, HaveShortMessages, dicti
 
 use crate::entry::TallyEntry;
 use crate::schema_ids::unused_entries;
+use crate::seed::Seed;
 use ipc_dictionaries::Dictionaries;
 use ipc_meta::dictionary_room;
 use ipc_model::{Limits, Schema, WriteFault, layout_of};
@@ -50,7 +51,7 @@ pub fn has_short_messages(
         (λ short. short ≡ false → HasLongMessage limits.now schema.now.fields) }
     ensures memory { IfErr result (λ fault. fault ≡ WriteFault.OutOfMemory) }
 {
-    let entries = unused_entries(alloc, schema.fields.as_slice())?;
+    let entries = unused_entries(alloc, Seed::Fixed, schema.fields.as_slice())?;
     for entry in &entries {
         if !is_short(limits, columns, entry) {
             return Ok(false);

@@ -9,6 +9,7 @@ ghost use Rattle.ipc_dict.specs.declared.entry.TallyEntry.{TallyEntry};
 
 use crate::distinct::DistinctValues;
 use crate::entry::TallyEntry;
+use crate::seed::Seed;
 use ipc_model::{Dictionary, Field, IntBits};
 use std::alloc::{AllocError, Global};
 
@@ -88,6 +89,7 @@ fn lower_limit(entries: &mut [TallyEntry], dictionary: &Dictionary, limit: usize
 // One more field's dictionary.
 fn add_field(
     alloc: Global,
+    seed: Seed,
     entries: &mut Vec<TallyEntry>,
     dictionary: &Dictionary,
 ) -> Result<(), AllocError>
@@ -100,20 +102,24 @@ fn add_field(
     entries.push(TallyEntry {
         id: dictionary.id,
         limit,
-        values: DistinctValues::new(alloc),
+        values: DistinctValues::with_seed(alloc, seed),
     })?;
     Ok(())
 }
 
 // An entry for each id that the fields name, in pre-order without repeats.
-pub(crate) fn unused_entries(alloc: Global, fields: &[Field]) -> Result<Vec<TallyEntry>, AllocError>
+pub(crate) fn unused_entries(
+    alloc: Global,
+    seed: Seed,
+    fields: &[Field],
+) -> Result<Vec<TallyEntry>, AllocError>
     ensures { IfOk result (λ entries. entries.items ≡ unused fields.now) }
 {
     let mut found = Vec::new(alloc);
     collect(&mut found, fields)?;
     let mut entries = Vec::new(alloc);
     for dictionary in &found {
-        add_field(alloc, &mut entries, dictionary)?;
+        add_field(alloc, seed, &mut entries, dictionary)?;
     }
     Ok(entries)
 }

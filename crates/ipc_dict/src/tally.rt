@@ -7,13 +7,16 @@ ghost use Rattle.ipc_dict.specs.Pairs.{row_pairs};
 ghost use Rattle.ipc_dict.specs.SchemaIds.{unused, kept_ids, tally_ids};
 ghost use Rattle.ipc_dict.specs.Planning.{AllSettled, FindsAll, FindsNoted, KnowsAll};
 ghost use Rattle.ipc_dict.specs.EntryColumns.{AreCounted};
+ghost use Rattle.ipc_dict.specs.Faults.{told_of};
 ghost use Rattle.ipc_dict.specs.Within.{AllWithin, IsOfLimits, IsOverLimit};
 
 use crate::columns::EntryColumns;
 use crate::entry::{TallyEntry, place_in};
+use crate::fault::NoteFault;
 use crate::kept::Kept;
 use crate::plan::Plan;
 use crate::schema_ids::unused_entries;
+use crate::seed::Seed;
 use crate::settle::settle;
 use crate::walk::note_each;
 use ipc_encode::IndexOf;
@@ -30,6 +33,8 @@ pub struct Tally {
     entries: Vec<TallyEntry>,
     // How many values each dictionary had before the row.
     marks: Vec<usize>,
+    // Where of each dictionary the value stands that was noted last.
+    latest: Vec<usize>,
     // Each dictionary's values as the one column of its message.
     columns: EntryColumns,
     failed: bool,
@@ -66,9 +71,10 @@ impl Tally {
     /// have as many values as the index type that counts the fewest among its fields', and as the
     /// limits allow the one column of its message (Arrow Columnar Format, "Dictionary Messages").
     ///
-    /// The fields are copied. Refused with W6 `TooLong` where even the column of no values is
-    /// longer than `limits.body` bytes: a binary or UTF-8 column has one offset; with W11
-    /// `OutOfMemory` where the fields, the entries or their columns find no room.
+    /// The fields are copied, and values are hashed with the fixed seed. Refused with W6 `TooLong`
+    /// where even the column of no values is longer than `limits.body` bytes: a binary or UTF-8
+    /// column has one offset; with W11 `OutOfMemory` where the fields, the entries or their columns
+    /// find no room.
     pub fn new(alloc: Global, limits: &Limits, schema: &Schema) -> Result<Tally, WriteFault>
         ensures fresh { IfOk result (λ tally. tally ≡ record {
           failed = false;
@@ -84,14 +90,40 @@ impl Tally {
         ensures only { IfErr result
             (λ fault. (fault ≡ WriteFault.TooLong) ⊎ (fault ≡ WriteFault.OutOfMemory)) }
     {
+        Tally::with_seed(alloc, limits, schema, Seed::Fixed)
+    }
+
+    /// The same, with values that are hashed with this seed.
+    pub fn with_seed(
+        alloc: Global,
+        limits: &Limits,
+        schema: &Schema,
+        seed: Seed,
+    ) -> Result<Tally, WriteFault>
+        ensures fresh { IfOk result (λ tally. tally ≡ record {
+          failed = false;
+          limits = limits.now;
+          fields = schema.now.fields;
+          entries = unused schema.now.fields;
+        }) }
+        ensures within { IfOk result
+            (λ tally. AllWithin limits.now schema.now.fields tally.entries) }
+        // At W6 the column of no values of a dictionary is too long.
+        ensures over { IfErr result (λ fault. fault ≡ WriteFault.TooLong
+            → IsOverLimit limits.now schema.now.fields (unused schema.now.fields) fault) }
+        ensures only { IfErr result
+            (λ fault. (fault ≡ WriteFault.TooLong) ⊎ (fault ≡ WriteFault.OutOfMemory)) }
+    {
         let fields = schema.fields.clone()?;
-        let entries = unused_entries(alloc, schema.fields.as_slice())?;
-        let marks = marks_for(alloc, &entries)?;
+        let entries = unused_entries(alloc, seed, schema.fields.as_slice())?;
+        let marks = zeros_for(alloc, &entries)?;
+        let latest = zeros_for(alloc, &entries)?;
         let columns = EntryColumns::new(alloc, limits, schema, &entries)?;
         Ok(Tally {
             fields,
             entries,
             marks,
+            latest,
             columns,
             failed: false,
         })
@@ -133,16 +165,51 @@ impl Tally {
             ⊎ IsOfLimits fault)
             ⊎ ((fault ≡ WriteFault.OutOfMemory) ⊎ (fault ≡ WriteFault.Failed))) }
     {
+        self.note_row(row)?;
+        Ok(())
+    }
+
+    /// The same, for callers that note row by row: a fault is one byte.
+    #[inline(always)]
+    pub fn note_row(&mut self, row: &[Value]) -> Result<(), NoteFault>
+        ensures noted { OnOk result (self.new ≡ record self.old {
+          entries = note_all self.old.entries (row_pairs self.old.fields row.now);
+        }) }
+        ensures ids { tally_ids self.new.entries ≡ tally_ids self.old.entries }
+        ensures fits { AllFit self.new.entries }
+        ensures within { AllWithin self.new.limits self.new.fields self.new.entries }
+        ensures unchanged { IfErr result
+            (λ fault. told_of fault ≡ WriteFault.DictionaryFull → self.new ≡ self.old) }
+        ensures as_before { IfErr result
+            (λ fault. IsOfLimits (told_of fault) → self.new ≡ self.old) }
+        ensures full { IfErr result (λ fault. told_of fault ≡ WriteFault.DictionaryFull
+            → IsFull (note_all self.old.entries (row_pairs self.old.fields row.now))) }
+        // At W6 and W8 a dictionary's column would be longer than the limits allow.
+        ensures over { IfErr result (λ fault. IsOfLimits (told_of fault)
+            → IsOverLimit self.old.limits self.old.fields
+            (note_all self.old.entries (row_pairs self.old.fields row.now)) (told_of fault)) }
+        ensures failed { IfErr result
+            (λ fault. told_of fault ≡ WriteFault.OutOfMemory → self.new.failed ≡ true) }
+        // A tally that has failed counts no row.
+        ensures refused { self.old.failed ≡ true → result ≡ Err NoteFault.Failed }
+        ensures still_failed { self.old.failed ≡ true → self.new.failed ≡ true }
+        ensures before { IfErr result
+            (λ fault. told_of fault ≡ WriteFault.Failed → self.old.failed ≡ true) }
+        ensures only { IfErr result (λ fault. ((told_of fault ≡ WriteFault.DictionaryFull)
+            ⊎ IsOfLimits (told_of fault))
+            ⊎ ((told_of fault ≡ WriteFault.OutOfMemory) ⊎ (told_of fault ≡ WriteFault.Failed))) }
+    {
         if self.failed {
-            return Err(WriteFault::Failed);
+            return Err(NoteFault::Failed);
         }
         if self.is_empty() {
             return Ok(());
         }
         let fields = self.fields.as_slice();
-        let (entries, columns) = (&mut self.entries, &mut self.columns);
-        if let Err(fault) = note_row(entries, &mut self.marks, columns, fields, row) {
-            self.failed = matches!(fault, WriteFault::OutOfMemory);
+        let (entries, latest) = (&mut self.entries, &mut self.latest);
+        let (marks, columns) = (&mut self.marks, &mut self.columns);
+        if let Err(fault) = note_row(entries, latest, marks, columns, fields, row) {
+            self.failed = matches!(fault, NoteFault::OutOfMemory);
             return Err(fault);
         }
         Ok(())
@@ -205,30 +272,31 @@ impl IndexOf for Tally {
 
     // Where the value stands among those of its dictionary so far. It keeps this place.
     fn index_of(&self, id: i64, value: &Value) -> Option<u64> {
-        place_in(&self.entries, id, value)
+        place_in(&self.entries, &self.latest, id, value)
     }
 }
 
-// Room for the mark of each entry.
-fn marks_for(alloc: Global, entries: &[TallyEntry]) -> Result<Vec<usize>, AllocError>
-    ensures { IfOk result (λ marks. length marks.items ≡ length entries.now) }
+// A zero for each entry.
+fn zeros_for(alloc: Global, entries: &[TallyEntry]) -> Result<Vec<usize>, AllocError>
+    ensures { IfOk result (λ zeros. length zeros.items ≡ length entries.now) }
 {
-    let mut marks = Vec::with_capacity(alloc, entries.len())?;
+    let mut zeros = Vec::with_capacity(alloc, entries.len())?;
     for _entry in entries {
-        marks.push(0)?;
+        zeros.push(0)?;
     }
-    Ok(marks)
+    Ok(zeros)
 }
 
 // One more row, or none of its values where it is refused.
 #[tactic(auto, using(crate::proofs::Rows::ids_note_all))]
 fn note_row(
     entries: &mut [TallyEntry],
+    latest: &mut [usize],
     marks: &mut [usize],
     columns: &mut EntryColumns,
     fields: &[Field],
     row: &[Value],
-) -> Result<(), WriteFault>
+) -> Result<(), NoteFault>
     requires marks { length marks.old ≡ length entries.old }
     requires columns { AreCounted fields.now entries.old columns.old }
     ensures noted { OnOk result
@@ -237,19 +305,19 @@ fn note_row(
     ensures fits { AllFit entries.old → AllFit entries.new }
     ensures err { OnErr result (entries.new ≡ entries.old) }
     ensures full { IfErr result
-        (λ fault. fault ≡ WriteFault.DictionaryFull
+        (λ fault. told_of fault ≡ WriteFault.DictionaryFull
         → IsFull (note_all entries.old (row_pairs fields.now row.now))) }
     ensures counted { AreCounted fields.now entries.new columns.new }
     ensures limits { columns.new.limits ≡ columns.old.limits }
-    ensures over { IfErr result (λ fault. IsOfLimits fault
+    ensures over { IfErr result (λ fault. IsOfLimits (told_of fault)
         → IsOverLimit columns.old.limits fields.now
-        (note_all entries.old (row_pairs fields.now row.now)) fault) }
+        (note_all entries.old (row_pairs fields.now row.now)) (told_of fault)) }
     ensures memory { IfErr result
-        (λ fault. ((fault ≡ WriteFault.DictionaryFull) ⊎ IsOfLimits fault)
-        ⊎ (fault ≡ WriteFault.OutOfMemory)) }
+        (λ fault. ((told_of fault ≡ WriteFault.DictionaryFull) ⊎ IsOfLimits (told_of fault))
+        ⊎ (told_of fault ≡ WriteFault.OutOfMemory)) }
 {
     mark(entries, marks);
-    if let Err(fault) = note_counted(entries, marks, columns, fields, row) {
+    if let Err(fault) = note_counted(entries, latest, marks, columns, fields, row) {
         restore(entries, marks);
         return Err(fault);
     }
@@ -259,33 +327,49 @@ fn note_row(
 // Notes the values of a row, and counts those that came since the marks.
 fn note_counted(
     entries: &mut [TallyEntry],
+    latest: &mut [usize],
     marks: &[usize],
     columns: &mut EntryColumns,
     fields: &[Field],
     row: &[Value],
-) -> Result<(), WriteFault>
+) -> Result<(), NoteFault>
     requires marks { marks.now ≡ lens entries.old }
     requires columns { AreCounted fields.now entries.old columns.old }
     ensures noted { OnOk result
         (entries.new ≡ note_all entries.old (row_pairs fields.now row.now)) }
     ensures fits { OnOk result (AllFit entries.old → AllFit entries.new) }
     ensures full { IfErr result
-        (λ fault. fault ≡ WriteFault.DictionaryFull
+        (λ fault. told_of fault ≡ WriteFault.DictionaryFull
         → IsFull (note_all entries.old (row_pairs fields.now row.now))) }
     ensures counted { OnOk result (AreCounted fields.now entries.new columns.new) }
     ensures kept { OnErr result (AreCounted fields.now entries.old columns.new) }
     ensures limits { columns.new.limits ≡ columns.old.limits }
-    ensures over { IfErr result (λ fault. IsOfLimits fault
+    ensures over { IfErr result (λ fault. IsOfLimits (told_of fault)
         → IsOverLimit columns.old.limits fields.now
-        (note_all entries.old (row_pairs fields.now row.now)) fault) }
+        (note_all entries.old (row_pairs fields.now row.now)) (told_of fault)) }
     ensures memory { IfErr result
-        (λ fault. ((fault ≡ WriteFault.DictionaryFull) ⊎ IsOfLimits fault)
-        ⊎ (fault ≡ WriteFault.OutOfMemory)) }
+        (λ fault. ((told_of fault ≡ WriteFault.DictionaryFull) ⊎ IsOfLimits (told_of fault))
+        ⊎ (told_of fault ≡ WriteFault.OutOfMemory)) }
     ensures grows { AllGrow entries.old entries.new }
 {
-    note_each(entries, fields, row)?;
-    columns.count(entries, marks)?;
+    note_each(entries, latest, fields, row)?;
+    if have_grown(entries, marks) {
+        columns.count(entries, marks)?;
+    }
     Ok(())
+}
+
+// Whether a dictionary has another number of values than it had.
+fn have_grown(entries: &[TallyEntry], marks: &[usize]) -> bool
+    requires { length marks.now ≡ length entries.now }
+    ensures { result ≡ false → lens entries.now ≡ marks.now }
+{
+    for (i, entry) in entries.iter().enumerate() {
+        if entry.values.len() != marks[i] {
+            return true;
+        }
+    }
+    false
 }
 
 // Keeps how many values each dictionary has.

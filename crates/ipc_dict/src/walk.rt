@@ -6,7 +6,8 @@ ghost use Rattle.ipc_dict.specs.Noting.{note_all, AllFit, IsFull, AllGrow};
 ghost use Rattle.ipc_dict.specs.Pairs.{pairs, items_pairs, each_pairs};
 
 use crate::entry::{TallyEntry, note_one};
-use ipc_model::{DataType, Field, Value, WriteFault};
+use crate::fault::NoteFault;
+use ipc_model::{DataType, Field, Value};
 
 // Whether a field surely names no dictionary, nor does any below it.
 #[inline(always)]
@@ -22,51 +23,61 @@ fn is_plain(field: &Field) -> bool
 #[cycle(note)]
 #[inline(always)]
 #[tactic(auto, using(crate::proofs::Notes::all_grow_same, crate::proofs::Notes::all_grow_trans))]
-fn note_value(entries: &mut [TallyEntry], field: &Field, value: &Value) -> Result<(), WriteFault>
+fn note_value(
+    entries: &mut [TallyEntry],
+    latest: &mut [usize],
+    field: &Field,
+    value: &Value,
+) -> Result<(), NoteFault>
     ensures noted { OnOk result (entries.new ≡ note_all entries.old (pairs field.now value.now)) }
     ensures fits { OnOk result (AllFit entries.old → AllFit entries.new) }
     ensures full { IfErr result
-        (λ fault. fault ≡ WriteFault.DictionaryFull
+        (λ fault. fault ≡ NoteFault.DictionaryFull
         → IsFull (note_all entries.old (pairs field.now value.now))) }
     ensures memory { IfErr result
-        (λ fault. (fault ≡ WriteFault.DictionaryFull) ⊎ (fault ≡ WriteFault.OutOfMemory)) }
+        (λ fault. (fault ≡ NoteFault.DictionaryFull) ⊎ (fault ≡ NoteFault.OutOfMemory)) }
     ensures grows { AllGrow entries.old entries.new }
 {
     if is_plain(field) {
         return Ok(());
     }
-    note_named(entries, field, value)
+    note_named(entries, latest, field, value)
 }
 
 // The same of a field that may name a dictionary.
 #[cycle(note)]
 #[tactic(auto, using(crate::proofs::Notes::all_grow_same, crate::proofs::Notes::all_grow_trans))]
-fn note_named(entries: &mut [TallyEntry], field: &Field, value: &Value) -> Result<(), WriteFault>
+fn note_named(
+    entries: &mut [TallyEntry],
+    latest: &mut [usize],
+    field: &Field,
+    value: &Value,
+) -> Result<(), NoteFault>
     ensures noted { OnOk result (entries.new ≡ note_all entries.old (pairs field.now value.now)) }
     ensures fits { OnOk result (AllFit entries.old → AllFit entries.new) }
     ensures full { IfErr result
-        (λ fault. fault ≡ WriteFault.DictionaryFull
+        (λ fault. fault ≡ NoteFault.DictionaryFull
         → IsFull (note_all entries.old (pairs field.now value.now))) }
     ensures memory { IfErr result
-        (λ fault. (fault ≡ WriteFault.DictionaryFull) ⊎ (fault ≡ WriteFault.OutOfMemory)) }
+        (λ fault. (fault ≡ NoteFault.DictionaryFull) ⊎ (fault ≡ NoteFault.OutOfMemory)) }
     ensures grows { AllGrow entries.old entries.new }
 {
     if let Some(dictionary) = field.dictionary {
         return match value {
             Value::Null => Ok(()),
-            _ => note_one(entries, dictionary.id, value),
+            _ => note_one(entries, latest, dictionary.id, value),
         };
     }
     let children = field.children.as_slice();
     match (&field.kind, value) {
         (DataType::List | DataType::FixedSizeList(_), Value::List(values)) => {
             match children.first() {
-                Some(child) => note_items(entries, child, values.as_slice()),
+                Some(child) => note_items(entries, latest, child, values.as_slice()),
                 None => Ok(()),
             }
         }
         (DataType::Struct, Value::Struct(values)) => {
-            note_each(entries, children, values.as_slice())
+            note_each(entries, latest, children, values.as_slice())
         }
         _ => Ok(()),
     }
@@ -75,19 +86,24 @@ fn note_named(entries: &mut [TallyEntry], field: &Field, value: &Value) -> Resul
 // The same of a list's values, whose field is its child.
 #[cycle(note)]
 #[tactic(auto, using(crate::proofs::Notes::all_grow_same, crate::proofs::Notes::all_grow_trans))]
-fn note_items(entries: &mut [TallyEntry], child: &Field, values: &[Value]) -> Result<(), WriteFault>
+fn note_items(
+    entries: &mut [TallyEntry],
+    latest: &mut [usize],
+    child: &Field,
+    values: &[Value],
+) -> Result<(), NoteFault>
     ensures noted { OnOk result
         (entries.new ≡ note_all entries.old (items_pairs (pairs child.now) values.now)) }
     ensures fits { OnOk result (AllFit entries.old → AllFit entries.new) }
     ensures full { IfErr result
-        (λ fault. fault ≡ WriteFault.DictionaryFull
+        (λ fault. fault ≡ NoteFault.DictionaryFull
         → IsFull (note_all entries.old (items_pairs (pairs child.now) values.now))) }
     ensures memory { IfErr result
-        (λ fault. (fault ≡ WriteFault.DictionaryFull) ⊎ (fault ≡ WriteFault.OutOfMemory)) }
+        (λ fault. (fault ≡ NoteFault.DictionaryFull) ⊎ (fault ≡ NoteFault.OutOfMemory)) }
     ensures grows { AllGrow entries.old entries.new }
 {
     for value in values {
-        note_value(entries, child, value)?;
+        note_value(entries, latest, child, value)?;
     }
     Ok(())
 }
@@ -97,24 +113,25 @@ fn note_items(entries: &mut [TallyEntry], child: &Field, values: &[Value]) -> Re
 #[tactic(auto, using(crate::proofs::Notes::all_grow_same, crate::proofs::Notes::all_grow_trans))]
 pub(crate) fn note_each(
     entries: &mut [TallyEntry],
+    latest: &mut [usize],
     fields: &[Field],
     values: &[Value],
-) -> Result<(), WriteFault>
+) -> Result<(), NoteFault>
     ensures noted { OnOk result
         (entries.new ≡ note_all entries.old (each_pairs (map pairs fields.now) values.now)) }
     ensures fits { OnOk result (AllFit entries.old → AllFit entries.new) }
     ensures full { IfErr result
-        (λ fault. fault ≡ WriteFault.DictionaryFull
+        (λ fault. fault ≡ NoteFault.DictionaryFull
         → IsFull (note_all entries.old (each_pairs (map pairs fields.now) values.now))) }
     ensures memory { IfErr result
-        (λ fault. (fault ≡ WriteFault.DictionaryFull) ⊎ (fault ≡ WriteFault.OutOfMemory)) }
+        (λ fault. (fault ≡ NoteFault.DictionaryFull) ⊎ (fault ≡ NoteFault.OutOfMemory)) }
     ensures grows { AllGrow entries.old entries.new }
 {
     for (number, field) in fields.iter().enumerate() {
         let Some(value) = values.get(number) else {
             return Ok(());
         };
-        note_value(entries, field, value)?;
+        note_value(entries, latest, field, value)?;
     }
     Ok(())
 }

@@ -1,9 +1,9 @@
 //! The rows of an input's records, sent in batches.
 ghost use Rattle.std.specs.Prelude.{◌≡◌, ◌≢◌, ◌<◌, ◌≤◌, ◌-◌, ◌^◌, ◌∷◌, ℕ, List, [], Option, None};
-ghost use Rattle.std.specs.Prelude.{Some, Err, IfErr, OnOk};
+ghost use Rattle.std.specs.Prelude.{Some, Err, IfErr, IfOk, OnOk};
 ghost use Rattle.ipc_model.specs.declared.fault.WriteFault.{WriteFault};
 ghost use Rattle.ipc_stream.specs.Pushed.{HoldsBatch, no_rows};
-ghost use Rattle.ipc_stream.specs.Writer.{Finishes, FinishFails};
+ghost use Rattle.ipc_stream.specs.Writer.{Finishes, FinishFails, Starts, StartFails};
 ghost use Rattle.ipc_from_csv.specs.declared.stop.Stop.TheVariants as stop;
 ghost use Rattle.ipc_from_csv.specs.Records.{IsSetUp};
 ghost use Rattle.ipc_from_csv.specs.Conversion.{Answers, Converts, IsLeftToRefuse, StopsFor};
@@ -15,7 +15,7 @@ use crate::rows::RowReader;
 use crate::stop::Stop;
 use csv::ByteRecord;
 use ipc_model::{Items, Limits, Schema, WriteFault};
-use ipc_stream::{BatchWriter, Sink, StreamWriter};
+use ipc_stream::{BatchWriter, Seed, Sink, StreamWriter};
 use std::alloc::Global;
 use std::io::Read;
 
@@ -110,9 +110,28 @@ fn end_stream<W: Sink>(stream: StreamWriter<W>) -> (Result<(), Stop>, W)
     }
 }
 
+// Begins a stream, whose values of dictionaries are hashed with this seed.
+fn begin_stream<W: Sink>(
+    alloc: Global,
+    seed: Seed,
+    limits: Limits,
+    sink: W,
+    schema: &Schema,
+) -> Result<StreamWriter<W>, (WriteFault, W)>
+    ensures started { IfOk result
+        (λ s. Starts limits schema.now (W.written sink) (W.failures sink) s) }
+    ensures refused { IfErr result (λ e. StartFails limits schema.now (W.written sink)
+        (W.written e.1) (W.failures sink) (W.failures e.1) e.0) }
+{
+    let mut stream = StreamWriter::start(alloc, limits, sink, schema)?;
+    stream.set_seed(seed);
+    Ok(stream)
+}
+
 // Sends the stream of the records behind the header, and gives its sink back.
 fn send_stream<R: Read, W: Sink>(
     alloc: Global,
+    seed: Seed,
     rows: &mut RowReader<R>,
     sink: W,
     schema: &Schema,
@@ -126,7 +145,7 @@ fn send_stream<R: Read, W: Sink>(
         (W.failures result.1) result.0 }
     ensures handed_on { OnOk result.0 (W.held_back result.1 ≡ Some []) }
 {
-    match StreamWriter::start(alloc, Limits::standard(), sink, schema) {
+    match begin_stream(alloc, seed, Limits::standard(), sink, schema) {
         Ok(stream) => {
             let mut stream = stream;
             match send_records(alloc, rows, &mut stream, schema, batch) {
@@ -147,7 +166,7 @@ fn send_stream<R: Read, W: Sink>(
 /// the schema goes out once the header is right, each batch, behind the dictionaries that it needs,
 /// as soon as its last record is read, and at the end the end-of-stream mark; then the sink is
 /// flushed. One record is kept, one row, the buffers of one batch, and the values of the
-/// dictionaries.
+/// dictionaries, hashed with `Seed::Fixed`.
 ///
 /// `batch` is from 1 to 2^31 - 1. What went out before a refusal stands: the full batches of the
 /// records before it. Text X1 and X2 come before anything is read; X5 and X4 of record 0, the
@@ -186,12 +205,45 @@ pub fn from_csv<R: Read, W: Sink>(
     ensures works { result.0 ≢ Err (stop.Write WriteFault.Write) → W.failures sink ≡ 0
         → W.failures result.2 ≡ 0 }
 {
+    from_csv_with_seed(alloc, Seed::Fixed, input, sink, schema, batch)
+}
+
+/// The same, where the values of dictionaries are hashed with this seed: nobody who doesn't know it
+/// can choose values whose hashes collide.
+pub fn from_csv_with_seed<R: Read, W: Sink>(
+    alloc: Global,
+    seed: Seed,
+    input: R,
+    sink: W,
+    schema: &Schema,
+    batch: u64,
+) -> (Result<(), Stop>, R, W)
+    requires some { 0 < batch }
+    requires within { batch ≤ 2 ^ 31 - 1 }
+    // What went out is the stream of a table whose batches are the rows of all records.
+    ensures converts { OnOk result.0 (Converts (R.remaining input) schema.now batch (W.written sink)
+        (W.written result.2) (W.failures sink) (W.failures result.2)) }
+    // Nothing is held back.
+    ensures handed_on { OnOk result.0 (W.held_back result.2 ≡ Some []) }
+    // At a refusal, its cause, and exactly what went out before it.
+    ensures stopped { IfErr result.0 (λ why. StopsFor (R.remaining input) schema.now batch
+        (W.written sink) (W.written result.2) (W.failures sink) (W.failures result.2) why) }
+    // The rows fit and the batches aren't too large, so W2 to W5 don't come, and W7 and W8 only of
+    // the values of a dictionary.
+    ensures left { IfErr result.0 (λ why. (fault : WriteFault) → why ≡ stop.Write fault
+        → IsLeftToRefuse schema.now fault) }
+    // W9 comes only where the sink failed.
+    ensures failed { result.0 ≡ Err (stop.Write WriteFault.Write) → W.failures result.2 ≡ 1 }
+    // Any other answer leaves a sink that works as one.
+    ensures works { result.0 ≢ Err (stop.Write WriteFault.Write) → W.failures sink ≡ 0
+        → W.failures result.2 ≡ 0 }
+{
     let mut reader = reader_of(alloc, input);
     let mut fields = ByteRecord::new(alloc);
     if let Err(why) = read_header(&mut reader, &mut fields, schema) {
         return (Err(why), reader.into_inner(), sink);
     }
     let mut rows = RowReader::new(alloc, reader, fields);
-    let (result, sink) = send_stream(alloc, &mut rows, sink, schema, batch);
+    let (result, sink) = send_stream(alloc, seed, &mut rows, sink, schema, batch);
     (result, rows.into_inner(), sink)
 }

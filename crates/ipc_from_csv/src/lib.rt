@@ -6,5 +6,5 @@ mod records;
 mod rows;
 mod stop;
 
-pub use convert::from_csv;
+pub use convert::{from_csv, from_csv_with_seed};
 pub use stop::Stop;

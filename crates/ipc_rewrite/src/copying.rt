@@ -22,7 +22,7 @@ use crate::limits::raised;
 use crate::rows::{columns_of, read_row};
 use crate::stop::Stop;
 use ipc_model::{Items, Limits, Schema, Text, Value, WriteFault};
-use ipc_stream::{Batch, BatchWriter, Sink, Source, StreamReader, StreamWriter};
+use ipc_stream::{Batch, BatchWriter, Seed, Sink, Source, StreamReader, StreamWriter};
 use std::alloc::Global;
 
 // Pushes the rows of a batch, each from the values of one kept row. Its columns are found before
@@ -113,9 +113,10 @@ fn copy_batches<R: Source, W: Sink>(
     }
 }
 
-// Begins the new stream.
+// Begins the new stream, whose values of dictionaries are hashed with this seed.
 fn begin_stream<W: Sink>(
     alloc: Global,
+    seed: Seed,
     limits: &Limits,
     sink: W,
     schema: &Schema,
@@ -125,7 +126,9 @@ fn begin_stream<W: Sink>(
     ensures refused { IfErr result (λ e. StartFails (raised_of limits.now) schema.now
         (W.written sink) (W.written e.1) (W.failures sink) (W.failures e.1) e.0) }
 {
-    StreamWriter::start(alloc, raised(limits), sink, schema)
+    let mut writer = StreamWriter::start(alloc, raised(limits), sink, schema)?;
+    writer.set_seed(seed);
+    Ok(writer)
 }
 
 // Ends the new stream with its mark.
@@ -147,6 +150,7 @@ fn end_stream<W: Sink>(writer: StreamWriter<W>) -> (Result<(), Stop>, W)
 // Writes a stream whose schema was read, and gives the sink back.
 fn copy_stream<R: Source, W: Sink>(
     alloc: Global,
+    seed: Seed,
     stream: &mut StreamReader<R>,
     sink: W,
 ) -> (Result<(), Stop>, W)
@@ -159,7 +163,7 @@ fn copy_stream<R: Source, W: Sink>(
     ensures devices { TellsFailures stream.old.failures stream.new.failures (W.failures sink)
         (W.failures result.1) result.0 }
 {
-    let mut writer = match begin_stream(alloc, &stream.limits(), sink, stream.schema()) {
+    let mut writer = match begin_stream(alloc, seed, &stream.limits(), sink, stream.schema()) {
         Ok(writer) => writer,
         Err((fault, sink)) => return (Err(Stop::Write(fault)), sink),
     };
@@ -173,8 +177,8 @@ fn copy_stream<R: Source, W: Sink>(
 /// end-of-stream mark (Arrow Columnar Format, "IPC Streaming Format"): the schema's message goes
 /// out once it is read, and each batch, with its pairs and rows and behind the dictionaries that it
 /// needs, before the next is read. One batch is kept at a time, as rows of its own, and of each
-/// dictionary the values that were sent. What is written is within the limits that `raised` makes
-/// of those that are given. Source and sink come back beside the answer.
+/// dictionary the values that were sent, hashed with `Seed::Fixed`. What is written is within the
+/// limits that `raised` makes of those that are given. Source and sink come back beside the answer.
 ///
 /// `Stop::Read` has the refusals of `StreamReader`, F1 to F37 without F35, with the number of the
 /// message, where the schema's is 0. `Stop::Write` has those of `StreamWriter`, W1 to W9 and W11,
@@ -208,10 +212,44 @@ pub fn rewrite<R: Source, W: Sink>(
         → AnswersTable (raised_of limits) t (W.written sink) (W.written result.2)
         (W.failures sink) (W.failures result.2) result.0 }
 {
+    rewrite_with_seed(alloc, Seed::Fixed, limits, source, sink)
+}
+
+/// The same, where the values of dictionaries are hashed with this seed: nobody who doesn't know it
+/// can choose values whose hashes collide.
+pub fn rewrite_with_seed<R: Source, W: Sink>(
+    alloc: Global,
+    seed: Seed,
+    limits: Limits,
+    source: R,
+    sink: W,
+) -> (Result<(), Stop>, R, W)
+    // At Ok what was taken denotes a table, and what was sent is that table with the mark. At a
+    // fault, why reading or writing broke off there, and the messages that were sent before.
+    ensures rewrites { Rewrites limits (R.remaining source) (R.remaining result.1)
+        (W.written sink) (W.written result.2) (W.failures sink) (W.failures result.2) result.0 }
+    // At Ok the sink holds nothing back.
+    ensures handed_on { OnOk result.0 (W.held_back result.2 ≡ Some []) }
+    // F36 and W9 are answered exactly where the source or the sink failed in this call.
+    ensures devices { TellsFailures (R.failures source) (R.failures result.1) (W.failures sink)
+        (W.failures result.2) result.0 }
+    // A table with its mark is written whatever follows it, or refused as it is by a writer, unless
+    // memory runs out or the source fails.
+    ensures marked { (x rest : List ℕ) (t : Table)
+        → R.remaining source ≡ Some (x ++ rest) → Denotes limits x t Mark
+        → R.failures result.1 ≡ 0
+        → AnswersTable (raised_of limits) t (W.written sink) (W.written result.2)
+        (W.failures sink) (W.failures result.2) result.0 }
+    // So is one without a mark where nothing follows.
+    ensures closed { (x : List ℕ) (t : Table)
+        → R.remaining source ≡ Some x → Denotes limits x t Closed → R.failures result.1 ≡ 0
+        → AnswersTable (raised_of limits) t (W.written sink) (W.written result.2)
+        (W.failures sink) (W.failures result.2) result.0 }
+{
     match StreamReader::open(alloc, limits, source) {
         Ok(stream) => {
             let mut stream = stream;
-            let (result, sink) = copy_stream(alloc, &mut stream, sink);
+            let (result, sink) = copy_stream(alloc, seed, &mut stream, sink);
             (result, stream.into_inner(), sink)
         }
         Err((fault, source)) => (Err(Stop::Read(fault, 0)), source, sink),

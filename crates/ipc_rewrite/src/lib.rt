@@ -7,6 +7,6 @@ mod limits;
 mod rows;
 mod stop;
 
-pub use copying::rewrite;
+pub use copying::{rewrite, rewrite_with_seed};
 pub use limits::raised;
 pub use stop::Stop;

@@ -30,7 +30,7 @@ use Rattle.ipc_stream.specs.Writing.{NotSentWhole, RefusesBatch}
 use Rattle.ipc_stream.specs.Parts.{AcceptsPairs, RefusesPairs}
 use Rattle.ipc_stream.specs.Writer.{Writer, Leaves}
 use Rattle.ipc_stream.specs.Pushed.{HoldsBatch, RefusesHeld, no_rows, with_row}
-use Rattle.ipc_stream.proofs.HeldTallies.{tally_of, tallied_none}
+use Rattle.ipc_stream.proofs.HeldTallies.{tally_of}
 use Rattle.ipc_stream.proofs.MessagesWritten.{all_last, misfit}
 
 -- a row behind those that fit, which doesn't, is the first of the batch that doesn't
@@ -53,12 +53,6 @@ refused_row limits s b row (w.Row number fault) h = absurd h
 refused_row limits s b row w.DictionaryFull h = absurd h
 refused_row limits s b row w.Write h = absurd h
 refused_row limits s b row w.Failed h = absurd h
-
--- a builder's rows under the places of its own tally
-pub own_rows : (limits : Limits) (s : Schema) (b : BatchRows) (held : PushedRows) → HoldsBatch limits s b held
-    → HasRows (told (noted_place held.tally.entries)) limits s.fields b.rows held.builder
-own_rows limits s b held h =
-    subst (λ (t : Tallied). HasRows (told (noted_place t.entries)) limits s.fields b.rows held.builder) (sym h.tally) h.rows
 
 -- a batch with a row more that fits and is within the limits, as its dictionaries are, is held
 pub held_row : (limits : Limits) (s : Schema) (b : BatchRows) (row : List Value) (old new : PushedRows)
@@ -85,25 +79,6 @@ held_row limits s b row old new held fits within tally fit short rows same = rec
     };
   };
 }
-
--- the same where no field names a dictionary
-pub held_plain : (limits : Limits) (s : Schema) (b : BatchRows) (row : List Value) (old new : PushedRows)
-    → HoldsBatch limits s b old → old.tally.entries ≡ [] → RowFits s.fields row → IsWithin limits s.fields (b.rows ++ row ∷ [])
-    → HasRows (told (noted_place old.tally.entries)) limits s.fields (b.rows ++ row ∷ []) new.builder → new.tally ≡ old.tally
-    → new.pairs ≡ old.pairs → HoldsBatch limits s (with_row b row) new
-held_plain limits s b row old new held none fits within rows same_tally same =
-    let empty : tallied s.fields b.rows ≡ [] = sym (ap (λ (t : Tallied). t.entries) held.tally) ∙ none in
-    let more : tally_of limits s.fields (b.rows ++ row ∷ []) ≡ tally_of limits s.fields b.rows =
-    ap (λ (es : List TallyEntry). record { failed = false; limits = limits; fields = s.fields; entries = es })
-    (tallied_none s.fields b.rows row empty) in
-    let tally : new.tally ≡ tally_of limits s.fields (b.rows ++ row ∷ []) = same_tally ∙ held.tally ∙ sym more in
-    let now : new.tally ≡ tally_of limits s.fields b.rows = same_tally ∙ held.tally in
-    let was = held.accepted.within.dictionaries in
-    held_row limits s b row old new held fits within tally
-    (subst (λ (t : Tallied). AllFit t.entries) (sym now) was.counted)
-    (subst (λ (t : Tallied). AllWithin t.limits t.fields t.entries) (sym now) was.lengths)
-    (subst (λ (t : Tallied). HasRows (told (noted_place t.entries)) limits s.fields (b.rows ++ row ∷ []) new.builder) (sym same_tally) rows)
-    same
 
 -- where the builder has the rows that it had, the batch is still held
 pub held_still : (limits : Limits) (s : Schema) (b : BatchRows) (old new : PushedRows) → HoldsBatch limits s b old

@@ -51,16 +51,6 @@ tallied_next fields rows row =
     ap (note_all (unused fields)) (pairs_end fields rows row)
     ∙ note_all-append (unused fields) (rows_pairs fields rows) (row_pairs fields row)
 
--- where no field names a dictionary, nothing is
-pub tallied_none : (fields : List Field) (rows : List (List Value)) (row : List Value) → tallied fields rows ≡ []
-    → tallied fields (rows ++ row ∷ []) ≡ tallied fields rows
-tallied_none fields rows row none =
-    tallied_next fields rows row ∙ ap (λ t. note_all t (row_pairs fields row)) none ∙ nothing (row_pairs fields row) ∙ sym none
-  where
-    nothing : (ps : List (ℤ × Value)) → note_all [] ps ≡ []
-    nothing [] = refl
-    nothing (p ∷ ps) = nothing ps
-
 -- each value of the rows keeps the index that it was told
 pub places_agree : (limits : Limits) (fields : List Field) (rows : List (List Value)) (row : List Value)
     → AllByRecursion (IsFieldWellFormed limits) (entries fields)

@@ -1,5 +1,6 @@
 -- A batch whose rows are pushed one by one (Message.fbs, RecordBatch).
 use Rattle.std.specs.Prelude.{◌≡◌, ℕ, Bool, true, false, List, [], ◌∷◌, ◌++◌, Result, Ok, Err}
+use Rattle.ipc_model.specs.Fits.{RowFits}
 use Rattle.ipc_model.specs.declared.fault.WriteFault.{WriteFault}
 use Rattle.ipc_model.specs.declared.fault.WriteFault.TheVariants as w
 use Rattle.ipc_model.specs.declared.limits.Limits.{Limits}
@@ -8,9 +9,12 @@ use Rattle.ipc_model.specs.declared.table.BatchRows.{BatchRows}
 use Rattle.ipc_model.specs.declared.value.Value.{Value}
 use Rattle.ipc_encode.specs.Built.{HasRows}
 use Rattle.ipc_encode.specs.Numbers.{told}
+use Rattle.ipc_dict.specs.Faults.{told_of}
 use Rattle.ipc_dict.specs.Noting.{noted_place}
 use Rattle.ipc_dict.specs.Sending.{tallied}
 use Rattle.ipc_stream.specs.declared.pushed.PushedRows.{PushedRows}
+use Rattle.ipc_stream.specs.declared.untaken.Untaken.{Untaken}
+use Rattle.ipc_stream.specs.declared.untaken.Untaken.TheVariants as u
 use Rattle.ipc_stream.specs.Writing.{AcceptsBatch, RefusesBatch}
 use Rattle.ipc_stream.specs.Writer.{Writer}
 
@@ -47,6 +51,13 @@ abbrev pub RefusesHeld : Limits → Schema → BatchRows → Bool → WriteFault
 RefusesHeld limits s b failed w.Write = ⊥
 RefusesHeld limits s b failed w.Failed = failed ≡ true
 RefusesHeld limits s b failed fault = RefusesBatch limits s b fault
+
+-- why a row isn't taken into a batch: it doesn't fit the fields, or the batch with it would be
+-- refused
+abbrev pub RefusesRow : Limits → Schema → BatchRows → List Value → Untaken → Type 0
+RefusesRow limits s b row u.Misfit = RowFits s.fields row → ⊥
+RefusesRow limits s b row (u.Refused fault) =
+    RefusesHeld limits s (with_row b row) false (told_of fault)
 
 -- What a refusal leaves of a writer of which nothing was to be sent: W11 makes it fail, after any
 -- other it is as it was.

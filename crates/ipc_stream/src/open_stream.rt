@@ -13,7 +13,7 @@ use crate::messages::schema_message;
 use crate::pushed::PushedRows;
 use crate::sending::{send, send_messages};
 use crate::sink::Sink;
-use ipc_dict::{Dictionaries, Kept, has_short_messages};
+use ipc_dict::{Dictionaries, Kept, Seed, has_short_messages};
 use ipc_encode::Room;
 use ipc_model::{BatchRows, Items, Limits, Schema, Text, Value, WriteFault};
 use std::alloc::Global;
@@ -32,6 +32,8 @@ pub(crate) struct OpenStream {
     kept: Kept,
     // The lists of the last batch that was sent, for those of the next.
     room: Room,
+    // What the values of its dictionaries are hashed with.
+    seed: Seed,
     alloc: Global,
 }
 
@@ -89,10 +91,18 @@ impl OpenStream {
             columns,
             kept,
             room: Room::new(alloc),
+            seed: Seed::Fixed,
             alloc,
         };
         send(sink, &bytes)?;
         Ok(stream)
+    }
+
+    // Hashes the values of the dictionaries of later batches with this seed.
+    pub(crate) fn set_seed(&mut self, seed: Seed)
+        ensures { self.new ≡ self.old }
+    {
+        self.seed = seed;
     }
 
     // Begins a batch with these pairs, whose rows are pushed. Nothing is sent.
@@ -110,7 +120,8 @@ impl OpenStream {
             return Err(WriteFault::TooLong);
         }
         let room = mem::replace(&mut self.room, Room::new(self.alloc));
-        PushedRows::new(self.alloc, &self.limits, &self.schema, pairs, room)
+        let (alloc, limits) = (self.alloc, &self.limits);
+        PushedRows::new(alloc, limits, &self.schema, pairs, room, self.seed)
     }
 
     // Takes one row more into a batch of this stream's. Nothing is sent.

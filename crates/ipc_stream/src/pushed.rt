@@ -7,17 +7,18 @@ ghost use Rattle.ipc_model.specs.declared.limits.Limits.{Limits};
 ghost use Rattle.ipc_model.specs.declared.schema.Schema.{Schema};
 ghost use Rattle.ipc_model.specs.declared.table.BatchRows.{BatchRows};
 ghost use Rattle.ipc_model.specs.declared.value.Value.{Value};
-ghost use Rattle.ipc_encode.specs.Faults.{write_fault};
 ghost use Rattle.ipc_encode.specs.Limits.{IsWithin};
+ghost use Rattle.ipc_dict.specs.Faults.{told_of};
 ghost use Rattle.ipc_dict.specs.Within.{HaveShortMessages};
 ghost use Rattle.ipc_stream.specs.Parts.{AcceptsPairs};
 ghost use Rattle.ipc_stream.specs.Writing.{RefusesBatch};
-ghost use Rattle.ipc_stream.specs.Pushed.{HoldsBatch, RefusesHeld, no_rows, with_row};
-ghost use Rattle.ipc_stream.specs.Pushed.{with_rows};
+ghost use Rattle.ipc_stream.specs.Pushed.{HoldsBatch, RefusesHeld, RefusesRow, no_rows};
+ghost use Rattle.ipc_stream.specs.Pushed.{with_row, with_rows};
 
 use crate::messages::parts_message;
-use ipc_dict::Tally;
-use ipc_encode::{Builder, NoIndices, PushFault, Room, encode};
+use crate::untaken::Untaken;
+use ipc_dict::{NoteFault, Seed, Tally};
+use ipc_encode::{Builder, NoIndices, Room, encode};
 use ipc_model::{Items, Limits, Row, Schema, Text, Value, WriteFault, conforms, is_conforming};
 use std::alloc::Global;
 
@@ -59,6 +60,7 @@ impl PushedRows {
         schema: &Schema,
         pairs: Items<(Text, Text)>,
         room: Room,
+        seed: Seed,
     ) -> Result<PushedRows, WriteFault>
         requires well_formed { WellFormed limits.now schema.now }
         requires short { HaveShortMessages limits.now schema.now.fields }
@@ -67,7 +69,7 @@ impl PushedRows {
             (RefusesHeld limits.now schema.now (no_rows pairs) false) }
     {
         check_pairs(alloc, limits, schema, &pairs)?;
-        let tally = Tally::new(alloc, limits, schema)?;
+        let tally = Tally::with_seed(alloc, limits, schema, seed)?;
         Ok(PushedRows {
             builder: Builder::with_room(alloc, schema.fields.as_slice(), limits, room)?,
             tally,
@@ -90,48 +92,140 @@ impl PushedRows {
         }
     }
 
-    // Takes one row more that conforms and is within the limits with those that are held, where no
-    // field names a dictionary.
+    // Takes one row more that conforms, whose columns are within the limits with the rows that are
+    // held. After a refusal for memory what is held is of no use, after any other it is the batch
+    // that it was.
     #[inline(always)]
-    fn take_fitting(&mut self, row: &[Value]) -> Result<(), PushFault>
+    fn take_sure(&mut self, row: &[Value]) -> Result<(), NoteFault>
         ensures holds { (limits : Limits) (schema : Schema) (b : BatchRows)
-            → self.old.tally.entries ≡ [] → RowFits schema.fields row.now
+            → WellFormed limits schema → RowFits schema.fields row.now
             → IsWithin limits schema.fields (b.rows ++ row.now ∷ [])
             → HoldsBatch limits schema b self.old
             → OnOk result (HoldsBatch limits schema (with_row b row.now) self.new) }
-        ensures memory { (limits : Limits) (schema : Schema) (b : BatchRows)
+        ensures refused { (limits : Limits) (schema : Schema) (b : BatchRows)
+            → WellFormed limits schema → HoldsBatch limits schema b self.old
+            → IfErr result
+            (λ fault. RefusesHeld limits schema (with_row b row.now) false (told_of fault)) }
+        ensures kept { (limits : Limits) (schema : Schema) (b : BatchRows)
+            → WellFormed limits schema
             → IsWithin limits schema.fields (b.rows ++ row.now ∷ [])
             → HoldsBatch limits schema b self.old
-            → IfErr result (λ fault. write_fault fault ≡ WriteFault.OutOfMemory) }
+            → IfErr result (λ fault. ¬ (told_of fault ≡ WriteFault.OutOfMemory)
+            → HoldsBatch limits schema b self.new) }
     {
+        self.tally.note_row(row)?;
         self.builder.take_row(row, &self.tally)?;
         Ok(())
     }
 
-    // Takes one row more that conforms. After a refusal for memory what is held is of no use, after
-    // any other it is the batch that it was.
+    // The same of a row that conforms, whose columns are looked at first.
     #[inline(never)]
-    fn take(&mut self, row: &[Value]) -> Result<(), WriteFault>
+    fn take(&mut self, row: &[Value]) -> Result<(), NoteFault>
         ensures holds { (limits : Limits) (schema : Schema) (b : BatchRows)
             → WellFormed limits schema → RowFits schema.fields row.now
             → HoldsBatch limits schema b self.old
             → OnOk result (HoldsBatch limits schema (with_row b row.now) self.new) }
         ensures refused { (limits : Limits) (schema : Schema) (b : BatchRows)
             → WellFormed limits schema → HoldsBatch limits schema b self.old
-            → IfErr result (RefusesHeld limits schema (with_row b row.now) false) }
+            → IfErr result
+            (λ fault. RefusesHeld limits schema (with_row b row.now) false (told_of fault)) }
         ensures kept { (limits : Limits) (schema : Schema) (b : BatchRows)
             → WellFormed limits schema → HoldsBatch limits schema b self.old
-            → IfErr result (λ fault. ¬ (fault ≡ WriteFault.OutOfMemory)
+            → IfErr result (λ fault. ¬ (told_of fault ≡ WriteFault.OutOfMemory)
             → HoldsBatch limits schema b self.new) }
     {
         self.builder.fit_row(row)?;
-        self.tally.note(row)?;
-        self.builder.take_row(row, &self.tally)?;
+        self.take_sure(row)
+    }
+
+    // Takes one row more that may not conform.
+    #[inline(never)]
+    fn take_unsure(&mut self, schema: &Schema, row: &[Value]) -> Result<(), Untaken>
+        requires { HasShortPaths schema.now }
+        ensures holds { (limits : Limits) (b : BatchRows) → WellFormed limits schema.now
+            → HoldsBatch limits schema.now b self.old
+            → OnOk result (HoldsBatch limits schema.now (with_row b row.now) self.new) }
+        ensures refused { (limits : Limits) (b : BatchRows) → WellFormed limits schema.now
+            → HoldsBatch limits schema.now b self.old
+            → IfErr result (RefusesRow limits schema.now b row.now) }
+        ensures kept { (limits : Limits) (b : BatchRows) → WellFormed limits schema.now
+            → HoldsBatch limits schema.now b self.old
+            → IfErr result (λ why. ¬ (why ≡ Untaken.Refused NoteFault.OutOfMemory)
+            → HoldsBatch limits schema.now b self.new) }
+        ensures misfits { IfErr result
+            (λ why. why ≡ Untaken.Misfit → ¬ RowFits schema.now.fields row.now) }
+    {
+        if !is_conforming(schema, row) {
+            return Err(Untaken::Misfit);
+        }
+        self.take(row)?;
         Ok(())
     }
 
+    // Takes one row more. It tells why not in few bytes: what tells it whole is large, and made
+    // where there is a refusal alone.
+    #[inline(always)]
+    fn take_any(&mut self, schema: &Schema, row: &[Value]) -> Result<(), Untaken>
+        requires { HasShortPaths schema.now }
+        ensures holds { (limits : Limits) (b : BatchRows) → WellFormed limits schema.now
+            → HoldsBatch limits schema.now b self.old
+            → OnOk result (HoldsBatch limits schema.now (with_row b row.now) self.new) }
+        ensures refused { (limits : Limits) (b : BatchRows) → WellFormed limits schema.now
+            → HoldsBatch limits schema.now b self.old
+            → IfErr result (RefusesRow limits schema.now b row.now) }
+        ensures kept { (limits : Limits) (b : BatchRows) → WellFormed limits schema.now
+            → HoldsBatch limits schema.now b self.old
+            → IfErr result (λ why. ¬ (why ≡ Untaken.Refused NoteFault.OutOfMemory)
+            → HoldsBatch limits schema.now b self.new) }
+        ensures misfits { IfErr result
+            (λ why. why ≡ Untaken.Misfit → ¬ RowFits schema.now.fields row.now) }
+    {
+        if self.builder.surely_takes(schema.fields.as_slice(), row) {
+            self.take_sure(row)?;
+            return Ok(());
+        }
+        self.take_unsure(schema, row)
+    }
+
+    // What is told of a row that wasn't taken.
+    #[cold]
+    #[inline(never)]
+    fn told(&self, schema: &Schema, row: &[Value], why: Untaken) -> WriteFault
+        requires short { HasShortPaths schema.now }
+        requires misfits { why ≡ Untaken.Misfit → ¬ RowFits schema.now.fields row.now }
+        ensures refused { (limits : Limits) (b : BatchRows)
+            → RefusesRow limits schema.now b row.now why
+            → (¬ (why ≡ Untaken.Refused NoteFault.OutOfMemory)
+            → HoldsBatch limits schema.now b self.now)
+            → RefusesHeld limits schema.now (with_row b row.now) false result }
+        ensures memory { why ≡ Untaken.Refused NoteFault.OutOfMemory
+            → result ≡ WriteFault.OutOfMemory }
+    {
+        match why {
+            Untaken::Misfit => self.misfit(schema, row),
+            Untaken::Refused(fault) => fault.into(),
+        }
+    }
+
+    // The same as an answer. It stands by itself, so that room for it is made here alone.
+    #[inline(always)]
+    fn refuse(&self, schema: &Schema, row: &[Value], why: Untaken) -> Result<(), WriteFault>
+        requires short { HasShortPaths schema.now }
+        requires misfits { why ≡ Untaken.Misfit → ¬ RowFits schema.now.fields row.now }
+        ensures none { OnOk result ⊥ }
+        ensures refused { (limits : Limits) (b : BatchRows)
+            → RefusesRow limits schema.now b row.now why
+            → (¬ (why ≡ Untaken.Refused NoteFault.OutOfMemory)
+            → HoldsBatch limits schema.now b self.now)
+            → IfErr result (RefusesHeld limits schema.now (with_row b row.now) false) }
+        ensures memory { why ≡ Untaken.Refused NoteFault.OutOfMemory
+            → IfErr result (λ fault. fault ≡ WriteFault.OutOfMemory) }
+    {
+        Err(self.told(schema, row, why))
+    }
+
     // Takes one row more. After W11 what is held is of no use, after any other refusal it is the
-    // batch that it was. A fault is told where there is one alone: what holds it is large.
+    // batch that it was.
     #[inline(always)]
     pub(crate) fn push(&mut self, schema: &Schema, row: &[Value]) -> Result<(), WriteFault>
         requires { HasShortPaths schema.now }
@@ -146,14 +240,10 @@ impl PushedRows {
             → IfErr result (λ fault. ¬ (fault ≡ WriteFault.OutOfMemory)
             → HoldsBatch limits schema.now b self.new) }
     {
-        if self.tally.is_empty() && self.builder.surely_takes(schema.fields.as_slice(), row) {
-            self.take_fitting(row)?;
-            return Ok(());
+        match self.take_any(schema, row) {
+            Ok(()) => Ok(()),
+            Err(why) => self.refuse(schema, row, why),
         }
-        if !is_conforming(schema, row) {
-            return Err(self.misfit(schema, row));
-        }
-        self.take(row)
     }
 
     // Takes several rows, one after another, in a batch without rows.

@@ -1,16 +1,16 @@
-use Rattle.std.proofs.Common.{◌≡◌, sym, subst, arith, map, drop, ◌+◌, IfErr, Result, Err}
+use Rattle.std.proofs.Common.{rules, ◌≡◌, sym, ap, subst, arith, map, drop, ◌+◌, IfErr, Result, Err}
 use Rattle.std.proofs.lemmas.Result.{err_from_is_err_and}
-use Rattle.ipc_model.specs.declared.fault.WriteFault.{WriteFault}
-use Rattle.ipc_model.specs.declared.fault.WriteFault.TheVariants as fault
+use Rattle.ipc_dict.specs.declared.fault.NoteFault.{NoteFault}
+use Rattle.ipc_dict.specs.declared.fault.NoteFault.TheVariants as fault
 use Rattle.ipc_dict.specs.Noting.{note_all, IsFull}
 use Rattle.ipc_dict.specs.Pairs.{pairs, items_pairs, each_pairs}
 use Rattle.ipc_dict.proofs.Notes.{all_grow_trans}
-use Rattle.ipc_dict.proofs.Walks.{items-step, each-step, noted-step, full-step, struct_pairs}
+use Rattle.ipc_dict.proofs.Walks.{items-step, each-step, noted-step, full-step, no_pairs, struct_pairs}
 use Rattle.ipc_dict.proofs.walk.+note.Goals as goal
 
 -- what the exit of a `?` answers
-left : (P : WriteFault → Type 0) {r : Result (Unit {0}) WriteFault} {Q : WriteFault → Type 0} (y : WriteFault)
-    → (x : WriteFault) × (r ≡ Err x) × (x ≡ y) → P y → ((e : WriteFault) → P e → Q e) → IfErr r Q
+left : (P : NoteFault → Type 0) {r : Result (Unit {0}) NoteFault} {Q : NoteFault → Type 0} (y : NoteFault)
+    → (x : NoteFault) × (r ≡ Err x) × (x ≡ y) → P y → ((e : NoteFault) → P e → Q e) → IfErr r Q
 left P {Q = Q} y p h f = subst (λ r. IfErr r Q) (sym p.1) (f p.0 (subst P (sym p.2) h))
 
 pub note_each-returns-in_err-note_value-clause-full : goal.note_each-returns-in_err-note_value-clause-full
@@ -80,3 +80,23 @@ note_named-returns-in-Struct-Struct-clause-full t c =
     c.in_default.is c.in-Struct-Struct.is-0 c.as_slice-children.ensures c.in-Struct-Struct.is-1 c.as_slice.ensures in
     subst (λ ps. IfErr c.note_each.result (λ e. e ≡ fault.DictionaryFull → IsFull (note_all c.args.entries.now ps)))
     (sym e) c.note_each.ensures.full
+
+pub note_named-returns-in_default-2-clause-noted : goal.note_named-returns-in_default-2-clause-noted
+note_named-returns-in_default-2-clause-noted t c =
+    let is = c.in_default-2.is-0 in
+    ap (note_all c.args.entries.now)
+    (sym (no_pairs c.args.field.now c.args.value.now c.in_default.is (λ vs k v. cc) (λ n vs k v. cc)
+    (λ vs k v. c.in_default-2.not-Struct-1 vs v)))
+
+pub note_named-returns-in_default-2-2-clause-noted : goal.note_named-returns-in_default-2-2-clause-noted
+note_named-returns-in_default-2-2-clause-noted t c =
+    ap (note_all c.args.entries.now)
+    (sym (no_pairs c.args.field.now c.args.value.now c.in_default.is (λ vs k v. c.in_default-2.not-List-0 k)
+    (λ n vs k v. c.in_default-2.not-FixedSizeList-0 n k) (λ vs k v. c.in_default-2.not-Struct-0 k)))
+
+pub note_named-returns-in_default-2-3-clause-noted : goal.note_named-returns-in_default-2-3-clause-noted
+note_named-returns-in_default-2-3-clause-noted t c =
+    let lists = c.in_default-2.not-List-1 in
+    ap (note_all c.args.entries.now)
+    (sym (no_pairs c.args.field.now c.args.value.now c.in_default.is (λ vs k v. lists vs v) (λ n vs k v. lists vs v)
+    (λ vs k v. search rules)))

@@ -1,12 +1,14 @@
-use Rattle.std.proofs.Common.{◌≡◌, ◌∙◌, sym, ap, subst, arith, drop, ◌+◌, ◌++◌, IfErr, List, Result, Err}
+use Rattle.std.proofs.Common.{◌≡◌, ◌∙◌, sym, ap, subst, arith, drop, ◌+◌, ◌++◌, IfErr, IfOk, List, Result, Ok, Err}
 use Rattle.std.proofs.lemmas.Result.{err_from_is_err_and}
 use Rattle.ipc_model.specs.declared.fault.WriteFault.{WriteFault}
 use Rattle.ipc_model.specs.declared.fault.WriteFault.TheVariants as fault
 use Rattle.ipc_model.specs.declared.limits.Limits.{Limits}
 use Rattle.ipc_model.specs.declared.schema.Field.{Field}
+use Rattle.ipc_dict.specs.declared.entry.TallyEntry.{TallyEntry}
 use Rattle.ipc_dict.specs.Counted.{HoldsRows}
 use Rattle.ipc_dict.specs.Noting.{note_all, AllFit, IsFull}
 use Rattle.ipc_dict.specs.Pairs.{row_pairs, rows_pairs}
+use Rattle.ipc_dict.specs.Planning.{FindsAll, FindsNoted}
 use Rattle.ipc_dict.specs.SchemaIds.{tally_ids, unused}
 use Rattle.ipc_dict.specs.Within.{AllWithin, IsOfLimits, IsOverLimit}
 use Rattle.ipc_dict.proofs.EntryColumns.{over_first, over_step}
@@ -108,3 +110,18 @@ returns-clause-within c =
     if_ok c.settle.result c.settle.ensures.within (λ plan h.
     subst (λ (l : Limits). AllWithin l c.args.schema.now.fields plan.entries) inv.limits
     (subst (λ (fields : List Field). AllWithin u.limits fields plan.entries) inv.fields h))
+
+-- what two clauses say of an answer
+both : {T E : Type 0} {P Q R : T → Type 0} (r : Result T E) → IfOk r P → IfOk r Q → ((x : T) → P x → Q x → R x) → IfOk r R
+both (Ok x) p q f = f x p q
+both (Err e) p q f = tt
+
+pub returns-clause-finds : goal.returns-clause-finds
+returns-clause-finds c =
+    both c.settle.result c.settle.ensures.entries (c.settle.ensures.finds (c.requires ∙ sym c.loop-row.invariant.ids))
+    (λ plan e h. subst (λ (es : List TallyEntry). FindsAll c.args.kept.now es plan.numbers) (sym e) h)
+
+pub returns-clause-finds_noted : goal.returns-clause-finds_noted
+returns-clause-finds_noted c =
+    both c.settle.result c.settle.ensures.entries (c.settle.ensures.finds_noted (c.requires ∙ sym c.loop-row.invariant.ids))
+    (λ plan e h. subst (λ (es : List TallyEntry). FindsNoted c.args.kept.now es plan.numbers) (sym e) h)

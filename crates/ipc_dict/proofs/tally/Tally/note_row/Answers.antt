@@ -1,13 +1,12 @@
 use Rattle.std.proofs.Common.{◌≡◌, ◌∙◌, sym, ap, subst, arith, List, []}
 use Rattle.ipc_model.specs.declared.value.Value.{Value}
-use Rattle.ipc_dict.specs.declared.entry.TallyEntry.{TallyEntry}
 use Rattle.ipc_dict.specs.Noting.{note_all}
 use Rattle.ipc_dict.specs.Pairs.{row_pairs}
 use Rattle.ipc_dict.proofs.Notes.{none_noted}
 use Rattle.ipc_dict.specs.Tallied.{Tallied}
 use Rattle.ipc_dict.specs.Within.{AllWithin}
 use Rattle.ipc_dict.proofs.EntryColumns.{counted_within, within_again}
-use Rattle.ipc_dict.proofs.tally.Tally.note.Goals as goal
+use Rattle.ipc_dict.proofs.tally.Tally.note_row.Goals as goal
 
 pub returns-then-self-clause-within : goal.returns-then-self-clause-within
 returns-then-self-clause-within c =

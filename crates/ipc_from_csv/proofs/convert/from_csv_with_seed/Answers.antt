@@ -1,7 +1,7 @@
 use Rattle.ipc_from_csv.proofs.Ending.{header_stops}
 use Rattle.ipc_from_csv.proofs.NextRow.{header_read}
 use Rattle.ipc_from_csv.proofs.Refusing.{answers_left}
-use Rattle.ipc_from_csv.proofs.convert.from_csv.Goals as goal
+use Rattle.ipc_from_csv.proofs.convert.from_csv_with_seed.Goals as goal
 
 pub returns-in-Err-clause-stopped : goal.returns-in-Err-clause-stopped
 returns-in-Err-clause-stopped g c = header_stops g.R.Read.remaining _ _ _ _ _ c.read_header.new.reader c.in-Err.why

@@ -2,7 +2,7 @@ use Rattle.std.proofs.Common.{◌∙◌, refl, sym, Err}
 use Rattle.ipc_rewrite.specs.declared.stop.Stop.TheVariants as stop
 use Rattle.ipc_rewrite.proofs.Complete.{answered_marked, answered_closed}
 use Rattle.ipc_rewrite.proofs.Whole.{none_read}
-use Rattle.ipc_rewrite.proofs.copying.rewrite.Goals as goal
+use Rattle.ipc_rewrite.proofs.copying.rewrite_with_seed.Goals as goal
 
 pub returns-in-Ok-clause-marked : goal.returns-in-Ok-clause-marked
 returns-in-Ok-clause-marked g c = λ x rest t is d none.

@@ -1,0 +1,22 @@
+ghost use Rattle.std.specs.Prelude.{◌≡◌};
+
+use ipc_dict::NoteFault;
+
+/// Why a row isn't taken into a batch, in few bytes.
+#[derive(Clone, Copy, Debug, PartialEq, Eq, Drop)]
+pub(crate) enum Untaken {
+    /// It doesn't conform.
+    Misfit,
+    /// With it a column, a dictionary or the body would be too long, or memory was refused.
+    Refused(NoteFault),
+}
+
+impl From<NoteFault> for Untaken {
+    ghost use Rattle.ipc_stream.specs.declared.untaken.Untaken.TheVariants.{Refused};
+
+    ghost from_gives = { λ fault why. why ≡ Refused fault };
+
+    fn from(fault: NoteFault) -> Untaken {
+        Untaken::Refused(fault)
+    }
+}
