@@ -28,6 +28,11 @@ pub columns_push : (rows : List (List Value)) (row : List Value)
     → ◌≡◌ {A = ℕ → List Value} (λ j. columns rows j ++ cell j row ∷ []) (columns (rows ++ row ∷ []))
 columns_push rows row = λ d j. sym (cells_append j rows (row ∷ [])) d
 
+-- the columns of more rows
+pub columns_more : (rows more : List (List Value))
+    → ◌≡◌ {A = ℕ → List Value} (λ j. columns rows j ++ cells j more) (columns (rows ++ more))
+columns_more rows more = λ d j. sym (cells_append j rows more) d
+
 -- the texts of all columns are UTF-8
 pub all_stored : (known : Numbering) (limits : Limits) (shape : Shape) (nodes : List Node) (given : ℕ → List Value)
     → AreColumns known limits shape nodes given

@@ -11,6 +11,7 @@ pub mod Growing
 pub mod Siblings
 pub mod Leaving
 pub mod Held
+pub mod Copied
 pub mod CountedColumns
 pub mod Indexed
 pub mod Ranges

@@ -1,4 +1,4 @@
-ghost use Rattle.std.specs.Prelude.{◌≡◌, ◌≤◌, ◌↔◌, ◌++◌, ℕ, List, [], ◌∷◌, true, pos, length};
+ghost use Rattle.std.specs.Prelude.{◌≡◌, ◌≤◌, ◌↔◌, ◌+◌, ◌++◌, ℕ, List, [], ◌∷◌, true, pos, length};
 ghost use Rattle.std.specs.Prelude.{IsTrue, Ok, Err, IfOk, IfErr, OnOk, OnErr};
 ghost use Rattle.std.specs.List.{AllByRecursion};
 ghost use Rattle.ipc_model.specs.Fits.{RowFits};
@@ -21,6 +21,7 @@ ghost use Rattle.ipc_encode.specs.Numbers.{Numbering, renumbered, told};
 ghost use Rattle.ipc_encode.specs.Faults.{write_fault};
 
 use crate::column::Purpose;
+use crate::copying::take_batch;
 use crate::fault::PushFault;
 use crate::fitting::{fit, left_behind_all};
 use crate::fresh::new_nodes;
@@ -30,6 +31,7 @@ use crate::parts::{Draft, Parts, add_nodes};
 use crate::room::Room;
 use crate::sure::surely_fit;
 use crate::tree::take_parts;
+use ipc_column::Batch;
 use ipc_model::{Field, Items, Limits, Row, Value, WriteFault};
 use std::alloc::{AllocError, Global};
 use std::mem;
@@ -309,6 +311,49 @@ impl Builder {
         }
         take_parts(row, &mut self.nodes, Purpose::Keep, &self.limits, indices)?;
         self.rows += 1;
+        self.failed = false;
+        Ok(())
+    }
+
+    // Whether there may be so many rows more.
+    fn has_room(&self, count: usize) -> bool
+        ensures { IsTrue result ↔ (self.now.rows + count ≤ self.now.limits.slots) }
+    {
+        let most = self.limits.slots as usize;
+        self.rows <= most && count <= most - self.rows
+    }
+
+    /// Takes all rows of a batch that was read, column by column, and asks for the index of each
+    /// value other than null in a field with a dictionary: what `push` of each row takes, without a
+    /// value of its own for each cell. Where the batch has fewer columns than there are fields the
+    /// others get nulls, and columns behind those of the fields are left out.
+    ///
+    /// The caller knows that the rows with those that are held are within the limits, and as of
+    /// `push` that each index fits its field's index type. Refused with W11 `OutOfMemory` where a
+    /// list can't grow, and with W6 or W8 where the rows aren't within the limits; then the builder
+    /// has failed, and every later call answers W10 `Failed`.
+    pub fn take_columns<I: IndexOf>(&mut self, batch: &Batch, indices: &I) -> Result<(), PushFault>
+        ensures pushed { (limits : Limits) (fields : List Field) (rows : List (List Value))
+            → HasRows (told (I.IndexOf.index indices.now)) limits fields rows self.old
+            → IsWithin limits fields (rows ++ batch.now.rows)
+            → OnOk result (HasRows (told (I.IndexOf.index indices.now)) limits fields
+            (rows ++ batch.now.rows) self.new) }
+        ensures refused { (limits : Limits) (fields : List Field) (rows : List (List Value))
+            → HasRows (told (I.IndexOf.index indices.now)) limits fields rows self.old
+            → IfErr result (λ fault. IsRefused limits fields (rows ++ batch.now.rows)
+            (write_fault fault)) }
+        ensures fails { OnErr result (HasFailed self.new) }
+        ensures failed { HasFailed self.old → result ≡ Err PushFault.Failed }
+    {
+        if mem::replace(&mut self.failed, true) {
+            return Err(PushFault::Failed);
+        }
+        let count = batch.rows();
+        if !self.has_room(count) {
+            return Err(PushFault::TooMany);
+        }
+        take_batch(&mut self.nodes, batch, &self.limits, indices)?;
+        self.rows += count;
         self.failed = false;
         Ok(())
     }

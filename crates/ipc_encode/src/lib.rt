@@ -6,6 +6,7 @@ mod batch;
 mod builder;
 mod cells;
 mod column;
+mod copying;
 mod counted;
 mod counting;
 mod counts;
