@@ -1,10 +1,23 @@
 -- The columns of a batch's rows, taken as they lie.
 use Rattle.std.proofs.Common.{◌≡◌, ◌∙◌, refl, sym, ap, ℕ, zero, suc, ◌+◌, ◌<◌, List, [], ◌∷◌, ◌++◌, length, take, get_or, append_assoc, arith}
 use Rattle.std.proofs.lemmas.List.{take_more}
+use Rattle.std.proofs.lemmas.Option.{get_or_from_slice_get}
 use Rattle.ipc_model.specs.declared.value.Value.{Value}
 use Rattle.ipc_model.specs.declared.value.Value.TheVariants.{Null}
+use Rattle.ipc_column.specs.Lent.{AreOfColumn}
 use Rattle.ipc_encode.specs.Cells.{cell, cells}
 use Rattle.ipc_encode.proofs.Steps.{cells_length}
+
+-- the cells of a column are the values of its slots
+pub column_cells : (rows : List (List Value)) (j : ℕ) (values : List Value) → AreOfColumn rows j values → cells j rows ≡ values
+column_cells [] j [] h = refl
+column_cells [] j (v ∷ vs) h = let size = h.size in absurd (omega (arith, size))
+column_cells (r ∷ rs) j [] h = let size = h.size in absurd (omega (arith, size))
+column_cells (r ∷ rs) j (v ∷ vs) h =
+    let size = h.size in
+    let rest : AreOfColumn rs j vs = record { size = omega (arith, size); each = λ i m. h.each (suc i) (omega (arith, m)) } in
+    let first : cell j r ≡ v = get_or_from_slice_get r j v Null (h.each 0 (omega arith)) in
+    rw (first, column_cells rs j vs rest) refl
 
 -- ---- row by row
 

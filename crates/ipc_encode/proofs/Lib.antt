@@ -11,6 +11,9 @@ pub mod Growing
 pub mod Siblings
 pub mod Leaving
 pub mod Held
+pub mod Marked
+pub mod NumberBytes
+pub mod NumberSlots
 pub mod Copied
 pub mod CountedColumns
 pub mod Indexed

@@ -73,7 +73,7 @@ offsets_size run vs = let size = ends_length run 0 vs in omega (arith, size)
 
 -- ---- the data of a column
 
-numbers_data : (bits : IntBits) (signed : Bool) (vs : List Value) → length (slots (Number bits) vs) ≡ data_in (l.Numbers bits signed) vs
+pub numbers_data : (bits : IntBits) (signed : Bool) (vs : List Value) → length (slots (Number bits) vs) ≡ data_in (l.Numbers bits signed) vs
 numbers_data bits signed [] = refl
 numbers_data bits signed (v ∷ vs) =
     let more = numbers_data bits signed vs in
@@ -81,14 +81,14 @@ numbers_data bits signed (v ∷ vs) =
     let size = length-append (slot_bytes (Number bits) v) (slots (Number bits) vs) in
     omega (arith, more, here, size)
 
-fixed_data : (width : ℕ) (vs : List Value) → length (slots (Fixed width) vs) ≡ data_in (l.FixedBytes width) vs
+pub fixed_data : (width : ℕ) (vs : List Value) → length (slots (Fixed width) vs) ≡ data_in (l.FixedBytes width) vs
 fixed_data width [] = refl
 fixed_data width (v ∷ vs) =
     let more = fixed_data width vs in
     let size = length-append (fixed width v) (slots (Fixed width) vs) in
     omega (arith, more, size)
 
-content_data : (utf8 : Bool) (vs : List Value) → length (slots Content vs) ≡ data_in (l.VariableBytes utf8) vs
+pub content_data : (utf8 : Bool) (vs : List Value) → length (slots Content vs) ≡ data_in (l.VariableBytes utf8) vs
 content_data utf8 [] = refl
 content_data utf8 (v ∷ vs) =
     let more = content_data utf8 vs in

@@ -13,6 +13,7 @@ use crate::column::Purpose;
 use crate::fault::PushFault;
 use crate::index::IndexOf;
 use crate::node::Node;
+use crate::numbers::lent_numbers;
 use crate::tree::take;
 use ipc_column::Batch;
 use ipc_model::{Limits, Value};
@@ -64,6 +65,37 @@ fn take_each<I: IndexOf>(
     Ok(())
 }
 
+// Takes the values of a column of a batch, null where the batch has no such column: numbers as they
+// lie, and others one by one.
+fn take_column<I: IndexOf>(
+    node: &mut Node,
+    batch: &Batch,
+    column: usize,
+    limits: &Limits,
+    indices: &I,
+) -> Result<(), PushFault>
+    ensures taken { (layout : Layout) (children : Shape) (before : List Value)
+        → IsNode (IsColumn (told (I.IndexOf.index indices.now)) limits.now) layout children node.old
+        before
+        → OnOk result (IsNode (IsColumn (told (I.IndexOf.index indices.now)) limits.now) layout
+        children node.new (before ++ cells column batch.now.rows)) }
+    ensures refused { (layout : Layout) (children : Shape) (before : List Value)
+        → IsNode (IsColumn (told (I.IndexOf.index indices.now)) limits.now) layout children node.old
+        before
+        → IfErr result (ArePushesRefused limits.now (field layout children bare)
+        (λ j. before ++ cells column batch.now.rows)) }
+{
+    if node.is_leaf() && column < batch.columns() {
+        let view = batch.slots(column);
+        if let Some(lent) = lent_numbers(node.column.layout, &view) {
+            return node
+                .column
+                .take_numbers(&view, &lent.numbers, lent.null_count, limits);
+        }
+    }
+    take_each(node, batch, column, limits, indices)
+}
+
 /// Takes the values of each column of a batch, nulls where it has no such column.
 ///
 /// Refused as `take_parts`.
@@ -83,7 +115,7 @@ pub(crate) fn take_batch<I: IndexOf>(
         (ArePushesRefused limits.now shape (λ j. given j ++ cells j batch.now.rows)) }
 {
     for i in 0..nodes.len() {
-        take_each(&mut nodes[i], batch, i, limits, indices)?;
+        take_column(&mut nodes[i], batch, i, limits, indices)?;
     }
     Ok(())
 }

@@ -1,12 +1,13 @@
-ghost use Rattle.std.specs.Prelude.{◌≡◌, ◌≤◌, ◌<◌, ◌^◌, ◌++◌, ◌⊎◌, List, [], ◌∷◌, IfOk, IfErr};
-ghost use Rattle.std.specs.Prelude.{OnOk, IsTrue};
+ghost use Rattle.std.specs.Prelude.{◌≡◌, ◌≤◌, ◌<◌, ◌^◌, ◌++◌, ◌⊎◌, List, [], ◌∷◌, length, IfOk};
+ghost use Rattle.std.specs.Prelude.{IfErr, OnOk, IsTrue};
 ghost use Rattle.ipc_model.specs.Greatest.{greatest_body};
 ghost use Rattle.ipc_model.specs.declared.layout.Layout.{Layout};
 ghost use Rattle.ipc_model.specs.declared.layout.Layout.TheVariants.{Lists};
 ghost use Rattle.ipc_model.specs.declared.limits.Limits.{Limits};
 ghost use Rattle.ipc_model.specs.declared.value.Value.{Value};
 ghost use Rattle.ipc_encode.specs.declared.column.Purpose.TheVariants.{Count};
-ghost use Rattle.ipc_encode.specs.Columns.{datum, PassesOffsets};
+ghost use Rattle.ipc_encode.specs.Cells.{nulls};
+ghost use Rattle.ipc_encode.specs.Columns.{data_in, datum, PassesOffsets};
 ghost use Rattle.ipc_encode.specs.Numbers.{Numbering, told};
 ghost use Rattle.ipc_encode.specs.Built.{HasTaken, IsColumn, IsCounted, IsNext, IsPushRefused};
 
@@ -96,6 +97,41 @@ impl Counts {
         Ok(Counts {
             slots: self.slots + 1,
             nulls: nulls_with(self.nulls, value),
+            amount,
+        })
+    }
+
+    /// The numbers with so many values more, so many of them null, where all have so much data.
+    ///
+    /// Refused as `with`.
+    pub(crate) fn with_all(
+        self,
+        layout: Layout,
+        slot_count: usize,
+        null_count: usize,
+        amount: usize,
+        limits: &Limits,
+    ) -> Result<Counts, PushFault>
+        requires { null_count ≤ slot_count }
+        ensures counted { (before values : List Value) → IsCounted limits.now layout before self
+            → length values ≡ slot_count → nulls values ≡ null_count
+            → data_in layout (before ++ values) ≡ amount
+            → IfOk result (IsCounted limits.now layout (before ++ values)) }
+        ensures refused { (before values : List Value) → IsCounted limits.now layout before self
+            → length values ≡ slot_count → nulls values ≡ null_count
+            → data_in layout (before ++ values) ≡ amount
+            → IfErr result (IsPushRefused limits.now layout (before ++ values)) }
+    {
+        let most = limits.slots as usize;
+        if slot_count > most || self.slots + slot_count > most {
+            return Err(PushFault::TooMany);
+        }
+        if passes_offsets(layout, amount) || passes_body(layout, amount, limits) {
+            return Err(PushFault::TooLong);
+        }
+        Ok(Counts {
+            slots: self.slots + slot_count,
+            nulls: self.nulls + null_count,
             amount,
         })
     }

@@ -80,9 +80,9 @@ fn push_four(values: &mut Vec<u8>, number: u64) -> Result<(), AllocError>
     values.extend_from_slice(&number.to_le_bytes()[..4])
 }
 
-// Appends so many low bits of a number.
+/// Appends so many low bits of a number.
 #[inline(always)]
-fn push_bits(values: &mut Vec<u8>, number: u64, bits: IntBits) -> Result<(), AllocError>
+pub(crate) fn push_bits(values: &mut Vec<u8>, number: u64, bits: IntBits) -> Result<(), AllocError>
     ensures { OnOk result (values.new.items
         ≡ values.old.items ++ bytes_low_first 0 (number_bytes bits) number) }
 {

@@ -7,13 +7,13 @@ use Rattle.ipc_encode.proofs.Growing.{mixed_refused}
 use Rattle.ipc_encode.proofs.Nodes.{mixed_more, mixed_all}
 use Rattle.ipc_encode.proofs.copying.take_batch.Goals as goal
 
-pub returns-in_err-take_each-clause-refused : goal.returns-in_err-take_each-clause-refused
-returns-in_err-take_each-clause-refused g c = λ shape given h.
+pub returns-in_err-take_column-clause-refused : goal.returns-in_err-take_column-clause-refused
+returns-in_err-take_column-clause-refused g c = λ shape given h.
     let P = IsColumn (told (g.I.IndexOf.index c.args.indices.now)) c.args.limits.now in
     let p = err_from_is_err_and c.from_residual.result c.from_residual.ensures.1 in
     rw (p.1, p.2) (mixed_refused c.args.limits.now P P c.loop-i.i shape c.loop-i.nodes given (λ j. given j ++ cells j c.args.batch.now.rows)
-    c.index-nodes-i.result c.in_err-take_each.field-0.0 (omega (arith, c.loop-i-test.true, c.loop-i.invariant.size))
-    (λ l below held. c.in_err-take_each.ensures.refused l below (given c.loop-i.i) held) (c.loop-i.invariant.taken shape given h))
+    c.index-nodes-i.result c.in_err-take_column.field-0.0 (omega (arith, c.loop-i-test.true, c.loop-i.invariant.size))
+    (λ l below held. c.in_err-take_column.ensures.refused l below (given c.loop-i.i) held) (c.loop-i.invariant.taken shape given h))
 
 pub loop-i-preserved : goal.loop-i-preserved
 loop-i-preserved g c = record {
@@ -21,8 +21,8 @@ loop-i-preserved g c = record {
   taken = λ shape given h.
       let P = IsColumn (told (g.I.IndexOf.index c.args.indices.now)) c.args.limits.now in
       rw add-one (mixed_more P P c.loop-i.i shape c.loop-i.nodes given (λ j. given j ++ cells j c.args.batch.now.rows)
-      c.take_each.new.node c.index-nodes-i.result (omega (arith, c.loop-i-test.true, c.loop-i.invariant.size))
-      (λ l below held. c.in_ok-take_each.ensures.taken l below (given c.loop-i.i) held) (c.loop-i.invariant.taken shape given h));
+      c.take_column.new.node c.index-nodes-i.result (omega (arith, c.loop-i-test.true, c.loop-i.invariant.size))
+      (λ l below held. c.in_ok-take_column.ensures.taken l below (given c.loop-i.i) held) (c.loop-i.invariant.taken shape given h));
 }
 
 pub returns-clause-taken : goal.returns-clause-taken

@@ -1,0 +1,98 @@
+-- The nulls and the flags of values that a bitmap marks.
+use Rattle.std.proofs.Common.{◌≡◌, ◌∙◌, refl, sym, ap, ℕ, zero, suc, ◌+◌, ◌<◌, ◌≤◌, Bool, true, false, cond, List, [], ◌∷◌, ◌++◌}
+use Rattle.std.proofs.Common.{length, take, get_or, add-one, append_assoc, replicate, arith}
+use Rattle.std.proofs.lemmas.Bool.{ne_eqb}
+use Rattle.std.proofs.lemmas.List.{take_more, take_all}
+use Rattle.ipc_scalar.specs.Bytes.{bit, clear}
+use Rattle.ipc_model.specs.declared.value.Value.{Value}
+use Rattle.ipc_model.specs.declared.value.Value.TheVariants.{Null}
+use Rattle.ipc_column.specs.Values.{is_valid}
+use Rattle.ipc_encode.specs.Bitmaps.{bitmap}
+use Rattle.ipc_encode.specs.Cells.{flags, is_set, nulls}
+use Rattle.ipc_encode.specs.Columns.{validity_bytes}
+use Rattle.ipc_encode.specs.Marks.{MarksNulls}
+use Rattle.ipc_encode.specs.Pieces.{Flag, Valid}
+use Rattle.ipc_encode.proofs.Pushes.{all_valid, no_nulls, some_null}
+use Rattle.ipc_encode.proofs.Steps.{flags_push, nulls_push}
+
+-- the nulls of values and of others
+pub nulls_append : (before values : List Value) → nulls (before ++ values) ≡ nulls before + nulls values
+nulls_append [] values = omega arith
+nulls_append (v ∷ before) values = let more = nulls_append before values in omega (arith, more)
+
+-- one value more
+more_nulls : (b : List ℕ) (vs : List Value) (k : ℕ) → MarksNulls b vs → k < length vs
+    → nulls (take (suc k) vs) ≡ nulls (take k vs) + cond (is_valid b k) 0 1
+more_nulls b vs k h l =
+    ap nulls (ap (λ (n : ℕ). take n vs) (sym (add-one k)) ∙ take_more vs k Null l)
+    ∙ (nulls_push (take k vs) (get_or vs k Null) ∙ ap (λ (v : Bool). nulls (take k vs) + cond {A = ℕ} v 0 1) (h.each k l))
+
+-- where there is no bitmap no value is null
+none_so_far : (b : List ℕ) (vs : List Value) (k : ℕ) → MarksNulls b vs → length b ≡ 0 → k ≤ length vs → nulls (take k vs) ≡ 0
+none_so_far b vs zero h e l = refl
+none_so_far b vs (suc k) h e l =
+    let before = none_so_far b vs k h e (omega arith) in
+    let step = more_nulls b vs k h (omega arith) in
+    let valid : is_valid b k ≡ true = rw e refl in
+    let one : cond {A = ℕ} (is_valid b k) 0 1 ≡ 0 = ap (λ (v : Bool). cond {A = ℕ} v 0 1) valid in
+    step ∙ omega (arith, before, one)
+
+pub unmarked : (b : List ℕ) (vs : List Value) → MarksNulls b vs → length b ≡ 0 → nulls vs ≡ 0
+unmarked b vs h e = ap nulls (sym (take_all (length vs) vs (omega arith))) ∙ none_so_far b vs (length vs) h e (omega arith)
+
+-- the clear bits so far are the nulls so far
+clear_so_far : (b : List ℕ) (vs : List Value) (k : ℕ) → MarksNulls b vs → (length b ≡ 0 → ⊥) → k ≤ length vs
+    → clear b k ≡ nulls (take k vs)
+unfolding clear
+clear_so_far b vs zero h some l = refl
+clear_so_far b vs (suc k) h some l =
+    let before = clear_so_far b vs k h some (omega arith) in
+    let step = more_nulls b vs k h (omega arith) in
+    let marked : is_valid b k ≡ bit b k = rw (ne_eqb (length b) 0 some) refl in
+    let one : cond {A = ℕ} (is_valid b k) 0 1 ≡ cond {A = ℕ} (bit b k) 0 1 = ap (λ (v : Bool). cond {A = ℕ} v 0 1) marked in
+    let same : clear b (suc k) ≡ clear b k + cond (bit b k) 0 1 = refl in
+    omega (arith, same, step, before, one)
+
+pub clear_nulls : (b : List ℕ) (vs : List Value) → MarksNulls b vs → (length b ≡ 0 → ⊥) → clear b (length vs) ≡ nulls vs
+clear_nulls b vs h some =
+    clear_so_far b vs (length vs) h some (omega arith) ∙ ap nulls (take_all (length vs) vs (omega arith))
+
+-- the flags of the values so far and of the next
+pub flags_next : (which : Flag) (before vs : List Value) (i : ℕ) (flag : Bool) → i < length vs
+    → flag ≡ is_set which (get_or vs i Null)
+    → flags which (before ++ take i vs) ++ flag ∷ [] ≡ flags which (before ++ take (i + 1) vs)
+flags_next which before vs i flag l same =
+    let v = get_or vs i Null in
+    let next : (before ++ take i vs) ++ v ∷ [] ≡ before ++ take (i + 1) vs =
+    append_assoc before (take i vs) (v ∷ []) ∙ ap (λ (ws : List Value). before ++ ws) (sym (take_more vs i Null l)) in
+    ap (λ (f : Bool). flags which (before ++ take i vs) ++ f ∷ []) same
+    ∙ (sym (flags_push which (before ++ take i vs) v) ∙ ap (flags which) next)
+
+-- no bitmap where no value is null
+pub none_behind : (before values : List Value) → nulls before ≡ 0 → nulls values ≡ 0
+    → validity_bytes before ≡ validity_bytes (before ++ values)
+none_behind before values none more =
+    let both = nulls_append before values in
+    no_nulls before none ∙ sym (no_nulls (before ++ values) (omega (arith, both, none, more)))
+
+-- and one where some are
+pub some_behind : (before values : List Value) → (nulls before ≡ 0 → nulls values ≡ 0 → ⊥)
+    → bitmap (flags Valid (before ++ values)) ≡ validity_bytes (before ++ values)
+some_behind before values some =
+    let both = nulls_append before values in
+    sym (some_null (before ++ values) (λ e. some (omega (arith, both, e)) (omega (arith, both, e))))
+
+-- a bitmap that begins
+pub begun : (before : List Value) (held : ℕ) (bits : List ℕ) → length before ≡ held → nulls before ≡ 0
+    → bits ≡ bitmap (replicate held true) → bits ≡ bitmap (flags Valid before)
+begun before held bits size none e =
+    e ∙ (ap (λ (n : ℕ). bitmap (replicate n true)) (sym size) ∙ ap bitmap (sym (all_valid before none)))
+
+-- no more values are null than there are
+pub nulls_within : (vs : List Value) → nulls vs ≤ length vs
+nulls_within [] = omega arith
+nulls_within (v ∷ vs) = let rest = nulls_within vs in first (is_set Valid v) rest
+  where
+    first : (b : Bool) → nulls vs ≤ length vs → cond {A = ℕ} b 0 1 + nulls vs ≤ suc (length vs)
+    first true h = omega (arith, h)
+    first false h = omega (arith, h)

@@ -1,0 +1,52 @@
+use Rattle.std.proofs.Common.{◌≡◌, ◌∙◌, sym, subst, ◌++◌, List}
+use Rattle.std.proofs.lemmas.Result.{on_ok_weaker, IfErr-weaker}
+use Rattle.ipc_model.specs.declared.layout.Layout.{Layout}
+use Rattle.ipc_model.specs.declared.layout.Layout.TheVariants as l
+use Rattle.ipc_model.specs.declared.value.Value.{Value}
+use Rattle.ipc_column.specs.Nested.{slot_values}
+use Rattle.ipc_column.specs.Shapes.{bare, field}
+use Rattle.ipc_encode.specs.declared.node.Node.{out-Node}
+use Rattle.ipc_encode.specs.Buffers.{below}
+use Rattle.ipc_encode.specs.Built.{ArePushesRefused, IsColumn, IsPushRefused}
+use Rattle.ipc_encode.specs.Cells.{cells}
+use Rattle.ipc_encode.specs.Numbers.{told}
+use Rattle.ipc_encode.proofs.Copied.{column_cells}
+use Rattle.ipc_encode.proofs.Growing.{own_refused}
+use Rattle.ipc_encode.proofs.Nodes.{node_is}
+use Rattle.ipc_encode.proofs.Pushes.{laid_as}
+use Rattle.ipc_encode.proofs.Siblings.{leaf_has}
+use Rattle.ipc_encode.proofs.copying.take_column.Goals as goal
+
+pub returns-in-Some-clause-taken : goal.returns-in-Some-clause-taken
+returns-in-Some-clause-taken g c = λ layout children before h.
+    let known = told (g.I.IndexOf.index c.args.indices.now) in
+    let limits = c.args.limits.now in
+    let more = cells c.args.column c.args.batch.now.rows in
+    let values = slot_values c.slots-view.result in
+    let same : more ≡ values = column_cells c.args.batch.now.rows c.args.column values c.slots-view.ensures.values in
+    let laid = c.in-Some.ensures.laid in
+    let own = l.Numbers c.in-Some.lent.numbers.bits laid.0 in
+    let held = laid_as known limits layout own before (sym h.0.laid ∙ laid.1) h.0 in
+    let inner = leaf_has (IsColumn known limits) children (out-Node c.args.node.now).children.items (below layout before)
+    (below layout (before ++ more)) (c.is_leaf.ensures.0 c.if-is_leaf.true) h.1 in
+    on_ok_weaker c.take_numbers.result
+    (λ taken. node_is (IsColumn known limits) layout children (before ++ more) _
+    (subst (λ (vs : List Value). IsColumn known limits layout (before ++ vs) c.take_numbers.new.self) (sym same)
+    (laid_as known limits own layout (before ++ values) (sym laid.1 ∙ h.0.laid) taken)) inner)
+    (c.take_numbers.ensures.taken known laid.0 before held)
+
+pub returns-in-Some-clause-refused : goal.returns-in-Some-clause-refused
+returns-in-Some-clause-refused g c = λ layout children before h.
+    let known = told (g.I.IndexOf.index c.args.indices.now) in
+    let limits = c.args.limits.now in
+    let more = cells c.args.column c.args.batch.now.rows in
+    let values = slot_values c.slots-view.result in
+    let same : more ≡ values = column_cells c.args.batch.now.rows c.args.column values c.slots-view.ensures.values in
+    let laid = c.in-Some.ensures.laid in
+    let own = l.Numbers c.in-Some.lent.numbers.bits laid.0 in
+    let held = laid_as known limits layout own before (sym h.0.laid ∙ laid.1) h.0 in
+    IfErr-weaker c.take_numbers.result _ _
+    (λ fault refused. subst (λ (vs : List Value). ArePushesRefused limits (field layout children bare) (λ j. before ++ vs) fault) (sym same)
+    (own_refused limits layout children bare (λ j. before ++ values) fault
+    (subst (λ (lay : Layout). IsPushRefused limits lay (before ++ values) fault) (sym laid.1 ∙ h.0.laid) refused)))
+    (c.take_numbers.ensures.refused known laid.0 before held)

@@ -1,0 +1,78 @@
+//! The validity bitmap of a column that was read, taken behind the values of another.
+ghost use Rattle.std.specs.Prelude.{◌≡◌, ◌<◌, ◌^◌, ◌+◌, ◌++◌, List, length, IfSome, OnOk};
+ghost use Rattle.ipc_model.specs.declared.value.Value.{Value};
+ghost use Rattle.ipc_column.specs.Values.{is_valid};
+ghost use Rattle.ipc_encode.specs.Bitmaps.{bitmap};
+ghost use Rattle.ipc_encode.specs.Cells.{flags, nulls};
+ghost use Rattle.ipc_encode.specs.Columns.{validity_bytes};
+ghost use Rattle.ipc_encode.specs.Marks.{HasBits, MarksNulls};
+ghost use Rattle.ipc_encode.specs.Pieces.{Valid};
+
+use crate::flags::{push_bit, set_bits};
+use ipc_scalar::{bit, count_clear};
+use std::alloc::AllocError;
+
+/// Whether a slot is valid, by the bitmap of its column: each is where there is none.
+#[inline(always)]
+pub(crate) fn is_marked_valid(marks: &[u8], slot: usize) -> bool
+    requires { HasBits marks.now (slot + 1) }
+    ensures { result ≡ is_valid marks.now slot }
+{
+    marks.is_empty() || bit(marks, slot)
+}
+
+/// How many of so many slots are null, by the bitmap of their column: not known where it has too
+/// few bits.
+pub(crate) fn count_nulls(marks: &[u8], count: usize) -> Option<usize>
+    ensures bits { IfSome result (λ many. HasBits marks.now count) }
+    ensures nulls { (values : List Value) → length values ≡ count → MarksNulls marks.now values
+        → IfSome result (λ many. many ≡ nulls values) }
+{
+    if marks.is_empty() {
+        return Some(0);
+    }
+    if marks.len() < count / 8 + usize::from(count % 8 != 0) {
+        return None;
+    }
+    Some(count_clear(marks, count) as usize)
+}
+
+// Appends whether each of so many slots is valid to so many packed bits.
+fn push_marks(bits: &mut Vec<u8>, held: usize, marks: &[u8], count: usize) -> Result<(), AllocError>
+    requires bits { HasBits marks.now count }
+    requires few { held + count < 2 ^ 63 }
+    ensures { (before values : List Value) → length before ≡ held → length values ≡ count
+        → MarksNulls marks.now values → bits.old.items ≡ bitmap (flags Valid before)
+        → OnOk result (bits.new.items ≡ bitmap (flags Valid (before ++ values))) }
+{
+    for slot in 0..count {
+        push_bit(bits, held + slot, is_marked_valid(marks, slot))?;
+    }
+    Ok(())
+}
+
+/// Notes whether each of so many slots is valid, so many of them null, behind so many others with
+/// so many nulls. There is a bitmap only where a slot is null.
+pub(crate) fn push_validities(
+    validity: &mut Vec<u8>,
+    held: usize,
+    held_nulls: usize,
+    marks: &[u8],
+    count: usize,
+    more_nulls: usize,
+) -> Result<(), AllocError>
+    requires bits { HasBits marks.now count }
+    requires few { held + count < 2 ^ 63 }
+    ensures { (before values : List Value) → length before ≡ held → nulls before ≡ held_nulls
+        → length values ≡ count → nulls values ≡ more_nulls → MarksNulls marks.now values
+        → validity.old.items ≡ validity_bytes before
+        → OnOk result (validity.new.items ≡ validity_bytes (before ++ values)) }
+{
+    if held_nulls == 0 {
+        if more_nulls == 0 {
+            return Ok(());
+        }
+        set_bits(validity, held)?;
+    }
+    push_marks(validity, held, marks, count)
+}

@@ -1,0 +1,181 @@
+//! The numbers of a column that was read, taken as they lie.
+ghost use Rattle.std.specs.Prelude.{◌≡◌, ◌≤◌, ◌+◌, ◌*◌, ◌++◌, Bool, List, length, IfErr, OnOk};
+ghost use Rattle.std.specs.Prelude.{IfSome, IsTrue, slice_index_or};
+ghost use Rattle.ipc_model.specs.Layouts.{number_bytes};
+ghost use Rattle.ipc_model.specs.declared.layout.Layout.{Layout};
+ghost use Rattle.ipc_model.specs.declared.layout.Layout.TheVariants.{Numbers as NumbersLaid};
+ghost use Rattle.ipc_model.specs.declared.limits.Limits.{Limits};
+ghost use Rattle.ipc_model.specs.declared.value.Value.{Value};
+ghost use Rattle.ipc_model.specs.declared.value.Value.TheVariants.{Null};
+ghost use Rattle.ipc_column.specs.Lending.{AreNumbers};
+ghost use Rattle.ipc_column.specs.Nested.{slot_values};
+ghost use Rattle.ipc_encode.specs.Built.{IsColumn, IsPushRefused};
+ghost use Rattle.ipc_encode.specs.Cells.{nulls, slot_bytes, slots};
+ghost use Rattle.ipc_encode.specs.Marks.{HasBits};
+ghost use Rattle.ipc_encode.specs.Numbers.{Numbering};
+ghost use Rattle.ipc_encode.specs.Pieces.{Number};
+
+use crate::column::Column;
+use crate::fault::PushFault;
+use crate::marks::{count_nulls, is_marked_valid, push_validities};
+use crate::pushing::push_bits;
+use ipc_column::{Numbers, SlotView};
+use ipc_model::{IntBits, Layout, Limits};
+use std::alloc::AllocError;
+
+/// The numbers of a column, and how many of its slots are null.
+#[derive(Clone, Copy, Debug, Drop)]
+pub(crate) struct LentNumbers<'a> {
+    pub(crate) numbers: Numbers<'a>,
+    pub(crate) null_count: usize,
+}
+
+// Appends the bytes of a slot, zeros where it is null.
+#[inline(always)]
+fn push_slot(
+    values: &mut Vec<u8>,
+    view: &SlotView<'_>,
+    numbers: &Numbers<'_>,
+    bytes: &[u8],
+    slot: usize,
+) -> Result<(), AllocError>
+    requires numbers { AreNumbers view.now numbers.now }
+    requires bytes { bytes.now ≡ numbers.now.values.now }
+    requires bits { HasBits numbers.now.validity.now (slot + 1) }
+    requires inside { slot + 1 ≤ length (slot_values view.now) }
+    ensures { OnOk result (values.new.items ≡ values.old.items
+        ++ slot_bytes (Number numbers.now.bits) (slice_index_or (slot_values view.now) slot Null)) }
+{
+    if !is_marked_valid(numbers.validity, slot) {
+        return push_bits(values, 0, numbers.bits);
+    }
+    let width = numbers.bits.bytes();
+    values.extend_from_slice(&bytes[width * slot..width * slot + width])
+}
+
+// Appends the bytes of each slot, of which some are null.
+fn push_some(
+    values: &mut Vec<u8>,
+    view: &SlotView<'_>,
+    numbers: &Numbers<'_>,
+) -> Result<(), AllocError>
+    requires numbers { AreNumbers view.now numbers.now }
+    requires bits { HasBits numbers.now.validity.now (length (slot_values view.now)) }
+    ensures { OnOk result (values.new.items ≡ values.old.items
+        ++ slots (Number numbers.now.bits) (slot_values view.now)) }
+{
+    for slot in 0..view.len() {
+        push_slot(values, view, numbers, numbers.values, slot)?;
+    }
+    Ok(())
+}
+
+// Appends the bytes of all slots, of which none is null.
+fn push_all(
+    values: &mut Vec<u8>,
+    view: &SlotView<'_>,
+    numbers: &Numbers<'_>,
+    bytes: &[u8],
+) -> Result<(), AllocError>
+    requires numbers { AreNumbers view.now numbers.now }
+    requires bytes { bytes.now ≡ numbers.now.values.now }
+    requires valid { nulls (slot_values view.now) ≡ 0 }
+    ensures { OnOk result (values.new.items ≡ values.old.items
+        ++ slots (Number numbers.now.bits) (slot_values view.now)) }
+{
+    values.extend_from_slice(&bytes[..numbers.bits.bytes() * view.len()])
+}
+
+// Appends the bytes of all slots, so many of them null.
+fn push_numbers(
+    values: &mut Vec<u8>,
+    view: &SlotView<'_>,
+    numbers: &Numbers<'_>,
+    null_count: usize,
+) -> Result<(), AllocError>
+    requires numbers { AreNumbers view.now numbers.now }
+    requires bits { HasBits numbers.now.validity.now (length (slot_values view.now)) }
+    requires nulls { null_count ≡ nulls (slot_values view.now) }
+    ensures { OnOk result (values.new.items ≡ values.old.items
+        ++ slots (Number numbers.now.bits) (slot_values view.now)) }
+{
+    if null_count == 0 {
+        return push_all(values, view, numbers, numbers.values);
+    }
+    push_some(values, view, numbers)
+}
+
+impl Column {
+    /// Takes the numbers of all slots of a column, so many of them null, into one of numbers of the
+    /// same width.
+    ///
+    /// Refused as `take`.
+    pub(crate) fn take_numbers(
+        &mut self,
+        view: &SlotView<'_>,
+        numbers: &Numbers<'_>,
+        null_count: usize,
+        limits: &Limits,
+    ) -> Result<(), PushFault>
+        requires numbers { AreNumbers view.now numbers.now }
+        requires bits { HasBits numbers.now.validity.now (length (slot_values view.now)) }
+        requires nulls { null_count ≡ nulls (slot_values view.now) }
+        ensures taken { (known : Numbering) (signed : Bool) (before : List Value)
+            → IsColumn known limits.now (NumbersLaid numbers.now.bits signed) before self.old
+            → OnOk result (IsColumn known limits.now (NumbersLaid numbers.now.bits signed)
+            (before ++ slot_values view.now) self.new) }
+        ensures refused { (known : Numbering) (signed : Bool) (before : List Value)
+            → IsColumn known limits.now (NumbersLaid numbers.now.bits signed) before self.old
+            → IfErr result (IsPushRefused limits.now (NumbersLaid numbers.now.bits signed)
+            (before ++ slot_values view.now)) }
+    {
+        let count = view.len();
+        if count > limits.slots as usize {
+            return Err(PushFault::TooMany);
+        }
+        let held = self.counts;
+        push_validities(
+            &mut self.validity,
+            held.slots,
+            held.nulls,
+            numbers.validity,
+            count,
+            null_count,
+        )?;
+        push_numbers(&mut self.values, view, numbers, null_count)?;
+        let amount = self.values.len();
+        self.counts = held.with_all(self.layout, count, null_count, amount, limits)?;
+        Ok(())
+    }
+}
+
+// Whether a column of this layout has numbers of so many bits.
+fn holds_numbers(layout: Layout, bits: IntBits) -> bool
+    ensures { IsTrue result → (signed : Bool) × (layout ≡ NumbersLaid bits signed) }
+{
+    match layout {
+        Layout::Numbers { bits: own, .. } => own == bits,
+        _ => false,
+    }
+}
+
+/// The numbers of a column, where they lie as in one of this layout and their bitmap has a bit for
+/// each.
+pub(crate) fn lent_numbers<'a>(layout: Layout, view: &SlotView<'a>) -> Option<LentNumbers<'a>>
+    ensures numbers { IfSome result (λ lent. AreNumbers view.now lent.numbers) }
+    ensures bits { IfSome result
+        (λ lent. HasBits lent.numbers.validity.now (length (slot_values view.now))) }
+    ensures nulls { IfSome result (λ lent. lent.null_count ≡ nulls (slot_values view.now)) }
+    ensures laid { IfSome result
+        (λ lent. (signed : Bool) × (layout ≡ NumbersLaid lent.numbers.bits signed)) }
+{
+    let numbers = view.numbers()?;
+    if !holds_numbers(layout, numbers.bits) {
+        return None;
+    }
+    let null_count = count_nulls(numbers.validity, view.len())?;
+    Some(LentNumbers {
+        numbers,
+        null_count,
+    })
+}
