@@ -11,9 +11,11 @@ pub mod Growing
 pub mod Siblings
 pub mod Leaving
 pub mod Held
+pub mod CellParts
 pub mod Marked
 pub mod NumberBytes
 pub mod NumberSlots
+pub mod LentBytes
 pub mod Copied
 pub mod CountedColumns
 pub mod Indexed

@@ -1,6 +1,8 @@
 -- The nulls and the flags of values that a bitmap marks.
 use Rattle.std.proofs.Common.{◌≡◌, ◌∙◌, refl, sym, ap, ℕ, zero, suc, ◌+◌, ◌<◌, ◌≤◌, Bool, true, false, cond, List, [], ◌∷◌, ◌++◌}
 use Rattle.std.proofs.Common.{length, take, get_or, add-one, append_assoc, replicate, arith}
+use Rattle.std.specs.Prelude.{not}
+use Rattle.std.specs.Int.{from_bool}
 use Rattle.std.proofs.lemmas.Bool.{ne_eqb}
 use Rattle.std.proofs.lemmas.List.{take_more, take_all}
 use Rattle.ipc_scalar.specs.Bytes.{bit, clear}
@@ -96,3 +98,19 @@ nulls_within (v ∷ vs) = let rest = nulls_within vs in first (is_set Valid v) r
     first : (b : Bool) → nulls vs ≤ length vs → cond {A = ℕ} b 0 1 + nulls vs ≤ suc (length vs)
     first true h = omega (arith, h)
     first false h = omega (arith, h)
+
+-- ---- value by value
+
+-- the nulls so far and the next
+pub nulls_next : (vs : List Value) (i : ℕ) → i < length vs
+    → nulls (take (i + 1) vs) ≡ nulls (take i vs) + cond (is_set Valid (get_or vs i Null)) 0 1
+nulls_next vs i l = ap nulls (take_more vs i Null l) ∙ nulls_push (take i vs) (get_or vs i Null)
+
+-- a flag that isn't set, as a number
+pub clear_number : (flag : Bool) → from_bool (not flag) ≡ cond flag 0 1
+clear_number true = refl
+clear_number false = refl
+
+pub flag_small : (flag : Bool) → from_bool flag < 2
+flag_small true = omega arith
+flag_small false = omega arith

@@ -111,7 +111,7 @@ items_data (v ∷ vs) =
     let size = length-append (items v) (all_items vs) in
     omega (arith, more, size)
 
-no_data : (layout : Layout) (vs : List Value) → ((v : Value) → data_in layout (v ∷ []) ≡ 0) → data_in layout vs ≡ 0
+pub no_data : (layout : Layout) (vs : List Value) → ((v : Value) → data_in layout (v ∷ []) ≡ 0) → data_in layout vs ≡ 0
 no_data layout [] none = refl
 no_data layout (v ∷ vs) none = let more = no_data layout vs none in let here = none v in omega (arith, more, here)
 

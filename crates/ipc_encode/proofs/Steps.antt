@@ -54,7 +54,7 @@ abbrev pub extents : Run → List Value → ℕ
 extents run [] = 0
 extents run (v ∷ vs) = extent run v + extents run vs
 
-ends_push : (run : Run) (start : ℕ) (vs : List Value) (v : Value)
+pub ends_push : (run : Run) (start : ℕ) (vs : List Value) (v : Value)
     → ends run start (vs ++ v ∷ []) ≡ ends run start vs ++ bytes_low_first 0 4 (start + extents run (vs ++ v ∷ []))
 ends_push run start [] v =
     let same : start + extent run v ≡ start + (extent run v + 0) = omega arith in

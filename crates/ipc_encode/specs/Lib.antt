@@ -11,3 +11,4 @@ pub mod Indices
 pub mod Faults
 pub mod CountedColumns
 pub mod Marks
+pub mod Lent

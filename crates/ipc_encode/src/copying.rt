@@ -12,6 +12,7 @@ use crate::cells::value_at;
 use crate::column::Purpose;
 use crate::fault::PushFault;
 use crate::index::IndexOf;
+use crate::lent::is_lent;
 use crate::node::Node;
 use crate::numbers::lent_numbers;
 use crate::tree::take;
@@ -66,7 +67,7 @@ fn take_each<I: IndexOf>(
 }
 
 // Takes the values of a column of a batch, null where the batch has no such column: numbers as they
-// lie, and others one by one.
+// lie, nulls, bits and bytes as they are lent, and others one by one.
 fn take_column<I: IndexOf>(
     node: &mut Node,
     batch: &Batch,
@@ -86,11 +87,15 @@ fn take_column<I: IndexOf>(
         (λ j. before ++ cells column batch.now.rows)) }
 {
     if node.is_leaf() && column < batch.columns() {
-        let view = batch.slots(column);
-        if let Some(lent) = lent_numbers(node.column.layout, &view) {
+        let view = batch.column(column);
+        if is_lent(node.column.layout) {
+            return node.column.take_lent(&view, limits);
+        }
+        let slots = view.slots();
+        if let Some(lent) = lent_numbers(node.column.layout, &slots) {
             return node
                 .column
-                .take_numbers(&view, &lent.numbers, lent.null_count, limits);
+                .take_numbers(&slots, &lent.numbers, lent.null_count, limits);
         }
     }
     take_each(node, batch, column, limits, indices)

@@ -4,6 +4,7 @@
 
 mod batch;
 mod builder;
+mod cell_parts;
 mod cells;
 mod column;
 mod copying;
@@ -16,6 +17,7 @@ mod flags;
 mod fresh;
 mod index;
 mod lengths;
+mod lent;
 mod marks;
 mod node;
 mod numbers;

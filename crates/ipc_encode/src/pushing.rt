@@ -126,9 +126,9 @@ fn push_content(values: &mut Vec<u8>, value: &Value) -> Result<(), AllocError>
     values.extend_from_slice(content(value))
 }
 
-// Appends where a slot ends.
+/// Appends where a slot ends.
 #[inline(always)]
-fn push_offset(offsets: &mut Vec<u8>, end: usize) -> Result<(), AllocError>
+pub(crate) fn push_offset(offsets: &mut Vec<u8>, end: usize) -> Result<(), AllocError>
     ensures { OnOk result (offsets.new.items ≡ offsets.old.items ++ bytes_low_first 0 4 end) }
 {
     push_four(offsets, end as u64)

@@ -17,13 +17,39 @@ use Rattle.ipc_encode.proofs.Pushes.{laid_as}
 use Rattle.ipc_encode.proofs.Siblings.{leaf_has}
 use Rattle.ipc_encode.proofs.copying.take_column.Goals as goal
 
+pub returns-then-is_lent-clause-taken : goal.returns-then-is_lent-clause-taken
+returns-then-is_lent-clause-taken g c = λ layout children before h.
+    let known = told (g.I.IndexOf.index c.args.indices.now) in
+    let limits = c.args.limits.now in
+    let more = cells c.args.column c.args.batch.now.rows in
+    let view = c.column-view.result in
+    let same : more ≡ view = column_cells c.args.batch.now.rows c.args.column view c.column-view.ensures in
+    let inner = leaf_has (IsColumn known limits) children (out-Node c.args.node.now).children.items (below layout before)
+    (below layout (before ++ more)) (c.is_leaf.ensures.0 c.if-is_leaf.true) h.1 in
+    on_ok_weaker c.take_lent.result
+    (λ taken. node_is (IsColumn known limits) layout children (before ++ more) _
+    (subst (λ (vs : List Value). IsColumn known limits layout (before ++ vs) c.take_lent.new.self) (sym same) taken) inner)
+    (c.take_lent.ensures.taken known layout before h.0)
+
+pub returns-then-is_lent-clause-refused : goal.returns-then-is_lent-clause-refused
+returns-then-is_lent-clause-refused g c = λ layout children before h.
+    let known = told (g.I.IndexOf.index c.args.indices.now) in
+    let limits = c.args.limits.now in
+    let view = c.column-view.result in
+    let same = column_cells c.args.batch.now.rows c.args.column view c.column-view.ensures in
+    IfErr-weaker c.take_lent.result _ _
+    (λ fault refused. subst (λ (vs : List Value). ArePushesRefused limits (field layout children bare) (λ j. before ++ vs) fault) (sym same)
+    (own_refused limits layout children bare (λ j. before ++ view) fault refused))
+    (c.take_lent.ensures.refused known layout before h.0)
+
 pub returns-in-Some-clause-taken : goal.returns-in-Some-clause-taken
 returns-in-Some-clause-taken g c = λ layout children before h.
     let known = told (g.I.IndexOf.index c.args.indices.now) in
     let limits = c.args.limits.now in
     let more = cells c.args.column c.args.batch.now.rows in
-    let values = slot_values c.slots-view.result in
-    let same : more ≡ values = column_cells c.args.batch.now.rows c.args.column values c.slots-view.ensures.values in
+    let values = slot_values c.slots-slots.result in
+    let same : more ≡ values = column_cells c.args.batch.now.rows c.args.column c.column-view.result c.column-view.ensures
+    ∙ sym c.slots-slots.ensures.values in
     let laid = c.in-Some.ensures.laid in
     let own = l.Numbers c.in-Some.lent.numbers.bits laid.0 in
     let held = laid_as known limits layout own before (sym h.0.laid ∙ laid.1) h.0 in
@@ -40,8 +66,9 @@ returns-in-Some-clause-refused g c = λ layout children before h.
     let known = told (g.I.IndexOf.index c.args.indices.now) in
     let limits = c.args.limits.now in
     let more = cells c.args.column c.args.batch.now.rows in
-    let values = slot_values c.slots-view.result in
-    let same : more ≡ values = column_cells c.args.batch.now.rows c.args.column values c.slots-view.ensures.values in
+    let values = slot_values c.slots-slots.result in
+    let same : more ≡ values = column_cells c.args.batch.now.rows c.args.column c.column-view.result c.column-view.ensures
+    ∙ sym c.slots-slots.ensures.values in
     let laid = c.in-Some.ensures.laid in
     let own = l.Numbers c.in-Some.lent.numbers.bits laid.0 in
     let held = laid_as known limits layout own before (sym h.0.laid ∙ laid.1) h.0 in
