@@ -37,10 +37,12 @@ fn push_slot(
     view: &SlotView<'_>,
     numbers: &Numbers<'_>,
     bytes: &[u8],
+    width: usize,
     slot: usize,
 ) -> Result<(), AllocError>
     requires numbers { AreNumbers view.now numbers.now }
     requires bytes { bytes.now ≡ numbers.now.values.now }
+    requires width { width ≡ number_bytes numbers.now.bits }
     requires bits { HasBits numbers.now.validity.now (slot + 1) }
     requires inside { slot + 1 ≤ length (slot_values view.now) }
     ensures { OnOk result (values.new.items ≡ values.old.items
@@ -49,11 +51,31 @@ fn push_slot(
     if !is_marked_valid(numbers.validity, slot) {
         return push_bits(values, 0, numbers.bits);
     }
-    let width = numbers.bits.bytes();
     values.extend_from_slice(&bytes[width * slot..width * slot + width])
 }
 
-// Appends the bytes of each slot, of which some are null.
+// Appends the bytes of each slot, which are so many each.
+#[inline(always)]
+fn push_each(
+    values: &mut Vec<u8>,
+    view: &SlotView<'_>,
+    numbers: &Numbers<'_>,
+    width: usize,
+) -> Result<(), AllocError>
+    requires numbers { AreNumbers view.now numbers.now }
+    requires bits { HasBits numbers.now.validity.now (length (slot_values view.now)) }
+    requires width { width ≡ number_bytes numbers.now.bits }
+    ensures { OnOk result (values.new.items ≡ values.old.items
+        ++ slots (Number numbers.now.bits) (slot_values view.now)) }
+{
+    for slot in 0..view.len() {
+        push_slot(values, view, numbers, numbers.values, width, slot)?;
+    }
+    Ok(())
+}
+
+// Appends the bytes of each slot, of which some are null. Each width has a loop of its own, in which
+// a slot is one store.
 fn push_some(
     values: &mut Vec<u8>,
     view: &SlotView<'_>,
@@ -64,10 +86,12 @@ fn push_some(
     ensures { OnOk result (values.new.items ≡ values.old.items
         ++ slots (Number numbers.now.bits) (slot_values view.now)) }
 {
-    for slot in 0..view.len() {
-        push_slot(values, view, numbers, numbers.values, slot)?;
+    match numbers.bits {
+        IntBits::B64 => push_each(values, view, numbers, 8),
+        IntBits::B32 => push_each(values, view, numbers, 4),
+        IntBits::B16 => push_each(values, view, numbers, 2),
+        IntBits::B8 => push_each(values, view, numbers, 1),
     }
-    Ok(())
 }
 
 // Appends the bytes of all slots, of which none is null.

@@ -16,15 +16,15 @@ pub returns : goal.returns
 returns c =
     let numbers = c.args.numbers.now in
     let slot = c.args.slot in
-    let w = c.bytes-width.result in
+    let w = c.args.width in
     let own = number_bytes numbers.bits in
     let bytes = c.args.bytes.now in
-    let size : w * slot + w - w * slot ≡ own = omega (arith, c.bytes-width.ensures) in
+    let size : w * slot + w - w * slot ≡ own = omega (arith, c.requires.width) in
     let small : (k : ℕ) → get_or numbers.values.now k 0 < 256 =
     subst (λ (bs : List ℕ). (k : ℕ) → get_or bs k 0 < 256) c.requires.bytes (λ k. omega (arith, c.type_inv.bytes k)) in
     let cut : take (w * slot + w - w * slot) (drop (w * slot) bytes) ≡ take own (drop (own * slot) numbers.values.now) =
     ap (λ (n : ℕ). take n (drop (w * slot) bytes)) size
-    ∙ (ap (λ (n : ℕ). take own (drop (n * slot) bytes)) c.bytes-width.ensures
+    ∙ (ap (λ (n : ℕ). take own (drop (n * slot) bytes)) c.requires.width
     ∙ ap (λ (bs : List ℕ). take own (drop (own * slot) bs)) c.requires.bytes) in
     on_ok_weaker c.extend_from_slice.result
     (λ e. e ∙ ap (λ (bs : List ℕ). c.args.values.now.items ++ bs)

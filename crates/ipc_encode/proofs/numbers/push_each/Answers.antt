@@ -4,7 +4,7 @@ use Rattle.ipc_column.specs.Nested.{slot_values}
 use Rattle.ipc_encode.specs.Cells.{slot_bytes, slots}
 use Rattle.ipc_encode.specs.Pieces.{Number}
 use Rattle.ipc_encode.proofs.NumberSlots.{slots_next}
-use Rattle.ipc_encode.proofs.numbers.push_some.Goals as goal
+use Rattle.ipc_encode.proofs.numbers.push_each.Goals as goal
 
 pub loop-slot-preserved : goal.loop-slot-preserved
 loop-slot-preserved c =

@@ -2,7 +2,7 @@ use Rattle.std.proofs.Common.{◌≡◌, ◌++◌, take}
 use Rattle.ipc_column.specs.Nested.{slot_values}
 use Rattle.ipc_encode.specs.Cells.{slots}
 use Rattle.ipc_encode.specs.Pieces.{Number}
-use Rattle.ipc_encode.proofs.numbers.push_some.Given as goal
+use Rattle.ipc_encode.proofs.numbers.push_each.Given as goal
 
 -- the bytes of the first slots stand behind those that were there
 abbrev pub invariant-loop-slot : goal.invariant-loop-slot
