@@ -12,6 +12,7 @@ pub mod Siblings
 pub mod Leaving
 pub mod Held
 pub mod Copied
+pub mod SureColumns
 pub mod CountedColumns
 pub mod Indexed
 pub mod Ranges

@@ -10,3 +10,4 @@ pub mod Numbers
 pub mod Indices
 pub mod Faults
 pub mod CountedColumns
+pub mod PlainColumns
