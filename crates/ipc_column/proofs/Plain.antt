@@ -135,7 +135,8 @@ items_each P f i (suc n) h =
 pub all_shown : (c : Column) (children : Columns) → AreBytes c.values → holds_values c.layout c.slots (length c.values) ≡ true
     → AllByRecursion (IsShownBy c.layout) (values_in c children)
 all_shown c children bytes h =
-    items_each (IsShownBy c.layout) (value_of (row children) c) 0 c.slots (λ k from to. either k (omega (arith, to)) (is_valid c.validity k))
+    items_each (IsShownBy c.layout) (value_of (row children) c) 0 c.slots
+    (λ k from to. either k (omega (arith, to)) (is_valid c.validity k))
   where
     either : (k : ℕ) → k < c.slots → (valid : Bool)
         → IsShownBy c.layout (cond valid (own_value c.layout c.dictionary (row children) c.offsets c.values k) v.Null)
@@ -193,7 +194,8 @@ variable_spelled c children utf8 e h = several c.slots refl
     several : (n : ℕ) → c.slots ≡ n → spelled_len (items (value_of (row children) c) 0 n) ≤ length c.values
     several zero same = omega arith
     several (suc n) same =
-        let rise = bytes_rise utf8 c.offsets children c.slots 0 (length c.values) (omega (arith, same)) (rw e at h.offsets) (rw e at h.order) in
+        let rise = bytes_rise utf8 c.offsets children c.slots 0 (length c.values) (omega (arith, same)) (rw e at h.offsets)
+        (rw e at h.order) in
         let whole = spelled_rows (value_of (row children) c) (place c.offsets) 0 (suc n) (λ k from to.
         let p = places c.offsets c.slots (length c.values) k (k + 1) rise (omega arith) (omega (arith, same, to)) in
         let last = p.last in
@@ -210,7 +212,8 @@ variable_spelled c children utf8 e h = several c.slots refl
         omega (arith, held, last, inside)
 
 -- a valid slot of this layout spells nothing
-none_spelled : (c : Column) (children : Columns) → ((i : ℕ) → spells (own_value c.layout c.dictionary (row children) c.offsets c.values i) ≤ 0)
+none_spelled : (c : Column) (children : Columns)
+    → ((i : ℕ) → spells (own_value c.layout c.dictionary (row children) c.offsets c.values i) ≤ 0)
     → spelled_len (values_in c children) ≤ length c.values
 none_spelled c children h =
     let none = spelled_each (value_of (row children) c) 0 0 c.slots (λ k from to. slot_spells c (row children) k 0 (h k)) in

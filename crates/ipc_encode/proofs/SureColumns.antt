@@ -1,6 +1,6 @@
 -- Columns that surely fit, by how they lie.
-use Rattle.std.proofs.Common.{◌≡◌, ◌∙◌, refl, sym, ap, subst, ℕ, zero, suc, ◌+◌, ◌*◌, ◌<◌, ◌≤◌, Bool, true, false, List, [], ◌∷◌, ◌++◌}
-use Rattle.std.proofs.Common.{length, length-append, get_or, arith, inl, inr, Some}
+use Rattle.std.proofs.Common.{◌≡◌, ◌∙◌, refl, sym, subst, ℕ, suc, ◌+◌, ◌*◌, ◌≤◌, Bool, true, false, List, [], ◌∷◌, ◌++◌}
+use Rattle.std.proofs.Common.{length, get_or, arith, inl}
 use Rattle.std.specs.Prelude.{IsTrue, Option}
 use Rattle.std.specs.List.{AllByRecursion}
 use Rattle.std.proofs.lemmas.List.{length-replicate}
@@ -18,16 +18,21 @@ use Rattle.ipc_model.specs.declared.schema.TimeUnit.{TimeUnit}
 use Rattle.ipc_model.specs.declared.schema.IntBits.TheVariants.{B32, B64}
 use Rattle.ipc_model.specs.declared.value.Value.{Value, out-Value}
 use Rattle.ipc_model.specs.declared.value.Value.TheVariants as v
-use Rattle.ipc_column.specs.Dictionaries.{stands_alone}
 use Rattle.ipc_column.specs.Lent.{AreOfColumn}
 use Rattle.ipc_column.specs.Plain.{IsShownBy, spelled, spelled_len}
 use Rattle.ipc_column.specs.Slots.{is_null}
-use Rattle.ipc_encode.specs.Cells.{cell, cells, content, fixed, slots}
-use Rattle.ipc_encode.specs.Columns.{data_in, datum}
-use Rattle.ipc_encode.specs.PlainColumns.{LiesPlainly, ShowsKind, is_plain}
+use Rattle.ipc_encode.specs.Cells.{cell, cells, content, fixed}
+use Rattle.ipc_encode.specs.Columns.{data_in}
+use Rattle.ipc_encode.specs.PlainColumns.{LiesPlainly, is_plain}
 use Rattle.ipc_encode.proofs.SurelyFit.{FirstFit, first_fit_all, first_fit_next, own_fits}
 
 -- ---- what plain slots show
+
+-- the slots of the layout show values of the type alone, or null: nothing in a value has to be
+-- looked at
+abbrev pub ShowsKind : Layout → DataType → Type 0
+ShowsKind layout kind = (children : ℕ) (value : Value) → IsShownBy layout value → is_null value ≡ false
+    → IsOfKind kind children (out-Value value)
 
 bool_shows : ShowsKind l.Bits t.Bool
 unfolding out-Value denote.Hole.Carrier.out

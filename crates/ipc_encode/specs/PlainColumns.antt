@@ -1,21 +1,11 @@
 -- Columns whose values fit a field by how they lie (Schema.fbs, union Type).
-use Rattle.std.specs.Prelude.{◌≡◌, ℕ, Bool, true, false}
-use Rattle.ipc_model.specs.Fits.{IsOfKind}
+use Rattle.std.specs.Prelude.{◌≡◌, Bool, true, false}
 use Rattle.ipc_model.specs.declared.layout.Layout.{Layout}
 use Rattle.ipc_model.specs.declared.layout.Layout.TheVariants.{Null}
 use Rattle.ipc_model.specs.declared.schema.DataType.{DataType}
 use Rattle.ipc_model.specs.declared.schema.DataType.TheVariants as t
 use Rattle.ipc_model.specs.declared.schema.DateUnit.TheVariants.{Day, Millisecond}
-use Rattle.ipc_model.specs.declared.value.Value.{Value, out-Value}
 use Rattle.ipc_column.specs.Dictionaries.{stands_alone}
-use Rattle.ipc_column.specs.Plain.{IsShownBy}
-use Rattle.ipc_column.specs.Slots.{is_null}
-
--- the slots of the layout show values of the type alone, or null: nothing in a value has to be
--- looked at
-abbrev pub ShowsKind : Layout → DataType → Type 0
-ShowsKind layout kind = (children : ℕ) (value : Value) → IsShownBy layout value
-    → is_null value ≡ false → IsOfKind kind children (out-Value value)
 
 -- a type of which slots of its layout show nothing but its values; a date in milliseconds has to be
 -- a whole day, a time below 24 hours, and lists and structs have values of children

@@ -1,13 +1,11 @@
-use Rattle.std.proofs.Common.{◌≡◌, ◌∙◌, sym, subst, true, false, length, rules}
+use Rattle.std.proofs.Common.{◌≡◌, ◌∙◌, sym, subst, true}
 use Rattle.std.specs.List.{AllByRecursion}
 use Rattle.std.proofs.lemmas.Bool.{eqb-true}
 use Rattle.ipc_model.specs.Layouts.{type_layout}
 use Rattle.ipc_model.specs.declared.layout.Layout.{Layout}
 use Rattle.ipc_model.specs.declared.schema.Field.{out-Field}
-use Rattle.ipc_column.specs.Checks.{nulls_in}
 use Rattle.ipc_column.specs.Nested.{slot_values}
 use Rattle.ipc_column.specs.Plain.{IsShownBy}
-use Rattle.ipc_column.specs.Slots.{is_null}
 use Rattle.ipc_column.proofs.Plain.{none_null}
 use Rattle.ipc_encode.specs.PlainColumns.{LiesPlainly, is_plain}
 use Rattle.ipc_encode.proofs.SureColumns.{nullable_fit, plain_lies, plain_shows, required_fit}

@@ -1,15 +1,13 @@
-use Rattle.std.proofs.Common.{◌≡◌, ◌∙◌, sym, subst, ap, ℕ, List, ◌+◌, ◌*◌, ◌<◌, ◌≤◌, ◌++◌, length, length-append, true, inl, inr, rules, arith}
+use Rattle.std.proofs.Common.{◌≡◌, ◌∙◌, sym, subst, ◌*◌, ◌<◌, ◌≤◌, ◌++◌, length, arith}
 use Rattle.std.specs.List.{AllByRecursion}
 use Rattle.ipc_model.specs.Limits.{max_data}
 use Rattle.ipc_model.specs.declared.layout.Layout.{Layout}
 use Rattle.ipc_model.specs.declared.layout.Layout.TheVariants as l
-use Rattle.ipc_model.specs.declared.value.Value.{Value}
 use Rattle.ipc_column.specs.Nested.{slot_values}
 use Rattle.ipc_column.specs.Plain.{IsShownBy, spelled_len}
 use Rattle.ipc_column.specs.Rules.{HoldValues}
 use Rattle.ipc_encode.specs.Columns.{data_in, PassesOffsets}
 use Rattle.ipc_encode.proofs.Sizes.{long_from}
-use Rattle.ipc_encode.proofs.SurelyFit.{small_data, plain_is}
 use Rattle.ipc_encode.proofs.SureColumns.{data_append, data_fixed, data_spelled}
 use Rattle.ipc_encode.proofs.sure_columns.most_of_slots.Goals as goal
 

@@ -1,11 +1,8 @@
-use Rattle.std.proofs.Common.{sym, subst, ◌≡◌, ◌∙◌, ◌+◌, ◌++◌, ℕ, rules, arith}
+use Rattle.std.proofs.Common.{sym, subst, ◌+◌, ◌++◌, ℕ}
 use Rattle.std.specs.Prelude.{Option, Some, None, IfSome}
-use Rattle.std.proofs.lemmas.Option.{IfSome_then}
-use Rattle.std.specs.List.{AllByRecursion}
 use Rattle.ipc_model.specs.declared.layout.Layout.{Layout}
 use Rattle.ipc_column.specs.Nested.{slot_values}
 use Rattle.ipc_column.specs.Shapes.{Shape, bare, field}
-use Rattle.ipc_model.specs.Fits.{Fits}
 use Rattle.ipc_encode.specs.Buffers.{below}
 use Rattle.ipc_encode.specs.declared.node.Node.{out-Node}
 use Rattle.ipc_encode.specs.Built.{IsColumn, IsCounted, TakeAtMost}
