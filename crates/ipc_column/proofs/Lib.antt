@@ -24,3 +24,4 @@ pub mod Leads
 pub mod CellIters
 pub mod Judged
 pub mod Alone
+pub mod Plain

@@ -17,3 +17,4 @@ pub mod Slots
 pub mod Contents
 pub mod Sharing
 pub mod Lending
+pub mod Plain

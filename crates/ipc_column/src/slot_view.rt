@@ -1,15 +1,19 @@
 //! The slots of a column and of the columns below it, whose buffers are found in the body once.
 ghost use Rattle.std.specs.Prelude.{◌≡◌, ◌<◌, ℕ, List, length, slice_get, Some, true, IfSome};
-ghost use Rattle.std.specs.Prelude.{is_some};
+ghost use Rattle.std.specs.Prelude.{is_some, slice_index, ◌≤◌};
+ghost use Rattle.std.specs.List.{AllByRecursion};
 ghost use Rattle.ipc_model.specs.declared.value.Value.{Value};
 ghost use Rattle.ipc_column.specs.Cells.{cell_value, is_leaf};
 ghost use Rattle.ipc_column.specs.Columns.{Columns};
 ghost use Rattle.ipc_column.specs.Checks.{Holds, are_long, holds_offsets, holds_values, in_order};
+ghost use Rattle.ipc_column.specs.Checks.{nulls_in};
+ghost use Rattle.ipc_column.specs.Dictionaries.{stands_alone};
 ghost use Rattle.ipc_column.specs.Lending.{AreNumbers, are_numbers, layouts_of};
 ghost use Rattle.ipc_column.specs.Lent.{AreFound, AreOfColumn, found};
 ghost use Rattle.ipc_column.specs.Slots.{LeadsInside, is_null, nested, nested_in, shown};
 ghost use Rattle.ipc_column.specs.Nested.{Nested, alone, below, slot_values};
-ghost use Rattle.ipc_column.specs.Rules.{SpellsTexts};
+ghost use Rattle.ipc_column.specs.Plain.{IsShownBy, spelled_len};
+ghost use Rattle.ipc_column.specs.Rules.{HoldValues, SpellsTexts};
 ghost use Rattle.ipc_column.specs.Values.{own_value, row, rows_of};
 ghost use Rattle.ipc_column.specs.Views.{columns, column_of, children_of};
 
@@ -21,7 +25,7 @@ use crate::offsets::{bytes_between, fixed_place, place_at};
 use crate::range_bytes::bytes_at;
 use crate::ranges::ColumnRanges;
 use ipc_model::Layout;
-use ipc_scalar::bit;
+use ipc_scalar::{bit, count_clear};
 use std::marker::Model;
 
 /// What a slot of a column holds by itself, lent by its batch.
@@ -156,6 +160,37 @@ impl<'a> SlotView<'a> {
         }
     }
 
+    /// How the slots lie, and with it what they show.
+    pub fn layout(&self) -> Layout
+        ensures layout { result ≡ self.now.column.layout }
+        ensures values { AllByRecursion (IsShownBy result) (slot_values self.now) }
+    {
+        layout_over(self.layout, self.values)
+    }
+
+    /// How many slots the validity bitmap says are null: none without a bitmap. A slot of the null
+    /// layout is null without one, and so may be an index.
+    pub fn null_count(&self) -> u64
+        ensures { result ≡ nulls_in self.now.column.validity (length (slot_values self.now)) }
+    {
+        if self.validity.is_empty() {
+            return 0;
+        }
+        count_clear(self.validity, self.slots)
+    }
+
+    /// How many bytes the values have, as they lie in the body. Those of slots that nothing leads
+    /// to are among them.
+    pub fn data_len(&self) -> usize
+        ensures lent { result ≡ length self.now.column.values }
+        ensures room { HoldValues self.now.column.layout (length (slot_values self.now)) result }
+        // Texts and binary values lie beside one another.
+        ensures spelled { stands_alone self.now.column.layout ≡ true
+            → spelled_len (slot_values self.now) ≤ result }
+    {
+        self.values.len()
+    }
+
     /// How many children there are: one of a list, one for each part of a struct, else none.
     pub fn children(&self) -> usize
         ensures { result ≡ length self.now.children }
@@ -170,6 +205,16 @@ impl<'a> SlotView<'a> {
     {
         slots_of(self.body, &self.children[i])
     }
+}
+
+// The layout of slots over these bytes, each of which is below 256.
+#[inline(always)]
+fn layout_over(layout: Layout, bytes: &[u8]) -> Layout
+    ensures layout { result ≡ layout }
+    ensures bytes { (i : ℕ) → slice_index bytes.now i < 256 }
+{
+    let _bytes = bytes;
+    layout
 }
 
 // What a valid slot holds, one of the first `slots`.

@@ -17,6 +17,7 @@ pub mod NumberBytes
 pub mod NumberSlots
 pub mod LentBytes
 pub mod Copied
+pub mod SureColumns
 pub mod CountedColumns
 pub mod Indexed
 pub mod Ranges

@@ -12,3 +12,4 @@ pub mod Faults
 pub mod CountedColumns
 pub mod Marks
 pub mod Lent
+pub mod PlainColumns

@@ -30,6 +30,7 @@ use crate::node::Node;
 use crate::parts::{Draft, Parts, add_nodes};
 use crate::room::Room;
 use crate::sure::surely_fit;
+use crate::sure_columns::columns_surely_fit;
 use crate::tree::take_parts;
 use ipc_column::Batch;
 use ipc_model::{Field, Items, Limits, Row, Value, WriteFault};
@@ -262,6 +263,24 @@ impl Builder {
             return false;
         }
         surely_fit(fields, &self.nodes, row, self.rows, &self.limits)
+    }
+
+    /// Whether all rows of a batch that was read surely conform to the fields of the rows that are
+    /// held, and are within the limits with them. It takes one look at each column and none at its
+    /// values: where it isn't sure, as for lists, structs and dictionaries, the rows one by one
+    /// tell.
+    pub fn surely_takes_columns(&self, fields: &[Field], batch: &Batch) -> bool
+        ensures conforms { (known : Numbering) (limits : Limits) (rows : List (List Value))
+            → HasRows known limits fields.now rows self.now → IsTrue result
+            → AllByRecursion (RowFits fields.now) batch.now.rows }
+        ensures within { (known : Numbering) (limits : Limits) (rows : List (List Value))
+            → HasRows known limits fields.now rows self.now → IsTrue result
+            → IsWithin limits fields.now (rows ++ batch.now.rows) }
+    {
+        if !self.has_room(batch.rows()) {
+            return false;
+        }
+        columns_surely_fit(fields, &self.nodes, batch, self.rows, &self.limits)
     }
 
     /// Takes one row more, and asks for the index of each value other than null in a field with a

@@ -25,6 +25,7 @@ mod parts;
 mod pushing;
 mod room;
 mod sure;
+mod sure_columns;
 mod tree;
 
 pub use batch::encode;

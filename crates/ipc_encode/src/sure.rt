@@ -58,9 +58,9 @@ fn has_numbers(layout: Layout) -> bool
     matches!(layout, Layout::Numbers { .. })
 }
 
-// The same of numbers or truths.
+/// The same of numbers or truths.
 #[inline(always)]
-fn has_small(layout: Layout) -> bool
+pub(crate) fn has_small(layout: Layout) -> bool
     ensures small { IsTrue result → (values : List Value) → data_in layout values
         ≤ 8 * length values + 0 }
     ensures short { IsTrue result → (values : List Value) → ¬ HasLongData layout values }

@@ -1,16 +1,18 @@
 -- A batch's rows that are pushed one by one, and sent.
 use Rattle.std.proofs.Common.{◌≡◌, ◌∙◌, refl, sym, ap, subst, ℕ, ◌+◌, ◌<◌, ◌++◌, ◌∷◌, List, [], take, length, Option, Result, Ok}
 use Rattle.std.proofs.Common.{Err, false}
-use Rattle.std.specs.Prelude.{slice_index_or, MatchResult, OnOk}
+use Rattle.std.specs.Prelude.{Bool, slice_index_or, MatchResult, OnOk}
 use Rattle.std.proofs.lemmas.Bool.{false≢true}
 use Rattle.std.proofs.lemmas.List.{take_more}
 use Rattle.ipc_model.specs.declared.fault.WriteFault.{WriteFault}
 use Rattle.ipc_model.specs.declared.fault.WriteFault.TheVariants as w
 use Rattle.ipc_model.specs.declared.limits.Limits.{Limits}
 use Rattle.ipc_model.specs.declared.schema.Schema.{Schema}
+use Rattle.ipc_model.specs.declared.table.BatchRows.{BatchRows}
 use Rattle.ipc_model.specs.declared.value.Value.{Value}
 use Rattle.ipc_stream.specs.declared.pushed.PushedRows.{PushedRows}
 use Rattle.ipc_stream.specs.Pushed.{HoldsBatch, RefusesHeld, with_row}
+use Rattle.ipc_stream.specs.PushedColumns.{RefusesColumns}
 use Rattle.ipc_stream.specs.Writer.{Writer, Leaves}
 use Rattle.ipc_stream.specs.Writing.{NotSentWhole, RefusesBatch, Sends}
 use Rattle.ipc_stream.proofs.FirstRows.{refused_at_first}
@@ -34,6 +36,18 @@ module _ (limits : Limits) (s : Schema) (pairs : List (List ℕ × List ℕ)) (r
     refused_at_first limits s pairs rows (i + 1) fault
         (subst (λ (rs : List (List Value)). RefusesHeld limits s (record { pairs = pairs; rows = rs }) false fault) next h),
   )
+
+-- where it isn't told whether columns were taken, the batch is refused for memory alone
+pub refused_columns : (limits : Limits) (s : Schema) (b : BatchRows) (failed : Bool) (fault : WriteFault) → failed ≡ false
+    → RefusesColumns failed fault → (fault ≡ w.Write → ⊥) × RefusesBatch limits s b fault
+refused_columns limits s b failed w.OutOfMemory works h = (λ e. cc, tt)
+refused_columns limits s b failed w.Failed works h = absurd (false≢true (sym works ∙ h))
+refused_columns limits s b failed w.Write works h = absurd h
+refused_columns limits s b failed w.BadSchema works h = absurd h
+refused_columns limits s b failed (w.Row number cause) works h = absurd h
+refused_columns limits s b failed w.TooLong works h = absurd h
+refused_columns limits s b failed w.DictionaryFull works h = absurd h
+refused_columns limits s b failed w.TooManyRows works h = absurd h
 
 -- a batch that is refused without rows is refused with them
 pub refused_none : (limits : Limits) (s : Schema) (pairs : List (List ℕ × List ℕ)) (rows : List (List Value)) (fault : WriteFault)

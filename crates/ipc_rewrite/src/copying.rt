@@ -25,8 +25,8 @@ use ipc_model::{Items, Limits, Schema, Text, Value, WriteFault};
 use ipc_stream::{Batch, BatchWriter, Seed, Sink, Source, StreamReader, StreamWriter};
 use std::alloc::Global;
 
-// Pushes the rows of a batch, each from the values of one kept row. Its columns are found before
-// the first.
+// Pushes the rows of a batch: all at once straight from its columns, where these are plain, or else
+// each from the values of one kept row. The columns are found before the first.
 fn push_rows<W: Sink>(
     alloc: Global,
     batch: &Batch,
@@ -48,6 +48,9 @@ fn push_rows<W: Sink>(
         × RefusesBatch rows.old.writer.now.limits rows.old.writer.now.schema
         (record { pairs = pairs; rows = batch.now.rows }) fault) }
 {
+    if rows.push_columns(batch)? {
+        return Ok(());
+    }
     let columns = columns_of(alloc, batch)?;
     for at in 0..batch.rows() {
         let Ok(()) = read_row(alloc, batch, &columns, at, row) else {
@@ -176,9 +179,9 @@ fn copy_stream<R: Source, W: Sink>(
 /// Reads a stream from `source` under the limits and writes it anew to `sink`, with the
 /// end-of-stream mark (Arrow Columnar Format, "IPC Streaming Format"): the schema's message goes
 /// out once it is read, and each batch, with its pairs and rows and behind the dictionaries that it
-/// needs, before the next is read. One batch is kept at a time, as rows of its own, and of each
-/// dictionary the values that were sent, hashed with `Seed::Fixed`. What is written is within the
-/// limits that `raised` makes of those that are given. Source and sink come back beside the answer.
+/// needs, before the next is read. One batch is kept at a time, and of each dictionary the values
+/// that were sent, hashed with `Seed::Fixed`. What is written is within the limits that `raised`
+/// makes of those that are given. Source and sink come back beside the answer.
 ///
 /// `Stop::Read` has the refusals of `StreamReader`, F1 to F37 without F35, with the number of the
 /// message, where the schema's is 0. `Stop::Write` has those of `StreamWriter`, W1 to W9 and W11,

@@ -9,6 +9,7 @@ pub mod InForce
 pub mod PlanFinds
 pub mod WithinLimits
 pub mod HeldTallies
+mod HeldColumns
 pub mod BatchSent
 pub mod Chains
 pub mod OverLimit

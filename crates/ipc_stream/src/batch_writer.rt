@@ -2,12 +2,14 @@ ghost use Rattle.std.specs.Prelude.{◌≡◌, Err, IfErr, IfOk, MatchResult, tr
 ghost use Rattle.ipc_model.specs.declared.table.BatchRows.{BatchRows};
 ghost use Rattle.ipc_stream.specs.Pushed.{HoldsBatch, RefusesHeld, Stays, StaysAt};
 ghost use Rattle.ipc_stream.specs.Pushed.{no_rows, with_row};
+ghost use Rattle.ipc_stream.specs.PushedColumns.{HoldsColumns, RefusesColumns};
 ghost use Rattle.ipc_stream.specs.Writer.{LeavesBatch};
 ghost use Rattle.ipc_stream.specs.Writing.{AcceptsBatch, RefusesBatch};
 
 use crate::pushed::PushedRows;
 use crate::sink::Sink;
 use crate::writer::StreamWriter;
+use ipc_column::Batch;
 use ipc_model::{Items, Text, Value, WriteFault};
 
 /// A batch of a writer's, whose rows are pushed one by one (Arrow Columnar Format, "RecordBatch
@@ -90,6 +92,29 @@ impl<W: Sink> BatchWriter<'_, W> {
         ensures failed { self.old.writer.now.failed ≡ true → result ≡ Err WriteFault.Failed }
     {
         self.writer.push_row(&mut self.batch, row)
+    }
+
+    /// Takes all rows of a batch that was read, straight from its columns, with no value of its own
+    /// for each cell. At `Ok(false)` nothing was taken, and `push` takes the rows one by one: it
+    /// isn't sure of them, or says of one why it isn't taken.
+    ///
+    /// They are taken at once where that is told by one look at each column: each is of numbers,
+    /// truths, dates in days, texts or bytes as its field is, without a null where the field is
+    /// required, and all are surely within the limits; no field of the schema has a dictionary. W10
+    /// is returned after W9 or W11, and W11 where memory was refused.
+    pub fn push_columns(&mut self, batch: &Batch) -> Result<bool, WriteFault>
+        ensures same_reference { self.new.writer.ghost_name ≡ self.old.writer.ghost_name }
+        ensures stays { Stays self.old.writer.now self.new.writer.now result }
+        // At true the batch has all rows more, at false it is as it was.
+        ensures judged { (b : BatchRows)
+            → HoldsBatch self.old.writer.now.limits self.old.writer.now.schema b self.old.batch
+            → MatchResult result
+            (HoldsColumns self.old.writer.now.limits self.old.writer.now.schema b batch.now.rows
+            self.new.batch)
+            (RefusesColumns self.old.writer.now.failed) }
+        ensures failed { self.old.writer.now.failed ≡ true → result ≡ Err WriteFault.Failed }
+    {
+        self.writer.push_columns(&mut self.batch, batch)
     }
 
     /// Sends the message of the batch with the rows that were pushed, behind those of the

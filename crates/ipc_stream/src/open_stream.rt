@@ -5,6 +5,7 @@ ghost use Rattle.ipc_dict.specs.Sending.{sent_after};
 ghost use Rattle.ipc_decode.specs.Stream.{OpensStream};
 ghost use Rattle.ipc_stream.specs.Dictionaries.{SendsBatch, none_sent};
 ghost use Rattle.ipc_stream.specs.Pushed.{HoldsBatch, RefusesHeld, no_rows, with_row};
+ghost use Rattle.ipc_stream.specs.PushedColumns.{HoldsColumns, RefusesColumns};
 ghost use Rattle.ipc_stream.specs.Writing.{AcceptsBatch, AcceptsSchema, RefusesBatch};
 ghost use Rattle.ipc_stream.specs.Writing.{RefusesSchema, Sends};
 
@@ -13,6 +14,7 @@ use crate::messages::schema_message;
 use crate::pushed::PushedRows;
 use crate::sending::{send, send_messages};
 use crate::sink::Sink;
+use ipc_column::Batch;
 use ipc_dict::{Dictionaries, Kept, Seed, has_short_messages};
 use ipc_encode::Room;
 use ipc_model::{BatchRows, Items, Limits, Schema, Text, Value, WriteFault};
@@ -138,6 +140,22 @@ impl OpenStream {
             → HoldsBatch self.now.limits self.now.schema b held.new) }
     {
         held.push(&self.schema, row)
+    }
+
+    // Takes all rows of a batch that was read into one of this stream's, and says whether it did.
+    // Nothing is sent.
+    pub(crate) fn push_columns(
+        &self,
+        held: &mut PushedRows,
+        batch: &Batch,
+    ) -> Result<bool, WriteFault>
+        ensures holds { (b : BatchRows) → HoldsBatch self.now.limits self.now.schema b held.old
+            → IfOk result
+            (HoldsColumns self.now.limits self.now.schema b batch.now.rows held.new) }
+        ensures refused { (b : BatchRows) → HoldsBatch self.now.limits self.now.schema b held.old
+            → IfErr result (RefusesColumns false) }
+    {
+        held.push_columns(&self.schema, batch)
     }
 
     // Sends the messages of a batch whose rows were pushed: those of the dictionaries that it

@@ -1,7 +1,30 @@
-use Rattle.std.proofs.Common.{◌∙◌}
+use Rattle.std.proofs.Common.{◌∙◌, subst}
+use Rattle.std.specs.Prelude.{Bool}
 use Rattle.std.proofs.lemmas.Result.{err_from_is_err_and}
-use Rattle.ipc_rewrite.proofs.Pushing.{pushed_next, refused_next}
+use Rattle.ipc_stream.specs.Pushed.{no_rows}
+use Rattle.ipc_stream.specs.PushedColumns.{HoldsColumns}
+use Rattle.ipc_rewrite.proofs.Pushing.{pushed_next, refused_columns, refused_next}
 use Rattle.ipc_rewrite.proofs.copying.push_rows.Goals as goal
+
+pub returns-in_err-push_columns-clause-judged : goal.returns-in_err-push_columns-clause-judged
+returns-in_err-push_columns-clause-judged g c = λ pairs held.
+    let p = err_from_is_err_and c.from_residual.result c.from_residual.ensures.1 in
+    rw (p.1, p.2) (refused_columns _ _ _ _ _ c.requires.works (c.in_err-push_columns.ensures.judged (no_rows pairs) held))
+
+pub returns-then-branch-clause-judged : goal.returns-then-branch-clause-judged
+returns-then-branch-clause-judged g c = λ pairs held.
+    subst (λ (taken : Bool). HoldsColumns c.args.rows.now.writer.now.limits c.args.rows.now.writer.now.schema (no_rows pairs)
+    c.args.batch.now.rows c.push_columns.new.self.batch taken) c.if-branch.true
+    (c.in_ok-push_columns.ensures.judged (no_rows pairs) held)
+
+pub loop-at-init : goal.loop-at-init
+loop-at-init g c = (
+  c.in_ok-push_columns.ensures.same_reference,
+  c.in_ok-push_columns.ensures.stays.1,
+  λ pairs held. subst (λ (taken : Bool). HoldsColumns c.args.rows.now.writer.now.limits c.args.rows.now.writer.now.schema (no_rows pairs)
+      c.args.batch.now.rows c.push_columns.new.self.batch taken) c.if-branch.false
+      (c.in_ok-push_columns.ensures.judged (no_rows pairs) held),
+)
 
 pub returns-in_err-push-clause-judged : goal.returns-in_err-push-clause-judged
 returns-in_err-push-clause-judged g c = λ pairs held.

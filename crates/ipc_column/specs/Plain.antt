@@ -1,0 +1,44 @@
+-- What slots show by how they lie (Arrow Columnar Format, "Physical Memory Layout").
+use Rattle.std.specs.Prelude.{◌≡◌, ℕ, ◌+◌, true, false, List, [], ◌∷◌, length, ⊤}
+use Rattle.ipc_model.specs.Ranges.{width, IsSignedWithin, IsUnsignedWithin}
+use Rattle.ipc_model.specs.declared.layout.Layout.{Layout}
+use Rattle.ipc_model.specs.declared.layout.Layout.TheVariants as l
+use Rattle.ipc_model.specs.declared.value.Value.{Value}
+use Rattle.ipc_model.specs.declared.value.Value.TheVariants as v
+
+-- null, or a value that a slot of this layout holds: a number of its width and sign, so many bytes
+-- where their number is fixed, a text or bytes of any length; nothing is said of lists and structs,
+-- nor of an index, whose value stands elsewhere (Arrow Columnar Format, "Fixed-size Primitive
+-- Layout", "Variable-size Binary Layout")
+abbrev pub IsShownBy : Layout → Value → Type 0
+IsShownBy (l.Indices bits signed id) value = ⊤
+IsShownBy l.Lists value = ⊤
+IsShownBy (l.FixedLists size) value = ⊤
+IsShownBy l.Structs value = ⊤
+IsShownBy l.Null v.Null = ⊤
+IsShownBy l.Null value = ⊥
+IsShownBy l.Bits v.Null = ⊤
+IsShownBy l.Bits (v.Bool truth) = ⊤
+IsShownBy l.Bits value = ⊥
+IsShownBy (l.Numbers bits signed) v.Null = ⊤
+IsShownBy (l.Numbers bits true) (v.Int number) = IsSignedWithin (width bits) number
+IsShownBy (l.Numbers bits false) (v.UInt number) = IsUnsignedWithin (width bits) number
+IsShownBy (l.Numbers bits signed) value = ⊥
+IsShownBy (l.FixedBytes size) v.Null = ⊤
+IsShownBy (l.FixedBytes size) (v.Bytes bytes) = length bytes ≡ size
+IsShownBy (l.FixedBytes size) value = ⊥
+IsShownBy (l.VariableBytes utf8) v.Null = ⊤
+IsShownBy (l.VariableBytes true) (v.Text text) = ⊤
+IsShownBy (l.VariableBytes false) (v.Bytes bytes) = ⊤
+IsShownBy (l.VariableBytes utf8) value = ⊥
+
+-- the bytes of a text or of binary; none of another value
+abbrev pub spelled : Value → List ℕ
+spelled (v.Bytes bytes) = bytes
+spelled (v.Text text) = text
+spelled _ = []
+
+-- how many bytes texts and binary values have together
+abbrev pub spelled_len : List Value → ℕ
+spelled_len [] = 0
+spelled_len (value ∷ values) = length (spelled value) + spelled_len values

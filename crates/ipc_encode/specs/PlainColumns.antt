@@ -1,0 +1,31 @@
+-- Columns whose values fit a field by how they lie (Schema.fbs, union Type).
+use Rattle.std.specs.Prelude.{◌≡◌, Bool, true, false}
+use Rattle.ipc_model.specs.declared.layout.Layout.{Layout}
+use Rattle.ipc_model.specs.declared.layout.Layout.TheVariants.{Null}
+use Rattle.ipc_model.specs.declared.schema.DataType.{DataType}
+use Rattle.ipc_model.specs.declared.schema.DataType.TheVariants as t
+use Rattle.ipc_model.specs.declared.schema.DateUnit.TheVariants.{Day, Millisecond}
+use Rattle.ipc_column.specs.Dictionaries.{stands_alone}
+
+-- a type of which slots of its layout show nothing but its values; a date in milliseconds has to be
+-- a whole day, a time below 24 hours, and lists and structs have values of children
+abbrev pub is_plain : DataType → Bool
+is_plain t.Bool = true
+is_plain (t.Int bits signed) = true
+is_plain t.Binary = true
+is_plain t.Utf8 = true
+is_plain (t.FixedSizeBinary size) = true
+is_plain (t.Date Day) = true
+is_plain (t.Date Millisecond) = false
+is_plain (t.Timestamp unit timezone) = true
+is_plain (t.Duration unit) = true
+is_plain (t.Time unit) = false
+is_plain t.Null = false
+is_plain t.List = false
+is_plain (t.FixedSizeList size) = false
+is_plain t.Struct = false
+
+-- The values lie in the column itself, one in each valid slot.
+pub record LiesPlainly (layout : Layout) : Type 0 where
+  pub alone : stands_alone layout ≡ true
+  pub some : ¬ (layout ≡ Null)

@@ -1,0 +1,149 @@
+//! Whether all rows of a batch that was read surely fit, told by one look at each of its columns.
+ghost use Rattle.std.specs.Prelude.{◌≡◌, ◌≤◌, ◌+◌, ◌*◌, ◌++◌, ℕ, List, length, IfSome, IsTrue};
+ghost use Rattle.std.specs.List.{AllByRecursion};
+ghost use Rattle.ipc_model.specs.Fits.{Fits, RowFits};
+ghost use Rattle.ipc_model.specs.declared.limits.Limits.{Limits};
+ghost use Rattle.ipc_model.specs.declared.layout.Layout.{Layout};
+ghost use Rattle.ipc_model.specs.declared.value.Value.{Value};
+ghost use Rattle.ipc_column.specs.Nested.{slot_values};
+ghost use Rattle.ipc_column.specs.Shapes.{Shape, bare, shape_of};
+ghost use Rattle.ipc_column.specs.Shapes as shapes;
+ghost use Rattle.ipc_encode.specs.Built.{AreColumns, AreWithin, IsColumn, IsCounted, IsNode};
+ghost use Rattle.ipc_encode.specs.Built.{TakeAtMost};
+ghost use Rattle.ipc_encode.specs.Cells.{cells};
+ghost use Rattle.ipc_encode.specs.Columns.{data_in};
+ghost use Rattle.ipc_encode.specs.Limits.{HasLongData};
+ghost use Rattle.ipc_encode.specs.Numbers.{Numbering};
+ghost use Rattle.ipc_encode.specs.PlainColumns.{LiesPlainly, is_plain};
+
+use crate::column::MAX_DATA;
+use crate::counts::Counts;
+use crate::node::Node;
+use crate::sure::has_small;
+use ipc_column::{Batch, SlotView};
+use ipc_model::{DataType, DateUnit, Field, Layout, Limits, layout_of};
+
+// Whether whatever slots of a type's layout show is of the type.
+fn is_plain(kind: &DataType) -> bool
+    ensures { result ≡ is_plain kind.now }
+{
+    matches!(
+        kind,
+        DataType::Bool
+            | DataType::Int { .. }
+            | DataType::Binary
+            | DataType::Utf8
+            | DataType::FixedSizeBinary(_)
+            | DataType::Date(DateUnit::Day)
+            | DataType::Timestamp { .. }
+            | DataType::Duration(_)
+    )
+}
+
+// Whether slots of two layouts lie alike.
+fn lie_alike(one: Layout, other: Layout) -> bool
+    ensures { IsTrue result → one ≡ other }
+{
+    one == other
+}
+
+// Whether the values of a column surely fit a field, told by how they lie.
+fn column_fits(field: &Field, slots: &SlotView<'_>) -> bool
+    ensures fits { IsTrue result → AllByRecursion (Fits field.now) (slot_values slots.now) }
+    ensures plain { IsTrue result → LiesPlainly slots.now.column.layout }
+{
+    if !field.children.is_empty() || !is_plain(&field.kind) {
+        return false;
+    }
+    if !lie_alike(slots.layout(), layout_of(&field.kind, None)) {
+        return false;
+    }
+    field.nullable || slots.null_count() == 0
+}
+
+// The bytes of a column's data with these slots more, beside 8 for each slot, at most. None where
+// offsets don't reach, or the layout asks for a closer look.
+fn most_of_slots(layout: Layout, counts: Counts, slots: &SlotView<'_>) -> Option<u64>
+    requires layout { slots.now.column.layout ≡ layout }
+    requires plain { LiesPlainly layout }
+    ensures most { (limits : Limits) (values : List Value) → IsCounted limits layout values counts
+        → IfSome result (λ most. data_in layout (values ++ slot_values slots.now)
+        ≤ 8 * length (values ++ slot_values slots.now) + most) }
+    ensures short { (limits : Limits) (values : List Value) → IsCounted limits layout values counts
+        → IfSome result (λ most. ¬ HasLongData layout (values ++ slot_values slots.now)) }
+{
+    if has_small(layout) {
+        return Some(0);
+    }
+    let Some(amount) = counts.amount.checked_add(slots.data_len()) else {
+        return None;
+    };
+    match slots.layout() {
+        Layout::FixedBytes(_) => Some(amount as u64),
+        Layout::VariableBytes { .. } if amount <= MAX_DATA => Some(amount as u64),
+        _ => None,
+    }
+}
+
+// The bytes that the buffers of a column without children take at most with these slots more,
+// beside those that don't hang on what they show, where that surely fits the field.
+fn most_with_slots(field: &Field, slots: &SlotView<'_>, node: &Node) -> Option<u64>
+    ensures fits { IfSome result
+        (λ most. AllByRecursion (Fits field.now) (slot_values slots.now)) }
+    ensures most { (known : Numbering) (limits : Limits) (layout : Layout)
+        (children : Shape) (values : List Value) (least : ℕ)
+        → IsNode (IsColumn known limits) layout children node.now values
+        → length (values ++ slot_values slots.now) ≤ limits.slots
+        → 14 * length (values ++ slot_values slots.now) + 25 ≤ least
+        → IfSome result (λ most. TakeAtMost limits (least + most)
+        (shapes.field layout children bare) (λ j. values ++ slot_values slots.now)) }
+{
+    if !node.is_leaf() || !column_fits(field, slots) {
+        return None;
+    }
+    if !lie_alike(slots.layout(), node.column.layout) {
+        return None;
+    }
+    most_of_slots(node.column.layout, node.column.counts, slots)
+}
+
+/// Whether all rows of a batch surely fit these fields, and with them their columns of so many rows
+/// the limits. It takes one look at each column. Where the answer is no, the rows have to be looked
+/// at.
+pub(crate) fn columns_surely_fit(
+    fields: &[Field],
+    nodes: &[Node],
+    batch: &Batch,
+    rows: usize,
+    limits: &Limits,
+) -> bool
+    requires { rows + length batch.now.rows ≤ limits.now.slots }
+    ensures fit { IsTrue result → AllByRecursion (RowFits fields.now) batch.now.rows }
+    ensures within { (known : Numbering) (given : ℕ → List Value)
+        → AreColumns known limits.now (shape_of fields.now) nodes.now given
+        → ((j : ℕ) → length (given j) ≡ rows)
+        → IsTrue result
+        → AreWithin limits.now (shape_of fields.now) (λ j. given j ++ cells j batch.now.rows) }
+{
+    if batch.columns() != nodes.len() || fields.len() != nodes.len() {
+        return false;
+    }
+    let least = 14 * (rows + batch.rows()) as u64 + 25;
+    let Some(least_of_all) = (nodes.len() as u64).checked_mul(least) else {
+        return false;
+    };
+    if least_of_all > limits.body {
+        return false;
+    }
+    let mut left = limits.body - least_of_all;
+    for i in 0..nodes.len() {
+        let Some(most) = most_with_slots(&fields[i], &batch.slots(i), &nodes[i]) else {
+            return false;
+        };
+        if most > left {
+            return false;
+        }
+        left -= most;
+    }
+    true
+}
