@@ -38,15 +38,14 @@ fn left_in(source: Limited<InTwo<Memory>>) -> usize {
     source.into_inner().into_inner().unread().len()
 }
 
-// What is read behind the schema.
-fn read_on(
+// What is read behind the schema, as if the source had nothing left then.
+fn read_behind<R: Source>(
     alloc: Global,
-    reader: StreamReader<Limited<InTwo<Memory>>>,
+    reader: &mut StreamReader<R>,
 ) -> Result<Answer, AllocError> {
-    let mut reader = reader;
     let schema = reader.schema().clone()?;
     let mut batches = Vec::new(alloc);
-    let result = read_batches(alloc, &mut reader, &mut batches);
+    let result = read_batches(alloc, reader, &mut batches);
     let batches = Items::from_vec(batches);
     let messages = reader.messages();
     Ok(Answer {
@@ -54,8 +53,19 @@ fn read_on(
         end: reader.end(),
         refusal: result.err().map(|fault| (fault, messages)),
         taken: Some(reader.taken()),
-        left: left_in(reader.into_inner()),
+        left: 0,
     })
+}
+
+// The same, with what the source has left.
+fn read_on(
+    alloc: Global,
+    reader: StreamReader<Limited<InTwo<Memory>>>,
+) -> Result<Answer, AllocError> {
+    let mut reader = reader;
+    let mut answer = read_behind(alloc, &mut reader)?;
+    answer.left = left_in(reader.into_inner());
+    Ok(answer)
 }
 
 impl Answer {

@@ -184,20 +184,42 @@ fn round_trip(alloc: Global, table: &Table) -> RoundTrip {
     }
 }
 
+// How the rows of an answer come back: none where the stream is refused.
+fn round_trip_of(alloc: Global, answer: &Answer) -> Option<RoundTrip> {
+    match (&answer.table, answer.end) {
+        (Some(table), Some(_)) => Some(round_trip(alloc, table)),
+        _ => None,
+    }
+}
+
+// What else is read in a stream than an answer.
+#[derive(Drop)]
+struct Differences {
+    in_pieces: Option<(usize, Answer)>,
+    other: Option<Other>,
+}
+
+impl Differences {
+    fn of(alloc: Global, request: &Request, answer: &Answer) -> Result<Differences, AllocError> {
+        let in_pieces = in_pieces(alloc, request, answer)?;
+        let other = otherwise(alloc, request, answer)?;
+        Ok(Differences { in_pieces, other })
+    }
+}
+
 impl Report {
     /// What is said of the stream at the front of the bytes.
     pub fn of(alloc: Global, request: &Request) -> Result<Report, AllocError> {
         let answer = Answer::pulled(alloc, request, Cut::Each(usize::MAX))?;
-        let round_trip = match (&answer.table, answer.end) {
-            (Some(table), Some(_)) => Some(round_trip(alloc, table)),
-            _ => None,
-        };
+        let same_table = is_same_table(alloc, request, &answer)?;
+        let differences = Differences::of(alloc, request, &answer)?;
+        let round_trip = round_trip_of(alloc, &answer);
         Ok(Report {
             length: request.stream.len(),
-            in_pieces: in_pieces(alloc, request, &answer)?,
-            other: otherwise(alloc, request, &answer)?,
-            same_table: is_same_table(alloc, request, &answer)?,
             answer,
+            in_pieces: differences.in_pieces,
+            other: differences.other,
+            same_table,
             round_trip,
         })
     }

@@ -80,15 +80,31 @@ impl Answer {
         cut: Cut,
         whole: &Answer,
     ) -> Result<Answer, AllocError> {
-        let mut decoder = Decoder::new(alloc, request.limits);
+        Answer::told_by(
+            alloc,
+            &mut Decoder::new(alloc, request.limits),
+            request,
+            cut,
+            whole,
+        )
+    }
+
+    // The same by a decoder that took nothing yet.
+    fn told_by(
+        alloc: Global,
+        decoder: &mut Decoder,
+        request: &Request,
+        cut: Cut,
+        whole: &Answer,
+    ) -> Result<Answer, AllocError> {
         let mut told = Told {
             batches: Vec::new(alloc),
             taken: 0,
         };
-        let pushed = told.push_all(alloc, &mut decoder, request.stream.as_slice(), cut);
+        let pushed = told.push_all(alloc, decoder, request.stream.as_slice(), cut);
         let messages = decoder.messages();
-        let ended = ending(pushed, &mut decoder);
-        let schema = schema_of(&decoder)?;
+        let ended = ending(pushed, decoder);
+        let schema = schema_of(decoder)?;
         let left = request.stream.len().saturating_sub(told.taken);
         let batches = Items::from_vec(told.batches);
         Ok(Answer {

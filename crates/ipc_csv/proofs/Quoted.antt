@@ -1,5 +1,7 @@
 -- Two texts as one field.
-use Rattle.std.proofs.Common.{◌≡◌, ◌==◌, ◌||◌, ℕ, List, [], ◌∷◌, ◌++◌, length, take, refl, ap, inl, inr}
+use Rattle.std.proofs.Common.{◌≡◌, ◌==◌, ◌||◌, ◌<◌, ◌+◌, ◌∙◌, ℕ, false, true, List, [], ◌∷◌, ◌++◌, length, take, drop, get_or, refl, sym, ap, inl, inr, arith}
+use Rattle.std.proofs.Common.{add-one, append_assoc, drop-cons}
+use Rattle.std.proofs.lemmas.Bool.Decides.{nat_tests}
 use Rattle.std.proofs.Math.Seq.{take-append_seam}
 use Rattle.std.proofs.lemmas.Bool.{cases_Bool}
 use Rattle.std.proofs.lemmas.List.Folds.{list_any-append}
@@ -23,3 +25,28 @@ quotes_both xs ys = list_any-append (needs_byte default_writer) xs ys
 -- what begins with a text is that text where it is cut to its length
 pub cut_back : (old new : List ℕ) → BeginsWith old new → take (length old) new ≡ old
 cut_back old new b = rw b.1 (take-append_seam old b.0)
+
+from_place : (xs : List ℕ) (i : ℕ) → i < length xs → drop i xs ≡ get_or xs i 0 ∷ drop (i + 1) xs
+from_place xs i h = rw (add-one, drop-cons xs i 0) refl
+
+-- a byte that is no quotation mark is put as it is
+pub byte_more : (o n xs whole : List ℕ) (i : ℕ) → i < length xs → (get_or xs i 0 ≡ 34 → ⊥) → n ≡ o ++ get_or xs i 0 ∷ []
+    → o ++ escaped default_writer (drop i xs) ≡ whole → n ++ escaped default_writer (drop (i + 1) xs) ≡ whole
+unfolding escaped
+byte_more o n xs whole i h other e k =
+    let no : (get_or xs i 0 == quote_mark) ≡ false = grind (arith, nat_tests) in
+    let whole_from = ap (escaped default_writer) (from_place xs i h) in
+    rw e (append_assoc o (get_or xs i 0 ∷ []) _ ∙ ap (λ zs. o ++ zs) (sym (rw no at whole_from)) ∙ k)
+
+-- a quotation mark is put behind another one
+pub mark_more : (o m n xs whole : List ℕ) (i : ℕ) → i < length xs → get_or xs i 0 ≡ 34 → m ≡ o ++ 34 ∷ [] → n ≡ m ++ get_or xs i 0 ∷ []
+    → o ++ escaped default_writer (drop i xs) ≡ whole → n ++ escaped default_writer (drop (i + 1) xs) ≡ whole
+unfolding escaped
+mark_more o m n xs whole i h quote d e k =
+    let yes : (get_or xs i 0 == quote_mark) ≡ true = grind (arith, nat_tests) in
+    let whole_from = ap (escaped default_writer) (from_place xs i h) in
+    rw (e, d) (append_assoc (o ++ 34 ∷ []) _ _ ∙ append_assoc o (34 ∷ []) _ ∙ ap (λ zs. o ++ zs) (sym (rw yes at whole_from)) ∙ k)
+
+-- what has one byte more begins with the same
+pub begins_more : (front o n : List ℕ) (b : ℕ) → n ≡ o ++ b ∷ [] → BeginsWith front o → BeginsWith front n
+begins_more front o n b e k = (k.0 ++ b ∷ [], rw (e, k.1) (append_assoc front k.0 (b ∷ [])))

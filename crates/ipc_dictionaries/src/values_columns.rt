@@ -2,7 +2,7 @@
 ghost use Rattle.std.specs.Prelude.{◌≡◌, ◌++◌, ◌∷◌, [], IfOk, OnOk};
 ghost use Rattle.ipc_model.specs.declared.schema.Field.{out-Field};
 ghost use Rattle.ipc_dictionaries.specs.ValuesColumns.{values_column, columns_of, columns_in};
-ghost use Rattle.ipc_dictionaries.specs.ValuesColumns.{AreOneColumn};
+ghost use Rattle.ipc_dictionaries.specs.ValuesColumns.{AreOneColumn, own_columns};
 
 use ipc_model::{Field, Items};
 use std::alloc::{AllocError, Global};
@@ -32,6 +32,22 @@ fn own_columns(alloc: Global, field: &Field) -> Result<Items<Field>, AllocError>
     Ok(Items::from_vec(columns))
 }
 
+// Puts the columns of a field's own dictionary, where it has one, behind those that were found.
+fn collect_own(
+    alloc: Global,
+    found: &mut Vec<(i64, Items<Field>)>,
+    field: &Field,
+) -> Result<(), AllocError>
+    ensures { OnOk result (found.new.items ≡ found.old.items
+        ++ own_columns (out-Field field.now) (out-Field field.now).dictionary) }
+{
+    if let Some(dictionary) = field.dictionary {
+        let columns = own_columns(alloc, field)?;
+        found.push((dictionary.id, columns))?;
+    }
+    Ok(())
+}
+
 // Puts the columns of a field and of all below it behind those that were found.
 #[cycle(collect_columns)]
 fn collect_one(
@@ -41,10 +57,7 @@ fn collect_one(
 ) -> Result<(), AllocError>
     ensures { OnOk result (found.new.items ≡ found.old.items ++ columns_of field.now) }
 {
-    if let Some(dictionary) = field.dictionary {
-        let columns = own_columns(alloc, field)?;
-        found.push((dictionary.id, columns))?;
-    }
+    collect_own(alloc, found, field)?;
     collect_columns(alloc, found, field.children.as_slice())
 }
 

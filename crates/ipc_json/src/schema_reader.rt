@@ -2,11 +2,11 @@
 ghost use Rattle.std.specs.Prelude.{◌≡◌, ◌≢◌, ◌⊎◌, ◌∷◌, [], ℕ, List, Bool, Option, Some, None};
 ghost use Rattle.std.specs.Prelude.{Ok, IfOk, OnOk};
 ghost use Rattle.std.specs.Prelude.{IfErr, IfSome, MatchResult, FitsSigned, IsSome, IsOk, length};
-ghost use Rattle.std.specs.Prelude.{map, ◌++◌, ◌+◌};
+ghost use Rattle.std.specs.Prelude.{map, ◌++◌, ◌+◌, codes};
 ghost use Rattle.std.specs.Int.{w64};
 ghost use Rattle.serde_json.specs.Data.{Items as JsonItems, string, boolean, number, unsigned};
 ghost use Rattle.serde_json.specs.Data.{array, Data, item};
-ghost use Rattle.serde_json.specs.Data.{no_items, Members, member, object};
+ghost use Rattle.serde_json.specs.Data.{no_items, no_members, Members, member, object};
 ghost use Rattle.serde_json.specs.View.{view, items_view, members_view};
 ghost use Rattle.ipc_model.specs.Ranges.{width as spec_width};
 ghost use Rattle.ipc_model.specs.WellFormed.{HasGoodType, WellFormed};
@@ -400,6 +400,44 @@ fn members_in(value: &Value) -> Result<Iter<'_, String, Value>, TextFault>
     }
 }
 
+// What stands behind a field's pairs: its name, whether it is nullable, and its type.
+#[derive(Drop)]
+struct LastMembers {
+    name: Text,
+    nullable: bool,
+    kind: DataType,
+}
+
+fn read_last_members(
+    alloc: Global,
+    members: &mut Iter<'_, String, Value>,
+) -> Result<LastMembers, TextFault>
+    ensures read { IfOk result (λ last. members_view members.old
+        ≡ member (codes "name") (string last.name)
+        (member (codes "nullable") (boolean last.nullable)
+        (member (codes "type") (type_json last.kind) no_members))) }
+    ensures all { (name : List ℕ) (nullable : Bool) (kind : DataType) → HasGoodType kind
+        → members_view members.old ≡ member (codes "name") (string name)
+        (member (codes "nullable") (boolean nullable)
+        (member (codes "type") (type_json kind) no_members))
+        → MatchResult result
+        (λ last. (last.name ≡ name) × (last.nullable ≡ nullable) × (last.kind ≡ kind))
+        (λ fault. fault ≡ TextFault.OutOfMemory) }
+    ensures refused { IfErr result IsUnread }
+{
+    let name = read_text(alloc, next_member(members, "name")?)?;
+    let nullable = truth_in(next_member(members, "nullable")?)?;
+    let kind = read_type(alloc, next_member(members, "type")?)?;
+    if members.next().is_some() {
+        return Err(TextFault::BadSchemaJson);
+    }
+    Ok(LastMembers {
+        name,
+        nullable,
+        kind,
+    })
+}
+
 // A field by itself, and how many children it has.
 #[derive(Drop)]
 struct OwnField {
@@ -423,16 +461,11 @@ fn read_own(alloc: Global, value: &Value) -> Result<OwnField, TextFault>
     };
     let dictionary = read_dictionary(next_member(&mut members, "dictionary")?)?;
     let metadata = read_pairs(alloc, next_member(&mut members, "metadata")?)?;
-    let name = read_text(alloc, next_member(&mut members, "name")?)?;
-    let nullable = truth_in(next_member(&mut members, "nullable")?)?;
-    let kind = read_type(alloc, next_member(&mut members, "type")?)?;
-    if members.next().is_some() {
-        return Err(TextFault::BadSchemaJson);
-    }
+    let last = read_last_members(alloc, &mut members)?;
     let field = Field {
-        name,
-        nullable,
-        kind,
+        name: last.name,
+        nullable: last.nullable,
+        kind: last.kind,
         dictionary,
         children: Items::new(alloc),
         metadata: Items::from_vec(metadata),

@@ -16,24 +16,3 @@ returns-in_err-next_member-3-clause-all c f g w e =
     let m2 = rest_of (sym c.in_ok-next_member-2.ensures.only ∙ m1) in
     let ok = c.in_err-next_member-3.ensures.all _ _ m2 in
     absurd cc
-
-pub returns-in_err-next_member-5-clause-all : goal.returns-in_err-next_member-5-clause-all
-returns-in_err-next_member-5-clause-all c f g w e =
-    let m0 = same_members (sym c.in_ok-members.ensures ∙ e) in
-    let m1 = rest_of (sym c.in_ok-next_member.ensures.only ∙ m0) in
-    let m2 = rest_of (sym c.in_ok-next_member-2.ensures.only ∙ m1) in
-    let m3 = rest_of (sym c.in_ok-next_member-3.ensures.only ∙ m2) in
-    let m4 = rest_of (sym c.in_ok-next_member-4.ensures.only ∙ m3) in
-    let ok = c.in_err-next_member-5.ensures.all _ _ m4 in
-    absurd cc
-
-pub returns-in_err-next_member-6-clause-all : goal.returns-in_err-next_member-6-clause-all
-returns-in_err-next_member-6-clause-all c f g w e =
-    let m0 = same_members (sym c.in_ok-members.ensures ∙ e) in
-    let m1 = rest_of (sym c.in_ok-next_member.ensures.only ∙ m0) in
-    let m2 = rest_of (sym c.in_ok-next_member-2.ensures.only ∙ m1) in
-    let m3 = rest_of (sym c.in_ok-next_member-3.ensures.only ∙ m2) in
-    let m4 = rest_of (sym c.in_ok-next_member-4.ensures.only ∙ m3) in
-    let m5 = rest_of (sym c.in_ok-next_member-5.ensures.only ∙ m4) in
-    let ok = c.in_err-next_member-6.ensures.all _ _ m5 in
-    absurd cc

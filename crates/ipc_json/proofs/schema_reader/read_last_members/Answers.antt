@@ -1,0 +1,16 @@
+use Rattle.std.proofs.Common.{◌∙◌, sym}
+use Rattle.ipc_json.proofs.JsonItems.{rest_of}
+use Rattle.ipc_json.proofs.schema_reader.read_last_members.Goals as goal
+
+pub returns-in_err-next_member-2-clause-all : goal.returns-in_err-next_member-2-clause-all
+returns-in_err-next_member-2-clause-all c n u k w e =
+    let m1 = rest_of (sym c.in_ok-next_member.ensures.only ∙ e) in
+    let ok = c.in_err-next_member-2.ensures.all _ _ m1 in
+    absurd cc
+
+pub returns-in_err-next_member-3-clause-all : goal.returns-in_err-next_member-3-clause-all
+returns-in_err-next_member-3-clause-all c n u k w e =
+    let m1 = rest_of (sym c.in_ok-next_member.ensures.only ∙ e) in
+    let m2 = rest_of (sym c.in_ok-next_member-2.ensures.only ∙ m1) in
+    let ok = c.in_err-next_member-3.ensures.all _ _ m2 in
+    absurd cc
