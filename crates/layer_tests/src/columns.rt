@@ -70,26 +70,41 @@ pub(crate) fn cell_of(batch: &Batch, row: usize) -> Option<Cell<'_>> {
     }
 }
 
+fn is_copied(batch: &Batch) -> Result<bool, AllocError> {
+    let copy = batch.clone()?;
+    Ok(copy.rows() == 2_147_483_647 && copy.body_len() == 0)
+}
+
 #[test]
 fn nulls(rt: HostRuntime) -> Result<(), Fail> {
     let found = batch(rt.alloc(), DataType::Null, (MOST, 5), &[], &[])?;
     assert!(rt; found.rows() == 2_147_483_647 && found.tests() == 0);
     assert!(rt; matches!(cell_of(&found, 2_147_483_646), Some(Cell::Null)));
-    let copy = found.clone()?;
-    assert!(rt; copy.rows() == 2_147_483_647 && copy.body_len() == 0);
+    assert!(rt; is_copied(&found)?);
     Ok(())
+}
+
+// A batch of three nulls, of fields that are lent.
+fn nulls_of(alloc: Global, fields: &[Field]) -> Result<Batch, Fault>
+    requires { length (entries fields.now) ≤ 1 }
+{
+    let head = head_of(alloc, (3, 3), &[])?;
+    let none = BTreeMap::new(alloc);
+    Batch::check_borrowed(
+        alloc,
+        &Limits::standard(),
+        fields,
+        head,
+        Vec::new(alloc),
+        &none,
+    )
 }
 
 // The fields stay with whoever lends them.
 #[test]
 fn fields_that_are_lent(rt: HostRuntime) -> Result<(), Fail> {
-    let alloc = rt.alloc();
-    let fields = fields(alloc, DataType::Null)?;
-    let head = head_of(alloc, (3, 3), &[])?;
-    let body = Vec::new(alloc);
-    let none = BTreeMap::new(alloc);
-    let limits = Limits::standard();
-    let found = Batch::check_borrowed(alloc, &limits, fields.as_slice(), head, body, &none)?;
+    let fields = fields(rt.alloc(), DataType::Null)?;
+    let found = nulls_of(rt.alloc(), fields.as_slice())?;
     assert!(rt; found.rows() == 3 && fields.len() == found.columns());
     Ok(())
 }

@@ -154,6 +154,19 @@ pub(crate) fn tally_of(alloc: Global, schema: &Schema) -> Result<Tally, WriteFau
 }
 
 // Counts rows, and finds each index right behind its row.
+fn count(
+    tally: &mut Tally,
+    indices: &mut Vec<Option<u64>>,
+    rows: &[Row],
+) -> Result<(), WriteFault> {
+    for row in rows {
+        tally.note(row.as_slice())?;
+        find(indices, tally, row.as_slice())?;
+    }
+    Ok(())
+}
+
+// A tally of rows, and their indices.
 fn counted(
     alloc: Global,
     schema: &Schema,
@@ -161,10 +174,7 @@ fn counted(
 ) -> Result<(Tally, Vec<Option<u64>>), WriteFault> {
     let mut tally = tally_of(alloc, schema)?;
     let mut indices = Vec::new(alloc);
-    for row in rows {
-        tally.note(row.as_slice())?;
-        find(&mut indices, &tally, row.as_slice())?;
-    }
+    count(&mut tally, &mut indices, rows)?;
     Ok((tally, indices))
 }
 
@@ -317,6 +327,14 @@ fn take_one(alloc: Global, tally: &mut Tally) -> Result<(), WriteFault> {
     tally.note(&row)
 }
 
+// Whether a row of two new texts is refused and leaves no index, and the first is taken alone.
+fn is_cut_off(alloc: Global, tally: &mut Tally, first: &Value) -> bool {
+    take_two(alloc, tally) == Err(WriteFault::DictionaryFull)
+        && tally.index_of(7, first).is_none()
+        && take_one(alloc, tally) == Ok(())
+        && tally.index_of(7, first) == Some(127)
+}
+
 // Behind 127 texts a row of two new ones is refused, and either of them is taken alone: the index
 // of the first is looked at before that and after it.
 #[test]
@@ -324,10 +342,7 @@ fn a_refused_row_is_cut_off(rt: HostRuntime) -> Result<(), Fail> {
     let first = numbered(rt.alloc(), 127)?;
     let mut tally = tally_of_two(rt.alloc())?;
     assert!(rt; take(rt.alloc(), &mut tally, 127) == Ok(127));
-    assert!(rt; take_two(rt.alloc(), &mut tally) == Err(WriteFault::DictionaryFull));
-    assert!(rt; tally.index_of(7, &first).is_none());
-    assert!(rt; take_one(rt.alloc(), &mut tally) == Ok(()));
-    assert!(rt; tally.index_of(7, &first) == Some(127));
+    assert!(rt; is_cut_off(rt.alloc(), &mut tally, &first));
     Ok(())
 }
 
@@ -454,15 +469,24 @@ fn read_before(alloc: Global, dictionaries: &mut Dictionaries) -> Result<Batch, 
     Ok(found)
 }
 
+// Tells the letters of a batch that was handed out before, and of one that is read now.
+fn tell_read_before(
+    alloc: Global,
+    told: &mut Vec<u8>,
+    dictionaries: &mut Dictionaries,
+) -> Result<(), Fault> {
+    let before = read_before(alloc, dictionaries)?;
+    let after = indexed(alloc, (1, 0), &[0], dictionaries.current())?;
+    tell_letters(told, &before)?;
+    Ok(tell_letters(told, &after)?)
+}
+
 // A batch that was handed out keeps its dictionary, and one that is read later takes the new one.
 #[test]
 fn grows_a_batch_read_before(rt: HostRuntime) -> Result<(), Fail> {
     let mut told = Vec::new(rt.alloc());
     let mut dictionaries = in_force(rt.alloc(), 1)?;
-    let before = read_before(rt.alloc(), &mut dictionaries)?;
-    let after = indexed(rt.alloc(), (1, 0), &[0], dictionaries.current())?;
-    tell_letters(&mut told, &before)?;
-    tell_letters(&mut told, &after)?;
+    tell_read_before(rt.alloc(), &mut told, &mut dictionaries)?;
     assert!(rt; told.as_slice() == b"bac".as_slice());
     Ok(())
 }

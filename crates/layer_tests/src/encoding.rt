@@ -117,14 +117,32 @@ fn are_parts(parts: &Parts, wanted: &Written) -> bool {
         && parts.body.as_slice() == wanted.body
 }
 
+fn are_written(
+    alloc: Global,
+    schema: &Schema,
+    rows: &[Row],
+    wanted: &Written,
+) -> Result<bool, WriteFault> {
+    match column(alloc, schema, rows)? {
+        Some(parts) => Ok(are_parts(&parts, wanted)),
+        None => Ok(false),
+    }
+}
+
 fn is_written(alloc: Global, wanted: &Written) -> Result<bool, WriteFault> {
     let schema = schema_of(alloc, wanted.kind)?;
     let rows = rows_of(alloc, wanted.cells)?;
-    match column(alloc, &schema, &rows) {
-        Ok(Some(parts)) => Ok(are_parts(&parts, wanted)),
-        Ok(None) => Ok(false),
-        Err(fault) => Err(fault),
+    are_written(alloc, &schema, &rows, wanted)
+}
+
+// The number of the first column that is written otherwise.
+fn first_unlike(alloc: Global, columns: &[Written]) -> Result<Option<usize>, WriteFault> {
+    for (number, column) in columns.iter().enumerate() {
+        if !is_written(alloc, column)? {
+            return Ok(Some(number));
+        }
     }
+    Ok(None)
 }
 
 const COLUMNS: [Written; 14] = [
@@ -261,9 +279,8 @@ const COLUMNS: [Written; 14] = [
 
 #[test]
 fn columns_byte_for_byte(rt: HostRuntime) -> Result<(), Fail> {
-    for (number, column) in COLUMNS.iter().enumerate() {
-        assert!(rt; is_written(rt.alloc(), column)?, "column {number}");
-    }
+    let unlike = first_unlike(rt.alloc(), &COLUMNS)?;
+    assert!(rt; unlike == None, "column {unlike:?}");
     assert!(rt; NoIndices.index_of(1, &Value::Null).is_none());
     Ok(())
 }

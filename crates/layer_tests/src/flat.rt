@@ -1,6 +1,6 @@
 //! FlatBuffers in place.
 
-use ipc_flat::{Flat, FlatFault, TableRef};
+use ipc_flat::{Flat, FlatFault, StructVec, TableRef, TableVec};
 use std::test::Fail;
 
 // The metadata of a stream's schema message, as the FlatBuffers library writes it for a schema
@@ -34,15 +34,18 @@ fn has_text(table: &TableRef<'_>, slot: u16, wanted: &str) -> bool {
     matches!(table.text(slot), Ok(Some(text)) if text == wanted)
 }
 
+// A schema without endianness and fields.
+fn is_empty_schema(table: &TableRef<'_>) -> bool {
+    matches!(table.scalar_i16(0, 0), Ok(0)) && matches!(table.tables(1), Ok(None))
+}
+
 #[test]
 fn schema_message(rt: HostRuntime) -> Result<(), Fail> {
     let message = root_of(&SCHEMA_MESSAGE)?;
     assert!(rt; matches!(message.scalar_i16(0, 0), Ok(4)));
     assert!(rt; matches!(message.scalar_u8(1, 0), Ok(1)));
     assert!(rt; matches!(message.scalar_i64(3, -7), Ok(-7)));
-    let schema = message.table(2).ok().flatten().ok_or("a schema")?;
-    assert!(rt; matches!(schema.scalar_i16(0, 0), Ok(0)));
-    assert!(rt; matches!(schema.tables(1), Ok(None)));
+    assert!(rt; matches!(message.table(2), Ok(Some(schema)) if is_empty_schema(&schema)));
     Ok(())
 }
 
@@ -55,25 +58,30 @@ fn vtable_behind_its_table(rt: HostRuntime) -> Result<(), Fail> {
     Ok(())
 }
 
+// One table, whose text is behind the last byte.
+fn is_one_without_text(tables: &TableVec<'_>) -> bool {
+    tables.len() == 1
+        && matches!(tables.at(0), Ok(inner) if inner.text(0).err() == Some(FlatFault::OutOfBounds))
+}
+
 // The inner table shares the vtable, by which its text is behind the last byte.
 #[test]
 fn tables_in_place(rt: HostRuntime) -> Result<(), Fail> {
     let root = root_of(&REFERENCES)?;
     assert!(rt; has_text(&root, 0, "é"));
-    let tables = root.tables(1).ok().flatten().ok_or("tables")?;
-    if tables.len() != 1 {
-        return Err(Fail::from("one table"));
-    }
-    let inner = tables.at(0).ok().ok_or("an inner table")?;
-    assert!(rt; inner.text(0).err() == Some(FlatFault::OutOfBounds));
+    assert!(rt; matches!(root.tables(1), Ok(Some(tables)) if is_one_without_text(&tables)));
     Ok(())
+}
+
+// Two structs, of which the second has the bytes 3 and 4.
+fn are_two(structs: &StructVec<'_>) -> bool {
+    structs.len() == 2 && matches!(structs.at(1), [3, 4])
 }
 
 #[test]
 fn structs_in_place(rt: HostRuntime) -> Result<(), Fail> {
     let root = root_of(&REFERENCES)?;
-    let structs = root.structs(2, 2).ok().flatten().ok_or("structs")?;
-    assert!(rt; structs.len() == 2 && matches!(structs.at(1), [3, 4]));
+    assert!(rt; matches!(root.structs(2, 2), Ok(Some(structs)) if are_two(&structs)));
     assert!(rt; matches!(root.structs(2, usize::MAX), Err(FlatFault::OutOfBounds)));
     Ok(())
 }

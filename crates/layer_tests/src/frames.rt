@@ -21,12 +21,18 @@ const STREAM: [u8; 288] = [
     0, 0,
 ];
 
+// Feeds a piece, and says how many bytes were taken, and whether a frame was given.
+fn feed(frames: &mut Frames, piece: &[u8]) -> Result<(usize, bool), Fault> {
+    let (taken, frame) = frames.feed(piece)?;
+    Ok((taken, frame.is_some()))
+}
+
 // Behind how many bytes each frame is given.
 fn ends(alloc: Global, frames: &mut Frames) -> Result<Vec<usize>, Fault> {
     let mut ends = Vec::new(alloc);
     for (at, byte) in STREAM.iter().enumerate() {
-        let (taken, frame) = frames.feed(&[*byte])?;
-        if frame.is_some() {
+        let (taken, is_given) = feed(frames, &[*byte])?;
+        if is_given {
             ends.push(at.saturating_add(taken))?;
         }
     }
@@ -82,9 +88,9 @@ fn ended_inside_a_message(rt: HostRuntime) -> Result<(), Fail> {
 fn push(frames: &mut Frames, piece: &[u8]) -> Result<(), Fault> {
     let mut rest = piece;
     for _ in 0..=piece.len() {
-        let (taken, frame) = frames.feed(rest)?;
+        let (taken, is_given) = feed(frames, rest)?;
         rest = rest.get(taken..).unwrap_or_default();
-        if frame.is_none() {
+        if !is_given {
             break;
         }
     }

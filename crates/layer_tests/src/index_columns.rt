@@ -18,34 +18,66 @@ fn pushed(
     kept: &mut Kept,
     letters: &[u8],
 ) -> Result<Parts, WriteFault> {
-    let (tally, builder) = counted(alloc, schema, letters)?;
+    let rows = rows_of(alloc, letters, 1)?;
+    let (tally, builder) = counted(alloc, schema, &rows)?;
+    pushed_under(alloc, tally, builder, kept)
+}
+
+// The parts of the rows that were counted and held.
+fn pushed_under(
+    alloc: Global,
+    tally: Tally,
+    builder: Builder,
+    kept: &mut Kept,
+) -> Result<Parts, WriteFault> {
     let plan = tally.settle(alloc, kept)?;
     let parts = builder.finish(&plan)?;
     plan.commit(kept);
     Ok(parts)
 }
 
-// The same rows, counted and held.
-fn counted(alloc: Global, schema: &Schema, letters: &[u8]) -> Result<(Tally, Builder), WriteFault> {
+// Counts rows and holds them.
+fn count(tally: &mut Tally, builder: &mut Builder, rows: &[Row]) -> Result<(), WriteFault> {
+    for row in rows {
+        tally.note(row.as_slice())?;
+        builder.push(row.as_slice(), tally)?;
+    }
+    Ok(())
+}
+
+// Rows, counted and held.
+fn counted(alloc: Global, schema: &Schema, rows: &[Row]) -> Result<(Tally, Builder), WriteFault> {
     let mut tally = tally_of(alloc, schema)?;
     let mut builder = Builder::new(alloc, schema.fields.as_slice(), &Limits::standard())?;
-    for row in &rows_of(alloc, letters, 1)? {
-        tally.note(row.as_slice())?;
-        builder.push(row.as_slice(), &tally)?;
-    }
+    count(&mut tally, &mut builder, rows)?;
     Ok((tally, builder))
 }
 
-// The bodies of batches that are written one after another.
-fn bodies(alloc: Global, batches: &[&[u8]]) -> Result<Vec<Vec<u8>>, WriteFault> {
+// The body of the next batch, which has these letters.
+fn body_of(
+    alloc: Global,
+    schema: &Schema,
+    kept: &mut Kept,
+    letters: &[u8],
+) -> Result<Vec<u8>, WriteFault> {
+    Ok(pushed(alloc, schema, kept, letters)?.body)
+}
+
+// Whether the batches of a writer, which has sent none yet, have these bodies.
+fn have_bodies(alloc: Global, schema: &Schema, kept: &mut Kept) -> Result<bool, WriteFault> {
+    for (letters, wanted) in BATCHES.iter().zip(BODIES.iter()) {
+        if body_of(alloc, schema, kept, letters)?.as_slice() != *wanted {
+            return Ok(false);
+        }
+    }
+    Ok(true)
+}
+
+// The same of a new writer.
+fn have_their_bodies(alloc: Global) -> Result<bool, WriteFault> {
     let schema = schema_of(alloc, 1)?;
     let mut kept = Kept::new(alloc, &schema)?;
-    let mut bodies = Vec::new(alloc);
-    for letters in batches {
-        let parts = pushed(alloc, &schema, &mut kept, letters)?;
-        bodies.push(parts.body)?;
-    }
-    Ok(bodies)
+    have_bodies(alloc, &schema, &mut kept)
 }
 
 // The third batch sends {c, b}, the fifth nothing, and the sixth {b, c, d}.
@@ -63,11 +95,7 @@ const BODIES: [&[u8]; 6] = [
 
 #[test]
 fn grows_columns_of_indices(rt: HostRuntime) -> Result<(), Fail> {
-    let bodies = bodies(rt.alloc(), &BATCHES)?;
-    assert!(rt; bodies.len() == BODIES.len());
-    for (body, wanted) in bodies.iter().zip(BODIES.iter()) {
-        assert!(rt; body.as_slice() == *wanted);
-    }
+    assert!(rt; have_their_bodies(rt.alloc())?);
     Ok(())
 }
 

@@ -74,16 +74,30 @@ fn fault_of_a_length(alloc: Global) -> Result<Option<RowFault>, Fault> {
     fault_of(alloc, &schema, &[Value::List(one(alloc)?)])
 }
 
+// Whether the fault is printed as that of a number in the place of a struct's text.
+fn is_below(alloc: Global, fault: &RowFault) -> Result<bool, AllocError> {
+    Ok(prints(alloc, fault, "W3 WrongKind path 0.0")? && prints(alloc, &fault.path, "0.0")?)
+}
+
 #[test]
 fn faults_of_rows(rt: HostRuntime) -> Result<(), Fail> {
-    let alloc = rt.alloc();
-    let fault = fault_below(alloc)?.ok_or("a refusal")?;
-    assert!(rt; prints(alloc, &fault, "W3 WrongKind path 0.0")?);
-    assert!(rt; prints(alloc, &fault.path, "0.0")?);
-    assert!(rt; prints(alloc, &fault.at_row(7), "W3 WrongKind at row 7 path 0.0")?);
-    assert!(rt; prints(alloc, &RowCause::NullNotAllowed, "W5 NullNotAllowed")?);
-    let fault = fault_of_a_length(alloc)?.ok_or("a refusal")?;
-    assert!(rt; prints(alloc, &fault, "W4 OutOfRange path 0")?);
+    let fault = fault_below(rt.alloc())?.ok_or("a refusal")?;
+    assert!(rt; is_below(rt.alloc(), &fault)?);
+    assert!(rt;
+        prints(
+            rt.alloc(),
+            &fault.at_row(7),
+            "W3 WrongKind at row 7 path 0.0"
+        )?
+    );
+    Ok(())
+}
+
+#[test]
+fn faults_of_values(rt: HostRuntime) -> Result<(), Fail> {
+    assert!(rt; prints(rt.alloc(), &RowCause::NullNotAllowed, "W5 NullNotAllowed")?);
+    let fault = fault_of_a_length(rt.alloc())?.ok_or("a refusal")?;
+    assert!(rt; prints(rt.alloc(), &fault, "W4 OutOfRange path 0")?);
     Ok(())
 }
 

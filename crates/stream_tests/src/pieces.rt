@@ -110,13 +110,17 @@ fn decided(decoder: &Decoder) -> Decision {
     (decoder.wants(), decoder.held(), decoder.messages())
 }
 
+// Whether a decoder decides so behind so many bytes, and has a schema behind the first message.
+fn decides(decoder: &mut Decoder, count: usize, wanted: Decision) -> bool {
+    feed_first(decoder, count) == Ok(())
+        && decided(decoder) == wanted
+        && decoder.schema().is_some() == (count >= 120)
+}
+
 #[test]
 fn bytes_before_the_next_decision(rt: HostRuntime) -> Result<(), Fail> {
     for (count, wanted) in DECISIONS {
-        let mut decoder = fresh(rt.alloc());
-        assert!(rt; feed_first(&mut decoder, count) == Ok(()));
-        assert!(rt; decided(&decoder) == wanted);
-        assert!(rt; decoder.schema().is_some() == (count >= 120));
+        assert!(rt; decides(&mut fresh(rt.alloc()), count, wanted));
     }
     Ok(())
 }
@@ -174,9 +178,7 @@ fn long_body(alloc: Global) -> Result<Vec<u8>, Fault> {
 #[test]
 fn holds_no_more_than_came(rt: HostRuntime) -> Result<(), Fail> {
     let bytes = long_body(rt.alloc())?;
-    let mut decoder = fresh(rt.alloc());
-    assert!(rt; feed_all(&mut decoder, &bytes) == Ok(()));
-    assert!(rt; decided(&decoder) == ((1 << 40) - 5, 141, 1));
+    assert!(rt; decided_behind(&mut fresh(rt.alloc()), &bytes) == Ok(((1 << 40) - 5, 141, 1)));
     Ok(())
 }
 
@@ -191,6 +193,12 @@ fn feed_all(decoder: &mut Decoder, piece: &[u8]) -> Result<(), Fault> {
         }
     }
     Ok(())
+}
+
+// What is decided behind a piece.
+fn decided_behind(decoder: &mut Decoder, piece: &[u8]) -> Result<Decision, Fault> {
+    feed_all(decoder, piece)?;
+    Ok(decided(decoder))
 }
 
 // Whether a piece that is pushed tells nothing and isn't taken.
@@ -219,29 +227,44 @@ fn takes_none(
     Ok(are_wanted && source.unread().len() == STREAM.len() && decoder.wants() == 0)
 }
 
-// A second schema.
+// Whether a decoder that refused a message takes nothing, and doesn't close.
+fn is_refused(alloc: Global, decoder: &mut Decoder) -> bool {
+    takes_none(alloc, decoder, Err(Fault::Failed)) == Ok(true)
+        && decoder.close() == Err(Fault::Failed)
+}
+
+// Whether a second schema is refused, and nothing is taken behind it, however often it is tried.
+fn refuses_a_second_schema(alloc: Global, decoder: &mut Decoder) -> bool {
+    feed_first(decoder, 120) == Ok(())
+        && feed_all(decoder, &STREAM) == Err(Fault::SecondSchema)
+        && is_refused(alloc, decoder)
+        && is_refused(alloc, decoder)
+        && decoder.messages() == 1
+        && decoder.schema().is_some()
+}
+
 #[test]
 fn takes_nothing_after_a_refusal(rt: HostRuntime) -> Result<(), Fail> {
-    let mut decoder = fresh(rt.alloc());
-    assert!(rt; feed_first(&mut decoder, 120) == Ok(()));
-    assert!(rt; feed_all(&mut decoder, &STREAM) == Err(Fault::SecondSchema));
-    for _ in 0..2 {
-        assert!(rt; takes_none(rt.alloc(), &mut decoder, Err(Fault::Failed)) == Ok(true));
-        assert!(rt; decoder.close() == Err(Fault::Failed));
-    }
-    assert!(rt; decoder.messages() == 1 && decoder.schema().is_some());
+    assert!(rt; refuses_a_second_schema(rt.alloc(), &mut fresh(rt.alloc())));
     Ok(())
+}
+
+// Whether a decoder closes so, and takes nothing then.
+fn is_ended(alloc: Global, decoder: &mut Decoder, end: End) -> bool {
+    decoder.close() == Ok(end) && takes_none(alloc, decoder, Ok(true)) == Ok(true)
+}
+
+// The same behind so many bytes, however often it is tried.
+fn ends_behind(alloc: Global, decoder: &mut Decoder, count: usize, end: End) -> bool {
+    feed_first(decoder, count) == Ok(())
+        && is_ended(alloc, decoder, end)
+        && is_ended(alloc, decoder, end)
 }
 
 #[test]
 fn takes_nothing_after_the_end(rt: HostRuntime) -> Result<(), Fail> {
     for (count, end) in [(120, End::Closed), (288, End::Mark)] {
-        let mut decoder = fresh(rt.alloc());
-        assert!(rt; feed_first(&mut decoder, count) == Ok(()));
-        for _ in 0..2 {
-            assert!(rt; decoder.close() == Ok(end));
-            assert!(rt; takes_none(rt.alloc(), &mut decoder, Ok(true)) == Ok(true));
-        }
+        assert!(rt; ends_behind(rt.alloc(), &mut fresh(rt.alloc()), count, end));
     }
     Ok(())
 }
@@ -261,14 +284,20 @@ fn feed_in_threes(decoder: &mut Decoder) -> Result<(), Fault> {
     Ok(())
 }
 
+// What comes of the stream, and whether the decoder is as it has to be then.
+fn fed_in_threes(decoder: &mut Decoder) -> (Result<(), Fault>, bool) {
+    match feed_in_threes(decoder) {
+        Ok(()) => (
+            Ok(()),
+            decoder.messages() == 2 && decoder.close() == Ok(End::Mark),
+        ),
+        Err(fault) => (Err(fault), is_out_of_memory(decoder, fault)),
+    }
+}
+
 #[test]
 fn grows_a_pushed_stream(rt: HostRuntime) -> Result<(), Fail> {
-    let mut decoder = fresh(rt.alloc());
-    let fed = feed_in_threes(&mut decoder);
-    if let Err(fault) = fed {
-        assert!(rt; is_out_of_memory(&mut decoder, fault));
-    } else {
-        assert!(rt; decoder.messages() == 2 && decoder.close() == Ok(End::Mark));
-    }
+    let (fed, is_well) = fed_in_threes(&mut fresh(rt.alloc()));
+    assert!(rt; is_well);
     Ok(fed?)
 }

@@ -2,7 +2,7 @@
 //! costs where no text is made.
 use crate::tree::{Tree, add_column, add_slot, tree_of};
 use ipc_model::{Fault, Limits};
-use ipc_stream::{Batch, Cell, ColumnView, Device, StreamReader};
+use ipc_stream::{Batch, Cell, ColumnView, Device, Source, StreamReader};
 use std::alloc::{AllocError, Global};
 use std::io::Read;
 
@@ -10,7 +10,7 @@ use std::io::Read;
 const LEVELS: u32 = 64;
 
 /// In which order cells are read.
-#[derive(Clone, Copy, Debug, PartialEq, Eq)]
+#[derive(Clone, Copy)]
 pub enum Order {
     /// One column after another, by its slots.
     Columns,
@@ -19,7 +19,7 @@ pub enum Order {
 }
 
 /// What was read.
-#[derive(Clone, Copy, Debug, PartialEq, Eq)]
+#[derive(Clone, Copy)]
 pub struct Cells {
     /// How many rows, each as often as it was read.
     pub rows: u64,
@@ -102,17 +102,28 @@ fn read_batch(
     Ok(Cells { rows, sum })
 }
 
-// Reads a stream to its end, and keeps its batches.
-fn batches_of<R: Read + Drop>(alloc: Global, input: R) -> Result<Vec<Batch>, Fault> {
-    let mut reader = StreamReader::open(alloc, Limits::standard(), Device::new(input))?;
-    let mut batches = Vec::new(alloc);
+// Puts the batches of a reader, to its end, behind those that are kept.
+fn keep_batches<R: Source>(
+    reader: &mut StreamReader<R>,
+    batches: &mut Vec<Batch>,
+) -> Result<(), Fault> {
     for _ in 0..u64::MAX {
         match reader.next()? {
             Some((batch, _)) => batches.push(batch)?,
             None => break,
         }
     }
-    Ok(batches)
+    Ok(())
+}
+
+// Reads a stream to its end, and keeps its batches.
+fn keep_all<R: Read + Drop>(
+    alloc: Global,
+    input: R,
+    batches: &mut Vec<Batch>,
+) -> Result<(), Fault> {
+    let mut reader = StreamReader::open(alloc, Limits::standard(), Device::new(input))?;
+    keep_batches(&mut reader, batches)
 }
 
 /// Reads a stream to its end, and then the cells of each of its batches so many times.
@@ -122,7 +133,8 @@ pub fn read_cells<R: Read + Drop>(
     order: Order,
     times: u32,
 ) -> Result<Cells, Fault> {
-    let batches = batches_of(alloc, input)?;
+    let mut batches = Vec::new(alloc);
+    keep_all(alloc, input, &mut batches)?;
     let mut cells = Cells { rows: 0, sum: 0 };
     for batch in &batches {
         cells = read_batch(alloc, batch, order, times, cells)?;

@@ -4,7 +4,7 @@ use crate::rows::Data;
 use std::env::Args;
 
 /// What is to be done.
-#[derive(Clone, Copy, Debug, PartialEq, Eq)]
+#[derive(Clone, Copy)]
 pub enum Job {
     /// Writes a stream of rows that are pushed one by one.
     PushRows {

@@ -43,6 +43,21 @@ fn read_schema<S: Source>(frames: &mut Frames, source: &mut S) -> Result<Schema,
     }
 }
 
+// The messages that are left, behind those that were read.
+fn read_rest<S: Source>(
+    frames: &mut Frames,
+    source: &mut S,
+    messages: &mut Vec<(Head, Vec<u8>)>,
+) -> Result<(), Fault> {
+    for _ in 0..u64::MAX {
+        match next_message(frames, source)? {
+            Some(message) => messages.push(message)?,
+            None => break,
+        }
+    }
+    Ok(())
+}
+
 /// Reads a stream to its end: the schema, and of each message behind it what its metadata says and
 /// its body.
 pub fn read_messages<R: Read + Drop>(
@@ -53,11 +68,6 @@ pub fn read_messages<R: Read + Drop>(
     let mut frames = Frames::new(alloc, Limits::standard());
     let schema = read_schema(&mut frames, &mut source)?;
     let mut messages = Vec::new(alloc);
-    for _ in 0..u64::MAX {
-        match next_message(&mut frames, &mut source)? {
-            Some(message) => messages.push(message)?,
-            None => break,
-        }
-    }
+    read_rest(&mut frames, &mut source, &mut messages)?;
     Ok((schema, messages))
 }

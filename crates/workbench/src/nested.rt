@@ -18,9 +18,10 @@ fn list_field(alloc: Global) -> Result<Field, AllocError> {
 }
 
 fn struct_field(alloc: Global) -> Result<Field, AllocError> {
-    let a = Field::new(alloc, "a", signed(IntBits::B32))?;
-    let b = Field::new(alloc, "b", DataType::Utf8)?;
-    Ok(Field::new(alloc, "pair", DataType::Struct)?.with_children(vec![in alloc; a, b]?))
+    let mut children = Vec::new(alloc);
+    children.push(Field::new(alloc, "a", signed(IntBits::B32))?)?;
+    children.push(Field::new(alloc, "b", DataType::Utf8)?)?;
+    Ok(Field::new(alloc, "pair", DataType::Struct)?.with_children(children))
 }
 
 /// A list of numbers, and a struct of a number and a text.

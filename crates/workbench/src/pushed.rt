@@ -1,7 +1,7 @@
 //! Rows that are pushed one by one, by which a batch that takes rows is measured.
 use crate::rows::Data;
-use ipc_model::{Items, Limits, Row, WriteFault};
-use ipc_stream::{Device, Sink, StreamWriter};
+use ipc_model::{Items, Limits, Row, Schema, WriteFault};
+use ipc_stream::{BatchWriter, Device, Sink, StreamWriter};
 use std::alloc::{AllocError, Global};
 use std::io::Write;
 
@@ -16,6 +16,20 @@ fn rows(alloc: Global, data: Data) -> Result<Vec<Row>, AllocError> {
     Ok(rows)
 }
 
+// Pushes so many of the rows in turn.
+fn push_each<W: Sink>(
+    batch: &mut BatchWriter<'_, W>,
+    rows: &[Row],
+    count: u32,
+) -> Result<(), WriteFault> {
+    for number in 0..count {
+        if let Some(row) = rows.get(number as usize % usize::from(MADE)) {
+            batch.push(row.as_slice())?;
+        }
+    }
+    Ok(())
+}
+
 // Pushes so many of the rows in turn and sends them.
 fn push_batch<W: Sink>(
     alloc: Global,
@@ -24,12 +38,37 @@ fn push_batch<W: Sink>(
     count: u32,
 ) -> Result<(), WriteFault> {
     let mut batch = stream.batch(Items::new(alloc))?;
-    for number in 0..count {
-        if let Some(row) = rows.get(number as usize % usize::from(MADE)) {
-            batch.push(row.as_slice())?;
-        }
-    }
+    push_each(&mut batch, rows, count)?;
     batch.send()
+}
+
+// Sends so many batches of so many rows.
+fn push_batches<W: Sink>(
+    alloc: Global,
+    stream: &mut StreamWriter<W>,
+    rows: &[Row],
+    batches: u32,
+    count: u32,
+) -> Result<(), WriteFault> {
+    for _ in 0..batches {
+        push_batch(alloc, stream, rows, count)?;
+    }
+    Ok(())
+}
+
+// Writes a stream of so many batches of so many rows.
+fn write_rows<W: Write + Drop>(
+    alloc: Global,
+    writer: W,
+    schema: &Schema,
+    rows: &[Row],
+    batches: u32,
+    count: u32,
+) -> Result<(), WriteFault> {
+    let mut stream = StreamWriter::start(alloc, Limits::standard(), Device::new(writer), schema)?;
+    push_batches(alloc, &mut stream, rows, batches, count)?;
+    let _device = stream.finish()?;
+    Ok(())
 }
 
 /// Writes so many batches of so many rows, each of them pushed.
@@ -42,10 +81,5 @@ pub fn push_rows<W: Write + Drop>(
 ) -> Result<(), WriteFault> {
     let rows = rows(alloc, data)?;
     let schema = data.schema(alloc)?;
-    let mut stream = StreamWriter::start(alloc, Limits::standard(), Device::new(writer), &schema)?;
-    for _ in 0..batches {
-        push_batch(alloc, &mut stream, &rows, count)?;
-    }
-    let _device = stream.finish()?;
-    Ok(())
+    write_rows(alloc, writer, &schema, &rows, batches, count)
 }

@@ -5,7 +5,7 @@ use std::alloc::Global;
 use std::io::Read;
 
 /// What came of a stream.
-#[derive(Clone, Copy, Debug, PartialEq, Eq)]
+#[derive(Clone, Copy)]
 pub struct Counts {
     /// How many batches.
     pub batches: u64,
@@ -31,6 +31,37 @@ fn push(decoder: &mut Decoder, piece: &[u8], counts: &mut Counts) -> Result<(), 
     Ok(())
 }
 
+// Reads pieces to the end of the input, each into the same room, and pushes them.
+fn push_all<R: Read>(
+    input: &mut R,
+    decoder: &mut Decoder,
+    room: &mut [u8],
+    counts: &mut Counts,
+) -> Result<(), Fault> {
+    for _ in 0..u64::MAX {
+        match input.read(room) {
+            Ok(0) => break,
+            Ok(count) => push(decoder, room.get(..count).unwrap_or(&[]), counts)?,
+            Err(_) => return Err(Fault::Read),
+        }
+    }
+    Ok(())
+}
+
+// The same, and says what came and how the stream ended.
+fn push_to_end<R: Read>(
+    input: &mut R,
+    decoder: &mut Decoder,
+    room: &mut [u8],
+) -> Result<(Counts, End), Fault> {
+    let mut counts = Counts {
+        batches: 0,
+        rows: 0,
+    };
+    push_all(input, decoder, room, &mut counts)?;
+    Ok((counts, decoder.close()?))
+}
+
 /// Reads standard input in pieces of so many bytes and pushes each, and says what came and how the
 /// stream ended. A failed read is `Read`.
 pub fn push_stream<R: Read + Drop>(
@@ -39,18 +70,10 @@ pub fn push_stream<R: Read + Drop>(
     size: usize,
 ) -> Result<(Counts, End), Fault> {
     let mut input = input;
-    let mut decoder = Decoder::new(alloc, Limits::standard());
-    let mut piece = vec![in alloc; 0u8; size]?;
-    let mut counts = Counts {
-        batches: 0,
-        rows: 0,
-    };
-    for _ in 0..u64::MAX {
-        match input.read(&mut piece) {
-            Ok(0) => break,
-            Ok(count) => push(&mut decoder, piece.get(..count).unwrap_or(&[]), &mut counts)?,
-            Err(_) => return Err(Fault::Read),
-        }
-    }
-    Ok((counts, decoder.close()?))
+    let mut room = vec![in alloc; 0u8; size]?;
+    push_to_end(
+        &mut input,
+        &mut Decoder::new(alloc, Limits::standard()),
+        &mut room,
+    )
 }

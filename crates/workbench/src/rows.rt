@@ -6,7 +6,7 @@ use ipc_model::{DataType, Field, IntBits, Row, Schema, Text, TimeUnit, Value};
 use std::alloc::{AllocError, Global};
 
 /// What the rows hold.
-#[derive(Clone, Copy, Debug, PartialEq, Eq)]
+#[derive(Clone, Copy)]
 pub enum Data {
     /// Four required columns of signed 64-bit integers.
     Numbers,
@@ -73,18 +73,22 @@ fn row_of_numbers(alloc: Global, number: u16) -> Result<Row, AllocError> {
     Ok(Row::from(values))
 }
 
-fn mixed_schema(alloc: Global) -> Result<Schema, AllocError> {
-    let at = DataType::Timestamp {
+// A point in time of one zone.
+fn zoned(alloc: Global) -> Result<DataType, AllocError> {
+    Ok(DataType::Timestamp {
         unit: TimeUnit::Microsecond,
         timezone: Some(Text::copied(alloc, "UTC")?),
-    };
-    Ok(Schema::new(vec![in alloc;
-        Field::new(alloc, "id", signed(IntBits::B64))?,
-        Field::new(alloc, "count", signed(IntBits::B32))?.nullable(),
-        Field::new(alloc, "name", DataType::Utf8)?.nullable(),
-        Field::new(alloc, "flag", DataType::Bool)?.nullable(),
-        Field::new(alloc, "at", at)?.nullable(),
-    ]?))
+    })
+}
+
+fn mixed_schema(alloc: Global) -> Result<Schema, AllocError> {
+    let mut fields = Vec::new(alloc);
+    fields.push(Field::new(alloc, "id", signed(IntBits::B64))?)?;
+    fields.push(Field::new(alloc, "count", signed(IntBits::B32))?.nullable())?;
+    fields.push(Field::new(alloc, "name", DataType::Utf8)?.nullable())?;
+    fields.push(Field::new(alloc, "flag", DataType::Bool)?.nullable())?;
+    fields.push(Field::new(alloc, "at", zoned(alloc)?)?.nullable())?;
+    Ok(Schema::new(fields))
 }
 
 // Null at each so manyth number, the value at the others.
