@@ -55,7 +55,8 @@ own_bytes : (bits : IntBits) (signed : Bool) (values : List ℕ) (i : ℕ) → (
     → slot_bytes (Number bits) (own_value (l.Numbers bits signed) [] (λ _. []) [] values i)
     ≡ take (number_bytes bits) (drop (number_bytes bits * i) values)
 own_bytes bits true values i small h =
-    ap (λ (f : Value-F Value). bytes_low_first 0 (number_bytes bits) (bits_in f)) (signed_out (signed_at bits values (number_bytes bits * i)))
+    ap (λ (f : Value-F Value). bytes_low_first 0 (number_bytes bits) (bits_in f))
+    (signed_out (signed_at bits values (number_bytes bits * i)))
     ∙ signed_bytes bits values (number_bytes bits * i) small h
 own_bytes bits false values i small h =
     ap (λ (f : Value-F Value). bytes_low_first 0 (number_bytes bits) (bits_in f))

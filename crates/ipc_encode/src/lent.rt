@@ -94,8 +94,8 @@ fn push_contents(
     Ok(())
 }
 
-// Notes whether each slot is valid, so many of them null, in a column of this layout, which may have
-// no validity bitmap, behind so many others with so many nulls.
+// Notes whether each slot is valid, so many of them null, in a column of this layout, which may
+// have no validity bitmap, behind so many others with so many nulls.
 fn push_validities(
     layout: Layout,
     validity: &mut Vec<u8>,

@@ -74,8 +74,8 @@ fn push_each(
     Ok(())
 }
 
-// Appends the bytes of each slot, of which some are null. Each width has a loop of its own, in which
-// a slot is one store.
+// Appends the bytes of each slot, of which some are null. Each width has a loop of its own, in
+// which a slot is one store.
 fn push_some(
     values: &mut Vec<u8>,
     view: &SlotView<'_>,

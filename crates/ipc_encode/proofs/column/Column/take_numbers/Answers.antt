@@ -25,7 +25,8 @@ returns-in_err-self-clause-refused c = λ known signed before h.
     let all = c.in_ok-push_numbers.ensures ∙ (ap (λ (bs : List ℕ). bs ++ slots (Number bits) values) h.values_are
     ∙ sym (slots_append (Number bits) before values)) in
     let amount : data_in (l.Numbers bits signed) (before ++ values) ≡ c.len-amount.result =
-    sym (numbers_data bits signed (before ++ values)) ∙ (ap (λ (bs : List ℕ). length bs) (sym all) ∙ omega (arith, c.len-amount.ensures, c.push_numbers.new.values.ok)) in
+    sym (numbers_data bits signed (before ++ values))
+    ∙ (ap (λ (bs : List ℕ). length bs) (sym all) ∙ omega (arith, c.len-amount.ensures, c.push_numbers.new.values.ok)) in
     let fault = c.in_err-self.field-0.0 in
     let told = subst (λ (lay : Layout). IsPushRefused limits lay (before ++ values) fault) h.laid
     (c.in_err-self.ensures.refused before values
@@ -43,7 +44,8 @@ returns-clause-taken c = λ known signed before h.
     let all = c.in_ok-push_numbers.ensures ∙ (ap (λ (bs : List ℕ). bs ++ slots (Number bits) values) h.values_are
     ∙ sym (slots_append (Number bits) before values)) in
     let amount : data_in (l.Numbers bits signed) (before ++ values) ≡ c.len-amount.result =
-    sym (numbers_data bits signed (before ++ values)) ∙ (ap (λ (bs : List ℕ). length bs) (sym all) ∙ omega (arith, c.len-amount.ensures, c.push_numbers.new.values.ok)) in
+    sym (numbers_data bits signed (before ++ values))
+    ∙ (ap (λ (bs : List ℕ). length bs) (sym all) ∙ omega (arith, c.len-amount.ensures, c.push_numbers.new.values.ok)) in
     record {
       laid = h.laid;
       counted = subst (λ (lay : Layout). IsCounted limits lay (before ++ values) c.in_ok-self.field-0) h.laid
