@@ -3,24 +3,6 @@ use Rattle.std.proofs.lemmas.Result.{on_err_weaker}
 use Rattle.ipc_json.proofs.Fronts.{none_written, front_longer, front_of_rest, each_from, items_from, on_err_anyway, list_cell}
 use Rattle.ipc_json.proofs.row.+cell.Goals as goal
 
-pub put_cell-returns-in-Null-clause-refused : goal.put_cell-returns-in-Null-clause-refused
-put_cell-returns-in-Null-clause-refused t c = on_err_weaker c.null.result (λ e. none_written _ _ _ e) c.null.ensures.err
-
-pub put_cell-returns-in-Bool-clause-refused : goal.put_cell-returns-in-Bool-clause-refused
-put_cell-returns-in-Bool-clause-refused t c = on_err_weaker c.boolean.result (λ e. none_written _ _ _ e) c.boolean.ensures.err
-
-pub put_cell-returns-in-Int-clause-refused : goal.put_cell-returns-in-Int-clause-refused
-put_cell-returns-in-Int-clause-refused t c = on_err_weaker c.put_int.result (λ e. none_written _ _ _ e) c.put_int.ensures.refused
-
-pub put_cell-returns-in-UInt-clause-refused : goal.put_cell-returns-in-UInt-clause-refused
-put_cell-returns-in-UInt-clause-refused t c = on_err_weaker c.u64.result (λ e. none_written _ _ _ e) c.u64.ensures.err
-
-pub put_cell-returns-in-Bytes-clause-refused : goal.put_cell-returns-in-Bytes-clause-refused
-put_cell-returns-in-Bytes-clause-refused t c = on_err_weaker c.put_bytes.result (λ e. none_written _ _ _ e) c.put_bytes.ensures.refused
-
-pub put_cell-returns-in-Text-clause-refused : goal.put_cell-returns-in-Text-clause-refused
-put_cell-returns-in-Text-clause-refused t c = on_err_weaker c.string.result (λ e. none_written _ _ _ e) c.string.ensures.err
-
 pub put_cell-returns-in-List-clause-refused : goal.put_cell-returns-in-List-clause-refused
 put_cell-returns-in-List-clause-refused t c =
     let put = rw (c.as_slice-in-List.ensures, c.as_slice-in-List-2.ensures) at c.put_list.ensures.refused in
