@@ -343,9 +343,10 @@ impl Builder {
     }
 
     /// Takes all rows of a batch that was read, column by column, and asks for the index of each
-    /// value other than null in a field with a dictionary: what `push` of each row takes, without a
-    /// value of its own for each cell. Where the batch has fewer columns than there are fields the
-    /// others get nulls, and columns behind those of the fields are left out.
+    /// value other than null in a field with a dictionary: what `push` of each row takes. No value
+    /// is made for a cell, but in columns with children or a dictionary and those that lie unlike
+    /// the field: these read each row anew. Where the batch has fewer columns than there are fields
+    /// the others get nulls, and columns behind those of the fields are left out.
     ///
     /// The caller knows that the rows with those that are held are within the limits, and as of
     /// `push` that each index fits its field's index type. Refused with W11 `OutOfMemory` where a
