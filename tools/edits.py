@@ -1,7 +1,7 @@
 #!/usr/bin/env python3
 """Tries the edits that the prover has to refuse, those of different functions in one check.
 
-    tools/edits.py [--anew] [--tree TREE] [--follow LOG] [NAME ..]
+    tools/edits.py [--anew] [--control] [--tree TREE] [--follow LOG] [NAME ..]
 
 The edits are crates/NAME/must-fail/*.edit, of all crates where no NAME is given. They are tried on
 the crates of TREE (this repository) over the libraries that `rt ci` or `rt check` left there; with
@@ -16,14 +16,17 @@ proof, so a round turns one of them. The others, as those of the callers of what
 again in the next round. What is left when a round refuses none is tried alone, and so is a round of
 one. One that no clause speaks of then has failed.
 
-Each check begins with the proofs that the built library of the crate carries, or where it carries
-statements alone with those of the checks before it, and is asked for the functions that are turned
-alone: so what calls them isn't proved again, which would cost more than all else. Only an edit of
-no function, as of a constant, and one of functions that are still proved, is tried on the whole
-crate. An edit that was refused stays so while the toolchain, the crate, the libraries below it and
-the edit are the same: it is noted in a folder of the user's cache, and isn't tried again there
-unless --anew asks for it. A line tells each round and each edit. The last line counts the edits:
-'N passed, M failed'.
+A check is asked for the functions that are turned alone. What they call in their crate would be
+proved again with them, though the gate has proved it: so each other function has a loop without end
+as its body there, and a hole as its proof, and all that the check takes of it is its contract. An
+edit of no function, as of a constant, and one of functions that are still proved, is tried on the
+whole crate as it stands. --control makes no edit: it tells the functions that the edits turn and
+that are not proved beside such others, of which there must be none.
+
+An edit that was refused stays so while the toolchain, the crate, the libraries below it and the
+edit are the same: it is noted in a folder of the user's cache, and isn't tried again there unless
+--anew asks for it. A line tells each round and each edit. The last line counts the edits: 'N
+passed, M failed'.
 """
 import concurrent.futures
 import hashlib
@@ -45,18 +48,26 @@ LIMIT = 3600
 # Where it is noted what was refused: a file without text, whose name is the sum of what was tried.
 NOTED = os.path.join(
     os.environ.get("XDG_CACHE_HOME") or os.path.expanduser("~/.cache"), "arrowstream-edits")
-# What the second line of a built library's head says of the build of the prover that made it.
-BUILD = re.compile(r"^rattle-build (\S+)$", re.M)
 CYCLE = re.compile(r"^[ \t]*#\[cycle\((\w+)\)\]", re.M)
 FUNCTION = re.compile(r"^[ \t]*(?:pub(?:\([^)]*\))?[ ]+)?(?:const[ ]+)?fn[ ]+(\w+)", re.M)
 TRAIT = re.compile(r"^[ \t]*(?:pub(?:\([^)]*\))?[ ]+)?trait[ ]+(\w+)", re.M)
+CONSTANT = re.compile(r"[ \t]*(?:pub(?:\([^)]*\))?[ ]+)?const[ ]")
 OPEN_GOAL = re.compile(r"^note: (src/\S+\.rt):(\d+):\d+: it is not proved")
 ANSWER = re.compile(r"^(?:\./)?proofs/(\S+)/\w+\.antt:\d+:\d+: error: (.*)")
 GONE = re.compile(r"has no field|is not in scope|has no `|was not admitted|was not checked")
 # How the built library names the proofs of a function, or where it carries none its statement.
 LINK = re.compile(r"^(?:part/)?Rattle-\w+-proofs\.(.+)\.TheLink$")
-# How a check of some functions ends.
-ONLY = re.compile(r"^only=(\d+) proved=(\d+)")
+# How a check of some functions ends that are proved beside holes, and what it says of one that isn't.
+ONLY = re.compile(r"^only=\d+ holes=\d+")
+UNPROVED = re.compile(r"^fn (\S+): (?!no holes|depends on a hole)(.*)", re.M)
+# A proof that is left open.
+HOLE = """use {module}.Statement.{{statement}}
+
+pub {name}_spec : {{M : Type 1}} → statement M
+{name}_spec = ?
+"""
+# The files of which a proof is made.
+PROOF = ("Proof.antt", "Answers.antt", "Invariants.antt")
 # What `rt ci` says of a crate that it has proved, in this run or in an earlier one.
 PROVED = re.compile(r"rt: (\w+) (?:proved$|is kept: )")
 UNREAD = re.compile(r"^(?:\./)?(?:src|specs)/\S+:\d+:\d+: error: ")
@@ -106,6 +117,11 @@ def text_of(path):
         return file.read()
 
 
+def write(path, text):
+    with open(path, "w", encoding="utf-8") as file:
+        file.write(text)
+
+
 def pairs_of(text):
     path = old = None
     for line in text.split("\n"):
@@ -128,11 +144,36 @@ def functions_in(file, text):
     return found
 
 
+def files_in(folder):
+    return sorted(f"{at}/{it}" for at, _, names in os.walk(folder) for it in names)
+
+
+def body_of(text, start):
+    """Where the body of the function with this head begins and ends, or None where it has none. The
+    text is laid out: its braces stand as deep as the head, and clauses deeper."""
+    depth = re.match(r"[ \t]*", text[start:])[0]
+    opening = re.compile(rf"^{depth}(?:\S.*)?{{$|;$", re.M).search(text, start)
+    if not opening or opening[0] == ";":
+        return None
+    return opening.end() + 1, text.index(f"\n{depth}}}\n", opening.end()) + 1
+
+
+def without_bodies(text, functions):
+    """A text in which these functions go round without end, and so call nothing."""
+    for it in sorted(functions, key=lambda it: -it.start):
+        begin, end = body_of(text, it.start)
+        text = f"{text[:begin]}loop {{}}\n{text[end:]}"
+        if it.cycle:
+            above, mark = text[: it.start], f"#[cycle({it.cycle})]"
+            text = "".join(above.rpartition(mark)[::2]) + text[it.start :]
+    return text
+
+
 def traits_in(folder):
     """The names of the traits that a crate declares. The library names proofs of their methods too,
     which are no functions that a check knows."""
-    files = [f"{at}/{it}" for at, _, names in os.walk(f"{folder}/src") for it in names]
-    return {name for it in files if it.endswith(".rt") for name in TRAIT.findall(text_of(it))}
+    files = [it for it in files_in(f"{folder}/src") if it.endswith(".rt")]
+    return {name for it in files for name in TRAIT.findall(text_of(it))}
 
 
 def function_at(file, text, place):
@@ -218,10 +259,8 @@ def said_by(words, folder):
     return said, usage.ru_utime + usage.ru_stime
 
 
-def ends_refused(said):
-    last = said.rstrip("\n").rpartition("\n")[2]
-    only = ONLY.match(last)
-    return int(only[2]) < int(only[1]) if only else last.startswith("logic=not-proved")
+def last_of(said):
+    return said.rstrip("\n").rpartition("\n")[2]
 
 
 def complaints(said):
@@ -271,36 +310,22 @@ class Seats:
             self.turn.notify_all()
 
 
-def link_tree(folder, to):
-    """Copies a folder of kept proofs by links: a check replaces such a file, and changes none."""
-    shutil.copytree(folder, to, copy_function=os.link)
-
-
 class Trial:
     """A crate whose edits are tried, in a folder that goes with it."""
 
     def __init__(self, crate, words, seats, room):
         self.crate, self.words, self.seats, self.room = crate, words, seats, room
         self.kept, self.paths, self.spent = f"{room}/kept", [], 0
-        self.has_proofs = False
 
-    def unpack(self):
-        """Has the kept proofs be those that the built library carries."""
+    def read_paths(self):
+        """The paths of its functions, by the names of what the built library holds of their proofs."""
         rlib = f"{self.crate.folder}/out/rlib/{self.crate.name}.rlib"
-        build = BUILD.search(text_of(f"{rlib}/format"))[1].replace("/", "_")
         traits = traits_in(self.crate.folder)
-        os.makedirs(f"{self.kept}/{build}")
-        with open(f"{rlib}/toolchain/checked.a", "rb") as packed:
-            for line in text_of(f"{rlib}/toolchain/checked.json").splitlines():
-                name, start, size = json.loads(line)
-                path = link[1].split(".") if (link := LINK.match(name)) else []
-                if path and not traits & {*path[-2:-1]}:
-                    self.paths.append(path)
-                if "/" not in name:
-                    self.has_proofs = True
-                    packed.seek(start)
-                    with open(f"{self.kept}/{build}/{name}.oantt", "wb") as file:
-                        file.write(packed.read(size))
+        for line in text_of(f"{rlib}/toolchain/checked.json").splitlines():
+            link = LINK.match(json.loads(line)[0])
+            path = link[1].split(".") if link else []
+            if path and not traits & {*path[-2:-1]}:
+                self.paths.append(path)
 
     def only_words(self, edits):
         """The words by which a check proves the functions alone that these edits turn, or none
@@ -309,41 +334,68 @@ class Trial:
         names = sorted({"::".join(it) for paths in found for it in paths})
         return [it for name in names for it in ("--only", name)] if all(found) else []
 
-    def check(self, texts, kept, only):
+    def is_left_out(self, function, text, turned):
+        """Whether a function has no part in a check of those that are turned."""
+        is_known = function.paths(self.paths) and not CONSTANT.match(text[function.start :])
+        is_turned = not turned.isdisjoint(function.folders(self.paths))
+        return bool(is_known and not is_turned and body_of(text, function.start))
+
+    def leave_open(self, folder, function):
+        """Has the proofs of a function be holes."""
+        for place in function.folders(self.paths):
+            for it in PROOF:
+                if os.path.isfile(file := f"{folder}/proofs/{place}/{it}"):
+                    os.remove(file)
+        for path in function.paths(self.paths):
+            module = ".".join(["Rattle", self.crate.name, "proofs", *path])
+            os.makedirs(place := "/".join([folder, "proofs", *path]), exist_ok=True)
+            write(f"{place}/{PROOF[0]}", HOLE.format(module=module, name=path[-1]))
+
+    def leave_out(self, folder, edits):
+        """Leaves out of a copy of the crate what a check of the functions alone that these edits
+        turn has no need of."""
+        turned = set().union(*(it.folders(self.paths) for e in edits for it in e.functions))
+        for place in files_in(f"{folder}/src"):
+            text, file = text_of(place), os.path.relpath(place, folder)
+            found = [it for it in functions_in(file, text) if self.is_left_out(it, text, turned)]
+            for it in found:
+                self.leave_open(folder, it)
+            write(place, without_bodies(text, found))
+
+    def check(self, edits, is_made=True, is_apart=True):
+        """What a check says of a copy of the crate in which these edits are made, or which stands as
+        it does, and the texts that they change, or None where one can't be made. Apart are only the
+        functions checked that they turn."""
         with tempfile.TemporaryDirectory(dir=self.room) as folder:
             for part in PARTS:
                 if os.path.isdir(f"{self.crate.folder}/{part}"):
                     shutil.copytree(f"{self.crate.folder}/{part}", f"{folder}/{part}")
+            if is_apart:
+                self.leave_out(folder, edits)
+            texts = replaced(folder, edits if is_made else [])
+            if texts is None:
+                return "", None
             for path, text in texts.items():
-                with open(f"{folder}/{path}", "w", encoding="utf-8") as file:
-                    file.write(text)
+                write(f"{folder}/{path}", text)
             seats = self.seats.take()
             try:
-                words = [*self.words, *only, "--jobs", str(seats), "--incremental", kept]
+                only = ["--allow-holes", *self.only_words(edits)] if is_apart else []
+                words = [*self.words, *only, "--jobs", str(seats), "--incremental", self.kept]
                 said, spent = said_by(["nice", *words], folder)
             finally:
                 self.seats.give(seats)
             self.spent += spent
-            return said
-
-    def check_over_kept(self, texts, only):
-        """A check over the proofs of the crate as it stands, which stay as they are for the next
-        one. Where the library carries none, over what the checks before it have proved."""
-        if not self.has_proofs:
-            return self.check(texts, self.kept, only)
-        with tempfile.TemporaryDirectory(dir=self.room) as folder:
-            link_tree(self.kept, f"{folder}/kept")
-            return self.check(texts, f"{folder}/kept", only)
+            return said, texts
 
     def try_alone(self, edit):
         """Why an edit alone is not refused, or None."""
-        texts = replaced(self.crate.folder, [edit])
-        if not texts:
+        said, texts = self.check([edit]) if self.only_words([edit]) else ("", None)
+        if ONLY.match(last_of(said)) and any(complaints(said)):
+            return None
+        said, texts = self.check([edit], is_apart=False)
+        if texts is None:
             return "BAD EDIT: a text of it does not stand just once in its file"
-        said = self.check_over_kept(texts, self.only_words([edit]))
-        if not ends_refused(said) or not any(complaints(said)):
-            said = self.check_over_kept(texts, [])
-        if not ends_refused(said):
+        if not last_of(said).startswith("logic=not-proved"):
             told = "the crate is still proved" if "\nlogic=proved" in said else said[-600:]
             return f"NOT REFUSED: {told}"
         if unread := [it for it in said.splitlines() if UNREAD.match(it)]:
@@ -353,9 +405,9 @@ class Trial:
 
     def try_round(self, edits):
         """Those of these edits that are refused beside one another, or beside which others."""
-        texts = replaced(self.crate.folder, edits)
-        said = self.check_over_kept(texts, self.only_words(edits))
-        if not ends_refused(said) or any(UNREAD.match(it) for it in said.splitlines()):
+        said, texts = self.check(edits) if edits else ("", None)
+        is_read = not any(UNREAD.match(it) for it in said.splitlines())
+        if not ONLY.match(last_of(said)) or not is_read:
             return []
         found = complaints(said)
         if len(edits) == 1:
@@ -363,10 +415,18 @@ class Trial:
         told = lambda function: is_complained_of(function, texts, *found, self.paths)
         return [it for it in edits if any(map(told, it.functions))]
 
+    def control(self):
+        """What a check says against the functions that the edits turn, where none is made."""
+        self.read_paths()
+        edits = [it for it in self.crate.edits if self.only_words([it])]
+        said = self.check(edits, is_made=False)[0]
+        against = [f"{name}: {told}" for name, told in UNPROVED.findall(said)]
+        return against if ONLY.match(last_of(said)) else [said[-600:]]
+
     def next_round(self, edits):
         """Edits of different functions that can be made together."""
         taken, chosen = set(), []
-        for edit in edits:
+        for edit in filter(lambda it: self.only_words([it]), edits):
             names = set().union(*(it.folders(self.paths) for it in edit.functions))
             if not taken & names and replaced(self.crate.folder, [*chosen, edit]) is not None:
                 chosen.append(edit)
@@ -378,7 +438,7 @@ class Trial:
         noted at once, so that a run that is broken off isn't lost."""
         if not edits:
             return {}
-        self.unpack()
+        self.read_paths()
         left, refused = list(edits), edits
         while len(left) > 1 and refused:
             together, before = self.next_round(left), self.spent
@@ -395,8 +455,7 @@ class Notes:
     """What was refused earlier, by the sum of all that the refusal rests on."""
 
     def __init__(self, kit, tree, crate, is_anew):
-        folders = [f"{crate.folder}/{it}" for it in PARTS]
-        files = [f"{at}/{it}" for top in folders for at, _, names in os.walk(top) for it in names]
+        files = [it for part in PARTS for it in files_in(f"{crate.folder}/{part}")]
         named = [crate.name, *below(libraries(tree), crate.name)]
         heads = [f"{tree}/crates/{it}/out/rlib/{it}.rlib/format" for it in named]
         of_crate = hashlib.sha256(text_of(f"{kit}/KIT-ID").encode())
@@ -414,8 +473,7 @@ class Notes:
 
     def note(self, edit):
         os.makedirs(NOTED, exist_ok=True)
-        with open(self.place(edit), "w", encoding="utf-8"):
-            pass
+        write(self.place(edit), "")
 
 
 def proved_in(log, wanted):
@@ -435,6 +493,15 @@ def proved_in(log, wanted):
             if line == "the gate is over\n":
                 return
             line = ""
+
+
+def control_crate(kit, tree, name, seats):
+    with tempfile.TemporaryDirectory(prefix="edits-") as room:
+        trial = Trial(read_crate(tree, name), check_words(kit, tree, name), seats, room)
+        against = trial.control()
+    told = f"control of {name}: {len(against)} not proved, {trial.spent:.0f} s of a processor"
+    print("\n".join([told, *against]), flush=True)
+    return {name: "\n".join(against) or None}
 
 
 def try_crate(kit, tree, name, seats, is_anew):
@@ -457,7 +524,8 @@ def try_crate(kit, tree, name, seats, is_anew):
 
 def main(words):
     tree, log, is_anew = TOP, None, "--anew" in words
-    words = [it for it in words if it != "--anew"]
+    is_control = "--control" in words
+    words = [it for it in words if it not in ("--anew", "--control")]
     while words and words[0] in ("--tree", "--follow"):
         tree, log = (os.path.abspath(words[1]), log) if words[0] == "--tree" else (tree, words[1])
         words = words[2:]
@@ -470,7 +538,9 @@ def main(words):
     seats = Seats(number, 1 if log else number)
     with concurrent.futures.ThreadPoolExecutor(number) as pool:
         names = proved_in(log, wanted) if log else wanted
-        jobs = {it: pool.submit(try_crate, kit, tree, it, seats, is_anew) for it in names}
+        tried = lambda it: try_crate(kit, tree, it, seats, is_anew)
+        call = (lambda it: control_crate(kit, tree, it, seats)) if is_control else tried
+        jobs = {it: pool.submit(call, it) for it in names}
         seats.most = number
     whys = [why for job in jobs.values() for why in job.result().values()]
     failed = sum(why is not None for why in whys) + len(set(wanted) - set(jobs))
