@@ -4,6 +4,7 @@ use Rattle.std.proofs.Common.{length-append, get_or, replicate, arith, inl, inr}
 use Rattle.std.specs.List.{AllByRecursion}
 use Rattle.std.specs.Prelude.{Option, IfSome}
 use Rattle.std.proofs.Math.Nat.{mul-add, suc-mul}
+use Rattle.std.proofs.lemmas.Option.{IfSome_then}
 use Rattle.std.proofs.lemmas.List.{append-nil, length-replicate}
 use denote.Hole.Carrier
 use Rattle.ipc_model.specs.Limits.{max_data}
@@ -265,13 +266,15 @@ pub struct_given : (layout : Layout) (value : Value) (us vs : List Value) → la
     → ◌≡◌ {A = ℕ → List Value} (λ j. cell j us ∷ []) (below layout (value ∷ []))
 struct_given layout value us vs e same is = rw (e, same) (λ d j. ap (λ (w : Value). w ∷ []) (sym (parts_are value vs is j)) d)
 
--- what is left behind what a value gives to the children
-pub given_left : (layout own : Layout) (children : Shape) (value : Value) (given : ℕ → List Value) (left : Option ℕ) (bytes : ℕ)
-    → own ≡ layout → given ≡ below own (value ∷ []) → IfSome left (λ rest. weight_of 0 children given + rest ≤ bytes)
-    → IfSome left (λ rest. weight_of 0 children (below layout (value ∷ [])) + rest ≤ bytes)
-given_left layout own children value given left bytes laid e h =
-    subst (λ (l : Layout). IfSome left (λ rest. weight_of 0 children (below l (value ∷ [])) + rest ≤ bytes)) laid
-    (subst (λ (g : ℕ → List Value). IfSome left (λ rest. weight_of 0 children g + rest ≤ bytes)) e h)
+-- what is left behind a value and what it gives to the children
+pub given_left : (layout own : Layout) (children : Shape) (value : Value) (given : ℕ → List Value) (left : Option ℕ) (some bytes : ℕ)
+    → own ≡ layout → 6 + datum own value + some ≤ bytes → given ≡ below own (value ∷ [])
+    → IfSome left (λ rest. weight_of 0 children given + rest ≤ some)
+    → IfSome left (λ rest. weight_of 0 (field layout children bare) (λ j. value ∷ []) + rest ≤ bytes)
+given_left layout own children value given left some bytes laid fewer e h =
+    subst (λ (l : Layout). IfSome left (λ rest. weight_of 0 (field l children bare) (λ j. value ∷ []) + rest ≤ bytes)) laid
+    (IfSome_then left (subst (λ (g : ℕ → List Value). IfSome left (λ rest. weight_of 0 children g + rest ≤ some)) e h)
+    (λ rest sum. omega (arith, sum, fewer)))
 
 -- ---- one item more
 

@@ -49,9 +49,9 @@ fn most_content(layout: Layout, counts: Counts, value: &Value) -> Option<u64>
     }
 }
 
-// Whether the slots of a column are numbers, which have at most 8 bytes.
+/// Whether the slots of a column are numbers, which have at most 8 bytes.
 #[inline(always)]
-fn has_numbers(layout: Layout) -> bool
+pub(crate) fn has_numbers(layout: Layout) -> bool
     ensures small { IsTrue result → (values : List Value) → data_in layout values
         ≤ 8 * length values + 0 }
     ensures short { IsTrue result → (values : List Value) → ¬ HasLongData layout values }

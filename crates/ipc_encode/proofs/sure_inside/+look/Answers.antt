@@ -1,15 +1,13 @@
-use Rattle.std.proofs.Common.{◌≡◌, ◌∙◌, sym, ap, subst, ℕ, ◌+◌, ◌≤◌, List, [], ◌∷◌, length, take, get_or}
+use Rattle.std.proofs.Common.{◌≡◌, ◌∙◌, sym, ap, subst, ◌+◌, ◌≤◌, List, [], ◌∷◌, length, take, get_or}
 use Rattle.std.proofs.Common.{add-one, rules, arith}
-use Rattle.std.specs.Prelude.{IfSome}
 use Rattle.std.proofs.lemmas.List.{take_all, take_more}
 use Rattle.std.proofs.lemmas.Option.{IfSome_then}
-use Rattle.ipc_model.specs.Fits.{EachFits, Fits, InnerFit}
+use Rattle.ipc_model.specs.Fits.{Fits, InnerFit}
 use Rattle.ipc_model.specs.declared.layout.Layout.{Layout}
 use Rattle.ipc_model.specs.declared.schema.DataType.TheVariants as kinds
-use Rattle.ipc_model.specs.declared.schema.Field.{Field, out-Field}
+use Rattle.ipc_model.specs.declared.schema.Field.{Field}
 use Rattle.ipc_model.specs.declared.value.Value.{Value}
 use Rattle.ipc_model.specs.declared.value.Value.TheOpen as values
-use Rattle.ipc_model.specs.declared.value.Value.TheVariants.{Null}
 use Rattle.ipc_column.specs.Shapes.{Shape, bare, field}
 use Rattle.ipc_encode.specs.declared.node.Node.{Node, out-Node}
 use Rattle.ipc_encode.specs.Buffers.{below}
@@ -24,39 +22,37 @@ use Rattle.ipc_encode.proofs.sure_inside.+look.Goals as goal
 
 -- ---- one value
 
-pub left_of-returns-then-not-is_leaf-clause-weight : goal.left_of-returns-then-not-is_leaf-clause-weight
-left_of-returns-then-not-is_leaf-clause-weight t c = λ known limits layout children before h.
-    let size = c.datum.ensures.is ∙ ap (λ (l : Layout). datum l c.args.value.now) h.0.laid in
-    IfSome_then c.left_inside.result (c.left_inside.ensures.weight known limits layout children before h)
-    (λ left sum. omega (arith, sum, size, c.if-weight-bytes.false))
-
 pub left_of-returns-clause-weight : goal.left_of-returns-clause-weight
 left_of-returns-clause-weight t c = λ known limits layout children before h.
-    let size = c.datum.ensures.is ∙ ap (λ (l : Layout). datum l c.args.value.now) h.0.laid in
+    let v = c.args.value.now in
+    let size = subst (λ (l : Layout). datum l v ≤ c.most_datum.result) h.0.laid c.most_datum.ensures.most in
     let none = leaf_is (IsColumn known limits) children (out-Node c.args.node.now).children.items (below layout before)
     (search rules) h.1 in
-    let empty = ap (λ (s : Shape). weight_of 0 s (below layout (c.args.value.now ∷ []))) none in
+    let empty = ap (λ (s : Shape). weight_of 0 s (below layout (v ∷ []))) none in
     omega (arith, size, empty, c.if-weight-bytes.false)
 
 -- ---- what stands inside it
 
-pub left_inside-returns-in-Null-default-clause-fits : goal.left_inside-returns-in-Null-default-clause-fits
-left_inside-returns-in-Null-default-clause-fits t c =
-    let fit = null_fits c.args.field.now c.args.value.now c.in-Null-default.is-0 (c.is_own.ensures.0 c.if-not-is_own.false) in
+pub left_inside-returns-in_ok-left-in-Null-default-clause-fits : goal.left_inside-returns-in_ok-left-in-Null-default-clause-fits
+left_inside-returns-in_ok-left-in-Null-default-clause-fits t c =
+    let fit = null_fits c.args.field.now c.args.value.now c.in-Null-default.is-0 (c.is_own.ensures c.if-not-is_own.false) in
     IfSome_then c.left_of_nulls.result c.left_of_nulls.ensures.fewer (λ left fewer. fit)
 
-pub left_inside-returns-in-Null-default-clause-weight : goal.left_inside-returns-in-Null-default-clause-weight
-left_inside-returns-in-Null-default-clause-weight t c = λ known limits layout children before h.
+pub left_inside-returns-in_ok-left-in-Null-default-clause-weight : goal.left_inside-returns-in_ok-left-in-Null-default-clause-weight
+left_inside-returns-in_ok-left-in-Null-default-clause-weight t c = λ known limits layout children before h.
     let own = (out-Node c.args.node.now).column.layout in
     let held = subst (λ (ns : List Node). AreNodes (IsColumn known limits) children ns (below layout before))
     (sym c.deref.ensures.value) h.1 in
-    given_left layout own children c.args.value.now _ c.left_of_nulls.result c.args.bytes h.0.laid
+    let size : datum own c.args.value.now ≡ c.datum.result = sym c.datum.ensures.is in
+    let rest = c.in_ok-left-in-Null-default.ensures in
+    given_left layout own children c.args.value.now _ c.left_of_nulls.result c.in_ok-left-in-Null-default.left c.args.bytes h.0.laid
+    (omega (arith, size, rest.0, rest.1, c.if-weight-bytes.false))
     (null_given own c.args.value.now c.nulls_below.result c.nulls_below.ensures.count c.in-Null-default.is-0)
     (c.left_of_nulls.ensures.weight known limits children (below layout before) held)
 
 pub left_inside-returns-in-List-Lists-clause-fits : goal.left_inside-returns-in-List-Lists-clause-fits
 left_inside-returns-in-List-Lists-clause-fits t c =
-    let own = c.is_own.ensures.0 c.if-not-is_own.false in
+    let own = c.is_own.ensures c.if-not-is_own.false in
     let fs = c.as_slice-fields.result.now in
     let vs = c.as_slice.result.now in
     IfSome_then c.left_of_items.result c.left_of_items.ensures.fits
@@ -68,14 +64,17 @@ left_inside-returns-in-List-Lists-clause-weight t c = λ known limits layout chi
     let own = (out-Node c.args.node.now).column.layout in
     let held = subst (λ (ns : List Node). AreNodes (IsColumn known limits) children ns (below layout before))
     (sym c.deref-in-List-Lists.ensures.value) h.1 in
-    given_left layout own children c.args.value.now _ c.left_of_items.result c.args.bytes h.0.laid
+    let size = subst (λ (l : Layout). datum l c.args.value.now ≤ c.item_count.result) (sym c.in-List-Lists.is-1)
+    (omega (arith, c.item_count.ensures.count)) in
+    given_left layout own children c.args.value.now _ c.left_of_items.result _ c.args.bytes h.0.laid
+    (omega (arith, size, c.if-weight-bytes.false))
     (list_given own c.args.value.now c.as_slice.result.now c.in-List-Lists.items
     c.in-List-Lists.is-1 c.as_slice.ensures c.in-List-Lists.is-0)
     (c.left_of_items.ensures.weight known limits children (below layout before) held)
 
 pub left_inside-returns-in-List-FixedLists-clause-fits : goal.left_inside-returns-in-List-FixedLists-clause-fits
 left_inside-returns-in-List-FixedLists-clause-fits t c =
-    let own = c.is_own.ensures.0 c.if-not-is_own.false in
+    let own = c.is_own.ensures c.if-not-is_own.false in
     let fs = c.as_slice-fields.result.now in
     let vs = c.as_slice-in-List-FixedLists.result.now in
     IfSome_then c.left_of_items-in-List-FixedLists.result c.left_of_items-in-List-FixedLists.ensures.fits
@@ -87,14 +86,17 @@ left_inside-returns-in-List-FixedLists-clause-weight t c = λ known limits layou
     let own = (out-Node c.args.node.now).column.layout in
     let held = subst (λ (ns : List Node). AreNodes (IsColumn known limits) children ns (below layout before))
     (sym c.deref-in-List-FixedLists.ensures.value) h.1 in
-    given_left layout own children c.args.value.now _ c.left_of_items-in-List-FixedLists.result c.args.bytes h.0.laid
+    let size = subst (λ (l : Layout). datum l c.args.value.now ≤ c.item_count.result) (sym c.in-List-FixedLists.is-1)
+    (omega (arith, c.item_count.ensures.count)) in
+    given_left layout own children c.args.value.now _ c.left_of_items-in-List-FixedLists.result _ c.args.bytes h.0.laid
+    (omega (arith, size, c.if-weight-bytes.false))
     (fixed_given own c.in-List-FixedLists.field-0-1 c.args.value.now c.as_slice-in-List-FixedLists.result.now c.in-List-FixedLists.items
     c.in-List-FixedLists.is-1 c.as_slice-in-List-FixedLists.ensures c.in-List-FixedLists.is-0)
     (c.left_of_items-in-List-FixedLists.ensures.weight known limits children (below layout before) held)
 
 pub left_inside-returns-in-Struct-Structs-clause-fits : goal.left_inside-returns-in-Struct-Structs-clause-fits
 left_inside-returns-in-Struct-Structs-clause-fits t c =
-    let own = c.is_own.ensures.0 c.if-not-is_own.false in
+    let own = c.is_own.ensures c.if-not-is_own.false in
     let fs = c.as_slice-fields.result.now in
     let vs = c.as_slice-in-Struct-Structs.result.now in
     IfSome_then c.left_of_parts.result c.left_of_parts.ensures.fits
@@ -106,7 +108,10 @@ left_inside-returns-in-Struct-Structs-clause-weight t c = λ known limits layout
     let own = (out-Node c.args.node.now).column.layout in
     let held = subst (λ (ns : List Node). AreNodes (IsColumn known limits) children ns (below layout before))
     (sym c.deref-in-Struct-Structs.ensures.value) h.1 in
-    given_left layout own children c.args.value.now _ c.left_of_parts.result c.args.bytes h.0.laid
+    let size = subst (λ (l : Layout). datum l c.args.value.now ≤ c.item_count.result) (sym c.in-Struct-Structs.is-1)
+    (omega (arith, c.item_count.ensures.count)) in
+    given_left layout own children c.args.value.now _ c.left_of_parts.result _ c.args.bytes h.0.laid
+    (omega (arith, size, c.if-weight-bytes.false))
     (struct_given own c.args.value.now c.as_slice-in-Struct-Structs.result.now c.in-Struct-Structs.parts
     c.in-Struct-Structs.is-1 c.as_slice-in-Struct-Structs.ensures c.in-Struct-Structs.is-0)
     (c.left_of_parts.ensures.weight known limits children (below layout before) held)

@@ -1,13 +1,29 @@
-use Rattle.std.proofs.Common.{sym, subst, ◌+◌, ◌≤◌, ◌++◌, List, add-one, arith}
+use Rattle.std.proofs.Common.{sym, ap, subst, ◌+◌, ◌≤◌, ◌++◌, List, add-one, rules, arith}
 use Rattle.std.proofs.lemmas.Option.{IfSome_then}
 use Rattle.ipc_column.specs.Shapes.{Shape}
-use Rattle.ipc_encode.specs.declared.node.Node.{Node}
+use Rattle.ipc_encode.specs.declared.node.Node.{Node, out-Node}
 use Rattle.ipc_encode.specs.Buffers.{below}
 use Rattle.ipc_encode.specs.Limits.{HasLongNode}
 use Rattle.ipc_encode.specs.Built.{AreNodes, IsColumn, IsNode, weight_of}
-use Rattle.ipc_encode.proofs.Siblings.{at_node, first_all, few_next}
+use Rattle.ipc_encode.proofs.Siblings.{at_node, first_all, few_next, leaf_is}
 use Rattle.ipc_encode.proofs.Weights.{few_more, weight_at, weight_next}
 use Rattle.ipc_encode.proofs.sure_inside.+room.Goals as goal
+
+pub left_of_node-returns-then-is_leaf-clause-weight : goal.left_of_node-returns-then-is_leaf-clause-weight
+left_of_node-returns-then-is_leaf-clause-weight t c = λ known layout children before h.
+    let none = leaf_is (IsColumn known c.args.limits.now) children (out-Node c.args.node.now).children.items (below layout before)
+    (search rules) h.1 in
+    let empty = ap (λ (s : Shape). weight_of 25 s (below layout before)) none in
+    omega (arith, empty, h.0.counted.slots_are, h.0.counted.amount_is, c.if-weight-bytes.false)
+
+pub left_of_node-returns-then-is_leaf-clause-few : goal.left_of_node-returns-then-is_leaf-clause-few
+left_of_node-returns-then-is_leaf-clause-few t c = λ known layout children before added h light.
+    let slots = c.args.limits.now.slots in
+    let none = leaf_is (IsColumn known c.args.limits.now) children (out-Node c.args.node.now).children.items (below layout before)
+    (search rules) h.1 in
+    few_more slots c.args.more layout children before added
+    (omega (arith, h.0.counted.slots_are, c.if-counts-more.false)) light
+    (subst (λ (s : Shape). HasLongNode slots s (λ j. below layout before j ++ below layout added j) → ⊥) (sym none) (λ long. long))
 
 pub left_of_node-returns-clause-weight : goal.left_of_node-returns-clause-weight
 left_of_node-returns-clause-weight t c = λ known layout children before h.
