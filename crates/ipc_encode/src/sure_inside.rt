@@ -151,6 +151,7 @@ fn left_of_items(fields: &[Field], items: &[Value], nodes: &[Node], bytes: u64) 
 
 // The same of the parts of a struct, each in its own child.
 #[cycle(look)]
+#[inline(always)]
 fn left_of_parts(fields: &[Field], parts: &[Value], nodes: &[Node], bytes: u64) -> Option<u64>
     ensures fits { IfSome result (λ left. EachFits Fits fields.now parts.now) }
     ensures weight { (known : Numbering) (limits : Limits) (shape : Shape)
