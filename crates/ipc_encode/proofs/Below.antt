@@ -31,7 +31,7 @@ unfolding V.out-Value denote.Hole.Carrier.out
 null_fixed size = refl
 
 -- what a null gives to each child
-null_gives : (layout : Layout) (j : ℕ) → below layout (v.Null ∷ []) j ≡ replicate (nulls_below layout) v.Null
+pub null_gives : (layout : Layout) (j : ℕ) → below layout (v.Null ∷ []) j ≡ replicate (nulls_below layout) v.Null
 null_gives l.Structs j = ap (λ (w : Value). w ∷ []) (null_part j)
 null_gives (l.FixedLists size) j = append-nil (fixed_items size v.Null) ∙ null_fixed size
 null_gives l.Lists j = append-nil (items v.Null) ∙ null_items

@@ -1,6 +1,7 @@
 pub mod Bits
 pub mod Steps
 pub mod SurelyFit
+pub mod Weights
 pub mod Packing
 pub mod Sizes
 pub mod Pushes

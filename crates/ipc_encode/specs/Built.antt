@@ -1,5 +1,5 @@
 -- The rows that a builder holds (Message.fbs, RecordBatch).
-use Rattle.std.specs.Prelude.{◌≡◌, ℕ, suc, ◌+◌, ◌<◌, ◌≤◌, true, false}
+use Rattle.std.specs.Prelude.{◌≡◌, ℕ, suc, ◌+◌, ◌*◌, ◌<◌, ◌≤◌, true, false}
 use Rattle.std.specs.Prelude.{List, [], ◌∷◌, length, ◌⊎◌, ⊤}
 use Rattle.ipc_model.specs.declared.limits.Limits.{Limits}
 use Rattle.ipc_model.specs.declared.schema.Field.{Field}
@@ -118,6 +118,15 @@ pub record TakeAtMost (limits : Limits) (most : ℕ) (shape : Shape) (given : �
   pub few : ¬ HasLongNode limits.slots shape given
   pub short : ¬ SomeLongData shape given
   pub bytes : length (joined (buffers_of shape given)) ≤ most
+
+-- the weight of columns of this shape with these values, and of those below them, which is no less
+-- than the bytes of their buffers where each column weighs 25: so much for each column, 6 for each
+-- slot, and the data
+abbrev pub weight_of : ℕ → Shape → (ℕ → List Value) → ℕ
+weight_of each bare given = 0
+weight_of each (field l children rest) given =
+    each + 6 * length (given 0) + data_in l (given 0) + weight_of each children (below l (given 0))
+    + weight_of each rest (λ j. given (suc j))
 
 -- Of so many bytes these are left behind the buffers of columns, each of which is within the
 -- limits.

@@ -248,8 +248,9 @@ impl Builder {
     }
 
     /// Whether a row surely conforms to the fields of the rows that are held, and is within the
-    /// limits with them. It takes one look at each value, for callers that push row by row: where
-    /// it isn't sure, as for lists and structs, `conforms` and `fits` tell.
+    /// limits with them. It takes one look at each value, those inside lists and structs too, for
+    /// callers that push row by row: where it isn't sure, as near the limits, `conforms` and `fits`
+    /// tell.
     #[inline(always)]
     pub fn surely_takes(&self, fields: &[Field], row: &[Value]) -> bool
         ensures conforms { (known : Numbering) (limits : Limits) (rows : List (List Value))

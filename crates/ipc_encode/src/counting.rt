@@ -18,9 +18,9 @@ use crate::fault::PushFault;
 use crate::index::IndexOf;
 use ipc_model::{Layout, Limits, Value};
 
-// How much a value adds to the data of a column.
+/// How much a value adds to the data of a column.
 #[inline(always)]
-fn datum(layout: Layout, value: &Value) -> usize
+pub(crate) fn datum(layout: Layout, value: &Value) -> usize
     ensures is { result ≡ datum layout value.now }
     ensures few { result < 2 ^ 63 }
 {

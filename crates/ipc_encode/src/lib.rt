@@ -26,6 +26,7 @@ mod pushing;
 mod room;
 mod sure;
 mod sure_columns;
+mod sure_inside;
 mod tree;
 
 pub use batch::encode;

@@ -2,7 +2,8 @@ ghost use Rattle.std.specs.Prelude.{◌≡◌, ◌++◌, List, [], ◌∷◌, le
 ghost use Rattle.std.specs.Int.{bytes_low_first};
 ghost use Rattle.ipc_model.specs.Layouts.{number_bytes};
 ghost use Rattle.ipc_model.specs.declared.layout.Layout.{Layout};
-ghost use Rattle.ipc_model.specs.declared.layout.Layout.TheVariants.{Bits, Numbers, VariableBytes};
+ghost use Rattle.ipc_model.specs.declared.layout.Layout.TheVariants.{Bits, Lists, Numbers, Structs};
+ghost use Rattle.ipc_model.specs.declared.layout.Layout.TheVariants.{VariableBytes};
 ghost use Rattle.ipc_model.specs.declared.limits.Limits.{Limits};
 ghost use Rattle.ipc_model.specs.declared.value.Value.{Value};
 ghost use Rattle.ipc_encode.specs.Pieces.{Number, Fixed};
@@ -372,6 +373,44 @@ impl Column {
         self.push_laid(Layout::VariableBytes { utf8 }, value, limits, indices)
     }
 
+    // The same of lists, whose items are in the child.
+    #[inline(never)]
+    fn push_list<I: IndexOf>(
+        &mut self,
+        value: &Value,
+        limits: &Limits,
+        indices: &I,
+    ) -> Result<(), PushFault>
+        ensures pushed { (values : List Value)
+            → IsColumn (told (I.IndexOf.index indices.now)) limits.now Lists values self.old
+            → OnOk result (IsColumn (told (I.IndexOf.index indices.now)) limits.now Lists
+            (values ++ value.now ∷ []) self.new) }
+        ensures refused { (values : List Value)
+            → IsColumn (told (I.IndexOf.index indices.now)) limits.now Lists values self.old
+            → IfErr result (IsPushRefused limits.now Lists (values ++ value.now ∷ [])) }
+    {
+        self.push_laid(Layout::Lists, value, limits, indices)
+    }
+
+    // The same of structs, whose parts are in the children.
+    #[inline(never)]
+    fn push_struct<I: IndexOf>(
+        &mut self,
+        value: &Value,
+        limits: &Limits,
+        indices: &I,
+    ) -> Result<(), PushFault>
+        ensures pushed { (values : List Value)
+            → IsColumn (told (I.IndexOf.index indices.now)) limits.now Structs values self.old
+            → OnOk result (IsColumn (told (I.IndexOf.index indices.now)) limits.now Structs
+            (values ++ value.now ∷ []) self.new) }
+        ensures refused { (values : List Value)
+            → IsColumn (told (I.IndexOf.index indices.now)) limits.now Structs values self.old
+            → IfErr result (IsPushRefused limits.now Structs (values ++ value.now ∷ [])) }
+    {
+        self.push_laid(Layout::Structs, value, limits, indices)
+    }
+
     // The same of any other layout.
     #[inline(never)]
     fn push_other<I: IndexOf>(
@@ -414,6 +453,8 @@ impl Column {
             }
             Layout::Bits => self.push_truth(value, limits, indices),
             Layout::VariableBytes { utf8 } => self.push_run(utf8, value, limits, indices),
+            Layout::Lists => self.push_list(value, limits, indices),
+            Layout::Structs => self.push_struct(value, limits, indices),
             layout => self.push_other(layout, value, limits, indices),
         }
     }

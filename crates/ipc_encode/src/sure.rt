@@ -21,6 +21,7 @@ use crate::cells::{content, fixed_len};
 use crate::column::MAX_DATA;
 use crate::counts::Counts;
 use crate::node::Node;
+use crate::sure_inside::most_inside;
 use ipc_model::{DataType, Field, IntBits, Layout, Limits, Value};
 
 // The bytes of a column's data with one value more, beside 8 for each slot, at most. None where
@@ -48,9 +49,9 @@ fn most_content(layout: Layout, counts: Counts, value: &Value) -> Option<u64>
     }
 }
 
-// Whether the slots of a column are numbers, which have at most 8 bytes.
+/// Whether the slots of a column are numbers, which have at most 8 bytes.
 #[inline(always)]
-fn has_numbers(layout: Layout) -> bool
+pub(crate) fn has_numbers(layout: Layout) -> bool
     ensures small { IsTrue result → (values : List Value) → data_in layout values
         ≤ 8 * length values + 0 }
     ensures short { IsTrue result → (values : List Value) → ¬ HasLongData layout values }
@@ -172,27 +173,30 @@ fn is_sure(field: &Field, value: &Value, node: &Node) -> bool
     has_numbers(node.column.layout)
 }
 
-// Whether a value fits a field.
+/// Whether a value surely fits a field, where that is told by the value alone.
 #[inline(always)]
-fn fits(field: &Field, value: &Value) -> bool
+pub(crate) fn fits(field: &Field, value: &Value) -> bool
     ensures { IsTrue result → Fits field.now value.now }
 {
     fits_surely(field, value) || fits_alone(field, value)
 }
 
-// The bytes that the buffers of a column without children take at most with one value more, beside
-// those that don't hang on the value, where the value fits the field.
+// The bytes that the buffers of a column and of those below it take at most with one value more,
+// beside those that don't hang on the value, where the value fits the field.
 #[inline(always)]
-fn most_with(field: &Field, value: &Value, node: &Node) -> Option<u64>
+fn most_with(field: &Field, value: &Value, node: &Node, limits: &Limits) -> Option<u64>
     ensures fits { IfSome result (λ most. Fits field.now value.now) }
-    ensures most { (known : Numbering) (limits : Limits) (layout : Layout)
-        (children : Shape) (values : List Value) (least : ℕ)
-        → IsNode (IsColumn known limits) layout children node.now values
-        → length values < limits.slots → 14 * (length values + 1) + 25 ≤ least
-        → IfSome result (λ most. TakeAtMost limits (least + most)
+    ensures most { (known : Numbering) (layout : Layout) (children : Shape)
+        (values : List Value) (least : ℕ)
+        → IsNode (IsColumn known limits.now) layout children node.now values
+        → length values < limits.now.slots → 14 * (length values + 1) + 25 ≤ least
+        → IfSome result (λ most. TakeAtMost limits.now (least + most)
         (shapes.field layout children bare) (λ j. values ++ value.now ∷ [])) }
 {
-    if !node.is_leaf() || !fits(field, value) {
+    if !node.is_leaf() {
+        return most_inside(field, value, node, limits);
+    }
+    if !fits(field, value) {
         return None;
     }
     most_data(node.column.layout, node.column.counts, value)
@@ -238,7 +242,7 @@ pub(crate) fn surely_fit(
             return false;
         };
         if !is_sure(field, value, &nodes[i]) {
-            let Some(most) = most_with(field, value, &nodes[i]) else {
+            let Some(most) = most_with(field, value, &nodes[i], limits) else {
                 return false;
             };
             if most > left {

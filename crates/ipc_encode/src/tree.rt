@@ -19,9 +19,9 @@ use crate::index::IndexOf;
 use crate::node::Node;
 use ipc_model::{Layout, Limits, Value};
 
-// How many nulls a null gives to each column below one of this layout.
+/// How many nulls a null gives to each column below one of this layout.
 #[inline]
-fn nulls_below(layout: Layout) -> u64
+pub(crate) fn nulls_below(layout: Layout) -> u64
     ensures count { result ≡ nulls_below layout }
     ensures few { result < 2 ^ 32 }
 {

@@ -49,7 +49,7 @@ loop-i-preserved c =
                 let held = subst (λ (n : Node). IsNode (IsColumn known limits) at.0 at.1 n (given i))
                 (sym w.index-nodes-i-then-not-is_sure.is) at.3 in
                 let slots = same i in
-                let own = w.in-Some-most_with.ensures.most known limits at.0 at.1 (given i) least held
+                let own = w.in-Some-most_with.ensures.most known at.0 at.1 (given i) least held
                 (omega (arith, slots, c.requires)) (omega (arith, slots)) in
                 let told = subst (λ (u : Value). TakeAtMost limits (least + most) (field at.0 at.1 bare) (λ j. given i ++ u ∷ []))
                 in_cell own in
