@@ -3,15 +3,12 @@
 ghost use Rattle.std.specs.Prelude.{◌≤◌, ◌∷◌, [], length, IfOk};
 ghost use Rattle.ipc_model.specs.Entries.{entries};
 
+use crate::lists::{MOST, Parts, head_of};
 use ipc_column::{Batch, Cell};
-use ipc_meta::BatchHead;
 use ipc_model::{DataType, Fault, Field, Items, Limits, Text};
 use std::alloc::{AllocError, Global};
 use std::collections::BTreeMap;
 use std::rc::Rc;
-use std::test::Fail;
-
-const MOST: i64 = 2_147_483_647;
 
 fn field(alloc: Global, kind: DataType) -> Result<Field, AllocError>
     ensures { IfOk result (λ f. length (entries (f ∷ [])) ≤ 1) }
@@ -34,28 +31,9 @@ fn fields(alloc: Global, kind: DataType) -> Result<Rc<Vec<Field>>, AllocError>
     Ok(Rc::new(alloc, all)?)
 }
 
-// What a batch of one column says of itself: its length, its null count and where its buffers lie.
-fn head_of(
-    alloc: Global,
-    node: (i64, i64),
-    buffers: &[(i64, i64)],
-) -> Result<BatchHead, AllocError> {
-    Ok(BatchHead {
-        length: node.0,
-        nodes: Items::copied(alloc, &[node])?,
-        buffers: Items::copied(alloc, buffers)?,
-    })
-}
-
-pub(crate) fn batch(
-    alloc: Global,
-    kind: DataType,
-    node: (i64, i64),
-    buffers: &[(i64, i64)],
-    body: &[u8],
-) -> Result<Batch, Fault> {
+fn batch(alloc: Global, kind: DataType, parts: Parts<'_>, body: &[u8]) -> Result<Batch, Fault> {
     let fields = fields(alloc, kind)?;
-    let head = head_of(alloc, node, buffers)?;
+    let head = head_of(alloc, parts)?;
     let body = Vec::from_slice(alloc, body)?;
     let none = BTreeMap::new(alloc);
     Batch::check(alloc, &Limits::standard(), fields, head, body, &none)
@@ -70,70 +48,49 @@ pub(crate) fn cell_of(batch: &Batch, row: usize) -> Option<Cell<'_>> {
     }
 }
 
-fn is_copied(batch: &Batch) -> Result<bool, AllocError> {
-    let copy = batch.clone()?;
-    Ok(copy.rows() == 2_147_483_647 && copy.body_len() == 0)
+// Whether a batch and its copy have as many rows as there may be, and no slot is tested.
+fn is_longest(batch: &Batch) -> bool {
+    let copy: Result<_, _> = batch.clone();
+    batch.rows() == 2_147_483_647
+        && batch.tests() == 0
+        && matches!(&copy, Ok(copy) if copy.rows() == 2_147_483_647 && copy.body_len() == 0)
 }
 
-#[test]
-fn nulls(rt: HostRuntime) -> Result<(), Fail> {
-    let found = batch(rt.alloc(), DataType::Null, (MOST, 5), &[], &[])?;
-    assert!(rt; found.rows() == 2_147_483_647 && found.tests() == 0);
-    assert!(rt; matches!(cell_of(&found, 2_147_483_646), Some(Cell::Null)));
-    assert!(rt; is_copied(&found)?);
-    Ok(())
+// Whether its last row is null.
+fn ends_in_null(batch: &Batch) -> bool {
+    matches!(cell_of(batch, 2_147_483_646), Some(Cell::Null))
 }
 
-// A batch of three nulls, of fields that are lent.
-fn nulls_of(alloc: Global, fields: &[Field]) -> Result<Batch, Fault>
-    requires { length (entries fields.now) ≤ 1 }
-{
-    let head = head_of(alloc, (3, 3), &[])?;
-    let none = BTreeMap::new(alloc);
-    Batch::check_borrowed(
-        alloc,
-        &Limits::standard(),
-        fields,
-        head,
-        Vec::new(alloc),
-        &none,
-    )
+// Whether its last row has no bytes.
+fn ends_in_no_bytes(batch: &Batch) -> bool {
+    matches!(cell_of(batch, 2_147_483_646), Some(Cell::Bytes([])))
 }
 
-// The fields stay with whoever lends them.
-#[test]
-fn fields_that_are_lent(rt: HostRuntime) -> Result<(), Fail> {
-    let fields = fields(rt.alloc(), DataType::Null)?;
-    let found = nulls_of(rt.alloc(), fields.as_slice())?;
-    assert!(rt; found.rows() == 3 && fields.len() == found.columns());
-    Ok(())
+// As many nulls as there may be.
+fn are_nulls(alloc: Global) -> Result<bool, Fault> {
+    let found = batch(alloc, DataType::Null, (&[(MOST, 5)], &[]), &[])?;
+    Ok(ends_in_null(&found) && is_longest(&found))
 }
 
-#[test]
-fn one_null_too_many(rt: HostRuntime) -> Result<(), Fail> {
-    let fault = batch(rt.alloc(), DataType::Null, (MOST + 1, 5), &[], &[]).err();
-    assert!(rt; fault == Some(Fault::BadNode));
-    Ok(())
+// As many rows of no bytes.
+fn are_of_no_bytes(alloc: Global) -> Result<bool, Fault> {
+    let parts: Parts<'_> = (&[(MOST, 0)], &[(0, 0), (0, 0)]);
+    let found = batch(alloc, DataType::FixedSizeBinary(0), parts, &[])?;
+    Ok(ends_in_no_bytes(&found) && is_longest(&found))
 }
 
-#[test]
-fn most_rows_of_no_bytes(rt: HostRuntime) -> Result<(), Fail> {
-    let kind = DataType::FixedSizeBinary(0);
-    let found = batch(rt.alloc(), kind, (MOST, 0), &[(0, 0), (0, 0)], &[])?;
-    assert!(rt; matches!(cell_of(&found, 2_147_483_646), Some(Cell::Bytes([]))));
-    Ok(())
-}
-
-// A null slot over ff, and a slot with `z`.
-#[test]
-fn null_texts(rt: HostRuntime) -> Result<(), Fail> {
+// Each of a null slot over ff and a slot with `z` is tested once.
+fn are_texts(alloc: Global) -> Result<bool, Fault> {
     let body = [
         0b10, 0, 0, 0, 0, 0, 0, 0, 1, 0, 0, 0, 2, 0, 0, 0, 0xff, 0x7a,
     ];
-    let buffers = [(0, 1), (4, 12), (16, 2)];
-    let found = batch(rt.alloc(), DataType::Utf8, (2, 1), &buffers, &body)?;
-    assert!(rt; matches!(cell_of(&found, 0), Some(Cell::Null)));
-    assert!(rt; matches!(cell_of(&found, 1), Some(Cell::Text("z"))));
-    assert!(rt; found.tests() == 2);
-    Ok(())
+    let parts: Parts<'_> = (&[(2, 1)], &[(0, 1), (4, 12), (16, 2)]);
+    Ok(batch(alloc, DataType::Utf8, parts, &body)?.tests() == 2)
+}
+
+#[test]
+fn slots_of_flat_columns(rt: HostRuntime) {
+    assert!(rt; are_nulls(rt.alloc()) == Ok(true));
+    assert!(rt; are_of_no_bytes(rt.alloc()) == Ok(true));
+    assert!(rt; are_texts(rt.alloc()) == Ok(true));
 }

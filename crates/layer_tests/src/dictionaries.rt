@@ -1,14 +1,17 @@
-//! Dictionaries: those that a reader has in force, and what a writer sends of one with each batch.
-//!
-//! A letter stands for a value, its text, and `-` for a null.
+//! Dictionaries: those that a reader has in force, and what a writer sends of one with each batch,
+//! before the columns of indices, be the rows pushed one by one or encoded at once.
 ghost use Rattle.std.specs.Prelude.{◌≡◌};
+ghost use Rattle.std.specs.List.{AllByRecursion};
 ghost use Rattle.ipc_dict.specs.SchemaIds.{kept_ids, ids_of};
+ghost use Rattle.ipc_model.specs.Entries.{entries};
+ghost use Rattle.ipc_model.specs.Fits.{RowFits};
+ghost use Rattle.ipc_model.specs.WellFormed.{IsFieldWellFormed};
 
-use crate::columns::batch;
-use crate::indices::indexed;
+use crate::encoding::fit;
+use crate::indices::{A_AND_B, ONLY_C, in_force, indexed, set};
 use ipc_column::{Batch, Cell};
 use ipc_dict::{Dictionaries, Kept, Plan, Tally};
-use ipc_encode::{IndexOf, Renumber, SameNumbers};
+use ipc_encode::{Builder, IndexOf, encode};
 use ipc_model::{
     DataType, Dictionary, Fault, Field, IndexType, IntBits, Items, Limits, Row, Schema, Value,
     WriteFault,
@@ -35,41 +38,24 @@ pub(crate) fn schema_of(alloc: Global, columns: usize) -> Result<Schema, AllocEr
     Ok(Schema::new(fields))
 }
 
-fn value_of(alloc: Global, letter: u8) -> Result<Value, AllocError> {
-    if letter == b'-' {
-        return Ok(Value::Null);
-    }
-    let mut text = String::new(alloc);
-    text.push(letter as char)?;
-    Value::text(alloc, &text)
-}
-
-fn row_of(alloc: Global, letters: &[u8]) -> Result<Row, AllocError> {
+// A row of these texts, in which `-` is a null.
+fn row_of(alloc: Global, texts: &[&str]) -> Result<Row, AllocError> {
     let mut row = Vec::new(alloc);
-    for letter in letters {
-        row.push(value_of(alloc, *letter)?)?;
+    for text in texts {
+        row.push(match *text {
+            "-" => Value::Null,
+            text => Value::text(alloc, text)?,
+        })?;
     }
     Ok(Items::from_vec(row))
 }
 
-// Rows of so many letters each.
-pub(crate) fn rows_of(
-    alloc: Global,
-    letters: &[u8],
-    columns: usize,
-) -> Result<Vec<Row>, AllocError> {
+fn rows_of(alloc: Global, texts: &[&[&str]]) -> Result<Vec<Row>, AllocError> {
     let mut rows = Vec::new(alloc);
-    for row in letters.chunks(columns.max(1)) {
+    for row in texts {
         rows.push(row_of(alloc, row)?)?;
     }
     Ok(rows)
-}
-
-fn letter_of(value: Option<&Value>) -> u8 {
-    match value {
-        Some(Value::Text(text)) => text.as_str().as_bytes().first().copied().unwrap_or(b'?'),
-        _ => b'?',
-    }
 }
 
 // Tells the dictionaries that a plan sends, each in braces.
@@ -77,57 +63,35 @@ fn tell_sends(told: &mut Vec<u8>, sends: &[(i64, Items<Row>)]) -> Result<(), All
     for send in sends {
         told.push(b'{')?;
         for row in send.1.as_slice() {
-            told.push(letter_of(row.as_slice().first()))?;
+            match row.first() {
+                Some(Value::Text(text)) => told.extend_from_slice(text.as_bytes())?,
+                _ => told.push(b'?')?,
+            }
         }
         told.push(b'}')?;
     }
     Ok(())
 }
 
-// Tells indices, under the numbers that they have in what was sent.
-fn tell_indices<N: Renumber>(
-    told: &mut Vec<u8>,
-    numbers: &N,
-    indices: &[Option<u64>],
-) -> Result<(), AllocError> {
-    for index in indices {
-        let digit = match *index {
-            Some(index) => b"0123456789".get(numbers.to(7, index) as usize).copied(),
-            None => Some(b'-'),
-        };
-        told.push(digit.unwrap_or(b'?'))?;
-    }
-    Ok(told.push(b' ')?)
-}
-
-// Finds the indices of a row's values.
-fn find<I: IndexOf>(
-    indices: &mut Vec<Option<u64>>,
-    known: &I,
-    row: &[Value],
-) -> Result<(), AllocError> {
-    for value in row {
-        indices.push(known.index_of(7, value))?;
-    }
-    Ok(())
-}
-
-// Tells what a plan sends, and the indices that it gives to rows.
-fn tell_plan(
+// Tells what a plan sends, and the body of these rows under it.
+fn tell_encoded(
     alloc: Global,
     told: &mut Vec<u8>,
-    plan: &Plan,
+    limits: &Limits,
+    fields: &[Field],
     rows: &[Row],
-) -> Result<(), AllocError> {
+    plan: &Plan,
+) -> Result<(), WriteFault>
+    requires fine { AllByRecursion (IsFieldWellFormed limits.now) (entries fields.now) }
+    requires conform { AllByRecursion (RowFits fields.now) rows.now }
+{
     tell_sends(told, plan.sends())?;
-    let mut indices = Vec::new(alloc);
-    for row in rows {
-        find(&mut indices, plan, row.as_slice())?;
-    }
-    tell_indices(told, &SameNumbers, &indices)
+    let parts = encode(alloc, limits, fields, rows, plan)?;
+    Ok(told.extend_from_slice(parts.body.as_slice())?)
 }
 
-// Tells what a batch of these rows sends, and the indices that its plan gives.
+// Tells what a batch of these rows sends, and its body, encoded at once under the plan of all.
+#[tactic(auto, using(ipc_model::proofs::Depths::short_paths))]
 fn tell_planned(
     alloc: Global,
     told: &mut Vec<u8>,
@@ -140,55 +104,47 @@ fn tell_planned(
 {
     let limits = Limits::standard();
     schema.check(alloc, &limits)?;
+    if !fit(schema, rows) {
+        return Err(WriteFault::Failed);
+    }
     let plan = Plan::for_rows(alloc, &limits, schema, kept, rows)?;
-    tell_plan(alloc, told, &plan, rows)?;
+    tell_encoded(alloc, told, &limits, schema.fields.as_slice(), rows, &plan)?;
     plan.commit(kept);
     Ok(())
 }
 
 // A tally of a schema that is well formed.
-pub(crate) fn tally_of(alloc: Global, schema: &Schema) -> Result<Tally, WriteFault> {
+fn tally_of(alloc: Global, schema: &Schema) -> Result<Tally, WriteFault> {
     let limits = Limits::standard();
     schema.check(alloc, &limits)?;
     Tally::new(alloc, &limits, schema)
 }
 
-// Counts rows, and finds each index right behind its row.
-fn count(
-    tally: &mut Tally,
-    indices: &mut Vec<Option<u64>>,
-    rows: &[Row],
-) -> Result<(), WriteFault> {
+// Counts rows and holds them.
+fn count(tally: &mut Tally, builder: &mut Builder, rows: &[Row]) -> Result<(), WriteFault> {
     for row in rows {
         tally.note(row.as_slice())?;
-        find(indices, tally, row.as_slice())?;
+        builder.push(row.as_slice(), tally)?;
     }
     Ok(())
 }
 
-// A tally of rows, and their indices.
-fn counted(
-    alloc: Global,
-    schema: &Schema,
-    rows: &[Row],
-) -> Result<(Tally, Vec<Option<u64>>), WriteFault> {
+// Rows, counted and held.
+fn counted(alloc: Global, schema: &Schema, rows: &[Row]) -> Result<(Tally, Builder), WriteFault> {
     let mut tally = tally_of(alloc, schema)?;
-    let mut indices = Vec::new(alloc);
-    count(&mut tally, &mut indices, rows)?;
-    Ok((tally, indices))
+    let mut builder = Builder::new(alloc, schema.fields.as_slice(), &Limits::standard())?;
+    count(&mut tally, &mut builder, rows)?;
+    Ok((tally, builder))
 }
 
-// Tells what a plan sends, and indices under its numbers.
-fn tell_settled(
-    told: &mut Vec<u8>,
-    plan: &Plan,
-    indices: &[Option<u64>],
-) -> Result<(), AllocError> {
+// Tells what a plan sends, and the body of the rows that a builder holds, under the plan's numbers.
+fn tell_held(told: &mut Vec<u8>, builder: Builder, plan: &Plan) -> Result<(), WriteFault> {
     tell_sends(told, plan.sends())?;
-    tell_indices(told, plan, indices)
+    let parts = builder.finish(plan)?;
+    Ok(told.extend_from_slice(parts.body.as_slice())?)
 }
 
-// Tells the same of rows that are counted one by one.
+// Tells the same of rows that are counted and held one by one.
 fn tell_counted(
     alloc: Global,
     told: &mut Vec<u8>,
@@ -199,102 +155,133 @@ fn tell_counted(
     requires { kept_ids kept.old ≡ ids_of schema.now.fields }
     ensures { kept_ids kept.new ≡ ids_of schema.now.fields }
 {
-    let (tally, indices) = counted(alloc, schema, rows)?;
+    let (tally, builder) = counted(alloc, schema, rows)?;
     let plan = tally.settle(alloc, kept)?;
-    tell_settled(told, &plan, &indices)?;
+    tell_held(told, builder, &plan)?;
     plan.commit(kept);
     Ok(())
 }
 
-fn tell_batch(
+// What the batches of a writer, which has sent none yet, send, and their bodies.
+fn tell_batches(
     alloc: Global,
     told: &mut Vec<u8>,
     schema: &Schema,
-    kept: &mut Kept,
-    rows: &[Row],
+    batches: &[&[&[&str]]],
     by_rows: bool,
-) -> Result<(), WriteFault>
-    requires { kept_ids kept.old ≡ ids_of schema.now.fields }
-    ensures { kept_ids kept.new ≡ ids_of schema.now.fields }
-{
-    if by_rows {
-        tell_counted(alloc, told, schema, kept, rows)
-    } else {
-        tell_planned(alloc, told, schema, kept, rows)
-    }
-}
-
-// What batches under a schema send, and their indices.
-fn told_under(
-    alloc: Global,
-    schema: &Schema,
-    batches: &[&[u8]],
-    by_rows: bool,
-) -> Result<Vec<u8>, WriteFault> {
+) -> Result<(), WriteFault> {
     let mut kept = Kept::new(alloc, schema)?;
-    let mut told = Vec::new(alloc);
-    for letters in batches {
-        let rows = rows_of(alloc, letters, schema.fields.len())?;
-        tell_batch(alloc, &mut told, schema, &mut kept, &rows, by_rows)?;
-    }
-    Ok(told)
-}
-
-fn told(
-    alloc: Global,
-    columns: usize,
-    batches: &[&[u8]],
-    by_rows: bool,
-) -> Result<Vec<u8>, WriteFault> {
-    let schema = schema_of(alloc, columns)?;
-    told_under(alloc, &schema, batches, by_rows)
-}
-
-// Each batch is a list of letters, one for each row.
-const BATCHES: [&[u8]; 6] = [b"aba-", b"b", b"cb", b"-", b"bbc", b"bbcd"];
-
-const SENT: &[u8] = b"{ab}010- 1 {cb}01 - 110 {bcd}0012 ";
-
-#[test]
-fn grows_planned_batches(rt: HostRuntime) -> Result<(), Fail> {
-    assert!(rt; told(rt.alloc(), 1, &BATCHES, false)?.as_slice() == SENT);
-    Ok(())
-}
-
-#[test]
-fn grows_batches_row_by_row(rt: HostRuntime) -> Result<(), Fail> {
-    assert!(rt; told(rt.alloc(), 1, &BATCHES, true)?.as_slice() == SENT);
-    Ok(())
-}
-
-#[test]
-fn a_first_batch_of_nulls(rt: HostRuntime) -> Result<(), Fail> {
-    assert!(rt; told(rt.alloc(), 1, &[b"--"], false)?.as_slice() == b"{}-- ".as_slice());
-    Ok(())
-}
-
-#[test]
-fn two_columns_of_one_dictionary(rt: HostRuntime) -> Result<(), Fail> {
-    assert!(rt; told(rt.alloc(), 2, &[b"xyyz"], false)?.as_slice() == b"{xyz}0112 ".as_slice());
-    Ok(())
-}
-
-// Counts rows of the first texts, two in each, and tells how many rows were taken.
-fn take(alloc: Global, tally: &mut Tally, texts: usize) -> Result<usize, WriteFault> {
-    let mut taken = 0usize;
-    for number in 0..texts {
-        let row = [numbered(alloc, number)?, Value::Null];
-        match tally.note(&row) {
-            Ok(()) => taken = taken.saturating_add(1),
-            Err(WriteFault::DictionaryFull) => return Ok(taken),
-            Err(fault) => return Err(fault),
+    for texts in batches {
+        let rows = rows_of(alloc, texts)?;
+        if by_rows {
+            tell_counted(alloc, told, schema, &mut kept, &rows)?;
+        } else {
+            tell_planned(alloc, told, schema, &mut kept, &rows)?;
         }
     }
-    Ok(taken)
+    Ok(())
+}
+
+fn tell(alloc: Global, told: &mut Vec<u8>, case: &Case, by_rows: bool) -> Result<(), WriteFault> {
+    let schema = schema_of(alloc, case.columns)?;
+    tell_batches(alloc, told, &schema, case.batches, by_rows)
+}
+
+fn is_told(alloc: Global, case: &Case, by_rows: bool) -> Result<bool, WriteFault> {
+    let mut told = Vec::new(alloc);
+    tell(alloc, &mut told, case, by_rows)?;
+    Ok(told.as_slice() == case.told)
+}
+
+// The rows of batches under so many columns of one dictionary; the dictionaries that are sent, each
+// in braces, and the bodies: the numbers of the indices, behind a bitmap where there is a null.
+struct Case {
+    columns: usize,
+    batches: &'static [&'static [&'static [&'static str]]],
+    told: &'static [u8],
+}
+
+const CASES: [Case; 3] = [
+    // The third batch sends {c, b}, the fifth nothing, and the sixth {b, c, d}.
+    Case {
+        columns: 1,
+        batches: &[
+            &[&["a"], &["b"], &["a"], &["-"]],
+            &[&["b"]],
+            &[&["c"], &["b"]],
+            &[&["-"]],
+            &[&["b"], &["b"], &["c"]],
+            &[&["b"], &["b"], &["c"], &["d"]],
+        ],
+        told: &[
+            b'{', b'a', b'b', b'}', 7, 0, 0, 0, 0, 0, 0, 0, 0, 1, 0, 0, 0, 0, 0, 0, 1, 0, 0, 0, 0,
+            0, 0, 0, b'{', b'c', b'b', b'}', 0, 1, 0, 0, 0, 0, 0, 0, 0, 0, 0, 0, 0, 0, 0, 0, 0, 0,
+            0, 0, 0, 0, 0, 0, 1, 1, 0, 0, 0, 0, 0, 0, b'{', b'b', b'c', b'd', b'}', 0, 0, 1, 2, 0,
+            0, 0, 0,
+        ],
+    },
+    // A first batch of nulls sends no values.
+    Case {
+        columns: 1,
+        batches: &[&[&["-"], &["-"]]],
+        told: &[b'{', b'}', 0, 0, 0, 0, 0, 0, 0, 0, 0, 0, 0, 0, 0, 0, 0, 0],
+    },
+    Case {
+        columns: 2,
+        batches: &[&[&["x", "y"], &["y", "z"]]],
+        told: &[
+            b'{', b'x', b'y', b'z', b'}', 0, 1, 0, 0, 0, 0, 0, 0, 1, 2, 0, 0, 0, 0, 0, 0,
+        ],
+    },
+];
+
+#[test]
+fn grows_batches_of_indices(rt: HostRuntime) -> Result<(), Fail> {
+    for (number, case) in CASES.iter().enumerate() {
+        assert!(rt; is_told(rt.alloc(), case, false)?, "case {number}");
+        assert!(rt;
+            is_told(rt.alloc(), case, true)?,
+            "case {number}, row by row"
+        );
+    }
+    Ok(())
 }
 
 fn numbered(alloc: Global, number: usize) -> Result<Value, AllocError> {
     Value::text(alloc, &format!(in alloc; "{number}")?)
+}
+
+// Counts a row of the text with this number, and of another one or of a null.
+fn take_row(
+    alloc: Global,
+    tally: &mut Tally,
+    number: usize,
+    other: Option<usize>,
+) -> Result<(), WriteFault> {
+    let mut row = Vec::new(alloc);
+    row.push(numbered(alloc, number)?)?;
+    row.push(match other {
+        Some(other) => numbered(alloc, other)?,
+        None => Value::Null,
+    })?;
+    tally.note(row.as_slice())
+}
+
+// Counts rows of the first texts, and tells how many rows were taken.
+fn take(alloc: Global, tally: &mut Tally, texts: usize) -> Result<usize, WriteFault> {
+    for number in 0..texts {
+        match take_row(alloc, tally, number, None) {
+            Ok(()) => {}
+            Err(WriteFault::DictionaryFull) => return Ok(number),
+            Err(fault) => return Err(fault),
+        }
+    }
+    Ok(texts)
+}
+
+fn tally_of_two(alloc: Global) -> Result<Tally, WriteFault> {
+    let schema = schema_of(alloc, 2)?;
+    tally_of(alloc, &schema)
 }
 
 // How many of so many texts are taken.
@@ -303,202 +290,112 @@ fn taken(alloc: Global, texts: usize) -> Result<usize, WriteFault> {
     take(alloc, &mut tally, texts)
 }
 
-fn tally_of_two(alloc: Global) -> Result<Tally, WriteFault> {
-    let schema = schema_of(alloc, 2)?;
-    tally_of(alloc, &schema)
-}
-
-#[test]
-fn as_many_texts_as_the_indices_count(rt: HostRuntime) -> Result<(), Fail> {
-    assert!(rt; taken(rt.alloc(), 128)? == 128);
-    assert!(rt; taken(rt.alloc(), 129)? == 128);
-    Ok(())
-}
-
-// Takes a row of two new texts.
-fn take_two(alloc: Global, tally: &mut Tally) -> Result<(), WriteFault> {
-    let row = [numbered(alloc, 127)?, numbered(alloc, 128)?];
-    tally.note(&row)
-}
-
-// Takes a row of one of them.
-fn take_one(alloc: Global, tally: &mut Tally) -> Result<(), WriteFault> {
-    let row = [numbered(alloc, 127)?, Value::Null];
-    tally.note(&row)
-}
-
-// Whether a row of two new texts is refused and leaves no index, and the first is taken alone.
-fn is_cut_off(alloc: Global, tally: &mut Tally, first: &Value) -> bool {
-    take_two(alloc, tally) == Err(WriteFault::DictionaryFull)
+// Whether, behind 127 texts, a row of two new ones is refused and leaves no index, and the first is
+// taken alone.
+fn cuts_off(alloc: Global, tally: &mut Tally, first: &Value) -> bool {
+    take(alloc, tally, 127) == Ok(127)
+        && take_row(alloc, tally, 127, Some(128)) == Err(WriteFault::DictionaryFull)
         && tally.index_of(7, first).is_none()
-        && take_one(alloc, tally) == Ok(())
+        && take_row(alloc, tally, 127, None) == Ok(())
         && tally.index_of(7, first) == Some(127)
 }
 
-// Behind 127 texts a row of two new ones is refused, and either of them is taken alone: the index
-// of the first is looked at before that and after it.
-#[test]
-fn a_refused_row_is_cut_off(rt: HostRuntime) -> Result<(), Fail> {
-    let first = numbered(rt.alloc(), 127)?;
-    let mut tally = tally_of_two(rt.alloc())?;
-    assert!(rt; take(rt.alloc(), &mut tally, 127) == Ok(127));
-    assert!(rt; is_cut_off(rt.alloc(), &mut tally, &first));
-    Ok(())
+fn is_cut_off(alloc: Global) -> Result<bool, WriteFault> {
+    let first = numbered(alloc, 127)?;
+    let mut tally = tally_of_two(alloc)?;
+    Ok(cuts_off(alloc, &mut tally, &first))
+}
+
+fn kept_of_none(alloc: Global) -> Result<Kept, WriteFault> {
+    Kept::new(alloc, &schema_of(alloc, 0)?)
 }
 
 // Why a tally gives no plan to a writer of no columns.
 fn refusal(alloc: Global) -> Result<Option<WriteFault>, WriteFault> {
-    let kept = Kept::new(alloc, &schema_of(alloc, 0)?)?;
+    let kept = kept_of_none(alloc)?;
     Ok(tally_of_two(alloc)?.settle(alloc, &kept).err())
 }
 
+// Indices of 8 bits count 128 texts.
 #[test]
-fn no_plan_for_another_writer(rt: HostRuntime) -> Result<(), Fail> {
-    assert!(rt; refusal(rt.alloc())? == Some(WriteFault::Failed));
-    Ok(())
+fn as_many_texts_as_the_indices_count(rt: HostRuntime) {
+    assert!(rt; taken(rt.alloc(), 128) == Ok(128));
+    assert!(rt; taken(rt.alloc(), 129) == Ok(128));
+    assert!(rt; is_cut_off(rt.alloc()) == Ok(true));
+    assert!(rt; refusal(rt.alloc()) == Ok(Some(WriteFault::Failed)));
 }
 
-// Values that are these letters: the offsets of texts of one byte each, and then the bytes.
-fn ab(alloc: Global) -> Result<Batch, Fault> {
-    let body = [
-        0, 0, 0, 0, 1, 0, 0, 0, 2, 0, 0, 0, 0, 0, 0, 0, b'a', b'b', 0, 0, 0, 0, 0, 0,
-    ];
-    batch(
-        alloc,
-        DataType::Utf8,
-        (2, 0),
-        &[(0, 0), (0, 12), (16, 2)],
-        &body,
-    )
-}
-
-fn c(alloc: Global) -> Result<Batch, Fault> {
-    let body = [0, 0, 0, 0, 1, 0, 0, 0, b'c', 0, 0, 0, 0, 0, 0, 0];
-    batch(
-        alloc,
-        DataType::Utf8,
-        (1, 0),
-        &[(0, 0), (0, 8), (8, 1)],
-        &body,
-    )
-}
-
-// Tells the letters of a batch's one column.
+// Tells the letters of a batch's one column, and a blank.
 fn tell_letters(told: &mut Vec<u8>, batch: &Batch) -> Result<(), AllocError> {
-    if batch.columns() == 0 {
-        return Ok(());
-    }
-    for row in 0..batch.rows() {
-        told.push(match batch.cell(row, 0) {
-            Cell::Text(text) => text.as_bytes().first().copied().unwrap_or(b'?'),
-            _ => b'?',
-        })?;
-    }
-    Ok(())
-}
-
-fn current(dictionaries: &Dictionaries) -> Result<Option<Rc<Batch>>, Fault> {
-    Ok(match dictionaries.current().get(&7) {
-        Some(values) => Some(values.clone()?),
-        None => None,
-    })
-}
-
-// Puts values in force for dictionary 7.
-fn set(alloc: Global, dictionaries: &mut Dictionaries, values: Batch) -> Result<(), Fault> {
-    if !values.is_dictionary() {
-        return Err(Fault::BadHeader);
-    }
-    dictionaries.apply(alloc, 7, values)
-}
-
-// Tells values that were handed out, and a blank.
-fn tell_values(told: &mut Vec<u8>, values: &Option<Rc<Batch>>) -> Result<(), AllocError> {
-    if let Some(values) = values {
-        tell_letters(told, values)?;
+    if 0 < batch.columns() {
+        for row in 0..batch.rows() {
+            match batch.cell(row, 0) {
+                Cell::Text(text) => told.extend_from_slice(text.as_bytes())?,
+                _ => told.push(b'?')?,
+            }
+        }
     }
     Ok(told.push(b' ')?)
 }
 
-// Takes values that are c, and tells those that were handed out before and after.
-fn replace(
-    alloc: Global,
-    told: &mut Vec<u8>,
-    dictionaries: &mut Dictionaries,
-    before: &Option<Rc<Batch>>,
-) -> Result<(), Fault> {
-    set(alloc, dictionaries, c(alloc)?)?;
-    tell_values(told, before)?;
-    let after = current(dictionaries)?;
-    Ok(tell_values(told, &after)?)
+fn current(dictionaries: &Dictionaries) -> Result<Rc<Batch>, Fault> {
+    match dictionaries.current().get(&7) {
+        Some(values) => Ok(values.clone()?),
+        None => Err(Fault::Failed),
+    }
 }
 
-// Takes values that are a and b, and others in their place, and answers how many bytes are held.
+// Takes values that are a and b, and others in their place; tells those that were handed out before
+// and after, and answers how many bytes were held each time.
 fn replaced(
     alloc: Global,
     told: &mut Vec<u8>,
     dictionaries: &mut Dictionaries,
-) -> Result<[usize; 2], Fault> {
-    set(alloc, dictionaries, ab(alloc)?)?;
-    let first = dictionaries.held();
+) -> Result<(usize, usize), Fault> {
+    set(alloc, dictionaries, &A_AND_B)?;
+    let held = dictionaries.held();
     let before = current(dictionaries)?;
-    replace(alloc, told, dictionaries, &before)?;
-    Ok([first, dictionaries.held()])
+    set(alloc, dictionaries, &ONLY_C)?;
+    tell_letters(told, &before)?;
+    if let Some(after) = dictionaries.current().get(&7) {
+        tell_letters(told, after)?;
+    }
+    Ok((held, dictionaries.held()))
 }
 
-// What is in force of a schema's dictionaries before any values came.
-fn in_force(alloc: Global, columns: usize) -> Result<Dictionaries, Fault> {
-    let schema = schema_of(alloc, columns)?;
-    Ok(Dictionaries::new(alloc, &schema)?)
-}
-
-#[test]
-fn grows_dictionaries_in_force(rt: HostRuntime) -> Result<(), Fail> {
-    let mut told = Vec::new(rt.alloc());
-    let mut dictionaries = in_force(rt.alloc(), 1)?;
-    assert!(rt; replaced(rt.alloc(), &mut told, &mut dictionaries)? == [24, 16]);
-    assert!(rt; told.as_slice() == b"ab c ".as_slice());
-    Ok(())
-}
-
-// A batch of two indices under the values in force, a and b, and then c in their place.
-fn read_before(alloc: Global, dictionaries: &mut Dictionaries) -> Result<Batch, Fault> {
-    set(alloc, dictionaries, ab(alloc)?)?;
-    let found = indexed(alloc, (2, 0), &[1, 0], dictionaries.current())?;
-    set(alloc, dictionaries, c(alloc)?)?;
-    Ok(found)
-}
-
-// Tells the letters of a batch that was handed out before, and of one that is read now.
+// Tells the letters of a batch that was handed out before the values were replaced, and of one that
+// is read then.
 fn tell_read_before(
     alloc: Global,
     told: &mut Vec<u8>,
     dictionaries: &mut Dictionaries,
 ) -> Result<(), Fault> {
-    let before = read_before(alloc, dictionaries)?;
-    let after = indexed(alloc, (1, 0), &[0], dictionaries.current())?;
+    set(alloc, dictionaries, &A_AND_B)?;
+    let before = indexed(alloc, (2, 0), &[1, 0], dictionaries)?;
+    set(alloc, dictionaries, &ONLY_C)?;
     tell_letters(told, &before)?;
+    let after = indexed(alloc, (1, 0), &[0], dictionaries)?;
     Ok(tell_letters(told, &after)?)
-}
-
-// A batch that was handed out keeps its dictionary, and one that is read later takes the new one.
-#[test]
-fn grows_a_batch_read_before(rt: HostRuntime) -> Result<(), Fail> {
-    let mut told = Vec::new(rt.alloc());
-    let mut dictionaries = in_force(rt.alloc(), 1)?;
-    tell_read_before(rt.alloc(), &mut told, &mut dictionaries)?;
-    assert!(rt; told.as_slice() == b"bac".as_slice());
-    Ok(())
 }
 
 fn width(dictionaries: &Dictionaries, id: i64) -> Option<usize> {
     Some(dictionaries.fields_of(id)?.len())
 }
 
-// How many columns the values of a dictionary that is named have, and those of one that isn't.
+fn are_replaced(alloc: Global, told: &mut Vec<u8>) -> Result<bool, Fault> {
+    let mut dictionaries = in_force(alloc)?;
+    let held = replaced(alloc, told, &mut dictionaries)?;
+    tell_read_before(alloc, told, &mut dictionaries)?;
+    let are_named = width(&dictionaries, 7) == Some(1) && width(&dictionaries, 8).is_none();
+    Ok(are_named && held == (24, 16))
+}
+
+// Values that were handed out stay, and so does a batch that was read under them; one that is read
+// later takes the new ones. The columns of a dictionary's values are told, and of no other.
 #[test]
-fn columns_of_values(rt: HostRuntime) -> Result<(), Fail> {
-    let dictionaries = in_force(rt.alloc(), 2)?;
-    assert!(rt; width(&dictionaries, 7) == Some(1) && width(&dictionaries, 8).is_none());
+fn grows_dictionaries_in_force(rt: HostRuntime) -> Result<(), Fail> {
+    let mut told = Vec::new(rt.alloc());
+    assert!(rt; are_replaced(rt.alloc(), &mut told)?);
+    assert!(rt; told.as_slice() == b"ab c ba c ".as_slice());
     Ok(())
 }

@@ -1,7 +1,6 @@
 //! FlatBuffers in place.
 
 use ipc_flat::{Flat, FlatFault, StructVec, TableRef, TableVec};
-use std::test::Fail;
 
 // The metadata of a stream's schema message, as the FlatBuffers library writes it for a schema
 // without fields: the message at 16 with its vtable at 4, the schema at 32 with its vtable at 28.
@@ -22,16 +21,8 @@ const REFERENCES: [u8; 60] = [
     0,
 ];
 
-fn root_of(bytes: &[u8]) -> Result<TableRef<'_>, Fail> {
-    Ok(Flat::root(bytes).ok().ok_or("a table")?)
-}
-
 fn is_refused(bytes: &[u8], wanted: FlatFault) -> bool {
     Flat::root(bytes).err() == Some(wanted)
-}
-
-fn has_text(table: &TableRef<'_>, slot: u16, wanted: &str) -> bool {
-    matches!(table.text(slot), Ok(Some(text)) if text == wanted)
 }
 
 // A schema without endianness and fields.
@@ -39,38 +30,23 @@ fn is_empty_schema(table: &TableRef<'_>) -> bool {
     matches!(table.scalar_i16(0, 0), Ok(0)) && matches!(table.tables(1), Ok(None))
 }
 
-#[test]
-fn schema_message(rt: HostRuntime) -> Result<(), Fail> {
-    let message = root_of(&SCHEMA_MESSAGE)?;
-    assert!(rt; matches!(message.scalar_i16(0, 0), Ok(4)));
-    assert!(rt; matches!(message.scalar_u8(1, 0), Ok(1)));
-    assert!(rt; matches!(message.scalar_i64(3, -7), Ok(-7)));
-    assert!(rt; matches!(message.table(2), Ok(Some(schema)) if is_empty_schema(&schema)));
-    Ok(())
+fn is_schema_message(message: &TableRef<'_>) -> bool {
+    matches!(message.scalar_i16(0, 0), Ok(4))
+        && matches!(message.scalar_u8(1, 0), Ok(1))
+        && matches!(message.scalar_i64(3, -7), Ok(-7))
+        && matches!(message.table(2), Ok(Some(schema)) if is_empty_schema(&schema))
 }
 
-#[test]
-fn vtable_behind_its_table(rt: HostRuntime) -> Result<(), Fail> {
-    let table = root_of(&VTABLE_BEHIND)?;
-    assert!(rt; matches!(table.scalar_i32(0, 0), Ok(42)));
-    assert!(rt; matches!(table.scalar_i32(1, 9), Ok(9)));
-    assert!(rt; matches!(table.scalar_i32(2, 9), Ok(9)));
-    Ok(())
+fn has_one_number(table: &TableRef<'_>) -> bool {
+    matches!(table.scalar_i32(0, 0), Ok(42))
+        && matches!(table.scalar_i32(1, 9), Ok(9))
+        && matches!(table.scalar_i32(2, 9), Ok(9))
 }
 
-// One table, whose text is behind the last byte.
+// One table, which shares the vtable, by which its text is behind the last byte.
 fn is_one_without_text(tables: &TableVec<'_>) -> bool {
     tables.len() == 1
         && matches!(tables.at(0), Ok(inner) if inner.text(0).err() == Some(FlatFault::OutOfBounds))
-}
-
-// The inner table shares the vtable, by which its text is behind the last byte.
-#[test]
-fn tables_in_place(rt: HostRuntime) -> Result<(), Fail> {
-    let root = root_of(&REFERENCES)?;
-    assert!(rt; has_text(&root, 0, "é"));
-    assert!(rt; matches!(root.tables(1), Ok(Some(tables)) if is_one_without_text(&tables)));
-    Ok(())
 }
 
 // Two structs, of which the second has the bytes 3 and 4.
@@ -78,26 +54,41 @@ fn are_two(structs: &StructVec<'_>) -> bool {
     structs.len() == 2 && matches!(structs.at(1), [3, 4])
 }
 
-#[test]
-fn structs_in_place(rt: HostRuntime) -> Result<(), Fail> {
-    let root = root_of(&REFERENCES)?;
-    assert!(rt; matches!(root.structs(2, 2), Ok(Some(structs)) if are_two(&structs)));
-    assert!(rt; matches!(root.structs(2, usize::MAX), Err(FlatFault::OutOfBounds)));
-    Ok(())
+fn has_structs(table: &TableRef<'_>) -> bool {
+    matches!(table.structs(2, 2), Ok(Some(structs)) if are_two(&structs))
+        && matches!(table.structs(2, usize::MAX), Err(FlatFault::OutOfBounds))
+}
+
+fn has_references(table: &TableRef<'_>) -> bool {
+    matches!(table.text(0), Ok(Some("é")))
+        && matches!(table.tables(1), Ok(Some(tables)) if is_one_without_text(&tables))
+        && has_structs(table)
+}
+
+// The references, with a text of other bytes.
+fn other_bytes() -> [u8; 60] {
+    let mut bytes = REFERENCES;
+    bytes[37] = 0;
+    bytes
 }
 
 #[test]
-fn faults(rt: HostRuntime) -> Result<(), Fail> {
+fn tables_in_place(rt: HostRuntime) {
+    assert!(rt; matches!(Flat::root(&SCHEMA_MESSAGE), Ok(message) if is_schema_message(&message)));
+    assert!(rt; matches!(Flat::root(&VTABLE_BEHIND), Ok(table) if has_one_number(&table)));
+    assert!(rt; matches!(Flat::root(&REFERENCES), Ok(table) if has_references(&table)));
+    let other = other_bytes();
+    assert!(rt;
+        matches!(
+            Flat::root(&other),
+            Ok(table) if table.text(0).err() == Some(FlatFault::NotUtf8)
+        )
+    );
+}
+
+#[test]
+fn faults(rt: HostRuntime) {
     assert!(rt; is_refused(&[], FlatFault::OutOfBounds));
     assert!(rt; is_refused(&[0, 0, 0, 0], FlatFault::OffsetZero));
     assert!(rt; is_refused(&[4, 0, 0, 0, 5, 0, 0, 0], FlatFault::BadVtable));
-    Ok(())
-}
-
-#[test]
-fn text_of_other_bytes(rt: HostRuntime) -> Result<(), Fail> {
-    let mut bytes = REFERENCES;
-    bytes[37] = 0;
-    assert!(rt; root_of(&bytes)?.text(0).err() == Some(FlatFault::NotUtf8));
-    Ok(())
 }

@@ -1,8 +1,8 @@
 //! Messages whose bytes come one by one.
+ghost use Rattle.std.specs.Prelude.{◌≤◌};
 
 use ipc_frame::Frames;
 use ipc_model::{Fault, Limits};
-use std::alloc::Global;
 use std::test::Fail;
 
 // The stream of samples/int64.arrows: a schema of 120 bytes, a batch of 160 with a body of 24, and
@@ -27,33 +27,6 @@ fn feed(frames: &mut Frames, piece: &[u8]) -> Result<(usize, bool), Fault> {
     Ok((taken, frame.is_some()))
 }
 
-// Behind how many bytes each frame is given.
-fn ends(alloc: Global, frames: &mut Frames) -> Result<Vec<usize>, Fault> {
-    let mut ends = Vec::new(alloc);
-    for (at, byte) in STREAM.iter().enumerate() {
-        let (taken, is_given) = feed(frames, &[*byte])?;
-        if is_given {
-            ends.push(at.saturating_add(taken))?;
-        }
-    }
-    Ok(ends)
-}
-
-// Feeds so many bytes of the stream, one by one.
-fn feed_first(frames: &mut Frames, count: usize) -> Result<(), Fault> {
-    for byte in STREAM.iter().take(count) {
-        frames.feed(&[*byte])?;
-    }
-    Ok(())
-}
-
-#[test]
-fn frames_are_given_with_their_last_byte(rt: HostRuntime) -> Result<(), Fail> {
-    let mut frames = Frames::new(rt.alloc(), Limits::standard());
-    assert!(rt; ends(rt.alloc(), &mut frames)?.as_slice() == [120, 280, 288].as_slice());
-    Ok(())
-}
-
 // Behind so many bytes: how many are wanted before the next decision, and how many are held.
 const DECISIONS: [(usize, (usize, usize)); 6] = [
     (0, (4, 0)),
@@ -64,24 +37,52 @@ const DECISIONS: [(usize, (usize, usize)); 6] = [
     (288, (0, 0)),
 ];
 
-#[test]
-fn bytes_before_the_next_decision(rt: HostRuntime) -> Result<(), Fail> {
-    for (count, wanted) in DECISIONS {
-        let mut frames = Frames::new(rt.alloc(), Limits::standard());
-        assert!(rt; feed_first(&mut frames, count) == Ok(()));
-        assert!(rt; (frames.wants(), frames.held()) == wanted);
+// Whether behind so many bytes as many are wanted and held as are given there, if any are.
+fn is_decided(frames: &Frames, count: usize) -> bool {
+    for (place, wanted) in DECISIONS {
+        if place == count && (frames.wants(), frames.held()) != wanted {
+            return false;
+        }
     }
-    Ok(())
+    true
+}
+
+// Whether a byte is taken, and a frame is given with it where it is a message's last.
+fn is_fed(frames: &mut Frames, at: usize, byte: u8) -> Result<bool, Fault> {
+    if !is_decided(frames, at) {
+        return Ok(false);
+    }
+    let (taken, is_given) = feed(frames, &[byte])?;
+    Ok(taken == 1 && is_given == matches!(at, 119 | 279 | 287))
+}
+
+// Whether so many bytes of the stream are taken one by one as they should be.
+fn are_fed(frames: &mut Frames, count: usize) -> bool
+    requires { count ≤ 288 }
+{
+    for at in 0..count {
+        if is_fed(frames, at, STREAM[at]) != Ok(true) {
+            return false;
+        }
+    }
+    is_decided(frames, count)
+}
+
+// Whether nothing is taken from now on.
+fn has_failed(frames: &mut Frames) -> bool {
+    feed(frames, &STREAM) == Err(Fault::Failed) && frames.held() == 0 && frames.wants() == 0
+}
+
+fn is_ended_inside(frames: &mut Frames) -> bool {
+    are_fed(frames, 279) && frames.close() == Err(Fault::Truncated) && has_failed(frames)
 }
 
 #[test]
-fn ended_inside_a_message(rt: HostRuntime) -> Result<(), Fail> {
+fn bytes_one_by_one(rt: HostRuntime) {
     let mut frames = Frames::new(rt.alloc(), Limits::standard());
-    assert!(rt; feed_first(&mut frames, 279) == Ok(()));
-    assert!(rt; frames.close() == Err(Fault::Truncated));
-    assert!(rt; frames.feed(&STREAM).err() == Some(Fault::Failed));
-    assert!(rt; frames.held() == 0 && frames.wants() == 0);
-    Ok(())
+    assert!(rt; are_fed(&mut frames, 288));
+    let mut frames = Frames::new(rt.alloc(), Limits::standard());
+    assert!(rt; is_ended_inside(&mut frames));
 }
 
 // Feeds a piece to its end, or to the end mark.
@@ -97,27 +98,25 @@ fn push(frames: &mut Frames, piece: &[u8]) -> Result<(), Fault> {
     Ok(())
 }
 
-// Whether a growth was refused, and nothing is taken from then on.
-fn is_out_of_memory(frames: &mut Frames, fault: Fault) -> bool {
-    let again = frames.feed(&STREAM).err();
-    fault == Fault::OutOfMemory && again == Some(Fault::Failed) && frames.held() == 0
-}
-
 // Pushes the stream in pieces of three bytes.
 fn push_in_threes(frames: &mut Frames) -> Result<(), Fault> {
     for piece in STREAM.chunks(3) {
         push(frames, piece)?;
     }
-    Ok(())
+    frames.close()
+}
+
+// Whether nothing is taken behind a growth that was refused.
+fn ends_at_a_fault(frames: &mut Frames) -> Result<bool, Fault> {
+    match push_in_threes(frames) {
+        Err(fault) if fault == Fault::OutOfMemory && has_failed(frames) => Err(fault),
+        pushed => Ok(pushed == Ok(())),
+    }
 }
 
 #[test]
 fn grows_pushed_frames(rt: HostRuntime) -> Result<(), Fail> {
     let mut frames = Frames::new(rt.alloc(), Limits::standard());
-    let pushed = push_in_threes(&mut frames);
-    match pushed {
-        Ok(()) => assert!(rt; frames.close() == Ok(())),
-        Err(fault) => assert!(rt; is_out_of_memory(&mut frames, fault)),
-    }
-    Ok(pushed?)
+    assert!(rt; ends_at_a_fault(&mut frames)?);
+    Ok(())
 }

@@ -1,26 +1,59 @@
-//! Columns of indices of dictionary 7, whose values are texts of one letter, or null: `-`.
-ghost use Rattle.std.specs.Prelude.{IfOk};
-ghost use Rattle.ipc_column.specs.Dictionaries.{AreDictionaries};
-
-use crate::columns::{batch, cell_of};
+//! How many slots are tested of columns of indices of dictionary 7, whose values are texts of one
+//! letter.
+use crate::columns::cell_of;
+use crate::dictionaries::schema_of;
 use crate::lists::{Parts, batch_under, over};
 use ipc_column::{Batch, Cell};
+use ipc_dict::Dictionaries;
 use ipc_model::{DataType, Dictionary, Fault, Field, IndexType, IntBits};
 use std::alloc::{AllocError, Global};
 use std::collections::BTreeMap;
-use std::rc::Rc;
-use std::test::Fail;
 
-// A batch of values in force for dictionary 7.
-fn in_force(alloc: Global, values: Batch) -> Result<BTreeMap<i64, Rc<Batch>>, Fault>
-    ensures { IfOk result (λ all. AreDictionaries all) }
-{
+// How many values there are, where their bytes lie, and the body: the offsets of texts of one byte
+// each, and then the bytes.
+pub(crate) struct Values {
+    count: i64,
+    offsets: (i64, i64),
+    bytes: (i64, i64),
+    body: &'static [u8],
+}
+
+pub(crate) const A_AND_B: Values = Values {
+    count: 2,
+    offsets: (0, 12),
+    bytes: (16, 2),
+    body: &[
+        0, 0, 0, 0, 1, 0, 0, 0, 2, 0, 0, 0, 0, 0, 0, 0, b'a', b'b', 0, 0, 0, 0, 0, 0,
+    ],
+};
+
+pub(crate) const ONLY_C: Values = Values {
+    count: 1,
+    offsets: (0, 8),
+    bytes: (8, 1),
+    body: &[0, 0, 0, 0, 1, 0, 0, 0, b'c', 0, 0, 0, 0, 0, 0, 0],
+};
+
+// Puts values in force for dictionary 7.
+pub(crate) fn set(
+    alloc: Global,
+    dictionaries: &mut Dictionaries,
+    values: &Values,
+) -> Result<(), Fault> {
+    let field = Field::new(alloc, "a", DataType::Utf8)?.nullable();
+    let buffers = [(0, 0), values.offsets, values.bytes];
+    let parts: Parts<'_> = (&[(values.count, 0)], &buffers);
+    let values = batch_under(alloc, field, parts, values.body, &BTreeMap::new(alloc))?;
     if !values.is_dictionary() {
-        return Err(Fault::Failed);
+        return Err(Fault::BadHeader);
     }
-    let mut all = BTreeMap::new(alloc);
-    all.insert(7, Rc::new(alloc, values)?)?;
-    Ok(all)
+    dictionaries.apply(alloc, 7, values)
+}
+
+// What is in force of dictionary 7 before any values came.
+pub(crate) fn in_force(alloc: Global) -> Result<Dictionaries, Fault> {
+    let schema = schema_of(alloc, 2)?;
+    Ok(Dictionaries::new(alloc, &schema)?)
 }
 
 // A column of texts under signed indices of 8 bits.
@@ -37,119 +70,25 @@ fn column(alloc: Global) -> Result<Field, AllocError> {
     }))
 }
 
-// A batch of so many indices of 8 bits, of which so many are null.
+// A batch of so many indices of 8 bits, of which so many are null, under the values in force.
 pub(crate) fn indexed(
     alloc: Global,
     node: (i64, i64),
     body: &[u8],
-    dictionaries: &BTreeMap<i64, Rc<Batch>>,
-) -> Result<Batch, Fault>
-    requires { AreDictionaries dictionaries.now }
-{
+    dictionaries: &Dictionaries,
+) -> Result<Batch, Fault> {
     // A bitmap stands in front of the indices, where there are nulls.
     let bitmap = if node.1 == 0 { 0 } else { 1 };
     let parts: Parts<'_> = (&[node], &[(0, bitmap), (bitmap, node.0)]);
-    batch_under(alloc, column(alloc)?, parts, body, dictionaries)
+    batch_under(alloc, column(alloc)?, parts, body, dictionaries.current())
 }
 
-// Such a batch over these values alone.
-fn indexed_over(
-    alloc: Global,
-    node: (i64, i64),
-    body: &[u8],
-    values: Batch,
-) -> Result<Batch, Fault> {
-    let dictionaries = in_force(alloc, values)?;
-    indexed(alloc, node, body, &dictionaries)
-}
-
-// The values of a dictionary: a and b.
-fn a_and_b(alloc: Global) -> Result<Batch, Fault> {
-    let body = [0, 0, 0, 0, 1, 0, 0, 0, 2, 0, 0, 0, b'a', b'b'];
-    batch(
-        alloc,
-        DataType::Utf8,
-        (2, 0),
-        &[(0, 0), (0, 12), (12, 2)],
-        &body,
-    )
-}
-
-// The values of a dictionary: c.
-fn only_c(alloc: Global) -> Result<Batch, Fault> {
-    let body = [0, 0, 0, 0, 1, 0, 0, 0, b'c'];
-    batch(
-        alloc,
-        DataType::Utf8,
-        (1, 0),
-        &[(0, 0), (0, 8), (8, 1)],
-        &body,
-    )
-}
-
-// The values of a dictionary: a and null.
-fn a_and_null(alloc: Global) -> Result<Batch, Fault> {
-    let body = [1, 0, 0, 0, 0, 0, 0, 0, 1, 0, 0, 0, 1, 0, 0, 0, b'a'];
-    batch(
-        alloc,
-        DataType::Utf8,
-        (2, 1),
-        &[(0, 1), (4, 12), (16, 1)],
-        &body,
-    )
-}
-
-// Whether a row shows this letter.
-fn shows(batch: &Batch, row: usize, letter: u8) -> bool {
-    match cell_of(batch, row) {
-        Some(Cell::Text(text)) => text.as_bytes() == [letter].as_slice(),
-        Some(Cell::Null) => letter == b'-',
-        _ => false,
-    }
-}
-
-// A batch takes the values that it is given: those before, or those that took their place.
-#[test]
-fn replaced_values(rt: HostRuntime) -> Result<(), Fail> {
-    let alloc = rt.alloc();
-    let before = indexed_over(alloc, (2, 0), &[0, 1], a_and_b(alloc)?)?;
-    assert!(rt; shows(&before, 0, b'a') && shows(&before, 1, b'b'));
-    let after = indexed_over(alloc, (1, 0), &[0], only_c(alloc)?);
-    assert!(rt; matches!(&after, Ok(after) if shows(after, 0, b'c') && after.tests() == 0));
-    Ok(())
-}
-
-// Why one index of the values that are only c is refused.
-fn refusal(alloc: Global, index: u8) -> Result<Option<Fault>, Fault> {
-    Ok(indexed_over(alloc, (1, 0), &[index], only_c(alloc)?).err())
-}
-
-// The first index that has no value, one below 0, and both below null slots.
-#[test]
-fn indices_without_values(rt: HostRuntime) -> Result<(), Fail> {
-    let alloc = rt.alloc();
-    assert!(rt; refusal(alloc, 1) == Ok(Some(Fault::BadIndex)));
-    assert!(rt; refusal(alloc, 0xff) == Ok(Some(Fault::BadIndex)));
-    let nulls = indexed_over(alloc, (3, 2), &[0b010, 1, 0, 0xff], only_c(alloc)?)?;
-    assert!(rt; shows(&nulls, 0, b'-') && shows(&nulls, 1, b'c') && nulls.tests() == 3);
-    Ok(())
-}
-
-#[test]
-fn no_dictionary(rt: HostRuntime) -> Result<(), Fail> {
-    let alloc = rt.alloc();
-    let none = BTreeMap::new(alloc);
-    let nulls = indexed(alloc, (2, 2), &[0, 0, 0], &none)?;
-    assert!(rt; shows(&nulls, 0, b'-') && shows(&nulls, 1, b'-'));
-    assert!(rt; indexed(alloc, (1, 0), &[0], &none).err() == Some(Fault::BadIndex));
-    Ok(())
-}
-
-#[test]
-fn null_among_the_values(rt: HostRuntime) -> Result<(), Fail> {
-    let found = indexed_over(rt.alloc(), (2, 0), &[1, 0], a_and_null(rt.alloc())?)?;
-    assert!(rt; shows(&found, 0, b'-') && shows(&found, 1, b'a'));
-    Ok(())
+// An index that has a value isn't tested by itself, and below null slots each is; there stand an
+// index that has no value and one below 0.
+fn are_few(alloc: Global, dictionaries: &Dictionaries) -> Result<bool, Fault> {
+    let one = indexed(alloc, (1, 0), &[0], dictionaries)?.tests();
+    let found = indexed(alloc, (3, 2), &[0b010, 2, 0, 0xff], dictionaries)?;
+    Ok(one == 0 && found.tests() == 3 && matches!(cell_of(&found, 1), Some(Cell::Text("a"))))
 }
 
 // How a thousand indices stand in a thousand lists: one in each, or all of them in the first.
@@ -157,14 +96,6 @@ fn null_among_the_values(rt: HostRuntime) -> Result<(), Fail> {
 enum Spread {
     OneInEach,
     AllInFirst,
-}
-
-// A bitmap, in which only the last slot may be null.
-fn bitmap(alloc: Global, last_valid: bool) -> Result<Vec<u8>, AllocError> {
-    let mut body = vec![in alloc; 0xff; 124]?;
-    body.push(if last_valid { 0xff } else { 0x7f })?;
-    body.extend_from_slice(&[0, 0, 0])?;
-    Ok(body)
 }
 
 // The offset behind so many lists.
@@ -176,27 +107,18 @@ fn offset_behind(spread: Spread, lists: u16) -> u16 {
     }
 }
 
-// The offsets of a thousand lists.
-fn add_offsets(body: &mut Vec<u8>, spread: Spread) -> Result<(), AllocError> {
+// Writes a bitmap, in which only the last slot may be null, the offsets of a thousand lists, and
+// indices of which only the last may be of no value.
+fn write(body: &mut Vec<u8>, thousand: &Thousand) -> Result<(), AllocError> {
+    body.extend_from_slice(&[0xff; 124])?;
+    let last_bits = if thousand.last_valid { 0xff } else { 0x7f };
+    body.extend_from_slice(&[last_bits, 0, 0, 0])?;
     for lists in 0..=1000_u16 {
-        body.extend_from_slice(&offset_behind(spread, lists).to_le_bytes())?;
-        body.extend_from_slice(&[0, 0])?;
+        let [low, high] = offset_behind(thousand.spread, lists).to_le_bytes();
+        body.extend_from_slice(&[low, high, 0, 0])?;
     }
-    Ok(())
-}
-
-// A bitmap, offsets, and indices of which only the last may be of no value.
-fn thousand(
-    alloc: Global,
-    spread: Spread,
-    last_valid: bool,
-    last: u8,
-) -> Result<Vec<u8>, AllocError> {
-    let mut body = bitmap(alloc, last_valid)?;
-    add_offsets(&mut body, spread)?;
     body.extend_from_slice(&[0; 999])?;
-    body.push(last)?;
-    Ok(body)
+    Ok(body.push(thousand.last)?)
 }
 
 // How many are null and how many bytes the bitmap has, of the lists and of the indices: the lists
@@ -208,16 +130,15 @@ fn bitmaps(spread: Spread, nulls: i64) -> [(i64, i64); 2] {
     }
 }
 
-// A thousand lists of these bytes.
-fn lists(
+// How many slots are tested of a thousand lists with this body.
+fn tests(
     alloc: Global,
-    bitmaps: [(i64, i64); 2],
+    thousand: &Thousand,
     body: &[u8],
-    dictionaries: &BTreeMap<i64, Rc<Batch>>,
-) -> Result<Batch, Fault>
-    requires { AreDictionaries dictionaries.now }
-{
-    let [of_lists, of_indices] = bitmaps;
+    dictionaries: &Dictionaries,
+) -> Result<u64, Fault> {
+    let nulls = if thousand.last_valid { 0 } else { 1 };
+    let [of_lists, of_indices] = bitmaps(thousand.spread, nulls);
     let nodes = [(1000, of_lists.0), (1000, of_indices.0)];
     let buffers = [
         (0, of_lists.1),
@@ -227,50 +148,85 @@ fn lists(
     ];
     let parts: Parts<'_> = (&nodes, &buffers);
     let field = over(alloc, DataType::List, column(alloc)?)?;
-    batch_under(alloc, field, parts, body, dictionaries)
+    Ok(batch_under(alloc, field, parts, body, dictionaries.current())?.tests())
 }
 
-// How many slots of them are tested over these values.
-fn tests(
+fn is_told(
     alloc: Global,
+    thousand: &Thousand,
+    dictionaries: &Dictionaries,
+) -> Result<bool, AllocError> {
+    let mut body = Vec::new(alloc);
+    write(&mut body, thousand)?;
+    Ok(match tests(alloc, thousand, &body, dictionaries) {
+        Ok(tests) =>
+            matches!(thousand.wanted, Ok((least, most)) if least <= tests && tests <= most),
+        Err(fault) => thousand.wanted == Err(fault),
+    })
+}
+
+// Whether the last slot is valid, the last index, and how many slots are tested, at least and at
+// most, or why the batch is refused.
+struct Thousand {
     spread: Spread,
     last_valid: bool,
     last: u8,
-    values: Batch,
-) -> Result<u64, Fault> {
-    let dictionaries = in_force(alloc, values)?;
-    let body = thousand(alloc, spread, last_valid, last)?;
-    let bitmaps = bitmaps(spread, if last_valid { 0 } else { 1 });
-    Ok(lists(alloc, bitmaps, &body, &dictionaries)?.tests())
+    wanted: Result<(u64, u64), Fault>,
 }
 
-// The same of lists of one index each, over the values that are only c.
-fn tests_of_each(alloc: Global, last_valid: bool, last: u8) -> Result<u64, Fault> {
-    tests(alloc, Spread::OneInEach, last_valid, last, only_c(alloc)?)
+const THOUSANDS: [Thousand; 6] = [
+    Thousand {
+        spread: Spread::OneInEach,
+        last_valid: true,
+        last: 2,
+        wanted: Err(Fault::BadIndex),
+    },
+    Thousand {
+        spread: Spread::OneInEach,
+        last_valid: true,
+        last: 1,
+        wanted: Ok((0, 0)),
+    },
+    Thousand {
+        spread: Spread::OneInEach,
+        last_valid: false,
+        last: 2,
+        wanted: Ok((1, 2000)),
+    },
+    // The first list shows all indices, of which only a null one may be of no value.
+    Thousand {
+        spread: Spread::AllInFirst,
+        last_valid: true,
+        last: 2,
+        wanted: Err(Fault::BadIndex),
+    },
+    Thousand {
+        spread: Spread::AllInFirst,
+        last_valid: true,
+        last: 1,
+        wanted: Ok((0, 2000)),
+    },
+    Thousand {
+        spread: Spread::AllInFirst,
+        last_valid: false,
+        last: 9,
+        wanted: Ok((1, 2000)),
+    },
+];
+
+// Whether all of them are told under the values a and b, and few slots of few indices are tested.
+fn are_told(alloc: Global) -> Result<bool, Fault> {
+    let mut dictionaries = in_force(alloc)?;
+    set(alloc, &mut dictionaries, &A_AND_B)?;
+    for thousand in &THOUSANDS {
+        if !is_told(alloc, thousand, &dictionaries)? {
+            return Ok(false);
+        }
+    }
+    are_few(alloc, &dictionaries)
 }
 
 #[test]
-fn a_thousand_lists(rt: HostRuntime) -> Result<(), Fail> {
-    let alloc = rt.alloc();
-    assert!(rt; tests_of_each(alloc, true, 1) == Err(Fault::BadIndex));
-    assert!(rt; tests_of_each(alloc, true, 0) == Ok(0));
-    let hidden = tests_of_each(alloc, false, 1)?;
-    assert!(rt; 0 < hidden && hidden <= 2000);
-    Ok(())
-}
-
-// The same of lists of which the first has all indices, over the values a and b.
-fn tests_of_first(alloc: Global, last_valid: bool, last: u8) -> Result<u64, Fault> {
-    tests(alloc, Spread::AllInFirst, last_valid, last, a_and_b(alloc)?)
-}
-
-// The first list shows all indices, of which only a null one may be of no value.
-#[test]
-fn a_list_of_a_thousand(rt: HostRuntime) -> Result<(), Fail> {
-    let alloc = rt.alloc();
-    assert!(rt; tests_of_first(alloc, true, 2) == Err(Fault::BadIndex));
-    assert!(rt; tests_of_first(alloc, true, 1)? <= 2000);
-    let hidden = tests_of_first(alloc, false, 9)?;
-    assert!(rt; 0 < hidden && hidden <= 2000);
-    Ok(())
+fn slots_of_indices(rt: HostRuntime) {
+    assert!(rt; are_told(rt.alloc()) == Ok(true));
 }

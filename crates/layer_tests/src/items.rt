@@ -1,33 +1,36 @@
 //! Lists and texts that act as a slice and as a `str`.
 
 use ipc_items::{Items, Text};
-use std::test::Fail;
+use std::alloc::{AllocError, Global};
 
-#[test]
-fn items_act_as_a_slice(rt: HostRuntime) -> Result<(), Fail> {
-    let items = Items::copied(rt.alloc(), &[3u8, 5, 7])?;
+fn acts_as_a_slice(items: &Items<u8>) -> bool {
     let mut sum = 0u8;
-    for item in &items {
+    for item in items {
         sum = sum.wrapping_add(*item);
     }
-    assert!(rt; sum == 15 && items[2] == 7);
-    assert!(rt; items.get(1) == Some(&5) && items.get(3).is_none());
-    assert!(rt; items.contains(&5));
-    Ok(())
+    sum == 15 && items.get(1) == Some(&5) && items.get(3).is_none() && items.contains(&5)
+}
+
+fn are_items(alloc: Global) -> Result<bool, AllocError> {
+    let items = Items::copied(alloc, &[3, 5, 7])?;
+    let none: Items<u8> = Items::new(alloc);
+    let is_empty = none.is_empty() && none.first().is_none();
+    Ok(is_empty && items[2] == 7 && acts_as_a_slice(&items))
+}
+
+fn acts_as_a_str(alloc: Global, text: &Text) -> Result<bool, AllocError> {
+    let is_aligned = format!(in alloc; "{text:>6}")?.as_str() == " Größe";
+    Ok(is_aligned && text.len() == 7 && text.starts_with("Gr"))
+}
+
+fn are_texts(alloc: Global) -> Result<bool, AllocError> {
+    let is_empty = Text::copied(alloc, "")?.is_empty();
+    let text = Text::copied(alloc, "Größe")?;
+    Ok(is_empty && acts_as_a_str(alloc, &text)?)
 }
 
 #[test]
-fn no_items(rt: HostRuntime) -> Result<(), Fail> {
-    let none: Items<u8> = Items::new(rt.alloc());
-    assert!(rt; none.is_empty() && none.first().is_none());
-    assert!(rt; Text::copied(rt.alloc(), "")?.is_empty());
-    Ok(())
-}
-
-#[test]
-fn text_acts_as_a_str(rt: HostRuntime) -> Result<(), Fail> {
-    let text = Text::copied(rt.alloc(), "Größe")?;
-    assert!(rt; text.len() == 7 && text.starts_with("Gr"));
-    assert!(rt; format!(in rt.alloc(); "{text:>6}")?.as_str() == " Größe");
-    Ok(())
+fn lists_and_texts(rt: HostRuntime) {
+    assert!(rt; are_items(rt.alloc()) == Ok(true));
+    assert!(rt; are_texts(rt.alloc()) == Ok(true));
 }

@@ -4,8 +4,6 @@
 #![tactic(auto)]
 
 #[cfg(test)]
-mod building;
-#[cfg(test)]
 mod columns;
 #[cfg(test)]
 mod dictionaries;
@@ -15,8 +13,6 @@ mod encoding;
 mod flat;
 #[cfg(test)]
 mod frames;
-#[cfg(test)]
-mod index_columns;
 #[cfg(test)]
 mod indices;
 #[cfg(test)]

@@ -2,7 +2,6 @@
 ghost use Rattle.std.specs.Prelude.{◌<◌};
 
 use ipc_model::Limits;
-use std::test::Fail;
 
 // 2^28 bytes of metadata, 2^42 of body, 2^31 - 1 slots, 2^20 fields, a depth of 64, 2^30 bytes of
 // text and 2^24 pairs.
@@ -44,28 +43,34 @@ fn standard_but(place: usize, value: u64) -> Option<Limits>
     limits_of(values)
 }
 
-#[test]
-fn each_at_its_greatest(rt: HostRuntime) -> Result<(), Fail> {
-    let limits = limits_of(GREATEST).ok_or("limits")?;
-    assert_eq!(rt; values_of(&limits), GREATEST);
-    for place in 0..7 {
-        let greatest = GREATEST[place];
-        assert!(rt; standard_but(place, greatest).is_some());
-        assert!(rt; standard_but(place, greatest.saturating_add(1)).is_none());
-    }
-    assert!(rt; standard_but(DEPTH, 65).is_none());
-    Ok(())
+// Whether a limit may be what it is at its greatest, and no more.
+fn is_greatest(place: usize) -> bool
+    requires { place < 7 }
+{
+    let greatest = GREATEST[place];
+    standard_but(place, greatest).is_some()
+        && standard_but(place, greatest.saturating_add(1)).is_none()
+}
+
+// Whether the standard limits cover those with one limit that is smaller, and not the other way.
+fn is_covered(place: usize) -> bool
+    requires { place < 7 }
+{
+    let standard = Limits::standard();
+    let smaller = standard_but(place, values_of(&standard)[place].saturating_sub(1));
+    matches!(
+        &smaller,
+        Some(smaller) if standard.covers(smaller) && !smaller.covers(&standard)
+    )
 }
 
 #[test]
-fn covers_what_is_smaller(rt: HostRuntime) -> Result<(), Fail> {
-    let standard = Limits::standard();
-    assert!(rt; standard.covers(&standard));
+fn each_limit(rt: HostRuntime) {
     for place in 0..7 {
-        let value = values_of(&standard)[place];
-        let smaller = standard_but(place, value.saturating_sub(1)).ok_or("limits")?;
-        assert!(rt; standard.covers(&smaller));
-        assert!(rt; !smaller.covers(&standard));
+        assert!(rt; is_greatest(place) && is_covered(place), "limit {place}");
     }
-    Ok(())
+    let greatest = limits_of(GREATEST);
+    assert!(rt; matches!(&greatest, Some(limits) if values_of(limits) == GREATEST));
+    assert!(rt; standard_but(DEPTH, 65).is_none());
+    assert!(rt; Limits::standard().covers(&Limits::standard()));
 }

@@ -1,40 +1,61 @@
 //! Rows that fit a schema and rows that don't, and copies.
 
+use crate::encoding::{Given, row_of};
+use crate::words::pairs_of_texts;
 use ipc_model::{
     BatchRows, DataType, DateUnit, Fault, Field, IntBits, Items, Limits, Row, RowCause, Schema,
-    Table, Text, Value, conforms,
+    Table, Value, conforms,
 };
 use std::alloc::{AllocError, Global};
 use std::test::Fail;
 
-// A nullable column of pairs, each of which has a date in milliseconds and a required text.
-fn pairs(alloc: Global) -> Result<Field, AllocError> {
-    let mut children = Vec::new(alloc);
-    let date = DataType::Date(DateUnit::Millisecond);
-    children.push(Field::new(alloc, "date", date)?.nullable())?;
-    children.push(Field::new(alloc, "name", DataType::Utf8)?)?;
-    let field = Field::new(alloc, "pair", DataType::Struct)?;
-    Ok(field.nullable().with_children(children))
+fn add_parts(alloc: Global, parts: &mut Vec<Field>) -> Result<(), AllocError> {
+    let date = Field::new(alloc, "date", DataType::Date(DateUnit::Millisecond))?;
+    parts.push(date.nullable())?;
+    Ok(parts.push(Field::new(alloc, "name", DataType::Utf8)?)?)
 }
 
-// A required column of signed numbers of 8 bits, and one of pairs.
-fn schema(alloc: Global) -> Result<Schema, AllocError> {
+// A nullable column of pairs, each of which has a date in milliseconds and a required text.
+fn pairs(alloc: Global) -> Result<Field, AllocError> {
+    let mut parts = Vec::new(alloc);
+    add_parts(alloc, &mut parts)?;
+    let field = Field::new(alloc, "pair", DataType::Struct)?;
+    Ok(field.nullable().with_children(parts))
+}
+
+// Adds a required column of signed numbers of 8 bits, and one of pairs.
+fn add_fields(alloc: Global, fields: &mut Vec<Field>) -> Result<(), AllocError> {
     let byte = DataType::Int {
         bits: IntBits::B8,
         signed: true,
     };
-    let mut fields = Vec::new(alloc);
     fields.push(Field::new(alloc, "number", byte)?)?;
-    fields.push(pairs(alloc)?)?;
+    Ok(fields.push(pairs(alloc)?)?)
+}
+
+fn schema(alloc: Global) -> Result<Schema, AllocError> {
+    let mut fields = Vec::new(alloc);
+    add_fields(alloc, &mut fields)?;
     Ok(Schema::new(fields))
 }
 
-fn pair(alloc: Global, date: i64, name: &str) -> Result<Value, AllocError> {
-    let mut values = Vec::new(alloc);
-    values.push(Value::Int(date))?;
-    values.push(Value::text(alloc, name)?)?;
-    Ok(Value::Struct(Items::from_vec(values)))
-}
+// Rows, and why they don't fit the schema: none where they do.
+const ROWS: [([Given<'static>; 2], Option<RowCause>); 11] = [
+    ([Given::Int(-128), Given::Null], None),
+    ([Given::Int(0), Given::Null], None),
+    ([Given::Int(127), Given::Null], None),
+    ([Given::Int(1), Given::Pair(-86_400_000, "é")], None),
+    ([Given::Int(1), Given::Pair(0, "é")], None),
+    ([Given::Int(1), Given::Pair(86_400_000, "é")], None),
+    ([Given::Int(128), Given::Null], Some(RowCause::OutOfRange)),
+    ([Given::Int(-129), Given::Null], Some(RowCause::OutOfRange)),
+    ([Given::UInt(1), Given::Null], Some(RowCause::WrongKind)),
+    ([Given::Null, Given::Null], Some(RowCause::NullNotAllowed)),
+    (
+        [Given::Int(1), Given::Bool(true)],
+        Some(RowCause::WrongKind),
+    ),
+];
 
 // Why a row doesn't fit a schema: none where it does.
 #[tactic(auto, using(ipc_model::proofs::Depths::short_paths))]
@@ -46,65 +67,50 @@ fn cause_under(alloc: Global, schema: &Schema, row: &[Value]) -> Result<Option<R
     }
 }
 
-// Why a row of two values doesn't fit the schema: none where it does.
-fn cause_of(alloc: Global, row: &[Value; 2]) -> Result<Option<RowCause>, Fault> {
+// The number of the first row that is judged otherwise.
+fn first_unlike(alloc: Global, schema: &Schema) -> Result<Option<usize>, Fault> {
+    for (number, (cells, wanted)) in ROWS.iter().enumerate() {
+        let row = row_of(alloc, cells)?;
+        if cause_under(alloc, schema, row.as_slice())? != *wanted {
+            return Ok(Some(number));
+        }
+    }
+    Ok(None)
+}
+
+fn unlike(alloc: Global) -> Result<Option<usize>, Fault> {
     let schema = schema(alloc)?;
-    cause_under(alloc, &schema, row)
+    first_unlike(alloc, &schema)
 }
 
 #[test]
-fn rows_that_fit(rt: HostRuntime) -> Result<(), Fail> {
-    let alloc = rt.alloc();
-    for number in [-128, 0, 127] {
-        assert!(rt; cause_of(alloc, &[Value::Int(number), Value::Null])?.is_none());
-    }
-    for date in [-86_400_000, 0, 86_400_000] {
-        let row = [Value::Int(1), pair(alloc, date, "é")?];
-        assert!(rt; cause_of(alloc, &row) == Ok(None));
-    }
+fn grows_judged_rows(rt: HostRuntime) -> Result<(), Fail> {
+    let unlike = unlike(rt.alloc())?;
+    assert!(rt; unlike == None, "row {unlike:?}");
     Ok(())
 }
 
-#[test]
-fn rows_that_do_not_fit(rt: HostRuntime) -> Result<(), Fail> {
-    let alloc = rt.alloc();
-    let cases = [
-        ([Value::Int(128), Value::Null], RowCause::OutOfRange),
-        ([Value::Int(-129), Value::Null], RowCause::OutOfRange),
-        ([Value::UInt(1), Value::Null], RowCause::WrongKind),
-        ([Value::Null, Value::Null], RowCause::NullNotAllowed),
-        ([Value::Int(1), Value::Bool(true)], RowCause::WrongKind),
-    ];
-    for (row, cause) in &cases {
-        assert!(rt; cause_of(alloc, row) == Ok(Some(*cause)));
+fn rows(alloc: Global) -> Result<Vec<Row>, AllocError> {
+    let mut rows = Vec::new(alloc);
+    for _ in 0..2 {
+        rows.push(row_of(alloc, &[Given::Int(1), Given::Pair(0, "é")])?)?;
     }
-    Ok(())
-}
-
-fn row(alloc: Global) -> Result<Row, AllocError> {
-    let mut values = Vec::new(alloc);
-    values.push(Value::Int(1))?;
-    values.push(pair(alloc, 0, "é")?)?;
-    Ok(Items::from_vec(values))
+    Ok(rows)
 }
 
 // A batch of two equal rows, with a pair.
 fn batch(alloc: Global) -> Result<BatchRows, AllocError> {
-    let mut rows = Vec::new(alloc);
-    for _ in 0..2 {
-        rows.push(row(alloc)?)?;
-    }
-    let mut pairs = Vec::new(alloc);
-    pairs.push((Text::copied(alloc, "k")?, Text::copied(alloc, "k")?))?;
-    Ok(BatchRows::new(rows).with_pairs(pairs))
+    let pairs = pairs_of_texts(alloc)?;
+    Ok(BatchRows::new(rows(alloc)?).with_pairs(pairs))
 }
 
 // A table with one batch.
 fn table(alloc: Global) -> Result<Table, AllocError> {
+    let schema = schema(alloc)?;
     let mut batches = Vec::new(alloc);
     batches.push(batch(alloc)?)?;
     Ok(Table {
-        schema: schema(alloc)?,
+        schema,
         batches: Items::from_vec(batches),
     })
 }
@@ -117,11 +123,5 @@ fn is_copied(table: &Table) -> Result<bool, AllocError> {
 fn grows_copies(rt: HostRuntime) -> Result<(), Fail> {
     let table = table(rt.alloc())?;
     assert!(rt; is_copied(&table)?);
-    Ok(())
-}
-
-#[test]
-fn grows_a_judged_row(rt: HostRuntime) -> Result<(), Fail> {
-    assert!(rt; cause_of(rt.alloc(), &[Value::Int(1), Value::Null])?.is_none());
     Ok(())
 }

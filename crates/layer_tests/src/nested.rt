@@ -1,14 +1,16 @@
-//! Rows of lists and structs taken one at a time, byte for byte.
-use crate::building::limits_of;
+//! Rows taken one at a time, byte for byte and up to a limit, of lists and structs too.
 use crate::lists::over;
-use ipc_encode::{Builder, NoIndices, Parts, Room, SameNumbers};
-use ipc_model::{DataType, Field, IntBits, Items, Limits, Row, Value, WriteFault};
+use ipc_encode::{Builder, NoIndices, Parts, Renumber, Room, SameNumbers};
+use ipc_model::{DataType, DateUnit, Field, IntBits, Items, Limits, Row, Value, WriteFault};
 use std::alloc::{AllocError, Global};
+use std::mem;
 use std::test::Fail;
 
 // The columns of a batch.
-#[derive(Clone, Copy, PartialEq, Eq)]
+#[derive(Clone, Copy)]
 enum Kind {
+    // Days, and texts.
+    DaysAndTexts,
     // Lists of numbers, and structs of a number and of such a list.
     ListsAndStructs,
     ListsOfLists,
@@ -18,48 +20,53 @@ enum Kind {
     Twos,
 }
 
-// A required field of signed numbers of 8 bits.
-fn number(alloc: Global) -> Result<Field, AllocError> {
-    let kind = DataType::Int {
-        bits: IntBits::B8,
-        signed: true,
-    };
-    Field::new(alloc, "number", kind)
+// Signed numbers of 8 bits.
+const NUMBER: DataType = DataType::Int {
+    bits: IntBits::B8,
+    signed: true,
+};
+
+// A field of lists of such numbers, which may be null.
+pub(crate) fn list(alloc: Global) -> Result<Field, AllocError> {
+    let number = Field::new(alloc, "number", NUMBER)?;
+    over(alloc, DataType::List, number.nullable())
 }
 
-fn list(alloc: Global) -> Result<Field, AllocError> {
-    over(alloc, DataType::List, number(alloc)?.nullable())
-}
-
-// A field of structs of a number and of a list.
+// A field of structs of such a number and of a list.
 fn pair(alloc: Global) -> Result<Field, AllocError> {
-    let mut parts = Vec::new(alloc);
-    parts.push(number(alloc)?.nullable())?;
-    parts.push(list(alloc)?)?;
     let field = Field::new(alloc, "second", DataType::Struct)?;
+    let number = Field::new(alloc, "number", NUMBER)?;
+    let list = over(
+        alloc,
+        DataType::List,
+        Field::new(alloc, "number", NUMBER)?.nullable(),
+    )?;
+    let parts = vec![in alloc; number.nullable(), list]?;
     Ok(field.nullable().with_children(parts))
 }
 
-// The field of the first column, or of the only one.
-fn first_of(alloc: Global, kind: Kind) -> Result<Field, AllocError> {
+// Adds the fields of columns.
+fn add_fields(alloc: Global, fields: &mut Vec<Field>, kind: Kind) -> Result<(), AllocError> {
     match kind {
-        Kind::ListsAndStructs => list(alloc),
-        Kind::ListsOfLists => over(alloc, DataType::List, list(alloc)?),
-        Kind::Structs => over(alloc, DataType::Struct, number(alloc)?),
+        Kind::DaysAndTexts => {
+            let day = Field::new(alloc, "day", DataType::Date(DateUnit::Day))?;
+            fields.push(day.nullable())?;
+            Ok(fields.push(Field::new(alloc, "text", DataType::Utf8)?.nullable())?)
+        }
+        Kind::ListsAndStructs => {
+            fields.push(list(alloc)?)?;
+            Ok(fields.push(pair(alloc)?)?)
+        }
+        Kind::ListsOfLists => Ok(fields.push(over(alloc, DataType::List, list(alloc)?)?)?),
+        Kind::Structs => {
+            let number = Field::new(alloc, "number", NUMBER)?;
+            Ok(fields.push(over(alloc, DataType::Struct, number)?)?)
+        }
         Kind::Twos => {
-            let child = number(alloc)?.nullable();
-            over(alloc, DataType::FixedSizeList(2), child)
+            let number = Field::new(alloc, "number", NUMBER)?;
+            Ok(fields.push(over(alloc, DataType::FixedSizeList(2), number.nullable())?)?)
         }
     }
-}
-
-fn fields_of(alloc: Global, kind: Kind) -> Result<Vec<Field>, AllocError> {
-    let mut fields = Vec::new(alloc);
-    fields.push(first_of(alloc, kind)?)?;
-    if kind == Kind::ListsAndStructs {
-        fields.push(pair(alloc)?)?;
-    }
-    Ok(fields)
 }
 
 fn builder_of(
@@ -68,36 +75,34 @@ fn builder_of(
     limits: &Limits,
     room: Room,
 ) -> Result<Builder, WriteFault> {
-    let fields = fields_of(alloc, kind)?;
+    let mut fields = Vec::new(alloc);
+    add_fields(alloc, &mut fields, kind)?;
     Builder::with_room(alloc, &fields, limits, room)
 }
 
-// Puts a value behind the others of the innermost list or struct that is open.
-fn put(open: &mut Vec<Vec<Value>>, value: Value) -> Result<(), AllocError> {
-    if let Some(values) = open.last_mut() {
-        values.push(value)?;
-    }
-    Ok(())
-}
-
-// The values of the innermost list or struct, which is open no longer.
-fn close(alloc: Global, open: &mut Vec<Vec<Value>>) -> Items<Value> {
-    match open.pop() {
-        Some(values) => Items::from_vec(values),
-        None => Items::new(alloc),
-    }
-}
-
-// Takes one letter of a row's text.
+// Takes one letter of a row's text: puts a value behind the others of the innermost list or struct
+// that is open, or opens one, or closes it.
 fn spell(alloc: Global, open: &mut Vec<Vec<Value>>, letter: u8) -> Result<(), AllocError> {
     let value = match letter {
         b'[' | b'(' => return Ok(open.push(Vec::new(alloc))?),
-        b']' => Value::List(close(alloc, open)),
-        b')' => Value::Struct(close(alloc, open)),
+        b']' | b')' => {
+            let values = match open.pop() {
+                Some(values) => Items::from_vec(values),
+                None => Items::new(alloc),
+            };
+            if letter == b']' {
+                Value::List(values)
+            } else {
+                Value::Struct(values)
+            }
+        }
         b'-' => Value::Null,
         digit => Value::Int(i64::from(digit.wrapping_sub(b'0'))),
     };
-    put(open, value)
+    match open.last_mut() {
+        Some(values) => Ok(values.push(value)?),
+        None => Ok(()),
+    }
 }
 
 // The row that a text spells: a digit is a number, `-` a null, and the values of a list stand
@@ -108,7 +113,10 @@ pub(crate) fn row_of(alloc: Global, text: &[u8]) -> Result<Row, AllocError> {
     for letter in text {
         spell(alloc, &mut open, *letter)?;
     }
-    Ok(close(alloc, &mut open))
+    match open.pop() {
+        Some(values) => Ok(Items::from_vec(values)),
+        None => Ok(Items::new(alloc)),
+    }
 }
 
 // Takes a row, where it fits.
@@ -150,7 +158,19 @@ pub(crate) const LISTS_OF_LISTS: Written = Written {
     ],
 };
 
-const COLUMNS: [Written; 4] = [
+const TWO_DAYS: [u8; 32] = [
+    1, 0, 0, 0, 2, 0, 0, 0, 0, 0, 0, 0, 0, 0, 0, 0, 0, 0, 0, 0, 0, 0, 0, 0, 0, 0, 0, 0, 0, 0, 0, 0,
+];
+
+const COLUMNS: [Written; 5] = [
+    // Two days, a bitmap, and offsets of two empty texts.
+    Written {
+        kind: Kind::DaysAndTexts,
+        rows: &[b"1-", b"2-"],
+        nodes: &[(2, 0), (2, 2)],
+        buffers: &[(0, 0), (0, 8), (8, 1), (16, 12), (32, 0)],
+        body: &TWO_DAYS,
+    },
     // The nodes and the buffers are those of a list, its items, a struct, its number, its list, and
     // the items of that.
     Written {
@@ -206,64 +226,179 @@ fn are_parts(parts: &Parts, wanted: &Written) -> bool {
         && parts.body.as_slice() == wanted.body
 }
 
-// Takes rows, and gives their parts.
-fn finished(alloc: Global, builder: Builder, rows: &[&[u8]]) -> Result<Parts, WriteFault> {
-    let mut builder = builder;
-    push_all(alloc, &mut builder, rows)?;
-    builder.finish(&SameNumbers)
+// Whether columns are written so, in the room that an earlier builder leaves.
+fn are_written(alloc: Global, room: &mut Room, wanted: &Written) -> Result<bool, WriteFault> {
+    let left = mem::replace(room, Room::new(alloc));
+    let mut builder = builder_of(alloc, wanted.kind, &Limits::standard(), left)?;
+    push_all(alloc, &mut builder, wanted.rows)?;
+    let parts = builder.finish(&SameNumbers)?;
+    let are_parts = are_parts(&parts, wanted);
+    *room = parts.room;
+    Ok(are_parts)
 }
 
-fn parts_of(alloc: Global, wanted: &Written, room: Room) -> Result<Parts, WriteFault> {
-    let builder = builder_of(alloc, wanted.kind, &Limits::standard(), room)?;
-    finished(alloc, builder, wanted.rows)
-}
-
-// The rows are written alike in the room that an earlier builder leaves, be it one of other fields
-// or of the same.
+// The rows are written alike in the room that a builder of other fields leaves, or of the same.
 #[test]
-fn grows_lists_and_structs(rt: HostRuntime) -> Result<(), Fail> {
+fn grows_columns_row_by_row(rt: HostRuntime) -> Result<(), Fail> {
     let mut room = Room::new(rt.alloc());
     for number in 0..2 * COLUMNS.len() {
-        let wanted = &COLUMNS[number / 2];
-        let parts = parts_of(rt.alloc(), wanted, room)?;
-        assert!(rt; are_parts(&parts, wanted), "columns {number}");
-        room = parts.room;
+        let are_written = are_written(rt.alloc(), &mut room, &COLUMNS[number / 2])?;
+        assert!(rt; are_written, "columns {number}");
     }
+    assert!(rt; SameNumbers.to(1, 7) == 7);
     Ok(())
 }
 
-// Whether a builder takes the row of a text.
-fn takes(alloc: Global, builder: &mut Builder, text: &[u8]) -> Result<(), WriteFault> {
-    builder.fits(row_of(alloc, text)?.as_slice())
+// Rows under limits on the body and on the rows of a batch; how many of them are taken, why no
+// further one is, and the body of those that are, where it is looked at.
+struct Limited {
+    kind: Kind,
+    body: u64,
+    slots: u64,
+    rows: &'static [&'static [u8]],
+    taken: usize,
+    wanted: Result<(), WriteFault>,
+    built: Option<&'static [u8]>,
 }
 
-fn push_text(alloc: Global, builder: &mut Builder, text: &[u8]) -> Result<(), WriteFault> {
-    builder.push(row_of(alloc, text)?.as_slice(), &NoIndices)
+const LIMITED: [Limited; 7] = [
+    Limited {
+        kind: Kind::DaysAndTexts,
+        body: 1 << 40,
+        slots: 2,
+        rows: &[b"1-", b"2-", b"3-"],
+        taken: 2,
+        wanted: Err(WriteFault::TooManyRows),
+        built: Some(&TWO_DAYS),
+    },
+    Limited {
+        kind: Kind::DaysAndTexts,
+        body: 32,
+        slots: 100,
+        rows: &[b"1-", b"2-", b"3-"],
+        taken: 2,
+        wanted: Err(WriteFault::TooLong),
+        built: Some(&TWO_DAYS),
+    },
+    // The offsets of no texts have eight bytes with their padding.
+    Limited {
+        kind: Kind::DaysAndTexts,
+        body: 7,
+        slots: 100,
+        rows: &[],
+        taken: 0,
+        wanted: Err(WriteFault::TooLong),
+        built: None,
+    },
+    // The items of a list's child count as its rows do: behind three of them no fourth is taken,
+    // and an empty list is.
+    Limited {
+        kind: Kind::ListsAndStructs,
+        body: 1 << 40,
+        slots: 3,
+        rows: &[b"[123]-", b"[4]-"],
+        taken: 1,
+        wanted: Err(WriteFault::TooManyRows),
+        built: None,
+    },
+    Limited {
+        kind: Kind::ListsAndStructs,
+        body: 1 << 40,
+        slots: 3,
+        rows: &[b"[123]-", b"[]-"],
+        taken: 2,
+        wanted: Ok(()),
+        built: None,
+    },
+    // The three rows of lists and structs have 96 bytes.
+    Limited {
+        kind: Kind::ListsAndStructs,
+        body: 96,
+        slots: 100,
+        rows: &THREE_ROWS,
+        taken: 3,
+        wanted: Ok(()),
+        built: None,
+    },
+    Limited {
+        kind: Kind::ListsAndStructs,
+        body: 95,
+        slots: 100,
+        rows: &THREE_ROWS,
+        taken: 1,
+        wanted: Err(WriteFault::TooLong),
+        built: None,
+    },
+];
+
+// The standard limits with these on the body and on the rows of a batch.
+fn limits_of(body: u64, slots: u64) -> Option<Limits> {
+    let standard = Limits::standard();
+    Limits::new(
+        standard.metadata,
+        body,
+        slots,
+        standard.fields,
+        standard.depth,
+        standard.text,
+        standard.pairs,
+    )
 }
 
-// The items of a list's child count as its rows do: behind three of them no fourth is taken, and an
-// empty list is.
-#[test]
-fn items_up_to_their_limit(rt: HostRuntime) -> Result<(), Fail> {
-    let alloc = rt.alloc();
-    let limits = limits_of(1 << 40, 3).ok_or("limits")?;
-    let mut builder = builder_of(alloc, Kind::ListsAndStructs, &limits, Room::new(alloc))?;
-    assert!(rt; push_text(alloc, &mut builder, b"[123]-") == Ok(()));
-    assert!(rt; takes(alloc, &mut builder, b"[4]-") == Err(WriteFault::TooManyRows));
-    assert!(rt; takes(alloc, &mut builder, b"[]-") == Ok(()));
-    Ok(())
+fn is_built(builder: Builder, body: &[u8]) -> bool {
+    let parts = builder.finish(&SameNumbers);
+    matches!(&parts, Ok(parts) if parts.body.as_slice() == body)
 }
 
-// The three rows of lists and structs have 96 bytes.
-#[test]
-fn a_nested_body_up_to_its_limit(rt: HostRuntime) -> Result<(), Fail> {
-    let alloc = rt.alloc();
-    let too_long = Err(WriteFault::TooLong);
-    for (body, wanted, taken) in [(96, Ok(()), 3), (95, too_long, 1)] {
-        let limits = limits_of(body, 100).ok_or("limits")?;
-        let mut builder = builder_of(alloc, Kind::ListsAndStructs, &limits, Room::new(alloc))?;
-        assert!(rt; push_all(alloc, &mut builder, &THREE_ROWS) == wanted);
-        assert!(rt; builder.row_count() == taken);
+// Whether a builder takes as many of the rows as are wanted.
+fn takes(alloc: Global, builder: &mut Builder, limited: &Limited) -> bool {
+    push_all(alloc, builder, limited.rows) == limited.wanted && builder.row_count() == limited.taken
+}
+
+fn is_limited(alloc: Global, limited: &Limited, limits: &Limits) -> bool {
+    match builder_of(alloc, limited.kind, limits, Room::new(alloc)) {
+        Ok(mut builder) => {
+            takes(alloc, &mut builder, limited)
+                && match limited.built {
+                    Some(body) => is_built(builder, body),
+                    None => true,
+                }
+        }
+        Err(fault) => limited.wanted == Err(fault),
     }
+}
+
+#[test]
+fn rows_up_to_their_limits(rt: HostRuntime) {
+    for (number, limited) in LIMITED.iter().enumerate() {
+        let limits = limits_of(limited.body, limited.slots);
+        assert!(rt;
+            matches!(&limits, Some(limits) if is_limited(rt.alloc(), limited, limits)),
+            "limit {number}"
+        );
+    }
+}
+
+// Whether a builder is sure of the row of a text.
+fn is_sure(
+    alloc: Global,
+    builder: &Builder,
+    fields: &[Field],
+    text: &[u8],
+) -> Result<bool, AllocError> {
+    Ok(builder.surely_takes(fields, row_of(alloc, text)?.as_slice()))
+}
+
+// Whether a builder is sure of a row that fits, and not of one that is too short.
+fn is_sure_under(alloc: Global, fields: &[Field]) -> Result<bool, WriteFault> {
+    let builder = Builder::new(alloc, fields, &Limits::standard())?;
+    Ok(is_sure(alloc, &builder, fields, b"1-")? && !is_sure(alloc, &builder, fields, b"1")?)
+}
+
+#[test]
+fn sure_of_a_row_that_fits(rt: HostRuntime) -> Result<(), Fail> {
+    let mut fields = Vec::new(rt.alloc());
+    add_fields(rt.alloc(), &mut fields, Kind::DaysAndTexts)?;
+    assert!(rt; is_sure_under(rt.alloc(), fields.as_slice()) == Ok(true));
     Ok(())
 }

@@ -14,7 +14,7 @@ use std::test::Fail;
 fn of_text(alloc: Global, text: &str) -> Result<FlatTree, AllocError>
     ensures { IfOk result (λ t. Ascends (fields 0) (view t)) }
 {
-    let text = Text::from(String::from_str(alloc, text)?);
+    let text = Text::copied(alloc, text)?;
     let slots = vec![in alloc; (0, Slot::Text(text))]?;
     Ok(FlatTree {
         slots: Items::from(slots),
@@ -46,7 +46,7 @@ fn two_tables(alloc: Global, text: &str) -> Result<Vec<FlatTree>, AllocError>
 fn every_slot(alloc: Global) -> Result<FlatTree, AllocError>
     ensures { IfOk result (λ t. Ascends (fields 0) (view t)) }
 {
-    let name = Text::from(String::from_str(alloc, "é1")?);
+    let name = Text::copied(alloc, "é1")?;
     let inner = of_text(alloc, "inner")?;
     let tables = two_tables(alloc, "")?;
     let pairs = vec![in alloc; (1, -1), (i64::MIN, i64::MAX)]?;
@@ -66,11 +66,6 @@ fn every_slot(alloc: Global) -> Result<FlatTree, AllocError>
     })
 }
 
-fn built(alloc: Global) -> Result<Vec<u8>, Fail> {
-    let tree = every_slot(alloc)?;
-    Ok(build(alloc, &tree, 1 << 24)?)
-}
-
 fn has_scalars(table: &TableRef<'_>) -> bool {
     matches!(table.scalar_u8(0, 0), Ok(200))
         && matches!(table.scalar_u8(1, 0), Ok(1))
@@ -87,16 +82,32 @@ fn has_references(table: &TableRef<'_>) -> bool {
     }
 }
 
-#[test]
-fn fields_come_back(rt: HostRuntime) -> Result<(), Fail> {
-    let bytes = built(rt.alloc())?;
-    let Ok(table) = Flat::root(&bytes) else {
-        return Err(Fail::from("a table"));
-    };
-    assert!(rt; has_scalars(&table) && has_references(&table));
+fn lacks_others(table: &TableRef<'_>) -> bool {
     for absent in [5, 7, 11, 15] {
-        assert!(rt; matches!(table.scalar_i32(absent, 9), Ok(9)));
+        if !matches!(table.scalar_i32(absent, 9), Ok(9)) {
+            return false;
+        }
     }
+    true
+}
+
+fn has_every_slot(bytes: &[u8]) -> bool {
+    match Flat::root(bytes) {
+        Ok(table) => has_scalars(&table) && has_references(&table) && lacks_others(&table),
+        Err(_) => false,
+    }
+}
+
+fn comes_back(alloc: Global, tree: &FlatTree) -> Result<bool, BuildFault>
+    requires { Ascends (fields 0) (view tree.now) }
+{
+    Ok(has_every_slot(&build(alloc, tree, 1 << 24)?))
+}
+
+#[test]
+fn grows_fields_that_come_back(rt: HostRuntime) -> Result<(), Fail> {
+    let tree = every_slot(rt.alloc())?;
+    assert!(rt; comes_back(rt.alloc(), &tree)?);
     Ok(())
 }
 
@@ -107,50 +118,42 @@ const ONE_SCALAR: [u8; 32] = [
     0, 0,
 ];
 
-#[test]
-fn one_scalar_byte_for_byte(rt: HostRuntime) -> Result<(), Fail> {
-    let tree = one_scalar(rt.alloc())?;
-    let built = build(rt.alloc(), &tree, 1 << 24);
-    assert!(rt; matches!(&built, Ok(bytes) if bytes.as_slice() == ONE_SCALAR.as_slice()));
-    Ok(())
+#[tactic(auto, using(ipc_build::proofs::Ascending::ascending))]
+fn is_byte_for_byte(alloc: Global) -> Result<bool, AllocError> {
+    let slots = vec![in alloc; (3, Slot::I32(42))]?;
+    let tree = FlatTree {
+        slots: Items::from(slots),
+    };
+    let built = build(alloc, &tree, 1 << 24);
+    Ok(matches!(&built, Ok(bytes) if bytes.as_slice() == ONE_SCALAR.as_slice()))
 }
 
-#[tactic(auto, using(ipc_build::proofs::Ascending::ascending))]
-fn one_scalar(alloc: Global) -> Result<FlatTree, AllocError>
-    ensures { IfOk result (λ t. Ascends (fields 0) (view t)) }
+// Whether a tree has no more room than this.
+fn has_room(alloc: Global, tree: &FlatTree, room: u64) -> bool
+    requires ascends { Ascends (fields 0) (view tree.now) }
+    requires limit { room < 2 ^ 31 }
 {
-    let slots = vec![in alloc; (3, Slot::I32(42))]?;
-    Ok(FlatTree {
-        slots: Items::from(slots),
-    })
+    build(alloc, tree, room).is_ok()
+        && matches!(
+            build(alloc, tree, room.saturating_sub(1)),
+            Err(BuildFault::TooLarge)
+        )
 }
 
 // Whether a table with field 0, a text of so many bytes, has no more room than this.
-fn has_room(alloc: Global, bytes: usize, greatest: u64) -> Result<bool, Fail>
-    requires { greatest < 2 ^ 31 }
+fn text_has_room(alloc: Global, bytes: usize, room: u64) -> Result<bool, AllocError>
+    requires { room < 2 ^ 31 }
 {
     let text = "a".repeat(alloc, bytes)?;
     let tree = of_text(alloc, &text)?;
-    match build(alloc, &tree, greatest) {
-        Ok(_) => Ok(true),
-        Err(BuildFault::TooLarge) => Ok(false),
-        Err(fault) => Err(Fail::from(fault)),
-    }
+    Ok(has_room(alloc, &tree, room))
 }
 
 // The table and its one entry take 16, 24 and 10, and the text 8 and its bytes.
 #[test]
-fn too_large_from_one_byte_on(rt: HostRuntime) -> Result<(), Fail> {
-    let alloc = rt.alloc();
-    assert!(rt; has_room(alloc, 0, 58)? && !has_room(alloc, 0, 57)?);
-    assert!(rt; has_room(alloc, 1, 59)? && !has_room(alloc, 1, 58)?);
-    assert!(rt; has_room(alloc, 1000, 1058)? && !has_room(alloc, 1000, 1057)?);
-    Ok(())
-}
-
-#[test]
-fn grows_a_buffer(rt: HostRuntime) -> Result<(), Fail> {
-    let bytes = built(rt.alloc())?;
-    assert!(rt; Flat::root(&bytes).is_ok());
-    Ok(())
+fn bytes_and_room(rt: HostRuntime) {
+    assert!(rt; is_byte_for_byte(rt.alloc()) == Ok(true));
+    for (bytes, room) in [(0, 58), (1, 59), (1000, 1058)] {
+        assert!(rt; text_has_room(rt.alloc(), bytes, room) == Ok(true));
+    }
 }

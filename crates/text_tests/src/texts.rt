@@ -1,13 +1,12 @@
 //! Texts whose right form is given.
 use csv::ByteRecord;
-use ipc_model::{DateUnit, Schema, TimeUnit, Value};
+use ipc_model::{DateUnit, Row, Schema, TimeUnit};
 use ipc_text::{
-    TextFault, check_header, csv_header, csv_record, date_text, fill_row_from_csv, pairs_json,
-    read_bool, read_bytes, read_date, read_int, read_text, read_time, read_timestamp, read_uint,
-    row_from_csv, row_json, schema_from_json, schema_json, time_text, timestamp_text,
+    ShortText, TextFault, check_header, csv_header, csv_record, date_text, fill_row_from_csv,
+    pairs_json, read_bool, read_bytes, read_date, read_int, read_text, read_time, read_timestamp,
+    read_uint, row_from_csv, row_json, schema_from_json, schema_json, time_text, timestamp_text,
 };
-use std::alloc::{AllocError, Global};
-use std::test::Fail;
+use std::alloc::Global;
 
 // A schema of five columns, and pairs.
 const FLAT: &str = "{\"fields\":[\
@@ -37,91 +36,91 @@ const NESTED: &str = "{\"fields\":[\
 \"nullable\":true,\"type\":[\"utf8\"]}],\
 \"metadata\":[]}";
 
-fn is_read_and_printed(alloc: Global, text: &str) -> Result<bool, TextFault> {
-    let schema = schema_from_json(alloc, text)?;
-    Ok(schema_json(alloc, &schema)?.as_str() == text)
+// What is asked under a schema.
+#[derive(Clone, Copy)]
+enum Ask {
+    // The text of the schema.
+    Schema,
+    // Its pairs.
+    Pairs,
+    // The header of its columns.
+    Header,
+    // Nothing, where the record is that header.
+    IsHeader,
+    // The record's row as JSON.
+    Json,
+    // The same, of a row that is read over that of `FIELDS`.
+    JsonOver,
+    // The record's row as a record again.
+    Record,
 }
 
-#[test]
-fn schemas(rt: HostRuntime) -> Result<(), Fail> {
-    assert!(rt; matches!(is_read_and_printed(rt.alloc(), FLAT), Ok(true)));
-    assert!(rt; matches!(is_read_and_printed(rt.alloc(), NESTED), Ok(true)));
-    Ok(())
+// Record 3 as a row.
+fn row_of(alloc: Global, schema: &Schema, fields: &[&[u8]]) -> Result<Row, TextFault> {
+    row_from_csv(alloc, schema, 3, &ByteRecord::from_fields(alloc, fields)?)
 }
 
-#[test]
-fn members_in_another_order(rt: HostRuntime) -> Result<(), Fail> {
-    let given = "{ \"metadata\":[], \"fields\":[\n] }";
-    let read = schema_from_json(rt.alloc(), given);
-    assert!(rt; read.is_ok_and(|schema| schema.fields.is_empty()));
-    Ok(())
+fn json_of(alloc: Global, schema: &Schema, fields: &[&[u8]]) -> Result<String, TextFault> {
+    let row = row_of(alloc, schema, fields)?;
+    row_json(alloc, schema, row.as_slice())
 }
 
-fn pairs_of(alloc: Global, schema: &str) -> Result<String, TextFault> {
-    let schema = schema_from_json(alloc, schema)?;
-    pairs_json(alloc, schema.metadata.as_slice())
+fn json_over(alloc: Global, schema: &Schema, fields: &[&[u8]]) -> Result<String, TextFault> {
+    let fields = ByteRecord::from_fields(alloc, fields)?;
+    let mut row = row_of(alloc, schema, &FIELDS)?;
+    fill_row_from_csv(alloc, schema, 4, &fields, &mut row)?;
+    row_json(alloc, schema, row.as_slice())
 }
 
-#[test]
-fn pairs(rt: HostRuntime) -> Result<(), Fail> {
-    let text = pairs_of(rt.alloc(), FLAT);
-    assert!(rt; text.is_ok_and(|text| text.as_str() == "[[\"k\",\"v\"]]"));
-    Ok(())
+fn record_of(alloc: Global, schema: &Schema, fields: &[&[u8]]) -> Result<Vec<u8>, TextFault> {
+    let row = row_of(alloc, schema, fields)?;
+    csv_record(alloc, schema, row.as_slice())
 }
 
-// The header of this schema's columns.
-fn header_of(alloc: Global, schema: &str) -> Result<Vec<u8>, TextFault> {
-    let schema = schema_from_json(alloc, schema)?;
-    csv_header(alloc, &schema)
+fn judge(alloc: Global, schema: &Schema, fields: &[&[u8]]) -> Result<Vec<u8>, TextFault> {
+    check_header(schema, &ByteRecord::from_fields(alloc, fields)?)?;
+    Ok(Vec::new(alloc))
 }
 
-#[test]
-fn headers_printed(rt: HostRuntime) -> Result<(), Fail> {
-    let header = header_of(rt.alloc(), FLAT);
-    assert!(rt;
-        header.is_ok_and(|text| text.as_slice() == b"id,\"\"\"n\"\"\",day,raw,at\n".as_slice())
-    );
-    let header = header_of(rt.alloc(), NESTED);
-    assert!(rt; matches!(&header, Err(TextFault::NotFlat)));
-    Ok(())
+fn bytes_of(text: Result<String, TextFault>) -> Result<Vec<u8>, TextFault> {
+    match text {
+        Ok(text) => Ok(text.into_bytes()),
+        Err(fault) => Err(fault),
+    }
 }
 
-fn record(alloc: Global, fields: &[&[u8]]) -> Result<ByteRecord, AllocError> {
-    ByteRecord::from_fields(alloc, fields)
+fn answer(alloc: Global, schema: &Schema, case: &Case) -> Result<Vec<u8>, TextFault> {
+    match case.ask {
+        Ask::Schema => bytes_of(schema_json(alloc, schema)),
+        Ask::Pairs => bytes_of(pairs_json(alloc, schema.metadata.as_slice())),
+        Ask::Header => csv_header(alloc, schema),
+        Ask::IsHeader => judge(alloc, schema, case.fields),
+        Ask::Json => bytes_of(json_of(alloc, schema, case.fields)),
+        Ask::JsonOver => bytes_of(json_over(alloc, schema, case.fields)),
+        Ask::Record => record_of(alloc, schema, case.fields),
+    }
 }
 
-fn judge_header(alloc: Global, fields: &[&[u8]]) -> Result<(), TextFault> {
-    let schema = schema_from_json(alloc, FLAT)?;
-    check_header(&schema, &record(alloc, fields)?)
+fn is_answered_under(alloc: Global, schema: &Schema, case: &Case) -> bool {
+    match answer(alloc, schema, case) {
+        Ok(text) => matches!(case.wanted, Ok(wanted) if wanted.as_bytes() == text.as_slice()),
+        Err(fault) => matches!(case.wanted, Err(wanted) if wanted == fault),
+    }
 }
 
-#[test]
-fn headers_judged(rt: HostRuntime) -> Result<(), Fail> {
-    let names: [&[u8]; 5] = [b"id", b"\"n\"", b"day", b"raw", b"at"];
-    assert!(rt; judge_header(rt.alloc(), &names).is_ok());
-    let other: [&[u8]; 5] = [b"id", b"\"n\"", b"Day", b"raw", b"At"];
-    let fault = TextFault::BadField {
-        record: 0,
-        column: 2,
-    };
-    assert!(rt; judge_header(rt.alloc(), &other) == Err(fault));
-    let fault = TextFault::WrongFieldCount { record: 0 };
-    assert!(rt; judge_header(rt.alloc(), &other[..4]) == Err(fault));
-    Ok(())
+fn is_answered(alloc: Global, case: &Case) -> bool {
+    match schema_from_json(alloc, case.schema) {
+        Ok(schema) => is_answered_under(alloc, &schema, case),
+        Err(_) => false,
+    }
 }
 
-// What a record's row is as JSON.
-fn json_of(alloc: Global, fields: &[&[u8]]) -> Result<String, TextFault> {
-    let schema = schema_from_json(alloc, FLAT)?;
-    let row = row_from_csv(alloc, &schema, 3, &record(alloc, fields)?)?;
-    row_json(alloc, &schema, row.as_slice())
-}
-
-// What a record's row is as a record again.
-fn record_of(alloc: Global, fields: &[&[u8]]) -> Result<Vec<u8>, TextFault> {
-    let schema = schema_from_json(alloc, FLAT)?;
-    let row = row_from_csv(alloc, &schema, 3, &record(alloc, fields)?)?;
-    csv_record(alloc, &schema, row.as_slice())
+// What is asked under a schema, of a record where it takes one, and the answer.
+struct Case {
+    schema: &'static str,
+    ask: Ask,
+    fields: &'static [&'static [u8]],
+    wanted: Result<&'static str, TextFault>,
 }
 
 const FIELDS: [&[u8]; 5] = [
@@ -132,107 +131,197 @@ const FIELDS: [&[u8]; 5] = [
     b"1969-12-31T23:59:59.999999Z",
 ];
 
-#[test]
-fn rows_as_json(rt: HostRuntime) -> Result<(), Fail> {
-    let text = json_of(rt.alloc(), &FIELDS);
-    let wanted = "[-7,\"\\\\N\",\"2000-02-29\",\"00ab\",\"1969-12-31T23:59:59.999999Z\"]";
-    assert!(rt; text.is_ok_and(|text| text.as_str() == wanted));
-    Ok(())
-}
+const CASES: [Case; 14] = [
+    Case {
+        schema: FLAT,
+        ask: Ask::Schema,
+        fields: &[],
+        wanted: Ok(FLAT),
+    },
+    Case {
+        schema: NESTED,
+        ask: Ask::Schema,
+        fields: &[],
+        wanted: Ok(NESTED),
+    },
+    // Members in another order, and blanks.
+    Case {
+        schema: "{ \"metadata\":[], \"fields\":[\n] }",
+        ask: Ask::Schema,
+        fields: &[],
+        wanted: Ok("{\"fields\":[],\"metadata\":[]}"),
+    },
+    Case {
+        schema: FLAT,
+        ask: Ask::Pairs,
+        fields: &[],
+        wanted: Ok("[[\"k\",\"v\"]]"),
+    },
+    Case {
+        schema: FLAT,
+        ask: Ask::Header,
+        fields: &[],
+        wanted: Ok("id,\"\"\"n\"\"\",day,raw,at\n"),
+    },
+    Case {
+        schema: NESTED,
+        ask: Ask::Header,
+        fields: &[],
+        wanted: Err(TextFault::NotFlat),
+    },
+    Case {
+        schema: FLAT,
+        ask: Ask::IsHeader,
+        fields: &[b"id", b"\"n\"", b"day", b"raw", b"at"],
+        wanted: Ok(""),
+    },
+    Case {
+        schema: FLAT,
+        ask: Ask::IsHeader,
+        fields: &[b"id", b"\"n\"", b"Day", b"raw", b"At"],
+        wanted: Err(TextFault::BadField {
+            record: 0,
+            column: 2,
+        }),
+    },
+    Case {
+        schema: FLAT,
+        ask: Ask::IsHeader,
+        fields: &[b"id", b"\"n\"", b"Day", b"raw"],
+        wanted: Err(TextFault::WrongFieldCount { record: 0 }),
+    },
+    Case {
+        schema: FLAT,
+        ask: Ask::Json,
+        fields: &FIELDS,
+        wanted: Ok("[-7,\"\\\\N\",\"2000-02-29\",\"00ab\",\"1969-12-31T23:59:59.999999Z\"]"),
+    },
+    Case {
+        schema: FLAT,
+        ask: Ask::Record,
+        fields: &FIELDS,
+        wanted: Ok("-7,\\\\N,2000-02-29,00ab,1969-12-31T23:59:59.999999Z\n"),
+    },
+    Case {
+        schema: FLAT,
+        ask: Ask::JsonOver,
+        fields: &[b"\\N", b"n", b"\\N", b"0000", b"\\N"],
+        wanted: Ok("[null,\"n\",null,\"0000\",null]"),
+    },
+    Case {
+        schema: FLAT,
+        ask: Ask::Json,
+        fields: &[b"-7", b"\\x", b"x", b"00ab", b""],
+        wanted: Err(TextFault::BadField {
+            record: 3,
+            column: 1,
+        }),
+    },
+    Case {
+        schema: FLAT,
+        ask: Ask::Json,
+        fields: &[b"-7", b"\\x", b"x", b"00ab"],
+        wanted: Err(TextFault::WrongFieldCount { record: 3 }),
+    },
+];
 
 #[test]
-fn rows_as_records(rt: HostRuntime) -> Result<(), Fail> {
-    let text = record_of(rt.alloc(), &FIELDS);
-    let wanted = b"-7,\\\\N,2000-02-29,00ab,1969-12-31T23:59:59.999999Z\n".as_slice();
-    assert!(rt; text.is_ok_and(|text| text.as_slice() == wanted));
-    Ok(())
+fn schemas_and_records(rt: HostRuntime) {
+    for (number, case) in CASES.iter().enumerate() {
+        assert!(rt; is_answered(rt.alloc(), case), "case {number}");
+    }
 }
 
-// What a record's row is as JSON, read over the row of another record.
-fn json_over(alloc: Global, first: &[&[u8]], fields: &[&[u8]]) -> Result<String, TextFault> {
-    let schema = schema_from_json(alloc, FLAT)?;
-    let mut row = row_from_csv(alloc, &schema, 3, &record(alloc, first)?)?;
-    fill_row_from_csv(alloc, &schema, 4, &record(alloc, fields)?, &mut row)?;
-    row_json(alloc, &schema, row.as_slice())
+// What has a text that tells a day, a time of day or a point in time.
+#[derive(Clone, Copy)]
+enum Moment {
+    Date(DateUnit),
+    Time(TimeUnit),
+    Point(TimeUnit, Option<&'static str>),
+}
+
+fn moment_text(moment: Moment, number: i64) -> Option<ShortText> {
+    match moment {
+        Moment::Date(unit) => date_text(unit, number),
+        Moment::Time(unit) => time_text(unit, number),
+        Moment::Point(unit, zone) => timestamp_text(unit, zone, number),
+    }
+}
+
+fn read_moment(moment: Moment, text: &[u8]) -> Option<i64> {
+    match moment {
+        Moment::Date(unit) => read_date(unit, text),
+        Moment::Time(unit) => read_time(unit, text),
+        Moment::Point(unit, zone) => read_timestamp(unit, zone, text),
+    }
+}
+
+// Whether a number has this text, which is read as the number; or none.
+fn is_told(moment: Moment, number: i64, wanted: Option<&str>) -> bool {
+    let text = moment_text(moment, number);
+    match (&text, wanted) {
+        (Some(text), Some(wanted)) => {
+            text.as_str() == wanted && read_moment(moment, wanted.as_bytes()) == Some(number)
+        }
+        (None, None) => true,
+        _ => false,
+    }
+}
+
+const MOMENTS: [(Moment, i64, Option<&str>); 13] = [
+    (Moment::Date(DateUnit::Day), -719_162, Some("0001-01-01")),
+    (Moment::Date(DateUnit::Day), 2_932_896, Some("9999-12-31")),
+    (Moment::Date(DateUnit::Day), 11_016, Some("2000-02-29")),
+    (Moment::Date(DateUnit::Day), 47_541, Some("2100-03-01")),
+    (Moment::Date(DateUnit::Day), -719_163, None),
+    (Moment::Date(DateUnit::Millisecond), 1, None),
+    (
+        Moment::Time(TimeUnit::Nanosecond),
+        45_296_000_000_007,
+        Some("12:34:56.000000007"),
+    ),
+    (Moment::Time(TimeUnit::Second), 86_400, None),
+    (
+        Moment::Time(TimeUnit::Millisecond),
+        86_399_999,
+        Some("23:59:59.999"),
+    ),
+    (
+        Moment::Point(TimeUnit::Second, None),
+        253_402_300_799,
+        Some("9999-12-31T23:59:59"),
+    ),
+    (Moment::Point(TimeUnit::Second, None), 253_402_300_800, None),
+    (
+        Moment::Point(TimeUnit::Nanosecond, Some("+01:00")),
+        1_000_002_003,
+        Some("1970-01-01T00:00:01.000002003Z"),
+    ),
+    (
+        Moment::Point(TimeUnit::Nanosecond, Some("")),
+        i64::MIN,
+        Some("1677-09-21T00:12:43.145224192"),
+    ),
+];
+
+#[test]
+fn days_and_times(rt: HostRuntime) {
+    for (number, (moment, count, wanted)) in MOMENTS.iter().enumerate() {
+        assert!(rt; is_told(*moment, *count, *wanted), "moment {number}");
+    }
+}
+
+// Whether a field is read as these bytes.
+fn is_read(alloc: Global, field: &[u8], wanted: &[u8]) -> Result<bool, TextFault> {
+    let bytes = read_bytes(alloc, field)?;
+    Ok(matches!(&bytes, Some(bytes) if bytes.as_slice() == wanted))
 }
 
 #[test]
-fn rows_over_others(rt: HostRuntime) -> Result<(), Fail> {
-    let next: [&[u8]; 5] = [b"\\N", b"n", b"\\N", b"0000", b"\\N"];
-    let text = json_over(rt.alloc(), &FIELDS, &next);
-    assert!(rt; text.is_ok_and(|text| text.as_str() == "[null,\"n\",null,\"0000\",null]"));
-    Ok(())
-}
-
-#[test]
-fn records_that_are_no_rows(rt: HostRuntime) -> Result<(), Fail> {
-    let bad: [&[u8]; 5] = [b"-7", b"\\x", b"x", b"00ab", b""];
-    let fault = TextFault::BadField {
-        record: 3,
-        column: 1,
-    };
-    assert!(rt; json_of(rt.alloc(), &bad) == Err(fault));
-    let fault = TextFault::WrongFieldCount { record: 3 };
-    assert!(rt; json_of(rt.alloc(), &bad[..4]) == Err(fault));
-    Ok(())
-}
-
-fn is_date(day: i64, wanted: &str) -> bool {
-    date_text(DateUnit::Day, day).is_some_and(|text| text.as_str() == wanted)
-        && read_date(DateUnit::Day, wanted.as_bytes()) == Some(day)
-}
-
-#[test]
-fn dates(rt: HostRuntime) -> Result<(), Fail> {
-    assert!(rt; is_date(-719_162, "0001-01-01") && is_date(2_932_896, "9999-12-31"));
-    assert!(rt; is_date(11_016, "2000-02-29") && is_date(47_541, "2100-03-01"));
-    assert!(rt; date_text(DateUnit::Day, -719_163).is_none());
-    assert!(rt; date_text(DateUnit::Millisecond, 1).is_none());
-    Ok(())
-}
-
-#[test]
-fn times(rt: HostRuntime) -> Result<(), Fail> {
-    let text = time_text(TimeUnit::Nanosecond, 45_296_000_000_007);
-    assert!(rt; text.is_some_and(|text| text.as_str() == "12:34:56.000000007"));
-    assert!(rt; time_text(TimeUnit::Second, 86_400).is_none());
-    let read = read_time(TimeUnit::Millisecond, b"23:59:59.999");
-    assert!(rt; read == Some(86_399_999));
-    Ok(())
-}
-
-fn is_point(unit: TimeUnit, zone: Option<&str>, number: i64, wanted: &str) -> bool {
-    timestamp_text(unit, zone, number).is_some_and(|text| text.as_str() == wanted)
-        && read_timestamp(unit, zone, wanted.as_bytes()) == Some(number)
-}
-
-#[test]
-fn points_in_time(rt: HostRuntime) -> Result<(), Fail> {
-    let last = "9999-12-31T23:59:59";
-    assert!(rt; is_point(TimeUnit::Second, None, 253_402_300_799, last));
-    assert!(rt; timestamp_text(TimeUnit::Second, None, 253_402_300_800).is_none());
-    let zone = Some("+01:00");
-    let wanted = "1970-01-01T00:00:01.000002003Z";
-    assert!(rt; is_point(TimeUnit::Nanosecond, zone, 1_000_002_003, wanted));
-    let first = "1677-09-21T00:12:43.145224192";
-    assert!(rt; is_point(TimeUnit::Nanosecond, Some(""), i64::MIN, first));
-    Ok(())
-}
-
-#[test]
-fn fields(rt: HostRuntime) -> Result<(), Fail> {
-    assert!(rt; read_int("-9223372036854775808") == Some(i64::MIN));
-    assert!(rt; read_int("-0").is_none());
+fn fields(rt: HostRuntime) {
+    assert!(rt; read_int("-9223372036854775808") == Some(i64::MIN) && read_int("-0").is_none());
     assert!(rt; read_uint("18446744073709551615") == Some(u64::MAX));
     assert!(rt; read_bool("false") == Some(false));
-    assert!(rt; read_text(b"\\\\x") == Some(b"\\x".as_slice()));
-    assert!(rt; read_text(b"\\x").is_none());
-    Ok(())
-}
-
-#[test]
-fn fields_of_bytes(rt: HostRuntime) -> Result<(), Fail> {
-    let bytes = read_bytes(rt.alloc(), b"00aB")?;
-    assert!(rt; bytes.is_some_and(|bytes| bytes.as_slice() == [0u8, 171].as_slice()));
-    Ok(())
+    assert!(rt; read_text(b"\\\\x") == Some(b"\\x".as_slice()) && read_text(b"\\x").is_none());
+    assert!(rt; matches!(is_read(rt.alloc(), b"00aB", &[0, 171]), Ok(true)));
 }
