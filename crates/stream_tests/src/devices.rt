@@ -99,34 +99,40 @@ fn device_has(
     Ok(has_all && told.as_str() == wanted)
 }
 
+// The number of the writer that has something else, if there is one.
+fn other_device(alloc: Global, table: &Table, whole: &[u8]) -> Result<Option<usize>, AllocError> {
+    for (number, writer) in WRITERS.iter().enumerate() {
+        if !device_has(alloc, *writer, table, whole)? {
+            return Ok(Some(number));
+        }
+    }
+    Ok(None)
+}
+
 #[test]
 fn tells_writers_that_fail(rt: HostRuntime) -> Result<(), Fail> {
     let whole = stream_of(rt.alloc(), Column::Numbers, &[Step::WritePaired(NUMBERS)])?;
     let table = Column::Numbers.table(rt.alloc(), NUMBERS)?;
-    for writer in WRITERS {
-        assert!(rt; device_has(rt.alloc(), writer, &table, &whole)?);
-    }
+    assert!(rt; other_device(rt.alloc(), &table, &whole)? == None);
     Ok(())
 }
 
-// The same batch by batch.
+// What a writer whose flush fails has of a stream of the numbers.
+fn unflushed(alloc: Global, steps: &[Step<'_>], told: &mut String) -> Result<Vec<u8>, AllocError> {
+    let sink = device_of(alloc, u32::MAX, false);
+    let limits = Limits::standard();
+    let sink = played(alloc, limits, sink, Column::Numbers, steps, told)?;
+    Ok(sink.into_inner().bytes)
+}
+
+// The same as of a table, batch by batch.
 #[test]
 fn is_not_finished_where_a_flush_fails(rt: HostRuntime) -> Result<(), Fail> {
-    let alloc = rt.alloc();
     let steps = [Step::Write(NUMBERS)];
-    let whole = stream_of(alloc, Column::Numbers, &steps)?;
-    let mut told = String::new(alloc);
-    let sink = device_of(alloc, u32::MAX, false);
-    let sink = played(
-        alloc,
-        Limits::standard(),
-        sink,
-        Column::Numbers,
-        &steps,
-        &mut told,
-    )?;
-    assert!(rt; sink.into_inner().bytes.as_slice() == whole.as_slice());
-    assert!(rt; told.as_str() == "W9 Write\n");
+    let whole = stream_of(rt.alloc(), Column::Numbers, &steps)?;
+    let mut told = String::new(rt.alloc());
+    let bytes = unflushed(rt.alloc(), &steps, &mut told)?;
+    assert!(rt; bytes.as_slice() == whole.as_slice() && told.as_str() == "W9 Write\n");
     Ok(())
 }
 
@@ -143,18 +149,37 @@ fn limited(
     Ok(sink.into_inner().into_bytes())
 }
 
+// Whether a sink that takes so many bytes in each call has the whole stream then.
+fn has_all(
+    alloc: Global,
+    size: usize,
+    step: Step<'_>,
+    whole: &[u8],
+    told: &mut String,
+) -> Result<bool, AllocError> {
+    let bytes = limited(alloc, (size, u64::MAX), Column::Numbers, &[step], told)?;
+    Ok(bytes.as_slice() == whole)
+}
+
+// The size of a call by which other bytes are written, if there is one.
+fn other_size(alloc: Global, whole: &[u8], told: &mut String) -> Result<Option<usize>, AllocError> {
+    for size in [1, 3, 288, 1 << 20] {
+        for step in [Step::WritePaired(NUMBERS), Step::PushPaired(NUMBERS)] {
+            if !has_all(alloc, size, step, whole, told)? {
+                return Ok(Some(size));
+            }
+        }
+    }
+    Ok(None)
+}
+
 // However few bytes a call takes, the same bytes are written, in one call or row by row.
 #[test]
 fn writes_the_same_bytes(rt: HostRuntime) -> Result<(), Fail> {
     let mut told = String::new(rt.alloc());
     let whole = stream_of(rt.alloc(), Column::Numbers, &[Step::WritePaired(NUMBERS)])?;
-    for step in [1, 3, 288, 1 << 20] {
-        for steps in [[Step::WritePaired(NUMBERS)], [Step::PushPaired(NUMBERS)]] {
-            let device = (step, u64::MAX);
-            let bytes = limited(rt.alloc(), device, Column::Numbers, &steps, &mut told)?;
-            assert!(rt; bytes.as_slice() == whole.as_slice() && told.is_empty());
-        }
-    }
+    assert!(rt; other_size(rt.alloc(), &whole, &mut told)? == None);
+    assert!(rt; told.is_empty());
     Ok(())
 }
 

@@ -5,7 +5,7 @@ use crate::tables::{AB, BC, Column, Rows};
 use crate::written::comes_back;
 use ipc_frame::{END, Frame, Frames};
 use ipc_meta::Head;
-use ipc_model::{Fault, Limits};
+use ipc_model::{Fault, Limits, Table};
 use std::alloc::{AllocError, Global};
 use std::test::Fail;
 
@@ -142,12 +142,11 @@ fn taken(frames: &mut Frames, bytes: &[u8], wanted: Sent) -> Result<usize, Fault
 }
 
 // Whether the messages behind the schema's are the wanted ones, and the end mark.
-fn are_sent(alloc: Global, bytes: &[u8], wanted: &[Sent]) -> Result<bool, Fault> {
-    let mut frames = Frames::new(alloc, Limits::standard());
+fn are_sent(frames: &mut Frames, bytes: &[u8], wanted: &[Sent]) -> Result<bool, Fault> {
     let (count, _schema) = frames.feed(bytes)?;
     let mut rest = bytes.get(count..).unwrap_or_default();
     for message in wanted {
-        let count = taken(&mut frames, rest, *message)?;
+        let count = taken(frames, rest, *message)?;
         if count == 0 {
             return Ok(false);
         }
@@ -176,15 +175,28 @@ fn steps_of<'a>(
 fn sends(alloc: Global, script: &Script, pushes: bool) -> Result<bool, Fault> {
     let steps = steps_of(alloc, script.batches, pushes)?;
     let bytes = stream_of(alloc, script.column, &steps)?;
-    are_sent(alloc, &bytes, script.sent)
+    are_sent(
+        &mut Frames::new(alloc, Limits::standard()),
+        &bytes,
+        script.sent,
+    )
+}
+
+// The number of the first script for which something else is sent, if there is one.
+fn unsent(alloc: Global) -> Result<Option<usize>, Fault> {
+    for (number, script) in SCRIPTS.iter().enumerate() {
+        for pushes in [false, true] {
+            if !sends(alloc, script, pushes)? {
+                return Ok(Some(number));
+            }
+        }
+    }
+    Ok(None)
 }
 
 #[test]
 fn sends_dictionaries(rt: HostRuntime) -> Result<(), Fail> {
-    for (number, script) in SCRIPTS.iter().enumerate() {
-        assert!(rt; sends(rt.alloc(), script, false)?, "script {number}");
-        assert!(rt; sends(rt.alloc(), script, true)?, "script {number}");
-    }
+    assert!(rt; unsent(rt.alloc())? == None);
     Ok(())
 }
 
@@ -214,14 +226,8 @@ fn is_full(alloc: Global, steps: &[Step<'_>], same: &[Step<'_>]) -> Result<bool,
 #[test]
 fn tells_a_full_dictionary(rt: HostRuntime) -> Result<(), Fail> {
     let many = many(rt.alloc())?;
-    let mut steps = Vec::new(rt.alloc());
-    steps.push(Step::Write(ONE))?;
-    steps.push(Step::Write(&many))?;
-    steps.push(Step::Write(ONE))?;
-    let mut same = Vec::new(rt.alloc());
-    same.push(Step::Write(ONE))?;
-    same.push(Step::Write(ONE))?;
-    assert!(rt; is_full(rt.alloc(), &steps, &same)?);
+    let steps = [Step::Write(ONE), Step::Write(&many), Step::Write(ONE)];
+    assert!(rt; is_full(rt.alloc(), &steps, &[Step::Write(ONE); 2])?);
     Ok(())
 }
 
@@ -230,19 +236,19 @@ fn tells_a_full_dictionary(rt: HostRuntime) -> Result<(), Fail> {
 fn sends_the_rows_of_a_full_dictionary(rt: HostRuntime) -> Result<(), Fail> {
     let many = many(rt.alloc())?;
     let most = many.get(..128).unwrap_or_default();
-    let mut steps = Vec::new(rt.alloc());
-    steps.push(Step::Push(&many))?;
-    let mut same = Vec::new(rt.alloc());
-    same.push(Step::Write(most))?;
-    assert!(rt; is_full(rt.alloc(), &steps, &same)?);
+    assert!(rt; is_full(rt.alloc(), &[Step::Push(&many)], &[Step::Write(most)])?);
     Ok(())
+}
+
+// A table of as many letters as these indices count.
+fn full_table(alloc: Global) -> Result<Table, AllocError> {
+    let many = many(alloc)?;
+    Column::Letters.table(alloc, many.get(..128).unwrap_or_default())
 }
 
 #[test]
 fn as_many_letters_as_the_indices_count(rt: HostRuntime) -> Result<(), Fail> {
-    let many = many(rt.alloc())?;
-    let most = many.get(..128).unwrap_or_default();
-    let table = Column::Letters.table(rt.alloc(), most)?;
+    let table = full_table(rt.alloc())?;
     assert!(rt; comes_back(rt.alloc(), &table)?);
     Ok(())
 }

@@ -10,6 +10,8 @@ mod devices;
 #[cfg(test)]
 mod dictionaries;
 #[cfg(test)]
+mod example;
+#[cfg(test)]
 mod pieces;
 #[cfg(test)]
 mod pushed;

@@ -71,21 +71,42 @@ fn ends(
     Ok(ends)
 }
 
+// Whether each event is told with its last byte.
+fn tells_in_time(alloc: Global, events: &mut Vec<Event>) -> Result<bool, Fault> {
+    let ends = ends(alloc, &mut fresh(alloc), events)?;
+    Ok(is_told(events) && ends.as_slice() == [120, 280, 288].as_slice())
+}
+
 #[test]
 fn events_come_with_their_last_byte(rt: HostRuntime) -> Result<(), Fail> {
-    let mut events = Vec::new(rt.alloc());
-    let ends = ends(rt.alloc(), &mut fresh(rt.alloc()), &mut events);
-    assert!(rt; is_told(&events));
-    assert!(rt; ends?.as_slice() == [120, 280, 288].as_slice());
+    assert!(rt; tells_in_time(rt.alloc(), &mut Vec::new(rt.alloc()))?);
+    Ok(())
+}
+
+// Feeds a piece to its end, or to the end of the stream.
+fn feed_all(decoder: &mut Decoder, piece: &[u8]) -> Result<(), Fault> {
+    let mut rest = piece;
+    for _ in 0..=piece.len() {
+        let (taken, event) = decoder.feed(rest)?;
+        rest = rest.get(taken..).unwrap_or_default();
+        if event.is_none() {
+            break;
+        }
+    }
+    Ok(())
+}
+
+// Feeds bytes in pieces of so many.
+fn feed_by(decoder: &mut Decoder, bytes: &[u8], size: usize) -> Result<(), Fault> {
+    for piece in bytes.chunks(size.max(1)) {
+        feed_all(decoder, piece)?;
+    }
     Ok(())
 }
 
 // Feeds so many bytes of the stream, one by one.
 fn feed_first(decoder: &mut Decoder, count: usize) -> Result<(), Fault> {
-    for byte in STREAM.iter().take(count) {
-        decoder.feed(&[*byte])?;
-    }
-    Ok(())
+    feed_by(decoder, STREAM.get(..count).unwrap_or(&STREAM), 1)
 }
 
 // Behind so many bytes: how many are wanted before the next decision, how many are held, how many
@@ -117,11 +138,19 @@ fn decides(decoder: &mut Decoder, count: usize, wanted: Decision) -> bool {
         && decoder.schema().is_some() == (count >= 120)
 }
 
+// Behind how many bytes another decision falls, if there is such a number.
+fn other_decision(alloc: Global) -> Option<usize> {
+    for (count, wanted) in DECISIONS {
+        if !decides(&mut fresh(alloc), count, wanted) {
+            return Some(count);
+        }
+    }
+    None
+}
+
 #[test]
 fn bytes_before_the_next_decision(rt: HostRuntime) -> Result<(), Fail> {
-    for (count, wanted) in DECISIONS {
-        assert!(rt; decides(&mut fresh(rt.alloc()), count, wanted));
-    }
+    assert!(rt; other_decision(rt.alloc()) == None);
     Ok(())
 }
 
@@ -131,16 +160,24 @@ fn closed(decoder: &mut Decoder, count: usize) -> Result<End, Fault> {
     decoder.close()
 }
 
-#[test]
-fn closed_behind_each_byte(rt: HostRuntime) -> Result<(), Fail> {
+// Behind how many bytes something else is answered, if there is such a number.
+fn closed_otherwise(alloc: Global) -> Option<usize> {
     for count in 0..=STREAM.len() {
         let wanted = match count {
             120 | 280 => Ok(End::Closed),
             288 => Ok(End::Mark),
             _ => Err(Fault::Truncated),
         };
-        assert!(rt; closed(&mut fresh(rt.alloc()), count) == wanted);
+        if closed(&mut fresh(alloc), count) != wanted {
+            return Some(count);
+        }
     }
+    None
+}
+
+#[test]
+fn closed_behind_each_byte(rt: HostRuntime) -> Result<(), Fail> {
+    assert!(rt; closed_otherwise(rt.alloc()) == None);
     Ok(())
 }
 
@@ -155,15 +192,26 @@ fn left(
     Ok(first.saturating_add(second))
 }
 
+// Whether two bytes are left there, and all events are told.
+fn leaves_two(alloc: Global, events: &mut Vec<Event>, parts: (&[u8], &[u8])) -> bool {
+    left(&mut fresh(alloc), events, parts) == Ok(2) && is_told(events)
+}
+
+// Where these bytes are cut so that something else is left, if there is such a place.
+fn left_otherwise(alloc: Global, bytes: &[u8]) -> Option<usize> {
+    for cut in 0..=bytes.len() {
+        if !leaves_two(alloc, &mut Vec::new(alloc), bytes.split_at(cut)) {
+            return Some(cut);
+        }
+    }
+    None
+}
+
 #[test]
 fn bytes_behind_the_mark(rt: HostRuntime) -> Result<(), Fail> {
     let mut bytes = Vec::from_slice(rt.alloc(), &STREAM)?;
     bytes.extend_from_slice(b"AB")?;
-    for cut in 0..=bytes.len() {
-        let mut events = Vec::new(rt.alloc());
-        let left = left(&mut fresh(rt.alloc()), &mut events, bytes.split_at(cut));
-        assert!(rt; left == Ok(2) && is_told(&events));
-    }
+    assert!(rt; left_otherwise(rt.alloc(), &bytes) == None);
     Ok(())
 }
 
@@ -175,30 +223,20 @@ fn long_body(alloc: Global) -> Result<Vec<u8>, Fault> {
     Ok(bytes)
 }
 
-#[test]
-fn holds_no_more_than_came(rt: HostRuntime) -> Result<(), Fail> {
-    let bytes = long_body(rt.alloc())?;
-    assert!(rt; decided_behind(&mut fresh(rt.alloc()), &bytes) == Ok(((1 << 40) - 5, 141, 1)));
-    Ok(())
-}
-
-// Feeds a piece to its end, or to the end of the stream.
-fn feed_all(decoder: &mut Decoder, piece: &[u8]) -> Result<(), Fault> {
-    let mut rest = piece;
-    for _ in 0..=piece.len() {
-        let (taken, event) = decoder.feed(rest)?;
-        rest = rest.get(taken..).unwrap_or_default();
-        if event.is_none() {
-            break;
-        }
-    }
-    Ok(())
-}
-
 // What is decided behind a piece.
 fn decided_behind(decoder: &mut Decoder, piece: &[u8]) -> Result<Decision, Fault> {
     feed_all(decoder, piece)?;
     Ok(decided(decoder))
+}
+
+fn decided_in_a_long_body(alloc: Global) -> Result<Decision, Fault> {
+    decided_behind(&mut fresh(alloc), &long_body(alloc)?)
+}
+
+#[test]
+fn holds_no_more_than_came(rt: HostRuntime) -> Result<(), Fail> {
+    assert!(rt; decided_in_a_long_body(rt.alloc())? == ((1 << 40) - 5, 141, 1));
+    Ok(())
 }
 
 // Whether a piece that is pushed tells nothing and isn't taken.
@@ -263,9 +301,8 @@ fn ends_behind(alloc: Global, decoder: &mut Decoder, count: usize, end: End) -> 
 
 #[test]
 fn takes_nothing_after_the_end(rt: HostRuntime) -> Result<(), Fail> {
-    for (count, end) in [(120, End::Closed), (288, End::Mark)] {
-        assert!(rt; ends_behind(rt.alloc(), &mut fresh(rt.alloc()), count, end));
-    }
+    assert!(rt; ends_behind(rt.alloc(), &mut fresh(rt.alloc()), 120, End::Closed));
+    assert!(rt; ends_behind(rt.alloc(), &mut fresh(rt.alloc()), 288, End::Mark));
     Ok(())
 }
 
@@ -276,17 +313,9 @@ fn is_out_of_memory(decoder: &mut Decoder, fault: Fault) -> bool {
     fault == Fault::OutOfMemory && again == Some(Fault::Failed) && closed == Err(Fault::Failed)
 }
 
-// Feeds the stream in pieces of three bytes.
-fn feed_in_threes(decoder: &mut Decoder) -> Result<(), Fault> {
-    for piece in STREAM.chunks(3) {
-        feed_all(decoder, piece)?;
-    }
-    Ok(())
-}
-
 // What comes of the stream, and whether the decoder is as it has to be then.
 fn fed_in_threes(decoder: &mut Decoder) -> (Result<(), Fault>, bool) {
-    match feed_in_threes(decoder) {
+    match feed_by(decoder, &STREAM, 3) {
         Ok(()) => (
             Ok(()),
             decoder.messages() == 2 && decoder.close() == Ok(End::Mark),

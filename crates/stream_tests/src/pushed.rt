@@ -1,8 +1,8 @@
 //! Batches whose rows are pushed one by one.
 
-use crate::scripts::{Step, stream_of};
-use crate::tables::{Column, NUMBERS, empty, pair};
-use ipc_model::{Items, Limits, Row, Text, Value, WriteFault};
+use crate::scripts::{Step, ended, started, stream_of};
+use crate::tables::{Column, NUMBERS, pairs};
+use ipc_model::{Items, Limits, Row, Schema, Text, Value, WriteFault};
 use ipc_stream::{Memory, StreamWriter};
 use std::alloc::Global;
 use std::test::Fail;
@@ -27,10 +27,9 @@ fn push_numbers(
 
 // The stream of a writer with a batch of those of the numbers that fit.
 fn pushed(alloc: Global, numbers: &[i64]) -> Result<Vec<u8>, WriteFault> {
-    let schema = Column::Bytes.schema(alloc)?;
-    let mut writer = StreamWriter::start(alloc, Limits::standard(), empty(alloc), &schema)?;
+    let mut writer = started(alloc, &Column::Bytes.schema(alloc)?)?;
     push_numbers(alloc, &mut writer, numbers)?;
-    Ok(writer.finish()?.into_bytes())
+    ended(writer)
 }
 
 #[test]
@@ -42,18 +41,10 @@ fn sends_the_rows_that_fit(rt: HostRuntime) -> Result<(), Fail> {
     Ok(())
 }
 
-// Whether a writer that ran out of memory fails, and nothing went out behind so many bytes.
-fn is_failed(alloc: Global, writer: StreamWriter<Memory>, size: usize) -> bool {
-    let mut writer = writer;
-    let next = writer.batch(Items::new(alloc)).err();
-    next == Some(WriteFault::Failed) && writer.into_inner().into_bytes().len() == size
-}
-
 // A writer into memory that has room for all that is sent here.
-fn roomy(alloc: Global) -> Result<StreamWriter<Memory>, WriteFault> {
+fn roomy(alloc: Global, schema: &Schema) -> Result<StreamWriter<Memory>, WriteFault> {
     let sink = Memory::new(Vec::with_capacity(alloc, 1 << 16)?);
-    let schema = Column::Numbers.schema(alloc)?;
-    Ok(StreamWriter::start(alloc, Limits::standard(), sink, &schema)?)
+    Ok(StreamWriter::start(alloc, Limits::standard(), sink, schema)?)
 }
 
 // Sends a batch of these pairs and rows, row by row.
@@ -69,6 +60,25 @@ fn push_all(
     batch.send()
 }
 
+// Whether a writer that ran out of memory fails.
+fn is_failed(alloc: Global, writer: &mut StreamWriter<Memory>) -> bool {
+    writer.batch(Items::new(alloc)).err() == Some(WriteFault::Failed)
+}
+
+// What a writer that is to send such a batch answers, whether it fails behind a refusal, and how
+// many bytes went out.
+fn grown(
+    alloc: Global,
+    schema: &Schema,
+    pairs: Items<(Text, Text)>,
+    rows: &[Row],
+) -> Result<(Result<(), WriteFault>, bool, usize), WriteFault> {
+    let mut writer = roomy(alloc, schema)?;
+    let answer = push_all(&mut writer, pairs, rows);
+    let is_failed = answer.is_err() && is_failed(alloc, &mut writer);
+    Ok((answer, is_failed, writer.into_inner().into_bytes().len()))
+}
+
 // Where memory is refused, the writer fails, and nothing went out behind the schema. The stream of
 // no batches has the end mark behind its schema.
 #[test]
@@ -76,13 +86,8 @@ fn grows_pushed_rows(rt: HostRuntime) -> Result<(), Fail> {
     let alloc = rt.alloc();
     let size = stream_of(alloc, Column::Numbers, &[])?.len();
     let rows = Column::Numbers.rows(alloc, NUMBERS)?;
-    let pairs = Items::from_vec(pair(alloc)?);
-    let mut writer = roomy(alloc)?;
-    match push_all(&mut writer, pairs, &rows) {
-        Ok(()) => Ok(()),
-        Err(fault) => {
-            assert!(rt; is_failed(alloc, writer, size.saturating_sub(8)));
-            Err(Fail::from(fault))
-        }
-    }
+    let schema = Column::Numbers.schema(alloc)?;
+    let (answer, is_failed, sent) = grown(alloc, &schema, pairs(alloc, true)?, &rows)?;
+    assert!(rt; answer.is_ok() || is_failed && sent == size.saturating_sub(8));
+    Ok(answer?)
 }

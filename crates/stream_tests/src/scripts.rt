@@ -1,9 +1,9 @@
 //! What writers answer to scripts, and what they send.
 ghost use Rattle.ipc_stream.specs.Pushed.{Stays};
 
-use crate::tables::{Column, Rows, empty, pair, paired};
-use ipc_model::{Items, Limits, Row, Text, Value, WriteFault};
-use ipc_stream::{BatchWriter, Sink, StreamWriter};
+use crate::tables::{Column, Rows, empty};
+use ipc_model::{BatchRows, Items, Limits, Row, Schema, Text, Value, WriteFault};
+use ipc_stream::{BatchWriter, Memory, Sink, StreamWriter};
 use std::alloc::{AllocError, Global};
 
 /// What is asked of a writer.
@@ -19,6 +19,27 @@ pub enum Step<'a> {
     PushPaired(Rows<'a>),
     /// To take this number as a row, and to send nothing.
     LetGo(i64),
+}
+
+impl<'a> Step<'a> {
+    // The numbers of the rows that may be sent, and whether they have a pair.
+    fn parts(self) -> (Rows<'a>, bool) {
+        match self {
+            Step::Write(numbers) | Step::Push(numbers) => (numbers, false),
+            Step::WritePaired(numbers) | Step::PushPaired(numbers) => (numbers, true),
+            Step::LetGo(_) => (&[], false),
+        }
+    }
+}
+
+/// A writer into memory that sent this schema.
+pub fn started(alloc: Global, schema: &Schema) -> Result<StreamWriter<Memory>, WriteFault> {
+    Ok(StreamWriter::start(alloc, Limits::standard(), empty(alloc), schema)?)
+}
+
+/// Ends the stream of a writer, and gives its bytes.
+pub fn ended(writer: StreamWriter<Memory>) -> Result<Vec<u8>, WriteFault> {
+    Ok(writer.finish()?.into_bytes())
 }
 
 /// Tells a refusal in a line.
@@ -50,12 +71,12 @@ fn take_rows<W: Sink>(
 fn push_rows<W: Sink>(
     alloc: Global,
     writer: &mut StreamWriter<W>,
-    pairs: Items<(Text, Text)>,
-    rows: &[Row],
+    batch: BatchRows,
     told: &mut String,
 ) -> Result<(), WriteFault> {
+    let BatchRows { pairs, rows } = batch;
     let mut batch = writer.batch(pairs)?;
-    take_rows(alloc, &mut batch, rows, told)?;
+    take_rows(alloc, &mut batch, rows.as_slice(), told)?;
     batch.send()
 }
 
@@ -71,37 +92,6 @@ fn let_go<W: Sink>(
     batch.push(row)
 }
 
-fn push<W: Sink>(
-    alloc: Global,
-    writer: &mut StreamWriter<W>,
-    column: Column,
-    numbers: Rows<'_>,
-    told: &mut String,
-) -> Result<(), WriteFault> {
-    let rows = column.rows(alloc, numbers)?;
-    push_rows(alloc, writer, Items::new(alloc), &rows, told)
-}
-
-fn push_paired<W: Sink>(
-    alloc: Global,
-    writer: &mut StreamWriter<W>,
-    column: Column,
-    numbers: Rows<'_>,
-    told: &mut String,
-) -> Result<(), WriteFault> {
-    let rows = column.rows(alloc, numbers)?;
-    push_rows(alloc, writer, Items::from_vec(pair(alloc)?), &rows, told)
-}
-
-fn write_paired<W: Sink>(
-    alloc: Global,
-    writer: &mut StreamWriter<W>,
-    column: Column,
-    numbers: Rows<'_>,
-) -> Result<(), WriteFault> {
-    writer.write_batch(&paired(alloc, column.batch(alloc, numbers)?)?)
-}
-
 // Takes one step.
 fn take<W: Sink>(
     alloc: Global,
@@ -110,12 +100,12 @@ fn take<W: Sink>(
     step: Step<'_>,
     told: &mut String,
 ) -> Result<(), WriteFault> {
+    let (numbers, is_paired) = step.parts();
+    let batch = column.batch(alloc, numbers, is_paired)?;
     match step {
-        Step::Write(numbers) => writer.write_batch(&column.batch(alloc, numbers)?),
-        Step::WritePaired(numbers) => write_paired(alloc, writer, column, numbers),
-        Step::Push(numbers) => push(alloc, writer, column, numbers, told),
-        Step::PushPaired(numbers) => push_paired(alloc, writer, column, numbers, told),
-        Step::LetGo(number) => let_go(writer, Items::new(alloc), &[Value::Int(number)]),
+        Step::Write(_) | Step::WritePaired(_) => writer.write_batch(&batch),
+        Step::Push(_) | Step::PushPaired(_) => push_rows(alloc, writer, batch, told),
+        Step::LetGo(number) => let_go(writer, batch.pairs, &[Value::Int(number)]),
     }
 }
 
@@ -183,11 +173,6 @@ pub fn sent(
 
 /// The same under the standard limits, where nothing needs to be told.
 pub fn stream_of(alloc: Global, column: Column, steps: &[Step<'_>]) -> Result<Vec<u8>, AllocError> {
-    sent(
-        alloc,
-        Limits::standard(),
-        column,
-        steps,
-        &mut String::new(alloc),
-    )
+    let mut told = String::new(alloc);
+    sent(alloc, Limits::standard(), column, steps, &mut told)
 }

@@ -43,7 +43,8 @@ pub const BC: Option<i64> = Some(0x6263);
 
 pub const CD: Option<i64> = Some(0x6364);
 
-fn int(bits: IntBits, signed: bool) -> DataType {
+/// The type of whole numbers of this width.
+pub fn int(bits: IntBits, signed: bool) -> DataType {
     DataType::Int { bits, signed }
 }
 
@@ -126,11 +127,12 @@ impl Column {
 
     // A row of one value.
     fn single(self, alloc: Global, number: Option<i64>) -> Result<Row, AllocError> {
-        let mut row = Vec::new(alloc);
-        row.push(match number {
+        let value = match number {
             Some(number) => self.value(alloc, number)?,
             None => Value::Null,
-        })?;
+        };
+        let mut row = Vec::new(alloc);
+        row.push(value)?;
         Ok(Items::from_vec(row))
     }
 
@@ -151,9 +153,24 @@ impl Column {
         Ok(rows)
     }
 
-    /// A batch with a row for each of the numbers.
-    pub fn batch(self, alloc: Global, numbers: Rows<'_>) -> Result<BatchRows, AllocError> {
-        Ok(BatchRows::new(self.rows(alloc, numbers)?))
+    /// A batch with a row for each of the numbers, and with one pair or none.
+    pub fn batch(
+        self,
+        alloc: Global,
+        numbers: Rows<'_>,
+        is_paired: bool,
+    ) -> Result<BatchRows, AllocError> {
+        let rows = Items::from_vec(self.rows(alloc, numbers)?);
+        Ok(BatchRows {
+            pairs: pairs(alloc, is_paired)?,
+            rows,
+        })
+    }
+
+    fn batches(self, alloc: Global, numbers: Rows<'_>) -> Result<Items<BatchRows>, AllocError> {
+        let mut batches = Vec::new(alloc);
+        batches.push(self.batch(alloc, numbers, true)?)?;
+        Ok(Items::from_vec(batches))
     }
 
     /// A table of one such batch, with one pair.
@@ -164,24 +181,15 @@ impl Column {
             batches: self.batches(alloc, numbers)?,
         })
     }
-
-    fn batches(self, alloc: Global, numbers: Rows<'_>) -> Result<Items<BatchRows>, AllocError> {
-        let mut batches = Vec::new(alloc);
-        batches.push(paired(alloc, self.batch(alloc, numbers)?)?)?;
-        Ok(Items::from_vec(batches))
-    }
 }
 
-/// The batch with one pair, of two bytes.
-pub fn paired(alloc: Global, batch: BatchRows) -> Result<BatchRows, AllocError> {
-    Ok(batch.with_pairs(pair(alloc)?))
-}
-
-/// One pair, of two bytes.
-pub fn pair(alloc: Global) -> Result<Vec<(Text, Text)>, AllocError> {
+/// One pair, of two bytes, or none.
+pub fn pairs(alloc: Global, is_paired: bool) -> Result<Items<(Text, Text)>, AllocError> {
     let mut pairs = Vec::new(alloc);
-    pairs.push((Text::copied(alloc, "k")?, Text::copied(alloc, "v")?))?;
-    Ok(pairs)
+    if is_paired {
+        pairs.push((Text::copied(alloc, "k")?, Text::copied(alloc, "v")?))?;
+    }
+    Ok(Items::from_vec(pairs))
 }
 
 pub fn empty(alloc: Global) -> Memory {

@@ -2,7 +2,7 @@
 //! writer sends of the rows that are left. What a reader answers under limits stands in `cases/`.
 
 use crate::scripts::{Step, sent, stream_of, tell};
-use crate::tables::{AB, BC, CD, Column, NUMBERS, empty};
+use crate::tables::{AB, BC, CD, Column, NUMBERS, Rows, empty};
 use ipc_model::{DataType, Fault, Field, Limits, Schema, Table, WriteFault};
 use ipc_stream::{Memory, StreamWriter, read_table, write_table};
 use std::alloc::{AllocError, Global};
@@ -156,11 +156,19 @@ fn is_answered(alloc: Global, script: &Script) -> Result<bool, AllocError> {
     Ok(told.as_str() == script.told && bytes.as_slice() == wanted.as_slice())
 }
 
+// The number of the first script to which something else is answered, if there is one.
+fn answered_otherwise(alloc: Global) -> Result<Option<usize>, AllocError> {
+    for (number, script) in SCRIPTS.iter().enumerate() {
+        if !is_answered(alloc, script)? {
+            return Ok(Some(number));
+        }
+    }
+    Ok(None)
+}
+
 #[test]
 fn answers_to_scripts(rt: HostRuntime) -> Result<(), Fail> {
-    for (number, script) in SCRIPTS.iter().enumerate() {
-        assert!(rt; is_answered(rt.alloc(), script)?, "script {number}");
-    }
+    assert!(rt; answered_otherwise(rt.alloc())? == None);
     Ok(())
 }
 
@@ -186,12 +194,16 @@ const MISFITS: [(Column, [Option<i64>; 2]); 2] = [
     (Column::Days, [Some(86_400_000), Some(1)]),
 ];
 
+// Whether a table of these numbers is.
+fn is_misfit(alloc: Global, column: Column, numbers: Rows<'_>) -> Result<bool, AllocError> {
+    let whole = stream_of(alloc, column, &[])?;
+    is_refused(alloc, &column.table(alloc, numbers)?, &whole)
+}
+
 #[test]
 fn tells_the_row_of_a_table(rt: HostRuntime) -> Result<(), Fail> {
     for (column, numbers) in MISFITS {
-        let whole = stream_of(rt.alloc(), column, &[])?;
-        let table = column.table(rt.alloc(), &numbers)?;
-        assert!(rt; is_refused(rt.alloc(), &table, &whole)?);
+        assert!(rt; is_misfit(rt.alloc(), column, &numbers)?);
     }
     Ok(())
 }
@@ -249,12 +261,18 @@ fn is_bad(alloc: Global, schema: &Schema) -> bool {
     }
 }
 
+// The schema of such a column.
+fn refused_schema(alloc: Global, number: usize) -> Result<Schema, AllocError> {
+    let mut fields = Vec::new(alloc);
+    fields.push(refused_column(alloc, number)?)?;
+    Ok(Schema::new(fields))
+}
+
 #[test]
 fn refuses_schemas(rt: HostRuntime) -> Result<(), Fail> {
     for number in 0..2 {
-        let mut fields = Vec::new(rt.alloc());
-        fields.push(refused_column(rt.alloc(), number)?)?;
-        assert!(rt; is_bad(rt.alloc(), &Schema::new(fields)), "column {number}");
+        let schema = refused_schema(rt.alloc(), number)?;
+        assert!(rt; is_bad(rt.alloc(), &schema), "column {number}");
     }
     Ok(())
 }

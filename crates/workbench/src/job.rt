@@ -37,6 +37,8 @@ pub enum Job {
         /// How many times.
         times: u32,
     },
+    /// Says what is read in the streams of standard input, each of which is a line.
+    Answer,
 }
 
 fn number(words: &mut Args) -> Option<u32> {
@@ -67,6 +69,7 @@ fn named(name: &str, words: &mut Args) -> Option<Job> {
             order: Order::Rows,
             times: number(words)?,
         },
+        "answer" => Job::Answer,
         _ => return None,
     })
 }

@@ -4,26 +4,41 @@
 //!     workbench push SIZE < STREAM
 //!     workbench pull|pull-over < STREAM
 //!     workbench check|cells|cells-by-row TIMES < STREAM
+//!     workbench answer < LINES
 //!
 //! `push-rows` makes 1,024 rows and pushes them in turn, so many for each of so many batches.
 //! `push` reads standard input in pieces of at most so many bytes, pushes each to a decoder and
 //! counts. `pull` reads it by a reader and counts; `pull-over` gives each batch back to the reader.
 //! `check` reads it to its end, and then checks each batch so many times; `cells` adds up the cells
 //! of each batch so many times, column by column, and `cells-by-row` row by row.
+//!
+//! `answer` reads lines, of which each is a stream in hexadecimal digits, with the limits that are
+//! not the standard ones behind it, as in `, metadata 39, slots 3`. Each is answered by some lines
+//! and an empty one. They say what the library reads in it, whether it reads the same when the
+//! bytes come in small pieces, pulled or pushed, and whether the rows come back when they are
+//! written. `cases/README.md` says how the lines look.
 #![tactic(auto)]
 
+mod answer;
 mod cells;
 mod checks;
 mod cities;
+mod cut;
 mod job;
+mod lines;
 mod messages;
 mod nested;
 mod pulls;
 mod pushed;
 mod pushes;
+mod report;
+mod request;
+mod requests;
 mod rows;
+mod told;
 mod tree;
 mod values;
+mod words;
 
 use anyhow::Result;
 use cells::{Cells, read_cells};
@@ -32,6 +47,7 @@ use job::Job;
 use pulls::pull_stream;
 use pushed::push_rows;
 use pushes::{Counts, push_stream};
+use requests::answer_lines;
 use std::process::ExitCode;
 use std::{env, io};
 
@@ -39,7 +55,8 @@ const USAGE: &str = "\
 usage: workbench push-rows i64|mixed|dictionary|nested|flat BATCHES ROWS > STREAM
        workbench push SIZE < STREAM
        workbench pull|pull-over < STREAM
-       workbench check|cells|cells-by-row TIMES < STREAM";
+       workbench check|cells|cells-by-row TIMES < STREAM
+       workbench answer < LINES";
 
 fn tell(rt: &HostRuntime, counts: Counts) -> Result<()> {
     let Counts { batches, rows } = counts;
@@ -75,6 +92,7 @@ fn run(rt: &HostRuntime, job: Job) -> Result<()> {
         Job::Cells { order, times } => {
             tell_cells(rt, read_cells(rt.alloc(), rt.reader(), order, times)?)
         }
+        Job::Answer => answer_lines(rt),
     }
 }
 

@@ -29,15 +29,26 @@ pub fn nested_schema(alloc: Global) -> Result<Schema, AllocError> {
     Ok(Schema::new(vec![in alloc; list_field(alloc)?, struct_field(alloc)?]?))
 }
 
+// The names of the flat columns.
+const FLAT: [&str; 5] = ["x", "y", "z", "a", "b"];
+
+fn flat_type(place: usize) -> DataType {
+    match place {
+        3 => signed(IntBits::B32),
+        4 => DataType::Utf8,
+        _ => signed(IntBits::B64),
+    }
+}
+
 /// The same values: as many nullable columns of numbers as a list has values at most, a number and
 /// a text.
 pub fn flat_schema(alloc: Global) -> Result<Schema, AllocError> {
     let mut fields = Vec::new(alloc);
-    for name in ["x", "y", "z"] {
-        fields.push(Field::new(alloc, name, signed(IntBits::B64))?.nullable())?;
+    for (place, name) in FLAT.iter().enumerate() {
+        let mut field = Field::new(alloc, name, flat_type(place))?;
+        field.nullable = place < usize::from(MOST);
+        fields.push(field)?;
     }
-    fields.push(Field::new(alloc, "a", signed(IntBits::B32))?)?;
-    fields.push(Field::new(alloc, "b", DataType::Utf8)?)?;
     Ok(Schema::new(fields))
 }
 
@@ -46,17 +57,29 @@ fn count(number: u16) -> Value {
     Value::Int(i64::from(number) * 31)
 }
 
-/// A row that goes by its number, whose list has no value to three.
-pub fn nested_row(alloc: Global, number: u16) -> Result<Row, AllocError> {
+// A list of no value to three.
+fn list(alloc: Global, number: u16) -> Result<Value, AllocError> {
     let mut numbers = Vec::with_capacity(alloc, usize::from(MOST))?;
     for place in 0..length(number) {
         numbers.push(Value::Int(spread(number, place)))?;
     }
-    let pair = vec![in alloc; count(number), Value::text(alloc, word(number))?]?;
-    Ok(Row::from(vec![in alloc;
-        Value::List(Items::from_vec(numbers)),
-        Value::Struct(Items::from_vec(pair)),
-    ]?))
+    Ok(Value::List(Items::from_vec(numbers)))
+}
+
+// A number and a text.
+fn pair(alloc: Global, number: u16) -> Result<Value, AllocError> {
+    let mut pair = Vec::with_capacity(alloc, 2)?;
+    pair.push(count(number))?;
+    pair.push(Value::text(alloc, word(number))?)?;
+    Ok(Value::Struct(Items::from_vec(pair)))
+}
+
+/// A row that goes by its number.
+pub fn nested_row(alloc: Global, number: u16) -> Result<Row, AllocError> {
+    let mut row = Vec::with_capacity(alloc, 2)?;
+    row.push(list(alloc, number)?)?;
+    row.push(pair(alloc, number)?)?;
+    Ok(Row::from(row))
 }
 
 /// The same values side by side, where null stands for a value that the list doesn't have.

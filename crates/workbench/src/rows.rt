@@ -81,28 +81,46 @@ fn zoned(alloc: Global) -> Result<DataType, AllocError> {
     })
 }
 
+// The names of the mixed columns, of which all but the first are nullable.
+const MIXED: [&str; 5] = ["id", "count", "name", "flag", "at"];
+
+fn mixed_type(alloc: Global, place: usize) -> Result<DataType, AllocError> {
+    match place {
+        0 => Ok(signed(IntBits::B64)),
+        1 => Ok(signed(IntBits::B32)),
+        2 => Ok(DataType::Utf8),
+        3 => Ok(DataType::Bool),
+        _ => zoned(alloc),
+    }
+}
+
 fn mixed_schema(alloc: Global) -> Result<Schema, AllocError> {
     let mut fields = Vec::new(alloc);
-    fields.push(Field::new(alloc, "id", signed(IntBits::B64))?)?;
-    fields.push(Field::new(alloc, "count", signed(IntBits::B32))?.nullable())?;
-    fields.push(Field::new(alloc, "name", DataType::Utf8)?.nullable())?;
-    fields.push(Field::new(alloc, "flag", DataType::Bool)?.nullable())?;
-    fields.push(Field::new(alloc, "at", zoned(alloc)?)?.nullable())?;
+    for (place, name) in MIXED.iter().enumerate() {
+        let mut field = Field::new(alloc, name, mixed_type(alloc, place)?)?;
+        field.nullable = place > 0;
+        fields.push(field)?;
+    }
     Ok(Schema::new(fields))
 }
 
-// Null at each so manyth number, the value at the others.
-fn unless(is_null: bool, value: Value) -> Value {
-    if is_null { Value::Null } else { value }
+// A value that goes by the number of its row, and is null at each so manyth of them.
+fn mixed_value(alloc: Global, number: u16, place: usize) -> Result<Value, AllocError> {
+    let long = i64::from(number);
+    match place {
+        0 => Ok(Value::Int(spread(number, 2))),
+        1 if number % 7 != 0 => Ok(Value::Int(long * 31)),
+        2 if number % 5 != 0 => Value::text(alloc, word(number)),
+        3 if number % 11 != 0 => Ok(Value::Bool(number % 2 == 0)),
+        4 if number % 13 != 0 => Ok(Value::Int(long * 86_400_000_000)),
+        _ => Ok(Value::Null),
+    }
 }
 
 fn mixed_row(alloc: Global, number: u16) -> Result<Row, AllocError> {
-    let long = i64::from(number);
-    Ok(Row::from(vec![in alloc;
-        Value::Int(spread(number, 2)),
-        unless(number % 7 == 0, Value::Int(long * 31)),
-        unless(number % 5 == 0, Value::text(alloc, word(number))?),
-        unless(number % 11 == 0, Value::Bool(number % 2 == 0)),
-        unless(number % 13 == 0, Value::Int(long * 86_400_000_000)),
-    ]?))
+    let mut values = Vec::with_capacity(alloc, MIXED.len())?;
+    for place in 0..MIXED.len() {
+        values.push(mixed_value(alloc, number, place)?)?;
+    }
+    Ok(Row::from(values))
 }

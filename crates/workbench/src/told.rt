@@ -1,5 +1,5 @@
 //! What a decoder tells of a stream whose bytes are pushed in pieces.
-use crate::answer::Answer;
+use crate::answer::{Answer, keep_rows};
 use crate::cut::Cut;
 use crate::request::Request;
 use ipc_model::{BatchRows, Fault, Items, Schema, Table};
@@ -23,8 +23,7 @@ impl Told {
             piece = piece.get(count..).unwrap_or(&[]);
             match event {
                 Some(Event::Batch(batch, pairs)) => {
-                    let rows = batch.to_rows(alloc)?;
-                    self.batches.push(BatchRows { pairs, rows })?;
+                    keep_rows(alloc, &batch, pairs, &mut self.batches)?;
                 }
                 Some(_) => {}
                 None => return Ok(()),

@@ -1,8 +1,8 @@
 //! The lines that say what is read in a stream.
 use crate::answer::Answer;
-use crate::checks::{Other, PIECES, Report, RoundTrip, Way};
 use crate::cut::Cut;
-use crate::values::{write_dictionary, write_pairs, write_text, write_type, write_value};
+use crate::report::{Other, PIECES, Report, RoundTrip, Way};
+use crate::words::{write_dictionary, write_pairs, write_text, write_type, write_value};
 use ipc_model::{BatchRows, Field, Row, Schema, Table};
 use ipc_stream::{End, RoundTripFault};
 use std::fmt;

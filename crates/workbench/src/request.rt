@@ -1,4 +1,4 @@
-//! What is asked of the program in a line.
+//! What is asked in a line.
 use anyhow::{Context, Result};
 use ipc_model::Limits;
 use std::alloc::Global;

@@ -1,14 +1,13 @@
-//! The program `read_and_write`: it writes two batches into memory as a stream, reads them back and
-//! prints each cell. It is the example of README.md.
-#![tactic(auto)]
+//! README's example: two batches are written into memory as a stream, and their cells read back.
 
 use ipc_stream::{
     BatchRows, Cell, DataType, DateUnit, Fault, Field, IntBits, Limits, Memory, Row, Schema,
     StreamReader, StreamWriter, Value, WriteFault,
 };
 use std::alloc::{AllocError, Global};
-use std::process::ExitCode;
+use std::test::Fail;
 
+// README: Library
 // The columns: a number, a name, which may be null, and a day.
 fn columns(alloc: Global) -> Result<Schema, WriteFault> {
     let number = DataType::Int {
@@ -44,20 +43,31 @@ fn write(alloc: Global) -> Result<Memory, WriteFault> {
     Ok(stream.finish()?)
 }
 
-// The cells of a stream, a line for each row.
-fn read(alloc: Global, source: Memory) -> Result<String, Fault> {
-    let mut text = String::new(alloc);
-    let mut stream = StreamReader::open(alloc, Limits::standard(), source)?;
+// Adds the cells of a stream to a text, a line for each row.
+fn read_rows(
+    alloc: Global,
+    stream: &mut StreamReader<Memory>,
+    text: &mut String,
+) -> Result<(), Fault> {
     while let Some((batch, _pairs)) = stream.next()? {
         for row in 0..batch.rows() {
             for (column, field) in stream.fields().iter().enumerate() {
-                spell(alloc, &field.kind, batch.cell(row, column), &mut text)?;
+                spell(alloc, &field.kind, batch.cell(row, column), text)?;
             }
             text.push('\n')?;
         }
     }
+    Ok(())
+}
+
+// The cells of a stream.
+fn read(alloc: Global, source: Memory) -> Result<String, Fault> {
+    let mut text = String::new(alloc);
+    let mut stream = StreamReader::open(alloc, Limits::standard(), source)?;
+    read_rows(alloc, &mut stream, &mut text)?;
     Ok(text)
 }
+// README ends.
 
 // Adds a cell of a column of this type to a text.
 fn spell(
@@ -84,23 +94,11 @@ fn word_of(alloc: Global, kind: &DataType, cell: Cell<'_>) -> Result<String, All
     }
 }
 
-fn main(rt: HostRuntime) -> ExitCode {
-    let alloc = rt.alloc();
-    let stream = match write(alloc) {
-        Ok(stream) => stream,
-        Err(fault) => {
-            let _ = eprintln!(rt; "{fault}");
-            return ExitCode::from(fault.exit_status());
-        }
-    };
-    match read(alloc, stream) {
-        Ok(text) => {
-            let _ = print!(rt; "{text}");
-            ExitCode::from(0)
-        }
-        Err(fault) => {
-            let _ = eprintln!(rt; "{fault}");
-            ExitCode::from(fault.exit_status())
-        }
-    }
+const CELLS: &str = "1 one day 0 after 1970-01-01 \n-2 null day 19000 after 1970-01-01 \n";
+
+#[test]
+fn reads_what_it_wrote(rt: HostRuntime) -> Result<(), Fail> {
+    let stream = write(rt.alloc())?;
+    assert!(rt; read(rt.alloc(), stream)?.as_str() == CELLS);
+    Ok(())
 }

@@ -169,12 +169,17 @@ fn is_same_table(alloc: Global, request: &Request, answer: &Answer) -> Result<bo
 // Bytes that stand behind what is written.
 const BEHIND: &[u8] = b"behind";
 
+// Whether what came back is the table, and what stands behind it was left.
+fn is_back(back: &Table, source: &Memory, table: &Table) -> bool {
+    back.is_same(table) && source.unread() == BEHIND
+}
+
 // How a table comes back under the standard limits.
 fn round_trip(alloc: Global, table: &Table) -> RoundTrip {
     let limits = Limits::standard();
     match write_and_read_back(alloc, &limits, &limits, table, BEHIND) {
         Ok((back, _end, source)) => {
-            if back == *table && source.unread() == BEHIND {
+            if is_back(&back, &source, table) {
                 RoundTrip::Same
             } else {
                 RoundTrip::Differs

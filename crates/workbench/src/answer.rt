@@ -1,8 +1,8 @@
 //! What is read in a stream.
 use crate::cut::{Cut, InTwo, source_of};
 use crate::request::Request;
-use ipc_model::{BatchRows, Fault, Items, Table};
-use ipc_stream::{End, Limited, Memory, Source, StreamReader};
+use ipc_model::{BatchRows, Fault, Items, Table, Text};
+use ipc_stream::{Batch, End, Limited, Memory, Source, StreamReader};
 use std::alloc::{AllocError, Global};
 
 /// What a reader answers to a stream.
@@ -20,6 +20,18 @@ pub struct Answer {
     pub left: usize,
 }
 
+/// Puts the rows of a batch behind those that are kept.
+pub fn keep_rows(
+    alloc: Global,
+    batch: &Batch,
+    pairs: Items<(Text, Text)>,
+    batches: &mut Vec<BatchRows>,
+) -> Result<(), Fault> {
+    let rows = batch.to_rows(alloc)?;
+    batches.push(BatchRows { pairs, rows })?;
+    Ok(())
+}
+
 // Reads the batches up to the end.
 fn read_batches<R: Source>(
     alloc: Global,
@@ -27,8 +39,7 @@ fn read_batches<R: Source>(
     batches: &mut Vec<BatchRows>,
 ) -> Result<(), Fault> {
     while let Some((batch, pairs)) = reader.next()? {
-        let rows = batch.to_rows(alloc)?;
-        batches.push(BatchRows { pairs, rows })?;
+        keep_rows(alloc, &batch, pairs, batches)?;
     }
     Ok(())
 }
