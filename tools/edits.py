@@ -57,7 +57,7 @@ ANSWER = re.compile(r"^(?:\./)?proofs/(\S+)/\w+\.antt:\d+:\d+: error: (.*)")
 GONE = re.compile(r"has no field|is not in scope|has no `|was not admitted|was not checked")
 # How the built library names the proofs of a function, or where it carries none its statement.
 LINK = re.compile(r"^(?:part/)?Rattle-\w+-proofs\.(.+)\.TheLink$")
-# How a check of some functions ends that are proved beside holes, and what it says of one that isn't.
+# How a check of some functions beside holes ends, and what it says of one that isn't proved.
 ONLY = re.compile(r"^only=\d+ holes=\d+")
 UNPROVED = re.compile(r"^fn (\S+): (?!no holes|depends on a hole)(.*)", re.M)
 # A proof that is left open.
@@ -318,7 +318,7 @@ class Trial:
         self.kept, self.paths, self.spent = f"{room}/kept", [], 0
 
     def read_paths(self):
-        """The paths of its functions, by the names of what the built library holds of their proofs."""
+        """Reads the paths of its functions, which are in the names of its proofs in the library."""
         rlib = f"{self.crate.folder}/out/rlib/{self.crate.name}.rlib"
         traits = traits_in(self.crate.folder)
         for line in text_of(f"{rlib}/toolchain/checked.json").splitlines():
@@ -363,9 +363,9 @@ class Trial:
             write(place, without_bodies(text, found))
 
     def check(self, edits, is_made=True, is_apart=True):
-        """What a check says of a copy of the crate in which these edits are made, or which stands as
-        it does, and the texts that they change, or None where one can't be made. Apart are only the
-        functions checked that they turn."""
+        """What a check says of a copy of the crate in which these edits are made, or none is, and
+        the texts that they change, or None where one can't be made. Apart means of the functions
+        alone that they turn."""
         with tempfile.TemporaryDirectory(dir=self.room) as folder:
             for part in PARTS:
                 if os.path.isdir(f"{self.crate.folder}/{part}"):
