@@ -38,14 +38,18 @@ pub(crate) fn schema_of(alloc: Global, columns: usize) -> Result<Schema, AllocEr
     Ok(Schema::new(fields))
 }
 
-// A row of these texts, in which `-` is a null.
+// A text, or a null: `-`.
+fn value_of(alloc: Global, text: &str) -> Result<Value, AllocError> {
+    if text == "-" {
+        return Ok(Value::Null);
+    }
+    Value::text(alloc, text)
+}
+
 fn row_of(alloc: Global, texts: &[&str]) -> Result<Row, AllocError> {
     let mut row = Vec::new(alloc);
     for text in texts {
-        row.push(match *text {
-            "-" => Value::Null,
-            text => Value::text(alloc, text)?,
-        })?;
+        row.push(value_of(alloc, text)?)?;
     }
     Ok(Items::from_vec(row))
 }
@@ -58,15 +62,19 @@ fn rows_of(alloc: Global, texts: &[&[&str]]) -> Result<Vec<Row>, AllocError> {
     Ok(rows)
 }
 
+fn text_of(value: Option<&Value>) -> &str {
+    match value {
+        Some(Value::Text(text)) => text.as_str(),
+        _ => "?",
+    }
+}
+
 // Tells the dictionaries that a plan sends, each in braces.
 fn tell_sends(told: &mut Vec<u8>, sends: &[(i64, Items<Row>)]) -> Result<(), AllocError> {
     for send in sends {
         told.push(b'{')?;
         for row in send.1.as_slice() {
-            match row.first() {
-                Some(Value::Text(text)) => told.extend_from_slice(text.as_bytes())?,
-                _ => told.push(b'?')?,
-            }
+            told.extend_from_slice(text_of(row.first()).as_bytes())?;
         }
         told.push(b'}')?;
     }
@@ -251,26 +259,22 @@ fn numbered(alloc: Global, number: usize) -> Result<Value, AllocError> {
     Value::text(alloc, &format!(in alloc; "{number}")?)
 }
 
-// Counts a row of the text with this number, and of another one or of a null.
-fn take_row(
-    alloc: Global,
-    tally: &mut Tally,
-    number: usize,
-    other: Option<usize>,
-) -> Result<(), WriteFault> {
-    let mut row = Vec::new(alloc);
-    row.push(numbered(alloc, number)?)?;
-    row.push(match other {
-        Some(other) => numbered(alloc, other)?,
-        None => Value::Null,
-    })?;
-    tally.note(row.as_slice())
+// Counts a row of the text with this number and a null.
+fn take_one(alloc: Global, tally: &mut Tally, number: usize) -> Result<(), WriteFault> {
+    let row = [numbered(alloc, number)?, Value::Null];
+    tally.note(&row)
+}
+
+// Counts a row of two texts behind the first 127.
+fn take_two(alloc: Global, tally: &mut Tally) -> Result<(), WriteFault> {
+    let row = [numbered(alloc, 127)?, numbered(alloc, 128)?];
+    tally.note(&row)
 }
 
 // Counts rows of the first texts, and tells how many rows were taken.
 fn take(alloc: Global, tally: &mut Tally, texts: usize) -> Result<usize, WriteFault> {
     for number in 0..texts {
-        match take_row(alloc, tally, number, None) {
+        match take_one(alloc, tally, number) {
             Ok(()) => {}
             Err(WriteFault::DictionaryFull) => return Ok(number),
             Err(fault) => return Err(fault),
@@ -294,9 +298,9 @@ fn taken(alloc: Global, texts: usize) -> Result<usize, WriteFault> {
 // taken alone.
 fn cuts_off(alloc: Global, tally: &mut Tally, first: &Value) -> bool {
     take(alloc, tally, 127) == Ok(127)
-        && take_row(alloc, tally, 127, Some(128)) == Err(WriteFault::DictionaryFull)
+        && take_two(alloc, tally) == Err(WriteFault::DictionaryFull)
         && tally.index_of(7, first).is_none()
-        && take_row(alloc, tally, 127, None) == Ok(())
+        && take_one(alloc, tally, 127) == Ok(())
         && tally.index_of(7, first) == Some(127)
 }
 
@@ -325,14 +329,18 @@ fn as_many_texts_as_the_indices_count(rt: HostRuntime) {
     assert!(rt; refusal(rt.alloc()) == Ok(Some(WriteFault::Failed)));
 }
 
+fn letter_of<'a>(cell: Cell<'a>) -> &'a str {
+    match cell {
+        Cell::Text(text) => text,
+        _ => "?",
+    }
+}
+
 // Tells the letters of a batch's one column, and a blank.
 fn tell_letters(told: &mut Vec<u8>, batch: &Batch) -> Result<(), AllocError> {
     if 0 < batch.columns() {
         for row in 0..batch.rows() {
-            match batch.cell(row, 0) {
-                Cell::Text(text) => told.extend_from_slice(text.as_bytes())?,
-                _ => told.push(b'?')?,
-            }
+            told.extend_from_slice(letter_of(batch.cell(row, 0)).as_bytes())?;
         }
     }
     Ok(told.push(b' ')?)

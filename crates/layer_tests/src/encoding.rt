@@ -100,6 +100,20 @@ pub(crate) fn fit(schema: &Schema, rows: &[Row]) -> bool
     true
 }
 
+// The parts of a column of these rows, where they fit it.
+#[tactic(auto, using(ipc_model::proofs::Depths::short_paths))]
+fn column(alloc: Global, schema: &Schema, rows: &[Row]) -> Result<Option<Parts>, WriteFault> {
+    let limits = Limits::standard();
+    schema.check(alloc, &limits)?;
+    if !fit(schema, rows) {
+        return Ok(None);
+    }
+    match encode(alloc, &limits, schema.fields.as_slice(), rows, &NoIndices) {
+        Ok(parts) => Ok(Some(parts)),
+        Err(fault) => Err(fault),
+    }
+}
+
 // A column of these values, and the node, the buffers and the body that are written of it.
 struct Written {
     kind: Kind,
@@ -115,21 +129,16 @@ fn are_parts(parts: &Parts, wanted: &Written) -> bool {
         && parts.body.as_slice() == wanted.body
 }
 
-// Whether rows fit a column and are written so.
-#[tactic(auto, using(ipc_model::proofs::Depths::short_paths))]
 fn are_written(
     alloc: Global,
     schema: &Schema,
     rows: &[Row],
     wanted: &Written,
 ) -> Result<bool, WriteFault> {
-    let limits = Limits::standard();
-    schema.check(alloc, &limits)?;
-    if !fit(schema, rows) {
-        return Ok(false);
+    match column(alloc, schema, rows)? {
+        Some(parts) => Ok(are_parts(&parts, wanted)),
+        None => Ok(false),
     }
-    let parts = encode(alloc, &limits, schema.fields.as_slice(), rows, &NoIndices)?;
-    Ok(are_parts(&parts, wanted))
 }
 
 fn is_written(alloc: Global, wanted: &Written) -> Result<bool, WriteFault> {

@@ -295,14 +295,20 @@ fn three_lists(alloc: Global) -> Result<Batch, Fault> {
     batch(alloc, list(alloc)?, parts, &body)
 }
 
-// Whether rows are those of these texts.
-fn are_rows(alloc: Global, rows: &[Row], texts: &[&[u8]]) -> Result<bool, AllocError> {
-    for (row, text) in rows.iter().zip(texts) {
-        if row != &row_of(alloc, text)? {
-            return Ok(false);
-        }
+const THREE_ROWS: [&[u8]; 3] = [b"[12]", b"-", b"[-]"];
+
+// The rows of three such lists.
+fn three_rows(alloc: Global) -> Result<Vec<Row>, AllocError> {
+    let mut rows = Vec::new(alloc);
+    for text in THREE_ROWS {
+        rows.push(row_of(alloc, text)?)?;
     }
-    Ok(rows.len() == texts.len())
+    Ok(rows)
+}
+
+fn are_three(alloc: Global, rows: &[Row]) -> Result<bool, AllocError> {
+    let wanted = three_rows(alloc)?;
+    Ok(rows == wanted.as_slice())
 }
 
 fn rows_of_three_lists(alloc: Global) -> Result<Items<Row>, Fault> {
@@ -313,6 +319,6 @@ fn rows_of_three_lists(alloc: Global) -> Result<Items<Row>, Fault> {
 #[test]
 fn grows_rows_of_lists(rt: HostRuntime) -> Result<(), Fail> {
     let rows = rows_of_three_lists(rt.alloc())?;
-    assert!(rt; are_rows(rt.alloc(), &rows, &[b"[12]", b"-", b"[-]"])?);
+    assert!(rt; are_three(rt.alloc(), rows.as_slice())?);
     Ok(())
 }

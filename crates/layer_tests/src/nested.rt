@@ -80,29 +80,32 @@ fn builder_of(
     Builder::with_room(alloc, &fields, limits, room)
 }
 
-// Takes one letter of a row's text: puts a value behind the others of the innermost list or struct
-// that is open, or opens one, or closes it.
+// Puts a value behind the others of the innermost list or struct that is open.
+fn put(open: &mut Vec<Vec<Value>>, value: Value) -> Result<(), AllocError> {
+    if let Some(values) = open.last_mut() {
+        values.push(value)?;
+    }
+    Ok(())
+}
+
+// The values of the innermost list or struct, which is open no longer.
+fn close(alloc: Global, open: &mut Vec<Vec<Value>>) -> Items<Value> {
+    match open.pop() {
+        Some(values) => Items::from_vec(values),
+        None => Items::new(alloc),
+    }
+}
+
+// Takes one letter of a row's text.
 fn spell(alloc: Global, open: &mut Vec<Vec<Value>>, letter: u8) -> Result<(), AllocError> {
     let value = match letter {
         b'[' | b'(' => return Ok(open.push(Vec::new(alloc))?),
-        b']' | b')' => {
-            let values = match open.pop() {
-                Some(values) => Items::from_vec(values),
-                None => Items::new(alloc),
-            };
-            if letter == b']' {
-                Value::List(values)
-            } else {
-                Value::Struct(values)
-            }
-        }
+        b']' => Value::List(close(alloc, open)),
+        b')' => Value::Struct(close(alloc, open)),
         b'-' => Value::Null,
         digit => Value::Int(i64::from(digit.wrapping_sub(b'0'))),
     };
-    match open.last_mut() {
-        Some(values) => Ok(values.push(value)?),
-        None => Ok(()),
-    }
+    put(open, value)
 }
 
 // The row that a text spells: a digit is a number, `-` a null, and the values of a list stand
@@ -113,10 +116,7 @@ pub(crate) fn row_of(alloc: Global, text: &[u8]) -> Result<Row, AllocError> {
     for letter in text {
         spell(alloc, &mut open, *letter)?;
     }
-    match open.pop() {
-        Some(values) => Ok(Items::from_vec(values)),
-        None => Ok(Items::new(alloc)),
-    }
+    Ok(close(alloc, &mut open))
 }
 
 // Takes a row, where it fits.
