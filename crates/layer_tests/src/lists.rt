@@ -3,7 +3,7 @@
 ghost use Rattle.ipc_column.specs.Dictionaries.{AreDictionaries};
 
 use crate::nested::{LISTS_OF_LISTS, list, row_of};
-use ipc_column::{Batch, Slot, SlotView};
+use ipc_column::{Batch, Cell, Slot, SlotView};
 use ipc_meta::BatchHead;
 use ipc_model::{DataType, Fault, Field, Items, Limits, Row, Schema};
 use std::alloc::{AllocError, Global};
@@ -293,6 +293,47 @@ fn three_lists(alloc: Global) -> Result<Batch, Fault> {
     ];
     let parts: Parts<'_> = (&[(3, 1), (3, 1)], &[(0, 1), (4, 16), (1, 1), (20, 3)]);
     batch(alloc, list(alloc)?, parts, &body)
+}
+
+// A number, or 100 for another cell.
+fn number_of(cell: Cell<'_>) -> i64 {
+    match cell {
+        Cell::Int(number) => number,
+        _ => 100,
+    }
+}
+
+// What the numbers of a row's list make in order, each behind three times those before it.
+fn told(found: &Batch, row: usize) -> Option<i64> {
+    if row >= found.rows() || found.columns() == 0 {
+        return None;
+    }
+    let Cell::List(list) = found.cell(row, 0) else {
+        return None;
+    };
+    let mut told: i64 = 0;
+    for cell in list.iter() {
+        told = told.wrapping_mul(3).wrapping_add(number_of(cell));
+    }
+    Some(told)
+}
+
+fn are_in_order(alloc: Global) -> Result<bool, Fault> {
+    let found = three_lists(alloc)?;
+    Ok(
+        told(&found, 0) == Some(5)
+            && told(&found, 1) == None
+            && told(&found, 2) == Some(100)
+            && matches!(
+                slot_below(&found, 0, 2),
+                Some(Slot::List { from: 2, to: 3 })
+            ),
+    )
+}
+
+#[test]
+fn values_in_order(rt: HostRuntime) {
+    assert!(rt; are_in_order(rt.alloc()) == Ok(true));
 }
 
 const THREE_ROWS: [&[u8]; 3] = [b"[12]", b"-", b"[-]"];
