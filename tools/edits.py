@@ -335,10 +335,14 @@ class Trial:
         return [it for name in names for it in ("--only", name)] if all(found) else []
 
     def is_left_out(self, function, text, turned):
-        """Whether a function has no part in a check of those that are turned."""
-        is_known = function.paths(self.paths) and not CONSTANT.match(text[function.start :])
+        """Whether a function has no part in a check of those that are turned. Where a file has more
+        functions of a name than its module, some are of types of other modules: they stay."""
+        named = [it for it in functions_in(function.file, text) if it.name == function.name]
+        is_known = len(named) <= len(function.paths(self.paths))
         is_turned = not turned.isdisjoint(function.folders(self.paths))
-        return bool(is_known and not is_turned and body_of(text, function.start))
+        is_constant = CONSTANT.match(text[function.start :])
+        has_part = is_turned or is_constant or not body_of(text, function.start)
+        return is_known and not has_part
 
     def leave_open(self, folder, function):
         """Has the proofs of a function be holes."""
