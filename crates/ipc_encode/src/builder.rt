@@ -29,7 +29,7 @@ use crate::index::{IndexOf, Renumber};
 use crate::node::Node;
 use crate::parts::{Draft, Parts, add_nodes};
 use crate::room::Room;
-use crate::sure::surely_fit;
+use crate::sure::{Look, look_for, row_surely_fits};
 use crate::sure_columns::columns_surely_fit;
 use crate::tree::take_parts;
 use ipc_column::Batch;
@@ -48,6 +48,8 @@ pub struct Builder {
     rows: usize,
     limits: Limits,
     failed: bool,
+    // How far a look at a row goes.
+    look: Look,
     // What it holds has no meaning; the body takes its room.
     body: Vec<u8>,
 }
@@ -138,11 +140,13 @@ impl Builder {
         let Room { nodes, body } = room;
         let nodes = new_nodes(fields, nodes, alloc)?;
         check_len(&nodes, limits)?;
+        let look = look_for(&nodes);
         Ok(Builder {
             nodes,
             rows: 0,
             limits: *limits,
             failed: false,
+            look,
             body,
         })
     }
@@ -165,11 +169,13 @@ impl Builder {
         let mut nodes = new_nodes(fields, Vec::new(alloc), alloc)?;
         push_rows(&mut nodes, rows, limits, indices)?;
         check_len(&nodes, limits)?;
+        let look = look_for(&nodes);
         Ok(Builder {
             nodes,
             rows: rows.len(),
             limits: *limits,
             failed: false,
+            look,
             body: Vec::new(alloc),
         })
     }
@@ -263,7 +269,8 @@ impl Builder {
         if self.is_full() || row.len() != fields.len() {
             return false;
         }
-        surely_fit(fields, &self.nodes, row, self.rows, &self.limits)
+        let (nodes, limits) = (&self.nodes, &self.limits);
+        row_surely_fits(fields, nodes, row, self.rows, limits, self.look)
     }
 
     /// Whether all rows of a batch that was read surely conform to the fields of the rows that are

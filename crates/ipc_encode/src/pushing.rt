@@ -500,6 +500,29 @@ impl Column {
         }
     }
 
+    // The same, where the value is no number. Truths and texts are told from the others first.
+    #[inline(always)]
+    fn push_rest<I: IndexOf>(
+        &mut self,
+        value: &Value,
+        limits: &Limits,
+        indices: &I,
+    ) -> Result<(), PushFault>
+        ensures pushed { (layout : Layout) (values : List Value)
+            → IsColumn (told (I.IndexOf.index indices.now)) limits.now layout values self.old
+            → OnOk result (IsColumn (told (I.IndexOf.index indices.now)) limits.now layout
+            (values ++ value.now ∷ []) self.new) }
+        ensures refused { (layout : Layout) (values : List Value)
+            → IsColumn (told (I.IndexOf.index indices.now)) limits.now layout values self.old
+            → IfErr result (IsPushRefused limits.now layout (values ++ value.now ∷ [])) }
+    {
+        match self.layout {
+            Layout::Bits => self.push_truth(value, limits, indices),
+            Layout::VariableBytes { utf8 } => self.push_run(utf8, value, limits, indices),
+            _ => self.push_any(value, limits, indices),
+        }
+    }
+
     /// Takes one value more. After a refusal the column is of no use.
     ///
     /// Refused as `Counts::with`, and with `OutOfMemory` where a buffer can't grow.
@@ -520,7 +543,7 @@ impl Column {
     {
         match value {
             Value::Int(_) => self.push_int(value, limits, indices),
-            _ => self.push_any(value, limits, indices),
+            _ => self.push_rest(value, limits, indices),
         }
     }
 }

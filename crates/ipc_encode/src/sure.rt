@@ -167,10 +167,10 @@ fn is_sure(field: &Field, value: &Value, node: &Node) -> bool
         → IsTrue result → TakeAtMost limits least (shapes.field layout children bare)
         (λ j. values ++ value.now ∷ []) }
 {
-    if !node.is_leaf() || !fits_surely(field, value) {
+    if !node.is_leaf() || !has_numbers(node.column.layout) {
         return false;
     }
-    has_numbers(node.column.layout)
+    fits_surely(field, value)
 }
 
 /// Whether a value surely fits a field, where that is told by the value alone.
@@ -181,10 +181,20 @@ pub(crate) fn fits(field: &Field, value: &Value) -> bool
     fits_surely(field, value) || fits_alone(field, value)
 }
 
+/// How far a look at a row goes.
+#[derive(Clone, Copy, Debug, PartialEq, Eq)]
+pub(crate) enum Look {
+    /// Into columns without children alone. It is short, so that it can stand where rows are
+    /// pushed.
+    Flat,
+    /// Into lists and structs too.
+    Deep,
+}
+
 // The bytes that the buffers of a column and of those below it take at most with one value more,
 // beside those that don't hang on the value, where the value fits the field.
 #[inline(always)]
-fn most_with(field: &Field, value: &Value, node: &Node, limits: &Limits) -> Option<u64>
+fn most_with(field: &Field, value: &Value, node: &Node, limits: &Limits, look: Look) -> Option<u64>
     ensures fits { IfSome result (λ most. Fits field.now value.now) }
     ensures most { (known : Numbering) (layout : Layout) (children : Shape)
         (values : List Value) (least : ℕ)
@@ -194,7 +204,10 @@ fn most_with(field: &Field, value: &Value, node: &Node, limits: &Limits) -> Opti
         (shapes.field layout children bare) (λ j. values ++ value.now ∷ [])) }
 {
     if !node.is_leaf() {
-        return most_inside(field, value, node, limits);
+        return match look {
+            Look::Flat => None,
+            Look::Deep => most_inside(field, value, node, limits),
+        };
     }
     if !fits(field, value) {
         return None;
@@ -202,15 +215,15 @@ fn most_with(field: &Field, value: &Value, node: &Node, limits: &Limits) -> Opti
     most_data(node.column.layout, node.column.counts, value)
 }
 
-/// Whether a row surely fits these fields, and with it their columns of so many rows the limits.
-/// It takes one look at each value. Where the answer is no, a closer look is needed.
+// Whether a row surely fits these fields, and with it their columns of so many rows the limits.
 #[inline(always)]
-pub(crate) fn surely_fit(
+fn surely_fit(
     fields: &[Field],
     nodes: &[Node],
     row: &[Value],
     rows: usize,
     limits: &Limits,
+    look: Look,
 ) -> bool
     requires { rows < limits.now.slots }
     ensures fit { (known : Numbering) (given : ℕ → List Value)
@@ -242,7 +255,7 @@ pub(crate) fn surely_fit(
             return false;
         };
         if !is_sure(field, value, &nodes[i]) {
-            let Some(most) = most_with(field, value, &nodes[i], limits) else {
+            let Some(most) = most_with(field, value, &nodes[i], limits, look) else {
                 return false;
             };
             if most > left {
@@ -252,4 +265,64 @@ pub(crate) fn surely_fit(
         }
     }
     true
+}
+
+// The same into lists and structs, by itself, so that a row without them carries nothing of it.
+#[inline(never)]
+fn surely_fit_deep(
+    fields: &[Field],
+    nodes: &[Node],
+    row: &[Value],
+    rows: usize,
+    limits: &Limits,
+) -> bool
+    requires { rows < limits.now.slots }
+    ensures fit { (known : Numbering) (given : ℕ → List Value)
+        → AreColumns known limits.now (shape_of fields.now) nodes.now given
+        → IsTrue result → EachFits Fits fields.now row.now }
+    ensures within { (known : Numbering) (given : ℕ → List Value)
+        → AreColumns known limits.now (shape_of fields.now) nodes.now given
+        → ((j : ℕ) → length (given j) ≡ rows)
+        → IsTrue result
+        → AreWithin limits.now (shape_of fields.now) (λ j. given j ++ cell j row.now ∷ []) }
+{
+    surely_fit(fields, nodes, row, rows, limits, Look::Deep)
+}
+
+/// Whether a row surely fits these fields, and with it their columns of so many rows the limits.
+/// It takes one look at each value, as far as it is told. Where the answer is no, a closer look is
+/// needed.
+#[inline(always)]
+pub(crate) fn row_surely_fits(
+    fields: &[Field],
+    nodes: &[Node],
+    row: &[Value],
+    rows: usize,
+    limits: &Limits,
+    look: Look,
+) -> bool
+    requires { rows < limits.now.slots }
+    ensures fit { (known : Numbering) (given : ℕ → List Value)
+        → AreColumns known limits.now (shape_of fields.now) nodes.now given
+        → IsTrue result → EachFits Fits fields.now row.now }
+    ensures within { (known : Numbering) (given : ℕ → List Value)
+        → AreColumns known limits.now (shape_of fields.now) nodes.now given
+        → ((j : ℕ) → length (given j) ≡ rows)
+        → IsTrue result
+        → AreWithin limits.now (shape_of fields.now) (λ j. given j ++ cell j row.now ∷ []) }
+{
+    match look {
+        Look::Flat => surely_fit(fields, nodes, row, rows, limits, Look::Flat),
+        Look::Deep => surely_fit_deep(fields, nodes, row, rows, limits),
+    }
+}
+
+/// How far a look at rows of these columns goes.
+pub(crate) fn look_for(nodes: &[Node]) -> Look {
+    for node in nodes {
+        if !node.is_leaf() {
+            return Look::Deep;
+        }
+    }
+    Look::Flat
 }

@@ -379,26 +379,84 @@ fn rows_up_to_their_limits(rt: HostRuntime) {
     }
 }
 
-// Whether a builder is sure of the row of a text.
-fn is_sure(
-    alloc: Global,
-    builder: &Builder,
-    fields: &[Field],
-    text: &[u8],
-) -> Result<bool, AllocError> {
+// Rows, and whether a builder without rows is sure of them at once.
+#[derive(Clone, Copy)]
+struct Looked {
+    kind: Kind,
+    row: &'static [u8],
+    is_sure: bool,
+}
+
+// Values inside lists and structs are looked at too: nulls below them, and how many they are.
+const LOOKED: [Looked; 10] = [
+    Looked {
+        kind: Kind::DaysAndTexts,
+        row: b"1-",
+        is_sure: true,
+    },
+    Looked {
+        kind: Kind::DaysAndTexts,
+        row: b"1",
+        is_sure: false,
+    },
+    Looked {
+        kind: Kind::ListsAndStructs,
+        row: b"[1-3](7[1])",
+        is_sure: true,
+    },
+    Looked {
+        kind: Kind::ListsAndStructs,
+        row: b"--",
+        is_sure: true,
+    },
+    Looked {
+        kind: Kind::ListsAndStructs,
+        row: b"[](9)",
+        is_sure: false,
+    },
+    Looked {
+        kind: Kind::ListsOfLists,
+        row: b"[[1-][]-]",
+        is_sure: true,
+    },
+    Looked {
+        kind: Kind::Structs,
+        row: b"(1)",
+        is_sure: true,
+    },
+    Looked {
+        kind: Kind::Structs,
+        row: b"(-)",
+        is_sure: false,
+    },
+    Looked {
+        kind: Kind::Twos,
+        row: b"[1-]",
+        is_sure: true,
+    },
+    Looked {
+        kind: Kind::Twos,
+        row: b"[1]",
+        is_sure: false,
+    },
+];
+
+// Whether a builder of these fields, without rows, is sure of the row of a text.
+fn is_sure(alloc: Global, fields: &[Field], text: &[u8]) -> Result<bool, WriteFault> {
+    let builder = Builder::new(alloc, fields, &Limits::standard())?;
     Ok(builder.surely_takes(fields, row_of(alloc, text)?.as_slice()))
 }
 
-// Whether a builder is sure of a row that fits, and not of one that is too short.
-fn is_sure_under(alloc: Global, fields: &[Field]) -> Result<bool, WriteFault> {
-    let builder = Builder::new(alloc, fields, &Limits::standard())?;
-    Ok(is_sure(alloc, &builder, fields, b"1-")? && !is_sure(alloc, &builder, fields, b"1")?)
+// Whether a builder is as sure of a row as is wanted.
+fn is_as_sure(alloc: Global, one: &Looked) -> Result<bool, WriteFault> {
+    let mut fields = Vec::new(alloc);
+    add_fields(alloc, &mut fields, one.kind)?;
+    Ok(is_sure(alloc, fields.as_slice(), one.row)? == one.is_sure)
 }
 
 #[test]
-fn sure_of_a_row_that_fits(rt: HostRuntime) -> Result<(), Fail> {
-    let mut fields = Vec::new(rt.alloc());
-    add_fields(rt.alloc(), &mut fields, Kind::DaysAndTexts)?;
-    assert!(rt; is_sure_under(rt.alloc(), fields.as_slice()) == Ok(true));
-    Ok(())
+fn sure_of_rows_that_fit(rt: HostRuntime) {
+    for (number, one) in LOOKED.iter().enumerate() {
+        assert!(rt; is_as_sure(rt.alloc(), one) == Ok(true), "row {number}");
+    }
 }

@@ -16,8 +16,8 @@ returns-clause-most c = λ known limits layout children values least h few enoug
     (search rules) h.1 in
     let own = (out-Node c.args.node.now).column.layout in
     let same : least + 0 ≡ least = omega arith in
-    let taken = leaf_takes limits own more least 0 (omega (arith, size, few)) (c.has_numbers.ensures.short sure more)
-    (omega (arith, size, enough)) (c.has_numbers.ensures.small sure more) in
+    let taken = leaf_takes limits own more least 0 (omega (arith, size, few)) (c.has_numbers.ensures.short (search rules) more)
+    (omega (arith, size, enough)) (c.has_numbers.ensures.small (search rules) more) in
     subst (λ (n : ℕ). TakeAtMost limits n (field layout children bare) (λ j. more)) same
     (subst (λ (s : Shape). TakeAtMost limits (least + 0) (field layout s bare) (λ j. more)) (sym none)
     (subst (λ (l : Layout). TakeAtMost limits (least + 0) (field l bare bare) (λ j. more)) h.0.laid taken))

@@ -17,8 +17,8 @@ both : {P Q R : ℕ → Type 0} → (r : Option ℕ) → IfSome r P → IfSome r
 both (Some x) p q f = f x p q
 both None p q f = tt
 
-pub returns-then-not-is_leaf-clause-most : goal.returns-then-not-is_leaf-clause-most
-returns-then-not-is_leaf-clause-most c = λ known layout children values least h few enough.
+pub returns-in-Deep-clause-most : goal.returns-in-Deep-clause-most
+returns-in-Deep-clause-most c = λ known layout children values least h few enough.
     let shape = field layout children bare in
     IfSome_then c.most_inside.result (c.most_inside.ensures.most known layout children values h)
     (λ most taken. takes_more c.args.limits.now shape (λ j. values ++ c.args.value.now ∷ []) least most taken)
