@@ -1,5 +1,4 @@
--- Columns whose numbers are lent as they lie (Arrow Columnar Format, "Fixed-size Primitive
--- Layout").
+-- Columns that are lent as they lie (Arrow Columnar Format, "Physical Memory Layout").
 use Rattle.std.specs.Prelude.{◌≡◌, ℕ, ◌*◌, ◌<◌, ◌≤◌, Bool, true, false, List, [], ◌∷◌, length}
 use Rattle.std.specs.Prelude.{Some, slice_get, if◌then◌else◌}
 use Rattle.ipc_model.specs.declared.value.Value.{Value}
@@ -7,10 +6,12 @@ use Rattle.ipc_model.specs.declared.value.Value.TheVariants as v
 use Rattle.ipc_model.specs.declared.layout.Layout.{Layout}
 use Rattle.ipc_model.specs.declared.layout.Layout.TheVariants as l
 use Rattle.ipc_model.specs.Layouts.{number_bytes}
+use Rattle.ipc_column.specs.declared.buffers.Buffers.{Buffers}
 use Rattle.ipc_column.specs.declared.numbers.Numbers.{Numbers}
 use Rattle.ipc_column.specs.Columns.{Columns, none, column}
 use Rattle.ipc_column.specs.Dictionaries.{stands_alone}
-use Rattle.ipc_column.specs.Nested.{Nested, slot_values}
+use Rattle.ipc_column.specs.Lent.{AreFound}
+use Rattle.ipc_column.specs.Nested.{Nested, below, slot_values}
 use Rattle.ipc_column.specs.Values.{is_valid, own_value}
 
 -- how each of the columns lies
@@ -40,3 +41,11 @@ pub record AreNumbers (s : Nested) (n : Numbers) : Type 0 where
   pub long : number_bytes n.bits * length (slot_values s) ≤ length n.values.now
   pub each : (i : ℕ) → i < length (slot_values s)
       → slice_get (slot_values s) i ≡ Some (number_of n i)
+
+-- these are the buffers of a column, which have what its slots need
+pub record AreBuffers (s : Nested) (b : Buffers) : Type 0 where
+  pub layout : b.layout ≡ s.column.layout
+  pub validity : b.validity.now ≡ s.column.validity
+  pub offsets : b.offsets.now ≡ s.column.offsets
+  pub values : b.values.now ≡ s.column.values
+  pub whole : AreFound s.column (below s)

@@ -6,6 +6,7 @@
 
 mod assign;
 mod batch;
+mod buffers;
 mod cause;
 mod cell;
 mod cell_iter;
@@ -28,6 +29,7 @@ mod visit;
 mod whole;
 
 pub use batch::{Batch, one_list_of_rows};
+pub use buffers::Buffers;
 pub use cell::{Cell, ListCell, StructCell};
 pub use cell_iter::{ListIter, StructIter};
 pub use numbers::Numbers;

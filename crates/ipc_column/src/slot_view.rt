@@ -8,7 +8,7 @@ ghost use Rattle.ipc_column.specs.Columns.{Columns};
 ghost use Rattle.ipc_column.specs.Checks.{Holds, are_long, holds_offsets, holds_values, in_order};
 ghost use Rattle.ipc_column.specs.Checks.{nulls_in};
 ghost use Rattle.ipc_column.specs.Dictionaries.{stands_alone};
-ghost use Rattle.ipc_column.specs.Lending.{AreNumbers, are_numbers, layouts_of};
+ghost use Rattle.ipc_column.specs.Lending.{AreBuffers, AreNumbers, are_numbers, layouts_of};
 ghost use Rattle.ipc_column.specs.Lent.{AreFound, AreOfColumn, found};
 ghost use Rattle.ipc_column.specs.Slots.{LeadsInside, is_null, nested, nested_in, shown};
 ghost use Rattle.ipc_column.specs.Nested.{Nested, alone, below, slot_values};
@@ -17,6 +17,7 @@ ghost use Rattle.ipc_column.specs.Rules.{HoldValues, SpellsTexts};
 ghost use Rattle.ipc_column.specs.Values.{own_value, row, rows_of};
 ghost use Rattle.ipc_column.specs.Views.{columns, column_of, children_of};
 
+use crate::buffers::Buffers;
 use crate::cell::{Cell, is_valid};
 use crate::dictionary::{DictionaryValues, indexed_cell};
 use crate::fixed::{bytes_of, signed_at, unsigned_at};
@@ -157,6 +158,20 @@ impl<'a> SlotView<'a> {
                 values: self.values,
             }),
             _ => None,
+        }
+    }
+
+    /// The buffers of the column as they lie in the body. They have what the slots need: a bit for
+    /// each slot in a bitmap that is there, the values, and offsets in order.
+    #[inline(always)]
+    pub fn buffers(&self) -> Buffers<'a>
+        ensures { AreBuffers self.now result }
+    {
+        Buffers {
+            layout: self.layout,
+            validity: self.validity,
+            offsets: self.offsets,
+            values: self.values,
         }
     }
 

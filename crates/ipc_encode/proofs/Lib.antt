@@ -3,6 +3,7 @@ pub mod Steps
 pub mod SurelyFit
 pub mod Weights
 pub mod Packing
+pub mod WholeBytes
 pub mod Sizes
 pub mod Pushes
 pub mod Below
@@ -17,6 +18,8 @@ pub mod Marked
 pub mod NumberBytes
 pub mod NumberSlots
 pub mod LentBytes
+pub mod LentBuffers
+pub mod LentContents
 pub mod Copied
 pub mod SureColumns
 pub mod CountedColumns

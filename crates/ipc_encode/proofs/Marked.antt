@@ -1,10 +1,10 @@
 -- The nulls and the flags of values that a bitmap marks.
-use Rattle.std.proofs.Common.{◌≡◌, ◌∙◌, refl, sym, ap, ℕ, zero, suc, ◌+◌, ◌<◌, ◌≤◌, Bool, true, false, cond, List, [], ◌∷◌, ◌++◌}
+use Rattle.std.proofs.Common.{◌≡◌, ◌∙◌, refl, sym, ap, ℕ, zero, suc, ◌+◌, ◌*◌, ◌%◌, ◌<◌, ◌≤◌, Bool, true, false, cond, List, [], ◌∷◌, ◌++◌}
 use Rattle.std.proofs.Common.{length, take, get_or, add-one, append_assoc, replicate, arith}
 use Rattle.std.specs.Prelude.{not}
 use Rattle.std.specs.Int.{from_bool}
 use Rattle.std.proofs.lemmas.Bool.{ne_eqb}
-use Rattle.std.proofs.lemmas.List.{take_more, take_all}
+use Rattle.std.proofs.lemmas.List.{get_or-take, length-take-le, take_more, take_all}
 use Rattle.ipc_scalar.specs.Bytes.{bit, clear}
 use Rattle.ipc_model.specs.declared.value.Value.{Value}
 use Rattle.ipc_model.specs.declared.value.Value.TheVariants.{Null}
@@ -14,8 +14,10 @@ use Rattle.ipc_encode.specs.Cells.{flags, is_set, nulls}
 use Rattle.ipc_encode.specs.Columns.{validity_bytes}
 use Rattle.ipc_encode.specs.Marks.{MarksNulls}
 use Rattle.ipc_encode.specs.Pieces.{Flag, Valid}
+use Rattle.ipc_encode.proofs.Bits.{flag_at, flags_length}
 use Rattle.ipc_encode.proofs.Pushes.{all_valid, no_nulls, some_null}
 use Rattle.ipc_encode.proofs.Steps.{flags_push, nulls_push}
+use Rattle.ipc_encode.proofs.WholeBytes.{bit_in_front, bytes_more, flags_append, front_small}
 
 -- the nulls of values and of others
 pub nulls_append : (before values : List Value) → nulls (before ++ values) ≡ nulls before + nulls values
@@ -114,3 +116,26 @@ clear_number false = refl
 pub flag_small : (flag : Bool) → from_bool flag < 2
 flag_small true = omega arith
 flag_small false = omega arith
+
+-- ---- a byte at a time
+
+-- bytes of a bitmap behind flags that fill theirs
+pub marked_bytes : (b : List ℕ) (before values : List Value) (n : ℕ) → MarksNulls b values → (length b ≡ 0 → ⊥)
+    → ((k : ℕ) → get_or b k 0 < 256) → length before % 8 ≡ 0 → 8 * n ≤ length values → n ≤ length b
+    → bitmap (flags Valid before) ++ take n b ≡ bitmap (flags Valid (before ++ take (n * 8) values))
+marked_bytes b before values n marks some small full l m =
+    let front = length-take-le n b m in
+    let many = length-take-le (n * 8) values (omega (arith, l)) in
+    let held = flags_length Valid before in
+    let more = flags_length Valid (take (n * 8) values) in
+    bytes_more (flags Valid before) (flags Valid (take (n * 8) values)) (take n b) (omega (arith, held, full))
+    (omega (arith, more, many, front))
+    (front_small n b small m)
+    (λ i h.
+    let inside : i < n * 8 = omega (arith, h, more, many) in
+    let marked : is_valid b i ≡ bit b i = rw (ne_eqb (length b) 0 some) refl in
+    bit_in_front n b i (omega (arith, inside))
+    ∙ (sym marked ∙ (sym (marks.each i (omega (arith, inside, l)))
+    ∙ (ap (is_set Valid) (sym (get_or-take (n * 8) values i Null inside)) ∙ sym (flag_at Valid (take (n * 8) values) i Null
+    (omega (arith, inside, many)))))))
+    ∙ ap bitmap (sym (flags_append Valid before (take (n * 8) values)))

@@ -26,11 +26,11 @@ bytes_next zero k a r h = refl
 bytes_next (suc w) k a r h = rw (byte_next k a r h, bytes_next w (suc k) a r h) refl
 
 -- the number in one byte more
-num_more : (b : List ℕ) (p w : ℕ) → num b p (suc w) ≡ get_or b p 0 + 256 * num b (suc p) w
+pub num_more : (b : List ℕ) (p w : ℕ) → num b p (suc w) ≡ get_or b p 0 + 256 * num b (suc p) w
 unfolding num
 num_more b p w = refl
 
-num_none : (b : List ℕ) (p : ℕ) → num b p 0 ≡ 0
+pub num_none : (b : List ℕ) (p : ℕ) → num b p 0 ≡ 0
 unfolding num
 num_none b p = refl
 
@@ -50,7 +50,7 @@ low_bytes (suc w) p c b small h =
     rw (whole, front, low, bytes_next w 0 a r least) (ap (λ (bs : List ℕ). a ∷ bs) (low_bytes w (suc p) c b small (omega arith)))
 
 -- a number in w bytes is less than 256 ^ w
-num_small : (w p : ℕ) (b : List ℕ) → ((k : ℕ) → get_or b k 0 < 256) → num b p w < 256 ^ w
+pub num_small : (w p : ℕ) (b : List ℕ) → ((k : ℕ) → get_or b k 0 < 256) → num b p w < 256 ^ w
 num_small zero p b small = rw (num_none b p) (omega arith)
 num_small (suc w) p b small =
     let byte = small p in

@@ -29,13 +29,13 @@ use Rattle.ipc_encode.proofs.Steps.{slots_push}
 
 -- ---- values, opened
 
-null_out : out-Value v.Null ≡ Value-F.Null
+pub null_out : out-Value v.Null ≡ Value-F.Null
 null_out = ap out-Value (sym v.rolls-Null) ∙ out-roll-Value Value-F.Null
 
-signed_out : (z : ℤ) → out-Value (v.Int z) ≡ Value-F.Int z
+pub signed_out : (z : ℤ) → out-Value (v.Int z) ≡ Value-F.Int z
 signed_out z = ap out-Value (sym (v.rolls-Int z)) ∙ out-roll-Value (Value-F.Int z)
 
-unsigned_out : (n : ℕ) → out-Value (v.UInt n) ≡ Value-F.UInt n
+pub unsigned_out : (n : ℕ) → out-Value (v.UInt n) ≡ Value-F.UInt n
 unsigned_out n = ap out-Value (sym (v.rolls-UInt n)) ∙ out-roll-Value (Value-F.UInt n)
 
 -- what a list has where it grew
@@ -99,7 +99,7 @@ module _ (s : Nested) (n : Numbers) (h : AreNumbers s n) where
       ap (slot_bytes (Number n.bits)) (number_at i m ∙ own) ∙ own_bytes n.bits n.signed n.values.now i small (inside i m)
 
 -- where no value is null each is valid
-valid_at : (vs : List Value) (i : ℕ) → nulls vs ≡ 0 → i < length vs → is_set Valid (get_or vs i Null) ≡ true
+pub valid_at : (vs : List Value) (i : ℕ) → nulls vs ≡ 0 → i < length vs → is_set Valid (get_or vs i Null) ≡ true
 valid_at [] i none l = absurd (omega arith)
 valid_at (v ∷ vs) i none l = first (is_set Valid v) refl (λ k e m. valid_at vs k e m) i none l
   where

@@ -1,31 +1,49 @@
 //! The slots of a column that was read, taken without a value of their own.
-ghost use Rattle.std.specs.Prelude.{◌≡◌, ◌<◌, ◌^◌, ◌+◌, ◌++◌, List, true, length, IfErr, OnOk};
+ghost use Rattle.std.specs.Prelude.{◌≡◌, ◌<◌, ◌^◌, ◌+◌, ◌++◌, List, true, length, IfErr, IfSome};
+ghost use Rattle.std.specs.Prelude.{◌≤◌, ◌*◌, ◌%◌, ◌&&◌, ℕ, Bool, false, take, slice_index_or};
+ghost use Rattle.std.specs.Prelude.{IfOk, OnOk};
 ghost use Rattle.std.specs.List.{AllByRecursion};
 ghost use Rattle.ipc_model.specs.declared.layout.Layout.{Layout};
 ghost use Rattle.ipc_model.specs.declared.limits.Limits.{Limits};
 ghost use Rattle.ipc_model.specs.declared.value.Value.{Value};
+ghost use Rattle.ipc_scalar.specs.Bytes.{bit, num};
+ghost use Rattle.ipc_column.specs.Nested.{slot_values};
+ghost use Rattle.ipc_column.specs.Values.{is_valid};
 ghost use Rattle.ipc_encode.specs.Bitmaps.{bitmap};
 ghost use Rattle.ipc_encode.specs.Built.{IsColumn, IsPushRefused};
 ghost use Rattle.ipc_encode.specs.Cells.{HasUtf8, ends, flags, nulls, slots};
 ghost use Rattle.ipc_encode.specs.Columns.{data_in, offsets_in, validity_in, values_in};
 ghost use Rattle.ipc_encode.specs.Lent.{is_lent};
+ghost use Rattle.ipc_encode.specs.Marks.{HasBits};
 ghost use Rattle.ipc_encode.specs.Numbers.{Numbering};
 ghost use Rattle.ipc_encode.specs.Pieces.{Bytes, Content, Fixed, True, Valid};
 ghost use Rattle.ipc_encode.specs.Writing.{AreStored};
 
+use crate::buffers::{LentContents, lent_contents, lent_marks, lent_widths, offset_at};
 use crate::cell_parts::{content, is_true, is_valid, push_fixed};
 use crate::column::Column;
 use crate::fault::PushFault;
 use crate::flags::{push_bit, set_bits};
+use crate::marks;
 use crate::pushing::push_offset;
-use ipc_column::ColumnView;
+use ipc_column::{ColumnView, SlotView};
 use ipc_model::{Layout, Limits};
 use std::alloc::AllocError;
+
+// How many slots are null, where a bitmap says which.
+fn count_marked_nulls(view: &ColumnView<'_>) -> Option<usize>
+    ensures { IfSome result (λ many. many ≡ nulls view.now) }
+{
+    marks::count_nulls(lent_marks(&view.slots())?, view.len())
+}
 
 // How many slots are null.
 fn count_nulls(view: &ColumnView<'_>) -> usize
     ensures { result ≡ nulls view.now }
 {
+    if let Some(null_count) = count_marked_nulls(view) {
+        return null_count;
+    }
     let mut null_count = 0;
     for slot in 0..view.len() {
         let cell = view.at(slot);
@@ -41,11 +59,63 @@ fn push_marks(bits: &mut Vec<u8>, held: usize, view: &ColumnView<'_>) -> Result<
         → bits.old.items ≡ bitmap (flags Valid before)
         → OnOk result (bits.new.items ≡ bitmap (flags Valid (before ++ view.now))) }
 {
+    if let Some(marks) = lent_marks(&view.slots()) {
+        return marks::push_marks(bits, held, marks, view.len());
+    }
     for slot in 0..view.len() {
         let cell = view.at(slot);
         push_bit(bits, held + slot, is_valid(&cell))?;
     }
     Ok(())
+}
+
+// Appends so many bytes of truths to bits that fill their bytes. Where the bitmap says that a slot
+// is null, its bit is 0.
+fn push_set_bits(
+    bits: &mut Vec<u8>,
+    truths: &[u8],
+    marks: &[u8],
+    count: usize,
+) -> Result<(), AllocError>
+    requires truths { count ≤ length truths.now }
+    requires marks { HasBits marks.now (8 * count) }
+    ensures { (before more : List Bool) → length before % 8 ≡ 0 → length more ≡ 8 * count
+        → ((i : ℕ) → i < length more
+        → slice_index_or more i false ≡ (bit truths.now i && is_valid marks.now i))
+        → bits.old.items ≡ bitmap before → OnOk result (bits.new.items ≡ bitmap (before ++ more)) }
+{
+    if marks.is_empty() {
+        return bits.extend_from_slice(&truths[..count]);
+    }
+    for i in 0..count {
+        bits.push(truths[i] & marks[i])?;
+    }
+    Ok(())
+}
+
+// Appends whether slots are true to so many packed bits, a byte at a time, and says of how many: of
+// none where the slots aren't bits, or the bits so far don't fill their bytes.
+fn push_truth_bytes(
+    bits: &mut Vec<u8>,
+    held: usize,
+    view: &SlotView<'_>,
+) -> Result<usize, AllocError>
+    ensures within { IfOk result (λ taken. taken ≤ length (slot_values view.now)) }
+    ensures bits { (before : List Value) → length before ≡ held
+        → bits.old.items ≡ bitmap (flags True before)
+        → IfOk result (λ taken. bits.new.items
+        ≡ bitmap (flags True (before ++ take taken (slot_values view.now)))) }
+{
+    let buffers = view.buffers();
+    let Layout::Bits = buffers.layout else {
+        return Ok(0);
+    };
+    if held % 8 != 0 {
+        return Ok(0);
+    }
+    let whole = view.len() / 8;
+    push_set_bits(bits, buffers.values, buffers.validity, whole)?;
+    Ok(whole * 8)
 }
 
 // Appends whether each slot is true to so many packed bits.
@@ -55,7 +125,8 @@ fn push_truths(bits: &mut Vec<u8>, held: usize, view: &ColumnView<'_>) -> Result
         → bits.old.items ≡ bitmap (flags True before)
         → OnOk result (bits.new.items ≡ bitmap (flags True (before ++ view.now))) }
 {
-    for slot in 0..view.len() {
+    let taken = push_truth_bytes(bits, held, &view.slots())?;
+    for slot in taken..view.len() {
         let cell = view.at(slot);
         push_bit(bits, held + slot, is_true(&cell))?;
     }
@@ -67,6 +138,9 @@ fn push_widths(values: &mut Vec<u8>, view: &ColumnView<'_>, width: u32) -> Resul
     ensures { OnOk result
         (values.new.items ≡ values.old.items ++ slots (Fixed width) view.now) }
 {
+    if let Some(bytes) = lent_widths(&view.slots(), width) {
+        return values.extend_from_slice(bytes);
+    }
     for slot in 0..view.len() {
         let cell = view.at(slot);
         push_fixed(values, &cell, width)?;
@@ -74,8 +148,8 @@ fn push_widths(values: &mut Vec<u8>, view: &ColumnView<'_>, width: u32) -> Resul
     Ok(())
 }
 
-// Appends the bytes of each slot, and where they end.
-fn push_contents(
+// Appends the bytes of each slot, and where they end, slot by slot.
+fn push_each_content(
     values: &mut Vec<u8>,
     offsets: &mut Vec<u8>,
     view: &ColumnView<'_>,
@@ -92,6 +166,50 @@ fn push_contents(
         push_offset(offsets, values.len())?;
     }
     Ok(())
+}
+
+// Appends where all slots end, the first of them beginning at a start.
+fn push_ends(
+    offsets: &mut Vec<u8>,
+    lent: &LentContents<'_>,
+    count: usize,
+    start: usize,
+) -> Result<(), AllocError>
+    requires room { length lent.now.ends.now ≡ 4 * count }
+    requires small { start < 2 ^ 63 }
+    ensures { (values : List Value) → length values ≡ count
+        → lent.now.ends.now ≡ ends Bytes lent.now.start values
+        → ((i : ℕ) → i < count → num lent.now.ends.now (4 * i) 4
+        ≡ lent.now.start + length (slots Content (take (i + 1) values)))
+        → OnOk result (offsets.new.items ≡ offsets.old.items ++ ends Bytes start values) }
+{
+    if lent.start == start {
+        return offsets.extend_from_slice(lent.ends);
+    }
+    for slot in 0..count {
+        let end = offset_at(lent.ends, slot) as usize;
+        push_offset(offsets, start + end.saturating_sub(lent.start))?;
+    }
+    Ok(())
+}
+
+// Appends the bytes of all slots, and where they end.
+fn push_contents(
+    values: &mut Vec<u8>,
+    offsets: &mut Vec<u8>,
+    view: &ColumnView<'_>,
+) -> Result<(), AllocError>
+    ensures values { OnOk result
+        (values.new.items ≡ values.old.items ++ slots Content view.now) }
+    ensures ends { OnOk result (offsets.new.items
+        ≡ offsets.old.items ++ ends Bytes (length values.old.items) view.now) }
+    ensures texts { OnOk result (AllByRecursion HasUtf8 view.now) }
+{
+    if let Some(lent) = lent_contents(&view.slots()) {
+        push_ends(offsets, &lent, view.len(), values.len())?;
+        return values.extend_from_slice(lent.bytes);
+    }
+    push_each_content(values, offsets, view)
 }
 
 // Notes whether each slot is valid, so many of them null, in a column of this layout, which may

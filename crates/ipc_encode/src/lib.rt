@@ -3,6 +3,7 @@
 #![tactic(auto)]
 
 mod batch;
+mod buffers;
 mod builder;
 mod cell_parts;
 mod cells;

@@ -1,5 +1,6 @@
 //! The validity bitmap of a column that was read, taken behind the values of another.
-ghost use Rattle.std.specs.Prelude.{◌≡◌, ◌<◌, ◌^◌, ◌+◌, ◌++◌, List, length, IfSome, OnOk};
+ghost use Rattle.std.specs.Prelude.{◌≡◌, ◌≤◌, ◌<◌, ◌^◌, ◌+◌, ◌++◌, List, length, take, IfOk};
+ghost use Rattle.std.specs.Prelude.{IfSome, OnOk};
 ghost use Rattle.ipc_model.specs.declared.value.Value.{Value};
 ghost use Rattle.ipc_column.specs.Values.{is_valid};
 ghost use Rattle.ipc_encode.specs.Bitmaps.{bitmap};
@@ -37,15 +38,43 @@ pub(crate) fn count_nulls(marks: &[u8], count: usize) -> Option<usize>
     Some(count_clear(marks, count) as usize)
 }
 
-// Appends whether each of so many slots is valid to so many packed bits.
-fn push_marks(bits: &mut Vec<u8>, held: usize, marks: &[u8], count: usize) -> Result<(), AllocError>
+// Appends whether slots are valid to so many packed bits, a byte at a time, and says of how many:
+// of none where the bits so far don't fill their bytes.
+fn push_mark_bytes(
+    bits: &mut Vec<u8>,
+    held: usize,
+    marks: &[u8],
+    count: usize,
+) -> Result<usize, AllocError>
+    requires { HasBits marks.now count }
+    ensures within { IfOk result (λ taken. taken ≤ count) }
+    ensures bits { (before values : List Value) → length before ≡ held → length values ≡ count
+        → MarksNulls marks.now values → bits.old.items ≡ bitmap (flags Valid before)
+        → IfOk result (λ taken. bits.new.items
+        ≡ bitmap (flags Valid (before ++ take taken values))) }
+{
+    if held % 8 != 0 || marks.is_empty() {
+        return Ok(0);
+    }
+    bits.extend_from_slice(&marks[..count / 8])?;
+    Ok(count / 8 * 8)
+}
+
+/// Appends whether each of so many slots is valid to so many packed bits.
+pub(crate) fn push_marks(
+    bits: &mut Vec<u8>,
+    held: usize,
+    marks: &[u8],
+    count: usize,
+) -> Result<(), AllocError>
     requires bits { HasBits marks.now count }
     requires few { held + count < 2 ^ 63 }
     ensures { (before values : List Value) → length before ≡ held → length values ≡ count
         → MarksNulls marks.now values → bits.old.items ≡ bitmap (flags Valid before)
         → OnOk result (bits.new.items ≡ bitmap (flags Valid (before ++ values))) }
 {
-    for slot in 0..count {
+    let taken = push_mark_bytes(bits, held, marks, count)?;
+    for slot in taken..count {
         push_bit(bits, held + slot, is_marked_valid(marks, slot))?;
     }
     Ok(())

@@ -1,6 +1,7 @@
-use Rattle.std.proofs.Common.{◌∙◌, sym, ap, ◌<◌, ◌++◌, length, take, length-append, arith}
+use Rattle.std.proofs.Common.{◌∙◌, sym, ap, ◌<◌, ◌++◌, List, length, take, length-append, arith}
 use Rattle.std.proofs.lemmas.List.{length-take-le}
 use Rattle.std.proofs.lemmas.Option.{get_or_from_slice_get}
+use Rattle.ipc_model.specs.declared.value.Value.{Value}
 use Rattle.ipc_model.specs.declared.value.Value.TheVariants.{Null}
 use Rattle.ipc_encode.specs.Bitmaps.{bitmap}
 use Rattle.ipc_encode.specs.Cells.{flags, is_set}
@@ -8,6 +9,11 @@ use Rattle.ipc_encode.specs.Pieces.{True}
 use Rattle.ipc_encode.proofs.Bits.{flags_length}
 use Rattle.ipc_encode.proofs.Marked.{flags_next}
 use Rattle.ipc_encode.proofs.lent.push_truths.Goals as goal
+
+pub loop-slot-init : goal.loop-slot-init
+loop-slot-init c = λ before held same.
+    c.in_ok-taken.ensures.bits before held same
+    ∙ ap (λ (vs : List Value). bitmap (flags True (before ++ take c.in_ok-taken.taken vs))) c.slots.ensures.values
 
 pub loop-slot-preserved : goal.loop-slot-preserved
 loop-slot-preserved c = λ before held same.

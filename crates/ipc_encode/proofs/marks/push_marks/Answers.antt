@@ -1,5 +1,5 @@
 use Rattle.std.proofs.Common.{◌∙◌, sym, ap, ◌++◌, List, take, length-append, arith}
-use Rattle.std.proofs.lemmas.List.{append-nil, length-take-le, take_all}
+use Rattle.std.proofs.lemmas.List.{length-take-le, take_all}
 use Rattle.ipc_model.specs.declared.value.Value.{Value}
 use Rattle.ipc_encode.specs.Bitmaps.{bitmap}
 use Rattle.ipc_encode.specs.Cells.{flags}
@@ -9,8 +9,7 @@ use Rattle.ipc_encode.proofs.Marked.{flags_next}
 use Rattle.ipc_encode.proofs.marks.push_marks.Goals as goal
 
 pub loop-slot-init : goal.loop-slot-init
-loop-slot-init c = λ before values held size marks same.
-    same ∙ ap (λ (vs : List Value). bitmap (flags Valid vs)) (sym (append-nil before))
+loop-slot-init c = λ before values held size marks same. c.in_ok-taken.ensures.bits before values held size marks same
 
 pub loop-slot-preserved : goal.loop-slot-preserved
 loop-slot-preserved c = λ before values held size marks same.

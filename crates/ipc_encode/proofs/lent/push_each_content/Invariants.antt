@@ -2,7 +2,7 @@ use Rattle.std.proofs.Common.{◌≡◌, ◌++◌, length, take}
 use Rattle.std.specs.List.{AllByRecursion}
 use Rattle.ipc_encode.specs.Cells.{HasUtf8, ends, slots}
 use Rattle.ipc_encode.specs.Pieces.{Bytes, Content}
-use Rattle.ipc_encode.proofs.lent.push_contents.Given as goal
+use Rattle.ipc_encode.proofs.lent.push_each_content.Given as goal
 
 -- the bytes of the first slots stand behind those that were there, and so do their ends
 abbrev pub invariant-loop-slot : goal.invariant-loop-slot

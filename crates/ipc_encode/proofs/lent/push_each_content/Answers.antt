@@ -7,7 +7,7 @@ use Rattle.ipc_encode.specs.Pieces.{Bytes, Content}
 use Rattle.ipc_encode.proofs.LentBytes.{all_next, content_extents, ends_next}
 use Rattle.ipc_encode.proofs.NumberSlots.{slots_next}
 use Rattle.ipc_encode.proofs.Steps.{extents}
-use Rattle.ipc_encode.proofs.lent.push_contents.Goals as goal
+use Rattle.ipc_encode.proofs.lent.push_each_content.Goals as goal
 
 pub loop-slot-preserved : goal.loop-slot-preserved
 loop-slot-preserved c =

@@ -1,0 +1,13 @@
+use Rattle.std.proofs.Common.{ap, subst}
+use Rattle.ipc_column.specs.Lent.{AreFound}
+use Rattle.ipc_column.specs.Nested.{Nested, below}
+use Rattle.ipc_column.proofs.slot_view.SlotView.buffers.Goals as goal
+
+pub returns : goal.returns
+returns c = record {
+  layout = ap (λ (n : Nested). n.column.layout) c.self.view_is;
+  validity = ap (λ (n : Nested). n.column.validity) c.self.view_is;
+  offsets = ap (λ (n : Nested). n.column.offsets) c.self.view_is;
+  values = ap (λ (n : Nested). n.column.values) c.self.view_is;
+  whole = subst (λ (n : Nested). AreFound n.column (below n)) c.self.view_is c.self.invariant;
+}
