@@ -113,7 +113,7 @@ own_shown l.Structs d below o w n i bytes h m = tt
 own_shown (l.Indices bits signed id) d below o w n i bytes h m = tt
 
 -- null is shown by slots of any layout
-null_shown : (layout : Layout) → IsShownBy layout v.Null
+pub null_shown : (layout : Layout) → IsShownBy layout v.Null
 null_shown l.Null = tt
 null_shown l.Bits = tt
 null_shown (l.Numbers bits signed) = tt

@@ -20,7 +20,7 @@ use crate::cell::{Cell, cell_in};
 use crate::dictionary::{DictionaryValues, are_alone, share_values};
 use crate::head::check_head;
 use crate::ranges::ColumnRanges;
-use crate::rows::{read_row, rows_in};
+use crate::rows::{read_row, read_value, rows_in};
 use crate::slot_view::{SlotView, slots_in};
 use crate::validate::check_columns;
 use crate::view::{ColumnView, view_in};
@@ -269,6 +269,19 @@ impl Batch {
             row,
             column,
         )
+    }
+
+    /// What stands in a row and a column, as a value of its own. The caller gives a row below
+    /// `rows` and a column below `columns`. Refused where its lists find no room.
+    pub fn read_cell(&self, alloc: Global, row: usize, column: usize) -> Result<Value, AllocError>
+        requires row { row < length self.now.rows }
+        requires column { column < self.now.columns }
+        ensures { IfOk result
+            (λ value. slice_get (slice_index_or self.now.rows row []) column ≡ Some value) }
+    {
+        let shared = self.shared.as_ref();
+        let body = shared.body.as_slice();
+        read_value(alloc, body, &shared.parts, shared.count, row, column)
     }
 
     /// A column, found once for all its rows. The caller gives a column below `columns`.

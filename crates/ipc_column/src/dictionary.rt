@@ -1,6 +1,6 @@
 //! The values of dictionaries, as columns of indices keep them.
 ghost use Rattle.std.specs.Prelude.{◌≡◌, ◌<◌, ◌≤◌, ◌+◌, ◌*◌, ℕ, List, length, map, true, [], IfOk};
-ghost use Rattle.std.specs.Prelude.{IsTrue, Some, slice_get};
+ghost use Rattle.std.specs.Prelude.{IsTrue, Some, slice_get, IfSome, IfNone};
 ghost use Rattle.ipc_model.specs.Layouts.{number_bytes};
 ghost use Rattle.ipc_column.specs.Cells.{cell_value, is_leaf};
 ghost use Rattle.ipc_column.specs.Checks.{Holds};
@@ -8,6 +8,8 @@ ghost use Rattle.ipc_column.specs.Columns.{none};
 ghost use Rattle.ipc_column.specs.Dictionaries.{stands_alone};
 ghost use Rattle.ipc_column.specs.Leaves.{IsLeaf, leaf_column};
 ghost use Rattle.ipc_column.specs.Lending.{AreAlone};
+ghost use Rattle.ipc_column.specs.Lent.{values_in};
+ghost use Rattle.ipc_column.specs.Nested.{slot_values};
 ghost use Rattle.ipc_column.specs.Values.{first_of, number_in, row, rows_of, value_at, value_of};
 ghost use Rattle.ipc_column.specs.Views.{columns};
 
@@ -15,6 +17,7 @@ use crate::cell::{Cell, is_valid_in, leaf_cell};
 use crate::fixed::index_in;
 use crate::range_bytes::bytes_at;
 use crate::ranges::{BufferRange, ColumnRanges};
+use crate::slot_view::{SlotView, slots_found};
 use ipc_model::{IntBits, Layout};
 use std::alloc::AllocError;
 use std::marker::Model;
@@ -72,6 +75,17 @@ impl DictionaryValues {
         }
     }
 
+    /// The slots of the values, where there is a column of them.
+    pub(crate) fn slots(&self) -> Option<SlotView<'_>>
+        ensures values { IfSome result (λ slots. slot_values slots ≡ self.now) }
+        ensures none { IfNone result (self.now ≡ []) }
+    {
+        match &self.leaf {
+            Some(leaf) => Some(leaf_slots(leaf, self)),
+            None => None,
+        }
+    }
+
     /// Value `i`, lent.
     pub(crate) fn at(&self, i: usize) -> Cell<'_>
         requires { i < length self.now }
@@ -83,6 +97,24 @@ impl DictionaryValues {
             None => Cell::Null,
         }
     }
+}
+
+// The slots of a column that stands alone. Of the dictionary nothing is asked.
+fn leaf_slots<'a>(leaf: &'a Leaf, dictionary: &'a DictionaryValues) -> SlotView<'a>
+    requires { IsLeaf leaf.now }
+    ensures { slot_values result ≡ values_in (leaf_column leaf.now) none }
+{
+    let body = leaf.body.as_slice();
+    slots_found(
+        leaf.layout,
+        leaf.slots,
+        bytes_at(body, leaf.validity),
+        bytes_at(body, leaf.offsets),
+        bytes_at(body, leaf.values),
+        dictionary,
+        body,
+        &[],
+    )
 }
 
 // What a slot of a column holds.

@@ -1,4 +1,4 @@
-ghost use Rattle.std.specs.Prelude.{◌≡◌, ◌<◌, ◌+◌, ◌-◌, true, IfOk, OnOk};
+ghost use Rattle.std.specs.Prelude.{◌≡◌, ◌<◌, ◌+◌, ◌-◌, true, length, IfOk, OnOk, Some, slice_get};
 ghost use Rattle.ipc_column.specs.Cells.{cell_value, is_leaf};
 ghost use Rattle.ipc_column.specs.Checks.{Holds};
 ghost use Rattle.ipc_column.specs.Lent.{HaveValues, HasValue};
@@ -166,6 +166,24 @@ fn row_at(
     let mut values = Vec::with_capacity(alloc, parts.len())?;
     read_row(alloc, body, parts, rows, at, &mut values)?;
     Ok(Items::from_vec(values))
+}
+
+/// The value of a row in part `i` of parts that give so many rows.
+pub(crate) fn read_value(
+    alloc: Global,
+    body: &[u8],
+    parts: &[ColumnRanges],
+    rows: usize,
+    at: usize,
+    i: usize,
+) -> Result<Value, AllocError>
+    requires holds { Holds rows (columns body.now parts.now) }
+    requires row { at < rows }
+    requires inside { i < length parts.now }
+    ensures { IfOk result
+        (λ value. slice_get (row (columns body.now parts.now) at) i ≡ Some value) }
+{
+    read_slot(alloc, body, &parts[i], at)
 }
 
 /// The rows of parts that give so many.

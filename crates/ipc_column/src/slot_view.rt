@@ -1,8 +1,11 @@
 //! The slots of a column and of the columns below it, whose buffers are found in the body once.
 ghost use Rattle.std.specs.Prelude.{◌≡◌, ◌<◌, ℕ, List, length, slice_get, Some, true, IfSome};
-ghost use Rattle.std.specs.Prelude.{is_some, slice_index, ◌≤◌};
+ghost use Rattle.std.specs.Prelude.{is_some, slice_index, ◌≤◌, ℤ, Bool, [], IfNone};
 ghost use Rattle.std.specs.List.{AllByRecursion};
+ghost use Rattle.ipc_model.specs.declared.schema.IntBits.{IntBits};
+ghost use Rattle.ipc_model.specs.declared.layout.Layout.TheVariants.{Indices};
 ghost use Rattle.ipc_model.specs.declared.value.Value.{Value};
+ghost use Rattle.ipc_model.specs.declared.value.Value.TheVariants.{Null};
 ghost use Rattle.ipc_column.specs.Cells.{cell_value, is_leaf};
 ghost use Rattle.ipc_column.specs.Columns.{Columns};
 ghost use Rattle.ipc_column.specs.Checks.{Holds, are_long, holds_offsets, holds_values, in_order};
@@ -20,7 +23,7 @@ ghost use Rattle.ipc_column.specs.Views.{columns, column_of, children_of};
 use crate::buffers::Buffers;
 use crate::cell::{Cell, is_valid};
 use crate::dictionary::{DictionaryValues, indexed_cell};
-use crate::fixed::{bytes_of, signed_at, unsigned_at};
+use crate::fixed::{bytes_of, index_in, signed_at, unsigned_at};
 use crate::numbers::Numbers;
 use crate::offsets::{bytes_between, fixed_place, place_at};
 use crate::range_bytes::bytes_at;
@@ -204,6 +207,42 @@ impl<'a> SlotView<'a> {
             → spelled_len (slot_values self.now) ≤ result }
     {
         self.values.len()
+    }
+
+    /// Where in the dictionary the value stands that a slot shows. The caller gives a slot below
+    /// `len`. None where the slot is null, or its index isn't that of a value, and where the column
+    /// isn't one of indices.
+    #[inline(always)]
+    pub fn entry_at(&self, slot: usize) -> Option<usize>
+        requires { slot < length (slot_values self.now) }
+        ensures within { IfSome result (λ i. i < length self.now.column.dictionary) }
+        ensures shown { IfSome result (λ i. slice_get self.now.column.dictionary i
+            ≡ slice_get (slot_values self.now) slot) }
+        // In a column of indices null is shown where there is none.
+        ensures null { (bits : IntBits) (signed : Bool) (id : ℤ)
+            → self.now.column.layout ≡ Indices bits signed id
+            → IfNone result (slice_get (slot_values self.now) slot ≡ Some Null) }
+    {
+        let valid = is_valid(self.validity, slot);
+        if !valid {
+            return None;
+        }
+        match self.layout {
+            Layout::Indices { bits, signed, .. } => {
+                index_in(bits, signed, self.values, slot, self.dictionary.len())
+            }
+            _ => None,
+        }
+    }
+
+    /// The slots of the values of the column's dictionary: none where it has no dictionary, as a
+    /// column that isn't one of indices, or where none is in force.
+    pub fn entries(&self) -> Option<SlotView<'a>>
+        ensures values { IfSome result
+            (λ entries. slot_values entries ≡ self.now.column.dictionary) }
+        ensures none { IfNone result (self.now.column.dictionary ≡ []) }
+    {
+        self.dictionary.slots()
     }
 
     /// How many children there are: one of a list, one for each part of a struct, else none.

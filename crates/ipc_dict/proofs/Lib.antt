@@ -20,3 +20,4 @@ pub mod PairsFit
 pub mod ShortMessages
 pub mod NoteFaults
 pub mod FirstPlaces
+pub mod ColumnNotes

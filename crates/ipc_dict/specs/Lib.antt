@@ -12,3 +12,4 @@ pub mod EntryColumns
 pub mod Sending
 pub mod Seeds
 pub mod Faults
+pub mod ColumnNotes

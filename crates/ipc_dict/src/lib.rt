@@ -4,6 +4,7 @@
 //! A dictionary is replaced whole, and fields with one id share it.
 #![tactic(auto)]
 
+mod column_notes;
 mod columns;
 mod distinct;
 mod entry;

@@ -3,13 +3,15 @@ ghost use Rattle.std.specs.Prelude.{◌↔◌, [], IsTrue};
 ghost use Rattle.std.specs.Prelude.{◌≡◌, true, false, length, IfOk, IfErr, OnOk, OnErr, ◌⊎◌, Err};
 ghost use Rattle.ipc_dict.specs.Noting.{note_all, AllFit, IsFull, HoldsDistinct, lens, cut};
 ghost use Rattle.ipc_dict.specs.Noting.{AllGrow, KeepsPlaces, PlacesAll};
-ghost use Rattle.ipc_dict.specs.Pairs.{row_pairs};
+ghost use Rattle.ipc_dict.specs.ColumnNotes.{AreApart};
+ghost use Rattle.ipc_dict.specs.Pairs.{row_pairs, rows_pairs};
 ghost use Rattle.ipc_dict.specs.SchemaIds.{unused, kept_ids, tally_ids};
 ghost use Rattle.ipc_dict.specs.Planning.{AllSettled, FindsAll, FindsNoted, KnowsAll};
 ghost use Rattle.ipc_dict.specs.EntryColumns.{AreCounted};
 ghost use Rattle.ipc_dict.specs.Faults.{told_of};
 ghost use Rattle.ipc_dict.specs.Within.{AllWithin, IsOfLimits, IsOverLimit};
 
+use crate::column_notes::{are_all_apart, note_columns};
 use crate::columns::EntryColumns;
 use crate::entry::{TallyEntry, place_in};
 use crate::fault::NoteFault;
@@ -19,6 +21,7 @@ use crate::schema_ids::unused_entries;
 use crate::seed::Seed;
 use crate::settle::settle;
 use crate::walk::note_each;
+use ipc_column::Batch;
 use ipc_encode::IndexOf;
 use ipc_model::{Field, Items, Limits, Schema, Value, WriteFault};
 use std::alloc::{AllocError, Global};
@@ -217,6 +220,58 @@ impl Tally {
 }
 
 impl Tally {
+    /// Counts the values of all rows of a batch that was read, column by column, and says whether
+    /// it did: what `note` of each row counts. Each value of the batch's dictionaries is looked up
+    /// once. The caller has a batch whose rows fit the schema.
+    ///
+    /// At `Ok(false)` nothing was counted, and `note` takes the rows one by one: a dictionary would
+    /// be full or too long, two fields name one dictionary, one is named below a list or a struct,
+    /// or the batch has another number of columns. Refused with W11 `OutOfMemory` where a value or
+    /// a mark finds no room, and from then on with W10 `Failed`.
+    pub fn note_columns(&mut self, batch: &Batch) -> Result<bool, NoteFault>
+        ensures noted { IfOk result (λ counted. counted ≡ true → self.new ≡ record self.old {
+          entries = note_all self.old.entries (rows_pairs self.old.fields batch.now.rows);
+        }) }
+        ensures unchanged { IfOk result (λ counted. counted ≡ false → self.new ≡ self.old) }
+        ensures ids { tally_ids self.new.entries ≡ tally_ids self.old.entries }
+        ensures fits { AllFit self.new.entries }
+        ensures within { AllWithin self.new.limits self.new.fields self.new.entries }
+        ensures failed { IfErr result
+            (λ fault. fault ≡ NoteFault.OutOfMemory → self.new.failed ≡ true) }
+        // A tally that has failed counts no row.
+        ensures refused { self.old.failed ≡ true → result ≡ Err NoteFault.Failed }
+        ensures still_failed { self.old.failed ≡ true → self.new.failed ≡ true }
+        ensures before { IfErr result
+            (λ fault. fault ≡ NoteFault.Failed → self.old.failed ≡ true) }
+        ensures only { IfErr result
+            (λ fault. (fault ≡ NoteFault.OutOfMemory) ⊎ (fault ≡ NoteFault.Failed)) }
+    {
+        let has_failed = self.failed;
+        if has_failed {
+            return Err(NoteFault::Failed);
+        }
+        if self.is_empty() {
+            return Ok(true);
+        }
+        let alloc = *self.entries.allocator();
+        let fields = self.fields.as_slice();
+        if batch.columns() != fields.len() || !are_all_apart(fields) {
+            return Ok(false);
+        }
+        let (entries, latest) = (&mut self.entries, &mut self.latest);
+        let (marks, columns) = (&mut self.marks, &mut self.columns);
+        match note_batch(alloc, entries, latest, marks, columns, fields, batch) {
+            Ok(()) => Ok(true),
+            Err(NoteFault::OutOfMemory) => {
+                self.failed = true;
+                Err(NoteFault::OutOfMemory)
+            }
+            Err(_) => Ok(false),
+        }
+    }
+}
+
+impl Tally {
     /// What a batch with these rows does with each dictionary.
     ///
     /// The caller has the `Kept` of a writer of the same schema. A dictionary is sent exactly where
@@ -353,6 +408,66 @@ fn note_counted(
     ensures grows { AllGrow entries.old entries.new }
 {
     note_each(entries, latest, fields, row)?;
+    if have_grown(entries, marks) {
+        columns.count(entries, marks)?;
+    }
+    Ok(())
+}
+
+// All rows of a batch, or none of their values where they are refused.
+#[tactic(auto, using(crate::proofs::Rows::ids_note_all))]
+fn note_batch(
+    alloc: Global,
+    entries: &mut [TallyEntry],
+    latest: &mut [usize],
+    marks: &mut [usize],
+    columns: &mut EntryColumns,
+    fields: &[Field],
+    batch: &Batch,
+) -> Result<(), NoteFault>
+    requires marks { length marks.old ≡ length entries.old }
+    requires columns { AreCounted fields.now entries.old columns.old }
+    requires apart { AreApart fields.now }
+    requires width { batch.now.columns ≡ length fields.now }
+    ensures noted { OnOk result
+        (entries.new ≡ note_all entries.old (rows_pairs fields.now batch.now.rows)) }
+    ensures ids { tally_ids entries.new ≡ tally_ids entries.old }
+    ensures fits { AllFit entries.old → AllFit entries.new }
+    ensures err { OnErr result (entries.new ≡ entries.old) }
+    ensures counted { AreCounted fields.now entries.new columns.new }
+    ensures limits { columns.new.limits ≡ columns.old.limits }
+{
+    mark(entries, marks);
+    if let Err(fault) = count_batch(alloc, entries, latest, marks, columns, fields, batch) {
+        restore(entries, marks);
+        return Err(fault);
+    }
+    Ok(())
+}
+
+// Notes the values of a batch's columns, and counts those that came since the marks.
+fn count_batch(
+    alloc: Global,
+    entries: &mut [TallyEntry],
+    latest: &mut [usize],
+    marks: &[usize],
+    columns: &mut EntryColumns,
+    fields: &[Field],
+    batch: &Batch,
+) -> Result<(), NoteFault>
+    requires marks { marks.now ≡ lens entries.old }
+    requires columns { AreCounted fields.now entries.old columns.old }
+    requires apart { AreApart fields.now }
+    requires width { batch.now.columns ≡ length fields.now }
+    ensures noted { OnOk result
+        (entries.new ≡ note_all entries.old (rows_pairs fields.now batch.now.rows)) }
+    ensures fits { OnOk result (AllFit entries.old → AllFit entries.new) }
+    ensures counted { OnOk result (AreCounted fields.now entries.new columns.new) }
+    ensures kept { OnErr result (AreCounted fields.now entries.old columns.new) }
+    ensures limits { columns.new.limits ≡ columns.old.limits }
+    ensures grows { AllGrow entries.old entries.new }
+{
+    note_columns(alloc, entries, latest, fields, batch)?;
     if have_grown(entries, marks) {
         columns.count(entries, marks)?;
     }

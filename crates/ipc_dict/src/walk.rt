@@ -9,21 +9,21 @@ use crate::entry::{TallyEntry, note_one};
 use crate::fault::NoteFault;
 use ipc_model::{DataType, Field, Value};
 
-// Whether a field surely names no dictionary, nor does any below it.
+/// Whether a field surely names no dictionary, nor does any below it.
 #[inline(always)]
 #[tactic(auto, using(crate::proofs::Walks::plain_pairs))]
-fn is_plain(field: &Field) -> bool
+pub(crate) fn is_plain(field: &Field) -> bool
     ensures { IsTrue result → (value : Value) → pairs field.now value ≡ [] }
 {
     field.dictionary.is_none() && field.children.is_empty()
 }
 
-// Notes the values of dictionaries in one value of a field. It stands by itself, so that what has
-// no dictionary costs no call.
+/// Notes the values of dictionaries in one value of a field. It stands by itself, so that what has
+/// no dictionary costs no call.
 #[cycle(note)]
 #[inline(always)]
 #[tactic(auto, using(crate::proofs::Notes::all_grow_same, crate::proofs::Notes::all_grow_trans))]
-fn note_value(
+pub(crate) fn note_value(
     entries: &mut [TallyEntry],
     latest: &mut [usize],
     field: &Field,

@@ -33,3 +33,5 @@ pub mod Cutting
 pub mod HeldValues
 pub mod NestedValues
 pub mod Reading
+pub mod EntryIndices
+pub mod SureIndices

@@ -13,3 +13,4 @@ pub mod CountedColumns
 pub mod Marks
 pub mod Lent
 pub mod PlainColumns
+pub mod EntryIndices

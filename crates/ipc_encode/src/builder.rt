@@ -274,9 +274,10 @@ impl Builder {
     }
 
     /// Whether all rows of a batch that was read surely conform to the fields of the rows that are
-    /// held, and are within the limits with them. It takes one look at each column and none at its
-    /// values: where it isn't sure, as for lists, structs and dictionaries, the rows one by one
-    /// tell.
+    /// held, and are within the limits with them. It takes one look at each column, and at the
+    /// dictionary that it reads its values from, and none at the values, but whether one is null
+    /// where a field with a dictionary is required: where it isn't sure, as for lists and structs,
+    /// the rows one by one tell.
     pub fn surely_takes_columns(&self, fields: &[Field], batch: &Batch) -> bool
         ensures conforms { (known : Numbering) (limits : Limits) (rows : List (List Value))
             → HasRows known limits fields.now rows self.now → IsTrue result
@@ -352,9 +353,10 @@ impl Builder {
 
     /// Takes all rows of a batch that was read, column by column, and asks for the index of each
     /// value other than null in a field with a dictionary: what `push` of each row takes. No value
-    /// is made for a cell, but in columns with children or a dictionary and those that lie unlike
-    /// the field: these read each row anew. Where the batch has fewer columns than there are fields
-    /// the others get nulls, and columns behind those of the fields are left out.
+    /// is made for a cell, but one for each value of a dictionary, whose index is asked for once,
+    /// and in columns with children and those that lie unlike the field: these read each row anew.
+    /// Where the batch has fewer columns than there are fields the others get nulls, and columns
+    /// behind those of the fields are left out.
     ///
     /// The caller knows that the rows with those that are held are within the limits, and as of
     /// `push` that each index fits its field's index type. Refused with W11 `OutOfMemory` where a

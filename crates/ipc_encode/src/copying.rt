@@ -18,7 +18,7 @@ use crate::node::Node;
 use crate::numbers::lent_numbers;
 use crate::tree::take;
 use ipc_column::Batch;
-use ipc_model::{Limits, Value};
+use ipc_model::{Layout, Limits, Value};
 use std::alloc::Global;
 
 // Puts the values of a row in the place of others.
@@ -68,7 +68,8 @@ fn take_each<I: IndexOf>(
 }
 
 // Takes the values of a column of a batch, null where the batch has no such column: numbers as they
-// lie, nulls, bits and bytes as they are lent, and others one by one.
+// lie, nulls, bits and bytes as they are lent, indices by the values of their dictionary, others
+// one by one.
 fn take_column<I: IndexOf>(
     node: &mut Node,
     batch: &Batch,
@@ -91,6 +92,11 @@ fn take_column<I: IndexOf>(
         let view = batch.column(column);
         if is_lent(node.column.layout) {
             return node.column.take_lent(&view, limits);
+        }
+        if let Layout::Indices { bits, .. } = node.column.layout {
+            return node
+                .column
+                .take_indices(batch, column, bits, limits, indices);
         }
         let slots = view.slots();
         if let Some(lent) = lent_numbers(node.column.layout, &slots) {

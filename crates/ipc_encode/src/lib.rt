@@ -17,6 +17,7 @@ mod fitting;
 mod flags;
 mod fresh;
 mod index;
+mod index_columns;
 mod lengths;
 mod lent;
 mod marks;

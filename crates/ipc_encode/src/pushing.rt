@@ -177,8 +177,8 @@ fn push_end(layout: Layout, offsets: &mut Vec<u8>, end: usize) -> Result<(), All
     }
 }
 
-// The index of a value that isn't null. One that isn't known has 0.
-fn known_index<I: IndexOf>(indices: &I, id: i64, value: &Value) -> Option<u64>
+/// The index of a value that isn't null. One that isn't known has 0.
+pub(crate) fn known_index<I: IndexOf>(indices: &I, id: i64, value: &Value) -> Option<u64>
     ensures { result ≡ index_of (told (I.IndexOf.index indices.now) id) value.now }
 {
     match value {

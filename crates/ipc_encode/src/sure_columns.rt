@@ -1,13 +1,17 @@
 //! Whether all rows of a batch that was read surely fit, told by one look at each of its columns.
-ghost use Rattle.std.specs.Prelude.{◌≡◌, ◌≤◌, ◌+◌, ◌*◌, ◌++◌, ℕ, List, length, IfSome, IsTrue};
+ghost use Rattle.std.specs.Prelude.{◌≡◌, ◌≤◌, ◌+◌, ◌*◌, ◌++◌, ℕ, ℤ, Bool, false, List, length};
+ghost use Rattle.std.specs.Prelude.{IfSome, IsTrue};
 ghost use Rattle.std.specs.List.{AllByRecursion};
 ghost use Rattle.ipc_model.specs.Fits.{Fits, RowFits};
 ghost use Rattle.ipc_model.specs.declared.limits.Limits.{Limits};
 ghost use Rattle.ipc_model.specs.declared.layout.Layout.{Layout};
+ghost use Rattle.ipc_model.specs.declared.layout.Layout.TheVariants.{Indices};
+ghost use Rattle.ipc_model.specs.declared.schema.IntBits.{IntBits};
 ghost use Rattle.ipc_model.specs.declared.value.Value.{Value};
 ghost use Rattle.ipc_column.specs.Nested.{slot_values};
 ghost use Rattle.ipc_column.specs.Shapes.{Shape, bare, shape_of};
 ghost use Rattle.ipc_column.specs.Shapes as shapes;
+ghost use Rattle.ipc_column.specs.Slots.{is_null};
 ghost use Rattle.ipc_encode.specs.Built.{AreColumns, AreWithin, IsColumn, IsCounted, IsNode};
 ghost use Rattle.ipc_encode.specs.Built.{TakeAtMost};
 ghost use Rattle.ipc_encode.specs.Cells.{cells};
@@ -61,6 +65,63 @@ fn column_fits(field: &Field, slots: &SlotView<'_>) -> bool
     field.nullable || slots.null_count() == 0
 }
 
+// Whether slots of this layout have indices.
+fn is_indexed(layout: Layout) -> bool
+    ensures { IsTrue result → (bits : IntBits) × ((signed : Bool) × ((id : ℤ)
+        × (layout ≡ Indices bits signed id))) }
+{
+    matches!(layout, Layout::Indices { .. })
+}
+
+// Whether no slot is null. Each is looked at.
+fn has_no_null(slots: &SlotView<'_>) -> bool
+    ensures { IsTrue result → AllByRecursion (λ v. is_null v ≡ false) (slot_values slots.now) }
+{
+    for slot in 0..slots.len() {
+        if slots.is_null(slot) {
+            return false;
+        }
+    }
+    true
+}
+
+// Whether the values of a column of indices surely fit a field, told by how those of its dictionary
+// lie, and where the field is required by each slot.
+fn entries_fit(field: &Field, slots: &SlotView<'_>) -> bool
+    ensures { IsTrue result → AllByRecursion (Fits field.now) (slot_values slots.now) }
+{
+    if !is_indexed(slots.layout()) || !field.children.is_empty() || !is_plain(&field.kind) {
+        return false;
+    }
+    let Some(entries) = slots.entries() else {
+        return false;
+    };
+    if !lie_alike(entries.layout(), layout_of(&field.kind, None)) {
+        return false;
+    }
+    field.nullable || has_no_null(slots)
+}
+
+// The same as `most_with_slots` of a column of indices, each of which takes 8 bytes at most.
+fn most_of_indices(layout: Layout, field: &Field, slots: &SlotView<'_>) -> Option<u64>
+    requires { (bits : IntBits) × ((signed : Bool) × ((id : ℤ)
+        × (layout ≡ Indices bits signed id))) }
+    ensures fits { IfSome result
+        (λ most. AllByRecursion (Fits field.now) (slot_values slots.now)) }
+    ensures most { (values : List Value)
+        → IfSome result (λ most. data_in layout (values ++ slot_values slots.now)
+        ≤ 8 * length (values ++ slot_values slots.now) + most) }
+    ensures short { (values : List Value)
+        → IfSome result (λ most. ¬ HasLongData layout (values ++ slot_values slots.now)) }
+{
+    let _layout = layout;
+    if entries_fit(field, slots) {
+        Some(0)
+    } else {
+        None
+    }
+}
+
 // The bytes of a column's data with these slots more, beside 8 for each slot, at most. None where
 // offsets don't reach, or the layout asks for a closer look.
 fn most_of_slots(layout: Layout, counts: Counts, slots: &SlotView<'_>) -> Option<u64>
@@ -98,10 +159,13 @@ fn most_with_slots(field: &Field, slots: &SlotView<'_>, node: &Node) -> Option<u
         → IfSome result (λ most. TakeAtMost limits (least + most)
         (shapes.field layout children bare) (λ j. values ++ slot_values slots.now)) }
 {
-    if !node.is_leaf() || !column_fits(field, slots) {
+    if !node.is_leaf() || !lie_alike(slots.layout(), node.column.layout) {
         return None;
     }
-    if !lie_alike(slots.layout(), node.column.layout) {
+    if is_indexed(node.column.layout) {
+        return most_of_indices(node.column.layout, field, slots);
+    }
+    if !column_fits(field, slots) {
         return None;
     }
     most_of_slots(node.column.layout, node.column.counts, slots)

@@ -27,3 +27,15 @@ returns-clause-most c = λ known limits layout children values least h few enoug
     let taken = leaf_takes limits own.layout more least most few short enough held in
     subst (λ (s : Shape). TakeAtMost limits (least + most) (field layout s bare) (λ j. more)) (sym none)
     (subst (λ (l : Layout). TakeAtMost limits (least + most) (field l bare bare) (λ j. more)) h.0.laid taken))
+
+pub returns-then-is_indexed-clause-most : goal.returns-then-is_indexed-clause-most
+returns-then-is_indexed-clause-most c = λ known limits layout children values least h few enough.
+    let more = values ++ slot_values c.args.slots.now in
+    let own = (out-Node c.args.node.now).column in
+    let none = leaf_is (IsColumn known limits) children (out-Node c.args.node.now).children.items (below layout values)
+    (c.is_leaf.ensures.0 c.if-not-is_leaf.false) h.1 in
+    both c.most_of_indices.result (c.most_of_indices.ensures.most values) (c.most_of_indices.ensures.short values)
+    (λ most held short.
+    let taken = leaf_takes limits own.layout more least most few short enough held in
+    subst (λ (s : Shape). TakeAtMost limits (least + most) (field layout s bare) (λ j. more)) (sym none)
+    (subst (λ (l : Layout). TakeAtMost limits (least + most) (field l bare bare) (λ j. more)) h.0.laid taken))

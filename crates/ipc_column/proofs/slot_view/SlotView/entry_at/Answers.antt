@@ -1,0 +1,90 @@
+use Rattle.std.proofs.Common.{◌≡◌, ◌∙◌, sym, ap, subst, get_or, ℕ, ◌<◌, Bool, true, List, Option, Some, None, length, cond, IfSome, IfNone}
+use Rattle.std.specs.Prelude.{ℤ, slice_get}
+use Rattle.std.proofs.lemmas.Option.{slice_get-get_or}
+use Rattle.ipc_model.specs.declared.layout.Layout.{Layout}
+use Rattle.ipc_model.specs.declared.schema.IntBits.{IntBits}
+use Rattle.ipc_model.specs.declared.value.Value.{Value}
+use Rattle.ipc_model.specs.declared.value.Value.TheVariants as v
+use Rattle.ipc_column.specs.Lent.{found}
+use Rattle.ipc_column.specs.Nested.{Nested, slot_values}
+use Rattle.ipc_column.specs.Values.{number_in, own_value, place_below, row, value_at}
+use Rattle.ipc_column.specs.Views.{columns}
+use Rattle.ipc_column.proofs.Alone.{index_value, index_within, no_value}
+use Rattle.ipc_column.proofs.Leads.{slot_inside, slot_shows}
+use Rattle.ipc_column.proofs.Slots.{bitmap_front}
+use Rattle.ipc_column.proofs.Widths.{slot_inside as width_inside}
+use Rattle.ipc_column.proofs.slot_view.SlotView.entry_at.Goals as goal
+
+pub is_valid-valid-requires : goal.is_valid-valid-requires
+is_valid-valid-requires c =
+    let s = c.self.inside in
+    bitmap_front s.slots c.args.slot (length s.validity.now) c.self.invariant.bitmap
+    (slot_inside (found s.layout s.slots s.validity.now s.offsets.now s.values.now s.dictionary.now) s.body.now s.children.now
+    c.args.self.now c.args.slot
+    c.self.view_is c.requires)
+
+pub returns-then-not-valid-clause-null : goal.returns-then-not-valid-clause-null
+returns-then-not-valid-clause-null c = λ bits signed id e.
+    let s = c.self.inside in
+    slot_shows (found s.layout s.slots s.validity.now s.offsets.now s.values.now s.dictionary.now) s.body.now s.children.now
+    c.args.self.now c.args.slot
+    c.self.view_is c.requires
+    ∙ ap (λ (b : Bool). Some (cond b (own_value s.layout s.dictionary.now (row
+    (columns s.body.now s.children.now)) s.offsets.now s.values.now c.args.slot)
+    v.Null)) (sym c.is_valid-valid.ensures ∙ c.if-not-valid.true)
+
+pub index_in-requires : goal.index_in-requires
+index_in-requires c =
+    let s = c.self.inside in
+    width_inside _ s.slots c.args.slot (length s.values.now) (rw c.in-Indices.is at c.self.invariant.values)
+    (slot_inside (found s.layout s.slots s.validity.now s.offsets.now s.values.now s.dictionary.now) s.body.now s.children.now
+    c.args.self.now c.args.slot
+    c.self.view_is c.requires)
+
+-- what the slot shows, a value of the dictionary
+shows : (c : goal.After-index_in) → slice_get (slot_values c.args.self.now) c.args.slot
+    ≡ Some (value_at c.self.inside.dictionary.now (number_in c.in-Indices.bits c.in-Indices.signed c.self.inside.values.now c.args.slot))
+shows c =
+    let s = c.self.inside in
+    let below = row (columns s.body.now s.children.now) in
+    slot_shows (found s.layout s.slots s.validity.now s.offsets.now s.values.now s.dictionary.now) s.body.now s.children.now
+    c.args.self.now c.args.slot
+    c.self.view_is c.requires
+    ∙ (ap (λ (b : Bool). Some (cond b (own_value s.layout s.dictionary.now below s.offsets.now s.values.now c.args.slot) v.Null))
+    (sym c.is_valid-valid.ensures ∙ c.if-not-valid.false)
+    ∙ ap (λ (l : Layout). Some (own_value l s.dictionary.now below s.offsets.now s.values.now c.args.slot)) c.in-Indices.is)
+
+-- an index is that of a value, or the slot shows null
+entry : (dictionary : List Value) (z : ℤ) (r : Option ℕ) (shown : Option Value) → r ≡ place_below (length dictionary) z
+    → shown ≡ Some (value_at dictionary z)
+    → IfSome r (λ i. slice_get dictionary i ≡ shown) × IfNone r (shown ≡ Some v.Null)
+entry dictionary z None shown r s = (tt, s ∙ ap (λ (x : Value). Some x) (no_value dictionary z (sym r)))
+entry dictionary z (Some i) shown r s =
+    let got = slice_get-get_or dictionary i v.Null (index_within (length dictionary) z i (sym r)) in
+    (got ∙ (ap (λ (x : Value). Some x) (sym (index_value dictionary z i (get_or dictionary i v.Null) (sym r) got)) ∙ sym s), tt)
+
+known : (c : goal.After-index_in) → c.index_in.result
+    ≡ place_below (length c.self.inside.dictionary.now) (number_in c.in-Indices.bits c.in-Indices.signed c.self.inside.values.now
+    c.args.slot)
+known c = c.index_in.ensures ∙ ap (λ (n : ℕ). place_below n (number_in c.in-Indices.bits c.in-Indices.signed c.self.inside.values.now
+    c.args.slot)) c.len.ensures
+
+pub returns-in-Indices-clause-within : goal.returns-in-Indices-clause-within
+returns-in-Indices-clause-within c =
+    subst (λ (n : Nested). IfSome c.index_in.result (λ i. i < length n.column.dictionary)) c.self.view_is (inside c.index_in.result
+    (known c))
+  where
+    inside : (r : Option ℕ) → r ≡ place_below (length c.self.inside.dictionary.now) (number_in c.in-Indices.bits c.in-Indices.signed
+        c.self.inside.values.now c.args.slot) → IfSome r (λ i. i < length c.self.inside.dictionary.now)
+    inside None e = tt
+    inside (Some i) e = index_within _ _ i (sym e)
+
+pub returns-in-Indices-clause-shown : goal.returns-in-Indices-clause-shown
+returns-in-Indices-clause-shown c =
+    subst (λ (n : Nested). IfSome c.index_in.result (λ i. slice_get n.column.dictionary i
+    ≡ slice_get (slot_values c.args.self.now) c.args.slot))
+    c.self.view_is (entry c.self.inside.dictionary.now _ c.index_in.result _ (known c) (shows c)).0
+
+pub returns-in-Indices-clause-null : goal.returns-in-Indices-clause-null
+returns-in-Indices-clause-null c = λ bits signed id e.
+    (entry c.self.inside.dictionary.now _ c.index_in.result _ (known c) (shows c)).1

@@ -1,0 +1,24 @@
+use Rattle.std.proofs.Common.{◌≡◌, ◌∙◌, ap, sym, subst, List}
+use Rattle.ipc_dict.specs.declared.entry.TallyEntry.{TallyEntry}
+use Rattle.ipc_dict.specs.EntryColumns.{AreCounted}
+use Rattle.ipc_dict.specs.Noting.{AllFit, cut}
+use Rattle.ipc_dict.specs.SchemaIds.{tally_ids}
+use Rattle.ipc_dict.proofs.Notes.{cut_back}
+use Rattle.ipc_dict.proofs.tally.note_batch.Goals as goal
+
+back : (c : goal.After-entries-in-Err-1) → c.restore.new.entries ≡ c.args.entries.now
+back c = c.restore.ensures ∙ ap (λ ms. cut ms c.count_batch.new.entries) c.mark.ensures
+    ∙ cut_back c.args.entries.now c.count_batch.new.entries c.count_batch.ensures.grows
+
+pub returns-in-Err-clause-fits : goal.returns-in-Err-clause-fits
+returns-in-Err-clause-fits c = λ h. subst AllFit (sym (back c)) h
+
+pub returns-in-Err-clause-ids : goal.returns-in-Err-clause-ids
+returns-in-Err-clause-ids c = ap tally_ids (back c)
+
+pub returns-in-Err-clause-err : goal.returns-in-Err-clause-err
+returns-in-Err-clause-err c = back c
+
+pub returns-in-Err-clause-counted : goal.returns-in-Err-clause-counted
+returns-in-Err-clause-counted c =
+    subst (λ (es : List TallyEntry). AreCounted c.args.fields.now es c.count_batch.new.columns) (sym (back c)) c.in-Err.ensures.kept

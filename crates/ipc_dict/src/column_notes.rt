@@ -1,0 +1,251 @@
+//! The values of dictionaries in a batch that was read, column by column: each value of its
+//! dictionaries is looked up once.
+ghost use Rattle.std.specs.Prelude.{◌≡◌, ◌<◌, ◌+◌, ◌⊎◌, List, [], true, length, Some, slice_get};
+ghost use Rattle.std.specs.Prelude.{slice_index_or, slice_set, IfErr, IfOk, IsTrue, OnOk};
+ghost use Rattle.ipc_model.specs.declared.value.Value.{Value};
+ghost use Rattle.ipc_column.specs.Lent.{AreOfColumn};
+ghost use Rattle.ipc_column.specs.Nested.{slot_values};
+ghost use Rattle.ipc_encode.specs.Cells.{cells};
+ghost use Rattle.ipc_dict.specs.ColumnNotes.{AreApart, AreNoted, AreOthers, IsApart};
+ghost use Rattle.ipc_dict.specs.Noting.{note_all, AllFit, AllGrow};
+ghost use Rattle.ipc_dict.specs.Pairs.{pairs, items_pairs, rows_pairs};
+
+use crate::entry::TallyEntry;
+use crate::fault::NoteFault;
+use crate::walk::{is_plain, note_value};
+use ipc_column::{Batch, SlotView};
+use ipc_model::{Field, Value};
+use std::alloc::{AllocError, Global};
+
+// Whether two fields surely name no dictionary in common.
+fn are_apart(one: &Field, other: &Field) -> bool
+    ensures { IsTrue result
+        → (v w : Value) → AreOthers (pairs one.now v) (pairs other.now w) }
+{
+    if is_plain(one) || is_plain(other) {
+        return true;
+    }
+    match (one.dictionary, other.dictionary) {
+        (Some(one), Some(other)) => one.id != other.id,
+        _ => false,
+    }
+}
+
+// Whether a field surely names no dictionary of the others.
+fn is_apart(field: &Field, others: &[Field]) -> bool
+    ensures { IsTrue result → IsApart field.now others.now }
+{
+    if is_plain(field) {
+        return true;
+    }
+    for other in others {
+        if !are_apart(field, other) {
+            return false;
+        }
+    }
+    true
+}
+
+/// Whether surely no dictionary is named by two of the fields.
+pub(crate) fn are_all_apart(fields: &[Field]) -> bool
+    ensures { IsTrue result → AreApart fields.now }
+{
+    for i in 0..fields.len() {
+        if !is_apart(&fields[i], &fields[i + 1..]) {
+            return false;
+        }
+    }
+    true
+}
+
+// A mark for each value of a column's dictionary, none of which was noted.
+fn none_noted(alloc: Global, slots: &SlotView<'_>) -> Result<Vec<bool>, AllocError>
+    ensures { (entries : List TallyEntry) (field : Field) → IfOk result
+        (λ noted. AreNoted entries field slots.now.column.dictionary noted.items) }
+{
+    let mut noted = Vec::new(alloc);
+    if let Some(entries) = slots.entries() {
+        noted.resize(entries.len(), false)?;
+    }
+    Ok(noted)
+}
+
+// Notes what stands in a row of a column.
+#[tactic(auto, using(crate::proofs::Notes::all_grow_same))]
+fn note_cell(
+    alloc: Global,
+    entries: &mut [TallyEntry],
+    latest: &mut [usize],
+    field: &Field,
+    batch: &Batch,
+    column: usize,
+    row: usize,
+) -> Result<(), NoteFault>
+    requires row { row < length batch.now.rows }
+    requires column { column < batch.now.columns }
+    ensures noted { (value : Value)
+        → slice_get (slice_index_or batch.now.rows row []) column ≡ Some value
+        → OnOk result (entries.new ≡ note_all entries.old (pairs field.now value)) }
+    ensures fits { OnOk result (AllFit entries.old → AllFit entries.new) }
+    ensures memory { IfErr result
+        (λ fault. (fault ≡ NoteFault.DictionaryFull) ⊎ (fault ≡ NoteFault.OutOfMemory)) }
+    ensures grows { AllGrow entries.old entries.new }
+{
+    let value = batch.read_cell(alloc, row, column)?;
+    note_value(entries, latest, field, &value)
+}
+
+// The same where it is this value of the column's dictionary, and marks it. One that is marked
+// isn't looked at again.
+#[tactic(auto, using(crate::proofs::Notes::all_grow_same))]
+fn note_entry(
+    alloc: Global,
+    entries: &mut [TallyEntry],
+    latest: &mut [usize],
+    field: &Field,
+    batch: &Batch,
+    column: usize,
+    row: usize,
+    entry: usize,
+    noted: &mut Vec<bool>,
+) -> Result<(), NoteFault>
+    requires row { row < length batch.now.rows }
+    requires column { column < batch.now.columns }
+    ensures noted { (dictionary : List Value) (value : Value)
+        → AreNoted entries.old field.now dictionary noted.old.items
+        → slice_get dictionary entry ≡ Some value
+        → slice_get (slice_index_or batch.now.rows row []) column ≡ Some value
+        → OnOk result (entries.new ≡ note_all entries.old (pairs field.now value)) }
+    ensures kept { (dictionary : List Value) (value : Value)
+        → AreNoted entries.old field.now dictionary noted.old.items
+        → slice_get dictionary entry ≡ Some value
+        → slice_get (slice_index_or batch.now.rows row []) column ≡ Some value
+        → OnOk result (AreNoted entries.new field.now dictionary noted.new.items) }
+    ensures fits { OnOk result (AllFit entries.old → AllFit entries.new) }
+    ensures memory { IfErr result
+        (λ fault. (fault ≡ NoteFault.DictionaryFull) ⊎ (fault ≡ NoteFault.OutOfMemory)) }
+    ensures grows { AllGrow entries.old entries.new }
+{
+    if entry >= noted.len() {
+        return note_cell(alloc, entries, latest, field, batch, column, row);
+    }
+    if noted[entry] {
+        return Ok(());
+    }
+    note_cell(alloc, entries, latest, field, batch, column, row)?;
+    noted[entry] = true;
+    Ok(())
+}
+
+// Notes what a slot of a column shows.
+#[inline(always)]
+fn note_slot(
+    alloc: Global,
+    entries: &mut [TallyEntry],
+    latest: &mut [usize],
+    field: &Field,
+    batch: &Batch,
+    column: usize,
+    slots: &SlotView<'_>,
+    slot: usize,
+    noted: &mut Vec<bool>,
+) -> Result<(), NoteFault>
+    requires column { column < batch.now.columns }
+    requires slots { AreOfColumn batch.now.rows column (slot_values slots.now) }
+    requires slot { slot < length (slot_values slots.now) }
+    ensures noted { (value : Value)
+        → AreNoted entries.old field.now slots.now.column.dictionary noted.old.items
+        → slice_get (slot_values slots.now) slot ≡ Some value
+        → OnOk result (entries.new ≡ note_all entries.old (pairs field.now value)) }
+    ensures kept { AreNoted entries.old field.now slots.now.column.dictionary noted.old.items
+        → OnOk result
+        (AreNoted entries.new field.now slots.now.column.dictionary noted.new.items) }
+    ensures fits { OnOk result (AllFit entries.old → AllFit entries.new) }
+    ensures memory { IfErr result
+        (λ fault. (fault ≡ NoteFault.DictionaryFull) ⊎ (fault ≡ NoteFault.OutOfMemory)) }
+    ensures grows { AllGrow entries.old entries.new }
+{
+    match slots.entry_at(slot) {
+        Some(entry) => note_entry(
+            alloc, entries, latest, field, batch, column, slot, entry, noted,
+        ),
+        None => note_cell(alloc, entries, latest, field, batch, column, slot),
+    }
+}
+
+// Notes what all slots of a column show.
+#[tactic(auto, using(crate::proofs::Notes::all_grow_same, crate::proofs::Notes::all_grow_trans))]
+fn note_column(
+    alloc: Global,
+    entries: &mut [TallyEntry],
+    latest: &mut [usize],
+    field: &Field,
+    batch: &Batch,
+    column: usize,
+) -> Result<(), NoteFault>
+    requires { column < batch.now.columns }
+    ensures noted { OnOk result (entries.new
+        ≡ note_all entries.old (items_pairs (pairs field.now) (cells column batch.now.rows))) }
+    ensures fits { OnOk result (AllFit entries.old → AllFit entries.new) }
+    ensures memory { IfErr result
+        (λ fault. (fault ≡ NoteFault.DictionaryFull) ⊎ (fault ≡ NoteFault.OutOfMemory)) }
+    ensures grows { AllGrow entries.old entries.new }
+{
+    let slots = batch.slots(column);
+    let mut noted = none_noted(alloc, &slots)?;
+    for slot in 0..slots.len() {
+        note_slot(
+            alloc, entries, latest, field, batch, column, &slots, slot, &mut noted,
+        )?;
+    }
+    Ok(())
+}
+
+// The same, at once where the field surely names no dictionary.
+#[tactic(auto, using(crate::proofs::Notes::all_grow_same))]
+fn note_field(
+    alloc: Global,
+    entries: &mut [TallyEntry],
+    latest: &mut [usize],
+    field: &Field,
+    batch: &Batch,
+    column: usize,
+) -> Result<(), NoteFault>
+    requires { column < batch.now.columns }
+    ensures noted { OnOk result (entries.new
+        ≡ note_all entries.old (items_pairs (pairs field.now) (cells column batch.now.rows))) }
+    ensures fits { OnOk result (AllFit entries.old → AllFit entries.new) }
+    ensures memory { IfErr result
+        (λ fault. (fault ≡ NoteFault.DictionaryFull) ⊎ (fault ≡ NoteFault.OutOfMemory)) }
+    ensures grows { AllGrow entries.old entries.new }
+{
+    if is_plain(field) {
+        return Ok(());
+    }
+    note_column(alloc, entries, latest, field, batch, column)
+}
+
+/// Notes the values of dictionaries in all rows of a batch that has a column for each field.
+#[tactic(auto, using(crate::proofs::Notes::all_grow_same, crate::proofs::Notes::all_grow_trans))]
+pub(crate) fn note_columns(
+    alloc: Global,
+    entries: &mut [TallyEntry],
+    latest: &mut [usize],
+    fields: &[Field],
+    batch: &Batch,
+) -> Result<(), NoteFault>
+    requires apart { AreApart fields.now }
+    requires columns { batch.now.columns ≡ length fields.now }
+    ensures noted { OnOk result
+        (entries.new ≡ note_all entries.old (rows_pairs fields.now batch.now.rows)) }
+    ensures fits { OnOk result (AllFit entries.old → AllFit entries.new) }
+    ensures memory { IfErr result
+        (λ fault. (fault ≡ NoteFault.DictionaryFull) ⊎ (fault ≡ NoteFault.OutOfMemory)) }
+    ensures grows { AllGrow entries.old entries.new }
+{
+    let width = batch.columns();
+    for column in 0..width {
+        note_field(alloc, entries, latest, &fields[column], batch, column)?;
+    }
+    Ok(())
+}

@@ -1,0 +1,270 @@
+//! A column of indices that was read, taken by the values of its dictionary, each of which is
+//! looked up once.
+ghost use Rattle.std.specs.Prelude.{◌≡◌, ◌≤◌, ◌<◌, ◌^◌, ◌+◌, ◌++◌, ℕ, ℤ, Bool, List, []};
+ghost use Rattle.std.specs.Prelude.{length, map, Option, Some, slice_get, slice_index_or};
+ghost use Rattle.std.specs.Prelude.{IfErr, IfOk, IfSome, OnOk};
+ghost use Rattle.ipc_model.specs.declared.layout.Layout.TheVariants.{Indices};
+ghost use Rattle.ipc_model.specs.declared.value.Value.{Value};
+ghost use Rattle.ipc_column.specs.Lent.{AreOfColumn};
+ghost use Rattle.ipc_column.specs.Nested.{slot_values};
+ghost use Rattle.ipc_encode.specs.Bitmaps.{bitmap};
+ghost use Rattle.ipc_encode.specs.Built.{IsColumn, IsPushRefused};
+ghost use Rattle.ipc_encode.specs.Cells.{cells, flags, nulls};
+ghost use Rattle.ipc_encode.specs.Columns.{validity_bytes};
+ghost use Rattle.ipc_encode.specs.EntryIndices.{AreKept, column_index};
+ghost use Rattle.ipc_encode.specs.Numbers.{indices_of, told};
+ghost use Rattle.ipc_encode.specs.Pieces.{Valid};
+
+use crate::column::Column;
+use crate::fault::PushFault;
+use crate::flags::{push_bit, set_bits};
+use crate::index::IndexOf;
+use crate::pushing::known_index;
+use ipc_column::{Batch, SlotView};
+use ipc_model::{IntBits, Layout, Limits};
+use std::alloc::{AllocError, Global};
+
+// A place for the index of each value of a column's dictionary, none of which was asked for.
+fn none_kept(alloc: Global, slots: &SlotView<'_>) -> Result<Vec<Option<Option<u64>>>, AllocError>
+    ensures { (index_for : Value → Option ℕ)
+        → IfOk result (λ kept. AreKept index_for slots.now.column.dictionary kept.items) }
+{
+    let mut kept = Vec::new(alloc);
+    if let Some(entries) = slots.entries() {
+        kept.resize(entries.len(), None)?;
+    }
+    Ok(kept)
+}
+
+// The index of a value of the dictionary, where it was asked for.
+#[inline(always)]
+fn kept_index(kept: &[Option<Option<u64>>], entry: usize) -> Option<Option<u64>>
+    ensures { IfSome result (λ index. slice_get kept.now entry ≡ Some (Some index)) }
+{
+    match kept.get(entry) {
+        Some(index) => *index,
+        None => None,
+    }
+}
+
+// Keeps the index of a value of the dictionary.
+fn keep_index(kept: &mut Vec<Option<Option<u64>>>, entry: usize, index: Option<u64>)
+    ensures { (index_for : Value → Option ℕ) (dictionary : List Value)
+        → AreKept index_for dictionary kept.old.items
+        → ((value : Value) → slice_get dictionary entry ≡ Some value → index ≡ index_for value)
+        → AreKept index_for dictionary kept.new.items }
+{
+    if entry < kept.len() {
+        kept[entry] = Some(index);
+    }
+}
+
+// The index of what stands in a row of a column.
+fn cell_index<I: IndexOf>(
+    alloc: Global,
+    batch: &Batch,
+    column: usize,
+    row: usize,
+    layout: Layout,
+    indices: &I,
+) -> Result<Option<u64>, AllocError>
+    requires row { row < length batch.now.rows }
+    requires column { column < batch.now.columns }
+    ensures { (value : Value)
+        → slice_get (slice_index_or batch.now.rows row []) column ≡ Some value
+        → IfOk result (λ index. index
+        ≡ column_index (told (I.IndexOf.index indices.now)) layout value) }
+{
+    let value = batch.read_cell(alloc, row, column)?;
+    Ok(match layout {
+        Layout::Indices { id, .. } => known_index(indices, id, &value),
+        _ => None,
+    })
+}
+
+// The index of a value of the dictionary, which stands in a row of the column. It is kept.
+fn entry_index<I: IndexOf>(
+    alloc: Global,
+    batch: &Batch,
+    column: usize,
+    row: usize,
+    entry: usize,
+    kept: &mut Vec<Option<Option<u64>>>,
+    layout: Layout,
+    indices: &I,
+) -> Result<Option<u64>, AllocError>
+    requires row { row < length batch.now.rows }
+    requires column { column < batch.now.columns }
+    ensures index { (dictionary : List Value) (value : Value)
+        → AreKept (column_index (told (I.IndexOf.index indices.now)) layout) dictionary
+        kept.old.items
+        → slice_get dictionary entry ≡ Some value
+        → slice_get (slice_index_or batch.now.rows row []) column ≡ Some value
+        → IfOk result (λ index. index
+        ≡ column_index (told (I.IndexOf.index indices.now)) layout value) }
+    ensures kept { (dictionary : List Value)
+        → AreKept (column_index (told (I.IndexOf.index indices.now)) layout) dictionary
+        kept.old.items
+        → slice_get dictionary entry
+        ≡ slice_get (slice_index_or batch.now.rows row []) column
+        → AreKept (column_index (told (I.IndexOf.index indices.now)) layout) dictionary
+        kept.new.items }
+{
+    if let Some(index) = kept_index(kept, entry) {
+        return Ok(index);
+    }
+    let index = cell_index(alloc, batch, column, row, layout, indices)?;
+    keep_index(kept, entry, index);
+    Ok(index)
+}
+
+// The index of what a slot of a column shows. It is kept where the slot names a value of the
+// dictionary.
+#[inline(always)]
+fn slot_index<I: IndexOf>(
+    alloc: Global,
+    batch: &Batch,
+    column: usize,
+    slots: &SlotView<'_>,
+    slot: usize,
+    kept: &mut Vec<Option<Option<u64>>>,
+    layout: Layout,
+    indices: &I,
+) -> Result<Option<u64>, AllocError>
+    requires column { column < batch.now.columns }
+    requires slots { AreOfColumn batch.now.rows column (slot_values slots.now) }
+    requires slot { slot < length (slot_values slots.now) }
+    ensures index { (value : Value)
+        → AreKept (column_index (told (I.IndexOf.index indices.now)) layout)
+        slots.now.column.dictionary kept.old.items
+        → slice_get (slot_values slots.now) slot ≡ Some value
+        → IfOk result (λ index. index
+        ≡ column_index (told (I.IndexOf.index indices.now)) layout value) }
+    ensures kept { AreKept (column_index (told (I.IndexOf.index indices.now)) layout)
+        slots.now.column.dictionary kept.old.items
+        → AreKept (column_index (told (I.IndexOf.index indices.now)) layout)
+        slots.now.column.dictionary kept.new.items }
+{
+    match slots.entry_at(slot) {
+        Some(entry) => entry_index(alloc, batch, column, slot, entry, kept, layout, indices),
+        None => cell_index(alloc, batch, column, slot, layout, indices),
+    }
+}
+
+// Appends the index of what each slot of a column shows.
+fn push_indices<I: IndexOf>(
+    held: &mut Vec<Option<u64>>,
+    batch: &Batch,
+    column: usize,
+    layout: Layout,
+    indices: &I,
+) -> Result<(), AllocError>
+    requires { column < batch.now.columns }
+    ensures { OnOk result (held.new.items ≡ held.old.items
+        ++ map (column_index (told (I.IndexOf.index indices.now)) layout)
+        (cells column batch.now.rows)) }
+{
+    let alloc = *held.allocator();
+    let slots = batch.slots(column);
+    let mut kept = none_kept(alloc, &slots)?;
+    for slot in 0..slots.len() {
+        let index = slot_index(
+            alloc, batch, column, &slots, slot, &mut kept, layout, indices,
+        )?;
+        held.push(index)?;
+    }
+    Ok(())
+}
+
+// How many values have no index.
+fn count_nulls(indices: &[Option<u64>]) -> usize
+    ensures nulls { (known : Value → ℕ) (values : List Value)
+        → indices.now ≡ indices_of known values → result ≡ nulls values }
+    ensures few { result ≤ length indices.now }
+{
+    let mut null_count = 0;
+    for index in indices {
+        null_count += usize::from(index.is_none());
+    }
+    null_count
+}
+
+// Appends whether each value has an index to so many packed bits.
+fn push_marks(bits: &mut Vec<u8>, held: usize, indices: &[Option<u64>]) -> Result<(), AllocError>
+    requires { held + length indices.now < 2 ^ 63 }
+    ensures { (known : Value → ℕ) (before values : List Value)
+        → indices.now ≡ indices_of known values → length before ≡ held
+        → bits.old.items ≡ bitmap (flags Valid before)
+        → OnOk result (bits.new.items ≡ bitmap (flags Valid (before ++ values))) }
+{
+    for (slot, index) in indices.iter().enumerate() {
+        push_bit(bits, held + slot, index.is_some())?;
+    }
+    Ok(())
+}
+
+// Notes whether each value has an index, so many of them none, behind so many others with so many
+// nulls. There is a bitmap only where a value is null.
+fn push_validities(
+    validity: &mut Vec<u8>,
+    held: usize,
+    held_nulls: usize,
+    indices: &[Option<u64>],
+    more_nulls: usize,
+) -> Result<(), AllocError>
+    requires { held + length indices.now < 2 ^ 63 }
+    ensures { (known : Value → ℕ) (before values : List Value)
+        → indices.now ≡ indices_of known values → length before ≡ held
+        → nulls before ≡ held_nulls → nulls values ≡ more_nulls
+        → validity.old.items ≡ validity_bytes before
+        → OnOk result (validity.new.items ≡ validity_bytes (before ++ values)) }
+{
+    if held_nulls == 0 {
+        if more_nulls == 0 {
+            return Ok(());
+        }
+        set_bits(validity, held)?;
+    }
+    push_marks(validity, held, indices)
+}
+
+impl Column {
+    /// Takes the values of a column of a batch into one of indices of this width. The index of each
+    /// value of a dictionary that was read is asked for once.
+    ///
+    /// Refused as `take`.
+    pub(crate) fn take_indices<I: IndexOf>(
+        &mut self,
+        batch: &Batch,
+        column: usize,
+        bits: IntBits,
+        limits: &Limits,
+        indices: &I,
+    ) -> Result<(), PushFault>
+        requires { column < batch.now.columns }
+        ensures taken { (signed : Bool) (id : ℤ) (before : List Value)
+            → IsColumn (told (I.IndexOf.index indices.now)) limits.now (Indices bits signed id)
+            before self.old
+            → OnOk result (IsColumn (told (I.IndexOf.index indices.now)) limits.now
+            (Indices bits signed id) (before ++ cells column batch.now.rows) self.new) }
+        ensures refused { (signed : Bool) (id : ℤ) (before : List Value)
+            → IsColumn (told (I.IndexOf.index indices.now)) limits.now (Indices bits signed id)
+            before self.old
+            → IfErr result (IsPushRefused limits.now (Indices bits signed id)
+            (before ++ cells column batch.now.rows)) }
+    {
+        let count = batch.rows();
+        if count > limits.slots as usize {
+            return Err(PushFault::TooMany);
+        }
+        let held = self.counts;
+        let start = self.indices.len();
+        push_indices(&mut self.indices, batch, column, self.layout, indices)?;
+        let more = &self.indices[start..];
+        let null_count = count_nulls(more);
+        push_validities(&mut self.validity, held.slots, held.nulls, more, null_count)?;
+        let amount = held.amount + bits.bytes() * count;
+        self.counts = held.with_all(self.layout, count, null_count, amount, limits)?;
+        Ok(())
+    }
+}
