@@ -31,7 +31,11 @@ returns-clause-noted c =
     let inv = c.loop-column.invariant in
     let fs = c.args.fields.now in
     let rows = c.args.batch.now.rows in
-    let past : length fs ≤ c.loop-column.column = omega (arith, c.loop-column-test.false, c.columns-width.ensures.count,
-    c.requires.columns) in
+    let past : length fs ≤ c.loop-column.column = omega (
+      arith,
+      c.loop-column-test.false,
+      c.columns-width.ensures.count,
+      c.requires.columns,
+    ) in
     ap (note_all c.loop-column.entries) (sym (from_last fs c.loop-column.column rows past))
     ∙ (inv.noted ∙ ap (note_all c.args.entries.now) (from_first fs rows))
