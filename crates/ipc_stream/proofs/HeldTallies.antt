@@ -24,7 +24,7 @@ use Rattle.ipc_encode.specs.Numbers.{number_or, told}
 use Rattle.ipc_encode.proofs.Indexed.{columns_agree}
 use Rattle.ipc_dict.specs.declared.entry.TallyEntry.{TallyEntry}
 use Rattle.ipc_dict.specs.Noting.{AllFit, IsFull, note_all, noted_place}
-use Rattle.ipc_dict.specs.Pairs.{row_pairs, rows_pairs}
+use Rattle.ipc_dict.specs.Pairs.{Pairs, row_pairs, rows_pairs}
 use Rattle.ipc_dict.specs.SchemaIds.{of_fields, unused}
 use Rattle.ipc_dict.specs.Sending.{tallied}
 use Rattle.ipc_dict.specs.Tallied.{Tallied}
@@ -51,37 +51,67 @@ tallied_next fields rows row =
     ap (note_all (unused fields)) (pairs_end fields rows row)
     ∙ note_all-append (unused fields) (rows_pairs fields rows) (row_pairs fields row)
 
--- each value of the rows keeps the index that it was told
-pub places_agree : (limits : Limits) (fields : List Field) (rows : List (List Value)) (row : List Value)
-    → AllByRecursion (IsFieldWellFormed limits) (entries fields)
-    → AgreeOn (told (noted_place (tallied fields rows))) (told (noted_place (tallied fields (rows ++ row ∷ [])))) fields rows
-places_agree limits fields rows row fine =
-    covered (λ bits signed id value. told (noted_place (tallied fields rows)) id value
-    ≡ told (noted_place (tallied fields (rows ++ row ∷ []))) id value) limits fields rows fine
+-- the pairs of rows and of more
+pairs_more : (fields : List Field) (rows more : List (List Value))
+    → rows_pairs fields (rows ++ more) ≡ rows_pairs fields rows ++ rows_pairs fields more
+pairs_more fields [] more = refl
+pairs_more fields (r ∷ rows) more =
+    ap (λ ps. row_pairs fields r ++ ps) (pairs_more fields rows more)
+    ∙ sym (append_assoc (row_pairs fields r) (rows_pairs fields rows) (rows_pairs fields more))
+
+-- what is tallied with more rows
+pub tallied_more : (fields : List Field) (rows more : List (List Value))
+    → tallied fields (rows ++ more) ≡ note_all (tallied fields rows) (rows_pairs fields more)
+tallied_more fields rows more =
+    ap (note_all (unused fields)) (pairs_more fields rows more)
+    ∙ note_all-append (unused fields) (rows_pairs fields rows) (rows_pairs fields more)
+
+-- each value of the rows keeps the index that it was told, whatever is noted behind them
+places_agree : (limits : Limits) (fields : List Field) (rows all : List (List Value)) (ps : Pairs)
+    → tallied fields all ≡ note_all (tallied fields rows) ps → AllByRecursion (IsFieldWellFormed limits) (entries fields)
+    → AgreeOn (told (noted_place (tallied fields rows))) (told (noted_place (tallied fields all))) fields rows
+places_agree limits fields rows all ps next fine =
+    covered (λ bits signed id value. told (noted_place (tallied fields rows)) id value ≡ told (noted_place (tallied fields all)) id value)
+    limits fields rows fine
     (λ d v named pair. by d v (noted_place (tallied fields rows) d.id v) refl (pair_placed fields (rows_pairs fields rows) d v named pair))
   where
     by : (d : Dictionary) (v : Value) (o : Option ℕ) → noted_place (tallied fields rows) d.id v ≡ o → IsSome o
-        → told (noted_place (tallied fields rows)) d.id v ≡ told (noted_place (tallied fields (rows ++ row ∷ []))) d.id v
+        → told (noted_place (tallied fields rows)) d.id v ≡ told (noted_place (tallied fields all)) d.id v
     by d v None e some = absurd (true≢false (sym some))
     by d v (Some i) e some =
-        let now : noted_place (tallied fields (rows ++ row ∷ [])) d.id v ≡ Some i =
-        ap (λ t. noted_place t d.id v) (tallied_next fields rows row)
-        ∙ keeps_places (tallied fields rows) (row_pairs fields row) d.id v i e in
+        let now : noted_place (tallied fields all) d.id v ≡ Some i =
+        ap (λ t. noted_place t d.id v) next ∙ keeps_places (tallied fields rows) ps d.id v i e in
         ap (λ o. number_or o 0) (e ∙ sym now)
 
--- so that a builder holds the same rows under the indices with one row more
+-- so that a builder holds the same rows under the indices with what is noted behind them
+rows_behind : (limits : Limits) (fields : List Field) (rows all : List (List Value)) (ps : Pairs) (builder : Builder)
+    → tallied fields all ≡ note_all (tallied fields rows) ps → AllByRecursion (IsFieldWellFormed limits) (entries fields)
+    → HasRows (told (noted_place (tallied fields rows))) limits fields rows builder
+    → HasRows (told (noted_place (tallied fields all))) limits fields rows builder
+rows_behind limits fields rows all ps builder next fine h = record {
+  limits_are = h.limits_are;
+  works = h.works;
+  count = h.count;
+  columns_are = columns_agree (told (noted_place (tallied fields rows))) (told (noted_place (tallied fields all))) limits
+      (shape_of fields) builder.nodes.items (columns rows) (places_agree limits fields rows all ps next fine) h.columns_are;
+  within = h.within;
+}
+
+-- with one row more
 pub rows_kept : (limits : Limits) (fields : List Field) (rows : List (List Value)) (row : List Value) (builder : Builder)
     → AllByRecursion (IsFieldWellFormed limits) (entries fields)
     → HasRows (told (noted_place (tallied fields rows))) limits fields rows builder
     → HasRows (told (noted_place (tallied fields (rows ++ row ∷ [])))) limits fields rows builder
-rows_kept limits fields rows row builder fine h = record {
-  limits_are = h.limits_are;
-  works = h.works;
-  count = h.count;
-  columns_are = columns_agree (told (noted_place (tallied fields rows))) (told (noted_place (tallied fields (rows ++ row ∷ [])))) limits
-      (shape_of fields) builder.nodes.items (columns rows) (places_agree limits fields rows row fine) h.columns_are;
-  within = h.within;
-}
+rows_kept limits fields rows row builder =
+    rows_behind limits fields rows (rows ++ row ∷ []) (row_pairs fields row) builder (tallied_next fields rows row)
+
+-- with several rows more
+pub rows_kept_with : (limits : Limits) (fields : List Field) (rows more : List (List Value)) (builder : Builder)
+    → AllByRecursion (IsFieldWellFormed limits) (entries fields)
+    → HasRows (told (noted_place (tallied fields rows))) limits fields rows builder
+    → HasRows (told (noted_place (tallied fields (rows ++ more)))) limits fields rows builder
+rows_kept_with limits fields rows more builder =
+    rows_behind limits fields rows (rows ++ more) (rows_pairs fields more) builder (tallied_more fields rows more)
 
 -- the tally of rows
 abbrev pub tally_of : Limits → List Field → List (List Value) → Tallied
@@ -95,6 +125,15 @@ tally_next limits fields rows row old new same noted =
     noted ∙ ap (λ (t : Tallied). record t { entries = note_all t.entries (row_pairs t.fields row) }) same
     ∙ ap (λ (es : List TallyEntry). record { failed = false; limits = limits; fields = fields; entries = es })
     (sym (tallied_next fields rows row))
+
+-- a tally that noted several is that of all
+pub tally_more : (limits : Limits) (fields : List Field) (rows more : List (List Value)) (old new : Tallied)
+    → old ≡ tally_of limits fields rows → new ≡ record old { entries = note_all old.entries (rows_pairs old.fields more) }
+    → new ≡ tally_of limits fields (rows ++ more)
+tally_more limits fields rows more old new same noted =
+    noted ∙ ap (λ (t : Tallied). record t { entries = note_all t.entries (rows_pairs t.fields more) }) same
+    ∙ ap (λ (es : List TallyEntry). record { failed = false; limits = limits; fields = fields; entries = es })
+    (sym (tallied_more fields rows more))
 
 -- why a row isn't noted is why the batch with it is refused
 pub note_refused : (limits : Limits) (s : Schema) (b : BatchRows) (row : List Value) (old : Tallied) (fault : WriteFault)

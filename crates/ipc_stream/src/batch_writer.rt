@@ -99,9 +99,11 @@ impl<W: Sink> BatchWriter<'_, W> {
     /// isn't sure of them, or says of one why it isn't taken.
     ///
     /// They are taken at once where that is told by one look at each column: each is of numbers,
-    /// truths, dates in days, texts or bytes as its field is, without a null where the field is
-    /// required, and all are surely within the limits; no field of the schema has a dictionary. W10
-    /// is returned after W9 or W11, and W11 where memory was refused.
+    /// truths, dates in days, texts or bytes as its field is, or of indices as those of its field,
+    /// in a dictionary of such values, without a null where the field is required, and all are
+    /// surely within the limits. Each dictionary is named by one field of the schema, which is no
+    /// child of another, and stays within the limits. W10 is returned after W9 or W11, and W11
+    /// where memory was refused.
     pub fn push_columns(&mut self, batch: &Batch) -> Result<bool, WriteFault>
         ensures same_reference { self.new.writer.ghost_name ≡ self.old.writer.ghost_name }
         ensures stays { Stays self.old.writer.now self.new.writer.now result }

@@ -1,7 +1,8 @@
 //! All rows of a batch that was read, pushed at once.
-ghost use Rattle.std.specs.Prelude.{◌≡◌, ◌++◌, [], IfErr, IfOk, IsTrue, false};
+ghost use Rattle.std.specs.Prelude.{◌++◌, IfErr, IfOk, IsTrue, false};
 ghost use Rattle.std.specs.List.{AllByRecursion};
 ghost use Rattle.ipc_model.specs.Fits.{RowFits};
+ghost use Rattle.ipc_model.specs.WellFormed.{WellFormed};
 ghost use Rattle.ipc_model.specs.declared.limits.Limits.{Limits};
 ghost use Rattle.ipc_model.specs.declared.table.BatchRows.{BatchRows};
 ghost use Rattle.ipc_encode.specs.Limits.{IsWithin};
@@ -13,9 +14,8 @@ use ipc_column::Batch;
 use ipc_model::{Schema, WriteFault};
 
 impl PushedRows {
-    // Whether all rows of a batch surely fit, and none of their values stands in a dictionary.
+    // Whether all rows of a batch surely fit.
     fn surely_takes(&self, schema: &Schema, batch: &Batch) -> bool
-        ensures none { IsTrue result → self.now.tally.entries ≡ [] }
         ensures conforms { (limits : Limits) (b : BatchRows)
             → HoldsBatch limits schema.now b self.now → IsTrue result
             → AllByRecursion (RowFits schema.now.fields) batch.now.rows }
@@ -24,28 +24,31 @@ impl PushedRows {
             → IsWithin limits schema.now.fields (b.rows ++ batch.now.rows) }
     {
         let fields = schema.fields.as_slice();
-        self.tally.is_empty() && self.builder.surely_takes_columns(fields, batch)
+        self.builder.surely_takes_columns(fields, batch)
     }
 
     // Takes all rows of a batch straight from its columns, and says whether it did: it does where
-    // they surely fit and no field has a dictionary. After W11, the one refusal, what is held is of
-    // no use.
+    // they surely fit and their values of dictionaries are counted column by column. After W11, the
+    // one refusal, what is held is of no use.
     pub(crate) fn push_columns(
         &mut self,
         schema: &Schema,
         batch: &Batch,
     ) -> Result<bool, WriteFault>
-        ensures holds { (limits : Limits) (b : BatchRows)
+        ensures holds { (limits : Limits) (b : BatchRows) → WellFormed limits schema.now
             → HoldsBatch limits schema.now b self.old
             → IfOk result (HoldsColumns limits schema.now b batch.now.rows self.new) }
-        ensures refused { (limits : Limits) (b : BatchRows)
+        ensures refused { (limits : Limits) (b : BatchRows) → WellFormed limits schema.now
             → HoldsBatch limits schema.now b self.old
             → IfErr result (RefusesColumns false) }
     {
         if !self.surely_takes(schema, batch) {
             return Ok(false);
         }
-        self.builder.take_columns(batch, &self.tally)?;
-        Ok(true)
+        if self.tally.note_columns(batch)? {
+            self.builder.take_columns(batch, &self.tally)?;
+            return Ok(true);
+        }
+        Ok(false)
     }
 }

@@ -1,7 +1,7 @@
 //! Batches that were read and go to another stream column by column.
 
 use crate::scripts::{ended, started};
-use crate::tables::{Column, NUMBERS, int};
+use crate::tables::{AB, BC, Column, NUMBERS, int};
 use ipc_model::{
     BatchRows, DataType, DateUnit, Fault, Field, IntBits, Items, Limits, Row, Schema, TimeUnit,
     Value, WriteFault,
@@ -182,6 +182,35 @@ fn leaves_nulls_of_required_fields(rt: HostRuntime) -> Result<(), Fail> {
 fn leaves_numbers_of_another_width(rt: HostRuntime) -> Result<(), Fail> {
     let bytes = stream_of_numbers(rt.alloc())?;
     let schema = Column::Bytes.schema(rt.alloc())?;
+    assert!(rt; is_left(rt.alloc(), &bytes, &schema)?);
+    Ok(())
+}
+
+// The stream of letters, of which one stands twice, and a null.
+fn stream_of_letters(alloc: Global) -> Result<Vec<u8>, WriteFault> {
+    let schema = Column::Letters.schema(alloc)?;
+    let numbers = [Some(98), None, Some(97), Some(98)];
+    stream_of(alloc, &schema, Column::Letters.rows(alloc, &numbers)?)
+}
+
+// The stream of two columns with one dictionary.
+fn stream_of_pairs(alloc: Global) -> Result<Vec<u8>, WriteFault> {
+    let schema = Column::LetterPairs.schema(alloc)?;
+    stream_of(alloc, &schema, Column::LetterPairs.rows(alloc, &[AB, BC])?)
+}
+
+#[test]
+fn copies_columns_of_dictionaries(rt: HostRuntime) -> Result<(), Fail> {
+    let bytes = stream_of_letters(rt.alloc())?;
+    let schema = Column::Letters.schema(rt.alloc())?;
+    assert!(rt; is_copied(rt.alloc(), &bytes, &schema, (true, &bytes))?);
+    Ok(())
+}
+
+#[test]
+fn leaves_columns_of_one_dictionary(rt: HostRuntime) -> Result<(), Fail> {
+    let bytes = stream_of_pairs(rt.alloc())?;
+    let schema = Column::LetterPairs.schema(rt.alloc())?;
     assert!(rt; is_left(rt.alloc(), &bytes, &schema)?);
     Ok(())
 }
