@@ -1,5 +1,7 @@
 -- What slots hold by themselves (Arrow Columnar Format, "Physical Memory Layout").
-use Rattle.std.specs.Prelude.{ℕ, ◌-◌, ◌<◌, ◌≤◌, Bool, true, false, List, map, ⊤}
+use Rattle.std.specs.Borrow.{Bor}
+use Rattle.std.specs.Prelude.{ℕ, ◌-◌, ◌<◌, ◌≤◌, Bool, true, false, List, map, take, ⊤}
+use Rattle.std.specs.Prelude.{Option, Some, None}
 use Rattle.ipc_model.specs.declared.value.Value.{Value}
 use Rattle.ipc_model.specs.declared.value.Value.TheVariants as v
 use Rattle.ipc_column.specs.declared.ranges.ColumnRanges.{ColumnRanges}
@@ -23,6 +25,12 @@ shown below i (slot.Bytes bytes) = v.Bytes bytes.now
 shown below i (slot.Text bytes) = v.Text bytes.now
 shown below i (slot.List from to) = v.List (items (λ j. first_of (below j)) from (to - from))
 shown below i slot.Struct = v.Struct (below i)
+
+-- the value of a slot that is told by bytes, of which the first, so many, are its text: null where
+-- nothing is told
+abbrev pub text_shown : Option (Bor (List ℕ) × ℕ) → Value
+text_shown None = v.Null
+text_shown (Some (bytes, len)) = v.Text (take len bytes.now)
 
 -- null, which stands in no valid slot but those of columns without values
 abbrev pub is_null : Value → Bool

@@ -1,20 +1,21 @@
 //! The slots of a column and of the columns below it, whose buffers are found in the body once.
 ghost use Rattle.std.specs.Prelude.{◌≡◌, ◌<◌, ℕ, List, length, slice_get, Some, true, IfSome};
-ghost use Rattle.std.specs.Prelude.{is_some, slice_index, ◌≤◌};
+ghost use Rattle.std.specs.Prelude.{is_some, slice_index, take, ◌≤◌, ◌+◌, ◌*◌};
 ghost use Rattle.std.specs.List.{AllByRecursion};
 ghost use Rattle.ipc_model.specs.declared.value.Value.{Value};
 ghost use Rattle.ipc_column.specs.Cells.{cell_value, is_leaf};
 ghost use Rattle.ipc_column.specs.Columns.{Columns};
 ghost use Rattle.ipc_column.specs.Checks.{Holds, are_long, holds_offsets, holds_values, in_order};
-ghost use Rattle.ipc_column.specs.Checks.{nulls_in};
+ghost use Rattle.ipc_column.specs.Checks.{are_ascending, nulls_in};
 ghost use Rattle.ipc_column.specs.Dictionaries.{stands_alone};
 ghost use Rattle.ipc_column.specs.Lending.{AreNumbers, are_numbers, layouts_of};
 ghost use Rattle.ipc_column.specs.Lent.{AreFound, AreOfColumn, found};
 ghost use Rattle.ipc_column.specs.Slots.{LeadsInside, is_null, nested, nested_in, shown};
+ghost use Rattle.ipc_column.specs.Slots.{text_shown};
 ghost use Rattle.ipc_column.specs.Nested.{Nested, alone, below, slot_values};
 ghost use Rattle.ipc_column.specs.Plain.{IsShownBy, spelled_len};
 ghost use Rattle.ipc_column.specs.Rules.{HoldValues, SpellsTexts};
-ghost use Rattle.ipc_column.specs.Values.{own_value, row, rows_of};
+ghost use Rattle.ipc_column.specs.Values.{between, own_value, row, rows_of};
 ghost use Rattle.ipc_column.specs.Views.{columns, column_of, children_of};
 
 use crate::cell::{Cell, is_valid};
@@ -114,11 +115,26 @@ impl<'a> SlotView<'a> {
         // The children have the slots that are told.
         ensures inside { LeadsInside (below self.now) slot result }
     {
+        self.at_layout(self.layout, slot)
+    }
+
+    /// What a slot holds, as `at` tells it, where the caller knows how the slots lie: with a layout
+    /// that stands in the call, what reads the slot is compiled for that layout alone. The caller
+    /// gives the column's layout, and a slot below `len`.
+    #[inline(always)]
+    pub fn at_layout(&self, layout: Layout, slot: usize) -> Slot<'a>
+        requires layout { self.now.column.layout ≡ layout }
+        requires slot { slot < length (slot_values self.now) }
+        ensures value { slice_get (slot_values self.now) slot
+            ≡ Some (shown (row (below self.now)) slot result) }
+        // The children have the slots that are told.
+        ensures inside { LeadsInside (below self.now) slot result }
+    {
         if !is_valid(self.validity, slot) {
             return Slot::Null;
         }
         own_slot(
-            self.layout,
+            layout,
             self.dictionary,
             self.offsets,
             self.values,
@@ -126,6 +142,23 @@ impl<'a> SlotView<'a> {
             slot,
             self.children,
         )
+    }
+
+    /// The bytes of the column's data from the text in a slot on, and how many of them the text
+    /// has: none where the slot is null. So a short text can be copied by one load of more bytes
+    /// than it has. The caller gives a slot below `len` of a column of texts.
+    #[inline(always)]
+    pub fn text_at(&self, slot: usize) -> Option<(&'a [u8], usize)>
+        requires layout { self.now.column.layout ≡ Layout.VariableBytes true }
+        requires slot { slot < length (slot_values self.now) }
+        ensures value { slice_get (slot_values self.now) slot ≡ Some (text_shown result) }
+        ensures inside { IfSome result (λ text. text.1 ≤ length text.0.now) }
+    {
+        if is_valid(self.validity, slot) {
+            Some(text_in(self.offsets, self.values, self.slots, slot))
+        } else {
+            None
+        }
     }
 
     /// Whether a slot is null. The caller gives a slot below `len`.
@@ -215,6 +248,20 @@ fn layout_over(layout: Layout, bytes: &[u8]) -> Layout
 {
     let _bytes = bytes;
     layout
+}
+
+// The data from the text in a slot on, one of so many, and how many bytes the text has.
+#[inline(always)]
+fn text_in<'a>(offsets: &[u8], values: &'a [u8], slots: usize, slot: usize) -> (&'a [u8], usize)
+    requires slot { slot < slots }
+    requires bytes { 4 * (slots + 1) ≤ length offsets.now }
+    requires order { are_ascending offsets.now slots (length values.now) ≡ true }
+    ensures inside { result.1 ≤ length result.0.now }
+    ensures text { take result.1 result.0.now ≡ between offsets.now values.now slot }
+{
+    let start = place_at(offsets, slot);
+    let end = place_at(offsets, slot + 1);
+    (&values[start..], end - start)
 }
 
 // What a valid slot holds, one of the first `slots`.
