@@ -6,11 +6,13 @@ use Rattle.std.proofs.Math.ListN.{get_or-append}
 use Rattle.std.proofs.Math.Seq.{get_or-append_seam}
 use Rattle.std.specs.Prelude.{slice_get, slice_index_or}
 use Rattle.std.specs.List.{AllByRecursion}
-use Rattle.std.proofs.lemmas.Option.{get_or_from_slice_get}
+use Rattle.std.proofs.lemmas.Option.{get_or_from_slice_get, slice_get-get_or}
 use Rattle.ipc_model.specs.declared.value.Value.{Value}
 use Rattle.ipc_model.specs.declared.value.Value.TheVariants as v
 use Rattle.ipc_column.specs.Lent.{AreOfColumn}
+use Rattle.ipc_column.specs.Nested.{Nested, slot_values}
 use Rattle.ipc_print.specs.LentRows.{row_at, HaveRow, AreColumns}
+use Rattle.ipc_print.specs.LentSlots.{slot_value}
 
 -- a column has a value in a row that each has one in
 pub has_value : (columns : List (List Value)) (i j : ℕ) (values : List Value) → j < length columns → values ≡ get_or columns j values
@@ -26,6 +28,15 @@ row_value [] i j values x l e h = absurd (omega arith)
 row_value (c ∷ columns) i zero values x l e h =
     ap (λ (y : Value). Some y) (ap (λ (u : List Value). slice_index_or u i v.Null) (sym e) ∙ get_or_from_slice_get values i x v.Null h)
 row_value (c ∷ columns) i (suc j) values x l e h = row_value columns i j values x (omega arith) e h
+
+-- the value of a row in a column whose slots were found is that of the slot
+pub tree_value : (columns : List (List Value)) (i j : ℕ) (values : List Value) (n : Nested) → j < length columns
+    → values ≡ get_or columns j values → HaveRow columns i → slot_values n ≡ values
+    → slice_get (row_at columns i) j ≡ Some (slot_value n i)
+tree_value columns i j values n l e h same =
+    row_value columns i j values (slot_value n i) l e
+    (slice_get-get_or values i v.Null (has_value columns i j values l e h)
+    ∙ ap (λ (vs : List Value). Some (slice_index_or vs i v.Null)) (sym same))
 
 -- a row has a value for each column
 pub row_length : (columns : List (List Value)) (i : ℕ) → length (row_at columns i) ≡ length columns

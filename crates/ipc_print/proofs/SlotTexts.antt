@@ -24,6 +24,9 @@ use Rattle.ipc_column.proofs.Parts.{children_out}
 use Rattle.ipc_column.proofs.Slots.{items_length}
 use Rattle.serde_json.specs.Data.{no_items, null}
 use Rattle.ipc_column.proofs.Cells.{row_length}
+use Rattle.std.proofs.Common.{Bor, take}
+use Rattle.ipc_model.specs.declared.schema.DataType.{DataType}
+use Rattle.ipc_csv.specs.RowCsv.{text_in, value_text}
 use Rattle.ipc_json.specs.RowJson.{Printed, cell_json, each_json, field_json, value_json}
 use Rattle.ipc_print.specs.LentSlots.{HaveSlot, LeadsTo, list_values, slot_value, values_between}
 
@@ -63,6 +66,32 @@ pub slot_json : (f : Field) (n : Nested) (i : ℕ) (s : Slot) → slice_get (slo
     ≡ value_json (out-Field f).kind (map cell_json (out-Field f).children) (open_slot (row (below n)) i s)
 slot_json f n i s h =
     ap (cell_json f) (get_or_from_slice_get (slot_values n) i (shown (row (below n)) i s) v.Null h) ∙ json_shown f (row (below n)) i s
+
+-- the text in CSV of a slot, by what it was found to hold
+pub slot_csv : (kind : DataType) (n : Nested) (i : ℕ) (s : Slot) → slice_get (slot_values n) i ≡ Some (shown (row (below n)) i s)
+    → text_in kind (slot_value n i) ≡ value_text kind (open_slot (row (below n)) i s)
+slot_csv kind n i s h =
+    ap (text_in kind) (get_or_from_slice_get (slot_values n) i (shown (row (below n)) i s) v.Null h)
+    ∙ ap (value_text kind) (out_slot (row (below n)) i s)
+
+-- the JSON of a slot whose text was told
+pub told_json : (f : Field) (n : Nested) (i : ℕ) (bytes : Bor (List ℕ)) (len : ℕ)
+    → slice_get (slot_values n) i ≡ Some (v.Text (take len bytes.now))
+    → cell_json f (slot_value n i)
+    ≡ value_json (out-Field f).kind (map cell_json (out-Field f).children) (Value-F.Text (take len bytes.now))
+told_json f n i bytes len h =
+    ap (cell_json f) (get_or_from_slice_get (slot_values n) i (v.Text (take len bytes.now)) v.Null h)
+    ∙ (ap (λ (print : Printed). print (v.Text (take len bytes.now))) (fold_out-Field Printed field_json f)
+    ∙ ap (value_json (out-Field f).kind (map cell_json (out-Field f).children))
+    (ap out-Value (sym (v.rolls-Text (take len bytes.now))) ∙ out-roll-Value (Value-F.Text (take len bytes.now))))
+
+-- the text in CSV of a slot whose text was told
+pub told_csv : (kind : DataType) (n : Nested) (i : ℕ) (bytes : Bor (List ℕ)) (len : ℕ)
+    → slice_get (slot_values n) i ≡ Some (v.Text (take len bytes.now))
+    → text_in kind (slot_value n i) ≡ value_text kind (Value-F.Text (take len bytes.now))
+told_csv kind n i bytes len h =
+    ap (text_in kind) (get_or_from_slice_get (slot_values n) i (v.Text (take len bytes.now)) v.Null h)
+    ∙ ap (value_text kind) (ap out-Value (sym (v.rolls-Text (take len bytes.now))) ∙ out-roll-Value (Value-F.Text (take len bytes.now)))
 
 -- a child has the slots of its column
 slots_length : (body : List ℕ) (p : ColumnRanges) → length (slot_values (nested body p)) ≡ (column_of body p).slots

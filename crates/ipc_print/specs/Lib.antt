@@ -3,6 +3,7 @@ pub mod LentRows
 pub mod Digits
 pub mod Escaped
 pub mod Forms
+pub mod Kinds
 pub mod Output
 pub mod Rows
 pub mod Streams

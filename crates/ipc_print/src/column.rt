@@ -1,10 +1,9 @@
 //! A column of a batch, found once for all rows.
-ghost use Rattle.std.specs.Prelude.{◌≡◌, ◌<◌, length, slice_get, IfOk, Some};
-ghost use Rattle.ipc_column.specs.Cells.{cell_value};
+ghost use Rattle.std.specs.Prelude.{◌≡◌, IfOk};
 ghost use Rattle.ipc_column.specs.Nested.{slot_values};
 
 use crate::tree::{ColumnTree, tree_of};
-use ipc_column::{Cell, ColumnView};
+use ipc_column::ColumnView;
 use std::alloc::{AllocError, Global};
 use std::marker::Model;
 
@@ -12,21 +11,20 @@ use std::marker::Model;
 /// values, as they do of a `ColumnView`.
 #[derive(Drop)]
 pub struct Column<'a> {
-    values: ColumnView<'a>,
     tree: ColumnTree<'a>,
-    ghost same: { slot_values tree ≡ values },
 }
 
 impl<'a> Model for Column<'a> {
     ghost use Rattle.std.specs.Coded.{codes};
     ghost use Rattle.ipc_model.specs.contracts.value.Value as value;
+    ghost use Rattle.ipc_column.specs.Nested.{slot_values};
     ghost use Rattle.ipc_column.specs.Values.{Cells};
 
     ghost Value = { Cells };
 
     ghost coded = { Prim.hlevel (codes, value.the_row.coded) };
 
-    ghost view = { λ c. c.values };
+    ghost view = { λ c. slot_values c.tree };
 }
 
 impl<'a> Column<'a> {
@@ -35,16 +33,7 @@ impl<'a> Column<'a> {
         ensures { IfOk result (λ column. column ≡ values.entry) }
     {
         let tree = tree_of(alloc, values.slots())?;
-        Ok(Column { values, tree })
-    }
-
-    /// The value in a slot, lent by the batch. The caller gives a slot of the column.
-    #[inline(always)]
-    pub fn at(&self, slot: usize) -> Cell<'a>
-        requires { slot < length self.now }
-        ensures { slice_get self.now slot ≡ Some (cell_value result) }
-    {
-        self.values.at(slot)
+        Ok(Column { tree })
     }
 
     /// The slots of the column and of those below it.

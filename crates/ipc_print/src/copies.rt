@@ -4,9 +4,10 @@ ghost use Rattle.json.specs.Filled.{Placed};
 
 use std::simd::Simd;
 
-// Writes the first N bytes of a word from `at` on, by one load and one store.
+/// Writes the first N bytes of a word from `at` on, by one load and one store, and returns where
+/// they end.
 #[inline(always)]
-fn put_front<const N: usize>(text: &mut [u8], at: usize, word: &[u8]) -> usize
+pub fn put_front<const N: usize>(text: &mut [u8], at: usize, word: &[u8]) -> usize
     requires { (N ≤ length word.now) × (at + N ≤ length text.old) }
     ensures { Placed text.old text.new at (take N word.now) result }
 {

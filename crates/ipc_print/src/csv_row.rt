@@ -1,9 +1,13 @@
 //! A row of lent cells as a record of CSV.
 ghost use Rattle.std.specs.Prelude.{◌≡◌, ◌≤◌, ◌<◌, ◌+◌, ◌++◌, [], length, take, IfErr, IfOk};
-ghost use Rattle.std.specs.Prelude.{None, Ok};
+ghost use Rattle.std.specs.Prelude.{None, Ok, Some, slice_get, true};
 ghost use Rattle.csv.specs.Writing.{default_writer, next_sep};
-ghost use Rattle.ipc_column.specs.Cells.{cell_value};
+ghost use Rattle.ipc_column.specs.Nested.{below, slot_values};
+ghost use Rattle.ipc_column.specs.Slots.{shown};
+ghost use Rattle.ipc_column.specs.Values.{row};
+ghost use Rattle.ipc_print.specs.LentSlots.{slot_value};
 ghost use Rattle.ipc_print.specs.LentRows.{HaveRow, row_at};
+ghost use Rattle.ipc_model.specs.declared.schema.DataType.{DataType};
 ghost use Rattle.ipc_moments.specs.Moments.{moment_text};
 ghost use Rattle.ipc_csv.specs.RowCsv.{Appended, IsRefusal, LacksText, flat_fault, int_text};
 ghost use Rattle.ipc_csv.specs.RowCsv.{bool_text, null_text, put_texts, row_csv, text_in};
@@ -11,14 +15,17 @@ ghost use Rattle.ipc_csv.specs.RowCsv.{with_field};
 
 use crate::column::Column;
 use crate::fields::{
-    put_bytes_field, put_end, put_signed_field, put_text_field, put_unsigned_field,
+    put_bytes_field, put_end, put_front_field, put_signed_field, put_text_field, put_unsigned_field,
 };
+use crate::kind::Kind;
 use crate::moments;
 use crate::room::{put, reserve};
+use crate::tree::ColumnTree;
 use crate::truth::put_truth;
-use ipc_column::Cell;
-use ipc_model::{DataType, Field};
+use ipc_column::Slot;
+use ipc_model::{DataType, Field, IntBits, Layout};
 use ipc_moments::TextFault;
+use std::alloc::AllocError;
 
 // More than a comma and any value but a text or bytes take.
 const ROOM: usize = 64;
@@ -101,31 +108,216 @@ fn put_bool(text: &mut [u8], at: usize, truth: bool) -> usize
     put_truth(text, at, truth)
 }
 
-// A value of a column of this type.
+// What a slot holds, which is this, in a column of this type.
+#[inline(always)]
+fn put_held(
+    text: &mut [u8],
+    at: usize,
+    column: u64,
+    kind: &DataType,
+    tree: &ColumnTree<'_>,
+    slot: usize,
+    held: Slot<'_>,
+) -> Result<usize, TextFault>
+    requires room { at + 32 ≤ length text.old }
+    requires slot { slot < length (slot_values tree.now) }
+    requires held { slice_get (slot_values tree.now) slot
+        ≡ Some (shown (row (below tree.now)) slot held) }
+    ensures inside { IfOk result (λ end. end ≤ length text.new) }
+    ensures ok { IfOk result (λ end. Appended (take at text.old)
+        (text_in kind.now (slot_value tree.now slot)) (take end text.new)) }
+    ensures refused { IfErr result
+        (LacksText column (text_in kind.now (slot_value tree.now slot))) }
+{
+    match held {
+        Slot::Null => Ok(put_null(text, at)),
+        Slot::Bool(truth) => Ok(put_bool(text, at, truth)),
+        Slot::Int(number) => put_int(text, at, column, kind, number),
+        Slot::UInt(number) => Ok(put_unsigned_field(text, at, number)),
+        Slot::Bytes(bytes) => Ok(put_bytes_field(text, at, bytes)?),
+        Slot::Text(chars) => Ok(put_text_field(text, at, chars)?),
+        // A record has no place for the values of a list or of a struct.
+        Slot::List { .. } => Err(TextFault::NoTextForm { column }),
+        Slot::Struct => Err(TextFault::NoTextForm { column }),
+    }
+}
+
+// What a slot holds, in a function of its own, so that the loop over the columns carries nothing
+// of it.
+#[inline(never)]
+fn put_other(
+    text: &mut [u8],
+    at: usize,
+    column: u64,
+    kind: &DataType,
+    tree: &ColumnTree<'_>,
+    slot: usize,
+) -> Result<usize, TextFault>
+    requires room { at + 32 ≤ length text.old }
+    requires slot { slot < length (slot_values tree.now) }
+    ensures inside { IfOk result (λ end. end ≤ length text.new) }
+    ensures ok { IfOk result (λ end. Appended (take at text.old)
+        (text_in kind.now (slot_value tree.now slot)) (take end text.new)) }
+    ensures refused { IfErr result
+        (LacksText column (text_in kind.now (slot_value tree.now slot))) }
+{
+    put_held(text, at, column, kind, tree, slot, tree.at(slot))
+}
+
+// What a slot holds, which is this: most often a signed number.
+#[inline(always)]
+fn put_held_number(
+    text: &mut [u8],
+    at: usize,
+    column: u64,
+    kind: &DataType,
+    tree: &ColumnTree<'_>,
+    slot: usize,
+    held: Slot<'_>,
+) -> Result<usize, TextFault>
+    requires room { at + 32 ≤ length text.old }
+    requires slot { slot < length (slot_values tree.now) }
+    requires held { slice_get (slot_values tree.now) slot
+        ≡ Some (shown (row (below tree.now)) slot held) }
+    ensures inside { IfOk result (λ end. end ≤ length text.new) }
+    ensures ok { IfOk result (λ end. Appended (take at text.old)
+        (text_in kind.now (slot_value tree.now slot)) (take end text.new)) }
+    ensures refused { IfErr result
+        (LacksText column (text_in kind.now (slot_value tree.now slot))) }
+{
+    match held {
+        Slot::Int(number) => put_int(text, at, column, kind, number),
+        Slot::Null => Ok(put_null(text, at)),
+        _ => put_other(text, at, column, kind, tree, slot),
+    }
+}
+
+// The same, most often a truth value.
+#[inline(always)]
+fn put_held_truth(
+    text: &mut [u8],
+    at: usize,
+    column: u64,
+    kind: &DataType,
+    tree: &ColumnTree<'_>,
+    slot: usize,
+    held: Slot<'_>,
+) -> Result<usize, TextFault>
+    requires room { at + 32 ≤ length text.old }
+    requires slot { slot < length (slot_values tree.now) }
+    requires held { slice_get (slot_values tree.now) slot
+        ≡ Some (shown (row (below tree.now)) slot held) }
+    ensures inside { IfOk result (λ end. end ≤ length text.new) }
+    ensures ok { IfOk result (λ end. Appended (take at text.old)
+        (text_in kind.now (slot_value tree.now slot)) (take end text.new)) }
+    ensures refused { IfErr result
+        (LacksText column (text_in kind.now (slot_value tree.now slot))) }
+{
+    match held {
+        Slot::Bool(truth) => Ok(put_bool(text, at, truth)),
+        Slot::Null => Ok(put_null(text, at)),
+        _ => put_other(text, at, column, kind, tree, slot),
+    }
+}
+
+// The same, most often bytes.
+#[inline(always)]
+fn put_held_bytes(
+    text: &mut [u8],
+    at: usize,
+    column: u64,
+    kind: &DataType,
+    tree: &ColumnTree<'_>,
+    slot: usize,
+    held: Slot<'_>,
+) -> Result<usize, TextFault>
+    requires room { at + 32 ≤ length text.old }
+    requires slot { slot < length (slot_values tree.now) }
+    requires held { slice_get (slot_values tree.now) slot
+        ≡ Some (shown (row (below tree.now)) slot held) }
+    ensures inside { IfOk result (λ end. end ≤ length text.new) }
+    ensures ok { IfOk result (λ end. Appended (take at text.old)
+        (text_in kind.now (slot_value tree.now slot)) (take end text.new)) }
+    ensures refused { IfErr result
+        (LacksText column (text_in kind.now (slot_value tree.now slot))) }
+{
+    match held {
+        Slot::Bytes(bytes) => Ok(put_bytes_field(text, at, bytes)?),
+        Slot::Null => Ok(put_null(text, at)),
+        _ => put_other(text, at, column, kind, tree, slot),
+    }
+}
+
+// What a slot holds, a text or null.
+#[inline(always)]
+fn put_held_text(
+    text: &mut [u8],
+    at: usize,
+    tree: &ColumnTree<'_>,
+    slot: usize,
+) -> Result<usize, AllocError>
+    requires room { at + 32 ≤ length text.old }
+    requires layout { tree.now.column.layout ≡ Layout.VariableBytes true }
+    requires slot { slot < length (slot_values tree.now) }
+    ensures inside { IfOk result (λ end. end ≤ length text.new) }
+    ensures ok { (kind : DataType) → IfOk result (λ end. Appended (take at text.old)
+        (text_in kind (slot_value tree.now slot)) (take end text.new)) }
+{
+    match tree.text_at(slot) {
+        Some((bytes, len)) => put_front_field(text, at, bytes, len),
+        None => Ok(put_null(text, at)),
+    }
+}
+
+// What a slot holds, by the way in which the slots lie: each arm is compiled for its own.
 #[inline(always)]
 fn put_cell(
     text: &mut [u8],
     at: usize,
     column: u64,
     kind: &DataType,
-    cell: Cell<'_>,
+    tree: &ColumnTree<'_>,
+    slot: usize,
 ) -> Result<usize, TextFault>
-    requires { at + 32 ≤ length text.old }
+    requires room { at + 32 ≤ length text.old }
+    requires slot { slot < length (slot_values tree.now) }
     ensures inside { IfOk result (λ end. end ≤ length text.new) }
     ensures ok { IfOk result (λ end. Appended (take at text.old)
-        (text_in kind.now (cell_value cell.entry)) (take end text.new)) }
-    ensures refused { IfErr result (LacksText column (text_in kind.now (cell_value cell.entry))) }
+        (text_in kind.now (slot_value tree.now slot)) (take end text.new)) }
+    ensures refused { IfErr result
+        (LacksText column (text_in kind.now (slot_value tree.now slot))) }
 {
-    match cell {
-        Cell::Null => Ok(put_null(text, at)),
-        Cell::Bool(truth) => Ok(put_bool(text, at, truth)),
-        Cell::Int(number) => put_int(text, at, column, kind, number),
-        Cell::UInt(number) => Ok(put_unsigned_field(text, at, number)),
-        Cell::Bytes(bytes) => Ok(put_bytes_field(text, at, bytes)?),
-        Cell::Text(chars) => Ok(put_text_field(text, at, chars)?),
-        // A record has no place for the values of a list or of a struct.
-        Cell::List(_values) => Err(TextFault::NoTextForm { column }),
-        Cell::Struct(_values) => Err(TextFault::NoTextForm { column }),
+    match tree.kind() {
+        Kind::Longs => {
+            let held = tree.at_layout(
+                Layout::Numbers {
+                    bits: IntBits::B64,
+                    signed: true,
+                },
+                slot,
+            );
+            put_held_number(text, at, column, kind, tree, slot, held)
+        }
+        Kind::Ints => {
+            let held = tree.at_layout(
+                Layout::Numbers {
+                    bits: IntBits::B32,
+                    signed: true,
+                },
+                slot,
+            );
+            put_held_number(text, at, column, kind, tree, slot, held)
+        }
+        Kind::Truths => {
+            let held = tree.at_layout(Layout::Bits, slot);
+            put_held_truth(text, at, column, kind, tree, slot, held)
+        }
+        Kind::Texts => Ok(put_held_text(text, at, tree, slot)?),
+        Kind::Bytes(width) => {
+            let held = tree.at_layout(Layout::FixedBytes(width), slot);
+            put_held_bytes(text, at, column, kind, tree, slot, held)
+        }
+        Kind::Others => put_other(text, at, column, kind, tree, slot),
     }
 }
 
@@ -160,8 +352,8 @@ fn put_cells(
     let mut at = 0;
     for (column, field) in fields.iter().enumerate() {
         let place = start_field(text, at, column)?;
-        let lent = &columns[column];
-        at = put_cell(text, place, column as u64, &field.kind, lent.at(row))?;
+        let tree = columns[column].tree();
+        at = put_cell(text, place, column as u64, &field.kind, tree, row)?;
     }
     Ok(at)
 }

@@ -1,6 +1,6 @@
 //! Fields of CSV at a place: one look at the bytes and one copy, where none calls for quotes.
 ghost use Rattle.std.specs.Prelude.{◌≡◌, ◌≤◌, ◌+◌, ◌++◌, ◌∷◌, [], length, take, decimal};
-ghost use Rattle.std.specs.Prelude.{IfOk};
+ghost use Rattle.std.specs.Prelude.{IfOk, IsTrue};
 ghost use Rattle.std.specs.Fmt.{signed_decimal};
 ghost use Rattle.csv.specs.Writing as csv;
 ghost use Rattle.csv.specs.Writing.{default_writer};
@@ -11,7 +11,7 @@ use crate::digits::{put_signed, put_unsigned};
 use crate::hexadecimal::put_hexadecimal;
 use crate::room::{put, reserve};
 use crate::rows::put_word;
-use crate::unquoted::put_if_unquoted;
+use crate::unquoted::{put_front_if_unquoted, put_if_unquoted};
 use std::alloc::AllocError;
 
 // Whether a field stands in quotes.
@@ -120,16 +120,65 @@ fn put_backslashed(text: &mut [u8], at: usize, chars: &[u8]) -> Result<usize, Al
 
 // Writes a text as a field of CSV from `at` on, and returns where it ends.
 #[inline(always)]
-pub(crate) fn put_text_field(text: &mut [u8], at: usize, chars: &str) -> Result<usize, AllocError>
+pub(crate) fn put_text_field(text: &mut [u8], at: usize, chars: &[u8]) -> Result<usize, AllocError>
     requires { at ≤ length text.old }
     ensures inside { IfOk result (λ end. end ≤ length text.new) }
     ensures text { IfOk result (λ end. take end text.new
         ≡ with_field (take at text.old) (backslashed chars.now)) }
 {
-    if chars.as_bytes().first() == Some(&b'\\') {
-        return put_backslashed(text, at, chars.as_bytes());
+    if chars.first() == Some(&b'\\') {
+        return put_backslashed(text, at, chars);
     }
-    put_field(text, at, chars.as_bytes())
+    put_field(text, at, chars)
+}
+
+// Whether bytes begin with a text, of this length, that has no backslash in front.
+#[inline(always)]
+fn begins_plainly(bytes: &[u8], len: usize) -> bool
+    requires { len ≤ length bytes.now }
+    ensures { IsTrue result → backslashed (take len bytes.now) ≡ take len bytes.now }
+{
+    match bytes.first() {
+        Some(first) => *first != b'\\',
+        None => true,
+    }
+}
+
+// Writes a text of any length as a field of CSV, in a function of its own.
+#[inline(never)]
+fn put_long_text(text: &mut [u8], at: usize, chars: &[u8]) -> Result<usize, AllocError>
+    requires { at ≤ length text.old }
+    ensures inside { IfOk result (λ end. end ≤ length text.new) }
+    ensures text { IfOk result (λ end. take end text.new
+        ≡ with_field (take at text.old) (backslashed chars.now)) }
+{
+    put_text_field(text, at, chars)
+}
+
+// Writes a text as a field of CSV from `at` on, and returns where it ends. The caller gives bytes
+// that begin with the text, and how many of them it has: a short text is copied by one load of
+// sixteen, so that no branch hangs on its length.
+#[inline(always)]
+pub(crate) fn put_front_field(
+    text: &mut [u8],
+    at: usize,
+    bytes: &[u8],
+    len: usize,
+) -> Result<usize, AllocError>
+    requires room { at + 16 ≤ length text.old }
+    requires inside { len ≤ length bytes.now }
+    ensures inside { IfOk result (λ end. end ≤ length text.new) }
+    ensures text { IfOk result (λ end. take end text.new
+        ≡ with_field (take at text.old) (backslashed (take len bytes.now))) }
+{
+    if len <= 16
+        && 16 <= bytes.len()
+        && begins_plainly(bytes, len)
+        && put_front_if_unquoted(text, at, bytes, len)
+    {
+        return Ok(at + len);
+    }
+    put_long_text(text, at, &bytes[..len])
 }
 
 // Writes a signed number as a field of CSV from `at` on, and returns where it ends.

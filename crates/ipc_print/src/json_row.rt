@@ -1,15 +1,15 @@
 //! A row of lent cells as a line of JSON.
 ghost use Rattle.std.specs.Prelude.{◌≡◌, ◌≤◌, ◌<◌, ◌+◌, ◌++◌, ◌∷◌, [], length, map, take, false};
-ghost use Rattle.std.specs.Prelude.{IfOk, Some, replicate, slice_get};
+ghost use Rattle.std.specs.Prelude.{IfOk, Some, replicate, slice_get, true};
+ghost use Rattle.std.specs.Fmt.{signed_decimal};
 ghost use Rattle.hex.specs.Hex.{encode_lower};
 ghost use Rattle.json.specs.Print.{quoted};
 ghost use Rattle.serde_json.specs.Data.{array, boolean, null};
 ghost use Rattle.serde_json.specs.Written.{comma_if, compact_text, items_text};
 ghost use Rattle.ipc_model.specs.declared.schema.Field.{Field};
-ghost use Rattle.ipc_model.specs.declared.value.Value.{Value};
 ghost use Rattle.ipc_model.specs.declared.value.Value.TheVariants as v;
-ghost use Rattle.ipc_column.specs.Cells.{cell_value};
 ghost use Rattle.ipc_column.specs.Nested.{below, slot_values};
+ghost use Rattle.ipc_column.specs.Slots.{shown};
 ghost use Rattle.ipc_column.specs.Values.{row};
 ghost use Rattle.ipc_print.specs.LentRows.{HaveRow, row_at};
 ghost use Rattle.ipc_print.specs.LentSlots.{HaveSlot, LeadsTo, list_values, slot_value};
@@ -20,13 +20,14 @@ ghost use Rattle.ipc_json.specs.RowJson.{row_text};
 use crate::column::Column;
 use crate::digits::{put_signed, put_unsigned};
 use crate::hexadecimal::put_hexadecimal;
+use crate::kind::Kind;
 use crate::moments::put_moment;
 use crate::room::{put, reserve};
-use crate::strings::put_string;
+use crate::strings::{put_front, put_string};
 use crate::tree::ColumnTree;
 use crate::truth::put_truth;
-use ipc_column::{Cell, Slot};
-use ipc_model::{DataType, Field};
+use ipc_column::Slot;
+use ipc_model::{DataType, Field, IntBits, Layout};
 use std::alloc::AllocError;
 
 // More than a comma and any value but a text or bytes take.
@@ -65,9 +66,20 @@ fn put_bool(text: &mut [u8], at: usize, truth: bool) -> usize
     put_truth(text, at, truth)
 }
 
+// A number that has no text of its own though others of its type do.
+#[cold]
+#[inline(never)]
+fn put_uncounted(text: &mut [u8], at: usize, number: i64) -> usize
+    requires { at + 25 ≤ length text.old }
+    ensures inside { result ≤ length text.new }
+    ensures text { take result text.new ≡ take at text.old ++ signed_decimal number }
+{
+    put_signed(text, at, number)
+}
+
 // A date, a time or a point in time as its text where it has one, and else the number.
 #[inline(always)]
-fn put_int(text: &mut [u8], at: usize, kind: &DataType, number: i64) -> usize
+fn put_counted(text: &mut [u8], at: usize, kind: &DataType, number: i64) -> usize
     requires { at + 34 ≤ length text.old }
     ensures inside { result ≤ length text.new }
     ensures text { take result text.new
@@ -76,7 +88,21 @@ fn put_int(text: &mut [u8], at: usize, kind: &DataType, number: i64) -> usize
     let start = put(text, at, b"\"");
     match put_moment(text, start, kind, number) {
         Some(end) => put(text, end, b"\""),
-        None => put_signed(text, at, number),
+        None => put_uncounted(text, at, number),
+    }
+}
+
+// The same, where most numbers count nothing, which is asked first.
+#[inline(always)]
+fn put_int(text: &mut [u8], at: usize, kind: &DataType, number: i64) -> usize
+    requires { at + 34 ≤ length text.old }
+    ensures inside { result ≤ length text.new }
+    ensures text { take result text.new
+        ≡ take at text.old ++ compact_text (int_json kind.now number) }
+{
+    match kind {
+        DataType::Int { .. } => put_signed(text, at, number),
+        _ => put_counted(text, at, kind, number),
     }
 }
 
@@ -133,6 +159,9 @@ fn put_slot(
     ensures text { IfOk result (λ end. take end text.new ≡ take at text.old
         ++ compact_text (cell_json field.now (slot_value column.now slot))) }
 {
+    if let Kind::Texts = column.kind() {
+        return put_held_text(text, at, column, slot);
+    }
     match column.at(slot) {
         Slot::Null => Ok(put_null(text, at)),
         Slot::Bool(truth) => Ok(put_bool(text, at, truth)),
@@ -285,53 +314,167 @@ fn put_each(
     put_end(text, at)
 }
 
-// A list or a struct of a row, read by its slots, so that the loop over the columns carries nothing
-// of it.
-#[cold]
+// What a slot of a row holds, read in a function of its own, so that the loop over the columns
+// carries nothing of it.
 #[inline(never)]
-fn put_nested(
+fn put_other(
     text: &mut [u8],
     at: usize,
     field: &Field,
-    column: &Column<'_>,
-    row: usize,
+    column: &ColumnTree<'_>,
+    slot: usize,
 ) -> Result<usize, AllocError>
     requires room { at + 34 ≤ length text.old }
-    requires row { row < length column.now }
+    requires slot { slot < length (slot_values column.now) }
     ensures inside { IfOk result (λ end. end ≤ length text.new) }
-    ensures text { (value : Value) → slice_get column.now row ≡ Some value
-        → IfOk result (λ end. take end text.new ≡ take at text.old
-        ++ compact_text (cell_json field.now value)) }
+    ensures text { IfOk result (λ end. take end text.new ≡ take at text.old
+        ++ compact_text (cell_json field.now (slot_value column.now slot))) }
 {
-    put_slot(text, at, field, column.tree(), row)
+    put_slot(text, at, field, column, slot)
 }
 
-// What a column has in a row, where that is this cell.
+// What a slot of a row holds, which is this: most often a signed number.
+#[inline(always)]
+fn put_held_number(
+    text: &mut [u8],
+    at: usize,
+    field: &Field,
+    column: &ColumnTree<'_>,
+    slot: usize,
+    held: Slot<'_>,
+) -> Result<usize, AllocError>
+    requires room { at + 34 ≤ length text.old }
+    requires slot { slot < length (slot_values column.now) }
+    requires held { slice_get (slot_values column.now) slot
+        ≡ Some (shown (row (below column.now)) slot held) }
+    ensures inside { IfOk result (λ end. end ≤ length text.new) }
+    ensures text { IfOk result (λ end. take end text.new ≡ take at text.old
+        ++ compact_text (cell_json field.now (slot_value column.now slot))) }
+{
+    match held {
+        Slot::Int(number) => Ok(put_int(text, at, &field.kind, number)),
+        Slot::Null => Ok(put_null(text, at)),
+        _ => put_other(text, at, field, column, slot),
+    }
+}
+
+// The same, most often a truth value.
+#[inline(always)]
+fn put_held_truth(
+    text: &mut [u8],
+    at: usize,
+    field: &Field,
+    column: &ColumnTree<'_>,
+    slot: usize,
+    held: Slot<'_>,
+) -> Result<usize, AllocError>
+    requires room { at + 34 ≤ length text.old }
+    requires slot { slot < length (slot_values column.now) }
+    requires held { slice_get (slot_values column.now) slot
+        ≡ Some (shown (row (below column.now)) slot held) }
+    ensures inside { IfOk result (λ end. end ≤ length text.new) }
+    ensures text { IfOk result (λ end. take end text.new ≡ take at text.old
+        ++ compact_text (cell_json field.now (slot_value column.now slot))) }
+{
+    match held {
+        Slot::Bool(truth) => Ok(put_bool(text, at, truth)),
+        Slot::Null => Ok(put_null(text, at)),
+        _ => put_other(text, at, field, column, slot),
+    }
+}
+
+// The same, most often bytes.
+#[inline(always)]
+fn put_held_bytes(
+    text: &mut [u8],
+    at: usize,
+    field: &Field,
+    column: &ColumnTree<'_>,
+    slot: usize,
+    held: Slot<'_>,
+) -> Result<usize, AllocError>
+    requires room { at + 34 ≤ length text.old }
+    requires slot { slot < length (slot_values column.now) }
+    requires held { slice_get (slot_values column.now) slot
+        ≡ Some (shown (row (below column.now)) slot held) }
+    ensures inside { IfOk result (λ end. end ≤ length text.new) }
+    ensures text { IfOk result (λ end. take end text.new ≡ take at text.old
+        ++ compact_text (cell_json field.now (slot_value column.now slot))) }
+{
+    match held {
+        Slot::Bytes(bytes) => put_bytes(text, at, bytes),
+        Slot::Null => Ok(put_null(text, at)),
+        _ => put_other(text, at, field, column, slot),
+    }
+}
+
+// What a slot of a row holds, a text or null.
+#[inline(always)]
+fn put_held_text(
+    text: &mut [u8],
+    at: usize,
+    column: &ColumnTree<'_>,
+    slot: usize,
+) -> Result<usize, AllocError>
+    requires room { at + 34 ≤ length text.old }
+    requires layout { column.now.column.layout ≡ Layout.VariableBytes true }
+    requires slot { slot < length (slot_values column.now) }
+    ensures inside { IfOk result (λ end. end ≤ length text.new) }
+    ensures text { (field : Field) → IfOk result (λ end. take end text.new ≡ take at text.old
+        ++ compact_text (cell_json field (slot_value column.now slot))) }
+{
+    match column.text_at(slot) {
+        Some((bytes, len)) => put_front(text, at, bytes, len),
+        None => Ok(put_null(text, at)),
+    }
+}
+
+// What a slot of a row holds, by the way in which the slots lie: each arm is compiled for its own.
 #[inline(always)]
 fn put_cell(
     text: &mut [u8],
     at: usize,
     field: &Field,
-    cell: Cell<'_>,
-    column: &Column<'_>,
-    row: usize,
+    column: &ColumnTree<'_>,
+    slot: usize,
 ) -> Result<usize, AllocError>
     requires room { at + 34 ≤ length text.old }
-    requires row { row < length column.now }
-    requires cell { slice_get column.now row ≡ Some (cell_value cell) }
+    requires slot { slot < length (slot_values column.now) }
     ensures inside { IfOk result (λ end. end ≤ length text.new) }
     ensures text { IfOk result (λ end. take end text.new ≡ take at text.old
-        ++ compact_text (cell_json field.now (cell_value cell.entry))) }
+        ++ compact_text (cell_json field.now (slot_value column.now slot))) }
 {
-    match cell {
-        Cell::Null => Ok(put_null(text, at)),
-        Cell::Bool(truth) => Ok(put_bool(text, at, truth)),
-        Cell::Int(number) => Ok(put_int(text, at, &field.kind, number)),
-        Cell::UInt(number) => Ok(put_unsigned(text, at, number)),
-        Cell::Bytes(bytes) => put_bytes(text, at, bytes),
-        Cell::Text(chars) => put_string(text, at, chars.as_bytes()),
-        Cell::List(_) => put_nested(text, at, field, column, row),
-        Cell::Struct(_) => put_nested(text, at, field, column, row),
+    match column.kind() {
+        Kind::Longs => {
+            let held = column.at_layout(
+                Layout::Numbers {
+                    bits: IntBits::B64,
+                    signed: true,
+                },
+                slot,
+            );
+            put_held_number(text, at, field, column, slot, held)
+        }
+        Kind::Ints => {
+            let held = column.at_layout(
+                Layout::Numbers {
+                    bits: IntBits::B32,
+                    signed: true,
+                },
+                slot,
+            );
+            put_held_number(text, at, field, column, slot, held)
+        }
+        Kind::Truths => {
+            let held = column.at_layout(Layout::Bits, slot);
+            put_held_truth(text, at, field, column, slot, held)
+        }
+        Kind::Texts => put_held_text(text, at, column, slot),
+        Kind::Bytes(width) => {
+            let held = column.at_layout(Layout::FixedBytes(width), slot);
+            put_held_bytes(text, at, field, column, slot, held)
+        }
+        Kind::Others => put_other(text, at, field, column, slot),
     }
 }
 
@@ -355,8 +498,7 @@ fn put_cells(
     let mut later = false;
     for (column, field) in fields.iter().enumerate() {
         let place = start_item(text, at, later)?;
-        let lent = &columns[column];
-        at = put_cell(text, place, field, lent.at(row), lent, row)?;
+        at = put_cell(text, place, field, columns[column].tree(), row)?;
         later = true;
     }
     put_end(text, at)

@@ -98,8 +98,9 @@ fn zone_of(timezone: &Option<Text>) -> Option<&str>
 }
 
 /// Writes the text of a number of this type that is a date, a time or a point in time from `at` on,
-/// where it has one, and returns where it ends. Else, and of another type, nothing is written.
-#[inline(always)]
+/// where it has one, and returns where it ends. Else, and of another type, nothing is written. It
+/// isn't taken in, since there are many kinds of them.
+#[inline(never)]
 pub fn put_moment(text: &mut [u8], at: usize, kind: &DataType, number: i64) -> Option<usize>
     requires { at + 32 ≤ length text.old }
     ensures end { IfSome result (λ end. end ≤ at + 32) }

@@ -6,7 +6,7 @@ ghost use Rattle.std.specs.Bool.{OnTrue};
 ghost use Rattle.json.specs.Print.{escape};
 ghost use Rattle.json.specs.Written.{PlainBetween};
 
-use crate::copies::{put_ends, put_few};
+use crate::copies::{put_ends, put_few, put_front};
 use crate::rows::put_word;
 use std::simd::prelude::*;
 
@@ -150,4 +150,19 @@ pub fn put_if_plain(text: &mut [u8], at: usize, chars: &[u8]) -> bool
     ensures text { take (at + length chars.now) text.new ≡ take at text.old ++ chars.now }
 {
     put_and_look(text, at, chars)
+}
+
+/// Writes sixteen bytes from `at` on, and says whether each of them stands as it is in JSON, and so
+/// each of the first `len`.
+#[inline(always)]
+pub fn put_front_if_plain(text: &mut [u8], at: usize, bytes: &[u8], len: usize) -> bool
+    requires room { at + 16 ≤ length text.old }
+    requires sixteen { 16 ≤ length bytes.now }
+    requires few { len ≤ 16 }
+    ensures plain { OnTrue result (escape (take len bytes.now) ≡ take len bytes.now) }
+    ensures text { take (at + len) text.new ≡ take at text.old ++ take len bytes.now }
+    ensures same_room { length text.new ≡ length text.old }
+{
+    put_front::<16>(text, at, bytes);
+    sixteen_are_plain(bytes, 0)
 }

@@ -21,6 +21,7 @@ use crate::column::Column;
 use crate::digits::put_i64;
 use crate::form::Form;
 use crate::line::add_line;
+use crate::short_rows::{has_room, print_short_records, print_short_rows};
 use ipc_column::{Batch, Cell, Numbers};
 use ipc_model::{Field, IntBits};
 use ipc_stream::Sink;
@@ -56,7 +57,7 @@ impl From<AllocError> for PrintFault {
 // Sends all of a text. Never inlined, so that the loop over the cells keeps its registers.
 #[cold]
 #[inline(never)]
-fn send<W: Sink>(sink: &mut W, text: &[u8]) -> Result<(), PrintFault>
+pub(crate) fn send<W: Sink>(sink: &mut W, text: &[u8]) -> Result<(), PrintFault>
     ensures puts { PrintsAs (output (W.written sink.old) (W.failures sink.old) text.now)
         (W.written sink.new) (W.failures sink.new) [] [] result }
     ensures only { IfErr result (λ fault. fault ≡ PrintFault.Write) }
@@ -125,7 +126,7 @@ fn put_text<W: Sink>(
 
 // A comma before each cell but the first.
 #[inline(always)]
-fn put_comma(text: &mut [u8], at: usize, column: usize) -> usize
+pub(crate) fn put_comma(text: &mut [u8], at: usize, column: usize) -> usize
     requires { at + 1 ≤ length text.old }
     ensures end { result ≤ at + 1 }
     ensures text { take result text.new ≡ take at text.old ++ comma column }
@@ -319,7 +320,7 @@ fn print_number<W: Sink>(
 
 // The number in a row of a column.
 #[inline(always)]
-fn number_at(numbers: &[[u8; 8]], row: usize) -> i64
+pub(crate) fn number_at(numbers: &[[u8; 8]], row: usize) -> i64
     requires { row < length numbers.now }
     ensures { result ≡ cast_signed w64 (from_le_bytes w64 (slice_index_or numbers.now row [])) }
 {
@@ -356,7 +357,7 @@ fn print_number_row<W: Sink>(
 // Prints the rows of a batch, given its columns' numbers, from `start` on, and returns where the
 // last one ends.
 #[inline(never)]
-fn print_numbers<W: Sink>(
+fn print_long_rows<W: Sink>(
     sink: &mut W,
     text: &mut [u8],
     start: usize,
@@ -428,7 +429,7 @@ fn print_number_record<W: Sink>(
 // Prints the rows of a batch as records of CSV, given its columns' numbers, from `start` on, and
 // returns where the last one ends.
 #[inline(never)]
-fn print_number_records<W: Sink>(
+fn print_long_records<W: Sink>(
     sink: &mut W,
     text: &mut [u8],
     start: usize,
@@ -448,6 +449,51 @@ fn print_number_records<W: Sink>(
         at = print_number_record(sink, text, at, columns, row)?;
     }
     Ok(at)
+}
+
+// Prints the rows of a batch, given its columns' numbers, from `start` on, and returns where the
+// last one ends.
+fn print_numbers<W: Sink>(
+    sink: &mut W,
+    text: &mut [u8],
+    start: usize,
+    columns: &[&[[u8; 8]]],
+    batch: &Batch,
+) -> Result<usize, PrintFault>
+    requires lent { AreLent (λ c. c.now) columns.now batch.now.rows }
+    requires start { start ≤ length text.old }
+    requires room { 32 ≤ length text.old }
+    ensures inside { IfOk result (λ end. end ≤ length text.new) }
+    ensures puts { PrintsAt (output (W.written sink.old) (W.failures sink.old)
+        (take start text.old)) (W.written sink.new) (W.failures sink.new) text.new
+        (lines line batch.now.rows) result }
+{
+    if has_room(text.len(), columns.len()) {
+        return print_short_rows(sink, text, start, columns, batch);
+    }
+    print_long_rows(sink, text, start, columns, batch)
+}
+
+// The same, as records of CSV.
+fn print_number_records<W: Sink>(
+    sink: &mut W,
+    text: &mut [u8],
+    start: usize,
+    columns: &[&[[u8; 8]]],
+    batch: &Batch,
+) -> Result<usize, PrintFault>
+    requires lent { AreLent (λ c. c.now) columns.now batch.now.rows }
+    requires start { start ≤ length text.old }
+    requires room { 32 ≤ length text.old }
+    ensures inside { IfOk result (λ end. end ≤ length text.new) }
+    ensures puts { PrintsAt (output (W.written sink.old) (W.failures sink.old)
+        (take start text.old)) (W.written sink.new) (W.failures sink.new) text.new
+        (lines number_record batch.now.rows) result }
+{
+    if has_room(text.len(), columns.len()) {
+        return print_short_records(sink, text, start, columns, batch);
+    }
+    print_long_records(sink, text, start, columns, batch)
 }
 
 // Prints the rows of a batch from `start` on, and returns where the last one ends.

@@ -4,7 +4,7 @@ ghost use Rattle.std.specs.Bool.{OnTrue};
 ghost use Rattle.json.specs.Print.{escape, escape_byte, quoted};
 
 use crate::hexadecimal::hex_digit;
-use crate::plain::put_if_plain;
+use crate::plain::{put_front_if_plain, put_if_plain};
 use crate::room::{put, reserve};
 use crate::rows::put_word;
 use std::alloc::AllocError;
@@ -91,4 +91,50 @@ pub fn put_string(text: &mut [u8], at: usize, chars: &[u8]) -> Result<usize, All
         return Ok(at + chars.len() + 2);
     }
     put_escaped(text, at, chars)
+}
+
+// Writes a text of at most sixteen bytes between two quotation marks, told by sixteen bytes from
+// its first on, and says whether each of its bytes stands as it is.
+#[inline(always)]
+fn put_few_plain(text: &mut [u8], at: usize, bytes: &[u8], len: usize) -> bool
+    requires room { at + 18 ≤ length text.old }
+    requires sixteen { 16 ≤ length bytes.now }
+    requires few { len ≤ 16 }
+    ensures text { OnTrue result (take (at + len + 2) text.new
+        ≡ take at text.old ++ quoted (take len bytes.now)) }
+    ensures front { take at text.new ≡ take at text.old }
+    ensures same_room { length text.new ≡ length text.old }
+{
+    let start = put_word(text, at, b"\"");
+    let plain = put_front_if_plain(text, start, bytes, len);
+    put_word(text, start + len, b"\"");
+    plain
+}
+
+// Writes a text of any length, in a function of its own.
+#[inline(never)]
+fn put_long_string(text: &mut [u8], at: usize, chars: &[u8]) -> Result<usize, AllocError>
+    requires { at ≤ length text.old }
+    ensures inside { IfOk result (λ end. end ≤ length text.new) }
+    ensures text { IfOk result
+        (λ end. take end text.new ≡ take at text.old ++ quoted chars.now) }
+{
+    put_string(text, at, chars)
+}
+
+/// Writes a text of JSON from `at` on, and returns where it ends. The caller gives bytes that begin
+/// with the text, and how many of them it has: a short text is copied by one load of sixteen, so
+/// that no branch hangs on its length.
+#[inline(always)]
+pub fn put_front(text: &mut [u8], at: usize, bytes: &[u8], len: usize) -> Result<usize, AllocError>
+    requires room { at + 18 ≤ length text.old }
+    requires inside { len ≤ length bytes.now }
+    ensures inside { IfOk result (λ end. end ≤ length text.new) }
+    ensures text { IfOk result
+        (λ end. take end text.new ≡ take at text.old ++ quoted (take len bytes.now)) }
+{
+    if len <= 16 && 16 <= bytes.len() && put_few_plain(text, at, bytes, len) {
+        return Ok(at + len + 2);
+    }
+    put_long_string(text, at, &bytes[..len])
 }

@@ -1,10 +1,13 @@
 //! The slots of a column and of all columns below it, each found in the body once for all rows.
-ghost use Rattle.std.specs.Prelude.{◌≡◌, ◌<◌, length, slice_get, Some, IfOk};
+ghost use Rattle.std.specs.Prelude.{◌≡◌, ◌<◌, ◌≤◌, true, length, slice_get, Some, IfOk, IfSome};
 ghost use Rattle.ipc_column.specs.Nested.{below, slot_values};
-ghost use Rattle.ipc_column.specs.Slots.{LeadsInside, nested_in, shown};
+ghost use Rattle.ipc_column.specs.Slots.{LeadsInside, nested_in, shown, text_shown};
 ghost use Rattle.ipc_column.specs.Values.{row};
+ghost use Rattle.ipc_print.specs.Kinds.{Lies};
 
+use crate::kind::{Kind, kind_of};
 use ipc_column::{Slot, SlotView};
+use ipc_model::Layout;
 use std::alloc::{AllocError, Global};
 use std::marker::Model;
 
@@ -13,6 +16,7 @@ use std::marker::Model;
 #[derive(Drop)]
 pub struct ColumnTree<'a> {
     slots: SlotView<'a>,
+    kind: Kind,
     children: Vec<ColumnTree<'a>>,
 }
 
@@ -31,13 +35,16 @@ impl<'a> Model for ColumnTree<'a> {
 
     ghost view = { λ t. t.slots };
 
-    ghost invariant = { λ t. t.children.items ≡ nested_in t.slots };
+    ghost use Rattle.ipc_print.specs.Kinds.{Lies};
+
+    ghost invariant = { λ t. (t.children.items ≡ nested_in t.slots)
+        × Lies t.kind t.slots.column.layout };
 
     ghost size = { count_below };
 
     ghost use Rattle.ipc_print.specs.TreeFalls.{fewer_below};
 
-    ghost size_decreases = { λ t same. fewer_below t.slots t.children.items same };
+    ghost size_decreases = { λ t found. fewer_below t.slots t.children.items found.0 };
 }
 
 impl<'a> ColumnTree<'a> {
@@ -59,6 +66,40 @@ impl<'a> ColumnTree<'a> {
         ensures inside { LeadsInside (below self.now) slot result }
     {
         self.slots.at(slot)
+    }
+
+    /// The way in which the slots lie.
+    #[inline(always)]
+    pub fn kind(&self) -> Kind
+        ensures { Lies result self.now.column.layout }
+    {
+        self.kind
+    }
+
+    /// What a slot holds, as `at` tells it. The caller gives the column's layout, and a slot below
+    /// `len`.
+    #[inline(always)]
+    pub fn at_layout(&self, layout: Layout, slot: usize) -> Slot<'a>
+        requires layout { self.now.column.layout ≡ layout }
+        requires slot { slot < length (slot_values self.now) }
+        ensures value { slice_get (slot_values self.now) slot
+            ≡ Some (shown (row (below self.now)) slot result) }
+        // The children have the slots that are told.
+        ensures inside { LeadsInside (below self.now) slot result }
+    {
+        self.slots.at_layout(layout, slot)
+    }
+
+    /// The bytes of the column's data from the text in a slot on, and how many of them the text
+    /// has: none where the slot is null. The caller gives a slot below `len` of a column of texts.
+    #[inline(always)]
+    pub fn text_at(&self, slot: usize) -> Option<(&'a [u8], usize)>
+        requires layout { self.now.column.layout ≡ Layout.VariableBytes true }
+        requires slot { slot < length (slot_values self.now) }
+        ensures value { slice_get (slot_values self.now) slot ≡ Some (text_shown result) }
+        ensures inside { IfSome result (λ text. text.1 ≤ length text.0.now) }
+    {
+        self.slots.text_at(slot)
     }
 
     /// How many children there are.
@@ -87,5 +128,10 @@ pub fn tree_of<'a>(alloc: Global, slots: SlotView<'a>) -> Result<ColumnTree<'a>,
     for number in 0..slots.children() {
         children.push(tree_of(alloc, slots.child(number))?)?;
     }
-    Ok(ColumnTree { slots, children })
+    let kind = kind_of(slots.layout());
+    Ok(ColumnTree {
+        slots,
+        kind,
+        children,
+    })
 }

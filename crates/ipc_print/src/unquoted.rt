@@ -5,7 +5,7 @@ ghost use Rattle.std.specs.Bool.{OnTrue};
 ghost use Rattle.csv.specs.Writing.{default_writer, needs_quotes};
 ghost use Rattle.ipc_print.specs.Unquoted.{NeedNone};
 
-use crate::copies::{put_ends, put_few};
+use crate::copies::{put_ends, put_few, put_front};
 use crate::rows::put_word;
 use std::simd::prelude::*;
 
@@ -152,4 +152,20 @@ pub fn put_if_unquoted(text: &mut [u8], at: usize, field: &[u8]) -> bool
     ensures text { take (at + length field.now) text.new ≡ take at text.old ++ field.now }
 {
     put_and_look(text, at, field)
+}
+
+/// Writes sixteen bytes from `at` on, and says whether none of them calls for quotes, and so none
+/// of the first `len`.
+#[inline(always)]
+pub fn put_front_if_unquoted(text: &mut [u8], at: usize, bytes: &[u8], len: usize) -> bool
+    requires room { at + 16 ≤ length text.old }
+    requires sixteen { 16 ≤ length bytes.now }
+    requires few { len ≤ 16 }
+    ensures none { OnTrue result (needs_quotes default_writer (take len bytes.now) ≡ false) }
+    ensures text { take (at + len) text.new ≡ take at text.old ++ take len bytes.now }
+    ensures front { take at text.new ≡ take at text.old }
+    ensures same_room { length text.new ≡ length text.old }
+{
+    put_front::<16>(text, at, bytes);
+    sixteen_need_none(bytes, 0)
 }

@@ -8,6 +8,9 @@ use Rattle.ipc_model.specs.declared.schema.Field.TheViews.{the_lemmas}
 use Rattle.ipc_print.proofs.SlotTexts.{children_done, each_none, list_child, list_nulls, slot_json, slots_done, struct_child}
 use Rattle.ipc_print.proofs.json_row.+slot.Goals as goal
 
+pub put_slot-returns-in-Texts-clause-text : goal.put_slot-returns-in-Texts-clause-text
+put_slot-returns-in-Texts-clause-text t c = c.put_held_text.ensures.text c.args.field.now
+
 pub put_slot-returns-in-Null-clause-text : goal.put_slot-returns-in-Null-clause-text
 put_slot-returns-in-Null-clause-text t c =
     rw (slot_json c.args.field.now c.args.column.now c.args.slot slot.Null (rw c.in-Null.is at c.at.ensures.value)) c.put_null.ensures.text

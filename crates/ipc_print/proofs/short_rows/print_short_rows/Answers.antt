@@ -3,10 +3,10 @@ use Rattle.std.proofs.lemmas.Result.{err_from_is_err_and}
 use Rattle.ipc_print.specs.Rows.{line}
 use Rattle.ipc_print.proofs.Lanes.{long_less}
 use Rattle.ipc_print.proofs.Lines.{rows_next, rows_cut, rows_end, put_at, not_at}
-use Rattle.ipc_print.proofs.rows.print_numbers.Goals as goal
+use Rattle.ipc_print.proofs.short_rows.print_short_rows.Goals as goal
 
-pub print_number_row-requires-clause-long : goal.print_number_row-requires-clause-long
-print_number_row-requires-clause-long g c =
+pub print_row-requires-clause-long : goal.print_row-requires-clause-long
+print_row-requires-clause-long g c =
     long_less (λ (b : Bor (List (List ℕ))). b.now) c.args.columns.now (length c.args.batch.now.rows) _ (omega arith) c.requires.lent.long
 
 pub returns-in_err-at-clause-puts : goal.returns-in_err-at-clause-puts

@@ -2,7 +2,7 @@ use Rattle.std.proofs.Common.{◌≤◌, length, take}
 use Rattle.ipc_print.specs.Output.{output, Puts}
 use Rattle.ipc_print.specs.Columns.{number_record}
 use Rattle.ipc_print.specs.Rows.{lines}
-use Rattle.ipc_print.proofs.rows.print_number_records.Given as goal
+use Rattle.ipc_print.proofs.rows.print_long_records.Given as goal
 
 -- the first rows were put
 abbrev pub invariant-loop-row : goal.invariant-loop-row

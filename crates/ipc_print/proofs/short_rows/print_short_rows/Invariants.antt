@@ -1,7 +1,7 @@
 use Rattle.std.proofs.Common.{◌≤◌, length, take}
 use Rattle.ipc_print.specs.Output.{output, Puts}
 use Rattle.ipc_print.specs.Rows.{line, lines}
-use Rattle.ipc_print.proofs.rows.print_numbers.Given as goal
+use Rattle.ipc_print.proofs.short_rows.print_short_rows.Given as goal
 
 -- the first rows were put
 abbrev pub invariant-loop-row : goal.invariant-loop-row

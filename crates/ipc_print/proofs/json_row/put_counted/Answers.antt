@@ -2,7 +2,7 @@ use Rattle.std.proofs.Common.{◌∙◌, rules, arith, FitsSigned, w64, refl}
 use Rattle.std.proofs.lemmas.Int.{to_z-of_z}
 use Rattle.ipc_moments.specs.Moments.{moment_text}
 use Rattle.ipc_print.proofs.MomentTexts.{shown_moment, shown_number, before_byte}
-use Rattle.ipc_print.proofs.json_row.put_int.Goals as goal
+use Rattle.ipc_print.proofs.json_row.put_counted.Goals as goal
 
 pub returns-in-Some-clause-text : goal.returns-in-Some-clause-text
 returns-in-Some-clause-text c =
@@ -16,7 +16,7 @@ returns-in-None-clause-text c =
     let fits : FitsSigned w64 c.args.number = search rules in
     let z = to_z-of_z w64 c.args.number fits in
     let same = (rw c.in-None.is at c.put_moment.ensures.unchanged) refl in
-    let text = rw (same, z) at c.put_signed.ensures.text in
+    let text = rw (same, z) at c.put_uncounted.ensures.text in
     let front = before_byte c.args.text.now c.put-start.new.text c.args.at 34 (omega (arith, c.requires))
     (rw c.put-start.ensures.end at c.put-start.ensures.text) in
     shown_number _ _ _ (moment_text c.args.kind.now c.args.number) c.args.number (rw (c.in-None.is, z) at c.put_moment.ensures.text)

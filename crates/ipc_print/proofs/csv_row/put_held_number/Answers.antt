@@ -1,0 +1,21 @@
+use Rattle.std.proofs.Common.{rules, ap, inr, refl, Some, FitsSigned, w64}
+use Rattle.std.proofs.lemmas.Int.{to_z-of_z}
+use Rattle.ipc_column.specs.declared.slot_view.Slot.TheVariants as slot
+use Rattle.ipc_print.proofs.SlotTexts.{slot_csv}
+use Rattle.ipc_print.proofs.csv_row.put_held_number.Goals as goal
+
+pub returns-in-Int-clause-ok : goal.returns-in-Int-clause-ok
+returns-in-Int-clause-ok c =
+    let fits : FitsSigned w64 c.in-Int.number = search rules in
+    rw (slot_csv c.args.kind.now c.args.tree.now c.args.slot (slot.Int c.in-Int.number) (rw c.in-Int.is at c.requires.held)) (rw
+    (to_z-of_z w64 c.in-Int.number fits) at c.put_int.ensures.ok)
+
+pub returns-in-Int-clause-refused : goal.returns-in-Int-clause-refused
+returns-in-Int-clause-refused c =
+    let fits : FitsSigned w64 c.in-Int.number = search rules in
+    rw (slot_csv c.args.kind.now c.args.tree.now c.args.slot (slot.Int c.in-Int.number) (rw c.in-Int.is at c.requires.held))
+    (rw (to_z-of_z w64 c.in-Int.number fits) at c.put_int.ensures.refused)
+
+pub returns-in-Null-clause-ok : goal.returns-in-Null-clause-ok
+returns-in-Null-clause-ok c = rw (slot_csv c.args.kind.now c.args.tree.now c.args.slot slot.Null (rw c.in-Null.is at c.requires.held))
+    (ap Some c.put_null.ensures.text)

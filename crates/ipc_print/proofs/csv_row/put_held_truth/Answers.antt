@@ -1,0 +1,13 @@
+use Rattle.std.proofs.Common.{rules, ap, inr, refl, Some, FitsSigned, w64}
+use Rattle.std.proofs.lemmas.Int.{to_z-of_z}
+use Rattle.ipc_column.specs.declared.slot_view.Slot.TheVariants as slot
+use Rattle.ipc_print.proofs.SlotTexts.{slot_csv}
+use Rattle.ipc_print.proofs.csv_row.put_held_truth.Goals as goal
+
+pub returns-in-Bool-clause-ok : goal.returns-in-Bool-clause-ok
+returns-in-Bool-clause-ok c = rw (slot_csv c.args.kind.now c.args.tree.now c.args.slot (slot.Bool c.in-Bool.truth)
+    (rw c.in-Bool.is at c.requires.held)) (ap Some c.put_bool.ensures.text)
+
+pub returns-in-Null-clause-ok : goal.returns-in-Null-clause-ok
+returns-in-Null-clause-ok c = rw (slot_csv c.args.kind.now c.args.tree.now c.args.slot slot.Null (rw c.in-Null.is at c.requires.held))
+    (ap Some c.put_null.ensures.text)
