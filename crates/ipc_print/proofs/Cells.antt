@@ -55,11 +55,6 @@ out_cell (cell.Struct values) = ap out-Value (sym (v.rolls-Struct values)) ∙ o
 value_in : (f : Field) (w : Value) → cell_json f w ≡ value_json (out-Field f).kind (map cell_json (out-Field f).children) (out-Value w)
 value_in f w = ap (λ (print : Printed). print w) (fold_out-Field Printed field_json f)
 
--- the JSON of a cell
-pub json_of : (f : Field) (c : Cell)
-    → cell_json f (cell_value c) ≡ value_json (out-Field f).kind (map cell_json (out-Field f).children) (open_value c)
-json_of f c = value_in f (cell_value c) ∙ ap (value_json (out-Field f).kind (map cell_json (out-Field f).children)) (out_cell c)
-
 -- the text of a cell in CSV
 pub csv_of : (kind : DataType) (c : Cell) → text_in kind (cell_value c) ≡ value_text kind (open_value c)
 csv_of kind c = ap (value_text kind) (out_cell c)

@@ -1,5 +1,5 @@
 -- The front of bytes that were copied.
-use Rattle.std.proofs.Common.{◌≡◌, ◌∙◌, refl, sym, ap, ℕ, ◌+◌, ◌-◌, ◌<◌, ◌≤◌, Bool, true, false, List, ◌++◌, length, take, get_or, arith}
+use Rattle.std.proofs.Common.{◌≡◌, ◌∙◌, sym, ap, ℕ, ◌+◌, ◌≤◌, Bool, true, false, List, ◌++◌, length, take, arith}
 use Rattle.std.proofs.Common.{get_or-take, length-take-le, take-take, take_at}
 use Rattle.std.proofs.Math.Seq.{take-append-add}
 use Rattle.csv.specs.Writing.{needs_byte, needs_quotes, default_writer}

@@ -1,5 +1,4 @@
-use Rattle.std.proofs.Common.{rules, ap, inr, refl, Some, FitsSigned, w64}
-use Rattle.std.proofs.lemmas.Int.{to_z-of_z}
+use Rattle.std.proofs.Common.{ap, Some}
 use Rattle.ipc_column.specs.declared.slot_view.Slot.TheVariants as slot
 use Rattle.ipc_print.proofs.SlotTexts.{slot_csv}
 use Rattle.ipc_print.proofs.csv_row.put_held_bytes.Goals as goal

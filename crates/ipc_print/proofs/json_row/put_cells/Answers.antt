@@ -1,4 +1,4 @@
-use Rattle.std.proofs.Common.{◌≡◌, sym, subst, arith, length, ◌<◌}
+use Rattle.std.proofs.Common.{sym, subst, arith, length, ◌<◌}
 use Rattle.ipc_model.specs.declared.value.Value.{Value}
 use Rattle.std.proofs.Common.{List}
 use Rattle.ipc_print.specs.LentRows.{row_at}

@@ -1,7 +1,7 @@
 use Rattle.std.proofs.Common.{ℕ, List, Bor, []}
 use Rattle.std.proofs.lemmas.Result.{err_from_is_err_and}
 use Rattle.ipc_print.specs.Columns.{row_in, number_record}
-use Rattle.ipc_print.proofs.Puts.{puts_behind, puts_kept, puts_not_more}
+use Rattle.ipc_print.proofs.Puts.{puts_not_more}
 use Rattle.ipc_print.proofs.short_rows.print_record.Goals as goal
 
 pub returns-in_err-at-clause-puts : goal.returns-in_err-at-clause-puts

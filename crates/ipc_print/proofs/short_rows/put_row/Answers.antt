@@ -1,28 +1,5 @@
-use Rattle.std.proofs.Common.{
-  ◌≡◌,
-  ◌∙◌,
-  ◌+◌,
-  ◌≤◌,
-  ◌++◌,
-  ◌∷◌,
-  ap,
-  sym,
-  refl,
-  arith,
-  ℕ,
-  List,
-  Bor,
-  get_or,
-  length,
-  take,
-  [],
-  rules,
-  FitsSigned,
-  w64,
-  Some,
-  Ok,
-  append_assoc,
-}
+use Rattle.std.proofs.Common.{◌∙◌, ◌+◌, ◌≤◌, ◌∷◌, ap, sym, refl, arith, ℕ, List, Bor, get_or, length, []}
+use Rattle.std.proofs.Common.{rules, FitsSigned, w64, Some, Ok, append_assoc}
 use Rattle.std.proofs.lemmas.Int.{to_z-of_z}
 use Rattle.ipc_model.specs.declared.value.Value.TheVariants.{Int}
 use Rattle.ipc_print.proofs.Shown.{all_at}

@@ -1,4 +1,4 @@
-use Rattle.std.proofs.Common.{◌≡◌, ◌+◌, ◌++◌, length, take, append_assoc, refl, arith}
+use Rattle.std.proofs.Common.{◌≡◌, ◌+◌, ◌++◌, take, append_assoc, refl, arith}
 use Rattle.json.specs.Print.{escape, quoted}
 use Rattle.ipc_print.proofs.OwnBytes.{where_own}
 use Rattle.ipc_print.proofs.strings.put_few_plain.Goals as goal
