@@ -67,7 +67,7 @@ abbrev pub TellsNulls : Layout → Type 0
 TellsNulls layout = (layout ≡ l.Null → ⊥) × ((bits : IntBits) (signed : Bool) (id : ℤ) → layout ≡ l.Indices bits signed id → ⊥)
 
 -- a valid slot of these isn't null
-own_set : (layout : Layout) (d : List Value) (under : ℕ → List Value) (o w : List ℕ) (i : ℕ) → TellsNulls layout
+pub own_set : (layout : Layout) (d : List Value) (under : ℕ → List Value) (o w : List ℕ) (i : ℕ) → TellsNulls layout
     → is_set Valid (own_value layout d under o w i) ≡ true
 own_set l.Null d under o w i h = absurd (h.0 refl)
 own_set (l.Indices bits signed id) d under o w i h = absurd (h.1 bits signed id refl)

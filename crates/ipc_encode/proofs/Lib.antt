@@ -20,6 +20,9 @@ pub mod NumberSlots
 pub mod LentBytes
 pub mod LentBuffers
 pub mod LentContents
+pub mod NestedSlots
+pub mod NestedTexts
+pub mod NestedFits
 pub mod Copied
 pub mod SureColumns
 pub mod CountedColumns

@@ -48,7 +48,7 @@ pub(crate) fn offset_at(offsets: &[u8], i: usize) -> u32
 }
 
 // Whether each null slot ends where it begins.
-fn nulls_are_empty(marks: &[u8], offsets: &[u8], count: usize) -> bool
+pub(crate) fn nulls_are_empty(marks: &[u8], offsets: &[u8], count: usize) -> bool
     requires bits { HasBits marks.now count }
     requires offsets { 4 * (count + 1) ≤ length offsets.now }
     ensures empty { IsTrue result → (i : ℕ) → i < count → is_valid marks.now i ≡ false

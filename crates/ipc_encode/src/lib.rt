@@ -20,6 +20,7 @@ mod index;
 mod index_columns;
 mod lengths;
 mod lent;
+mod lying;
 mod marks;
 mod node;
 mod numbers;

@@ -1,0 +1,320 @@
+-- The slots of the children of a column that was read, where they are those that its slots lead to.
+use Rattle.std.proofs.Common.{◌≡◌, ◌∙◌, refl, sym, ap, subst, ℕ, zero, suc, ◌+◌, ◌-◌, ◌*◌, ◌<◌, ◌≤◌, Bool, true, false, cond}
+use Rattle.std.proofs.Common.{List, [], ◌∷◌, ◌++◌, length, map, get_or, Option, Some, None, append_assoc, arith}
+use Rattle.std.proofs.Common.{add-one, drop, length-append, take}
+use Rattle.std.specs.Prelude.{slice_get, slice_range, ◌&&◌}
+use Rattle.std.specs.Int.{bytes_low_first}
+use Rattle.std.proofs.Math.Seq.{take-add}
+use Rattle.std.proofs.lemmas.Bool.{and_parts}
+use Rattle.std.proofs.lemmas.List.{append-nil, drop-drop, take-append-le, take_all}
+use Rattle.std.proofs.lemmas.Option.{none-some}
+use Rattle.ipc_model.specs.declared.schema.IntBits.TheVariants.{B32}
+use Rattle.ipc_model.specs.declared.value.Value.{Value, out-Value}
+use Rattle.ipc_model.specs.declared.value.Value.TheOpen.{Value-F}
+use Rattle.ipc_model.specs.declared.value.Value.TheVariants as v
+use Rattle.ipc_model.specs.declared.value.Value.TheVariants.{Null}
+use Rattle.ipc_model.specs.declared.layout.Layout.{Layout}
+use Rattle.ipc_model.specs.declared.layout.Layout.TheVariants as l
+use Rattle.ipc_column.specs.declared.buffers.Buffers.{Buffers}
+use Rattle.ipc_column.specs.declared.ranges.ColumnRanges.{ColumnRanges}
+use Rattle.ipc_column.specs.Checks.{are_ascending, have_slots}
+use Rattle.ipc_column.specs.Columns.{Columns}
+use Rattle.ipc_column.specs.Lending.{AreBuffers}
+use Rattle.ipc_column.specs.Nested.{Nested, below, slot_values}
+use Rattle.ipc_column.specs.Slots.{is_null, nested, nested_in}
+use Rattle.ipc_column.specs.Values.{first_of, is_valid, items, own_value, place, row, value_of}
+use Rattle.ipc_column.specs.Views.{columns, column_of, children_of}
+use Rattle.ipc_column.proofs.Cells.{items_more}
+use Rattle.ipc_column.proofs.Parts.{children_out}
+use Rattle.ipc_column.proofs.Slices.{places}
+use Rattle.ipc_column.proofs.Slots.{bytes_from, items_length, order_from}
+use Rattle.ipc_encode.specs.Cells.{all_items, all_parts, cell, ends, items_in, part, part_in}
+use Rattle.ipc_encode.specs.Pieces.{Items}
+use Rattle.ipc_encode.specs.Cells as c
+use Rattle.ipc_encode.proofs.LentBuffers.{buffers_at, list_out, slot_count, slot_is, struct_out}
+use Rattle.ipc_encode.proofs.LentContents.{place_is, start_of}
+use Rattle.ipc_encode.proofs.LentBytes.{ends_next}
+use Rattle.ipc_encode.proofs.NumberBytes.{unsigned_bytes}
+use Rattle.ipc_encode.proofs.NumberSlots.{null_out}
+use Rattle.ipc_encode.proofs.Steps.{below_append, extents}
+
+-- ---- children
+
+-- the value of a slot of a child, as its column's value
+abbrev pub child_value : Nested → ℕ → Value
+child_value n j = value_of (row (below n)) n.column j
+
+part_value : (body : List ℕ) (p : ColumnRanges) (j : ℕ)
+    → value_of (row (children_of body p)) (column_of body p) j ≡ child_value (nested body p) j
+part_value body p j = ap (λ (cs : Columns). value_of (row cs) (column_of body p) j) (children_out body p)
+
+pub some_same : (a b : Nested) → Some a ≡ Some b → a ≡ b
+some_same a b h = ap (λ (o : Option Nested). out o) h
+  where
+    out : Option Nested → Nested
+    out (Some x) = x
+    out None = a
+
+-- the value of a slot in the first column is that of the first child
+first_value : (s child : Nested) (j : ℕ) → slice_get (nested_in s) 0 ≡ Some child
+    → first_of (row (below s) j) ≡ child_value child j
+first_value s child j e = first s.children e
+  where
+    first : (ps : List ColumnRanges) → slice_get (map (nested s.body) ps) 0 ≡ Some child
+        → first_of (row (columns s.body ps) j) ≡ child_value child j
+    first [] e = absurd (none-some child e)
+    first (p ∷ ps) e = part_value s.body p j ∙ ap (λ (n : Nested). child_value n j) (some_same (nested s.body p) child e)
+
+-- the value of a slot in column k is that of child k
+cell_value : (s child : Nested) (k j : ℕ) → slice_get (nested_in s) k ≡ Some child
+    → cell k (row (below s) j) ≡ child_value child j
+cell_value s child k j e = at s.children k e
+  where
+    at : (ps : List ColumnRanges) (k : ℕ) → slice_get (map (nested s.body) ps) k ≡ Some child
+        → cell k (row (columns s.body ps) j) ≡ child_value child j
+    at [] k e = absurd (none-some child e)
+    at (p ∷ ps) zero e = part_value s.body p j ∙ ap (λ (n : Nested). child_value n j) (some_same (nested s.body p) child e)
+    at (p ∷ ps) (suc k) e = at ps k e
+
+-- ---- runs of slots
+
+items_same : (f g : ℕ → Value) (i n : ℕ) → ((j : ℕ) → f j ≡ g j) → items f i n ≡ items g i n
+items_same f g i zero h = refl
+items_same f g i (suc n) h =
+    let first = h i in
+    let rest = items_same f g (i + 1) n h in
+    λ k. first k ∷ rest k
+
+items_join : (f : ℕ → Value) (a m n : ℕ) → items f a (m + n) ≡ items f a m ++ items f (a + m) n
+items_join f a zero n =
+    let here : a + 0 ≡ a = omega arith in
+    let size : 0 + n ≡ n = omega arith in
+    rw (here, size) refl
+items_join f a (suc m) n =
+    let size : suc m + n ≡ suc (m + n) = omega arith in
+    let place : a + suc m ≡ a + 1 + m = omega arith in
+    rw (size, place) (ap (λ (vs : List Value). f a ∷ vs) (items_join f (a + 1) m n))
+
+-- lists whose items are runs one behind another have the items of one run
+runs_join : (f g : ℕ → Value) (at : ℕ → ℕ) (n : ℕ) → ((i : ℕ) → i < n → c.items (f i) ≡ items g (at i) (at (i + 1) - at i))
+    → ((i : ℕ) → i < n → at i ≤ at (i + 1))
+    → (at 0 ≤ at n) × (all_items (items f 0 n) ≡ items g (at 0) (at n - at 0))
+runs_join f g at zero each rise = (
+  omega arith,
+  ap (λ (k : ℕ). items g (at 0) k) (let none : 0 ≡ at 0 - at 0 = omega arith in none),
+)
+runs_join f g at (suc n) each rise =
+    let before = runs_join f g at n (λ i m. each i (omega arith)) (λ i m. rise i (omega arith)) in
+    let more : n + 1 ≡ suc n = omega arith in
+    let step : at n ≤ at (suc n) = subst (λ (k : ℕ). at n ≤ at k) more (rise n (omega arith)) in
+    let here : 0 + n ≡ n = omega arith in
+    let next : c.items (f n) ≡ items g (at n) (at (suc n) - at n) =
+    each n (omega arith) ∙ ap (λ (k : ℕ). items g (at n) (at k - at n)) more in
+    let size : at n - at 0 + (at (suc n) - at n) ≡ at (suc n) - at 0 = omega (arith, before.0, step) in
+    let place : at 0 + (at n - at 0) ≡ at n = omega (arith, before.0) in (
+      omega (arith, before.0, step),
+      ap (λ (k : ℕ). all_items (items f 0 k)) (sym more)
+          ∙ (ap all_items (items_more f 0 n ∙ ap (λ (k : ℕ). items f 0 n ++ f k ∷ []) here)
+          ∙ (below_append l.Lists (items f 0 n) (f n ∷ []) 0
+          ∙ (ap (λ (vs : List Value). all_items (items f 0 n) ++ vs) (append-nil (c.items (f n)))
+          ∙ (ap (λ (vs : List Value). vs ++ c.items (f n)) before.1
+          ∙ (ap (λ (vs : List Value). items g (at 0) (at n - at 0) ++ vs)
+          (next ∙ ap (λ (k : ℕ). items g k (at (suc n) - at n)) (sym place))
+          ∙ (sym (items_join g (at 0) (at n - at 0) (at (suc n) - at n))
+          ∙ ap (λ (k : ℕ). items g (at 0) k) size)))))),
+    )
+
+-- the first of some slots
+front_items : (f : ℕ → Value) (i n : ℕ) → i ≤ n → take i (items f 0 n) ≡ items f 0 i
+front_items f i n m =
+    let size : i + (n - i) ≡ n = omega arith in
+    let front = items_length f 0 i in
+    ap (λ (k : ℕ). take i (items f 0 k)) (sym size)
+    ∙ (ap (take i) (items_join f 0 i (n - i))
+    ∙ (take-append-le i (items f 0 i) (items f (0 + i) (n - i)) (omega (arith, front))
+    ∙ take_all i (items f 0 i) (omega (arith, front))))
+
+-- lists have as many items as their runs are long
+items_run : (vs : List Value) → length (all_items vs) ≡ extents Items vs
+items_run [] = refl
+items_run (v ∷ vs) =
+    let more = items_run vs in
+    let size = length-append (c.items v) (all_items vs) in
+    omega (arith, more, size)
+
+-- ---- lists
+
+module _ (s : Nested) (b : Buffers) (h : AreBuffers s b) (e : b.layout ≡ l.Lists) (some : 0 < length (slot_values s)) where
+  list_laid : s.column.layout ≡ l.Lists
+  list_laid = sym h.layout ∙ e
+
+  pub list_offsets_there : 4 * (length (slot_values s) + 1) ≤ length b.offsets.now
+  list_offsets_there =
+      let count = slot_count s in
+      let size = ap (λ (bs : List ℕ). length bs) h.offsets in
+      let there = bytes_from s.column.slots (length s.column.offsets) (rw list_laid at h.whole.offsets) (omega (arith, some, count)) in
+      omega (arith, there, count, size)
+
+  list_ascend : are_ascending b.offsets.now (length (slot_values s)) (place b.offsets.now (length (slot_values s))) ≡ true
+  list_ascend =
+      let count = slot_count s in
+      let n = s.column.slots in
+      let o = s.column.offsets in
+      let there = bytes_from n (length o) (rw list_laid at h.whole.offsets) (omega (arith, some, count)) in
+      let both = order_from n o (are_ascending o n (place o n) && have_slots (place o n) (below s)) (rw list_laid at h.whole.order)
+      (omega (arith, some, count)) there in
+      rw (h.offsets, count) (and_parts (are_ascending o n (place o n)) (have_slots (place o n) (below s)) both).0
+
+  module _ (small : (k : ℕ) → get_or b.offsets.now k 0 < 256)
+      (empty : (i : ℕ) → i < length (slot_values s) → is_valid b.validity.now i ≡ false
+      → start_of b.offsets.now (i + 1) ≡ start_of b.offsets.now i) where
+    list_place : (i : ℕ) → i ≤ length (slot_values s) → place b.offsets.now i ≡ start_of b.offsets.now i
+    list_place i m = place_is b.offsets.now (length (slot_values s)) (place b.offsets.now (length (slot_values s))) i small list_ascend m
+
+    list_rise : (i : ℕ) → i < length (slot_values s) → place b.offsets.now i ≤ place b.offsets.now (i + 1)
+    list_rise i m =
+        (places b.offsets.now (length (slot_values s)) (place b.offsets.now (length (slot_values s))) i (i + 1) list_ascend (omega arith)
+        (omega arith)).order
+
+    -- the items of a slot are a run of the first child's
+    list_at : (i : ℕ) → i < length (slot_values s)
+        → c.items (value_of (row (below s)) s.column i)
+        ≡ items (λ j. first_of (row (below s) j)) (place b.offsets.now i) (place b.offsets.now (i + 1) - place b.offsets.now i)
+    list_at i m = ap c.items (sym (slot_is s i m) ∙ buffers_at s b h i m) ∙ either (is_valid b.validity.now i) refl
+      where
+        g : ℕ → Value
+        g j = first_of (row (below s) j)
+
+        none : place b.offsets.now (i + 1) - place b.offsets.now i ≡ 0 → items g (place b.offsets.now i)
+            (place b.offsets.now (i + 1) - place b.offsets.now i) ≡ []
+        none e = ap (λ (k : ℕ). items g (place b.offsets.now i) k) e
+
+        own : (layout : Layout) → layout ≡ l.Lists
+            → c.items (own_value layout s.column.dictionary (row (below s)) b.offsets.now b.values.now i)
+            ≡ items (λ j. first_of (row (below s) j)) (place b.offsets.now i) (place b.offsets.now (i + 1) - place b.offsets.now i)
+        own layout e =
+            let run = items (λ j. first_of (row (below s) j)) (place b.offsets.now i) (place b.offsets.now (i + 1) - place b.offsets.now i) in
+            rw e (ap items_in (list_out run))
+
+        either : (valid : Bool) → is_valid b.validity.now i ≡ valid
+            → c.items (cond valid (own_value b.layout s.column.dictionary (row (below s)) b.offsets.now b.values.now i) v.Null)
+            ≡ items (λ j. first_of (row (below s) j)) (place b.offsets.now i) (place b.offsets.now (i + 1) - place b.offsets.now i)
+        either true e' = own b.layout e
+        either false e' =
+            let here = list_place i (omega arith) in
+            let next = list_place (i + 1) (omega arith) in
+            let same = empty i m e' in
+            ap items_in null_out ∙ sym (none (omega (arith, here, next, same)))
+
+    -- all items are those of one run
+    pub list_run : all_items (slot_values s)
+        ≡ items (λ j. first_of (row (below s) j)) (place b.offsets.now 0)
+        (place b.offsets.now (length (slot_values s)) - place b.offsets.now 0)
+    list_run =
+        let count = slot_count s in
+        (runs_join (value_of (row (below s)) s.column) (λ j. first_of (row (below s) j)) (place b.offsets.now) s.column.slots
+        (λ i m. list_at i (omega (arith, m, count))) (λ i m. list_rise i (omega (arith, m, count)))).1
+        ∙ ap (λ (k : ℕ). items (λ j. first_of (row (below s) j)) (place b.offsets.now 0) (place b.offsets.now k - place b.offsets.now 0))
+        (sym count)
+
+    -- how many items the first slots have
+    list_extents : (i : ℕ) → i ≤ length (slot_values s)
+        → place b.offsets.now 0 + extents Items (take i (slot_values s)) ≡ place b.offsets.now i
+    list_extents i m =
+        let count = slot_count s in
+        let f = value_of (row (below s)) s.column in
+        let g = λ (j : ℕ). first_of (row (below s) j) in
+        let run = runs_join f g (place b.offsets.now) i (λ k l. list_at k (omega (arith, l, m))) (λ k l. list_rise k (omega (arith, l, m))) in
+        let front : take i (slot_values s) ≡ items f 0 i = front_items f i s.column.slots (omega (arith, m, count)) in
+        let size = ap (λ (vs : List Value). length vs) run.1 in
+        let long = items_length g (place b.offsets.now 0) (place b.offsets.now i - place b.offsets.now 0) in
+        let all = items_run (items f 0 i) in
+        let same = ap (extents Items) front in
+        omega (arith, run.0, size, long, all, same)
+
+    list_ends_front : (i : ℕ) → i ≤ length (slot_values s)
+        → ends Items (place b.offsets.now 0) (take i (slot_values s)) ≡ take (4 * i) (drop 4 b.offsets.now)
+    list_ends_front zero m = refl
+    list_ends_front (suc i) m =
+        let vs = slot_values s in
+        let o = b.offsets.now in
+        let there = list_offsets_there in
+        let run = sym (list_extents (i + 1) (omega arith)) in
+        let next : bytes_low_first 0 4 (place o (i + 1)) ≡ take 4 (drop (4 * (i + 1)) o) =
+        ap (bytes_low_first 0 4) (list_place (i + 1) (omega arith)) ∙ unsigned_bytes B32 o (4 * (i + 1)) small (omega (arith, there, m)) in
+        let behind : drop (4 * i) (drop 4 o) ≡ drop (4 * (i + 1)) o =
+        drop-drop (4 * i) 4 o ∙ ap (λ (k : ℕ). drop k o) (let k : 4 + 4 * i ≡ 4 * (i + 1) = omega arith in k) in
+        let more : 4 * suc i ≡ 4 * i + 4 = omega arith in
+        ap (λ (k : ℕ). ends Items (place o 0) (take k vs)) (sym (add-one i))
+        ∙ (sym (ends_next Items (place o 0) vs i (place o (i + 1)) (omega arith) run)
+        ∙ (ap (λ (bs : List ℕ). bs ++ bytes_low_first 0 4 (place o (i + 1))) (list_ends_front i (omega arith))
+        ∙ (ap (λ (bs : List ℕ). take (4 * i) (drop 4 o) ++ bs) (next ∙ ap (λ (bs : List ℕ). take 4 bs) (sym behind))
+        ∙ (sym (take-add (4 * i) 4 (drop 4 o)) ∙ ap (λ (k : ℕ). take k (drop 4 o)) (sym more)))))
+
+    -- the offsets behind the first are where the lists end
+    pub list_ends : slice_range b.offsets.now 4 (4 * (length (slot_values s) + 1)) ≡ ends Items (place b.offsets.now 0) (slot_values s)
+    list_ends =
+        let n = length (slot_values s) in
+        ap (λ (k : ℕ). take k (drop 4 b.offsets.now)) (let k : 4 * (n + 1) - 4 ≡ 4 * n = omega arith in k)
+        ∙ (sym (list_ends_front n (omega arith)) ∙ ap (ends Items (place b.offsets.now 0)) (take_all n (slot_values s) (omega arith)))
+
+    -- which has all slots of the child
+    pub list_gives : (child : Nested) → slice_get (nested_in s) 0 ≡ Some child → start_of b.offsets.now 0 ≡ 0
+        → start_of b.offsets.now (length (slot_values s)) ≡ length (slot_values child)
+        → all_items (slot_values s) ≡ slot_values child
+    list_gives child is first last =
+        let start = list_place 0 (omega arith) ∙ first in
+        let end = list_place (length (slot_values s)) (omega arith) ∙ (last ∙ slot_count child) in
+        list_run
+        ∙ (ap (λ (k : ℕ). items (λ j. first_of (row (below s) j)) k (place b.offsets.now (length (slot_values s)) - k)) start
+        ∙ (ap (λ (k : ℕ). items (λ j. first_of (row (below s) j)) 0 k)
+        (let k : place b.offsets.now (length (slot_values s)) - 0 ≡ child.column.slots = omega (arith, end) in k)
+        ∙ items_same (λ j. first_of (row (below s) j)) (child_value child) 0 child.column.slots (λ j. first_value s child j is)))
+
+-- ---- structs
+
+-- part k of each value, one by one
+parts_same : (k : ℕ) (vs ws : List Value) → length vs ≡ length ws
+    → ((i : ℕ) → i < length vs → part k (get_or vs i Null) ≡ get_or ws i Null) → all_parts k vs ≡ ws
+parts_same k [] [] size each = refl
+parts_same k [] (w ∷ ws) size each = absurd (omega arith)
+parts_same k (v ∷ vs) [] size each = absurd (omega arith)
+parts_same k (v ∷ vs) (w ∷ ws) size each =
+    let first : part k v ≡ w = each 0 (omega arith) in
+    let rest = parts_same k vs ws (omega (arith, size)) (λ i m. each (suc i) (omega arith)) in
+    rw (first, rest) refl
+
+-- a child with as many slots, which are null where the struct is, has the parts of the structs
+pub struct_gives : (s child : Nested) (b : Buffers) (k : ℕ) → AreBuffers s b → b.layout ≡ l.Structs → slice_get (nested_in s) k ≡ Some child
+    → length (slot_values s) ≡ length (slot_values child)
+    → ((i : ℕ) → i < length (slot_values s) → is_valid b.validity.now i ≡ false → get_or (slot_values child) i Null ≡ Null)
+    → all_parts k (slot_values s) ≡ slot_values child
+struct_gives s child b k h e is size empty =
+    parts_same k (slot_values s) (slot_values child) size
+    (λ i m. ap (part k) (buffers_at s b h i m) ∙ either i m (is_valid b.validity.now i) refl)
+  where
+    own : (layout : Layout) (i : ℕ) → layout ≡ l.Structs
+        → part k (own_value layout s.column.dictionary (row (below s)) b.offsets.now b.values.now i) ≡ cell k (row (below s) i)
+    own layout i e = rw e (ap (part_in k) (struct_out (row (below s) i)))
+
+    either : (i : ℕ) → i < length (slot_values s) → (valid : Bool) → is_valid b.validity.now i ≡ valid
+        → part k (cond valid (own_value b.layout s.column.dictionary (row (below s)) b.offsets.now b.values.now i) v.Null)
+        ≡ get_or (slot_values child) i Null
+    either i m true e' = own b.layout i e ∙ (cell_value s child k i is ∙ sym (slot_is child i (omega (arith, m, size))))
+    either i m false e' = ap (part_in k) null_out ∙ sym (empty i m e')
+
+-- a value that is null
+pub null_only : (value : Value) → is_null value ≡ true → value ≡ v.Null
+unfolding out-Value denote.Hole.Carrier.out
+null_only v.Null e = refl
+null_only value e = absurd (cc)
+
+pub null_at : (vs : List Value) (i : ℕ) (told : Bool) → i < length vs → told ≡ true
+    → ((value : Value) → slice_get vs i ≡ Some value → told ≡ is_null value) → get_or vs i Null ≡ Null
+null_at vs i told m so h =
+    null_only (get_or vs i Null) (sym (h (get_or vs i Null) (slice_get_some vs i m)) ∙ so)
+  where
+    slice_get_some : (vs : List Value) (i : ℕ) → i < length vs → slice_get vs i ≡ Some (get_or vs i Null)
+    slice_get_some [] i m = absurd (omega arith)
+    slice_get_some (v ∷ vs) zero m = refl
+    slice_get_some (v ∷ vs) (suc i) m = slice_get_some vs i (omega arith)
