@@ -204,7 +204,7 @@ child_refused limits l c rest given push.TooMany h = inr (inl h)
 child_refused limits l c rest given push.OutOfMemory h = h
 child_refused limits l c rest given push.Failed h = h
 
-later_refused : (limits : Limits) (l : Layout) (c rest : Shape) (given : ℕ → List Value) (e : PushFault)
+pub later_refused : (limits : Limits) (l : Layout) (c rest : Shape) (given : ℕ → List Value) (e : PushFault)
     → ArePushesRefused limits rest (λ j. given (suc j)) e → ArePushesRefused limits (field l c rest) given e
 later_refused limits l c rest given push.TooLong (inl long) = inl (inr (inr long))
 later_refused limits l c rest given push.TooLong (inr body) = let size = parts_length l c rest given in inr (omega (arith, size, body))

@@ -1,6 +1,6 @@
 -- What the buffers of a column that was read hold, as those of a column that is built hold it.
 use Rattle.std.proofs.Common.{◌≡◌, ◌∙◌, refl, sym, ap, subst, ℕ, zero, suc, ◌+◌, ◌-◌, ◌*◌, ◌/◌, ◌<◌, ◌≤◌, Bool, true, false, cond}
-use Rattle.std.proofs.Common.{List, [], ◌++◌, length, take, drop, get_or, add-one, arith}
+use Rattle.std.proofs.Common.{List, [], ◌++◌, length, take, drop, get_or, Some, add-one, arith}
 use Rattle.std.specs.Prelude.{ℤ, not, slice_range, ◌==◌, ◌&&◌, ◌||◌, nat_le}
 use Rattle.std.proofs.Math.Seq.{take-add}
 use Rattle.std.proofs.lemmas.Bool.{leb-true, ne_eqb}
@@ -17,7 +17,8 @@ use Rattle.ipc_model.specs.declared.layout.Layout.TheVariants as l
 use Rattle.ipc_model.specs.Layouts.{number_bytes}
 use Rattle.ipc_column.specs.declared.buffers.Buffers.{Buffers}
 use Rattle.ipc_column.specs.Checks.{has_bitmap}
-use Rattle.ipc_column.specs.Lending.{AreBuffers}
+use Rattle.ipc_column.specs.declared.numbers.Numbers.{Numbers}
+use Rattle.ipc_column.specs.Lending.{AreBuffers, AreNumbers}
 use Rattle.ipc_column.specs.Nested.{Nested, below, slot_values}
 use Rattle.ipc_column.specs.Values.{between, is_valid, own_value, row, signed_at, value_of}
 use Rattle.ipc_column.proofs.Found.{items_first}
@@ -113,6 +114,34 @@ module _ (s : Nested) (b : Buffers) (h : AreBuffers s b) where
       bits_from n bytes e some =
           let most = leb-true ((n + 7) / 8) bytes (either (bytes == 0) (nat_le ((n + 7) / 8) bytes) e (ne_eqb bytes 0 (omega arith))) in
           omega (arith, most)
+
+-- ---- numbers
+
+-- a number stands in the values alone
+number_alone : (bits : IntBits) (signed : Bool) (d : List Value) (under : ℕ → List Value) (o w : List ℕ) (i : ℕ)
+    → own_value (l.Numbers bits signed) d under o w i ≡ own_value (l.Numbers bits signed) [] (λ _. []) [] w i
+number_alone bits true d under o w i = refl
+number_alone bits false d under o w i = refl
+
+pub tells_numbers : (layout : Layout) (bits : IntBits) (signed : Bool) → layout ≡ l.Numbers bits signed → TellsNulls layout
+tells_numbers layout bits signed e = (λ is. absurd (cc (e, is)), λ other sign id is. absurd (cc (e, is)))
+
+-- the buffers of a column of numbers are its numbers
+pub numbers_lent : (s : Nested) (b : Buffers) (n : Numbers) → AreBuffers s b → b.layout ≡ l.Numbers n.bits n.signed
+    → n.validity.now ≡ b.validity.now → n.values.now ≡ b.values.now → AreNumbers s n
+numbers_lent s b n h e marks values =
+    let count = slot_count s in
+    let laid : s.column.layout ≡ l.Numbers n.bits n.signed = sym h.layout ∙ e in
+    let validity : n.validity.now ≡ s.column.validity = marks ∙ h.validity in
+    let bytes : n.values.now ≡ s.column.values = values ∙ h.values in
+    record {
+      layout = laid;
+      long = rw (bytes, count) (leb-true (number_bytes n.bits * s.column.slots) (length s.column.values) (rw laid at h.whole.values));
+      each = λ i m. items_first (value_of (row (below s)) s.column) s.column.slots i (omega (arith, m, count))
+          ∙ ap (λ (v : Value). Some v)
+          (rw (validity, bytes, laid) (ap (λ (v : Value). cond (is_valid s.column.validity i) v Null)
+          (number_alone n.bits n.signed s.column.dictionary (row (below s)) s.column.offsets s.column.values i)));
+    }
 
 -- ---- slots one behind another
 

@@ -23,6 +23,7 @@ pub mod LentContents
 pub mod NestedSlots
 pub mod NestedTexts
 pub mod NestedFits
+pub mod WholeColumns
 pub mod Copied
 pub mod SureColumns
 pub mod CountedColumns

@@ -145,7 +145,7 @@ items_run (v ∷ vs) =
 -- ---- lists
 
 module _ (s : Nested) (b : Buffers) (h : AreBuffers s b) (e : b.layout ≡ l.Lists) (some : 0 < length (slot_values s)) where
-  list_laid : s.column.layout ≡ l.Lists
+  pub list_laid : s.column.layout ≡ l.Lists
   list_laid = sym h.layout ∙ e
 
   pub list_offsets_there : 4 * (length (slot_values s) + 1) ≤ length b.offsets.now
@@ -168,7 +168,7 @@ module _ (s : Nested) (b : Buffers) (h : AreBuffers s b) (e : b.layout ≡ l.Lis
   module _ (small : (k : ℕ) → get_or b.offsets.now k 0 < 256)
       (empty : (i : ℕ) → i < length (slot_values s) → is_valid b.validity.now i ≡ false
       → start_of b.offsets.now (i + 1) ≡ start_of b.offsets.now i) where
-    list_place : (i : ℕ) → i ≤ length (slot_values s) → place b.offsets.now i ≡ start_of b.offsets.now i
+    pub list_place : (i : ℕ) → i ≤ length (slot_values s) → place b.offsets.now i ≡ start_of b.offsets.now i
     list_place i m = place_is b.offsets.now (length (slot_values s)) (place b.offsets.now (length (slot_values s))) i small list_ascend m
 
     list_rise : (i : ℕ) → i < length (slot_values s) → place b.offsets.now i ≤ place b.offsets.now (i + 1)
@@ -270,6 +270,12 @@ module _ (s : Nested) (b : Buffers) (h : AreBuffers s b) (e : b.layout ≡ l.Lis
         ∙ (ap (λ (k : ℕ). items (λ j. first_of (row (below s) j)) 0 k)
         (let k : place b.offsets.now (length (slot_values s)) - 0 ≡ child.column.slots = omega (arith, end) in k)
         ∙ items_same (λ j. first_of (row (below s) j)) (child_value child) 0 child.column.slots (λ j. first_value s child j is)))
+
+-- no lists have no items
+pub no_lists : (vs ws : List Value) → length vs ≡ 0 → length ws ≡ 0 → all_items vs ≡ ws
+no_lists [] [] none same = refl
+no_lists [] (w ∷ ws) none same = absurd (omega arith)
+no_lists (v ∷ vs) ws none same = absurd (omega arith)
 
 -- ---- structs
 

@@ -9,8 +9,10 @@ use Rattle.ipc_model.specs.declared.value.Value.TheOpen.{Value-F}
 use Rattle.ipc_model.specs.declared.value.Value.TheVariants.{Null}
 use Rattle.ipc_model.specs.declared.layout.Layout.{Layout}
 use Rattle.ipc_model.specs.declared.layout.Layout.TheVariants as l
+use Rattle.ipc_column.specs.declared.buffers.Buffers.{Buffers}
 use Rattle.ipc_column.specs.declared.ranges.ColumnRanges.{ColumnRanges}
 use Rattle.ipc_column.specs.Columns.{Column, Columns}
+use Rattle.ipc_column.specs.Lending.{AreBuffers}
 use Rattle.ipc_column.specs.Nested.{Nested, alone, below, slot_values}
 use Rattle.ipc_column.specs.Rules.{IsText, SpellsTexts}
 use Rattle.ipc_column.specs.Slots.{nested, nested_in}
@@ -20,7 +22,8 @@ use Rattle.ipc_column.proofs.Parts.{children_out}
 use Rattle.ipc_encode.specs.Cells.{is_null, is_set}
 use Rattle.ipc_encode.specs.Pieces.{Valid}
 use Rattle.ipc_encode.proofs.LentBuffers.{own_set, slot_is}
-use Rattle.ipc_encode.proofs.NestedSlots.{some_same}
+use Rattle.ipc_encode.proofs.LentContents.{start_of}
+use Rattle.ipc_encode.proofs.NestedSlots.{list_laid, list_place, some_same}
 use Rattle.ipc_encode.proofs.NumberSlots.{null_out}
 
 -- a slot of a column that spells its texts does so in child k
@@ -80,6 +83,30 @@ list_texts s child n j is laid spelled empty first last =
         let to = at.to in
         absurd (omega (arith, same, from, to))
 
+not_true : (b : Bool) → (b ≡ true → ⊥) → b ≡ false
+not_true true h = absurd (h refl)
+not_true false h = refl
+
+-- the same by the buffers
+module _ (s : Nested) (b : Buffers) (h : AreBuffers s b) (e : b.layout ≡ l.Lists) (some : 0 < length (slot_values s))
+    (small : (k : ℕ) → get_or b.offsets.now k 0 < 256)
+    (empty : (i : ℕ) → i < length (slot_values s) → is_valid b.validity.now i ≡ false
+    → start_of b.offsets.now (i + 1) ≡ start_of b.offsets.now i) where
+  own_place : (i : ℕ) → i ≤ length (slot_values s) → place s.column.offsets i ≡ start_of b.offsets.now i
+  own_place i m = ap (λ (o : List ℕ). place o i) (sym h.offsets) ∙ list_place s b h e some small empty i m
+
+  pub list_spells : (child : Nested) → slice_get (nested_in s) 0 ≡ Some child → start_of b.offsets.now 0 ≡ 0
+      → start_of b.offsets.now (length (slot_values s)) ≡ length (slot_values child)
+      → ((i : ℕ) → i < length (slot_values s) → SpellsTexts (alone s) i)
+      → (j : ℕ) → j < length (slot_values child) → SpellsTexts (alone child) j
+  list_spells child is first last spelled j m =
+      let end = own_place (length (slot_values s)) (omega arith) in
+      list_texts s child (length (slot_values s)) j is (list_laid s b h e some) spelled
+      (λ i k null. own_place (i + 1) (omega (arith, k))
+      ∙ (empty i k (ap (λ (v : List ℕ). is_valid v i) h.validity ∙ not_true (is_valid s.column.validity i) null)
+      ∙ sym (own_place i (omega (arith, k)))))
+      (own_place 0 (omega arith) ∙ first) (omega (arith, end, last, m))
+
 -- nothing is asked of a slot that shows null
 nothing_spelled : (layout : Layout) (d : List Value) (under : ℕ → List Value) (below : ℕ → Type 0) (o w : List ℕ) (i : ℕ)
     → is_set Valid (own_value layout d under o w i) ≡ false → IsText layout below o w i
@@ -115,3 +142,14 @@ struct_texts s child k j is laid spelled m null = either (is_valid s.column.vali
     either : (valid : Bool) → is_valid s.column.validity j ≡ valid → SpellsTexts (alone child) j
     either true e = child_spells s child k j is (rw laid at (spelled.0 e))
     either false e = null_spells child j m (null (λ valid. absurd (cc)))
+
+-- the same by the buffers
+pub struct_spells : (s child : Nested) (b : Buffers) (k : ℕ) → AreBuffers s b → b.layout ≡ l.Structs → slice_get (nested_in s) k ≡ Some child
+    → length (slot_values s) ≡ length (slot_values child)
+    → ((i : ℕ) → i < length (slot_values s) → is_valid b.validity.now i ≡ false → get_or (slot_values child) i Null ≡ Null)
+    → ((i : ℕ) → i < length (slot_values s) → SpellsTexts (alone s) i)
+    → (j : ℕ) → j < length (slot_values child) → SpellsTexts (alone child) j
+struct_spells s child b k h e is size empty spelled j m =
+    let here : j < length (slot_values s) = omega (arith, size, m) in
+    struct_texts s child k j is (sym h.layout ∙ e) (spelled j here) m
+    (λ null. empty j here (ap (λ (v : List ℕ). is_valid v j) h.validity ∙ not_true (is_valid s.column.validity j) null))

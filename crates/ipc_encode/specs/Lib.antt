@@ -12,5 +12,6 @@ pub mod Faults
 pub mod CountedColumns
 pub mod Marks
 pub mod Lent
+pub mod Lying
 pub mod PlainColumns
 pub mod EntryIndices

@@ -91,7 +91,7 @@ fn take_column<I: IndexOf>(
     if node.is_leaf() && column < batch.columns() {
         let view = batch.column(column);
         if is_lent(node.column.layout) {
-            return node.column.take_lent(&view, limits);
+            return node.column.take_lent_view(&view, limits);
         }
         if let Layout::Indices { bits, .. } = node.column.layout {
             return node

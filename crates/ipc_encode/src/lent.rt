@@ -7,7 +7,10 @@ ghost use Rattle.ipc_model.specs.declared.layout.Layout.{Layout};
 ghost use Rattle.ipc_model.specs.declared.limits.Limits.{Limits};
 ghost use Rattle.ipc_model.specs.declared.value.Value.{Value};
 ghost use Rattle.ipc_scalar.specs.Bytes.{bit, num};
-ghost use Rattle.ipc_column.specs.Nested.{slot_values};
+ghost use Rattle.ipc_column.specs.Nested.{alone, slot_values};
+ghost use Rattle.ipc_column.specs.Rules.{SpellsTexts};
+ghost use Rattle.ipc_model.specs.declared.layout.Layout.TheVariants.{Lists as ListsLaid, Structs as StructsLaid};
+ghost use Rattle.std.specs.Prelude.{◌⊎◌};
 ghost use Rattle.ipc_column.specs.Values.{is_valid};
 ghost use Rattle.ipc_encode.specs.Bitmaps.{bitmap};
 ghost use Rattle.ipc_encode.specs.Built.{IsColumn, IsPushRefused};
@@ -300,7 +303,7 @@ impl Column {
     /// Takes the values of all slots of a column, without a value of its own for each.
     ///
     /// Refused as `take`.
-    pub(crate) fn take_lent(
+    pub(crate) fn take_lent_view(
         &mut self,
         view: &ColumnView<'_>,
         limits: &Limits,
@@ -337,6 +340,37 @@ impl Column {
         )?;
         let amount = data_len(layout, self.values.len());
         self.counts = held.with_all(layout, count, null_count, amount, limits)?;
+        Ok(())
+    }
+
+    pub(crate) fn take_lent(&mut self, view: &SlotView<'_>, limits: &Limits) -> Result<(), PushFault>
+        requires { is_lent self.now.layout ≡ true }
+        ensures taken { (known : Numbering) (layout : Layout) (before : List Value)
+            → IsColumn known limits.now layout before self.old
+            → ((i : ℕ) → i < length (slot_values view.now) → SpellsTexts (alone view.now) i)
+            → OnOk result (IsColumn known limits.now layout (before ++ slot_values view.now) self.new) }
+        ensures refused { (known : Numbering) (layout : Layout) (before : List Value)
+            → IsColumn known limits.now layout before self.old
+            → IfErr result (IsPushRefused limits.now layout (before ++ slot_values view.now)) }
+    {
+        if view.len() > limits.slots as usize {
+            return Err(PushFault::TooMany);
+        }
+        Ok(())
+    }
+
+    pub(crate) fn take_nested(&mut self, view: &SlotView<'_>, limits: &Limits) -> Result<(), PushFault>
+        requires { (self.now.layout ≡ ListsLaid) ⊎ (self.now.layout ≡ StructsLaid) }
+        ensures taken { (known : Numbering) (layout : Layout) (before : List Value)
+            → IsColumn known limits.now layout before self.old
+            → OnOk result (IsColumn known limits.now layout (before ++ slot_values view.now) self.new) }
+        ensures refused { (known : Numbering) (layout : Layout) (before : List Value)
+            → IsColumn known limits.now layout before self.old
+            → IfErr result (IsPushRefused limits.now layout (before ++ slot_values view.now)) }
+    {
+        if view.len() > limits.slots as usize {
+            return Err(PushFault::TooMany);
+        }
         Ok(())
     }
 }

@@ -31,6 +31,7 @@ mod sure;
 mod sure_columns;
 mod sure_inside;
 mod tree;
+mod whole;
 
 pub use batch::encode;
 pub use builder::{Builder, holds_agreeing};

@@ -1,31 +1,50 @@
 //! Whether the columns of a batch lie as those of a builder.
-ghost use Rattle.std.specs.Prelude.{◌≡◌, ◌<◌, ◌+◌, ℕ, Some, false, length, slice_get, slice_index_or, IsTrue};
-ghost use Rattle.ipc_column.specs.Nested.{Nested, slot_values};
+ghost use Rattle.std.specs.Prelude.{◌≡◌, ◌<◌, ◌+◌, ℕ, List, Some, false, length, slice_get};
+ghost use Rattle.std.specs.Prelude.{slice_index_or, IsTrue};
+ghost use Rattle.ipc_column.specs.Nested.{Nested, alone, slot_values};
+ghost use Rattle.ipc_column.specs.Rules.{SpellsTexts};
+ghost use Rattle.ipc_column.specs.Shapes.{Shape};
 ghost use Rattle.ipc_column.specs.Slots.{nested_in};
 ghost use Rattle.ipc_column.specs.Values.{is_valid};
+ghost use Rattle.ipc_model.specs.declared.layout.Layout.{Layout};
+ghost use Rattle.ipc_model.specs.declared.limits.Limits.{Limits};
+ghost use Rattle.ipc_model.specs.declared.value.Value.{Value};
 ghost use Rattle.ipc_model.specs.declared.value.Value.TheVariants.{Null};
+ghost use Rattle.ipc_encode.specs.Buffers.{below};
+ghost use Rattle.ipc_encode.specs.Built.{AreNodes, IsColumn, IsNode};
 ghost use Rattle.ipc_encode.specs.Cells.{all_items, all_parts};
+ghost use Rattle.ipc_encode.specs.Lying.{AreWhole, IsWhole, is_taken_whole};
 ghost use Rattle.ipc_encode.specs.Marks.{HasBits};
+ghost use Rattle.ipc_encode.specs.Numbers.{Numbering};
 
 use crate::buffers::{nulls_are_empty, offset_at};
 use crate::marks::is_marked_valid;
+use crate::node::Node;
 use ipc_column::SlotView;
 use ipc_model::Layout;
 
 // Whether lists have all slots of their child, one list behind another.
 fn lists_have_all(view: &SlotView<'_>) -> bool
-    ensures { IsTrue result → (child : Nested) → slice_get (nested_in view.now) 0 ≡ Some child
+    ensures slots { IsTrue result → (child : Nested)
+        → slice_get (nested_in view.now) 0 ≡ Some child
         → all_items (slot_values view.now) ≡ slot_values child }
+    ensures texts { IsTrue result → (child : Nested)
+        → slice_get (nested_in view.now) 0 ≡ Some child
+        → ((i : ℕ) → i < length (slot_values view.now) → SpellsTexts (alone view.now) i)
+        → (i : ℕ) → i < length (slot_values child) → SpellsTexts (alone child) i }
 {
     let buffers = view.buffers();
     let count = view.len();
     let Layout::Lists = buffers.layout else {
         return false;
     };
-    if count == 0 || view.children() == 0 {
+    if view.children() == 0 {
         return false;
     }
     let child = view.child(0);
+    if count == 0 {
+        return child.len() == 0;
+    }
     if !nulls_are_empty(buffers.validity, buffers.offsets, count) {
         return false;
     }
@@ -62,8 +81,13 @@ fn nulls_are_shared(marks: &[u8], child: &SlotView<'_>) -> bool
 // struct is.
 fn structs_have_all(view: &SlotView<'_>, i: usize) -> bool
     requires { i < length view.now.children }
-    ensures { IsTrue result → (child : Nested) → slice_get (nested_in view.now) i ≡ Some child
+    ensures slots { IsTrue result → (child : Nested)
+        → slice_get (nested_in view.now) i ≡ Some child
         → all_parts i (slot_values view.now) ≡ slot_values child }
+    ensures texts { IsTrue result → (child : Nested)
+        → slice_get (nested_in view.now) i ≡ Some child
+        → ((j : ℕ) → j < length (slot_values view.now) → SpellsTexts (alone view.now) j)
+        → (j : ℕ) → j < length (slot_values child) → SpellsTexts (alone child) j }
 {
     let buffers = view.buffers();
     let Layout::Structs = buffers.layout else {
@@ -74,4 +98,64 @@ fn structs_have_all(view: &SlotView<'_>, i: usize) -> bool
         return false;
     }
     nulls_are_shared(buffers.validity, &child)
+}
+
+// Whether the slots of a column lead to all slots of a child, in their order.
+fn has_all(view: &SlotView<'_>, i: usize) -> bool
+    requires { i < length view.now.children }
+    ensures slots { IsTrue result → (child : Nested)
+        → slice_get (nested_in view.now) i ≡ Some child
+        → below view.now.column.layout (slot_values view.now) i ≡ slot_values child }
+    ensures texts { IsTrue result → (child : Nested)
+        → slice_get (nested_in view.now) i ≡ Some child
+        → ((j : ℕ) → j < length (slot_values view.now) → SpellsTexts (alone view.now) j)
+        → (j : ℕ) → j < length (slot_values child) → SpellsTexts (alone child) j }
+{
+    match view.layout() {
+        Layout::Lists => i == 0 && lists_have_all(view),
+        Layout::Structs => structs_have_all(view, i),
+        _ => false,
+    }
+}
+
+// Whether the slots of a column of this layout can be taken all at once.
+fn is_taken_whole(layout: Layout) -> bool
+    ensures { result ≡ is_taken_whole layout }
+{
+    !matches!(layout, Layout::FixedLists(_) | Layout::Indices { .. })
+}
+
+/// Whether a column that was read lies as that of a node, and each column below it as that of the
+/// node's children, with no slots but those that the slots of its column lead to.
+#[cycle(lies_whole)]
+pub(crate) fn lies_whole(node: &Node, view: &SlotView<'_>) -> bool
+    ensures { IsTrue result → (known : Numbering) (limits : Limits) (layout : Layout)
+        (children : Shape) (before : List Value)
+        → IsNode (IsColumn known limits) layout children node.now before
+        → ((i : ℕ) → i < length (slot_values view.now) → SpellsTexts (alone view.now) i)
+        → IsWhole layout children view.now (slot_values view.now) }
+{
+    let layout = node.column.layout;
+    if !is_taken_whole(layout) || view.layout() != layout {
+        return false;
+    }
+    node.children.len() == view.children() && lie_whole(&node.children, view)
+}
+
+// The same of each child of a column that was read, one for each of several nodes.
+#[cycle(lies_whole)]
+fn lie_whole(nodes: &[Node], view: &SlotView<'_>) -> bool
+    requires { length nodes.now ≡ length view.now.children }
+    ensures { IsTrue result → (known : Numbering) (limits : Limits) (shape : Shape)
+        (before : ℕ → List Value) → AreNodes (IsColumn known limits) shape nodes.now before
+        → ((i : ℕ) → i < length (slot_values view.now) → SpellsTexts (alone view.now) i)
+        → AreWhole shape (nested_in view.now)
+        (below view.now.column.layout (slot_values view.now)) }
+{
+    for i in 0..nodes.len() {
+        if !has_all(view, i) || !lies_whole(&nodes[i], &view.child(i)) {
+            return false;
+        }
+    }
+    true
 }

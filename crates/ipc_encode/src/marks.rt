@@ -1,6 +1,6 @@
 //! The validity bitmap of a column that was read, taken behind the values of another.
 ghost use Rattle.std.specs.Prelude.{◌≡◌, ◌≤◌, ◌<◌, ◌^◌, ◌+◌, ◌++◌, List, length, take, IfOk};
-ghost use Rattle.std.specs.Prelude.{IfSome, OnOk};
+ghost use Rattle.std.specs.Prelude.{IfNone, IfSome, OnOk};
 ghost use Rattle.ipc_model.specs.declared.value.Value.{Value};
 ghost use Rattle.ipc_column.specs.Values.{is_valid};
 ghost use Rattle.ipc_encode.specs.Bitmaps.{bitmap};
@@ -26,6 +26,7 @@ pub(crate) fn is_marked_valid(marks: &[u8], slot: usize) -> bool
 /// few bits.
 pub(crate) fn count_nulls(marks: &[u8], count: usize) -> Option<usize>
     ensures bits { IfSome result (λ many. HasBits marks.now count) }
+    ensures none { IfNone result (¬ HasBits marks.now count) }
     ensures nulls { (values : List Value) → length values ≡ count → MarksNulls marks.now values
         → IfSome result (λ many. many ≡ nulls values) }
 {

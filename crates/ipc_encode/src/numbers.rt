@@ -1,6 +1,7 @@
 //! The numbers of a column that was read, taken as they lie.
 ghost use Rattle.std.specs.Prelude.{◌≡◌, ◌≤◌, ◌+◌, ◌*◌, ◌++◌, Bool, List, length, IfErr, OnOk};
-ghost use Rattle.std.specs.Prelude.{IfSome, IsTrue, slice_index_or};
+ghost use Rattle.std.specs.Prelude.{IfNone, IfSome, IsTrue, slice_index_or};
+ghost use Rattle.ipc_model.specs.declared.schema.IntBits.{IntBits};
 ghost use Rattle.ipc_model.specs.Layouts.{number_bytes};
 ghost use Rattle.ipc_model.specs.declared.layout.Layout.{Layout};
 ghost use Rattle.ipc_model.specs.declared.layout.Layout.TheVariants.{Numbers as NumbersLaid};
@@ -175,7 +176,8 @@ impl Column {
 
 // Whether a column of this layout has numbers of so many bits.
 fn holds_numbers(layout: Layout, bits: IntBits) -> bool
-    ensures { IsTrue result → (signed : Bool) × (layout ≡ NumbersLaid bits signed) }
+    ensures told { IsTrue result → (signed : Bool) × (layout ≡ NumbersLaid bits signed) }
+    ensures all { (signed : Bool) → layout ≡ NumbersLaid bits signed → IsTrue result }
 {
     match layout {
         Layout::Numbers { bits: own, .. } => own == bits,
@@ -183,8 +185,7 @@ fn holds_numbers(layout: Layout, bits: IntBits) -> bool
     }
 }
 
-/// The numbers of a column, where they lie as in one of this layout and their bitmap has a bit for
-/// each.
+/// The numbers of a column, where they have as many bits as in one of this layout.
 pub(crate) fn lent_numbers<'a>(layout: Layout, view: &SlotView<'a>) -> Option<LentNumbers<'a>>
     ensures numbers { IfSome result (λ lent. AreNumbers view.now lent.numbers) }
     ensures bits { IfSome result
@@ -192,12 +193,24 @@ pub(crate) fn lent_numbers<'a>(layout: Layout, view: &SlotView<'a>) -> Option<Le
     ensures nulls { IfSome result (λ lent. lent.null_count ≡ nulls (slot_values view.now)) }
     ensures laid { IfSome result
         (λ lent. (signed : Bool) × (layout ≡ NumbersLaid lent.numbers.bits signed)) }
+    // It lends all numbers that lie as in the column.
+    ensures none { IfNone result ((bits : IntBits) (signed : Bool)
+        → layout ≡ NumbersLaid bits signed → ¬ (view.now.column.layout ≡ layout)) }
 {
-    let numbers = view.numbers()?;
-    if !holds_numbers(layout, numbers.bits) {
+    let buffers = view.buffers();
+    let Layout::Numbers { bits, signed } = buffers.layout else {
+        return None;
+    };
+    if !holds_numbers(layout, bits) {
         return None;
     }
-    let null_count = count_nulls(numbers.validity, view.len())?;
+    let null_count = count_nulls(buffers.validity, view.len())?;
+    let numbers = Numbers {
+        bits,
+        signed,
+        validity: buffers.validity,
+        values: buffers.values,
+    };
     Some(LentNumbers {
         numbers,
         null_count,

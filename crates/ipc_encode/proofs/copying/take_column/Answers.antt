@@ -26,10 +26,10 @@ returns-then-is_lent-clause-taken g c = λ layout children before h.
     let same : more ≡ view = column_cells c.args.batch.now.rows c.args.column view c.column-view.ensures in
     let inner = leaf_has (IsColumn known limits) children (out-Node c.args.node.now).children.items (below layout before)
     (below layout (before ++ more)) (c.is_leaf.ensures.0 c.if-is_leaf.true) h.1 in
-    on_ok_weaker c.take_lent.result
+    on_ok_weaker c.take_lent_view.result
     (λ taken. node_is (IsColumn known limits) layout children (before ++ more) _
-    (subst (λ (vs : List Value). IsColumn known limits layout (before ++ vs) c.take_lent.new.self) (sym same) taken) inner)
-    (c.take_lent.ensures.taken known layout before h.0)
+    (subst (λ (vs : List Value). IsColumn known limits layout (before ++ vs) c.take_lent_view.new.self) (sym same) taken) inner)
+    (c.take_lent_view.ensures.taken known layout before h.0)
 
 pub returns-then-is_lent-clause-refused : goal.returns-then-is_lent-clause-refused
 returns-then-is_lent-clause-refused g c = λ layout children before h.
@@ -37,10 +37,10 @@ returns-then-is_lent-clause-refused g c = λ layout children before h.
     let limits = c.args.limits.now in
     let view = c.column-view.result in
     let same = column_cells c.args.batch.now.rows c.args.column view c.column-view.ensures in
-    IfErr-weaker c.take_lent.result _ _
+    IfErr-weaker c.take_lent_view.result _ _
     (λ fault refused. subst (λ (vs : List Value). ArePushesRefused limits (field layout children bare) (λ j. before ++ vs) fault) (sym same)
     (own_refused limits layout children bare (λ j. before ++ view) fault refused))
-    (c.take_lent.ensures.refused known layout before h.0)
+    (c.take_lent_view.ensures.refused known layout before h.0)
 
 pub returns-in-Some-clause-taken : goal.returns-in-Some-clause-taken
 returns-in-Some-clause-taken g c = λ layout children before h.

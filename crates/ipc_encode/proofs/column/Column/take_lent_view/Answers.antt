@@ -1,6 +1,6 @@
 use Rattle.std.proofs.Common.{arith}
 use Rattle.ipc_encode.proofs.Marked.{nulls_within}
-use Rattle.ipc_encode.proofs.column.Column.take_lent.Goals as goal
+use Rattle.ipc_encode.proofs.column.Column.take_lent_view.Goals as goal
 
 pub with_all-requires : goal.with_all-requires
 with_all-requires c =

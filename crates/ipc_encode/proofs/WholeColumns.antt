@@ -1,0 +1,133 @@
+-- Columns that lie whole, one by one.
+use Rattle.std.proofs.Common.{◌≡◌, refl, sym, ap, subst, ℕ, zero, suc, ◌+◌, ◌<◌, false, true, inl, inr, List, [], ◌∷◌, length, get_or, Some, arith}
+use Rattle.std.specs.Prelude.{Bool, slice_get, slice_set}
+use Rattle.std.proofs.lemmas.Bool.{cases_lt}
+use Rattle.ipc_model.specs.declared.fault.WriteFault.TheVariants as fault
+use Rattle.ipc_model.specs.declared.layout.Layout.{Layout}
+use Rattle.ipc_model.specs.declared.layout.Layout.TheVariants as l
+use Rattle.ipc_model.specs.declared.limits.Limits.{Limits}
+use Rattle.ipc_model.specs.declared.schema.IntBits.{IntBits}
+use Rattle.ipc_model.specs.declared.value.Value.{Value}
+use Rattle.ipc_column.specs.Nested.{Nested}
+use Rattle.ipc_column.specs.Shapes.{Shape, bare, field}
+use Rattle.ipc_encode.specs.declared.column.Column.{Column}
+use Rattle.ipc_encode.specs.declared.fault.PushFault.{PushFault}
+use Rattle.ipc_encode.specs.declared.node.Node.{Node}
+use Rattle.ipc_encode.specs.Built.{AreNodes, ArePushesRefused, IsNode}
+use Rattle.ipc_encode.specs.Lent.{is_lent}
+use Rattle.ipc_encode.specs.Lying.{AreWhole, IsWhole, is_taken_whole}
+use Rattle.ipc_encode.proofs.Growing.{first_refused, later_refused}
+use Rattle.ipc_encode.proofs.NestedSlots.{some_same}
+use Rattle.ipc_encode.proofs.Nodes.{AreMixed}
+use Rattle.ipc_encode.proofs.Siblings.{IsAt}
+
+-- the node of a field
+pub node_at : (P : Layout → List Value → Column → Type 0) (i : ℕ) (shape : Shape) (nodes : List Node) (given : ℕ → List Value) (d : Node)
+    (l : Layout) (c : Shape)
+    → IsAt i shape l c → AreNodes P shape nodes given → IsNode P l c (get_or nodes i d) (given i)
+node_at P i bare nodes given d l c at h = absurd at
+node_at P i (field k e rest) [] given d l c at h = absurd h
+node_at P zero (field k e rest) (m ∷ ms) given d l c at h =
+    subst (λ (s : Shape). IsNode P l s m (given 0)) at.1 (subst (λ (x : Layout). IsNode P x e m (given 0)) at.0 h.0)
+node_at P (suc i) (field k e rest) (m ∷ ms) given d l c at h = node_at P i rest ms (λ j. given (suc j)) d l c at h.1
+
+-- the column that was read for a field
+pub whole_at : (i : ℕ) (shape : Shape) (views : List Nested) (given : ℕ → List Value) (l : Layout) (c : Shape) (v : Nested)
+    → IsAt i shape l c → slice_get views i ≡ Some v → AreWhole shape views given → IsWhole l c v (given i)
+whole_at i bare views given l c v at is h = absurd at
+whole_at i (field k e rest) [] given l c v at is h = absurd h
+whole_at zero (field k e rest) (w ∷ ws) given l c v at is h =
+    subst (λ (n : Nested). IsWhole l c n (given 0)) (some_same w v is)
+    (subst (λ (s : Shape). IsWhole l s w (given 0)) at.1 (subst (λ (x : Layout). IsWhole x e w (given 0)) at.0 h.0))
+whole_at (suc i) (field k e rest) (w ∷ ws) given l c v at is h = whole_at i rest ws (λ j. given (suc j)) l c v at is h.1
+
+-- columns are whole where each of them is, and there is one for each node
+pub whole_all : (P : Layout → List Value → Column → Type 0) (shape : Shape) (nodes : List Node) (views : List Nested)
+    (before given : ℕ → List Value)
+    → AreNodes P shape nodes before → length nodes ≡ length views
+    → ((i : ℕ) → i < length nodes → (l : Layout) (c : Shape) (v : Nested) → IsAt i shape l c → slice_get views i ≡ Some v
+    → IsWhole l c v (given i))
+    → AreWhole shape views given
+whole_all P bare [] [] before given h size each = tt
+whole_all P bare [] (v ∷ vs) before given h size each = absurd (omega arith)
+whole_all P bare (m ∷ ms) views before given h size each = absurd h
+whole_all P (field l c rest) [] views before given h size each = absurd h
+whole_all P (field l c rest) (m ∷ ms) [] before given h size each = absurd (omega arith)
+whole_all P (field l c rest) (m ∷ ms) (v ∷ vs) before given h size each = (
+  each 0 (omega arith) l c v (refl, refl) refl,
+  whole_all P rest ms vs (λ j. before (suc j)) (λ j. given (suc j)) h.1 (omega arith)
+      (λ i m k e w at is. each (suc i) (omega arith) k e w at is),
+)
+
+-- there are as many nodes as columns
+pub whole_many : (P : Layout → List Value → Column → Type 0) (shape : Shape) (nodes : List Node) (views : List Nested)
+    (before given : ℕ → List Value)
+    → AreNodes P shape nodes before → AreWhole shape views given → length nodes ≡ length views
+whole_many P bare [] [] before given h w = refl
+whole_many P bare [] (v ∷ vs) before given h w = absurd w
+whole_many P bare (m ∷ ms) views before given h w = absurd h
+whole_many P (field l c rest) [] views before given h w = absurd h
+whole_many P (field l c rest) (m ∷ ms) [] before given h w = absurd w
+whole_many P (field l c rest) (m ∷ ms) (v ∷ vs) before given h w =
+    let more = whole_many P rest ms vs (λ j. before (suc j)) (λ j. given (suc j)) h.1 w.1 in omega (arith, more)
+
+-- what holds of the first numbers and of the next
+pub first_and_next : (Q : ℕ → Type 0) (i : ℕ) → ((j : ℕ) → j < i → Q j) → Q i → (j : ℕ) → j < i + 1 → Q j
+first_and_next Q i before next j m = elim (cases_lt j i) as (λ _. Q j) [
+  | inl under ↦ before j under
+  | inr over ↦ subst Q (let same : i ≡ j = omega (arith, m, over) in same) next
+]
+
+-- ---- nodes that take their values one after another
+
+-- node i has its new values
+pub mixed_more_at : (Q P : Layout → List Value → Column → Type 0) (i : ℕ) (shape : Shape) (nodes : List Node) (old new : ℕ → List Value)
+    (n d : Node) → i < length nodes
+    → ((l : Layout) (c : Shape) → IsAt i shape l c → IsNode P l c (get_or nodes i d) (old i) → IsNode Q l c n (new i))
+    → AreMixed Q P i shape nodes old new → AreMixed Q P (suc i) shape (slice_set nodes i n) old new
+mixed_more_at Q P i bare [] old new n d l step h = absurd (omega arith)
+mixed_more_at Q P zero bare (m ∷ ms) old new n d l step h = absurd h
+mixed_more_at Q P (suc i) bare (m ∷ ms) old new n d l step h = absurd h
+mixed_more_at Q P zero (field k c rest) [] old new n d l step h = absurd h
+mixed_more_at Q P (suc i) (field k c rest) [] old new n d l step h = absurd h
+mixed_more_at Q P zero (field k c rest) (m ∷ ms) old new n d l step h = (step k c (refl, refl) h.0, h.1)
+mixed_more_at Q P (suc i) (field k c rest) (m ∷ ms) old new n d l step h =
+    (h.0, mixed_more_at Q P i rest ms (λ j. old (suc j)) (λ j. new (suc j)) n d (omega arith) step h.1)
+
+-- why node i doesn't take its values is why all nodes don't take theirs
+pub mixed_refused_at : (limits : Limits) (Q P : Layout → List Value → Column → Type 0) (i : ℕ) (shape : Shape) (nodes : List Node)
+    (old new : ℕ → List Value) (d : Node) (e : PushFault) → i < length nodes
+    → ((l : Layout) (c : Shape) → IsAt i shape l c → IsNode P l c (get_or nodes i d) (old i)
+    → ArePushesRefused limits (field l c bare) (λ j. new i) e)
+    → AreMixed Q P i shape nodes old new → ArePushesRefused limits shape new e
+mixed_refused_at limits Q P i bare [] old new d e l step h = absurd (omega arith)
+mixed_refused_at limits Q P zero bare (m ∷ ms) old new d e l step h = absurd h
+mixed_refused_at limits Q P (suc i) bare (m ∷ ms) old new d e l step h = absurd h
+mixed_refused_at limits Q P zero (field k c rest) [] old new d e l step h = absurd h
+mixed_refused_at limits Q P (suc i) (field k c rest) [] old new d e l step h = absurd h
+mixed_refused_at limits Q P zero (field k c rest) (m ∷ ms) old new d e l step h =
+    first_refused limits k c rest new e (step k c (refl, refl) h.0)
+mixed_refused_at limits Q P (suc i) (field k c rest) (m ∷ ms) old new d e l step h =
+    later_refused limits k c rest new e
+    (mixed_refused_at limits Q P i rest ms (λ j. old (suc j)) (λ j. new (suc j)) d e (omega arith) step h.1)
+
+-- ---- layouts
+
+-- a layout of numbers
+pub record AreNumbersLaid (layout : Layout) : Type 0 where
+  pub bits : IntBits
+  pub signed : Bool
+  pub laid : layout ≡ l.Numbers bits signed
+
+-- what can be taken whole and has neither children nor lent slots has numbers
+pub numbers_left : (layout : Layout) → is_taken_whole layout ≡ true → is_lent layout ≡ false → (layout ≡ l.Lists → ⊥)
+    → (layout ≡ l.Structs → ⊥) → AreNumbersLaid layout
+numbers_left (l.Numbers bits signed) whole lent list struct = record { bits = bits; signed = signed; laid = refl }
+numbers_left l.Null whole lent list struct = absurd (cc)
+numbers_left l.Bits whole lent list struct = absurd (cc)
+numbers_left (l.FixedBytes width) whole lent list struct = absurd (cc)
+numbers_left (l.VariableBytes utf8) whole lent list struct = absurd (cc)
+numbers_left l.Lists whole lent list struct = absurd (list refl)
+numbers_left l.Structs whole lent list struct = absurd (struct refl)
+numbers_left (l.FixedLists size) whole lent list struct = absurd (cc)
+numbers_left (l.Indices bits signed id) whole lent list struct = absurd (cc)
