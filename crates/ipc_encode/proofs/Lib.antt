@@ -13,7 +13,7 @@ pub mod Growing
 pub mod Siblings
 pub mod Leaving
 pub mod Held
-pub mod CellParts
+pub mod SlotParts
 pub mod Marked
 pub mod NumberBytes
 pub mod NumberSlots

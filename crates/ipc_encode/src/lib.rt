@@ -5,7 +5,6 @@
 mod batch;
 mod buffers;
 mod builder;
-mod cell_parts;
 mod cells;
 mod column;
 mod copying;
@@ -27,6 +26,7 @@ mod numbers;
 mod parts;
 mod pushing;
 mod room;
+mod slot_parts;
 mod sure;
 mod sure_columns;
 mod sure_inside;
