@@ -25,11 +25,13 @@ mod marks;
 mod node;
 mod numbers;
 mod parts;
+mod plain;
 mod pushing;
 mod room;
 mod sure;
 mod sure_columns;
 mod sure_inside;
+mod sure_slots;
 mod tree;
 
 pub use batch::encode;
