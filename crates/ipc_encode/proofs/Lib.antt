@@ -38,3 +38,4 @@ pub mod NestedValues
 pub mod Reading
 pub mod EntryIndices
 pub mod SureIndices
+pub mod SureSlots

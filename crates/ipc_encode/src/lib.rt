@@ -24,12 +24,14 @@ mod marks;
 mod node;
 mod numbers;
 mod parts;
+mod plain;
 mod pushing;
 mod room;
 mod slot_parts;
 mod sure;
 mod sure_columns;
 mod sure_inside;
+mod sure_slots;
 mod tree;
 
 pub use batch::encode;
