@@ -25,6 +25,7 @@ pub mod NestedTexts
 pub mod NestedFits
 pub mod Copied
 pub mod SureColumns
+pub mod NestedData
 pub mod CountedColumns
 pub mod Indexed
 pub mod Ranges

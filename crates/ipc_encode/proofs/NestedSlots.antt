@@ -135,7 +135,7 @@ front_items f i n m =
     ∙ take_all i (items f 0 i) (omega (arith, front))))
 
 -- lists have as many items as their runs are long
-items_run : (vs : List Value) → length (all_items vs) ≡ extents Items vs
+pub items_run : (vs : List Value) → length (all_items vs) ≡ extents Items vs
 items_run [] = refl
 items_run (v ∷ vs) =
     let more = items_run vs in

@@ -16,6 +16,7 @@ use crate::index::IndexOf;
 use crate::lent::is_lent;
 use crate::node::Node;
 use crate::numbers::lent_numbers;
+use crate::plain::lie_alike;
 use crate::tree::take;
 use ipc_column::Batch;
 use ipc_model::{Layout, Limits, Value};
@@ -89,16 +90,15 @@ fn take_column<I: IndexOf>(
         (λ j. before ++ cells column batch.now.rows)) }
 {
     if node.is_leaf() && column < batch.columns() {
-        let view = batch.column(column);
-        if is_lent(node.column.layout) {
-            return node.column.take_lent(&view, limits);
+        let slots = batch.column(column).slots();
+        if is_lent(node.column.layout) && lie_alike(slots.layout(), node.column.layout) {
+            return node.column.take_lent(&slots, limits);
         }
         if let Layout::Indices { bits, .. } = node.column.layout {
             return node
                 .column
                 .take_indices(batch, column, bits, limits, indices);
         }
-        let slots = view.slots();
         if let Some(lent) = lent_numbers(node.column.layout, &slots) {
             return node
                 .column

@@ -37,8 +37,8 @@ fn count_marked_nulls(view: &SlotView<'_>) -> Option<usize>
     marks::count_nulls(lent_marks(view)?, view.len())
 }
 
-// How many slots are null.
-fn count_nulls(view: &SlotView<'_>) -> usize
+/// How many slots are null.
+pub(crate) fn count_nulls(view: &SlotView<'_>) -> usize
     ensures { result ≡ nulls (slot_values view.now) }
 {
     if let Some(null_count) = count_marked_nulls(view) {
@@ -210,9 +210,9 @@ fn push_contents(
     push_each_content(values, offsets, view)
 }
 
-// Notes whether each slot is valid, so many of them null, in a column of this layout, which may
-// have no validity bitmap, behind so many others with so many nulls.
-fn push_validities(
+/// Notes whether each slot is valid, so many of them null, in a column of this layout, which may
+/// have no validity bitmap, behind so many others with so many nulls.
+pub(crate) fn push_validities(
     layout: Layout,
     validity: &mut Vec<u8>,
     held: usize,

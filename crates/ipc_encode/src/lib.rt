@@ -21,6 +21,7 @@ mod lengths;
 mod lent;
 mod lying;
 mod marks;
+mod nested_slots;
 mod node;
 mod numbers;
 mod parts;

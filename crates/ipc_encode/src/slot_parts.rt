@@ -1,8 +1,8 @@
 //! What a slot of a column that was read gives to a column's buffers.
-ghost use Rattle.std.specs.Prelude.{◌≡◌, ◌++◌, ℕ, List, OnOk, replicate};
+ghost use Rattle.std.specs.Prelude.{◌≡◌, ◌++◌, ℕ, List, OnOk, length, replicate};
 ghost use Rattle.ipc_model.specs.declared.value.Value.{Value};
 ghost use Rattle.ipc_column.specs.Slots.{shown};
-ghost use Rattle.ipc_encode.specs.Cells.{content, is_set, slot_bytes};
+ghost use Rattle.ipc_encode.specs.Cells.{content, is_set, items, slot_bytes};
 ghost use Rattle.ipc_encode.specs.Pieces.{Fixed, True, Valid};
 
 use ipc_column::Slot;
@@ -65,5 +65,17 @@ pub(crate) fn push_fixed(
     match held {
         Slot::Bytes(bytes) => values.extend_from_slice(bytes),
         _ => push_zeros(values, width),
+    }
+}
+
+/// How many items the list in a slot has; none has any other slot.
+#[inline(always)]
+pub(crate) fn item_count(held: &Slot<'_>) -> usize
+    ensures { (under : ℕ → List Value) (slot : ℕ)
+        → result ≡ length (items (shown under slot held.now)) }
+{
+    match held {
+        Slot::List { from, to } => to.saturating_sub(*from),
+        _ => 0,
     }
 }
