@@ -13,7 +13,7 @@ pub mod Growing
 pub mod Siblings
 pub mod Leaving
 pub mod Held
-pub mod CellParts
+pub mod SlotParts
 pub mod Marked
 pub mod NumberBytes
 pub mod NumberSlots
@@ -26,6 +26,7 @@ pub mod NestedFits
 pub mod WholeColumns
 pub mod Copied
 pub mod SureColumns
+pub mod NestedData
 pub mod CountedColumns
 pub mod Indexed
 pub mod Ranges
@@ -39,3 +40,4 @@ pub mod NestedValues
 pub mod Reading
 pub mod EntryIndices
 pub mod SureIndices
+pub mod SureSlots

@@ -17,11 +17,11 @@ use Rattle.ipc_encode.proofs.Weights.{list_fits, null_fits, struct_fits}
 -- ---- lists
 
 -- a fact of values and of others is one of each part
-all_front : (P : Value → Type 0) (vs ws : List Value) → AllByRecursion P (vs ++ ws) → AllByRecursion P vs
+pub all_front : (P : Value → Type 0) (vs ws : List Value) → AllByRecursion P (vs ++ ws) → AllByRecursion P vs
 all_front P [] ws h = tt
 all_front P (v ∷ vs) ws h = (h.0, all_front P vs ws h.1)
 
-all_behind : (P : Value → Type 0) (vs ws : List Value) → AllByRecursion P (vs ++ ws) → AllByRecursion P ws
+pub all_behind : (P : Value → Type 0) (vs ws : List Value) → AllByRecursion P (vs ++ ws) → AllByRecursion P ws
 all_behind P [] ws h = h
 all_behind P (v ∷ vs) ws h = all_behind P vs ws h.1
 

@@ -66,7 +66,7 @@ first_value s child j e = first s.children e
     first (p ∷ ps) e = part_value s.body p j ∙ ap (λ (n : Nested). child_value n j) (some_same (nested s.body p) child e)
 
 -- the value of a slot in column k is that of child k
-cell_value : (s child : Nested) (k j : ℕ) → slice_get (nested_in s) k ≡ Some child
+pub cell_value : (s child : Nested) (k j : ℕ) → slice_get (nested_in s) k ≡ Some child
     → cell k (row (below s) j) ≡ child_value child j
 cell_value s child k j e = at s.children k e
   where
@@ -135,7 +135,7 @@ front_items f i n m =
     ∙ take_all i (items f 0 i) (omega (arith, front))))
 
 -- lists have as many items as their runs are long
-items_run : (vs : List Value) → length (all_items vs) ≡ extents Items vs
+pub items_run : (vs : List Value) → length (all_items vs) ≡ extents Items vs
 items_run [] = refl
 items_run (v ∷ vs) =
     let more = items_run vs in

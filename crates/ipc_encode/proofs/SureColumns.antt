@@ -121,7 +121,7 @@ plain_lies t.Struct plain = absurd (cc)
 -- ---- what fits
 
 -- a value of the type, or null where the field may be null
-own_from : (kind : DataType) (nullable : Bool) (n : ℕ) (value : Value) → (is_null value ≡ false → IsOfKind kind n (out-Value value))
+pub own_from : (kind : DataType) (nullable : Bool) (n : ℕ) (value : Value) → (is_null value ≡ false → IsOfKind kind n (out-Value value))
     → (is_null value ≡ true → IsTrue nullable) → IsOwn kind nullable n (out-Value value)
 unfolding out-Value denote.Hole.Carrier.out
 own_from kind nullable n v.Null of may = inl (may refl)

@@ -274,10 +274,10 @@ impl Builder {
     }
 
     /// Whether all rows of a batch that was read surely conform to the fields of the rows that are
-    /// held, and are within the limits with them. It takes one look at each column, and at the
-    /// dictionary that it reads its values from, and none at the values, but whether one is null
-    /// where a field with a dictionary is required: where it isn't sure, as for lists and structs,
-    /// the rows one by one tell.
+    /// held, and are within the limits with them. It takes one look at each column, also at those
+    /// of the children of lists and structs, where these have just the slots that theirs lead to,
+    /// and at the dictionary that it reads its values from, and none at the values, but whether one
+    /// is null: where it isn't sure, as for lists of a fixed size, the rows one by one tell.
     pub fn surely_takes_columns(&self, fields: &[Field], batch: &Batch) -> bool
         ensures conforms { (known : Numbering) (limits : Limits) (rows : List (List Value))
             → HasRows known limits fields.now rows self.now → IsTrue result

@@ -14,9 +14,12 @@ use crate::column::Purpose;
 use crate::fault::PushFault;
 use crate::index::IndexOf;
 use crate::lent::is_lent;
+use crate::lying::lies_whole;
 use crate::node::Node;
 use crate::numbers::lent_numbers;
+use crate::plain::lie_alike;
 use crate::tree::take;
+use crate::whole::take_whole;
 use ipc_column::Batch;
 use ipc_model::{Layout, Limits, Value};
 use std::alloc::Global;
@@ -68,8 +71,8 @@ fn take_each<I: IndexOf>(
 }
 
 // Takes the values of a column of a batch, null where the batch has no such column: numbers as they
-// lie, nulls, bits and bytes as they are lent, indices by the values of their dictionary, others
-// one by one.
+// lie, nulls, bits and bytes as they are lent, indices by the values of their dictionary, lists and
+// structs whole where their children have just the slots that theirs lead to, others one by one.
 fn take_column<I: IndexOf>(
     node: &mut Node,
     batch: &Batch,
@@ -89,20 +92,25 @@ fn take_column<I: IndexOf>(
         (λ j. before ++ cells column batch.now.rows)) }
 {
     if node.is_leaf() && column < batch.columns() {
-        let view = batch.column(column);
-        if is_lent(node.column.layout) {
-            return node.column.take_lent_view(&view, limits);
+        let slots = batch.column(column).slots();
+        if is_lent(node.column.layout) && lie_alike(slots.layout(), node.column.layout) {
+            return node.column.take_lent(&slots, limits);
         }
         if let Layout::Indices { bits, .. } = node.column.layout {
             return node
                 .column
                 .take_indices(batch, column, bits, limits, indices);
         }
-        let slots = view.slots();
         if let Some(lent) = lent_numbers(node.column.layout, &slots) {
             return node
                 .column
                 .take_numbers(&slots, &lent.numbers, lent.null_count, limits);
+        }
+    }
+    if !node.is_leaf() && column < batch.columns() {
+        let view = batch.column(column).slots();
+        if lies_whole(node, &view) {
+            return take_whole(node, &view, limits);
         }
     }
     take_each(node, batch, column, limits, indices)

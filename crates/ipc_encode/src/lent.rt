@@ -7,10 +7,7 @@ ghost use Rattle.ipc_model.specs.declared.layout.Layout.{Layout};
 ghost use Rattle.ipc_model.specs.declared.limits.Limits.{Limits};
 ghost use Rattle.ipc_model.specs.declared.value.Value.{Value};
 ghost use Rattle.ipc_scalar.specs.Bytes.{bit, num};
-ghost use Rattle.ipc_column.specs.Nested.{alone, slot_values};
-ghost use Rattle.ipc_column.specs.Rules.{SpellsTexts};
-ghost use Rattle.ipc_model.specs.declared.layout.Layout.TheVariants.{Lists as ListsLaid, Structs as StructsLaid};
-ghost use Rattle.std.specs.Prelude.{◌⊎◌};
+ghost use Rattle.ipc_column.specs.Nested.{slot_values};
 ghost use Rattle.ipc_column.specs.Values.{is_valid};
 ghost use Rattle.ipc_encode.specs.Bitmaps.{bitmap};
 ghost use Rattle.ipc_encode.specs.Built.{IsColumn, IsPushRefused};
@@ -23,51 +20,51 @@ ghost use Rattle.ipc_encode.specs.Pieces.{Bytes, Content, Fixed, True, Valid};
 ghost use Rattle.ipc_encode.specs.Writing.{AreStored};
 
 use crate::buffers::{LentContents, lent_contents, lent_marks, lent_widths, offset_at};
-use crate::cell_parts::{content, is_true, is_valid, push_fixed};
 use crate::column::Column;
 use crate::fault::PushFault;
 use crate::flags::{push_bit, set_bits};
 use crate::marks;
 use crate::pushing::push_offset;
-use ipc_column::{ColumnView, SlotView};
+use crate::slot_parts::{content, is_true, is_valid, push_fixed};
+use ipc_column::SlotView;
 use ipc_model::{Layout, Limits};
 use std::alloc::AllocError;
 
 // How many slots are null, where a bitmap says which.
-fn count_marked_nulls(view: &ColumnView<'_>) -> Option<usize>
-    ensures { IfSome result (λ many. many ≡ nulls view.now) }
+fn count_marked_nulls(view: &SlotView<'_>) -> Option<usize>
+    ensures { IfSome result (λ many. many ≡ nulls (slot_values view.now)) }
 {
-    marks::count_nulls(lent_marks(&view.slots())?, view.len())
+    marks::count_nulls(lent_marks(view)?, view.len())
 }
 
-// How many slots are null.
-fn count_nulls(view: &ColumnView<'_>) -> usize
-    ensures { result ≡ nulls view.now }
+/// How many slots are null.
+pub(crate) fn count_nulls(view: &SlotView<'_>) -> usize
+    ensures { result ≡ nulls (slot_values view.now) }
 {
     if let Some(null_count) = count_marked_nulls(view) {
         return null_count;
     }
     let mut null_count = 0;
     for slot in 0..view.len() {
-        let cell = view.at(slot);
-        null_count += usize::from(!is_valid(&cell));
+        let shown = view.at(slot);
+        null_count += usize::from(!is_valid(&shown));
     }
     null_count
 }
 
 // Appends whether each slot is valid to so many packed bits.
-fn push_marks(bits: &mut Vec<u8>, held: usize, view: &ColumnView<'_>) -> Result<(), AllocError>
-    requires { held + length view.now < 2 ^ 63 }
+fn push_marks(bits: &mut Vec<u8>, held: usize, view: &SlotView<'_>) -> Result<(), AllocError>
+    requires { held + length (slot_values view.now) < 2 ^ 63 }
     ensures { (before : List Value) → length before ≡ held
         → bits.old.items ≡ bitmap (flags Valid before)
-        → OnOk result (bits.new.items ≡ bitmap (flags Valid (before ++ view.now))) }
+        → OnOk result (bits.new.items ≡ bitmap (flags Valid (before ++ slot_values view.now))) }
 {
-    if let Some(marks) = lent_marks(&view.slots()) {
+    if let Some(marks) = lent_marks(view) {
         return marks::push_marks(bits, held, marks, view.len());
     }
     for slot in 0..view.len() {
-        let cell = view.at(slot);
-        push_bit(bits, held + slot, is_valid(&cell))?;
+        let shown = view.at(slot);
+        push_bit(bits, held + slot, is_valid(&shown))?;
     }
     Ok(())
 }
@@ -122,31 +119,31 @@ fn push_truth_bytes(
 }
 
 // Appends whether each slot is true to so many packed bits.
-fn push_truths(bits: &mut Vec<u8>, held: usize, view: &ColumnView<'_>) -> Result<(), AllocError>
-    requires { held + length view.now < 2 ^ 63 }
+fn push_truths(bits: &mut Vec<u8>, held: usize, view: &SlotView<'_>) -> Result<(), AllocError>
+    requires { held + length (slot_values view.now) < 2 ^ 63 }
     ensures { (before : List Value) → length before ≡ held
         → bits.old.items ≡ bitmap (flags True before)
-        → OnOk result (bits.new.items ≡ bitmap (flags True (before ++ view.now))) }
+        → OnOk result (bits.new.items ≡ bitmap (flags True (before ++ slot_values view.now))) }
 {
-    let taken = push_truth_bytes(bits, held, &view.slots())?;
+    let taken = push_truth_bytes(bits, held, view)?;
     for slot in taken..view.len() {
-        let cell = view.at(slot);
-        push_bit(bits, held + slot, is_true(&cell))?;
+        let shown = view.at(slot);
+        push_bit(bits, held + slot, is_true(&shown))?;
     }
     Ok(())
 }
 
 // Appends the bytes of each slot of a fixed width.
-fn push_widths(values: &mut Vec<u8>, view: &ColumnView<'_>, width: u32) -> Result<(), AllocError>
+fn push_widths(values: &mut Vec<u8>, view: &SlotView<'_>, width: u32) -> Result<(), AllocError>
     ensures { OnOk result
-        (values.new.items ≡ values.old.items ++ slots (Fixed width) view.now) }
+        (values.new.items ≡ values.old.items ++ slots (Fixed width) (slot_values view.now)) }
 {
-    if let Some(bytes) = lent_widths(&view.slots(), width) {
+    if let Some(bytes) = lent_widths(view, width) {
         return values.extend_from_slice(bytes);
     }
     for slot in 0..view.len() {
-        let cell = view.at(slot);
-        push_fixed(values, &cell, width)?;
+        let shown = view.at(slot);
+        push_fixed(values, &shown, width)?;
     }
     Ok(())
 }
@@ -155,17 +152,16 @@ fn push_widths(values: &mut Vec<u8>, view: &ColumnView<'_>, width: u32) -> Resul
 fn push_each_content(
     values: &mut Vec<u8>,
     offsets: &mut Vec<u8>,
-    view: &ColumnView<'_>,
+    view: &SlotView<'_>,
 ) -> Result<(), AllocError>
     ensures values { OnOk result
-        (values.new.items ≡ values.old.items ++ slots Content view.now) }
+        (values.new.items ≡ values.old.items ++ slots Content (slot_values view.now)) }
     ensures ends { OnOk result (offsets.new.items
-        ≡ offsets.old.items ++ ends Bytes (length values.old.items) view.now) }
-    ensures texts { OnOk result (AllByRecursion HasUtf8 view.now) }
+        ≡ offsets.old.items ++ ends Bytes (length values.old.items) (slot_values view.now)) }
 {
     for slot in 0..view.len() {
-        let cell = view.at(slot);
-        values.extend_from_slice(content(&cell))?;
+        let shown = view.at(slot);
+        values.extend_from_slice(content(&shown))?;
         push_offset(offsets, values.len())?;
     }
     Ok(())
@@ -200,36 +196,35 @@ fn push_ends(
 fn push_contents(
     values: &mut Vec<u8>,
     offsets: &mut Vec<u8>,
-    view: &ColumnView<'_>,
+    view: &SlotView<'_>,
 ) -> Result<(), AllocError>
     ensures values { OnOk result
-        (values.new.items ≡ values.old.items ++ slots Content view.now) }
+        (values.new.items ≡ values.old.items ++ slots Content (slot_values view.now)) }
     ensures ends { OnOk result (offsets.new.items
-        ≡ offsets.old.items ++ ends Bytes (length values.old.items) view.now) }
-    ensures texts { OnOk result (AllByRecursion HasUtf8 view.now) }
+        ≡ offsets.old.items ++ ends Bytes (length values.old.items) (slot_values view.now)) }
 {
-    if let Some(lent) = lent_contents(&view.slots()) {
+    if let Some(lent) = lent_contents(view) {
         push_ends(offsets, &lent, view.len(), values.len())?;
         return values.extend_from_slice(lent.bytes);
     }
     push_each_content(values, offsets, view)
 }
 
-// Notes whether each slot is valid, so many of them null, in a column of this layout, which may
-// have no validity bitmap, behind so many others with so many nulls.
-fn push_validities(
+/// Notes whether each slot is valid, so many of them null, in a column of this layout, which may
+/// have no validity bitmap, behind so many others with so many nulls.
+pub(crate) fn push_validities(
     layout: Layout,
     validity: &mut Vec<u8>,
     held: usize,
     held_nulls: usize,
-    view: &ColumnView<'_>,
+    view: &SlotView<'_>,
     more_nulls: usize,
 ) -> Result<(), AllocError>
-    requires few { held + length view.now < 2 ^ 63 }
-    requires nulls { more_nulls ≡ nulls view.now }
+    requires few { held + length (slot_values view.now) < 2 ^ 63 }
+    requires nulls { more_nulls ≡ nulls (slot_values view.now) }
     ensures { (before : List Value) → length before ≡ held → nulls before ≡ held_nulls
         → validity.old.items ≡ validity_in layout before
-        → OnOk result (validity.new.items ≡ validity_in layout (before ++ view.now)) }
+        → OnOk result (validity.new.items ≡ validity_in layout (before ++ slot_values view.now)) }
 {
     if layout.own_buffers() == 0 {
         return Ok(());
@@ -250,18 +245,16 @@ fn push_slots(
     held: usize,
     values: &mut Vec<u8>,
     offsets: &mut Vec<u8>,
-    view: &ColumnView<'_>,
+    view: &SlotView<'_>,
 ) -> Result<(), AllocError>
     requires lent { is_lent layout ≡ true }
-    requires few { held + length view.now < 2 ^ 63 }
+    requires few { held + length (slot_values view.now) < 2 ^ 63 }
     ensures values { (before : List Value) → length before ≡ held
         → values.old.items ≡ values_in layout before
-        → OnOk result (values.new.items ≡ values_in layout (before ++ view.now)) }
+        → OnOk result (values.new.items ≡ values_in layout (before ++ slot_values view.now)) }
     ensures offsets { (before : List Value) → values.old.items ≡ values_in layout before
         → offsets.old.items ≡ offsets_in layout before
-        → OnOk result (offsets.new.items ≡ offsets_in layout (before ++ view.now)) }
-    ensures stored { (before : List Value) → AreStored layout before
-        → OnOk result (AreStored layout (before ++ view.now)) }
+        → OnOk result (offsets.new.items ≡ offsets_in layout (before ++ slot_values view.now)) }
 {
     match layout {
         Layout::VariableBytes { .. } => push_contents(values, offsets, view),
@@ -303,18 +296,19 @@ impl Column {
     /// Takes the values of all slots of a column, without a value of its own for each.
     ///
     /// Refused as `take`.
-    pub(crate) fn take_lent_view(
+    pub(crate) fn take_lent(
         &mut self,
-        view: &ColumnView<'_>,
+        view: &SlotView<'_>,
         limits: &Limits,
     ) -> Result<(), PushFault>
         requires { is_lent self.now.layout ≡ true }
         ensures taken { (known : Numbering) (layout : Layout) (before : List Value)
             → IsColumn known limits.now layout before self.old
-            → OnOk result (IsColumn known limits.now layout (before ++ view.now) self.new) }
+            → AreStored layout (slot_values view.now)
+            → OnOk result (IsColumn known limits.now layout (before ++ slot_values view.now) self.new) }
         ensures refused { (known : Numbering) (layout : Layout) (before : List Value)
             → IsColumn known limits.now layout before self.old
-            → IfErr result (IsPushRefused limits.now layout (before ++ view.now)) }
+            → IfErr result (IsPushRefused limits.now layout (before ++ slot_values view.now)) }
     {
         let count = view.len();
         if count > limits.slots as usize {
@@ -340,37 +334,6 @@ impl Column {
         )?;
         let amount = data_len(layout, self.values.len());
         self.counts = held.with_all(layout, count, null_count, amount, limits)?;
-        Ok(())
-    }
-
-    pub(crate) fn take_lent(&mut self, view: &SlotView<'_>, limits: &Limits) -> Result<(), PushFault>
-        requires { is_lent self.now.layout ≡ true }
-        ensures taken { (known : Numbering) (layout : Layout) (before : List Value)
-            → IsColumn known limits.now layout before self.old
-            → ((i : ℕ) → i < length (slot_values view.now) → SpellsTexts (alone view.now) i)
-            → OnOk result (IsColumn known limits.now layout (before ++ slot_values view.now) self.new) }
-        ensures refused { (known : Numbering) (layout : Layout) (before : List Value)
-            → IsColumn known limits.now layout before self.old
-            → IfErr result (IsPushRefused limits.now layout (before ++ slot_values view.now)) }
-    {
-        if view.len() > limits.slots as usize {
-            return Err(PushFault::TooMany);
-        }
-        Ok(())
-    }
-
-    pub(crate) fn take_nested(&mut self, view: &SlotView<'_>, limits: &Limits) -> Result<(), PushFault>
-        requires { (self.now.layout ≡ ListsLaid) ⊎ (self.now.layout ≡ StructsLaid) }
-        ensures taken { (known : Numbering) (layout : Layout) (before : List Value)
-            → IsColumn known limits.now layout before self.old
-            → OnOk result (IsColumn known limits.now layout (before ++ slot_values view.now) self.new) }
-        ensures refused { (known : Numbering) (layout : Layout) (before : List Value)
-            → IsColumn known limits.now layout before self.old
-            → IfErr result (IsPushRefused limits.now layout (before ++ slot_values view.now)) }
-    {
-        if view.len() > limits.slots as usize {
-            return Err(PushFault::TooMany);
-        }
         Ok(())
     }
 }

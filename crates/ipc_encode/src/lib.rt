@@ -5,7 +5,6 @@
 mod batch;
 mod buffers;
 mod builder;
-mod cell_parts;
 mod cells;
 mod column;
 mod copying;
@@ -22,14 +21,18 @@ mod lengths;
 mod lent;
 mod lying;
 mod marks;
+mod nested_slots;
 mod node;
 mod numbers;
 mod parts;
+mod plain;
 mod pushing;
 mod room;
+mod slot_parts;
 mod sure;
 mod sure_columns;
 mod sure_inside;
+mod sure_slots;
 mod tree;
 mod whole;
 

@@ -23,8 +23,8 @@ use crate::node::Node;
 use ipc_column::SlotView;
 use ipc_model::Layout;
 
-// Whether lists have all slots of their child, one list behind another.
-fn lists_have_all(view: &SlotView<'_>) -> bool
+/// Whether lists have all slots of their child, one list behind another.
+pub(crate) fn lists_have_all(view: &SlotView<'_>) -> bool
     ensures slots { IsTrue result → (child : Nested)
         → slice_get (nested_in view.now) 0 ≡ Some child
         → all_items (slot_values view.now) ≡ slot_values child }
@@ -77,9 +77,9 @@ fn nulls_are_shared(marks: &[u8], child: &SlotView<'_>) -> bool
     true
 }
 
-// Whether the structs of a column have all slots of a child: one each, which is null where the
-// struct is.
-fn structs_have_all(view: &SlotView<'_>, i: usize) -> bool
+/// Whether the structs of a column have all slots of a child: one each, which is null where the
+/// struct is.
+pub(crate) fn structs_have_all(view: &SlotView<'_>, i: usize) -> bool
     requires { i < length view.now.children }
     ensures slots { IsTrue result → (child : Nested)
         → slice_get (nested_in view.now) i ≡ Some child

@@ -18,38 +18,16 @@ ghost use Rattle.ipc_encode.specs.Cells.{cells};
 ghost use Rattle.ipc_encode.specs.Columns.{data_in};
 ghost use Rattle.ipc_encode.specs.Limits.{HasLongData};
 ghost use Rattle.ipc_encode.specs.Numbers.{Numbering};
-ghost use Rattle.ipc_encode.specs.PlainColumns.{LiesPlainly, is_plain};
+ghost use Rattle.ipc_encode.specs.PlainColumns.{LiesPlainly};
 
 use crate::column::MAX_DATA;
 use crate::counts::Counts;
 use crate::node::Node;
+use crate::plain::{is_plain, lie_alike};
 use crate::sure::has_small;
+use crate::sure_slots::most_of_nested;
 use ipc_column::{Batch, SlotView};
-use ipc_model::{DataType, DateUnit, Field, Layout, Limits, layout_of};
-
-// Whether whatever slots of a type's layout show is of the type.
-fn is_plain(kind: &DataType) -> bool
-    ensures { result ≡ is_plain kind.now }
-{
-    matches!(
-        kind,
-        DataType::Bool
-            | DataType::Int { .. }
-            | DataType::Binary
-            | DataType::Utf8
-            | DataType::FixedSizeBinary(_)
-            | DataType::Date(DateUnit::Day)
-            | DataType::Timestamp { .. }
-            | DataType::Duration(_)
-    )
-}
-
-// Whether slots of two layouts lie alike.
-fn lie_alike(one: Layout, other: Layout) -> bool
-    ensures { IsTrue result → one ≡ other }
-{
-    one == other
-}
+use ipc_model::{Field, Layout, Limits, layout_of};
 
 // Whether the values of a column surely fit a field, told by how they lie.
 fn column_fits(field: &Field, slots: &SlotView<'_>) -> bool
@@ -146,20 +124,23 @@ fn most_of_slots(layout: Layout, counts: Counts, slots: &SlotView<'_>) -> Option
     }
 }
 
-// The bytes that the buffers of a column without children take at most with these slots more,
+// The bytes that the buffers of a column, and of those below it, take at most with these slots more,
 // beside those that don't hang on what they show, where that surely fits the field.
-fn most_with_slots(field: &Field, slots: &SlotView<'_>, node: &Node) -> Option<u64>
+fn most_with_slots(field: &Field, slots: &SlotView<'_>, node: &Node, limits: &Limits) -> Option<u64>
     ensures fits { IfSome result
         (λ most. AllByRecursion (Fits field.now) (slot_values slots.now)) }
-    ensures most { (known : Numbering) (limits : Limits) (layout : Layout)
-        (children : Shape) (values : List Value) (least : ℕ)
-        → IsNode (IsColumn known limits) layout children node.now values
-        → length (values ++ slot_values slots.now) ≤ limits.slots
+    ensures most { (known : Numbering) (layout : Layout) (children : Shape)
+        (values : List Value) (least : ℕ)
+        → IsNode (IsColumn known limits.now) layout children node.now values
+        → length (values ++ slot_values slots.now) ≤ limits.now.slots
         → 14 * length (values ++ slot_values slots.now) + 25 ≤ least
-        → IfSome result (λ most. TakeAtMost limits (least + most)
+        → IfSome result (λ most. TakeAtMost limits.now (least + most)
         (shapes.field layout children bare) (λ j. values ++ slot_values slots.now)) }
 {
-    if !node.is_leaf() || !lie_alike(slots.layout(), node.column.layout) {
+    if !node.is_leaf() {
+        return most_of_nested(field, slots, node, limits);
+    }
+    if !lie_alike(slots.layout(), node.column.layout) {
         return None;
     }
     if is_indexed(node.column.layout) {
@@ -201,7 +182,8 @@ pub(crate) fn columns_surely_fit(
     }
     let mut left = limits.body - least_of_all;
     for i in 0..nodes.len() {
-        let Some(most) = most_with_slots(&fields[i], &batch.slots(i), &nodes[i]) else {
+        let slots = batch.slots(i);
+        let Some(most) = most_with_slots(&fields[i], &slots, &nodes[i], limits) else {
             return false;
         };
         if most > left {

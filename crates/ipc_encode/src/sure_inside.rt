@@ -169,11 +169,11 @@ fn left_of_parts(fields: &[Field], parts: &[Value], nodes: &[Node], bytes: u64) 
     Some(left)
 }
 
-// What is left of so many bytes behind the weight of a column and of those below it, each of which
-// has room for so many slots more. None where they are too few, or one has not.
+/// What is left of so many bytes behind the weight of a column and of those below it, each of which
+/// has room for so many slots more. None where they are too few, or one has not.
 #[cycle(room)]
 #[inline(always)]
-fn left_of_node(node: &Node, more: u64, limits: &Limits, bytes: u64) -> Option<u64>
+pub(crate) fn left_of_node(node: &Node, more: u64, limits: &Limits, bytes: u64) -> Option<u64>
     requires { more ≤ max_data }
     ensures weight { (known : Numbering) (layout : Layout) (children : Shape)
         (before : List Value)

@@ -2,9 +2,11 @@ use Rattle.std.proofs.Common.{◌≡◌, ◌∙◌, sym, ap, subst, ℕ, ◌+◌
 use Rattle.std.specs.Int.{bytes_low_first}
 use Rattle.std.proofs.lemmas.Option.{get_or_from_slice_get}
 use Rattle.ipc_model.specs.declared.value.Value.TheVariants.{Null}
-use Rattle.ipc_encode.specs.Cells.{HasUtf8, content, ends, slots}
+use Rattle.ipc_column.specs.Nested.{below, slot_values}
+use Rattle.ipc_column.specs.Values.{row}
+use Rattle.ipc_encode.specs.Cells.{content, ends, slots}
 use Rattle.ipc_encode.specs.Pieces.{Bytes, Content}
-use Rattle.ipc_encode.proofs.LentBytes.{all_next, content_extents, ends_next}
+use Rattle.ipc_encode.proofs.LentBytes.{content_extents, ends_next}
 use Rattle.ipc_encode.proofs.NumberSlots.{slots_next}
 use Rattle.ipc_encode.proofs.Steps.{extents}
 use Rattle.ipc_encode.proofs.lent.push_each_content.Goals as goal
@@ -12,11 +14,11 @@ use Rattle.ipc_encode.proofs.lent.push_each_content.Goals as goal
 pub loop-slot-preserved : goal.loop-slot-preserved
 loop-slot-preserved c =
     let slot = c.loop-slot.slot in
-    let view = c.args.view.now in
+    let view = slot_values c.args.view.now in
     let old = c.args.values.now.items in
     let inside : slot < length view = omega (arith, c.loop-slot-test.true, c.loop-slot.auto.slot-end, c.len-slot-end.ensures) in
-    let value = get_or_from_slice_get view slot _ Null c.at-cell.ensures in
-    let bytes : c.content.result.now ≡ content (get_or view slot Null) = c.content.ensures.bytes ∙ ap content (sym value) in
+    let value = get_or_from_slice_get view slot _ Null c.at-shown.ensures.value in
+    let bytes : c.content.result.now ≡ content (get_or view slot Null) = c.content.ensures (row (below c.args.view.now)) slot ∙ ap content (sym value) in
     let values : c.extend_from_slice.new.self.items ≡ old ++ slots Content (take (slot + 1) view) =
     c.in_ok-extend_from_slice.ensures.items
     ∙ (ap (λ (bs : List ℕ). bs ++ c.content.result.now) c.loop-slot.invariant.values
@@ -33,5 +35,4 @@ loop-slot-preserved c =
           ∙ (ap (λ (bs : List ℕ). bs ++ bytes_low_first 0 4 c.len.result) c.loop-slot.invariant.ends
           ∙ (append_assoc c.args.offsets.now.items (ends Bytes (length old) (take slot view)) (bytes_low_first 0 4 c.len.result)
           ∙ ap (λ (bs : List ℕ). c.args.offsets.now.items ++ bs) (ends_next Bytes (length old) view slot c.len.result inside end)));
-      texts = all_next HasUtf8 view slot inside c.loop-slot.invariant.texts (subst HasUtf8 (sym value) c.content.ensures.text);
     }

@@ -3,6 +3,8 @@ use Rattle.std.proofs.lemmas.List.{length-take-le}
 use Rattle.std.proofs.lemmas.Option.{get_or_from_slice_get}
 use Rattle.ipc_model.specs.declared.value.Value.{Value}
 use Rattle.ipc_model.specs.declared.value.Value.TheVariants.{Null}
+use Rattle.ipc_column.specs.Nested.{below, slot_values}
+use Rattle.ipc_column.specs.Values.{row}
 use Rattle.ipc_encode.specs.Bitmaps.{bitmap}
 use Rattle.ipc_encode.specs.Cells.{flags, is_set}
 use Rattle.ipc_encode.specs.Pieces.{True}
@@ -10,20 +12,15 @@ use Rattle.ipc_encode.proofs.Bits.{flags_length}
 use Rattle.ipc_encode.proofs.Marked.{flags_next}
 use Rattle.ipc_encode.proofs.lent.push_truths.Goals as goal
 
-pub loop-slot-init : goal.loop-slot-init
-loop-slot-init c = λ before held same.
-    c.in_ok-taken.ensures.bits before held same
-    ∙ ap (λ (vs : List Value). bitmap (flags True (before ++ take c.in_ok-taken.taken vs))) c.slots.ensures.values
-
 pub loop-slot-preserved : goal.loop-slot-preserved
 loop-slot-preserved c = λ before held same.
     let slot = c.loop-slot.slot in
-    let view = c.args.view.now in
+    let view = slot_values c.args.view.now in
     let inside : slot < length view = omega (arith, c.loop-slot-test.true, c.loop-slot.auto.slot-end, c.len-slot-end.ensures) in
     let so_far = before ++ take slot view in
     let front = length-take-le slot view (omega (arith, inside)) in
     let all = length-append before (take slot view) in
     let count = flags_length True so_far in
-    let value = get_or_from_slice_get view slot _ Null c.at-cell.ensures in
+    let value = get_or_from_slice_get view slot _ Null c.at-shown.ensures.value in
     c.in_ok-push_bit.ensures (flags True so_far) (omega (arith, front, all, count, held)) (c.loop-slot.invariant before held same)
-    ∙ ap bitmap (flags_next True before view slot c.is_true.result inside (c.is_true.ensures ∙ ap (is_set True) (sym value)))
+    ∙ ap bitmap (flags_next True before view slot c.is_true.result inside (c.is_true.ensures (row (below c.args.view.now)) slot ∙ ap (is_set True) (sym value)))

@@ -1,6 +1,7 @@
 use Rattle.std.proofs.Common.{◌≡◌, ◌∙◌, sym, ◌++◌}
 use Rattle.std.proofs.lemmas.Result.{on_ok_weaker}
 use Rattle.ipc_model.specs.Layouts.{own_buffers}
+use Rattle.ipc_column.specs.Nested.{slot_values}
 use Rattle.ipc_encode.specs.Bitmaps.{bitmap}
 use Rattle.ipc_encode.specs.Cells.{flags, nulls}
 use Rattle.ipc_encode.specs.Pieces.{Valid}
@@ -12,7 +13,7 @@ use Rattle.ipc_encode.proofs.lent.push_validities.Goals as goal
 pub returns-then-more_nulls-eq0 : goal.returns-then-more_nulls-eq0
 returns-then-more_nulls-eq0 c = λ before held none same.
     let buffers : own_buffers c.args.layout ≡ 0 → ⊥ = λ e. c.if-own_buffers-eq0.false (c.own_buffers.ensures ∙ e) in
-    let view = c.args.view.now in
+    let view = slot_values c.args.view.now in
     same ∙ (has_bitmap c.args.layout before buffers
     ∙ (none_behind before view (none ∙ c.if-held_nulls-eq0.true) (sym c.requires.nulls ∙ c.if-more_nulls-eq0.true)
     ∙ sym (has_bitmap c.args.layout (before ++ view) buffers)))
@@ -20,7 +21,7 @@ returns-then-more_nulls-eq0 c = λ before held none same.
 pub returns : goal.returns
 returns c = λ before held none same.
     let buffers : own_buffers c.args.layout ≡ 0 → ⊥ = λ e. c.if-own_buffers-eq0.false (c.own_buffers.ensures ∙ e) in
-    let view = c.args.view.now in
+    let view = slot_values c.args.view.now in
     let start = same ∙ has_bitmap c.args.layout before buffers in
     let all = sym (has_bitmap c.args.layout (before ++ view) buffers) in
     elim c.if-held_nulls-eq0.branch [

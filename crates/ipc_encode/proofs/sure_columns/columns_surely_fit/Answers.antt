@@ -19,13 +19,13 @@ loop-i-preserved c =
     let rows = c.args.batch.now.rows in
     let i = c.loop-i.i in
     let f = c.index-fields-i.result in
-    let vs = slot_values c.slots.result in
+    let vs = slot_values c.slots-slots.result in
     let most = c.in-Some-most_with_slots.most in
     let shape = shape_of c.args.fields.now in
     let least = 14 * (c.args.rows + length rows) + 25 in
     let all = length c.args.nodes.now * least in
     let so_far = i * least + (limits.body - (all + c.loop-i.left)) in
-    let column = column_cells i rows vs c.slots.ensures.values in
+    let column = column_cells i rows vs c.slots-slots.ensures.values in
     record {
       few = omega (arith, c.loop-i.invariant.few, c.if-most-left.false);
       fit = rw add-one (rows_fit_next i c.args.fields.now f rows (sym c.index-fields-i.is) c.loop-i.invariant.fit
@@ -36,8 +36,8 @@ loop-i-preserved c =
           let held = subst (λ (n : Node). IsNode (IsColumn known limits) at.0 at.1 n (given i)) (sym c.index-nodes-i.is) at.3 in
           let slots = same i in
           let size = length-append (given i) vs in
-          let wide = c.slots.ensures.values.size in
-          let own = c.in-Some-most_with_slots.ensures.most known limits at.0 at.1 (given i) least held
+          let wide = c.slots-slots.ensures.values.size in
+          let own = c.in-Some-most_with_slots.ensures.most known at.0 at.1 (given i) least held
           (omega (arith, size, wide, slots, c.requires)) (omega (arith, size, wide, slots)) in
           let told = subst (λ (ws : List Value). TakeAtMost limits (least + most) (field at.0 at.1 bare) (λ j. given i ++ ws))
           (sym column) own in

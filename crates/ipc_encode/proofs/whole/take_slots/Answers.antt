@@ -1,13 +1,21 @@
-use Rattle.std.proofs.Common.{◌≡◌, ◌∙◌, sym, ap, subst, ◌++◌, false, true}
+use Rattle.std.proofs.Common.{◌≡◌, ◌∙◌, sym, ap, subst, ◌++◌, List, false, true}
 use Rattle.std.proofs.lemmas.Result.{IfErr-weaker, on_ok_weaker}
 use Rattle.ipc_model.specs.declared.layout.Layout.{Layout}
 use Rattle.ipc_model.specs.declared.layout.Layout.TheVariants as l
-use Rattle.ipc_encode.specs.Built.{IsPushRefused}
+use Rattle.ipc_model.specs.declared.value.Value.{Value}
+use Rattle.ipc_encode.specs.Built.{IsColumn, IsPushRefused}
 use Rattle.ipc_encode.specs.Lent.{is_lent}
 use Rattle.ipc_encode.specs.Lying.{LiesAs, is_taken_whole}
+use Rattle.ipc_encode.proofs.LentContents.{slots_stored}
 use Rattle.ipc_encode.proofs.Pushes.{laid_as}
 use Rattle.ipc_encode.proofs.WholeColumns.{AreNumbersLaid, numbers_left}
 use Rattle.ipc_encode.proofs.whole.take_slots.Goals as goal
+
+pub returns-then-is_lent-clause-taken : goal.returns-then-is_lent-clause-taken
+returns-then-is_lent-clause-taken c = λ known layout before more h lies.
+    on_ok_weaker c.take_lent.result
+    (λ taken. subst (λ (vs : List Value). IsColumn known c.args.limits.now layout (before ++ vs) c.take_lent.new.self) lies.shown taken)
+    (c.take_lent.ensures.taken known layout before h (slots_stored c.args.view.now layout lies.laid lies.texts))
 
 pub returns-in_default : goal.returns-in_default
 returns-in_default c =

@@ -1,0 +1,29 @@
+//! How slots lie, and whether whatever they show is of a type.
+ghost use Rattle.std.specs.Prelude.{◌≡◌, IsTrue};
+ghost use Rattle.ipc_encode.specs.PlainColumns.{is_plain};
+
+use ipc_model::{DataType, DateUnit, Layout};
+
+/// Whether whatever slots of a type's layout show is of the type.
+pub(crate) fn is_plain(kind: &DataType) -> bool
+    ensures { result ≡ is_plain kind.now }
+{
+    matches!(
+        kind,
+        DataType::Bool
+            | DataType::Int { .. }
+            | DataType::Binary
+            | DataType::Utf8
+            | DataType::FixedSizeBinary(_)
+            | DataType::Date(DateUnit::Day)
+            | DataType::Timestamp { .. }
+            | DataType::Duration(_)
+    )
+}
+
+/// Whether slots of two layouts lie alike.
+pub(crate) fn lie_alike(one: Layout, other: Layout) -> bool
+    ensures { IsTrue result → one ≡ other }
+{
+    one == other
+}
