@@ -143,12 +143,7 @@ fn left_of_slots(
 
 // The same of the items of lists, which are all slots of their one child.
 #[cycle(slots)]
-fn left_of_items(
-    fields: &[Field],
-    view: &SlotView<'_>,
-    nodes: &[Node],
-    bytes: u64,
-) -> Option<u64>
+fn left_of_items(fields: &[Field], view: &SlotView<'_>, nodes: &[Node], bytes: u64) -> Option<u64>
     ensures fits { IfSome result (λ left. InnerFit Fits kinds.List fields.now
         (values.List (all_items (slot_values view.now)))) }
     ensures weight { (known : Numbering) (limits : Limits) (shape : Shape)
@@ -168,12 +163,7 @@ fn left_of_items(
 // The same of the parts of structs, which are all slots of the children, where the struct isn't
 // null.
 #[cycle(slots)]
-fn left_of_parts(
-    fields: &[Field],
-    view: &SlotView<'_>,
-    nodes: &[Node],
-    bytes: u64,
-) -> Option<u64>
+fn left_of_parts(fields: &[Field], view: &SlotView<'_>, nodes: &[Node], bytes: u64) -> Option<u64>
     ensures size { IfSome result (λ left. length fields.now ≡ length view.now.children) }
     ensures fits { IfSome result (λ left. (i : ℕ) → i < length (slot_values view.now)
         → is_valid view.now.column.validity i ≡ true

@@ -114,14 +114,17 @@ left_of_items-returns-clause-weight t c = λ known limits shape before h.
 -- ---- structs
 
 pub left_of_parts-left_of_slots-requires : goal.left_of_parts-left_of_slots-requires
-left_of_parts-left_of_slots-requires t c = (search (rules, the_lemmas), λ some.
-    let i = c.loop-i.i in
-    let vs = slot_values c.args.view.now in
-    let bits = buffers_bits c.args.view.now c.buffers.result c.buffers.ensures some in
-    let gives = c.structs_have_all.ensures c.if-not-structs_have_all.false c.child.result c.child.ensures in
-    let size = ap (λ (ws : List Value). length ws) gives in
-    let count = parts_count i vs in
-    omega (arith, bits, size, count))
+left_of_parts-left_of_slots-requires t c = (
+  search (rules, the_lemmas),
+  λ some.
+      let i = c.loop-i.i in
+      let vs = slot_values c.args.view.now in
+      let bits = buffers_bits c.args.view.now c.buffers.result c.buffers.ensures some in
+      let gives = c.structs_have_all.ensures c.if-not-structs_have_all.false c.child.result c.child.ensures in
+      let size = ap (λ (ws : List Value). length ws) gives in
+      let count = parts_count i vs in
+      omega (arith, bits, size, count),
+)
 
 pub left_of_parts-loop-i-init : goal.left_of_parts-loop-i-init
 left_of_parts-loop-i-init t c = record {
