@@ -1,16 +1,15 @@
 -- The slots of the children of a column that was read, where they are those that its slots lead to.
 use Rattle.std.proofs.Common.{◌≡◌, ◌∙◌, refl, sym, ap, subst, ℕ, zero, suc, ◌+◌, ◌-◌, ◌*◌, ◌<◌, ◌≤◌, Bool, true, false, cond}
-use Rattle.std.proofs.Common.{List, [], ◌∷◌, ◌++◌, length, map, get_or, Option, Some, None, append_assoc, arith}
+use Rattle.std.proofs.Common.{List, [], ◌∷◌, ◌++◌, length, map, get_or, Option, Some, None, arith}
 use Rattle.std.proofs.Common.{add-one, drop, length-append, take}
 use Rattle.std.specs.Prelude.{slice_get, slice_range, ◌&&◌}
 use Rattle.std.specs.Int.{bytes_low_first}
 use Rattle.std.proofs.Math.Seq.{take-add}
-use Rattle.std.proofs.lemmas.Bool.{and_parts}
+use Rattle.std.proofs.lemmas.Bool.{and_parts, false≢true}
 use Rattle.std.proofs.lemmas.List.{append-nil, drop-drop, take-append-le, take_all}
 use Rattle.std.proofs.lemmas.Option.{none-some}
 use Rattle.ipc_model.specs.declared.schema.IntBits.TheVariants.{B32}
 use Rattle.ipc_model.specs.declared.value.Value.{Value, out-Value}
-use Rattle.ipc_model.specs.declared.value.Value.TheOpen.{Value-F}
 use Rattle.ipc_model.specs.declared.value.Value.TheVariants as v
 use Rattle.ipc_model.specs.declared.value.Value.TheVariants.{Null}
 use Rattle.ipc_model.specs.declared.layout.Layout.{Layout}
@@ -28,8 +27,9 @@ use Rattle.ipc_column.proofs.Cells.{items_more}
 use Rattle.ipc_column.proofs.Parts.{children_out}
 use Rattle.ipc_column.proofs.Slices.{places}
 use Rattle.ipc_column.proofs.Slots.{bytes_from, items_length, order_from}
-use Rattle.ipc_encode.specs.Cells.{all_items, all_parts, cell, ends, items_in, part, part_in}
-use Rattle.ipc_encode.specs.Pieces.{Items}
+use Rattle.ipc_encode.specs.Cells.{all_items, all_parts, cell, ends, is_set, items_in, part, part_in}
+use Rattle.ipc_encode.specs.Marks.{MarksNulls}
+use Rattle.ipc_encode.specs.Pieces.{Items, Valid}
 use Rattle.ipc_encode.specs.Cells as c
 use Rattle.ipc_encode.proofs.LentBuffers.{buffers_at, list_out, slot_count, slot_is, struct_out}
 use Rattle.ipc_encode.proofs.LentContents.{place_is, start_of}
@@ -315,12 +315,17 @@ unfolding out-Value denote.Hole.Carrier.out
 null_only v.Null e = refl
 null_only value e = absurd (cc)
 
-pub null_at : (vs : List Value) (i : ℕ) (told : Bool) → i < length vs → told ≡ true
-    → ((value : Value) → slice_get vs i ≡ Some value → told ≡ is_null value) → get_or vs i Null ≡ Null
-null_at vs i told m so h =
-    null_only (get_or vs i Null) (sym (h (get_or vs i Null) (slice_get_some vs i m)) ∙ so)
+-- a value that is null by the bitmap of its column
+clear_only : (value : Value) → is_set Valid value ≡ false → value ≡ v.Null
+unfolding out-Value denote.Hole.Carrier.out
+clear_only v.Null e = refl
+clear_only value e = absurd (cc)
+
+-- a slot that is null where another column is, all of whose slots are valid that are so in its own
+pub shared_null : (own marks : List ℕ) (vs : List Value) (i : ℕ) → i < length vs → MarksNulls own vs
+    → (is_valid own i ≡ true → is_valid marks i ≡ true) → is_valid marks i ≡ false → get_or vs i Null ≡ Null
+shared_null own marks vs i m marked among null = either (is_valid own i) refl
   where
-    slice_get_some : (vs : List Value) (i : ℕ) → i < length vs → slice_get vs i ≡ Some (get_or vs i Null)
-    slice_get_some [] i m = absurd (omega arith)
-    slice_get_some (v ∷ vs) zero m = refl
-    slice_get_some (v ∷ vs) (suc i) m = slice_get_some vs i (omega arith)
+    either : (valid : Bool) → is_valid own i ≡ valid → get_or vs i Null ≡ Null
+    either true e = absurd (false≢true (sym null ∙ among e))
+    either false e = clear_only (get_or vs i Null) (marked.each i m ∙ e)

@@ -1,6 +1,6 @@
 -- Lists and structs that surely fit, told by one look at each column.
 use Rattle.std.proofs.Common.{◌≡◌, ◌∙◌, refl, sym, ap, subst, ℕ, zero, suc, ◌+◌, ◌*◌, ◌<◌, ◌≤◌, Bool, true, false}
-use Rattle.std.proofs.Common.{List, [], ◌∷◌, ◌++◌, length, length-append, get_or, arith, inl}
+use Rattle.std.proofs.Common.{List, [], ◌∷◌, length, length-append, get_or, arith, inl}
 use Rattle.std.specs.Prelude.{Option, Some, None, IfSome, IsTrue, not, slice_get, ◌-◌}
 use Rattle.std.specs.List.{AllByRecursion}
 use Rattle.std.proofs.lemmas.Option.{IfSome_then}
@@ -19,7 +19,7 @@ use Rattle.ipc_column.specs.declared.ranges.ColumnRanges.{ColumnRanges}
 use Rattle.ipc_column.specs.Nested.{Nested, below, slot_values}
 use Rattle.ipc_column.specs.Plain.{IsShownBy}
 use Rattle.ipc_column.specs.Shapes.{Shape, bare, field}
-use Rattle.ipc_column.specs.Slots.{is_null, nested_in}
+use Rattle.ipc_column.specs.Slots.{nested_in}
 use Rattle.ipc_column.specs.Values.{first_of, is_valid, items, place, row}
 use Rattle.ipc_column.specs.Views.{columns}
 use Rattle.ipc_encode.specs.Buffers as b

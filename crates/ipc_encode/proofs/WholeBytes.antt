@@ -1,5 +1,5 @@
 -- Flags packed a byte at a time.
-use Rattle.std.proofs.Common.{◌≡◌, ◌∙◌, refl, sym, ap, inl, inr, ℕ, zero, suc, ◌+◌, ◌*◌, ◌/◌, ◌%◌, ◌^◌, ◌<◌, ◌≤◌, Bool, true, false}
+use Rattle.std.proofs.Common.{◌≡◌, ◌∙◌, refl, sym, ap, inl, inr, ℕ, zero, suc, ◌+◌, ◌-◌, ◌*◌, ◌/◌, ◌%◌, ◌^◌, ◌<◌, ◌≤◌, Bool, true, false}
 use Rattle.std.proofs.Common.{List, [], ◌∷◌, ◌++◌, length, take, drop, get_or, get_or-take, get_or-drop, length-append}
 use Rattle.std.proofs.Common.{length-take, length-drop}
 use Rattle.std.proofs.Common.{append_assoc, arith}
@@ -7,7 +7,7 @@ use Rattle.std.specs.Prelude.{◌==◌, ◌&&◌, bit_and, min}
 use Rattle.std.proofs.Math.ListN.{get_or-eq_default}
 use Rattle.std.proofs.Math.Seq.{take-add}
 use Rattle.std.specs.Int.{bit_at}
-use Rattle.std.proofs.lemmas.Bool.{cases_lt, eqb-true, eqb-false}
+use Rattle.std.proofs.lemmas.Bool.{and_parts, cases_lt, eqb-true, eqb-false}
 use Rattle.std.proofs.lemmas.List.{drop-append-le, length-take-le, take-append-le}
 use Rattle.std.proofs.lemmas.Nat.Bits.{bit_at-lt, bit_at_and, bit_at_lowest, bit_at-suc}
 use Rattle.std.proofs.lemmas.Nat.{and_le_l}
@@ -182,3 +182,20 @@ both_more before more xs ys x y k full l e ex ey small =
     few : (i : ℕ) → bit_and x y ≤ x → x < 256 → get_or (bit_and x y ∷ []) i 0 < 256
     few zero under small = omega (arith, under, small)
     few (suc i) under small = omega arith
+
+-- the bits of one byte more, all of which are set in that of another list too
+pub among_next : (xs ys : List ℕ) (k : ℕ) → bit_and (get_or xs k 0) (get_or ys k 0) ≡ get_or xs k 0
+    → ((i : ℕ) → i < 8 * k → bit xs i ≡ true → bit ys i ≡ true) → (i : ℕ) → i < 8 * (k + 1) → bit xs i ≡ true → bit ys i ≡ true
+among_next xs ys k same before i m set = elim (cases_lt i (8 * k)) as (λ _. bit ys i ≡ true) [
+  | inl under ↦ before i under set
+  | inr over ↦
+      let x = get_or xs k 0 in
+      let y = get_or ys k 0 in
+      let r : ℕ = i - 8 * k in
+      let inside : r < 8 = omega (arith, m, over) in
+      let place : 8 * k + r ≡ i = omega (arith, over) in
+      let own : (bit_at x r == 1) ≡ true =
+      sym (bit_in_byte xs k r inside) ∙ (ap (λ (n : ℕ). bit xs n) place ∙ set) in
+      let both = sym (both_set x y r) ∙ (ap (λ (n : ℕ). bit_at n r == 1) same ∙ own) in
+      ap (λ (n : ℕ). bit ys n) (sym place) ∙ (bit_in_byte ys k r inside ∙ (and_parts (bit_at x r == 1) (bit_at y r == 1) both).1)
+]

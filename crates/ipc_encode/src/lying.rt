@@ -17,8 +17,8 @@ ghost use Rattle.ipc_encode.specs.Lying.{AreWhole, IsWhole, is_taken_whole};
 ghost use Rattle.ipc_encode.specs.Marks.{HasBits};
 ghost use Rattle.ipc_encode.specs.Numbers.{Numbering};
 
-use crate::buffers::{nulls_are_empty, offset_at};
-use crate::marks::is_marked_valid;
+use crate::buffers::{lent_marks, nulls_are_empty, offset_at};
+use crate::marks::valid_are_among;
 use crate::node::Node;
 use ipc_column::SlotView;
 use ipc_model::Layout;
@@ -53,28 +53,16 @@ pub(crate) fn lists_have_all(view: &SlotView<'_>) -> bool
     start == 0 && end as usize == child.len()
 }
 
-// Whether a slot is null in a child where it is in the column of the child.
-fn is_shared(marks: &[u8], child: &SlotView<'_>, slot: usize) -> bool
-    requires bits { HasBits marks.now (slot + 1) }
-    requires inside { slot < length (slot_values child.now) }
-    ensures { IsTrue result → is_valid marks.now slot ≡ false
-        → slice_index_or (slot_values child.now) slot Null ≡ Null }
-{
-    is_marked_valid(marks, slot) || child.is_null(slot)
-}
-
 // Whether each slot that is null in the column of a child is null in the child too.
 fn nulls_are_shared(marks: &[u8], child: &SlotView<'_>) -> bool
     requires { HasBits marks.now (length (slot_values child.now)) }
     ensures { IsTrue result → (i : ℕ) → i < length (slot_values child.now)
         → is_valid marks.now i ≡ false → slice_index_or (slot_values child.now) i Null ≡ Null }
 {
-    for slot in 0..child.len() {
-        if !is_shared(marks, child, slot) {
-            return false;
-        }
+    match lent_marks(child) {
+        Some(own) => valid_are_among(own, marks, child.len()),
+        None => marks.is_empty(),
     }
-    true
 }
 
 /// Whether the structs of a column have all slots of a child: one each, which is null where the

@@ -1,7 +1,8 @@
 //! The validity bitmap of a column that was read, taken behind the values of another.
 ghost use Rattle.std.specs.Prelude.{◌≡◌, ◌≤◌, ◌<◌, ◌^◌, ◌+◌, ◌++◌, List, length, take, IfOk};
-ghost use Rattle.std.specs.Prelude.{IfNone, IfSome, OnOk};
+ghost use Rattle.std.specs.Prelude.{IfNone, IfSome, IsTrue, OnOk, ℕ, ◌*◌, true};
 ghost use Rattle.ipc_model.specs.declared.value.Value.{Value};
+ghost use Rattle.ipc_scalar.specs.Bytes.{bit};
 ghost use Rattle.ipc_column.specs.Values.{is_valid};
 ghost use Rattle.ipc_encode.specs.Bitmaps.{bitmap};
 ghost use Rattle.ipc_encode.specs.Cells.{flags, nulls};
@@ -105,4 +106,42 @@ pub(crate) fn push_validities(
         set_bits(validity, held)?;
     }
     push_marks(validity, held, marks, count)
+}
+
+// Whether each bit that is set in so many bytes is set in those of another list.
+fn bits_are_among(few: &[u8], many: &[u8], count: usize) -> bool
+    requires few { count ≤ length few.now }
+    requires many { count ≤ length many.now }
+    ensures { IsTrue result → (i : ℕ) → i < 8 * count → bit few.now i ≡ true
+        → bit many.now i ≡ true }
+{
+    for i in 0..count {
+        if few[i] & many[i] != few[i] {
+            return false;
+        }
+    }
+    true
+}
+
+/// Whether each of so many slots that is valid by one bitmap is valid by another too. They are
+/// compared a byte at a time.
+pub(crate) fn valid_are_among(few: &[u8], many: &[u8], count: usize) -> bool
+    requires few { HasBits few.now count }
+    requires many { HasBits many.now count }
+    ensures { IsTrue result → (i : ℕ) → i < count → is_valid few.now i ≡ true
+        → is_valid many.now i ≡ true }
+{
+    if many.is_empty() {
+        return true;
+    }
+    let whole = if few.is_empty() { 0 } else { count / 8 };
+    if !bits_are_among(few, many, whole) {
+        return false;
+    }
+    for slot in 8 * whole..count {
+        if is_marked_valid(few, slot) && !is_marked_valid(many, slot) {
+            return false;
+        }
+    }
+    true
 }

@@ -26,28 +26,13 @@ ghost use Rattle.ipc_encode.specs.Pieces.{Valid};
 use crate::buffers::lent_marks;
 use crate::column::MAX_DATA;
 use crate::lying::{lists_have_all, structs_have_all};
-use crate::marks::is_marked_valid;
+use crate::marks::valid_are_among;
 use crate::node::Node;
 use crate::plain::{is_plain, lie_alike};
 use crate::sure::has_small;
 use crate::sure_inside::left_of_node;
 use ipc_column::SlotView;
 use ipc_model::{DataType, Field, Layout, Limits, layout_of};
-
-// Whether each of so many slots that is null by one bitmap is null by another too.
-fn nulls_are_above(marks: &[u8], above: &[u8], count: usize) -> bool
-    requires marks { HasBits marks.now count }
-    requires above { HasBits above.now count }
-    ensures { IsTrue result → (i : ℕ) → i < count → is_valid above.now i ≡ true
-        → is_valid marks.now i ≡ true }
-{
-    for slot in 0..count {
-        if is_marked_valid(above, slot) && !is_marked_valid(marks, slot) {
-            return false;
-        }
-    }
-    true
-}
 
 // Whether the null slots of a column fit a field: it may be null, or each of them is null in the
 // column above too, by the bitmap of that.
@@ -64,7 +49,7 @@ fn nulls_fit(field: &Field, view: &SlotView<'_>, above: &[u8]) -> bool
     let Some(marks) = lent_marks(view) else {
         return false;
     };
-    marks.is_empty() || nulls_are_above(marks, above, view.len())
+    valid_are_among(above, marks, view.len())
 }
 
 // How much data the slots of a column without children have, at most. None where the layout asks

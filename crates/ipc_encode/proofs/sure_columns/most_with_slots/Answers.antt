@@ -1,4 +1,4 @@
-use Rattle.std.proofs.Common.{sym, subst, ◌+◌, ◌++◌, ℕ}
+use Rattle.std.proofs.Common.{sym, subst, ◌+◌, ◌++◌}
 use Rattle.std.proofs.lemmas.Option.{IfSome_then}
 use Rattle.ipc_model.specs.declared.layout.Layout.{Layout}
 use Rattle.ipc_column.specs.Nested.{slot_values}
