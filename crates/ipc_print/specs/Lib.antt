@@ -4,6 +4,7 @@ pub mod Digits
 pub mod Escaped
 pub mod Forms
 pub mod Kinds
+pub mod Entries
 pub mod Output
 pub mod Rows
 pub mod Streams

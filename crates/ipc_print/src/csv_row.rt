@@ -14,6 +14,7 @@ ghost use Rattle.ipc_csv.specs.RowCsv.{bool_text, null_text, put_texts, row_csv,
 ghost use Rattle.ipc_csv.specs.RowCsv.{with_field};
 
 use crate::column::Column;
+use crate::entry::Entry;
 use crate::fields::{
     put_bytes_field, put_end, put_front_field, put_signed_field, put_text_field, put_unsigned_field,
 };
@@ -269,6 +270,31 @@ fn put_held_text(
     }
 }
 
+// What a slot holds, most often a text of the column's dictionary.
+#[inline(always)]
+fn put_held_entry(
+    text: &mut [u8],
+    at: usize,
+    column: u64,
+    kind: &DataType,
+    tree: &ColumnTree<'_>,
+    slot: usize,
+) -> Result<usize, TextFault>
+    requires room { at + 32 ≤ length text.old }
+    requires slot { slot < length (slot_values tree.now) }
+    ensures inside { IfOk result (λ end. end ≤ length text.new) }
+    ensures ok { IfOk result (λ end. Appended (take at text.old)
+        (text_in kind.now (slot_value tree.now slot)) (take end text.new)) }
+    ensures refused { IfErr result
+        (LacksText column (text_in kind.now (slot_value tree.now slot))) }
+{
+    match tree.entry_at(slot) {
+        Entry::Text(bytes, len) => Ok(put_front_field(text, at, bytes, len)?),
+        Entry::Null => Ok(put_null(text, at)),
+        Entry::Others => put_other(text, at, column, kind, tree, slot),
+    }
+}
+
 // What a slot holds, by the way in which the slots lie: each arm is compiled for its own.
 #[inline(always)]
 fn put_cell(
@@ -317,6 +343,7 @@ fn put_cell(
             let held = tree.at_layout(Layout::FixedBytes(width), slot);
             put_held_bytes(text, at, column, kind, tree, slot, held)
         }
+        Kind::Entries => put_held_entry(text, at, column, kind, tree, slot),
         Kind::Others => put_other(text, at, column, kind, tree, slot),
     }
 }

@@ -19,6 +19,7 @@ ghost use Rattle.ipc_json.specs.RowJson.{row_text};
 
 use crate::column::Column;
 use crate::digits::{put_signed, put_unsigned};
+use crate::entry::Entry;
 use crate::hexadecimal::put_hexadecimal;
 use crate::kind::Kind;
 use crate::moments::put_moment;
@@ -429,6 +430,28 @@ fn put_held_text(
     }
 }
 
+// What a slot of a row holds, most often a text of the column's dictionary.
+#[inline(always)]
+fn put_held_entry(
+    text: &mut [u8],
+    at: usize,
+    field: &Field,
+    column: &ColumnTree<'_>,
+    slot: usize,
+) -> Result<usize, AllocError>
+    requires room { at + 34 ≤ length text.old }
+    requires slot { slot < length (slot_values column.now) }
+    ensures inside { IfOk result (λ end. end ≤ length text.new) }
+    ensures text { IfOk result (λ end. take end text.new ≡ take at text.old
+        ++ compact_text (cell_json field.now (slot_value column.now slot))) }
+{
+    match column.entry_at(slot) {
+        Entry::Text(bytes, len) => put_front(text, at, bytes, len),
+        Entry::Null => Ok(put_null(text, at)),
+        Entry::Others => put_other(text, at, field, column, slot),
+    }
+}
+
 // What a slot of a row holds, by the way in which the slots lie: each arm is compiled for its own.
 #[inline(always)]
 fn put_cell(
@@ -474,6 +497,7 @@ fn put_cell(
             let held = column.at_layout(Layout::FixedBytes(width), slot);
             put_held_bytes(text, at, field, column, slot, held)
         }
+        Kind::Entries => put_held_entry(text, at, field, column, slot),
         Kind::Others => put_other(text, at, field, column, slot),
     }
 }

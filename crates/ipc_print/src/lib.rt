@@ -6,6 +6,7 @@ mod column;
 mod copies;
 mod csv_row;
 mod digits;
+mod entry;
 mod fields;
 mod form;
 mod hexadecimal;

@@ -3,8 +3,10 @@ ghost use Rattle.std.specs.Prelude.{◌≡◌, ◌<◌, ◌≤◌, true, length,
 ghost use Rattle.ipc_column.specs.Nested.{below, slot_values};
 ghost use Rattle.ipc_column.specs.Slots.{LeadsInside, nested_in, shown, text_shown};
 ghost use Rattle.ipc_column.specs.Values.{row};
+ghost use Rattle.ipc_print.specs.Entries.{Tells};
 ghost use Rattle.ipc_print.specs.Kinds.{Lies};
 
+use crate::entry::{Entry, entry_of, texts_of};
 use crate::kind::{Kind, kind_of};
 use ipc_column::{Slot, SlotView};
 use ipc_model::Layout;
@@ -17,6 +19,8 @@ use std::marker::Model;
 pub struct ColumnTree<'a> {
     slots: SlotView<'a>,
     kind: Kind,
+    // The values of the dictionary, where they are texts.
+    texts: Option<SlotView<'a>>,
     children: Vec<ColumnTree<'a>>,
 }
 
@@ -35,10 +39,13 @@ impl<'a> Model for ColumnTree<'a> {
 
     ghost view = { λ t. t.slots };
 
+    ghost use Rattle.std.specs.Prelude.{IfSome};
+    ghost use Rattle.ipc_print.specs.Entries.{AreTexts};
     ghost use Rattle.ipc_print.specs.Kinds.{Lies};
 
     ghost invariant = { λ t. (t.children.items ≡ nested_in t.slots)
-        × Lies t.kind t.slots.column.layout };
+        × (Lies t.kind t.slots.column.layout
+        × IfSome t.texts (λ texts. AreTexts t.slots texts)) };
 
     ghost size = { count_below };
 
@@ -102,6 +109,19 @@ impl<'a> ColumnTree<'a> {
         self.slots.text_at(slot)
     }
 
+    /// What a slot shows by its index, where it is told so: texts of a dictionary are. The caller
+    /// gives a slot below `len`.
+    #[inline(always)]
+    pub fn entry_at(&self, slot: usize) -> Entry<'a>
+        requires { slot < length (slot_values self.now) }
+        ensures { Tells self.now slot result }
+    {
+        match &self.texts {
+            Some(texts) => entry_of(&self.slots, texts, slot),
+            None => Entry::Others,
+        }
+    }
+
     /// How many children there are.
     #[inline(always)]
     pub fn children(&self) -> usize
@@ -129,9 +149,11 @@ pub fn tree_of<'a>(alloc: Global, slots: SlotView<'a>) -> Result<ColumnTree<'a>,
         children.push(tree_of(alloc, slots.child(number))?)?;
     }
     let kind = kind_of(slots.layout());
+    let texts = texts_of(&slots);
     Ok(ColumnTree {
         slots,
         kind,
+        texts,
         children,
     })
 }

@@ -4,4 +4,4 @@ use Rattle.ipc_print.specs.Kinds.{Lies}
 use Rattle.ipc_print.proofs.tree.ColumnTree.kind.Goals as goal
 
 pub returns : goal.returns
-returns c = subst (λ (n : Nested). Lies c.self.inside.kind n.column.layout) c.self.view_is c.self.invariant.1
+returns c = subst (λ (n : Nested). Lies c.self.inside.kind n.column.layout) c.self.view_is c.self.invariant.1.0

@@ -1,0 +1,22 @@
+-- Texts of a dictionary, told by the index of a slot (Arrow Columnar Format, "Dictionary-encoded
+-- Layout").
+use Rattle.std.specs.Prelude.{◌≡◌, ◌≤◌, ℕ, true, length, take, Some, slice_get, ⊤}
+use Rattle.ipc_model.specs.declared.layout.Layout.TheVariants as l
+use Rattle.ipc_model.specs.declared.value.Value.TheVariants as v
+use Rattle.ipc_column.specs.Nested.{Nested, slot_values}
+use Rattle.ipc_print.specs.declared.entry.Entry.{Entry}
+use Rattle.ipc_print.specs.declared.entry.Entry.TheVariants as entry
+use Rattle.ipc_print.specs.Kinds.{AreIndices}
+
+-- These are the values of the dictionary of a column of indices, which are texts.
+pub record AreTexts (column entries : Nested) : Type 0 where
+  pub indexed : AreIndices column.column.layout
+  pub laid : entries.column.layout ≡ l.VariableBytes true
+  pub values : slot_values entries ≡ column.column.dictionary
+
+-- what is told of slot i is what it shows; nothing is said where nothing is told
+abbrev pub Tells : Nested → ℕ → Entry → Type 0
+Tells column i (entry.Text bytes len) =
+    (slice_get (slot_values column) i ≡ Some (v.Text (take len bytes.now))) × (len ≤ length bytes.now)
+Tells column i entry.Null = slice_get (slot_values column) i ≡ Some v.Null
+Tells column i entry.Others = ⊤
