@@ -92,11 +92,7 @@ pub(crate) fn take_whole(
 
 // Takes all slots of the children of a column into those of nodes, one each.
 #[cycle(take_whole)]
-fn take_children(
-    nodes: &mut [Node],
-    view: &SlotView<'_>,
-    limits: &Limits,
-) -> Result<(), PushFault>
+fn take_children(nodes: &mut [Node], view: &SlotView<'_>, limits: &Limits) -> Result<(), PushFault>
     ensures taken { (known : Numbering) (shape : Shape) (before more : ℕ → List Value)
         → AreNodes (IsColumn known limits.now) shape nodes.old before
         → AreWhole shape (nested_in view.now) more

@@ -59,10 +59,10 @@ returns-then-start-eq0 c =
     let last : (child : Nested) → c.offset_at-end.result == c.len-then-start-eq0.result ≡ true → slice_get (nested_in s) 0 ≡ Some child
     → start_of b.offsets.now (length (slot_values s)) ≡ length (slot_values child) =
     λ child ended is.
-        ap (start_of b.offsets.now) (sym size)
-        ∙ (sym c.offset_at-end.ensures ∙ (eqb-true c.offset_at-end.result c.len-then-start-eq0.result ended
-        ∙ (c.len-then-start-eq0.ensures ∙ ap (λ (n : Nested). length (slot_values n))
-        (some_same c.child-child.result child (sym c.child-child.ensures ∙ is))))) in
+    ap (start_of b.offsets.now) (sym size)
+    ∙ (sym c.offset_at-end.ensures ∙ (eqb-true c.offset_at-end.result c.len-then-start-eq0.result ended
+    ∙ (c.len-then-start-eq0.ensures ∙ ap (λ (n : Nested). length (slot_values n))
+    (some_same c.child-child.result child (sym c.child-child.ensures ∙ is))))) in
     record {
       slots = λ ended child is. list_gives s b c.buffers-buffers.ensures c.in-Lists.is some c.nulls_are_empty.ensures.bytes empty
           child is first (last child ended is);

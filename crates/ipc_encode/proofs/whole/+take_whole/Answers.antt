@@ -83,6 +83,14 @@ take_children-returns-clause-taken t c = λ known shape before more h whole.
     let many = whole_many P shape c.args.nodes.now (nested_in s) before more h whole in
     let size = length-map s.children (nested s.body) in
     mixed_all P P c.loop-i.i shape c.loop-i.nodes before (λ j. before j ++ more j)
-    (omega (arith, many, size, c.children.ensures, c.min-count.ensures, c.loop-i.invariant.unvisited.0, c.loop-i-test.false,
-    c.loop-i.auto.i-end))
+    (omega (
+      arith,
+      many,
+      size,
+      c.children.ensures,
+      c.min-count.ensures,
+      c.loop-i.invariant.unvisited.0,
+      c.loop-i-test.false,
+      c.loop-i.auto.i-end,
+    ))
     (c.loop-i.invariant.taken known shape before more h whole)
