@@ -101,9 +101,11 @@ impl<W: Sink> BatchWriter<'_, W> {
     /// They are taken at once where that is told by one look at each column: each is of numbers,
     /// truths, dates in days, texts or bytes as its field is, or of indices as those of its field,
     /// in a dictionary of such values, without a null where the field is required, and all are
-    /// surely within the limits. Each dictionary is named by one field of the schema, which is no
-    /// child of another, and stays within the limits. W10 is returned after W9 or W11, and W11
-    /// where memory was refused.
+    /// surely within the limits. Lists and structs are of such columns too, or of one another,
+    /// where each child has just the slots that theirs lead to, in their order: those of a list
+    /// begin at the first, and null lists have none; a struct's are null where it is. Each
+    /// dictionary is named by one field of the schema, which is no child of another, and stays
+    /// within the limits. W10 is returned after W9 or W11, and W11 where memory was refused.
     pub fn push_columns(&mut self, batch: &Batch) -> Result<bool, WriteFault>
         ensures same_reference { self.new.writer.ghost_name ≡ self.old.writer.ghost_name }
         ensures stays { Stays self.old.writer.now self.new.writer.now result }
