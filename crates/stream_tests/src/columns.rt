@@ -96,8 +96,8 @@ fn written(alloc: Global, schema: &Schema, batch: &BatchRows) -> Result<Vec<u8>,
     ended(writer)
 }
 
-// The stream of one batch of these rows.
-fn stream_of(alloc: Global, schema: &Schema, rows: Vec<Row>) -> Result<Vec<u8>, WriteFault> {
+/// The stream of one batch of these rows.
+pub fn stream_of(alloc: Global, schema: &Schema, rows: Vec<Row>) -> Result<Vec<u8>, WriteFault> {
     written(alloc, schema, &BatchRows::new(rows))
 }
 
@@ -144,9 +144,9 @@ fn copied(alloc: Global, schema: &Schema, batch: &Batch) -> Result<(bool, Vec<u8
     Ok((taken, ended(writer)?))
 }
 
-// Whether the first batch of a stream is taken at once into one of this schema, or isn't, and what
-// is sent then is wanted.
-fn is_copied(
+/// Whether the first batch of a stream is taken at once into one of this schema, or isn't, and what
+/// is sent then is wanted.
+pub fn is_copied(
     alloc: Global,
     bytes: &[u8],
     schema: &Schema,
@@ -156,8 +156,8 @@ fn is_copied(
     Ok(taken == is_taken && copy.as_slice() == wanted)
 }
 
-// Whether it isn't taken, and a batch of no rows is sent.
-fn is_left(alloc: Global, bytes: &[u8], schema: &Schema) -> Result<bool, Fail> {
+/// Whether it isn't taken, and a batch of no rows is sent.
+pub fn is_left(alloc: Global, bytes: &[u8], schema: &Schema) -> Result<bool, Fail> {
     let wanted = stream_of(alloc, schema, Vec::new(alloc))?;
     is_copied(alloc, bytes, schema, (false, &wanted))
 }

@@ -12,6 +12,8 @@ mod dictionaries;
 #[cfg(test)]
 mod example;
 #[cfg(test)]
+mod nested_columns;
+#[cfg(test)]
 mod pieces;
 #[cfg(test)]
 mod pushed;
