@@ -16,7 +16,7 @@ pub record AreTexts (column entries : Nested) : Type 0 where
 
 -- what is told of slot i is what it shows; nothing is said where nothing is told
 abbrev pub Tells : Nested → ℕ → Entry → Type 0
-Tells column i (entry.Text bytes len) =
-    (slice_get (slot_values column) i ≡ Some (v.Text (take len bytes.now))) × (len ≤ length bytes.now)
+Tells column i (entry.Text bytes len) = (len ≤ length bytes.now)
+    × (slice_get (slot_values column) i ≡ Some (v.Text (take len bytes.now)))
 Tells column i entry.Null = slice_get (slot_values column) i ≡ Some v.Null
 Tells column i entry.Others = ⊤

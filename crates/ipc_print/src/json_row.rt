@@ -430,8 +430,8 @@ fn put_held_text(
     }
 }
 
-// What a slot of a row holds, most often a text of the column's dictionary: in a function of its own,
-// so that the loop over the columns carries nothing of it.
+// What a slot of a row holds, most often a text of the column's dictionary. It isn't taken in, so
+// that the loop over the columns carries nothing of it.
 #[inline(never)]
 fn put_held_entry(
     text: &mut [u8],

@@ -5,7 +5,7 @@ use Rattle.ipc_print.proofs.csv_row.put_held_entry.Goals as goal
 
 pub returns-in_ok-put_front_field-in-Text-clause-ok : goal.returns-in_ok-put_front_field-in-Text-clause-ok
 returns-in_ok-put_front_field-in-Text-clause-ok c =
-    rw (told_csv c.args.kind.now c.args.tree.now c.args.slot c.in-Text.bytes c.in-Text.len (rw c.in-Text.is at c.entry_at.ensures).0)
+    rw (told_csv c.args.kind.now c.args.tree.now c.args.slot c.in-Text.bytes c.in-Text.len (rw c.in-Text.is at c.entry_at.ensures).1)
     (ap Some c.in_ok-put_front_field-in-Text.ensures.text)
 
 pub returns-in-Null-clause-ok : goal.returns-in-Null-clause-ok
