@@ -68,7 +68,8 @@ not_negative x fits h = elim (cases_lt x 2147483648) as (λ _. unsigned_abs (cas
 abbrev pub start_of : List ℕ → ℕ → ℕ
 start_of o i = num o (4 * i) 4
 
-pub place_is : (o : List ℕ) (n size i : ℕ) → ((k : ℕ) → get_or o k 0 < 256) → are_ascending o n size ≡ true → i ≤ n → place o i ≡ start_of o i
+pub place_is : (o : List ℕ) (n size i : ℕ) → ((k : ℕ) → get_or o k 0 < 256) → are_ascending o n size ≡ true → i ≤ n
+    → place o i ≡ start_of o i
 place_is o n size i small h l = not_negative (start_of o i) (num_small 4 (4 * i) o small) (above_in o n size i h l)
 
 module _ (s : Nested) (b : Buffers) (h : AreBuffers s b) (utf8 : Bool) (e : b.layout ≡ l.VariableBytes utf8)

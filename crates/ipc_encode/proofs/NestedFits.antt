@@ -1,5 +1,6 @@
 -- Lists and structs fit their field where the slots of their children fit theirs.
-use Rattle.std.proofs.Common.{◌≡◌, ◌∙◌, refl, sym, ap, subst, ℕ, zero, suc, ◌+◌, ◌<◌, true, false, Bool, List, [], ◌∷◌, ◌++◌, length, get_or}
+use Rattle.std.proofs.Common.{◌≡◌, ◌∙◌, refl, sym, ap, subst, ℕ, zero, suc, ◌+◌, ◌<◌, true, false, Bool, List, [], ◌∷◌, ◌++◌, length}
+use Rattle.std.proofs.Common.{get_or}
 use Rattle.std.proofs.Common.{arith}
 use Rattle.std.specs.List.{AllByRecursion}
 use Rattle.ipc_model.specs.Fits.{Fits, EachFits, InnerFit, IsOwn}
@@ -33,7 +34,8 @@ IsListOrNull value = ⊥
 
 list_one : (f g : Field) (value : Value) (inner : Value-F Value) → out-Value value ≡ inner → (out-Field f).children ≡ g ∷ []
     → IsListOrNull inner
-    → IsOwn (out-Field f).kind (out-Field f).nullable (length (out-Field f).children) (out-Value value) → AllByRecursion (Fits g) (items value)
+    → IsOwn (out-Field f).kind (out-Field f).nullable (length (out-Field f).children) (out-Value value) → AllByRecursion (Fits g)
+    (items value)
     → Fits f value
 list_one f g value o.Null is e shape own h =
     null_fits f value (sym (roll-out-Value value) ∙ (ap roll-Value is ∙ v.rolls-Null)) own
@@ -43,7 +45,8 @@ list_one f g value (o.List vs) is e shape own h =
 list_one f g value inner is e shape own h = absurd shape
 
 -- lists all of whose items fit the one child
-pub lists_fit : (f g : Field) (vs : List Value) → (out-Field f).children ≡ g ∷ [] → AllByRecursion (λ value. IsListOrNull (out-Value value)) vs
+pub lists_fit : (f g : Field) (vs : List Value) → (out-Field f).children ≡ g ∷ [] → AllByRecursion (λ value. IsListOrNull
+    (out-Value value)) vs
     → AllByRecursion (λ value. IsOwn (out-Field f).kind (out-Field f).nullable (length (out-Field f).children) (out-Value value)) vs
     → AllByRecursion (Fits g) (all_items vs)
     → AllByRecursion (Fits f) vs

@@ -193,7 +193,8 @@ module _ (s : Nested) (b : Buffers) (h : AreBuffers s b) (e : b.layout ≡ l.Lis
             → c.items (own_value layout s.column.dictionary (row (below s)) b.offsets.now b.values.now i)
             ≡ items (λ j. first_of (row (below s) j)) (place b.offsets.now i) (place b.offsets.now (i + 1) - place b.offsets.now i)
         own layout e =
-            let run = items (λ j. first_of (row (below s) j)) (place b.offsets.now i) (place b.offsets.now (i + 1) - place b.offsets.now i) in
+            let run = items (λ j. first_of (row (below s) j)) (place b.offsets.now i) (place b.offsets.now
+            (i + 1) - place b.offsets.now i) in
             rw e (ap items_in (list_out run))
 
         either : (valid : Bool) → is_valid b.validity.now i ≡ valid
@@ -224,7 +225,8 @@ module _ (s : Nested) (b : Buffers) (h : AreBuffers s b) (e : b.layout ≡ l.Lis
         let count = slot_count s in
         let f = value_of (row (below s)) s.column in
         let g = λ (j : ℕ). first_of (row (below s) j) in
-        let run = runs_join f g (place b.offsets.now) i (λ k l. list_at k (omega (arith, l, m))) (λ k l. list_rise k (omega (arith, l, m))) in
+        let run = runs_join f g (place b.offsets.now) i (λ k l. list_at k (omega (arith, l, m))) (λ k l. list_rise k (omega
+        (arith, l, m))) in
         let front : take i (slot_values s) ≡ items f 0 i = front_items f i s.column.slots (omega (arith, m, count)) in
         let size = ap (λ (vs : List Value). length vs) run.1 in
         let long = items_length g (place b.offsets.now 0) (place b.offsets.now i - place b.offsets.now 0) in

@@ -27,15 +27,18 @@ use Rattle.ipc_encode.proofs.NestedSlots.{list_laid, list_place, some_same}
 use Rattle.ipc_encode.proofs.NumberSlots.{null_out}
 
 -- a slot of a column that spells its texts does so in child k
-pub child_spells : (s child : Nested) (k j : ℕ) → slice_get (nested_in s) k ≡ Some child → SpellsTexts (below s) j → SpellsTexts (alone child) j
+pub child_spells : (s child : Nested) (k j : ℕ) → slice_get (nested_in s) k ≡ Some child → SpellsTexts (below s) j → SpellsTexts
+    (alone child) j
 child_spells s child k j e h = at s.children k e h
   where
     one : (p : ColumnRanges)
         → (is_valid (column_of s.body p).validity j ≡ true
-        → IsText (column_of s.body p).layout (SpellsTexts (children_of s.body p)) (column_of s.body p).offsets (column_of s.body p).values j)
+        → IsText (column_of s.body p).layout (SpellsTexts (children_of s.body p)) (column_of s.body p).offsets
+        (column_of s.body p).values j)
         → SpellsTexts (alone (nested s.body p)) j
     one p h = (
-      λ valid. subst (λ (cs : Columns). IsText (column_of s.body p).layout (SpellsTexts cs) (column_of s.body p).offsets (column_of s.body p).values j)
+      λ valid. subst (λ (cs : Columns). IsText (column_of s.body p).layout (SpellsTexts cs) (column_of s.body p).offsets
+          (column_of s.body p).values j)
           (children_out s.body p) (h valid),
       tt,
     )
@@ -56,7 +59,13 @@ pub record Stands (at : ℕ → ℕ) (n j : ℕ) : Type 0 where
 pub stands : (at : ℕ → ℕ) (n j : ℕ) → at 0 ≤ j → j < at n → Stands at n j
 stands at zero j low high = absurd (omega arith)
 stands at (suc n) j low high = elim (cases_lt j (at n)) as (λ _. Stands at (suc n) j) [
-  | inl under ↦ let s = stands at n j low under in record { step = s.step; within = let m = s.within in omega (arith, m); from = s.from; to = s.to }
+  | inl under ↦ let s = stands at n j low under in record {
+    step = s.step;
+    within = let m = s.within in omega
+        (arith, m);
+    from = s.from;
+    to = s.to;
+  }
   | inr over ↦ record {
     step = n;
     within = omega arith;
@@ -75,7 +84,8 @@ list_texts s child n j is laid spelled empty first last =
     let at = stands (place o) n j (omega (arith, first)) last in
     either at (is_valid s.column.validity at.step) refl
   where
-    either : (at : Stands (place s.column.offsets) n j) (valid : Bool) → is_valid s.column.validity at.step ≡ valid → SpellsTexts (alone child) j
+    either : (at : Stands (place s.column.offsets) n j) (valid : Bool) → is_valid s.column.validity at.step ≡ valid → SpellsTexts
+        (alone child) j
     either at true e = child_spells s child 0 j is ((rw laid at ((spelled at.step at.within).0 e)) j at.from at.to)
     either at false e =
         let same = empty at.step at.within (λ valid. absurd (cc)) in
@@ -144,7 +154,8 @@ struct_texts s child k j is laid spelled m null = either (is_valid s.column.vali
     either false e = null_spells child j m (null (λ valid. absurd (cc)))
 
 -- the same by the buffers
-pub struct_spells : (s child : Nested) (b : Buffers) (k : ℕ) → AreBuffers s b → b.layout ≡ l.Structs → slice_get (nested_in s) k ≡ Some child
+pub struct_spells : (s child : Nested) (b : Buffers) (k : ℕ) → AreBuffers s b → b.layout ≡ l.Structs → slice_get
+    (nested_in s) k ≡ Some child
     → length (slot_values s) ≡ length (slot_values child)
     → ((i : ℕ) → i < length (slot_values s) → is_valid b.validity.now i ≡ false → get_or (slot_values child) i Null ≡ Null)
     → ((i : ℕ) → i < length (slot_values s) → SpellsTexts (alone s) i)

@@ -107,10 +107,12 @@ list_slot s f fs i laid kind those m may inner = either (is_valid s.column.valid
     either : (valid : Bool) → is_valid s.column.validity i ≡ valid → Fits f (get_or (slot_values s) i Null)
     either true e =
         let value = get_or (slot_values s) i Null in
-        let vs = items (λ j. first_of (row (below s) j)) (place s.column.offsets i) (place s.column.offsets (i + 1) - place s.column.offsets i) in
+        let vs = items (λ j. first_of (row (below s) j)) (place s.column.offsets i) (place s.column.offsets
+        (i + 1) - place s.column.offsets i) in
         let is : value ≡ v.List vs = slot_is s i m ∙ rw (e, laid) refl in
         let shown : out-Value value ≡ o.List vs = ap out-Value is ∙ list_out vs in
-        let own = subst (λ (w : Value-F Value). IsOwn (out-Field f).kind (out-Field f).nullable (length (out-Field f).children) w) (sym shown)
+        let own = subst (λ (w : Value-F Value). IsOwn (out-Field f).kind (out-Field f).nullable (length (out-Field f).children) w)
+        (sym shown)
         (subst (λ (k : DataType). IsOwn k (out-Field f).nullable (length (out-Field f).children) (o.List vs)) (sym kind) tt) in
         list_fits f value fs vs vs those refl is own
         (subst (λ (ws : List Value). InnerFit Fits t.List fs (o.List ws)) (ap items_in shown) (inner_at fs (slot_values s) i m inner))
@@ -137,7 +139,8 @@ struct_slot s f fs i laid kind those many m may each = either (is_valid s.column
         let shown : out-Value value ≡ o.Struct vs = ap out-Value is ∙ struct_out vs in
         let size : length vs ≡ length (out-Field f).children =
         row_length s.body s.children i ∙ (sym many ∙ ap (λ (gs : List Field). length gs) those) in
-        let own = subst (λ (w : Value-F Value). IsOwn (out-Field f).kind (out-Field f).nullable (length (out-Field f).children) w) (sym shown)
+        let own = subst (λ (w : Value-F Value). IsOwn (out-Field f).kind (out-Field f).nullable (length (out-Field f).children) w)
+        (sym shown)
         (subst (λ (k : DataType). IsOwn k (out-Field f).nullable (length (out-Field f).children) (o.Struct vs)) (sym kind) size) in
         struct_fits f value fs vs vs those refl is own (each e)
     either false e = null_slot f (get_or (slot_values s) i Null) (slot_is s i m ∙ rw e refl) may

@@ -1,5 +1,6 @@
 -- Columns that lie whole, one by one.
-use Rattle.std.proofs.Common.{◌≡◌, refl, sym, ap, subst, ℕ, zero, suc, ◌+◌, ◌<◌, false, true, inl, inr, List, [], ◌∷◌, length, get_or, Some, arith}
+use Rattle.std.proofs.Common.{◌≡◌, refl, sym, ap, subst, ℕ, zero, suc, ◌+◌, ◌<◌, false, true, inl, inr, List, [], ◌∷◌, length, get_or, Some}
+use Rattle.std.proofs.Common.{arith}
 use Rattle.std.specs.Prelude.{Bool, slice_get, slice_set}
 use Rattle.std.proofs.lemmas.Bool.{cases_lt}
 use Rattle.ipc_model.specs.declared.fault.WriteFault.TheVariants as fault

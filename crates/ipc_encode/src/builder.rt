@@ -354,8 +354,8 @@ impl Builder {
     /// Takes all rows of a batch that was read, column by column, and asks for the index of each
     /// value other than null in a field with a dictionary: what `push` of each row takes. No value
     /// is made for a cell, but one for each value of a dictionary, whose index is asked for once,
-    /// and in lists of a fixed size, in lists and structs whose children have other slots than these
-    /// lead to or a dictionary, and in columns that lie unlike the field: these read each row anew.
+    /// and in lists of a fixed size, in lists and structs whose children have a dictionary or other
+    /// slots than these lead to, and in columns that lie unlike the field: these read rows anew.
     /// Where the batch has fewer columns than there are fields the others get nulls, and columns
     /// behind those of the fields are left out.
     ///

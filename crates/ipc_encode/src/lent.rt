@@ -305,7 +305,8 @@ impl Column {
         ensures taken { (known : Numbering) (layout : Layout) (before : List Value)
             → IsColumn known limits.now layout before self.old
             → AreStored layout (slot_values view.now)
-            → OnOk result (IsColumn known limits.now layout (before ++ slot_values view.now) self.new) }
+            → OnOk result
+            (IsColumn known limits.now layout (before ++ slot_values view.now) self.new) }
         ensures refused { (known : Numbering) (layout : Layout) (before : List Value)
             → IsColumn known limits.now layout before self.old
             → IfErr result (IsPushRefused limits.now layout (before ++ slot_values view.now)) }

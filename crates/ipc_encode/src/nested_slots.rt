@@ -20,7 +20,8 @@ use crate::slot_parts::item_count;
 use ipc_column::SlotView;
 use ipc_model::{Layout, Limits};
 
-// Where a list ends that begins at a start and has so many items. `TooLong` past what offsets reach.
+// Where a list ends that begins at a start and has so many items. `TooLong` past what offsets
+// reach.
 fn list_end(start: usize, count: usize) -> Result<usize, PushFault>
     ensures end { IfOk result (λ end. end ≡ start + count) }
     ensures refused { IfErr result

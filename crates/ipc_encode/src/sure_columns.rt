@@ -124,8 +124,8 @@ fn most_of_slots(layout: Layout, counts: Counts, slots: &SlotView<'_>) -> Option
     }
 }
 
-// The bytes that the buffers of a column, and of those below it, take at most with these slots more,
-// beside those that don't hang on what they show, where that surely fits the field.
+// The bytes that the buffers of a column, and of those below it, take at most with these slots
+// more, beside those that don't hang on what they show, where that surely fits the field.
 fn most_with_slots(field: &Field, slots: &SlotView<'_>, node: &Node, limits: &Limits) -> Option<u64>
     ensures fits { IfSome result
         (λ most. AllByRecursion (Fits field.now) (slot_values slots.now)) }

@@ -1,5 +1,5 @@
-//! Whether all slots of a column with children surely fit, told by one look at it and at each column
-//! below it, where these have just the slots that its own lead to.
+//! Whether all slots of a column with children surely fit, told by one look at it and at each
+//! column below it, where these have just the slots that its own lead to.
 ghost use Rattle.std.specs.Prelude.{◌≡◌, ◌<◌, ◌≤◌, ◌+◌, ◌*◌, ◌++◌, ℕ, true, false, List, length};
 ghost use Rattle.std.specs.Prelude.{IfSome, IsTrue, slice_index_or};
 ghost use Rattle.std.specs.List.{AllByRecursion};

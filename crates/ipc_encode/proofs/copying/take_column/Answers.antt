@@ -125,7 +125,8 @@ returns-then-lies_whole-clause-taken g c = λ layout children before h.
     c.slots-view.ensures.texts i (subst (λ (vs : List Value). i < length vs) c.slots-view.ensures.values m) in
     let whole = c.lies_whole.ensures c.if-lies_whole.true known limits layout children before h spelled in
     on_ok_weaker c.take_whole.result
-    (λ taken. subst (λ (vs : List Value). IsNode (IsColumn known limits) layout children c.take_whole.new.node (before ++ vs)) (sym same) taken)
+    (λ taken. subst (λ (vs : List Value). IsNode (IsColumn known limits) layout children c.take_whole.new.node (before ++ vs))
+    (sym same) taken)
     (c.take_whole.ensures.taken known layout children before values h whole)
 
 pub returns-then-lies_whole-clause-refused : goal.returns-then-lies_whole-clause-refused

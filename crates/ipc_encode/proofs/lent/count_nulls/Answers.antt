@@ -14,7 +14,8 @@ use Rattle.ipc_encode.proofs.lent.count_nulls.Goals as goal
 pub overflow_add-null_count : goal.overflow_add-null_count
 overflow_add-null_count c =
     let slot = c.loop-slot.slot in
-    let inside : slot < length (slot_values c.args.view.now) = omega (arith, c.loop-slot-test.true, c.loop-slot.auto.slot-end, c.len-slot-end.ensures) in
+    let inside : slot < length (slot_values c.args.view.now) = omega
+    (arith, c.loop-slot-test.true, c.loop-slot.auto.slot-end, c.len-slot-end.ensures) in
     let most = nulls_within (take slot (slot_values c.args.view.now)) in
     let front = length-take-le slot (slot_values c.args.view.now) (omega (arith, inside)) in
     let few : from_bool (not c.is_valid.result) < 2 = flag_small (not c.is_valid.result) in

@@ -18,7 +18,8 @@ loop-slot-preserved c =
     let old = c.args.values.now.items in
     let inside : slot < length view = omega (arith, c.loop-slot-test.true, c.loop-slot.auto.slot-end, c.len-slot-end.ensures) in
     let value = get_or_from_slice_get view slot _ Null c.at-shown.ensures.value in
-    let bytes : c.content.result.now ≡ content (get_or view slot Null) = c.content.ensures (row (below c.args.view.now)) slot ∙ ap content (sym value) in
+    let bytes : c.content.result.now ≡ content (get_or view slot Null) = c.content.ensures (row (below c.args.view.now)) slot ∙ ap content
+    (sym value) in
     let values : c.extend_from_slice.new.self.items ≡ old ++ slots Content (take (slot + 1) view) =
     c.in_ok-extend_from_slice.ensures.items
     ∙ (ap (λ (bs : List ℕ). bs ++ c.content.result.now) c.loop-slot.invariant.values

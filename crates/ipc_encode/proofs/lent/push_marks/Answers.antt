@@ -22,4 +22,5 @@ loop-slot-preserved c = λ before held same.
     let count = flags_length Valid so_far in
     let value = get_or_from_slice_get view slot _ Null c.at-shown.ensures.value in
     c.in_ok-push_bit.ensures (flags Valid so_far) (omega (arith, front, all, count, held)) (c.loop-slot.invariant before held same)
-    ∙ ap bitmap (flags_next Valid before view slot c.is_valid.result inside (c.is_valid.ensures (row (below c.args.view.now)) slot ∙ ap (is_set Valid) (sym value)))
+    ∙ ap bitmap (flags_next Valid before view slot c.is_valid.result inside (c.is_valid.ensures (row (below c.args.view.now)) slot ∙ ap
+    (is_set Valid) (sym value)))

@@ -23,4 +23,5 @@ loop-slot-preserved c = λ before held same.
     let count = flags_length True so_far in
     let value = get_or_from_slice_get view slot _ Null c.at-shown.ensures.value in
     c.in_ok-push_bit.ensures (flags True so_far) (omega (arith, front, all, count, held)) (c.loop-slot.invariant before held same)
-    ∙ ap bitmap (flags_next True before view slot c.is_true.result inside (c.is_true.ensures (row (below c.args.view.now)) slot ∙ ap (is_set True) (sym value)))
+    ∙ ap bitmap (flags_next True before view slot c.is_true.result inside (c.is_true.ensures (row (below c.args.view.now)) slot ∙ ap
+    (is_set True) (sym value)))

@@ -31,7 +31,8 @@ lie_whole-loop-i-preserved t c = λ known limits shape before h spelled.
     let whole = c.lies_whole.ensures c.if-not-lies_whole.false known limits lay inner (before i) held
     (c.has_all.ensures.texts c.if-not-has_all.false own c.child.ensures spelled) in
     subst (λ (n : Nested). IsWhole lay inner n (values i)) (some_same own v (sym c.child.ensures ∙ is))
-    (subst (λ (vs : List Value). IsWhole lay inner own vs) (sym (c.has_all.ensures.slots c.if-not-has_all.false own c.child.ensures)) whole))
+    (subst (λ (vs : List Value). IsWhole lay inner own vs) (sym
+    (c.has_all.ensures.slots c.if-not-has_all.false own c.child.ensures)) whole))
 
 pub lie_whole-returns : goal.lie_whole-returns
 lie_whole-returns t c = λ told known limits shape before h spelled.

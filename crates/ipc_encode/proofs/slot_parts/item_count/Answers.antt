@@ -15,7 +15,8 @@ returns-in-List c = λ under i.
     let to = c.in-List.to in
     c.saturating_sub.ensures
     ∙ sym (ap (λ (x : Slot). length (items (shown under i x))) c.in-List.is
-    ∙ (ap (λ (vs : List Value). length vs) (items_are under i (slot.List from to)) ∙ items_length (λ j. first_of (under j)) from (to - from)))
+    ∙ (ap (λ (vs : List Value). length vs) (items_are under i (slot.List from to)) ∙ items_length (λ j. first_of (under j)) from
+    (to - from)))
 
 pub returns-in_default : goal.returns-in_default
 returns-in_default c = λ under i.

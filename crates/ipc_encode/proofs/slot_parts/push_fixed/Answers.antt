@@ -18,5 +18,6 @@ returns-in-Bytes c = λ under i.
 pub returns-in_default : goal.returns-in_default
 returns-in_default c = λ under i.
     on_ok_weaker c.push_zeros.result
-    (λ e. e ∙ ap (λ (bs : List ℕ). c.args.values.now.items ++ bs) (sym (no_bytes under i c.args.width c.args.held.now c.in_default.not-Bytes)))
+    (λ e. e ∙ ap (λ (bs : List ℕ). c.args.values.now.items ++ bs) (sym
+    (no_bytes under i c.args.width c.args.held.now c.in_default.not-Bytes)))
     c.push_zeros.ensures

@@ -25,7 +25,8 @@ returns-clause-most c = λ known layout children values least h few enough.
     let none = leaf_is (IsColumn known limits) children (out-Node c.args.node.now).children.items (below layout values)
     (c.is_leaf.ensures.0 c.if-not-is_leaf.false) h.1 in
     let counted = subst (λ (l : Layout). IsCounted limits l values own.counts) (sym h.0.laid) h.0.counted in
-    if_both c.most_of_slots.result (c.most_of_slots.ensures.most limits values counted) (c.most_of_slots.ensures.short limits values counted)
+    if_both c.most_of_slots.result (c.most_of_slots.ensures.most limits values counted)
+    (c.most_of_slots.ensures.short limits values counted)
     (λ most held short.
     let taken = leaf_takes limits own.layout more least most few short enough held in
     subst (λ (s : Shape). TakeAtMost limits (least + most) (field layout s bare) (λ j. more)) (sym none)

@@ -79,7 +79,8 @@ left_of_slots-returns-in-Struct-Structs-clause-weight t c = λ known limits layo
     (sym c.deref-in-Struct-Structs.ensures.value) h.1 in
     let amount = ap (λ (k : Layout). data_in k vs) structs ∙ struct_data vs in
     slots_left layout own children vs (λ j. all_parts j vs) c.left_of_parts.result c.in_ok-left.left c.args.bytes (alike ∙ h.0.laid)
-    (omega (arith, c.in_ok-left.ensures.0, c.in_ok-left.ensures.1, c.in_ok-checked_mul.ensures.1, c.len.ensures)) (structs_give own vs structs)
+    (omega (arith, c.in_ok-left.ensures.0, c.in_ok-left.ensures.1, c.in_ok-checked_mul.ensures.1, c.len.ensures))
+    (structs_give own vs structs)
     (IfSome_then c.left_of_parts.result (c.left_of_parts.ensures.weight known limits children (b.below layout before) held)
     (λ left sum. omega (arith, sum, amount)))
 

@@ -13,7 +13,8 @@ use Rattle.ipc_encode.proofs.sure_slots.+slots.Given as goal
 
 abbrev pub invariant-left_of_parts-loop-i : goal.invariant-left_of_parts-loop-i
 invariant-left_of_parts-loop-i l = record {
-  fits : (j : ℕ) → j < length (slot_values l.view) → is_valid l.view.column.validity j ≡ true → FirstFit l.i l.fields (row (below l.view) j);
+  fits : (j : ℕ) → j < length (slot_values l.view) → is_valid l.view.column.validity j ≡ true → FirstFit l.i l.fields (row
+      (below l.view) j);
   weight : (known : Numbering) (limits : Limits) (shape : Shape) (before : ℕ → List Value)
       → AreNodes (IsColumn known limits) shape l.nodes before
       → weight_of 0 (first l.i shape) (λ j. all_parts j (slot_values l.view)) + l.left ≤ l.bytes;

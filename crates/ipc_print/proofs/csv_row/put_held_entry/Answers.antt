@@ -10,4 +10,5 @@ returns-in_ok-put_front_field-in-Text-clause-ok c =
 
 pub returns-in-Null-clause-ok : goal.returns-in-Null-clause-ok
 returns-in-Null-clause-ok c =
-    rw (slot_csv c.args.kind.now c.args.tree.now c.args.slot slot.Null (rw c.in-Null.is at c.entry_at.ensures)) (ap Some c.put_null.ensures.text)
+    rw (slot_csv c.args.kind.now c.args.tree.now c.args.slot slot.Null (rw c.in-Null.is at c.entry_at.ensures))
+    (ap Some c.put_null.ensures.text)
