@@ -1,5 +1,5 @@
 -- The indices of values, of which null has none.
-use Rattle.std.proofs.Common.{◌≡◌, ◌∙◌, refl, sym, ap, ℕ, zero, suc, ◌+◌, ◌<◌, Bool, List, [], ◌∷◌, Option, None, length, map, get_or}
+use Rattle.std.proofs.Common.{◌≡◌, ◌∙◌, refl, ap, ℕ, zero, suc, ◌<◌, Bool, List, [], ◌∷◌, Option, length, get_or}
 use Rattle.std.proofs.Common.{arith}
 use Rattle.std.proofs.Common.{◌++◌, ◌-◌, ◌*◌, ℤ, take, drop, length-append}
 use Rattle.std.proofs.Math.Seq.{drop-append_seam}

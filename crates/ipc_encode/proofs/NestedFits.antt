@@ -1,17 +1,16 @@
 -- Lists and structs fit their field where the slots of their children fit theirs.
-use Rattle.std.proofs.Common.{◌≡◌, ◌∙◌, refl, sym, ap, subst, ℕ, zero, suc, ◌+◌, ◌<◌, true, false, Bool, List, [], ◌∷◌, ◌++◌, length}
+use Rattle.std.proofs.Common.{◌≡◌, ◌∙◌, refl, sym, ap, subst, ℕ, suc, ◌<◌, List, [], ◌∷◌, ◌++◌, length}
 use Rattle.std.proofs.Common.{get_or}
 use Rattle.std.proofs.Common.{arith}
 use Rattle.std.specs.List.{AllByRecursion}
-use Rattle.ipc_model.specs.Fits.{Fits, EachFits, InnerFit, IsOwn}
-use Rattle.ipc_model.specs.declared.schema.DataType.TheVariants as t
+use Rattle.ipc_model.specs.Fits.{Fits, EachFits, IsOwn}
 use Rattle.ipc_model.specs.declared.schema.Field.{Field, out-Field}
 use Rattle.ipc_model.specs.declared.value.Value.{Value, out-Value}
 use Rattle.ipc_model.specs.declared.value.Value.TheViews.{roll-Value, roll-out-Value}
 use Rattle.ipc_model.specs.declared.value.Value.TheOpen as o
 use Rattle.ipc_model.specs.declared.value.Value.TheOpen.{Value-F}
 use Rattle.ipc_model.specs.declared.value.Value.TheVariants as v
-use Rattle.ipc_encode.specs.Cells.{all_items, all_parts, cell, items, items_in, part, part_in}
+use Rattle.ipc_encode.specs.Cells.{all_items, cell, items, items_in, part, part_in}
 use Rattle.ipc_encode.proofs.LentBuffers.{struct_out}
 use Rattle.ipc_encode.proofs.Weights.{list_fits, null_fits, struct_fits}
 

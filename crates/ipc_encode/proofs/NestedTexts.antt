@@ -11,7 +11,7 @@ use Rattle.ipc_model.specs.declared.layout.Layout.{Layout}
 use Rattle.ipc_model.specs.declared.layout.Layout.TheVariants as l
 use Rattle.ipc_column.specs.declared.buffers.Buffers.{Buffers}
 use Rattle.ipc_column.specs.declared.ranges.ColumnRanges.{ColumnRanges}
-use Rattle.ipc_column.specs.Columns.{Column, Columns}
+use Rattle.ipc_column.specs.Columns.{Columns}
 use Rattle.ipc_column.specs.Lending.{AreBuffers}
 use Rattle.ipc_column.specs.Nested.{Nested, alone, below, slot_values}
 use Rattle.ipc_column.specs.Rules.{IsText, SpellsTexts}

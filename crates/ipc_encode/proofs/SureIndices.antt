@@ -1,5 +1,5 @@
 -- Columns of indices that surely fit, by how the values of their dictionary lie.
-use Rattle.std.proofs.Common.{◌≡◌, ℕ, zero, suc, ◌+◌, ◌*◌, ◌<◌, ◌≤◌, Bool, true, false, ℤ, List, [], ◌∷◌, ◌++◌, length, get_or, cond, arith}
+use Rattle.std.proofs.Common.{◌≡◌, ℕ, zero, suc, ◌*◌, ◌≤◌, Bool, true, false, ℤ, List, [], ◌∷◌, length, get_or, cond, arith}
 use Rattle.std.proofs.Math.Nat.{mul-le-mul_right}
 use Rattle.std.specs.Prelude.{pos, negsuc}
 use Rattle.std.specs.List.{AllByRecursion}

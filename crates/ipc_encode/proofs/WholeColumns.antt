@@ -1,9 +1,8 @@
 -- Columns that lie whole, one by one.
-use Rattle.std.proofs.Common.{◌≡◌, refl, sym, ap, subst, ℕ, zero, suc, ◌+◌, ◌<◌, false, true, inl, inr, List, [], ◌∷◌, length, get_or, Some}
+use Rattle.std.proofs.Common.{◌≡◌, refl, subst, ℕ, zero, suc, ◌+◌, ◌<◌, false, true, inl, inr, List, [], ◌∷◌, length, get_or, Some}
 use Rattle.std.proofs.Common.{arith}
 use Rattle.std.specs.Prelude.{Bool, slice_get, slice_set}
 use Rattle.std.proofs.lemmas.Bool.{cases_lt}
-use Rattle.ipc_model.specs.declared.fault.WriteFault.TheVariants as fault
 use Rattle.ipc_model.specs.declared.layout.Layout.{Layout}
 use Rattle.ipc_model.specs.declared.layout.Layout.TheVariants as l
 use Rattle.ipc_model.specs.declared.limits.Limits.{Limits}

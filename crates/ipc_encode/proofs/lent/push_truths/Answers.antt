@@ -1,7 +1,6 @@
-use Rattle.std.proofs.Common.{◌∙◌, sym, ap, ◌<◌, ◌++◌, List, length, take, length-append, arith}
+use Rattle.std.proofs.Common.{◌∙◌, sym, ap, ◌<◌, ◌++◌, length, take, length-append, arith}
 use Rattle.std.proofs.lemmas.List.{length-take-le}
 use Rattle.std.proofs.lemmas.Option.{get_or_from_slice_get}
-use Rattle.ipc_model.specs.declared.value.Value.{Value}
 use Rattle.ipc_model.specs.declared.value.Value.TheVariants.{Null}
 use Rattle.ipc_column.specs.Nested.{below, slot_values}
 use Rattle.ipc_column.specs.Values.{row}

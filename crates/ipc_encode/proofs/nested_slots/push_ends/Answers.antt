@@ -3,7 +3,6 @@ use Rattle.std.proofs.lemmas.Result.{IfErr-weaker, IfOk-weaker, on_ok_weaker}
 use Rattle.ipc_model.specs.Limits.{max_data}
 use Rattle.ipc_model.specs.declared.layout.Layout.TheVariants.{Lists, Structs}
 use Rattle.ipc_column.specs.Nested.{slot_values}
-use Rattle.ipc_encode.specs.declared.fault.PushFault.{PushFault}
 use Rattle.ipc_encode.specs.Built.{IsPushRefused}
 use Rattle.ipc_encode.specs.Cells.{ends}
 use Rattle.ipc_encode.specs.Columns.{data_in}

@@ -1,5 +1,5 @@
 use Rattle.std.proofs.Common.{refl, sym, arith, Option, Some, None}
-use Rattle.std.specs.Prelude.{IfNone, ⊤}
+use Rattle.std.specs.Prelude.{IfNone}
 use Rattle.ipc_column.specs.Nested.{slot_values}
 use Rattle.ipc_encode.proofs.LentBuffers.{buffers_bits, buffers_marked, numbers_lent, tells_numbers}
 use Rattle.ipc_encode.proofs.numbers.lent_numbers.Goals as goal

@@ -7,7 +7,6 @@ use Rattle.ipc_model.specs.declared.schema.Field.{out-Field}
 use Rattle.ipc_model.specs.declared.value.Value.{Value}
 use Rattle.ipc_column.specs.Nested.{slot_values}
 use Rattle.ipc_column.specs.Plain.{IsShownBy}
-use Rattle.ipc_encode.specs.PlainColumns.{is_plain}
 use Rattle.ipc_encode.proofs.SureColumns.{nullable_fit, plain_shows, required_fit}
 use Rattle.ipc_encode.proofs.SureIndices.{indexed_shown}
 use Rattle.ipc_encode.proofs.sure_columns.entries_fit.Goals.{After-lie_alike}

@@ -1,4 +1,4 @@
-use Rattle.std.proofs.Common.{◌≡◌, ◌∙◌, refl, sym, ap, subst, ℕ, ◌+◌, ◌-◌, ◌*◌, ◌++◌, ℤ, Bool, List, Option, length, map, take, drop}
+use Rattle.std.proofs.Common.{◌≡◌, ◌∙◌, refl, sym, ap, subst, ℕ, ◌+◌, ◌*◌, ◌++◌, ℤ, Bool, List, Option, length, map}
 use Rattle.std.proofs.Common.{length-append, arith}
 use Rattle.std.proofs.lemmas.List.{length-map, map-append}
 use Rattle.std.proofs.lemmas.Result.{err_from_is_err_and}
@@ -7,12 +7,12 @@ use Rattle.ipc_model.specs.declared.layout.Layout.{Layout}
 use Rattle.ipc_model.specs.declared.layout.Layout.TheVariants as l
 use Rattle.ipc_model.specs.declared.schema.IntBits.{IntBits}
 use Rattle.ipc_model.specs.declared.value.Value.{Value}
-use Rattle.ipc_encode.specs.Built.{IsColumn, IsCounted, IsPushRefused}
+use Rattle.ipc_encode.specs.Built.{IsCounted, IsPushRefused}
 use Rattle.ipc_encode.specs.Cells.{cells}
 use Rattle.ipc_encode.specs.Columns.{data_in}
 use Rattle.ipc_encode.specs.EntryIndices.{column_index}
 use Rattle.ipc_encode.specs.Numbers.{Numbering, index_of, indices_of, told}
-use Rattle.ipc_encode.proofs.EntryIndices.{behind_others, data_indices, indices_length}
+use Rattle.ipc_encode.proofs.EntryIndices.{behind_others, data_indices}
 use Rattle.ipc_encode.proofs.Steps.{cells_length}
 use Rattle.ipc_encode.proofs.SureColumns.{data_append}
 use Rattle.ipc_encode.proofs.column.Column.take_indices.Goals as goal
