@@ -1,12 +1,20 @@
 -- Texts of a dictionary, told by the index of a slot (Arrow Columnar Format, "Dictionary-encoded
 -- Layout").
-use Rattle.std.specs.Prelude.{◌≡◌, ◌≤◌, ℕ, true, length, take, Some, slice_get, ⊤}
+use Rattle.std.specs.Prelude.{◌≡◌, ◌≤◌, ℕ, ℤ, Bool, true, length, take, Some, slice_get, ⊤}
+use Rattle.ipc_model.specs.declared.layout.Layout.{Layout}
 use Rattle.ipc_model.specs.declared.layout.Layout.TheVariants as l
+use Rattle.ipc_model.specs.declared.schema.IntBits.{IntBits}
 use Rattle.ipc_model.specs.declared.value.Value.TheVariants as v
 use Rattle.ipc_column.specs.Nested.{Nested, slot_values}
 use Rattle.ipc_print.specs.declared.entry.Entry.{Entry}
 use Rattle.ipc_print.specs.declared.entry.Entry.TheVariants as entry
-use Rattle.ipc_print.specs.Kinds.{AreIndices}
+
+-- slots of this layout are indices of the values of a dictionary
+pub record AreIndices (layout : Layout) : Type 0 where
+  pub bits : IntBits
+  pub signed : Bool
+  pub id : ℤ
+  pub are : layout ≡ l.Indices bits signed id
 
 -- These are the values of the dictionary of a column of indices, which are texts.
 pub record AreTexts (column entries : Nested) : Type 0 where

@@ -1,19 +1,11 @@
 -- The ways in which slots lie that are read by code of their own (Arrow Columnar Format, "Physical
 -- Memory Layout").
-use Rattle.std.specs.Prelude.{◌≡◌, ℤ, Bool, true, ⊤}
+use Rattle.std.specs.Prelude.{◌≡◌, true, ⊤}
 use Rattle.ipc_model.specs.declared.layout.Layout.{Layout}
 use Rattle.ipc_model.specs.declared.layout.Layout.TheVariants as l
-use Rattle.ipc_model.specs.declared.schema.IntBits.{IntBits}
 use Rattle.ipc_model.specs.declared.schema.IntBits.TheVariants.{B32, B64}
 use Rattle.ipc_print.specs.declared.kind.Kind.{Kind}
 use Rattle.ipc_print.specs.declared.kind.Kind.TheVariants as kind
-
--- slots of this layout are indices of the values of a dictionary
-pub record AreIndices (layout : Layout) : Type 0 where
-  pub bits : IntBits
-  pub signed : Bool
-  pub id : ℤ
-  pub are : layout ≡ l.Indices bits signed id
 
 -- slots of this layout lie in this way; nothing is said of the others
 abbrev pub Lies : Kind → Layout → Type 0
@@ -22,5 +14,4 @@ Lies kind.Ints layout = layout ≡ l.Numbers B32 true
 Lies kind.Truths layout = layout ≡ l.Bits
 Lies kind.Texts layout = layout ≡ l.VariableBytes true
 Lies (kind.Bytes width) layout = layout ≡ l.FixedBytes width
-Lies kind.Entries layout = AreIndices layout
 Lies kind.Others layout = ⊤

@@ -144,7 +144,7 @@ fn put_held(
 }
 
 // What a slot holds, in a function of its own, so that the loop over the columns carries nothing
-// of it.
+// of it. A text of the column's dictionary is told by its index.
 #[inline(never)]
 fn put_other(
     text: &mut [u8],
@@ -162,7 +162,11 @@ fn put_other(
     ensures refused { IfErr result
         (LacksText column (text_in kind.now (slot_value tree.now slot))) }
 {
-    put_held(text, at, column, kind, tree, slot, tree.at(slot))
+    match tree.entry_at(slot) {
+        Entry::Text(bytes, len) => Ok(put_front_field(text, at, bytes, len)?),
+        Entry::Null => Ok(put_null(text, at)),
+        Entry::Others => put_held(text, at, column, kind, tree, slot, tree.at(slot)),
+    }
 }
 
 // What a slot holds, which is this: most often a signed number.
@@ -270,32 +274,6 @@ fn put_held_text(
     }
 }
 
-// What a slot holds, most often a text of the column's dictionary. It isn't taken in, so that the
-// loop over the columns carries nothing of it.
-#[inline(never)]
-fn put_held_entry(
-    text: &mut [u8],
-    at: usize,
-    column: u64,
-    kind: &DataType,
-    tree: &ColumnTree<'_>,
-    slot: usize,
-) -> Result<usize, TextFault>
-    requires room { at + 32 ≤ length text.old }
-    requires slot { slot < length (slot_values tree.now) }
-    ensures inside { IfOk result (λ end. end ≤ length text.new) }
-    ensures ok { IfOk result (λ end. Appended (take at text.old)
-        (text_in kind.now (slot_value tree.now slot)) (take end text.new)) }
-    ensures refused { IfErr result
-        (LacksText column (text_in kind.now (slot_value tree.now slot))) }
-{
-    match tree.entry_at(slot) {
-        Entry::Text(bytes, len) => Ok(put_front_field(text, at, bytes, len)?),
-        Entry::Null => Ok(put_null(text, at)),
-        Entry::Others => put_other(text, at, column, kind, tree, slot),
-    }
-}
-
 // What a slot holds, by the way in which the slots lie: each arm is compiled for its own.
 #[inline(always)]
 fn put_cell(
@@ -344,7 +322,6 @@ fn put_cell(
             let held = tree.at_layout(Layout::FixedBytes(width), slot);
             put_held_bytes(text, at, column, kind, tree, slot, held)
         }
-        Kind::Entries => put_held_entry(text, at, column, kind, tree, slot),
         Kind::Others => put_other(text, at, column, kind, tree, slot),
     }
 }

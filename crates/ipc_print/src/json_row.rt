@@ -316,7 +316,7 @@ fn put_each(
 }
 
 // What a slot of a row holds, read in a function of its own, so that the loop over the columns
-// carries nothing of it.
+// carries nothing of it. A text of the column's dictionary is told by its index.
 #[inline(never)]
 fn put_other(
     text: &mut [u8],
@@ -331,7 +331,11 @@ fn put_other(
     ensures text { IfOk result (λ end. take end text.new ≡ take at text.old
         ++ compact_text (cell_json field.now (slot_value column.now slot))) }
 {
-    put_slot(text, at, field, column, slot)
+    match column.entry_at(slot) {
+        Entry::Text(bytes, len) => put_front(text, at, bytes, len),
+        Entry::Null => Ok(put_null(text, at)),
+        Entry::Others => put_slot(text, at, field, column, slot),
+    }
 }
 
 // What a slot of a row holds, which is this: most often a signed number.
@@ -430,29 +434,6 @@ fn put_held_text(
     }
 }
 
-// What a slot of a row holds, most often a text of the column's dictionary. It isn't taken in, so
-// that the loop over the columns carries nothing of it.
-#[inline(never)]
-fn put_held_entry(
-    text: &mut [u8],
-    at: usize,
-    field: &Field,
-    column: &ColumnTree<'_>,
-    slot: usize,
-) -> Result<usize, AllocError>
-    requires room { at + 34 ≤ length text.old }
-    requires slot { slot < length (slot_values column.now) }
-    ensures inside { IfOk result (λ end. end ≤ length text.new) }
-    ensures text { IfOk result (λ end. take end text.new ≡ take at text.old
-        ++ compact_text (cell_json field.now (slot_value column.now slot))) }
-{
-    match column.entry_at(slot) {
-        Entry::Text(bytes, len) => put_front(text, at, bytes, len),
-        Entry::Null => Ok(put_null(text, at)),
-        Entry::Others => put_other(text, at, field, column, slot),
-    }
-}
-
 // What a slot of a row holds, by the way in which the slots lie: each arm is compiled for its own.
 #[inline(always)]
 fn put_cell(
@@ -498,7 +479,6 @@ fn put_cell(
             let held = column.at_layout(Layout::FixedBytes(width), slot);
             put_held_bytes(text, at, field, column, slot, held)
         }
-        Kind::Entries => put_held_entry(text, at, field, column, slot),
         Kind::Others => put_other(text, at, field, column, slot),
     }
 }

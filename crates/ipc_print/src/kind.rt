@@ -17,8 +17,6 @@ pub enum Kind {
     Texts,
     /// So many bytes in each slot.
     Bytes(u32),
-    /// Indices of the values of a dictionary.
-    Entries,
     /// In any other way.
     Others,
 }
@@ -39,7 +37,6 @@ pub fn kind_of(layout: Layout) -> Kind
         Layout::Bits => Kind::Truths,
         Layout::VariableBytes { utf8: true } => Kind::Texts,
         Layout::FixedBytes(width) => Kind::Bytes(width),
-        Layout::Indices { .. } => Kind::Entries,
         _ => Kind::Others,
     }
 }

@@ -1,7 +1,7 @@
 use Rattle.std.proofs.Common.{ap, Some}
 use Rattle.ipc_column.specs.declared.slot_view.Slot.TheVariants as slot
 use Rattle.ipc_print.proofs.SlotTexts.{slot_csv, told_csv}
-use Rattle.ipc_print.proofs.csv_row.put_held_entry.Goals as goal
+use Rattle.ipc_print.proofs.csv_row.put_other.Goals as goal
 
 pub returns-in_ok-put_front_field-in-Text-clause-ok : goal.returns-in_ok-put_front_field-in-Text-clause-ok
 returns-in_ok-put_front_field-in-Text-clause-ok c =

@@ -1,6 +1,6 @@
 use Rattle.ipc_column.specs.declared.slot_view.Slot.TheVariants as slot
 use Rattle.ipc_print.proofs.SlotTexts.{slot_json, told_json}
-use Rattle.ipc_print.proofs.json_row.put_held_entry.Goals as goal
+use Rattle.ipc_print.proofs.json_row.put_other.Goals as goal
 
 pub put_front-requires-clause-inside : goal.put_front-requires-clause-inside
 put_front-requires-clause-inside c = (rw c.in-Text.is at c.entry_at.ensures).0
