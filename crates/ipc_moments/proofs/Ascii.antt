@@ -1,12 +1,11 @@
 -- ASCII is UTF-8.
-use Rattle.std.proofs.Common.{◌≡◌, nat_lt, ℕ, zero, suc, true, ◌≤◌, ◌<◌, ◌+◌, ◌/◌, ◌%◌, List, [], ◌∷◌, ◌++◌, refl, sym, subst, append_assoc}
+use Rattle.std.proofs.Common.{◌≡◌, nat_lt, ℕ, zero, suc, true, List, [], ◌∷◌, refl}
 use Rattle.std.proofs.Common.{arith}
 use Rattle.std.specs.List.{list_all}
 use Rattle.std.specs.Str.{IsAscii, IsUtf8}
 use Rattle.std.proofs.lemmas.Bool.{and_parts}
 use Rattle.std.proofs.lemmas.Bool.Decides.{nat_tests}
 use Rattle.std.proofs.lemmas.Str.{IsUtf8-from_ascii}
-use Rattle.ipc_moments.specs.Calendar.{two_digits}
 use Rattle.ipc_moments.specs.ShortTexts.{IsPlain}
 use Rattle.hex.specs.Hex.{encode_lower, lower_digits}
 use Rattle.hex.proofs.HexLemmas.{IsAscii-encode_with}
@@ -30,15 +29,3 @@ plain_is_ascii (b ∷ bs) h (suc i) = plain_is_ascii bs h.1 i
 -- what is plain is UTF-8
 pub plain_is_utf8 : (bs : List ℕ) → IsPlain bs → IsUtf8 bs
 plain_is_utf8 bs h = IsUtf8-from_ascii bs (plain_is_ascii bs h)
-
--- what is plain and a plain byte behind it are plain
-pub plain_more : (bs : List ℕ) (b : ℕ) → IsPlain bs → (45 ≤ b) × (b ≤ 90) → IsPlain (bs ++ b ∷ [])
-plain_more [] b plain one = (one, tt)
-plain_more (c ∷ bs) b plain one = (plain.0, plain_more bs b plain.1 one)
-
--- so are the two digits of a number below 100
-pub plain_two : (bs new : List ℕ) (n : ℕ) → n < 100 → IsPlain bs → new ≡ bs ++ two_digits n → IsPlain new
-plain_two bs new n small plain is =
-    let first = plain_more bs (48 + n / 10) plain (omega (arith, small), omega (arith, small)) in
-    let second = plain_more (bs ++ (48 + n / 10) ∷ []) (48 + n % 10) first (omega (arith, small), omega (arith, small)) in
-    subst IsPlain (sym is) (subst IsPlain (append_assoc bs ((48 + n / 10) ∷ []) ((48 + n % 10) ∷ [])) second)

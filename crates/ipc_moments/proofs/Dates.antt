@@ -46,7 +46,8 @@ pub record IsTimestamp (unit : TimeUnit) (z : ℤ) (text : List ℕ) : Type 0 wh
   pub text_is : text ≡ front ++ (84 ∷ (time_of_day unit units ++ behind))
   pub number : day *ℤ pos (ticks_in_a_day unit) +ℤ pos units ≡ z
 
-split : (unit : TimeUnit) (z : ℤ)
+-- a number of units is so many whole days and a time of day
+pub split : (unit : TimeUnit) (z : ℤ)
     → (unsigned_abs (int_rem_euclid z (pos (ticks_in_a_day unit))) < ticks_in_a_day unit)
     × (int_div_euclid z (pos (ticks_in_a_day unit)) *ℤ pos (ticks_in_a_day unit)
     +ℤ pos (unsigned_abs (int_rem_euclid z (pos (ticks_in_a_day unit)))) ≡ z)

@@ -1,8 +1,9 @@
-ghost use Rattle.std.specs.Prelude.{◌≡◌, ◌++◌, ◌≤◌, ◌+◌, IfSome, IsSome, ◌↔◌, IfOk, List, Some};
-ghost use Rattle.std.specs.Prelude.{option_map, length, int_lt, neg_ℤ, pos};
+ghost use Rattle.std.specs.Prelude.{◌≡◌, ◌++◌, ◌≤◌, ◌+◌, IfSome, IsNone};
+ghost use Rattle.std.specs.Prelude.{option_map, length, take, int_lt, neg_ℤ, pos, ◌≤ℤ◌};
+ghost use Rattle.jiff_core.specs.Date.{epoch_day};
 ghost use Rattle.ipc_moments.specs.Calendar.{day_text, days_before_epoch, last_day};
 
-use crate::short_text::ShortText;
+use crate::places::{put_byte, put_four_digits, put_two_digits};
 use jiff_core::civil::Date;
 
 // The number of the day 0001-01-01, and that of 9999-12-31.
@@ -26,23 +27,36 @@ fn is_too_late(day: i64) -> bool
     day > LAST_DAY
 }
 
-/// The text of the day with this number, in the years 0001 to 9999.
+// The day with this number, which is in the years 0001 to 9999. It is counted from -9999-01-01 on,
+// so that there is no other answer.
 #[inline(always)]
-pub(crate) fn day_text(day: i64) -> Option<ShortText>
-    ensures text { result ≡ day_text day }
-    ensures short { IfSome result (λ text. length text ≡ 10) }
+fn date_of(day: i64) -> Date
+    requires first { neg_ℤ (pos days_before_epoch) ≤ℤ day }
+    requires last { day ≤ℤ pos last_day }
+    ensures { epoch_day result ≡ day }
+{
+    Date::from_days_since_min((day + 4_371_587) as u32)
+}
+
+/// Writes the text of the day with this number, in the years 0001 to 9999, and returns where it
+/// ends. Where there is none, nothing is written.
+#[inline(always)]
+pub(crate) fn put_day(text: &mut [u8], at: usize, day: i64) -> Option<usize>
+    requires { at + 10 ≤ length text.old }
+    ensures end { IfSome result (λ end. end ≡ at + 10) }
+    ensures same_room { length text.new ≡ length text.old }
+    ensures unchanged { IsNone result → text.new ≡ text.old }
+    ensures text { option_map (λ end. take end text.new) result
+        ≡ option_map (λ moment. take at text.old ++ moment) (day_text day) }
 {
     if is_too_early(day) || is_too_late(day) {
         return None;
     }
-    let Ok(date) = Date::from_unix_epoch_day(day) else {
-        return None;
-    };
-    let mut text = ShortText::new();
-    text.push_four_digits(u32::from(date.year.unsigned_abs()));
-    text.push(b'-');
-    text.push_two_digits(u32::from(date.month));
-    text.push(b'-');
-    text.push_two_digits(u32::from(date.day));
-    Some(text)
+    let date = date_of(day);
+    put_four_digits(text, at, u32::from(date.year.unsigned_abs()));
+    put_byte(text, at + 4, b'-');
+    put_two_digits(text, at + 5, u32::from(date.month));
+    put_byte(text, at + 7, b'-');
+    put_two_digits(text, at + 8, u32::from(date.day));
+    Some(at + 10)
 }

@@ -1,15 +1,15 @@
-//! Dates, times and points in time.
-ghost use Rattle.std.specs.Prelude.{◌≡◌, ◌<◌, ◌≤◌, ◌+◌, ◌*◌, ◌/◌, ◌%◌, ◌++◌, option_map, length};
-ghost use Rattle.std.specs.Prelude.{IsSome, IsTrue, ◌↔◌, pos, unsigned_abs};
+//! Dates, times and points in time as texts at a place.
+ghost use Rattle.std.specs.Prelude.{◌≡◌, ◌<◌, ◌≤◌, ◌+◌, ◌/◌, ◌%◌, ◌++◌, option_map, length};
+ghost use Rattle.std.specs.Prelude.{take, IfSome, IsNone, IsTrue, ◌↔◌, pos, unsigned_abs};
 ghost use Rattle.std.specs.Int.{int_div_euclid, int_rem_euclid};
 ghost use Rattle.ipc_model.specs.Ranges.{IsTimeOfDay, ticks_in_a_day};
 ghost use Rattle.ipc_moments.specs.Moments as spec;
 ghost use Rattle.ipc_moments.specs.Moments.{per_second, clock_text, fraction_text};
-ghost use Rattle.ipc_moments.specs.Moments.{time_of_day, zone_text, moment_text};
+ghost use Rattle.ipc_moments.specs.Moments.{time_of_day, zone_text};
 
-use crate::calendar::day_text;
-use crate::short_text::ShortText;
-use ipc_model::{DataType, DateUnit, TimeUnit};
+use crate::calendar::put_day;
+use crate::places::{put_byte, put_three_digits, put_two_digits};
+use ipc_model::{DateUnit, TimeUnit};
 
 pub(crate) fn per_second(unit: TimeUnit) -> u64
     ensures { result ≡ per_second unit }
@@ -68,72 +68,103 @@ fn day_and_time(unit: TimeUnit, number: i64) -> (i64, u64)
     }
 }
 
-// The text of so many seconds after midnight.
+// Writes the text of so many seconds after midnight.
 #[inline(always)]
-fn push_clock(text: &mut ShortText, seconds: u32)
+fn put_clock(text: &mut [u8], at: usize, seconds: u32)
     requires small { seconds < 86_400 }
-    requires room { length text.old + 8 ≤ 32 }
-    ensures { text.new ≡ text.old ++ clock_text seconds }
+    requires room { at + 8 ≤ length text.old }
+    ensures same_room { length text.new ≡ length text.old }
+    ensures text { take (at + 8) text.new ≡ take at text.old ++ clock_text seconds }
 {
-    text.push_two_digits(seconds / 3_600);
-    text.push(b':');
-    text.push_two_digits(seconds / 60 % 60);
-    text.push(b':');
-    text.push_two_digits(seconds % 60);
+    put_two_digits(text, at, seconds / 3_600);
+    put_byte(text, at + 2, b':');
+    put_two_digits(text, at + 3, seconds / 60 % 60);
+    put_byte(text, at + 5, b':');
+    put_two_digits(text, at + 6, seconds % 60);
 }
 
-// The text of a part of a second.
+// Writes the text of a part of a second, and returns where it ends.
 #[inline(always)]
-fn push_fraction(text: &mut ShortText, unit: TimeUnit, part: u32)
+fn put_fraction(text: &mut [u8], at: usize, unit: TimeUnit, part: u32) -> usize
     requires small { part < per_second unit }
-    requires room { length text.old + 10 ≤ 32 }
-    ensures { text.new ≡ text.old ++ fraction_text unit part }
+    requires room { at + 10 ≤ length text.old }
+    ensures end { result ≤ at + 10 }
+    ensures same_room { length text.new ≡ length text.old }
+    ensures text { take result text.new ≡ take at text.old ++ fraction_text unit part }
 {
     match unit {
-        TimeUnit::Second => {}
+        TimeUnit::Second => at,
         TimeUnit::Millisecond => {
-            text.push(b'.');
-            text.push_three_digits(part);
+            put_byte(text, at, b'.');
+            put_three_digits(text, at + 1, part);
+            at + 4
         }
         TimeUnit::Microsecond => {
-            text.push(b'.');
-            text.push_three_digits(part / 1_000);
-            text.push_three_digits(part % 1_000);
+            put_byte(text, at, b'.');
+            put_three_digits(text, at + 1, part / 1_000);
+            put_three_digits(text, at + 4, part % 1_000);
+            at + 7
         }
         TimeUnit::Nanosecond => {
-            text.push(b'.');
-            text.push_three_digits(part / 1_000_000);
-            text.push_three_digits(part / 1_000 % 1_000);
-            text.push_three_digits(part % 1_000);
+            put_byte(text, at, b'.');
+            put_three_digits(text, at + 1, part / 1_000_000);
+            put_three_digits(text, at + 4, part / 1_000 % 1_000);
+            put_three_digits(text, at + 7, part % 1_000);
+            at + 10
         }
     }
 }
 
-// The text of so many units after midnight.
+// Writes the text of so many units after midnight, and returns where it ends.
 #[inline(always)]
-fn push_time_of_day(text: &mut ShortText, unit: TimeUnit, number: u64)
+fn put_time_of_day(text: &mut [u8], at: usize, unit: TimeUnit, number: u64) -> usize
     requires small { number < ticks_in_a_day unit }
-    requires room { length text.old + 18 ≤ 32 }
-    ensures { text.new ≡ text.old ++ time_of_day unit number }
+    requires room { at + 18 ≤ length text.old }
+    ensures end { result ≤ at + 18 }
+    ensures same_room { length text.new ≡ length text.old }
+    ensures text { take result text.new ≡ take at text.old ++ time_of_day unit number }
 {
     let (seconds, part) = seconds_and_part(unit, number);
-    push_clock(text, seconds as u32);
-    push_fraction(text, unit, part as u32);
+    put_clock(text, at, seconds as u32);
+    put_fraction(text, at + 8, unit, part as u32)
 }
 
-/// The text of a date, `YYYY-MM-DD`, of a number of days or of milliseconds after 1970-01-01. None
-/// outside the years 0001 to 9999, and for milliseconds that are no whole days.
+// Writes `Z` for a time zone that is present and not empty, and returns where it ends.
 #[inline(always)]
-pub fn date_text(unit: DateUnit, number: i64) -> Option<ShortText>
-    ensures { result ≡ spec.date_text unit number }
+fn put_zone(text: &mut [u8], at: usize, timezone: Option<&str>) -> usize
+    requires { at + 1 ≤ length text.old }
+    ensures end { result ≤ at + 1 }
+    ensures same_room { length text.new ≡ length text.old }
+    ensures text { take result text.new
+        ≡ take at text.old ++ zone_text (option_map (λ zone. zone.now) timezone.entry) }
+{
+    match timezone {
+        Some(zone) if !zone.is_empty() => {
+            put_byte(text, at, b'Z');
+            at + 1
+        }
+        _ => at,
+    }
+}
+
+/// Writes the text of a date as of `date_text` from `at` on, where there is one, and returns where
+/// it ends. Else nothing is written.
+#[inline(always)]
+pub(crate) fn put_date(text: &mut [u8], at: usize, unit: DateUnit, number: i64) -> Option<usize>
+    requires { at + 32 ≤ length text.old }
+    ensures end { IfSome result (λ end. end ≤ at + 32) }
+    ensures same_room { length text.new ≡ length text.old }
+    ensures unchanged { IsNone result → text.new ≡ text.old }
+    ensures text { option_map (λ end. take end text.new) result
+        ≡ option_map (λ moment. take at text.old ++ moment) (spec.date_text unit number) }
 {
     match unit {
-        DateUnit::Day => day_text(number),
+        DateUnit::Day => put_day(text, at, number),
         DateUnit::Millisecond => {
             if number.rem_euclid(86_400_000) != 0 {
                 return None;
             }
-            day_text(number.div_euclid(86_400_000))
+            put_day(text, at, number.div_euclid(86_400_000))
         }
     }
 }
@@ -146,63 +177,42 @@ fn is_time_of_day(unit: TimeUnit, number: i64) -> bool
     number >= 0 && number < ticks_in_a_day(unit)
 }
 
-/// The text of a time of day, so many units after midnight: `hh:mm:ss`, and 0, 3, 6 or 9 digits of
-/// a second behind a point by the unit. None below 0, and from 24 hours on.
+/// The same of a time of day as of `time_text`.
 #[inline(always)]
-#[tactic(auto, using(crate::proofs::Times::time_has_text))]
-pub fn time_text(unit: TimeUnit, number: i64) -> Option<ShortText>
-    ensures text { result ≡ spec.time_text unit number }
-    ensures conforming { IsSome result ↔ IsTimeOfDay unit number }
+pub(crate) fn put_time(text: &mut [u8], at: usize, unit: TimeUnit, number: i64) -> Option<usize>
+    requires { at + 32 ≤ length text.old }
+    ensures end { IfSome result (λ end. end ≤ at + 32) }
+    ensures same_room { length text.new ≡ length text.old }
+    ensures unchanged { IsNone result → text.new ≡ text.old }
+    ensures text { option_map (λ end. take end text.new) result
+        ≡ option_map (λ moment. take at text.old ++ moment) (spec.time_text unit number) }
 {
     if !is_time_of_day(unit, number) {
         return None;
     }
-    let mut text = ShortText::new();
-    push_time_of_day(&mut text, unit, number as u64);
-    Some(text)
+    Some(put_time_of_day(text, at, unit, number as u64))
 }
 
-// `Z` for a time zone that is present and not empty.
+/// The same of a point in time as of `timestamp_text`.
 #[inline(always)]
-fn push_zone(text: &mut ShortText, timezone: Option<&str>)
-    requires { length text.old < 32 }
-    ensures { text.new ≡ text.old ++ zone_text (option_map (λ zone. zone.now) timezone.entry) }
-{
-    match timezone {
-        Some(zone) if !zone.is_empty() => text.push(b'Z'),
-        _ => {}
-    }
-}
-
-/// The text of a point in time, so many units after 1970-01-01T00:00:00: the date, `T`, `hh:mm:ss`,
-/// 0, 3, 6 or 9 digits of a second behind a point by the unit, and `Z` where a time zone is present
-/// and not empty. None outside the years 0001 to 9999.
-#[inline(always)]
-pub fn timestamp_text(unit: TimeUnit, timezone: Option<&str>, number: i64) -> Option<ShortText>
-    ensures { result ≡ spec.timestamp_text unit
-        (option_map (λ zone. zone.now) timezone.entry) number }
+pub(crate) fn put_timestamp(
+    text: &mut [u8],
+    at: usize,
+    unit: TimeUnit,
+    timezone: Option<&str>,
+    number: i64,
+) -> Option<usize>
+    requires { at + 32 ≤ length text.old }
+    ensures end { IfSome result (λ end. end ≤ at + 32) }
+    ensures same_room { length text.new ≡ length text.old }
+    ensures unchanged { IsNone result → text.new ≡ text.old }
+    ensures text { option_map (λ end. take end text.new) result
+        ≡ option_map (λ moment. take at text.old ++ moment)
+        (spec.timestamp_text unit (option_map (λ zone. zone.now) timezone.entry) number) }
 {
     let (day, time) = day_and_time(unit, number);
-    let mut text = day_text(day)?;
-    text.push(b'T');
-    push_time_of_day(&mut text, unit, time);
-    push_zone(&mut text, timezone);
-    Some(text)
-}
-
-/// The text of a number of this type that is a date, a time or a point in time, where it has one.
-/// None for another type.
-#[inline(always)]
-pub fn moment_text(kind: &DataType, number: i64) -> Option<ShortText>
-    ensures { result ≡ moment_text kind.now number }
-{
-    match kind {
-        DataType::Date(unit) => date_text(*unit, number),
-        DataType::Time(unit) => time_text(*unit, number),
-        DataType::Timestamp { unit, timezone } => match timezone {
-            Some(zone) => timestamp_text(*unit, Some(zone.as_str()), number),
-            None => timestamp_text(*unit, None, number),
-        },
-        _ => None,
-    }
+    let start = put_day(text, at, day)?;
+    put_byte(text, start, b'T');
+    let end = put_time_of_day(text, start + 1, unit, time);
+    Some(put_zone(text, end, timezone))
 }

@@ -12,8 +12,9 @@ ghost use Rattle.ipc_moments.specs.Moments.{per_second, three_digits, clock_text
 ghost use Rattle.ipc_moments.specs.Moments.{time_of_day, date_of_day};
 ghost use Rattle.jiff_core.specs.Calendar.{IsEpochDay};
 
-use crate::moment::{date_text, per_second, ticks_in_a_day, time_text, timestamp_text};
+use crate::moment::{per_second, ticks_in_a_day};
 use crate::short_text::ShortText;
+use crate::texts::{date_text, time_text, timestamp_text};
 use ipc_model::{DateUnit, TimeUnit};
 use jiff_core::civil::Date;
 

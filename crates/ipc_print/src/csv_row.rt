@@ -19,7 +19,6 @@ use crate::fields::{
     put_bytes_field, put_end, put_front_field, put_signed_field, put_text_field, put_unsigned_field,
 };
 use crate::kind::Kind;
-use crate::moments;
 use crate::room::{put, reserve};
 use crate::tree::ColumnTree;
 use crate::truth::put_truth;
@@ -61,7 +60,7 @@ fn put_moment(
         (moment_text kind.now number) (take end text.new)) }
     ensures refused { IfErr result (LacksText column (moment_text kind.now number)) }
 {
-    match moments::put_moment(text, at, kind, number) {
+    match ipc_moments::put_moment(text, at, kind, number) {
         Some(end) => Ok(end),
         None => Err(TextFault::NoTextForm { column }),
     }

@@ -22,13 +22,13 @@ use crate::digits::{put_signed, put_unsigned};
 use crate::entry::Entry;
 use crate::hexadecimal::put_hexadecimal;
 use crate::kind::Kind;
-use crate::moments::put_moment;
 use crate::room::{put, reserve};
 use crate::strings::{put_front, put_string};
 use crate::tree::ColumnTree;
 use crate::truth::put_truth;
 use ipc_column::Slot;
 use ipc_model::{DataType, Field, IntBits, Layout};
+use ipc_moments::put_moment;
 use std::alloc::AllocError;
 
 // More than a comma and any value but a text or bytes take.

@@ -13,7 +13,6 @@ mod hexadecimal;
 mod json_row;
 mod kind;
 mod line;
-mod moments;
 mod plain;
 mod printing;
 mod room;

@@ -1,0 +1,54 @@
+//! Digits and marks at a place of a text.
+ghost use Rattle.std.specs.Prelude.{◌≡◌, ◌≤◌, ◌<◌, ◌+◌, ◌++◌, ◌∷◌, [], length, take};
+ghost use Rattle.ipc_moments.specs.Calendar.{four_digits, two_digits};
+ghost use Rattle.ipc_moments.specs.Moments.{three_digits};
+
+use crate::pairs::pair;
+
+/// Writes a byte.
+#[inline(always)]
+pub(crate) fn put_byte(text: &mut [u8], at: usize, byte: u8)
+    requires room { at + 1 ≤ length text.old }
+    ensures same_room { length text.new ≡ length text.old }
+    ensures text { take (at + 1) text.new ≡ take at text.old ++ byte ∷ [] }
+{
+    text[at] = byte;
+}
+
+/// Writes the two digits of a number below 100, a byte at a time: a copy of two asks whether they
+/// overlap.
+#[inline(always)]
+pub(crate) fn put_two_digits(text: &mut [u8], at: usize, number: u32)
+    requires small { number < 100 }
+    requires room { at + 2 ≤ length text.old }
+    ensures same_room { length text.new ≡ length text.old }
+    ensures text { take (at + 2) text.new ≡ take at text.old ++ two_digits number }
+{
+    let [tens, ones] = pair(number);
+    put_byte(text, at, tens);
+    put_byte(text, at + 1, ones);
+}
+
+/// Writes the three digits of a number below 1,000.
+#[inline(always)]
+pub(crate) fn put_three_digits(text: &mut [u8], at: usize, number: u32)
+    requires small { number < 1_000 }
+    requires room { at + 3 ≤ length text.old }
+    ensures same_room { length text.new ≡ length text.old }
+    ensures text { take (at + 3) text.new ≡ take at text.old ++ three_digits number }
+{
+    put_byte(text, at, b'0' + (number / 100) as u8);
+    put_two_digits(text, at + 1, number % 100);
+}
+
+/// Writes the four digits of a number below 10,000.
+#[inline(always)]
+pub(crate) fn put_four_digits(text: &mut [u8], at: usize, number: u32)
+    requires small { number < 10_000 }
+    requires room { at + 4 ≤ length text.old }
+    ensures same_room { length text.new ≡ length text.old }
+    ensures text { take (at + 4) text.new ≡ take at text.old ++ four_digits number }
+{
+    put_two_digits(text, at, number / 100);
+    put_two_digits(text, at + 2, number % 100);
+}

@@ -1,0 +1,236 @@
+//! Dates, times and points in time as short texts, or at a place of a text.
+ghost use Rattle.std.specs.Prelude.{◌≡◌, ◌≤◌, ◌+◌, ◌++◌, option_map, length, take, ◌↔◌};
+ghost use Rattle.std.specs.Prelude.{IfSome, IsNone, IsSome};
+ghost use Rattle.ipc_model.specs.Ranges.{IsTimeOfDay};
+ghost use Rattle.ipc_model.specs.declared.schema.DateUnit.{DateUnit};
+ghost use Rattle.ipc_model.specs.declared.schema.TimeUnit.{TimeUnit};
+ghost use Rattle.ipc_moments.specs.Moments as spec;
+ghost use Rattle.ipc_moments.specs.Moments.{moment_text};
+ghost use Rattle.ipc_moments.specs.ShortTexts.{IsPlain};
+
+use crate::moment::{put_date, put_time, put_timestamp};
+use crate::short_text::ShortText;
+use ipc_model::{DataType, DateUnit, Text, TimeUnit};
+
+/// The text of a date, `YYYY-MM-DD`, of a number of days or of milliseconds after 1970-01-01. None
+/// outside the years 0001 to 9999, and for milliseconds that are no whole days.
+#[tactic(auto, using(crate::proofs::Plain::date_plain))]
+pub fn date_text(unit: DateUnit, number: i64) -> Option<ShortText>
+    ensures { result ≡ spec.date_text unit number }
+{
+    let mut bytes = [0; 32];
+    let len = put_date(&mut bytes, 0, unit, number)?;
+    Some(ShortText::new(bytes, len))
+}
+
+/// The text of a time of day, so many units after midnight: `hh:mm:ss`, and 0, 3, 6 or 9 digits of
+/// a second behind a point by the unit. None below 0, and from 24 hours on.
+#[tactic(auto, using(crate::proofs::Plain::time_plain, crate::proofs::Times::time_has_text))]
+pub fn time_text(unit: TimeUnit, number: i64) -> Option<ShortText>
+    ensures text { result ≡ spec.time_text unit number }
+    ensures conforming { IsSome result ↔ IsTimeOfDay unit number }
+{
+    let mut bytes = [0; 32];
+    let len = put_time(&mut bytes, 0, unit, number)?;
+    Some(ShortText::new(bytes, len))
+}
+
+/// The text of a point in time, so many units after 1970-01-01T00:00:00: the date, `T`, `hh:mm:ss`,
+/// 0, 3, 6 or 9 digits of a second behind a point by the unit, and `Z` where a time zone is present
+/// and not empty. None outside the years 0001 to 9999.
+#[tactic(auto, using(crate::proofs::Plain::timestamp_plain))]
+pub fn timestamp_text(unit: TimeUnit, timezone: Option<&str>, number: i64) -> Option<ShortText>
+    ensures { result ≡ spec.timestamp_text unit
+        (option_map (λ zone. zone.now) timezone.entry) number }
+{
+    let mut bytes = [0; 32];
+    let len = put_timestamp(&mut bytes, 0, unit, timezone, number)?;
+    Some(ShortText::new(bytes, len))
+}
+
+// The time zone as a text that is lent.
+#[inline(always)]
+fn zone_of(timezone: &Option<Text>) -> Option<&str>
+    ensures { option_map (λ zone. zone.now) result ≡ timezone.now }
+{
+    match timezone {
+        Some(zone) => Some(zone.as_str()),
+        None => None,
+    }
+}
+
+// Writes the text of a date in days, as `put_moment` does. Each unit has a function of its own that
+// isn't taken in: it puts aside few registers, and the arms of others carry nothing of it.
+#[inline(never)]
+fn put_days(text: &mut [u8], at: usize, number: i64) -> Option<usize>
+    requires { at + 32 ≤ length text.old }
+    ensures end { IfSome result (λ end. end ≤ at + 32) }
+    ensures same_room { length text.new ≡ length text.old }
+    ensures unchanged { IsNone result → text.new ≡ text.old }
+    ensures text { option_map (λ end. take end text.new) result
+        ≡ option_map (λ moment. take at text.old ++ moment)
+        (spec.date_text DateUnit.Day number) }
+{
+    put_date(text, at, DateUnit::Day, number)
+}
+
+// The same in milliseconds.
+#[inline(never)]
+fn put_whole_days(text: &mut [u8], at: usize, number: i64) -> Option<usize>
+    requires { at + 32 ≤ length text.old }
+    ensures end { IfSome result (λ end. end ≤ at + 32) }
+    ensures same_room { length text.new ≡ length text.old }
+    ensures unchanged { IsNone result → text.new ≡ text.old }
+    ensures text { option_map (λ end. take end text.new) result
+        ≡ option_map (λ moment. take at text.old ++ moment)
+        (spec.date_text DateUnit.Millisecond number) }
+{
+    put_date(text, at, DateUnit::Millisecond, number)
+}
+
+// The same of a time.
+#[inline(never)]
+fn put_any_time(text: &mut [u8], at: usize, unit: TimeUnit, number: i64) -> Option<usize>
+    requires { at + 32 ≤ length text.old }
+    ensures end { IfSome result (λ end. end ≤ at + 32) }
+    ensures same_room { length text.new ≡ length text.old }
+    ensures unchanged { IsNone result → text.new ≡ text.old }
+    ensures text { option_map (λ end. take end text.new) result
+        ≡ option_map (λ moment. take at text.old ++ moment)
+        (spec.time_text unit number) }
+{
+    put_time(text, at, unit, number)
+}
+
+// The same of a point in time in seconds.
+#[inline(never)]
+fn put_seconds(text: &mut [u8], at: usize, timezone: &Option<Text>, number: i64) -> Option<usize>
+    requires { at + 32 ≤ length text.old }
+    ensures end { IfSome result (λ end. end ≤ at + 32) }
+    ensures same_room { length text.new ≡ length text.old }
+    ensures unchanged { IsNone result → text.new ≡ text.old }
+    ensures text { option_map (λ end. take end text.new) result
+        ≡ option_map (λ moment. take at text.old ++ moment)
+        (spec.timestamp_text TimeUnit.Second timezone.now number) }
+{
+    put_timestamp(text, at, TimeUnit::Second, zone_of(timezone), number)
+}
+
+// The same in milliseconds.
+#[inline(never)]
+fn put_milliseconds(
+    text: &mut [u8],
+    at: usize,
+    timezone: &Option<Text>,
+    number: i64,
+) -> Option<usize>
+    requires { at + 32 ≤ length text.old }
+    ensures end { IfSome result (λ end. end ≤ at + 32) }
+    ensures same_room { length text.new ≡ length text.old }
+    ensures unchanged { IsNone result → text.new ≡ text.old }
+    ensures text { option_map (λ end. take end text.new) result
+        ≡ option_map (λ moment. take at text.old ++ moment)
+        (spec.timestamp_text TimeUnit.Millisecond timezone.now number) }
+{
+    put_timestamp(text, at, TimeUnit::Millisecond, zone_of(timezone), number)
+}
+
+// The same in microseconds.
+#[inline(never)]
+fn put_microseconds(
+    text: &mut [u8],
+    at: usize,
+    timezone: &Option<Text>,
+    number: i64,
+) -> Option<usize>
+    requires { at + 32 ≤ length text.old }
+    ensures end { IfSome result (λ end. end ≤ at + 32) }
+    ensures same_room { length text.new ≡ length text.old }
+    ensures unchanged { IsNone result → text.new ≡ text.old }
+    ensures text { option_map (λ end. take end text.new) result
+        ≡ option_map (λ moment. take at text.old ++ moment)
+        (spec.timestamp_text TimeUnit.Microsecond timezone.now number) }
+{
+    put_timestamp(text, at, TimeUnit::Microsecond, zone_of(timezone), number)
+}
+
+// The same in nanoseconds.
+#[inline(never)]
+fn put_nanoseconds(
+    text: &mut [u8],
+    at: usize,
+    timezone: &Option<Text>,
+    number: i64,
+) -> Option<usize>
+    requires { at + 32 ≤ length text.old }
+    ensures end { IfSome result (λ end. end ≤ at + 32) }
+    ensures same_room { length text.new ≡ length text.old }
+    ensures unchanged { IsNone result → text.new ≡ text.old }
+    ensures text { option_map (λ end. take end text.new) result
+        ≡ option_map (λ moment. take at text.old ++ moment)
+        (spec.timestamp_text TimeUnit.Nanosecond timezone.now number) }
+{
+    put_timestamp(text, at, TimeUnit::Nanosecond, zone_of(timezone), number)
+}
+
+// A point in time.
+#[inline(always)]
+fn put_instant(
+    text: &mut [u8],
+    at: usize,
+    unit: TimeUnit,
+    timezone: &Option<Text>,
+    number: i64,
+) -> Option<usize>
+    requires { at + 32 ≤ length text.old }
+    ensures end { IfSome result (λ end. end ≤ at + 32) }
+    ensures same_room { length text.new ≡ length text.old }
+    ensures unchanged { IsNone result → text.new ≡ text.old }
+    ensures text { option_map (λ end. take end text.new) result
+        ≡ option_map (λ moment. take at text.old ++ moment)
+        (spec.timestamp_text unit timezone.now number) }
+{
+    match unit {
+        TimeUnit::Second => put_seconds(text, at, timezone, number),
+        TimeUnit::Millisecond => put_milliseconds(text, at, timezone, number),
+        TimeUnit::Microsecond => put_microseconds(text, at, timezone, number),
+        TimeUnit::Nanosecond => put_nanoseconds(text, at, timezone, number),
+    }
+}
+
+/// Writes the text of a number of this type that is a date, a time or a point in time from `at` on,
+/// where it has one, and returns where it ends. It is the text of `date_text`, `time_text` or
+/// `timestamp_text`. Else, and of another type, nothing is written.
+///
+/// The caller sees to 32 bytes of room. What stands behind the end stays.
+#[inline(never)]
+#[tactic(auto, using(crate::proofs::Plain::moment_plain))]
+pub fn put_moment(text: &mut [u8], at: usize, kind: &DataType, number: i64) -> Option<usize>
+    requires { at + 32 ≤ length text.old }
+    ensures end { IfSome result (λ end. end ≤ at + 32) }
+    ensures same_room { length text.new ≡ length text.old }
+    ensures unchanged { IsNone result → text.new ≡ text.old }
+    ensures text { option_map (λ end. take end text.new) result
+        ≡ option_map (λ moment. take at text.old ++ moment)
+        (moment_text kind.now number) }
+    // The text stands for itself in a text of JSON, and needs no quotes in CSV.
+    ensures plain { IfSome (moment_text kind.now number) IsPlain }
+{
+    match kind {
+        DataType::Date(DateUnit::Day) => put_days(text, at, number),
+        DataType::Date(DateUnit::Millisecond) => put_whole_days(text, at, number),
+        DataType::Time(unit) => put_any_time(text, at, *unit, number),
+        DataType::Timestamp { unit, timezone } => { put_instant(text, at, *unit, timezone, number) }
+        _ => None,
+    }
+}
+
+/// The text of a number of this type that is a date, a time or a point in time, where it has one.
+/// None for another type.
+pub fn moment_text(kind: &DataType, number: i64) -> Option<ShortText>
+    ensures { result ≡ moment_text kind.now number }
+{
+    let mut bytes = [0; 32];
+    let len = put_moment(&mut bytes, 0, kind, number)?;
+    Some(ShortText::new(bytes, len))
+}
