@@ -1,5 +1,6 @@
 -- Texts of dates and points in time behind what stands before them.
-use Rattle.std.proofs.Common.{◌≡◌, List, ◌∷◌, ◌++◌, [], ℕ, Option, Some, None, refl, sym, ap, subst, append_assoc, unsigned_abs, ℤ, pos, take, ◌+◌, ◌∙◌, arith}
+use Rattle.std.proofs.Common.{◌≡◌, List, ◌∷◌, ◌++◌, [], ℕ, Option, Some, None, refl}
+use Rattle.std.proofs.Common.{sym, ap, subst, append_assoc, unsigned_abs, ℤ, pos, take, ◌+◌, ◌∙◌, arith}
 use Rattle.jiff_core.specs.declared.civil.date.Date.{Date}
 use Rattle.std.specs.Int.{int_div_euclid, int_rem_euclid}
 use Rattle.ipc_model.specs.Ranges.{ticks_in_a_day}

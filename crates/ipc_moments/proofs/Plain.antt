@@ -67,7 +67,8 @@ fraction u.Nanosecond n small =
     ((omega arith, omega arith), three (n / 1_000_000) (omega (arith, small))) (three (n / 1_000 % 1_000) (omega arith)))
     (three (n % 1_000) (omega arith))
 
-seconds_within : (unit : TimeUnit) (n : ℕ) → n < ticks_in_a_day unit → (n / per_second unit < 86_400) × (n % per_second unit < per_second unit)
+seconds_within : (unit : TimeUnit) (n : ℕ) → n < ticks_in_a_day unit
+    → (n / per_second unit < 86_400) × (n % per_second unit < per_second unit)
 seconds_within u.Second n small = (omega (arith, small), omega arith)
 seconds_within u.Millisecond n small = (omega (arith, small), omega arith)
 seconds_within u.Microsecond n small = (omega (arith, small), omega arith)

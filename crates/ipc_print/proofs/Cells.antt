@@ -1,14 +1,10 @@
 -- The values that cells lend, and their texts.
-use Rattle.std.proofs.Common.{◌≡◌, ◌∙◌, refl, sym, ap, ℕ, ◌+◌, ◌<◌, List, [], ◌∷◌, ◌++◌, length, map, drop, get_or, Option, Some}
-use Rattle.std.proofs.Common.{Result, Err, inl, inr, append_assoc, arith}
-use Rattle.std.specs.Prelude.{slice_get}
+use Rattle.std.proofs.Common.{◌≡◌, ◌∙◌, refl, sym, ap, ℕ, ◌+◌, ◌<◌, List, [], ◌∷◌, ◌++◌, length, map, drop, take, ◌-◌, get_or, Option, Some}
+use Rattle.std.proofs.Common.{Result, Ok, append_assoc, arith}
 use Rattle.std.specs.List.{AllByRecursion}
 use Rattle.std.specs.Fmt.{signed_decimal}
 use Rattle.std.specs.Prelude.{ℤ, pos, negsuc}
-use Rattle.std.proofs.lemmas.Option.{get_or_from_slice_get}
-use Rattle.json.specs.Token.{Token}
-use Rattle.json.specs.Tree.{json_tokens, items_tokens}
-use Rattle.serde_json.specs.Written.{outline, items_outline, compact_text, items_text}
+use Rattle.serde_json.specs.Written.{compact_text, items_text}
 use Rattle.ipc_model.specs.declared.schema.DataType.{DataType}
 use Rattle.ipc_model.specs.declared.schema.DataType.TheVariants as t
 use Rattle.ipc_model.specs.declared.schema.IntBits.TheVariants.{B64}
@@ -23,12 +19,14 @@ use Rattle.ipc_column.specs.Cells.{cell_value}
 use Rattle.ipc_json.specs.RowJson.{Printed, cell_json, each_json, field_json, value_json, row_text}
 use Rattle.csv.specs.Writing.{next_sep, default_writer}
 use Rattle.ipc_moments.specs.declared.fault.TextFault.{TextFault}
-use Rattle.ipc_csv.specs.RowCsv.{Appended, IsRefusal, LacksText, text_in, value_text, with_fields, all_texts, each_text}
-use Rattle.ipc_csv.proofs.Records.{field_more, cells_from as texts_from}
-use Rattle.ipc_json.proofs.Fronts.{each_from}
+use Rattle.ipc_csv.specs.RowCsv.{Appended, text_in, value_text, with_fields, all_texts, each_text}
+use Rattle.ipc_csv.proofs.Records.{field_more, no_more}
 use Rattle.ipc_print.specs.declared.form.Form.TheVariants.{Counts, Rows}
 use Rattle.ipc_print.specs.Columns.{AreShownColumns, IsShownColumn}
 use Rattle.ipc_print.specs.Forms.{line_of, HaveLines}
+use Rattle.ipc_print.specs.LentRows.{HaveRow, row_at}
+use Rattle.std.specs.Prelude.{slice_index_or}
+use Rattle.std.proofs.lemmas.List.{take_rest}
 use Rattle.ipc_print.specs.Rows.{AreShownRows, IsShown, IsShownIn, text_in as number_text_in, cell_text, behind_commas, line, lines}
 
 -- what a cell lends, in the open form of values
@@ -59,41 +57,40 @@ value_in f w = ap (λ (print : Printed). print w) (fold_out-Field Printed field_
 pub csv_of : (kind : DataType) (c : Cell) → text_in kind (cell_value c) ≡ value_text kind (open_value c)
 csv_of kind c = ap (value_text kind) (out_cell c)
 
--- the tokens of the cells from a column on: those of its cell, and the rest
-pub cells_from : (fs : List Field) (vs : List Value) (i : ℕ) (f : Field) (v : Value) (out new initial all : List Token)
-    → i < length fs → f ≡ get_or fs i f → i < length vs → slice_get vs i ≡ Some v
-    → out ++ items_tokens (items_outline (each_json (map cell_json (drop i fs)) (drop i vs))) ≡ initial ++ all
-    → new ≡ out ++ json_tokens (outline (cell_json f v))
-    → new ++ items_tokens (items_outline (each_json (map cell_json (drop (i + 1) fs)) (drop (i + 1) vs))) ≡ initial ++ all
-cells_from fs vs i f v out new initial all inside is wide at before put =
-    let rest = items_tokens (items_outline (each_json (map cell_json (drop (i + 1) fs)) (drop (i + 1) vs))) in
-    ap (λ (ts : List Token). ts ++ rest) put
-    ∙ (append_assoc out (json_tokens (outline (cell_json f v))) rest
-    ∙ (ap (λ (ts : List Token). out ++ ts) (sym (each_from fs vs i f v inside wide is (sym (get_or_from_slice_get vs i v v at)))) ∙ before))
+-- the columns behind the first, and their fields: where its cell was appended, the cells of these lead to the same text or fault
+pub record IsMore (fs : List Field) (cs : List (List Value)) (r i : ℕ) (o2 : List ℕ) (wanted : Result (List ℕ) TextFault) : Type 0 where
+  pub columns : length (take (length cs - 1) (drop 1 cs)) ≡ length (take (length fs - 1) (drop 1 fs))
+  pub row : HaveRow (take (length cs - 1) (drop 1 cs)) r
+  pub left : length (take (length fs - 1) (drop 1 fs)) + 1 ≡ length fs
+  pub text : with_fields (i + 1) o2 (all_texts (i + 1)
+      (each_text (take (length fs - 1) (drop 1 fs)) (row_at (take (length cs - 1) (drop 1 cs)) r))) ≡ wanted
 
--- where a cell's field was refused, the row is
-pub cell_refused : (fs : List Field) (vs : List Value) (i : ℕ) (f : Field) (v : Value) (out : List ℕ) (wanted : Result (List ℕ) TextFault)
-    (fault : TextFault) → i < length fs → f ≡ get_or fs i f → i < length vs → slice_get vs i ≡ Some v
-    → with_fields i out (all_texts i (each_text (drop i fs) (drop i vs))) ≡ wanted → LacksText i (text_in (out-Field f).kind v) fault
-    → IsRefusal wanted fault
-cell_refused fs vs i f v out wanted fault inside is wide at before (inl e) = inl e
-cell_refused fs vs i f v out wanted fault inside is wide at before (inr (e, none)) =
-    let cells = texts_from fs vs i f v inside wide is (sym (get_or_from_slice_get vs i v v at)) in
-    let rest = each_text (drop (i + 1) fs) (drop (i + 1) vs) in
-    inr (sym before
-    ∙ (ap (λ (cs : List (Option (List ℕ))). with_fields i out (all_texts i cs)) cells
-    ∙ (ap (λ (t : Option (List ℕ)). with_fields i out (all_texts i (t ∷ rest))) none ∙ ap Err (sym e))))
+pub first_appended : (fs : List Field) (cs : List (List Value)) (r : ℕ) (f : Field) (values : List Value) (value : Value) (i : ℕ)
+    (out o1 o2 : List ℕ) (wanted : Result (List ℕ) TextFault) → 0 < length fs → 0 < length cs → length cs ≡ length fs
+    → HaveRow cs r → f ≡ get_or fs 0 f → values ≡ get_or cs 0 values → value ≡ slice_index_or values r v.Null
+    → with_fields i out (all_texts i (each_text fs (row_at cs r))) ≡ wanted → o1 ≡ out ++ next_sep default_writer i
+    → Appended o1 (text_in (out-Field f).kind value) o2 → IsMore fs cs r i o2 wanted
+first_appended [] cs r f values value i out o1 o2 wanted some many same have is at held before comma put =
+    absurd (omega (arith, some))
+first_appended (g ∷ gs) [] r f values value i out o1 o2 wanted some many same have is at held before comma put =
+    absurd (omega (arith, many))
+first_appended (g ∷ gs) (w ∷ ws) r f values value i out o1 o2 wanted some many same have is at held before comma put =
+    let told : Appended o1 (text_in (out-Field g).kind (slice_index_or w r v.Null)) o2 = rw (is, held, at) at put in
+    let more =
+        field_more i out o1 o2 (text_in (out-Field g).kind (slice_index_or w r v.Null)) (each_text gs (row_at ws r)) comma told
+        ∙ before in
+    record {
+      columns = rw (take_rest (w ∷ ws) 1, take_rest (g ∷ gs) 1) (omega (arith, same));
+      row = rw (take_rest (w ∷ ws) 1) have.1;
+      left = rw (take_rest (g ∷ gs) 1) (omega arith);
+      text = rw (take_rest (w ∷ ws) 1, take_rest (g ∷ gs) 1) more;
+    }
 
--- where a cell's field was appended, those behind it lead to the same text or fault
-pub cell_appended : (fs : List Field) (vs : List Value) (i : ℕ) (f : Field) (v : Value) (out o1 o2 : List ℕ)
-    (wanted : Result (List ℕ) TextFault) → i < length fs → f ≡ get_or fs i f → i < length vs → slice_get vs i ≡ Some v
-    → with_fields i out (all_texts i (each_text (drop i fs) (drop i vs))) ≡ wanted → o1 ≡ out ++ next_sep default_writer i
-    → Appended o1 (text_in (out-Field f).kind v) o2
-    → with_fields (i + 1) o2 (all_texts (i + 1) (each_text (drop (i + 1) fs) (drop (i + 1) vs))) ≡ wanted
-cell_appended fs vs i f v out o1 o2 wanted inside is wide at before comma put =
-    let cells = texts_from fs vs i f v inside wide is (sym (get_or_from_slice_get vs i v v at)) in
-    field_more i out o1 o2 (text_in (out-Field f).kind v) (each_text (drop (i + 1) fs) (drop (i + 1) vs)) comma put
-    ∙ (ap (λ (cs : List (Option (List ℕ))). with_fields i out (all_texts i cs)) (sym cells) ∙ before)
+-- where no field is left, nothing is appended
+pub no_fields : (n : ℕ) (out : List ℕ) (fs : List Field) (vs : List Value) → length fs < 1
+    → with_fields n out (all_texts n (each_text fs vs)) ≡ Ok out
+no_fields n out [] vs none = ap Ok (no_more n out)
+no_fields n out (f ∷ fs) vs none = absurd (omega (arith, none))
 
 -- ---- rows of signed 64-bit numbers
 

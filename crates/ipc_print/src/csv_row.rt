@@ -339,6 +339,7 @@ fn start_field(text: &mut [u8], start: usize, column: usize) -> Result<usize, Te
 }
 
 // The fields of a row of a batch, of which each column is lent, from the front of the buffer on.
+#[tactic(auto, using(crate::proofs::Cells::no_fields))]
 fn put_cells(
     text: &mut [u8],
     fields: &[Field],
@@ -354,10 +355,15 @@ fn put_cells(
         (row_at columns.now row))) }
 {
     let mut at = 0;
-    for (column, field) in fields.iter().enumerate() {
-        let place = start_field(text, at, column)?;
-        let tree = columns[column].tree();
-        at = put_cell(text, place, column as u64, &field.kind, tree, row)?;
+    let mut number = 0;
+    let mut fields = fields;
+    let mut columns = columns;
+    while let ([field, more_fields @ ..], [column, more_columns @ ..]) = (fields, columns) {
+        let place = start_field(text, at, number)?;
+        at = put_cell(text, place, number as u64, &field.kind, column.tree(), row)?;
+        number += 1;
+        fields = more_fields;
+        columns = more_columns;
     }
     Ok(at)
 }

@@ -501,10 +501,14 @@ fn put_cells(
 {
     let mut at = start;
     let mut later = false;
-    for (column, field) in fields.iter().enumerate() {
+    let mut fields = fields;
+    let mut columns = columns;
+    while let ([field, more_fields @ ..], [column, more_columns @ ..]) = (fields, columns) {
         let place = start_item(text, at, later)?;
-        at = put_cell(text, place, field, columns[column].tree(), row)?;
+        at = put_cell(text, place, field, column.tree(), row)?;
         later = true;
+        fields = more_fields;
+        columns = more_columns;
     }
     put_end(text, at)
 }
