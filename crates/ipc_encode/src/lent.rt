@@ -293,7 +293,9 @@ pub(crate) fn is_lent(layout: Layout) -> bool
 }
 
 impl Column {
-    /// Takes the values of all slots of a column, without a value of its own for each.
+    /// Takes the values of all slots of a column, without a value of its own for each. That they
+    /// are in this column then is promised where a column of texts gets texts, which the caller
+    /// knows of the field.
     ///
     /// Refused as `take`.
     pub(crate) fn take_lent(
