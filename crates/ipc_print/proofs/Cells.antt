@@ -77,8 +77,8 @@ first_appended (g ∷ gs) [] r f values value i out o1 o2 wanted some many same 
 first_appended (g ∷ gs) (w ∷ ws) r f values value i out o1 o2 wanted some many same have is at held before comma put =
     let told : Appended o1 (text_in (out-Field g).kind (slice_index_or w r v.Null)) o2 = rw (is, held, at) at put in
     let more =
-        field_more i out o1 o2 (text_in (out-Field g).kind (slice_index_or w r v.Null)) (each_text gs (row_at ws r)) comma told
-        ∙ before in
+    field_more i out o1 o2 (text_in (out-Field g).kind (slice_index_or w r v.Null)) (each_text gs (row_at ws r)) comma told
+    ∙ before in
     record {
       columns = rw (take_rest (w ∷ ws) 1, take_rest (g ∷ gs) 1) (omega (arith, same));
       row = rw (take_rest (w ∷ ws) 1) have.1;
