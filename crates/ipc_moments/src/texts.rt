@@ -202,7 +202,7 @@ fn put_instant(
 /// where it has one, and returns where it ends. It is the text of `date_text`, `time_text` or
 /// `timestamp_text`. Else, and of another type, nothing is written.
 ///
-/// The caller sees to 32 bytes of room. What stands behind the end stays.
+/// The caller sees to 32 bytes of room. Nothing is promised of what stands behind the end.
 #[inline(never)]
 #[tactic(auto, using(crate::proofs::Plain::moment_plain))]
 pub fn put_moment(text: &mut [u8], at: usize, kind: &DataType, number: i64) -> Option<usize>
