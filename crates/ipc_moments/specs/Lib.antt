@@ -1,3 +1,4 @@
 pub mod Calendar
 pub mod Moments
+pub mod Places
 pub mod ShortTexts

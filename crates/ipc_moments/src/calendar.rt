@@ -1,7 +1,7 @@
-ghost use Rattle.std.specs.Prelude.{◌≡◌, ◌++◌, ◌≤◌, ◌+◌, IfSome, IsNone};
-ghost use Rattle.std.specs.Prelude.{option_map, length, take, int_lt, neg_ℤ, pos, ◌≤ℤ◌};
+ghost use Rattle.std.specs.Prelude.{◌≡◌, ◌≤◌, ◌+◌, IfSome, length, int_lt, neg_ℤ, pos, ◌≤ℤ◌};
 ghost use Rattle.jiff_core.specs.Date.{epoch_day};
 ghost use Rattle.ipc_moments.specs.Calendar.{day_text, days_before_epoch, last_day};
+ghost use Rattle.ipc_moments.specs.Places.{WritesText};
 
 use crate::places::{put_byte, put_four_digits, put_two_digits};
 use jiff_core::civil::Date;
@@ -45,9 +45,7 @@ pub(crate) fn put_day(text: &mut [u8], at: usize, day: i64) -> Option<usize>
     requires { at + 10 ≤ length text.old }
     ensures end { IfSome result (λ end. end ≡ at + 10) }
     ensures same_room { length text.new ≡ length text.old }
-    ensures unchanged { IsNone result → text.new ≡ text.old }
-    ensures text { option_map (λ end. take end text.new) result
-        ≡ option_map (λ moment. take at text.old ++ moment) (day_text day) }
+    ensures text { WritesText (day_text day) at text.old text.new result }
 {
     if is_too_early(day) || is_too_late(day) {
         return None;

@@ -1,11 +1,12 @@
 //! Dates, times and points in time as texts at a place.
-ghost use Rattle.std.specs.Prelude.{◌≡◌, ◌<◌, ◌≤◌, ◌+◌, ◌/◌, ◌%◌, ◌++◌, option_map, length};
-ghost use Rattle.std.specs.Prelude.{take, IfSome, IsNone, IsTrue, ◌↔◌, pos, unsigned_abs};
+ghost use Rattle.std.specs.Prelude.{◌≡◌, ◌<◌, ◌≤◌, ◌+◌, ◌/◌, ◌%◌, option_map, length};
+ghost use Rattle.std.specs.Prelude.{IsTrue, ◌↔◌, pos, unsigned_abs};
 ghost use Rattle.std.specs.Int.{int_div_euclid, int_rem_euclid};
 ghost use Rattle.ipc_model.specs.Ranges.{IsTimeOfDay, ticks_in_a_day};
 ghost use Rattle.ipc_moments.specs.Moments as spec;
 ghost use Rattle.ipc_moments.specs.Moments.{per_second, clock_text, fraction_text};
 ghost use Rattle.ipc_moments.specs.Moments.{time_of_day, zone_text};
+ghost use Rattle.ipc_moments.specs.Places.{with_text, WritesText};
 
 use crate::calendar::put_day;
 use crate::places::{put_byte, put_three_digits, put_two_digits};
@@ -74,7 +75,7 @@ fn put_clock(text: &mut [u8], at: usize, seconds: u32)
     requires small { seconds < 86_400 }
     requires room { at + 8 ≤ length text.old }
     ensures same_room { length text.new ≡ length text.old }
-    ensures text { take (at + 8) text.new ≡ take at text.old ++ clock_text seconds }
+    ensures text { text.new ≡ with_text text.old at (clock_text seconds) }
 {
     put_two_digits(text, at, seconds / 3_600);
     put_byte(text, at + 2, b':');
@@ -88,9 +89,10 @@ fn put_clock(text: &mut [u8], at: usize, seconds: u32)
 fn put_fraction(text: &mut [u8], at: usize, unit: TimeUnit, part: u32) -> usize
     requires small { part < per_second unit }
     requires room { at + 10 ≤ length text.old }
-    ensures end { result ≤ at + 10 }
+    ensures within { result ≤ at + 10 }
     ensures same_room { length text.new ≡ length text.old }
-    ensures text { take result text.new ≡ take at text.old ++ fraction_text unit part }
+    ensures end { result ≡ at + length (fraction_text unit part) }
+    ensures text { text.new ≡ with_text text.old at (fraction_text unit part) }
 {
     match unit {
         TimeUnit::Second => at,
@@ -120,9 +122,10 @@ fn put_fraction(text: &mut [u8], at: usize, unit: TimeUnit, part: u32) -> usize
 fn put_time_of_day(text: &mut [u8], at: usize, unit: TimeUnit, number: u64) -> usize
     requires small { number < ticks_in_a_day unit }
     requires room { at + 18 ≤ length text.old }
-    ensures end { result ≤ at + 18 }
+    ensures within { result ≤ at + 18 }
     ensures same_room { length text.new ≡ length text.old }
-    ensures text { take result text.new ≡ take at text.old ++ time_of_day unit number }
+    ensures end { result ≡ at + length (time_of_day unit number) }
+    ensures text { text.new ≡ with_text text.old at (time_of_day unit number) }
 {
     let (seconds, part) = seconds_and_part(unit, number);
     put_clock(text, at, seconds as u32);
@@ -133,10 +136,9 @@ fn put_time_of_day(text: &mut [u8], at: usize, unit: TimeUnit, number: u64) -> u
 #[inline(always)]
 fn put_zone(text: &mut [u8], at: usize, timezone: Option<&str>) -> usize
     requires { at + 1 ≤ length text.old }
-    ensures end { result ≤ at + 1 }
-    ensures same_room { length text.new ≡ length text.old }
-    ensures text { take result text.new
-        ≡ take at text.old ++ zone_text (option_map (λ zone. zone.now) timezone.entry) }
+    ensures end { result ≡ at + length (zone_text (option_map (λ zone. zone.now) timezone.entry)) }
+    ensures text { text.new
+        ≡ with_text text.old at (zone_text (option_map (λ zone. zone.now) timezone.entry)) }
 {
     match timezone {
         Some(zone) if !zone.is_empty() => {
@@ -152,11 +154,7 @@ fn put_zone(text: &mut [u8], at: usize, timezone: Option<&str>) -> usize
 #[inline(always)]
 pub(crate) fn put_date(text: &mut [u8], at: usize, unit: DateUnit, number: i64) -> Option<usize>
     requires { at + 32 ≤ length text.old }
-    ensures end { IfSome result (λ end. end ≤ at + 32) }
-    ensures same_room { length text.new ≡ length text.old }
-    ensures unchanged { IsNone result → text.new ≡ text.old }
-    ensures text { option_map (λ end. take end text.new) result
-        ≡ option_map (λ moment. take at text.old ++ moment) (spec.date_text unit number) }
+    ensures { WritesText (spec.date_text unit number) at text.old text.new result }
 {
     match unit {
         DateUnit::Day => put_day(text, at, number),
@@ -181,11 +179,7 @@ fn is_time_of_day(unit: TimeUnit, number: i64) -> bool
 #[inline(always)]
 pub(crate) fn put_time(text: &mut [u8], at: usize, unit: TimeUnit, number: i64) -> Option<usize>
     requires { at + 32 ≤ length text.old }
-    ensures end { IfSome result (λ end. end ≤ at + 32) }
-    ensures same_room { length text.new ≡ length text.old }
-    ensures unchanged { IsNone result → text.new ≡ text.old }
-    ensures text { option_map (λ end. take end text.new) result
-        ≡ option_map (λ moment. take at text.old ++ moment) (spec.time_text unit number) }
+    ensures { WritesText (spec.time_text unit number) at text.old text.new result }
 {
     if !is_time_of_day(unit, number) {
         return None;
@@ -203,12 +197,9 @@ pub(crate) fn put_timestamp(
     number: i64,
 ) -> Option<usize>
     requires { at + 32 ≤ length text.old }
-    ensures end { IfSome result (λ end. end ≤ at + 32) }
-    ensures same_room { length text.new ≡ length text.old }
-    ensures unchanged { IsNone result → text.new ≡ text.old }
-    ensures text { option_map (λ end. take end text.new) result
-        ≡ option_map (λ moment. take at text.old ++ moment)
-        (spec.timestamp_text unit (option_map (λ zone. zone.now) timezone.entry) number) }
+    ensures { WritesText
+        (spec.timestamp_text unit (option_map (λ zone. zone.now) timezone.entry) number)
+        at text.old text.new result }
 {
     let (day, time) = day_and_time(unit, number);
     let start = put_day(text, at, day)?;

@@ -1,11 +1,12 @@
 //! Dates, times and points in time as short texts, or at a place of a text.
 ghost use Rattle.std.specs.Prelude.{◌≡◌, ◌≤◌, ◌+◌, ◌++◌, option_map, length, take, ◌↔◌};
-ghost use Rattle.std.specs.Prelude.{IfSome, IsNone, IsSome};
+ghost use Rattle.std.specs.Prelude.{drop, IfSome, IsNone, IsSome};
 ghost use Rattle.ipc_model.specs.Ranges.{IsTimeOfDay};
 ghost use Rattle.ipc_model.specs.declared.schema.DateUnit.{DateUnit};
 ghost use Rattle.ipc_model.specs.declared.schema.TimeUnit.{TimeUnit};
 ghost use Rattle.ipc_moments.specs.Moments as spec;
 ghost use Rattle.ipc_moments.specs.Moments.{moment_text};
+ghost use Rattle.ipc_moments.specs.Places.{WritesText};
 ghost use Rattle.ipc_moments.specs.ShortTexts.{IsPlain};
 
 use crate::moment::{put_date, put_time, put_timestamp};
@@ -64,12 +65,7 @@ fn zone_of(timezone: &Option<Text>) -> Option<&str>
 #[inline(never)]
 fn put_days(text: &mut [u8], at: usize, number: i64) -> Option<usize>
     requires { at + 32 ≤ length text.old }
-    ensures end { IfSome result (λ end. end ≤ at + 32) }
-    ensures same_room { length text.new ≡ length text.old }
-    ensures unchanged { IsNone result → text.new ≡ text.old }
-    ensures text { option_map (λ end. take end text.new) result
-        ≡ option_map (λ moment. take at text.old ++ moment)
-        (spec.date_text DateUnit.Day number) }
+    ensures { WritesText (spec.date_text DateUnit.Day number) at text.old text.new result }
 {
     put_date(text, at, DateUnit::Day, number)
 }
@@ -78,12 +74,7 @@ fn put_days(text: &mut [u8], at: usize, number: i64) -> Option<usize>
 #[inline(never)]
 fn put_whole_days(text: &mut [u8], at: usize, number: i64) -> Option<usize>
     requires { at + 32 ≤ length text.old }
-    ensures end { IfSome result (λ end. end ≤ at + 32) }
-    ensures same_room { length text.new ≡ length text.old }
-    ensures unchanged { IsNone result → text.new ≡ text.old }
-    ensures text { option_map (λ end. take end text.new) result
-        ≡ option_map (λ moment. take at text.old ++ moment)
-        (spec.date_text DateUnit.Millisecond number) }
+    ensures { WritesText (spec.date_text DateUnit.Millisecond number) at text.old text.new result }
 {
     put_date(text, at, DateUnit::Millisecond, number)
 }
@@ -92,12 +83,7 @@ fn put_whole_days(text: &mut [u8], at: usize, number: i64) -> Option<usize>
 #[inline(never)]
 fn put_any_time(text: &mut [u8], at: usize, unit: TimeUnit, number: i64) -> Option<usize>
     requires { at + 32 ≤ length text.old }
-    ensures end { IfSome result (λ end. end ≤ at + 32) }
-    ensures same_room { length text.new ≡ length text.old }
-    ensures unchanged { IsNone result → text.new ≡ text.old }
-    ensures text { option_map (λ end. take end text.new) result
-        ≡ option_map (λ moment. take at text.old ++ moment)
-        (spec.time_text unit number) }
+    ensures { WritesText (spec.time_text unit number) at text.old text.new result }
 {
     put_time(text, at, unit, number)
 }
@@ -106,12 +92,8 @@ fn put_any_time(text: &mut [u8], at: usize, unit: TimeUnit, number: i64) -> Opti
 #[inline(never)]
 fn put_seconds(text: &mut [u8], at: usize, timezone: &Option<Text>, number: i64) -> Option<usize>
     requires { at + 32 ≤ length text.old }
-    ensures end { IfSome result (λ end. end ≤ at + 32) }
-    ensures same_room { length text.new ≡ length text.old }
-    ensures unchanged { IsNone result → text.new ≡ text.old }
-    ensures text { option_map (λ end. take end text.new) result
-        ≡ option_map (λ moment. take at text.old ++ moment)
-        (spec.timestamp_text TimeUnit.Second timezone.now number) }
+    ensures { WritesText (spec.timestamp_text TimeUnit.Second timezone.now number)
+        at text.old text.new result }
 {
     put_timestamp(text, at, TimeUnit::Second, zone_of(timezone), number)
 }
@@ -125,12 +107,8 @@ fn put_milliseconds(
     number: i64,
 ) -> Option<usize>
     requires { at + 32 ≤ length text.old }
-    ensures end { IfSome result (λ end. end ≤ at + 32) }
-    ensures same_room { length text.new ≡ length text.old }
-    ensures unchanged { IsNone result → text.new ≡ text.old }
-    ensures text { option_map (λ end. take end text.new) result
-        ≡ option_map (λ moment. take at text.old ++ moment)
-        (spec.timestamp_text TimeUnit.Millisecond timezone.now number) }
+    ensures { WritesText (spec.timestamp_text TimeUnit.Millisecond timezone.now number)
+        at text.old text.new result }
 {
     put_timestamp(text, at, TimeUnit::Millisecond, zone_of(timezone), number)
 }
@@ -144,12 +122,8 @@ fn put_microseconds(
     number: i64,
 ) -> Option<usize>
     requires { at + 32 ≤ length text.old }
-    ensures end { IfSome result (λ end. end ≤ at + 32) }
-    ensures same_room { length text.new ≡ length text.old }
-    ensures unchanged { IsNone result → text.new ≡ text.old }
-    ensures text { option_map (λ end. take end text.new) result
-        ≡ option_map (λ moment. take at text.old ++ moment)
-        (spec.timestamp_text TimeUnit.Microsecond timezone.now number) }
+    ensures { WritesText (spec.timestamp_text TimeUnit.Microsecond timezone.now number)
+        at text.old text.new result }
 {
     put_timestamp(text, at, TimeUnit::Microsecond, zone_of(timezone), number)
 }
@@ -163,12 +137,8 @@ fn put_nanoseconds(
     number: i64,
 ) -> Option<usize>
     requires { at + 32 ≤ length text.old }
-    ensures end { IfSome result (λ end. end ≤ at + 32) }
-    ensures same_room { length text.new ≡ length text.old }
-    ensures unchanged { IsNone result → text.new ≡ text.old }
-    ensures text { option_map (λ end. take end text.new) result
-        ≡ option_map (λ moment. take at text.old ++ moment)
-        (spec.timestamp_text TimeUnit.Nanosecond timezone.now number) }
+    ensures { WritesText (spec.timestamp_text TimeUnit.Nanosecond timezone.now number)
+        at text.old text.new result }
 {
     put_timestamp(text, at, TimeUnit::Nanosecond, zone_of(timezone), number)
 }
@@ -183,12 +153,8 @@ fn put_instant(
     number: i64,
 ) -> Option<usize>
     requires { at + 32 ≤ length text.old }
-    ensures end { IfSome result (λ end. end ≤ at + 32) }
-    ensures same_room { length text.new ≡ length text.old }
-    ensures unchanged { IsNone result → text.new ≡ text.old }
-    ensures text { option_map (λ end. take end text.new) result
-        ≡ option_map (λ moment. take at text.old ++ moment)
-        (spec.timestamp_text unit timezone.now number) }
+    ensures { WritesText (spec.timestamp_text unit timezone.now number)
+        at text.old text.new result }
 {
     match unit {
         TimeUnit::Second => put_seconds(text, at, timezone, number),
@@ -202,7 +168,7 @@ fn put_instant(
 /// where it has one, and returns where it ends. It is the text of `date_text`, `time_text` or
 /// `timestamp_text`. Else, and of another type, nothing is written.
 ///
-/// The caller sees to 32 bytes of room. Nothing is promised of what stands behind the end.
+/// The caller sees to 32 bytes of room. What stands in front of the text and behind its end stays.
 #[inline(never)]
 #[tactic(auto, using(crate::proofs::Plain::moment_plain))]
 pub fn put_moment(text: &mut [u8], at: usize, kind: &DataType, number: i64) -> Option<usize>
@@ -213,6 +179,7 @@ pub fn put_moment(text: &mut [u8], at: usize, kind: &DataType, number: i64) -> O
     ensures text { option_map (λ end. take end text.new) result
         ≡ option_map (λ moment. take at text.old ++ moment)
         (moment_text kind.now number) }
+    ensures behind { IfSome result (λ end. drop end text.new ≡ drop end text.old) }
     // The text stands for itself in a text of JSON, and needs no quotes in CSV.
     ensures plain { IfSome (moment_text kind.now number) IsPlain }
 {

@@ -19,6 +19,7 @@ returns-clause-text c =
     let s = same_day c.date_of-date.result c.args.day first (omega (arith, signed_arith)) e in
     let f16 : FitsSigned w16 c.date_of-date.result.year = let y = s.year in let four = s.four in omega (arith, signed_arith) in
     let abs = simp to_z-of_z at c.unsigned_abs.ensures.value in
-    day_placed c.args.at _ _ _ _ _ _ _ _ _ c.date_of-date.result _ c.put_four_digits.ensures.text c.put_byte.ensures.text
-    c.put_two_digits.ensures.text c.put_byte-2.ensures.text c.put_two_digits-2.ensures.text (c.from.ensures ∙ abs)
-    c.from-2.ensures c.from-3.ensures (printed c.date_of-date.result c.args.day low high s)
+    day_placed c.args.at _ _ _ _ _ _ _ _ _ c.date_of-date.result _ (omega (arith, c.requires))
+    c.put_four_digits.ensures.text c.put_byte.ensures.text c.put_two_digits.ensures.text c.put_byte-2.ensures.text
+    c.put_two_digits-2.ensures.text (c.from.ensures ∙ abs) c.from-2.ensures c.from-3.ensures
+    (printed c.date_of-date.result c.args.day low high s)

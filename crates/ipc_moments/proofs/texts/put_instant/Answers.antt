@@ -2,17 +2,17 @@ use Rattle.std.proofs.Common.{FitsSigned, w64}
 use Rattle.std.proofs.lemmas.Int.{to_z-of_z}
 use Rattle.ipc_moments.proofs.texts.put_instant.Goals as goal
 
-pub returns-in-Millisecond-clause-text : goal.returns-in-Millisecond-clause-text
-returns-in-Millisecond-clause-text c =
+pub returns-in-Millisecond : goal.returns-in-Millisecond
+returns-in-Millisecond c =
     let fits : FitsSigned w64 c.args.number = c.ranges.number in
-    rw c.in-Millisecond.is (rw (to_z-of_z w64 c.args.number fits) at c.put_milliseconds.ensures.text)
+    rw c.in-Millisecond.is (rw (to_z-of_z w64 c.args.number fits) at c.put_milliseconds.ensures)
 
-pub returns-in-Microsecond-clause-text : goal.returns-in-Microsecond-clause-text
-returns-in-Microsecond-clause-text c =
+pub returns-in-Microsecond : goal.returns-in-Microsecond
+returns-in-Microsecond c =
     let fits : FitsSigned w64 c.args.number = c.ranges.number in
-    rw c.in-Microsecond.is (rw (to_z-of_z w64 c.args.number fits) at c.put_microseconds.ensures.text)
+    rw c.in-Microsecond.is (rw (to_z-of_z w64 c.args.number fits) at c.put_microseconds.ensures)
 
-pub returns-in-Nanosecond-clause-text : goal.returns-in-Nanosecond-clause-text
-returns-in-Nanosecond-clause-text c =
+pub returns-in-Nanosecond : goal.returns-in-Nanosecond
+returns-in-Nanosecond c =
     let fits : FitsSigned w64 c.args.number = c.ranges.number in
-    rw c.in-Nanosecond.is (rw (to_z-of_z w64 c.args.number fits) at c.put_nanoseconds.ensures.text)
+    rw c.in-Nanosecond.is (rw (to_z-of_z w64 c.args.number fits) at c.put_nanoseconds.ensures)

@@ -7,4 +7,4 @@ use Rattle.ipc_moments.proofs.texts.timestamp_text.Goals as goal
 pub new-requires-clause-plain : goal.new-requires-clause-plain
 new-requires-clause-plain c =
     let fits : FitsSigned w64 c.args.number = c.ranges.number in
-    plain_front _ _ (simp to_z-of_z at c.in_ok-len.ensures.text) (timestamp_plain c.args.unit _ c.args.number)
+    plain_front _ _ _ _ (simp to_z-of_z at c.in_ok-len.ensures) (timestamp_plain c.args.unit _ c.args.number)
