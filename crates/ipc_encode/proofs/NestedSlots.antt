@@ -1,14 +1,11 @@
 -- The slots of the children of a column that was read, where they are those that its slots lead to.
 use Rattle.std.proofs.Common.{◌≡◌, ◌∙◌, refl, sym, ap, subst, ℕ, zero, suc, ◌+◌, ◌-◌, ◌*◌, ◌<◌, ◌≤◌, Bool, true, false, cond}
 use Rattle.std.proofs.Common.{List, [], ◌∷◌, ◌++◌, length, map, get_or, Option, Some, None, arith}
-use Rattle.std.proofs.Common.{add-one, drop, length-append, take}
-use Rattle.std.specs.Prelude.{slice_get, slice_range, ◌&&◌}
-use Rattle.std.specs.Int.{bytes_low_first}
-use Rattle.std.proofs.Math.Seq.{take-add}
+use Rattle.std.proofs.Common.{length-append}
+use Rattle.std.specs.Prelude.{slice_get, ◌&&◌}
 use Rattle.std.proofs.lemmas.Bool.{and_parts, false≢true}
-use Rattle.std.proofs.lemmas.List.{append-nil, drop-drop, take-append-le, take_all}
+use Rattle.std.proofs.lemmas.List.{append-nil}
 use Rattle.std.proofs.lemmas.Option.{none-some}
-use Rattle.ipc_model.specs.declared.schema.IntBits.TheVariants.{B32}
 use Rattle.ipc_model.specs.declared.value.Value.{Value, out-Value}
 use Rattle.ipc_model.specs.declared.value.Value.TheVariants as v
 use Rattle.ipc_model.specs.declared.value.Value.TheVariants.{Null}
@@ -26,15 +23,13 @@ use Rattle.ipc_column.specs.Views.{columns, column_of, children_of}
 use Rattle.ipc_column.proofs.Cells.{items_more}
 use Rattle.ipc_column.proofs.Parts.{children_out}
 use Rattle.ipc_column.proofs.Slices.{places}
-use Rattle.ipc_column.proofs.Slots.{bytes_from, items_length, order_from}
-use Rattle.ipc_encode.specs.Cells.{all_items, all_parts, cell, ends, is_set, items_in, part, part_in}
+use Rattle.ipc_column.proofs.Slots.{bytes_from, order_from}
+use Rattle.ipc_encode.specs.Cells.{all_items, all_parts, cell, is_set, items_in, part, part_in}
 use Rattle.ipc_encode.specs.Marks.{MarksNulls}
 use Rattle.ipc_encode.specs.Pieces.{Items, Valid}
 use Rattle.ipc_encode.specs.Cells as c
 use Rattle.ipc_encode.proofs.LentBuffers.{buffers_at, list_out, slot_count, slot_is, struct_out}
 use Rattle.ipc_encode.proofs.LentContents.{place_is, start_of}
-use Rattle.ipc_encode.proofs.LentBytes.{ends_next}
-use Rattle.ipc_encode.proofs.NumberBytes.{unsigned_bytes}
 use Rattle.ipc_encode.proofs.NumberSlots.{null_out}
 use Rattle.ipc_encode.proofs.Steps.{below_append, extents}
 
@@ -124,16 +119,6 @@ runs_join f g at (suc n) each rise =
           ∙ ap (λ (k : ℕ). items g (at 0) k) size)))))),
     )
 
--- the first of some slots
-front_items : (f : ℕ → Value) (i n : ℕ) → i ≤ n → take i (items f 0 n) ≡ items f 0 i
-front_items f i n m =
-    let size : i + (n - i) ≡ n = omega arith in
-    let front = items_length f 0 i in
-    ap (λ (k : ℕ). take i (items f 0 k)) (sym size)
-    ∙ (ap (take i) (items_join f 0 i (n - i))
-    ∙ (take-append-le i (items f 0 i) (items f (0 + i) (n - i)) (omega (arith, front))
-    ∙ take_all i (items f 0 i) (omega (arith, front))))
-
 -- lists have as many items as their runs are long
 pub items_run : (vs : List Value) → length (all_items vs) ≡ extents Items vs
 items_run [] = refl
@@ -217,48 +202,6 @@ module _ (s : Nested) (b : Buffers) (h : AreBuffers s b) (e : b.layout ≡ l.Lis
         (λ i m. list_at i (omega (arith, m, count))) (λ i m. list_rise i (omega (arith, m, count)))).1
         ∙ ap (λ (k : ℕ). items (λ j. first_of (row (below s) j)) (place b.offsets.now 0) (place b.offsets.now k - place b.offsets.now 0))
         (sym count)
-
-    -- how many items the first slots have
-    list_extents : (i : ℕ) → i ≤ length (slot_values s)
-        → place b.offsets.now 0 + extents Items (take i (slot_values s)) ≡ place b.offsets.now i
-    list_extents i m =
-        let count = slot_count s in
-        let f = value_of (row (below s)) s.column in
-        let g = λ (j : ℕ). first_of (row (below s) j) in
-        let run = runs_join f g (place b.offsets.now) i (λ k l. list_at k (omega (arith, l, m))) (λ k l. list_rise k (omega
-        (arith, l, m))) in
-        let front : take i (slot_values s) ≡ items f 0 i = front_items f i s.column.slots (omega (arith, m, count)) in
-        let size = ap (λ (vs : List Value). length vs) run.1 in
-        let long = items_length g (place b.offsets.now 0) (place b.offsets.now i - place b.offsets.now 0) in
-        let all = items_run (items f 0 i) in
-        let same = ap (extents Items) front in
-        omega (arith, run.0, size, long, all, same)
-
-    list_ends_front : (i : ℕ) → i ≤ length (slot_values s)
-        → ends Items (place b.offsets.now 0) (take i (slot_values s)) ≡ take (4 * i) (drop 4 b.offsets.now)
-    list_ends_front zero m = refl
-    list_ends_front (suc i) m =
-        let vs = slot_values s in
-        let o = b.offsets.now in
-        let there = list_offsets_there in
-        let run = sym (list_extents (i + 1) (omega arith)) in
-        let next : bytes_low_first 0 4 (place o (i + 1)) ≡ take 4 (drop (4 * (i + 1)) o) =
-        ap (bytes_low_first 0 4) (list_place (i + 1) (omega arith)) ∙ unsigned_bytes B32 o (4 * (i + 1)) small (omega (arith, there, m)) in
-        let behind : drop (4 * i) (drop 4 o) ≡ drop (4 * (i + 1)) o =
-        drop-drop (4 * i) 4 o ∙ ap (λ (k : ℕ). drop k o) (let k : 4 + 4 * i ≡ 4 * (i + 1) = omega arith in k) in
-        let more : 4 * suc i ≡ 4 * i + 4 = omega arith in
-        ap (λ (k : ℕ). ends Items (place o 0) (take k vs)) (sym (add-one i))
-        ∙ (sym (ends_next Items (place o 0) vs i (place o (i + 1)) (omega arith) run)
-        ∙ (ap (λ (bs : List ℕ). bs ++ bytes_low_first 0 4 (place o (i + 1))) (list_ends_front i (omega arith))
-        ∙ (ap (λ (bs : List ℕ). take (4 * i) (drop 4 o) ++ bs) (next ∙ ap (λ (bs : List ℕ). take 4 bs) (sym behind))
-        ∙ (sym (take-add (4 * i) 4 (drop 4 o)) ∙ ap (λ (k : ℕ). take k (drop 4 o)) (sym more)))))
-
-    -- the offsets behind the first are where the lists end
-    pub list_ends : slice_range b.offsets.now 4 (4 * (length (slot_values s) + 1)) ≡ ends Items (place b.offsets.now 0) (slot_values s)
-    list_ends =
-        let n = length (slot_values s) in
-        ap (λ (k : ℕ). take k (drop 4 b.offsets.now)) (let k : 4 * (n + 1) - 4 ≡ 4 * n = omega arith in k)
-        ∙ (sym (list_ends_front n (omega arith)) ∙ ap (ends Items (place b.offsets.now 0)) (take_all n (slot_values s) (omega arith)))
 
     -- which has all slots of the child
     pub list_gives : (child : Nested) → slice_get (nested_in s) 0 ≡ Some child → start_of b.offsets.now 0 ≡ 0

@@ -1,4 +1,4 @@
-ghost use Rattle.std.specs.Prelude.{◌≡◌, ◌<◌, ◌+◌, ◌^◌, length, if◌then◌else◌};
+ghost use Rattle.std.specs.Prelude.{◌≡◌, ◌≤◌, ◌<◌, ◌+◌, ◌^◌, length, if◌then◌else◌};
 ghost use Rattle.ipc_model.specs.declared.value.Value.TheVariants.{Null};
 ghost use Rattle.ipc_encode.specs.Cells.{cell, is_set, number_bits, content, fixed, items};
 ghost use Rattle.ipc_encode.specs.Cells.{HasUtf8};
@@ -20,6 +20,15 @@ pub(crate) fn is_valid(value: &Value) -> bool
     ensures { result ≡ is_set Valid value.now }
 {
     !matches!(value, Value::Null)
+}
+
+/// How many nulls a value is: one or none.
+#[inline(always)]
+pub(crate) fn null_count(value: &Value) -> usize
+    ensures count { result ≡ (if is_set Valid value.now then 0 else 1) }
+    ensures few { result ≤ 1 }
+{
+    usize::from(!is_valid(value))
 }
 
 /// How many values are null, with this one behind so many nulls.

@@ -27,3 +27,18 @@ pub(crate) enum Purpose {
     /// It counts the value among the next row's.
     Count,
 }
+
+impl Purpose {
+    ghost use Rattle.std.specs.Prelude.{◌≡◌, IsTrue};
+
+    /// Whether values are kept.
+    #[inline(always)]
+    pub(crate) fn keeps(self) -> bool
+        ensures { IsTrue result → self ≡ Purpose.Keep }
+    {
+        match self {
+            Purpose::Keep => true,
+            Purpose::Count => false,
+        }
+    }
+}

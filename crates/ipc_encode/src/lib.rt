@@ -20,6 +20,7 @@ mod index_columns;
 mod lengths;
 mod lent;
 mod lying;
+mod many;
 mod marks;
 mod nested_slots;
 mod node;

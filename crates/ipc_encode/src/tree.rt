@@ -19,6 +19,9 @@ use crate::index::IndexOf;
 use crate::node::Node;
 use ipc_model::{Layout, Limits, Value};
 
+// From so many values on, taking them at once costs less than one by one.
+const MANY: usize = 8;
+
 /// How many nulls a null gives to each column below one of this layout.
 #[inline]
 pub(crate) fn nulls_below(layout: Layout) -> u64
@@ -278,7 +281,8 @@ fn take_items<I: IndexOf>(
     Ok(())
 }
 
-// Takes or counts values, one after another, in one column.
+// Takes or counts values, one after another, in one column. One without columns below it takes many
+// at once.
 #[cycle(take)]
 fn take_all<I: IndexOf>(
     values: &[Value],
@@ -305,6 +309,9 @@ fn take_all<I: IndexOf>(
     ensures memory { purpose ≡ Count
         → IfErr result (λ fault. ¬ (fault ≡ PushFault.OutOfMemory)) }
 {
+    if node.is_leaf() && values.len() >= MANY && purpose.keeps() {
+        return node.column.push_all(values, limits, indices);
+    }
     for value in values {
         take(value, node, purpose, limits, indices)?;
     }

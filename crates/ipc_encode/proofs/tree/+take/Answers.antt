@@ -6,6 +6,7 @@ use Rattle.ipc_model.specs.declared.layout.Layout.{Layout}
 use Rattle.ipc_model.specs.declared.value.Value.{Value}
 use Rattle.ipc_column.specs.Shapes.{bare, field}
 use Rattle.ipc_encode.specs.declared.node.Node.{Node, out-Node}
+use Rattle.ipc_encode.specs.declared.column.Purpose.{Purpose}
 use Rattle.ipc_encode.specs.Buffers.{below}
 use Rattle.ipc_encode.specs.Cells.{cell}
 use Rattle.ipc_encode.specs.Built.{AreNodes, IsNode, HasTaken, IsColumn, ArePushesRefused}
@@ -302,3 +303,24 @@ take_all-returns-in_err-take-clause-refused g t c = λ layout children before h.
     (c.loop-value.value-index + 1) c.in_err-take.field-0.0
     (subst (λ (vs : List Value). ArePushesRefused c.args.limits.now (field layout children bare)
     (λ j. vs) c.in_err-take.field-0.0) next told))
+
+pub take_all-returns-then-keeps-clause-taken : goal.take_all-returns-then-keeps-clause-taken
+take_all-returns-then-keeps-clause-taken g t c = λ layout children before h.
+    let known = told (g.I.IndexOf.index c.args.indices.now) in
+    let P = HasTaken known c.args.purpose c.args.limits.now in
+    let keep = c.keeps.ensures c.if-keeps.true in
+    let more = before ++ c.args.values.now in
+    let inner = leaf_has P children (out-Node c.args.node.now).children.items (below layout before) (below layout more)
+    (c.is_leaf.ensures.0 c.if-is_leaf.true) h.1 in
+    on_ok_weaker c.push_all.result
+    (λ own. node_is P layout children more _
+    (subst (λ (p : Purpose). HasTaken known p c.args.limits.now layout more c.push_all.new.self) (sym keep) own) inner)
+    (c.push_all.ensures.pushed layout before
+    (subst (λ (p : Purpose). HasTaken known p c.args.limits.now layout before (out-Node c.args.node.now).column) keep h.0))
+
+pub take_all-returns-then-keeps-clause-refused : goal.take_all-returns-then-keeps-clause-refused
+take_all-returns-then-keeps-clause-refused g t c = λ layout children before h.
+    let known = told (g.I.IndexOf.index c.args.indices.now) in
+    c.push_all.ensures.refused layout children before
+    (subst (λ (p : Purpose). HasTaken known p c.args.limits.now layout before (out-Node c.args.node.now).column)
+    (c.keeps.ensures c.if-keeps.true) h.0)
