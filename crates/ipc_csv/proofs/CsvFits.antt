@@ -1,5 +1,5 @@
 -- What a text stands for fits a field where it is one of the field's own.
-use Rattle.std.proofs.Common.{◌≡◌, ◌≢◌, ℕ, List, [], ◌∷◌, length, sym, ap, ◌∙◌, subst, Bool, Result, Ok, Err}
+use Rattle.std.proofs.Common.{◌≡◌, ◌≢◌, ℕ, List, [], ◌∷◌, length, sym, ap, ◌∙◌, subst, Bool, false, Result, Ok, Err}
 use Rattle.std.specs.Prelude.{IfOk, IsTrue}
 use Rattle.std.proofs.lemmas.Option.{same_Some}
 use Rattle.ipc_model.specs.Fits.{Fits, IsOwn, IsOfKind, InnerFit}
@@ -10,8 +10,7 @@ use Rattle.ipc_model.specs.declared.value.Value.{Value, out-Value, roll-Value, r
 use Rattle.ipc_model.specs.declared.value.Value.TheOpen.{Value-F}
 use Rattle.ipc_model.proofs.FitsLemmas.{fits_parts}
 use Rattle.ipc_csv.specs.CsvRows.{StandsFor, ReadsAs}
-use Rattle.ipc_csv.specs.RowCsv.{null_text}
-use Rattle.ipc_moments.specs.declared.fault.TextFault.{TextFault}
+use Rattle.ipc_csv.specs.RowCsv.{null_text, is_nested}
 
 -- what a text stands for has no values inside it
 inner_fits : (kind : DataType) (fs : List Field) (text : List ℕ) (w : Value-F Value) → StandsFor kind text w → InnerFit Fits kind fs w
@@ -29,7 +28,7 @@ reads_own f text v own s =
     (subst (λ T. T) (sym (fits_parts f v)) (own, inner_fits (out-Field f).kind (out-Field f).children text (out-Value v) s), s)
 
 -- where both were told of what was read, it reads as it
-pub read_both : (f : Field) (text : List ℕ) (v : Value) (r : Result Bool TextFault)
+pub read_both : {E : Type 0} → (f : Field) (text : List ℕ) (v : Value) (r : Result Bool E)
     → IfOk r (λ read. IsTrue read → IsOwn (out-Field f).kind (out-Field f).nullable (length (out-Field f).children) (out-Value v))
     → IfOk r (λ read. IsTrue read → StandsFor (out-Field f).kind text (out-Value v))
     → IfOk r (λ read. IsTrue read → ReadsAs f text v)
@@ -57,11 +56,11 @@ pub out_same : (v w : Value) → out-Value v ≡ out-Value w → v ≡ w
 out_same v w e = sym (roll-out-Value v) ∙ ap roll-Value e ∙ roll-out-Value w
 
 -- a text that isn't that of null reads as no null
-pub read_any : (f : Field) (text : List ℕ) (new : Value) (r : Result Bool TextFault) → text ≢ null_text
+pub read_any : {E : Type 0} → (f : Field) (text : List ℕ) (new : Value) (r : Result Bool E) → text ≢ null_text
     → IfOk r (λ read. (v : Value) → IsOfKind (out-Field f).kind (length (out-Field f).children) (out-Value v)
     → StandsFor (out-Field f).kind text (out-Value v) → IsTrue read × (new ≡ v))
-    → IfOk r (λ read. (v : Value) → ReadsAs f text v → IsTrue read × (new ≡ v))
-read_any f text new (Ok read) other all = λ v h.
+    → IfOk r (λ read. is_nested (out-Field f).kind ≡ false → (v : Value) → ReadsAs f text v → IsTrue read × (new ≡ v))
+read_any f text new (Ok read) other all = λ flat v h.
     let own = own_of_fits f v h.0 in
     all v (of_kind (out-Field f).kind (out-Field f).nullable (length (out-Field f).children) text (out-Value v) other own h.1) h.1
 read_any f text new (Err fault) other all = tt

@@ -1,6 +1,7 @@
 -- One field of a record more.
 use Rattle.std.proofs.Common.{◌≡◌, ◌≢◌, ◌∙◌, ◌<◌, ◌+◌, ℕ, zero, suc, List, [], ◌∷◌, ◌++◌, length, take, set, drop, drop-cons, get_or}
-use Rattle.std.proofs.Common.{Some, None}
+use Rattle.std.proofs.Common.{Some, None, Option, Bool, true, false, ◌||◌, if◌then◌else◌}
+use Rattle.std.specs.List.{list_any}
 use Rattle.std.proofs.Common.{Result, Ok, Err, refl, sym, ap, subst, inl, inr, append_assoc, add-one, arith}
 use Rattle.std.specs.Prelude.{IfOk, IfErr, MatchResult}
 use Rattle.std.proofs.lemmas.List.{append-nil, length-set, take-set, take_more_set}
@@ -8,9 +9,9 @@ use Rattle.csv.specs.Records.{field_at}
 use Rattle.ipc_model.specs.declared.schema.Field.{Field, out-Field}
 use Rattle.ipc_model.specs.declared.value.Value.{Value}
 use Rattle.ipc_csv.specs.CsvRows.{ReadsAs, EachReadsAs, IsFirstBad, IsFirstUnlike, IsBadField}
-use Rattle.ipc_csv.specs.RowCsv.{names}
+use Rattle.ipc_csv.specs.RowCsv.{names, is_nested, flat_fault}
 use Rattle.ipc_moments.specs.declared.fault.TextFault.{TextFault}
-use Rattle.ipc_moments.specs.declared.fault.TextFault.TheVariants.{OutOfMemory}
+use Rattle.ipc_moments.specs.declared.fault.TextFault.TheVariants.{OutOfMemory, NotFlat}
 use Rattle.std.proofs.lemmas.Option.{same_Some}
 
 -- the fields from a place on
@@ -80,6 +81,33 @@ module _ {fs_here fs_next : List Field} {ts_here ts_next : List (List ℕ)} {f :
   pub named_more : (fs : List Field) (ts : List (List ℕ)) → t ≡ (out-Field f).name → (ts_here ≡ names fs_here → ts ≡ names fs)
       → ts_next ≡ names fs_next → ts ≡ names fs
   named_more fs ts e inv h = inv (rw (p, q) (ap (λ y. y ∷ ts_next) e ∙ ap (λ l. (out-Field f).name ∷ l) h))
+
+-- a column for which CSV has a place, in front of others
+pub flat_front : (fs here next : List Field) (f : Field) → here ≡ f ∷ next → is_nested (out-Field f).kind ≡ false
+    → (list_any (λ g. is_nested (out-Field g).kind) here ≡ false → list_any (λ g. is_nested (out-Field g).kind) fs ≡ false)
+    → list_any (λ g. is_nested (out-Field g).kind) next ≡ false → list_any (λ g. is_nested (out-Field g).kind) fs ≡ false
+flat_front fs here next f p one inv rest = inv (rw (p, one) rest)
+
+either : (a b : Bool) → (a || b) ≡ false → (a ≡ false) × (b ≡ false)
+either false b e = (refl, e)
+either true b e = absurd cc
+
+pub flat_behind : (here next : List Field) (f : Field) → here ≡ f ∷ next → list_any (λ g. is_nested (out-Field g).kind) here ≡ false
+    → (is_nested (out-Field f).kind ≡ false) × (list_any (λ g. is_nested (out-Field g).kind) next ≡ false)
+flat_behind here next f p e = either (is_nested (out-Field f).kind) (list_any (λ g. is_nested (out-Field g).kind) next) (rw p at e)
+
+fault_none : (nested : Bool) (o : Option TextFault) → (if nested then Some NotFlat else o) ≡ None → nested ≡ false
+fault_none false o e = refl
+fault_none true o e = absurd cc
+
+-- columns that CSV has a place for are none of lists or structs
+pub flat_columns : (fs : List Field) → flat_fault fs ≡ None → list_any (λ g. is_nested (out-Field g).kind) fs ≡ false
+flat_columns fs e = fault_none (list_any (λ g. is_nested (out-Field g).kind) fs) _ e
+
+-- and they are one or more
+pub some_columns : (fs : List Field) → flat_fault fs ≡ None → length fs ≡ 0 → ⊥
+some_columns [] e none = absurd cc
+some_columns (f ∷ fs) e none = omega (arith, none)
 
 -- where nothing is left to read, all is read
 pub read_all : (fs fs_here : List Field) (ts ts_here : List (List ℕ)) (front : List Value) → fs_here ≡ [] → ts_here ≡ []

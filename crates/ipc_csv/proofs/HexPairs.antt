@@ -1,15 +1,15 @@
 -- Pairs of hexadecimal digits, one after the other.
 use Rattle.std.proofs.Common.{◌≡◌, ◌∙◌, ℕ, ◌+◌, ◌*◌, ◌%◌, ◌<◌, ◌≤◌, ◌==◌, ◌&&◌, nat_lt, nat_le, Bool, true, false, List}
-use Rattle.std.proofs.Common.{length, take, drop}
+use Rattle.std.proofs.Common.{length, take, drop, if◌then◌else◌, bit_or, ◌≢◌, subst, inl, inr}
 use Rattle.std.proofs.Common.{slice_index, slice_set, Option, Some, None, Ok, Err, refl, ap, arith}
-use Rattle.std.proofs.lemmas.Bool.{agree_below_at, and_parts, eqb-true}
+use Rattle.std.proofs.lemmas.Bool.{agree_below_at, and_parts, cases_lt, eqb-true}
 use Rattle.std.proofs.lemmas.Bool.Decides.{nat_tests}
+use Rattle.std.proofs.lemmas.List.{get_or-set_other, get_or-set_same}
 use Rattle.hex.specs.Hex.{decode_of, decode_pairs, digit_or_error, hex_digit_value, pair_value, value_at}
 use Rattle.hex.specs.declared.error.FromHexError.TheVariants.{InvalidHexCharacter}
 use Rattle.hex.proofs.HexLemmas.{decode_of-even}
 use Rattle.hex.proofs.Pairs.{prepend, decode_start, decode_step, decode_err, decode_done}
 use Rattle.ipc_csv.specs.CsvCells.{bytes_of, if_read}
-use Rattle.ipc_csv.specs.declared.hexadecimal.TheConstants.{VALUES}
 
 -- a number that tells the value of a digit, or that there is none
 pub record Tells (byte n : ℕ) : Type 0 where
@@ -29,12 +29,49 @@ told None n h =
     let big : 16 ≤ n = grind (arith, nat_tests) in
     (λ small. absurd (omega arith), λ _. refl)
 
--- the table tells the value of each digit
-pub table_tells : (b : ℕ) → b < 256 → Tells b (slice_index VALUES b)
-table_tells b small =
-    let t = told (hex_digit_value b) (slice_index VALUES b)
-    (agree_below_at (λ k. agrees (hex_digit_value k) (slice_index VALUES k)) (λ k. true) 256 b refl small) in
+-- how far a letter, in lower case or made so, is behind `a`
+abbrev letter : ℕ → ℕ
+letter b = (bit_or b 32 + 159) % 256
+
+abbrev value_of : ℕ → ℕ → ℕ
+value_of n l = if nat_lt n 10 then n else (if nat_lt l 6 then l + 10 else 255)
+
+value_tells : (b : ℕ) → b < 256 → Tells b (value_of ((b + 208) % 256) (letter b))
+value_tells b small =
+    let t = told (hex_digit_value b) (value_of ((b + 208) % 256) (letter b))
+    (agree_below_at (λ k. agrees (hex_digit_value k) (value_of ((k + 208) % 256) (letter k))) (λ k. true) 256 b refl small) in
     record { digit = t.0; none = t.1 }
+
+value_letter : (n l : ℕ) → 10 ≤ n → l < 6 → value_of n l ≡ l + 10
+value_letter n l big small = grind (arith, nat_tests)
+
+value_other : (n l : ℕ) → 10 ≤ n → 6 ≤ l → value_of n l ≡ 255
+value_other n l big far = grind (arith, nat_tests)
+
+-- a letter is the digit of ten and how far it is behind `a`
+pub letter_reads : (b : ℕ) → b < 256 → 10 ≤ (b + 208) % 256 → letter b < 6 → hex_digit_value b ≡ Some (letter b + 10)
+letter_reads b small big near =
+    let is = value_letter ((b + 208) % 256) (letter b) big near in
+    (subst (Tells b) is (value_tells b small)).digit (omega arith)
+
+-- what is neither a number nor such a letter is no digit
+pub other_fails : (b : ℕ) → b < 256 → 10 ≤ (b + 208) % 256 → 6 ≤ letter b → hex_digit_value b ≡ None
+other_fails b small big far =
+    let is = value_other ((b + 208) % 256) (letter b) big far in
+    (subst (Tells b) is (value_tells b small)).none (omega arith)
+
+-- one value more
+pub tells_more : (text values : List ℕ) (i v : ℕ) → i < length values → Tells (slice_index text i) v
+    → ((k : ℕ) → k < i → Tells (slice_index text k) (slice_index values k)) → (k : ℕ) → k < i + 1
+    → Tells (slice_index text k) (slice_index (slice_set values i v) k)
+tells_more text values i v inside here before k below = elim (cases_lt k i) [
+  | inl less ↦
+      let other : k ≢ i = λ e. absurd (omega arith) in
+      rw (get_or-set_other values i k v 0 other) (before k less)
+  | inr top ↦
+      let e : k ≡ i = omega arith in
+      rw e (rw (get_or-set_same values i v 0 inside) here)
+]
 
 -- what is known behind so many pairs
 pub record Decoded (text bytes : List ℕ) (i : ℕ) (good : Bool) : Type 0 where

@@ -190,6 +190,12 @@ nine_digits xs a b d n l p q r e x0 x1 x2 x3 x4 x5 x6 x7 x8 x9 =
     let z : n % 1_000 ≡ d = omega arith in
     sym (take_all 10 xs (omega arith)) ∙ rw (ten xs (omega arith), x0, x1, x2, x3, x4, x5, x6, x7, x8, x9, x, y, z) refl
 
+-- what stands behind eighteen bytes and one more
+pub behind_one : (xs : List ℕ) → take (length (take (length xs - 18) (drop 18 xs)) - 1) (drop 1 (take (length xs - 18) (drop 18 xs)))
+    ≡ take (length xs - 19) (drop 19 xs)
+behind_one xs =
+    take_rest (take (length xs - 18) (drop 18 xs)) 1 ∙ ap (drop 1) (take_rest xs 18) ∙ drop-drop 1 18 xs ∙ sym (take_rest xs 19)
+
 split : (unit : TimeUnit) (seconds part : ℕ) → seconds < 86_400 → part < per_second unit
     → ((seconds * per_second unit + part) / per_second unit ≡ seconds) × ((seconds * per_second unit + part) % per_second unit ≡ part)
 split u.Second seconds part p q = (omega arith, omega arith)

@@ -1,6 +1,7 @@
 pub mod CsvBack
 pub mod CsvFits
 pub mod CsvSteps
+pub mod HexApart
 pub mod HexPairs
 pub mod InstantTexts
 pub mod NullText

@@ -9,7 +9,7 @@ ghost use Rattle.ipc_csv.specs.CsvCells.{bytes_of};
 use crate::hexadecimal::decode_pairs;
 use ipc_moments::TextFault;
 use itoa::Buffer;
-use std::alloc::Global;
+use std::alloc::{AllocError, Global};
 
 /// The signed number, of an integer or a duration, whose decimal text this is: no plus sign, no
 /// leading zero, no `-0`. None for any other text.
@@ -88,12 +88,11 @@ pub fn read_bytes(alloc: Global, text: &[u8]) -> Result<Option<Vec<u8>>, TextFau
 }
 
 /// Puts the bytes whose hexadecimal digits these are, in either case, in place of others, and says
-/// whether there are such. It refuses only where memory ran out.
-pub(crate) fn decode_bytes(bytes: &mut Vec<u8>, text: &[u8]) -> Result<bool, TextFault>
+/// whether there are such.
+pub(crate) fn decode_bytes(bytes: &mut Vec<u8>, text: &[u8]) -> Result<bool, AllocError>
     ensures bytes { IfOk result
         (λ read. IsTrue read → bytes_of text.now ≡ Some bytes.new.items) }
     ensures none { IfOk result (λ read. read ≡ false → bytes_of text.now ≡ None) }
-    ensures refused { IfErr result (λ fault. fault ≡ TextFault.OutOfMemory) }
 {
     if text.len() % 2 != 0 {
         return Ok(false);

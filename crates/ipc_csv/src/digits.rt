@@ -1,5 +1,5 @@
 //! Numbers of few decimal digits, read in one pass.
-ghost use Rattle.std.specs.Prelude.{◌≡◌, ◌<◌, ◌≤◌, ◌^◌, IfSome, decimal, length};
+ghost use Rattle.std.specs.Prelude.{◌≡◌, ◌<◌, ◌≤◌, ◌+◌, ◌^◌, IfSome, decimal, length};
 ghost use Rattle.std.specs.Prelude.{get_or, true, FitsSigned};
 ghost use Rattle.std.specs.Fmt.{signed_decimal};
 ghost use Rattle.std.specs.Int.{w64};
@@ -16,6 +16,14 @@ fn are_few(digits: &[u8]) -> bool
     }
 }
 
+// The value of a digit, or 10 and more of a byte that is none.
+#[inline(always)]
+fn value_of(digit: u8) -> u64
+    ensures { result < 10 → digit ≡ 48 + result }
+{
+    u64::from(digit).wrapping_sub(48)
+}
+
 /// The number below 10^18 whose decimal digits these are. None for any other text.
 pub(crate) fn read_short(digits: &[u8]) -> Option<u64>
     ensures only { IfSome result (λ n. decimal n ≡ digits.now) }
@@ -26,10 +34,11 @@ pub(crate) fn read_short(digits: &[u8]) -> Option<u64>
     }
     let mut number = 0u64;
     for digit in digits {
-        if !digit.is_ascii_digit() {
+        let value = value_of(*digit);
+        if value > 9 {
             return None;
         }
-        number = number * 10 + u64::from(*digit - b'0');
+        number = number * 10 + value;
     }
     Some(number)
 }

@@ -3,8 +3,8 @@
 //! What is read so is known to have this text, which isn't made again. Any other text is left to
 //! `ipc_moments`.
 ghost use Rattle.std.specs.Prelude.{◌≡◌, ◌<◌, ◌≤◌, ◌+◌, ◌*◌, ◌/◌, ◌%◌, ◌++◌, ◌^◌, ℤ, pos, length};
-ghost use Rattle.std.specs.Prelude.{get_or, take, unsigned_abs, IfSome, Some, option_map};
-ghost use Rattle.std.specs.Prelude.{FitsSigned};
+ghost use Rattle.std.specs.Prelude.{get_or, drop, ◌-◌, take, unsigned_abs, IfSome, Some};
+ghost use Rattle.std.specs.Prelude.{FitsSigned, IsTrue, ℕ};
 ghost use Rattle.std.specs.Int.{w64, int_div_euclid, int_rem_euclid};
 ghost use Rattle.ipc_model.specs.Ranges.{ticks_in_a_day};
 ghost use Rattle.ipc_moments.specs.Calendar.{day_text};
@@ -12,7 +12,7 @@ ghost use Rattle.ipc_moments.specs.Moments.{timestamp_text, per_second};
 ghost use Rattle.ipc_moments.specs.Moments.{clock_text, fraction_text, zone_text};
 ghost use Rattle.jiff_core.specs.Calendar.{IsEpochDay};
 
-use ipc_model::{DateUnit, TimeUnit};
+use ipc_model::{DateUnit, Text, TimeUnit};
 use ipc_moments::{read_date, read_timestamp};
 use jiff_core::civil::Date;
 
@@ -64,23 +64,69 @@ fn three_at(text: &[u8], place: usize) -> u32
     hundreds * 100 + rest
 }
 
-// The number of the day whose text stands in front.
+// Whether each byte in front is from the one of a text to that of another. Where each of the other
+// is nine more, behind a digit as behind a mark, all places have one test, which is made at once.
 #[inline(always)]
+fn lies_between(text: &[u8], least: &[u8], most: &[u8]) -> bool
+    requires inside { length least.now ≤ length text.now }
+    requires both { length most.now ≡ length least.now }
+    ensures { IsTrue result → (k : ℕ) → k < length least.now
+        → (get_or least.now k 0 ≤ get_or text.now k 0)
+        × (get_or text.now k 0 ≤ get_or most.now k 0) }
+{
+    let mut lies = true;
+    for i in 0..least.len() {
+        lies &= least[i] <= text[i] && text[i] <= most[i];
+    }
+    lies
+}
+
+// The number whose two digits are known to stand from a place on.
+#[inline(always)]
+fn pair_here(text: &[u8], place: usize) -> u32
+    requires inside { place + 1 < length text.now }
+    requires tens { (48 ≤ get_or text.now place 0) × (get_or text.now place 0 ≤ 57) }
+    requires ones { (48 ≤ get_or text.now (place + 1) 0) × (get_or text.now (place + 1) 0 ≤ 57) }
+    ensures first { get_or text.now place 0 ≡ 48 + result / 10 }
+    ensures second { get_or text.now (place + 1) 0 ≡ 48 + result % 10 }
+    ensures small { result < 100 }
+{
+    u32::from(text[place]) * 10 + u32::from(text[place + 1]) - 528
+}
+
+// The number whose three digits are known to stand from a place on.
+#[inline(always)]
+fn three_here(text: &[u8], place: usize) -> u32
+    requires inside { place + 2 < length text.now }
+    requires hundreds { (48 ≤ get_or text.now place 0) × (get_or text.now place 0 ≤ 57) }
+    requires tens { (48 ≤ get_or text.now (place + 1) 0) × (get_or text.now (place + 1) 0 ≤ 57) }
+    requires ones { (48 ≤ get_or text.now (place + 2) 0) × (get_or text.now (place + 2) 0 ≤ 57) }
+    ensures first { get_or text.now place 0 ≡ 48 + result / 100 }
+    ensures second { get_or text.now (place + 1) 0 ≡ 48 + result % 100 / 10 }
+    ensures third { get_or text.now (place + 2) 0 ≡ 48 + result % 100 % 10 }
+    ensures small { result < 1_000 }
+{
+    let hundreds = u32::from(text[place]) * 100;
+    hundreds + u32::from(text[place + 1]) * 10 + u32::from(text[place + 2]) - 5_328
+}
+
+// The number of the day whose text stands in front.
+#[inline(never)]
 fn day_in_front(text: &[u8]) -> Option<i64>
     requires { 10 ≤ length text.now }
     ensures text { IfSome result (λ z. day_text z ≡ Some (take 10 text.now)) }
     ensures small { IfSome result (λ z. IsEpochDay z) }
 {
+    if !lies_between(text, b"0000-00-00", b"9999699699") {
+        return None;
+    }
     if text[4] != b'-' || text[7] != b'-' {
         return None;
     }
-    let hundreds = pair_at(text, 0);
-    let years = pair_at(text, 2);
-    let month = pair_at(text, 5);
-    let day = pair_at(text, 8);
-    if hundreds > 99 || years > 99 {
-        return None;
-    }
+    let hundreds = pair_here(text, 0);
+    let years = pair_here(text, 2);
+    let month = pair_here(text, 5);
+    let day = pair_here(text, 8);
     let Ok(date) = Date::new((hundreds * 100 + years) as i16, month as i8, day as i8) else {
         return None;
     };
@@ -98,12 +144,15 @@ fn clock_in_front(text: &[u8]) -> Option<u64>
     ensures text { IfSome result (λ n. take 8 text.now ≡ clock_text n) }
     ensures small { IfSome result (λ n. n < 86_400) }
 {
+    if !lies_between(text, b"00:00:00", b"99C99C99") {
+        return None;
+    }
     if text[2] != b':' || text[5] != b':' {
         return None;
     }
-    let hours = pair_at(text, 0);
-    let minutes = pair_at(text, 3);
-    let seconds = pair_at(text, 6);
+    let hours = pair_here(text, 0);
+    let minutes = pair_here(text, 3);
+    let seconds = pair_here(text, 6);
     if hours > 23 || minutes > 59 || seconds > 59 {
         return None;
     }
@@ -126,20 +175,20 @@ fn thousandths(text: &[u8]) -> Option<u64>
     Some(u64::from(part))
 }
 
-// The same of six digits.
+// The number whose six digits stand behind a digit and a point. The digit in front is that of the
+// seconds: with it the places are eight, whose tests are made at once.
 #[inline(always)]
-fn millionths(text: &[u8]) -> Option<u64>
-    ensures text { IfSome result (λ n. text.now ≡ fraction_text TimeUnit.Microsecond n) }
+fn millionths_behind(text: &[u8]) -> Option<u64>
+    requires { 1 ≤ length text.now }
+    ensures text { IfSome result (λ n. take (length text.now - 1) (drop 1 text.now)
+        ≡ fraction_text TimeUnit.Microsecond n) }
     ensures small { IfSome result (λ n. n < 1_000_000) }
 {
-    if text.len() != 7 || text[0] != b'.' {
+    if text.len() != 8 || !lies_between(text, b"0.000000", b"97999999") || text[1] != b'.' {
         return None;
     }
-    let first = three_at(text, 1);
-    let second = three_at(text, 4);
-    if first > 999 || second > 999 {
-        return None;
-    }
+    let first = three_here(text, 2);
+    let second = three_here(text, 5);
     Some(u64::from(first * 1_000 + second))
 }
 
@@ -161,18 +210,20 @@ fn billionths(text: &[u8]) -> Option<u64>
     Some(u64::from(first * 1_000_000 + second * 1_000 + third))
 }
 
-// The part of a second in this unit whose text this is.
+// The part of a second in this unit whose text stands behind a digit.
 #[inline(always)]
-fn fraction(unit: TimeUnit, text: &[u8]) -> Option<u64>
-    ensures text { IfSome result (λ n. text.now ≡ fraction_text unit n) }
+fn fraction_behind(unit: TimeUnit, text: &[u8]) -> Option<u64>
+    requires { 1 ≤ length text.now }
+    ensures text { IfSome result (λ n. take (length text.now - 1) (drop 1 text.now)
+        ≡ fraction_text unit n) }
     ensures small { IfSome result (λ n. n < per_second unit) }
 {
     match unit {
-        TimeUnit::Second if text.is_empty() => Some(0),
+        TimeUnit::Second if text.len() == 1 => Some(0),
         TimeUnit::Second => None,
-        TimeUnit::Millisecond => thousandths(text),
-        TimeUnit::Microsecond => millionths(text),
-        TimeUnit::Nanosecond => billionths(text),
+        TimeUnit::Millisecond => thousandths(&text[1..]),
+        TimeUnit::Microsecond => millionths_behind(text),
+        TimeUnit::Nanosecond => billionths(&text[1..]),
     }
 }
 
@@ -216,9 +267,8 @@ fn number_of(unit: TimeUnit, day: i64, units: u64) -> Option<i64>
 
 // A text without the `Z` that stands behind it where there is a time zone that isn't empty.
 #[inline(always)]
-fn without_zone<'a>(timezone: Option<&str>, text: &'a [u8]) -> Option<&'a [u8]>
-    ensures { IfSome result (λ front. text.now ≡ front.now
-        ++ zone_text (option_map (λ zone. zone.now) timezone.entry)) }
+fn without_zone<'a>(timezone: &Option<Text>, text: &'a [u8]) -> Option<&'a [u8]>
+    ensures { IfSome result (λ front. text.now ≡ front.now ++ zone_text timezone.now) }
 {
     match timezone {
         Some(zone) if !zone.is_empty() => match text {
@@ -231,9 +281,8 @@ fn without_zone<'a>(timezone: Option<&str>, text: &'a [u8]) -> Option<&'a [u8]>
 
 // The number of a point in time whose text this is, where it is told by the places of its digits.
 #[inline(never)]
-fn plain_timestamp(unit: TimeUnit, timezone: Option<&str>, text: &[u8]) -> Option<i64>
-    ensures { IfSome result (λ z. timestamp_text unit
-        (option_map (λ zone. zone.now) timezone.entry) z ≡ Some text.now) }
+fn plain_timestamp(unit: TimeUnit, timezone: &Option<Text>, text: &[u8]) -> Option<i64>
+    ensures { IfSome result (λ z. timestamp_text unit timezone.now z ≡ Some text.now) }
 {
     let text = without_zone(timezone, text)?;
     if text.len() < 19 || text[10] != b'T' {
@@ -241,7 +290,7 @@ fn plain_timestamp(unit: TimeUnit, timezone: Option<&str>, text: &[u8]) -> Optio
     }
     let day = day_in_front(text)?;
     let seconds = clock_in_front(&text[11..])?;
-    let part = fraction(unit, &text[19..])?;
+    let part = fraction_behind(unit, &text[18..])?;
     number_of(unit, day, units_of(unit, seconds, part))
 }
 
@@ -257,17 +306,31 @@ fn plain_day(text: &[u8]) -> Option<i64>
     day_in_front(text)
 }
 
+// The number of any point in time whose text this is. It stands in a function of its own, so that
+// no other text pays for its room.
+#[inline(never)]
+fn any_timestamp(unit: TimeUnit, timezone: &Option<Text>, text: &[u8]) -> Option<i64>
+    ensures only { IfSome result (λ z. timestamp_text unit timezone.now z ≡ Some text.now) }
+    ensures all { (z : ℤ) → FitsSigned w64 z → timestamp_text unit timezone.now z ≡ Some text.now
+        → result ≡ Some z }
+{
+    match timezone {
+        Some(zone) => read_timestamp(unit, Some(zone.as_str()), text),
+        None => read_timestamp(unit, None, text),
+    }
+}
+
 /// The number of a point in time whose text this is, as `ipc_moments::read_timestamp`.
-pub(crate) fn read_instant(unit: TimeUnit, timezone: Option<&str>, text: &[u8]) -> Option<i64>
-    ensures only { IfSome result (λ z. timestamp_text unit
-        (option_map (λ zone. zone.now) timezone.entry) z ≡ Some text.now) }
-    ensures all { (z : ℤ) → FitsSigned w64 z → timestamp_text unit
-        (option_map (λ zone. zone.now) timezone.entry) z ≡ Some text.now → result ≡ Some z }
+#[inline(always)]
+pub(crate) fn read_instant(unit: TimeUnit, timezone: &Option<Text>, text: &[u8]) -> Option<i64>
+    ensures only { IfSome result (λ z. timestamp_text unit timezone.now z ≡ Some text.now) }
+    ensures all { (z : ℤ) → FitsSigned w64 z → timestamp_text unit timezone.now z ≡ Some text.now
+        → result ≡ Some z }
 {
     if let Some(number) = plain_timestamp(unit, timezone, text) {
         return Some(number);
     }
-    read_timestamp(unit, timezone, text)
+    any_timestamp(unit, timezone, text)
 }
 
 /// The number of a day whose text this is, as `ipc_moments::read_date`.

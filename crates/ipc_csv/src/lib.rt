@@ -1,6 +1,7 @@
 //! CSV of rows, both ways.
 #![tactic(auto)]
 
+mod ascii;
 mod cell;
 mod digits;
 mod hexadecimal;

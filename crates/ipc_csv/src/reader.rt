@@ -1,9 +1,9 @@
 //! A row from the fields of a record of CSV.
 ghost use Rattle.std.specs.Prelude.{◌≡◌, ◌<◌, ◌^◌, ℕ, ℤ, List, IfOk, IfErr, IfSome, MatchResult};
 ghost use Rattle.std.specs.Prelude.{Some, Bool, FitsSigned, decimal, option_map, length, OnOk};
-ghost use Rattle.std.specs.Prelude.{None, Ok, [], string_bytes};
+ghost use Rattle.std.specs.Prelude.{None, Ok};
 ghost use Rattle.std.specs.Prelude.{IsTrue, IsSome, ◌↔◌, false};
-ghost use Rattle.std.specs.List.{AllByRecursion};
+ghost use Rattle.std.specs.List.{AllByRecursion, list_any};
 ghost use Rattle.std.specs.Fmt.{signed_decimal};
 ghost use Rattle.std.specs.Int.{w64};
 ghost use Rattle.std.specs.Str.{IsUtf8};
@@ -21,30 +21,33 @@ ghost use Rattle.ipc_csv.specs.CsvRows.{IsHeaderFault, IsStored};
 ghost use Rattle.ipc_moments.specs.Moments.{date_text, time_text, timestamp_text};
 ghost use Rattle.ipc_csv.specs.RowCsv.{int_text, bool_text, backslashed, names, flat_fault};
 ghost use Rattle.ipc_csv.specs.RowCsv.{row_texts};
+ghost use Rattle.ipc_csv.specs.RowCsv as spec;
 
+use crate::ascii::text_of;
 use crate::cell::{decode_bytes, read_int, read_text, read_uint};
 use crate::digits::{read_short, read_short_signed};
 use crate::instants::{read_day, read_instant};
-use crate::record::check_flat;
+use crate::record::{check_flat, is_nested};
 use csv::ByteRecord;
 use ipc_model::{DataType, DateUnit, Field, IntBits, Items, Row, Schema, Text, TimeUnit, Value};
 use ipc_moments::{TextFault, read_date, read_time};
 use std::alloc::{AllocError, Global};
 use std::mem;
 
-// The point in time whose text this is.
-fn read_zoned(unit: TimeUnit, timezone: &Option<Text>, text: &[u8]) -> Option<i64>
-    ensures only { IfSome result (λ z. timestamp_text unit timezone.now z ≡ Some text.now) }
-    ensures all { (z : ℤ) → FitsSigned w64 z → timestamp_text unit timezone.now z ≡ Some text.now
-        → result ≡ Some z }
+// The signed number whose decimal text this is, of any length.
+#[inline(never)]
+fn read_long(text: &[u8]) -> Option<i64>
+    ensures only { IfSome result (λ z. signed_decimal z ≡ text.now) }
+    ensures all { (z : ℤ) → FitsSigned w64 z → signed_decimal z ≡ text.now → result ≡ Some z }
 {
-    match timezone {
-        Some(zone) => read_instant(unit, Some(zone.as_str()), text),
-        None => read_instant(unit, None, text),
+    match str::from_utf8(text) {
+        Ok(text) => read_int(text),
+        Err(_) => None,
     }
 }
 
 // The signed number whose decimal text this is.
+#[inline(always)]
 fn read_decimal(text: &[u8]) -> Option<i64>
     ensures only { IfSome result (λ z. signed_decimal z ≡ text.now) }
     ensures all { (z : ℤ) → FitsSigned w64 z → signed_decimal z ≡ text.now → result ≡ Some z }
@@ -52,10 +55,7 @@ fn read_decimal(text: &[u8]) -> Option<i64>
     if let Some(number) = read_short_signed(text) {
         return Some(number);
     }
-    match str::from_utf8(text) {
-        Ok(text) => read_int(text),
-        Err(_) => None,
-    }
+    read_long(text)
 }
 
 // The unsigned number whose decimal text this is.
@@ -84,65 +84,87 @@ fn read_truth(text: &[u8]) -> Option<bool>
     }
 }
 
-// An empty text with the room of a value that is let go, where that is a text.
-fn room_for_text(alloc: Global, kept: Value) -> String
-    ensures { string_bytes result ≡ [] }
+// Makes a text another one, in its room.
+#[inline(always)]
+fn refill_text(alloc: Global, text: &mut Text, chars: &str) -> Result<(), AllocError>
+    ensures { OnOk result (text.new ≡ chars.now) }
 {
-    match kept {
-        Value::Text(text) => {
-            let mut string = text.into_string();
-            string.clear();
-            string
-        }
-        _ => String::new(alloc),
-    }
+    let mut string = mem::replace(text, Text::from_string(String::new(alloc))).into_string();
+    string.clear();
+    string.push_str(chars)?;
+    *text = Text::from_string(string);
+    Ok(())
+}
+
+// Puts a text in the place of a value that is none.
+#[inline(never)]
+fn put_new_text(alloc: Global, chars: &str, place: &mut Value) -> Result<(), AllocError>
+    ensures { OnOk result (out-Value place.new ≡ Value-F.Text chars.now) }
+{
+    *place = Value::Text(Text::copied(alloc, chars)?);
+    Ok(())
 }
 
 // Puts the text whose field this is in the place of a value, in its room where that is a text, and
 // says whether there is one.
 #[inline(never)]
-fn put_chars(alloc: Global, text: &[u8], place: &mut Value) -> Result<bool, TextFault>
+fn put_chars(alloc: Global, text: &[u8], place: &mut Value) -> Result<bool, AllocError>
     ensures only { IfOk result (λ read. IsTrue read → IsCharsOf text.now (out-Value place.new)) }
     ensures all { IfOk result (λ read. (chars : List ℕ) → IsUtf8 chars
         → backslashed chars ≡ text.now
         → IsTrue read × (out-Value place.new ≡ Value-F.Text chars)) }
-    ensures refused { IfErr result (λ fault. fault ≡ TextFault.OutOfMemory) }
 {
     let Some(chars) = read_text(text) else {
         return Ok(false);
     };
-    let Ok(chars) = str::from_utf8(chars) else {
+    let Some(chars) = text_of(chars) else {
         return Ok(false);
     };
-    let mut string = room_for_text(alloc, mem::replace(place, Value::Null));
-    string.push_str(chars)?;
-    *place = Value::Text(Text::from_string(string));
+    match place {
+        Value::Text(kept) => refill_text(alloc, kept, chars)?,
+        _ => put_new_text(alloc, chars, place)?,
+    }
     Ok(true)
 }
 
-// The list of bytes of a value that is let go, where that is bytes. What it holds means nothing.
-fn room_for_bytes(alloc: Global, kept: Value) -> Vec<u8> {
-    match kept {
-        Value::Bytes(bytes) => bytes.into_vec(),
-        _ => Vec::new(alloc),
-    }
+// Makes bytes those whose digits these are, in their room, and says whether there are such.
+#[inline(always)]
+fn refill_bytes(alloc: Global, bytes: &mut Items<u8>, text: &[u8]) -> Result<bool, AllocError>
+    ensures bytes { IfOk result (λ read. IsTrue read → bytes_of text.now ≡ Some bytes.new) }
+    ensures none { IfOk result (λ read. read ≡ false → bytes_of text.now ≡ None) }
+{
+    let mut list = mem::replace(bytes, Items::new(alloc)).into_vec();
+    let read = decode_bytes(&mut list, text)?;
+    *bytes = Items::from_vec(list);
+    Ok(read)
+}
+
+// Puts the bytes whose digits these are in the place of a value that is none, and says whether
+// there are such.
+#[inline(never)]
+fn put_new_bytes(alloc: Global, text: &[u8], place: &mut Value) -> Result<bool, AllocError>
+    ensures bytes { IfOk result (λ read. IsTrue read
+        → option_map Value-F.Bytes (bytes_of text.now) ≡ Some (out-Value place.new)) }
+    ensures none { IfOk result (λ read. read ≡ false → bytes_of text.now ≡ None) }
+{
+    let mut bytes = Items::new(alloc);
+    let read = refill_bytes(alloc, &mut bytes, text)?;
+    *place = Value::Bytes(bytes);
+    Ok(read)
 }
 
 // Puts the bytes whose digits these are in the place of a value, in its room where that is bytes,
 // and says whether there are such.
 #[inline(never)]
-fn put_binary(alloc: Global, text: &[u8], place: &mut Value) -> Result<bool, TextFault>
+fn put_binary(alloc: Global, text: &[u8], place: &mut Value) -> Result<bool, AllocError>
     ensures bytes { IfOk result (λ read. IsTrue read
         → option_map Value-F.Bytes (bytes_of text.now) ≡ Some (out-Value place.new)) }
     ensures none { IfOk result (λ read. read ≡ false → bytes_of text.now ≡ None) }
-    ensures refused { IfErr result (λ fault. fault ≡ TextFault.OutOfMemory) }
 {
-    let mut bytes = room_for_bytes(alloc, mem::replace(place, Value::Null));
-    if !decode_bytes(&mut bytes, text)? {
-        return Ok(false);
+    match place {
+        Value::Bytes(kept) => refill_bytes(alloc, kept, text),
+        _ => put_new_bytes(alloc, text, place),
     }
-    *place = Value::Bytes(Items::from_vec(bytes));
-    Ok(true)
 }
 
 // A number that is one of so many bits.
@@ -154,10 +176,10 @@ fn within(bits: IntBits, number: Option<i64>) -> Option<i64>
 {
     let number = number?;
     let is_within = match bits {
-        IntBits::B8 => i8::try_from(number).is_ok(),
-        IntBits::B16 => i16::try_from(number).is_ok(),
-        IntBits::B32 => i32::try_from(number).is_ok(),
         IntBits::B64 => true,
+        IntBits::B32 => i32::try_from(number).is_ok(),
+        IntBits::B16 => i16::try_from(number).is_ok(),
+        IntBits::B8 => i8::try_from(number).is_ok(),
     };
     if is_within { Some(number) } else { None }
 }
@@ -173,22 +195,24 @@ fn has_size(size: u32, value: &Value) -> bool
     }
 }
 
-// Puts a value in the place of another, where there is one.
+// Puts a truth in the place of a value, where there is one. In the place of another nothing has to
+// be let go.
 #[inline(always)]
-fn put(value: Option<Value>, place: &mut Value) -> bool
-    ensures put { IsTrue result → value ≡ Some place.new }
-    ensures all { (v : Value) → value ≡ Some v → IsTrue result }
+fn put_truth(truth: Option<bool>, place: &mut Value) -> bool
+    ensures only { IsTrue result → IfSome truth (λ b. out-Value place.new ≡ Value-F.Bool b) }
+    ensures some { IsTrue result ↔ IsSome truth }
 {
-    match value {
-        Some(value) => {
-            *place = value;
-            true
-        }
-        None => false,
+    let Some(truth) = truth else {
+        return false;
+    };
+    match place {
+        Value::Bool(kept) => *kept = truth,
+        _ => *place = Value::Bool(truth),
     }
+    true
 }
 
-// The same of a signed number. In the place of another nothing has to be let go.
+// The same of a signed number.
 #[inline(always)]
 fn put_int(number: Option<i64>, place: &mut Value) -> bool
     ensures only { IsTrue result → IfSome number (λ z. out-Value place.new ≡ Value-F.Int z) }
@@ -223,14 +247,22 @@ fn put_own(field: &Field, value: Option<Value>, place: &mut Value) -> bool
     true
 }
 
-// Puts null in the place of a value, where it is one of the field's own. What is seldom read stands
-// in functions of its own, so that no other value pays for its room.
+// Puts null in the place of a value, where it is one of the field's own and CSV has a place for the
+// field. What is seldom read stands in functions of its own, so that no other value pays for its
+// room.
 #[inline(never)]
 fn put_null(field: &Field, place: &mut Value) -> bool
     ensures put { IsTrue result → place.new ≡ Null }
-    ensures own { IsTrue result ↔ IsOwn (out-Field field.now).kind (out-Field field.now).nullable
+    ensures flat { IsTrue result → spec.is_nested (out-Field field.now).kind ≡ false }
+    ensures own { IsTrue result → IsOwn (out-Field field.now).kind (out-Field field.now).nullable
         (length (out-Field field.now).children) Value-F.Null }
+    ensures all { spec.is_nested (out-Field field.now).kind ≡ false
+        → IsOwn (out-Field field.now).kind (out-Field field.now).nullable
+        (length (out-Field field.now).children) Value-F.Null → IsTrue result }
 {
+    if is_nested(&field.kind) {
+        return false;
+    }
     put_own(field, Some(Value::Null), place)
 }
 
@@ -286,21 +318,27 @@ fn put_time(field: &Field, unit: TimeUnit, text: &[u8], place: &mut Value) -> bo
 // Reads the value of this field whose text this is, null aside, into the place of another, and says
 // whether there is one. What the place holds where there is none means nothing.
 #[inline(always)]
-fn read_own(alloc: Global, field: &Field, text: &[u8], place: &mut Value) -> Result<bool, TextFault>
+fn read_own(
+    alloc: Global,
+    field: &Field,
+    text: &[u8],
+    place: &mut Value,
+) -> Result<bool, AllocError>
     ensures own { IfOk result (λ read. IsTrue read
         → IsOwn (out-Field field.now).kind (out-Field field.now).nullable
         (length (out-Field field.now).children) (out-Value place.new)) }
+    ensures flat { IfOk result (λ read. IsTrue read
+        → spec.is_nested (out-Field field.now).kind ≡ false) }
     ensures stands { IfOk result (λ read. IsTrue read
         → StandsFor (out-Field field.now).kind text.now (out-Value place.new)) }
     ensures all { IfOk result (λ read. (v : Value)
         → IsOfKind (out-Field field.now).kind (length (out-Field field.now).children) (out-Value v)
         → StandsFor (out-Field field.now).kind text.now (out-Value v)
         → IsTrue read × (place.new ≡ v)) }
-    ensures refused { IfErr result (λ fault. fault ≡ TextFault.OutOfMemory) }
 {
     let read = match &field.kind {
         DataType::Null | DataType::List | DataType::FixedSizeList(_) | DataType::Struct => false,
-        DataType::Bool => put(read_truth(text).map(Value::Bool), place),
+        DataType::Bool => put_truth(read_truth(text), place),
         DataType::Int { signed: false, .. } => put_count(field, text, place),
         DataType::Int { bits, signed: true } => {
             put_int(within(*bits, read_decimal(text)), place)
@@ -310,7 +348,7 @@ fn read_own(alloc: Global, field: &Field, text: &[u8], place: &mut Value) -> Res
         DataType::Date(DateUnit::Millisecond) => put_date(field, text, place),
         DataType::Time(unit) => put_time(field, *unit, text, place),
         DataType::Timestamp { unit, timezone } => {
-            put_int(read_zoned(*unit, timezone, text), place)
+            put_int(read_instant(*unit, timezone, text), place)
         }
         DataType::Utf8 => put_chars(alloc, text, place)?,
         DataType::Binary => put_binary(alloc, text, place)?,
@@ -322,18 +360,19 @@ fn read_own(alloc: Global, field: &Field, text: &[u8], place: &mut Value) -> Res
 }
 
 // Reads the value of this field as which the text reads into the place of another, and says whether
-// there is one.
+// there is one. There is none of a list or a struct, for which CSV has no place.
 #[inline(always)]
 fn read_field(
     alloc: Global,
     field: &Field,
     text: &[u8],
     place: &mut Value,
-) -> Result<bool, TextFault>
+) -> Result<bool, AllocError>
     ensures only { IfOk result (λ read. IsTrue read → ReadsAs field.now text.now place.new) }
-    ensures all { IfOk result (λ read. (v : Value) → ReadsAs field.now text.now v
-        → IsTrue read × (place.new ≡ v)) }
-    ensures refused { IfErr result (λ fault. fault ≡ TextFault.OutOfMemory) }
+    ensures flat { IfOk result (λ read. IsTrue read
+        → spec.is_nested (out-Field field.now).kind ≡ false) }
+    ensures all { IfOk result (λ read. spec.is_nested (out-Field field.now).kind ≡ false
+        → (v : Value) → ReadsAs field.now text.now v → IsTrue read × (place.new ≡ v)) }
 {
     if text == b"\\N".as_slice() {
         return Ok(put_null(field, place));
@@ -352,8 +391,19 @@ fn resize(row: &mut Vec<Value>, count: usize) -> Result<(), AllocError>
     Ok(())
 }
 
+// What refuses a field.
+#[inline(never)]
+fn bad_field(number: u64, column: usize) -> TextFault
+    ensures { result ≡ TextFault.BadField number column }
+{
+    TextFault::BadField {
+        record: number,
+        column: column as u64,
+    }
+}
+
 // The values of a row, where there are as many fields as columns, each in the room of the one that
-// stood there.
+// stood there. Where all are read, no column is one of lists or structs.
 fn read_fields(
     alloc: Global,
     columns: &[Field],
@@ -363,23 +413,22 @@ fn read_fields(
 ) -> Result<(), TextFault>
     requires fields { length columns.now ≡ length (fields_of fields.now) }
     requires row { length columns.now ≡ length row.old.items }
+    ensures flat { OnOk result
+        (list_any (λ f. spec.is_nested (out-Field f).kind) columns.now ≡ false) }
     ensures read { OnOk result
         (EachReadsAs columns.now (fields_of fields.now) row.new.items) }
     ensures all { OnOk result ((wanted : List Value)
         → EachReadsAs columns.now (fields_of fields.now) wanted → row.new.items ≡ wanted) }
-    ensures refused { IfErr result
-        (IsBadField number columns.now (fields_of fields.now)) }
+    ensures refused { IfErr result (λ fault.
+        list_any (λ f. spec.is_nested (out-Field f).kind) columns.now ≡ false
+        → IsBadField number columns.now (fields_of fields.now) fault) }
 {
     for (column, field) in columns.iter().enumerate() {
-        let bad = TextFault::BadField {
-            record: number,
-            column: column as u64,
-        };
         let Some(text) = fields.get(column) else {
-            return Err(bad);
+            return Err(bad_field(number, column));
         };
         if !read_field(alloc, field, text, &mut row[column])? {
-            return Err(bad);
+            return Err(bad_field(number, column));
         }
     }
     Ok(())
@@ -441,13 +490,16 @@ pub fn fill_row_from_csv(
     ensures refused { IfErr result
         (IsRecordFault number schema.now.fields (fields_of fields.now)) }
 {
-    check_flat(schema)?;
-    if fields.len() != schema.fields.len() {
+    if schema.fields.is_empty() || fields.len() != schema.fields.len() {
+        check_flat(schema)?;
         return Err(TextFault::WrongFieldCount { record: number });
     }
     let mut values = mem::replace(row, Items::new(alloc)).into_vec();
     resize(&mut values, schema.fields.len())?;
-    read_fields(alloc, schema.fields.as_slice(), number, fields, &mut values)?;
+    if let Err(fault) = read_fields(alloc, schema.fields.as_slice(), number, fields, &mut values) {
+        check_flat(schema)?;
+        return Err(fault);
+    }
     *row = Items::from_vec(values);
     Ok(())
 }

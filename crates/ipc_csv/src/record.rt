@@ -271,7 +271,8 @@ fn push_values(out: &mut Vec<u8>, fields: &[Field], row: &[Value]) -> Result<(),
     Ok(())
 }
 
-fn is_nested(kind: &DataType) -> bool
+/// Whether a type is one of lists or of structs.
+pub(crate) fn is_nested(kind: &DataType) -> bool
     ensures { result ≡ spec.is_nested kind.now }
 {
     matches!(

@@ -1,4 +1,4 @@
-use Rattle.std.proofs.Common.{◌≡◌, ◌∙◌, ap, subst, length, take, decimal, arith, rules}
+use Rattle.std.proofs.Common.{◌≡◌, ◌∙◌, ◌+◌, ap, subst, length, take, get_or, decimal, arith}
 use Rattle.std.specs.Str.Parse.{AllDigits, digits_value}
 use Rattle.std.proofs.Math.Seq.{take-length}
 use Rattle.std.proofs.lemmas.Fmt.{decimal-digits_value}
@@ -24,10 +24,12 @@ overflow_add-number c =
 
 pub loop-digit-preserved : goal.loop-digit-preserved
 loop-digit-preserved c =
-    let more = digits_value_more 10 c.args.digits.now c.loop-digit.digit-index c.loop-digit-test.true in
-    let digit = digit_value_digit _ c.if-not-is_ascii_digit.ensures.cases in (
-      one_more c.args.digits.now c.loop-digit.digit-index c.loop-digit.invariant.0 (search rules) (search rules),
-      omega (arith, more, digit, c.from.ensures, c.loop-digit.invariant.1),
+    let i = c.loop-digit.digit-index in
+    let more = digits_value_more 10 c.args.digits.now i c.loop-digit-test.true in
+    let byte : get_or c.args.digits.now i 0 ≡ 48 + c.value_of-value.result = c.value_of-value.ensures (omega arith) in
+    let digit = digit_value_digit (get_or c.args.digits.now i 0) (omega arith, omega arith) in (
+      one_more c.args.digits.now i c.loop-digit.invariant.0 c.loop-digit-test.true (omega (arith, digit, byte)),
+      omega (arith, more, digit, byte, c.loop-digit.invariant.1),
     )
 
 pub returns-clause-only : goal.returns-clause-only

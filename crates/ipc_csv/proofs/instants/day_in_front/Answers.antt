@@ -10,33 +10,34 @@ use Rattle.ipc_csv.proofs.instants.day_in_front.Goals as goal
 
 pub returns-clause-text : goal.returns-clause-text
 returns-clause-text c =
-    let h = c.if-hundreds-gt99.false in
-    let y = c.if-years-gt99.false in
-    let m = c.pair_at-month.ensures.small in
-    let n = c.pair_at-day.ensures.small in
+    let h = c.pair_here-hundreds.ensures.small in
+    let y = c.pair_here-years.ensures.small in
+    let m = c.pair_here-month.ensures.small in
+    let n = c.pair_here-day.ensures.small in
     let bound = c.to_unix_epoch_day.ensures.bound in
     let w : FitsSigned w32 c.to_unix_epoch_day.result = omega (arith, signed_arith) in
     let is = c.from-number.ensures ∙ to_z-of_z w in
     let v : FitsSigned w64 c.from-number.result = omega (arith, signed_arith, is) in
     let same = to_z-of_z v ∙ is in
-    let year : to_z w16 (c.pair_at-hundreds.result * 100 + c.pair_at-years.result) ≡ pos (c.pair_at-hundreds.result * 100
-    + c.pair_at-years.result) = to_z_pos w16 _ (omega arith) in
-    let month : to_z w8 c.pair_at-month.result ≡ pos c.pair_at-month.result = to_z_pos w8 _ (omega arith) in
-    let day : to_z w8 c.pair_at-day.result ≡ pos c.pair_at-day.result = to_z_pos w8 _ (omega arith) in
+    let year : to_z w16 (c.pair_here-hundreds.result * 100 + c.pair_here-years.result) ≡ pos (c.pair_here-hundreds.result * 100
+    + c.pair_here-years.result) = to_z_pos w16 _ (omega arith) in
+    let month : to_z w8 c.pair_here-month.result ≡ pos c.pair_here-month.result = to_z_pos w8 _ (omega arith) in
+    let day : to_z w8 c.pair_here-day.result ≡ pos c.pair_here-day.result = to_z_pos w8 _ (omega arith) in
     let value = c.in-Ok.ensures.value in
-    let ymd : IsYmd (pos (c.pair_at-hundreds.result * 100 + c.pair_at-years.result)) (pos c.pair_at-month.result) (pos c.pair_at-day.result)
+    let ymd : IsYmd (pos (c.pair_here-hundreds.result * 100 + c.pair_here-years.result)) (pos c.pair_here-month.result)
+    (pos c.pair_here-day.result)
     c.in-Ok.date = (value.0 ∙ year, value.1 ∙ month, value.2 ∙ day) in
     let months = c.in-Ok.date.month_in in
     let days = c.in-Ok.date.day_in in
     let low : negsuc 719_161 ≤ℤ c.to_unix_epoch_day.result = let f = rw same at c.if-number-lt-FIRST_DAY.false in grind (arith, ints) in
-    let mm : c.pair_at-month.result < 100 = omega (arith, signed_arith, ymd.1, months) in
+    let mm : c.pair_here-month.result < 100 = omega (arith, signed_arith, ymd.1, months) in
     let most = days_in_month_bounds c.in-Ok.date.year c.in-Ok.date.month in
-    let nn : c.pair_at-day.result < 100 = omega (arith, signed_arith, ymd.2, days, most) in
-    let hh = c.pair_at-hundreds.ensures in
-    let yy = c.pair_at-years.ensures in
-    let ms = c.pair_at-month.ensures in
-    let ds = c.pair_at-day.ensures in
-    rw same (day_here c.args.text.now c.in-Ok.date c.pair_at-hundreds.result c.pair_at-years.result c.pair_at-month.result
-    c.pair_at-day.result c.to_unix_epoch_day.result c.requires ymd (sym c.to_unix_epoch_day.ensures.value) low bound (omega arith)
-    (omega arith) (hh.first (omega arith)) (hh.second (omega arith)) (yy.first (omega arith)) (yy.second (omega arith))
-    c.if-text-ne45.false (ms.first mm) (ms.second mm) c.if-text-ne45-2.false (ds.first nn) (ds.second nn))
+    let nn : c.pair_here-day.result < 100 = omega (arith, signed_arith, ymd.2, days, most) in
+    let hh = c.pair_here-hundreds.ensures in
+    let yy = c.pair_here-years.ensures in
+    let ms = c.pair_here-month.ensures in
+    let ds = c.pair_here-day.ensures in
+    rw same (day_here c.args.text.now c.in-Ok.date c.pair_here-hundreds.result c.pair_here-years.result c.pair_here-month.result
+    c.pair_here-day.result c.to_unix_epoch_day.result c.requires ymd (sym c.to_unix_epoch_day.ensures.value) low bound (omega arith)
+    (omega arith) hh.first hh.second yy.first yy.second
+    c.if-text-ne45.false ms.first ms.second c.if-text-ne45-2.false ds.first ds.second)

@@ -16,19 +16,19 @@ returns-then-eq-clause-only c h =
     let s : StandsFor (out-Field c.args.field.now).kind c.args.text.now (out-Value Null) = ap Some (sym e) in
     let f = out-Field c.args.field.now in
     reads_own c.args.field.now c.args.text.now c.put_null.new.place
-    (subst (λ v. IsOwn f.kind f.nullable (length f.children) (out-Value v)) is (c.put_null.ensures.own.0 h))
+    (subst (λ v. IsOwn f.kind f.nullable (length f.children) (out-Value v)) is (c.put_null.ensures.own h))
     (subst (λ v. StandsFor (out-Field c.args.field.now).kind c.args.text.now (out-Value v)) is s)
 
 pub returns-then-eq-clause-all : goal.returns-then-eq-clause-all
 unfolding out-Value denote.Hole.Carrier.out
-returns-then-eq-clause-all c v h =
+returns-then-eq-clause-all c flat v h =
     let f = out-Field c.args.field.now in
     let e : c.args.text.now ≡ null_text = search rules in
     let own = own_of_fits c.args.field.now v h.0 in
     let n = null_only f.kind f.nullable (length f.children) (out-Value v) own
     (subst (λ t. StandsFor f.kind t (out-Value v)) e h.1) in
     let null : Null ≡ v = sym (out_same v Null n) in
-    let read = c.put_null.ensures.own.1 (subst (λ w. IsOwn f.kind f.nullable (length f.children) w) n own) in
+    let read = c.put_null.ensures.all flat (subst (λ w. IsOwn f.kind f.nullable (length f.children) w) n own) in
     (read, c.put_null.ensures.put read ∙ null)
 
 pub returns-clause-only : goal.returns-clause-only

@@ -1,7 +1,10 @@
-use Rattle.std.proofs.Common.{◌≡◌, ◌++◌, ℕ, List, drop, take, length}
+use Rattle.std.proofs.Common.{◌≡◌, ◌++◌, ℕ, List, drop, take, length, false}
+use Rattle.std.specs.List.{list_any}
 use Rattle.csv.specs.Records.{fields_of}
 use Rattle.ipc_model.specs.declared.value.Value.{Value}
+use Rattle.ipc_model.specs.declared.schema.Field.{out-Field}
 use Rattle.ipc_csv.specs.CsvRows.{EachReadsAs, IsFirstBad}
+use Rattle.ipc_csv.specs.RowCsv.{is_nested}
 use Rattle.ipc_csv.proofs.reader.read_fields.Given as goal
 
 abbrev pub invariant-loop-column : goal.invariant-loop-column
@@ -12,6 +15,10 @@ invariant-loop-column l = record {
   all : (row : List Value) → EachReadsAs l.columns (fields_of l.fields) row
       → (rest : List Value) × (row ≡ take l.column l.row.items ++ rest)
       × EachReadsAs (drop l.column l.columns) (drop l.column (fields_of l.fields)) rest;
+  flat : list_any (λ f. is_nested (out-Field f).kind) (drop l.column l.columns) ≡ false
+      → list_any (λ f. is_nested (out-Field f).kind) l.columns ≡ false;
+  behind : list_any (λ f. is_nested (out-Field f).kind) l.columns ≡ false
+      → list_any (λ f. is_nested (out-Field f).kind) (drop l.column l.columns) ≡ false;
   bad : (column : ℕ) → IsFirstBad l.column (drop l.column l.columns) (drop l.column (fields_of l.fields)) column
       → IsFirstBad 0 l.columns (fields_of l.fields) column;
 }
