@@ -1,47 +1,61 @@
 //! Numbers in decimal, eight digits at a time.
 //!
-//! The digits of a number below 10^8 come from a table of pairs and stand side by side in the eight
-//! bytes of one `u64`; a shift drops the zeros in front. No branch depends on how many of the eight
-//! are shown, and nothing is copied, where a loop over pairs of digits spends most of the time that
-//! rows take.
+//! The digits of a number below 10^8 stand side by side in the eight bytes of one `u64`, reckoned
+//! for all of its parts at once: halves of four digits, quarters of two, and bytes of one. A shift
+//! drops the zeros in front. No branch depends on how many of the eight are shown, and nothing is
+//! copied, where a loop over pairs of digits spends most of the time that rows take.
+//!
+//! A part is cut in two by one product for all parts, whose factor is a little more than the
+//! reciprocal and gives the same quotients for numbers that are as small as these. A mask keeps the
+//! quotients and drops what the product of the part above has pushed in between.
 ghost use Rattle.std.specs.Prelude.{◌≡◌, ◌≤◌, ◌<◌, ◌+◌, ◌*◌, ◌++◌, ◌/◌, ◌%◌, length, take, drop};
-ghost use Rattle.std.specs.Prelude.{slice_index};
 ghost use Rattle.std.specs.Fmt.{decimal, signed_decimal};
 ghost use Rattle.std.specs.Int.{w64, to_le_bytes};
 ghost use Rattle.ipc_print.specs.Digits.{last_digits};
 
+use crate::bytes::put_bytes;
+
 const EIGHT_DIGITS: u64 = 100_000_000;
 
-// The two digits of each number below 100, the first in the lower byte.
-static PAIRS: [u16; 100] = [
-    0x3030, 0x3130, 0x3230, 0x3330, 0x3430, 0x3530, 0x3630, 0x3730, 0x3830, 0x3930, 0x3031, 0x3131,
-    0x3231, 0x3331, 0x3431, 0x3531, 0x3631, 0x3731, 0x3831, 0x3931, 0x3032, 0x3132, 0x3232, 0x3332,
-    0x3432, 0x3532, 0x3632, 0x3732, 0x3832, 0x3932, 0x3033, 0x3133, 0x3233, 0x3333, 0x3433, 0x3533,
-    0x3633, 0x3733, 0x3833, 0x3933, 0x3034, 0x3134, 0x3234, 0x3334, 0x3434, 0x3534, 0x3634, 0x3734,
-    0x3834, 0x3934, 0x3035, 0x3135, 0x3235, 0x3335, 0x3435, 0x3535, 0x3635, 0x3735, 0x3835, 0x3935,
-    0x3036, 0x3136, 0x3236, 0x3336, 0x3436, 0x3536, 0x3636, 0x3736, 0x3836, 0x3936, 0x3037, 0x3137,
-    0x3237, 0x3337, 0x3437, 0x3537, 0x3637, 0x3737, 0x3837, 0x3937, 0x3038, 0x3138, 0x3238, 0x3338,
-    0x3438, 0x3538, 0x3638, 0x3738, 0x3838, 0x3938, 0x3039, 0x3139, 0x3239, 0x3339, 0x3439, 0x3539,
-    0x3639, 0x3739, 0x3839, 0x3939,
-];
-
-// A place of the table.
+// A number below 10^8 as two of four digits each, the first in the upper half.
 #[inline(always)]
-fn pair_at(place: usize) -> u16
-    requires { place < 100 }
-    ensures { result ≡ slice_index PAIRS place }
+fn in_fours(number: u32) -> u64
+    requires { number < 100000000 }
+    ensures { result ≡ number / 10000 * 4294967296 + number % 10000 }
 {
-    PAIRS[place]
+    let number = u64::from(number);
+    let high = (number * 109_951_163) >> 40;
+    number + high * (0x1_0000_0000 - 10_000)
 }
 
-// The two digits of a number below 100, the first in the lower byte.
+// A number below 10^8 as four of two digits each, the first in the upmost quarter.
 #[inline(always)]
-fn pair(number: u32) -> u64
-    requires { number < 100 }
-    ensures { result ≡ (48 + number / 10) + (48 + number % 10) * 256 }
+fn in_pairs(number: u32) -> u64
+    requires { number < 100000000 }
+    ensures { result ≡ number / 1000000 * 281474976710656 + number / 10000 % 100 * 4294967296
+        + number / 100 % 100 * 65536 + number % 100 }
 {
-    u64::from(pair_at(number as usize))
+    let fours = in_fours(number);
+    let high = ((fours * 5_243) >> 19) & 0x7f_0000_007f;
+    fours + high * (0x1_0000 - 100)
 }
+
+// The digits of a number below 10^8 as numbers, the first in the highest byte.
+#[inline(always)]
+fn in_digits(number: u32) -> u64
+    requires { number < 100000000 }
+    ensures { result ≡ number / 10000000 * 72057594037927936
+        + number / 1000000 % 10 * 281474976710656 + number / 100000 % 10 * 1099511627776
+        + number / 10000 % 10 * 4294967296 + number / 1000 % 10 * 16777216
+        + number / 100 % 10 * 65536 + number / 10 % 10 * 256 + number % 10 }
+{
+    let pairs = in_pairs(number);
+    let high = ((pairs * 103) >> 10) & 0xf_000f_000f_000f;
+    pairs + high * (0x100 - 10)
+}
+
+// The digit 0 in each of eight bytes.
+const ZEROS: u64 = 0x3030_3030_3030_3030;
 
 // The eight digits of a number below 10^8, the first in the lowest byte.
 #[inline(always)]
@@ -49,8 +63,7 @@ fn eight_digits(number: u32) -> u64
     requires { number < 100000000 }
     ensures { to_le_bytes w64 result ≡ last_digits 8 number }
 {
-    let (high, low) = (number / 10_000, number % 10_000);
-    pair(high / 100) + (pair(high % 100) << 16) + (pair(low / 100) << 32) + (pair(low % 100) << 48)
+    (in_digits(number) + ZEROS).swap_bytes()
 }
 
 // The digit 0 in each of eight bytes, less one in the last, so that the last digit counts as shown
@@ -68,15 +81,6 @@ fn digits_and_zeros(number: u32) -> (u64, usize)
     let digits = eight_digits(number);
     let zeros = (digits - UNSHOWN).trailing_zeros() / 8;
     (digits, zeros as usize)
-}
-
-// Writes eight bytes.
-#[inline(always)]
-fn put_bytes(text: &mut [u8], at: usize, bytes: [u8; 8])
-    requires { at + 8 ≤ length text.old }
-    ensures { text.new ≡ take at text.old ++ bytes ++ drop (at + 8) text.old }
-{
-    text[at..at + 8].copy_from_slice(&bytes);
 }
 
 // Writes the eight digits of a number below 10^8, and returns where they end.

@@ -2,6 +2,7 @@
 #![tactic(auto)]
 
 mod batch_text;
+mod bytes;
 mod column;
 mod copies;
 mod csv_row;

@@ -5,8 +5,9 @@ ghost use Rattle.ipc_print.specs.Columns.{AreLent, AreLong, number_record, row_i
 ghost use Rattle.ipc_print.specs.Output.{PrintsAt, output};
 ghost use Rattle.ipc_print.specs.Rows.{comma, line, lines};
 
+use crate::bytes::{put_array, put_byte};
 use crate::digits::put_i64;
-use crate::rows::{PrintFault, number_at, put_comma, put_word, send};
+use crate::rows::{PrintFault, number_at, put_comma, send};
 use ipc_column::Batch;
 use ipc_stream::Sink;
 
@@ -54,11 +55,11 @@ fn put_row(text: &mut [u8], start: usize, columns: &[&[[u8; 8]]], row: usize) ->
     let mut at = start;
     let mut before = b'[';
     for numbers in columns {
-        at = put_word(text, at, &[before]);
+        at = put_byte(text, at, before);
         at = put_i64(text, at, number_at(numbers, row));
         before = b',';
     }
-    put_word(text, at, b"]\n")
+    put_array(text, at, *b"]\n")
 }
 
 // Prints a row of numbers from `start` on, and returns where it ends.
@@ -124,7 +125,7 @@ fn put_record(text: &mut [u8], start: usize, columns: &[&[[u8; 8]]], row: usize)
         at = put_comma(text, at, column);
         at = put_i64(text, at, number_at(numbers, row));
     }
-    put_word(text, at, b"\n")
+    put_byte(text, at, b'\n')
 }
 
 // Prints a row of numbers as a record of CSV from `start` on, and returns where it ends.

@@ -80,5 +80,5 @@ returns-clause-text c =
     let size : length (row_in at c.args.columns.now c.args.row) ≡ c.loop-column.column =
     omega (arith, length-map c.args.columns.now (λ b. number_in (slice_index_or (at b) c.args.row []))) in
     let some : 0 < c.loop-column.column = omega arith in
-    (record_ends (row_in at c.args.columns.now c.args.row) _ _ _ _ c.loop-column.column _ (Ok c.put_word.result) size
-    (c.loop-column.invariant.some some) c.loop-column.invariant.put (puts_kept (Some []) 0 _ _ _ c.put_word.ensures.text)).bytes
+    (record_ends (row_in at c.args.columns.now c.args.row) _ _ _ _ c.loop-column.column _ (Ok c.put_byte.result) size
+    (c.loop-column.invariant.some some) c.loop-column.invariant.put (puts_kept (Some []) 0 _ _ _ c.put_byte.ensures.text)).bytes

@@ -30,17 +30,17 @@ loop-numbers-init c = record {
 
 pub loop-numbers-preserved : goal.loop-numbers-preserved
 loop-numbers-preserved c = let fits : FitsSigned w64 c.number_at.result = search rules in record {
-  room = omega (arith, c.put_i64-at.ensures.end, c.put_word-at.ensures.end, c.loop-numbers.invariant.room, c.loop-numbers-test.true);
+  room = omega (arith, c.put_i64-at.ensures.end, c.put_byte-at.ensures.end, c.loop-numbers.invariant.room, c.loop-numbers-test.true);
   put = number_more at c.args.columns.now c.args.row _ _ _ _ c.loop-numbers.numbers-index
       (get_or c.args.columns.now c.loop-numbers.numbers-index no_column) no_column c.number_at.result c.loop-numbers.invariant.put
       c.loop-numbers-test.true refl (ap Int (sym c.number_at.ensures))
       (puts_kept (Some []) 0 _ _ _
-      (rw (to_z-of_z w64 c.number_at.result fits, c.put_word-at.ensures.text) at c.put_i64-at.ensures.text
+      (rw (to_z-of_z w64 c.number_at.result fits, c.put_byte-at.ensures.text) at c.put_i64-at.ensures.text
       ∙ append_assoc _ (c.loop-numbers.before ∷ []) _));
 }
 
 pub returns-clause-text : goal.returns-clause-text
 returns-clause-text c =
     (numbers_end at c.args.columns.now c.args.row _ _ _ _ _ c.loop-numbers.numbers-index _
-    (Ok c.put_word.result) c.loop-numbers.invariant.put
-    (omega arith) (omega arith) (puts_kept (Some []) 0 _ _ _ c.put_word.ensures.text)).bytes
+    (Ok c.put_array.result) c.loop-numbers.invariant.put
+    (omega arith) (omega arith) (puts_kept (Some []) 0 _ _ _ c.put_array.ensures.text)).bytes
