@@ -13,6 +13,7 @@ pub mod Growing
 pub mod Siblings
 pub mod Leaving
 pub mod Held
+pub mod Spare
 pub mod SlotParts
 pub mod Marked
 pub mod NumberBytes

@@ -1,6 +1,6 @@
 -- The rows that a builder holds (Message.fbs, RecordBatch).
 use Rattle.std.specs.Prelude.{◌≡◌, ℕ, suc, ◌+◌, ◌*◌, ◌<◌, ◌≤◌, true, false}
-use Rattle.std.specs.Prelude.{List, [], ◌∷◌, length, ◌⊎◌, ⊤}
+use Rattle.std.specs.Prelude.{List, [], ◌∷◌, ◌++◌, length, ◌⊎◌, ⊤}
 use Rattle.ipc_model.specs.declared.limits.Limits.{Limits}
 use Rattle.ipc_model.specs.declared.schema.Field.{Field}
 use Rattle.ipc_model.specs.declared.value.Value.{Value}
@@ -77,6 +77,28 @@ abbrev pub HasTaken : Numbering → Purpose → Limits → Layout → List Value
 HasTaken indices purpose.Keep limits = IsColumn indices limits
 HasTaken indices purpose.Count limits = IsNext limits
 
+-- Columns of this shape with these values are within the limits.
+pub record AreWithin (limits : Limits) (shape : Shape) (given : ℕ → List Value) : Type 0 where
+  pub few : ¬ HasLongNode limits.slots shape given
+  pub short : ¬ SomeLongData shape given
+  pub body : length (joined (buffers_of shape given)) ≤ limits.body
+
+-- the weight of columns of this shape with these values, and of those below them, which is no less
+-- than the bytes of their buffers where each column weighs 25: so much for each column, 6 for each
+-- slot, and the data
+abbrev pub weight_of : ℕ → Shape → (ℕ → List Value) → ℕ
+weight_of each bare given = 0
+weight_of each (field l children rest) given =
+    each + 6 * length (given 0) + data_in l (given 0) + weight_of each children (below l (given 0))
+    + weight_of each rest (λ j. given (suc j))
+
+-- These rows are within the limits with any values more, in whatever columns, that weigh less than
+-- this.
+abbrev pub HasSpare : Limits → List Field → List (List Value) → ℕ → Type 0
+HasSpare limits fields rows spare = (added : ℕ → List Value)
+    → weight_of 0 (shape_of fields) added < spare
+    → AreWithin limits (shape_of fields) (λ j. columns rows j ++ added j)
+
 -- The builder holds exactly these rows of these fields, which are within the limits, and for each
 -- value of a dictionary its index.
 pub record HasRows (indices : Numbering) (limits : Limits) (fields : List Field) (rows : List
@@ -87,6 +109,7 @@ pub record HasRows (indices : Numbering) (limits : Limits) (fields : List Field)
   pub count : builder.rows ≡ length rows
   pub columns_are : AreColumns indices limits (shape_of fields) builder.nodes.items (columns rows)
   pub within : IsWithin limits fields rows
+  pub has_spare : HasSpare limits fields rows builder.spare
 
 -- why a column doesn't take the last of these values: it would have too many slots, more data than
 -- its offsets reach, or more than a body may have
@@ -105,12 +128,6 @@ ArePushesRefused limits shape given fault.TooMany = HasLongNode limits.slots sha
 ArePushesRefused limits shape given fault.OutOfMemory = ⊤
 ArePushesRefused limits shape given fault.Failed = ⊥
 
--- Columns of this shape with these values are within the limits.
-pub record AreWithin (limits : Limits) (shape : Shape) (given : ℕ → List Value) : Type 0 where
-  pub few : ¬ HasLongNode limits.slots shape given
-  pub short : ¬ SomeLongData shape given
-  pub body : length (joined (buffers_of shape given)) ≤ limits.body
-
 -- Columns of this shape with these values are within the limits, and their buffers take at most so
 -- many bytes.
 pub record TakeAtMost (limits : Limits) (most : ℕ) (shape : Shape) (given : ℕ
@@ -118,15 +135,6 @@ pub record TakeAtMost (limits : Limits) (most : ℕ) (shape : Shape) (given : �
   pub few : ¬ HasLongNode limits.slots shape given
   pub short : ¬ SomeLongData shape given
   pub bytes : length (joined (buffers_of shape given)) ≤ most
-
--- the weight of columns of this shape with these values, and of those below them, which is no less
--- than the bytes of their buffers where each column weighs 25: so much for each column, 6 for each
--- slot, and the data
-abbrev pub weight_of : ℕ → Shape → (ℕ → List Value) → ℕ
-weight_of each bare given = 0
-weight_of each (field l children rest) given =
-    each + 6 * length (given 0) + data_in l (given 0) + weight_of each children (below l (given 0))
-    + weight_of each rest (λ j. given (suc j))
 
 -- Of so many bytes these are left behind the buffers of columns, each of which is within the
 -- limits.

@@ -1,7 +1,7 @@
-ghost use Rattle.std.specs.Prelude.{◌≡◌, ◌≤◌, ◌↔◌, ◌+◌, ◌++◌, ℕ, List, [], ◌∷◌, true, pos, length};
-ghost use Rattle.std.specs.Prelude.{IsTrue, Ok, Err, IfOk, IfErr, OnOk, OnErr};
+ghost use Rattle.std.specs.Prelude.{◌≡◌, ◌≤◌, ◌<◌, ◌↔◌, ◌+◌, ◌++◌, ℕ, List, [], ◌∷◌, true, pos};
+ghost use Rattle.std.specs.Prelude.{length, IsTrue, Ok, Err, IfOk, IfErr, IfSome, OnOk, OnErr};
 ghost use Rattle.std.specs.List.{AllByRecursion};
-ghost use Rattle.ipc_model.specs.Fits.{RowFits};
+ghost use Rattle.ipc_model.specs.Fits.{EachFits, Fits, RowFits};
 ghost use Rattle.ipc_model.specs.WellFormed.{IsFieldWellFormed};
 ghost use Rattle.ipc_model.specs.Entries.{entries};
 ghost use Rattle.ipc_model.specs.declared.limits.Limits.{Limits};
@@ -14,13 +14,14 @@ ghost use Rattle.ipc_column.specs.Shapes.{Shape, shape_of};
 ghost use Rattle.ipc_encode.specs.Buffers.{AreLaidOut, columns};
 ghost use Rattle.ipc_encode.specs.Writing.{IsDrafted};
 ghost use Rattle.ipc_encode.specs.Limits.{IsRefused, IsTooLong, IsWithin};
-ghost use Rattle.ipc_encode.specs.Built.{AreColumns, ArePushesRefused, HasFailed, HasRows};
-ghost use Rattle.ipc_encode.specs.Built.{HoldsAgreeing};
+ghost use Rattle.ipc_encode.specs.Built.{AreColumns, ArePushesRefused, AreWithin, HasFailed};
+ghost use Rattle.ipc_encode.specs.Built.{HasRows};
+ghost use Rattle.ipc_encode.specs.Built.{HasSpare, HoldsAgreeing};
 ghost use Rattle.ipc_encode.specs.Indices.{FindsRows};
 ghost use Rattle.ipc_encode.specs.Numbers.{Numbering, renumbered, told};
 ghost use Rattle.ipc_encode.specs.Faults.{write_fault};
 
-use crate::column::Purpose;
+use crate::column::{MAX_DATA, Purpose};
 use crate::copying::take_batch;
 use crate::fault::PushFault;
 use crate::fitting::{fit, left_behind_all};
@@ -31,11 +32,15 @@ use crate::parts::{Draft, Parts, add_nodes};
 use crate::room::Room;
 use crate::sure::{Look, look_for, row_surely_fits};
 use crate::sure_columns::columns_surely_fit;
+use crate::sure_inside::{have_spare, left_of_row};
 use crate::tree::take_parts;
 use ipc_column::Batch;
 use ipc_model::{Field, Items, Limits, Row, Value, WriteFault};
 use std::alloc::{AllocError, Global};
 use std::mem;
+
+// So much more than a row's weight is asked for at once, so that the next rows find it spare.
+const MORE: u64 = 1 << 20;
 
 /// The rows of a record batch, taken one at a time (Message.fbs, RecordBatch).
 ///
@@ -50,6 +55,9 @@ pub struct Builder {
     failed: bool,
     // How far a look at a row goes.
     look: Look,
+    // Rows that weigh less are surely within the limits with those that are held. Only a look into
+    // lists and structs asks for it, and tells it anew.
+    spare: u64,
     // What it holds has no meaning; the body takes its room.
     body: Vec<u8>,
 }
@@ -147,6 +155,7 @@ impl Builder {
             limits: *limits,
             failed: false,
             look,
+            spare: 0,
             body,
         })
     }
@@ -176,6 +185,7 @@ impl Builder {
             limits: *limits,
             failed: false,
             look,
+            spare: 0,
             body: Vec::new(alloc),
         })
     }
@@ -253,24 +263,88 @@ impl Builder {
         Ok(())
     }
 
-    /// Whether a row surely conforms to the fields of the rows that are held, and is within the
-    /// limits with them. It takes one look at each value, those inside lists and structs too, for
-    /// callers that push row by row: where it isn't sure, as near the limits, `conforms` and `fits`
-    /// tell.
+    // What `spare_behind` tells of a row with lists or structs, where the columns are weighed anew.
+    #[cold]
+    #[inline(never)]
+    fn spare_anew(&self, fields: &[Field], row: &[Value]) -> Option<u64>
+        ensures fits { IfSome result (λ spare. EachFits Fits fields.now row.now) }
+        ensures spare { (known : Numbering) (limits : Limits) (rows : List (List Value))
+            → HasRows known limits fields.now rows self.now → IfSome result
+            (λ spare. (0 < spare) × HasSpare limits fields.now (rows ++ row.now ∷ []) spare) }
+    {
+        let most = MAX_DATA as u64;
+        let left = left_of_row(fields, row, &self.nodes, most)?;
+        let weight = most - left;
+        let more = left.min(MORE);
+        if have_spare(&self.nodes, weight + more, &self.limits) {
+            return Some(more + 1);
+        }
+        if have_spare(&self.nodes, weight, &self.limits) {
+            return Some(1);
+        }
+        None
+    }
+
+    // What `spare_behind` tells of a row with lists or structs.
+    #[inline(never)]
+    fn spare_inside(&self, fields: &[Field], row: &[Value]) -> Option<u64>
+        ensures fits { IfSome result (λ spare. EachFits Fits fields.now row.now) }
+        ensures spare { (known : Numbering) (limits : Limits) (rows : List (List Value))
+            → HasRows known limits fields.now rows self.now → IfSome result
+            (λ spare. (0 < spare) × HasSpare limits fields.now (rows ++ row.now ∷ []) spare) }
+    {
+        match left_of_row(fields, row, &self.nodes, self.spare) {
+            Some(left) if left > 0 => Some(left),
+            _ => self.spare_anew(fields, row),
+        }
+    }
+
+    // What `spare_behind` tells of a row without lists and structs, where there is room for one.
+    // Nothing is spare, and nobody asks for it.
     #[inline(always)]
-    pub fn surely_takes(&self, fields: &[Field], row: &[Value]) -> bool
-        ensures conforms { (known : Numbering) (limits : Limits) (rows : List (List Value))
-            → HasRows known limits fields.now rows self.now → IsTrue result
-            → RowFits fields.now row.now }
+    fn spare_beside(&self, fields: &[Field], row: &[Value]) -> Option<u64>
+        requires { self.now.rows < self.now.limits.slots }
+        ensures fits { (known : Numbering) (limits : Limits) (rows : List (List Value))
+            → HasRows known limits fields.now rows self.now
+            → IfSome result (λ spare. EachFits Fits fields.now row.now) }
         ensures within { (known : Numbering) (limits : Limits) (rows : List (List Value))
-            → HasRows known limits fields.now rows self.now → IsTrue result
-            → IsWithin limits fields.now (rows ++ row.now ∷ []) }
+            → HasRows known limits fields.now rows self.now → IfSome result
+            (λ spare. AreWithin limits (shape_of fields.now) (columns (rows ++ row.now ∷ []))) }
+        ensures none { IfSome result (λ spare. spare ≡ 0) }
+    {
+        if row_surely_fits(fields, &self.nodes, row, self.rows, &self.limits) {
+            return Some(0);
+        }
+        None
+    }
+
+    /// How much weight is spare behind a row that surely conforms to the fields of the rows that
+    /// are held, and is within the limits with them: with all of these, rows that weigh less are
+    /// within the limits too. A row weighs 6 for each slot that it gives to any column, those below
+    /// lists and structs too, and as much as its data there (`weight_of`). It is 0 where no column
+    /// has children.
+    ///
+    /// It takes one look at each value, for callers that push row by row, and give what is spare to
+    /// `take_row`. None where that isn't sure, as near the limits: `conforms` and `fits` tell.
+    #[inline(always)]
+    pub fn spare_behind(&self, fields: &[Field], row: &[Value]) -> Option<u64>
+        ensures conforms { (known : Numbering) (limits : Limits) (rows : List (List Value))
+            → HasRows known limits fields.now rows self.now
+            → IfSome result (λ spare. RowFits fields.now row.now) }
+        ensures within { (known : Numbering) (limits : Limits) (rows : List (List Value))
+            → HasRows known limits fields.now rows self.now
+            → IfSome result (λ spare. IsWithin limits fields.now (rows ++ row.now ∷ [])) }
+        ensures spare { (known : Numbering) (limits : Limits) (rows : List (List Value))
+            → HasRows known limits fields.now rows self.now
+            → IfSome result (HasSpare limits fields.now (rows ++ row.now ∷ [])) }
     {
         if self.is_full() || row.len() != fields.len() {
-            return false;
+            return None;
         }
-        let (nodes, limits) = (&self.nodes, &self.limits);
-        row_surely_fits(fields, nodes, row, self.rows, limits, self.look)
+        match self.look {
+            Look::Deep => self.spare_inside(fields, row),
+            Look::Flat => self.spare_beside(fields, row),
+        }
     }
 
     /// Whether all rows of a batch that was read surely conform to the fields of the rows that are
@@ -311,16 +385,23 @@ impl Builder {
         ensures fails { OnErr result (HasFailed self.new) }
         ensures failed { HasFailed self.old → result ≡ Err WriteFault.Failed }
     {
-        self.take_row(row, indices)?;
+        self.take_row(row, 0, indices)?;
         Ok(())
     }
 
-    /// The same, for callers that push row by row: a fault is one byte.
+    /// The same, for callers that push row by row: a fault is one byte. `spare` is what
+    /// `spare_behind` tells of the row, or 0.
     #[inline(always)]
-    pub fn take_row<I: IndexOf>(&mut self, row: &[Value], indices: &I) -> Result<(), PushFault>
+    pub fn take_row<I: IndexOf>(
+        &mut self,
+        row: &[Value],
+        spare: u64,
+        indices: &I,
+    ) -> Result<(), PushFault>
         ensures pushed { (limits : Limits) (fields : List Field) (rows : List (List Value))
             → HasRows (told (I.IndexOf.index indices.now)) limits fields rows self.old
             → IsWithin limits fields (rows ++ row.now ∷ [])
+            → HasSpare limits fields (rows ++ row.now ∷ []) spare
             → OnOk result (HasRows (told (I.IndexOf.index indices.now)) limits fields
             (rows ++ row.now ∷ []) self.new) }
         ensures refused { (limits : Limits) (fields : List Field) (rows : List (List Value))
@@ -339,6 +420,7 @@ impl Builder {
         }
         take_parts(row, &mut self.nodes, Purpose::Keep, &self.limits, indices)?;
         self.rows += 1;
+        self.spare = spare;
         self.failed = false;
         Ok(())
     }
@@ -385,6 +467,7 @@ impl Builder {
         }
         take_batch(&mut self.nodes, batch, &self.limits, indices)?;
         self.rows += count;
+        self.spare = 0;
         self.failed = false;
         Ok(())
     }

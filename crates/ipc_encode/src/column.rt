@@ -29,12 +29,12 @@ pub(crate) enum Purpose {
 }
 
 impl Purpose {
-    ghost use Rattle.std.specs.Prelude.{◌≡◌, IsTrue};
+    ghost use Rattle.std.specs.Prelude.{◌≡◌, ◌↔◌, IsTrue};
 
     /// Whether values are kept.
     #[inline(always)]
     pub(crate) fn keeps(self) -> bool
-        ensures { IsTrue result → self ≡ Purpose.Keep }
+        ensures { IsTrue result ↔ (self ≡ Purpose.Keep) }
     {
         match self {
             Purpose::Keep => true,

@@ -182,8 +182,7 @@ impl Column {
     }
 
     /// Takes one value more, with its index in a column of indices, or counts it among those of the
-    /// next row. After a refusal the buffers
-    /// or the next numbers are of no use.
+    /// next row. After a refusal the buffers or the next numbers are of no use.
     ///
     /// Refused as `Counts::with`, and with `OutOfMemory` where a buffer can't grow.
     #[inline(always)]
@@ -214,6 +213,39 @@ impl Column {
     {
         match purpose {
             Purpose::Keep => self.push(value, limits, indices),
+            Purpose::Count => self.count(value, limits),
+        }
+    }
+
+    /// The same of a column with children.
+    #[inline(always)]
+    pub(crate) fn take_outer<I: IndexOf>(
+        &mut self,
+        value: &Value,
+        purpose: Purpose,
+        limits: &Limits,
+        indices: &I,
+    ) -> Result<(), PushFault>
+        ensures taken { (layout : Layout) (values : List Value)
+            → HasTaken (told (I.IndexOf.index indices.now)) purpose limits.now layout values
+            self.old
+            → OnOk result
+            (HasTaken (told (I.IndexOf.index indices.now)) purpose limits.now layout
+            (values ++ value.now ∷ []) self.new) }
+        ensures refused { (layout : Layout) (values : List Value)
+            → HasTaken (told (I.IndexOf.index indices.now)) purpose limits.now layout values
+            self.old
+            → IfErr result (IsPushRefused limits.now layout (values ++ value.now ∷ [])) }
+        ensures kept { (known : Numbering) (limits : Limits) (layout : Layout)
+            (values : List Value)
+            → purpose ≡ Count
+            → IsColumn known limits layout values self.old
+            → IsColumn known limits layout values self.new }
+        ensures memory { purpose ≡ Count
+            → IfErr result (λ fault. ¬ (fault ≡ PushFault.OutOfMemory)) }
+    {
+        match purpose {
+            Purpose::Keep => self.push_outer(value, limits, indices),
             Purpose::Count => self.count(value, limits),
         }
     }

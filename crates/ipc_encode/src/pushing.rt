@@ -5,6 +5,7 @@ ghost use Rattle.ipc_model.specs.declared.layout.Layout.{Layout};
 ghost use Rattle.ipc_model.specs.declared.layout.Layout.TheVariants.{Bits, Lists, Numbers, Structs};
 ghost use Rattle.ipc_model.specs.declared.layout.Layout.TheVariants.{VariableBytes};
 ghost use Rattle.ipc_model.specs.declared.limits.Limits.{Limits};
+ghost use Rattle.ipc_model.specs.declared.schema.IntBits.TheVariants.{B32, B64};
 ghost use Rattle.ipc_model.specs.declared.value.Value.{Value};
 ghost use Rattle.ipc_encode.specs.Pieces.{Number, Fixed};
 ghost use Rattle.ipc_encode.specs.Cells.{nulls, number_bits, slot_bytes, content, HasUtf8};
@@ -307,6 +308,56 @@ impl Column {
         Ok(())
     }
 
+    // Takes one number of 64 bits more, or null, as `push` does. Nothing behind the counts asks for
+    // the layout: with a match on it before the bytes are appended the compiler takes that for
+    // rare, and calls it.
+    #[inline(always)]
+    fn push_long(&mut self, signed: bool, value: &Value, limits: &Limits) -> Result<(), PushFault>
+        ensures pushed { (known : Numbering) (values : List Value)
+            → IsColumn known limits.now (Numbers B64 signed) values self.old
+            → OnOk result (IsColumn known limits.now (Numbers B64 signed)
+            (values ++ value.now ∷ []) self.new) }
+        ensures refused { (known : Numbering) (values : List Value)
+            → IsColumn known limits.now (Numbers B64 signed) values self.old
+            → IfErr result
+            (IsPushRefused limits.now (Numbers B64 signed) (values ++ value.now ∷ [])) }
+    {
+        let layout = Layout::Numbers {
+            bits: IntBits::B64,
+            signed,
+        };
+        let Counts { slots, nulls, .. } = self.counts;
+        let counts = self.counts.with(layout, value, limits)?;
+        push_eight(&mut self.values, number_bits(value))?;
+        push_validity_bit(&mut self.validity, slots, nulls, value)?;
+        self.counts = counts;
+        Ok(())
+    }
+
+    // The same of 32 bits.
+    #[inline(always)]
+    fn push_word(&mut self, signed: bool, value: &Value, limits: &Limits) -> Result<(), PushFault>
+        ensures pushed { (known : Numbering) (values : List Value)
+            → IsColumn known limits.now (Numbers B32 signed) values self.old
+            → OnOk result (IsColumn known limits.now (Numbers B32 signed)
+            (values ++ value.now ∷ []) self.new) }
+        ensures refused { (known : Numbering) (values : List Value)
+            → IsColumn known limits.now (Numbers B32 signed) values self.old
+            → IfErr result
+            (IsPushRefused limits.now (Numbers B32 signed) (values ++ value.now ∷ [])) }
+    {
+        let layout = Layout::Numbers {
+            bits: IntBits::B32,
+            signed,
+        };
+        let Counts { slots, nulls, .. } = self.counts;
+        let counts = self.counts.with(layout, value, limits)?;
+        push_four(&mut self.values, number_bits(value))?;
+        push_validity_bit(&mut self.validity, slots, nulls, value)?;
+        self.counts = counts;
+        Ok(())
+    }
+
     // The same of numbers of this width, or null.
     #[inline(never)]
     fn push_numbers<I: IndexOf>(
@@ -328,7 +379,11 @@ impl Column {
             → IfErr result (IsPushRefused limits.now (Numbers bits signed)
             (values ++ value.now ∷ [])) }
     {
-        self.push_laid(Layout::Numbers { bits, signed }, value, limits, indices)
+        match bits {
+            IntBits::B64 => self.push_long(signed, value, limits),
+            IntBits::B32 => self.push_word(signed, value, limits),
+            _ => self.push_laid(Layout::Numbers { bits, signed }, value, limits, indices),
+        }
     }
 
     // The same of truths.
@@ -352,44 +407,46 @@ impl Column {
 
     // The same of binary values or texts.
     #[inline(never)]
-    fn push_run<I: IndexOf>(
-        &mut self,
-        utf8: bool,
-        value: &Value,
-        limits: &Limits,
-        indices: &I,
-    ) -> Result<(), PushFault>
-        ensures pushed { (values : List Value)
-            → IsColumn (told (I.IndexOf.index indices.now)) limits.now (VariableBytes utf8) values
+    fn push_run(&mut self, utf8: bool, value: &Value, limits: &Limits) -> Result<(), PushFault>
+        ensures pushed { (known : Numbering) (values : List Value)
+            → IsColumn known limits.now (VariableBytes utf8) values
             self.old
-            → OnOk result (IsColumn (told (I.IndexOf.index indices.now)) limits.now
+            → OnOk result (IsColumn known limits.now
             (VariableBytes utf8) (values ++ value.now ∷ []) self.new) }
-        ensures refused { (values : List Value)
-            → IsColumn (told (I.IndexOf.index indices.now)) limits.now (VariableBytes utf8) values
+        ensures refused { (known : Numbering) (values : List Value)
+            → IsColumn known limits.now (VariableBytes utf8) values
             self.old
             → IfErr result (IsPushRefused limits.now (VariableBytes utf8)
             (values ++ value.now ∷ [])) }
     {
-        self.push_laid(Layout::VariableBytes { utf8 }, value, limits, indices)
+        let Counts { slots, nulls, .. } = self.counts;
+        let counts = self
+            .counts
+            .with(Layout::VariableBytes { utf8 }, value, limits)?;
+        push_content(&mut self.values, value)?;
+        push_offset(&mut self.offsets, counts.amount)?;
+        push_validity_bit(&mut self.validity, slots, nulls, value)?;
+        self.counts = counts;
+        Ok(())
     }
 
     // The same of lists, whose items are in the child.
     #[inline(never)]
-    fn push_list<I: IndexOf>(
-        &mut self,
-        value: &Value,
-        limits: &Limits,
-        indices: &I,
-    ) -> Result<(), PushFault>
-        ensures pushed { (values : List Value)
-            → IsColumn (told (I.IndexOf.index indices.now)) limits.now Lists values self.old
-            → OnOk result (IsColumn (told (I.IndexOf.index indices.now)) limits.now Lists
+    fn push_list(&mut self, value: &Value, limits: &Limits) -> Result<(), PushFault>
+        ensures pushed { (known : Numbering) (values : List Value)
+            → IsColumn known limits.now Lists values self.old
+            → OnOk result (IsColumn known limits.now Lists
             (values ++ value.now ∷ []) self.new) }
-        ensures refused { (values : List Value)
-            → IsColumn (told (I.IndexOf.index indices.now)) limits.now Lists values self.old
+        ensures refused { (known : Numbering) (values : List Value)
+            → IsColumn known limits.now Lists values self.old
             → IfErr result (IsPushRefused limits.now Lists (values ++ value.now ∷ [])) }
     {
-        self.push_laid(Layout::Lists, value, limits, indices)
+        let Counts { slots, nulls, .. } = self.counts;
+        let counts = self.counts.with(Layout::Lists, value, limits)?;
+        push_offset(&mut self.offsets, counts.amount)?;
+        push_validity_bit(&mut self.validity, slots, nulls, value)?;
+        self.counts = counts;
+        Ok(())
     }
 
     // The same of structs, whose parts are in the children.
@@ -452,8 +509,8 @@ impl Column {
                 self.push_numbers(bits, signed, value, limits, indices)
             }
             Layout::Bits => self.push_truth(value, limits, indices),
-            Layout::VariableBytes { utf8 } => self.push_run(utf8, value, limits, indices),
-            Layout::Lists => self.push_list(value, limits, indices),
+            Layout::VariableBytes { utf8 } => self.push_run(utf8, value, limits),
+            Layout::Lists => self.push_list(value, limits),
             Layout::Structs => self.push_struct(value, limits, indices),
             layout => self.push_other(layout, value, limits, indices),
         }
@@ -479,23 +536,11 @@ impl Column {
             Layout::Numbers {
                 bits: IntBits::B64,
                 signed,
-            } => {
-                let layout = Layout::Numbers {
-                    bits: IntBits::B64,
-                    signed,
-                };
-                self.push_laid(layout, value, limits, indices)
-            }
+            } => self.push_long(signed, value, limits),
             Layout::Numbers {
                 bits: IntBits::B32,
                 signed,
-            } => {
-                let layout = Layout::Numbers {
-                    bits: IntBits::B32,
-                    signed,
-                };
-                self.push_laid(layout, value, limits, indices)
-            }
+            } => self.push_word(signed, value, limits),
             _ => self.push_any(value, limits, indices),
         }
     }
@@ -518,7 +563,7 @@ impl Column {
     {
         match self.layout {
             Layout::Bits => self.push_truth(value, limits, indices),
-            Layout::VariableBytes { utf8 } => self.push_run(utf8, value, limits, indices),
+            Layout::VariableBytes { utf8 } => self.push_run(utf8, value, limits),
             _ => self.push_any(value, limits, indices),
         }
     }
@@ -544,6 +589,30 @@ impl Column {
         match value {
             Value::Int(_) => self.push_int(value, limits, indices),
             _ => self.push_rest(value, limits, indices),
+        }
+    }
+
+    /// Takes one value more in a column with children, as `push` does. Lists and structs are told
+    /// from the others first.
+    #[inline(always)]
+    pub(crate) fn push_outer<I: IndexOf>(
+        &mut self,
+        value: &Value,
+        limits: &Limits,
+        indices: &I,
+    ) -> Result<(), PushFault>
+        ensures pushed { (layout : Layout) (values : List Value)
+            → IsColumn (told (I.IndexOf.index indices.now)) limits.now layout values self.old
+            → OnOk result (IsColumn (told (I.IndexOf.index indices.now)) limits.now layout
+            (values ++ value.now ∷ []) self.new) }
+        ensures refused { (layout : Layout) (values : List Value)
+            → IsColumn (told (I.IndexOf.index indices.now)) limits.now layout values self.old
+            → IfErr result (IsPushRefused limits.now layout (values ++ value.now ∷ [])) }
+    {
+        match self.layout {
+            Layout::Lists => self.push_list(value, limits),
+            Layout::Structs => self.push_struct(value, limits, indices),
+            _ => self.push_any(value, limits, indices),
         }
     }
 }

@@ -21,8 +21,7 @@ use crate::cells::{content, fixed_len};
 use crate::column::MAX_DATA;
 use crate::counts::Counts;
 use crate::node::Node;
-use crate::sure_inside::most_inside;
-use ipc_model::{DataType, Field, IntBits, Layout, Limits, Value};
+use ipc_model::{DataType, DateUnit, Field, IntBits, Layout, Limits, Value};
 
 // The bytes of a column's data with one value more, beside 8 for each slot, at most. None where
 // the layout asks for a closer look, or offsets don't reach.
@@ -126,7 +125,9 @@ fn is_plain(field: &Field, value: &Value) -> bool
                 bits: IntBits::B32,
                 signed: true,
             },
-        ) => i32::try_from(*number).is_ok(),
+        )
+        | (Value::Int(number), DataType::Date(DateUnit::Day)) => i32::try_from(*number).is_ok(),
+        (Value::Bytes(bytes), DataType::FixedSizeBinary(size)) => bytes.len() == *size as usize,
         _ => false,
     }
 }
@@ -181,49 +182,34 @@ pub(crate) fn fits(field: &Field, value: &Value) -> bool
     fits_surely(field, value) || fits_alone(field, value)
 }
 
-/// How far a look at a row goes.
-#[derive(Clone, Copy, Debug, PartialEq, Eq)]
-pub(crate) enum Look {
-    /// Into columns without children alone. It is short, so that it can stand where rows are
-    /// pushed.
-    Flat,
-    /// Into lists and structs too.
-    Deep,
-}
-
-// The bytes that the buffers of a column and of those below it take at most with one value more,
-// beside those that don't hang on the value, where the value fits the field.
+// The bytes that the buffers of a column without children take at most with one value more, beside
+// those that don't hang on the value, where the value fits the field.
 #[inline(always)]
-fn most_with(field: &Field, value: &Value, node: &Node, limits: &Limits, look: Look) -> Option<u64>
+fn most_with(field: &Field, value: &Value, node: &Node) -> Option<u64>
     ensures fits { IfSome result (λ most. Fits field.now value.now) }
-    ensures most { (known : Numbering) (layout : Layout) (children : Shape)
+    ensures most { (known : Numbering) (limits : Limits) (layout : Layout) (children : Shape)
         (values : List Value) (least : ℕ)
-        → IsNode (IsColumn known limits.now) layout children node.now values
-        → length values < limits.now.slots → 14 * (length values + 1) + 25 ≤ least
-        → IfSome result (λ most. TakeAtMost limits.now (least + most)
+        → IsNode (IsColumn known limits) layout children node.now values
+        → length values < limits.slots → 14 * (length values + 1) + 25 ≤ least
+        → IfSome result (λ most. TakeAtMost limits (least + most)
         (shapes.field layout children bare) (λ j. values ++ value.now ∷ [])) }
 {
-    if !node.is_leaf() {
-        return match look {
-            Look::Flat => None,
-            Look::Deep => most_inside(field, value, node, limits),
-        };
-    }
-    if !fits(field, value) {
+    if !node.is_leaf() || !fits(field, value) {
         return None;
     }
     most_data(node.column.layout, node.column.counts, value)
 }
 
-// Whether a row surely fits these fields, and with it their columns of so many rows the limits.
+/// Whether a row surely fits these fields, none of which has children, and with it their columns of
+/// so many rows the limits. It takes one look at each value, as far as it is told. Where the answer
+/// is no, a closer look is needed.
 #[inline(always)]
-fn surely_fit(
+pub(crate) fn row_surely_fits(
     fields: &[Field],
     nodes: &[Node],
     row: &[Value],
     rows: usize,
     limits: &Limits,
-    look: Look,
 ) -> bool
     requires { rows < limits.now.slots }
     ensures fit { (known : Numbering) (given : ℕ → List Value)
@@ -255,7 +241,7 @@ fn surely_fit(
             return false;
         };
         if !is_sure(field, value, &nodes[i]) {
-            let Some(most) = most_with(field, value, &nodes[i], limits, look) else {
+            let Some(most) = most_with(field, value, &nodes[i]) else {
                 return false;
             };
             if most > left {
@@ -267,54 +253,14 @@ fn surely_fit(
     true
 }
 
-// The same into lists and structs, by itself, so that a row without them carries nothing of it.
-#[inline(never)]
-fn surely_fit_deep(
-    fields: &[Field],
-    nodes: &[Node],
-    row: &[Value],
-    rows: usize,
-    limits: &Limits,
-) -> bool
-    requires { rows < limits.now.slots }
-    ensures fit { (known : Numbering) (given : ℕ → List Value)
-        → AreColumns known limits.now (shape_of fields.now) nodes.now given
-        → IsTrue result → EachFits Fits fields.now row.now }
-    ensures within { (known : Numbering) (given : ℕ → List Value)
-        → AreColumns known limits.now (shape_of fields.now) nodes.now given
-        → ((j : ℕ) → length (given j) ≡ rows)
-        → IsTrue result
-        → AreWithin limits.now (shape_of fields.now) (λ j. given j ++ cell j row.now ∷ []) }
-{
-    surely_fit(fields, nodes, row, rows, limits, Look::Deep)
-}
-
-/// Whether a row surely fits these fields, and with it their columns of so many rows the limits.
-/// It takes one look at each value, as far as it is told. Where the answer is no, a closer look is
-/// needed.
-#[inline(always)]
-pub(crate) fn row_surely_fits(
-    fields: &[Field],
-    nodes: &[Node],
-    row: &[Value],
-    rows: usize,
-    limits: &Limits,
-    look: Look,
-) -> bool
-    requires { rows < limits.now.slots }
-    ensures fit { (known : Numbering) (given : ℕ → List Value)
-        → AreColumns known limits.now (shape_of fields.now) nodes.now given
-        → IsTrue result → EachFits Fits fields.now row.now }
-    ensures within { (known : Numbering) (given : ℕ → List Value)
-        → AreColumns known limits.now (shape_of fields.now) nodes.now given
-        → ((j : ℕ) → length (given j) ≡ rows)
-        → IsTrue result
-        → AreWithin limits.now (shape_of fields.now) (λ j. given j ++ cell j row.now ∷ []) }
-{
-    match look {
-        Look::Flat => surely_fit(fields, nodes, row, rows, limits, Look::Flat),
-        Look::Deep => surely_fit_deep(fields, nodes, row, rows, limits),
-    }
+/// How far a look at a row goes.
+#[derive(Clone, Copy, Debug, PartialEq, Eq)]
+pub(crate) enum Look {
+    /// Into columns without children alone. It is short, so that it can stand where rows are
+    /// pushed.
+    Flat,
+    /// Into lists and structs too.
+    Deep,
 }
 
 /// How far a look at rows of these columns goes.

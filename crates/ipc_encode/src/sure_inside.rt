@@ -16,7 +16,7 @@ ghost use Rattle.ipc_encode.specs.Buffers.{below};
 ghost use Rattle.ipc_encode.specs.Cells.{cell};
 ghost use Rattle.ipc_encode.specs.Columns.{datum};
 ghost use Rattle.ipc_encode.specs.Limits.{HasLongNode};
-ghost use Rattle.ipc_encode.specs.Built.{AreNodes, IsColumn, IsNode, TakeAtMost, weight_of};
+ghost use Rattle.ipc_encode.specs.Built.{AreNodes, AreWithin, IsColumn, IsNode, weight_of};
 ghost use Rattle.ipc_encode.specs.Numbers.{Numbering};
 
 use crate::cells::item_count;
@@ -220,19 +220,35 @@ fn left_of_nodes(nodes: &[Node], more: u64, limits: &Limits, bytes: u64) -> Opti
     Some(left)
 }
 
-/// The bytes that the buffers of a column with children, and of those below it, take at most with
-/// one value more, which fits its field. None where that asks for a closer look.
+/// What is left of so much weight behind that of a row, whose values fit their fields. None where
+/// it is too little, or that asks for a closer look.
 #[inline(never)]
-pub(crate) fn most_inside(field: &Field, value: &Value, node: &Node, limits: &Limits) -> Option<u64>
-    ensures fits { IfSome result (λ most. Fits field.now value.now) }
-    ensures most { (known : Numbering) (layout : Layout) (children : Shape)
-        (before : List Value)
-        → IsNode (IsColumn known limits.now) layout children node.now before
-        → IfSome result (λ most. TakeAtMost limits.now most
-        (shapes.field layout children bare) (λ j. before ++ value.now ∷ [])) }
+pub(crate) fn left_of_row(
+    fields: &[Field],
+    row: &[Value],
+    nodes: &[Node],
+    spare: u64,
+) -> Option<u64>
+    ensures fits { IfSome result (λ left. EachFits Fits fields.now row.now) }
+    ensures weight { (known : Numbering) (limits : Limits) (shape : Shape)
+        (before : ℕ → List Value) → AreNodes (IsColumn known limits) shape nodes.now before
+        → IfSome result (λ left. weight_of 0 shape (λ j. cell j row.now ∷ []) + left ≤ spare) }
+    ensures fewer { IfSome result (λ left. left ≤ spare) }
 {
-    let all = MAX_DATA as u64;
-    let left = left_inside(field, value, node, all)?;
-    let left_of_all = left_of_node(node, all - left, limits, left)?;
-    Some(all - left_of_all)
+    left_of_parts(fields, row, nodes, spare)
+}
+
+/// Whether columns are surely within the limits with so much weight more, however it is spread.
+pub(crate) fn have_spare(nodes: &[Node], spare: u64, limits: &Limits) -> bool
+    requires { spare ≤ max_data }
+    ensures { (known : Numbering) (shape : Shape) (before added : ℕ → List Value)
+        → AreNodes (IsColumn known limits.now) shape nodes.now before
+        → IsTrue result → weight_of 0 shape added ≤ spare
+        → AreWithin limits.now shape (λ j. before j ++ added j) }
+{
+    let most = limits.body.min(MAX_DATA as u64);
+    match left_of_nodes(nodes, spare, limits, most) {
+        Some(left) if spare <= left => true,
+        _ => false,
+    }
 }

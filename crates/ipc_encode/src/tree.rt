@@ -204,11 +204,12 @@ fn take_deep<I: IndexOf>(
         limits,
         indices,
     )?;
-    node.column.take(value, purpose, limits, indices)
+    node.column.take_outer(value, purpose, limits, indices)
 }
 
 // What a value of a column of this layout gives to the columns below it.
 #[cycle(take)]
+#[inline(always)]
 fn take_below<I: IndexOf>(
     value: &Value,
     layout: Layout,
@@ -251,6 +252,7 @@ fn take_below<I: IndexOf>(
 
 // Takes or counts all items in each column: a list has one child.
 #[cycle(take)]
+#[inline(always)]
 fn take_items<I: IndexOf>(
     items: &[Value],
     nodes: &mut [Node],

@@ -95,6 +95,7 @@ rows_behind limits fields rows all ps builder next fine h = record {
   columns_are = columns_agree (told (noted_place (tallied fields rows))) (told (noted_place (tallied fields all))) limits
       (shape_of fields) builder.nodes.items (columns rows) (places_agree limits fields rows all ps next fine) h.columns_are;
   within = h.within;
+  has_spare = h.has_spare;
 }
 
 -- with one row more

@@ -7,6 +7,7 @@ ghost use Rattle.ipc_model.specs.declared.limits.Limits.{Limits};
 ghost use Rattle.ipc_model.specs.declared.schema.Schema.{Schema};
 ghost use Rattle.ipc_model.specs.declared.table.BatchRows.{BatchRows};
 ghost use Rattle.ipc_model.specs.declared.value.Value.{Value};
+ghost use Rattle.ipc_encode.specs.Built.{HasSpare};
 ghost use Rattle.ipc_encode.specs.Limits.{IsWithin};
 ghost use Rattle.ipc_dict.specs.Faults.{told_of};
 ghost use Rattle.ipc_dict.specs.Within.{HaveShortMessages};
@@ -93,13 +94,14 @@ impl PushedRows {
     }
 
     // Takes one row more that conforms, whose columns are within the limits with the rows that are
-    // held. After a refusal for memory what is held is of no use, after any other it is the batch
-    // that it was.
+    // held, and behind which so much weight is spare. After a refusal for memory what is held is of
+    // no use, after any other it is the batch that it was.
     #[inline(always)]
-    fn take_sure(&mut self, row: &[Value]) -> Result<(), NoteFault>
+    fn take_sure(&mut self, row: &[Value], spare: u64) -> Result<(), NoteFault>
         ensures holds { (limits : Limits) (schema : Schema) (b : BatchRows)
             → WellFormed limits schema → RowFits schema.fields row.now
             → IsWithin limits schema.fields (b.rows ++ row.now ∷ [])
+            → HasSpare limits schema.fields (b.rows ++ row.now ∷ []) spare
             → HoldsBatch limits schema b self.old
             → OnOk result (HoldsBatch limits schema (with_row b row.now) self.new) }
         ensures refused { (limits : Limits) (schema : Schema) (b : BatchRows)
@@ -114,7 +116,7 @@ impl PushedRows {
             → HoldsBatch limits schema b self.new) }
     {
         self.tally.note_row(row)?;
-        self.builder.take_row(row, &self.tally)?;
+        self.builder.take_row(row, spare, &self.tally)?;
         Ok(())
     }
 
@@ -135,7 +137,7 @@ impl PushedRows {
             → HoldsBatch limits schema b self.new) }
     {
         self.builder.fit_row(row)?;
-        self.take_sure(row)
+        self.take_sure(row, 0)
     }
 
     // Takes one row more that may not conform.
@@ -180,11 +182,11 @@ impl PushedRows {
         ensures misfits { IfErr result
             (λ why. why ≡ Untaken.Misfit → ¬ RowFits schema.now.fields row.now) }
     {
-        if self.builder.surely_takes(schema.fields.as_slice(), row) {
-            self.take_sure(row)?;
-            return Ok(());
-        }
-        self.take_unsure(schema, row)
+        let Some(spare) = self.builder.spare_behind(schema.fields.as_slice(), row) else {
+            return self.take_unsure(schema, row);
+        };
+        self.take_sure(row, spare)?;
+        Ok(())
     }
 
     // What is told of a row that wasn't taken.

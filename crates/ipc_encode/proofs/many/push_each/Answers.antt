@@ -1,6 +1,5 @@
 use Rattle.std.proofs.Common.{◌≡◌, ◌∙◌, refl, sym, ap, ℕ, ◌+◌, ◌++◌, List, [], ◌∷◌, take, append_assoc, arith}
 use Rattle.std.proofs.lemmas.List.{take_more}
-use Rattle.ipc_model.specs.declared.value.Value.{Value}
 use Rattle.ipc_encode.specs.Cells.{nulls, slot_bytes, slots}
 use Rattle.ipc_encode.specs.Pieces.{Number}
 use Rattle.ipc_encode.proofs.Steps.{nulls_push, slots_push}

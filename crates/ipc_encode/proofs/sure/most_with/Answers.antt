@@ -9,7 +9,6 @@ use Rattle.ipc_encode.specs.declared.node.Node.{out-Node}
 use Rattle.ipc_encode.specs.Built.{IsColumn, IsCounted, TakeAtMost}
 use Rattle.ipc_encode.proofs.Siblings.{leaf_is}
 use Rattle.ipc_encode.proofs.SurelyFit.{leaf_takes}
-use Rattle.ipc_encode.proofs.Weights.{takes_more}
 use Rattle.ipc_encode.proofs.sure.most_with.Goals as goal
 
 -- what follows from two clauses on the value in a `Some`
@@ -17,20 +16,13 @@ both : {P Q R : ℕ → Type 0} → (r : Option ℕ) → IfSome r P → IfSome r
 both (Some x) p q f = f x p q
 both None p q f = tt
 
-pub returns-in-Deep-clause-most : goal.returns-in-Deep-clause-most
-returns-in-Deep-clause-most c = λ known layout children values least h few enough.
-    let shape = field layout children bare in
-    IfSome_then c.most_inside.result (c.most_inside.ensures.most known layout children values h)
-    (λ most taken. takes_more c.args.limits.now shape (λ j. values ++ c.args.value.now ∷ []) least most taken)
-
 pub returns-clause-fits : goal.returns-clause-fits
 returns-clause-fits c =
     let f : Fits c.args.field.now c.args.value.now = search rules in
     IfSome_then c.most_data.result c.most_data.ensures.few (λ most few. f)
 
 pub returns-clause-most : goal.returns-clause-most
-returns-clause-most c = λ known layout children values least h few enough.
-    let limits = c.args.limits.now in
+returns-clause-most c = λ known limits layout children values least h few enough.
     let more = values ++ c.args.value.now ∷ [] in
     let size = length-append values (c.args.value.now ∷ []) in
     let none = leaf_is (IsColumn known limits) children (out-Node c.args.node.now).children.items (below layout values)

@@ -59,22 +59,22 @@ take_deep-returns-clause-taken g t c = λ layout children values h.
     (λ held. subst (λ (l : Layout). AreNodes P children c.take_below.new.nodes (below l (values ++ c.args.value.now ∷ []))) laid
     (c.in_ok-take_below.ensures.taken children values
     (subst (λ (l : Layout). AreNodes P children c.deref_mut.result.now (below l values)) (sym laid) held))) in
-    on_ok_weaker c.take.result (λ own. node_is P layout children (values ++ c.args.value.now ∷ []) _ own lent.1)
-    (c.take.ensures.taken layout values lent.0)
+    on_ok_weaker c.take_outer.result (λ own. node_is P layout children (values ++ c.args.value.now ∷ []) _ own lent.1)
+    (c.take_outer.ensures.taken layout values lent.0)
 
 pub take_deep-returns-clause-refused : goal.take_deep-returns-clause-refused
 take_deep-returns-clause-refused g t c = λ layout children values h.
     let P = HasTaken (told (g.I.IndexOf.index c.args.indices.now)) c.args.purpose c.args.limits.now in
-    IfErr-weaker c.take.result _ _
+    IfErr-weaker c.take_outer.result _ _
     (λ fault told. own_refused c.args.limits.now layout children bare (λ j. values ++ c.args.value.now ∷ []) fault told)
-    (c.take.ensures.refused layout values (lent_column P layout values c.args.node.now c.take_below.new.nodes h.0))
+    (c.take_outer.ensures.refused layout values (lent_column P layout values c.args.node.now c.take_below.new.nodes h.0))
 
 pub take_deep-returns-clause-kept : goal.take_deep-returns-clause-kept
 take_deep-returns-clause-kept g t c = λ known limits layout children values e h.
     let P = IsColumn known limits in
     let lent = lent_node P layout children values values c.args.node.now c.deref_mut.result.now c.take_below.new.nodes
     c.deref_mut.ensures.value c.take_below.auto.nodes h (c.in_ok-take_below.ensures.kept known limits children (below layout values) e) in
-    node_is P layout children values _ (c.take.ensures.kept known limits layout values e lent.0) lent.1
+    node_is P layout children values _ (c.take_outer.ensures.kept known limits layout values e lent.0) lent.1
 
 -- ---- below a column
 
@@ -308,7 +308,7 @@ pub take_all-returns-then-keeps-clause-taken : goal.take_all-returns-then-keeps-
 take_all-returns-then-keeps-clause-taken g t c = λ layout children before h.
     let known = told (g.I.IndexOf.index c.args.indices.now) in
     let P = HasTaken known c.args.purpose c.args.limits.now in
-    let keep = c.keeps.ensures c.if-keeps.true in
+    let keep = c.keeps.ensures.0 c.if-keeps.true in
     let more = before ++ c.args.values.now in
     let inner = leaf_has P children (out-Node c.args.node.now).children.items (below layout before) (below layout more)
     (c.is_leaf.ensures.0 c.if-is_leaf.true) h.1 in
@@ -323,4 +323,4 @@ take_all-returns-then-keeps-clause-refused g t c = λ layout children before h.
     let known = told (g.I.IndexOf.index c.args.indices.now) in
     c.push_all.ensures.refused layout children before
     (subst (λ (p : Purpose). HasTaken known p c.args.limits.now layout before (out-Node c.args.node.now).column)
-    (c.keeps.ensures c.if-keeps.true) h.0)
+    (c.keeps.ensures.0 c.if-keeps.true) h.0)

@@ -9,6 +9,7 @@ use Rattle.ipc_encode.specs.Buffers.{columns}
 use Rattle.ipc_encode.specs.Built.{AreColumns, ArePushesRefused}
 use Rattle.ipc_encode.specs.Numbers.{told}
 use Rattle.ipc_encode.proofs.Held.{columns_more, rows_refused}
+use Rattle.ipc_encode.proofs.Spare.{no_spare}
 use Rattle.ipc_encode.proofs.builder.Builder.take_columns.Goals as goal
 
 pub returns-clause-pushed : goal.returns-clause-pushed
@@ -29,6 +30,7 @@ returns-clause-pushed g c = λ limits fields rows h within.
       columns_are = subst (λ (ns : List Node). AreColumns known limits (shape_of fields) ns (columns (rows ++ c.args.batch.now.rows)))
           (sym (with_items_is c.args.self.now.nodes c.take_batch.new.nodes size)) more;
       within = within;
+      has_spare = no_spare limits fields (rows ++ c.args.batch.now.rows);
     }
 
 pub returns-in_err-take_batch-clause-refused : goal.returns-in_err-take_batch-clause-refused

@@ -12,7 +12,7 @@ use Rattle.ipc_encode.proofs.Held.{columns_push, rows_refused}
 use Rattle.ipc_encode.proofs.builder.Builder.take_row.Goals as goal
 
 pub returns-clause-pushed : goal.returns-clause-pushed
-returns-clause-pushed g c = λ limits fields rows h within.
+returns-clause-pushed g c = λ limits fields rows h within spare.
     let known = told (g.I.IndexOf.index c.args.indices.now) in
     let held = subst (λ (l : Limits). AreColumns known l (shape_of fields) c.deref_mut.result.now (columns rows)) (sym h.limits_are)
     (subst (λ (ns : List Node). AreColumns known limits (shape_of fields) ns (columns rows)) (sym c.deref_mut.ensures.value)
@@ -29,6 +29,7 @@ returns-clause-pushed g c = λ limits fields rows h within.
       columns_are = subst (λ (ns : List Node). AreColumns known limits (shape_of fields) ns (columns (rows ++ c.args.row.now ∷ [])))
           (sym (with_items_is c.args.self.now.nodes c.take_parts.new.nodes size)) more;
       within = within;
+      has_spare = spare;
     }
 
 pub returns-in_err-take_parts-clause-refused : goal.returns-in_err-take_parts-clause-refused

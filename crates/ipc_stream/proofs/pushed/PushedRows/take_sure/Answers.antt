@@ -40,11 +40,11 @@ returns-in_err-take_row-clause-kept c = λ limits schema b well within h.
     (c.in_err-take_row.ensures.refused limits schema.fields b.rows rows))))
 
 pub returns-clause-holds : goal.returns-clause-holds
-returns-clause-holds c = λ limits schema b well fits within h.
+returns-clause-holds c = λ limits schema b well fits within spare h.
     let next = tally_next limits schema.fields b.rows c.args.row.now c.args.self.now.tally c.note_row.new.self h.tally
     c.in_ok-note_row.ensures.noted in
     let builder = c.args.self.now.builder in
     let rows = subst (λ (t : Tallied). HasRows (told (noted_place t.entries)) limits schema.fields b.rows builder) (sym next)
     (rows_kept limits schema.fields b.rows c.args.row.now builder well.each h.rows) in
     held_row limits schema b c.args.row.now c.args.self.now _ h fits within next c.note_row.ensures.fits c.note_row.ensures.within
-    (c.in_ok-take_row.ensures.pushed limits schema.fields b.rows rows within) refl
+    (c.in_ok-take_row.ensures.pushed limits schema.fields b.rows rows within spare) refl

@@ -6,7 +6,7 @@ use Rattle.ipc_encode.specs.Built.{AreColumns, TakeAtMost}
 use Rattle.ipc_encode.specs.Numbers.{Numbering}
 use Rattle.ipc_encode.proofs.Siblings.{first}
 use Rattle.ipc_encode.proofs.SurelyFit.{FirstFit}
-use Rattle.ipc_encode.proofs.sure.surely_fit.Given as goal
+use Rattle.ipc_encode.proofs.sure.row_surely_fits.Given as goal
 
 abbrev pub invariant-loop-i : goal.invariant-loop-i
 invariant-loop-i l = record {

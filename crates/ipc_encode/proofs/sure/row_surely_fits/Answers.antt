@@ -11,8 +11,8 @@ use Rattle.ipc_encode.proofs.Siblings.{at_node, first_all}
 use Rattle.ipc_encode.proofs.SurelyFit.{as_many, first_fit_all, first_fit_next, none_take}
 use Rattle.ipc_encode.proofs.SurelyFit.{sum_least, sum_next, takes_next, takes_within}
 use Rattle.std.specs.Prelude.{IsTrue}
-use Rattle.ipc_encode.proofs.sure.surely_fit.Goals.{then-not-is_sure+in-Some-most_with+else-most-left, else-not-is_sure}
-use Rattle.ipc_encode.proofs.sure.surely_fit.Goals as goal
+use Rattle.ipc_encode.proofs.sure.row_surely_fits.Goals.{then-not-is_sure+in-Some-most_with+else-most-left, else-not-is_sure}
+use Rattle.ipc_encode.proofs.sure.row_surely_fits.Goals as goal
 
 pub loop-i-init : goal.loop-i-init
 loop-i-init c = record {
@@ -49,7 +49,7 @@ loop-i-preserved c =
                 let held = subst (λ (n : Node). IsNode (IsColumn known limits) at.0 at.1 n (given i))
                 (sym w.index-nodes-i-then-not-is_sure.is) at.3 in
                 let slots = same i in
-                let own = w.in-Some-most_with.ensures.most known at.0 at.1 (given i) least held
+                let own = w.in-Some-most_with.ensures.most known limits at.0 at.1 (given i) least held
                 (omega (arith, slots, c.requires)) (omega (arith, slots)) in
                 let told = subst (λ (u : Value). TakeAtMost limits (least + most) (field at.0 at.1 bare) (λ j. given i ++ u ∷ []))
                 in_cell own in
