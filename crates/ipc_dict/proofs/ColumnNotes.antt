@@ -1,6 +1,6 @@
 -- Values noted column by column.
 use Rattle.std.proofs.Common.{◌≡◌, ◌∙◌, refl, sym, ap, subst, ℕ, zero, suc, ◌+◌, ◌<◌, ◌≤◌, Bool, true, false, cond, ℤ, List, [], ◌∷◌, ◌++◌}
-use Rattle.std.proofs.Common.{length, map, drop, get_or, int_eq, true≢false, add-one, drop-cons, arith}
+use Rattle.std.proofs.Common.{length, map, drop, get_or, int_eq, true≢false, arith}
 use Rattle.std.proofs.Math.ListN.{drop_of_length-le}
 use Rattle.std.proofs.Common.{Some, inl, inr, set}
 use Rattle.std.proofs.lemmas.Bool.{cases_eq}

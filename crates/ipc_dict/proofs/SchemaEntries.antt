@@ -1,5 +1,5 @@
 -- The entries of a schema are those of its dictionaries.
-use Rattle.std.proofs.Common.{◌≡◌, ℕ, ◌<◌, ◌≤◌, ◌+◌, ◌^◌, ◌-◌, ◌||◌, Bool, true, false, cond, ℤ, List, [], ◌∷◌, ◌++◌, length}
+use Rattle.std.proofs.Common.{◌≡◌, ℕ, ◌<◌, ◌≤◌, ◌+◌, ◌||◌, Bool, true, false, cond, ℤ, List, [], ◌∷◌, ◌++◌, length}
 use Rattle.std.proofs.Common.{Option, Some, None, refl, sym, ap, subst, ◌∙◌, arith, int_eq, true≢false}
 use Rattle.std.specs.Prelude.{min}
 use Rattle.std.specs.Option.{IsSome}
@@ -8,7 +8,6 @@ use Rattle.std.proofs.lemmas.List.Quantifiers.{position-Some}
 use Rattle.std.proofs.lemmas.Bool.Decides.{Decides-int_eq}
 use Rattle.ipc_model.specs.declared.value.Value.{Value}
 use Rattle.ipc_model.specs.declared.schema.Dictionary.{Dictionary}
-use Rattle.ipc_model.specs.declared.schema.Field.{Field}
 use Rattle.ipc_dict.specs.declared.entry.TallyEntry.{TallyEntry}
 use Rattle.ipc_dict.specs.Noting.{noted_for}
 use Rattle.ipc_dict.specs.SchemaIds.{count_of, fresh, with_field, with_fields, of_fields}

@@ -1,11 +1,11 @@
 -- Each id of a schema has one entry.
-use Rattle.std.proofs.Common.{◌≡◌, ◌∙◌, refl, sym, ap, subst, Bool, true, false, cond, ℤ, List, [], ◌∷◌, ◌++◌, map, Option, Some, None}
+use Rattle.std.proofs.Common.{◌≡◌, ◌∙◌, refl, sym, Bool, true, false, cond, ℤ, List, [], ◌∷◌}
 use Rattle.std.proofs.Common.{int_eq, true≢false}
 use Rattle.std.proofs.lemmas.Bool.Decides.{Decides-int_eq}
 use Rattle.ipc_model.specs.declared.schema.Dictionary.{Dictionary}
 use Rattle.ipc_model.specs.declared.schema.Field.{Field}
 use Rattle.ipc_dict.specs.declared.entry.TallyEntry.{TallyEntry}
-use Rattle.ipc_dict.specs.SchemaIds.{fresh, with_field, with_fields, unused, of_fields, tally_ids}
+use Rattle.ipc_dict.specs.SchemaIds.{with_field, with_fields, unused, of_fields, tally_ids}
 use Rattle.ipc_dict.proofs.SchemaIds.{lowered}
 
 -- none of the ids is this one

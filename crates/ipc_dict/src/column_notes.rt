@@ -12,6 +12,7 @@ ghost use Rattle.ipc_dict.specs.Pairs.{pairs, items_pairs, rows_pairs};
 
 use crate::entry::TallyEntry;
 use crate::fault::NoteFault;
+use crate::recent::Recent;
 use crate::walk::{is_plain, note_value};
 use ipc_column::{Batch, SlotView};
 use ipc_model::{Field, Value};
@@ -75,7 +76,7 @@ fn none_noted(alloc: Global, slots: &SlotView<'_>) -> Result<Vec<bool>, AllocErr
 fn note_cell(
     alloc: Global,
     entries: &mut [TallyEntry],
-    latest: &mut [usize],
+    recent: &mut Recent,
     field: &Field,
     batch: &Batch,
     column: usize,
@@ -92,7 +93,7 @@ fn note_cell(
     ensures grows { AllGrow entries.old entries.new }
 {
     let value = batch.read_cell(alloc, row, column)?;
-    note_value(entries, latest, field, &value)
+    note_value(entries, recent, field, &value)
 }
 
 // The same where it is this value of the column's dictionary, and marks it. One that is marked
@@ -101,7 +102,7 @@ fn note_cell(
 fn note_entry(
     alloc: Global,
     entries: &mut [TallyEntry],
-    latest: &mut [usize],
+    recent: &mut Recent,
     field: &Field,
     batch: &Batch,
     column: usize,
@@ -127,12 +128,12 @@ fn note_entry(
     ensures grows { AllGrow entries.old entries.new }
 {
     if entry >= noted.len() {
-        return note_cell(alloc, entries, latest, field, batch, column, row);
+        return note_cell(alloc, entries, recent, field, batch, column, row);
     }
     if noted[entry] {
         return Ok(());
     }
-    note_cell(alloc, entries, latest, field, batch, column, row)?;
+    note_cell(alloc, entries, recent, field, batch, column, row)?;
     noted[entry] = true;
     Ok(())
 }
@@ -142,7 +143,7 @@ fn note_entry(
 fn note_slot(
     alloc: Global,
     entries: &mut [TallyEntry],
-    latest: &mut [usize],
+    recent: &mut Recent,
     field: &Field,
     batch: &Batch,
     column: usize,
@@ -167,9 +168,9 @@ fn note_slot(
 {
     match slots.entry_at(slot) {
         Some(entry) => note_entry(
-            alloc, entries, latest, field, batch, column, slot, entry, noted,
+            alloc, entries, recent, field, batch, column, slot, entry, noted,
         ),
-        None => note_cell(alloc, entries, latest, field, batch, column, slot),
+        None => note_cell(alloc, entries, recent, field, batch, column, slot),
     }
 }
 
@@ -178,7 +179,7 @@ fn note_slot(
 fn note_column(
     alloc: Global,
     entries: &mut [TallyEntry],
-    latest: &mut [usize],
+    recent: &mut Recent,
     field: &Field,
     batch: &Batch,
     column: usize,
@@ -195,7 +196,7 @@ fn note_column(
     let mut noted = none_noted(alloc, &slots)?;
     for slot in 0..slots.len() {
         note_slot(
-            alloc, entries, latest, field, batch, column, &slots, slot, &mut noted,
+            alloc, entries, recent, field, batch, column, &slots, slot, &mut noted,
         )?;
     }
     Ok(())
@@ -206,7 +207,7 @@ fn note_column(
 fn note_field(
     alloc: Global,
     entries: &mut [TallyEntry],
-    latest: &mut [usize],
+    recent: &mut Recent,
     field: &Field,
     batch: &Batch,
     column: usize,
@@ -222,7 +223,7 @@ fn note_field(
     if is_plain(field) {
         return Ok(());
     }
-    note_column(alloc, entries, latest, field, batch, column)
+    note_column(alloc, entries, recent, field, batch, column)
 }
 
 /// Notes the values of dictionaries in all rows of a batch that has a column for each field.
@@ -230,7 +231,7 @@ fn note_field(
 pub(crate) fn note_columns(
     alloc: Global,
     entries: &mut [TallyEntry],
-    latest: &mut [usize],
+    recent: &mut Recent,
     fields: &[Field],
     batch: &Batch,
 ) -> Result<(), NoteFault>
@@ -245,7 +246,7 @@ pub(crate) fn note_columns(
 {
     let width = batch.columns();
     for column in 0..width {
-        note_field(alloc, entries, latest, &fields[column], batch, column)?;
+        note_field(alloc, entries, recent, &fields[column], batch, column)?;
     }
     Ok(())
 }

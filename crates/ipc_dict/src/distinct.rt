@@ -66,9 +66,20 @@ impl DistinctValues {
         self.values.get_index_of(value)
     }
 
-    /// Whether the value has this number. It is one comparison, where `index_of` looks it up.
+    /// The number of a value, where it may be this one: then it costs one comparison, and no hash.
     #[inline]
-    pub(crate) fn is_at(&self, number: usize, value: &Value) -> bool
+    pub(crate) fn index_near(&self, guess: usize, value: &Value) -> Option<usize>
+        ensures { result ≡ place value.now self.now }
+    {
+        if self.is_at(guess, value) {
+            return Some(guess);
+        }
+        self.index_of(value)
+    }
+
+    // Whether the value has this number.
+    #[inline]
+    fn is_at(&self, number: usize, value: &Value) -> bool
         ensures { IsTrue result → place value.now self.now ≡ Some number }
     {
         match self.values.as_slice().get(number) {

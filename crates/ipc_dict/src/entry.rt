@@ -9,6 +9,7 @@ ghost use Rattle.ipc_dict.specs.Noting.{Grows, AllGrow};
 
 use crate::distinct::DistinctValues;
 use crate::fault::NoteFault;
+use crate::recent::{Recent, spot_of};
 use ipc_model::Value;
 
 /// The distinct values of one dictionary.
@@ -43,8 +44,8 @@ pub(crate) fn find(entries: &[TallyEntry], id: i64) -> Option<usize>
     None
 }
 
-// One more value of a dictionary. Answers where it stands.
-fn note_in(entry: &mut TallyEntry, value: &Value) -> Result<usize, NoteFault>
+// One more value of a dictionary, which may stand at this place. Answers where it stands.
+fn note_in(entry: &mut TallyEntry, guess: usize, value: &Value) -> Result<usize, NoteFault>
     ensures noted { OnOk result (entry.new ≡ note_entry value.now entry.old) }
     ensures fits { OnOk result
         (length entry.old.values ≤ entry.old.limit → length entry.new.values ≤ entry.new.limit) }
@@ -56,7 +57,7 @@ fn note_in(entry: &mut TallyEntry, value: &Value) -> Result<usize, NoteFault>
         (λ fault. (fault ≡ NoteFault.DictionaryFull) ⊎ (fault ≡ NoteFault.OutOfMemory)) }
     ensures grows { Grows entry.old entry.new }
 {
-    if let Some(place) = entry.values.index_of(value) {
+    if let Some(place) = entry.values.index_near(guess, value) {
         return Ok(place);
     }
     let place = entry.values.len();
@@ -66,18 +67,10 @@ fn note_in(entry: &mut TallyEntry, value: &Value) -> Result<usize, NoteFault>
     Ok(place)
 }
 
-// Keeps where the value stands that was noted last.
-fn keep_place(latest: &mut [usize], at: usize, place: usize) {
-    if let Some(kept) = latest.get_mut(at) {
-        *kept = place;
-    }
-}
-
-// One more value of the dictionary with the id, where there is one. Of each dictionary it is kept
-// where the value stands that was noted last.
+// One more value of the dictionary with the id, where there is one. It is kept where it stands.
 pub(crate) fn note_one(
     entries: &mut [TallyEntry],
-    latest: &mut [usize],
+    recent: &mut Recent,
     id: i64,
     value: &Value,
 ) -> Result<(), NoteFault>
@@ -92,24 +85,25 @@ pub(crate) fn note_one(
     let Some(at) = find(entries, id) else {
         return Ok(());
     };
+    let spot = spot_of(at, value);
     let entry = &mut entries[at];
-    let place = note_in(entry, value)?;
-    keep_place(latest, at, place);
+    let place = note_in(entry, recent.place(spot), value)?;
+    recent.keep(spot, place);
     Ok(())
 }
 
-// Where a value stands among those of the dictionary with the id. Where the one stands that was
-// noted last is looked at first: a row's values are asked for behind their noting.
+// Where a value stands among those of the dictionary with the id. A row's values are asked for
+// behind their noting, so most stand where they were noted lately.
 pub(crate) fn place_in(
     entries: &[TallyEntry],
-    latest: &[usize],
+    recent: &Recent,
     id: i64,
     value: &Value,
 ) -> Option<u64>
     ensures { result ≡ noted_place entries.now id value.now }
 {
     let i = find(entries, id)?;
-    let guess = latest.get(i).copied().unwrap_or(0);
+    let guess = recent.place(spot_of(i, value));
     place_of(&entries[i].values, guess, value)
 }
 
@@ -117,9 +111,6 @@ pub(crate) fn place_in(
 fn place_of(values: &DistinctValues, guess: usize, value: &Value) -> Option<u64>
     ensures { result ≡ place value.now values.now }
 {
-    if values.is_at(guess, value) {
-        return Some(guess as u64);
-    }
-    let at = values.index_of(value)?;
+    let at = values.index_near(guess, value)?;
     Some(at as u64)
 }

@@ -12,6 +12,7 @@ mod fault;
 mod kept;
 mod messages;
 mod plan;
+mod recent;
 mod schema_ids;
 mod seed;
 mod settle;

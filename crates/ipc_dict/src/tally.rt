@@ -17,6 +17,7 @@ use crate::entry::{TallyEntry, place_in};
 use crate::fault::NoteFault;
 use crate::kept::Kept;
 use crate::plan::Plan;
+use crate::recent::Recent;
 use crate::schema_ids::unused_entries;
 use crate::seed::Seed;
 use crate::settle::settle;
@@ -30,14 +31,17 @@ use std::marker::Model;
 /// The distinct values of each dictionary in the rows of a batch so far, in order of first
 /// appearance: rows in their order, in a row from left to right, depth first. Nulls have no place
 /// in a dictionary (Arrow Columnar Format, "Dictionary-encoded Layout").
+///
+/// Where a field names a dictionary, 32 KiB tell where values stand that were noted lately, so that
+/// these are found again without their hashes.
 #[derive(Debug, Drop)]
 pub struct Tally {
     fields: Items<Field>,
     entries: Vec<TallyEntry>,
     // How many values each dictionary had before the row.
     marks: Vec<usize>,
-    // Where of each dictionary the value stands that was noted last.
-    latest: Vec<usize>,
+    // Where values stand that were noted lately.
+    recent: Recent,
     // Each dictionary's values as the one column of its message.
     columns: EntryColumns,
     failed: bool,
@@ -120,13 +124,13 @@ impl Tally {
         let fields = schema.fields.clone()?;
         let entries = unused_entries(alloc, seed, schema.fields.as_slice())?;
         let marks = zeros_for(alloc, &entries)?;
-        let latest = zeros_for(alloc, &entries)?;
+        let recent = Recent::new(alloc, entries.len())?;
         let columns = EntryColumns::new(alloc, limits, schema, &entries)?;
         Ok(Tally {
             fields,
             entries,
             marks,
-            latest,
+            recent,
             columns,
             failed: false,
         })
@@ -209,9 +213,9 @@ impl Tally {
             return Ok(());
         }
         let fields = self.fields.as_slice();
-        let (entries, latest) = (&mut self.entries, &mut self.latest);
+        let (entries, recent) = (&mut self.entries, &mut self.recent);
         let (marks, columns) = (&mut self.marks, &mut self.columns);
-        if let Err(fault) = note_row(entries, latest, marks, columns, fields, row) {
+        if let Err(fault) = note_row(entries, recent, marks, columns, fields, row) {
             self.failed = matches!(fault, NoteFault::OutOfMemory);
             return Err(fault);
         }
@@ -258,9 +262,9 @@ impl Tally {
         if batch.columns() != fields.len() || !are_all_apart(fields) {
             return Ok(false);
         }
-        let (entries, latest) = (&mut self.entries, &mut self.latest);
+        let (entries, recent) = (&mut self.entries, &mut self.recent);
         let (marks, columns) = (&mut self.marks, &mut self.columns);
-        match note_batch(alloc, entries, latest, marks, columns, fields, batch) {
+        match note_batch(alloc, entries, recent, marks, columns, fields, batch) {
             Ok(()) => Ok(true),
             Err(NoteFault::OutOfMemory) => {
                 self.failed = true;
@@ -327,7 +331,7 @@ impl IndexOf for Tally {
 
     // Where the value stands among those of its dictionary so far. It keeps this place.
     fn index_of(&self, id: i64, value: &Value) -> Option<u64> {
-        place_in(&self.entries, &self.latest, id, value)
+        place_in(&self.entries, &self.recent, id, value)
     }
 }
 
@@ -346,7 +350,7 @@ fn zeros_for(alloc: Global, entries: &[TallyEntry]) -> Result<Vec<usize>, AllocE
 #[tactic(auto, using(crate::proofs::Rows::ids_note_all))]
 fn note_row(
     entries: &mut [TallyEntry],
-    latest: &mut [usize],
+    recent: &mut Recent,
     marks: &mut [usize],
     columns: &mut EntryColumns,
     fields: &[Field],
@@ -372,7 +376,7 @@ fn note_row(
         ⊎ (told_of fault ≡ WriteFault.OutOfMemory)) }
 {
     mark(entries, marks);
-    if let Err(fault) = note_counted(entries, latest, marks, columns, fields, row) {
+    if let Err(fault) = note_counted(entries, recent, marks, columns, fields, row) {
         restore(entries, marks);
         return Err(fault);
     }
@@ -382,7 +386,7 @@ fn note_row(
 // Notes the values of a row, and counts those that came since the marks.
 fn note_counted(
     entries: &mut [TallyEntry],
-    latest: &mut [usize],
+    recent: &mut Recent,
     marks: &[usize],
     columns: &mut EntryColumns,
     fields: &[Field],
@@ -407,7 +411,7 @@ fn note_counted(
         ⊎ (told_of fault ≡ WriteFault.OutOfMemory)) }
     ensures grows { AllGrow entries.old entries.new }
 {
-    note_each(entries, latest, fields, row)?;
+    note_each(entries, recent, fields, row)?;
     if have_grown(entries, marks) {
         columns.count(entries, marks)?;
     }
@@ -419,7 +423,7 @@ fn note_counted(
 fn note_batch(
     alloc: Global,
     entries: &mut [TallyEntry],
-    latest: &mut [usize],
+    recent: &mut Recent,
     marks: &mut [usize],
     columns: &mut EntryColumns,
     fields: &[Field],
@@ -438,7 +442,7 @@ fn note_batch(
     ensures limits { columns.new.limits ≡ columns.old.limits }
 {
     mark(entries, marks);
-    if let Err(fault) = count_batch(alloc, entries, latest, marks, columns, fields, batch) {
+    if let Err(fault) = count_batch(alloc, entries, recent, marks, columns, fields, batch) {
         restore(entries, marks);
         return Err(fault);
     }
@@ -449,7 +453,7 @@ fn note_batch(
 fn count_batch(
     alloc: Global,
     entries: &mut [TallyEntry],
-    latest: &mut [usize],
+    recent: &mut Recent,
     marks: &[usize],
     columns: &mut EntryColumns,
     fields: &[Field],
@@ -467,7 +471,7 @@ fn count_batch(
     ensures limits { columns.new.limits ≡ columns.old.limits }
     ensures grows { AllGrow entries.old entries.new }
 {
-    note_columns(alloc, entries, latest, fields, batch)?;
+    note_columns(alloc, entries, recent, fields, batch)?;
     if have_grown(entries, marks) {
         columns.count(entries, marks)?;
     }

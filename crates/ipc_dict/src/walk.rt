@@ -7,6 +7,7 @@ ghost use Rattle.ipc_dict.specs.Pairs.{pairs, items_pairs, each_pairs};
 
 use crate::entry::{TallyEntry, note_one};
 use crate::fault::NoteFault;
+use crate::recent::Recent;
 use ipc_model::{DataType, Field, Value};
 
 /// Whether a field surely names no dictionary, nor does any below it.
@@ -25,7 +26,7 @@ pub(crate) fn is_plain(field: &Field) -> bool
 #[tactic(auto, using(crate::proofs::Notes::all_grow_same, crate::proofs::Notes::all_grow_trans))]
 pub(crate) fn note_value(
     entries: &mut [TallyEntry],
-    latest: &mut [usize],
+    recent: &mut Recent,
     field: &Field,
     value: &Value,
 ) -> Result<(), NoteFault>
@@ -41,7 +42,7 @@ pub(crate) fn note_value(
     if is_plain(field) {
         return Ok(());
     }
-    note_named(entries, latest, field, value)
+    note_named(entries, recent, field, value)
 }
 
 // The same of a field that may name a dictionary.
@@ -49,7 +50,7 @@ pub(crate) fn note_value(
 #[tactic(auto, using(crate::proofs::Notes::all_grow_same, crate::proofs::Notes::all_grow_trans))]
 fn note_named(
     entries: &mut [TallyEntry],
-    latest: &mut [usize],
+    recent: &mut Recent,
     field: &Field,
     value: &Value,
 ) -> Result<(), NoteFault>
@@ -65,19 +66,19 @@ fn note_named(
     if let Some(dictionary) = field.dictionary {
         return match value {
             Value::Null => Ok(()),
-            _ => note_one(entries, latest, dictionary.id, value),
+            _ => note_one(entries, recent, dictionary.id, value),
         };
     }
     let children = field.children.as_slice();
     match (&field.kind, value) {
         (DataType::List | DataType::FixedSizeList(_), Value::List(values)) => {
             match children.first() {
-                Some(child) => note_items(entries, latest, child, values.as_slice()),
+                Some(child) => note_items(entries, recent, child, values.as_slice()),
                 None => Ok(()),
             }
         }
         (DataType::Struct, Value::Struct(values)) => {
-            note_each(entries, latest, children, values.as_slice())
+            note_each(entries, recent, children, values.as_slice())
         }
         _ => Ok(()),
     }
@@ -88,7 +89,7 @@ fn note_named(
 #[tactic(auto, using(crate::proofs::Notes::all_grow_same, crate::proofs::Notes::all_grow_trans))]
 fn note_items(
     entries: &mut [TallyEntry],
-    latest: &mut [usize],
+    recent: &mut Recent,
     child: &Field,
     values: &[Value],
 ) -> Result<(), NoteFault>
@@ -103,7 +104,7 @@ fn note_items(
     ensures grows { AllGrow entries.old entries.new }
 {
     for value in values {
-        note_value(entries, latest, child, value)?;
+        note_value(entries, recent, child, value)?;
     }
     Ok(())
 }
@@ -113,7 +114,7 @@ fn note_items(
 #[tactic(auto, using(crate::proofs::Notes::all_grow_same, crate::proofs::Notes::all_grow_trans))]
 pub(crate) fn note_each(
     entries: &mut [TallyEntry],
-    latest: &mut [usize],
+    recent: &mut Recent,
     fields: &[Field],
     values: &[Value],
 ) -> Result<(), NoteFault>
@@ -131,7 +132,7 @@ pub(crate) fn note_each(
         let Some(value) = values.get(number) else {
             return Ok(());
         };
-        note_value(entries, latest, field, value)?;
+        note_value(entries, recent, field, value)?;
     }
     Ok(())
 }

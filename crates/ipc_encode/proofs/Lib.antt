@@ -13,7 +13,7 @@ pub mod Growing
 pub mod Siblings
 pub mod Leaving
 pub mod Held
-pub mod Spare
+pub mod Spared
 pub mod SlotParts
 pub mod Marked
 pub mod NumberBytes
@@ -30,6 +30,7 @@ pub mod SureColumns
 pub mod NestedData
 pub mod CountedColumns
 pub mod Indexed
+pub mod Agreeing
 pub mod Ranges
 pub mod ReadbackParts
 pub mod ReadbackLengths

@@ -11,6 +11,7 @@ use Rattle.ipc_encode.specs.declared.counts.Counts.{Counts}
 use Rattle.ipc_encode.specs.declared.fault.PushFault.{PushFault}
 use Rattle.ipc_encode.specs.declared.fault.PushFault.TheVariants as fault
 use Rattle.ipc_encode.specs.declared.node.Node.{Node, out-Node}
+use Rattle.ipc_encode.specs.declared.spare.Spare.{Spare}
 use Rattle.ipc_encode.specs.declared.column.Purpose.{Purpose}
 use Rattle.ipc_encode.specs.declared.column.Purpose.TheVariants as purpose
 use Rattle.ipc_column.specs.Shapes.{Shape, bare, field, shape_of}
@@ -93,10 +94,10 @@ weight_of each (field l children rest) given =
     + weight_of each rest (λ j. given (suc j))
 
 -- These rows are within the limits with any values more, in whatever columns, that weigh less than
--- this.
-abbrev pub HasSpare : Limits → List Field → List (List Value) → ℕ → Type 0
+-- what is spare.
+abbrev pub HasSpare : Limits → List Field → List (List Value) → Spare → Type 0
 HasSpare limits fields rows spare = (added : ℕ → List Value)
-    → weight_of 0 (shape_of fields) added < spare
+    → weight_of 0 (shape_of fields) added < spare.weight
     → AreWithin limits (shape_of fields) (λ j. columns rows j ++ added j)
 
 -- The builder holds exactly these rows of these fields, which are within the limits, and for each

@@ -30,6 +30,7 @@ use crate::index::{IndexOf, Renumber};
 use crate::node::Node;
 use crate::parts::{Draft, Parts, add_nodes};
 use crate::room::Room;
+use crate::spare::Spare;
 use crate::sure::{Look, look_for, row_surely_fits};
 use crate::sure_columns::columns_surely_fit;
 use crate::sure_inside::{have_spare, left_of_row};
@@ -55,9 +56,9 @@ pub struct Builder {
     failed: bool,
     // How far a look at a row goes.
     look: Look,
-    // Rows that weigh less are surely within the limits with those that are held. Only a look into
-    // lists and structs asks for it, and tells it anew.
-    spare: u64,
+    // What is spare behind the rows that are held. Only a look into lists and structs asks for it,
+    // and tells it anew; where no column has children it is nothing.
+    spare: Spare,
     // What it holds has no meaning; the body takes its room.
     body: Vec<u8>,
 }
@@ -155,7 +156,7 @@ impl Builder {
             limits: *limits,
             failed: false,
             look,
-            spare: 0,
+            spare: Spare { weight: 0 },
             body,
         })
     }
@@ -185,7 +186,7 @@ impl Builder {
             limits: *limits,
             failed: false,
             look,
-            spare: 0,
+            spare: Spare { weight: 0 },
             body: Vec::new(alloc),
         })
     }
@@ -266,35 +267,37 @@ impl Builder {
     // What `spare_behind` tells of a row with lists or structs, where the columns are weighed anew.
     #[cold]
     #[inline(never)]
-    fn spare_anew(&self, fields: &[Field], row: &[Value]) -> Option<u64>
+    fn spare_anew(&self, fields: &[Field], row: &[Value]) -> Option<Spare>
         ensures fits { IfSome result (λ spare. EachFits Fits fields.now row.now) }
         ensures spare { (known : Numbering) (limits : Limits) (rows : List (List Value))
-            → HasRows known limits fields.now rows self.now → IfSome result
-            (λ spare. (0 < spare) × HasSpare limits fields.now (rows ++ row.now ∷ []) spare) }
+            → HasRows known limits fields.now rows self.now
+            → IfSome result (λ spare. (0 < spare.weight)
+            × HasSpare limits fields.now (rows ++ row.now ∷ []) spare) }
     {
         let most = MAX_DATA as u64;
         let left = left_of_row(fields, row, &self.nodes, most)?;
         let weight = most - left;
         let more = left.min(MORE);
         if have_spare(&self.nodes, weight + more, &self.limits) {
-            return Some(more + 1);
+            return Some(Spare { weight: more + 1 });
         }
         if have_spare(&self.nodes, weight, &self.limits) {
-            return Some(1);
+            return Some(Spare { weight: 1 });
         }
         None
     }
 
     // What `spare_behind` tells of a row with lists or structs.
     #[inline(never)]
-    fn spare_inside(&self, fields: &[Field], row: &[Value]) -> Option<u64>
+    fn spare_inside(&self, fields: &[Field], row: &[Value]) -> Option<Spare>
         ensures fits { IfSome result (λ spare. EachFits Fits fields.now row.now) }
         ensures spare { (known : Numbering) (limits : Limits) (rows : List (List Value))
-            → HasRows known limits fields.now rows self.now → IfSome result
-            (λ spare. (0 < spare) × HasSpare limits fields.now (rows ++ row.now ∷ []) spare) }
+            → HasRows known limits fields.now rows self.now
+            → IfSome result (λ spare. (0 < spare.weight)
+            × HasSpare limits fields.now (rows ++ row.now ∷ []) spare) }
     {
-        match left_of_row(fields, row, &self.nodes, self.spare) {
-            Some(left) if left > 0 => Some(left),
+        match left_of_row(fields, row, &self.nodes, self.spare.weight) {
+            Some(left) if left > 0 => Some(Spare { weight: left }),
             _ => self.spare_anew(fields, row),
         }
     }
@@ -302,7 +305,7 @@ impl Builder {
     // What `spare_behind` tells of a row without lists and structs, where there is room for one.
     // Nothing is spare, and nobody asks for it.
     #[inline(always)]
-    fn spare_beside(&self, fields: &[Field], row: &[Value]) -> Option<u64>
+    fn spare_beside(&self, fields: &[Field], row: &[Value]) -> Option<Spare>
         requires { self.now.rows < self.now.limits.slots }
         ensures fits { (known : Numbering) (limits : Limits) (rows : List (List Value))
             → HasRows known limits fields.now rows self.now
@@ -310,10 +313,10 @@ impl Builder {
         ensures within { (known : Numbering) (limits : Limits) (rows : List (List Value))
             → HasRows known limits fields.now rows self.now → IfSome result
             (λ spare. AreWithin limits (shape_of fields.now) (columns (rows ++ row.now ∷ []))) }
-        ensures none { IfSome result (λ spare. spare ≡ 0) }
+        ensures none { IfSome result (λ spare. spare.weight ≡ 0) }
     {
         if row_surely_fits(fields, &self.nodes, row, self.rows, &self.limits) {
-            return Some(0);
+            return Some(Spare { weight: 0 });
         }
         None
     }
@@ -321,13 +324,12 @@ impl Builder {
     /// How much weight is spare behind a row that surely conforms to the fields of the rows that
     /// are held, and is within the limits with them: with all of these, rows that weigh less are
     /// within the limits too. A row weighs 6 for each slot that it gives to any column, those below
-    /// lists and structs too, and as much as its data there (`weight_of`). It is 0 where no column
-    /// has children.
+    /// lists and structs too, and as much as its data there (`weight_of`).
     ///
     /// It takes one look at each value, for callers that push row by row, and give what is spare to
     /// `take_row`. None where that isn't sure, as near the limits: `conforms` and `fits` tell.
     #[inline(always)]
-    pub fn spare_behind(&self, fields: &[Field], row: &[Value]) -> Option<u64>
+    pub fn spare_behind(&self, fields: &[Field], row: &[Value]) -> Option<Spare>
         ensures conforms { (known : Numbering) (limits : Limits) (rows : List (List Value))
             → HasRows known limits fields.now rows self.now
             → IfSome result (λ spare. RowFits fields.now row.now) }
@@ -385,17 +387,17 @@ impl Builder {
         ensures fails { OnErr result (HasFailed self.new) }
         ensures failed { HasFailed self.old → result ≡ Err WriteFault.Failed }
     {
-        self.take_row(row, 0, indices)?;
+        self.take_row(row, Spare { weight: 0 }, indices)?;
         Ok(())
     }
 
     /// The same, for callers that push row by row: a fault is one byte. `spare` is what
-    /// `spare_behind` tells of the row, or 0.
+    /// `spare_behind` told of this row, or `Spare::none`.
     #[inline(always)]
     pub fn take_row<I: IndexOf>(
         &mut self,
         row: &[Value],
-        spare: u64,
+        spare: Spare,
         indices: &I,
     ) -> Result<(), PushFault>
         ensures pushed { (limits : Limits) (fields : List Field) (rows : List (List Value))
@@ -467,7 +469,7 @@ impl Builder {
         }
         take_batch(&mut self.nodes, batch, &self.limits, indices)?;
         self.rows += count;
-        self.spare = 0;
+        self.spare = Spare { weight: 0 };
         self.failed = false;
         Ok(())
     }

@@ -1,6 +1,6 @@
 -- The messages of a batch: those of the dictionaries that it needs, and its own.
 use Rattle.std.proofs.Common.{◌≡◌, ◌∙◌, refl, sym, ap, subst, ℕ, zero, suc, ◌+◌, ◌<◌, ◌≤◌, Bool, true}
-use Rattle.std.proofs.Common.{false, cond, ℤ, List, [], ◌∷◌, ◌++◌, map, length, get_or}
+use Rattle.std.proofs.Common.{false, cond, ℤ, List, [], ◌∷◌, ◌++◌, length, get_or}
 use Rattle.std.proofs.Common.{append_assoc, Option, Some, None, int_eq, arith}
 use Rattle.std.specs.List.{AllByRecursion, Contains}
 use Rattle.std.proofs.lemmas.Bool.Decides.{Decides-int_eq}
@@ -22,7 +22,7 @@ use Rattle.ipc_encode.specs.Indices.{FindsRows}
 use Rattle.ipc_encode.specs.Numbers.{Numbering, renumbered, told}
 use Rattle.ipc_encode.proofs.Cutting.{buffers_length, nodes_length}
 use Rattle.ipc_encode.proofs.Ranges.{ranges_length}
-use Rattle.ipc_dictionaries.specs.ValuesColumns.{IsOneColumn, columns_for, columns_in}
+use Rattle.ipc_dictionaries.specs.ValuesColumns.{columns_for, columns_in}
 use Rattle.ipc_dict.specs.declared.entry.TallyEntry.{TallyEntry}
 use Rattle.ipc_dict.specs.declared.kept.KeptEntry.{KeptEntry}
 use Rattle.ipc_dict.specs.Distinct.{is_seen, seen, seen_all}

@@ -18,10 +18,8 @@ use Rattle.ipc_model.specs.declared.value.Value.{Value}
 use Rattle.ipc_encode.specs.Limits.{IsRefused, IsWithin}
 use Rattle.ipc_encode.specs.Built.{HasRows}
 use Rattle.ipc_encode.specs.Numbers.{told}
-use Rattle.ipc_dict.specs.declared.entry.TallyEntry.{TallyEntry}
 use Rattle.ipc_dict.specs.declared.kept.KeptEntry.{KeptEntry}
 use Rattle.ipc_dict.specs.Noting.{AllFit, noted_place}
-use Rattle.ipc_dict.specs.Sending.{tallied}
 use Rattle.ipc_dict.specs.Tallied.{Tallied}
 use Rattle.ipc_dict.specs.Within.{AllWithin}
 use Rattle.ipc_stream.specs.declared.pushed.PushedRows.{PushedRows}

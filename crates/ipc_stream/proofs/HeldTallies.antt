@@ -1,12 +1,12 @@
 -- The distinct values of rows that are pushed one by one.
-use Rattle.std.proofs.Common.{◌≡◌, ◌∙◌, refl, sym, ap, subst, ℕ, ℤ, false, true, List, []}
+use Rattle.std.proofs.Common.{◌≡◌, ◌∙◌, refl, sym, ap, subst, ℕ, false, true, List, []}
 use Rattle.std.proofs.Common.{◌∷◌, ◌++◌, append_assoc, Option, Some, None, IsSome, inl, inr}
 use Rattle.std.proofs.Common.{true≢false}
 use Rattle.std.specs.Prelude.{◌⊎◌}
-use Rattle.std.specs.List.{AllByRecursion, Contains}
+use Rattle.std.specs.List.{AllByRecursion}
 use Rattle.std.proofs.lemmas.List.{append-nil}
 use Rattle.ipc_model.specs.Entries.{entries}
-use Rattle.ipc_model.specs.WellFormed.{IsFieldWellFormed, WellFormed}
+use Rattle.ipc_model.specs.WellFormed.{IsFieldWellFormed}
 use Rattle.ipc_model.specs.declared.fault.WriteFault.{WriteFault}
 use Rattle.ipc_model.specs.declared.fault.WriteFault.TheVariants as w
 use Rattle.ipc_model.specs.declared.limits.Limits.{Limits}
@@ -15,20 +15,18 @@ use Rattle.ipc_model.specs.declared.schema.Field.{Field}
 use Rattle.ipc_model.specs.declared.schema.Schema.{Schema}
 use Rattle.ipc_model.specs.declared.table.BatchRows.{BatchRows}
 use Rattle.ipc_model.specs.declared.value.Value.{Value}
-use Rattle.ipc_column.specs.Shapes.{shape_of}
 use Rattle.ipc_encode.specs.declared.builder.Builder.{Builder}
-use Rattle.ipc_encode.specs.Buffers.{columns}
 use Rattle.ipc_encode.specs.Built.{HasRows}
 use Rattle.ipc_encode.specs.Indices.{AgreeOn}
 use Rattle.ipc_encode.specs.Numbers.{number_or, told}
-use Rattle.ipc_encode.proofs.Indexed.{columns_agree}
+use Rattle.ipc_encode.proofs.Agreeing.{holds_agreeing}
 use Rattle.ipc_dict.specs.declared.entry.TallyEntry.{TallyEntry}
-use Rattle.ipc_dict.specs.Noting.{AllFit, IsFull, note_all, noted_place}
+use Rattle.ipc_dict.specs.Noting.{IsFull, note_all, noted_place}
 use Rattle.ipc_dict.specs.Pairs.{Pairs, row_pairs, rows_pairs}
-use Rattle.ipc_dict.specs.SchemaIds.{of_fields, unused}
+use Rattle.ipc_dict.specs.SchemaIds.{unused}
 use Rattle.ipc_dict.specs.Sending.{tallied}
 use Rattle.ipc_dict.specs.Tallied.{Tallied}
-use Rattle.ipc_dict.specs.Within.{AllWithin, IsOfLimits, IsOverLimit}
+use Rattle.ipc_dict.specs.Within.{IsOfLimits, IsOverLimit}
 use Rattle.ipc_dict.proofs.Covered.{covered}
 use Rattle.ipc_dict.proofs.CoveredIndices.{pair_placed}
 use Rattle.ipc_dict.proofs.Notes.{note_all-append}
@@ -88,15 +86,9 @@ rows_behind : (limits : Limits) (fields : List Field) (rows all : List (List Val
     → tallied fields all ≡ note_all (tallied fields rows) ps → AllByRecursion (IsFieldWellFormed limits) (entries fields)
     → HasRows (told (noted_place (tallied fields rows))) limits fields rows builder
     → HasRows (told (noted_place (tallied fields all))) limits fields rows builder
-rows_behind limits fields rows all ps builder next fine h = record {
-  limits_are = h.limits_are;
-  works = h.works;
-  count = h.count;
-  columns_are = columns_agree (told (noted_place (tallied fields rows))) (told (noted_place (tallied fields all))) limits
-      (shape_of fields) builder.nodes.items (columns rows) (places_agree limits fields rows all ps next fine) h.columns_are;
-  within = h.within;
-  has_spare = h.has_spare;
-}
+rows_behind limits fields rows all ps builder next fine =
+    holds_agreeing (told (noted_place (tallied fields rows))) (told (noted_place (tallied fields all))) limits fields rows builder
+    (places_agree limits fields rows all ps next fine)
 
 -- with one row more
 pub rows_kept : (limits : Limits) (fields : List Field) (rows : List (List Value)) (row : List Value) (builder : Builder)

@@ -1,7 +1,6 @@
 -- What is in force once dictionaries were set.
-use Rattle.std.proofs.Common.{◌≡◌, ◌∙◌, refl, sym, ap, subst, ℕ, Bool, true, false, cond, ℤ, List, [], ◌∷◌, ◌++◌, map, length, append_assoc}
+use Rattle.std.proofs.Common.{◌≡◌, ◌∙◌, refl, sym, ap, subst, ℕ, Bool, true, false, cond, ℤ, List, [], ◌∷◌, map}
 use Rattle.std.proofs.Common.{Option, Some, None, int_eq, true≢false}
-use Rattle.std.specs.Map.{lookup}
 use Rattle.std.specs.Ordering.{int_cmp, is_eq, match_ordering, MatchOrdering}
 use Rattle.std.specs.declared.cmp.Ordering.{Ordering}
 use Rattle.std.specs.Bool.{Decides}
@@ -9,7 +8,6 @@ use Rattle.std.specs.Prelude.{◌<ℤ◌}
 use Rattle.std.specs.Int.Signed.{<ℤ_irrefl}
 use Rattle.std.specs.declared.cmp.Ordering.TheVariants.{Less, Equal, Greater}
 use Rattle.std.specs.Cmp.{ranked_equal}
-use Rattle.std.specs.BTreeMap.{insert_entry, is_at}
 use Rattle.std.proofs.lemmas.Bool.Decides.{Decides-int_eq}
 use Rattle.std.proofs.lemmas.Cmp.{int_ranked}
 use Rattle.ipc_model.specs.declared.limits.Limits.{Limits}
@@ -19,7 +17,7 @@ use Rattle.ipc_column.specs.Values.{first_of}
 use Rattle.ipc_dictionaries.specs.InForce.{at, put}
 use Rattle.ipc_dict.specs.declared.entry.TallyEntry.{TallyEntry}
 use Rattle.ipc_dict.specs.declared.kept.KeptEntry.{KeptEntry}
-use Rattle.ipc_dict.specs.Planning.{SameIds, after, after_all, own_send, sends_of, sent_for}
+use Rattle.ipc_dict.specs.Planning.{SameIds, after, after_all, sends_of, sent_for}
 use Rattle.ipc_dict.specs.SchemaIds.{tally_ids}
 use Rattle.ipc_dict.proofs.UniqueIds.{IsOther, AreUnique}
 use Rattle.ipc_decode.specs.Stream.{InForce, DictionaryInForce, Run, done, more, values_in, with_dictionary}

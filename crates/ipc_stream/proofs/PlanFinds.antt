@@ -1,12 +1,11 @@
 -- The indices of a plan find their values in what is in force once its dictionaries were sent.
 use Rattle.std.proofs.Common.{◌≡◌, ◌∙◌, refl, sym, ap, subst, ℕ, ◌<◌, ◌≤◌, ℤ, List}
-use Rattle.std.proofs.Common.{[], length, get_or, slice_get, Option, Some, None, IsSome}
+use Rattle.std.proofs.Common.{[], length, slice_get, Option, Some, None, IsSome}
 use Rattle.std.proofs.Common.{arith, true≢false}
-use Rattle.std.specs.List.{AllByRecursion, Contains}
+use Rattle.std.specs.List.{Contains}
 use Rattle.std.specs.Option.{IfSome, unwrap_or}
 use Rattle.std.proofs.lemmas.Option.{slice_get_within}
-use Rattle.ipc_model.specs.Entries.{entries}
-use Rattle.ipc_model.specs.WellFormed.{IsFieldWellFormed, WellFormed}
+use Rattle.ipc_model.specs.WellFormed.{WellFormed}
 use Rattle.ipc_model.specs.declared.limits.Limits.{Limits}
 use Rattle.ipc_model.specs.declared.schema.Dictionary.{Dictionary}
 use Rattle.ipc_model.specs.declared.schema.Schema.{Schema}
@@ -16,7 +15,7 @@ use Rattle.ipc_encode.specs.Indices.{Finds, FindsRows, IsIndexWithin}
 use Rattle.ipc_encode.specs.Numbers.{number_or, renumbered, told}
 use Rattle.ipc_dictionaries.specs.InForce.{at}
 use Rattle.ipc_dict.specs.declared.kept.KeptEntry.{KeptEntry}
-use Rattle.ipc_dict.specs.Noting.{AllFit, noted_place}
+use Rattle.ipc_dict.specs.Noting.{noted_place}
 use Rattle.ipc_dict.specs.Pairs.{rows_pairs}
 use Rattle.ipc_dict.specs.Planning.{FindsNoted, after_all, number, sent_for}
 use Rattle.ipc_dict.specs.SchemaIds.{count_of, of_fields}

@@ -19,7 +19,7 @@ ghost use Rattle.ipc_stream.specs.Pushed.{with_row, with_rows};
 use crate::messages::parts_message;
 use crate::untaken::Untaken;
 use ipc_dict::{NoteFault, Seed, Tally};
-use ipc_encode::{Builder, NoIndices, Room, encode};
+use ipc_encode::{Builder, NoIndices, Room, Spare, encode};
 use ipc_model::{Items, Limits, Row, Schema, Text, Value, WriteFault, conforms, is_conforming};
 use std::alloc::Global;
 
@@ -97,7 +97,7 @@ impl PushedRows {
     // held, and behind which so much weight is spare. After a refusal for memory what is held is of
     // no use, after any other it is the batch that it was.
     #[inline(always)]
-    fn take_sure(&mut self, row: &[Value], spare: u64) -> Result<(), NoteFault>
+    fn take_sure(&mut self, row: &[Value], spare: Spare) -> Result<(), NoteFault>
         ensures holds { (limits : Limits) (schema : Schema) (b : BatchRows)
             → WellFormed limits schema → RowFits schema.fields row.now
             → IsWithin limits schema.fields (b.rows ++ row.now ∷ [])
@@ -137,7 +137,7 @@ impl PushedRows {
             → HoldsBatch limits schema b self.new) }
     {
         self.builder.fit_row(row)?;
-        self.take_sure(row, 0)
+        self.take_sure(row, Spare::none())
     }
 
     // Takes one row more that may not conform.

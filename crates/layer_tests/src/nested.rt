@@ -1,6 +1,6 @@
 //! Rows taken one at a time, byte for byte and up to a limit, of lists and structs too.
 use crate::lists::over;
-use ipc_encode::{Builder, NoIndices, Parts, Renumber, Room, SameNumbers};
+use ipc_encode::{Builder, NoIndices, Parts, Renumber, Room, SameNumbers, Spare};
 use ipc_model::{DataType, DateUnit, Field, IntBits, Items, Limits, Row, Value, WriteFault};
 use std::alloc::{AllocError, Global};
 use std::mem;
@@ -481,7 +481,7 @@ fn take_again(builder: &mut Builder, fields: &[Field], row: &[Value]) -> Taken {
             return Taken { all, surely };
         }
         if builder
-            .take_row(row, spare.unwrap_or(0), &NoIndices)
+            .take_row(row, spare.unwrap_or(Spare::none()), &NoIndices)
             .is_err()
         {
             return Taken { all, surely };
@@ -530,7 +530,7 @@ fn spare_of_two(alloc: Global, one: &Looked) -> Result<Option<(u64, u64)>, Write
         return Ok(None);
     }
     let second = builder.spare_behind(fields.as_slice(), row.as_slice());
-    Ok(second.map(|second| (first, second)))
+    Ok(second.map(|second| (first.weight(), second.weight())))
 }
 
 // Columns are weighed seldom: a row takes its weight off what is spare.

@@ -1,4 +1,4 @@
-use Rattle.std.proofs.Common.{◌∙◌, ◌<◌, subst, length, below_more, arith}
+use Rattle.std.proofs.Common.{◌∙◌, subst, below_more, arith}
 use Rattle.std.proofs.lemmas.List.{get_or_default}
 use Rattle.ipc_model.specs.declared.schema.Field.{Field}
 use Rattle.ipc_dict.specs.ColumnNotes.{AreOthers}

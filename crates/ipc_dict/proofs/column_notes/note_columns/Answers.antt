@@ -1,8 +1,6 @@
-use Rattle.std.proofs.Common.{◌≡◌, ◌∙◌, refl, sym, ap, ◌+◌, ◌<◌, ◌≤◌, length, arith}
+use Rattle.std.proofs.Common.{◌∙◌, refl, sym, ap, ◌+◌, ◌<◌, ◌≤◌, length, arith}
 use Rattle.std.proofs.lemmas.Option.{slice_get_read}
-use Rattle.ipc_encode.specs.Cells.{cells}
 use Rattle.ipc_dict.specs.Noting.{note_all}
-use Rattle.ipc_dict.specs.Pairs.{Pairs, pairs, items_pairs}
 use Rattle.ipc_dict.specs.declared.entry.TallyEntry.{TallyEntry}
 use Rattle.std.proofs.Common.{List}
 use Rattle.ipc_dict.proofs.ColumnNotes.{column_first, from_first, from_last, pairs_from}

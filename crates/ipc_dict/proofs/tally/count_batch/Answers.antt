@@ -1,12 +1,8 @@
-use Rattle.std.proofs.Common.{◌∙◌, inl, inr, sym, subst, List}
-use Rattle.std.proofs.lemmas.Result.{err_from_is_err_and}
-use Rattle.ipc_encode.specs.Faults.{write_fault}
+use Rattle.std.proofs.Common.{◌∙◌, sym, subst, List}
 use Rattle.ipc_dict.specs.declared.entry.TallyEntry.{TallyEntry}
 use Rattle.ipc_dict.specs.EntryColumns.{AreCounted}
-use Rattle.ipc_dict.specs.Within.{IsOverLimit}
 use Rattle.ipc_dict.proofs.Notes.{grown_by_none}
-use Rattle.ipc_dict.proofs.NoteFaults.{told_push}
-use Rattle.ipc_dict.proofs.EntryColumns.{many_columns, says_limits, up_to_marks}
+use Rattle.ipc_dict.proofs.EntryColumns.{many_columns, up_to_marks}
 use Rattle.ipc_dict.proofs.tally.count_batch.Goals as goal
 
 pub count-requires-clause-columns : goal.count-requires-clause-columns

@@ -1,14 +1,5 @@
-use Rattle.ipc_column.specs.Shapes.{shape_of}
-use Rattle.ipc_encode.specs.Buffers.{columns}
-use Rattle.ipc_encode.proofs.Indexed.{columns_agree}
+use Rattle.ipc_encode.proofs.Agreeing.{holds_agreeing}
 use Rattle.ipc_encode.proofs.builder.holds_agreeing.Goals as goal
 
 pub returns : goal.returns
-returns c = λ known others limits fields rows builder same h. record {
-  limits_are = h.limits_are;
-  works = h.works;
-  count = h.count;
-  columns_are = columns_agree known others limits (shape_of fields) builder.nodes.items (columns rows) same h.columns_are;
-  within = h.within;
-  has_spare = h.has_spare;
-}
+returns c = holds_agreeing

@@ -10,7 +10,6 @@ use Rattle.ipc_encode.specs.Limits.{IsWithin}
 use Rattle.ipc_dictionaries.specs.ValuesColumns.{IsOneColumn, columns_for, columns_in}
 use Rattle.ipc_stream.proofs.BatchSent.{sent_as}
 use Rattle.ipc_stream.specs.Messages.{SetsDictionary}
-use Rattle.std.specs.Prelude.{IfOk}
 use Rattle.ipc_stream.proofs.batch_messages.add_dictionary.Goals as goal
 
 pub returns-clause-set : goal.returns-clause-set

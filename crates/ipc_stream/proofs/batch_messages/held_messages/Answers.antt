@@ -1,6 +1,6 @@
-use Rattle.std.proofs.Common.{◌≡◌, ◌∙◌, refl, sym, ap, subst, List, length, ℤ, ℕ, Option, Result, Err, inl, inr, false, true≢false}
+use Rattle.std.proofs.Common.{◌≡◌, ◌∙◌, sym, ap, subst, List, length, ℤ, ℕ, Option, Result, Err, inl, inr, false, true≢false}
 use Rattle.std.specs.List.{AllByRecursion}
-use Rattle.std.specs.Prelude.{◌⊎◌, true}
+use Rattle.std.specs.Prelude.{◌⊎◌}
 use Rattle.std.proofs.lemmas.Result.{err_from_is_err_and}
 use Rattle.ipc_model.specs.declared.fault.WriteFault.{WriteFault}
 use Rattle.ipc_model.specs.declared.fault.WriteFault.TheVariants as w
@@ -18,7 +18,7 @@ use Rattle.ipc_dict.specs.declared.kept.KeptEntry.{KeptEntry}
 use Rattle.ipc_dict.specs.Noting.{noted_place}
 use Rattle.ipc_dict.specs.Planning.{AllSettled, FindsNoted, after_all, number, sends_of}
 use Rattle.ipc_dict.specs.SchemaIds.{kept_ids, tally_ids}
-use Rattle.ipc_dict.specs.Sending.{sent_after, tallied}
+use Rattle.ipc_dict.specs.Sending.{tallied}
 use Rattle.ipc_dict.specs.Tallied.{Tallied}
 use Rattle.ipc_dict.proofs.Sending.{sent_is, tallied_ids}
 use Rattle.ipc_stream.specs.OpenStreams.{CanBeSent, IsGoingOn}
@@ -26,7 +26,6 @@ use Rattle.ipc_stream.specs.Dictionaries.{SendsBatch}
 use Rattle.ipc_stream.specs.Messages.{SetDictionaries, all_bytes}
 use Rattle.ipc_stream.specs.Parts.{RefusesPairs, TellsRows, head_of}
 use Rattle.ipc_stream.specs.declared.message.Message.{Message}
-use Rattle.ipc_stream.specs.Pushed.{HoldsBatch}
 use Rattle.ipc_stream.specs.Writing.{AcceptsBatch}
 use Rattle.ipc_stream.proofs.BatchSent.{batch_sent, laid_counts, plan_can, short_tallied}
 use Rattle.ipc_stream.proofs.HeldRows.{accepted_pairs}

@@ -1,5 +1,4 @@
-use Rattle.std.proofs.Common.{take, List}
-use Rattle.ipc_model.specs.declared.value.Value.{Value}
+use Rattle.std.proofs.Common.{take}
 use Rattle.ipc_encode.specs.Built.{HasRows}
 use Rattle.ipc_encode.specs.Limits.{IsWithin}
 use Rattle.ipc_encode.specs.Numbers.{no_indices}

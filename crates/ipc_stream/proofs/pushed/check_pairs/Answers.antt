@@ -10,7 +10,7 @@ use Rattle.ipc_encode.specs.Limits.{IsWithin}
 use Rattle.ipc_encode.specs.Numbers.{no_indices}
 use Rattle.ipc_dict.proofs.Covered.{covered}
 use Rattle.ipc_stream.specs.Parts.{head_of}
-use Rattle.ipc_stream.proofs.HeldRows.{refused_columns, refused_pairs}
+use Rattle.ipc_stream.proofs.HeldRows.{refused_pairs}
 use Rattle.ipc_stream.proofs.pushed.check_pairs.Goals as goal
 
 pub returns-in_err-parts_message : goal.returns-in_err-parts_message

@@ -20,7 +20,7 @@ invariant_of-result c =
     let columns = c.in_ok-columns.columns in
     let es = c.in_ok-entries.entries.items in
     let copied = c.in_ok-fields.ensures.cases.1 (λ x y h. h) in
-    let all = counted c.args.schema.now.fields _ es columns c.deref-3.ensures.value c.in_ok-columns.ensures.counted in (
+    let all = counted c.args.schema.now.fields _ es columns c.deref-2.ensures.value c.in_ok-columns.ensures.counted in (
       c.in_ok-marks.ensures ∙ ap length c.deref.ensures.value,
       (
         subst AllFit (sym c.in_ok-entries.ensures) (fit-unused _),
@@ -33,5 +33,5 @@ returns-clause-within c =
     let fields = c.args.schema.now.fields in
     let columns = c.in_ok-columns.columns in
     let es = c.in_ok-entries.entries.items in
-    let all = counted fields _ es columns c.deref-3.ensures.value c.in_ok-columns.ensures.counted in
+    let all = counted fields _ es columns c.deref-2.ensures.value c.in_ok-columns.ensures.counted in
     subst (λ (limits : Limits). AllWithin limits fields es) c.in_ok-columns.ensures.limits (counted_within fields es columns all)

@@ -9,7 +9,7 @@ use Rattle.ipc_encode.specs.Built.{AreColumns}
 use Rattle.ipc_encode.specs.Numbers.{told}
 use Rattle.ipc_encode.specs.Limits.{IsRefused}
 use Rattle.ipc_encode.proofs.Held.{built_within, rows_refused}
-use Rattle.ipc_encode.proofs.Spare.{no_spare}
+use Rattle.ipc_encode.proofs.Spared.{no_spare}
 use Rattle.ipc_encode.proofs.builder.Builder.of_rows.Goals as goal
 
 pub returns-in_err-push_rows-clause-refused : goal.returns-in_err-push_rows-clause-refused

@@ -2,7 +2,7 @@ use Rattle.std.proofs.Common.{subst, ◌<◌, ◌++◌, [], ◌∷◌, length-ap
 use Rattle.std.proofs.lemmas.Option.{IfSome_then}
 use Rattle.ipc_model.specs.declared.limits.Limits.{Limits}
 use Rattle.ipc_encode.proofs.Held.{rows_within, not_full}
-use Rattle.ipc_encode.proofs.Spare.{spare_within}
+use Rattle.ipc_encode.proofs.Spared.{spare_within}
 use Rattle.ipc_encode.proofs.builder.Builder.spare_behind.Goals as goal
 
 pub returns-in-Deep-clause-within : goal.returns-in-Deep-clause-within

@@ -9,7 +9,7 @@ use Rattle.ipc_encode.specs.Buffers.{columns}
 use Rattle.ipc_encode.specs.Built.{AreColumns, ArePushesRefused}
 use Rattle.ipc_encode.specs.Numbers.{told}
 use Rattle.ipc_encode.proofs.Held.{columns_more, rows_refused}
-use Rattle.ipc_encode.proofs.Spare.{no_spare}
+use Rattle.ipc_encode.proofs.Spared.{no_spare}
 use Rattle.ipc_encode.proofs.builder.Builder.take_columns.Goals as goal
 
 pub returns-clause-pushed : goal.returns-clause-pushed

@@ -7,7 +7,7 @@ use Rattle.ipc_encode.specs.Buffers.{columns}
 use Rattle.ipc_encode.specs.Built.{AreColumns}
 use Rattle.ipc_encode.specs.Limits.{IsRefused}
 use Rattle.ipc_encode.proofs.Held.{built_within}
-use Rattle.ipc_encode.proofs.Spare.{no_spare}
+use Rattle.ipc_encode.proofs.Spared.{no_spare}
 use Rattle.ipc_encode.proofs.builder.Builder.with_room.Goals as goal
 
 pub returns-in_err-check_len-clause-refused : goal.returns-in_err-check_len-clause-refused

@@ -1,4 +1,4 @@
-use Rattle.std.proofs.Common.{◌≡◌, ◌∙◌, sym, subst, ◌++◌, [], ◌∷◌}
+use Rattle.std.proofs.Common.{◌∙◌, sym, subst, ◌++◌, [], ◌∷◌}
 use Rattle.std.specs.Prelude.{IfErr}
 use Rattle.ipc_model.specs.declared.layout.Layout.{Layout}
 use Rattle.ipc_encode.specs.Built.{IsColumn, IsPushRefused}

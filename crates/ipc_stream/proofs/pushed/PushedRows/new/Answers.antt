@@ -1,4 +1,4 @@
-use Rattle.std.proofs.Common.{refl, sym, subst, [], List}
+use Rattle.std.proofs.Common.{refl, subst, [], List}
 use Rattle.ipc_model.specs.declared.schema.Field.{Field}
 use Rattle.ipc_encode.specs.Built.{HasRows}
 use Rattle.ipc_encode.specs.Numbers.{told}

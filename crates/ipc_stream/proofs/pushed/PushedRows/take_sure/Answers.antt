@@ -3,7 +3,6 @@ use Rattle.std.proofs.lemmas.Result.{err_from_is_err_and}
 use Rattle.ipc_encode.specs.Built.{HasRows}
 use Rattle.ipc_encode.specs.Numbers.{told}
 use Rattle.ipc_dict.specs.Noting.{noted_place}
-use Rattle.ipc_dict.specs.Sending.{tallied}
 use Rattle.ipc_dict.specs.Tallied.{Tallied}
 use Rattle.ipc_dict.proofs.NoteFaults.{told_push}
 use Rattle.ipc_stream.proofs.HeldRows.{held_row, refused_row}
