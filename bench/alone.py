@@ -1,6 +1,9 @@
-"""Measures checking and reading alone: of each batch of a stream, again and again, when the stream was read.
+"""Measures validating batches and reading cells alone, many times for each batch of a stream.
 
-alone.py STREAM [TIMES]: TIMES is 20 where it isn't given. What a run takes that reads the stream and does nothing is taken off."""
+    alone.py STREAM [TIMES]         20 times by default
+
+The time of a run that only reads the stream is subtracted.
+"""
 import os
 import pathlib
 import subprocess
@@ -31,13 +34,15 @@ def main():
     path = sys.argv[1]
     times = int(sys.argv[2]) if len(sys.argv) > 2 else 20
     if not PROGRAM.exists():
-        subprocess.run(["rt", "run", "--", "push-rows", "i64", "2", "3"], cwd=PROGRAM.parent.parent, stdout=subprocess.DEVNULL, check=True)
+        words = ["rt", "run", "--", "push-rows", "i64", "2", "3"]
+        subprocess.run(words, cwd=PROGRAM.parent.parent, stdout=subprocess.DEVNULL, check=True)
     for job in ("check", "cells", "cells-by-row"):
         idle, _, _ = best(job, 0, path)
         busy, rows, number = best(job, times, path)
         seconds = max(busy - idle, 1e-9)
         size = number if job == "check" else os.path.getsize(path) * times
-        print(f"{job}: {size / seconds / 1e6:.0f} MB/s, {rows / seconds / 1e6:.1f} million rows a second ({seconds / times * 1e3:.2f} ms a time)")
+        rates = f"{size / seconds / 1e6:.0f} MB/s, {rows / seconds / 1e6:.1f} million rows/s"
+        print(f"{job}: {rates}, {seconds / times * 1e3:.2f} ms each time")
 
 
 main()

@@ -3,11 +3,11 @@
 
     python3 bench/collide.py [COUNT] > TEXTS.csv
 
-They are a CSV file of one column, `a`: 65,536 texts by default, which have the first 24 bytes in common.
-Such a hasher joins what it read so far with eight bytes of the text, and multiplies the result: the first
-bytes are chosen so that this is 0, whatever comes behind. `arrowstream from-csv` with a schema whose
-column has a dictionary takes as long for them as for any others, since it draws the seed of its hasher
-at random.
+They are a CSV file of one column, `a`: 65,536 texts by default, with the first 24 bytes in common.
+Such a hasher joins what it has read with eight bytes of the text, and multiplies the result. The
+first bytes are chosen so that the product is 0, whatever follows. `arrowstream from-csv` takes no
+longer for them than for other texts, even if the column has a dictionary: it draws the seed of its
+hasher at random.
 """
 import random
 import sys
@@ -15,7 +15,7 @@ import sys
 WORD = (1 << 64) - 1
 # The state that `FoldHasher` of the standard library begins with, and what it multiplies by.
 FIRST, MULTIPLIER = 0x243F6A8885A308D3, 0x9E3779B97F4A7C15
-# The place of `Value::Text` among the kinds of value, which is hashed in front of the text.
+# The number of `Value::Text` among the kinds of value, which is hashed before the text.
 KIND = 5
 LETTERS = b"abcdefghijklmnopqrstuvwxyz0123456789"
 
@@ -30,7 +30,7 @@ def word(chars):
 
 
 def common_bytes():
-    """The first 24 bytes of texts of 32, the last 8 of which are what the hasher has read so far."""
+    """The first 24 bytes of texts of 32. The last 8 of them are the hasher's state so far."""
     kind = folded(FIRST ^ KIND, MULTIPLIER ^ 16)
     while True:
         first = bytes(random.choice(LETTERS) for _ in range(16))

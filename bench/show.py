@@ -17,8 +17,9 @@ def batch():
     """A message with one batch of ROWS numbers, laid out as the sample's batch is."""
     head = bytearray(BATCH)
     body = b"".join(struct.pack("<q", n * 2_654_435_761 % 2**63 - 2**62) for n in range(ROWS))
-    # bodyLength, the batch's length, the node's length and the length of the values buffer, by their places in the message
-    for place, number in ((8 + 24, len(body)), (8 + 56, ROWS), (8 + 72, ROWS), (8 + 120, len(body))):
+    # The places of bodyLength, the lengths of batch and node, and the values buffer's length.
+    numbers = {8 + 24: len(body), 8 + 56: ROWS, 8 + 72: ROWS, 8 + 120: len(body)}
+    for place, number in numbers.items():
         struct.pack_into("<q", head, place, number)
     return bytes(head) + body
 
@@ -49,10 +50,11 @@ def main():
         path = file.name
     try:
         size = os.path.getsize(path) / 1e6
-        subprocess.run([str(TOP / "bin" / "arrowstream"), "show"], stdin=open(path, "rb"), stdout=subprocess.DEVNULL, check=True)
-        shown, peak = best([str(TOP / "crates" / "arrowstream" / "out" / "arrowstream"), "show"], path)
+        program = subprocess.check_output([str(TOP / "bin" / "build")], text=True).strip()
+        shown, peak = best([program, "show"], path)
         copied, _ = best(["cat"], path)
-        print(f"{size:.1f} MB: show {size / shown:.0f} MB/s, cat {size / copied:.0f} MB/s, peak of memory {peak:.0f} MiB")
+        rates = f"show {size / shown:.0f} MB/s, cat {size / copied:.0f} MB/s"
+        print(f"{size:.1f} MB: {rates}, peak of memory {peak:.0f} MiB")
     finally:
         os.unlink(path)
 

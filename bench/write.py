@@ -1,4 +1,5 @@
-"""Measures the writer in MB/s of output: four required columns of 64-bit integers, whose rows are pushed, 65,536 a batch."""
+"""Measures the writer in MB/s of output: rows of four required columns of 64-bit integers are
+pushed, 65,536 to a batch."""
 import pathlib
 import subprocess
 import sys
@@ -15,18 +16,21 @@ def best(batches, runs=5):
     least = float("inf")
     for _ in range(runs):
         start = time.perf_counter()
-        subprocess.run([PROGRAM, "push-rows", "i64", str(batches), str(ROWS)], stdout=subprocess.DEVNULL, check=True)
+        words = [PROGRAM, "push-rows", "i64", str(batches), str(ROWS)]
+        subprocess.run(words, stdout=subprocess.DEVNULL, check=True)
         least = min(least, time.perf_counter() - start)
     return least
 
 
 def main():
     if not PROGRAM.exists():
-        subprocess.run(["rt", "run", "--", "push-rows", "i64", "2", "3"], cwd=PROGRAM.parent.parent, stdout=subprocess.DEVNULL, check=True)
+        words = ["rt", "run", "--", "push-rows", "i64", "2", "3"]
+        subprocess.run(words, cwd=PROGRAM.parent.parent, stdout=subprocess.DEVNULL, check=True)
     megabytes = int(sys.argv[1]) if len(sys.argv) > 1 else 64
     batches = max(1, megabytes * 1_000_000 // BATCH)
-    # The first batch pays for the rows, which are made once, and for the room.
-    print(f"{batches * BATCH / 1e6:.1f} MB: {batches * BATCH / (best(1 + batches) - best(1)) / 1e6:.0f} MB/s")
+    # The first batch pays for the rows, which are made once, and for the first allocations.
+    seconds = best(1 + batches) - best(1)
+    print(f"{batches * BATCH / 1e6:.1f} MB: {batches * BATCH / seconds / 1e6:.0f} MB/s")
 
 
 main()

@@ -1,6 +1,14 @@
 # bash completion for arrowstream
 _arrowstream() {
-  local words
+  local words current=${COMP_WORDS[COMP_CWORD]}
+  local previous=${COMP_WORDS[COMP_CWORD - 1]}
+  COMPREPLY=()
+  case "$previous" in
+    --schema) compopt -o filenames
+      mapfile -t COMPREPLY < <(compgen -f -- "$current")
+      return ;;
+    --batch|--max-body|--max-metadata|--max-rows) return ;;
+  esac
   case "${COMP_WORDS[1]}" in
     check) words='--max-metadata --max-body --max-rows --help' ;;
     show) words='--pairs --max-metadata --max-body --max-rows --help' ;;
@@ -8,9 +16,8 @@ _arrowstream() {
     from-csv) words='--schema --batch --help' ;;
     rewrite) words='--max-metadata --max-body --max-rows --help' ;;
     help) words='check show to-csv from-csv rewrite' ;;
-    *) words='check show to-csv from-csv rewrite help --help --version' ;;
   esac
   [ "$COMP_CWORD" -gt 1 ] || words='check show to-csv from-csv rewrite help --help --version'
-  mapfile -t COMPREPLY < <(compgen -W "$words" -- "${COMP_WORDS[COMP_CWORD]}")
+  mapfile -t COMPREPLY < <(compgen -W "$words" -- "$current")
 }
-complete -o default -F _arrowstream arrowstream
+complete -F _arrowstream arrowstream

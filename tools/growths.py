@@ -1,5 +1,5 @@
 #!/usr/bin/env python3
-"""Refuses each growth of memory of a built program in turn, and looks at what it answers then.
+"""Refuses each growth of memory of a built program in turn, and checks the answer.
 
     tools/growths.py program PROGRAM INPUT [WORD..]
         a run of the program with these words and this standard input

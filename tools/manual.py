@@ -10,6 +10,14 @@ import subprocess
 import sys
 
 
+# The documents that are installed beside the man page.
+FILES = (
+    ".TP", "share/doc/arrowstream/docs/GUIDE.md", "recipes",
+    ".TP", "share/doc/arrowstream/docs/SCHEMA.md", "the form of a schema as JSON",
+    ".TP", "share/doc/arrowstream/docs/FAULTS.md", "every refusal, and what to do",
+)
+
+
 def in_two(line):
     """The word of a line of a list, and what is said of it."""
     return re.split(r"\s{2,}", line.strip(), maxsplit=1)
@@ -25,19 +33,19 @@ class Page:
         self.name = " ".join(words)
         self.about, rest = done.stdout.split("\n\nUsage: ", 1)
         self.usage, rest = rest.split("\n", 1)
-        self.commands, self.options, self.behind = {}, [], []
+        self.commands, self.options, self.notes = {}, [], []
         for part in rest.strip("\n").split("\n\n"):
             self.read(part)
 
     def read(self, part):
-        """Takes one part of the help: a list of commands or of options, or text behind them."""
+        """Takes one part of the help: a list of commands or of options, or notes after them."""
         lines = part.split("\n")
         if lines[0] == "Commands:":
             self.commands = dict(map(in_two, lines[1:]))
         elif lines[0] == "Options:":
             self.options = list(map(in_two, lines[1:]))
         else:
-            self.behind.append(lines)
+            self.notes.append(lines)
 
     def long_options(self):
         """Each long option, the name of its value where it takes one, and its help."""
@@ -58,9 +66,9 @@ def options_of(page):
         yield from (".TP", f"\\fB{escaped(words)}\\fR", escaped(text))
 
 
-def behind_of(page):
-    """What stands behind the options: paragraphs, and lists whose first line ends in a colon."""
-    for lines in page.behind:
+def notes_of(page):
+    """The notes after the options: paragraphs, and lists whose first line ends in a colon."""
+    for lines in page.notes:
         if lines[0].endswith(":"):
             yield from (".PP", escaped(lines[0]), ".RS 4", ".nf")
             yield from (escaped(line.strip()) for line in lines[1:])
@@ -76,15 +84,19 @@ def manual(version, top, pages):
     lines += [f"arrowstream \\- {escaped(top.about)}", ".SH SYNOPSIS"]
     for page in pages:
         lines += [f"\\fB{escaped(page.usage)}\\fR", ".br"]
-    lines += [".SH DESCRIPTION", *behind_of(top), ".SH OPTIONS", *options_of(top)]
+    lines += [".SH DESCRIPTION", *notes_of(top), ".SH OPTIONS", *options_of(top)]
     for page in pages:
         lines += [f".SH {escaped(page.name.upper())}", escaped(page.about), *options_of(page)]
-        lines += behind_of(page)
+        lines += notes_of(page)
+    lines += [".SH FILES", *FILES]
     return "\n".join(lines) + "\n"
 
 
 def bash(top, pages):
-    """Completion for bash."""
+    """Completion for bash: after an option with a value the value, else subcommands or options."""
+    options = [(option, value) for page in pages for option, value, _ in page.long_options()]
+    paths = "|".join(sorted({option for option, value in options if value == "PATH"}))
+    numbers = "|".join(sorted({option for option, value in options if value == "N"}))
     cases = [
         f"    {page.name}) words='{' '.join(option for option, _, _ in page.long_options())}' ;;"
         for page in pages
@@ -94,16 +106,23 @@ def bash(top, pages):
         [
             "# bash completion for arrowstream",
             "_arrowstream() {",
-            "  local words",
+            "  local words current=${COMP_WORDS[COMP_CWORD]}",
+            "  local previous=${COMP_WORDS[COMP_CWORD - 1]}",
+            "  COMPREPLY=()",
+            '  case "$previous" in',
+            f"    {paths}) compopt -o filenames",
+            '      mapfile -t COMPREPLY < <(compgen -f -- "$current")',
+            "      return ;;",
+            f"    {numbers}) return ;;",
+            "  esac",
             '  case "${COMP_WORDS[1]}" in',
             *cases,
             f"    help) words='{' '.join(page.name for page in pages)}' ;;",
-            f"    *) words='{first}' ;;",
             "  esac",
             f'  [ "$COMP_CWORD" -gt 1 ] || words=\'{first}\'',
-            '  mapfile -t COMPREPLY < <(compgen -W "$words" -- "${COMP_WORDS[COMP_CWORD]}")',
+            '  mapfile -t COMPREPLY < <(compgen -W "$words" -- "$current")',
             "}",
-            "complete -o default -F _arrowstream arrowstream",
+            "complete -F _arrowstream arrowstream",
             "",
         ]
     )
@@ -115,7 +134,7 @@ def quoted(text):
 
 
 def fish(top, pages):
-    """Completion for fish."""
+    """Completion for fish. `-x` is an option with a value that is no file."""
     lines = ["# fish completion for arrowstream", "complete -c arrowstream -f"]
     for name, text in top.commands.items():
         where = "-n __fish_use_subcommand"
@@ -123,26 +142,31 @@ def fish(top, pages):
     for page in pages:
         where = quoted(f"__fish_seen_subcommand_from {page.name}")
         for option, value, text in page.long_options():
-            needs = {None: "", "PATH": " -r -F"}.get(value, " -r")
+            needs = {None: "", "PATH": " -r -F"}.get(value, " -x")
             lines.append(
                 f"complete -c arrowstream -n {where} -l {option[2:]}{needs} -d {quoted(text)}"
             )
     return "\n".join(lines) + "\n"
 
 
+def zsh_options(page):
+    """The call that completes the options of a subcommand in zsh."""
+    shown = []
+    for option, value, text in page.long_options():
+        text = text.replace("[", "(").replace("]", ")")
+        message = {None: "", "PATH": ":file:_files"}.get(value, ":number: ")
+        shown.append("    " + quoted(f"{option}[{text}]{message}"))
+    return f"  {page.name}) _arguments \\\n" + " \\\n".join(shown) + " ;;"
+
+
 def zsh(top, pages):
-    """Completion for zsh."""
-    lines = ["#compdef arrowstream", 'case "$words[2]" in']
-    for page in pages:
-        shown = []
-        for option, value, text in page.long_options():
-            text = text.replace("[", "(").replace("]", ")")
-            behind = {None: "", "PATH": ":file:_files"}.get(value, ":number:")
-            shown.append("    " + quoted(f"{option}[{text}]{behind}"))
-        lines += [f"  {page.name}) _arguments \\", " \\\n".join(shown) + " ;;"]
-    lines += ["  *) local -a commands", "    commands=("]
-    lines += ["      " + quoted(f"{name}:{text}") for name, text in top.commands.items()]
-    lines += ["    )", "    _describe command commands ;;", "esac", ""]
+    """Completion for zsh. The words of a subcommand are completed as those of a command."""
+    lines = ["#compdef arrowstream", "local -a commands", "commands=("]
+    lines += ["  " + quoted(f"{name}:{text}") for name, text in top.commands.items()]
+    lines += [")", "if (( CURRENT == 2 )); then", "  _describe command commands", "  return"]
+    lines += ["fi", "shift words", "(( CURRENT-- ))", 'case "$words[1]" in']
+    lines += [zsh_options(page) for page in pages]
+    lines += ["  help) (( CURRENT == 2 )) && _describe command commands ;;", "esac", ""]
     return "\n".join(lines)
 
 

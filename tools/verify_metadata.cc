@@ -1,5 +1,5 @@
-// Reads a stream from standard input, and has the verifier that comes with FlatBuffers judge the
-// metadata of each message. Prints how many messages there are and the codes of the schema's types;
+// Reads a stream from standard input, and checks the metadata of each message by the verifier that
+// comes with FlatBuffers. Prints how many messages there are and the codes of the schema's types;
 // the status is 1 at the first metadata that is refused.
 #include <cstdint>
 #include <cstdio>
@@ -52,7 +52,7 @@ int main() {
     } else if (const metadata::DictionaryBatch* values = message->header_as_DictionaryBatch()) {
       if (values->data() == nullptr) return refused("a dictionary has no data", messages);
     } else if (message->header_as_RecordBatch() == nullptr) {
-      return refused("neither a schema nor a batch stands", messages);
+      return refused("neither a schema nor a batch", messages);
     }
     place += size + message->body_length();
   }

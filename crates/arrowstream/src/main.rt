@@ -15,10 +15,12 @@ use std::io::{IsTerminal, Write};
 use std::process::ExitCode;
 use std::{env, io};
 
-// The words of a command line as a list.
+// The arguments of the command line, after the program's name. The name is always the same, so that
+// the usage doesn't depend on the path by which the program was started.
 fn collect_words(alloc: Global, words: Args) -> Result<Vec<String>, AllocError> {
     let mut all = Vec::new(alloc);
-    for word in words {
+    all.push(String::from_str(alloc, "arrowstream")?)?;
+    for word in words.skip(1) {
         all.push(word)?;
     }
     Ok(all)

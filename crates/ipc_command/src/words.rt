@@ -63,22 +63,22 @@ Examples:
   arrowstream show --max-body 1000000 < upload.arrows
 
 Exit status:
-  0  all was done
-  1  the input is refused, for the reason that standard error gives
+  0  success
+  1  the input was refused; standard error has the reason
   2  the command line is wrong
   3  standard input, standard output or the schema's file failed
-  4  memory ran out";
+  4  out of memory";
 
 const CHECK_EXAMPLES: &str = "\
-Prints the schema as JSON, and then how the stream ends and how many bytes, batches and rows it has.
+Prints the schema as JSON, and then how the stream ended and its numbers of bytes, batches and rows.
 
 Examples:
   arrowstream check < trades.arrows
   arrowstream check --max-rows 1000000 < upload.arrows";
 
 const SHOW_EXAMPLES: &str = "\
-With --pairs a line stands in front of each batch's rows: {\"metadata\":P}, where P is an array of
-[key,value] arrays.
+With --pairs, a line {\"metadata\":P} precedes the rows of each batch. P is an array of [key,value]
+arrays.
 
 Examples:
   arrowstream show < trades.arrows
@@ -86,25 +86,25 @@ Examples:
   arrowstream show < trades.arrows | head -n 3";
 
 const TO_CSV_EXAMPLES: &str = "\
-Null is \\N, and bytes are hexadecimal digits. Columns of lists and structs have no place in CSV.
+Null is \\N, and bytes are hexadecimal digits. Columns of lists and structs have no form in CSV.
 
 Examples:
   arrowstream to-csv < trades.arrows > trades.csv
   arrowstream to-csv --max-rows 1000000 < upload.arrows";
 
 const REWRITE_EXAMPLES: &str = "\
-The schema, the batches with their pairs and the rows are the same; the layout of each batch is that
-of this program, and the stream ends with its mark. It is written under the limits that are given,
-each raised to its usual value where it is below.
+The schema, the batches, their pairs and their rows stay the same. Each batch is laid out as this
+program does it, and the stream ends with the end-of-stream mark. A limit below its default is
+raised to the default for writing.
 
 Examples:
   arrowstream rewrite < other.arrows > trades.arrows
   arrowstream rewrite --max-rows 1000000 < upload.arrows > trades.arrows";
 
 const FROM_CSV_EXAMPLES: &str = "\
-The first record is the header: the names of the schema's columns in their order. A field \\N is
-null. The schema is JSON, as the first line that check prints. Each batch is sent as soon as it is
-full.
+The first record is the header: the names of the schema's columns, in order. A field \\N is null.
+The schema is JSON in the form of the first line that check prints; SCHEMA.md in the documents
+describes it. Each batch is sent as soon as it is full.
 
 Examples:
   arrowstream check < trades.arrows | head -n 1 > trades.json
@@ -141,7 +141,7 @@ fn with_limits<'a>(alloc: Global, command: Command<'a>) -> Result<Command<'a>, A
             0,
             1 << 28,
             "16777216",
-            "The most bytes of a message's metadata",
+            "Maximum bytes of a message's metadata",
         ))?
         .arg(number(
             alloc,
@@ -149,7 +149,7 @@ fn with_limits<'a>(alloc: Global, command: Command<'a>) -> Result<Command<'a>, A
             0,
             1 << 42,
             "1099511627776",
-            "The most bytes of a message's body",
+            "Maximum bytes of a message's body",
         ))?
         .arg(number(
             alloc,
@@ -157,7 +157,7 @@ fn with_limits<'a>(alloc: Global, command: Command<'a>) -> Result<Command<'a>, A
             0,
             0x7fff_ffff,
             "2147483647",
-            "The most rows of a batch",
+            "Maximum rows of a batch",
         ))
 }
 
@@ -169,13 +169,13 @@ fn described<'a>(alloc: Global, name: &'a str, about: &'a str, examples: &'a str
 
 // A subcommand that reads a stream to its end.
 fn check<'a>(alloc: Global) -> Result<Command<'a>, AllocError> {
-    let about = "Reads an Arrow IPC stream to its end, and tells its schema and counts";
+    let about = "Reads an Arrow IPC stream to its end, and prints its schema and counts";
     with_limits(alloc, described(alloc, "check", about, CHECK_EXAMPLES))
 }
 
-// The option that has each batch's pairs printed.
+// The option that prints the pairs of each batch.
 fn pairs<'a>(alloc: Global) -> Arg<'a> {
-    let help = "Print a line with its pairs of key and value in front of each batch's rows";
+    let help = "Print the pairs of key and value of each batch on a line before its rows";
     let pairs = Arg::new(alloc, "pairs").long("pairs");
     pairs.action(ArgAction::SetTrue).help(help)
 }
@@ -189,7 +189,7 @@ fn show<'a>(alloc: Global) -> Result<Command<'a>, AllocError> {
 
 // The subcommand that prints a stream as CSV.
 fn to_csv<'a>(alloc: Global) -> Result<Command<'a>, AllocError> {
-    let about = "Prints an Arrow IPC stream as CSV, a header first";
+    let about = "Prints an Arrow IPC stream as CSV with a header";
     with_limits(alloc, described(alloc, "to-csv", about, TO_CSV_EXAMPLES))
 }
 
@@ -201,20 +201,20 @@ fn schema<'a>(alloc: Global) -> Arg<'a> {
 
 // The option that says how many rows a batch has.
 fn batch<'a>(alloc: Global) -> Arg<'a> {
-    let help = "The rows of a batch; the last may have fewer";
+    let help = "Rows of a batch; the last batch may have fewer";
     number(alloc, "batch", 1, 0x7fff_ffff, "65536", help)
 }
 
 // The subcommand that writes a stream of CSV.
 fn from_csv<'a>(alloc: Global) -> Result<Command<'a>, AllocError> {
-    let about = "Writes records of CSV as an Arrow IPC stream";
+    let about = "Converts CSV to an Arrow IPC stream";
     let from_csv = described(alloc, "from-csv", about, FROM_CSV_EXAMPLES);
     from_csv.arg(schema(alloc))?.arg(batch(alloc))
 }
 
 // The subcommand that writes a stream anew.
 fn rewrite<'a>(alloc: Global) -> Result<Command<'a>, AllocError> {
-    let about = "Writes an Arrow IPC stream anew, batch by batch";
+    let about = "Rewrites an Arrow IPC stream in canonical layout, batch by batch";
     with_limits(alloc, described(alloc, "rewrite", about, REWRITE_EXAMPLES))
 }
 
