@@ -12,30 +12,32 @@ file names, and else the definition is this project's own.
 import pathlib
 import re
 import sys
+import textwrap
 
 TOP = pathlib.Path(__file__).resolve().parent.parent
 PAGE = TOP / "docs" / "DEFINITIONS.md"
 HEAD = """# The definitions
 
-Made by `tools/definitions.py` from the comments above the public definitions; `bin/test` checks
-that it is.
+Made by `tools/definitions.py` from the comments above the public definitions. The gate compares.
 
-Contracts cite these definitions, and whoever believes a contract believes them. They relate whole
-values to whole lists of bytes: no reading order, no buffers, no passes. Where a function that
-follows the code stands beside a relation, its comment says so, and a proved law joins the two. The
-crates come from the bytes up to a whole stream; a module `M` of crate `c` is
-`crates/c/specs/M.antt`. "section" is the place in the public standard that a definition states: the
-Arrow Columnar Format 1.x, its metadata schemas Schema.fbs and Message.fbs at version V5, the
-FlatBuffers binary format, or an RFC; "this project" where there is none, as for limits and for what
-a call did.
+Contracts cite these definitions: who believes a contract believes them. They relate whole values to
+whole lists of bytes, without reading order, buffers or passes. Where a function that follows the
+code exists beside a relation, its comment says so, and a proved law joins the two.
 
-Outside vectors: the streams of `samples/` and `cases/` were laid out from the standard, not by this
-project's writer. The program's tests read them by the calls whose contracts are these definitions,
-and compare what comes out.
+The crates go from the bytes up to whole streams. A heading such as `Bytes` is the module
+`specs/Bytes.antt` of the crate above it. In parentheses is the place in the public standard that a
+definition states: the Arrow Columnar Format 1.x, its metadata schemas Schema.fbs and Message.fbs at
+version V5, the FlatBuffers binary format, or an RFC. A definition without one is this project's
+own, such as a limit, or what a call did.
+
+The streams of `samples/` and `cases/` test the definitions from outside. They were laid out from
+the standard, not by this project's writer, and are read by the calls whose contracts cite these
+definitions.
 """
+WIDTH = 100
 
-# a definition begins at the margin, or inside a `module _` with a word before or behind `pub`,
-# which a record's member hasn't
+# A definition begins at the margin, or inside a `module _` with a word before or after `pub`,
+# which a record's member hasn't.
 HOW = "(?:abbrev|unfoldable|opaque)"
 DEFINITION = re.compile(
     rf"^(?:(?:{HOW} )*pub (?:data |record )?|  (?:{HOW} )+pub |  pub (?:data|record) )"
@@ -88,11 +90,22 @@ def section_of(text, standard, beginning):
     if not found and standard:
         found = [f"{standard}, {title}" for title in QUOTED.findall(text)]
     found = found or [part.strip() for part in SECTION.findall(beginning)]
-    return "; ".join(dict.fromkeys(found)) or "this project"
+    return "; ".join(dict.fromkeys(found))
 
 
-def cell(text):
-    return text.replace("|", "\\|")
+def without_place(sentence):
+    """A comment without the section that it begins with, which is printed before it."""
+    place, _, rest = sentence.partition(": ")
+    others = re.sub(r'"[^"]+"|\band\b|[,; ]', "", SECTION.sub("", place))
+    return sentence if others else rest
+
+
+def item(definition, section, sentence):
+    """A definition as an item of a list."""
+    place = f" ({section})" if section else ""
+    return textwrap.fill(
+        f"- `{definition}`{place}: {without_place(sentence or '')}", WIDTH, subsequent_indent="  ",
+        break_long_words=False, break_on_hyphens=False)
 
 
 def definitions_of(path):
@@ -115,23 +128,29 @@ def definitions_of(path):
         yield match.group(1), section_of(text, standard, beginning), text or None
 
 
+def modules_of(crate):
+    """The name and path of each module of a crate with definitions."""
+    specs = TOP / "crates" / crate / "specs"
+    for path in sorted(specs.rglob("*.antt")):
+        if "formers" not in path.parts:
+            yield path.relative_to(specs).with_suffix("").as_posix(), path
+
+
 def page():
     """The page, and the definitions without a comment."""
     parts, missing = [HEAD.rstrip()], []
     for crate in crates():
-        rows = []
-        for path in sorted((TOP / "crates" / crate / "specs").rglob("*.antt")):
-            if "formers" in path.parts:
-                continue
-            name = path.relative_to(TOP / "crates" / crate / "specs").with_suffix("").as_posix()
-            for definition, section, sentence in definitions_of(path):
-                if sentence is None:
-                    missing.append(f"crates/{crate}/specs/{name}.antt: {definition}")
-                cells = [f"`{cell(definition)}`", f"`{name}`", cell(section), cell(sentence or "")]
-                rows.append(f"| {' | '.join(cells)} |")
-        if rows:
-            titles = "| definition | module | section | in words |\n|---|---|---|---|"
-            parts.append("\n".join([f"## `{crate}`\n\n{titles}", *rows]))
+        modules = [(name, list(definitions_of(path))) for name, path in modules_of(crate)]
+        if any(found for _, found in modules):
+            parts.append(f"## `{crate}`")
+        for name, found in modules:
+            if found:
+                parts.append(f"### `{name}`")
+                parts.append("\n".join(item(*definition) for definition in found))
+            missing += [
+                f"crates/{crate}/specs/{name}.antt: {definition}"
+                for definition, _, sentence in found if sentence is None
+            ]
     return "\n\n".join(parts) + "\n", missing
 
 

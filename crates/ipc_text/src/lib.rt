@@ -1,5 +1,5 @@
-//! Texts of schemas, rows, dates and times, JSON and CSV: the public names of the crates
-//! `ipc_moments`, `ipc_json` and `ipc_csv`.
+//! JSON and CSV of schemas and rows, and texts of dates and times: what users need of the crates
+//! `ipc_moments`, `ipc_json` and `ipc_csv`, under one name.
 #![tactic(auto)]
 
 pub use ipc_csv::{

@@ -1,4 +1,4 @@
-//! README's example: two batches are written into memory as a stream, and their cells read back.
+//! Examples of the documents: two batches are written to memory as a stream, and read back.
 
 use ipc_stream::{
     BatchRows, Cell, DataType, DateUnit, Fault, Field, IntBits, Limits, Memory, Row, Schema,
@@ -7,7 +7,6 @@ use ipc_stream::{
 use std::alloc::{AllocError, Global};
 use std::test::Fail;
 
-// README: Library
 // The columns: a number, a name, which may be null, and a day.
 fn columns(alloc: Global) -> Result<Schema, WriteFault> {
     let number = DataType::Int {
@@ -43,7 +42,7 @@ fn write(alloc: Global) -> Result<Memory, WriteFault> {
     Ok(stream.finish()?)
 }
 
-// Adds the cells of a stream to a text, a line for each row.
+// Appends the cells of a stream to a text, a line for each row.
 fn read_rows(
     alloc: Global,
     stream: &mut StreamReader<Memory>,
@@ -67,9 +66,8 @@ fn read(alloc: Global, source: Memory) -> Result<String, Fault> {
     read_rows(alloc, &mut stream, &mut text)?;
     Ok(text)
 }
-// README ends.
 
-// Adds a cell of a column of this type to a text.
+// Appends a cell of a column of this type to a text.
 fn spell(
     alloc: Global,
     kind: &DataType,
@@ -81,7 +79,7 @@ fn spell(
     Ok(())
 }
 
-// What is printed of a cell of a column of this type.
+// A cell of a column of this type as text.
 fn word_of(alloc: Global, kind: &DataType, cell: Cell<'_>) -> Result<String, AllocError> {
     match (kind, cell) {
         (_, Cell::Null) => String::from_str(alloc, "null "),
@@ -95,6 +93,29 @@ fn word_of(alloc: Global, kind: &DataType, cell: Cell<'_>) -> Result<String, All
 }
 
 const CELLS: &str = "1 one day 0 after 1970-01-01 \n-2 null day 19000 after 1970-01-01 \n";
+
+// The numbers of a stream's first column, without its nulls.
+fn first_numbers(alloc: Global, source: Memory) -> Result<Vec<i64>, Fault> {
+    let mut numbers = Vec::new(alloc);
+    let mut stream = StreamReader::open(alloc, Limits::standard(), source)?;
+    while let Some((batch, _pairs)) = stream.next()? {
+        if batch.columns() > 0 {
+            for row in 0..batch.rows() {
+                if let Cell::Int(number) = batch.cell(row, 0) {
+                    numbers.push(number)?;
+                }
+            }
+        }
+    }
+    Ok(numbers)
+}
+
+#[test]
+fn reads_the_first_column(rt: HostRuntime) -> Result<(), Fail> {
+    let stream = write(rt.alloc())?;
+    assert!(rt; first_numbers(rt.alloc(), stream)?.as_slice() == [1, -2].as_slice());
+    Ok(())
+}
 
 #[test]
 fn reads_what_it_wrote(rt: HostRuntime) -> Result<(), Fail> {

@@ -21,9 +21,8 @@ pub const STREAM: [u8; 288] = [
     0, 0,
 ];
 
-// README: Bytes in any pieces
-// Feeds a piece to its end, or to the end of the stream. The events that it brings go behind
-// `events`, and the bytes behind the stream are given back.
+// Feeds a piece to its end, or to the end of the stream. Appends the events that it brings to
+// `events`, and returns the bytes after the stream.
 fn push<'a>(
     decoder: &mut Decoder,
     piece: &'a [u8],
@@ -40,7 +39,6 @@ fn push<'a>(
     }
     Ok(rest)
 }
-// README ends.
 
 // Whether a schema, a batch of three rows and the end mark are told.
 fn is_told(events: &[Event]) -> bool {

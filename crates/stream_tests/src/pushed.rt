@@ -7,7 +7,6 @@ use ipc_stream::{Memory, StreamWriter};
 use std::alloc::Global;
 use std::test::Fail;
 
-// README: Rows one by one
 // Sends those of the numbers that fit their column as one batch.
 fn push_numbers(
     alloc: Global,
@@ -23,7 +22,6 @@ fn push_numbers(
     }
     batch.send()
 }
-// README ends.
 
 // The stream of a writer with a batch of those of the numbers that fit.
 fn pushed(alloc: Global, numbers: &[i64]) -> Result<Vec<u8>, WriteFault> {

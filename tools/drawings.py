@@ -1,0 +1,199 @@
+#!/usr/bin/env python3
+"""Draws docs/crates.svg and docs/message.svg.
+
+    tools/drawings.py            writes both files
+    tools/drawings.py --check    exits with 1 if a file differs from what would be written
+
+The edges of the first drawing come from crates.txt; an edge that other edges imply is omitted.
+CRATES gives each crate its group, its row counted from the bottom, its center and its job. A crate
+without an entry is an error, and so is an edge that does not go down.
+"""
+import pathlib
+import sys
+from xml.sax.saxutils import escape
+
+TOP = pathlib.Path(__file__).resolve().parent.parent
+WIDTH, BOX_WIDTH, BOX_HEIGHT, MARGIN = 1000, 172, 52, 20
+TOPS = [MARGIN + 86 * (9 - row) for row in range(10)]  # the upper edge of each row's boxes
+FONT = "'DejaVu Sans', Verdana, Helvetica, Arial, sans-serif"
+MONO = "'DejaVu Sans Mono', Menlo, Consolas, monospace"
+INK, FAINT, LINE, FAULT = "#1f2328", "#57606a", "#6e7781", "#cf222e"
+
+# The fill, the border and the label of each group, in the order of the legend.
+GROUPS = {
+    "jobs": ("#fbefff", "#8250df", "jobs and the command"),
+    "text": ("#fff1e5", "#bc4c00", "JSON, CSV, dates and times"),
+    "streams": ("#fff8c5", "#9a6700", "streams"),
+    "batches": ("#dafbe1", "#1a7f37", "messages and batches"),
+    "metadata": ("#ddf4ff", "#0969da", "FlatBuffers and metadata"),
+    "values": ("#f3f4f6", "#57606a", "types and values"),
+    "tests": ("#ffffff", "#8c959f", "tests: no crate uses them"),
+}
+
+CRATES = {
+    "arrowstream": ("jobs", 9, 350, "the command"),
+    "ipc_command": ("jobs", 8, 350, "arguments and jobs"),
+    "ipc_rewrite": ("jobs", 7, 120, "stream to stream"),
+    "ipc_from_csv": ("jobs", 7, 350, "CSV to stream"),
+    "ipc_print": ("jobs", 7, 580, "stream to JSON, CSV"),
+    "ipc_text": ("text", 7, 880, "re-exports for users"),
+    "ipc_stream": ("streams", 6, 300, "writer, sinks, devices"),
+    "ipc_decode": ("streams", 5, 190, "reader and decoder"),
+    "ipc_dict": ("streams", 5, 410, "dictionaries to send"),
+    "ipc_csv": ("text", 5, 680, "CSV both ways"),
+    "ipc_json": ("text", 5, 880, "JSON of schema, rows"),
+    "ipc_dictionaries": ("batches", 4, 300, "dictionaries in force"),
+    "ipc_encode": ("batches", 4, 520, "rows to buffers"),
+    "ipc_moments": ("text", 4, 780, "dates, times, digits"),
+    "ipc_frame": ("batches", 3, 110, "bytes to messages"),
+    "ipc_column": ("batches", 3, 410, "buffers to columns"),
+    "ipc_meta": ("metadata", 2, 260, "metadata both ways"),
+    "ipc_flat": ("metadata", 1, 110, "reads FlatBuffers"),
+    "ipc_build": ("metadata", 1, 310, "writes FlatBuffers"),
+    "ipc_model": ("values", 1, 510, "types, values, faults"),
+    "ipc_scalar": ("metadata", 0, 210, "numbers and bits"),
+    "ipc_items": ("values", 0, 410, "lists and texts"),
+    "layer_tests": ("tests", 1, 736, "lower layers"),
+    "stream_tests": ("tests", 1, 888, "streams"),
+    "text_tests": ("tests", 0, 736, "JSON and CSV"),
+    "workbench": ("tests", 0, 888, "cases, measures"),
+}
+
+# Each part of a message: its height, its first byte, its bytes, what it is, who reads it, and the
+# decision at its last byte with the faults that may come instead. A bar begins a new line.
+PARTS = [
+    (74, "0", "ff ff ff ff", "continuation mark: 4 bytes", "ipc_frame",
+     "a message or the end mark begins here", "F1"),
+    (74, "4", "m", "int32: size of the metadata", "ipc_frame",
+     "m bytes of metadata follow; 0 is the end mark", "F2, F3; F10: end mark before the schema"),
+    (104, "8", "metadata", "FlatBuffer, padded to 8: m bytes", "ipc_flat: tables|ipc_meta: head",
+     "a schema, dictionary batch or record batch;|b bytes of body follow", "F5 to F9, F12 to F24"),
+    (134, "8 + m", "body", "buffers, padded to 8: b bytes", "ipc_column: buffers|ipc_decode: state",
+     "the schema is in force, a dictionary is set,|or a batch is read", "F10, F11, F25 to F34"),
+]
+
+
+def read_edges():
+    """Each crate of crates.txt with the crates that it uses, without those that others imply."""
+    lines = (TOP / "crates.txt").read_text(encoding="utf-8").splitlines()
+    pairs = [line.split(":") for line in lines if line and not line.startswith("#")]
+    names = [name for name, _ in pairs]
+    uses = {name: [it for it in used.split() if it in names] for name, used in pairs}
+
+    def below(name):
+        return set(uses[name]).union(*map(below, uses[name]))
+
+    implied = {name: set().union(*map(below, used)) for name, used in uses.items()}
+    return {name: [it for it in uses[name] if it not in implied[name]] for name in names}
+
+
+def text(x, y, words, size=13, color=INK, weight="normal", anchor="start", font=FONT):
+    style = f'font-family="{font}" font-size="{size}" font-weight="{weight}" fill="{color}"'
+    return f'<text x="{x}" y="{y}" {style} text-anchor="{anchor}">{escape(words)}</text>'
+
+
+def rectangle(x, y, width, height, fill, border, extra='rx="7"'):
+    place = f'x="{x}" y="{y}" width="{width}" height="{height}"'
+    return f'<rect {place} fill="{fill}" stroke="{border}" stroke-width="1.5" {extra}/>'
+
+
+def line(x, y, to_x, to_y, extra):
+    place = f'x1="{x}" y1="{y}" x2="{to_x}" y2="{to_y}"'
+    return f'<line {place} stroke="{LINE}" stroke-width="1.5" {extra}/>'
+
+
+def svg(height, title, parts):
+    """A drawing on a light background, which is readable in dark mode too."""
+    head = f'<svg xmlns="http://www.w3.org/2000/svg" viewBox="0 0 {WIDTH} {height}" role="img">'
+    size = 'viewBox="0 0 10 10" refX="9" refY="5" markerWidth="7" markerHeight="7" orient="auto"'
+    arrow = f'<marker id="arrow" {size}><path d="M0 1 L10 5 L0 9 z" fill="{LINE}"/></marker>'
+    back = rectangle(1, 1, WIDTH - 2, height - 2, "#ffffff", "#d0d7de", 'rx="10"')
+    return "\n".join([head, f"<title>{title}</title>", arrow, back, *parts, "</svg>", ""])
+
+
+def crate_box(name):
+    group, row, x, job = CRATES[name]
+    width, y = 138 if group == "tests" else BOX_WIDTH, TOPS[row]
+    yield rectangle(x - width // 2, y, width, BOX_HEIGHT, *GROUPS[group][:2])
+    yield text(x, y + 22, name, 15, weight="bold", anchor="middle")
+    yield text(x, y + 41, job, 13, FAINT, anchor="middle")
+
+
+def crate_edge(upper, lower):
+    (_, row, x, _), (_, below, to, _) = CRATES[upper], CRATES[lower]
+    if row <= below:
+        sys.exit(f"drawings: the edge from {upper} to {lower} does not go down")
+    shift = max(-60, min(60, (to - x) // 5))
+    ends = (x + shift, TOPS[row] + BOX_HEIGHT, to - shift // 2, TOPS[below] - 2)
+    return line(*ends, 'marker-end="url(#arrow)"')
+
+
+def legend(x, y):
+    yield text(x, y + 12, "An arrow means “uses”.", 14, weight="bold")
+    yield text(x, y + 31, "Implied arrows are omitted.", 13, FAINT)
+    for number, (fill, border, label) in enumerate(list(GROUPS.values())[:-1]):
+        yield rectangle(x, y + 42 + 20 * number, 16, 12, fill, border, 'rx="3"')
+        yield text(x + 26, y + 53 + 20 * number, label)
+
+
+def draw_crates():
+    edges = read_edges()
+    if set(edges) != set(CRATES):
+        sys.exit(f"drawings: CRATES and crates.txt differ: {sorted(set(edges) ^ set(CRATES))}")
+    parts = [crate_edge(it, to) for it in edges for to in edges[it] if CRATES[it][0] != "tests"]
+    dashes = 'stroke-dasharray="5"'
+    parts.append(rectangle(656, TOPS[1] - 30, 312, 178, "#f6f8fa", "#8c959f", dashes))
+    parts.append(text(812, TOPS[1] - 10, GROUPS["tests"][2], 13, FAINT, anchor="middle"))
+    parts += [it for name in CRATES for it in crate_box(name)]
+    parts += legend(690, MARGIN + 4)
+    return svg(TOPS[0] + BOX_HEIGHT + MARGIN, "The crates of arrowstream", parts)
+
+
+def message_part(y, number, part):
+    height, start, content, what, readers, decision, faults = part
+    group, middle, end = "metadata" if number == 3 else "batches", y + height // 2, y + height
+    yield text(84, y + 14, start, 13, FAINT, anchor="end")
+    yield rectangle(96, y, 290, height, *GROUPS[group][:2], 'rx="0"')
+    yield text(241, middle - 2, content, 16, weight="bold", anchor="middle", font=MONO)
+    yield text(241, middle + 18, what, 13, FAINT, anchor="middle")
+    for at, words in enumerate(readers.split("|")):
+        yield text(404, middle + 5 + 20 * at - 10 * readers.count("|"), words)
+    yield line(96, end, 556, end, 'stroke-dasharray="3 3"')
+    yield f'<circle cx="570" cy="{end}" r="13" fill="{INK}"/>'
+    yield text(570, end + 5, str(number), 14, "#ffffff", "bold", "middle")
+    for at, words in enumerate(decision.split("|")):
+        yield text(596, end - 8 - 19 * (decision.count("|") - at), words)
+    yield text(596, end + 14, faults, 13, FAULT)
+
+
+def draw_message():
+    heads = ((96, "bytes"), (404, "read by"), (596, "decision at the last byte, or fault"))
+    y, parts = 56, [text(x, 36, words, 14, weight="bold") for x, words in heads]
+    for number, part in enumerate(PARTS, 1):
+        parts += message_part(y, number, part)
+        y += part[0]
+    parts.append(text(84, y + 14, "8 + m + b", 13, FAINT, anchor="end"))
+    parts.append(text(96, y + 42, "further messages, then the end-of-stream mark", 13, FAINT))
+    parts.append(line(241, y + 50, 241, y + 76, 'marker-end="url(#arrow)"'))
+    for x, words in ((96, "ff ff ff ff"), (241, "00 00 00 00")):
+        parts.append(rectangle(x, y + 82, 145, 44, *GROUPS["batches"][:2], 'rx="0"'))
+        parts.append(text(x + 72, y + 109, words, 16, weight="bold", anchor="middle", font=MONO))
+    parts += [text(404, y + 109, "ipc_frame"), text(596, y + 100, "the end: no later byte is read")]
+    parts.append(text(596, y + 120, "F4: input ends in a message or before the schema", 13, FAULT))
+    return svg(y + 146, "An encapsulated message", parts)
+
+
+def main(words):
+    stale = 0
+    for name, draw in (("crates", draw_crates), ("message", draw_message)):
+        path, drawn = TOP / "docs" / f"{name}.svg", draw()
+        if "--check" not in words:
+            path.write_text(drawn, encoding="utf-8")
+        elif not path.is_file() or path.read_text(encoding="utf-8") != drawn:
+            print(f"docs/{name}.svg is stale: run tools/drawings.py")
+            stale = 1
+    return stale
+
+
+if __name__ == "__main__":
+    sys.exit(main(sys.argv[1:]))
