@@ -7,14 +7,14 @@ use Rattle.ipc_column.specs.Checks.{Holds}
 use Rattle.ipc_column.specs.Values.{rows_of}
 use Rattle.ipc_column.specs.Views.{columns}
 
--- the rows of its columns, how these lie, and its numbers
+-- the rows of its columns, how these lie, its body, and its numbers
 abbrev pub contents_of : Shared → Contents
 contents_of s = record {
   rows = rows_of (columns s.body.value.items s.parts.items) s.count;
   columns = length s.parts.items;
   layouts = layouts_of (columns s.body.value.items s.parts.items);
-  body_len =
-      length s.body.value.items;
+  body = s.body.value.items;
+  body_len = length s.body.value.items;
   tests = s.slot_tests;
 }
 

@@ -91,6 +91,7 @@ fn read(
     ensures columns { IfOk result (λ batch. batch.columns ≡ length fields.now) }
     ensures layouts { IfOk result (λ batch. batch.layouts ≡ map field_layout fields.now) }
     ensures body { IfOk result (λ batch. batch.body_len ≡ length body.items) }
+    ensures bytes { IfOk result (λ batch. batch.body ≡ body.items) }
     ensures visits { IfOk result (λ batch. batch.tests
         ≤ visits_in (cut (dictionaries_in dictionaries.now) (shape_of fields.now) head.now
         body.items 0 0)) }
@@ -169,6 +170,8 @@ impl Batch {
         ensures layouts { IfOk result
             (λ batch. batch.layouts ≡ map field_layout fields.value.items) }
         ensures body { IfOk result (λ batch. batch.body_len ≡ length body.items) }
+        // The batch keeps the body as it is.
+        ensures bytes { IfOk result (λ batch. batch.body ≡ body.items) }
         // No slot is visited but those of texts and indices, and those of lists and structs with a
         // validity bitmap that such stand below; each of them once at most.
         ensures visits { IfOk result
@@ -208,6 +211,8 @@ impl Batch {
         // Each column lies as its field's type does.
         ensures layouts { IfOk result (λ batch. batch.layouts ≡ map field_layout fields.now) }
         ensures body { IfOk result (λ batch. batch.body_len ≡ length body.items) }
+        // The batch keeps the body as it is.
+        ensures bytes { IfOk result (λ batch. batch.body ≡ body.items) }
         // No slot is visited but those of texts and indices, and those of lists and structs with a
         // validity bitmap that such stand below; each of them once at most.
         ensures visits { IfOk result
@@ -324,7 +329,9 @@ impl Batch {
     /// The list with the body's bytes, for a use of its own: none where the batch has clones left,
     /// or where it is the dictionary of another batch, which keep it.
     pub fn into_body(self) -> Option<Vec<u8>>
-        ensures { IfSome result (λ body. length body.items ≡ self.body_len) }
+        ensures len { IfSome result (λ body. length body.items ≡ self.body_len) }
+        // They are the bytes that the batch was checked with.
+        ensures bytes { IfSome result (λ body. body.items ≡ self.body) }
     {
         let Batch { shared } = self;
         match Rc::into_inner(shared) {

@@ -1,11 +1,12 @@
 //! Which dictionaries a batch sends, and the indices of its values.
-ghost use Rattle.std.specs.Prelude.{◌≡◌, ◌⊎◌, IfOk, IfErr};
+ghost use Rattle.std.specs.Prelude.{◌≡◌, ◌≢◌, ◌⊎◌, length, IfOk, IfErr};
 ghost use Rattle.ipc_dict.specs.Planning.{after_all, sends_of, AllSettled, FindsAll};
 ghost use Rattle.ipc_dict.specs.Planning.{FindsNoted, KnowsAll};
 ghost use Rattle.ipc_dict.specs.Counted.{HoldsRows};
 ghost use Rattle.ipc_dict.specs.Noting.{note_all, AllFit, IsFull};
 ghost use Rattle.ipc_dict.specs.Pairs.{rows_pairs};
 ghost use Rattle.ipc_dict.specs.SchemaIds.{kept_ids, tally_ids, ids_of, unused};
+ghost use Rattle.ipc_dict.specs.Sending.{tallied};
 ghost use Rattle.ipc_dict.specs.Within.{AllWithin, IsOfLimits, IsOverLimit};
 
 use crate::entry::TallyEntry;
@@ -71,6 +72,9 @@ impl Plan {
         // Each dictionary has exactly the distinct values of the rows.
         ensures rows { IfOk result
             (λ plan. HoldsRows schema.now.fields rows.now plan.entries) }
+        // The entries are those that the schema and the rows give, with their limits.
+        ensures tallied { IfOk result
+            (λ plan. plan.entries ≡ tallied schema.now.fields rows.now) }
         // Each is sent where it has not been or lacks a value, and nowhere else.
         ensures settled { IfOk result
             (λ plan. AllSettled kept.now plan.entries plan.numbers) }
@@ -123,6 +127,8 @@ impl Plan {
         ensures after { kept_ids kept.old ≡ tally_ids self.entries
             → kept.new ≡ after_all kept.old self.entries self.numbers }
         ensures ids { kept_ids kept.new ≡ kept_ids kept.old }
+        // What has another number of dictionaries is left as it was.
+        ensures unchanged { length kept.old ≢ length self.entries → kept.new ≡ kept.old }
     {
         let Plan {
             entries,

@@ -63,3 +63,17 @@ pub held_is : (limits : Limits) (p : Parts) (s : Phase) → IsSound limits p s
 held_is limits p (phase.Reading a) h = omega (arith, lengths p)
 held_is limits p phase.Ended h = omega (arith, ap length h, lengths p)
 held_is limits p phase.Refused h = omega (arith, ap length h, lengths p)
+
+-- no more is kept than one message may have
+pub held_bounded : (limits : Limits) (p : Parts) (s : Phase) → IsSound limits p s
+    → length p.start.items + length p.meta.items + length (came_in p.body) ≤ 8 + limits.metadata + limits.body
+held_bounded limits p (phase.Reading awaited.Mark) h =
+    omega (arith, h.fits.few, ap length h.fits.no_metadata, ap length h.fits.no_body)
+held_bounded limits p (phase.Reading awaited.Size) h =
+    omega (arith, h.fits.few, ap length h.fits.no_metadata, ap length h.fits.no_body)
+held_bounded limits p (phase.Reading (awaited.Metadata n)) h =
+    omega (arith, h.fits.eight, h.fits.few, h.fits.begins.fits, ap length h.fits.no_body)
+held_bounded limits p (phase.Reading (awaited.Body n)) h =
+    omega (arith, h.fits.eight, h.fits.begins.fits, h.fits.few, h.fits.states.fits)
+held_bounded limits p phase.Ended h = omega (arith, ap length h, lengths p)
+held_bounded limits p phase.Refused h = omega (arith, ap length h, lengths p)

@@ -188,8 +188,13 @@ impl Frames {
 
     /// How many bytes are kept: those that came of the message at hand. It fails never and takes no
     /// memory.
+    ///
+    /// A list that was given to `reuse` has bytes that this does not count: they are of no message,
+    /// and the next body is read over them.
     pub fn held(&self) -> usize
-        ensures { result ≡ held_of self.now.progress }
+        ensures came { result ≡ held_of self.now.progress }
+        // The mark and the size have 8 bytes, and the limits bound the metadata and the body.
+        ensures bounded { result ≤ 8 + self.now.limits.metadata + self.now.limits.body }
     {
         self.parts.start.len() + self.parts.meta.len() + self.parts.body.len()
     }

@@ -1,9 +1,10 @@
-use Rattle.std.proofs.Common.{◌≡◌, ◌∙◌, sym, ap, subst, arith, drop, ◌+◌, ◌++◌, IfErr, IfOk, List, Result, Ok, Err}
+use Rattle.std.proofs.Common.{◌≡◌, ◌∙◌, sym, ap, subst, arith, ℕ, ◌≤◌, length, drop, ◌+◌, ◌++◌, IfErr, IfOk, List, Result, Ok, Err}
 use Rattle.std.proofs.lemmas.Result.{err_from_is_err_and}
 use Rattle.ipc_model.specs.declared.fault.WriteFault.{WriteFault}
 use Rattle.ipc_model.specs.declared.fault.WriteFault.TheVariants as fault
 use Rattle.ipc_model.specs.declared.limits.Limits.{Limits}
 use Rattle.ipc_model.specs.declared.schema.Field.{Field}
+use Rattle.ipc_model.specs.declared.value.Value.{Value}
 use Rattle.ipc_dict.specs.declared.entry.TallyEntry.{TallyEntry}
 use Rattle.ipc_dict.specs.Counted.{HoldsRows}
 use Rattle.ipc_dict.specs.Noting.{note_all, AllFit, IsFull}
@@ -88,13 +89,23 @@ loop-row-preserved c =
       ids = ap tally_ids now ∙ ids_note_all u.entries (row_pairs fs r) ∙ inv.ids;
     }
 
+-- after the last row nothing is left to note
+noted-end : (fs : List Field) (rs : List (List Value)) (t all : List TallyEntry) (i : ℕ) → length rs ≤ i
+    → note_all t (rows_pairs fs (drop i rs)) ≡ all → t ≡ all
+noted-end fs rs t all i h noted = sym (ap (note_all t) (rows-end fs rs i h)) ∙ noted
+
+pub returns-clause-tallied : goal.returns-clause-tallied
+returns-clause-tallied c =
+    let done = noted-end c.args.schema.now.fields c.args.rows.now c.loop-row.tally.entries _ c.loop-row.row-index
+    (omega (arith, c.loop-row-test.false)) c.loop-row.invariant.noted in
+    if_ok c.settle.result c.settle.ensures.entries (λ plan e. e ∙ done)
+
 pub returns-clause-rows : goal.returns-clause-rows
 returns-clause-rows c =
-    let inv = c.loop-row.invariant in
     let fs = c.args.schema.now.fields in
     let rs = c.args.rows.now in
-    let done : c.loop-row.tally.entries ≡ note_all (unused fs) (rows_pairs fs rs) =
-    sym (ap (note_all c.loop-row.tally.entries) (rows-end fs rs c.loop-row.row-index (omega (arith, c.loop-row-test.false)))) ∙ inv.noted in
+    let done = noted-end fs rs c.loop-row.tally.entries _ c.loop-row.row-index (omega (arith, c.loop-row-test.false))
+    c.loop-row.invariant.noted in
     if_ok c.settle.result c.settle.ensures.entries (λ plan e. subst (HoldsRows fs rs) (sym (e ∙ done)) (holds_rows fs rs))
 
 pub returns-clause-ids : goal.returns-clause-ids
