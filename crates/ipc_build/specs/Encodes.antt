@@ -1,6 +1,6 @@
--- When a tree lies in bytes b, in the words by which b is read (FlatBuffers binary format,
--- "Tables", "Strings and Vectors", "Structs"). P is asked of the width and the place of every
--- number there: scalars, offsets, counts, a vtable's entries.
+-- When bytes b encode a tree, by the definitions that read b (FlatBuffers binary format, "Tables",
+-- "Strings and Vectors", "Structs"). P holds for the width and the place of every number there:
+-- scalars, offsets, counts, a vtable's entries.
 use Rattle.std.specs.Prelude.{ℤ, ℕ, ◌+◌, ◌*◌, ◌<◌, ◌≤◌, ◌≡◌, ◌⊎◌, List, [], ◌∷◌, length, Some, None}
 use Rattle.std.specs.Prelude.{Ok, ⊤}
 use Rattle.std.specs.Int.{byte_len, cast_signed}
@@ -15,13 +15,13 @@ unfoldable pub HasField : ℕ → Tree → Type 0
 HasField n none = ⊥
 HasField n (field m content inner rest) = (n ≡ m) ⊎ HasField n rest
 
--- what fields stand in: the table at a place, or the rest of a vector of tables, whose next offset
--- is at a place
+-- what contains fields: the table at this place, or the rest of a vector of tables, whose next
+-- offset is at this place
 pub data Holder : Type 0 where
   in_table : ℕ → Holder
   in_vector : ℕ → Holder
 
--- where the next field stands: in the same table, or at the offset behind this one
+-- where the next field is: in the same table, or at the vector's next offset
 abbrev pub next_in : Holder → Holder
 next_in (in_table t) = in_table t
 next_in (in_vector q) = in_vector (q + 4)
@@ -32,8 +32,8 @@ inline_width (k.byte x) = 1
 inline_width (k.signed w z) = byte_len w
 inline_width _ = 4
 
--- "Tables": the second number of the vtable at v is the size of the table's inline part, and so the
--- one at t ends there
+-- "Tables": the end of the inline part of the table at t, whose size is the second number of its
+-- vtable at v
 abbrev pub inline_end_of : List ℕ → ℕ → ℕ → ℕ
 inline_end_of b v t = t + num b (v + 2) 2
 
@@ -51,8 +51,8 @@ module _ (P : ℕ → ℕ → Type 0) (b : List ℕ) where
   EncodesPairs q (x ∷ xs) = (int64 b q ≡ x.0) × (int64 b (q + 8) ≡ x.1) × (P 8 q × P 8 (q + 8))
       × EncodesPairs (q + 16) xs
 
-  -- "Tables": a table stands at t, its inline part ends inside the bytes, and each number that none
-  -- of these fields has is absent there
+  -- "Tables": there is a table at t, its inline part ends inside the bytes, and every field whose
+  -- number is not among these fields is absent
   pub record TableStands (t : ℕ) (f : Tree) : Type 0 where
     pub vtable : ℕ
     pub found : vtable_of b t ≡ Ok vtable
@@ -61,8 +61,7 @@ module _ (P : ℕ → ℕ → Type 0) (b : List ℕ) where
     pub entries : (i : ℕ) → 2 * i < num b vtable 2 → P 2 (vtable + 2 * i)
     pub absent : (n w : ℕ) → (HasField n f → ⊥) → slot_of b t n w ≡ Ok None
 
-  -- "Strings and Vectors": the offset at p points to this string, behind whose length and bytes a
-  -- zero byte stands
+  -- "Strings and Vectors": the offset at p points to this string, and a zero byte follows its bytes
   pub record EncodesText (p : ℕ) (s : List ℕ) : Type 0 where
     pub start : ℕ
     pub points_there : points b p ≡ Ok start
@@ -70,8 +69,8 @@ module _ (P : ℕ → ℕ → Type 0) (b : List ℕ) where
     pub text : text_of b p ≡ Ok s
     pub closed : (start + 4 + length s < length b) × (byte b (start + 4 + length s) ≡ 0)
 
-  -- the scalar at p is this number, or the offset at p points to this; `below` says of a holder
-  -- that the tree below lies in it
+  -- the scalar at p is this number, or the offset at p points to this content; `below` states that
+  -- a holder contains the tree below
   abbrev pub EncodesTarget : Content → Tree → (Holder → Type 0) → ℕ → Type 0
   EncodesTarget (k.byte x) f below p = num b p 1 ≡ x
   EncodesTarget (k.signed w z) f below p = cast_signed w (num b p (byte_len w)) ≡ z
@@ -83,7 +82,7 @@ module _ (P : ℕ → ℕ → Type 0) (b : List ℕ) where
   EncodesTarget k.tables f below p =
       (q : ℕ) × (elements_of b p 4 ≡ Ok (q + 4, members f)) × P 4 q × below (in_vector (q + 4))
 
-  -- each field stands in this holder and holds what it is to hold, subtrees included
+  -- each field is in this holder and has its content, subtrees included
   unfoldable pub EncodesTable : Holder → Tree → Type 0
   EncodesTable at none = ⊤
   EncodesTable at (field n content inner rest) =
@@ -96,6 +95,6 @@ module _ (P : ℕ → ℕ → Type 0) (b : List ℕ) where
 abbrev pub Encodes : List ℕ → Tree → Type 0
 Encodes b f = EncodesTable (λ w p. ⊤) b (in_vector 0) (field 0 k.table f none)
 
--- the same, and each number stands at a multiple of its width
+-- `Encodes`, and each number is at a multiple of its width
 abbrev pub Aligned : List ℕ → Tree → Type 0
 Aligned b f = EncodesTable (λ w p. (q : ℕ) × (p ≡ q * w)) b (in_vector 0) (field 0 k.table f none)

@@ -1,5 +1,5 @@
--- The same facts as tests that compute, by the cause that is answered where one fails (Arrow
--- Columnar Format, "Physical Memory Layout").
+-- The rules of `Rules` as tests that compute, one for each cause that is returned when a test fails
+-- (Arrow Columnar Format, "Physical Memory Layout").
 use Rattle.std.specs.Prelude.{◌≡◌, ⊤, ℕ, zero, suc, ◌+◌, ◌-◌, ◌*◌, ◌/◌, ◌<◌, ◌≤◌, Bool, true}
 use Rattle.std.specs.Prelude.{false, ◌&&◌, ◌||◌, not, ◌==◌, nat_le, ℤ, pos, is_some, int_le}
 use Rattle.std.specs.Prelude.{unsigned_abs}
@@ -23,7 +23,7 @@ use Rattle.ipc_model.specs.declared.schema.IntBits.{IntBits}
 use Rattle.ipc_model.specs.declared.value.Value.{Value}
 use Rattle.ipc_model.specs.declared.limits.Limits.{Limits}
 
--- the fault that a cause is answered as
+-- the fault that is returned for a cause
 abbrev pub fault_of : Cause → Fault
 fault_of cause.WrongNodeCount = fault.WrongNodeCount
 fault_of cause.WrongBufferCount = fault.WrongBufferCount
@@ -35,36 +35,37 @@ fault_of cause.BadOffsets = fault.BadOffsets
 fault_of cause.ValueNotUtf8 = fault.ValueNotUtf8
 fault_of cause.BadIndex = fault.BadIndex
 
--- a family of tests: at Ok all hold, and a cause is answered only where its own fails
+-- the result of a family of tests, one for each cause: with Ok all hold; a cause is returned only
+-- if its own test fails
 abbrev pub Judges : {X : Type 0} → Result X Cause → (Cause → Bool) → Type 0
 Judges (Ok x) test = (c : Cause) → test c ≡ true
 Judges (Err c) test = test c ≡ false
 
--- a test of each item
+-- the test holds for each item
 abbrev pub all : {X : Type 0} → (X → Bool) → List X → Bool
 all f [] = true
 all f (x ∷ xs) = f x && all f xs
 
--- a test of each number below n
+-- the test holds for each number below n
 abbrev pub all_below : (ℕ → Bool) → ℕ → Bool
 all_below f zero = true
 all_below f (suc n) = all_below f n && f n
 
--- from 0 to the most slots
+-- a number of slots is from 0 up to the limit
 abbrev pub is_slot_count : Limits → ℤ → Bool
 is_slot_count limits count = int_le (pos 0) count && int_le count (pos limits.slots)
 
--- a length and a null count
+-- a node, a length and a null count, is within its bounds
 abbrev pub is_node : Limits → ℤ × ℤ → Bool
 is_node limits node = is_slot_count limits node.0 && (int_le (pos 0) node.1 && int_le node.1 node.0)
 
--- an offset and a length, within so many bytes
+-- a range, an offset and a length, is not negative; unless it is empty, it ends within `size` bytes
 abbrev pub lies_in : ℕ → ℤ × ℤ → Bool
 lies_in size range = int_le (pos 0) range.0
     && (int_le (pos 0) range.1 &&
     (unsigned_abs range.1 == 0 || nat_le (unsigned_abs range.0 + unsigned_abs range.1) size))
 
--- the tests of a head
+-- the test of a batch's head for this cause; the head has none for other causes
 abbrev pub head_passes : Limits → Cause → Shape → BatchHead → ℕ → Bool
 head_passes limits cause.WrongNodeCount shape head size = length head.nodes == nodes_in shape
 head_passes limits cause.WrongBufferCount shape head size = length head.buffers == buffers_in shape
@@ -73,22 +74,23 @@ head_passes limits cause.BadNode shape head size = is_slot_count limits head.len
 head_passes limits cause.BufferOutOfBody shape head size = all (lies_in size) head.buffers
 head_passes limits _ shape head size = true
 
--- the head has as many nodes and buffers as the fields need
+-- the head has exactly the nodes and buffers that the fields need
 pub record CountsHold (limits : Limits) (shape : Shape) (head : BatchHead) (size : ℕ) : Type 0 where
   pub nodes : head_passes limits cause.WrongNodeCount shape head size ≡ true
   pub buffers : head_passes limits cause.WrongBufferCount shape head size ≡ true
 
--- a cause that is answered only where the head has
+-- for a bad node or a bad range, the counts of nodes and buffers hold; nothing is stated for other
+-- causes
 abbrev pub IsCounted : Limits → Cause → Shape → BatchHead → ℕ → Type 0
 IsCounted limits cause.BadNode shape head size = CountsHold limits shape head size
 IsCounted limits cause.BufferOutOfBody shape head size = CountsHold limits shape head size
 IsCounted limits _ shape head size = ⊤
 
--- a bitmap of so many bytes has n bits, or is absent
+-- a bitmap of this many bytes has n bits, or is absent
 abbrev pub has_bitmap : ℕ → ℕ → Bool
 has_bitmap n bytes = bytes == 0 || nat_le ((n + 7) / 8) bytes
 
--- so many bytes hold the values of n slots
+-- this many bytes hold the values of n slots
 abbrev pub holds_values : Layout → ℕ → ℕ → Bool
 holds_values l.Bits n bytes = nat_le ((n + 7) / 8) bytes
 holds_values (l.Numbers bits signed) n bytes = nat_le (number_bytes bits * n) bytes
@@ -96,27 +98,27 @@ holds_values (l.FixedBytes width) n bytes = nat_le (width * n) bytes
 holds_values (l.Indices bits signed id) n bytes = nat_le (number_bytes bits * n) bytes
 holds_values _ n bytes = true
 
--- so many bytes hold the offsets of n slots
+-- this many bytes hold the offsets of n slots
 abbrev pub holds_offsets : Layout → ℕ → ℕ → Bool
 holds_offsets (l.VariableBytes utf8) n bytes = n == 0 || nat_le (4 * (n + 1)) bytes
 holds_offsets l.Lists n bytes = n == 0 || nat_le (4 * (n + 1)) bytes
 holds_offsets _ n bytes = true
 
--- offset i isn't above the next
+-- offset i is at most offset i + 1
 abbrev pub is_ascending_at : List ℕ → ℕ → Bool
 is_ascending_at offsets i = int_le (offset offsets i) (offset offsets (i + 1))
 
--- the offsets of n slots are in order, within so many bytes
+-- the offsets of n slots start at 0 or above, do not decrease, and end within `size` bytes
 abbrev pub are_ascending : List ℕ → ℕ → ℕ → Bool
 are_ascending offsets n size = int_le (pos 0) (offset offsets 0)
     && (all_below (is_ascending_at offsets) n && nat_le (place offsets n) size)
 
--- each of the columns has n slots at least
+-- each of the columns has at least n slots
 abbrev pub have_slots : ℕ → Columns → Bool
 have_slots n cs = every_top (λ c. nat_le n c.slots) cs
 
--- the offsets that a column's slots need, where they are there: those of texts and bytes end within
--- so many bytes, those of lists within the slots of the child
+-- the offsets of a column's slots, if they are complete, are in order: those of texts and bytes end
+-- within `size` bytes, those of lists within the slots of the child
 abbrev pub in_order : Layout → ℕ → List ℕ → ℕ → Columns → Bool
 in_order (l.VariableBytes utf8) n offsets size children =
     n == 0 || (not (nat_le (4 * (n + 1)) (length offsets)) || are_ascending offsets n size)
@@ -124,28 +126,29 @@ in_order l.Lists n offsets size children = n == 0 || (not (nat_le (4 * (n + 1)) 
     || (are_ascending offsets n (place offsets n) && have_slots (place offsets n) children))
 in_order _ n offsets size children = true
 
--- the children of n structs have n slots at least, and the child of n lists of a fixed size has
--- that many for each of them
+-- each child of n structs has at least n slots; the child of n lists of a fixed size has at least
+-- size * n
 abbrev pub are_long : Layout → ℕ → Columns → Bool
 are_long l.Structs n children = have_slots n children
 are_long (l.FixedLists size) n children = have_slots (size * n) children
 are_long _ n children = true
 
--- a test of n slots from slot i on
+-- the test holds for n slots from slot i on
 abbrev pub all_slots : (ℕ → Bool) → ℕ → ℕ → Bool
 all_slots test i n = all_below (λ k. test (i + k)) n
 
--- the test of a text
+-- the test of a text for this cause
 abbrev pub text_passes : Cause → List ℕ → Bool
 text_passes cause.ValueNotUtf8 bytes = is_utf8 bytes
 text_passes _ bytes = true
 
--- the test of an index
+-- the test of an index for this cause
 abbrev pub index_passes : Cause → List Value → ℤ → Bool
 index_passes cause.BadIndex dictionary index = is_some (place_below (length dictionary) index)
 index_passes _ dictionary index = true
 
--- the test of what valid slot i holds; `below` tests a range of the children's slots
+-- the test of the content of valid slot i for this cause; `below` tests a range of the children's
+-- slots
 abbrev pub good_below : Cause → Layout → List Value → (ℕ → ℕ → Bool) → List ℕ → List ℕ → ℕ → Bool
 good_below why (l.VariableBytes true) dictionary below offsets values i =
     text_passes why (between offsets values i)
@@ -158,25 +161,26 @@ good_below why (l.FixedLists size) dictionary below offsets values i =
 good_below why l.Structs dictionary below offsets values i = below i (i + 1)
 good_below why _ dictionary below offsets values i = true
 
--- what the slots from i up to j of a list or struct lead to is good
+-- the children's slots that belong to the slots from i up to j of a list or a struct pass the test
+-- `below`
 abbrev pub range_good : Layout → (ℕ → ℕ → Bool) → List ℕ → ℕ → ℕ → Bool
 range_good l.Lists below offsets i j = below (place offsets i) (place offsets j)
 range_good (l.FixedLists size) below offsets i j = below (size * i) (size * j)
 range_good l.Structs below offsets i j = below i j
 range_good _ below offsets i j = true
 
--- slot i is null, or passes the test
+-- slot i is null, or its content passes the test
 abbrev pub good_slot : Cause → (ℕ → ℕ → Bool) → Column → ℕ → Bool
 good_slot why below c i = not (is_valid c.validity i)
     || good_below why c.layout c.dictionary below c.offsets c.values i
 
--- the slots from i up to j of each column pass the test; nothing is asked below a null slot
+-- the slots from i up to j of each column pass the test; nothing is tested below a null slot
 abbrev pub good : Cause → Columns → ℕ → ℕ → Bool
 good why none i j = true
 good why (column c children rest) i j =
     all_slots (good_slot why (good why children) c) i (j - i) && good why rest i j
 
--- slot i is null, or holds a text
+-- slot i is null, or holds a text in UTF-8
 abbrev pub text_good : List ℕ → List ℕ → List ℕ → ℕ → Bool
 text_good validity offsets values i =
     not (is_valid validity i) || is_utf8 (between offsets values i)
@@ -185,20 +189,20 @@ text_good validity offsets values i =
 abbrev pub IsIndexed : Layout → IntBits → Bool → Type 0
 IsIndexed layout bits signed = (id : ℤ) × (layout ≡ l.Indices bits signed id)
 
--- slot i is null, or holds the index of one of n values
+-- slot i is null, or holds an index below n
 abbrev pub index_good : List ℕ → IntBits → Bool → ℕ → List ℕ → ℕ → Bool
 index_good validity bits signed n values i =
     not (is_valid validity i) || is_some (place_below n (number_in bits signed values i))
 
--- the slots from slot i up to slot j begin where these bytes may be cut
+-- each slot from i up to j begins at a character boundary of these bytes
 abbrev pub AreCuts : List ℕ → List ℕ → ℕ → ℕ → Type 0
 AreCuts offsets bytes i j = (k : ℕ) → i ≤ k → k < j → IsCharBoundary bytes (place offsets k)
 
--- the nulls among the first n slots
+-- how many of the first n slots are null
 abbrev pub nulls_in : List ℕ → ℕ → ℕ
 nulls_in validity n = if length validity == 0 then 0 else clear validity n
 
--- the tests of a column and the columns of its children
+-- the tests of a column and the columns of its children for this cause
 abbrev pub passes : Cause → Column → Columns → Bool
 passes cause.BadNode c children = are_long c.layout c.slots children
 passes cause.BufferTooShort c children = has_bitmap c.slots (length c.validity)
@@ -210,49 +214,50 @@ passes cause.BadOffsets c children =
     in_order c.layout c.slots c.offsets (length c.values) children
 passes _ c children = true
 
--- the tests of a column that has one slot for each of n rows
+-- the test of a top-level column for this cause: it has one slot for each of n rows
 abbrev pub top_passes : Cause → ℕ → Column → Bool
 top_passes cause.BadNode n c = c.slots == n
 top_passes _ n c = true
 
--- the test of what n rows of columns show
+-- the test for this cause of the values that n rows of columns show
 abbrev pub visible_passes : Cause → ℕ → Columns → Bool
 visible_passes cause.ValueNotUtf8 n cs = good cause.ValueNotUtf8 cs 0 n
 visible_passes cause.BadIndex n cs = good cause.BadIndex cs 0 n
 visible_passes _ n cs = true
 
--- a cause that is found in what rows show, behind all others
+-- a cause that is found in the values of rows, after all others
 abbrev pub is_shown : Cause → Bool
 is_shown cause.ValueNotUtf8 = true
 is_shown cause.BadIndex = true
 is_shown _ = false
 
--- the tests of n rows of columns
+-- all tests of n rows of columns for this cause
 abbrev pub all_pass : Cause → ℕ → Columns → Bool
 all_pass why n cs = every (passes why) cs
     && (every_top (top_passes why n) cs && visible_passes why n cs)
 
--- the tests of the parts
+-- all tests of a head and a body for this cause
 abbrev pub fits : Limits → Dictionaries → Shape → BatchHead → List ℕ → Cause → Bool
 fits limits m shape head body why = head_passes limits why shape head (length body)
     && all_pass why (unsigned_abs head.length) (cut m shape head body 0 0)
 
--- n rows of the columns have values
+-- n rows of the columns pass all tests, so they have values
 abbrev pub Holds : ℕ → Columns → Type 0
 Holds n cs = (why : Cause) → all_pass why n cs ≡ true
 
--- every test of the parts holds, and these are the rows of their columns
+-- a head and a body pass all tests, and these are the rows of their columns
 pub record Passing (limits : Limits) (m : Dictionaries) (shape : Shape) (head : BatchHead)
     (body : List ℕ) (rows : List (List Value)) : Type 0 where
   pub sound : (why : Cause) → fits limits m shape head body why ≡ true
   pub values : rows ≡ rows_of (cut m shape head body 0 0) (unsigned_abs head.length)
 
--- every test of the head holds
+-- the head passes all its tests
 abbrev pub HeadHolds : Limits → Shape → BatchHead → List ℕ → Type 0
 HeadHolds limits shape head body = (why : Cause)
     → head_passes limits why shape head (length body) ≡ true
 
--- the fault's own test fails where those before it hold, or memory ran out
+-- the fault's own test fails and the tests that it depends on hold, or memory ran out; no other
+-- fault has a cause
 abbrev pub Failing : Limits → Fault → Dictionaries → Shape → BatchHead → List ℕ → Type 0
 Failing limits fault.WrongNodeCount m shape head body =
     fits limits m shape head body cause.WrongNodeCount ≡ false

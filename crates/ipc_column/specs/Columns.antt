@@ -4,8 +4,8 @@ use Rattle.std.specs.Prelude.{if◌then◌else◌, ⊤}
 use Rattle.ipc_model.specs.declared.layout.Layout.{Layout}
 use Rattle.ipc_model.specs.declared.value.Value.{Value}
 
--- a field's node (Message.fbs, FieldNode) with the bytes of its buffers, and the values of the
--- dictionary that its slots are indices of, none where that has none in force
+-- a field's node (Message.fbs, FieldNode) and the bytes of its buffers; if its slots are indices,
+-- also the values of its dictionary that are in force, or none
 pub record Column : Type 0 where
   pub layout : Layout
   pub slots : ℕ
@@ -15,33 +15,33 @@ pub record Column : Type 0 where
   pub values : List ℕ
   pub dictionary : List Value
 
--- columns side by side: a column, its children, and the columns after it
+-- adjacent columns: a column, its children, and the columns after it
 pub data Columns : Type 0 where
   none : Columns
   column : Column → Columns → Columns → Columns
 
--- a fact of each column and the columns of its children, and of all below it
+-- P holds for each column with the columns of its children, at every level
 abbrev pub Each : (Column → Columns → Type 0) → Columns → Type 0
 Each P none = ⊤
 Each P (column c children rest) = P c children × (Each P children × Each P rest)
 
--- a fact of each column, without the children
+-- P holds for each column, without the children
 abbrev pub EachTop : (Column → Type 0) → Columns → Type 0
 EachTop P none = ⊤
 EachTop P (column c children rest) = P c × EachTop P rest
 
--- a test of each column and the columns of its children, and of all below it
+-- the test holds for each column with the columns of its children, at every level
 abbrev pub every : (Column → Columns → Bool) → Columns → Bool
 every test none = true
 every test (column c children rest) =
     test c children && (every test children && every test rest)
 
--- a test of each column, without the children
+-- the test holds for each column, without the children
 abbrev pub every_top : (Column → Bool) → Columns → Bool
 every_top test none = true
 every_top test (column c children rest) = test c && every_top test rest
 
--- the columns of one list and then those of another
+-- the columns of one list, followed by those of another
 abbrev pub beside : Columns → Columns → Columns
 beside none after = after
 beside (column c children rest) after = column c children (beside rest after)
@@ -51,7 +51,7 @@ abbrev pub forest : List (Column × Columns) → Columns
 forest [] = none
 forest (c ∷ cs) = column c.0 c.1 (forest cs)
 
--- so many bytes of the body from a place on, or none where they pass its end
+-- `len` bytes of the body from a place on, or none if they pass its end
 unfoldable pub bytes_of : List ℕ → ℕ → ℕ → List ℕ
 bytes_of body start len = if nat_le (start + len) (length body) then slice_range body start
     (start + len) else []

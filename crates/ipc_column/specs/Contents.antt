@@ -1,10 +1,10 @@
--- What contracts see of a batch (Arrow Columnar Format, "RecordBatch message").
+-- The value of a record batch in contracts (Arrow Columnar Format, "RecordBatch message").
 use Rattle.std.specs.Prelude.{ℕ, List}
 use Rattle.ipc_model.specs.declared.layout.Layout.{Layout}
 use Rattle.ipc_model.specs.declared.value.Value.{Value}
 
--- its rows, how many columns it has, how each of them lies, the bytes of its body and their
--- number, and how many slots were visited to check them
+-- a batch's rows, the number of its columns, the layout of each, the bytes of its body, and their
+-- number; `tests` is how many slots were visited to validate it
 pub record Contents : Type 0 where
   pub rows : List (List Value)
   pub columns : ℕ

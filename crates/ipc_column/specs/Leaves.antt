@@ -1,5 +1,5 @@
--- Columns that stand alone, over a body that batches share (Arrow Columnar Format, "Dictionary
--- Messages").
+-- Single columns without children, over a body that batches share (Arrow Columnar Format,
+-- "Dictionary Messages").
 use Rattle.std.specs.Prelude.{◌≡◌, true, Option, Some, None, [], ⊤}
 use Rattle.ipc_column.specs.declared.dictionary.Leaf.{Leaf}
 use Rattle.ipc_column.specs.Columns.{Column, none}
@@ -8,22 +8,22 @@ use Rattle.ipc_column.specs.Lent.{HoldSlots, found, values_in}
 use Rattle.ipc_column.specs.Spans.{span_bytes}
 use Rattle.ipc_column.specs.Values.{Cells}
 
--- its column
+-- the column of a leaf, as byte lists
 abbrev pub leaf_column : Leaf → Column
 leaf_column f = found f.layout f.slots (span_bytes f.body.value.items f.validity)
     (span_bytes f.body.value.items f.offsets) (span_bytes f.body.value.items f.values) []
 
--- its values, or none where there is no such column
+-- the values of a leaf, or none if there is no leaf
 abbrev pub leaf_values : Option Leaf → Cells
 leaf_values None = []
 leaf_values (Some f) = values_in (leaf_column f) none
 
--- its buffers have what its slots need, and it stands alone
+-- a leaf's buffers have the bytes that its slots need, and its column stores its values itself
 pub record IsLeaf (f : Leaf) : Type 0 where
   pub alone : stands_alone f.layout ≡ true
   pub holds : HoldSlots (leaf_column f) none
 
--- the same, where there is such a column
+-- `IsLeaf` holds, if there is a leaf
 abbrev pub HoldLeaf : Option Leaf → Type 0
 HoldLeaf None = ⊤
 HoldLeaf (Some f) = IsLeaf f

@@ -1,4 +1,4 @@
--- Columns that are lent as they lie (Arrow Columnar Format, "Physical Memory Layout").
+-- Columns that are lent as they are laid out (Arrow Columnar Format, "Physical Memory Layout").
 use Rattle.std.specs.Prelude.{◌≡◌, ℕ, ◌*◌, ◌<◌, ◌≤◌, Bool, true, false, List, [], ◌∷◌, length}
 use Rattle.std.specs.Prelude.{Some, slice_get, if◌then◌else◌}
 use Rattle.ipc_model.specs.declared.value.Value.{Value}
@@ -14,35 +14,36 @@ use Rattle.ipc_column.specs.Lent.{AreFound}
 use Rattle.ipc_column.specs.Nested.{Nested, below, slot_values}
 use Rattle.ipc_column.specs.Values.{is_valid, own_value}
 
--- how each of the columns lies
+-- the layout of each of the columns
 abbrev pub layouts_of : Columns → List Layout
 layouts_of none = []
 layouts_of (column c children rest) = c.layout ∷ layouts_of rest
 
--- one column, whose values lie in it alone
+-- there is one column, and it stores its values itself
 pub record AreAlone (cs : Columns) : Type 0 where
   pub layout : Layout
   pub one : layouts_of cs ≡ layout ∷ []
   pub alone : stands_alone layout ≡ true
 
--- the slots have numbers
+-- the slots hold numbers
 abbrev pub are_numbers : Layout → Bool
 are_numbers (l.Numbers bits signed) = true
 are_numbers _ = false
 
--- what is lent of slot i: a number of so many bits, or null where the bitmap says so
+-- the value of slot i in the lent numbers: null if the bitmap marks it, else the number
 abbrev pub number_of : Numbers → ℕ → Value
 number_of n i = if is_valid n.validity.now i
     then own_value (l.Numbers n.bits n.signed) [] (λ _. []) [] n.values.now i else v.Null
 
--- these are the numbers of a column: of its bits and its sign, and one for each of its slots
+-- these are the numbers of a column: they have its width and sign, and one number for each of its
+-- slots
 pub record AreNumbers (s : Nested) (n : Numbers) : Type 0 where
   pub layout : s.column.layout ≡ l.Numbers n.bits n.signed
   pub long : number_bytes n.bits * length (slot_values s) ≤ length n.values.now
   pub each : (i : ℕ) → i < length (slot_values s)
       → slice_get (slot_values s) i ≡ Some (number_of n i)
 
--- these are the buffers of a column, which have what its slots need
+-- these are the buffers of a column, which have the bytes that its slots need
 pub record AreBuffers (s : Nested) (b : Buffers) : Type 0 where
   pub layout : b.layout ≡ s.column.layout
   pub validity : b.validity.now ≡ s.column.validity

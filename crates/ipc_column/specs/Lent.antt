@@ -1,4 +1,4 @@
--- What is known of slots that were found good.
+-- What validation established about slots.
 use Rattle.std.specs.Prelude.{◌≡◌, ℕ, ◌≤◌, ◌<◌, true, List, [], length, slice_get}
 use Rattle.std.specs.Prelude.{slice_index_or}
 use Rattle.ipc_column.specs.declared.cause.Cause.{Cause}
@@ -10,29 +10,30 @@ use Rattle.ipc_column.specs.Checks.{passes, have_slots, good, good_slot}
 use Rattle.ipc_column.specs.Checks.{has_bitmap, holds_values, holds_offsets, in_order, are_long}
 use Rattle.ipc_column.specs.Values.{Cells, items, value_of, row}
 
--- each column has the slots from one place up to another, and what its slots need
+-- each column has the slots from `from` up to `to`, and its buffers have what its slots need
 pub record AreSlots (cs : Columns) (from to : ℕ) : Type 0 where
   pub order : from ≤ to
   pub within : have_slots to cs ≡ true
   pub sound : (why : Cause) → every (passes why) cs ≡ true
 
--- and the texts in these slots are UTF-8
+-- the columns have these slots (`AreSlots`), and the texts in them are UTF-8
 pub record HaveValues (cs : Columns) (from to : ℕ) : Type 0 where
   pub slots : AreSlots cs from to
   pub good : good cause.ValueNotUtf8 cs from to ≡ true
 
--- a column with these children has slot i, and what its slots need
+-- a column with these children has slot i, and their buffers have what their slots need
 pub record IsSlot (c : Column) (children : Columns) (i : ℕ) : Type 0 where
   pub within : i < c.slots
   pub own : (why : Cause) → passes why c children ≡ true
   pub sound : (why : Cause) → every (passes why) children ≡ true
 
--- and the texts that this slot leads to are UTF-8
+-- a column has slot i (`IsSlot`), and the texts in it and below it are UTF-8
 pub record HasValue (c : Column) (children : Columns) (i : ℕ) : Type 0 where
   pub slot : IsSlot c children i
   pub good : good_slot cause.ValueNotUtf8 (good cause.ValueNotUtf8 children) c i ≡ true
 
--- a column's buffers have what its slots need, and so have those of its children
+-- the buffers of a column and of its children have what their slots need, and the texts of the
+-- column are UTF-8
 pub record HoldSlots (c : Column) (children : Columns) : Type 0 where
   pub bitmap : has_bitmap c.slots (length c.validity) ≡ true
   pub values : holds_values c.layout c.slots (length c.values) ≡ true
@@ -43,8 +44,8 @@ pub record HoldSlots (c : Column) (children : Columns) : Type 0 where
   pub good : (i : ℕ) → i < c.slots
       → good_slot cause.ValueNotUtf8 (good cause.ValueNotUtf8 children) c i ≡ true
 
--- a column's buffers have what its slots need, and so have those of its children; whether texts are
--- UTF-8 isn't asked
+-- the buffers of a column and of its children have what their slots need; texts may be other than
+-- UTF-8
 pub record AreFound (c : Column) (children : Columns) : Type 0 where
   pub bitmap : has_bitmap c.slots (length c.validity) ≡ true
   pub values : holds_values c.layout c.slots (length c.values) ≡ true
@@ -53,7 +54,7 @@ pub record AreFound (c : Column) (children : Columns) : Type 0 where
   pub long : are_long c.layout c.slots children ≡ true
   pub sound : (why : Cause) → every (passes why) children ≡ true
 
--- a column of these buffers and with this dictionary; its null count isn't looked at
+-- a column of these buffers with this dictionary; its null count is set to 0, as it is not read
 abbrev pub found : Layout → ℕ → List ℕ → List ℕ → List ℕ → List Value → Column
 found layout slots validity offsets values dictionary = record {
   layout = layout;
@@ -65,15 +66,15 @@ found layout slots validity offsets values dictionary = record {
   dictionary = dictionary;
 }
 
--- the same column, whatever its null count
+-- a column with its null count set to 0
 abbrev pub refound : Column → Column
 refound c = found c.layout c.slots c.validity c.offsets c.values c.dictionary
 
--- the values of a column with these children
+-- the values of all slots of a column with these children
 abbrev pub values_in : Column → Columns → Cells
 values_in c children = items (value_of (row children) c) 0 c.slots
 
--- these are the values of one of the columns, row by row
+-- these are the values of one column of the rows, row by row
 pub record AreOfColumn (rows : List (List Value)) (column : ℕ) (values : List Value) : Type 0 where
   pub size : length values ≡ length rows
   pub each : (i : ℕ) → i < length rows

@@ -7,7 +7,7 @@ use Rattle.ipc_column.specs.Lent.{values_in}
 use Rattle.ipc_column.specs.Values.{Cells}
 use Rattle.ipc_column.specs.Views.{columns}
 
--- a column, and where in the body those of its children lie
+-- a column, and the body ranges of its children
 pub record Nested : Type 0 where
   pub column : Column
   pub body : List ℕ
@@ -17,10 +17,10 @@ pub record Nested : Type 0 where
 abbrev pub below : Nested → Columns
 below n = columns n.body n.children
 
--- the column alone, with no other beside it
+-- the column as the only one of a list
 abbrev pub alone : Nested → Columns
 alone n = column n.column (below n) none
 
--- the values of all its slots, also of those that no row leads to
+-- the values of all its slots, also of slots that no row refers to
 abbrev pub slot_values : Nested → Cells
 slot_values n = values_in n.column (below n)

@@ -1,4 +1,4 @@
--- What slots show by how they lie (Arrow Columnar Format, "Physical Memory Layout").
+-- The values that slots of a layout can have (Arrow Columnar Format, "Physical Memory Layout").
 use Rattle.std.specs.Prelude.{◌≡◌, ℕ, ◌+◌, true, false, List, [], ◌∷◌, length, ⊤}
 use Rattle.ipc_model.specs.Ranges.{width, IsSignedWithin, IsUnsignedWithin}
 use Rattle.ipc_model.specs.declared.layout.Layout.{Layout}
@@ -6,10 +6,10 @@ use Rattle.ipc_model.specs.declared.layout.Layout.TheVariants as l
 use Rattle.ipc_model.specs.declared.value.Value.{Value}
 use Rattle.ipc_model.specs.declared.value.Value.TheVariants as v
 
--- null, or a value that a slot of this layout holds: a number of its width and sign, so many bytes
--- where their number is fixed, a text or bytes of any length; nothing is said of lists and structs,
--- nor of an index, whose value stands elsewhere (Arrow Columnar Format, "Fixed-size Primitive
--- Layout", "Variable-size Binary Layout")
+-- null, or a value that a slot of this layout holds: a number of its width and sign, bytes of the
+-- fixed number, or a text or bytes of any length. Any value is allowed for lists, structs and
+-- indices, whose values are stored elsewhere (Arrow Columnar Format, "Fixed-size Primitive Layout",
+-- "Variable-size Binary Layout")
 abbrev pub IsShownBy : Layout → Value → Type 0
 IsShownBy (l.Indices bits signed id) value = ⊤
 IsShownBy l.Lists value = ⊤
@@ -38,7 +38,7 @@ spelled (v.Bytes bytes) = bytes
 spelled (v.Text text) = text
 spelled _ = []
 
--- how many bytes texts and binary values have together
+-- how many bytes the texts and binary values have together
 abbrev pub spelled_len : List Value → ℕ
 spelled_len [] = 0
 spelled_len (value ∷ values) = length (spelled value) + spelled_len values

@@ -1,5 +1,5 @@
--- What the standard asks of a record batch's parts (Arrow Columnar Format, "Physical Memory
--- Layout").
+-- The rules of the standard for a record batch's head and body (Arrow Columnar Format, "Physical
+-- Memory Layout").
 use Rattle.std.specs.Prelude.{◌≡◌, ℕ, ◌+◌, ◌*◌, ◌/◌, ◌<◌, ◌≤◌, ℤ, pos, ◌+ℤ◌, ◌≤ℤ◌, ◌<ℤ◌}
 use Rattle.std.specs.Prelude.{negsuc, unsigned_abs, Bool, true, false, ◌&&◌, ◌||◌, not, ◌==◌, ⊤}
 use Rattle.std.specs.Prelude.{List, [], ◌∷◌, length, if◌then◌else◌}
@@ -18,28 +18,29 @@ use Rattle.ipc_column.specs.Values.{offset, place, between, is_valid, number_in}
 use Rattle.ipc_column.specs.Shapes.{shape_of, nodes_in, buffers_in, columns_of}
 use Rattle.ipc_model.specs.declared.limits.Limits.{Limits}
 
--- a node for each field (Message.fbs, RecordBatch, "nodes")
+-- the head has one node for each field, children included (Message.fbs, RecordBatch, "nodes")
 abbrev pub HasNodes : List Field → BatchHead → Type 0
 HasNodes fields head = length head.nodes ≡ nodes_in (shape_of fields)
 
--- a buffer for each that the fields' layouts have (Message.fbs, RecordBatch, "buffers")
+-- the head has each buffer that the layouts of the fields have (Message.fbs, RecordBatch,
+-- "buffers")
 abbrev pub HasBuffers : List Field → BatchHead → Type 0
 HasBuffers fields head = length head.buffers ≡ buffers_in (shape_of fields)
 
--- from 0 to the most slots (Arrow Columnar Format, "Array lengths")
+-- a number of slots is from 0 up to the limit (Arrow Columnar Format, "Array lengths")
 pub record IsSlotCount (limits : Limits) (count : ℤ) : Type 0 where
   pub from : pos 0 ≤ℤ count
   pub to : count ≤ℤ pos limits.slots
 
--- a length, and a null count that is at most the length (Message.fbs, FieldNode)
+-- a node has a length, and a null count that is at most the length (Message.fbs, FieldNode)
 pub record IsNode (limits : Limits) (node : ℤ × ℤ) : Type 0 where
   pub slots : IsSlotCount limits node.0
   pub nulls_from : pos 0 ≤ℤ node.1
   pub nulls_to : node.1 ≤ℤ node.0
 
--- each child of n structs has n slots at least, and the child of n lists of a fixed size has that
--- many for each of them; of the children of others nothing is asked (Arrow Columnar Format, "Struct
--- Layout", "Fixed-Size List Layout")
+-- each child of n structs has at least n slots; the child of n lists of a fixed size has at least
+-- size * n. Other children may have any number (Arrow Columnar Format, "Struct Layout", "Fixed-Size
+-- List Layout")
 abbrev pub HasLongChildren : Layout → ℕ → Columns → Type 0
 HasLongChildren l.Structs n children = EachTop (λ c. n ≤ c.slots) children
 HasLongChildren (l.FixedLists size) n children = EachTop (λ c. size * n ≤ c.slots) children
@@ -51,9 +52,9 @@ HasLongChildren (l.FixedBytes width) n children = ⊤
 HasLongChildren (l.VariableBytes utf8) n children = ⊤
 HasLongChildren (l.Indices bits signed id) n children = ⊤
 
--- the batch's length and those of its nodes; the columns are as long as the batch (Message.fbs,
--- RecordBatch, "length"), and the children of structs and of lists of a fixed size as long as these
--- ask
+-- the batch's length and its nodes are in their bounds; the columns are as long as the batch
+-- (Message.fbs, RecordBatch, "length"), and the children of structs and of lists of a fixed size
+-- are long enough
 pub record HasLengths (limits : Limits) (m : Dictionaries) (fields : List Field)
     (head : BatchHead) (body : List ℕ) : Type 0 where
   pub batch : IsSlotCount limits head.length
@@ -62,18 +63,18 @@ pub record HasLengths (limits : Limits) (m : Dictionaries) (fields : List Field)
   pub children : Each (λ c children. HasLongChildren c.layout c.slots children)
       (columns_of m fields head body)
 
--- a range that begins at 0 or above and that, unless it is empty, ends within so many bytes
--- (Schema.fbs, Buffer)
+-- a range begins at 0 or above and, unless it is empty, ends within `size` bytes (Schema.fbs,
+-- Buffer)
 pub record LiesIn (size : ℕ) (range : ℤ × ℤ) : Type 0 where
   pub offset : pos 0 ≤ℤ range.0
   pub bytes : pos 0 ≤ℤ range.1
   pub within : pos 0 <ℤ range.1 → (range.0 +ℤ range.1) ≤ℤ pos size
 
--- each buffer lies in the body
+-- each buffer is inside the body
 abbrev pub HasRanges : BatchHead → List ℕ → Type 0
 HasRanges head body = All (LiesIn (length body)) head.buffers
 
--- so many bytes hold the values of n slots (Arrow Columnar Format, "Fixed-size Primitive Layout")
+-- this many bytes hold the values of n slots (Arrow Columnar Format, "Fixed-size Primitive Layout")
 abbrev pub HoldValues : Layout → ℕ → ℕ → Type 0
 HoldValues l.Bits n bytes = (n + 7) / 8 ≤ bytes
 HoldValues (l.Numbers bits signed) n bytes = number_bytes bits * n ≤ bytes
@@ -85,7 +86,7 @@ HoldValues (l.FixedLists size) n bytes = ⊤
 HoldValues l.Structs n bytes = ⊤
 HoldValues (l.Indices bits signed id) n bytes = number_bytes bits * n ≤ bytes
 
--- so many bytes hold the offsets of n slots, one more than there are slots, or none for no slots
+-- this many bytes hold the offsets of n slots: n + 1 offsets, or none if there are no slots
 -- (Arrow Columnar Format, "Variable-size Binary Layout", "Variable-size List Layout")
 abbrev pub HoldOffsets : Layout → ℕ → ℕ → Type 0
 HoldOffsets (l.VariableBytes utf8) n bytes = 0 < n → 4 * (n + 1) ≤ bytes
@@ -98,42 +99,42 @@ HoldOffsets (l.Numbers bits signed) n bytes = ⊤
 HoldOffsets (l.FixedBytes width) n bytes = ⊤
 HoldOffsets (l.Indices bits signed id) n bytes = ⊤
 
--- a bit for each slot (Arrow Columnar Format, "Validity bitmaps")
+-- the validity bitmap has a bit for each slot (Arrow Columnar Format, "Validity bitmaps")
 abbrev pub HasBits : Column → Type 0
 HasBits c = (c.slots + 7) / 8 ≤ length c.validity
 
--- the buffers have the bytes that the slots need: a bit for each slot in a bitmap that is there,
--- the values, and the offsets
+-- the buffers have the bytes that the slots need: a bit for each slot if there is a bitmap, the
+-- values, and the offsets
 pub record IsLongEnough (c : Column) : Type 0 where
   pub bitmap : 0 < length c.validity → HasBits c
   pub values : HoldValues c.layout c.slots (length c.values)
   pub offsets : HoldOffsets c.layout c.slots (length c.offsets)
 
--- each column is long enough
+-- the buffers of each column are long enough, at every level
 abbrev pub HasBytes : Dictionaries → List Field → BatchHead → List ℕ → Type 0
 HasBytes m fields head body = Each (λ c children. IsLongEnough c) (columns_of m fields head body)
 
--- the null count is that of a bitmap's clear bits, and 0 without a bitmap (Arrow Columnar Format,
--- "Null count"); a column of the null layout may have any
+-- the null count is the number of clear bits in the bitmap, and 0 without a bitmap
+-- (Arrow Columnar Format, "Null count"); a column of the null layout may have any
 pub record CountsNulls (c : Column) : Type 0 where
   pub with_bitmap : has_validity c.layout ≡ true → 0 < length c.validity → HasBits c
       → c.nulls ≡ clear c.validity c.slots
   pub without_bitmap : has_validity c.layout ≡ true → length c.validity ≡ 0 → c.nulls ≡ 0
 
--- each column counts its nulls
+-- the null count of each column is right, at every level
 abbrev pub HasNullCounts : Dictionaries → List Field → BatchHead → List ℕ → Type 0
 HasNullCounts m fields head body =
     Each (λ c children. CountsNulls c) (columns_of m fields head body)
 
--- the offsets of n slots begin at 0 or above, don't decrease and end within a bound (Arrow Columnar
--- Format, "Variable-size Binary Layout", "Variable-size List Layout")
+-- the offsets of n slots begin at 0 or above, do not decrease, and end within a bound
+-- (Arrow Columnar Format, "Variable-size Binary Layout", "Variable-size List Layout")
 pub record AreOffsets (offsets : List ℕ) (n : ℕ) (Within : ℤ → Type 0) : Type 0 where
   pub from : pos 0 ≤ℤ offset offsets 0
   pub order : (i : ℕ) → i < n → offset offsets i ≤ℤ offset offsets (i + 1)
   pub to : Within (offset offsets n)
 
--- the offsets that a column's slots need, where they are there: those of texts and bytes end within
--- so many bytes, those of lists within the slots of the child
+-- the offsets of a column's slots, if they are complete, are in order: those of texts and bytes end
+-- within `size` bytes, those of lists within the slots of the child
 abbrev pub HasOffsets : Layout → ℕ → List ℕ → ℕ → Columns → Type 0
 HasOffsets (l.VariableBytes utf8) n offsets size children = 0 < n → 4 * (n + 1) ≤ length offsets
     → AreOffsets offsets n (λ end. end ≤ℤ pos size)
@@ -147,14 +148,14 @@ HasOffsets (l.Numbers bits signed) n offsets size children = ⊤
 HasOffsets (l.FixedBytes width) n offsets size children = ⊤
 HasOffsets (l.Indices bits signed id) n offsets size children = ⊤
 
--- each column has them, within its values or its child
+-- the offsets of each column are in order, within its values or its child, at every level
 abbrev pub HasOrder : Dictionaries → List Field → BatchHead → List ℕ → Type 0
 HasOrder m fields head body =
     Each (λ c children. HasOffsets c.layout c.slots c.offsets (length c.values) children)
     (columns_of m fields head body)
 
--- what slot i holds is UTF-8, where it is a text (Schema.fbs, Utf8); of a list that is asked of the
--- slots that it holds, of a struct of its slot in each child
+-- the content of slot i is UTF-8, if it is a text (Schema.fbs, Utf8). A list needs this of the
+-- slots that it holds, a struct of its slot in each child, by `below`
 abbrev pub IsText : Layout → (ℕ → Type 0) → List ℕ → List ℕ → ℕ → Type 0
 IsText (l.VariableBytes true) below offsets values i = IsUtf8 (between offsets values i)
 IsText (l.VariableBytes utf8) below offsets values i = ⊤
@@ -169,25 +170,26 @@ IsText (l.Numbers bits signed) below offsets values i = ⊤
 IsText (l.FixedBytes width) below offsets values i = ⊤
 IsText (l.Indices bits signed id) below offsets values i = ⊤
 
--- slot i of each column, where it is valid: what stands at a null slot or below it isn't looked at
+-- slot i of each column, if it is valid, holds only texts in UTF-8; a null slot and what is below
+-- it are not read
 abbrev pub SpellsTexts : Columns → ℕ → Type 0
 SpellsTexts none i = ⊤
 SpellsTexts (column c children rest) i = (is_valid c.validity i ≡ true
     → IsText c.layout (SpellsTexts children) c.offsets c.values i) × SpellsTexts rest i
 
--- each row spells its texts
+-- the texts of each row are UTF-8
 abbrev pub HasTexts : Dictionaries → List Field → BatchHead → List ℕ → Type 0
 HasTexts m fields head body = (i : ℕ) → i < unsigned_abs head.length
     → SpellsTexts (columns_of m fields head body) i
 
--- an index from 0 on, below the number of the dictionary's values (Arrow Columnar Format,
+-- an index is at least 0 and below the number of the dictionary's values (Arrow Columnar Format,
 -- "Dictionary-encoded Layout")
 pub record IsIndex (dictionary : List Value) (index : ℤ) : Type 0 where
   pub from : pos 0 ≤ℤ index
   pub to : index <ℤ pos (length dictionary)
 
--- what slot i holds is the index of one of the dictionary's values, where it is an index; of a list
--- that is asked of the slots that it holds, of a struct of its slot in each child
+-- the content of slot i, if it is an index, is that of one of the dictionary's values. A list needs
+-- this of the slots that it holds, a struct of its slot in each child, by `below`
 abbrev pub HasIndex : Layout → List Value → (ℕ → Type 0) → List ℕ → List ℕ → ℕ → Type 0
 HasIndex (l.Indices bits signed id) dictionary below offsets values i =
     IsIndex dictionary (number_in bits signed values i)
@@ -202,42 +204,43 @@ HasIndex (l.Numbers bits signed) dictionary below offsets values i = ⊤
 HasIndex (l.FixedBytes width) dictionary below offsets values i = ⊤
 HasIndex (l.VariableBytes utf8) dictionary below offsets values i = ⊤
 
--- slot i of each column, where it is valid: what stands at a null slot or below it isn't looked at
+-- slot i of each column, if it is valid, holds only indices of dictionary values; a null slot and
+-- what is below it are not read
 abbrev pub HoldsIndices : Columns → ℕ → Type 0
 HoldsIndices none i = ⊤
 HoldsIndices (column c children rest) i = (is_valid c.validity i ≡ true
     → HasIndex c.layout c.dictionary (HoldsIndices children) c.offsets c.values i)
     × HoldsIndices rest i
 
--- each row holds indices of values that are in force
+-- the indices of each row are those of values in force
 abbrev pub HasIndices : Dictionaries → List Field → BatchHead → List ℕ → Type 0
 HasIndices m fields head body = (i : ℕ) → i < unsigned_abs head.length
     → HoldsIndices (columns_of m fields head body) i
 
--- texts or indices stand in one of the columns, or below it
+-- one of the columns, or a column below it, has texts or indices
 abbrev pub have_judged : Columns → Bool
 have_judged none = false
 have_judged (column c children rest) =
     is_judged c.layout || (have_judged children || have_judged rest)
 
--- the slots of a column may be visited one by one: it holds texts or indices, or it has a validity
--- bitmap and such stand below it
+-- validation may visit the slots of a column one by one: it has texts or indices, or it has a
+-- validity bitmap and there are texts or indices below it
 abbrev pub is_visited : Column → Columns → Bool
 is_visited c children =
     is_judged c.layout || (not (length c.validity == 0) && have_judged children)
 
--- how many slots may be visited one by one
+-- how many slots validation may visit one by one
 abbrev pub visits_in : Columns → ℕ
 visits_in none = 0
 visits_in (column c children rest) = (if is_visited c children then c.slots else 0)
     + visits_in children + visits_in rest
 
--- a number, or 0 where it is negative
+-- the number, or 0 if it is negative
 abbrev pub count_of : ℤ → ℕ
 count_of (pos n) = n
 count_of (negsuc n) = 0
 
--- the slots of all nodes
+-- how many slots all nodes have together
 abbrev pub slots_in : List (ℤ × ℤ) → ℕ
 slots_in [] = 0
 slots_in (node ∷ nodes) = count_of node.0 + slots_in nodes

@@ -1,5 +1,5 @@
 -- The nodes and buffers that fields need, in pre-order (Arrow Columnar Format, "RecordBatch
--- message"), and the columns that they cut out of a body, under the dictionaries in force.
+-- message"); and the columns that a body has by them, with the dictionaries in force.
 use Rattle.std.specs.Prelude.{ℕ, ◌+◌, ℤ, pos, unsigned_abs, List, [], ◌∷◌, map, slice_index_or}
 use Rattle.ipc_model.specs.declared.schema.Field.{Field, fold-Field}
 use Rattle.ipc_model.specs.declared.schema.Field.TheOpen.{Field-F}
@@ -11,7 +11,7 @@ use Rattle.ipc_column.specs.Columns.{Column, Columns, none, column, bytes_of}
 use Rattle.ipc_column.specs.Dictionaries.{Dictionaries, values_for}
 use Rattle.ipc_model.specs.declared.value.Value.{Value}
 
--- fields side by side: a field, its children, and the fields after it
+-- adjacent fields: a field, its children, and the fields after it
 pub data Shape : Type 0 where
   bare : Shape
   field : Layout → Shape → Shape → Shape
@@ -21,7 +21,7 @@ abbrev pub shapes : List (Layout × Shape) → Shape
 shapes [] = bare
 shapes (f ∷ fs) = field f.0 f.1 (shapes fs)
 
--- one field, with its children's shapes in their place
+-- one field's layout and the shape of its children, given those of the children
 abbrev pub field_step : Field-F (Layout × Shape) → Layout × Shape
 field_step f = (layout f.kind f.dictionary, shapes f.children)
 
@@ -29,16 +29,16 @@ field_step f = (layout f.kind f.dictionary, shapes f.children)
 abbrev pub field_shape : Field → Layout × Shape
 field_shape = fold-Field (Layout × Shape) field_step
 
--- the shape of fields
+-- the shape of these fields, children included
 abbrev pub shape_of : List Field → Shape
 shape_of fields = shapes (map field_shape fields)
 
--- one node for each field, children included
+-- how many nodes the fields have: one for each field, children included
 unfoldable pub nodes_in : Shape → ℕ
 nodes_in bare = 0
 nodes_in (field l children rest) = 1 + nodes_in children + nodes_in rest
 
--- the buffers of each field, children included
+-- how many buffers the fields have, children included
 unfoldable pub buffers_in : Shape → ℕ
 buffers_in bare = 0
 buffers_in (field l children rest) = own_buffers l + buffers_in children + buffers_in rest
@@ -47,7 +47,7 @@ buffers_in (field l children rest) = own_buffers l + buffers_in children + buffe
 abbrev pub node_at : BatchHead → ℕ → ℤ × ℤ
 node_at head n = slice_index_or head.nodes n (pos 0, pos 0)
 
--- the bytes of buffer b: an offset and a length (Schema.fbs, Buffer)
+-- the bytes of buffer b, which has an offset and a length (Schema.fbs, Buffer)
 abbrev pub buffer_at : BatchHead → List ℕ → ℕ → List ℕ
 buffer_at head body b = let range =
     slice_index_or head.buffers b (pos 0, pos 0) in bytes_of body (unsigned_abs range.0)
@@ -65,7 +65,7 @@ validity_at (l.FixedLists size) head body b = buffer_at head body b
 validity_at l.Structs head body b = buffer_at head body b
 validity_at (l.Indices bits signed id) head body b = buffer_at head body b
 
--- its offsets
+-- the offsets of a field whose first buffer is b; none if its layout has no offsets
 abbrev pub offsets_at : Layout → BatchHead → List ℕ → ℕ → List ℕ
 offsets_at (l.VariableBytes utf8) head body b = buffer_at head body (b + 1)
 offsets_at l.Lists head body b = buffer_at head body (b + 1)
@@ -77,7 +77,7 @@ offsets_at (l.Numbers bits signed) head body b = []
 offsets_at (l.FixedBytes width) head body b = []
 offsets_at (l.Indices bits signed id) head body b = []
 
--- its values
+-- the values of a field whose first buffer is b; none if its layout has no values
 abbrev pub values_at : Layout → BatchHead → List ℕ → ℕ → List ℕ
 values_at l.Null head body b = []
 values_at (l.VariableBytes utf8) head body b = buffer_at head body (b + 2)
@@ -89,7 +89,8 @@ values_at l.Lists head body b = []
 values_at (l.FixedLists size) head body b = []
 values_at l.Structs head body b = []
 
--- the values that its slots are indices of: those in force for the id of its dictionary
+-- the values into which a field's slots are indices: those in force for its dictionary's id; none
+-- for other layouts
 abbrev pub dictionary_at : Dictionaries → Layout → List Value
 dictionary_at m (l.Indices bits signed id) = values_for m id
 dictionary_at m l.Null = []
@@ -113,8 +114,8 @@ column_at m l head body n b = record {
   dictionary = dictionary_at m l;
 }
 
--- a field's own node and buffers come first, then those of its children, then those of the fields
--- after it
+-- the columns of adjacent fields, in this order: a field's own node and buffers, then those of its
+-- children, then those of the fields after it
 unfoldable pub cut : Dictionaries → Shape → BatchHead → List ℕ → ℕ → ℕ → Columns
 cut m bare head body n b = none
 cut m (field l children rest) head body n b =
@@ -125,10 +126,10 @@ cut m (field l children rest) head body n b =
 abbrev pub columns_of : Dictionaries → List Field → BatchHead → List ℕ → Columns
 columns_of m fields head body = cut m (shape_of fields) head body 0 0
 
--- a field's layout, and what its children need
+-- a field's layout
 abbrev pub field_layout : Field → Layout
 field_layout f = (field_shape f).0
 
--- the shapes of a field's children
+-- the shape of a field's children
 abbrev pub field_children : Field → Shape
 field_children f = (field_shape f).1

@@ -1,4 +1,4 @@
--- What the clones of a batch share, as contracts see it.
+-- What the clones of a batch share, as values in contracts.
 use Rattle.std.specs.Prelude.{length}
 use Rattle.ipc_column.specs.declared.batch.Shared.{Shared}
 use Rattle.ipc_column.specs.Contents.{Contents}
@@ -7,7 +7,8 @@ use Rattle.ipc_column.specs.Checks.{Holds}
 use Rattle.ipc_column.specs.Values.{rows_of}
 use Rattle.ipc_column.specs.Views.{columns}
 
--- the rows of its columns, how these lie, its body, and its numbers
+-- the contents of a shared batch: its rows, the layouts of its columns, its body with its length,
+-- and the number of visited slots
 abbrev pub contents_of : Shared → Contents
 contents_of s = record {
   rows = rows_of (columns s.body.value.items s.parts.items) s.count;
@@ -18,6 +19,6 @@ contents_of s = record {
   tests = s.slot_tests;
 }
 
--- its columns have so many rows
+-- the columns of a shared batch have its number of rows and pass all tests
 abbrev pub HasRows : Shared → Type 0
 HasRows s = Holds s.count (columns s.body.value.items s.parts.items)

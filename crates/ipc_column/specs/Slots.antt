@@ -1,4 +1,4 @@
--- What slots hold by themselves (Arrow Columnar Format, "Physical Memory Layout").
+-- The content of slots by themselves (Arrow Columnar Format, "Physical Memory Layout").
 use Rattle.std.specs.Borrow.{Bor}
 use Rattle.std.specs.Prelude.{ℕ, ◌-◌, ◌<◌, ◌≤◌, Bool, true, false, List, map, take, ⊤}
 use Rattle.std.specs.Prelude.{Option, Some, None}
@@ -14,8 +14,8 @@ use Rattle.ipc_column.specs.Nested.{Nested}
 use Rattle.ipc_column.specs.Values.{items, first_of}
 use Rattle.ipc_column.specs.Views.{column_of}
 
--- the value that slot i shows, where `below` gives the values of a slot of the children: of a list
--- those of its slots of the first child, of a struct that of its slot in each
+-- the value of slot i, given `below`, the values of the children's slots: a list has those of its
+-- slots in the first child, a struct that of slot i in each child
 abbrev pub shown : (ℕ → List Value) → ℕ → Slot → Value
 shown below i slot.Null = v.Null
 shown below i (slot.Bool truth) = v.Bool truth
@@ -26,18 +26,17 @@ shown below i (slot.Text bytes) = v.Text bytes.now
 shown below i (slot.List from to) = v.List (items (λ j. first_of (below j)) from (to - from))
 shown below i slot.Struct = v.Struct (below i)
 
--- the value of a slot that is told by bytes, of which the first, so many, are its text: null where
--- nothing is told
+-- the text in the first `len` bytes of a buffer, or null if there is none
 abbrev pub text_shown : Option (Bor (List ℕ) × ℕ) → Value
 text_shown None = v.Null
 text_shown (Some (bytes, len)) = v.Text (take len bytes.now)
 
--- null, which stands in no valid slot but those of columns without values
+-- the value is null
 abbrev pub is_null : Value → Bool
 is_null v.Null = true
 is_null _ = false
 
--- each of the children has the slots that slot i leads to
+-- each of the children has the slots that slot i refers to
 abbrev pub LeadsInside : Columns → ℕ → Slot → Type 0
 LeadsInside children i (slot.List from to) = (from ≤ to) × EachTop (λ c. to ≤ c.slots) children
 LeadsInside children i slot.Struct = EachTop (λ c. i < c.slots) children
@@ -48,7 +47,7 @@ LeadsInside children i (slot.UInt number) = ⊤
 LeadsInside children i (slot.Bytes bytes) = ⊤
 LeadsInside children i (slot.Text bytes) = ⊤
 
--- a part's column over the body
+-- the column of a part, over the body, with its children
 abbrev pub nested : List ℕ → ColumnRanges → Nested
 nested body p = record {
   column = refound (column_of body p);
@@ -56,6 +55,6 @@ nested body p = record {
   children = (out-ColumnRanges p).children.items;
 }
 
--- the columns of the children, one by one
+-- each child's column over the body, with its own children
 abbrev pub nested_in : Nested → List Nested
 nested_in n = map (nested n.body) n.children

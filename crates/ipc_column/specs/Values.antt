@@ -13,8 +13,8 @@ use Rattle.ipc_model.specs.declared.layout.Layout.TheVariants as l
 use Rattle.ipc_model.specs.Layouts.{number_bytes}
 use Rattle.ipc_column.specs.Columns.{Column, Columns, none, column}
 
--- a slot is valid where its bit is set, or where there is no bitmap (Arrow Columnar Format,
--- "Validity bitmaps")
+-- a slot is valid if its bit is set, or if there is no bitmap (Arrow Columnar Format, "Validity
+-- bitmaps")
 abbrev pub is_valid : List ℕ → ℕ → Bool
 is_valid validity i = if length validity == 0 then true else bit validity i
 
@@ -30,12 +30,12 @@ abbrev pub number_in : IntBits → Bool → List ℕ → ℕ → ℤ
 number_in bits true values i = signed_at bits values (number_bytes bits * i)
 number_in bits false values i = pos (num values (number_bytes bits * i) (number_bytes bits))
 
--- a number as that of one of n values, where it is one
+-- the number as an index below n, if it is one
 abbrev pub place_below : ℕ → ℤ → Option ℕ
 place_below n (pos i) = if nat_lt i n then Some i else None
 place_below n (negsuc i) = None
 
--- the value with this index, or null where there is none
+-- the value at this index, or null if there is none
 abbrev pub value_at : List Value → ℤ → Value
 value_at dictionary (pos i) = slice_index_or dictionary i v.Null
 value_at dictionary (negsuc i) = v.Null
@@ -44,7 +44,7 @@ value_at dictionary (negsuc i) = v.Null
 abbrev pub offset : List ℕ → ℕ → ℤ
 offset offsets i = int32 offsets (4 * i)
 
--- where offset i points, if it isn't negative
+-- the place to which offset i points, if it is not negative
 abbrev pub place : List ℕ → ℕ → ℕ
 place offsets i = unsigned_abs (offset offsets i)
 
@@ -52,15 +52,15 @@ place offsets i = unsigned_abs (offset offsets i)
 abbrev pub between : List ℕ → List ℕ → ℕ → List ℕ
 between offsets values i = slice_range values (place offsets i) (place offsets (i + 1))
 
--- where the slots of the children begin that belong to slot i: in a list at offset i, in a list of
--- a fixed size at i times the size, in a struct at slot i (Arrow Columnar Format, "Variable-size
--- List Layout", "Fixed-Size List Layout", "Struct Layout")
+-- Arrow Columnar Format, "Variable-size List Layout", "Fixed-Size List Layout", "Struct Layout":
+-- the first slot of the children that belongs to slot i. For a list it is offset i, for a list of a
+-- fixed size i times the size, for a struct i
 abbrev pub child_slot : Layout → List ℕ → ℕ → ℕ
 child_slot l.Lists offsets i = place offsets i
 child_slot (l.FixedLists size) offsets i = size * i
 child_slot _ offsets i = i
 
--- the values of a slot are values of the children
+-- the value of a slot consists of values of the children
 abbrev pub is_nested : Layout → Bool
 is_nested l.Lists = true
 is_nested (l.FixedLists size) = true
@@ -71,7 +71,7 @@ is_nested _ = false
 abbrev pub Cells : Type 0
 Cells = List Value
 
--- the first of the values, or null where there is none
+-- the first of the values, or null if there are none
 abbrev pub first_of : List Value → Value
 first_of [] = v.Null
 first_of (value ∷ values) = value
@@ -81,10 +81,10 @@ abbrev pub items : (ℕ → Value) → ℕ → ℕ → List Value
 items value i zero = []
 items value i (suc n) = value i ∷ items value (i + 1) n
 
--- what a valid slot holds, where `below` gives the values of a slot of the children (Arrow Columnar
--- Format, "Null Layout", "Fixed-size Primitive Layout", "Variable-size Binary Layout"): in a list
--- the values of its slots of the one child, in a struct the value of its slot in each child; an
--- index stands for the dictionary's value (Arrow Columnar Format, "Dictionary-encoded Layout")
+-- the value in valid slot i, given `below`, the values of the children's slots
+-- (Arrow Columnar Format, "Null Layout", "Fixed-size Primitive Layout", "Variable-size Binary
+-- Layout"). A list has those of its slots in the one child, a struct that of slot i in each child;
+-- an index denotes the dictionary's value (Arrow Columnar Format, "Dictionary-encoded Layout")
 abbrev pub own_value : Layout → List Value → (ℕ → List Value) → List ℕ → List ℕ → ℕ → Value
 own_value l.Null dictionary below offsets values i = v.Null
 own_value l.Bits dictionary below offsets values i = v.Bool (bit values i)
@@ -113,7 +113,7 @@ value_of below c i =
     if is_valid c.validity i then own_value c.layout c.dictionary below c.offsets c.values i
     else v.Null
 
--- the values of slot i in each column; nothing is asked below a null slot
+-- the value of slot i of each column; nothing below a null slot is read
 abbrev pub row : Columns → ℕ → List Value
 row none i = []
 row (column c children rest) i = value_of (row children) c i ∷ row rest i

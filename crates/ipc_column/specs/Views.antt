@@ -1,4 +1,5 @@
--- Parts over a body, as columns (Arrow Columnar Format, "RecordBatch message").
+-- The parts of a batch (`ColumnRanges`) as columns over its body (Arrow Columnar Format,
+-- "RecordBatch message").
 use Rattle.std.specs.Prelude.{ℕ, List, map}
 use Rattle.ipc_column.specs.declared.ranges.ColumnRanges.{ColumnRanges}
 use Rattle.ipc_column.specs.declared.ranges.ColumnRanges.TheOpen.{ColumnRanges-F}
@@ -7,7 +8,7 @@ use Rattle.ipc_column.specs.declared.ranges.ColumnRanges.TheViews.{out-ColumnRan
 use Rattle.ipc_column.specs.Columns.{Column, Columns, none, column, forest}
 use Rattle.ipc_column.specs.Spans.{span_bytes}
 
--- one part, with its children's columns in their place
+-- the column of one part with those of its children, given the children's
 abbrev pub part_step : List ℕ → ColumnRanges-F (Column × Columns) → Column × Columns
 part_step body p = (
   record {
@@ -31,15 +32,15 @@ view body = fold-ColumnRanges (Column × Columns) (part_step body)
 abbrev pub columns : List ℕ → List ColumnRanges → Columns
 columns body ps = forest (map (view body) ps)
 
--- the two apart
+-- the column of a part, without its children
 abbrev pub column_of : List ℕ → ColumnRanges → Column
 column_of body p = (view body p).0
 
--- the columns below these ranges, over the body
+-- the columns of a part's children
 abbrev pub children_of : List ℕ → ColumnRanges → Columns
 children_of body p = (view body p).1
 
--- a part's column, by its fields
+-- the column of a part, member by member
 abbrev pub own_column : List ℕ → ColumnRanges → Column
 own_column body p = record {
   layout = (out-ColumnRanges p).layout;
@@ -54,6 +55,6 @@ own_column body p = record {
   dictionary = (out-ColumnRanges p).dictionary;
 }
 
--- a part's column and its children's, with no column beside it
+-- the column of a part with its children, as the only one of a list
 abbrev pub one : List ℕ → ColumnRanges → Columns
 one body p = column (column_of body p) (children_of body p) none

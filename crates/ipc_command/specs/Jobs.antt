@@ -51,74 +51,74 @@ abbrev pub exit_status : {T : Type 0} → Result T Stop → ℕ
 exit_status (Ok done) = 0
 exit_status (Err why) = stop_status why
 
--- why printing stopped, as why the job did
+-- the reason why printing stopped, as the job's
 abbrev pub stop_of_print : PrintStop → Stop
 stop_of_print (print.Read fault message) = stop.Read fault message
 stop_of_print (print.Write fault) = stop.Write fault
 stop_of_print (print.Text fault) = stop.Text fault
 
--- why writing a stream anew stopped, as why the job did
+-- the reason why rewriting a stream stopped, as the job's
 abbrev pub stop_of_rewrite : RewriteStop → Stop
 stop_of_rewrite (rewrite.Read fault message) = stop.Read fault message
 stop_of_rewrite (rewrite.Write fault) = stop.Write fault
 
--- why records of CSV became no stream, as why the job stopped
+-- the reason why a conversion from CSV stopped, as the job's
 abbrev pub stop_of_csv : CsvStop → Stop
 stop_of_csv from_csv.Input = stop.Input
 stop_of_csv (from_csv.Write fault) = stop.Write fault
 stop_of_csv (from_csv.Text fault) = stop.Text fault
 
--- an answer with its refusal as the job's
+-- a result with its reason for stopping as the job's
 abbrev pub lifted : {A : Type 0} → (A → Stop) → Result ⊤ A → Result ⊤ Stop
 lifted stop_of (Ok done) = Ok done
 lifted stop_of (Err why) = Err (stop_of why)
 
--- what an answer says of a stream that is printed in a form
+-- what a result states about a stream that is printed in a form
 abbrev pub AnswersPrint : Form → Limits → Option (List ℕ) → Option (List ℕ) → Option (List ℕ)
     → Option (List ℕ) → Result ⊤ Stop → Type 0
 AnswersPrint form limits old new written_old written_new r =
     (p : Result ⊤ PrintStop) × (r ≡ lifted stop_of_print p)
     × Prints form limits old new written_old written_new p
 
--- what an answer says of a stream that is written anew
+-- what a result states about a stream that is rewritten
 abbrev pub AnswersRewrite : Limits → Option (List ℕ) → Option (List ℕ) → Option (List ℕ)
     → Option (List ℕ) → ℕ → ℕ → Result ⊤ Stop → Type 0
 AnswersRewrite limits old new written_old written_new failures_old failures_new r =
     (p : Result ⊤ RewriteStop) × (r ≡ lifted stop_of_rewrite p)
     × Rewrites limits old new written_old written_new failures_old failures_new p
 
--- the bytes of a file, where it was opened and they are known
+-- the bytes of a file, if it was opened and they are known
 abbrev pub bytes_of : {P : Type 0} → (P → Option (List ℕ)) → Option P → Option (List ℕ)
 bytes_of remaining file = option_and_then remaining file
 
--- a schema that is well formed under the standard limits, as whose JSON text these bytes read
--- (RFC 8259), where they are known
+-- a schema that is well formed under the standard limits; the JSON text in these bytes, if they are
+-- known, reads as this schema (RFC 8259)
 pub record IsSchemaOf (bytes : Option (List ℕ)) (s : Schema) : Type 0 where
   pub read : IfSome bytes (λ text. read text ≡ Some (schema_json s))
   pub limits : Limits
   pub standard : IsStandard limits
   pub formed : WellFormed limits s
 
--- a text is that of no schema: it isn't UTF-8 (RFC 8259, section 8.1), or reads as none that is
--- well formed under the standard limits and has ids of 64 bits
+-- the text is no schema's: it is not UTF-8 (RFC 8259, section 8.1), or not a schema that is well
+-- formed under the standard limits and has dictionary ids of 64 bits
 abbrev pub HoldsNoSchema : List ℕ → Type 0
 HoldsNoSchema text = (s : Schema) (limits : Limits) → IsUtf8 text → read text ≡ Some (schema_json s)
     → IsStandard limits → WellFormed limits s
     → AllByRecursion (λ e. HasWideId e.dictionary) (entries s.fields) → ⊥
 
--- how many calls of a file failed; one, where it wasn't opened
+-- how many calls of a file failed; 1 if it was not opened
 abbrev pub failures_of : {P : Type 0} → (P → ℕ) → Option P → ℕ
 failures_of failures None = 1
 failures_of failures (Some file) = failures file
 
--- why a file whose failures are counted isn't read to its end: a call of it failed, or memory ran
--- out
+-- why a file is not read to its end: a call of it failed, or memory ran out; `failures` is its
+-- count
 abbrev pub IsUnreadable : ℕ → Stop → Type 0
 IsUnreadable failures why =
     ((why ≡ stop.Schema) × (failures ≡ 1)) ⊎ (why ≡ stop.Text x.OutOfMemory)
 
--- why there is no schema: the file wasn't opened or a call of it failed; none failed, and its text,
--- where that is known, is that of no schema; or memory ran out
+-- why there is no schema: the file was not opened or a call of it failed; or no call failed, and
+-- its text, if known, is no schema's; or memory ran out
 abbrev pub HasNoSchema : Option (List ℕ) → ℕ → Stop → Type 0
 HasNoSchema bytes failures stop.Schema = failures ≡ 1
 HasNoSchema bytes failures (stop.Text x.BadSchemaJson) =
@@ -126,8 +126,9 @@ HasNoSchema bytes failures (stop.Text x.BadSchemaJson) =
 HasNoSchema bytes failures (stop.Text x.OutOfMemory) = ⊤
 HasNoSchema bytes failures why = ⊥
 
--- what an answer says of records of CSV: there was no schema, and nothing went out; or by the
--- file's schema they became a stream of batches of so many rows, or it broke off
+-- what a result states about records of CSV. Either there was no schema, and nothing was sent; or
+-- the records were converted by the file's schema to a stream with batches of `size` rows, or that
+-- broke off
 abbrev pub AnswersCsv : Option (List ℕ) → ℕ → ℕ → Option (List ℕ) → Option (List ℕ)
     → Option (List ℕ) → ℕ → ℕ → Result ⊤ Stop → Type 0
 AnswersCsv bytes failures size input written_old written_new failures_old failures_new r =
@@ -137,8 +138,8 @@ AnswersCsv bytes failures size input written_old written_new failures_old failur
     × (r ≡ lifted stop_of_csv p)
     × csv.Answers input s size written_old written_new failures_old failures_new p)
 
--- what an answer says of a job, whose schema's file has these bytes and then so many failures: what
--- was read of the input, and what went out
+-- what a result states about a job: what was read of the input, and what was sent. `bytes` and
+-- `failures` are those of the schema's file
 abbrev pub Answers : Job → Option (List ℕ) → ℕ → Option (List ℕ) → Option (List ℕ)
     → Option (List ℕ) → Option (List ℕ) → ℕ → ℕ → Result ⊤ Stop → Type 0
 Answers (job.Check limits) bytes failures old new written_old written_new failed_old failed_new r =

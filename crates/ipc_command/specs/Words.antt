@@ -4,8 +4,8 @@ use Rattle.ipc_model.specs.declared.limits.Limits.{Limits}
 use Rattle.ipc_command.specs.declared.words.Job.{Job}
 use Rattle.ipc_command.specs.declared.words.Job.TheVariants as job
 
--- limits with these values of three options, each the usual one where it isn't given; the others
--- are the usual ones
+-- the limits for these three options: each the standard one if the option is not given; the other
+-- limits are the standard ones
 pub record HaveOptions (metadata body rows : Option ℕ) (limits : Limits) : Type 0 where
   pub metadata_is : limits.metadata ≡ unwrap_or metadata (2 ^ 24)
   pub body_is : limits.body ≡ unwrap_or body (2 ^ 40)
@@ -15,16 +15,16 @@ pub record HaveOptions (metadata body rows : Option ℕ) (limits : Limits) : Typ
   pub text : limits.text ≡ 2 ^ 26
   pub pairs : limits.pairs ≡ 2 ^ 20
 
--- three options, given or not, give these limits
+-- some values of the three options, given or not, give these limits
 abbrev pub AreAskedFor : Limits → Type 0
 AreAskedFor limits = (metadata : Option ℕ) × ((body : Option ℕ) × ((rows : Option ℕ)
     × HaveOptions metadata body rows limits))
 
--- a batch may be asked to have so many rows
+-- a number of rows that a batch may be asked to have
 abbrev pub IsBatchSize : ℕ → Type 0
 IsBatchSize size = (1 ≤ size) × (size ≤ 2 ^ 31 - 1)
 
--- where a job has a batch size, it is one that may be asked for
+-- the job's batch size, if it has one, is allowed
 abbrev pub HasGoodSize : Job → Type 0
 HasGoodSize (job.Check limits) = ⊤
 HasGoodSize (job.Show limits pairs) = ⊤

@@ -1,9 +1,9 @@
--- The values that the texts of CSV fields stand for.
+-- The values that the texts of CSV fields denote.
 use Rattle.std.specs.Prelude.{ℕ, List, Option, Some, None, Result, Ok, Err}
 use Rattle.hex.specs.Hex.{decode_of}
 use Rattle.hex.specs.declared.error.FromHexError.{FromHexError}
 
--- what was read, where it could be
+-- the value that was read, if it could be
 abbrev pub if_read : Result (List ℕ) FromHexError → Option (List ℕ)
 if_read (Ok bytes) = Some bytes
 if_read (Err fault) = None

@@ -1,4 +1,4 @@
--- The rows that the fields of records of CSV read as.
+-- The rows that records of CSV denote.
 use Rattle.std.specs.Prelude.{◌≡◌, ◌≢◌, ◌⊎◌, ⊤, ℕ, ◌+◌, List, [], ◌∷◌, length, Some, None}
 use Rattle.std.specs.Str.{IsUtf8}
 use Rattle.hex.specs.Hex.{IsBytes}
@@ -13,19 +13,19 @@ use Rattle.ipc_moments.specs.declared.fault.TextFault.{TextFault}
 use Rattle.ipc_moments.specs.declared.fault.TextFault.TheVariants.{OutOfMemory, BadField}
 use Rattle.ipc_moments.specs.declared.fault.TextFault.TheVariants.{WrongFieldCount}
 
--- a value is the text whose field this is
+-- a value is the text that is written as this field
 abbrev pub IsCharsOf : List ℕ → Value-F Value → Type 0
 IsCharsOf text v =
     (chars : List ℕ) × (v ≡ Value-F.Text chars) × IsUtf8 chars × (backslashed chars ≡ text)
 
--- a text stands for a value of this type: it is the one that is written of it; the digits of bytes
+-- a text denotes a value of this type: it is the text that is written for it; hexadecimal digits
 -- may be of either case
 abbrev pub StandsFor : DataType → List ℕ → Value-F Value → Type 0
 StandsFor kind text (Value-F.Bytes bytes) = bytes_of text ≡ Some bytes
 StandsFor kind text (Value-F.Text chars) = IsUtf8 chars × (backslashed chars ≡ text)
 StandsFor kind text v = value_text kind v ≡ Some text
 
--- a text reads as a value of a field: it stands for it, and the value fits
+-- a text reads as a value of a field: it denotes the value, and the value fits the field
 abbrev pub ReadsAs : Field → List ℕ → Value → Type 0
 ReadsAs f text v = Fits f v × StandsFor (out-Field f).kind text (out-Value v)
 
@@ -35,24 +35,24 @@ EachReadsAs [] [] [] = ⊤
 EachReadsAs (f ∷ fs) (text ∷ texts) (v ∷ vs) = ReadsAs f text v × EachReadsAs fs texts vs
 EachReadsAs fs texts vs = ⊥
 
--- the texts of a record read as a row of columns that CSV has a place for
+-- the texts of a record read as a row, and its columns can be written as CSV
 abbrev pub RecordReadsAs : List Field → List (List ℕ) → List Value → Type 0
 RecordReadsAs fields texts row = (flat_fault fields ≡ None) × EachReadsAs fields texts row
 
--- the first column whose text reads as no value, where the columns have numbers from this one on
+-- the first column whose text reads as no value; the columns are numbered from `number` on
 abbrev pub IsFirstBad : ℕ → List Field → List (List ℕ) → ℕ → Type 0
 IsFirstBad number (f ∷ fs) (text ∷ texts) column =
     ((column ≡ number) × ((v : Value) → ¬ ReadsAs f text v))
     ⊎ (((v : Value) × ReadsAs f text v) × IsFirstBad (number + 1) fs texts column)
 IsFirstBad number fs texts column = ⊥
 
--- the column that X4 names, of the record with this number
+-- the fault X4, with the number of the record and its first bad column; or out of memory
 abbrev pub IsBadField : ℕ → List Field → List (List ℕ) → TextFault → Type 0
 IsBadField number fields texts fault =
     (fault ≡ OutOfMemory)
     ⊎ ((column : ℕ) × (fault ≡ BadField number column) × IsFirstBad 0 fields texts column)
 
--- why the texts of the record with this number read as no row; memory may run out at any time
+-- why the texts of the record with this number do not read as a row; memory may run out at any time
 abbrev pub IsRecordFault : ℕ → List Field → List (List ℕ) → TextFault → Type 0
 IsRecordFault number fields texts OutOfMemory = ⊤
 IsRecordFault number fields texts (WrongFieldCount line) =
@@ -62,15 +62,14 @@ IsRecordFault number fields texts (BadField line column) =
     × IsFirstBad 0 fields texts column
 IsRecordFault number fields texts fault = flat_fault fields ≡ Some fault
 
--- the first column whose name is not that of the header, where the columns have numbers from this
--- one on
+-- the first column whose name differs from the header's; the columns are numbered from `number` on
 abbrev pub IsFirstUnlike : ℕ → List Field → List (List ℕ) → ℕ → Type 0
 IsFirstUnlike number (f ∷ fs) (text ∷ texts) column =
     ((column ≡ number) × (text ≢ (out-Field f).name))
     ⊎ ((text ≡ (out-Field f).name) × IsFirstUnlike (number + 1) fs texts column)
 IsFirstUnlike number fs texts column = ⊥
 
--- why a record is not the header of these columns; it is record 0
+-- why a record is not the header of these columns; the header is record 0
 abbrev pub IsHeaderFault : List Field → List (List ℕ) → TextFault → Type 0
 IsHeaderFault fields texts (WrongFieldCount line) =
     (flat_fault fields ≡ None) × (line ≡ 0) × (length texts ≢ length fields)
@@ -79,7 +78,7 @@ IsHeaderFault fields texts (BadField line column) =
     × IsFirstUnlike 0 fields texts column
 IsHeaderFault fields texts fault = flat_fault fields ≡ Some fault
 
--- what a value in memory keeps: bytes are below 256, and a text is UTF-8
+-- what the types of a stored value ensure: bytes are below 256, and a text is UTF-8
 abbrev pub IsStored : Value-F Value → Type 0
 IsStored (Value-F.Bytes bytes) = IsBytes bytes
 IsStored (Value-F.Text chars) = IsUtf8 chars

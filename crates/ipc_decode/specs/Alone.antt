@@ -1,4 +1,4 @@
--- The columns that the dictionaries of a schema are read by (Arrow Columnar Format, "Dictionary
+-- The columns with which the dictionaries of a schema are read (Arrow Columnar Format, "Dictionary
 -- Messages": a dictionary batch is a record batch of one column).
 use Rattle.std.specs.Prelude.{ℤ, Bool, true, false, ◌≡◌, ◌&&◌, List, [], ◌∷◌}
 use Rattle.ipc_model.specs.declared.schema.Field.{Field}
@@ -8,13 +8,13 @@ use Rattle.ipc_column.specs.Shapes.{field_layout}
 use Rattle.ipc_dictionaries.specs.Applied.{Applied}
 use Rattle.ipc_dictionaries.specs.ValuesColumns.{columns_in}
 
--- one column, whose values lie in it alone
+-- there is one column, and it stores its values itself
 abbrev pub is_alone : List Field → Bool
 is_alone [] = false
 is_alone (f ∷ []) = stands_alone (field_layout f)
 is_alone (f ∷ g ∷ fs) = false
 
--- each dictionary has such a column
+-- each dictionary has one column, which stores its values itself
 abbrev pub are_alone : List (ℤ × List Field) → Bool
 are_alone [] = true
 are_alone (c ∷ cs) = is_alone c.1 && are_alone cs

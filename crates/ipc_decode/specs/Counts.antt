@@ -3,7 +3,7 @@ use Rattle.std.specs.Prelude.{ℕ, suc, ◌+◌, ◌-◌, ◌^◌, min, List}
 use Rattle.ipc_model.specs.declared.limits.Limits.{Limits}
 use Rattle.ipc_decode.specs.Stream.{State, Event, Run, done, more}
 
--- a count that stops at 2^64 - 1
+-- n + k, but at most 2^64 - 1
 abbrev pub count_up : ℕ → ℕ → ℕ
 count_up n k = min (n + k) (2 ^ 64 - 1)
 

@@ -1,4 +1,4 @@
--- What the frames of a stream bring, one after another (Arrow Columnar Format, "IPC Streaming
+-- The effect of the frames of a stream, one after another (Arrow Columnar Format, "IPC Streaming
 -- Format").
 use Rattle.std.specs.Prelude.{◌≡◌, ◌≢◌, ◌⊎◌, ℕ, ℤ, List, [], ◌∷◌, Option, Some, None, Result, Ok}
 use Rattle.std.specs.Prelude.{Err, ⊤, length}
@@ -33,18 +33,19 @@ use Rattle.ipc_decode.specs.Reasons.{IsNoSchema, NamesNone}
 use Rattle.ipc_decode.specs.Scopes.{in_scope, state_of}
 use Rattle.ipc_decode.specs.Stream.{InForce, State, Step, begun, values_in, schema, batch}
 
--- the schema that the frame brings, if it brings one, keeps the rules
+-- the schema in the frame, if it has one, is well formed
 abbrev pub IsWellFormedFrame : Limits → Framed → Type 0
 IsWellFormedFrame limits (f.Message meta (h.Schema s) body) = WellFormed limits s
 IsWellFormedFrame limits frame = ⊤
 
--- a message with this schema, or none
+-- the frame is a message with this schema, or it is not a schema's and the fault is MissingSchema
 abbrev pub BringsSchema : Framed → Result Schema Fault → Type 0
 BringsSchema (f.Message meta head body) (Ok s) = head ≡ h.Schema s
 BringsSchema f.End (Ok s) = ⊥
 BringsSchema frame (Err fault) = (fault ≡ MissingSchema) × IsNoSchema frame
 
--- a message with the schema that is put in force, without a dictionary, or none
+-- the frame is a message with the schema that is put in force, without dictionaries; or it is not a
+-- schema's and the fault is MissingSchema; or memory ran out
 abbrev pub BringsScope : Framed → Result Scope Fault → Type 0
 BringsScope (f.Message meta head body) (Ok scope) =
     (head ≡ h.Schema scope.schema) × (in_scope scope ≡ begun scope.schema)
@@ -58,14 +59,14 @@ RefusesValues limits o id b body fault = ((fault ≡ UnknownDictionary) × Names
     ⊎ ((columns : List Field) × (columns_for (columns_in o.schema.fields) id ≡ Some columns)
     × RefusesParts limits fault [] columns b body)
 
--- a batch of the rows that a head and a body give for the dictionary with the id
+-- a batch of the rows that this head and body state for the dictionary with the id
 abbrev pub GivesValues : Limits → InForce → ℤ → BatchHead → List ℕ → Contents → Type 0
 GivesValues limits o id b body values = (columns : List Field)
     × (columns_for (columns_in o.schema.fields) id ≡ Some columns)
     × Rows limits [] columns b body values.rows × (values.body_len ≡ length body)
 
--- a dictionary's message with this head and body takes what is in force to what is then, or is
--- refused and leaves it
+-- a dictionary's message with this head and body changes what is in force, or is refused and leaves
+-- it
 abbrev pub SetsValues : Limits → InForce → InForce → ℤ → BatchHead → List ℕ → Result Unit Fault
     → Type 0
 SetsValues limits old new id b body (Ok x) =
@@ -73,7 +74,7 @@ SetsValues limits old new id b body (Ok x) =
 SetsValues limits old new id b body (Err fault) =
     (new ≡ old) × UnlessOutOfMemory fault (RefusesValues limits old id b body fault)
 
--- why a frame behind the schema is refused
+-- why a frame is refused after the schema
 abbrev pub RefusesNext : Limits → InForce → Framed → Fault → Type 0
 RefusesNext limits o f.End fault = ⊥
 RefusesNext limits o (f.Message meta (h.Schema t) body) fault = fault ≡ SecondSchema
@@ -87,9 +88,8 @@ abbrev pub RefusesFrame : Limits → State → Framed → Fault → Type 0
 RefusesFrame limits None frame fault = (fault ≡ MissingSchema) × IsNoSchema frame
 RefusesFrame limits (Some o) frame fault = RefusesNext limits o frame fault
 
--- what a frame brings in a state, and the state that it leaves: a message tells an event or, where
--- it sets a dictionary, none; the end mark comes behind a schema alone; and what is refused leaves
--- the state
+-- the effect of a frame in a state. A message reports an event, or none if it sets a dictionary;
+-- the end mark is accepted only after a schema. A refusal leaves the state as it was
 abbrev pub Brings : Limits → State → Framed → State → Result (Option Event) Fault → Type 0
 Brings limits σ (f.Message meta head body) τ (Ok None) = Step limits σ head body.items [] τ
 Brings limits σ (f.Message meta head body) τ (Ok (Some event.Schema)) =
@@ -101,25 +101,25 @@ Brings limits σ frame τ (Err fault) =
     (τ ≡ σ) × UnlessOutOfMemory fault (RefusesFrame limits σ frame fault)
 Brings limits σ frame τ found = ⊥
 
--- how an answer moves what is known of a stream beside its state
+-- how a result changes the phase and the number of messages
 abbrev pub Moves : Course → Course → Result (Option Event) Fault → Type 0
 Moves old new (Ok (Some event.End)) = (new.phase ≡ phase.Ended Mark) × (new.messages ≡ old.messages)
 Moves old new (Ok found) = (new.phase ≡ old.phase) × (new.messages ≡ count_up old.messages 1)
 Moves old new (Err fault) = (new.phase ≡ phase.Refused) × (new.messages ≡ old.messages)
 
--- the same, refused
+-- the stream is refused, and all else stays as it was
 abbrev pub IsRefused : Course → Course → Type 0
 IsRefused old new = (new.phase ≡ phase.Refused) × (new.limits ≡ old.limits)
     × (new.scope ≡ old.scope) × (new.messages ≡ old.messages)
 
--- how far a stream is, by how far its frames are
+-- the stage of a stream, by the progress of its frames and the phase
 abbrev pub stage_of : Progress → Phase → Stage
 stage_of (frames.taking z) phase.Reading = taking z
 stage_of other phase.Reading = refused
 stage_of progress (phase.Ended end) = over end
 stage_of progress phase.Refused = refused
 
--- what is seen of a decoder
+-- the value of a decoder
 abbrev pub decoding_of : Framing → Course → Decoding
 decoding_of framing course = record {
   limits = course.limits;
@@ -128,7 +128,7 @@ decoding_of framing course = record {
   messages = course.messages;
 }
 
--- while messages come, the frames take them, under the same limits
+-- the frames have the same limits, and take bytes while the stream is being read
 pub record IsSound (framing : Framing) (course : Course) : Type 0 where
   pub same_limits : framing.limits ≡ course.limits
   pub takes : course.phase ≡ phase.Reading → (z : List ℕ) × (framing.progress ≡ frames.taking z)

@@ -21,29 +21,29 @@ use Rattle.ipc_decode.specs.Found.{rows_of}
 use Rattle.ipc_decode.specs.Stream.{State, Event, schema, batch, Run, IsMessage}
 use Rattle.ipc_decode.specs.Verdicts.{Decision, Reached, Reason}
 
--- how far a stream is: these bytes of an unfinished message came, or it ended so, or what came was
--- refused
+-- the stage of a stream: these bytes of an unfinished message have come, or the stream ended with
+-- this `End`, or it was refused
 pub data Stage : Type 0 where
   taking : List ℕ → Stage
   over : End → Stage
   refused : Stage
 
--- what the callers of a decoder see of it: its limits, what is in force, how far the stream is, and
--- how many messages came
+-- the value of a decoder: its limits, what is in force, the stage of the stream, and how many
+-- messages have come
 pub record Decoding : Type 0 where
   pub limits : Limits
   pub state : State
   pub stage : Stage
   pub messages : ℕ
 
--- the bytes x are whole messages, which tell these events and lead a decoder from what it was to
--- what it is, and then `rest`
+-- the bytes x are whole messages and then `rest`. The messages report these events, and change a
+-- decoder's state and number of messages from the old to the new
 pub record Reaches (old new : Decoding) (x : List ℕ) (events : List Event)
     (rest : List ℕ) : Type 0 where
   pub reached : Reached old.limits old.state x events new.state rest
   pub counted : new.messages ≡ count_up old.messages (messages_in reached.run)
 
--- the bytes x are whole messages that tell nothing, and behind them one that tells this event
+-- the bytes x are whole messages without an event, followed by one message with this event
 pub record TellsLast (limits : Limits) (σ : State) (x : List ℕ) (event : Event)
     (τ : State) : Type 0 where
   pub silent : List ℕ
@@ -53,32 +53,32 @@ pub record TellsLast (limits : Limits) (σ : State) (x : List ℕ) (event : Even
   pub run : Run limits σ silent [] between
   pub told : IsMessage limits between message (event ∷ []) τ
 
--- and they lead a decoder from what it was to what it is behind that message
+-- the bytes x are such messages (`TellsLast`), and change a decoder from the old value to the new
 pub record TellsOne (old new : Decoding) (x : List ℕ) (event : Event) : Type 0 where
   pub last : TellsLast old.limits old.state x event new.state
   pub counted : new.messages ≡ count_up old.messages (suc (messages_in last.run))
   pub stage : new.stage ≡ taking []
 
--- the bytes x tell nothing, and what follows their whole messages is kept, undecided
+-- the bytes x report no event; those after their whole messages are stored, undecided
 abbrev pub Waits : Decoding → Decoding → List ℕ → Type 0
 Waits old new x = (rest : List ℕ) × Reaches old new x [] rest × (new.stage ≡ taking rest)
     × ((k : ℕ) × Pending old.limits rest k)
 
--- the last message of the bytes x, or the end mark, tells this, and those before it tell nothing
+-- the last message of the bytes x, or the end mark, reports this event, and those before it none
 abbrev pub Tells : Decoding → Decoding → List ℕ → Told → Type 0
 Tells old new x told.Schema = (s : Schema) × TellsOne old new x (schema s)
 Tells old new x (told.Batch found pairs) = TellsOne old new x (batch (rows_of (found, pairs)))
 Tells old new x told.End =
     Reaches old new x [] eos × (new.state ≢ None) × (new.stage ≡ over Mark)
 
--- what follows the whole messages of the bytes x, which tell nothing, is refused for this fault
--- when its last byte comes
+-- the whole messages of the bytes x report no event; what follows them is refused for this fault,
+-- exactly at its last byte
 abbrev pub RefusesAt : Decoding → Decoding → List ℕ → Fault → Type 0
 RefusesAt old new x fault = (rest : List ℕ) × Reaches old new x [] rest
     × UnlessOutOfMemory fault ((d : Decision) × Reason old.limits fault d new.state rest)
 
--- With the bytes z that were kept, a beginning of the piece ends with an event or is refused at its
--- last byte; or all of the piece is taken
+-- the stored bytes z with a beginning of the piece end with an event, or are refused at their last
+-- byte; or the whole piece is taken
 abbrev pub FeedsOn : Decoding → List ℕ → List ℕ → Decoding → Result (ℕ × Option Told) Fault
     → Type 0
 FeedsOn old z piece new (Ok (n, None)) = (n ≡ length piece) × Waits old new (z ++ piece)
@@ -87,20 +87,20 @@ FeedsOn old z piece new (Ok (n, Some event)) =
 FeedsOn old z piece new (Err fault) = (new.stage ≡ refused)
     × ((n : ℕ) × (n ≤ length piece) × RefusesAt old new (z ++ take n piece) fault)
 
--- at this stage a piece is taken so: after the end none of it, and after a refusal nothing is
--- answered but F35
+-- how a piece is taken at this stage: after the end no bytes are taken, and after a refusal the
+-- result is F35
 abbrev pub FeedsAt : Decoding → Stage → List ℕ → Decoding → Result (ℕ × Option Told) Fault
     → Type 0
 FeedsAt old (taking z) piece new r = FeedsOn old z piece new r
 FeedsAt old (over end) piece new r = (new ≡ old) × (r ≡ Ok (0, None))
 FeedsAt old refused piece new r = (new ≡ old) × (r ≡ Err Failed)
 
--- what a call does with a piece
+-- how a call takes a piece
 abbrev pub Feeds : Decoding → List ℕ → Decoding → Result (ℕ × Option Told) Fault → Type 0
 Feeds old piece new r = FeedsAt old old.stage piece new r
 
--- of the bytes that came from a source `feed` would answer this; a refusal comes with the last one,
--- behind no whole message, and leaves what is in force
+-- the result is what `feed` returns for the bytes that came from a source. A refusal comes at the
+-- last of them and leaves what is in force; no whole message came before it
 abbrev pub Gives : Decoding → Stage → List ℕ → Decoding → Result (Option Told) Fault → Type 0
 Gives old stage came new (Ok found) = FeedsAt old stage came new (Ok (length came, found))
 Gives old (taking z) came new (Err fault) = (new.stage ≡ refused) × (new.state ≡ old.state)
@@ -108,17 +108,19 @@ Gives old (taking z) came new (Err fault) = (new.stage ≡ refused) × (new.stat
     × UnlessOutside fault ((d : Decision) × Reason old.limits fault d old.state (z ++ came))
 Gives old stage came new (Err fault) = FeedsAt old stage came new (Err fault)
 
--- no more bytes came than are wanted before the next decision
+-- at most the bytes up to the next decision came, and none if no message is awaited
 abbrev pub IsFew : Limits → Stage → List ℕ → Type 0
 IsFew limits (taking z) came = (k : ℕ) × Pending limits z k × (length came ≤ k)
 IsFew limits stage came = came ≡ []
 
--- while messages come, none comes only at the source's end
+-- a call that returns no event while messages are awaited takes no byte only if the source is at
+-- its end
 abbrev pub EndsAt : Stage → List ℕ → Option (List ℕ) → Result (Option Told) Fault → Type 0
 EndsAt (taking z) came left (Ok None) = came ≡ [] → IsAtEnd left
 EndsAt stage came left r = ⊤
 
--- so many bytes were taken of a source, none that was not wanted, and what they make
+-- `count` bytes were taken from a source, at most the number up to the next decision, and the
+-- result is theirs
 pub record Draws (old new : Option (List ℕ)) (before after : Decoding) (count : ℕ)
     (r : Result (Option Told) Fault) : Type 0 where
   pub came : List ℕ
@@ -128,17 +130,18 @@ pub record Draws (old new : Option (List ℕ)) (before after : Decoding) (count 
   pub at_end : EndsAt before.stage came new r
   pub gives : Gives before before.stage came after r
 
--- the source is asked while messages come, and not behind their end or a refusal
+-- the count of failures changes as `FailsAs` states while messages are awaited; after the end or a
+-- refusal it stays
 abbrev pub FailsWhile : Stage → ℕ → ℕ → Result (Option Told) Fault → Type 0
 FailsWhile (taking z) old new r = FailsAs old new r
 FailsWhile stage old new r = new ≡ old
 
--- k more bytes reach the next decision; none are wanted where no message comes
+-- k more bytes reach the next decision; k is 0 if no message is awaited
 abbrev pub Wants : Limits → Stage → ℕ → Type 0
 Wants limits (taking z) k = Pending limits z k
 Wants limits stage k = k ≡ 0
 
--- how many bytes of the message at hand are kept: all that came
+-- how many bytes are stored of the current message: all that have come
 abbrev pub kept_bytes : Stage → ℕ
 kept_bytes (taking z) = length z
 kept_bytes stage = 0
@@ -148,17 +151,18 @@ abbrev pub dictionary_bytes : State → ℕ
 dictionary_bytes None = 0
 dictionary_bytes (Some o) = sum_by (λ d. d.bytes) (values_of o.dictionaries)
 
--- how many bytes a decoder keeps: those of the message at hand, and those of the dictionaries
+-- how many bytes a decoder stores: those of the current message, and the bodies of the dictionaries
 abbrev pub held_of : Decoding → ℕ
 held_of d = count_up (dictionary_bytes d.state) (kept_bytes d.stage)
 
--- the same decoder, at this stage
+-- the decoder with its stage replaced
 abbrev pub at_stage : Decoding → Stage → Decoding
 at_stage d stage =
     record { limits = d.limits; state = d.state; stage = stage; messages = d.messages }
 
--- no more bytes come: behind a schema, and where no byte of an unfinished message came, the stream
--- ended, and else it is cut off, which is F4; an end or a refusal stays
+-- no more bytes come. After a schema, and if no byte of an unfinished message has come, the stream
+-- has ended; otherwise it is cut off, which is F4. An end stays as it was; after a refusal the
+-- result is F35
 abbrev pub ClosesAt : Decoding → Stage → Decoding → Result End Fault → Type 0
 ClosesAt old (taking z) new (Ok end) = (z ≡ []) × (old.state ≢ None) × (end ≡ Closed)
     × (new ≡ at_stage old (over Closed))

@@ -13,18 +13,17 @@ use Rattle.ipc_decode.specs.declared.end.End.TheVariants.{Mark}
 use Rattle.ipc_decode.specs.Stream.{Event, schema, batch, Denotes, events_of}
 use Rattle.ipc_decode.specs.Verdicts.{Out, more, end, refused, Verdict}
 
--- a call of `feed` with this piece and this answer, which leaves the limits
+-- a call of `feed` with this piece and this result, which leaves the limits as they were
 abbrev pub Call : Decoding → List ℕ → Decoding → Result (ℕ × Option Told) Fault → Type 0
 Call old piece new r = Feeds old piece new r × (new.limits ≡ old.limits)
 
--- the event is no end
+-- the event is not the end
 abbrev pub GoesOn : Told → Type 0
 GoesOn told.End = ⊥
 GoesOn event = ⊤
 
--- A decoder is fed these pieces in turn, and of each what a call left of it again, until the end
--- mark comes or no piece is left, without a refusal. It tells these events, and these bytes are
--- left
+-- a decoder is fed these pieces in turn, and again what a call left of a piece, until the end mark
+-- comes or no piece is left. No call fails. The calls return these events, and these bytes are left
 pub data Fed : Decoding → List (List ℕ) → List Told → Decoding → List ℕ → Type 0 where
   none : {d : Decoding} → Fed d [] [] d []
   kept : {d e g : Decoding} {piece left : List ℕ} {pieces : List (List ℕ)} {events : List Told}
@@ -38,7 +37,7 @@ pub data Fed : Decoding → List (List ℕ) → List Told → Decoding → List 
       → Call d piece e (Ok (n, Some told.End))
       → Fed d (piece ∷ pieces) (told.End ∷ []) e (drop n piece ++ concat pieces)
 
--- the events that were told are these of the stream, in order
+-- the returned events are exactly these events of the stream, in order; the end may follow them
 abbrev pub AreTold : List Told → List Event → Type 0
 AreTold [] [] = ⊤
 AreTold (told.Schema ∷ told) (schema s ∷ events) = AreTold told events
@@ -47,21 +46,21 @@ AreTold (told.Batch found pairs ∷ told) (batch b ∷ events) =
 AreTold (told.End ∷ told) events = (told ≡ []) × (events ≡ [])
 AreTold told events = ⊥
 
--- the last of them is the end
+-- the last of the returned events is the end
 abbrev pub EndsWithMark : List Told → Type 0
 EndsWithMark [] = ⊥
 EndsWithMark (told.End ∷ told) = told ≡ []
 EndsWithMark (told.Schema ∷ told) = EndsWithMark told
 EndsWithMark (told.Batch found pairs ∷ told) = EndsWithMark told
 
--- bytes are left behind the end mark alone, and then the end is told
+-- bytes are left only after the end mark, and then the end is the last event
 abbrev pub Leaves : Out → List Told → List ℕ → Type 0
 Leaves (more k) told left = left ≡ []
 Leaves end told left = EndsWithMark told
 Leaves (refused decision) told left = ⊥
 
--- behind the bytes z that were kept, all bytes of the pieces but those that are left have a verdict
--- with the events that were told
+-- the stored bytes z and the pieces, without the bytes that are left, have a verdict with the
+-- events that were returned
 pub record HasVerdict (d : Decoding) (z : List ℕ) (pieces : List (List ℕ)) (told : List Told)
     (left : List ℕ) : Type 0 where
   pub x : List ℕ
@@ -72,20 +71,20 @@ pub record HasVerdict (d : Decoding) (z : List ℕ) (pieces : List (List ℕ)) (
   pub leaves : Leaves out told left
   pub verdict : Verdict d.limits d.state x events out
 
--- however the bytes of a stream are cut into pieces, what is told of them is their verdict
+-- however the bytes of a stream are cut into pieces, the returned events are those of their verdict
 abbrev pub AnyPieces : Type 0
 AnyPieces = (d g : Decoding) (z left : List ℕ) (k : ℕ) (pieces : List (List ℕ))
     (events : List Told) → d.stage ≡ taking z → Pending d.limits z k
     → Fed d pieces events g left → HasVerdict d z pieces events left
 
--- a table that was told, and the bytes behind its mark
+-- the returned events are those of a table and its end, and the bytes after its end mark are left
 pub record IsToldWhole (t : Table) (w : List ℕ) (told : List Told) (left : List ℕ) : Type 0 where
   pub are_told : AreTold told (events_of t)
   pub ends : EndsWithMark told
   pub behind : left ≡ w
 
--- bytes that denote a table with the end mark, and any behind them, are told as that table and its
--- end, into whatever pieces they are cut, and those behind them are left
+-- bytes that denote a table with the end mark return its events and its end. They may be cut into
+-- any pieces, together with bytes after them, which are left
 abbrev pub TablePieces : Type 0
 TablePieces = (d g : Decoding) (x w left : List ℕ) (t : Table) (pieces : List (List ℕ))
     (told : List Told) → d.state ≡ None → d.stage ≡ taking [] → Denotes d.limits x t Mark

@@ -1,4 +1,5 @@
--- What is fed up to the end of the message at hand (Arrow Columnar Format, "IPC Streaming Format").
+-- How a piece is fed up to the end of the current message (Arrow Columnar Format, "IPC Streaming
+-- Format").
 use Rattle.std.specs.Prelude.{◌≡◌, ℕ, ◌<◌, ◌≤◌, List, [], ◌++◌, length, take, Some, None}
 use Rattle.std.specs.Prelude.{Result, Ok, Err, ⊤}
 use Rattle.ipc_model.specs.declared.fault.Fault.{Fault}
@@ -7,7 +8,7 @@ use Rattle.ipc_decode.specs.declared.fed.Fed.{Fed}
 use Rattle.ipc_decode.specs.declared.fed.Fed.TheVariants as fed
 use Rattle.ipc_decode.specs.Decoding.{Decoding, Feeds, Reaches, taking}
 
--- a beginning of the piece ends with a message that tells nothing, behind the bytes that were kept
+-- the stored bytes with a beginning of the piece end with a message that reports no event
 pub record FeedsSilent (old : Decoding) (piece : List ℕ) (n : ℕ) (new : Decoding) : Type 0 where
   pub kept : List ℕ
   pub stage : old.stage ≡ taking kept
@@ -16,14 +17,14 @@ pub record FeedsSilent (old : Decoding) (piece : List ℕ) (n : ℕ) (new : Deco
   pub reaches : Reaches old new (kept ++ take n piece) [] []
   pub between : new.stage ≡ taking []
 
--- a beginning of the piece is taken as `feed` takes it, or ends with a message that tells nothing
+-- a beginning of the piece is taken as by `feed`, or it ends with a message that reports no event
 abbrev pub FeedsMessage : Decoding → List ℕ → Decoding → Result (ℕ × Fed) Fault → Type 0
 FeedsMessage old piece new (Ok (n, fed.More)) = Feeds old piece new (Ok (n, None))
 FeedsMessage old piece new (Ok (n, fed.Told event)) = Feeds old piece new (Ok (n, Some event))
 FeedsMessage old piece new (Ok (n, fed.Silent)) = FeedsSilent old piece n new
 FeedsMessage old piece new (Err fault) = Feeds old piece new (Err fault)
 
--- this holds of the event that is told
+-- P holds for the event, if one is returned
 abbrev pub ForTold : Fed → (Told → Type 0) → Type 0
 ForTold (fed.Told event) P = P event
 ForTold fed.Silent P = ⊤

@@ -7,24 +7,24 @@ use Rattle.ipc_decode.specs.declared.end.End.{End}
 use Rattle.ipc_decode.specs.declared.end.End.TheVariants.{Mark, Closed}
 use Rattle.ipc_decode.specs.Stream.{Denotes}
 
--- bytes denote one table with one end at most, whatever the limits
+-- bytes denote at most one table with one end, whatever the limits
 abbrev pub OneTable : Type 0
 OneTable = (limits others : Limits) (x : List ℕ) (t u : Table) (d e : End) → Denotes limits x t d
     → Denotes others x u e → (t ≡ u) × (d ≡ e)
 
--- no bytes that denote a table with the end mark begin longer ones that denote
+-- bytes that denote a table with the end mark are not the beginning of longer bytes that denote one
 abbrev pub NoneBegins : Type 0
 NoneBegins = (limits others : Limits) (x w : List ℕ) (t u : Table) (e : End)
     → Denotes limits x t Mark → Denotes others (x ++ w) u e → w ≡ []
 
--- what denotes a table with the end mark at the front of some bytes is the only reading of them:
--- another one gives that table and that end, and leaves the same bytes
+-- a table with the end mark at the front of some bytes is the only reading of these bytes: any
+-- other reading has the same table, end and bytes left
 abbrev pub OneFront : Type 0
 OneFront = (limits others : Limits) (x y rest left : List ℕ) (t u : Table) (e : End)
     → Denotes limits x t Mark → Denotes others y u e → (e ≡ Closed → left ≡ [])
     → x ++ rest ≡ y ++ left → (u ≡ t) × (e ≡ Mark) × (left ≡ rest)
 
--- what denotes a table under some limits denotes it under all that cover them
+-- bytes that denote a table under some limits denote it under all limits that cover them
 abbrev pub Wider : Type 0
 Wider = (limits others : Limits) (x : List ℕ) (t : Table) (e : End) → Covers others limits
     → Denotes limits x t e → Denotes others x t e

@@ -18,9 +18,9 @@ use Rattle.ipc_decode.specs.Reasons.{Ends, Reads}
 use Rattle.ipc_decode.specs.Counts.{count_up, messages_in}
 use Rattle.ipc_model.specs.declared.limits.Limits.{Limits}
 
--- what is seen of a reader: what its source has left, how often that failed and the most bytes that
--- it still gives; its limits, the schema and the dictionaries in force, whether it still reads, and
--- how many messages and bytes it took
+-- the value of a reader: the bytes left in its source, the count of the source's failures, and the
+-- most bytes that the source can still give. Its limits, the schema and the dictionaries in force,
+-- its phase, and how many messages and bytes it has taken
 pub record Reader : Type 0 where
   pub remaining : Option (List ℕ)
   pub failures : ℕ
@@ -36,31 +36,31 @@ pub record Reader : Type 0 where
 abbrev pub in_force_of : Reader → InForce
 in_force_of r = record { schema = r.schema; dictionaries = r.dictionaries }
 
--- whether a reader still reads, by how far its decoder is
+-- the phase of a reader, by the stage of its decoder
 abbrev pub phase_of : Stage → Phase
 phase_of (taking z) = Reading
 phase_of (over end) = Ended end
 phase_of refused = Refused
 
--- the schema that is in force; before one came that of no field
+-- the schema in force; without one, a schema without fields
 abbrev pub schema_in : State → Schema
 schema_in None = record { fields = []; metadata = [] }
 schema_in (Some o) = o.schema
 
--- the dictionaries that are in force; before a schema came there are none
+-- the dictionaries in force; there are none before a schema
 abbrev pub dictionaries_in : State → List (ℤ × DictionaryInForce)
 dictionaries_in None = []
 dictionaries_in (Some o) = o.dictionaries
 
--- between two calls no byte is kept
+-- between two calls no bytes are stored
 abbrev pub KeepsNone : Stage → Type 0
 KeepsNone stage = (z : List ℕ) → stage ≡ taking z → z ≡ []
 
--- while it reads, its source works
+-- while a stream is being read, its source has not failed
 abbrev pub WorksWhile : Stage → ℕ → Type 0
 WorksWhile stage failures = (z : List ℕ) → stage ≡ taking z → failures ≡ 0
 
--- a new reader took the first message, which is its schema's, and no dictionary
+-- a new reader has taken only the first message, which is its schema's; no dictionary is in force
 pub record Opens (limits : Limits) (old : Option (List ℕ)) (new : Reader) : Type 0 where
   pub x : List ℕ
   pub bytes : Consumes old new.remaining x
@@ -71,21 +71,21 @@ pub record Opens (limits : Limits) (old : Option (List ℕ)) (new : Reader) : Ty
   pub one_message : new.messages ≡ 1
   pub counted : new.taken ≡ count_up 0 (length x)
 
--- no reader: the source comes back with some bytes taken that aren't a schema's message
+-- opening fails: some bytes were taken from the source, and reading them ended with this fault
+-- before a schema
 pub record OpenFails (limits : Limits) (old new : Option (List ℕ)) (fault : Fault) : Type 0 where
   pub x : List ℕ
   pub bytes : Consumes old new x
   pub reads : Reads limits None x new [] (Err fault)
 
--- the bytes x are whole messages that tell nothing, and behind them one that tells this event; they
--- lead a reader from what was in force to what is
+-- the bytes x are whole messages without an event, then one with this event; they change what is in
+-- force for a reader from the old value to the new
 pub record LeadsTo (old new : Reader) (x : List ℕ) (event : Event) : Type 0 where
   pub last : TellsLast old.limits (Some (in_force_of old)) x event (Some (in_force_of new))
   pub messages : new.messages ≡ count_up old.messages (suc (messages_in last.run))
 
--- the bytes x are whole messages that tell nothing, and lead a reader from what was in force to
--- what
--- is; and then reading ends so
+-- the bytes x begin with whole messages without an event; these change what is in force for a
+-- reader from the old value to the new. At the bytes after them, reading ends with this result
 pub record EndsBehind (old new : Reader) (x : List ℕ) (answer : Result End Fault) : Type 0 where
   pub whole : List ℕ
   pub rest : List ℕ
@@ -100,7 +100,8 @@ pub record Stays (old new : Reader) (x : List ℕ) : Type 0 where
   pub in_force : in_force_of new ≡ in_force_of old
   pub messages : new.messages ≡ old.messages
 
--- from one phase to another with these bytes taken: a batch, the end, or why neither is there
+-- the result of a call of `next` that took these bytes, by the phase before and after it: a batch,
+-- the end, or a fault
 abbrev pub NextAnswer : Reader → Reader → Phase → List ℕ → Result (Option Found) Fault → Phase
     → Type 0
 NextAnswer old new Reading x (Ok (Some found)) Reading = LeadsTo old new x (batch (rows_of found))
@@ -110,7 +111,7 @@ NextAnswer old new (Ended end) x (Ok None) (Ended same) = (same ≡ end) × Stay
 NextAnswer old new Refused x (Err Failed) Refused = Stays old new x
 NextAnswer old new _ x r _ = ⊥
 
--- what a call of `next` took and gave
+-- the bytes that a call of `next` took, and its result
 pub record NextCall (old new : Reader) (r : Result (Option Found) Fault) : Type 0 where
   pub x : List ℕ
   pub bytes : Consumes old.remaining new.remaining x
@@ -119,7 +120,7 @@ pub record NextCall (old new : Reader) (r : Result (Option Found) Fault) : Type 
   pub same_limits : new.limits ≡ old.limits
   pub counted : new.taken ≡ count_up old.taken (length x)
 
--- a batch with these pairs and rows
+-- the result is a batch with these pairs and rows
 abbrev pub GivesBatch : Option Found → BatchRows → Type 0
 GivesBatch None b = ⊥
 GivesBatch (Some found) b = rows_of found ≡ b
@@ -129,7 +130,7 @@ abbrev pub BeginsEnd : End → List ℕ → Type 0
 BeginsEnd Mark z = (rest : List ℕ) × (z ≡ eos ++ rest)
 BeginsEnd Closed z = z ≡ []
 
--- how reading ended, if it did
+-- the end with which reading stopped, if it did
 abbrev pub end_of : Phase → Option End
 end_of (Ended end) = Some end
 end_of _ = None

@@ -26,22 +26,21 @@ use Rattle.ipc_decode.specs.Stream.{InForce, State, Event, Run, values_in}
 use Rattle.ipc_model.specs.declared.limits.Limits.{Limits}
 pub use Rattle.ipc_frame.specs.Failures.{IsOutside}
 
--- the end mark, or a message that isn't a schema's
+-- the frame is the end mark, or a message that is not a schema's
 abbrev pub IsNoSchema : Framed → Type 0
 IsNoSchema f.End = ⊤
 IsNoSchema (f.Message meta (h.Schema s) body) = ⊥
 IsNoSchema (f.Message meta head body) = ⊤
 
--- no field of the schema, and none below one, has this dictionary (Schema.fbs, table
--- DictionaryEncoding, id)
+-- no field of the schema, at any level, has this dictionary (Schema.fbs, table DictionaryEncoding,
+-- id)
 pub record NamesNone (id : ℤ) (s : Schema) : Type 0 where
   pub none : (e : Entry) → IsAmong e (entries s.fields) → (d : Dictionary) → e.dictionary ≡ Some d
       → d.id ≢ id
 
--- in this state the message z is refused for this fault when its last byte comes: at its start or
--- its metadata, or as a whole: no schema where the first is due, a second one, a dictionary that no
--- field names, or one whose parts give no values, or a batch whose parts give no rows under the
--- dictionaries in force
+-- in this state the message z is refused for this fault, exactly at its last byte: at its start or
+-- its metadata, or as a whole. Causes for the whole are a missing or a second schema, a dictionary
+-- that no field names, or a body without values or rows
 pub data Refuses (limits : Limits) (σ : State) (z : List ℕ) (fault : Fault) : Type 0 where
   early : RefusesNow limits z fault → Refuses limits σ z fault
   no_schema : (frame : Framed) → fault ≡ MissingSchema → σ ≡ None → IsFrame limits z frame
@@ -62,8 +61,7 @@ pub data Refuses (limits : Limits) (σ : State) (z : List ℕ) (fault : Fault) :
       → RefusesParts limits fault (values_in o.dictionaries) o.schema.fields b body
       → Refuses limits σ z fault
 
--- z has no byte that wasn't wanted: an undecided beginning of a message, and no more behind it than
--- it wanted
+-- z is an undecided beginning of a message, followed by at most the bytes up to the next decision
 pub record Wanted (limits : Limits) (z : List ℕ) : Type 0 where
   pub front : List ℕ
   pub behind : List ℕ
@@ -72,8 +70,8 @@ pub record Wanted (limits : Limits) (z : List ℕ) : Type 0 where
   pub undecided : Pending limits front wants
   pub few : length behind ≤ wants
 
--- why reading breaks off in this state: z was taken behind the last message that was read, and
--- `left` is still to come
+-- why reading breaks off in this state: z was taken after the last message that was read, and
+-- `left` is still in the source
 pub data Breaks (limits : Limits) (σ : State) (z : List ℕ) (left : Option (List ℕ))
     (fault : Fault) : Type 0 where
   refused : Refuses limits σ z fault → Breaks limits σ z left fault
@@ -82,13 +80,14 @@ pub data Breaks (limits : Limits) (σ : State) (z : List ℕ) (left : Option (Li
       → Breaks limits σ z left fault
   aside : IsOutside fault → Wanted limits z → Breaks limits σ z left fault
 
--- how reading ends in this state: by the mark, or where nothing more comes, or it breaks off
+-- how reading ends in this state: at the end mark, at the source's end, or with a fault
 abbrev pub Ends : Limits → State → List ℕ → Option (List ℕ) → Result End Fault → Type 0
 Ends limits σ z left (Ok Mark) = (z ≡ eos) × (σ ≢ None)
 Ends limits σ z left (Ok Closed) = (z ≡ []) × (σ ≢ None) × IsAtEnd left
 Ends limits σ z left (Err fault) = Breaks limits σ z left fault
 
--- the bytes x are messages that tell these events, and then reading ends, with `left` still to come
+-- the bytes x are messages that report these events, and then reading ends with this result; `left`
+-- is still in the source
 pub record Reads (limits : Limits) (σ : State) (x : List ℕ) (left : Option (List ℕ)) (events : List
     Event)
     (answer : Result End Fault) : Type 0 where

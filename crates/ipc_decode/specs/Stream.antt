@@ -19,45 +19,45 @@ use Rattle.ipc_decode.specs.declared.end.End.{End}
 use Rattle.ipc_decode.specs.declared.end.End.TheVariants.{Mark, Closed}
 use Rattle.ipc_model.specs.declared.limits.Limits.{Limits}
 
--- a dictionary that was set: its values, and how many bytes the body has that set them
+-- a dictionary that was set: its values, and the number of bytes of the body that set them
 pub record DictionaryInForce : Type 0 where
   pub values : List Value
   pub bytes : ℕ
 
--- what is in force once the schema came: the schema, and each dictionary that was set, beside its
+-- what is in force after the schema came: the schema, and each dictionary that was set, with its
 -- id, in the order of the ids
 pub record InForce : Type 0 where
   pub schema : Schema
   pub dictionaries : List (ℤ × DictionaryInForce)
 
--- the values of each dictionary, which the indices of a batch name
+-- the values of each dictionary in force, to which the indices of a batch refer
 abbrev pub values_in : List (ℤ × DictionaryInForce) → Dictionaries
 values_in dictionaries = map (λ e. (e.0, e.1.values)) dictionaries
 
--- none before the schema
+-- what is in force; nothing before the schema
 abbrev pub State : Type 0
 State = Option InForce
 
--- what is in force behind the schema's message: no dictionary yet
+-- what is in force after the schema's message: no dictionary yet
 abbrev pub begun : Schema → InForce
 begun s = record { schema = s; dictionaries = [] }
 
--- what is in force once the dictionary with the id is set to the values of these rows, which lie in
--- a body of so many bytes; those that it had before are in force no more
+-- what is in force after the dictionary with the id is set to the values of these rows, from a body
+-- of this many bytes; its earlier values are no longer in force
 abbrev pub with_dictionary : InForce → ℤ → List (List Value) → ℕ → InForce
 with_dictionary o id rows bytes = record o {
   dictionaries = put o.dictionaries id (record { values = map first_of rows; bytes = bytes });
 }
 
--- what a message tells a reader
+-- the event that a message reports to a reader
 pub data Event : Type 0 where
   schema : Schema → Event
   batch : BatchRows → Event
 
--- A message with this head and body takes a state to the next, and tells these events. The first is
--- the schema's, whose body is not looked at. Then come batches, each with its pairs as they are and
--- with rows under the dictionaries in force; and dictionaries that a field names, which tell
--- nothing: the rows of the one column of its values, which has no dictionary, are set for the id
+-- a message with this head and body changes the state and reports these events. The first is the
+-- schema's; its body is not read. A batch reports its pairs, and its rows under the dictionaries in
+-- force. A dictionary that a field names reports none: the rows of its one column are set for the
+-- id
 pub data Step (limits : Limits) : State → Head → List ℕ → List Event → State → Type 0 where
   first : {s : Schema} {body : List ℕ}
       → Step limits None (head.Schema s) body (schema s ∷ []) (Some (begun s))
@@ -72,22 +72,22 @@ pub data Step (limits : Limits) : State → Head → List ℕ → List Event →
       → Step limits (Some o) (head.Dictionary id b) body []
       (Some (with_dictionary o id rows (length body)))
 
--- a list of messages, each of them a step
+-- a list of messages, each of them a step, with their events in order
 pub data Run (limits : Limits) : State → List ℕ → List Event → State → Type 0 where
   done : {σ : State} → Run limits σ [] [] σ
   more : {σ τ υ : State} {x metadata body y : List ℕ} {h : Head} {es fs : List Event}
       → Frame limits x metadata h body → Step limits σ h body es τ → Run limits τ y fs υ
       → Run limits σ (x ++ y) (es ++ fs) υ
 
--- the schema and then the batches in order
+-- the events of a table: the schema, and then the batches in order
 abbrev pub events_of : Table → List Event
 events_of t = schema t.schema ∷ map batch t.batches
 
--- a stream that is closed without a mark
+-- the bytes are a table's messages, without an end mark
 abbrev pub DenotesClosed : Limits → List ℕ → Table → Type 0
 DenotesClosed limits x t = (σ : State) × Run limits None x (events_of t) σ
 
--- the bytes are this table, with the end mark or without
+-- the bytes are this table, with or without the end mark
 abbrev pub Denotes : Limits → List ℕ → Table → End → Type 0
 Denotes limits x t Closed = DenotesClosed limits x t
 Denotes limits x t Mark = (y : List ℕ) × (x ≡ y ++ eos) × DenotesClosed limits y t
@@ -96,15 +96,15 @@ Denotes limits x t Mark = (y : List ℕ) × (x ≡ y ++ eos) × DenotesClosed li
 abbrev pub OpensStream : Limits → Schema → List ℕ → Type 0
 OpensStream limits s x = Run limits None x (schema s ∷ []) (Some (begun s))
 
--- x is the message of a batch with these pairs and rows, where no dictionary is in force
+-- x is the message of a batch with these pairs and rows, if no dictionary is in force
 abbrev pub AddsBatch : Limits → Schema → BatchRows → List ℕ → Type 0
 AddsBatch limits s b x = Run limits (Some (begun s)) x (batch b ∷ []) (Some (begun s))
 
--- x is messages that tell this batch, whatever dictionaries they set
+-- x is messages that report this batch, whatever dictionaries they set
 abbrev pub TellsBatch : Limits → InForce → BatchRows → List ℕ → Type 0
 TellsBatch limits o b x = (τ : State) × Run limits (Some o) x (batch b ∷ []) τ
 
--- x is one message, which takes a state to the next and tells these events
+-- x is one message, which changes the state and reports these events
 pub record IsMessage (limits : Limits) (σ : State) (x : List ℕ) (events : List Event)
     (τ : State) : Type 0 where
   pub metadata : List ℕ
@@ -117,6 +117,6 @@ pub record IsMessage (limits : Limits) (σ : State) (x : List ℕ) (events : Lis
 abbrev pub EndsStream : List ℕ → Type 0
 EndsStream x = x ≡ eos
 
--- x is the stream of a table, with its mark
+-- x is the stream of a table, with its end mark
 abbrev pub IsTableOf : Limits → Table → List ℕ → Type 0
 IsTableOf limits t x = Denotes limits x t Mark

@@ -1,5 +1,5 @@
--- What a reader takes from its source, and what it answers (Arrow Columnar Format, "IPC Streaming
--- Format").
+-- The bytes that a reader takes from its source, and its results (Arrow Columnar Format, "IPC
+-- Streaming Format").
 use Rattle.std.specs.Prelude.{◌≡◌, ℕ, List, [], ◌∷◌, length, map, Option, Some, None}
 use Rattle.std.specs.Prelude.{Result, Ok, Err, ⊤}
 use Rattle.std.specs.Io.KnownBytes.{Consumes, IsAtEnd}
@@ -25,7 +25,8 @@ pub record Takes (old new : Option (List ℕ)) (count_old count_new : ℕ) (x : 
   pub bytes : Consumes old new x
   pub counted : count_new ≡ count_up count_old (length x)
 
--- the bytes x are whole messages that tell nothing, and then reading ends so, at this stage
+-- the bytes x are whole messages without an event, and then reading ends with this result, at this
+-- stage
 pub record StopsAt (old new : Decoding) (x : List ℕ) (left : Option (List ℕ)) (stage : Stage)
     (answer : Result End Fault) : Type 0 where
   pub rest : List ℕ
@@ -33,22 +34,22 @@ pub record StopsAt (old new : Decoding) (x : List ℕ) (left : Option (List ℕ)
   pub ends : Ends old.limits new.state rest left answer
   pub at : new.stage ≡ stage
 
--- the bytes x tell this event, or the source is at its end behind whole messages, or reading breaks
--- off
+-- the bytes x report this event, or the source is at its end after whole messages, or reading
+-- breaks off
 abbrev pub PullAnswer : Decoding → Decoding → List ℕ → Option (List ℕ)
     → Result (Option Told) Fault → Type 0
 PullAnswer old new x left (Ok (Some event)) = Tells old new x event
 PullAnswer old new x left (Ok None) = StopsAt old new x left (over Closed) (Ok Closed)
 PullAnswer old new x left (Err fault) = StopsAt old new x left refused (Err fault)
 
--- what was taken from the source for the next event, and what it is
+-- the bytes that were taken from the source for the next event, and the result
 pub record Pulls (old new : Option (List ℕ)) (count_old count_new : ℕ) (before after : Decoding)
     (r : Result (Option Told) Fault) : Type 0 where
   pub x : List ℕ
   pub takes : Takes old new count_old count_new x
   pub gives : PullAnswer before after x new r
 
--- the first message is this schema's, which is in force now, or there is none
+-- the first message is a schema's, which is now in force; or reading breaks off
 abbrev pub GivesSchema : Decoding → Decoding → List ℕ → Option (List ℕ) → Result Unit Fault → Type 0
 GivesSchema old new x left (Ok done) = (s : Schema)
     × Run old.limits None x (schema s ∷ []) (Some (begun s))
@@ -60,21 +61,21 @@ GivesSchema old new x left (Ok done) = (s : Schema)
     })
 GivesSchema old new x left (Err fault) = Reads old.limits None x left [] (Err fault)
 
--- what was taken from the source to find the schema, and what was found
+-- the bytes that were taken from the source for the schema, and the result
 pub record TakesSchema (old new : Option (List ℕ)) (count_old count_new : ℕ)
     (before after : Decoding) (r : Result Unit Fault) : Type 0 where
   pub x : List ℕ
   pub takes : Takes old new count_old count_new x
   pub gives : GivesSchema before after x new r
 
--- the next batch, or how the stream ends, or neither, behind dictionaries that were set
+-- the next batch, the end of the stream, or a fault; dictionaries may be set before it
 abbrev pub ReadAnswer : Decoding → Decoding → List ℕ → Option (List ℕ) → Result Next Fault → Type 0
 ReadAnswer old new x left (Ok (next.Batch found pairs)) =
     TellsOne old new x (batch (rows_of (found, pairs)))
 ReadAnswer old new x left (Ok (next.Ended end)) = StopsAt old new x left (over end) (Ok end)
 ReadAnswer old new x left (Err fault) = StopsAt old new x left refused (Err fault)
 
--- what was taken from the source for the next event behind the schema, and what was found
+-- the bytes that were taken from the source for the next batch or the end, and the result
 pub record ReadsNext (old new : Option (List ℕ)) (count_old count_new : ℕ)
     (before after : Decoding) (r : Result Next Fault) : Type 0 where
   pub x : List ℕ
@@ -92,27 +93,27 @@ abbrev pub IsBatch : Next → Type 0
 IsBatch (next.Batch found pairs) = ⊤
 IsBatch (next.Ended end) = ⊥
 
--- the bytes are these batches and the end, or some messages behind which reading broke off
+-- the bytes are these batches and the end, or some messages, after which reading broke off
 abbrev pub GivesBatches : Limits → State → List ℕ → Option (List ℕ)
     → Result (List BatchRows × End) Fault → Type 0
 GivesBatches limits σ x left (Ok b) = Reads limits σ x left (map batch b.0) (Ok b.1)
 GivesBatches limits σ x left (Err fault) = (events : List Event)
     × Reads limits σ x left events (Err fault)
 
--- what was taken of a source behind the schema, and what that is
+-- the bytes that were taken from a source after the schema, and the result
 pub record TakesBatches (old new : Option (List ℕ)) (before : Decoding)
     (r : Result (List BatchRows × End) Fault) : Type 0 where
   pub x : List ℕ
   pub bytes : Consumes old new x
   pub gives : GivesBatches before.limits before.state x new r
 
--- the bytes are this table and its end, or some messages behind which reading broke off
+-- the bytes are this table and its end, or some messages, after which reading broke off
 abbrev pub GivesTable : Limits → List ℕ → Option (List ℕ) → Result (Table × End) Fault → Type 0
 GivesTable limits x left (Ok t) = Reads limits None x left (events_of t.0) (Ok t.1)
 GivesTable limits x left (Err fault) = (events : List Event)
     × Reads limits None x left events (Err fault)
 
--- what was taken of a source, and what that is
+-- the bytes that were taken from a source for a table, and the result
 pub record TakesTable (limits : Limits) (old new : Option (List ℕ)) (r : Result
     (Table × End) Fault) : Type 0 where
   pub x : List ℕ

@@ -1,5 +1,5 @@
--- The values of dictionaries in columns, each noted once (Arrow Columnar Format,
--- "Dictionary-encoded Layout").
+-- The dictionary values of columns, each noted once (Arrow Columnar Format, "Dictionary-encoded
+-- Layout").
 use Rattle.std.specs.Prelude.{◌≡◌, ℕ, ◌+◌, ℤ, Bool, true, false, List, [], ◌∷◌, drop, map, Some}
 use Rattle.std.specs.Prelude.{slice_get, if◌then◌else◌}
 use Rattle.std.specs.List.{AllByRecursion}
@@ -10,30 +10,30 @@ use Rattle.ipc_dict.specs.declared.entry.TallyEntry.{TallyEntry}
 use Rattle.ipc_dict.specs.Distinct.{is_seen}
 use Rattle.ipc_dict.specs.Pairs.{Pairs, pairs, each_pairs}
 
--- the value is among those of the dictionary with the id, where there is one
+-- the value is among those of the dictionary with the id, if the tally has that dictionary
 abbrev pub is_known : List TallyEntry → ℤ → Value → Bool
 is_known [] id v = true
 is_known (e ∷ es) id v = if int_eq e.id id then is_seen e.values v else is_known es id v
 
--- each of them is
+-- each pair's value is among those of its dictionary
 abbrev pub AllKnown : List TallyEntry → Pairs → Type 0
 AllKnown t ps = AllByRecursion (λ p. is_known t p.0 p.1 ≡ true) ps
 
--- what the field gives of each value of a dictionary that is marked is known
+-- for each marked value of the dictionary, all pairs that the field has for it are known
 abbrev pub AreNoted : List TallyEntry → Field → List Value → List Bool → Type 0
 AreNoted t field dictionary noted = (i : ℕ) (value : Value) → slice_get noted i ≡ Some true
     → slice_get dictionary i ≡ Some value → AllKnown t (pairs field value)
 
--- no two of them are of one dictionary
+-- no pair of the first list has the same id as a pair of the second
 abbrev pub AreOthers : Pairs → Pairs → Type 0
 AreOthers ps qs = AllByRecursion (λ p. AllByRecursion (λ q. int_eq p.0 q.0 ≡ false) qs) ps
 
--- none of the other fields names a dictionary of the field
+-- the field and the other fields name no dictionary in common
 abbrev pub IsApart : Field → List Field → Type 0
 IsApart field others = (value : Value) (row : List Value)
     → AreOthers (pairs field value) (each_pairs (map pairs others) row)
 
--- no dictionary is named by two of the fields
+-- no two of the fields name the same dictionary
 abbrev pub AreApart : List Field → Type 0
 AreApart fields = (i : ℕ) (field : Field) → slice_get fields i ≡ Some field
     → IsApart field (drop (i + 1) fields)

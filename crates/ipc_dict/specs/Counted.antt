@@ -1,4 +1,5 @@
--- What a plan holds of the rows of a batch (Arrow Columnar Format, "Dictionary-encoded Layout").
+-- The values that a plan has for the rows of a batch (Arrow Columnar Format, "Dictionary-encoded
+-- Layout").
 use Rattle.std.specs.Prelude.{◌≡◌, ℤ, List}
 use Rattle.std.specs.Option.{option_map}
 use Rattle.ipc_model.specs.declared.schema.Field.{Field}
@@ -9,8 +10,8 @@ use Rattle.ipc_dict.specs.Noting.{of_id, noted_for}
 use Rattle.ipc_dict.specs.Pairs.{rows_pairs}
 use Rattle.ipc_dict.specs.SchemaIds.{unused}
 
--- of each id that a field names exactly the distinct values other than null that the rows have
--- there, in order of first appearance; of any other id nothing
+-- for each id that a field names, exactly the distinct values other than null that the rows have
+-- there, in order of first appearance; no entry for any other id
 abbrev pub HoldsRows : List Field → List (List Value) → List TallyEntry → Type 0
 HoldsRows fields rows entries = (id : ℤ) → noted_for entries id
     ≡ option_map (λ none. distinct (of_id id (rows_pairs fields rows)))

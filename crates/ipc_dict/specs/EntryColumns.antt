@@ -1,4 +1,4 @@
--- The numbers of the columns that dictionaries are written as (Arrow Columnar Format, "Dictionary
+-- The counts of the columns with which dictionaries are written (Arrow Columnar Format, "Dictionary
 -- Messages": a dictionary batch is a record batch of one column).
 use Rattle.std.specs.Prelude.{◌≡◌, List, [], ◌∷◌, length, Some}
 use Rattle.ipc_model.specs.declared.limits.Limits.{Limits}
@@ -9,20 +9,21 @@ use Rattle.ipc_dictionaries.specs.ValuesColumns.{columns_in, columns_for}
 use Rattle.ipc_dict.specs.declared.columns.EntryColumns.{EntryColumns}
 use Rattle.ipc_dict.specs.declared.entry.TallyEntry.{TallyEntry}
 
--- the numbers are those of the dictionary's values, in the column that the fields give it
+-- the counts are those of the dictionary's values, in the column that the fields give the
+-- dictionary
 abbrev pub IsEntryCounted : Limits → List Field → TallyEntry → CountedColumn → Type 0
 IsEntryCounted limits fields e column = (columns : List Field)
     × ((columns_for (columns_in fields) e.id ≡ Some columns)
     × CountsRows limits columns (as_rows e.values) column)
 
--- they are for each dictionary, side by side
+-- each dictionary has its counts at the same index (`IsEntryCounted`)
 abbrev pub AllCounted : Limits → List Field → List TallyEntry → List CountedColumn → Type 0
 AllCounted limits fields [] [] = Unit {0}
 AllCounted limits fields (e ∷ es) (column ∷ columns) =
     IsEntryCounted limits fields e column × AllCounted limits fields es columns
 AllCounted limits fields _ _ = ⊥
 
--- The columns have the numbers of these dictionaries, and room for as many.
+-- the columns have the counts of these dictionaries, and an entry in `next` for each
 pub record AreCounted (fields : List Field) (entries : List TallyEntry)
     (columns : EntryColumns) : Type 0 where
   pub counted : AllCounted columns.limits fields entries columns.counted.items

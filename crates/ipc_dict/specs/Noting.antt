@@ -1,4 +1,4 @@
--- What a tally holds once values were seen (Arrow Columnar Format, "Dictionary-encoded Layout").
+-- The tally after values were noted (Arrow Columnar Format, "Dictionary-encoded Layout").
 use Rattle.std.specs.Prelude.{◌≡◌, ℕ, ◌<◌, ◌≤◌, ℤ, List, [], ◌∷◌, length, take, map, Option, Some}
 use Rattle.std.specs.Prelude.{None, ◌⊎◌, if◌then◌else◌, Contains, IsSome}
 use Rattle.std.specs.Ordering.{int_eq}
@@ -7,37 +7,37 @@ use Rattle.ipc_dict.specs.declared.entry.TallyEntry.{TallyEntry}
 use Rattle.ipc_dict.specs.Distinct.{seen, seen_all, place}
 use Rattle.std.specs.Option.{option_map}
 
--- one more value of this dictionary
+-- the entry of a dictionary after this value was noted
 abbrev pub note_entry : Value → TallyEntry → TallyEntry
 note_entry v e = record e { values = seen e.values v }
 
--- one more value of the dictionary with the id
+-- the tally after this value of the dictionary with the id was noted
 abbrev pub note_one : List TallyEntry → ℤ → Value → List TallyEntry
 note_one [] id v = []
 note_one (e ∷ es) id v = if int_eq e.id id then note_entry v e ∷ es else e ∷ note_one es id v
 
--- each value in turn, of the dictionary with its id
+-- the tally after each value was noted in turn, for the dictionary with its id
 abbrev pub note_all : List TallyEntry → List (ℤ × Value) → List TallyEntry
 note_all t [] = t
 note_all t (p ∷ ps) = note_all (note_one t p.0 p.1) ps
 
--- no dictionary has more values than its index types count
+-- each dictionary has at most as many values as its index types can address
 abbrev pub AllFit : List TallyEntry → Type 0
 AllFit [] = Unit {0}
 AllFit (e ∷ es) = (length e.values ≤ e.limit) × AllFit es
 
--- some dictionary has more
+-- some dictionary has more values than its index types can address
 abbrev pub IsFull : List TallyEntry → Type 0
 IsFull [] = ⊥
 IsFull (e ∷ es) = (e.limit < length e.values) ⊎ IsFull es
 
--- the values that were there stay in front
+-- the new entry has the old one's id, limit and values, and further values after these
 pub record Grows (old new : TallyEntry) : Type 0 where
   pub id : new.id ≡ old.id
   pub limit : new.limit ≡ old.limit
   pub front : take (length old.values) new.values ≡ old.values
 
--- each of the dictionaries does, side by side
+-- each dictionary's entry grows (`Grows`), index by index
 abbrev pub AllGrow : List TallyEntry → List TallyEntry → Type 0
 AllGrow [] [] = Unit {0}
 AllGrow (e ∷ es) (f ∷ fs) = Grows e f × AllGrow es fs
@@ -47,41 +47,41 @@ AllGrow _ _ = ⊥
 abbrev pub lens : List TallyEntry → List ℕ
 lens t = map (λ e. length e.values) t
 
--- the first so many values of each dictionary
+-- the tally with only the first n values of each dictionary, where n is the number at its index
 abbrev pub cut : List ℕ → List TallyEntry → List TallyEntry
 cut [] t = t
 cut (n ∷ ns) [] = []
 cut (n ∷ ns) (e ∷ es) = record e { values = take n e.values } ∷ cut ns es
 
--- ---- of one dictionary
+-- ---- one dictionary
 
--- its values among pairs of id and value
+-- the values of one dictionary among pairs of id and value
 abbrev pub of_id : ℤ → List (ℤ × Value) → List Value
 of_id id [] = []
 of_id id (p ∷ ps) = if int_eq p.0 id then p.1 ∷ of_id id ps else of_id id ps
 
--- its values in a tally, where it has a place there
+-- the values of one dictionary in a tally, if the tally has it
 abbrev pub noted_for : List TallyEntry → ℤ → Option (List Value)
 noted_for [] id = None
 noted_for (e ∷ es) id = if int_eq e.id id then Some e.values else noted_for es id
 
--- where a value stands among those of the dictionary with the id
+-- the index of a value among those of the dictionary with the id
 abbrev pub noted_place : List TallyEntry → ℤ → Value → Option ℕ
 noted_place [] id v = None
 noted_place (e ∷ es) id v = if int_eq e.id id then place v e.values else noted_place es id v
 
--- a value keeps its place, whatever is noted behind it
+-- a value keeps its index, whatever is noted after it
 abbrev pub KeepsPlaces : Type 0
 KeepsPlaces = (t : List TallyEntry) (ps : List (ℤ × Value)) (id : ℤ) (v : Value) (i : ℕ)
     → noted_place t id v ≡ Some i → noted_place (note_all t ps) id v ≡ Some i
 
--- each value that is noted has a place, where its dictionary has one
+-- each value that is noted has an index, if the tally has its dictionary
 abbrev pub PlacesAll : Type 0
 PlacesAll = (t : List TallyEntry) (ps : List (ℤ × Value)) (id : ℤ) (v : Value)
     → Contains ps (id, v) → IsSome (noted_for t id) → IsSome (noted_place (note_all t ps) id v)
 
--- a tally holds of each dictionary the values that it held, and then the distinct ones of the
--- pairs in order of first appearance
+-- after noting, each dictionary of a tally has the values it had, then the distinct new ones of the
+-- pairs, in order of first appearance
 abbrev pub HoldsDistinct : Type 0
 HoldsDistinct = (t : List TallyEntry) (ps : List (ℤ × Value)) (id : ℤ)
     → noted_for (note_all t ps) id ≡ option_map (λ xs. seen_all xs (of_id id ps)) (noted_for t id)

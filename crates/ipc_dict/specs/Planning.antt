@@ -1,4 +1,4 @@
--- What a plan does with each dictionary (Arrow Columnar Format, "Dictionary Messages").
+-- What a plan decides for each dictionary (Arrow Columnar Format, "Dictionary Messages").
 use Rattle.std.specs.Prelude.{◌≡◌, ℕ, ℤ, List, [], ◌∷◌, ◌++◌, map, Option, Some, None, slice_get}
 use Rattle.std.specs.Prelude.{Contains, IsSome, if◌then◌else◌}
 use Rattle.ipc_dict.specs.Noting.{noted_for, noted_place}
@@ -9,60 +9,63 @@ use Rattle.ipc_dict.specs.declared.entry.TallyEntry.{TallyEntry}
 use Rattle.ipc_dict.specs.declared.kept.KeptEntry.{KeptEntry}
 use Rattle.ipc_dict.specs.Distinct.{place}
 
--- each value stands at its number
+-- each value is first found in `known` at its number in `to`
 abbrev pub AreNumbers : List Value → List Value → List ℕ → Type 0
 AreNumbers known values to = map (λ v. place v known) values ≡ map (λ i. Some i) to
 
--- one of the values isn't known
+-- one of the values is not in `known`
 abbrev pub Lacks : List Value → List Value → Type 0
 Lacks known values = (v : Value) × (Contains values v × (place v known ≡ None))
 
--- the dictionary was sent, and each value of the batch stands at its number; or it is sent with
--- this batch, since it has not been or lacks a value
+-- the dictionary was sent, and each value of the batch is in it at its number; or it is sent with
+-- this batch, since it was not sent before or lacks a value
 abbrev pub IsSettled : Option (List Value) → List Value → Option (List ℕ) → Type 0
 IsSettled (Some known) values (Some to) = AreNumbers known values to
 IsSettled (Some known) values None = Lacks known values
 IsSettled None values (Some to) = ⊥
 IsSettled None values None = Unit {0}
 
--- the index of a value that has this place in the batch
+-- the index of a value with this place among the batch's values: its number among those sent
+-- before, or the place if the dictionary is sent
 abbrev pub number_at : Option ℕ → Option (List ℕ) → Option ℕ
 number_at None numbers = None
 number_at (Some i) None = Some i
 number_at (Some i) (Some to) = slice_get to i
 
--- the dictionary's values once the batch was sent
+-- the dictionary's values after the batch was sent
 abbrev pub after : Option (List Value) → List Value → Option (List ℕ) → Option (List Value)
 after sent values (Some to) = sent
 after sent values None = Some values
 
--- the number among those sent before of the value with this number in the batch, where the
--- dictionary isn't sent again
+-- the number, among the values sent before, of the value with number i in the batch; none if the
+-- dictionary is sent again
 abbrev pub kept_number : Option (List ℕ) → ℕ → Option ℕ
 kept_number None i = None
 kept_number (Some to) i = slice_get to i
 
--- the dictionary as a message's values, each a row of one column, where it is sent
+-- the dictionary's id and values, as rows of one column, if the dictionary is sent; nothing
+-- otherwise
 abbrev pub own_send : TallyEntry → Option (List ℕ) → List (ℤ × List (List Value))
 own_send n (Some to) = []
 own_send n None = (n.id, map (λ v. v ∷ []) n.values) ∷ []
 
--- ---- of all dictionaries, which stand in one order
+-- ---- all dictionaries, in one order
 
--- each dictionary is settled, side by side
+-- each dictionary is settled (`IsSettled`), index by index
 abbrev pub AllSettled : List KeptEntry → List TallyEntry → List (Option (List ℕ)) → Type 0
 AllSettled [] [] [] = Unit {0}
 AllSettled (s ∷ ss) (n ∷ ns) (o ∷ os) = IsSettled s.values n.values o × AllSettled ss ns os
 AllSettled _ _ _ = ⊥
 
--- the index of a value of the dictionary with the id
+-- the index of a value in the dictionary with the id
 abbrev pub index : List TallyEntry → List (Option (List ℕ)) → ℤ → Value → Option ℕ
 index [] os id v = None
 index (n ∷ ns) [] id v = None
 index (n ∷ ns) (o ∷ os) id v =
     if int_eq n.id id then number_at (place v n.values) o else index ns os id v
 
--- the number of a value among those sent before, by its number in the batch
+-- the number of a value among those sent before, for the dictionary with the id and its number in
+-- the batch
 abbrev pub number : List TallyEntry → List (Option (List ℕ)) → ℤ → ℕ → Option ℕ
 number [] os id i = None
 number (n ∷ ns) [] id i = None
@@ -74,7 +77,7 @@ sends_of [] os = []
 sends_of (n ∷ ns) [] = []
 sends_of (n ∷ ns) (o ∷ os) = own_send n o ++ sends_of ns os
 
--- what was sent once the batch was
+-- the values sent of each dictionary after the batch was sent
 abbrev pub after_all : List KeptEntry → List TallyEntry → List (Option (List ℕ)) → List KeptEntry
 after_all [] ns os = []
 after_all (s ∷ ss) [] os = s ∷ ss
@@ -82,25 +85,25 @@ after_all (s ∷ ss) (n ∷ ns) [] = s ∷ ss
 after_all (s ∷ ss) (n ∷ ns) (o ∷ os) =
     record s { values = after s.values n.values o } ∷ after_all ss ns os
 
--- what was sent for the id
+-- the values sent for the id, if any
 abbrev pub sent_for : List KeptEntry → ℤ → Option (List Value)
 sent_for [] id = None
 sent_for (s ∷ ss) id = if int_eq s.id id then s.values else sent_for ss id
 
--- the ids are the same, in one order
+-- the ids are equal, index by index
 abbrev pub SameIds : List KeptEntry → List TallyEntry → Type 0
 SameIds [] [] = Unit {0}
 SameIds (s ∷ ss) (n ∷ ns) = (s.id ≡ n.id) × SameIds ss ns
 SameIds _ _ = ⊥
 
--- each index that a plan gives finds its value in what is sent once the batch was
+-- each index that a plan gives refers to its value in what is sent once the batch was
 abbrev pub FindsAll : List KeptEntry → List TallyEntry → List (Option (List ℕ)) → Type 0
 FindsAll ss ns os = (id : ℤ) (v : Value) (i : ℕ) → index ns os id v ≡ Some i
     → (now : List Value)
     × ((sent_for (after_all ss ns os) id ≡ Some now) × (slice_get now i ≡ Some v))
 
--- each place that a tally gives a value finds it, under the number that the plan has for it, in
--- what is sent once the batch was
+-- each place that a tally gives a value, replaced by the plan's number for it, is the value's place
+-- in what is sent once the batch was
 abbrev pub FindsNoted : List KeptEntry → List TallyEntry → List (Option (List ℕ)) → Type 0
 FindsNoted ss ns os = (id : ℤ) (v : Value) (i : ℕ) → noted_place ns id v ≡ Some i
     → (now : List Value)

@@ -11,25 +11,25 @@ use Rattle.ipc_dictionaries.specs.Joined.{joined}
 use Rattle.ipc_dict.specs.declared.entry.TallyEntry.{TallyEntry}
 use Rattle.ipc_dict.specs.declared.kept.KeptEntry.{KeptEntry}
 
--- of a field without those below it
+-- the dictionary of a field itself, if it has one
 abbrev pub own : Option Dictionary → List Dictionary
 own (Some d) = d ∷ []
 own None = []
 
--- a field's own, and behind it those of its children
+-- a field's own dictionary, then those of its children
 abbrev pub field_step : Field-F (List Dictionary) → List Dictionary
 field_step f = own f.dictionary ++ joined f.children
 
--- of a field and all below it, in pre-order
+-- the dictionaries of a field and of all below it, in pre-order
 abbrev pub of_field : Field → List Dictionary
 of_field = fold-Field (List Dictionary) field_step
 
--- of several fields, in pre-order
+-- the dictionaries of several fields and of all below them, in pre-order
 abbrev pub of_fields : List Field → List Dictionary
 of_fields fields = joined (map of_field fields)
 
--- how many values indices of this width and sign count: 0, their greatest number, and all between
--- (Schema.fbs, table DictionaryEncoding, `indexType`)
+-- how many values indices of this width and sign can address, from 0 up to the greatest number of
+-- the type (Schema.fbs, table DictionaryEncoding, `indexType`)
 abbrev pub counted : IntBits → Bool → ℕ
 counted b.B8 true = 2 ^ 7
 counted b.B8 false = 2 ^ 8
@@ -40,17 +40,18 @@ counted b.B32 false = 2 ^ 32
 counted b.B64 true = 2 ^ 63
 counted b.B64 false = 2 ^ 64
 
--- how many values a dictionary's indices count, where a list has at most 2^64 - 1
+-- how many values a dictionary's indices can address, at most 2^64 - 1
 abbrev pub count_of : Dictionary → ℕ
 count_of d = min (counted d.index.bits d.index.signed) (2 ^ 64 - 1)
 
 -- ---- the entries of a tally without values, and of a writer that has sent nothing
 
--- the entry of an id that one field names
+-- the entry for a dictionary that only one field names
 abbrev pub fresh : Dictionary → TallyEntry
 fresh d = record { id = d.id; limit = count_of d; values = [] }
 
--- one more field's dictionary: its id has one entry, which keeps the least count of its fields
+-- the entries after one more field's dictionary; an id has one entry, with the least count of its
+-- fields
 abbrev pub with_field : List TallyEntry → Dictionary → List TallyEntry
 with_field [] d = fresh d ∷ []
 with_field (e ∷ es) d =
@@ -58,12 +59,12 @@ with_field (e ∷ es) d =
     then record e { limit = min e.limit (count_of d) } ∷ es
     else e ∷ with_field es d
 
--- those of several fields, in turn
+-- the entries after several fields' dictionaries, in turn
 abbrev pub with_fields : List TallyEntry → List Dictionary → List TallyEntry
 with_fields es [] = es
 with_fields es (d ∷ ds) = with_fields (with_field es d) ds
 
--- an entry for each id that the fields name, in pre-order without repeats, with no value
+-- one entry for each id that the fields name, in pre-order without repeats, each without values
 abbrev pub unused : List Field → List TallyEntry
 unused fields = with_fields [] (of_fields fields)
 
@@ -79,6 +80,6 @@ tally_ids es = map (λ e. e.id) es
 abbrev pub kept_ids : List KeptEntry → List ℤ
 kept_ids es = map (λ e. e.id) es
 
--- nothing was sent of these ids
+-- the state before anything was sent of these ids
 abbrev pub unsent : List ℤ → List KeptEntry
 unsent ids = map (λ id. record { id = id; values = None }) ids

@@ -13,7 +13,7 @@ use Rattle.ipc_dictionaries.specs.ValuesColumns.{columns_in, columns_for}
 use Rattle.ipc_dict.specs.declared.entry.TallyEntry.{TallyEntry}
 use Rattle.ipc_dict.specs.SchemaIds.{unused}
 
--- the fault says that a column is longer than the limits allow: W6 or W8
+-- the fault is that a column is longer than the limits allow: W6 or W8
 abbrev pub IsOfLimits : WriteFault → Type 0
 IsOfLimits fault = (fault ≡ w.TooLong) ⊎ (fault ≡ w.TooManyRows)
 
@@ -23,48 +23,48 @@ IsEntryWithin limits fields e = (columns : List Field)
     × ((columns_for (columns_in fields) e.id ≡ Some columns)
     × IsWithin limits columns (as_rows e.values))
 
--- each dictionary's are
+-- the values of each dictionary are within the limits
 abbrev pub AllWithin : Limits → List Field → List TallyEntry → Type 0
 AllWithin limits fields [] = Unit {0}
 AllWithin limits fields (e ∷ es) = IsEntryWithin limits fields e × AllWithin limits fields es
 
--- the dictionary's values aren't, for the reason that the fault says
+-- the dictionary's values are not within the limits, for the reason of this fault
 abbrev pub IsEntryOver : Limits → List Field → TallyEntry → WriteFault → Type 0
 IsEntryOver limits fields e fault = (columns : List Field)
     × ((columns_for (columns_in fields) e.id ≡ Some columns)
     × (IsRefused limits columns (as_rows e.values) fault × IsOfLimits fault))
 
--- some dictionary's aren't
+-- the values of some dictionary are not within the limits, for the reason of this fault
 abbrev pub IsOverLimit : Limits → List Field → List TallyEntry → WriteFault → Type 0
 IsOverLimit limits fields [] fault = ⊥
 IsOverLimit limits fields (e ∷ es) fault =
     IsEntryOver limits fields e fault ⊎ IsOverLimit limits fields es fault
 
--- how many bytes the metadata of a dictionary's message may need, which depends on its column alone
+-- the room of the metadata of a dictionary's message, which depends only on its column
 -- (Message.fbs, table DictionaryBatch)
 abbrev pub dictionary_room_of : List Field → ℕ
 dictionary_room_of columns =
     dictionary_room (nodes_in (shape_of columns)) (buffers_in (shape_of columns))
 
--- of each entry the message's metadata is within the limits
+-- the metadata of each entry's message is within the limits
 abbrev pub AllShort : Limits → List Field → List TallyEntry → Type 0
 AllShort limits fields [] = Unit {0}
 AllShort limits fields (e ∷ es) = ((columns : List Field)
     × ((columns_for (columns_in fields) e.id ≡ Some columns)
     × (dictionary_room_of columns ≤ limits.metadata))) × AllShort limits fields es
 
--- of some entry it is not
+-- the metadata of some entry's message is not within the limits
 abbrev pub IsSomeLong : Limits → List Field → List TallyEntry → Type 0
 IsSomeLong limits fields [] = ⊥
 IsSomeLong limits fields (e ∷ es) = ((columns : List Field)
     × ((columns_for (columns_in fields) e.id ≡ Some columns)
     × (limits.metadata < dictionary_room_of columns))) ⊎ IsSomeLong limits fields es
 
--- the message of each dictionary of these fields has metadata within the limits, whatever its
+-- each dictionary of these fields has a message whose metadata is within the limits, whatever its
 -- values
 abbrev pub HaveShortMessages : Limits → List Field → Type 0
 HaveShortMessages limits fields = AllShort limits fields (unused fields)
 
--- that of some dictionary has not
+-- some dictionary of these fields has a message whose metadata is not within the limits
 abbrev pub HasLongMessage : Limits → List Field → Type 0
 HasLongMessage limits fields = IsSomeLong limits fields (unused fields)

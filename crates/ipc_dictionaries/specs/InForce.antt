@@ -1,5 +1,5 @@
--- The finite map from ids to the values in force, each beside the length of its body: its entries
--- in the order of the ids (Arrow Columnar Format, "Dictionary Messages").
+-- The finite map from ids to the values in force, with the length of the body that set them; its
+-- entries are in the order of the ids (Arrow Columnar Format, "Dictionary Messages").
 use Rattle.std.specs.Prelude.{◌≡◌, ℕ, ℤ, List, map, Option}
 use Rattle.std.specs.List.{sum_by, AllByRecursion}
 use Rattle.std.specs.Ordering.{int_cmp}
@@ -11,31 +11,32 @@ use Rattle.ipc_column.specs.Contents.{Contents}
 use Rattle.ipc_column.specs.Dictionaries.{IsDictionary}
 
 module _ {X : Type 0} where
-  -- the map with v at the id
+  -- the map after v is set for the id
   abbrev pub put : List (ℤ × X) → ℤ → X → List (ℤ × X)
   put m id v = insert_entry int_cmp m id v
 
-  -- what is in force for the id
+  -- the entry in force for the id, if there is one
   abbrev pub at : List (ℤ × X) → ℤ → Option X
   at m id = lookup (is_at (int_cmp id)) m
 
-  -- the map whose shared values are seen as what they hold
+  -- the map of the values themselves, from a map of shared values
   abbrev pub in_force : {Z : Type 0} → BTreeMap ℤ (Rc X Z) → List (ℤ × X)
   in_force m = map (λ e. (e.0, e.1.value)) m.entries
 
--- the bytes of all bodies
+-- how many bytes all bodies have together
 abbrev pub total : List (ℤ × Contents) → ℕ
 total m = sum_by (λ v. v.body_len) (values_of m)
 
--- the bytes of the body in force for the id
+-- how many bytes the body in force for the id has; 0 if there is none
 abbrev pub body_of : List (ℤ × Contents) → ℤ → ℕ
 body_of m id = unwrap_or (option_map (λ v. v.body_len) (at m id)) 0
 
--- each of these batches is one column of values, which lie in it alone
+-- each of these batches is one column that stores its values itself
 abbrev pub AreValues : List (ℤ × Contents) → Type 0
 AreValues m = AllByRecursion (λ e. IsDictionary e.1) m
 
--- what is kept of a map: how many bytes its bodies have, and that each is a dictionary's values
+-- what is stored about a map: `held` is how many bytes its bodies have, and each entry is a
+-- dictionary's values
 pub record IsKept (m : List (ℤ × Contents)) (held : ℕ) : Type 0 where
   pub bytes : held ≡ total m
   pub values : AreValues m

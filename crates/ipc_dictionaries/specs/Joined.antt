@@ -1,7 +1,7 @@
--- Lists one behind the other.
+-- Lists that are joined one after another.
 use Rattle.std.specs.Prelude.{List, [], ◌∷◌, ◌++◌}
 
--- one list behind the other
+-- the lists, joined one after another
 abbrev pub joined : {X : Type 0} → List (List X) → List X
 joined [] = []
 joined (xs ∷ xss) = xs ++ joined xss

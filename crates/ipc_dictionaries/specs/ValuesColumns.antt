@@ -1,4 +1,4 @@
--- The columns that a schema's dictionaries are read by (Arrow Columnar Format, "Dictionary
+-- The columns with which a schema's dictionaries are read (Arrow Columnar Format, "Dictionary
 -- Messages": a dictionary batch is a record batch of one column).
 use Rattle.std.specs.Prelude.{◌≡◌, ℕ, ℤ, List, [], ◌∷◌, ◌++◌, map, Option, Some, None, true}
 use Rattle.std.specs.Option.{IfSome}
@@ -10,13 +10,13 @@ use Rattle.ipc_model.specs.declared.schema.Field.{Field, fold-Field, roll-Field}
 use Rattle.ipc_model.specs.declared.schema.Field.TheOpen.{Field-F}
 use Rattle.ipc_dictionaries.specs.Joined.{joined}
 
--- ids, each beside the columns of its dictionary
+-- ids, each with the columns of its dictionary
 abbrev pub Listed : Type 0
 Listed = List (ℤ × List Field)
 
--- the column of a dictionary's values: the name and type of the field that names the dictionary,
--- whose type is that of the values (Schema.fbs, table Field, `dictionary`); a value may be null and
--- has no parts (Arrow Columnar Format, "Dictionary-encoded Layout")
+-- the column of a dictionary's values: it has the name and type of the field that names the
+-- dictionary, since a field's type is that of the values (Schema.fbs, table Field, `dictionary`).
+-- It is nullable and has no children (Arrow Columnar Format, "Dictionary-encoded Layout")
 abbrev pub values_column : List ℕ → DataType → Field
 values_column name kind = roll-Field (record {
   name = name;
@@ -27,20 +27,20 @@ values_column name kind = roll-Field (record {
   metadata = [];
 })
 
--- of a field without those below it
+-- the columns of a field's own dictionary, if it names one, without those below it
 abbrev pub own_columns : {X : Type 0} → Field-F X → Option Dictionary → Listed
 own_columns f (Some d) = (d.id, values_column f.name f.kind ∷ []) ∷ []
 own_columns f None = []
 
--- a field's own, and behind it those of its children
+-- the columns of a field's own dictionary, then those of its children
 abbrev pub columns_step : Field-F Listed → Listed
 columns_step f = own_columns f f.dictionary ++ joined f.children
 
--- of a field and all below it, in pre-order
+-- the columns of the dictionaries of a field and all below it, in pre-order
 abbrev pub columns_of : Field → Listed
 columns_of = fold-Field Listed columns_step
 
--- of several fields, in pre-order
+-- the columns of the dictionaries of several fields and all below them, in pre-order
 abbrev pub columns_in : List Field → Listed
 columns_in fields = joined (map columns_of fields)
 
@@ -48,12 +48,12 @@ columns_in fields = joined (map columns_of fields)
 abbrev pub columns_for : Listed → ℤ → Option (List Field)
 columns_for cs id = lookup (λ k. int_eq k id) cs
 
--- these are the one column of a dictionary's values, of some name and type
+-- these columns are one dictionary's values, for some name and type
 abbrev pub IsOneColumn : List Field → Type 0
 IsOneColumn columns =
     (name : List ℕ) × (kind : DataType) × (columns ≡ values_column name kind ∷ [])
 
--- each dictionary that the fields of a schema name is read by one column
+-- the columns of each dictionary that the fields of a schema name are one column
 abbrev pub AreOneColumn : Type 0
 AreOneColumn = (fields : List Field) (id : ℤ)
     → IfSome (columns_for (columns_in fields) id) IsOneColumn

@@ -1,4 +1,4 @@
--- The rows that a builder holds (Message.fbs, RecordBatch).
+-- The rows that a builder stores (Message.fbs, RecordBatch).
 use Rattle.std.specs.Prelude.{◌≡◌, ℕ, suc, ◌+◌, ◌*◌, ◌<◌, ◌≤◌, true, false}
 use Rattle.std.specs.Prelude.{List, [], ◌∷◌, ◌++◌, length, ◌⊎◌, ⊤}
 use Rattle.ipc_model.specs.declared.limits.Limits.{Limits}
@@ -23,7 +23,7 @@ use Rattle.ipc_encode.specs.Indices.{AgreeOn}
 use Rattle.ipc_encode.specs.Limits.{HasLongData, HasLongNode, SomeLongData, IsWithin}
 use Rattle.ipc_encode.specs.Writing.{AreStored}
 
--- These are the numbers of a column of this layout with these values, which are within the limits.
+-- the counts of a column of this layout with these values, which are within the limits
 pub record IsCounted (limits : Limits) (layout : Layout) (values : List Value)
     (counts : Counts) : Type 0 where
   pub slots_are : counts.slots ≡ length values
@@ -32,9 +32,8 @@ pub record IsCounted (limits : Limits) (layout : Layout) (values : List Value)
   pub few : ¬ (limits.slots < length values)
   pub short : ¬ HasLongData layout values
 
--- These are the buffers of a column of this layout with these values, whose indices are kept as
--- numbers until it is written (Arrow Columnar Format,
--- "Buffer Listing for Each Layout").
+-- the buffers of a column of this layout with these values; indices are stored as numbers until the
+-- column is written (Arrow Columnar Format, "Buffer Listing for Each Layout")
 pub record IsColumn (indices : Numbering) (limits : Limits) (layout : Layout) (values : List Value)
     (column : Column) : Type 0 where
   pub laid : column.layout ≡ layout
@@ -45,14 +44,14 @@ pub record IsColumn (indices : Numbering) (limits : Limits) (layout : Layout) (v
   pub indices_are : column.indices.items ≡ indices_in indices layout values
   pub stored : AreStored layout values
 
--- The column is of this layout, and the numbers with the next row are those of these values.
+-- the column has this layout, and its counts with the next row are those of these values
 pub record IsNext (limits : Limits) (layout : Layout) (values : List Value)
     (column : Column) : Type 0 where
   pub laid : column.layout ≡ layout
   pub counted : IsCounted limits layout values column.next
 
--- nodes of this shape, whose columns with the values that are given for their numbers have a
--- property, and so have those below them
+-- the nodes have this shape, and the property holds for each column with its values, at every
+-- level; `given` has the values of each column by its number
 abbrev pub AreNodes : (Layout → List Value → Column → Type 0) → Shape → List Node
     → (ℕ → List Value) → Type 0
 AreNodes Property bare [] given = ⊤
@@ -63,45 +62,45 @@ AreNodes Property (field l children rest) (node ∷ nodes) given =
     × AreNodes Property children (out-Node node).children.items (below l (given 0)))
     × AreNodes Property rest nodes (λ j. given (suc j))
 
--- the same of one node
+-- the node has this layout and shape of children, and the property holds for its column and each
+-- column below it
 abbrev pub IsNode : (Layout → List Value → Column → Type 0) → Layout → Shape → Node → List Value
     → Type 0
 IsNode Property l children node values = Property l values (out-Node node).column
     × AreNodes Property children (out-Node node).children.items (below l values)
 
--- columns of this shape, each with the values that are given for its number
+-- the nodes hold columns of this shape; `given` has the values of each column by its number
 abbrev pub AreColumns : Numbering → Limits → Shape → List Node → (ℕ → List Value) → Type 0
 AreColumns indices limits = AreNodes (IsColumn indices limits)
 
--- what a column has taken: values into its buffers, or their numbers alone
+-- what a column has taken: the values into its buffers, or only their counts
 abbrev pub HasTaken : Numbering → Purpose → Limits → Layout → List Value → Column → Type 0
 HasTaken indices purpose.Keep limits = IsColumn indices limits
 HasTaken indices purpose.Count limits = IsNext limits
 
--- Columns of this shape with these values are within the limits.
+-- columns of this shape with these values are within the limits
 pub record AreWithin (limits : Limits) (shape : Shape) (given : ℕ → List Value) : Type 0 where
   pub few : ¬ HasLongNode limits.slots shape given
   pub short : ¬ SomeLongData shape given
   pub body : length (joined (buffers_of shape given)) ≤ limits.body
 
--- the weight of columns of this shape with these values, and of those below them, which is no less
--- than the bytes of their buffers where each column weighs 25: so much for each column, 6 for each
--- slot, and the data
+-- the weight of columns of this shape with these values, at every level: `each` for a column, 6 for
+-- each slot, and the data. With 25 for `each`, it is at least the bytes of their buffers
 abbrev pub weight_of : ℕ → Shape → (ℕ → List Value) → ℕ
 weight_of each bare given = 0
 weight_of each (field l children rest) given =
     each + 6 * length (given 0) + data_in l (given 0) + weight_of each children (below l (given 0))
     + weight_of each rest (λ j. given (suc j))
 
--- These rows are within the limits with any values more, in whatever columns, that weigh less than
--- what is spare.
+-- these rows stay within the limits if values of less weight than the headroom are added, in any
+-- columns
 abbrev pub HasSpare : Limits → List Field → List (List Value) → Spare → Type 0
 HasSpare limits fields rows spare = (added : ℕ → List Value)
     → weight_of 0 (shape_of fields) added < spare.weight
     → AreWithin limits (shape_of fields) (λ j. columns rows j ++ added j)
 
--- The builder holds exactly these rows of these fields, which are within the limits, and for each
--- value of a dictionary its index.
+-- the builder stores exactly these rows of these fields, which are within the limits; `indices`
+-- gives the index of each dictionary value
 pub record HasRows (indices : Numbering) (limits : Limits) (fields : List Field) (rows : List
     (List Value))
     (builder : Builder) : Type 0 where
@@ -112,8 +111,8 @@ pub record HasRows (indices : Numbering) (limits : Limits) (fields : List Field)
   pub within : IsWithin limits fields rows
   pub has_spare : HasSpare limits fields rows builder.spare
 
--- why a column doesn't take the last of these values: it would have too many slots, more data than
--- its offsets reach, or more than a body may have
+-- why a column does not take the last of these values: too many slots, more data than its offsets
+-- can address, more than a body may have, or out of memory
 abbrev pub IsPushRefused : Limits → Layout → List Value → PushFault → Type 0
 IsPushRefused limits layout values fault.TooLong =
     HasLongData layout values ⊎ (limits.body < length (joined (column_buffers layout values)))
@@ -121,7 +120,8 @@ IsPushRefused limits layout values fault.TooMany = limits.slots < length values
 IsPushRefused limits layout values fault.OutOfMemory = ⊤
 IsPushRefused limits layout values fault.Failed = ⊥
 
--- the same of columns of this shape, and of those below them
+-- why columns of this shape, or columns below them, do not take the last of these values: too many
+-- slots, more data than offsets can address, more than a body may have, or out of memory
 abbrev pub ArePushesRefused : Limits → Shape → (ℕ → List Value) → PushFault → Type 0
 ArePushesRefused limits shape given fault.TooLong = SomeLongData shape given
     ⊎ (limits.body < length (joined (buffers_of shape given)))
@@ -129,23 +129,23 @@ ArePushesRefused limits shape given fault.TooMany = HasLongNode limits.slots sha
 ArePushesRefused limits shape given fault.OutOfMemory = ⊤
 ArePushesRefused limits shape given fault.Failed = ⊥
 
--- Columns of this shape with these values are within the limits, and their buffers take at most so
--- many bytes.
+-- columns of this shape with these values are within the limits of slots and offsets, and their
+-- buffers take at most `most` bytes
 pub record TakeAtMost (limits : Limits) (most : ℕ) (shape : Shape) (given : ℕ
     → List Value) : Type 0 where
   pub few : ¬ HasLongNode limits.slots shape given
   pub short : ¬ SomeLongData shape given
   pub bytes : length (joined (buffers_of shape given)) ≤ most
 
--- Of so many bytes these are left behind the buffers of columns, each of which is within the
--- limits.
+-- the buffers of columns with these values leave `left` of this many bytes, and each column is
+-- within the limits of slots and offsets
 pub record LeavesOf (limits : Limits) (shape : Shape) (given : ℕ → List Value)
     (bytes left : ℕ) : Type 0 where
   pub few : ¬ HasLongNode limits.slots shape given
   pub short : ¬ SomeLongData shape given
   pub rest : length (joined (buffers_of shape given)) + left ≡ bytes
 
--- why columns aren't within the limits, or their buffers not within so many bytes
+-- why columns are not within the limits, or their buffers not within this many bytes
 abbrev pub AreTooMuch : Limits → ℕ → Shape → (ℕ → List Value) → PushFault → Type 0
 AreTooMuch limits bytes shape given fault.TooLong = SomeLongData shape given
     ⊎ (bytes < length (joined (buffers_of shape given)))
@@ -153,11 +153,12 @@ AreTooMuch limits bytes shape given fault.TooMany = HasLongNode limits.slots sha
 AreTooMuch limits bytes shape given fault.OutOfMemory = ⊥
 AreTooMuch limits bytes shape given fault.Failed = ⊥
 
--- the builder was refused memory
+-- a growth of the builder's memory was refused earlier
 abbrev pub HasFailed : Builder → Type 0
 HasFailed builder = builder.failed ≡ true
 
--- a builder holds the same rows under any indices that agree on their values
+-- a builder that stores rows with some indices also stores them with any indices that agree on
+-- their values
 abbrev pub HoldsAgreeing : Type 0
 HoldsAgreeing = (known others : Numbering) (limits : Limits) (fields : List Field)
     (rows : List (List Value)) (builder : Builder) → AgreeOn known others fields rows

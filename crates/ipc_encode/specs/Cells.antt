@@ -1,4 +1,4 @@
--- The values of a column, and what each gives to the column's buffers (Arrow Columnar Format,
+-- The values of a column, and what each adds to the column's buffers (Arrow Columnar Format,
 -- "Physical Memory Layout").
 use Rattle.std.specs.Prelude.{ℕ, ◌+◌, Bool, true, false, not, List, [], ◌∷◌, ◌++◌, length}
 use Rattle.std.specs.Prelude.{replicate, slice_index_or, if◌then◌else◌, ⊤}
@@ -45,8 +45,7 @@ abbrev pub nulls : List Value → ℕ
 nulls [] = 0
 nulls (value ∷ values) = (if is_set p.Valid value then 0 else 1) + nulls values
 
--- the bits of a number, in two's complement, as an unsigned number; 0 for a value that is no
--- number
+-- the bits of a number, in two's complement, as an unsigned number; 0 for any other value
 abbrev pub bits_in : Value-F Value → ℕ
 bits_in (Value-F.Int number) = cast_unsigned w64 number
 bits_in (Value-F.UInt number) = number
@@ -58,7 +57,7 @@ bytes_in (Value-F.Bytes bytes) = bytes
 bytes_in (Value-F.Text text) = text
 bytes_in _ = []
 
--- the bytes of a fixed width; zeros for a null value
+-- the bytes of a binary value; `width` zeros for any other value
 abbrev pub fixed_in : ℕ → Value-F Value → List ℕ
 fixed_in width (Value-F.Bytes bytes) = bytes
 fixed_in width _ = replicate width 0
@@ -77,7 +76,7 @@ part_in j _ = v.Null
 abbrev pub items : Value → List Value
 items value = items_in (out-Value value)
 
--- part j of a struct; null where there is none
+-- part j of a struct; null if there is none
 abbrev pub part : ℕ → Value → Value
 part j value = part_in j (out-Value value)
 
@@ -86,12 +85,12 @@ abbrev pub all_items : List Value → List Value
 all_items [] = []
 all_items (value ∷ values) = items value ++ all_items values
 
--- the items of a list; so many nulls of any other value
+-- the items of a list; `size` nulls for any other value
 abbrev pub fixed_items_in : ℕ → Value-F Value → List Value
 fixed_items_in size (Value-F.List items) = items
 fixed_items_in size _ = replicate size v.Null
 
--- the items of a list; so many nulls of any other value
+-- the items of a list; `size` nulls for any other value
 abbrev pub fixed_items : ℕ → Value → List Value
 fixed_items size value = fixed_items_in size (out-Value value)
 
@@ -105,7 +104,7 @@ abbrev pub all_parts : ℕ → List Value → List Value
 all_parts j [] = []
 all_parts j (value ∷ values) = part j value ∷ all_parts j values
 
--- the bits of a number, in two's complement where it is signed; of any other value none is set
+-- the bits of a number, in two's complement if it is signed; 0 for any other value
 abbrev pub number_bits : Value → ℕ
 number_bits value = bits_in (out-Value value)
 
@@ -113,12 +112,12 @@ number_bits value = bits_in (out-Value value)
 abbrev pub content : Value → List ℕ
 content value = bytes_in (out-Value value)
 
--- the bytes of a binary value; so many zeros of any other value
+-- the bytes of a binary value; `width` zeros for any other value
 abbrev pub fixed : ℕ → Value → List ℕ
 fixed width value = fixed_in width (out-Value value)
 
--- a number's low bytes, the lowest first (Arrow Columnar Format, "Byte Order"), the bytes of one
--- width, or those of any length
+-- the bytes of one slot: a number's low bytes, lowest first (Arrow Columnar Format, "Byte Order"),
+-- the bytes of a fixed width, or those of any length
 abbrev pub slot_bytes : ValueSlot → Value → List ℕ
 slot_bytes (p.Number bits) value = bytes_low_first 0 (number_bytes bits) (number_bits value)
 slot_bytes (p.Fixed width) value = fixed width value
@@ -129,27 +128,27 @@ abbrev pub slots : ValueSlot → List Value → List ℕ
 slots which [] = []
 slots which (value ∷ values) = slot_bytes which value ++ slots which values
 
--- how long the run of a value is
+-- the length of a value's slot: in bytes, or in items of a list
 abbrev pub extent : Run → Value → ℕ
 extent p.Bytes value = length (content value)
 extent p.Items value = length (items value)
 
--- where the slots of values end, the first of them beginning at a start: numbers of 32 bits
+-- the places where the slots of values end, if the first begins at `start`, as 32-bit numbers
 abbrev pub ends : Run → ℕ → List Value → List ℕ
 ends run start [] = []
 ends run start (value ∷ values) = bytes_low_first 0 4 (start + extent run value)
     ++ ends run (start + extent run value) values
 
--- 0, and where each slot ends (Arrow Columnar Format, "Variable-size Binary Layout",
--- "Variable-size List Layout")
+-- the offsets: 0, and the place where each slot ends (Arrow Columnar Format, "Variable-size Binary
+-- Layout", "Variable-size List Layout")
 abbrev pub offsets : Run → List Value → List ℕ
 offsets run values = bytes_low_first 0 4 0 ++ ends run 0 values
 
--- a text is UTF-8; other values aren't asked
+-- a text is UTF-8; any other value is accepted
 abbrev pub SpellsOut : Value-F Value → Type 0
 SpellsOut (Value-F.Text text) = IsUtf8 text
 SpellsOut _ = ⊤
 
--- a text is UTF-8 (Schema.fbs, Utf8)
+-- a text is UTF-8 (Schema.fbs, Utf8); any other value is accepted
 abbrev pub HasUtf8 : Value → Type 0
 HasUtf8 value = SpellsOut (out-Value value)

@@ -14,7 +14,7 @@ use Rattle.ipc_encode.specs.Cells.{flags, nulls, content, fixed, items, slots, o
 use Rattle.ipc_encode.specs.Buffers.{validity, piece_bytes}
 use Rattle.ipc_encode.specs.Numbers.{Numbering, indices_of}
 
--- the bytes of a validity bitmap, none where no value is null
+-- the bytes of a validity bitmap, or none if no value is null
 abbrev pub validity_bytes : List Value → List ℕ
 validity_bytes values = piece_bytes (validity (nulls values)) values
 
@@ -42,8 +42,7 @@ offsets_in l.Structs values = []
 offsets_in (l.FixedLists size) values = []
 offsets_in (l.Indices bits signed id) values = []
 
--- the bytes of the values in a column of this layout; of indices it has the numbers and no bytes
--- yet
+-- the bytes of the values in a column of this layout; none for indices, which are stored as numbers
 abbrev pub values_in : Layout → List Value → List ℕ
 values_in l.Null values = []
 values_in l.Bits values = bitmap (flags True values)
@@ -55,7 +54,7 @@ values_in l.Structs values = []
 values_in (l.FixedLists size) values = []
 values_in (l.Indices bits signed id) values = []
 
--- the indices of the values in a column of indices
+-- the indices of the values, if the column is one of indices
 abbrev pub indices_in : Numbering → Layout → List Value → List (Option ℕ)
 indices_in indices (l.Indices bits signed id) values = indices_of (indices id) values
 indices_in indices l.Null values = []
@@ -81,39 +80,39 @@ datum l.Structs value = 0
 datum (l.FixedLists size) value = 0
 datum (l.Indices bits signed id) value = number_bytes bits
 
--- how much the values of a column are: so many bytes, or so many items of lists; bits and slots
--- without data are counted by their slots alone
+-- how much data the values of a column are: bytes, or items of lists; bits and slots without data
+-- count as 0
 abbrev pub data_in : Layout → List Value → ℕ
 data_in layout [] = 0
 data_in layout (value ∷ values) = datum layout value + data_in layout values
 
--- the bytes that packed bits take
+-- how many bytes n packed bits take
 abbrev pub bits_length : ℕ → ℕ
 bits_length n = (n + 7) / 8
 
--- the bytes of a buffer with its padding
+-- how many bytes a buffer of n bytes takes with its padding
 abbrev pub padded_length : ℕ → ℕ
 padded_length n = n + (8 - n % 8) % 8
 
--- the bytes of a validity bitmap of so many slots, of which so many are null
+-- how many bytes the validity bitmap of `count` slots takes; `null_count` of them are null
 abbrev pub validity_length : Layout → ℕ → ℕ → ℕ
 validity_length l.Null count null_count = 0
 validity_length _ count null_count = if null_count == 0 then 0 else bits_length count
 
--- the bytes of the offsets of so many slots
+-- how many bytes the offsets of `count` slots take
 abbrev pub offsets_length : Layout → ℕ → ℕ
 offsets_length (l.VariableBytes utf8) count = 4 * (count + 1)
 offsets_length l.Lists count = 4 * (count + 1)
 offsets_length _ count = 0
 
--- the bytes of a column's buffers in a body: so many slots, of which so many are null, and so many
--- bytes of values
+-- how many bytes a column's buffers take in a body: `count` slots, `null_count` of them null, and
+-- `value_bytes` bytes of values
 abbrev pub column_length : Layout → ℕ → ℕ → ℕ → ℕ
 column_length layout count null_count value_bytes =
     padded_length (validity_length layout count null_count)
     + padded_length (offsets_length layout count) + padded_length value_bytes
 
--- the bytes of a column's values: so many slots, with so much data
+-- how many bytes a column's values take: `count` slots with this amount of data
 abbrev pub values_length : Layout → ℕ → ℕ → ℕ
 values_length (l.Numbers bits signed) count amount = amount
 values_length (l.FixedBytes width) count amount = amount
@@ -125,7 +124,7 @@ values_length l.Structs count amount = 0
 values_length (l.FixedLists size) count amount = 0
 values_length (l.Indices bits signed id) count amount = amount
 
--- so much data is more than offsets reach
+-- this amount of data is more than 32-bit offsets can address
 abbrev pub PassesOffsets : Layout → ℕ → Type 0
 PassesOffsets (l.VariableBytes utf8) amount = max_data < amount
 PassesOffsets l.Lists amount = max_data < amount

@@ -1,5 +1,5 @@
--- The numbers of one column without children, whose values are counted and not kept (Arrow Columnar
--- Format, "Array lengths").
+-- The counts of one column without children whose values are counted and not stored
+-- (Arrow Columnar Format, "Array lengths").
 use Rattle.std.specs.Prelude.{◌≡◌, List, [], ◌∷◌, map}
 use Rattle.ipc_model.specs.declared.limits.Limits.{Limits}
 use Rattle.ipc_model.specs.declared.schema.Field.{Field}
@@ -14,8 +14,8 @@ use Rattle.ipc_encode.specs.Limits.{IsWithin}
 abbrev pub as_rows : List Value → List (List Value)
 as_rows values = map (λ v. v ∷ []) values
 
--- The fields are one column without children, and these are its numbers with these rows, which are
--- within the limits (Arrow Columnar Format, "Array lengths").
+-- the fields are one column without children, and these are its counts with these rows, which are
+-- within the limits (Arrow Columnar Format, "Array lengths")
 pub record CountsRows (limits : Limits) (fields : List Field) (rows : List (List Value))
     (column : CountedColumn) : Type 0 where
   pub shape : shape_of fields ≡ field column.layout bare bare

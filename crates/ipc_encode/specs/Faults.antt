@@ -1,10 +1,11 @@
--- Why a row isn't taken, as a fault of the writer.
+-- Why a row is not taken, as a fault of the writer.
 use Rattle.ipc_model.specs.declared.fault.WriteFault.{WriteFault}
 use Rattle.ipc_model.specs.declared.fault.WriteFault.TheVariants as w
 use Rattle.ipc_encode.specs.declared.fault.PushFault.{PushFault}
 use Rattle.ipc_encode.specs.declared.fault.PushFault.TheVariants as p
 
--- too much data, too many slots, a refused growth, or a failure before
+-- the writer's fault for a value that was not taken: too much data, too many slots, a refused
+-- growth, or an earlier failure
 abbrev pub write_fault : PushFault → WriteFault
 write_fault p.TooLong = w.TooLong
 write_fault p.TooMany = w.TooManyRows

@@ -1,4 +1,4 @@
--- What is asked of the indices of values (Arrow Columnar Format, "Dictionary-encoded Layout").
+-- Properties of the indices of values (Arrow Columnar Format, "Dictionary-encoded Layout").
 use Rattle.std.specs.Prelude.{◌≡◌, ℕ, suc, ℤ, pos, Bool, true, false, List, Some, slice_get, ⊤}
 use Rattle.std.specs.List.{AllByRecursion}
 use Rattle.ipc_model.specs.Ranges.{width, IsSignedWithin, IsUnsignedWithin}
@@ -14,8 +14,8 @@ use Rattle.ipc_encode.specs.Cells.{is_set}
 use Rattle.ipc_encode.specs.Buffers.{below, columns}
 use Rattle.ipc_encode.specs.Numbers.{Numbering}
 
--- something is asked of each value other than null in a column of indices, by their width and sign
--- and the dictionary's id; of the values of other columns nothing is
+-- `Asked` holds for each value other than null in a column of indices, with their width and sign
+-- and the dictionary's id; nothing is stated for other columns
 abbrev pub InColumn : (IntBits → Bool → ℤ → Value → Type 0) → Layout → List Value → Type 0
 InColumn Asked (l.Indices bits signed id) values =
     AllByRecursion (λ value. is_set Valid value ≡ true → Asked bits signed id value) values
@@ -28,13 +28,13 @@ InColumn Asked l.Lists values = ⊤
 InColumn Asked (l.FixedLists size) values = ⊤
 InColumn Asked l.Structs values = ⊤
 
--- the same of each column, and of each below it
+-- `Asked` holds for the indices of each column and each column below it (`InColumn`)
 abbrev pub InColumns : (IntBits → Bool → ℤ → Value → Type 0) → Shape → (ℕ → List Value) → Type 0
 InColumns Asked bare given = ⊤
 InColumns Asked (field l children rest) given = InColumn Asked l (given 0)
     × (InColumns Asked children (below l (given 0)) × InColumns Asked rest (λ j. given (suc j)))
 
--- the same of the columns of rows
+-- `Asked` holds for the indices of the columns of rows (`InColumn`)
 abbrev pub InRows : (IntBits → Bool → ℤ → Value → Type 0) → List Field → List (List Value) → Type 0
 InRows Asked fields rows = InColumns Asked (shape_of fields) (columns rows)
 
@@ -43,17 +43,17 @@ abbrev pub IsIndexWithin : IntBits → Bool → ℕ → Type 0
 IsIndexWithin bits true i = IsSignedWithin (width bits) (pos i)
 IsIndexWithin bits false i = IsUnsignedWithin (width bits) i
 
--- an index is one of its type and finds the value among those of its dictionary
+-- the index of a value fits its type, and the value is at this index of its dictionary
 pub record Finds (m : Dictionaries) (indices : Numbering) (bits : IntBits) (signed : Bool) (id : ℤ)
     (value : Value) : Type 0 where
   pub within : IsIndexWithin bits signed (indices id value)
   pub found : slice_get (values_for m id) (indices id value) ≡ Some value
 
--- under these dictionaries the index of each value in the rows finds it
+-- under these dictionaries, each dictionary value of the rows is at its index
 abbrev pub FindsRows : Dictionaries → Numbering → List Field → List (List Value) → Type 0
 FindsRows m indices = InRows (Finds m indices)
 
--- the same index is told of each value in the rows
+-- both numberings give each dictionary value of the rows the same index
 abbrev pub AgreeOn : Numbering → Numbering → List Field → List (List Value) → Type 0
 AgreeOn indices others =
     InRows (λ bits signed id value. indices id value ≡ others id value)

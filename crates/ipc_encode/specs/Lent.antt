@@ -1,9 +1,9 @@
--- Columns that are taken as their slots are lent.
+-- Columns that are taken directly from lent slots.
 use Rattle.std.specs.Prelude.{Bool, true, false}
 use Rattle.ipc_model.specs.declared.layout.Layout.{Layout}
 use Rattle.ipc_model.specs.declared.layout.Layout.TheVariants as l
 
--- the slots have nothing, or bits, or bytes
+-- columns of this layout are taken directly from lent slots: slots without content, bits, or bytes
 abbrev pub is_lent : Layout → Bool
 is_lent l.Null = true
 is_lent l.Bits = true

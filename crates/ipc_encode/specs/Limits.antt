@@ -20,13 +20,13 @@ HasLongNode most (field l children rest) given =
     (most < length (given 0)) ⊎ (HasLongNode most children (below l (given 0))
     ⊎ HasLongNode most rest (λ j. given (suc j)))
 
--- more rows than the limits allow a length, or more slots in a list's child
+-- there are more rows than the limits allow, or more slots in a column or one below it
 abbrev pub IsTooMany : Limits → List Field → List (List Value) → Type 0
 IsTooMany limits fields rows =
     (limits.slots < length rows) ⊎ HasLongNode limits.slots (shape_of fields) (columns rows)
 
--- more bytes, or more items of lists, than an offset of 32 bits counts (Arrow Columnar Format,
--- "Variable-size Binary Layout", "Variable-size List Layout")
+-- there are more bytes, or more items of lists, than a 32-bit offset can address
+-- (Arrow Columnar Format, "Variable-size Binary Layout", "Variable-size List Layout")
 abbrev pub HasLongData : Layout → List Value → Type 0
 HasLongData (l.VariableBytes utf8) values = max_data < length (slots Content values)
 HasLongData l.Null values = ⊥
@@ -38,14 +38,14 @@ HasLongData l.Structs values = ⊥
 HasLongData (l.FixedLists size) values = ⊥
 HasLongData (l.Indices bits signed id) values = ⊥
 
--- one of the columns has, or one below it
+-- one of the columns, or a column below it, has more data than offsets can address (`HasLongData`)
 abbrev pub SomeLongData : Shape → (ℕ → List Value) → Type 0
 SomeLongData bare given = ⊥
 SomeLongData (field l children rest) given =
     HasLongData l (given 0) ⊎ (SomeLongData children (below l (given 0))
     ⊎ SomeLongData rest (λ j. given (suc j)))
 
--- a binary or UTF-8 column or a list has more than its offsets reach, or the body would be too long
+-- a column has more data than its offsets can address, or the body would be too long
 abbrev pub IsTooLong : Limits → List Field → List (List Value) → Type 0
 IsTooLong limits fields rows = SomeLongData (shape_of fields) (columns rows)
     ⊎ (limits.body < length (body_of fields rows))
@@ -56,7 +56,7 @@ pub record IsWithin (limits : Limits) (fields : List Field) (rows : List
   pub few : ¬ IsTooMany limits fields rows
   pub short : ¬ IsTooLong limits fields rows
 
--- why rows aren't written: W6 and W8 with their cause, or out of memory
+-- why rows are not written: W6 or W8 with its cause, or out of memory
 abbrev pub IsRefused : Limits → List Field → List (List Value) → WriteFault → Type 0
 IsRefused limits fields rows fault.TooLong = IsTooLong limits fields rows
 IsRefused limits fields rows fault.TooManyRows = IsTooMany limits fields rows

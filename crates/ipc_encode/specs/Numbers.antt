@@ -1,5 +1,4 @@
--- The numbers under which the values of dictionaries are known (Arrow Columnar Format,
--- "Dictionary-encoded Layout").
+-- The numbers that dictionary values have (Arrow Columnar Format, "Dictionary-encoded Layout").
 use Rattle.std.specs.Prelude.{ℕ, ℤ, Option, Some, None, List, map}
 use Rattle.ipc_model.specs.declared.value.Value.{Value, out-Value}
 use Rattle.ipc_model.specs.declared.value.Value.TheOpen.{Value-F}
@@ -9,25 +8,25 @@ use Rattle.ipc_model.specs.declared.value.Value.TheVariants as v
 abbrev pub Numbering : Type 0
 Numbering = ℤ → Value → ℕ
 
--- the number that stands in another's place, where there is one; otherwise the other
+-- the first number, if there is one; otherwise the other
 abbrev pub number_or : Option ℕ → ℕ → ℕ
 number_or (Some number) other = number
 number_or None other = other
 
--- the index that is told of each value, 0 where none is
+-- the index of each value, or 0 if it has none
 abbrev pub told : (ℤ → Value → Option ℕ) → Numbering
 told index id value = number_or (index id value) 0
 
--- each index changed to the number that stands in its place
+-- each index replaced by its new number, if it has one
 abbrev pub renumbered : (ℤ → ℕ → Option ℕ) → Numbering → Numbering
 renumbered number indices id value = number_or (number id (indices id value)) (indices id value)
 
--- the index of a value that isn't null
+-- i, as the index of a value other than null; null has none
 abbrev pub index_in : ℕ → Value-F Value → Option ℕ
 index_in i Value-F.Null = None
 index_in i _ = Some i
 
--- the index of a value, none of null: a null slot has no index
+-- the index of a value; null has none
 abbrev pub index_of : (Value → ℕ) → Value → Option ℕ
 index_of indices value = index_in (indices value) (out-Value value)
 
@@ -35,7 +34,7 @@ index_of indices value = index_in (indices value) (out-Value value)
 abbrev pub indices_of : (Value → ℕ) → List Value → List (Option ℕ)
 indices_of indices values = map (index_of indices) values
 
--- an index as the number that its slot holds, null where there is none
+-- an index as the number that its slot holds, or null if there is none
 abbrev pub as_number : Option ℕ → Value
 as_number (Some i) = v.UInt i
 as_number None = v.Null
@@ -44,11 +43,11 @@ as_number None = v.Null
 abbrev pub numbers_of : (Value → ℕ) → List Value → List Value
 numbers_of indices values = map as_number (indices_of indices values)
 
--- one index changed to the number that stands in its place
+-- one index replaced by its new number, if it has one
 abbrev pub changed : (ℕ → Option ℕ) → Option ℕ → Option ℕ
 changed number (Some i) = Some (number_or (number i) i)
 changed number None = None
 
--- the indices where none is told
+-- the numbering with index 0 for every value
 abbrev pub no_indices : Numbering
 no_indices id value = 0

@@ -1,26 +1,26 @@
--- What the buffers of a column hold (Arrow Columnar Format, "Buffer Listing for Each Layout").
+-- The content of the buffers of a column (Arrow Columnar Format, "Buffer Listing for Each Layout").
 use Rattle.std.specs.Prelude.{ℕ}
 use Rattle.ipc_model.specs.declared.schema.IntBits.{IntBits}
 
--- a bit of a value that is packed with those of others: that it isn't null, or that it is true
+-- a value's bit in a bitmap: that the value is not null, or that it is true
 pub data Flag : Type 0 where
   Valid : Flag
   True : Flag
 
--- what a value gives to its column's buffer of values: its number of a width, so many bytes, or its
--- bytes, whatever their number
+-- what a value adds to its column's buffer of values: a number of some width, a fixed number of
+-- bytes, or any number of bytes
 pub data ValueSlot : Type 0 where
   Number : IntBits → ValueSlot
   Fixed : ℕ → ValueSlot
   Content : ValueSlot
 
--- what a slot of any length is a run of: bytes, or values of the one child
+-- what offsets count in a slot of variable length: bytes, or values of the one child
 pub data Run : Type 0 where
   Bytes : Run
   Items : Run
 
--- what one buffer of a column holds: nothing, as a validity bitmap where no value is null; a bit of
--- each value; a slot for each value; or where slots of different lengths begin and end
+-- the content of one buffer: nothing, for an absent validity bitmap; one bit for each value; one
+-- slot for each value; or the offsets of slots
 pub data Piece : Type 0 where
   Absent : Piece
   Flags : Flag → Piece

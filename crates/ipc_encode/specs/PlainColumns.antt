@@ -1,4 +1,4 @@
--- Columns whose values fit a field by how they lie (Schema.fbs, union Type).
+-- Columns whose values fit a field because of their layout alone (Schema.fbs, union Type).
 use Rattle.std.specs.Prelude.{◌≡◌, Bool, true, false}
 use Rattle.ipc_model.specs.declared.layout.Layout.{Layout}
 use Rattle.ipc_model.specs.declared.layout.Layout.TheVariants.{Null}
@@ -7,8 +7,9 @@ use Rattle.ipc_model.specs.declared.schema.DataType.TheVariants as t
 use Rattle.ipc_model.specs.declared.schema.DateUnit.TheVariants.{Day, Millisecond}
 use Rattle.ipc_column.specs.Dictionaries.{stands_alone}
 
--- a type of which slots of its layout show nothing but its values; a date in milliseconds has to be
--- a whole day, a time below 24 hours, and lists and structs have values of children
+-- every value that a slot of the type's layout can have is one of the type. This is not so for a
+-- date in milliseconds (a whole day) or a time (below 24 hours); the null type and types with
+-- children are not plain
 abbrev pub is_plain : DataType → Bool
 is_plain t.Bool = true
 is_plain (t.Int bits signed) = true
@@ -25,7 +26,8 @@ is_plain t.List = false
 is_plain (t.FixedSizeList size) = false
 is_plain t.Struct = false
 
--- The values lie in the column itself, one in each valid slot.
+-- the layout stores its values itself, one in each valid slot: it is not nested, of indices, or
+-- null
 pub record LiesPlainly (layout : Layout) : Type 0 where
   pub alone : stands_alone layout ≡ true
   pub some : ¬ (layout ≡ Null)

@@ -1,5 +1,5 @@
--- What writing says of columns, and of buffers that are joined (Arrow Columnar Format, "Physical
--- Memory Layout").
+-- What is written for columns, and buffers that are joined (Arrow Columnar Format, "Physical Memory
+-- Layout").
 use Rattle.std.specs.Prelude.{◌≡◌, ℕ, suc, List, ◌++◌, length, ⊤}
 use Rattle.std.specs.List.{AllByRecursion}
 use Rattle.ipc_model.specs.declared.schema.Field.{Field}
@@ -13,7 +13,7 @@ use Rattle.ipc_encode.specs.Buffers.{below, joined, ranges_from, row_nodes}
 use Rattle.ipc_encode.specs.Buffers.{row_buffers_with, body_with}
 use Rattle.ipc_encode.specs.Numbers.{Numbering}
 
--- the texts of a column are UTF-8
+-- the texts in a column of variable length are UTF-8; nothing is stated for other layouts
 abbrev pub AreStored : Layout → List Value → Type 0
 AreStored (l.VariableBytes utf8) values = AllByRecursion HasUtf8 values
 AreStored l.Null values = ⊤
@@ -25,19 +25,19 @@ AreStored l.Structs values = ⊤
 AreStored (l.FixedLists size) values = ⊤
 AreStored (l.Indices bits signed id) values = ⊤
 
--- the same of each column, and of each below it
+-- the texts of each column and each column below it are UTF-8 (`AreStored`)
 abbrev pub AllStored : Shape → (ℕ → List Value) → Type 0
 AllStored bare given = ⊤
 AllStored (field l children rest) given =
     AreStored l (given 0) × (AllStored children (below l (given 0))
     × AllStored rest (λ j. given (suc j)))
 
--- these buffers came behind the others
+-- the draft has these buffers more, after those it had
 pub record Adds (old new : Draft) (bs : List (List ℕ)) : Type 0 where
   pub buffers : new.buffers.items ≡ old.buffers.items ++ ranges_from (length old.body.items) bs
   pub body : new.body.items ≡ old.body.items ++ joined bs
 
--- these are the nodes, the buffers and the body of the rows with their indices
+-- the draft has the nodes, the buffers and the body of the rows with these indices
 pub record IsDrafted (indices : Numbering) (fields : List Field) (rows : List (List Value))
     (draft : Draft) : Type 0 where
   pub nodes : draft.nodes.items ≡ row_nodes fields rows

@@ -1,31 +1,31 @@
--- What contracts see of a reader's values, and what its accessors answer of them (FlatBuffers
--- binary format, "Tables").
+-- The values of the reader's types, and the results of its accessors (FlatBuffers binary format,
+-- "Tables").
 use Rattle.std.specs.Prelude.{ℕ, ◌≡◌, ◌+◌, ◌≤◌, length, List, Option, None, Some, Result, Ok, Err}
 use Rattle.ipc_scalar.specs.Bytes.{num}
 use Rattle.ipc_scalar.specs.declared.fault.FlatFault.{FlatFault}
 use Rattle.ipc_scalar.specs.Faulty.{◌>>=◌, where_some}
 use Rattle.ipc_scalar.specs.Flat.{vtable_of, slot_of, table_of, elements_of}
 
--- a table: the bytes, and its place in them
+-- a table: the bytes, and the table's place in them
 pub record TableView : Type 0 where
   pub bytes : List ℕ
   pub at : ℕ
 
--- a vector of offsets: the bytes, the place of the first, and how many there are
+-- a vector of offsets: the bytes, the place of the first offset, and how many there are
 pub record Elements : Type 0 where
   pub bytes : List ℕ
   pub at : ℕ
   pub len : ℕ
 
--- a vector of structs: the bytes, the place of the first, how many there are, and the width of each
--- in bytes
+-- a vector of structs: the bytes, the place of the first struct, how many there are, and the width
+-- of each in bytes
 pub record Structs : Type 0 where
   pub bytes : List ℕ
   pub at : ℕ
   pub len : ℕ
   pub width : ℕ
 
--- FlatBuffers binary format, "Tables": the table at t, where its vtable stands
+-- FlatBuffers binary format, "Tables": the table at t, if it has a vtable
 unfoldable pub table_at : List ℕ → ℕ → Result TableView FlatFault
 table_at b t = vtable_of b t >>= λ v. Ok (record { bytes = b; at = t })
 
@@ -33,38 +33,40 @@ table_at b t = vtable_of b t >>= λ v. Ok (record { bytes = b; at = t })
 unfoldable pub table_from : List ℕ → ℕ → Result TableView FlatFault
 table_from b p = table_of b p >>= λ t. Ok (record { bytes = b; at = t })
 
--- what stands at the place of a field that is there, and x for one that is absent
+-- the value read at a field's place, or the default x if the field is absent
 abbrev pub or_default : {X : Type 0} → (ℕ → X) → X → Option ℕ → X
 or_default read x None = x
 or_default read x (Some p) = read p
 
--- "Tables": the number of w bytes in field k, as `read` reads it at a place, or the default x where
--- the field is absent
+-- "Tables": the number of w bytes in field k, which `read` reads at the field's place, or the
+-- default x if the field is absent
 unfoldable pub scalar : {X : Type 0} → TableView → ℕ → ℕ → (List ℕ → ℕ → X) → X → Result X FlatFault
 scalar t k w read x = slot_of t.bytes t.at k w >>= λ o. Ok (or_default (read t.bytes) x o)
 
--- "Tables": what f says of the place of field k, which holds an offset of four bytes; an absent
--- field stays absent
+-- "Tables": f applied to the place of field k, which holds a four-byte offset; an absent field
+-- stays absent
 unfoldable pub field : {X : Type 0} → TableView → ℕ → (List ℕ → ℕ → Result X FlatFault)
     → Result (Option X) FlatFault
 field t k f = slot_of t.bytes t.at k 4 >>= where_some (f t.bytes)
 
--- "Strings and Vectors": the vector of offsets to which the offset at p points
+-- "Strings and Vectors": the vector of elements, each of `width` bytes, to which the offset at p
+-- points
 unfoldable pub elements_from : ℕ → List ℕ → ℕ → Result Elements FlatFault
 elements_from width b p =
     elements_of b p width >>= λ e. Ok (record { bytes = b; at = e.0; len = e.1 })
 
--- "Structs": the vector of structs, each of one width, to which the offset at p points
+-- "Structs": the vector of structs, each of `width` bytes, to which the offset at p points
 unfoldable pub structs_from : ℕ → List ℕ → ℕ → Result Structs FlatFault
 structs_from width b p = elements_of b p width
     >>= λ e. Ok (record { bytes = b; at = e.0; len = e.1; width = width })
 
--- the answer is what a call returned, its value seen by `view`
+-- what a call returned, its value mapped by `view`, is this answer
 abbrev pub IsAnswer : {X Y : Type 0} → (X → Y) → Result X FlatFault → Result Y FlatFault → Type 0
 IsAnswer view (Ok x) answer = answer ≡ Ok (view x)
 IsAnswer view (Err e) answer = answer ≡ Err e
 
--- a table stands at t, and its vtable of so many bytes at v; both begin inside the bytes
+-- there is a table at t with its vtable of `size` bytes at v; the table's first 4 bytes and the
+-- whole vtable are inside the bytes
 pub record Stands (b : List ℕ) (t v size : ℕ) : Type 0 where
   pub found : vtable_of b t ≡ Ok v
   pub stated : size ≡ num b v 2

@@ -1,5 +1,5 @@
--- The bytes that came of one message, in its three parts (Arrow Columnar Format, "Encapsulated
--- message format").
+-- The bytes of one message that have come so far, in its three parts (Arrow Columnar Format,
+-- "Encapsulated message format").
 use Rattle.std.specs.Prelude.{◌≡◌, ℕ, ◌-◌, ◌<◌, ◌≤◌, List, [], ◌++◌, length, take, Result, Ok, Err}
 use Rattle.ipc_meta.specs.declared.head.Head.{Head}
 use Rattle.ipc_meta.specs.Heads.{HeadOf}
@@ -15,7 +15,7 @@ use Rattle.ipc_frame.specs.declared.parts.Awaited.TheVariants as awaited
 use Rattle.ipc_frame.specs.declared.decision.Decision.{Decision}
 use Rattle.ipc_frame.specs.declared.decision.Decision.TheVariants as decision
 
--- all bytes that came
+-- all bytes that have come
 abbrev pub bytes_of : Parts → List ℕ
 bytes_of p = p.start.items ++ (p.meta.items ++ came_in p.body)
 
@@ -26,13 +26,13 @@ wanted_of p awaited.Size = 8 - length p.start.items
 wanted_of p (awaited.Metadata size) = size - length p.meta.items
 wanted_of p (awaited.Body size) = size - length (came_in p.body)
 
--- the mark comes: at most four bytes, and nothing behind them
+-- the mark is being read: at most four bytes have come, none of them of the metadata or the body
 pub record InMark (start meta body : List ℕ) : Type 0 where
   pub few : length start ≤ 4
   pub no_metadata : meta ≡ []
   pub no_body : body ≡ []
 
--- the size comes: the mark is there, and at most eight bytes
+-- the size is being read: the mark is complete, and at most eight bytes have come
 pub record InSize (start meta body : List ℕ) : Type 0 where
   pub four : 4 ≤ length start
   pub few : length start ≤ 8
@@ -40,7 +40,7 @@ pub record InSize (start meta body : List ℕ) : Type 0 where
   pub no_metadata : meta ≡ []
   pub no_body : body ≡ []
 
--- the metadata comes: the first eight bytes state its size
+-- the metadata is being read: the first eight bytes state its size, which is above 0
 pub record InMetadata (limits : Limits) (start meta body : List ℕ) (size : ℕ) : Type 0 where
   pub eight : length start ≡ 8
   pub begins : Begins limits start size
@@ -48,7 +48,7 @@ pub record InMetadata (limits : Limits) (start meta body : List ℕ) (size : ℕ
   pub few : length meta ≤ size
   pub no_body : body ≡ []
 
--- the body comes: the metadata states its size
+-- the body is being read: the metadata states its size
 pub record InBody (limits : Limits) (start meta body : List ℕ) (size : ℕ) : Type 0 where
   pub eight : length start ≡ 8
   pub begins : Begins limits start (length meta)
@@ -56,7 +56,7 @@ pub record InBody (limits : Limits) (start meta body : List ℕ) (size : ℕ) : 
   pub states : HeadOf limits meta head size
   pub few : length body ≤ size
 
--- the parts in front of what is awaited are whole, and no more than that came of it
+-- the parts before the awaited one are complete, and the awaited one has at most its size
 abbrev pub Fits : Limits → Parts → Awaited → Type 0
 Fits limits p awaited.Mark = InMark p.start.items p.meta.items (came_in p.body)
 Fits limits p awaited.Size = InSize p.start.items p.meta.items (came_in p.body)
@@ -64,12 +64,12 @@ Fits limits p (awaited.Metadata size) =
     InMetadata limits p.start.items p.meta.items (came_in p.body) size
 Fits limits p (awaited.Body size) = InBody limits p.start.items p.meta.items (came_in p.body) size
 
--- nothing is decided: more of what is awaited has to come
+-- nothing is decided: more of the awaited part has to come
 pub record Undecided (limits : Limits) (p : Parts) (a : Awaited) : Type 0 where
   pub fits : Fits limits p a
   pub pending : Pending limits (bytes_of p) (wanted_of p a)
 
--- what the bytes that came say: nothing yet, the end mark, a message, or a refusal
+-- the decision on the bytes that have come: none yet, the end mark, a message, or a refusal
 abbrev pub Decides : Limits → Parts → Result Decision Fault → Type 0
 Decides limits p (Ok (decision.More a)) = Undecided limits p a
 Decides limits p (Ok decision.End) = bytes_of p ≡ eos

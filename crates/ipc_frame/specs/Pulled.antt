@@ -1,4 +1,4 @@
--- Messages whose bytes are taken from a source (Arrow Columnar Format, "Encapsulated message
+-- Messages whose bytes are read from a source (Arrow Columnar Format, "Encapsulated message
 -- format").
 use Rattle.std.specs.Prelude.{◌≡◌, ℕ, ◌+◌, ◌≤◌, List, [], ◌++◌, length, take, drop, Option, None}
 use Rattle.std.specs.Prelude.{Result, Ok, Err}
@@ -16,7 +16,7 @@ use Rattle.ipc_frame.specs.declared.parts.Parts.{Parts}
 use Rattle.ipc_frame.specs.declared.step.Step.{Step}
 use Rattle.ipc_frame.specs.declared.step.Step.TheVariants.{More, Whole}
 
--- k bytes came to a list behind its first bytes, and none only at the source's end
+-- k bytes were read into a list after its first `start` bytes; k is 0 only at the source's end
 pub record Behind (old new : Option (List ℕ)) (list_old list_new : List ℕ)
     (start k : ℕ) : Type 0 where
   pub fits : start + k ≤ length list_new
@@ -24,8 +24,8 @@ pub record Behind (old new : Option (List ℕ)) (list_old list_new : List ℕ)
   pub bytes : Consumes old new (take k (drop start list_new))
   pub at_end : k ≡ 0 → IsAtEnd new
 
--- k bytes came behind those of a list, at most as many as were wanted, and none only at the
--- source's end
+-- k bytes were read and appended to a list, at most the wanted number; k is 0 only at the source's
+-- end
 pub record Comes (old new : Option (List ℕ)) (list_old list_new : List ℕ)
     (wanted k : ℕ) : Type 0 where
   pub came : List ℕ
@@ -35,8 +35,9 @@ pub record Comes (old new : Option (List ℕ)) (list_old list_new : List ℕ)
   pub bytes : Consumes old new came
   pub at_end : k ≡ 0 → IsAtEnd new
 
--- what came behind the bytes z is kept and undecided, or makes a frame, or is refused at its last
--- byte; nothing came only at the source's end
+-- the result of the bytes that came after z: all are stored and undecided, or they complete a
+-- frame, or they are refused at their last byte. In the first case, none came only at the source's
+-- end
 abbrev pub GivesOn : Limits → List ℕ → List ℕ → Option (List ℕ) → Parts → Result Step Fault
     → Type 0
 GivesOn limits z came left p (Ok (More a)) =
@@ -45,7 +46,8 @@ GivesOn limits z came left p (Ok (Whole frame)) = IsWhole limits (z ++ came) p f
 GivesOn limits z came left p (Err fault) =
     UnlessOutside fault (RefusesNow limits (z ++ came) fault)
 
--- what was taken behind the bytes z, of which no byte was not wanted, and what it makes
+-- `count` bytes were read after z, at most the number up to the next decision, and the result is
+-- theirs
 pub record ReadsOn (limits : Limits) (old new : Option (List ℕ)) (z : List ℕ) (p : Parts)
     (count : ℕ) (r : Result Step Fault) : Type 0 where
   pub came : List ℕ
@@ -56,7 +58,7 @@ pub record ReadsOn (limits : Limits) (old new : Option (List ℕ)) (z : List ℕ
   pub bytes : Consumes old new came
   pub gives : GivesOn limits z came new p r
 
--- of the bytes that came `feed` would answer this; a refusal comes with the last of them
+-- the result is what `feed` returns for the bytes that came; a refusal comes at the last of them
 abbrev pub Gives : Limits → Progress → List ℕ → Progress → Result (Option Framed) Fault → Type 0
 Gives limits before came after (Ok found) =
     Feeds limits before came after (Ok (length came, found))
@@ -64,18 +66,20 @@ Gives limits (taking z) came after (Err fault) =
     (after ≡ refused) × UnlessOutside fault (RefusesNow limits (z ++ came) fault)
 Gives limits before came after (Err fault) = Feeds limits before came after (Err fault)
 
--- while messages come, none comes only at the source's end
+-- a call that finds no frame while messages are awaited takes no byte only if the source is at its
+-- end
 abbrev pub EndsAt : Progress → List ℕ → Option (List ℕ) → Result (Option Framed) Fault → Type 0
 EndsAt (taking z) came left (Ok None) = came ≡ [] → IsAtEnd left
 EndsAt progress came left r = Unit {0}
 
--- no more bytes came than are wanted before the next decision, and none where no message comes
+-- at most the bytes up to the next decision came, and none if no message is awaited
 abbrev pub IsFew : Limits → Progress → List ℕ → Type 0
 IsFew limits (taking z) came = (k : ℕ) × Pending limits z k × (length came ≤ k)
 IsFew limits ended came = came ≡ []
 IsFew limits refused came = came ≡ []
 
--- so many bytes were taken of a source, none that was not wanted, and what they make
+-- `count` bytes were taken from a source, at most the number up to the next decision, and the
+-- result is theirs
 pub record Takes (limits : Limits) (old new : Option (List ℕ)) (before after : Progress)
     (count : ℕ) (r : Result (Option Framed) Fault) : Type 0 where
   pub came : List ℕ
@@ -85,7 +89,8 @@ pub record Takes (limits : Limits) (old new : Option (List ℕ)) (before after :
   pub at_end : EndsAt before came new r
   pub gives : Gives limits before came after r
 
--- the source is asked while messages come, and not behind their end or a refusal
+-- the count of failures changes as `FailsAs` states while messages are awaited; after the end or a
+-- refusal it stays
 abbrev pub FailsWhile : Progress → ℕ → ℕ → Result (Option Framed) Fault → Type 0
 FailsWhile (taking z) old new r = FailsAs old new r
 FailsWhile ended old new r = new ≡ old

@@ -1,7 +1,7 @@
--- What is printed of a device that failed.
+-- The text that is printed for a failed device.
 use Rattle.std.specs.Prelude.{ℕ, List, codes}
 use Rattle.ipc_frame.specs.declared.source.Failed.{Failed}
 
--- a failed call of a source or a sink
+-- the text for a failed call of a source or a sink
 abbrev pub failed_text : Failed → List ℕ
 failed_text failed = codes "the device failed"

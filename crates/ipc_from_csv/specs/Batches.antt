@@ -1,4 +1,4 @@
--- Rows cut into batches.
+-- Rows divided into batches.
 use Rattle.std.specs.Prelude.{◌≡◌, ℕ, ◌<◌, List, [], ◌∷◌, ◌++◌, length, flat_map}
 use Rattle.std.specs.Prelude.{None}
 use Rattle.std.specs.List.{AllByRecursion}
@@ -8,21 +8,21 @@ use Rattle.ipc_model.specs.declared.value.Value.{Value}
 use Rattle.ipc_csv.specs.RowCsv.{flat_fault}
 use Rattle.ipc_from_csv.specs.Records.{EachRecordReadsAs}
 
--- a batch without pairs that has exactly so many rows
+-- a batch without pairs that has exactly `size` rows
 pub record IsFull (size : ℕ) (b : BatchRows) : Type 0 where
   pub pairs : b.pairs ≡ []
   pub rows : length b.rows ≡ size
 
--- rows fill these batches in their order, each with exactly so many rows, and fewer than so many
--- are left over
+-- rows fill these batches in their order, each with exactly `size` rows; fewer than `size` are left
+-- over
 pub record Fill (size : ℕ) (rows : List (List Value)) (batches : List BatchRows)
     (left : List (List Value)) : Type 0 where
   pub full : AllByRecursion (IsFull size) batches
   pub few : length left < size
   pub joined : flat_map (λ b. b.rows) batches ++ left ≡ rows
 
--- each of these records reads as a row of columns that CSV has a place for, and their rows fill
--- these batches and leave these over
+-- the columns can be written as CSV, and each of these records reads as a row; the rows fill these
+-- batches, and these rows are left over
 pub record AreBatched (s : Schema) (size : ℕ) (records : List (List (List ℕ)))
     (batches : List BatchRows) (left : List (List Value)) : Type 0 where
   pub flat : flat_fault s.fields ≡ None
@@ -34,7 +34,7 @@ pub record AreBatched (s : Schema) (size : ℕ) (records : List (List (List ℕ)
 abbrev pub batch_of : List (List Value) → BatchRows
 batch_of rows = record { pairs = []; rows = rows }
 
--- the last batch, of the rows that are left over, where there are some
+-- the last batch, of the rows that are left over, if there are any
 abbrev pub last_batch : List (List Value) → List BatchRows
 last_batch [] = []
 last_batch (row ∷ rows) = batch_of (row ∷ rows) ∷ []

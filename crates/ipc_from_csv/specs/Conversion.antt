@@ -1,4 +1,4 @@
--- What becomes of an input of CSV and of the sink for its stream.
+-- What is read from an input of CSV and sent to the sink of its stream.
 use Rattle.std.specs.Prelude.{◌≡◌, ◌≢◌, ℕ, ◌+◌, List, [], ◌∷◌, ◌++◌, length, Option, Some, None}
 use Rattle.std.specs.Prelude.{Result, Ok, Err, ⊤}
 use Rattle.csv.specs.declared.reader.Reader.{Reader}
@@ -28,9 +28,9 @@ use Rattle.ipc_from_csv.specs.declared.stop.Stop.TheVariants as stop
 abbrev pub table_of : Schema → List BatchRows → Table
 table_of s batches = record { schema = s; batches = batches }
 
--- The header and all records of the input were read. What went out is the stream, with its mark, of
--- the table whose batches are their rows: each of exactly so many, but the last, which has those
--- that are left over
+-- the header and all records of the input were read, and the stream of their table was sent, with
+-- its end mark. Each batch has exactly `size` rows; a last one has the rows that are left over, if
+-- there are any
 pub record Converts (input : Option (List ℕ)) (s : Schema) (size : ℕ) (old new : Option (List ℕ))
     (failures_old failures_new : ℕ) : Type 0 where
   pub limits : Limits
@@ -44,7 +44,7 @@ pub record Converts (input : Option (List ℕ)) (s : Schema) (size : ℕ) (old n
       failures_old failures_new
 
 -- the rows of these records make a table that is accepted; its schema and the batches that they
--- fill went out, and no more
+-- fill were sent, and nothing else
 pub record SendsFull (s : Schema) (size : ℕ) (records : List (List (List ℕ)))
     (old new : Option (List ℕ)) (failures_old failures_new : ℕ) : Type 0 where
   pub limits : Limits
@@ -56,19 +56,19 @@ pub record SendsFull (s : Schema) (size : ℕ) (records : List (List (List ℕ))
   pub sent : Sent (λ x. Denotes limits x (table_of s batches) Closed) old new failures_old
       failures_new
 
--- nothing went out, and no call of the sink failed
+-- nothing was sent, and the sink's count of failures is as it was
 abbrev pub Unsent : Option (List ℕ) → Option (List ℕ) → ℕ → ℕ → Type 0
 Unsent old new failures_old failures_new = (new ≡ old) × (failures_new ≡ failures_old)
 
--- some first records of the input read as rows, and the batches that those fill went out
+-- some first records of the input read as rows, and the batches that these fill were sent
 pub record StopsBehind (input : Option (List ℕ)) (s : Schema) (size : ℕ) (old new : Option (List ℕ))
     (failures_old failures_new : ℕ) : Type 0 where
   pub records : List (List (List ℕ))
   pub there : AreFirstRecordsOf input (names s.fields ∷ records)
   pub sent : SendsFull s size records old new failures_old failures_new
 
--- why nothing goes out: the columns have no place in CSV, there is no header, it is another, or
--- memory ran out
+-- why nothing is sent: the columns cannot be written as CSV, there is no header, it names other
+-- columns, or memory ran out
 pub data RefusesHeader (input : Option (List ℕ)) (fields : List Field)
     (fault : TextFault) : Type 0 where
   columns : flat_fault fields ≡ Some fault → RefusesHeader input fields fault
@@ -78,8 +78,8 @@ pub data RefusesHeader (input : Option (List ℕ)) (fields : List Field)
       → IsHeaderFault fields header fault → RefusesHeader input fields fault
   exhausted : flat_fault fields ≡ None → fault ≡ OutOfMemory → RefusesHeader input fields fault
 
--- the header is right, and the record behind so many reads as no row; the batches that those fill
--- went out. The header is record 0
+-- the header is right, and the record after these does not read as a row; the batches that these
+-- fill were sent. The header is record 0
 pub record RefusesRecord (input : Option (List ℕ)) (s : Schema) (size : ℕ)
     (old new : Option (List ℕ)) (failures_old failures_new : ℕ) (fault : TextFault) : Type 0 where
   pub before : List (List (List ℕ))
@@ -88,7 +88,7 @@ pub record RefusesRecord (input : Option (List ℕ)) (s : Schema) (size : ℕ)
   pub cause : IsRecordFault (length before + 1) s.fields texts fault
   pub sent : SendsFull s size before old new failures_old failures_new
 
--- a refusal of the header, of a record, or for want of memory behind some records
+-- a refusal of the header or of a record, or memory ran out after some records
 pub data RefusesText (input : Option (List ℕ)) (s : Schema) (size : ℕ) (old new : Option (List ℕ))
     (failures_old failures_new : ℕ) (fault : TextFault) : Type 0 where
   in_header : RefusesHeader input s.fields fault → Unsent old new failures_old failures_new
@@ -99,7 +99,8 @@ pub data RefusesText (input : Option (List ℕ)) (s : Schema) (size : ℕ) (old 
       → StopsBehind input s size old new failures_old failures_new
       → RefusesText input s size old new failures_old failures_new fault
 
--- the reader of the input stopped: before the header, when nothing went out, or behind some records
+-- the reader of the input stopped: before the header was read, and nothing was sent, or after some
+-- records
 pub data StopsReading (input : Option (List ℕ)) (s : Schema) (size : ℕ) (old new : Option (List ℕ))
     (failures_old failures_new : ℕ) : Type 0 where
   before : flat_fault s.fields ≡ None → Unsent old new failures_old failures_new
@@ -123,9 +124,9 @@ IsOfLengths write.DictionaryFull = ⊤
 IsOfLengths write.TooManyRows = ⊤
 IsOfLengths fault = ⊥
 
--- Writing the table of some first records broke off. W6 to W8 come at the last of these: the table
--- of those before it is accepted. W9 comes only where the last batch is full, or all records were
--- read
+-- writing the table of some first records broke off. At W6 to W8 the last of these records is the
+-- cause: the table of those before it is accepted. W9 occurs only if the last batch is full or all
+-- records were read
 pub record StopsWriting (input : Option (List ℕ)) (s : Schema) (size : ℕ) (old new : Option
     (List ℕ))
     (failures_old failures_new : ℕ) (fault : WriteFault) : Type 0 where
@@ -142,9 +143,9 @@ pub record StopsWriting (input : Option (List ℕ)) (s : Schema) (size : ℕ) (o
   pub first : IsOfLengths fault → (before : List (List (List ℕ))) (texts : List (List ℕ))
       → records ≡ before ++ texts ∷ [] → AreAccepted limits s size before
 
--- What the writer may refuse of rows that fit, in batches that aren't too large: the schema (W1,
--- W6), a batch that is too long (W6), where the schema names a dictionary its values as too many
--- (W7, W8), and a batch for a sink that failed (W9) or for want of memory (W11)
+-- what the writer may still refuse if rows fit and batches are not too large: the schema (W1, W6),
+-- a batch that is too long (W6), a failed sink (W9) or memory (W11). If the schema names a
+-- dictionary, also too many values of it (W7, W8)
 abbrev pub IsLeftToRefuse : Schema → WriteFault → Type 0
 IsLeftToRefuse s write.BadSchema = ⊤
 IsLeftToRefuse s write.TooLong = ⊤
@@ -154,7 +155,7 @@ IsLeftToRefuse s write.Write = ⊤
 IsLeftToRefuse s write.OutOfMemory = ⊤
 IsLeftToRefuse s fault = ⊥
 
--- why no whole stream was made, and what went out
+-- why the whole stream was not sent, and what was sent
 abbrev pub StopsFor : Option (List ℕ) → Schema → ℕ → Option (List ℕ) → Option (List ℕ) → ℕ → ℕ
     → Stop → Type 0
 StopsFor input s size old new failures_old failures_new stop.Input =
@@ -164,7 +165,7 @@ StopsFor input s size old new failures_old failures_new (stop.Text fault) =
 StopsFor input s size old new failures_old failures_new (stop.Write fault) =
     StopsWriting input s size old new failures_old failures_new fault
 
--- a whole stream, or why there is none
+-- the whole stream was sent, or why it was not
 abbrev pub Answers : Option (List ℕ) → Schema → ℕ → Option (List ℕ) → Option (List ℕ) → ℕ → ℕ
     → Result Unit Stop → Type 0
 Answers input s size old new failures_old failures_new (Ok x) =

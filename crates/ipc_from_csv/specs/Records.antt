@@ -10,48 +10,48 @@ use Rattle.ipc_model.specs.declared.schema.Field.{Field}
 use Rattle.ipc_model.specs.declared.value.Value.{Value}
 use Rattle.ipc_csv.specs.CsvRows.{RecordReadsAs}
 
--- these are all the records of an input, where its bytes are known: of what follows a byte order
--- mark, if it begins with one
+-- these are all the records of an input, after a byte order mark if it begins with one; nothing is
+-- stated if its bytes are unknown
 abbrev pub AreRecordsOf : Option (List ℕ) → List (List (List ℕ)) → Type 0
 AreRecordsOf None records = ⊤
 AreRecordsOf (Some bytes) records =
     AreRecords default_config state.StartRecord (strip_bom bytes) records
 
--- an input, where its bytes are known, begins with these records, behind which the crate's reader
--- has this state and these bytes left
+-- an input begins with these records, after which the crate's reader has this state and these bytes
+-- left; nothing is stated if its bytes are unknown
 abbrev pub Leaves : Option (List ℕ) → List (List (List ℕ)) → State → Option (List ℕ) → Type 0
 Leaves None records at left = ⊤
 Leaves (Some bytes) records at None = ⊥
 Leaves (Some bytes) records at (Some left) =
     Reached default_config state.StartRecord (strip_bom bytes) records at left
 
--- these are the first records of an input, where its bytes are known
+-- these are the first records of an input; nothing is stated if its bytes are unknown
 abbrev pub AreFirstRecordsOf : Option (List ℕ) → List (List (List ℕ)) → Type 0
 AreFirstRecordsOf input records =
     (at : State) × (left : Option (List ℕ)) × Leaves input records at left
 
--- each record reads as the row of the same place
+-- each record reads as the row at the same index
 abbrev pub EachRecordReadsAs : List Field → List (List (List ℕ)) → List (List Value) → Type 0
 EachRecordReadsAs fields [] [] = ⊤
 EachRecordReadsAs fields (texts ∷ records) (row ∷ rows) =
     RecordReadsAs fields texts row × EachRecordReadsAs fields records rows
 EachRecordReadsAs fields records rows = ⊥
 
--- a reader of records by the crate's defaults, that takes the first as any other, and each however
--- many fields it has
+-- a reader of records with the crate's defaults, with two exceptions: the first record is read like
+-- any other, and a record may have any number of fields
 pub record IsSetUp {R : Type 0} (reader : Reader R) : Type 0 where
   pub config : reader_config reader ≡ default_config
   pub trim : reader_trim reader ≡ trim.None
   pub flexible : is_flexible reader ≡ true
   pub ready : Ready reader
 
--- a reader of this input stands behind these first records
+-- a reader of this input has read exactly these first records
 abbrev pub Stands : {R : Type 0} → (R → Option (List ℕ)) → Option (List ℕ) → List (List (List ℕ))
     → Reader R → Type 0
 Stands remaining input records reader =
     Leaves input records (reader_state reader) (source_of remaining reader)
 
--- what the next read says: there was a record with these fields, or these are all records
+-- the result of the next read: there was a record with these fields, or these are all records
 abbrev pub Finds : {R : Type 0} → (R → Option (List ℕ)) → Option (List ℕ) → List (List (List ℕ))
     → Reader R → Bool → List (List ℕ) → Type 0
 Finds remaining input records reader true fields =

@@ -1,4 +1,4 @@
--- How far a conversion came.
+-- The progress of a conversion.
 use Rattle.std.specs.Prelude.{◌≡◌, ◌⊎◌, ℕ, ◌<◌, ◌+◌, Bool, true, false, List, [], ◌∷◌, ◌++◌}
 use Rattle.std.specs.Prelude.{flat_map, length, Option, None, Result, Ok, Err}
 use Rattle.std.specs.List.{AllByRecursion}
@@ -23,7 +23,7 @@ use Rattle.ipc_from_csv.specs.declared.stop.Stop.TheVariants as stop
 
 -- ---- records read as rows
 
--- these records behind the header were read and counted, and read as these rows
+-- these records after the header were read and counted, and read as these rows
 pub record HasRead {R : Type 0} (remaining : R → Option (List ℕ)) (input : Option (List ℕ))
     (s : Schema) (records : List (List (List ℕ))) (rows : List (List Value))
     (now : RowReader R) : Type 0 where
@@ -32,15 +32,15 @@ pub record HasRead {R : Type 0} (remaining : R → Option (List ℕ)) (input : O
   pub counted : now.count ≡ length records
   pub read : EachRecordReadsAs s.fields records rows
 
--- behind these records there was one more, whose row is kept; or these are all
+-- after these records there was one more, whose row is stored in the reader; or these are all
 abbrev pub FindsRow : {R : Type 0} → (R → Option (List ℕ)) → Option (List ℕ) → Schema
     → List (List (List ℕ)) → List (List Value) → RowReader R → Bool → Type 0
 FindsRow remaining input s records rows now true = (texts : List (List ℕ))
     × HasRead remaining input s (records ++ texts ∷ []) (rows ++ now.row ∷ []) now
 FindsRow remaining input s records rows now false = AreRecordsOf input (names s.fields ∷ records)
 
--- why behind these records no row is read: the reader stopped, memory ran out, or the next record
--- reads as no row
+-- why no row is read after these records: the reader stopped, memory ran out, or the next record
+-- does not read as a row
 abbrev pub RefusesNext : Option (List ℕ) → Schema → List (List (List ℕ)) → Stop → Type 0
 RefusesNext input s records why = (why ≡ stop.Input) ⊎ (why ≡ stop.Text OutOfMemory)
     ⊎ ((texts : List (List ℕ)) × (fault : _) × (why ≡ stop.Text fault)
@@ -49,8 +49,8 @@ RefusesNext input s records why = (why ≡ stop.Input) ⊎ (why ≡ stop.Text Ou
 
 -- ---- rows sent in batches
 
--- the schema and these batches went out to a sink, each of them accepted and behind its
--- dictionaries, and its writer goes on
+-- the schema and these batches were accepted and sent to a sink, each batch after its dictionaries;
+-- the writer can go on
 pub record IsOut (s : Schema) (batches : List BatchRows) (old : Option (List ℕ)) (failures : ℕ)
     (writer : Writer) : Type 0 where
   pub standard : IsStandard writer.limits
@@ -62,13 +62,14 @@ pub record IsOut (s : Schema) (batches : List BatchRows) (old : Option (List ℕ
   pub accepts_schema : AcceptsSchema writer.limits s
   pub accepts : AllByRecursion (AcceptsBatch writer.limits s) batches
 
--- the header was read and the schema went out, and nothing else
+-- the header was read and the schema was sent, and nothing else
 abbrev pub Begins : {R : Type 0} → (R → Option (List ℕ)) → Option (List ℕ) → Schema
     → Option (List ℕ) → ℕ → RowReader R → Writer → Type 0
 Begins remaining input s old failures now writer =
     HasRead remaining input s [] [] now × IsOut s [] old failures writer
 
--- records were read; their rows fill the batches that are out, but for these rows
+-- records were read; their rows fill the batches that were sent, and `left` are the rows after
+-- these
 pub record Came {R : Type 0} (remaining : R → Option (List ℕ)) (input : Option (List ℕ))
     (s : Schema) (size : ℕ) (old : Option (List ℕ)) (failures : ℕ) (now : RowReader R)
     (writer : Writer) (left : List (List Value)) : Type 0 where
@@ -80,14 +81,15 @@ pub record Came {R : Type 0} (remaining : R → Option (List ℕ)) (input : Opti
   pub joined : flat_map (λ b. b.rows) batches ++ left ≡ rows
   pub out : IsOut s batches old failures writer
 
--- the rows that are in no batch that is out are held for the next
+-- the rows after the batches that were sent are stored for the next batch
 pub record Holds {R : Type 0} (remaining : R → Option (List ℕ)) (input : Option (List ℕ))
     (s : Schema) (size : ℕ) (old : Option (List ℕ)) (failures : ℕ) (now : RowReader R)
     (writer : Writer) (held : PushedRows) (left : List (List Value)) : Type 0 where
   pub came : Came remaining input s size old failures now writer left
   pub held_rows : HoldsBatch writer.limits writer.schema (batch_of left) held
 
--- so many rows are held that the batch is full, or those of all records are, and they are fewer
+-- the rows that are stored fill a batch; or all records were read, and fewer rows are stored, but
+-- at least one
 abbrev pub HoldsLast : {R : Type 0} → (R → Option (List ℕ)) → Option (List ℕ) → Schema → ℕ
     → Option (List ℕ) → ℕ → RowReader R → Writer → PushedRows → Bool → Type 0
 HoldsLast remaining input s size old failures now writer held true =
@@ -99,7 +101,7 @@ HoldsLast {R} remaining input s size old failures now writer held false =
     × (0 < length left) × (length left < size)
     × AreRecordsOf input (names s.fields ∷ holds.came.records)
 
--- the same, or why not
+-- the rows of a batch are stored as `HoldsLast` states, or why not
 abbrev pub PushesRows : {R : Type 0} → (R → Option (List ℕ)) → Option (List ℕ) → Schema → ℕ
     → Option (List ℕ) → ℕ → RowReader R → Writer → PushedRows → Result Bool Stop → Type 0
 PushesRows remaining input s size old failures now writer held (Ok more) =
@@ -107,7 +109,7 @@ PushesRows remaining input s size old failures now writer held (Ok more) =
 PushesRows remaining input s size old failures now writer held (Err why) =
     StopsFor input s size old writer.written failures writer.failures why
 
--- all records behind the header were read, and their rows went out in batches
+-- all records after the header were read, and their rows were sent in batches
 pub record SendsAll (input : Option (List ℕ)) (s : Schema) (size : ℕ) (old : Option (List ℕ))
     (failures : ℕ) (writer : Writer) : Type 0 where
   pub records : List (List (List ℕ))
@@ -118,8 +120,8 @@ pub record SendsAll (input : Option (List ℕ)) (s : Schema) (size : ℕ) (old :
   pub batched : AreBatched s size records batches left
   pub out : IsOut s (batches ++ last_batch left) old failures writer
 
--- a batch went out, with which no row is left: there may be more records, or these were all; or why
--- it did not
+-- a batch was sent, after which no row is left over: there may be more records, or these were all;
+-- or why it was not sent
 abbrev pub SendsBatch : {R : Type 0} → (R → Option (List ℕ)) → Option (List ℕ) → Schema → ℕ
     → Option (List ℕ) → ℕ → RowReader R → Writer → Result Bool Stop → Type 0
 SendsBatch remaining input s size old failures now writer (Ok true) =
@@ -129,7 +131,7 @@ SendsBatch remaining input s size old failures now writer (Ok false) =
 SendsBatch remaining input s size old failures now writer (Err why) =
     StopsFor input s size old writer.written failures writer.failures why
 
--- all rows went out, or why not
+-- all rows were sent, or why not
 abbrev pub SendsRecords : Option (List ℕ) → Schema → ℕ → Option (List ℕ) → ℕ → Writer
     → Result Unit Stop → Type 0
 SendsRecords input s size old failures writer (Ok x) = SendsAll input s size old failures writer

@@ -12,17 +12,17 @@ use Rattle.ipc_model.specs.declared.value.Value.{Value, out-Value}
 use Rattle.ipc_model.specs.declared.value.Value.TheOpen.{Value-F}
 use Rattle.ipc_moments.specs.Moments.{moment_text}
 
--- a number as JSON has it
+-- a number as JSON represents it
 abbrev pub number_of : ℤ → Num
 number_of (pos n) = unsigned n
 number_of (negsuc n) = negative (negsuc n)
 
--- a text where there is one, and else the number
+-- the text, if there is one, and else the number
 abbrev pub text_or_number : Option (List ℕ) → ℤ → Data
 text_or_number (Some text) z = string text
 text_or_number None z = number (number_of z)
 
--- a signed number of this type: dates, times and points in time as their text, where they have one
+-- a signed number of this type: dates, times and points in time as their text, if they have one
 abbrev pub int_json : DataType → ℤ → Data
 int_json kind z = text_or_number (moment_text kind z) z
 
@@ -30,23 +30,23 @@ int_json kind z = text_or_number (moment_text kind z) z
 abbrev pub Printed : Type 0
 Printed = Value → Data
 
--- values that are all printed in one way, as those of a list are
+-- values that are all printed in the same way, as those of a list are
 abbrev pub items_json : Printed → List Value → Items
 items_json print [] = no_items
 items_json print (v ∷ vs) = item (print v) (items_json print vs)
 
--- values beside fields, each printed in its field's way
+-- values, each printed in the way of the field at its index
 abbrev pub each_json : List Printed → List Value → Items
 each_json [] vs = no_items
 each_json (print ∷ prints) [] = no_items
 each_json (print ∷ prints) (v ∷ vs) = item (print v) (each_json prints vs)
 
--- the values of a list, by its field's one child
+-- the values of a list, printed in the way of its field's one child
 abbrev pub list_json : List Printed → List Value → Items
 list_json [] vs = no_items
 list_json (print ∷ prints) vs = items_json print vs
 
--- a value of a field of this type with children that are printed so: bytes as lower-case
+-- a value of a field of this type, given how its children are printed: bytes as lower-case
 -- hexadecimal text, a list and a struct as arrays
 abbrev pub value_json : DataType → List Printed → Value-F Value → Data
 value_json kind prints Value-F.Null = null
@@ -58,15 +58,15 @@ value_json kind prints (Value-F.Text text) = string text
 value_json kind prints (Value-F.List vs) = array (list_json prints vs)
 value_json kind prints (Value-F.Struct vs) = array (each_json prints vs)
 
--- the values of a field, where those of its children are given
+-- how the values of a field are printed, given that for its children
 abbrev pub field_json : Field-F Printed → Printed
 field_json f v = value_json f.kind f.children (out-Value v)
 
--- the values of a field
+-- how the values of a field are printed
 abbrev pub cell_json : Field → Printed
 cell_json = fold-Field Printed field_json
 
--- a row
+-- a row as a JSON array of its values
 abbrev pub row_json : List Field → List Value → Data
 row_json fields row = array (each_json (map cell_json fields) row)
 

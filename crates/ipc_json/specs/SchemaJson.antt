@@ -1,5 +1,5 @@
 -- The JSON text of a schema (RFC 8259), as serde_json prints it: its fields with all below them in
--- pre-order, and its pairs. Keys ascend.
+-- pre-order, and its pairs. The keys of each object ascend.
 use Rattle.std.specs.Prelude.{ℕ, List, [], ◌∷◌, ◌++◌, map, length, codes, decimal, Bool, true}
 use Rattle.std.specs.Prelude.{false, Option, Some, None}
 use Rattle.json.specs.Token.{Token}
@@ -37,12 +37,12 @@ abbrev pub date_unit_name : DateUnit → List ℕ
 date_unit_name d.Day = codes "day"
 date_unit_name d.Millisecond = codes "ms"
 
--- a type of whole numbers (Schema.fbs, table Int)
+-- the name of a type of whole numbers (Schema.fbs, table Int)
 abbrev pub int_name : Bool → List ℕ
 int_name true = codes "int"
 int_name false = codes "uint"
 
--- a text, or null where there is none
+-- the text, or null if there is none
 abbrev pub text_or_null : Option (List ℕ) → Data
 text_or_null (Some text) = string text
 text_or_null None = null
@@ -51,7 +51,7 @@ text_or_null None = null
 abbrev pub named : List ℕ → List Data → Data
 named name members = array (item (string name) (items_of members))
 
--- a type (Schema.fbs, union Type)
+-- a type as an array of its name and its members (Schema.fbs, union Type)
 abbrev pub type_json : DataType → Data
 type_json t.Null = named (codes "null") []
 type_json t.Bool = named (codes "bool") []
@@ -69,7 +69,7 @@ type_json (t.FixedSizeList size) = named (codes "fixed_size_list") (number (unsi
 type_json t.Struct = named (codes "struct") []
 
 -- a field's dictionary (Schema.fbs, table DictionaryEncoding): its id, the type of its indices, and
--- whether the order of its values means something; null where there is none
+-- whether its values are ordered; null if there is none
 abbrev pub dictionary_json : Option Dictionary → Data
 dictionary_json None = null
 dictionary_json (Some d) =
@@ -80,11 +80,11 @@ dictionary_json (Some d) =
 abbrev pub pair_json : List ℕ × List ℕ → Data
 pair_json pair = array (items_of (string pair.0 ∷ string pair.1 ∷ []))
 
--- pairs of metadata, in their order
+-- pairs of metadata as an array, in their order
 abbrev pub pairs_json : List (List ℕ × List ℕ) → Data
 pairs_json pairs = array (items_of (map pair_json pairs))
 
--- a field by itself (Schema.fbs, table Field), with how many children it has
+-- a field by itself (Schema.fbs, table Field), with the number of its children
 abbrev pub own_json : {A : Type 0} → Field-F A → Data
 own_json f =
     object (member (codes "children") (number (unsigned (length f.children)))
@@ -99,7 +99,7 @@ abbrev pub joined : List (List Data) → List Data
 joined [] = []
 joined (x ∷ xs) = x ++ joined xs
 
--- a field and all below it, where the lists of its children are given
+-- a field and all below it, given the lists of its children
 abbrev pub field_step : Field-F (List Data) → List Data
 field_step f = own_json f ∷ joined f.children
 
@@ -107,7 +107,7 @@ field_step f = own_json f ∷ joined f.children
 abbrev pub field_json : Field → List Data
 field_json = fold-Field (List Data) field_step
 
--- a schema (Schema.fbs, table Schema)
+-- a schema as an object (Schema.fbs, table Schema)
 abbrev pub schema_json : Schema → Data
 schema_json s =
     object (member (codes "fields") (array (items_of (joined (map field_json s.fields))))
@@ -133,7 +133,7 @@ first_tokens f =
     ∷ Token.key (codes "dictionary") ∷ json_tokens (outline (dictionary_json f.dictionary))
     ++ Token.key (codes "metadata") ∷ json_tokens (outline (pairs_json f.metadata))
 
--- the tokens of its last three
+-- the tokens of a field's last three members
 abbrev pub last_tokens : {A : Type 0} → Field-F A → List Token
 last_tokens f =
     Token.key (codes "name") ∷ Token.string f.name

@@ -1,26 +1,26 @@
--- How much a schema may still have while it is read: fields, bytes of text and pairs (Schema.fbs,
--- tables Field and KeyValue). What several offsets point to counts at each of them, so that shared
--- tables can't denote more than the limits allow.
+-- The remaining budget of a schema while it is read: fields, bytes of text and pairs (Schema.fbs,
+-- tables Field and KeyValue). A table to which several offsets point is counted once for each, so
+-- shared tables cannot pass the limits.
 use Rattle.std.specs.Prelude.{ℕ, ◌-◌, nat_le, Result, Ok, Err, if◌then◌else◌}
 use Rattle.ipc_model.specs.declared.fault.Fault.{Fault}
 use Rattle.ipc_model.specs.declared.fault.Fault.TheVariants.{TooManyFields, TooMuchText}
 use Rattle.ipc_meta.specs.declared.budget.Budget.{Budget}
 
--- n fields are counted
+-- the budget after n fields, or the fault TooManyFields
 abbrev pub less_fields : ℕ → Budget → Result Budget Fault
 less_fields n left = if nat_le n left.fields then Ok
     (record left { fields = left.fields - n }) else Err TooManyFields
 
--- n bytes of names, keys, values and timezones are counted
+-- the budget after n bytes of names, keys, values and timezones, or the fault TooMuchText
 abbrev pub less_text : ℕ → Budget → Result Budget Fault
 less_text n left = if nat_le n left.text then Ok
     (record left { text = left.text - n }) else Err TooMuchText
 
--- n pairs of key and value are counted
+-- the budget after n pairs of key and value, or the fault TooMuchText
 abbrev pub less_pairs : ℕ → Budget → Result Budget Fault
 less_pairs n left = if nat_le n left.pairs then Ok
     (record left { pairs = left.pairs - n }) else Err TooMuchText
 
--- what is read under a budget: a value and what is left of the budget, or a fault
+-- reading under a budget: a value and the remaining budget, or a fault
 abbrev pub Reading : Type 0 → Type 0
 Reading X = Budget → Result (X × Budget) Fault

@@ -24,24 +24,24 @@ use Rattle.ipc_meta.specs.Reached.{record_batch}
 use Rattle.ipc_meta.specs.Version.{v5}
 use Rattle.ipc_model.specs.declared.limits.Limits.{Limits}
 
--- the metadata has a table of this kind of which P holds
+-- the metadata has a table of this kind for which P holds
 abbrev pub Has : List ℕ → Kind → (TableView → Type 0) → Type 0
 Has b kind P = (t : TableView) × HasTable b kind t × P t
 
--- the answer is a value of which P holds
+-- the result is a value for which P holds
 abbrev pub Is : {X : Type 0} → Result X FlatFault → (X → Type 0) → Type 0
 Is {X} r P = (x : X) × (r ≡ Ok x) × P x
 
--- the header is none of a stream's (Message.fbs, union MessageHeader), or it is absent, or a
--- dictionary batch has no data
+-- the header's code is none of a stream's (Message.fbs, union MessageHeader), the header is absent,
+-- or a dictionary batch has no data
 pub data HasNoHeader (b : List ℕ) : Type 0 where
   other : Has b message (λ t. Is (scalar t 1 1 byte 0)
       (λ code. (code ≢ 1) × (code ≢ 2) × (code ≢ 3))) → HasNoHeader b
   absent : Has b message (λ t. field t 2 table_from ≡ Ok None) → HasNoHeader b
   no_data : Has b dictionary_batch (λ t. field t 1 table_from ≡ Ok None) → HasNoHeader b
 
--- a type's table with this code in union Type has a width, a size or a unit that no type has, or a
--- time's has another width than its unit's (Schema.fbs, tables Int, Date, Time, Timestamp,
+-- a type's table, with this code in union Type, has a width, a size or a unit that no type has; or
+-- a time has another width than its unit needs (Schema.fbs, tables Int, Date, Time, Timestamp,
 -- FixedSizeBinary, FixedSizeList and Duration; Null, Binary, Utf8, Bool, List and Struct_ have no
 -- fields)
 pub data IsNoType : ℕ → TableView → Type 0 where
@@ -64,25 +64,26 @@ pub data IsNoType : ℕ → TableView → Type 0 where
   other_duration_unit : {v : TableView}
       → Is (scalar v 0 2 int16 (pos 1)) (λ unit. unit_of unit ≡ None) → IsNoType 18 v
 
--- a field's type has a type's code and no table, or a table that is no type's
+-- a field has the code of a type that is read, but no type table, or a type table that no type has
 pub data HasBadType (b : List ℕ) : Type 0 where
   no_table : {code : ℕ} → Has b column
       (λ t. (code_at t ≡ Ok code) × (is_type_code code ≡ true) × (field t 3 table_from ≡ Ok None))
       → HasBadType b
   no_type : {code : ℕ} → Has b (type_value code) (IsNoType code) → HasBadType b
 
--- a field has another number of children than its type (Schema.fbs, table Field, 5 children)
+-- a field has a number of children that its type does not allow (Schema.fbs, table Field, 5
+-- children)
 abbrev pub HasBadChildren : List ℕ → Type 0
 HasBadChildren b = Has b column (λ t. (κ : DataType) × (es : Elements) × (type_at t ≡ Ok κ)
     × (vector_at t 5 ≡ Ok es) × (HasFittingChildren κ es.len → ⊥))
 
--- a field has values of this type in the dictionary with this id (Schema.fbs, table
+-- some field has values of this type in the dictionary with this id (Schema.fbs, table
 -- DictionaryEncoding)
 abbrev pub Encodes : List ℕ → ℤ → DataType → Type 0
 Encodes b id κ = Has b column (λ t. (type_at t ≡ Ok κ)
     × ((d : Dictionary) × (dictionary_at t ≡ Ok (Some d)) × (d.id ≡ id)))
 
--- the texts or the pairs of a schema are above their limits, or those of a record batch's message
+-- the texts or the pairs of a schema, or of the message of a record batch, are above their limits
 -- (Schema.fbs, table KeyValue)
 pub data HasMuchText (limits : Limits) (b : List ℕ) : Type 0 where
   in_schema : Has b schema
@@ -91,7 +92,7 @@ pub data HasMuchText (limits : Limits) (b : List ℕ) : Type 0 where
   in_batch : Has b batch_message (λ t. (limits.text < sum_in pair_text_in t message_pairs)
       ⊎ (limits.pairs < count_in t message_pairs)) → HasMuchText limits b
 
--- what each fault says of the metadata
+-- what is true of the metadata if this fault is returned; any other fault has no cause in it
 abbrev pub Cause : Limits → List ℕ → Fault → Type 0
 Cause limits b f.BadFlat = HasIllFormed b
 Cause limits b f.BadVersion = Has b message (λ t. Is (scalar t 0 2 int16 (pos 0)) (λ v. v ≢ v5))

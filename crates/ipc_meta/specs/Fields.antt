@@ -1,5 +1,5 @@
 -- Which fields and schemas the tables of the metadata state (Schema.fbs, tables Field and Schema):
--- relations between whole values and tables, in no reading order.
+-- relations between whole values and tables, without a reading order.
 use Rattle.std.specs.Prelude.{◌≡◌, ℕ, ◌+◌, ◌-◌, ◌<◌, pos, List, [], ◌∷◌, Ok}
 use Rattle.ipc_scalar.specs.Bytes.{int16}
 use Rattle.ipc_flat.specs.Views.{TableView, Elements, table_from, scalar}
@@ -22,12 +22,12 @@ module _ {X : Type 0} (At : X → TableView → Type 0) where
   abbrev pub VectorAt : List X → TableView → ℕ → Type 0
   VectorAt xs t k = (es : Elements) × (vector_at t k ≡ Ok es) × TablesAt es.bytes es.at es.len xs
 
--- Schema.fbs, table KeyValue: 0 key, 1 value
+-- Schema.fbs, table KeyValue: the table t states this pair: 0 key, 1 value
 abbrev pub PairAt : List ℕ × List ℕ → TableView → Type 0
 PairAt p t = (text_at t 0 ≡ Ok p.0) × (text_at t 1 ≡ Ok p.1)
 
--- Schema.fbs, table Field: 0 name, 1 nullable, 2 and 3 type, 4 dictionary, 5 children, 6
--- custom_metadata
+-- Schema.fbs, table Field: the table t states this field: 0 name, 1 nullable, 2 and 3 type, 4
+-- dictionary, 5 children, 6 custom_metadata
 abbrev pub field_step : (X : Type 0) → (X → Field) → (X → TableView → Type 0) → Field-F X
     → TableView → Type 0
 field_step X field At f t =
@@ -39,8 +39,8 @@ field_step X field At f t =
 abbrev pub FieldAt : Field → TableView → Type 0
 FieldAt = rec-Field (TableView → Type 0) field_step
 
--- Schema.fbs, table Schema: 0 endianness (enum Endianness, Little is 0), 1 fields, 2
--- custom_metadata
+-- Schema.fbs, table Schema: the table t states this well formed schema: 0 endianness (enum
+-- Endianness, Little is 0), 1 fields, 2 custom_metadata
 pub record SchemaAt (limits : Limits) (t : TableView) (s : Schema) : Type 0 where
   pub little_endian : scalar t 0 2 int16 (pos 0) ≡ Ok (pos 0)
   pub fields : VectorAt FieldAt s.fields t 1

@@ -23,7 +23,7 @@ unfoldable pub number_pairs : List ℕ → ℕ → ℕ → List (ℤ × ℤ)
 number_pairs b p zero = []
 number_pairs b p (suc n) = (int64 b p, int64 b (p + 8)) ∷ number_pairs b (p + 16) n
 
--- the numbers of the structs of a vector; an absent vector has none
+-- the pairs of numbers of a vector of structs; an absent vector has none
 abbrev pub pairs_in : Option Structs → List (ℤ × ℤ)
 pairs_in None = []
 pairs_in (Some s) = number_pairs s.bytes s.at s.len
@@ -33,41 +33,44 @@ pairs_in (Some s) = number_pairs s.bytes s.at s.len
 unfoldable pub numbers_at : TableView → ℕ → Result (List (ℤ × ℤ)) Fault
 numbers_at t k = lift (field t k (structs_from 16)) >>= λ o. Ok (pairs_in o)
 
--- Message.fbs, table RecordBatch: 0 length, 1 nodes, 2 buffers, 3 compression (table
--- BodyCompression, absent where nothing is compressed)
+-- Message.fbs, table RecordBatch: the table t states this head of a batch: 0 length, 1 nodes, 2
+-- buffers, 3 compression (table BodyCompression, absent if nothing is compressed)
 pub record BatchAt (t : TableView) (batch : BatchHead) : Type 0 where
   pub length : scalar t 0 8 int64 (pos 0) ≡ Ok batch.length
   pub nodes : numbers_at t 1 ≡ Ok batch.nodes
   pub buffers : numbers_at t 2 ≡ Ok batch.buffers
   pub uncompressed : field t 3 table_from ≡ Ok None
 
--- Message.fbs, table DictionaryBatch: 0 id, 1 data (a RecordBatch), 2 isDelta
+-- Message.fbs, table DictionaryBatch: the table t states a dictionary with this id and batch: 0 id,
+-- 1 data (a RecordBatch), 2 isDelta, which is false
 pub record DictionaryAt (t : TableView) (id : ℤ) (batch : BatchHead) : Type 0 where
   pub named : scalar t 0 8 int64 (pos 0) ≡ Ok id
   pub values : (d : TableView) × (field t 1 table_from ≡ Ok (Some d)) × BatchAt d batch
   pub whole : flag_at t 2 ≡ Ok false
 
--- Message.fbs, table Message: 4 custom_metadata, which is looked at in the message of a record
--- batch; what is within the limits is counted for this message alone
+-- Message.fbs, table Message: the root table states these pairs: 4 custom_metadata, which is read
+-- in the message of a record batch; the limits hold for this message alone
 pub record PairsAt (limits : Limits) (root : TableView) (pairs : List (List ℕ × List ℕ)) : Type 0
   where
     pub stated : VectorAt PairAt pairs root message_pairs
     pub allowed : AllowPairs limits pairs
 
--- Message.fbs, table Message: 1 the header's code in union MessageHeader, 2 the header's table
+-- Message.fbs, table Message: the root table has a header with this code: 1 the header's code in
+-- union MessageHeader, 2 the header's table
 abbrev pub IsHeader : TableView → ℕ → (TableView → Type 0) → Type 0
 IsHeader root code At = (scalar root 1 1 byte 0 ≡ Ok code)
     × ((t : TableView) × (field root 2 table_from ≡ Ok (Some t)) × At t)
 
--- Message.fbs, union MessageHeader: Schema 1, DictionaryBatch 2, RecordBatch 3
+-- Message.fbs, union MessageHeader: the root table has this header: Schema 1, DictionaryBatch 2,
+-- RecordBatch 3
 abbrev pub HeaderAt : Limits → TableView → Head → Type 0
 HeaderAt limits root (head.Schema s) = IsHeader root 1 (λ t. SchemaAt limits t s)
 HeaderAt limits root (head.Dictionary id batch) = IsHeader root 2 (λ t. DictionaryAt t id batch)
 HeaderAt limits root (head.Batch batch pairs) =
     IsHeader root 3 (λ t. BatchAt t batch) × PairsAt limits root pairs
 
--- Message.fbs, table Message: the metadata's root table states this head and a body of m bytes: 0
--- version (Schema.fbs, enum MetadataVersion), 3 bodyLength
+-- Message.fbs, table Message: the metadata's root table states this head and a body of m bytes,
+-- which is within the limits: 0 version (Schema.fbs, enum MetadataVersion), 3 bodyLength
 pub record HeadOf (limits : Limits) (metadata : List ℕ) (head : Head) (m : ℕ) : Type 0 where
   pub root : TableView
   pub stands : table_from metadata 0 ≡ Ok root

@@ -5,7 +5,7 @@ use Rattle.ipc_scalar.specs.declared.fault.FlatFault.TheVariants as flat
 use Rattle.ipc_model.specs.declared.fault.Fault.{Fault}
 use Rattle.ipc_model.specs.declared.fault.Fault.TheVariants.{BadFlat, NameNotUtf8}
 
--- a text that is not UTF-8 is returned by itself ("Strings and Vectors"); every other fault is
+-- a text that is not UTF-8 has a fault of its own ("Strings and Vectors"); every other fault is
 -- ill-formed metadata
 abbrev pub fault_of : FlatFault → Fault
 fault_of flat.OffsetZero = BadFlat
@@ -13,7 +13,7 @@ fault_of flat.OutOfBounds = BadFlat
 fault_of flat.BadVtable = BadFlat
 fault_of flat.NotUtf8 = NameNotUtf8
 
--- an answer of the FlatBuffers reader as an answer about a message
+-- a result of the FlatBuffers reader as a result for a message
 abbrev pub lift : {A : Type 0} → Result A FlatFault → Result A Fault
 lift (Ok x) = Ok x
 lift (Err e) = Err (fault_of e)

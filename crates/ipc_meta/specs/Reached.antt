@@ -1,4 +1,4 @@
--- Which tables the metadata of a message has (Message.fbs, Schema.fbs), and where what they hold is
+-- Which tables the metadata of a message has (Message.fbs, Schema.fbs), and where their content is
 -- ill-formed.
 use Rattle.std.specs.Prelude.{◌≡◌, ℕ, ◌+◌, ◌*◌, ◌<◌, true, List, Some, Result, Ok, Err, ◌⊎◌}
 use Rattle.ipc_scalar.specs.Bytes.{byte}
@@ -11,8 +11,8 @@ use Rattle.ipc_model.specs.declared.fault.Fault.TheVariants.{BadFlat}
 use Rattle.ipc_meta.specs.Lifts.{lift}
 use Rattle.ipc_meta.specs.Tables.{vector_at, code_at, is_type_code}
 
--- the tables that are looked at; a type's table has its code in union Type, and the message of a
--- record batch is a kind of its own beside that of every message
+-- the kinds of tables that are read; a type's table carries its code in union Type. The message of
+-- a record batch has the kind `batch_message` besides `message`
 pub data Kind : Type 0 where
   message : Kind
   batch_message : Kind
@@ -25,8 +25,8 @@ pub data Kind : Type 0 where
   dictionary_batch : Kind
   record_batch : Kind
 
--- what a field of a table holds: a number of so many bytes, or the offset of a table, a text, a
--- vector of tables or a vector of structs of 16 bytes
+-- what a field of a table holds: a number of this many bytes, or the offset of a table, a text, or
+-- a vector of tables or of structs of 16 bytes
 pub data Held : Type 0 where
   number : ℕ → Held
   table : Held
@@ -34,9 +34,9 @@ pub data Held : Type 0 where
   tables : Held
   structs : Held
 
--- the fields that are looked at, each with its number in its table (Message.fbs, Schema.fbs); the
--- values of the unions MessageHeader and Type stand apart, since they are looked at where their
--- codes are known
+-- the fields that are read, each with its number in its table (Message.fbs, Schema.fbs). The values
+-- of the unions MessageHeader and Type are not listed, since they are read only if their codes are
+-- known
 pub data LooksAt : Kind → ℕ → Held → Type 0 where
   version : LooksAt message 0 (number 2)
   header_type : LooksAt message 1 (number 1)
@@ -82,7 +82,8 @@ abbrev pub Element : TableView → ℕ → TableView → Type 0
 Element t k u = (es : Elements) × (i : ℕ) × (vector_at t k ≡ Ok es) × (i < es.len)
     × (table_from es.bytes (es.at + i * 4) ≡ Ok u)
 
--- Message.fbs, union MessageHeader: Schema 1, DictionaryBatch 2, RecordBatch 3
+-- Message.fbs, union MessageHeader: the code is that of a header which is read: Schema 1,
+-- DictionaryBatch 2, RecordBatch 3
 abbrev pub IsHeaderCode : ℕ → Type 0
 IsHeaderCode code = (code ≡ 1) ⊎ ((code ≡ 2) ⊎ (code ≡ 3))
 
@@ -91,9 +92,9 @@ IsHeaderCode code = (code ≡ 1) ⊎ ((code ≡ 2) ⊎ (code ≡ 3))
 abbrev pub Header : TableView → ℕ → TableView → Type 0
 Header t code u = (scalar t 1 1 byte 0 ≡ Ok code) × (field t 2 table_from ≡ Ok (Some u))
 
--- the metadata b has the table t of this kind: the root table is the Message, and each other table
--- is the header, the data, a column, a child, a pair, the type, the dictionary or the index type of
--- one that it has
+-- the metadata b has the table t of this kind. The root table is the Message; every other table is
+-- reached from one that b has, as its header, data, column, child, pair, type, dictionary or index
+-- type
 pub data HasTable (b : List ℕ) : Kind → TableView → Type 0 where
   of_root : {t : TableView} → table_from b 0 ≡ Ok t → HasTable b message t
   of_schema : {t u : TableView} → HasTable b message t → Header t 1 u → HasTable b schema u
@@ -116,20 +117,20 @@ pub data HasTable (b : List ℕ) : Kind → TableView → Type 0 where
   of_index : {t u : TableView} → HasTable b dictionary_encoding t
       → field t 1 table_from ≡ Ok (Some u) → HasTable b index_type u
 
--- the Field table u stands so deep in the Schema table t, where a column is 1 deep (Schema.fbs,
+-- the Field table u is at this depth in the Schema table t; a column has depth 1 (Schema.fbs,
 -- tables Schema, 1 fields, and Field, 5 children)
 pub data IsDeep (t : TableView) : ℕ → TableView → Type 0 where
   at_top : {u : TableView} → Element t 1 u → IsDeep t 1 u
   one_deeper : {u v : TableView} {depth : ℕ} → IsDeep t depth u → Element u 5 v
       → IsDeep t (depth + 1) v
 
--- an offset, a vtable or a range is ill-formed: the answer is such a fault (FlatBuffers binary
--- format)
+-- the result is a fault of an offset, a vtable or a range, so not of a text
+-- (FlatBuffers binary format)
 abbrev pub IsIllFormed : {X : Type 0} → Result X FlatFault → Type 0
 IsIllFormed r = lift r ≡ Err BadFlat
 
--- field k of t holds what is ill-formed, in its own place or behind its offset; of a vector of
--- tables this may be one of its tables
+-- field k of t, or what its offset points to, is ill-formed; for a vector of tables, also one of
+-- its tables
 abbrev pub HoldsIllFormed : TableView → ℕ → Held → Type 0
 HoldsIllFormed t k (number width) = IsIllFormed (slot_of t.bytes t.at k width)
 HoldsIllFormed t k table = IsIllFormed (field t k table_from)
@@ -140,8 +141,8 @@ HoldsIllFormed t k tables =
     × IsIllFormed (table_from es.bytes (es.at + i * 4)))
 HoldsIllFormed t k structs = IsIllFormed (field t k (structs_from 16))
 
--- the root table is ill-formed, or what a field holds that is looked at, or the value of a union
--- whose code is one that is read
+-- the root table is ill-formed, or what a field that is read holds, or the value of a union whose
+-- code is read
 pub data HasIllFormed (b : List ℕ) : Type 0 where
   no_root : IsIllFormed (table_from b 0) → HasIllFormed b
   at_field : {kind : Kind} {held : Held} {t : TableView} {k : ℕ} → HasTable b kind t
@@ -151,7 +152,7 @@ pub data HasIllFormed (b : List ℕ) : Type 0 where
   at_type : {t : TableView} {code : ℕ} → HasTable b column t → code_at t ≡ Ok code
       → is_type_code code ≡ true → IsIllFormed (field t 3 table_from) → HasIllFormed b
 
--- a text that is looked at is not UTF-8 (FlatBuffers binary format, "Strings and Vectors")
+-- a text that is read is not UTF-8 (FlatBuffers binary format, "Strings and Vectors")
 pub data HasOtherText (b : List ℕ) : Type 0 where
   at_text : {kind : Kind} {t : TableView} {k : ℕ} → HasTable b kind t → LooksAt kind k text
       → field t k text_of ≡ Err NotUtf8 → HasOtherText b

@@ -1,6 +1,6 @@
--- The fields and batches that tables state (Schema.fbs, Message.fbs) as functions: read in the
--- order of the tables' fields, under a budget, with the fault of what is refused. Laws join them to
--- the relations FieldAt and BatchAt.
+-- The fields and batches that tables state (Schema.fbs, Message.fbs) as functions in the code's
+-- order: they read under a budget and return the first fault. Laws join them to the relations
+-- FieldAt and BatchAt.
 use Rattle.std.specs.Prelude.{pos, ℕ, zero, suc, ◌+◌, List, [], ◌∷◌, ◌++◌, length, Option, None}
 use Rattle.std.specs.Prelude.{Some, Result, Ok, Err}
 use Rattle.ipc_flat.specs.Views.{TableView, table_from, scalar, field}
@@ -18,40 +18,41 @@ use Rattle.ipc_meta.specs.Budgets.{Reading, less_fields, less_text, less_pairs}
 use Rattle.ipc_meta.specs.Lifts.{lift}
 use Rattle.ipc_meta.specs.Tables.{text_at, flag_at, vector_at, type_at, dictionary_at}
 
--- what f reads of n tables, to which the offsets from p on point, one after another
+-- what f reads of the n tables to which the offsets from p on point, one after another
 unfoldable pub each : {X : Type 0} → (TableView → Reading X) → List ℕ → ℕ → ℕ → Reading (List X)
 each f b p zero left = Ok ([], left)
 each f b p (suc n) left = lift (table_from b p) >>= λ t. f t left >>= λ x. each f b (p + 4) n x.1
     >>= λ xs. Ok (x.0 ∷ xs.0, xs.1)
 
--- a list with others before it
+-- the list that was read, with `front` before it
 abbrev pub with_front : {X : Type 0} → List X → Result (List X × Budget) Fault
     → Result (List X × Budget) Fault
 with_front front r = r >>= λ xs. Ok (front ++ xs.0, xs.1)
 
--- the text in field k, with its bytes counted
+-- the text in field k; its bytes are counted
 unfoldable pub text_read : TableView → ℕ → Reading (List ℕ)
 text_read t k left = text_at t k >>= λ s. less_text (length s) left >>= λ l. Ok (s, l)
 
--- a KeyValue table: 0 key, 1 value
+-- the pair that a KeyValue table states: 0 key, 1 value
 unfoldable pub pair_read : TableView → Reading (List ℕ × List ℕ)
 pair_read t left = text_read t 0 left >>= λ k. text_read t 1 k.1 >>= λ v. Ok ((k.0, v.0), v.1)
 
--- the KeyValue tables in field k, all counted before the first is read
+-- the KeyValue tables in field k; all are counted before the first is read
 unfoldable pub pairs_read : TableView → ℕ → Reading (List (List ℕ × List ℕ))
 pairs_read t k left = vector_at t k >>= λ es. less_pairs es.len left
     >>= each pair_read es.bytes es.at es.len
 
--- the type of a Field table, with the bytes of its timezone counted
+-- the type of a Field table; the bytes of its timezone are counted
 unfoldable pub type_read : TableView → Reading DataType
 type_read t left = type_at t >>= λ κ. less_text (kind_text κ) left >>= λ l. Ok (κ, l)
 
--- the Field tables in field k, all counted before f reads the first
+-- the Field tables in field k; all are counted before f reads the first
 unfoldable pub fields_read : (TableView → Reading Field) → TableView → ℕ → Reading (List Field)
 fields_read f t k left = vector_at t k >>= λ es. less_fields es.len left
     >>= each f es.bytes es.at es.len
 
--- the field of a Field table, with at most so many levels
+-- the field that a Field table states, with its children, at most `depth` levels; read in the
+-- code's order under a budget
 unfoldable pub field_read : ℕ → TableView → Reading Field
 field_read zero t left = Err TooDeep
 field_read (suc depth) t left =
@@ -73,12 +74,13 @@ field_read (suc depth) t left =
       children.1,
     )
 
--- goes on where there is no BodyCompression table
+-- the result, unless there is a BodyCompression table: then the fault Compressed
 abbrev pub when_plain : {X : Type 0} → Option TableView → Result X Fault → Result X Fault
 when_plain None r = r
 when_plain (Some t) r = Err Compressed
 
--- what a RecordBatch table states: 3 compression, 0 length, 1 nodes, 2 buffers
+-- what a RecordBatch table states, read in the code's order: 3 compression, 0 length, 1 nodes, 2
+-- buffers
 unfoldable pub batch_read : TableView → Result BatchHead Fault
 batch_read t =
     lift (field t 3 table_from) >>= λ o. when_plain o (

@@ -22,7 +22,7 @@ use Rattle.ipc_model.specs.declared.schema.IndexType.{IndexType}
 use Rattle.ipc_model.specs.declared.schema.Dictionary.{Dictionary}
 use Rattle.ipc_meta.specs.Lifts.{lift}
 
--- a value, or d where it is absent
+-- the value, or d if it is absent
 abbrev pub or_else : {X : Type 0} → X → Option X → X
 or_else d None = d
 or_else d (Some x) = x
@@ -36,7 +36,7 @@ text_at t k = lift (field t k text_of) >>= λ o. Ok (or_else [] o)
 unfoldable pub flag_at : TableView → ℕ → Result Bool Fault
 flag_at t k = lift (scalar t k 1 byte 0) >>= λ n. Ok (nat_lt 0 n)
 
--- a vector, or an empty one where it is absent
+-- the vector, or an empty one if it is absent
 abbrev pub no_elements : TableView → Option Elements → Elements
 no_elements t None = record { bytes = t.bytes; at = 0; len = 0 }
 no_elements t (Some es) = es
@@ -52,69 +52,74 @@ bits_of (pos n) = if n == 8 then Some B8 else
     (if n == 32 then Some B32 else (if n == 64 then Some B64 else None)))
 bits_of (negsuc n) = None
 
--- a value, or the fault e where there is none
+-- the value, or the fault e if there is none
 abbrev pub ok_or : {X : Type 0} → Fault → Option X → Result X Fault
 ok_or e None = Err e
 ok_or e (Some x) = Ok x
 
--- f of a value; a fault stays
+-- f applied to the value; a fault is passed on
 abbrev pub map_ok : {X Y : Type 0} → (X → Y) → Result X Fault → Result Y Fault
 map_ok f (Ok x) = Ok (f x)
 map_ok f (Err e) = Err e
 
--- Schema.fbs, table Int: 0 bitWidth, 1 is_signed; another width is the fault e
+-- Schema.fbs, table Int: the integer type that the table states: 0 bitWidth, 1 is_signed; any other
+-- width is the fault e
 abbrev pub int_at : Fault → TableView → Result IndexType Fault
 int_at e v = lift (scalar v 0 4 int32 (pos 0)) >>= λ w. ok_or e (bits_of w) >>= λ b. flag_at v 1
     >>= λ s. Ok (record { bits = b; signed = s })
 
--- Schema.fbs, table FixedSizeBinary, 0 byteWidth: this many bytes, which is not negative
+-- Schema.fbs, table FixedSizeBinary, 0 byteWidth: the width in bytes, which is not negative
 abbrev pub fixed_at : ℤ → Result DataType Fault
 fixed_at (pos n) = Ok (t.FixedSizeBinary n)
 fixed_at (negsuc n) = Err BadType
 
--- Schema.fbs, table FixedSizeList, 0 listSize: this many values, which is not negative
+-- Schema.fbs, table FixedSizeList, 0 listSize: the number of values, which is not negative
 abbrev pub fixed_list_at : ℤ → Result DataType Fault
 fixed_list_at (pos n) = Ok (t.FixedSizeList n)
 fixed_list_at (negsuc n) = Err BadType
 
--- Schema.fbs, table Date, 0 unit: enum DateUnit, DAY is 0 and MILLISECOND 1
+-- Schema.fbs, table Date, 0 unit: the date type of this unit, by enum DateUnit, where DAY is 0 and
+-- MILLISECOND 1
 abbrev pub date_at : ℤ → Result DataType Fault
 date_at (pos n) = if n == 0 then Ok (t.Date date.Day) else
     (if n == 1 then Ok (t.Date date.Millisecond) else Err BadType)
 date_at (negsuc n) = Err BadType
 
--- Schema.fbs, enum TimeUnit: SECOND 0, MILLISECOND 1, MICROSECOND 2, NANOSECOND 3
+-- Schema.fbs, enum TimeUnit: the unit with this number: SECOND 0, MILLISECOND 1, MICROSECOND 2,
+-- NANOSECOND 3
 abbrev pub unit_of : ℤ → Option TimeUnit
 unit_of (pos n) = if n == 0 then Some time.Second else
     (if n == 1 then Some time.Millisecond else
     (if n == 2 then Some time.Microsecond else (if n == 3 then Some time.Nanosecond else None)))
 unit_of (negsuc n) = None
 
--- Schema.fbs, table Timestamp: 0 unit, 1 timezone; an absent timezone is none, a present one may be
--- empty
+-- Schema.fbs, table Timestamp: the type that the table states: 0 unit, 1 timezone; the timezone may
+-- be absent, and a present one may be empty
 abbrev pub timestamp_at : TableView → Result DataType Fault
 timestamp_at v = lift (scalar v 0 2 int16 (pos 0)) >>= λ u. ok_or BadType (unit_of u)
     >>= λ u. lift (field v 1 text_of) >>= λ z. Ok (t.Timestamp u z)
 
--- a time of this unit with so many bits, which are its unit's (Schema.fbs, table Time, 1 bitWidth)
+-- a time of this unit, if `bits` is the width that its unit needs (Schema.fbs, table Time, 1
+-- bitWidth)
 abbrev pub time_in : TimeUnit → ℤ → Result DataType Fault
 time_in unit bits =
     if int_eq bits (pos (width (time_bits unit))) then Ok (t.Time unit) else Err BadType
 
--- Schema.fbs, table Time: 0 unit, which is MILLISECOND where absent, 1 bitWidth, which is 32 where
--- absent
+-- Schema.fbs, table Time: the type that the table states: 0 unit, which is MILLISECOND if absent, 1
+-- bitWidth, which is 32 if absent
 abbrev pub time_at : TableView → Result DataType Fault
 time_at v = lift (scalar v 0 2 int16 (pos 1)) >>= λ u. ok_or BadType (unit_of u)
     >>= λ u. lift (scalar v 1 4 int32 (pos 32)) >>= time_in u
 
--- Schema.fbs, table Duration: 0 unit, which is MILLISECOND where absent
+-- Schema.fbs, table Duration: the type that the table states: 0 unit, which is MILLISECOND if
+-- absent
 abbrev pub duration_at : TableView → Result DataType Fault
 duration_at v = lift (scalar v 0 2 int16 (pos 1)) >>= λ u. ok_or BadType (unit_of u)
     >>= λ u. Ok (t.Duration u)
 
--- Schema.fbs, union Type: Null 1, Int 2, Binary 4, Utf8 5, Bool 6, Date 8 (its unit is MILLISECOND
--- where absent), Time 9, Timestamp 10, List 12, Struct_ 13, FixedSizeBinary 15, FixedSizeList 16,
--- Duration 18; other codes are not read
+-- Schema.fbs, union Type: the type with this code and table: Null 1, Int 2, Binary 4, Utf8 5, Bool
+-- 6, Date 8 (its unit is MILLISECOND if absent), Time 9, Timestamp 10, List 12, Struct_ 13,
+-- FixedSizeBinary 15, FixedSizeList 16, Duration 18; other codes are not read
 unfoldable pub type_of : ℕ → TableView → Result DataType Fault
 type_of code v =
     if code == 1 then Ok t.Null
@@ -132,16 +137,16 @@ type_of code v =
     else (if code == 18 then duration_at v
     else Err (UnsupportedType code)))))))))))))
 
--- a field without a table for its type has none
+-- the type of a field with this code and type table; without a table the fault is BadType
 abbrev pub type_in : ℕ → Option TableView → Result DataType Fault
 type_in code None = Err BadType
 type_in code (Some v) = type_of code v
 
--- Schema.fbs, table Field: 2 the type's code in union Type
+-- Schema.fbs, table Field: the code of the field's type: 2 the type's code in union Type
 unfoldable pub code_at : TableView → Result ℕ Fault
 code_at f = lift (scalar f 2 1 byte 0)
 
--- Schema.fbs, union Type: the code is that of a type which `type_of` reads
+-- Schema.fbs, union Type: the code is that of a type that `type_of` reads
 unfoldable pub is_type_code : ℕ → Bool
 is_type_code code =
     code == 1 || (code == 2 || (code == 4
@@ -150,32 +155,34 @@ is_type_code code =
     || (code == 12 || (code == 13 || (code == 15
     || (code == 16 || code == 18)))))))))))
 
--- what is read where the code is such a type's
+-- the result, if the code is one that `type_of` reads; else the fault UnsupportedType
 abbrev pub when_type : {X : Type 0} → ℕ → Result X Fault → Result X Fault
 when_type code r = if is_type_code code then r else Err (UnsupportedType code)
 
--- Schema.fbs, table Field: 2 the type's code, 3 the type's table, which is looked at where the code
--- is a type's
+-- Schema.fbs, table Field: the field's type: 2 the type's code, 3 the type's table, which is read
+-- only if the code is a known type's
 unfoldable pub type_at : TableView → Result DataType Fault
 type_at f = code_at f >>= λ code. when_type code (lift (field f 3 table_from) >>= type_in code)
 
--- Schema.fbs, table DictionaryEncoding, indexType: an Int table; where it is absent, indices are
+-- Schema.fbs, table DictionaryEncoding, indexType: an Int table; if it is absent, indices are
 -- signed and have 32 bits
 abbrev pub index_in : Option TableView → Result IndexType Fault
 index_in None = Ok (record { bits = B32; signed = true })
 index_in (Some v) = int_at BadIndexType v
 
--- Schema.fbs, table DictionaryEncoding: 1 indexType
+-- Schema.fbs, table DictionaryEncoding: the type of the indices: 1 indexType
 abbrev pub index_at : TableView → Result IndexType Fault
 index_at d = lift (field d 1 table_from) >>= index_in
 
--- Schema.fbs, table DictionaryEncoding: 0 id, 1 indexType, 2 isOrdered
+-- Schema.fbs, table DictionaryEncoding: the dictionary that the table states, if there is one: 0
+-- id, 1 indexType, 2 isOrdered
 abbrev pub dictionary_in : Option TableView → Result (Option Dictionary) Fault
 dictionary_in None = Ok None
 dictionary_in (Some d) =
     lift (scalar d 0 8 int64 (pos 0)) >>= λ id. index_at d >>= λ index. flag_at d 2 >>= λ ordered.
     Ok (Some (record { id = id; index = index; ordered = ordered }))
 
--- Schema.fbs, table Field: 4 dictionary, absent where the values are not dictionary-encoded
+-- Schema.fbs, table Field: the field's dictionary: 4 dictionary, absent if the values are not
+-- dictionary-encoded
 unfoldable pub dictionary_at : TableView → Result (Option Dictionary) Fault
 dictionary_at f = lift (field f 4 table_from) >>= dictionary_in

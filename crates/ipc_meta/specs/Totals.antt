@@ -1,13 +1,13 @@
--- How much the tables of a schema state in all (Schema.fbs, tables Schema, Field and KeyValue).
--- What several offsets point to counts at each of them; what is absent or can't be read counts as
--- nothing.
+-- The totals of the tables of a schema (Schema.fbs, tables Schema, Field and KeyValue). A table to
+-- which several offsets point is counted once for each; what is absent or cannot be read counts as
+-- 0.
 use Rattle.std.specs.Prelude.{ℕ, zero, suc, ◌+◌, List, length, Result, Ok, Err}
 use Rattle.ipc_flat.specs.Views.{TableView, table_from}
 use Rattle.ipc_model.specs.Entries.{kind_text}
 use Rattle.ipc_meta.specs.Tables.{text_at, vector_at, type_at}
 use Rattle.ipc_model.specs.declared.limits.Limits.{Limits}
 
--- w of a value, and 0 of none
+-- w applied to the value, or 0 if there is a fault
 abbrev pub or_zero : {X E : Type 0} → (X → ℕ) → Result X E → ℕ
 or_zero w (Ok x) = w x
 or_zero w (Err e) = 0
@@ -17,11 +17,11 @@ unfoldable pub sum_tables : (TableView → ℕ) → List ℕ → ℕ → ℕ →
 sum_tables w b p zero = 0
 sum_tables w b p (suc n) = or_zero w (table_from b p) + sum_tables w b (p + 4) n
 
--- how many tables field k of t has
+-- how many tables the vector in field k of t has
 abbrev pub count_in : TableView → ℕ → ℕ
 count_in t k = or_zero (λ es. es.len) (vector_at t k)
 
--- the sum of w over the tables in field k of t
+-- the sum of w over the tables of the vector in field k of t
 abbrev pub sum_in : (TableView → ℕ) → TableView → ℕ → ℕ
 sum_in w t k = or_zero (λ es. sum_tables w es.bytes es.at es.len) (vector_at t k)
 
@@ -29,52 +29,54 @@ sum_in w t k = or_zero (λ es. sum_tables w es.bytes es.at es.len) (vector_at t 
 abbrev pub text_in : TableView → ℕ → ℕ
 text_in t k = or_zero length (text_at t k)
 
--- the bytes of a KeyValue table's key and value
+-- how many bytes a KeyValue table's key and value have
 abbrev pub pair_text_in : TableView → ℕ
 pair_text_in t = text_in t 0 + text_in t 1
 
--- where a Schema table has its fields and its pairs (Schema.fbs, table Schema)
+-- the number of the field of a Schema table that holds its fields (Schema.fbs, table Schema)
 abbrev pub schema_fields : ℕ
 schema_fields = 1
 
--- the second of these
+-- the number of the field of a Schema table that holds its pairs
 abbrev pub schema_pairs : ℕ
 schema_pairs = 2
 
--- where a Message table has its pairs (Message.fbs, table Message)
+-- the number of the field of a Message table that holds its pairs (Message.fbs, table Message)
 abbrev pub message_pairs : ℕ
 message_pairs = 4
 
--- where a Field table has its children and its pairs (Schema.fbs, table Field)
+-- the number of the field of a Field table that holds its children (Schema.fbs, table Field)
 abbrev pub field_children : ℕ
 field_children = 5
 
--- the second of these
+-- the number of the field of a Field table that holds its pairs
 abbrev pub field_pairs : ℕ
 field_pairs = 6
 
--- the bytes of a Field table's own name, timezone, keys and values
+-- how many bytes a Field table's own name, timezone, keys and values have
 abbrev pub own_text : TableView → ℕ
 own_text t = text_in t 0 + or_zero kind_text (type_at t) + sum_in pair_text_in t field_pairs
 
--- the sum of w over a Field table and those below it, with so many levels at most
+-- the sum of w over a Field table and those below it, at most `depth` levels
 unfoldable pub tree : (TableView → ℕ) → ℕ → TableView → ℕ
 tree w zero t = 0
 tree w (suc depth) t = w t + sum_in (tree w depth) t field_children
 
--- the sum of w over the Field tables of a Schema table, as deep as fields may stand
+-- the sum of w over the Field tables of a Schema table, down to the greatest depth that the limits
+-- allow
 abbrev pub over_fields : Limits → (TableView → ℕ) → TableView → ℕ
 over_fields limits w t = sum_in (tree w limits.depth) t schema_fields
 
--- the fields of a Schema table with their descendants, which stand in at most one level more
+-- how many fields a Schema table has, descendants included, down to one level below the greatest
+-- depth
 abbrev pub fields_stated : Limits → TableView → ℕ
 fields_stated limits t = count_in t schema_fields + over_fields limits (λ u. count_in u
     field_children) t
 
--- the bytes of the names, timezones, keys and values of a Schema table and of its fields
+-- how many bytes the names, timezones, keys and values of a Schema table and of its fields have
 abbrev pub text_stated : Limits → TableView → ℕ
 text_stated limits t = sum_in pair_text_in t schema_pairs + over_fields limits own_text t
 
--- the pairs of key and value of the same
+-- how many pairs of key and value a Schema table and its fields have
 abbrev pub pairs_stated : Limits → TableView → ℕ
 pairs_stated limits t = count_in t schema_pairs + over_fields limits (λ u. count_in u field_pairs) t

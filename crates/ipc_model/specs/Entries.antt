@@ -8,8 +8,8 @@ use Rattle.ipc_model.specs.declared.schema.Dictionary.{Dictionary}
 use Rattle.ipc_model.specs.declared.schema.Field.{Field, fold-Field}
 use Rattle.ipc_model.specs.declared.schema.Field.TheOpen.{Field-F}
 
--- what the rules ask of a field: how deep it stands (a column at 1), its type and dictionary, and
--- how many children, bytes of text and pairs of metadata it has
+-- what the rules ask of a field: its depth (a column has depth 1), its type and dictionary, and how
+-- many children, bytes of text and pairs of metadata it has
 pub record Entry : Type 0 where
   pub depth : ℕ
   pub kind : DataType
@@ -25,7 +25,7 @@ abbrev pub pair_text : List (List ℕ × List ℕ) → ℕ
 pair_text [] = 0
 pair_text (p ∷ ps) = length p.0 + length p.1 + pair_text ps
 
--- one batch may have these pairs of key and value under the limits
+-- the limits allow one batch to have these pairs of key and value
 pub record AllowPairs (limits : Limits) (pairs : List (List ℕ × List ℕ)) : Type 0 where
   pub little_text : pair_text pairs ≤ limits.text
   pub few_pairs : length pairs ≤ limits.pairs
@@ -59,16 +59,16 @@ entry_of f d = record {
   pairs = length f.metadata;
 }
 
--- a field and all below it, from the depth at which it stands
+-- the entries of a field and all below it, given the field's depth
 abbrev pub Listing : Type 0
 Listing = ℕ → List Entry
 
--- the entries of several fields that stand at one depth, one field after another
+-- the entries of several fields at one depth, one field after another
 abbrev pub all_at : ℕ → List Listing → List Entry
 all_at d [] = []
 all_at d (l ∷ ls) = l d ++ all_at d ls
 
--- a field's own entry, and behind it those of its children, one deeper
+-- a field's own entry, then those of its children, one level deeper
 abbrev pub preorder_step : Field-F Listing → Listing
 preorder_step f d = entry_of f d ∷ all_at (d + 1) f.children
 

@@ -1,5 +1,5 @@
--- Where a schema is first not well formed: an entry that breaks a rule, and none before it that
--- breaks one (Schema.fbs, tables Schema and Field).
+-- The first fault of a schema: the first entry that breaks a rule (Schema.fbs, tables Schema and
+-- Field).
 use Rattle.std.specs.Prelude.{◌≡◌, ℕ, ◌+◌, ◌<◌, ◌≤◌, List, [], ◌∷◌, ◌++◌, length, take, sum_by}
 use Rattle.std.specs.Prelude.{slice_get, Some, IsSome, ◌⊎◌}
 use Rattle.ipc_model.specs.WellFormed.{HasGoodType, HasFittingChildren, IsLeaf, IsAmong}
@@ -10,17 +10,16 @@ use Rattle.ipc_model.specs.declared.check.SchemaFault.TheVariants as f
 use Rattle.ipc_model.specs.declared.schema.Schema.{Schema}
 use Rattle.ipc_model.specs.declared.limits.Limits.{Limits}
 
--- the schema's own pairs and these entries have more text, or more pairs, than all may have
--- together
+-- the schema's own pairs and these entries have more text, or more pairs, than the limits allow
 abbrev pub HasMuchText : Limits → Schema → List Entry → Type 0
 HasMuchText limits s es = (limits.text < pair_text s.metadata + sum_by (λ e. e.text) es)
     ⊎ (limits.pairs < length s.metadata + sum_by (λ e. e.pairs) es)
 
--- an earlier entry has the dictionary of this one, and another type
+-- an earlier entry has the dictionary of this entry, and another type
 abbrev pub HasConflict : List Entry → Entry → Type 0
 HasConflict earlier e = (a : Entry) × (IsAmong a earlier × ¬ HaveOneType a e)
 
--- an entry behind these earlier ones breaks the rule that the fault is of
+-- an entry that follows these earlier ones breaks the rule that the fault names
 abbrev pub Breaks : Limits → Schema → List Entry → Entry → SchemaFault → Type 0
 Breaks limits s earlier e (f.BadType number) = ¬ HasGoodType e.kind
 Breaks limits s earlier e (f.BadChildren number) = ¬ HasFittingChildren e.kind e.children
@@ -31,13 +30,13 @@ Breaks limits s earlier e (f.DictionaryConflict number) = HasConflict earlier e
 Breaks limits s earlier e (f.NestedDictionary number) = ¬ (IsSome e.dictionary → IsLeaf e.kind)
 Breaks limits s earlier e f.OutOfMemory = ⊥
 
--- the entry with k before it does
+-- the entry at index k breaks the rule that the fault names
 abbrev pub BreaksAt : Limits → Schema → ℕ → SchemaFault → Type 0
 BreaksAt limits s k fault = (e : Entry)
     × ((slice_get (entries s.fields) k ≡ Some e)
     × Breaks limits s (take k (entries s.fields)) e fault)
 
--- which of one entry's faults is returned before another
+-- the rank of a fault: of several faults of one entry, the one of lowest rank is returned
 abbrev pub rank : SchemaFault → ℕ
 rank (f.BadType number) = 1
 rank (f.BadChildren number) = 2
@@ -48,7 +47,7 @@ rank (f.DictionaryConflict number) = 6
 rank (f.NestedDictionary number) = 7
 rank f.OutOfMemory = 8
 
--- the number of the entry that a fault is of, counted from 1
+-- the number of the entry that a fault names, counted from 1
 abbrev pub number_of : SchemaFault → ℕ
 number_of (f.BadType number) = number
 number_of (f.BadChildren number) = number
@@ -59,8 +58,7 @@ number_of (f.DictionaryConflict number) = number
 number_of (f.NestedDictionary number) = number
 number_of f.OutOfMemory = 0
 
--- the fault is one of the entry with k before it, the first of that entry's, and no earlier entry
--- has any
+-- the entry at index k has this fault, and none of lower rank; no earlier entry has a fault
 pub record IsFirstAt (limits : Limits) (s : Schema) (k : ℕ) (fault : SchemaFault) : Type 0 where
   pub number : number_of fault ≡ k + 1
   pub broken : BreaksAt limits s k fault

@@ -19,7 +19,7 @@ greatest_slots = 2 ^ 31 - 1
 abbrev pub greatest_fields : ℕ
 greatest_fields = 2 ^ 20
 
--- the greatest limit of the fields one above another
+-- the greatest limit of the depth to which fields nest
 abbrev pub greatest_depth : ℕ
 greatest_depth = 64
 

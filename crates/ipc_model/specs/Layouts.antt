@@ -1,4 +1,5 @@
--- How the slots of a field lie in its buffers (Arrow Columnar Format, "Physical Memory Layout").
+-- How the slots of a field are laid out in its buffers (Arrow Columnar Format, "Physical Memory
+-- Layout").
 use Rattle.std.specs.Prelude.{ℕ, Bool, true, false, Option, Some, None}
 use Rattle.ipc_model.specs.declared.schema.IntBits.{IntBits}
 use Rattle.ipc_model.specs.declared.schema.IntBits.TheVariants.{B8, B16, B32, B64}
@@ -19,8 +20,8 @@ time_bits u.Millisecond = B32
 time_bits u.Microsecond = B64
 time_bits u.Nanosecond = B64
 
--- the layout of a type's slots: a date in days is a signed number of 32 bits, one in milliseconds,
--- a timestamp and a duration of 64, and a time of its unit's (Schema.fbs, Date, Time, Timestamp,
+-- the layout of a type's slots. A date in days is a signed 32-bit number; a date in milliseconds, a
+-- timestamp and a duration have 64 bits; a time has `time_bits` (Schema.fbs, Date, Time, Timestamp,
 -- Duration)
 abbrev pub type_layout : DataType → Layout
 type_layout t.Null = l.Null
@@ -38,7 +39,7 @@ type_layout t.List = l.Lists
 type_layout (t.FixedSizeList size) = l.FixedLists size
 type_layout t.Struct = l.Structs
 
--- the layout of a field's slots: those of its type, or indices of its dictionary's values
+-- the layout of a field's slots: that of its type, or indices into its dictionary's values
 -- (Schema.fbs, table Field, `dictionary`)
 abbrev pub layout : DataType → Option Dictionary → Layout
 layout kind None = type_layout kind
@@ -57,8 +58,8 @@ own_buffers l.Lists = 2
 own_buffers (l.FixedLists size) = 1
 own_buffers l.Structs = 1
 
--- a null count is that of a validity bitmap; a column of the null layout has none (Arrow Columnar
--- Format, "Null Layout")
+-- the layout has a validity bitmap, which may be absent in a column; only the null layout has none
+-- (Arrow Columnar Format, "Null Layout")
 abbrev pub has_validity : Layout → Bool
 has_validity l.Null = false
 has_validity l.Bits = true
@@ -82,8 +83,8 @@ is_texts (l.FixedLists size) = false
 is_texts l.Structs = false
 is_texts (l.Indices bits signed id) = false
 
--- what each valid slot holds is judged by itself: a text, which has to be UTF-8, and an index,
--- which has to be that of a value in its dictionary
+-- each valid slot needs a check of its own: a text has to be UTF-8, and an index has to be that of
+-- a value in its dictionary
 abbrev pub is_judged : Layout → Bool
 is_judged (l.VariableBytes utf8) = utf8
 is_judged (l.Indices bits signed id) = true
@@ -108,7 +109,7 @@ is_signed_64 (l.FixedLists size) = false
 is_signed_64 l.Structs = false
 is_signed_64 (l.Indices bits signed id) = false
 
--- the bytes of a number
+-- how many bytes a number of this width takes
 abbrev pub number_bytes : IntBits → ℕ
 number_bytes B8 = 1
 number_bytes B16 = 2

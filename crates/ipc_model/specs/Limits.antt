@@ -5,12 +5,12 @@ use Rattle.ipc_model.specs.Greatest.{greatest_metadata, greatest_body, greatest_
 use Rattle.ipc_model.specs.Greatest.{greatest_fields, greatest_depth, greatest_text, greatest_pairs}
 use Rattle.ipc_model.specs.declared.limits.Limits.{Limits}
 
--- the most bytes that offsets of 32 bits reach, whatever the limits (Arrow Columnar Format,
+-- the most bytes that 32-bit offsets can address, whatever the limits (Arrow Columnar Format,
 -- "Variable-size Binary Layout")
 abbrev pub max_data : ℕ
 max_data = 2 ^ 31 - 1
 
--- the limits that fit what is written in practice
+-- the standard limits, which fit streams as they occur in practice
 pub record IsStandard (limits : Limits) : Type 0 where
   pub metadata : limits.metadata ≡ 2 ^ 24
   pub body : limits.body ≡ 2 ^ 40
@@ -20,7 +20,7 @@ pub record IsStandard (limits : Limits) : Type 0 where
   pub text : limits.text ≡ 2 ^ 26
   pub pairs : limits.pairs ≡ 2 ^ 20
 
--- no value is below the other's: what is within those is within these
+-- no limit is below the other's, so what is within `others` is within `limits`
 pub record Covers (limits others : Limits) : Type 0 where
   pub metadata : others.metadata ≤ limits.metadata
   pub body : others.body ≤ limits.body
@@ -30,7 +30,7 @@ pub record Covers (limits others : Limits) : Type 0 where
   pub text : others.text ≤ limits.text
   pub pairs : others.pairs ≤ limits.pairs
 
--- the limits have these values, in the order in which they are given
+-- the limits have these values, in this order
 pub record HaveValues (limits : Limits) (metadata body slots fields depth text
     pairs : ℕ) : Type 0 where
   pub metadata_is : limits.metadata ≡ metadata
@@ -41,7 +41,7 @@ pub record HaveValues (limits : Limits) (metadata body slots fields depth text
   pub text_is : limits.text ≡ text
   pub pairs_is : limits.pairs ≡ pairs
 
--- limits may have these values: none is above its greatest
+-- limits may have these values: each is at most its greatest value
 pub record AreAllowed (metadata body slots fields depth text pairs : ℕ) : Type 0 where
   pub metadata_fits : metadata ≤ greatest_metadata
   pub body_fits : body ≤ greatest_body

@@ -7,7 +7,7 @@ use Rattle.ipc_model.specs.declared.fault.WriteFault.TheVariants as w
 use Rattle.ipc_model.specs.declared.rows.RowCause.{RowCause}
 use Rattle.ipc_model.specs.declared.rows.RowCause.TheVariants as c
 
--- the number behind the letter F
+-- the number that follows the letter F
 abbrev pub fault_number : Fault → ℕ
 fault_number f.NotContinued = 1
 fault_number f.BadMetadataLength = 2
@@ -47,7 +47,7 @@ fault_number f.Failed = 35
 fault_number f.Read = 36
 fault_number f.OutOfMemory = 37
 
--- the name behind the number
+-- the name that follows the number
 abbrev pub fault_name : Fault → List ℕ
 fault_name f.NotContinued = codes "NotContinued"
 fault_name f.BadMetadataLength = codes "BadMetadataLength"
@@ -87,27 +87,27 @@ fault_name f.Failed = codes "Failed"
 fault_name f.Read = codes "Read"
 fault_name f.OutOfMemory = codes "OutOfMemory"
 
--- 4 where memory ran out, 3 where the source failed, else 1
+-- the exit status: 4 if memory ran out, 3 if the source failed, else 1
 abbrev pub fault_status : Fault → ℕ
 fault_status f.OutOfMemory = 4
 fault_status f.Read = 3
 fault_status fault = 1
 
--- the number behind the letter W of a row that does not fit
+-- the number that follows the letter W, for a row that does not fit
 abbrev pub cause_number : RowCause → ℕ
 cause_number c.RowWidth = 2
 cause_number c.WrongKind = 3
 cause_number c.OutOfRange = 4
 cause_number c.NullNotAllowed = 5
 
--- the name behind the number of a row that does not fit
+-- the name that follows the number, for a row that does not fit
 abbrev pub cause_name : RowCause → List ℕ
 cause_name c.RowWidth = codes "RowWidth"
 cause_name c.WrongKind = codes "WrongKind"
 cause_name c.OutOfRange = codes "OutOfRange"
 cause_name c.NullNotAllowed = codes "NullNotAllowed"
 
--- the number behind the letter W
+-- the number that follows the letter W
 abbrev pub write_fault_number : WriteFault → ℕ
 write_fault_number (w.Row row fault) = cause_number fault.cause
 write_fault_number w.BadSchema = 1
@@ -118,7 +118,7 @@ write_fault_number w.Write = 9
 write_fault_number w.Failed = 10
 write_fault_number w.OutOfMemory = 11
 
--- the name behind the number
+-- the name that follows the number
 abbrev pub write_fault_name : WriteFault → List ℕ
 write_fault_name (w.Row row fault) = cause_name fault.cause
 write_fault_name w.BadSchema = codes "BadSchema"
@@ -129,7 +129,7 @@ write_fault_name w.Write = codes "Write"
 write_fault_name w.Failed = codes "Failed"
 write_fault_name w.OutOfMemory = codes "OutOfMemory"
 
--- 4 where memory ran out, 3 where the sink failed, else 1
+-- the exit status: 4 if memory ran out, 3 if the sink failed, else 1
 abbrev pub write_fault_status : WriteFault → ℕ
 write_fault_status w.OutOfMemory = 4
 write_fault_status w.Write = 3

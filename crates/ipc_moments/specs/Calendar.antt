@@ -4,13 +4,13 @@ use Rattle.std.specs.Prelude.{ℕ, zero, suc, ◌+◌, ◌/◌, ◌%◌, nat_lt,
 use Rattle.std.specs.Prelude.{◌+ℤ◌, int_lt, unsigned_abs, List, [], ◌∷◌, ◌++◌, Option, Some, None}
 use Rattle.jiff_core.specs.Calendar.{days_in_month}
 
--- a day of the calendar: its year, its month from 1 to 12, and its place in the month, from 1
+-- a day of the calendar: its year, its month from 1 to 12, and its day of the month, from 1
 pub record Civil : Type 0 where
   pub year : ℕ
   pub month : ℕ
   pub day : ℕ
 
--- the day that comes next: in the same month, or the first of the next month or of the next year
+-- the next day: in the same month, or the first of the next month or of the next year
 abbrev pub tomorrow : Civil → Civil
 tomorrow c =
     if nat_lt c.day (days_in_month (pos c.year) c.month)
@@ -18,7 +18,7 @@ tomorrow c =
     else if nat_lt c.month 12 then record { year = c.year; month = c.month + 1; day = 1 }
     else record { year = c.year + 1; month = 1; day = 1 }
 
--- the day that comes so many days after 0001-01-01
+-- the day that is n days after 0001-01-01
 unfoldable pub civil_on : ℕ → Civil
 civil_on zero = record { year = 1; month = 1; day = 1 }
 civil_on (suc n) = tomorrow (civil_on n)
@@ -35,7 +35,7 @@ four_digits n = two_digits (n / 100) ++ two_digits (n % 100)
 abbrev pub civil_text : Civil → List ℕ
 civil_text c = four_digits c.year ++ 45 ∷ two_digits c.month ++ 45 ∷ two_digits c.day
 
--- how many days 0001-01-01 lies before 1970-01-01
+-- how many days 0001-01-01 is before 1970-01-01
 abbrev pub days_before_epoch : ℕ
 days_before_epoch = 719_162
 

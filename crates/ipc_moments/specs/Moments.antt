@@ -21,11 +21,11 @@ per_second u.Millisecond = 1_000
 per_second u.Microsecond = 1_000_000
 per_second u.Nanosecond = 1_000_000_000
 
--- three digits more in front of a text, of a number below 1,000
+-- a number below 1,000 as three decimal digits
 abbrev pub three_digits : ℕ → List ℕ
 three_digits n = (48 + n / 100) ∷ two_digits (n % 100)
 
--- the text of a part of a second in its unit: nothing for seconds, else a point and 3, 6 or 9
+-- the text of a fraction of a second in its unit: nothing for seconds, else a point and 3, 6 or 9
 -- digits
 abbrev pub fraction_text : TimeUnit → ℕ → List ℕ
 fraction_text u.Second n = []
@@ -35,34 +35,36 @@ fraction_text u.Nanosecond n =
     46 ∷ three_digits (n / 1_000_000) ++ three_digits (n / 1_000 % 1_000)
     ++ three_digits (n % 1_000)
 
--- the text of so many seconds after midnight: hh:mm:ss
+-- the text of the time s seconds after midnight: hh:mm:ss
 abbrev pub clock_text : ℕ → List ℕ
 clock_text s = two_digits (s / 3_600) ++ 58 ∷ two_digits (s / 60 % 60) ++ 58 ∷ two_digits (s % 60)
 
--- the text of a time of day, so many units after midnight
+-- the text of the time of day n units after midnight
 abbrev pub time_of_day : TimeUnit → ℕ → List ℕ
 time_of_day unit n = clock_text (n / per_second unit) ++ fraction_text unit (n % per_second unit)
 
--- the text of a date (Schema.fbs, table Date): of milliseconds only where they are whole days
+-- the text of a date (Schema.fbs, table Date); a number of milliseconds has one only if it is a
+-- whole number of days
 abbrev pub date_text : DateUnit → ℤ → Option (List ℕ)
 date_text d.Day z = day_text z
 date_text d.Millisecond z =
     if int_eq (int_rem_euclid z (pos 86_400_000)) (pos 0)
     then day_text (int_div_euclid z (pos 86_400_000)) else None
 
--- the number of the date that begins so many days after 1970-01-01 (Schema.fbs, enum DateUnit)
+-- the number, in this unit, of the date that is z days after 1970-01-01 (Schema.fbs, enum DateUnit)
 abbrev pub date_of_day : DateUnit → ℤ → ℤ
 date_of_day d.Day z = z
 date_of_day d.Millisecond z = z *ℤ pos 86_400_000
 
--- the text of a time (Schema.fbs, table Time): so many units after midnight, within 24 hours
+-- the text of a time (Schema.fbs, table Time), z units after midnight; it has one only within 24
+-- hours
 abbrev pub time_text : TimeUnit → ℤ → Option (List ℕ)
 time_text unit z =
     if int_lt z (pos 0) then None
     else if int_lt z (pos (ticks_in_a_day unit)) then Some (time_of_day unit (unsigned_abs z))
     else None
 
--- what stands behind a point in time: `Z` where a time zone is present and not empty
+-- the end of the text of a point in time: `Z` if there is a time zone that is not empty
 abbrev pub zone_text : Option (List ℕ) → List ℕ
 zone_text None = []
 zone_text (Some []) = []
@@ -76,8 +78,8 @@ timestamp_text unit zone z =
     (unsigned_abs (int_rem_euclid z (pos (ticks_in_a_day unit)))) ++ zone_text zone)
     (day_text (int_div_euclid z (pos (ticks_in_a_day unit))))
 
--- the text of a number of this type where it is a date, a time or a point in time, and has one; of
--- a number of another type, what is given
+-- the text of a number that is a date, a time of day or a point in time by this type, if it has
+-- one; for any other type, `other`
 abbrev pub moment_or : Option (List ℕ) → DataType → ℤ → Option (List ℕ)
 moment_or other (t.Date unit) z = date_text unit z
 moment_or other (t.Time unit) z = time_text unit z
@@ -93,6 +95,6 @@ moment_or other t.List z = other
 moment_or other (t.FixedSizeList size) z = other
 moment_or other t.Struct z = other
 
--- the text of a number of this type that is a date, a time or a point in time, where it has one
+-- the text of a number that is a date, a time of day or a point in time by this type, if it has one
 abbrev pub moment_text : DataType → ℤ → Option (List ℕ)
 moment_text kind z = moment_or None kind z

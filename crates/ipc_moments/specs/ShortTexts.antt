@@ -2,7 +2,7 @@
 use Rattle.std.specs.Prelude.{ℕ, ◌≤◌, List}
 use Rattle.std.specs.List.{AllByRecursion}
 
--- bytes from `-` to `Z`, as the digits, marks and letters of dates and times are: none of them has
--- another form in a text of JSON (RFC 8259, section 7) or calls for quotes in CSV (RFC 4180)
+-- the bytes are from `-` to `Z`, as the digits, marks and letters of dates and times are. None of
+-- them is escaped in a JSON text (RFC 8259, section 7) or needs quotes in CSV (RFC 4180)
 abbrev pub IsPlain : List ℕ → Type 0
 IsPlain text = AllByRecursion (λ b. (45 ≤ b) × (b ≤ 90)) text

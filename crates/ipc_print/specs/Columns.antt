@@ -16,7 +16,7 @@ pub record IsShownColumn (f : Field) : Type 0 where
   pub kind : (out-Field f).kind ≡ t.Int B64 true
   pub plain : (out-Field f).dictionary ≡ None
 
--- each column is one
+-- each column has signed 64-bit numbers, without a dictionary
 abbrev pub AreShownColumns : List Field → Type 0
 AreShownColumns fields = AllByRecursion IsShownColumn fields
 
@@ -25,11 +25,11 @@ AreShownColumns fields = AllByRecursion IsShownColumn fields
 abbrev pub number_in : List ℕ → Value
 number_in bytes = Int (cast_signed w64 (from_le_bytes w64 bytes))
 
--- a record of CSV of signed numbers (RFC 4180)
+-- a CSV record of signed numbers (RFC 4180)
 abbrev pub number_record : List Value → List ℕ
 number_record row = row_text default_writer (map cell_text row)
 
--- the numbers of a column of rows, eight bytes each
+-- the numbers of one column of the rows, eight bytes each
 pub record IsLane (rows : List (List Value)) (column : ℕ) (lane : List (List ℕ)) : Type 0 where
   pub long : length rows ≤ length lane
   pub each : (i : ℕ) → i < length rows
@@ -40,11 +40,11 @@ module _ {X : Type 0} (numbers : X → List (List ℕ)) where
   abbrev pub row_in : List X → ℕ → List Value
   row_in columns row = map (λ c. number_in (slice_index_or (numbers c) row [])) columns
 
-  -- each column has so many numbers
+  -- each column has at least this many numbers
   abbrev pub AreLong : List X → ℕ → Type 0
   AreLong columns rows = AllByRecursion (λ c. rows ≤ length (numbers c)) columns
 
-  -- columns, at least one, that have exactly the numbers of the rows
+  -- there is at least one column, and the columns have exactly the numbers of the rows
   pub record AreLent (columns : List X) (rows : List (List Value)) : Type 0 where
     pub some : 0 < length columns
     pub long : AreLong columns (length rows)

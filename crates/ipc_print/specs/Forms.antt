@@ -1,5 +1,5 @@
--- The texts that are printed of a table, in each form: its schema and counts, its rows as JSON (RFC
--- 8259), or records of CSV (RFC 4180).
+-- The texts that are printed for a table, in each form: its schema and counts, its rows as JSON
+-- (RFC 8259), or records of CSV (RFC 4180).
 use Rattle.ipc_model.specs.declared.table.BatchRows.{BatchRows}
 use Rattle.std.specs.Prelude.{◌≡◌, ◌⊎◌, ◌+◌, ◌<◌, ℕ, List, [], ◌∷◌, ◌++◌, length, take, codes}
 use Rattle.std.specs.Prelude.{decimal, Option, None, Result, Ok, Err, ⊤, true, false}
@@ -18,19 +18,19 @@ use Rattle.ipc_moments.specs.declared.fault.TextFault.{TextFault}
 use Rattle.ipc_print.specs.declared.form.Form.{Form}
 use Rattle.ipc_print.specs.declared.form.Form.TheVariants.{Counts, Rows, Records}
 
--- a text where there is one, else nothing
+-- the text, if there is one, else nothing
 abbrev pub text_or_none : Result (List ℕ) TextFault → List ℕ
 text_or_none (Ok text) = text
 text_or_none (Err fault) = []
 
--- why columns have no place in this form: CSV has none for lists and structs, and wants a column
+-- why columns cannot be printed in this form: CSV has no lists and structs, and needs at least one
+-- column
 abbrev pub form_fault : Form → List Field → Option TextFault
 form_fault Counts fields = None
 form_fault (Rows pairs) fields = None
 form_fault Records fields = flat_fault fields
 
--- what is printed in front of the rows: the schema as JSON in front of the counts, and a header in
--- CSV
+-- the text before the rows: the schema as JSON before the counts, and a header in CSV
 abbrev pub front_text : Form → Schema → List ℕ
 front_text Counts s = schema_text s ++ 10 ∷ []
 front_text (Rows pairs) s = []
@@ -40,40 +40,40 @@ front_text Records s = text_or_none (header_text s.fields)
 abbrev pub pairs_line : List (List ℕ × List ℕ) → List ℕ
 pairs_line pairs = codes "{\"metadata\":" ++ pairs_text pairs ++ codes "}\n"
 
--- what is printed in front of a batch's rows: the line of its pairs, where rows come with pairs
+-- the text before a batch's rows: the line of its pairs, if rows are printed with pairs
 abbrev pub head_of : Form → List (List ℕ × List ℕ) → List ℕ
 head_of Counts pairs = []
 head_of (Rows true) pairs = pairs_line pairs
 head_of (Rows false) pairs = []
 head_of Records pairs = []
 
--- what is printed of a row: its JSON text and a line feed, or its record in CSV, where it has one
+-- the text of a row: its JSON text and a line feed, or its record in CSV, if it has one
 abbrev pub line_of : Form → List Field → List Value → List ℕ
 line_of Counts fields row = []
 line_of (Rows pairs) fields row = row_text fields row ++ 10 ∷ []
 line_of Records fields row = text_or_none (row_csv fields row)
 
--- why a row isn't printed, if it isn't: no record has it
+-- why a row cannot be printed: CSV has no record for it
 abbrev pub Lacks : Form → List Field → List Value → TextFault → Type 0
 Lacks Counts fields row fault = ⊥
 Lacks (Rows pairs) fields row fault = ⊥
 Lacks Records fields row fault = row_csv fields row ≡ Err fault
 
--- the row is printed: JSON has a text for each, and CSV a record for this one
+-- the row can be printed: JSON has a text for each row; CSV must have a record for this one
 abbrev pub HasLine : Form → List Field → List Value → Type 0
 HasLine Counts fields row = ⊤
 HasLine (Rows pairs) fields row = ⊤
 HasLine Records fields row = row_csv fields row ≡ Ok (line_of Records fields row)
 
--- each of the rows is
+-- each of the rows can be printed
 abbrev pub HaveLines : Form → List Field → List (List Value) → Type 0
 HaveLines form fields rows = AllByRecursion (HasLine form fields) rows
 
--- each row of the batches is
+-- each row of the batches can be printed
 abbrev pub HaveAllLines : Form → List Field → List BatchRows → Type 0
 HaveAllLines form fields batches = AllByRecursion (λ b. HaveLines form fields b.rows) batches
 
--- the row with this number is the first of these that isn't printed, for this fault
+-- the row with this number is the first that cannot be printed, for this fault
 pub record Refuses (form : Form) (fields : List Field) (rows : List (List Value)) (count : ℕ)
     (fault : TextFault) : Type 0 where
   pub inside : count < length rows
@@ -85,29 +85,29 @@ abbrev pub row_count : List BatchRows → ℕ
 row_count [] = 0
 row_count (b ∷ batches) = length b.rows + row_count batches
 
--- how a stream ended
+-- the text for how a stream ended
 abbrev pub end_text : End → List ℕ
 end_text Mark = codes "mark "
 end_text Closed = codes "closed "
 
--- how a stream of so many bytes ended, and how many batches and rows it has
+-- the text for how a stream of this many bytes ended, and how many batches and rows it has
 abbrev pub counts_text : End → ℕ → ℕ → ℕ → List ℕ
 counts_text end bytes batches rows =
     end_text end ++ decimal bytes ++ codes " bytes " ++ decimal batches ++ codes " batches "
     ++ decimal rows ++ codes " rows\n"
 
--- what is printed at the end of a stream of so many bytes, batches and rows
+-- the text at the end of a stream with this many bytes, batches and rows
 abbrev pub tail_of : Form → End → ℕ → ℕ → ℕ → List ℕ
 tail_of Counts end bytes batches rows = counts_text end bytes batches rows
 tail_of (Rows pairs) end bytes batches rows = []
 tail_of Records end bytes batches rows = []
 
--- the same of these batches; a count stops at 2^64 - 1
+-- the text at the end of a stream with these batches; a count stops at 2^64 - 1
 abbrev pub tail_text : Form → End → ℕ → List BatchRows → List ℕ
 tail_text form end bytes batches =
     tail_of form end bytes (count_up 0 (length batches)) (count_up 0 (row_count batches))
 
--- nothing, or what is printed at the end of a stream with these batches
+-- no text, or the text at the end of a stream with these batches
 abbrev pub IsTail : Form → List BatchRows → List ℕ → Type 0
 IsTail form batches tail = (tail ≡ [])
     ⊎ ((end : End) × ((bytes : ℕ) × (tail ≡ tail_text form end bytes batches)))

@@ -1,5 +1,5 @@
--- The ways in which slots lie that are read by code of their own (Arrow Columnar Format, "Physical
--- Memory Layout").
+-- The kinds of layouts that are read by code of their own (Arrow Columnar Format, "Physical Memory
+-- Layout").
 use Rattle.std.specs.Prelude.{◌≡◌, true, ⊤}
 use Rattle.ipc_model.specs.declared.layout.Layout.{Layout}
 use Rattle.ipc_model.specs.declared.layout.Layout.TheVariants as l
@@ -7,7 +7,7 @@ use Rattle.ipc_model.specs.declared.schema.IntBits.TheVariants.{B32, B64}
 use Rattle.ipc_print.specs.declared.kind.Kind.{Kind}
 use Rattle.ipc_print.specs.declared.kind.Kind.TheVariants as kind
 
--- slots of this layout lie in this way; nothing is said of the others
+-- the layout is of this kind; nothing is stated for `Others`
 abbrev pub Lies : Kind → Layout → Type 0
 Lies kind.Longs layout = layout ≡ l.Numbers B64 true
 Lies kind.Ints layout = layout ≡ l.Numbers B32 true

@@ -4,7 +4,7 @@ use Rattle.std.specs.List.{AllByRecursion}
 use Rattle.ipc_model.specs.declared.value.Value.{Value}
 use Rattle.ipc_model.specs.declared.value.Value.TheVariants as v
 
--- the values that columns have in a row
+-- the value of each column in a row
 abbrev pub row_at : List (List Value) → ℕ → List Value
 row_at columns row = map (λ values. slice_index_or values row v.Null) columns
 
@@ -12,7 +12,7 @@ row_at columns row = map (λ values. slice_index_or values row v.Null) columns
 abbrev pub HaveRow : List (List Value) → ℕ → Type 0
 HaveRow columns row = AllByRecursion (λ values. row < length values) columns
 
--- columns that have exactly the values of the rows
+-- the columns have exactly the values of the rows
 pub record AreColumns (rows columns : List (List Value)) : Type 0 where
   pub have : (i : ℕ) → i < length rows → HaveRow columns i
   pub same : (i : ℕ) → i < length rows → row_at columns i ≡ slice_index_or rows i []

@@ -10,11 +10,11 @@ use Rattle.ipc_column.specs.Values.{first_of, items, row}
 abbrev pub slot_value : Nested → ℕ → Value
 slot_value n i = slice_index_or (slot_values n) i v.Null
 
--- the values of a list, which stand in the first child from one slot up to another
+-- the values of a list, which are in the first child, from slot `from` up to `to`
 abbrev pub list_values : Nested → ℕ → ℕ → List Value
 list_values n from to = items (λ j. first_of (row (below n) j)) from (to - from)
 
--- the values in so many slots of a column
+-- the values in `count` slots of a column, from slot `from` on
 abbrev pub values_between : Nested → ℕ → ℕ → List Value
 values_between n from count = items (slot_value n) from count
 

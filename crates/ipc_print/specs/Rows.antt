@@ -7,7 +7,7 @@ use Rattle.std.specs.Fmt.{signed_decimal}
 use Rattle.ipc_model.specs.declared.value.Value.{Value, out-Value}
 use Rattle.ipc_model.specs.declared.value.Value.TheOpen.{Value-F}
 
--- null or a signed number
+-- the value is null or a signed number
 abbrev pub IsShownIn : Value-F Value → Type 0
 IsShownIn Value-F.Null = ⊤
 IsShownIn (Value-F.Bool truth) = ⊥
@@ -18,37 +18,37 @@ IsShownIn (Value-F.Text text) = ⊥
 IsShownIn (Value-F.List values) = ⊥
 IsShownIn (Value-F.Struct values) = ⊥
 
--- the values of columns of signed numbers: null and signed numbers
+-- the value is one of a column of signed numbers: null or a signed number
 abbrev pub IsShown : Value → Type 0
 IsShown value = IsShownIn (out-Value value)
 
--- the text of a value that is shown
+-- the text of null or a signed number; nothing for any other value
 abbrev pub text_in : Value-F Value → List ℕ
 text_in Value-F.Null = codes "null"
 text_in (Value-F.Int number) = signed_decimal number
 text_in _ = []
 
--- `null`, or the digits of a number behind a minus sign where it is below 0 (RFC 8259, sections 3
--- and 6); no other value is shown
+-- `null`, or the digits of a number, after a minus sign if it is below 0 (RFC 8259, sections 3 and
+-- 6); nothing for any other value
 abbrev pub cell_text : Value → List ℕ
 cell_text value = text_in (out-Value value)
 
--- what stands between so many values and the next one
+-- the text between n values and the next one: a comma, or nothing if n is 0
 abbrev pub comma : ℕ → List ℕ
 comma zero = []
 comma (suc n) = codes ","
 
--- values, each behind a comma
+-- values, each after a comma
 abbrev pub behind_commas : List Value → List ℕ
 behind_commas [] = []
 behind_commas (value ∷ values) = codes "," ++ cell_text value ++ behind_commas values
 
--- the front of a row: a bracket, and values with a comma between each two (RFC 8259, section 5)
+-- the beginning of a row: a bracket, and values separated by commas (RFC 8259, section 5)
 abbrev pub opened : List Value → List ℕ
 opened [] = codes "["
 opened (value ∷ values) = codes "[" ++ cell_text value ++ behind_commas values
 
--- the other bracket, and a line feed
+-- the closing bracket, and a line feed
 abbrev pub closed : List ℕ
 closed = 93 ∷ 10 ∷ []
 
@@ -56,18 +56,18 @@ closed = 93 ∷ 10 ∷ []
 abbrev pub line : List Value → List ℕ
 line row = opened row ++ closed
 
--- each row as a line, one behind another
+-- each row as a line, one after another
 abbrev pub lines : (List Value → List ℕ) → List (List Value) → List ℕ
 lines line_of [] = []
 lines line_of (row ∷ rows) = line_of row ++ lines line_of rows
 
--- batches, one after another: what stands in front of each, by its pairs, and its rows
+-- batches, one after another: the text before each, by its pairs, and its rows
 abbrev pub batch_lines : (List (List ℕ × List ℕ) → List ℕ) → (List Value → List ℕ) → List BatchRows
     → List ℕ
 batch_lines head_of line_of [] = []
 batch_lines head_of line_of (b ∷ batches) =
     (head_of b.pairs ++ lines line_of b.rows) ++ batch_lines head_of line_of batches
 
--- each value of the rows is one that is shown
+-- each value of the rows is null or a signed number
 abbrev pub AreShownRows : List (List Value) → Type 0
 AreShownRows rows = AllByRecursion (AllByRecursion IsShown) rows

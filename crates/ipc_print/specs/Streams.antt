@@ -1,4 +1,4 @@
--- What is read of a stream and printed, whatever the answer.
+-- What is read from a stream and printed, for each result.
 use Rattle.ipc_model.specs.declared.table.BatchRows.{BatchRows}
 use Rattle.std.specs.Prelude.{◌≡◌, ◌≢◌, ◌⊎◌, ◌+◌, ℕ, List, [], ◌∷◌, ◌++◌, length, map, take, Option}
 use Rattle.std.specs.Prelude.{Some, None}
@@ -37,14 +37,14 @@ use Rattle.ipc_print.specs.Forms.{HaveAllLines, Refuses}
 use Rattle.ipc_print.specs.Output.{Output, output, Grows, Puts, PutFails}
 use Rattle.ipc_print.specs.Rows.{lines, batch_lines}
 
--- what is printed of batches with these columns: the front, and for each batch its head and a line
--- for each row
+-- the text that is printed for batches with these columns: the front, and for each batch its head
+-- and a line for each row
 abbrev pub printed : Form → Schema → List BatchRows → List ℕ
 printed form s batches =
     front_text form s ++ batch_lines (head_of form) (line_of form s.fields) batches
 
--- The bytes that were taken denote a table and its end, and exactly its text was printed: the
--- front, the rows in order, and the tail.
+-- the bytes that were taken denote a table and its end, and exactly its text was printed: the
+-- front, the rows in order, and the text at the end
 pub record PrintsTable (form : Form) (limits : Limits) (old new written_old written_new : Option
     (List ℕ)) : Type 0 where
   pub x : List ℕ
@@ -58,27 +58,27 @@ pub record PrintsTable (form : Form) (limits : Limits) (old new written_old writ
   pub text : Appends written_old written_new (printed form table.schema table.batches
       ++ tail_text form end (count_up 0 (length x)) table.batches)
 
--- Why a stream isn't read to its end, and what was printed before.
+-- why a stream is not read to its end, and what was printed before
 pub data Breaks (form : Form) (limits : Limits) (old new written_old written_new : Option (List ℕ))
     (fault : Fault) : Type 0 where
-  -- no schema is read
+  -- no schema was read, and nothing was printed
   unopened : (x : List ℕ) → Consumes old new x → Reads limits None x new [] (Err fault)
       → Keeps written_old written_new → Breaks form limits old new written_old written_new fault
-  -- reading breaks off behind a schema and batches, whose text was printed
+  -- reading broke off after a schema and batches, whose text was printed
   broken : (x : List ℕ) (table : Table) → Consumes old new x
       → Reads limits None x new (events_of table) (Err fault)
       → HaveAllLines form table.schema.fields table.batches
       → Appends written_old written_new (printed form table.schema table.batches)
       → Breaks form limits old new written_old written_new fault
 
--- Why a table that is read isn't printed to its end, and what was printed before.
+-- why a table that is read is not printed to its end, and what was printed before
 pub data Stops (form : Form) (limits : Limits) (old new written_old written_new : Option (List ℕ))
     (fault : TextFault) : Type 0 where
-  -- the form has no place for the columns
+  -- the columns cannot be printed in this form
   unfit : (x : List ℕ) (s : Schema) (σ : State) → Consumes old new x
       → Run limits None x (schema s ∷ []) σ → form_fault form s.fields ≡ Some fault
       → Keeps written_old written_new → Stops form limits old new written_old written_new fault
-  -- a row of the last batch that was read has no text; all that stands before it was printed
+  -- a row of the last batch that was read has no text; all the text before it was printed
   refused : (x : List ℕ) (table : Table) (last : BatchRows) (count : ℕ) (σ : State)
       → Consumes old new x
       → Run limits None x (events_of table ++ batch last ∷ []) σ
@@ -90,7 +90,7 @@ pub data Stops (form : Form) (limits : Limits) (old new written_old written_new 
       ++ lines (line_of form table.schema.fields) (take count last.rows)))
       → Stops form limits old new written_old written_new fault
 
--- Whatever the answer: a beginning of the text of the batches that were read was printed.
+-- for each result: a beginning of the text of the batches that were read was printed
 pub data PrintsSome (form : Form) (limits : Limits) (old new written_old written_new : Option
     (List ℕ)) : Type 0 where
   nothing : (x : List ℕ) → Consumes old new x → Keeps written_old written_new
@@ -105,8 +105,8 @@ abbrev pub text_status : TextFault → ℕ
 text_status x.OutOfMemory = write_fault_status w.OutOfMemory
 text_status _ = 1
 
--- the exit status of a program that stopped so: memory ran out, a device failed, or what was read
--- is refused
+-- the exit status of a program that stopped: memory ran out, a device failed, or what was read is
+-- refused
 abbrev pub stop_status : Stop → ℕ
 stop_status (stop.Read fault message) = fault_status fault
 stop_status (stop.Write fault) = write_fault_status fault
@@ -117,13 +117,14 @@ abbrev pub exit_status : {T : Type 0} → Result T Stop → ℕ
 exit_status (Ok done) = 0
 exit_status (Err why) = stop_status why
 
--- the status is 3 exactly where the source or the sink failed in the call; the numbers count their
--- failures before it and behind it
+-- the status is 3 exactly if the source or the sink failed in the call; the numbers count their
+-- failures before and after it
 pub record TellsDevices (source_old source_new sink_old sink_new status : ℕ) : Type 0 where
   pub failed : status ≡ 3 → (source_new ≡ 1) ⊎ (sink_new ≡ 1)
   pub works : status ≢ 3 → source_old ≡ 0 → sink_old ≡ 0 → (source_new ≡ 0) × (sink_new ≡ 0)
 
--- what an answer says of a stream that is printed: of one that isn't written, a beginning was
+-- what a result states about a stream that is printed; if printing stopped, a beginning of the text
+-- was printed
 abbrev pub Prints : Form → Limits → Option (List ℕ) → Option (List ℕ) → Option (List ℕ)
     → Option (List ℕ) → Result ⊤ Stop → Type 0
 Prints form limits old new written_old written_new (Ok done) =
@@ -135,16 +136,15 @@ Prints form limits old new written_old written_new (Err (stop.Text fault)) =
 Prints form limits old new written_old written_new (Err (stop.Write fault)) =
     (write_fault_status fault ≢ 1) × PrintsSome form limits old new written_old written_new
 
--- the columns of a table have no place in the form, or a row of it is the first of its batch that
--- isn't printed
+-- the columns of a table cannot be printed in the form, or some row cannot, which is the first one
+-- of its batch
 abbrev pub LacksText : Form → Table → TextFault → Type 0
 LacksText form t fault = (form_fault form t.schema.fields ≡ Some fault)
     ⊎ ((b : BatchRows) × ((count : ℕ)
     × (Contains t.batches b × Refuses form t.schema.fields b.rows count fault)))
 
--- What is answered where the source holds a table and its end, in so many bytes, and doesn't fail:
--- its text is printed, or what stands in the way is in the table, or the sink failed or memory ran
--- out.
+-- the result if the source contains a table and its end, of this many bytes, and does not fail. The
+-- text was printed, or the fault is in the table, or the sink failed or memory ran out
 abbrev pub AnswersTable : Form → Table → End → ℕ → Option (List ℕ) → Option (List ℕ)
     → Result ⊤ Stop → Type 0
 AnswersTable form t end bytes written_old written_new (Ok done) = Appends written_old written_new
@@ -158,12 +158,13 @@ AnswersTable form t end bytes written_old written_new (Err (stop.Write fault)) =
 
 -- ---- the steps in between
 
--- how many batches there are, and how many rows they have
+-- a tally counts these batches and their rows; a count stops at 2^64 - 1
 abbrev pub IsTally : Tally → List BatchRows → Type 0
 IsTally tally batches = (tally.batches ≡ count_up 0 (length batches))
     × (tally.rows ≡ count_up 0 (row_count batches))
 
--- what is printed where printing rows ended, behind so many bytes
+-- the text at the end, for an outcome of printing rows and this many bytes; none if reading broke
+-- off or a row was refused
 abbrev pub outcome_tail : Form → Outcome → ℕ → List ℕ
 outcome_tail form (o.Whole end tally) bytes = tail_of form end bytes tally.batches tally.rows
 outcome_tail form (o.Broken fault) bytes = []
@@ -179,7 +180,8 @@ module _ (form : Form) (front : List ℕ) (old new : Reader) (before : Output) w
   abbrev line : List Value → List ℕ
   line = line_of form old.schema.fields
 
-  -- what was read behind the schema, how that ended, and that the rows were put behind a front
+  -- the batches that were read after the schema, how reading ended, and that their rows were put
+  -- after `front`
   pub record PrintsRows (after : Output) (answer : Result End Fault) : Type 0 where
     pub x : List ℕ
     pub batches : List BatchRows
@@ -191,7 +193,8 @@ module _ (form : Form) (front : List ℕ) (old new : Reader) (before : Output) w
     pub have : HaveAllLines form old.schema.fields batches
     pub puts : Puts before after (front ++ batch_lines (head_of form) line batches)
 
-  -- batches that were read behind the schema, and a row of the last of them that isn't printed
+  -- the batches that were read after the schema, and a row of the last of them that cannot be
+  -- printed; all text before it was put
   pub record RefusesRow (after : Output) (fault : TextFault) : Type 0 where
     pub x : List ℕ
     pub batches : List BatchRows
@@ -206,7 +209,8 @@ module _ (form : Form) (front : List ℕ) (old new : Reader) (before : Output) w
         ((front ++ batch_lines (head_of form) line batches)
         ++ (head_of form last.pairs ++ lines line (take count last.rows)))
 
-  -- rows that were read behind the schema, of which with the front a beginning was put
+  -- batches that were read after the schema; the output failed while `front`, their text or the
+  -- text at the end was put
   pub record PrintsPart (written : Option (List ℕ)) (failures : ℕ)
       (fault : PrintFault) : Type 0 where
     pub x : List ℕ
@@ -224,20 +228,21 @@ module _ (form : Form) (front : List ℕ) (old new : Reader) (before : Output) w
         ((front ++ batch_lines (head_of form) line batches) ++ tail) fault
     pub works : fault ≢ p.Write → old.failures ≡ 0 → new.failures ≡ 0
 
-  -- what was read to its end behind the schema, with all its rows put behind a front, and the tail
+  -- all batches were read after the schema; `front`, all their rows and the text at the end were
+  -- put
   pub record PrintsWhole (after : Output) (end : End) : Type 0 where
     pub middle : Output
     pub rows : PrintsRows middle (Ok end)
     pub tail : Puts middle after (tail_text form end new.taken rows.batches)
 
--- the columns have no place in the form, and nothing was taken and printed
+-- the columns cannot be printed in the form; nothing was taken and nothing was printed
 pub record Unfit (form : Form) (old new : Reader) (before after : Output)
     (fault : TextFault) : Type 0 where
   pub unfit : form_fault form old.schema.fields ≡ Some fault
   pub same : new ≡ old
   pub silent : after ≡ before
 
--- what an answer says of the rows behind a front
+-- what a result states about the rows that are printed after `front`
 abbrev pub PrintsBatches : Form → List ℕ → Reader → Reader → Output → Output
     → Result Outcome PrintFault → Type 0
 PrintsBatches form front old new before after (Ok (o.Whole end tally)) =
@@ -250,7 +255,7 @@ PrintsBatches form front old new before after (Ok (o.Refused fault)) =
 PrintsBatches form front old new before after (Err fault) =
     PrintsPart form front old new before after.written after.failures fault
 
--- the same with what is printed at the end
+-- what a result states about the rows and the text at the end that are printed after `front`
 abbrev pub PrintsAll : Form → List ℕ → Reader → Reader → Output → Output
     → Result Outcome PrintFault → Type 0
 PrintsAll form front old new before after (Ok (o.Whole end tally)) =
@@ -258,12 +263,12 @@ PrintsAll form front old new before after (Ok (o.Whole end tally)) =
 PrintsAll form front old new before after answer =
     PrintsBatches form front old new before after answer
 
--- why rows weren't printed, as a refusal of writing
+-- why rows were not printed, as a refusal of writing
 abbrev pub write_fault : PrintFault → WriteFault
 write_fault p.Write = w.Write
 write_fault p.OutOfMemory = w.OutOfMemory
 
--- what an answer says of a stream whose schema was read
+-- what a result states about a stream whose schema was read
 abbrev pub PrintsStream : Form → Reader → Reader → Output → Output → Result ⊤ Stop → Type 0
 PrintsStream form old new before after (Ok done) =
     (form_fault form old.schema.fields ≡ None)
@@ -279,8 +284,8 @@ PrintsStream form old new before after (Err (stop.Write fault)) =
     × PrintsPart form (front_text form old.schema) old new before after.written
     after.failures why
 
--- what printing a batch says: its head and all its rows were put, or those before one that isn't
--- printed
+-- the result of printing a batch: its head and all its rows were put, or those before the first one
+-- that cannot be printed; or the output failed
 abbrev pub PutsRows : Form → List Field → List ℕ → List (List Value) → Output → Option (List ℕ)
     → ℕ → List ℕ → Result (Option TextFault) PrintFault → Type 0
 PutsRows form fields head rows old written failures kept (Ok None) = HaveLines form fields rows

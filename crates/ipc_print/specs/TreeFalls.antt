@@ -1,4 +1,4 @@
--- A column has more columns below it than each of its children.
+-- A column has more columns below it than each of its children has.
 use Rattle.std.specs.Prelude.{◌≡◌, ℕ, suc, ◌+◌, ◌≤◌, List, [], ◌∷◌, map, max}
 use Rattle.std.proofs.Common.{arith}
 use denote.Param.Weighed.{most}
@@ -9,7 +9,7 @@ use Rattle.ipc_column.specs.Nested.{Nested}
 use Rattle.ipc_column.specs.Slots.{nested, nested_in}
 use Rattle.ipc_print.specs.Trees.{count, count_below, count_step, total}
 
--- a column, and all those below its children
+-- the number of columns of a part: itself, and those of its children with all below them
 pub count_is : (p : ColumnRanges)
     → count p ≡ suc (total (map count (out-ColumnRanges p).children.items))
 count_is p = fold_out-ColumnRanges ℕ count_step p
@@ -19,7 +19,7 @@ most_below : (body : List ℕ) (ps : List ColumnRanges)
 most_below body [] = omega arith
 most_below body (p ∷ ps) = omega (arith, count_is p, most_below body ps)
 
--- no child has as many columns below it
+-- each child has fewer columns below it than the column has
 pub fewer_below : (n : Nested) (children : List Nested) → children ≡ nested_in n
     → max (most (λ m. count_below m + 1) children) 0 ≤ count_below n
 fewer_below n children same = rw same (omega (arith, most_below n.body n.children))

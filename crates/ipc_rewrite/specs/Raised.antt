@@ -1,10 +1,10 @@
--- The limits of a stream that is written anew.
+-- The limits of a stream that is rewritten.
 use Rattle.std.specs.Prelude.{◌^◌, ◌-◌, max}
 use Rattle.std.proofs.Math.Dec.{lit≤}
 use Rattle.std.proofs.Math.Nat.{max-le}
 use Rattle.ipc_model.specs.declared.limits.Limits.{Limits}
 
--- each limit, raised to the standard one where it is below
+-- each limit, raised to the standard one if it is below it
 abbrev pub raised_of : Limits → Limits
 raised_of limits = record {
   metadata = max limits.metadata (2 ^ 24);

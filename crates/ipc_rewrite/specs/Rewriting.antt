@@ -1,4 +1,4 @@
--- What is taken of a source and sent to a sink where a stream is written anew.
+-- What is taken from a source and sent to a sink when a stream is rewritten.
 use Rattle.std.specs.Prelude.{◌≡◌, ◌≢◌, ◌+◌, ℕ, List, [], ◌∷◌, ◌++◌, map, Option, Some}
 use Rattle.std.specs.Prelude.{None, Result, Ok, Err, ⊤}
 use Rattle.std.specs.Io.KnownBytes.{Consumes, IsAtEnd}
@@ -29,11 +29,11 @@ use Rattle.ipc_rewrite.specs.declared.stop.Stop.{Stop}
 use Rattle.ipc_rewrite.specs.declared.stop.Stop.TheVariants as stop
 use Rattle.ipc_rewrite.specs.Raised.{raised_of}
 
--- a table with one batch more
+-- a table with one more batch
 abbrev pub with_batch : Table → BatchRows → Table
 with_batch t last = record { schema = t.schema; batches = t.batches ++ last ∷ [] }
 
--- The bytes that were taken denote a table and its end, and that table with the end mark was sent.
+-- the bytes that were taken denote a table and its end, and this table was sent with the end mark
 pub record CopiesTable (limits : Limits) (old new written_old written_new : Option (List ℕ))
     (failures_old failures_new : ℕ) : Type 0 where
   pub x : List ℕ
@@ -46,15 +46,15 @@ pub record CopiesTable (limits : Limits) (old new written_old written_new : Opti
   pub sent : Sent (IsTableOf (raised_of limits) table) written_old written_new failures_old
       failures_new
 
--- Why a stream isn't read to its end, and the messages that were sent before.
+-- why a stream is not read to its end, and the messages that were sent before
 pub data BreaksReading (limits : Limits) (old new written_old written_new : Option (List ℕ))
     (failures_old failures_new : ℕ) (fault : Fault) (message : ℕ) : Type 0 where
-  -- no schema is read, and nothing was asked of the sink
+  -- no schema was read, and the sink was not called
   unopened : (x : List ℕ) → Consumes old new x → Reads limits None x new [] (Err fault)
       → message ≡ 0 → written_new ≡ written_old → failures_new ≡ failures_old
       → BreaksReading limits old new written_old written_new failures_old failures_new fault message
-  -- reading breaks off behind a schema and batches, whose messages were sent; those that were read
-  -- are counted, the schema's included
+  -- reading broke off after a schema and batches, whose messages were sent; `message` counts the
+  -- messages that were read, the schema's included
   broken : (x y : List ℕ) (table : Table) → Consumes old new (x ++ y)
       → OpensStream limits table.schema x
       → (reads : Reads limits (Some (begun table.schema)) y new (map batch table.batches)
@@ -64,8 +64,8 @@ pub data BreaksReading (limits : Limits) (old new written_old written_new : Opti
       failures_new
       → BreaksReading limits old new written_old written_new failures_old failures_new fault message
 
--- Why what was read isn't written, and the messages that were sent before. Of the call that is
--- refused a beginning was sent at W9, and nothing at any other fault.
+-- why what was read is not written, and the messages that were sent before. At W9 a beginning of
+-- the refused message was sent, and at any other fault nothing of it
 pub data BreaksWriting (limits : Limits) (old new written_old written_new : Option (List ℕ))
     (failures_old failures_new : ℕ) (fault : WriteFault) : Type 0 where
   -- the schema that was read is refused
@@ -84,7 +84,7 @@ pub data BreaksWriting (limits : Limits) (old new written_old written_new : Opti
       (kept_after table.schema.fields (none_sent table.schema) table.batches) last) between
       written_new failures failures_new fault
       → BreaksWriting limits old new written_old written_new failures_old failures_new fault
-  -- the stream was read to its end, and all its messages were sent, but not the end mark
+  -- the stream was read to its end, and all its messages were sent; the sink failed at the end mark
   unended : (x : List ℕ) (table : Table) (end : End) (between : Option (List ℕ)) (failures : ℕ)
       → Consumes old new x → Denotes limits x table end → (end ≡ Closed → IsAtEnd new)
       → AcceptsTable (raised_of limits) table
@@ -92,7 +92,7 @@ pub data BreaksWriting (limits : Limits) (old new written_old written_new : Opti
       → fault ≡ w.Write → CutShort EndsStream between written_new failures_new
       → BreaksWriting limits old new written_old written_new failures_old failures_new fault
 
--- what an answer says of a stream that is read under these limits and written under the raised
+-- what a result states about a stream that is read under these limits and written under the raised
 -- ones
 abbrev pub Rewrites : Limits → Option (List ℕ) → Option (List ℕ) → Option (List ℕ)
     → Option (List ℕ) → ℕ → ℕ → Result ⊤ Stop → Type 0
@@ -105,8 +105,8 @@ Rewrites limits old new written_old written_new failures_old failures_new
     (Err (stop.Write fault)) =
     BreaksWriting limits old new written_old written_new failures_old failures_new fault
 
--- What an answer says where the source holds this table: it was sent with the mark, or writing it
--- broke off, or memory ran out in reading it.
+-- the result if the source contains this table: it was sent with the end mark, or writing it broke
+-- off, or memory ran out in reading it
 abbrev pub AnswersTable : Limits → Table → Option (List ℕ) → Option (List ℕ) → ℕ → ℕ
     → Result ⊤ Stop → Type 0
 AnswersTable limits t written_old written_new failures_old failures_new (Ok done) =
@@ -117,15 +117,15 @@ AnswersTable limits t written_old written_new failures_old failures_new
     (Err (stop.Write fault)) =
     BreaksOff limits t written_old written_new failures_old failures_new fault
 
--- with this fault the sink's count of failures went from `old` to `new`: W9 says that it is 1, any
--- other that it stayed
+-- how a fault changes the sink's count of failures: after W9 it is 1; any other fault leaves it as
+-- it was
 pub record TellsSink (old new : ℕ) (fault : WriteFault) : Type 0 where
   pub failed : fault ≡ w.Write → new ≡ 1
   pub stayed : fault ≢ w.Write → new ≡ old
 
--- How often the source and the sink failed before a call and behind it: neither did where it
--- succeeds. Where reading is refused the sink didn't fail in the call, and where writing is refused
--- the source never did.
+-- how a result changes the counts of failures of the source and the sink. Success needs 0 before
+-- and after. If reading is refused, the sink did not fail in the call; if writing is refused, the
+-- source never failed
 abbrev pub TellsFailures : ℕ → ℕ → ℕ → ℕ → Result ⊤ Stop → Type 0
 TellsFailures source_old source_new sink_old sink_new (Ok done) =
     (source_old ≡ 0) × (source_new ≡ 0) × (sink_old ≡ 0) × (sink_new ≡ 0)
@@ -134,9 +134,9 @@ TellsFailures source_old source_new sink_old sink_new (Err (stop.Read fault mess
 TellsFailures source_old source_new sink_old sink_new (Err (stop.Write fault)) =
     (source_old ≡ 0) × (source_new ≡ 0) × TellsSink sink_old sink_new fault
 
--- ---- the batches behind the schema
+-- ---- the batches after the schema
 
--- what was read behind the schema and how that ended, and that all of it was sent
+-- the batches that were read after the schema and how reading ended; all of them were sent
 pub record CopiesRest (old new : Reader) (before after : Writer)
     (answer : Result End Fault) : Type 0 where
   pub x : List ℕ
@@ -150,7 +150,7 @@ pub record CopiesRest (old new : Reader) (before after : Writer)
   pub sent : Sent (SendsBatches before.limits old.schema before.kept batches) before.written
       after.written before.failures after.failures
 
--- batches that were read behind the schema, of which all but the last were sent
+-- the batches that were read after the schema: all but the last were sent, and the last was refused
 pub record RefusesLast (old new : Reader) (before after : Writer)
     (fault : WriteFault) : Type 0 where
   pub x : List ℕ
@@ -169,7 +169,7 @@ pub record RefusesLast (old new : Reader) (before after : Writer)
       (kept_after old.schema.fields before.kept batches) last) between after.written failures
       after.failures fault
 
--- what an answer says of the batches behind the schema
+-- what a result states about the batches after the schema
 abbrev pub CopiesBatches : Reader → Reader → Writer → Writer → Result ⊤ Stop → Type 0
 CopiesBatches old new before after (Ok done) =
     (end : End) × CopiesRest old new before after (Ok end)

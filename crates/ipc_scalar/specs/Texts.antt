@@ -1,9 +1,9 @@
--- What is printed of bytes that denote nothing.
+-- The text that is printed for a fault of the FlatBuffers format.
 use Rattle.std.specs.Prelude.{ℕ, List, codes}
 use Rattle.ipc_scalar.specs.declared.fault.FlatFault.{FlatFault}
 use Rattle.ipc_scalar.specs.declared.fault.FlatFault.TheVariants as f
 
--- what is printed of each fault of the bytes
+-- the text that is printed for each fault of the FlatBuffers format
 abbrev pub flat_fault_text : FlatFault → List ℕ
 flat_fault_text f.OffsetZero = codes "offset 0"
 flat_fault_text f.OutOfBounds = codes "out of bounds"

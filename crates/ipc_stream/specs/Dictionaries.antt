@@ -21,26 +21,27 @@ use Rattle.ipc_decode.specs.Stream.{values_in, with_dictionary}
 abbrev pub none_sent : Schema → List KeptEntry
 none_sent s = unsent (ids_of s.fields)
 
--- what was sent of each dictionary once these batches were, one after another
+-- the values sent of each dictionary after these batches, one after another
 abbrev pub kept_after : List Field → List KeptEntry → List BatchRows → List KeptEntry
 kept_after fields kept [] = kept
 kept_after fields kept (b ∷ more) = kept_after fields (sent_after fields b.rows kept) more
 
--- What was sent is what is in force for a reader: the schema, and of each dictionary the values
--- that were sent last, whatever bytes set them. They are no more than its index types count.
+-- for a reader, this schema is in force, and the values that were sent last of each dictionary,
+-- whatever bytes set them. Each index type of its fields can address them
 pub record IsInForce (s : Schema) (kept : List KeptEntry) (o : InForce) : Type 0 where
   pub schema_is : o.schema ≡ s
   pub values_are : (id : ℤ) → at (values_in o.dictionaries) id ≡ sent_for kept id
   pub counted : AreCounted s.fields kept
 
--- x is messages that tell these batches and nothing else, from each state in which what was sent is
--- in force to one in which it is with them
+-- x is messages that report exactly these batches: from each state in which the values sent are in
+-- force, to one in which they are with those of the batches
 abbrev pub TellsBatches : Limits → Schema → List KeptEntry → List BatchRows → List ℕ → Type 0
 TellsBatches limits s kept batches x = (o : InForce) → IsInForce s kept o
     → (τ : InForce) × (IsInForce s (kept_after s.fields kept batches) τ
     × Run limits (Some o) x (map batch batches) (Some τ))
 
--- x is messages that tell a table, and behind which is in force what its batches sent
+-- x is messages that report a table and lead to a state in which the values that its batches sent
+-- are in force
 abbrev pub TellsTable : Limits → Table → List ℕ → Type 0
 TellsTable limits t x = (τ : InForce)
     × (IsInForce t.schema (kept_after t.schema.fields (none_sent t.schema) t.batches) τ
@@ -52,7 +53,7 @@ abbrev pub IsDictionaryMessage : Limits → Schema → ℤ × List (List Value) 
 IsDictionaryMessage limits s send x = (bytes : ℕ) × ((o : InForce) → o.schema ≡ s
     → IsMessage limits (Some o) x [] (Some (with_dictionary o send.0 send.1 bytes)))
 
--- such messages, one for each of these dictionaries, in their order
+-- x is such messages (`IsDictionaryMessage`), one for each of these dictionaries, in their order
 pub data DictionaryMessages (limits : Limits) (s : Schema) : List (ℤ × List (List Value)) → List ℕ
     → Type 0 where
   sets_none : DictionaryMessages limits s [] []
@@ -60,9 +61,9 @@ pub data DictionaryMessages (limits : Limits) (s : Schema) : List (ℤ × List (
       → IsDictionaryMessage limits s send x → DictionaryMessages limits s sends y
       → DictionaryMessages limits s (send ∷ sends) (x ++ y)
 
--- x is the messages of a batch with these pairs and rows, where these values were sent of each
--- dictionary: one for each dictionary that is sent before it, and behind them one of its own. Read
--- in turn they tell this batch alone
+-- x is the messages of a batch with these pairs and rows, given the values already sent of each
+-- dictionary: one for each dictionary that is sent before it, then its own. Read in turn, they
+-- report exactly this batch
 pub record SendsBatch (limits : Limits) (s : Schema) (kept : List KeptEntry) (b : BatchRows)
     (x : List ℕ) : Type 0 where
   pub dictionaries : List ℕ
@@ -73,7 +74,7 @@ pub record SendsBatch (limits : Limits) (s : Schema) (kept : List KeptEntry) (b 
       → IsMessage limits (Some o) own (batch b ∷ []) (Some o)
   pub in_turn : TellsBatches limits s kept (b ∷ []) x
 
--- those of several batches, one after another
+-- x is the messages of several batches (`SendsBatch`), one after another
 pub data SendsBatches (limits : Limits) (s : Schema) : List KeptEntry → List BatchRows → List ℕ
     → Type 0 where
   sends_none : {kept : List KeptEntry} → SendsBatches limits s kept [] []
@@ -90,21 +91,21 @@ pub record SendsTable (limits : Limits) (t : Table) (x : List ℕ) : Type 0 wher
   pub opens : OpensStream limits t.schema front
   pub sends : SendsBatches limits t.schema (none_sent t.schema) t.batches rest
 
--- x is these and the end mark
+-- x is the messages of a table (`SendsTable`) and the end mark
 abbrev pub SendsStream : Limits → Table → List ℕ → Type 0
 SendsStream limits t x = (y : List ℕ) × (x ≡ y ++ eos) × SendsTable limits t y
 
--- the state behind the messages of so many events of a table: nothing, or the schema with what the
--- batches sent of each dictionary
+-- the state after the messages of the first `count` events of a table: nothing, or the schema with
+-- the values that the batches sent of each dictionary
 abbrev pub IsStateOf : Table → ℕ → State → Type 0
 IsStateOf t zero σ = σ ≡ None
 IsStateOf t (suc count) None = ⊥
 IsStateOf t (suc count) (Some o) = IsInForce t.schema
     (kept_after t.schema.fields (none_sent t.schema) (take count t.batches)) o
 
--- The distinct values that rows have of each dictionary are counted by each index type of its
--- fields, and as the column of one message they are within the limits; so is the metadata of that
--- message.
+-- the distinct values that rows have of each dictionary: each index type of its fields can address
+-- them, and as the column of one message they are within the limits. So is the metadata of that
+-- message
 pub record AreDictionariesWithin (limits : Limits) (fields : List Field)
     (rows : List (List Value)) : Type 0 where
   pub counted : AllFit (tallied fields rows)

@@ -6,11 +6,11 @@ use Rattle.ipc_model.specs.declared.value.Value.{Value}
 use Rattle.ipc_stream.specs.declared.message.Message.{Message}
 use Rattle.ipc_stream.specs.Dictionaries.{IsDictionaryMessage}
 
--- all of them: what stands before the body, and the body
+-- all bytes of a message: those before the body, and the body
 abbrev pub bytes_of : Message → List ℕ
 bytes_of message = message.front.items ++ message.body.items
 
--- those of messages, one after another
+-- the bytes of messages, one after another
 abbrev pub all_bytes : List Message → List ℕ
 all_bytes [] = []
 all_bytes (message ∷ more) = bytes_of message ++ all_bytes more
@@ -20,14 +20,14 @@ all_bytes (message ∷ more) = bytes_of message ++ all_bytes more
 abbrev pub SetsDictionary : Limits → Schema → ℤ → List (List Value) → Message → Type 0
 SetsDictionary limits s id rows message = IsDictionaryMessage limits s (id, rows) (bytes_of message)
 
--- each of the messages does so for the id and the rows beside it
+-- each of the messages sets the dictionary of the id and rows at its index
 abbrev pub SetDictionaries : Limits → Schema → List (ℤ × List (List Value)) → List Message → Type 0
 SetDictionaries limits s [] [] = ⊤
 SetDictionaries limits s (send ∷ sends) (message ∷ more) =
     SetsDictionary limits s send.0 send.1 message × SetDictionaries limits s sends more
 SetDictionaries limits s _ _ = ⊥
 
--- one message more, which does so
+-- one message is appended, which sets the dictionary with this id to these rows
 abbrev pub AddsDictionary : Limits → Schema → ℤ × List (List Value) → List Message → List Message
     → Type 0
 AddsDictionary limits s send old new = (message : Message)

@@ -1,4 +1,4 @@
--- What is seen of a stream whose schema was sent (Arrow Columnar Format, "IPC Streaming Format").
+-- The value of a stream whose schema was sent (Arrow Columnar Format, "IPC Streaming Format").
 use Rattle.std.specs.Prelude.{◌≡◌, ◌≤◌, ℤ, List, Some}
 use Rattle.std.specs.List.{AllByRecursion}
 use Rattle.ipc_model.specs.Entries.{entries}
@@ -17,21 +17,23 @@ use Rattle.ipc_dict.specs.Planning.{after_all}
 use Rattle.ipc_dict.specs.SchemaIds.{ids_of, kept_ids, tally_ids}
 use Rattle.ipc_dict.specs.Within.{dictionary_room_of}
 
--- its limits, its schema, and the values that were sent of each dictionary
+-- a stream whose schema was sent: its limits, its schema, and the values that were sent of each
+-- dictionary
 pub record Opened : Type 0 where
   pub limits : Limits
   pub schema : Schema
   pub kept : List KeptEntry
 
--- These are the columns of the schema's dictionaries, and what was sent of them.
+-- the schema is well formed, these are the columns of its dictionaries, and `kept` has an entry for
+-- each of them
 pub record IsGoingOn (limits : Limits) (s : Schema) (columns : Applied)
     (kept : List KeptEntry) : Type 0 where
   pub well_formed : WellFormed limits s
   pub columns_are : columns.columns ≡ columns_in s.fields
   pub ids : kept_ids kept ≡ ids_of s.fields
 
--- Rows of the one column of a dictionary, beside its id, which its message can have: the column is
--- well formed, the rows fit it, and they and the message are within the limits.
+-- these rows can be sent as the dictionary with the id: its column is well formed, the rows fit it,
+-- and they and the message's metadata are within the limits
 pub record CanBeSent (limits : Limits) (s : Schema) (send : ℤ × List (List Value)) : Type 0 where
   pub columns : List Field
   pub named : columns_for (columns_in s.fields) send.0 ≡ Some columns
@@ -41,7 +43,7 @@ pub record CanBeSent (limits : Limits) (s : Schema) (send : ℤ × List (List Va
   pub within : IsWithin limits columns send.1
   pub short : dictionary_room_of columns ≤ limits.metadata
 
--- a plan leads from what was sent to this
+-- a plan changes the values sent from the old to the new
 pub record Leads (old new : List KeptEntry) (plan : Planned) : Type 0 where
   pub ids : kept_ids old ≡ tally_ids plan.entries
   pub after : after_all old plan.entries plan.numbers ≡ new

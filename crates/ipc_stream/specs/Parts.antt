@@ -14,12 +14,12 @@ use Rattle.ipc_stream.specs.Messages.{bytes_of}
 use Rattle.ipc_stream.specs.Writing.{batch_room_of}
 use Rattle.ipc_stream.specs.declared.message.Message.{Message}
 
--- the head of a batch of so many rows with these parts
+-- the head of a batch with `count` rows and these parts
 abbrev pub head_of : ℕ → Parts → BatchHead
 head_of count parts =
     record { length = pos count; nodes = parts.nodes; buffers = parts.buffers }
 
--- a message tells this batch where these dictionaries are in force, which stay so
+-- a message reports this batch if these dictionaries are in force, and leaves what is in force
 abbrev pub TellsRows : Limits → Dictionaries → Schema → BatchRows → Message → Type 0
 TellsRows limits m s b message = (o : InForce) → o.schema ≡ s → values_in o.dictionaries ≡ m
     → IsMessage limits (Some o) (bytes_of message) (batch b ∷ []) (Some o)
@@ -30,7 +30,7 @@ pub record AcceptsPairs (limits : Limits) (s : Schema) (pairs : List (List ℕ �
   pub short_metadata : batch_room_of s pairs ≤ limits.metadata
   pub allowed_pairs : AllowPairs limits pairs
 
--- W6 with its causes, and out of memory
+-- why pairs are refused: W6 with its causes, or out of memory
 abbrev pub RefusesPairs : Limits → Schema → List (List ℕ × List ℕ) → WriteFault → Type 0
 RefusesPairs limits s pairs w.TooLong =
     (limits.metadata < batch_room_of s pairs) ⊎ ¬ AllowPairs limits pairs

@@ -22,7 +22,7 @@ use Rattle.ipc_stream.specs.Writer.{Writer}
 abbrev pub no_rows : List (List ℕ × List ℕ) → BatchRows
 no_rows pairs = record { pairs = pairs; rows = [] }
 
--- the batch with one row more
+-- the batch with one row appended
 abbrev pub with_row : BatchRows → List Value → BatchRows
 with_row b row = record { pairs = b.pairs; rows = b.rows ++ row ∷ [] }
 
@@ -30,8 +30,8 @@ with_row b row = record { pairs = b.pairs; rows = b.rows ++ row ∷ [] }
 abbrev pub with_rows : List (List ℕ × List ℕ) → List (List Value) → BatchRows
 with_rows pairs rows = record { pairs = pairs; rows = rows }
 
--- The rows and the pairs that are held are exactly this batch, its distinct values are counted, and
--- no argument is a cause of refusing it.
+-- the stored rows and pairs are exactly this batch, its distinct values are counted, and no
+-- argument is a cause for refusing it
 pub record HoldsBatch (limits : Limits) (s : Schema) (b : BatchRows)
     (held : PushedRows) : Type 0 where
   pub tally : held.tally ≡ record {
@@ -45,27 +45,27 @@ pub record HoldsBatch (limits : Limits) (s : Schema) (b : BatchRows)
   pub pairs : held.pairs ≡ b.pairs
   pub accepted : AcceptsBatch limits s b
 
--- Why a batch isn't begun, or a row isn't taken into it: the batch would be refused, and W9 doesn't
--- come, since the sink isn't asked. W10 is what a writer that fails answers.
+-- why a batch is not begun, or a row not taken into it: the batch would be refused. W9 does not
+-- occur, since the sink is not called; a writer that has failed returns W10
 abbrev pub RefusesHeld : Limits → Schema → BatchRows → Bool → WriteFault → Type 0
 RefusesHeld limits s b failed w.Write = ⊥
 RefusesHeld limits s b failed w.Failed = failed ≡ true
 RefusesHeld limits s b failed fault = RefusesBatch limits s b fault
 
--- why a row isn't taken into a batch: it doesn't fit the fields, or the batch with it would be
+-- why a row is not taken into a batch: it does not fit the fields, or the batch with it would be
 -- refused
 abbrev pub RefusesRow : Limits → Schema → BatchRows → List Value → Untaken → Type 0
 RefusesRow limits s b row u.Misfit = RowFits s.fields row → ⊥
 RefusesRow limits s b row (u.Refused fault) =
     RefusesHeld limits s (with_row b row) false (told_of fault)
 
--- What a refusal leaves of a writer of which nothing was to be sent: W11 makes it fail, after any
--- other it is as it was.
+-- the state of a writer after a refusal, if nothing was to be sent: W11 makes it fail; after any
+-- other fault it is as it was
 abbrev pub StaysAt : Writer → Writer → WriteFault → Type 0
 StaysAt old new w.OutOfMemory = (old.failed ≡ false) × (new ≡ record old { failed = true })
 StaysAt old new fault = new ≡ old
 
--- what a call that sends nothing leaves of a writer
+-- the state of a writer after a call that sends nothing
 abbrev pub Stays : {T : Type 0} → Writer → Writer → Result T WriteFault → Type 0
 Stays old new (Ok x) = (old.failed ≡ false) × (new ≡ old)
 Stays old new (Err fault) = StaysAt old new fault

@@ -9,17 +9,19 @@ use Rattle.ipc_model.specs.declared.value.Value.{Value}
 use Rattle.ipc_stream.specs.declared.pushed.PushedRows.{PushedRows}
 use Rattle.ipc_stream.specs.Pushed.{HoldsBatch, with_rows}
 
--- the batch with these rows more
+-- the batch with these rows appended
 abbrev pub with_more : BatchRows → List (List Value) → BatchRows
 with_more b rows = with_rows b.pairs (b.rows ++ rows)
 
--- the batch is held with all of these rows where they were taken, and as it was where they weren't
+-- if the rows were taken, all of them are stored with the batch; if not, the batch is stored as it
+-- was
 abbrev pub HoldsColumns : Limits → Schema → BatchRows → List (List Value) → PushedRows → Bool
     → Type 0
 HoldsColumns limits s b rows held true = HoldsBatch limits s (with_more b rows) held
 HoldsColumns limits s b rows held false = HoldsBatch limits s b held
 
--- why it isn't told whether rows were taken: memory was refused, or the writer had failed
+-- why the call fails instead of returning whether the rows were taken: memory ran out, or the
+-- writer had failed before
 abbrev pub RefusesColumns : Bool → WriteFault → Type 0
 RefusesColumns failed w.OutOfMemory = ⊤
 RefusesColumns failed w.Failed = failed ≡ true

@@ -1,4 +1,4 @@
--- `Items` as a type that may hold the type that holds it.
+-- `Items` in the definition of a recursive type: the facts that Rattle needs for it.
 use mathlib.Core.Path.{◌≡◌, refl, sym}
 use mathlib.Core.List.{List, []}
 use mathlib.Core.Former.{Former, this, list, via, children}
