@@ -154,6 +154,8 @@ pub fn run<P: Source, R: Read, W: Sink, E: Write>(
     ensures works { result.0 ≢ 3 → W.failures sink ≡ 0 → W.failures result.2 ≡ 0 }
     // There is no other status.
     ensures one { (result.0 ≡ 0) ⊎ (result.0 ≡ 1) ⊎ (result.0 ≡ 3) ⊎ (result.0 ≡ 4) }
+    // At 0 no message is written.
+    ensures silent { result.0 ≡ 0 → E.contents messages.new ≡ E.contents messages.old }
 {
     run_with_seed(alloc, Seed::Fixed, job, schema, input, sink, messages)
 }
@@ -181,12 +183,14 @@ pub fn run_with_seed<P: Source, R: Read, W: Sink, E: Write>(
     ensures works { result.0 ≢ 3 → W.failures sink ≡ 0 → W.failures result.2 ≡ 0 }
     // There is no other status.
     ensures one { (result.0 ≡ 0) ⊎ (result.0 ≡ 1) ⊎ (result.0 ≡ 3) ⊎ (result.0 ≡ 4) }
+    // At 0 no message is written.
+    ensures silent { result.0 ≡ 0 → E.contents messages.new ≡ E.contents messages.old }
 {
     let (result, input, sink, schema) = do_job(alloc, seed, job, schema, input, sink);
     match result {
         Ok(()) => (0, input, sink, schema),
         Err(stop) => {
-            stop.tell(messages);
+            let _ = stop.write_line(messages);
             (stop.exit_status(), input, sink, schema)
         }
     }

@@ -1,9 +1,13 @@
 //! Why a job stopped, as an exit status and a line.
-ghost use Rattle.std.specs.Prelude.{◌≡◌};
+ghost use Rattle.std.specs.Prelude.{◌≡◌, ◌∷◌, ◌++◌, [], OnOk, Some};
+ghost use Rattle.std.specs.Io.KnownBytes.{Appends};
 ghost use Rattle.ipc_command.specs.Jobs.{stop_of_csv, stop_of_print, stop_of_rewrite, stop_status};
+ghost use Rattle.ipc_command.specs.Lines.{stop_text};
 
 use ipc_model::{Fault, WriteFault};
 use ipc_moments::TextFault;
+use std::fmt;
+use std::io;
 use std::io::Write;
 
 /// Why a job stopped.
@@ -82,15 +86,28 @@ impl Stop {
         }
     }
 
-    /// Tells it as one line. A failing writer changes nothing.
-    pub fn tell<E: Write>(&self, messages: &mut E) {
-        let _ = match self {
-            Stop::Read(fault, message) => writeln!(messages, "{}", fault.at_message(*message)),
-            Stop::Input => writeln!(messages, "{}", Fault::Read),
-            Stop::Schema => writeln!(messages, "cannot read schema"),
-            Stop::Write(WriteFault::OutOfMemory) => writeln!(messages, "out of memory"),
-            Stop::Write(fault) => writeln!(messages, "{fault}"),
-            Stop::Text(fault) => writeln!(messages, "{fault}"),
-        };
+    /// Writes it as one line. An error is the writer's.
+    pub fn write_line<E: Write>(&self, messages: &mut E) -> io::Result<()>
+        ensures line { OnOk result (Appends (E.contents messages.old) (E.contents messages.new)
+            (stop_text self.now ++ 10 ∷ [])) }
+    {
+        writeln!(messages, "{self}")
+    }
+}
+
+/// The fault with the number of its message, as in `F4 Truncated at message 1`. The input and the
+/// schema's file have a line without a message, and out of memory has no number.
+impl fmt::Display for Stop {
+    ghost output = { λ stop. Some (stop_text stop) };
+
+    fn fmt<W: fmt::Write>(&self, f: &mut fmt::Formatter<W>) -> fmt::Result {
+        match self {
+            Stop::Read(fault, message) => write!(f, "{}", fault.at_message(*message)),
+            Stop::Input => write!(f, "{}", Fault::Read),
+            Stop::Schema => f.write_str("cannot read schema"),
+            Stop::Write(WriteFault::OutOfMemory) => f.write_str("out of memory"),
+            Stop::Write(fault) => write!(f, "{fault}"),
+            Stop::Text(fault) => write!(f, "{fault}"),
+        }
     }
 }

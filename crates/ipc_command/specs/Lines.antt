@@ -1,0 +1,22 @@
+-- The line that is printed for a job that stopped.
+use Rattle.std.specs.Prelude.{ℕ, List, codes}
+use Rattle.ipc_model.specs.Texts.{fault_text, stop_line, write_fault_text}
+use Rattle.ipc_model.specs.declared.fault.Fault.TheVariants as f
+use Rattle.ipc_model.specs.declared.fault.WriteFault.{WriteFault}
+use Rattle.ipc_model.specs.declared.fault.WriteFault.TheVariants as w
+use Rattle.ipc_moments.specs.FaultLines.{text_fault_line}
+use Rattle.ipc_command.specs.declared.stop.Stop.{Stop}
+use Rattle.ipc_command.specs.declared.stop.Stop.TheVariants as stop
+
+-- the line of a refusal of the writer; if memory ran out, it has no number
+abbrev pub write_line : WriteFault → List ℕ
+write_line w.OutOfMemory = codes "out of memory"
+write_line fault = write_fault_text fault
+
+-- the line of a job that stopped, without its line feed
+abbrev pub stop_text : Stop → List ℕ
+stop_text (stop.Read fault message) = stop_line fault message
+stop_text stop.Input = fault_text f.Read
+stop_text stop.Schema = codes "cannot read schema"
+stop_text (stop.Write fault) = write_line fault
+stop_text (stop.Text fault) = text_fault_line fault
