@@ -13,10 +13,7 @@ use Rattle.ipc_decode.specs.declared.phase.Phase.{Phase}
 use Rattle.ipc_decode.specs.declared.phase.Phase.TheVariants.{Reading, Ended, Refused}
 use Rattle.ipc_decode.specs.Failures.{Tells}
 use Rattle.ipc_decode.specs.Reader.{EndsBehind, LeadsTo, Reader, in_force_of, NextAnswer, NextCall, end_of}
-use Rattle.ipc_decode.specs.Reasons.{Reads}
 use Rattle.ipc_decode.specs.Stream.{batch, Run, done}
-use Rattle.ipc_decode.proofs.Readers.{leads_run, ends_reads}
-use Rattle.ipc_decode.proofs.Runs.{run_then, reads_after}
 use Rattle.ipc_print.specs.declared.rows.PrintFault.{PrintFault}
 use Rattle.ipc_model.specs.declared.schema.Field.{Field}
 use Rattle.ipc_model.specs.declared.schema.Schema.{Schema}
@@ -31,6 +28,7 @@ use Rattle.ipc_print.specs.Streams.{PrintsRows, PrintsPart, PrintsBatches, PutsR
 use Rattle.ipc_print.proofs.Puts.{puts_then, puts_not_then, puts_not_more, puts_none}
 use Rattle.ipc_print.proofs.Shown.{all_more}
 use Rattle.ipc_print.proofs.Lines.{put_at, not_at}
+use Rattle.ipc_print.proofs.Messages.{Came, Counted, ReadsCounted, came, counted_then, ends_counted, reads_then}
 use Rattle.ipc_print.proofs.Texts.{batch_lines_more}
 use Rattle.ipc_print.proofs.BatchesShown.{batch_shown}
 use Rattle.std.proofs.Common.{◌+◌, length, inl, arith}
@@ -38,7 +36,7 @@ use Rattle.std.specs.Prelude.{unwrap_or}
 use Rattle.std.proofs.lemmas.List.{length-append}
 use Rattle.ipc_decode.specs.declared.end.End.TheVariants.{Closed}
 use Rattle.ipc_decode.specs.Reader.{end_of}
-use Rattle.ipc_decode.specs.Counts.{count_up}
+use Rattle.ipc_decode.specs.Counts.{count_up, messages_in}
 use Rattle.ipc_print.specs.declared.stop.Tally.{Tally}
 use Rattle.ipc_print.specs.Forms.{row_count}
 use Rattle.ipc_print.specs.Streams.{IsTally}
@@ -54,6 +52,7 @@ pub record Batches (form : Form) (tally : Tally) (old now : Reader) (before afte
   pub same_limits : now.limits ≡ old.limits
   pub counts : now.failures ≡ old.failures
   pub counted : (k : ℕ) → old.taken ≡ count_up 0 k → now.taken ≡ count_up 0 (k + length x)
+  pub numbered : (k : ℕ) → old.messages ≡ count_up 0 k → now.messages ≡ count_up 0 (k + messages_in run)
   pub tallies : IsTally tally batches
   pub have : HaveAllLines form old.schema.fields batches
   pub puts : Puts before after (batch_lines (head_of form) (line_of form old.schema.fields) batches)
@@ -73,6 +72,7 @@ batches_none form r o reading = record {
   same_limits = refl;
   counts = refl;
   counted = λ k is. is ∙ ap (count_up 0) (sym (zero_more k));
+  numbered = λ k is. is ∙ ap (count_up 0) (sym (zero_more k));
   tallies = (omega arith, omega arith);
   have = tt;
   puts = puts_none o;
@@ -123,25 +123,25 @@ module _ (form : Form) (tally : Tally) (old now new : Reader) (before after : Ou
 
   -- the batch that came, under the limits that the reader was opened with
   found_run : (found : Found) → (t : NextCall now new (Ok (Some found)))
-      → (new.phase ≡ Reading) × Run old.limits (Some (in_force_of now)) t.x (batch (rows_of found) ∷ []) (Some (in_force_of new))
+      → (new.phase ≡ Reading) × Came old.limits now new t.x (rows_of found)
   found_run found t =
-      let h = gave now new now.phase new.phase t.x found b.reading t.gives in (
-        h.0,
-        subst (λ limits. Run limits (Some (in_force_of now)) t.x (batch (rows_of found) ∷ []) (Some (in_force_of new))) b.same_limits
-            (leads_run now new t.x (batch (rows_of found)) h.1),
-      )
+      let h = gave now new now.phase new.phase t.x found b.reading t.gives in
+      (h.0, subst (λ limits. Came limits now new t.x (rows_of found)) b.same_limits (came now new t.x (rows_of found) h.1))
 
   -- the rows of a batch whose columns are all shown have values that are shown
   pub found_shown : (found : Found) → NextCall now new (Ok (Some found)) → AreShownColumns old.schema.fields → AreShownRows found.0.rows
   found_shown found t columns = batch_shown (in_force_of now) (Some (in_force_of new)) t.x (rows_of found)
-      (subst (λ (s : Schema). AreShownColumns s.fields) (sym b.same) columns) (found_run found t).1
+      (subst (λ (s : Schema). AreShownColumns s.fields) (sym b.same) columns) (found_run found t).1.run.0
 
+  -- the messages of the batches before, and of the one that came
   more_run : (found : Found) (t : NextCall now new (Ok (Some found)))
-      → Run old.limits (Some (in_force_of old)) (b.x ++ t.x) (map batch (b.batches ++ rows_of found ∷ [])) (Some (in_force_of new))
+      → Counted old.limits (Some (in_force_of old)) (b.x ++ t.x) (map batch (b.batches ++ rows_of found ∷ [])) (Some (in_force_of new))
+      (messages_in b.run + (found_run found t).1.count)
   more_run found t =
-      subst (λ es. Run old.limits (Some (in_force_of old)) (b.x ++ t.x) es (Some (in_force_of new)))
+      let came = (found_run found t).1 in
+      subst (λ es. Counted old.limits (Some (in_force_of old)) (b.x ++ t.x) es (Some (in_force_of new)) (messages_in b.run + came.count))
       (sym (map-append batch b.batches (rows_of found ∷ [])))
-      (run_then _ _ _ b.x t.x (map batch b.batches) (batch (rows_of found) ∷ []) b.run (found_run found t).1)
+      (counted_then _ _ _ b.x t.x (map batch b.batches) (batch (rows_of found) ∷ []) _ _ (b.run, refl) came.run)
 
   -- what was put of a batch, by the fields that are in force
   same_puts : (fields : List Field) (found : Found) (w : Option (List ℕ)) (n : ℕ) (k : List ℕ) (r : Result (Option TextFault) PrintFault)
@@ -156,6 +156,10 @@ module _ (form : Form) (tally : Tally) (old now new : Reader) (before after : Ou
       let long = length-append b.x t.x in
       omega (arith, before, long, t.counted)
 
+  numbered_more : (found : Found) (t : NextCall now new (Ok (Some found))) (k : ℕ) → old.messages ≡ count_up 0 k
+      → new.messages ≡ count_up 0 (k + messages_in (more_run found t).0)
+  numbered_more found t k is = omega (arith, b.numbered k is, (found_run found t).1.messages, (more_run found t).1)
+
   -- where one batch more is read and its rows are put, the batches that were printed are those from before and it
   pub batches_more : (fields : List Field) (found : Found) (next : Tally) (w : Option (List ℕ)) (n : ℕ) (k : List ℕ)
       → next.batches ≡ count_up tally.batches 1 → next.rows ≡ count_up tally.rows (length found.0.rows)
@@ -167,12 +171,13 @@ module _ (form : Form) (tally : Tally) (old now new : Reader) (before after : Ou
         x = b.x ++ t.x;
         batches = b.batches ++ rows_of found ∷ [];
         bytes = Consumes-trans old.remaining now.remaining new.remaining b.x t.x b.bytes t.bytes;
-        run = more_run found t;
+        run = (more_run found t).0;
         reading = (found_run found t).0;
         same = t.same_schema ∙ b.same;
         same_limits = t.same_limits ∙ b.same_limits;
         counts = works ∙ b.counts;
         counted = counted_more found t;
+        numbered = numbered_more found t;
         tallies = tally_more tally next b.batches (rows_of found) b.tallies one all;
         have = all_more (λ q. HaveLines form old.schema.fields q.rows) b.batches (rows_of found) b.have q.0;
         puts = put_at before (output w n k) _ _ (batch_lines_more line (head_of form) b.batches (rows_of found))
@@ -194,7 +199,7 @@ module _ (form : Form) (tally : Tally) (old now new : Reader) (before after : Ou
           count = q.0;
           bytes = Consumes-trans old.remaining now.remaining new.remaining b.x t.x b.bytes t.bytes;
           state = Some (in_force_of new);
-          run = more_run found t;
+          run = (more_run found t).0;
           have = b.have;
           refuses = q.1;
           puts = puts_then before after (output w n k) (batch_lines (head_of form) line b.batches) _ b.puts q.2;
@@ -216,7 +221,7 @@ module _ (form : Form) (tally : Tally) (old now new : Reader) (before after : Ou
         whole = b.x ++ t.x;
         joined = sym (append-nil (b.x ++ t.x));
         state = Some (in_force_of new);
-        run = more_run found t;
+        run = (more_run found t).0;
         tail = [];
         ends = inl refl;
         puts = puts_not_more before w n _ [] e (not_at before w n _ _ e (batch_lines_more line (head_of form) b.batches (rows_of found))
@@ -225,12 +230,15 @@ module _ (form : Form) (tally : Tally) (old now new : Reader) (before after : Ou
         works = λ other z. works ∙ (b.counts ∙ z);
       }
 
-  behind : (y : List ℕ) (r : Result End Fault) → EndsBehind now new y r
-      → Reads old.limits (Some (in_force_of old)) (b.x ++ y) new.remaining (map batch b.batches) r
+  behind : (y : List ℕ) (r : Result End Fault) (h : EndsBehind now new y r)
+      → ReadsCounted old.limits (Some (in_force_of old)) (b.x ++ y) new.remaining (map batch b.batches) r
+      (messages_in b.run + messages_in h.run)
   behind y r h =
-      subst (λ es. Reads old.limits (Some (in_force_of old)) (b.x ++ y) new.remaining es r) (append-nil (map batch b.batches))
-      (reads_after _ _ b.x y new.remaining (map batch b.batches) [] r b.run
-      (subst (λ limits. Reads limits (Some (in_force_of now)) y new.remaining [] r) b.same_limits (ends_reads now new y r h)))
+      subst (λ es. ReadsCounted old.limits (Some (in_force_of old)) (b.x ++ y) new.remaining es r (messages_in b.run + messages_in h.run))
+      (append-nil (map batch b.batches))
+      (reads_then _ _ b.x y new.remaining (map batch b.batches) [] r _ _ (b.run, refl)
+      (subst (λ limits. ReadsCounted limits (Some (in_force_of now)) y new.remaining [] r (messages_in h.run)) b.same_limits
+      (ends_counted now new y r h)))
 
   printed : (y : List ℕ) (r : Result End Fault) → Consumes now.remaining new.remaining y → new.taken ≡ count_up now.taken (length y)
       → EndsBehind now new y r → PrintsRows form [] old new before after r
@@ -238,11 +246,12 @@ module _ (form : Form) (tally : Tally) (old now new : Reader) (before after : Ou
     x = b.x ++ y;
     batches = b.batches;
     bytes = Consumes-trans old.remaining now.remaining new.remaining b.x y b.bytes bytes;
-    reads = behind y r h;
+    reads = (behind y r h).0;
     counted = λ k is.
         let before = b.counted k is in
         let long = length-append b.x y in
         omega (arith, before, long, more);
+    numbered = λ k is. omega (arith, b.numbered k is, h.messages, (behind y r h).1);
     have = b.have;
     puts = b.puts;
   }

@@ -60,6 +60,7 @@ module _ (form : Form) (front : List ℕ) (old new : Reader) where
     bytes = q.bytes;
     reads = q.reads;
     counted = q.counted;
+    numbered = q.numbered;
     have = q.have;
     puts = puts_then before mid after front (batch_lines (head_of form) line_in q.batches) p q.puts;
   }
@@ -114,6 +115,7 @@ module _ (form : Form) (front : List ℕ) (old new : Reader) where
       bytes = p.bytes;
       reads = p.reads;
       counted = p.counted;
+      numbered = p.numbered;
       have = p.have;
       puts = put_at before after _ _ (append-nil (front ++ batch_lines (head_of form) line_in p.batches))
           (puts_then before mid after _ [] p.puts q);

@@ -27,7 +27,7 @@ use Rattle.ipc_print.specs.Forms.{form_fault, tail_text}
 use Rattle.ipc_print.specs.Output.{Output}
 use Rattle.ipc_print.specs.Streams.{AnswersTable, Breaks, LacksText, Prints, PrintsStream, PrintsTable, Stops, broken, printed, refused}
 use Rattle.ipc_print.specs.Streams.{unfit, unopened}
-use Rattle.ipc_print.proofs.Streams.{one_more}
+use Rattle.ipc_print.proofs.Streams.{one_more, reads_opened}
 
 -- how often the source failed is told where reading is refused
 abbrev pub TellsRead : ℕ → ℕ → Result ⊤ Stop → Type 0
@@ -37,10 +37,11 @@ TellsRead old new (Err (stop.Write fault)) = ⊤
 TellsRead old new (Err (stop.Text fault)) = ⊤
 
 -- why reading broke off, as what was taken
-broken_taken : {limits : Limits} → (form : Form) (old new w0 w1 : Option (List ℕ)) (fault : Fault) → Breaks form limits old new w0 w1 fault
-    → TakesTable limits old new (Err fault)
-broken_taken form old new w0 w1 fault (unopened x bytes reads kept) = record { x = x; bytes = bytes; gives = ([], reads) }
-broken_taken form old new w0 w1 fault (broken x u bytes reads have text) = record { x = x; bytes = bytes; gives = (events_of u, reads) }
+broken_taken : {limits : Limits} → (form : Form) (old new w0 w1 : Option (List ℕ)) (fault : Fault) (n : ℕ)
+    → Breaks form limits old new w0 w1 fault n → TakesTable limits old new (Err fault)
+broken_taken form old new w0 w1 fault n (unopened x bytes reads number kept) = record { x = x; bytes = bytes; gives = ([], reads) }
+broken_taken form old new w0 w1 fault n (broken x y u bytes opens reads number have text) =
+    record { x = x ++ y; bytes = bytes; gives = (events_of u, reads_opened x y u new (Err fault) opens reads) }
 
 -- a table that was printed, as what was taken
 printed_taken : {limits : Limits} → (form : Form) (old new w0 w1 : Option (List ℕ)) (p : PrintsTable form limits old new w0 w1)
@@ -101,7 +102,7 @@ module _ {limits : Limits} (form : Form) (old new w0 w1 : Option (List ℕ)) (g0
       text_of form w0 w1 p.table t p.end Mark (length p.x) (length x) same.0 same.1
       (ap length (sym (same_marked x rest p.x left.0 t d read left.1))) p.text
   printed_marked (Err (stop.Read fault n)) tells p x rest t is d =
-      answers_marked old new g0 g1 (Err fault) (broken_taken form old new w0 w1 fault p) none tells x rest t is d
+      answers_marked old new g0 g1 (Err fault) (broken_taken form old new w0 w1 fault n p) none tells x rest t is d
   printed_marked (Err (stop.Text fault)) tells p x rest t is d =
       lacking form (x ++ rest) t (holds_marked x rest t d) new w0 w1 fault
       (subst (λ (o : Option (List ℕ)). Stops form limits o new w0 w1 fault) is p)
@@ -116,7 +117,7 @@ module _ {limits : Limits} (form : Form) (old new w0 w1 : Option (List ℕ)) (g0
       text_of form w0 w1 p.table t p.end Closed (length p.x) (length x) same.0 same.1
       (ap length (same_closed x p.x new here (p.closed same.1))) p.text
   printed_closed (Err (stop.Read fault n)) tells p x t is d =
-      answers_closed old new g0 g1 (Err fault) (broken_taken form old new w0 w1 fault p) none tells x t is d
+      answers_closed old new g0 g1 (Err fault) (broken_taken form old new w0 w1 fault n p) none tells x t is d
   printed_closed (Err (stop.Text fault)) tells p x t is d =
       lacking form x t (holds_closed x t d) new w0 w1 fault (subst (λ (o : Option (List ℕ)). Stops form limits o new w0 w1 fault) is p)
   printed_closed (Err (stop.Write fault)) tells p x t is d = p.0

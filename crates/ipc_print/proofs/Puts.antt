@@ -31,13 +31,13 @@ grows_kept (Some xs) k0 k1 t e = ap (λ (l : List ℕ). xs ++ l) e ∙ sym (appe
 
 -- nothing was put
 pub puts_none : (o : Output) → Puts o o []
-puts_none o = record { bytes = grows_none o.written o.kept; works = λ z. z }
+puts_none o = record { bytes = grows_none o.written o.kept; stayed = refl }
 
 -- one text and then another
 pub puts_then : (a b c : Output) (t u : List ℕ) → Puts a b t → Puts b c u → Puts a c (t ++ u)
 puts_then a b c t u p q = record {
   bytes = grows_then a.written b.written c.written a.kept b.kept c.kept t u p.bytes q.bytes;
-  works = λ z. q.works (p.works z);
+  stayed = q.stayed ∙ p.stayed;
 }
 
 -- nothing, and then a text
@@ -51,7 +51,7 @@ puts_not_then a b w n t u e p q = record {
   behind = q.behind;
   bytes = grows_then a.written b.written w a.kept b.kept q.behind t u p.bytes q.bytes;
   failed = q.failed;
-  works = λ other z. q.works other (p.works z);
+  stayed = λ other. q.stayed other ∙ p.stayed;
 }
 
 -- what was not put wasn't put with more behind it
@@ -61,7 +61,7 @@ puts_not_more a w n t u e q = record {
   behind = q.behind ++ u;
   bytes = grows_more a.written w a.kept q.behind t u q.bytes;
   failed = q.failed;
-  works = q.works;
+  stayed = q.stayed;
 }
 
 -- where the front of a text was not put, the whole text was not
@@ -71,7 +71,7 @@ puts_not_front a w n t u whole e is q = subst (λ (x : List ℕ). PutFails a w n
 
 -- a text that is kept
 pub puts_kept : (w : Option (List ℕ)) (n : ℕ) (k0 k1 t : List ℕ) → k1 ≡ k0 ++ t → Puts (output w n k0) (output w n k1) t
-puts_kept w n k0 k1 t e = record { bytes = grows_kept w k0 k1 t e; works = λ z. z }
+puts_kept w n k0 k1 t e = record { bytes = grows_kept w k0 k1 t e; stayed = refl }
 
 -- memory ran out before any of it was put
 pub puts_never : (o : Output) (t : List ℕ) → PutFails o o.written o.failures t OutOfMemory
@@ -80,7 +80,7 @@ puts_never o t = record {
   bytes = subst (λ (x : List ℕ). Grows o.written o.kept o.written (o.kept ++ t) x) refl
       (grows_more o.written o.written o.kept o.kept [] t (grows_none o.written o.kept));
   failed = λ is. absurd (cc);
-  works = λ other z. z;
+  stayed = λ other. refl;
 }
 
 -- ---- sending
@@ -106,7 +106,7 @@ sent_cut old now new f0 f1 f2 bytes sent i kept failed = record {
   behind = drop sent bytes;
   bytes = grows_same old now new bytes (drop sent bytes) [] (grows_sent old now bytes sent i.appended) kept;
   failed = λ is. failed;
-  works = λ other. absurd (other refl);
+  stayed = λ other. absurd (other refl);
 }
 
 -- all of the bytes went out
@@ -114,7 +114,7 @@ pub sent_all : (old now : Option (List ℕ)) (f0 f1 : ℕ) (bytes : List ℕ) (s
     → Puts (output old f0 bytes) (output now f1 []) []
 sent_all old now f0 f1 bytes sent i all = record {
   bytes = subst (λ (k : List ℕ). Grows old bytes now k []) (drop_all sent bytes all) (grows_sent old now bytes sent i.appended);
-  works = λ z. i.same ∙ z;
+  stayed = i.same;
 }
 
 -- the sink failed at the flush
@@ -124,15 +124,15 @@ flush_cut a now new n m p kept failed = record {
   behind = [];
   bytes = grows_same a.written now new a.kept [] [] p.bytes kept;
   failed = λ is. failed;
-  works = λ other. absurd (other refl);
+  stayed = λ other. absurd (other refl);
 }
 
 -- all of what was kept went out, and the flush succeeded
-pub flush_done : (a : Output) (now new : Option (List ℕ)) (n m : ℕ) → Puts a (output now n []) [] → Keeps now new → m ≡ 0
+pub flush_done : (a : Output) (now new : Option (List ℕ)) (n m : ℕ) → Puts a (output now n []) [] → Keeps now new → (n ≡ 0) × (m ≡ 0)
     → Puts a (output new m []) []
 flush_done a now new n m p kept works = record {
   bytes = grows_same a.written now new a.kept [] [] p.bytes kept;
-  works = λ z. works;
+  stayed = works.1 ∙ (sym works.0 ∙ p.stayed);
 }
 
 grows_whole : (a b : Option (List ℕ)) (word behind : List ℕ) → Grows a word b behind [] → Grows a [] b behind word
@@ -144,7 +144,7 @@ grows_whole (Some xs) (Some ys) word behind p =
 -- a text that was sent by itself was put
 pub puts_sent : (w v : Option (List ℕ)) (n m : ℕ) (word : List ℕ) → Puts (output w n word) (output v m []) []
     → Puts (output w n []) (output v m []) word
-puts_sent w v n m word p = record { bytes = grows_whole w v word [] p.bytes; works = p.works }
+puts_sent w v n m word p = record { bytes = grows_whole w v word [] p.bytes; stayed = p.stayed }
 
 -- a text that was sent by itself and not whole was not put
 pub puts_not_sent : (w v : Option (List ℕ)) (n m : ℕ) (word : List ℕ) (e : PrintFault) → PutFails (output w n word) v m [] e
@@ -153,5 +153,5 @@ puts_not_sent w v n m word e q = record {
   behind = q.behind;
   bytes = grows_whole w v word q.behind q.bytes;
   failed = q.failed;
-  works = q.works;
+  stayed = q.stayed;
 }

@@ -11,7 +11,7 @@ use Rattle.ipc_decode.specs.declared.end.End.{End}
 use Rattle.ipc_decode.specs.declared.end.End.TheVariants.{Mark, Closed}
 use Rattle.ipc_decode.specs.Reader.{Reader, in_force_of, Opens, OpenFails}
 use Rattle.ipc_decode.specs.Reasons.{Reads, Ends}
-use Rattle.ipc_decode.specs.Stream.{State, Event, schema, batch, Run, Denotes, events_of}
+use Rattle.ipc_decode.specs.Stream.{State, Event, schema, batch, begun, Run, Denotes, OpensStream, events_of}
 use Rattle.ipc_model.specs.declared.fault.WriteFault.{WriteFault}
 use Rattle.ipc_model.specs.Numbering.{write_fault_status}
 use Rattle.ipc_moments.specs.declared.fault.TextFault.{TextFault}
@@ -21,13 +21,14 @@ use Rattle.ipc_print.specs.declared.rows.PrintFault.TheVariants as p
 use Rattle.ipc_print.specs.declared.stop.Stop.{Stop}
 use Rattle.ipc_print.specs.declared.stop.Stop.TheVariants as stop
 use Rattle.ipc_print.specs.Forms.{front_text, head_of, line_of, tail_text}
-use Rattle.ipc_decode.specs.Counts.{count_up}
+use Rattle.ipc_decode.specs.Counts.{count_up, messages_in}
 use Rattle.std.specs.Prelude.{length}
 use Rattle.ipc_print.specs.Output.{Output, output, Grows}
 use Rattle.ipc_print.specs.Rows.{lines, batch_lines}
 use Rattle.ipc_print.specs.Streams.{PrintsTable, Breaks, unopened, broken, Stops, unfit, refused, PrintsSome, nothing, some, PrintsStream}
 use Rattle.ipc_print.specs.Streams.{Prints, PrintsRows, PrintsPart, RefusesRow, write_fault}
 use Rattle.ipc_print.specs.Streams.{printed}
+use Rattle.ipc_print.proofs.Messages.{ReadsCounted}
 use Rattle.ipc_print.proofs.Puts.{grows_more, grows_then}
 use Rattle.ipc_print.proofs.Texts.{batch_lines_more, head_rest}
 use Rattle.std.proofs.lemmas.List.{map-append, length-append}
@@ -72,6 +73,13 @@ module _ {limits : Limits} (form : Form) (old : Option (List ℕ)) (s t : Reader
   abbrev front : List ℕ
   front = front_text form s.schema
 
+  -- after the schema's message no dictionary is in force
+  begun_here : in_force_of s ≡ begun s.schema
+  begun_here = ap (λ d. record { schema = s.schema; dictionaries = d }) o.no_dictionary
+
+  opened : OpensStream limits s.schema o.x
+  opened = subst (λ i. Run limits None o.x (schema s.schema ∷ []) (Some i)) begun_here o.run
+
   module _ (after : Output) (a : Result End Fault) (r : PrintsRows form front s t (output w0 n0 []) after a) where
     abbrev table : Table
     table = record { schema = s.schema; batches = r.batches }
@@ -82,6 +90,18 @@ module _ {limits : Limits} (form : Form) (old : Option (List ℕ)) (s t : Reader
     all_reads : Reads limits None (o.x ++ r.x) t.remaining (events_of table) a
     all_reads = reads_after None (Some (in_force_of s)) o.x r.x t.remaining (schema s.schema ∷ []) (map batch r.batches) a o.run
         (subst (λ l. Reads l (Some (in_force_of s)) r.x t.remaining (map batch r.batches) a) o.same_limits r.reads)
+
+    -- what was read after the schema's message, under the limits of the call, in as many messages
+    reads_behind : ReadsCounted limits (Some (begun s.schema)) r.x t.remaining (map batch r.batches) a (messages_in r.reads.run)
+    reads_behind =
+        let n = messages_in r.reads.run in
+        subst (λ i. ReadsCounted limits (Some i) r.x t.remaining (map batch r.batches) a n) begun_here
+        (subst (λ l. ReadsCounted l (Some (in_force_of s)) r.x t.remaining (map batch r.batches) a n) o.same_limits (r.reads, refl))
+
+    numbered : t.messages ≡ count_up 1 (messages_in reads_behind.0.run)
+    numbered =
+        let counted = r.numbered 1 (omega (arith, o.one_message)) in
+        omega (arith, counted, reads_behind.1)
 
   rows_refused : (fault : TextFault) → RefusesRow form front s t (output w0 n0 []) (output w1 n1 []) fault
       → Stops form limits old t.remaining w0 w1 fault
@@ -123,9 +143,11 @@ module _ {limits : Limits} (form : Form) (old : Option (List ℕ)) (s t : Reader
         text = subst (λ (n : ℕ). Appends w0 w1 (printed form s.schema r.batches ++ tail_text form end n r.batches)) taken
             (grows_appends w0 w1 _ (grows_then w0 all.middle.written w1 [] all.middle.kept [] _ _ r.puts.bytes all.tail.bytes));
       }
-  prints_rows (Err (stop.Read fault n)) (r, tells) =
-      broken (o.x ++ r.x) (record { schema = s.schema; batches = r.batches }) (all_bytes (output w1 n1 []) (Err fault) r)
-      (all_reads (output w1 n1 []) (Err fault) r) r.have (grows_appends w0 w1 (printed form s.schema r.batches) r.puts.bytes)
+  prints_rows (Err (stop.Read fault n)) (r, tells, number) =
+      let after = output w1 n1 [] in
+      broken o.x r.x (record { schema = s.schema; batches = r.batches }) (all_bytes after (Err fault) r) opened
+      (reads_behind after (Err fault) r).0 (number ∙ numbered after (Err fault) r) r.have
+      (grows_appends w0 w1 (printed form s.schema r.batches) r.puts.bytes)
   prints_rows (Err (stop.Text fault)) (inl other) =
       let taken : Consumes old t.remaining o.x = subst (λ (z : Reader). Consumes old z.remaining o.x) (sym other.same) o.bytes in
       let silent : Keeps w0 w1 = subst (λ (z : Output). Keeps w0 z.written) (sym other.silent) (Keeps-refl w0) in
@@ -143,14 +165,22 @@ prints_all {limits} form old new s t w0 w1 n0 n1 r o is h =
 
 -- no schema was read
 pub prints_none : {limits : Limits} → (form : Form) (old new w : Option (List ℕ)) (fault : Fault) → OpenFails limits old new fault
-    → Breaks form limits old new w w fault
-prints_none form old new w fault o = unopened o.x o.bytes o.reads (Keeps-refl w)
+    → Breaks form limits old new w w fault 0
+prints_none form old new w fault o = unopened o.x o.bytes o.reads refl (Keeps-refl w)
+
+-- what was read after a schema's message, as what was read from the first byte on
+pub reads_opened : {limits : Limits} → (x y : List ℕ) (t : Table) (left : Option (List ℕ)) (answer : Result End Fault)
+    → OpensStream limits t.schema x → Reads limits (Some (begun t.schema)) y left (map batch t.batches) answer
+    → Reads limits None (x ++ y) left (events_of t) answer
+reads_opened x y t left answer opens reads =
+    reads_after None (Some (begun t.schema)) x y left (schema t.schema ∷ []) (map batch t.batches) answer opens reads
 
 -- why a stream isn't read to its end, as what was printed
-broken_part : {limits : Limits} → (form : Form) (old new w0 w1 : Option (List ℕ)) (fault : Fault) → Breaks form limits old new w0 w1 fault
-    → PrintsSome form limits old new w0 w1
-broken_part form old new w0 w1 fault (unopened x bytes reads kept) = nothing x bytes kept
-broken_part form old new w0 w1 fault (broken x t bytes reads have text) =
+broken_part : {limits : Limits} → (form : Form) (old new w0 w1 : Option (List ℕ)) (fault : Fault) (n : ℕ)
+    → Breaks form limits old new w0 w1 fault n → PrintsSome form limits old new w0 w1
+broken_part form old new w0 w1 fault n (unopened x bytes reads number kept) = nothing x bytes kept
+broken_part form old new w0 w1 fault n (broken x y t bytes opens behind number have text) =
+    let reads = reads_opened x y t new (Err fault) opens behind in
     some reads.whole reads.rest [] [] t reads.state (subst (λ (z : List ℕ). Consumes old new z) reads.joined bytes) reads.run (inl refl)
     (appends_grows w0 w1 _ (subst (λ (z : List ℕ). Appends w0 w1 z) (sym (append-nil _)) text))
 
@@ -198,6 +228,6 @@ table_part {limits} form old new w0 w1 s = by_end s.end s.denotes
 pub part_of : {limits : Limits} → (form : Form) (old new w0 w1 : Option (List ℕ)) (r : Result ⊤ Stop) → Prints form limits old new w0 w1 r
     → PrintsSome form limits old new w0 w1
 part_of form old new w0 w1 (Ok done) h = table_part form old new w0 w1 h
-part_of form old new w0 w1 (Err (stop.Read fault n)) h = broken_part form old new w0 w1 fault h
+part_of form old new w0 w1 (Err (stop.Read fault n)) h = broken_part form old new w0 w1 fault n h
 part_of form old new w0 w1 (Err (stop.Text fault)) h = stopped_part form old new w0 w1 fault h
 part_of form old new w0 w1 (Err (stop.Write fault)) h = h.1

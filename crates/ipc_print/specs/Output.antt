@@ -17,19 +17,19 @@ Grows None kept new still text = ⊤
 Grows (Some held) kept None still text = ⊥
 Grows (Some held) kept (Some holds) still text = holds ++ still ≡ held ++ kept ++ text
 
--- the text was appended to what was written or kept, and no call of the sink failed
+-- the text was appended to what was written or kept, and the sink's count of failures stayed
 pub record Puts (old new : Output) (text : List ℕ) : Type 0 where
   pub bytes : Grows old.written old.kept new.written new.kept text
-  pub works : old.failures ≡ 0 → new.failures ≡ 0
+  pub stayed : new.failures ≡ old.failures
 
--- the text was not put: a beginning of the kept text and this text was written, and then the sink
--- failed in this call, or memory ran out
+-- the text was not put: a beginning of the kept text and this text was written; the sink failed in
+-- this call, or memory ran out and the sink's count of failures stayed
 pub record PutFails (old : Output) (written : Option (List ℕ)) (failures : ℕ) (text : List ℕ)
     (fault : PrintFault) : Type 0 where
   pub behind : List ℕ
   pub bytes : Grows old.written old.kept written behind text
   pub failed : fault ≡ Write → failures ≡ 1
-  pub works : fault ≢ Write → old.failures ≡ 0 → failures ≡ 0
+  pub stayed : fault ≢ Write → failures ≡ old.failures
 
 -- the output with this content of the sink, count of failures and kept text
 abbrev pub output : Option (List ℕ) → ℕ → List ℕ → Output

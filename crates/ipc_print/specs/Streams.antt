@@ -16,11 +16,12 @@ use Rattle.ipc_model.specs.declared.table.Table.{Table}
 use Rattle.ipc_model.specs.declared.value.Value.{Value}
 use Rattle.ipc_decode.specs.declared.end.End.{End}
 use Rattle.ipc_decode.specs.declared.end.End.TheVariants.{Closed}
-use Rattle.ipc_decode.specs.Stream.{State, schema, batch, Run, events_of, Denotes}
+use Rattle.ipc_decode.specs.Stream.{State, schema, batch, begun, Run, events_of, Denotes}
+use Rattle.ipc_decode.specs.Stream.{OpensStream}
 use Rattle.ipc_decode.specs.Failures.{Tells}
 use Rattle.ipc_decode.specs.Reasons.{Reads}
 use Rattle.ipc_decode.specs.Reader.{Reader, in_force_of}
-use Rattle.ipc_decode.specs.Counts.{count_up}
+use Rattle.ipc_decode.specs.Counts.{count_up, messages_in}
 use Rattle.ipc_moments.specs.declared.fault.TextFault.{TextFault}
 use Rattle.ipc_moments.specs.declared.fault.TextFault.TheVariants as x
 use Rattle.ipc_print.specs.declared.form.Form.{Form}
@@ -58,18 +59,23 @@ pub record PrintsTable (form : Form) (limits : Limits) (old new written_old writ
   pub text : Appends written_old written_new (printed form table.schema table.batches
       ++ tail_text form end (count_up 0 (length x)) table.batches)
 
--- why a stream is not read to its end, and what was printed before
+-- why a stream is not read to its end, what was printed before, and the number of the message at
+-- which reading broke off: the count of the messages before it
 pub data Breaks (form : Form) (limits : Limits) (old new written_old written_new : Option (List ℕ))
-    (fault : Fault) : Type 0 where
+    (fault : Fault) (message : ℕ) : Type 0 where
   -- no schema was read, and nothing was printed
   unopened : (x : List ℕ) → Consumes old new x → Reads limits None x new [] (Err fault)
-      → Keeps written_old written_new → Breaks form limits old new written_old written_new fault
-  -- reading broke off after a schema and batches, whose text was printed
-  broken : (x : List ℕ) (table : Table) → Consumes old new x
-      → Reads limits None x new (events_of table) (Err fault)
+      → message ≡ 0 → Keeps written_old written_new
+      → Breaks form limits old new written_old written_new fault message
+  -- reading broke off after a schema and batches, whose text was printed; the messages that were
+  -- read are counted, the schema's included
+  broken : (x y : List ℕ) (table : Table) → Consumes old new (x ++ y)
+      → OpensStream limits table.schema x
+      → (reads : Reads limits (Some (begun table.schema)) y new (map batch table.batches)
+      (Err fault)) → message ≡ count_up 1 (messages_in reads.run)
       → HaveAllLines form table.schema.fields table.batches
       → Appends written_old written_new (printed form table.schema table.batches)
-      → Breaks form limits old new written_old written_new fault
+      → Breaks form limits old new written_old written_new fault message
 
 -- why a table that is read is not printed to its end, and what was printed before
 pub data Stops (form : Form) (limits : Limits) (old new written_old written_new : Option (List ℕ))
@@ -117,11 +123,25 @@ abbrev pub exit_status : {T : Type 0} → Result T Stop → ℕ
 exit_status (Ok done) = 0
 exit_status (Err why) = stop_status why
 
--- the status is 3 exactly if the source or the sink failed in the call; the numbers count their
--- failures before and after it
-pub record TellsDevices (source_old source_new sink_old sink_new status : ℕ) : Type 0 where
-  pub failed : status ≡ 3 → (source_new ≡ 1) ⊎ (sink_new ≡ 1)
-  pub works : status ≢ 3 → source_old ≡ 0 → sink_old ≡ 0 → (source_new ≡ 0) × (sink_new ≡ 0)
+-- the sink's count of failures before and after a call that returned this fault: at W9 it is 1, and
+-- any other fault leaves it as it was
+pub record TellsSink (old new : ℕ) (fault : WriteFault) : Type 0 where
+  pub failed : fault ≡ w.Write → new ≡ 1
+  pub stayed : fault ≢ w.Write → new ≡ old
+
+-- the counts of failures of source and sink before and after a call with this result. At Ok neither
+-- ever failed. At `Read` the fault is F36 exactly if the source failed in the call, and the sink
+-- did not fail in it. At `Text` neither failed in it. At `Write` the fault is W9 exactly if the
+-- sink failed in the call; with any other fault neither failed. If both failed, the answer is W9
+abbrev pub TellsFailures : ℕ → ℕ → ℕ → ℕ → Result ⊤ Stop → Type 0
+TellsFailures source_old source_new sink_old sink_new (Ok done) =
+    (source_old ≡ 0) × (source_new ≡ 0) × (sink_old ≡ 0) × (sink_new ≡ 0)
+TellsFailures source_old source_new sink_old sink_new (Err (stop.Read fault message)) =
+    Tells source_old source_new fault × (sink_new ≡ sink_old)
+TellsFailures source_old source_new sink_old sink_new (Err (stop.Text fault)) =
+    (source_old ≡ 0) × (source_new ≡ 0) × (sink_new ≡ sink_old)
+TellsFailures source_old source_new sink_old sink_new (Err (stop.Write fault)) =
+    (source_old ≡ 0) × (fault ≢ w.Write → source_new ≡ 0) × TellsSink sink_old sink_new fault
 
 -- what a result states about a stream that is printed; if printing stopped, a beginning of the text
 -- was printed
@@ -130,7 +150,7 @@ abbrev pub Prints : Form → Limits → Option (List ℕ) → Option (List ℕ) 
 Prints form limits old new written_old written_new (Ok done) =
     PrintsTable form limits old new written_old written_new
 Prints form limits old new written_old written_new (Err (stop.Read fault message)) =
-    Breaks form limits old new written_old written_new fault
+    Breaks form limits old new written_old written_new fault message
 Prints form limits old new written_old written_new (Err (stop.Text fault)) =
     Stops form limits old new written_old written_new fault
 Prints form limits old new written_old written_new (Err (stop.Write fault)) =
@@ -190,6 +210,8 @@ module _ (form : Form) (front : List ℕ) (old new : Reader) (before : Output) w
         Reads old.limits (Some (in_force_of old)) x new.remaining (map batch batches) answer
     pub counted :
         (k : ℕ) → old.taken ≡ count_up 0 k → new.taken ≡ count_up 0 (k + length x)
+    pub numbered : (k : ℕ) → old.messages ≡ count_up 0 k → new.messages ≡ count_up 0 (k
+        + messages_in reads.run)
     pub have : HaveAllLines form old.schema.fields batches
     pub puts : Puts before after (front ++ batch_lines (head_of form) line batches)
 
@@ -275,7 +297,7 @@ PrintsStream form old new before after (Ok done) =
     × ((end : End) × PrintsWhole form (front_text form old.schema) old new before after end)
 PrintsStream form old new before after (Err (stop.Read fault message)) =
     PrintsRows form (front_text form old.schema) old new before after (Err fault)
-    × Tells old.failures new.failures fault
+    × Tells old.failures new.failures fault × (message ≡ new.messages)
 PrintsStream form old new before after (Err (stop.Text fault)) =
     Unfit form old new before after fault
     ⊎ RefusesRow form (front_text form old.schema) old new before after fault

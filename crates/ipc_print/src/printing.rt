@@ -11,8 +11,8 @@ ghost use Rattle.ipc_print.specs.Forms.{counts_text, form_fault, front_text};
 ghost use Rattle.ipc_print.specs.Output.{output, PrintsAs};
 ghost use Rattle.ipc_print.specs.Streams.{AnswersTable, IsWhole, Prints, PrintsAll};
 ghost use Rattle.ipc_print.specs.Streams.{PrintsBatches};
-ghost use Rattle.ipc_print.specs.Streams.{PrintsSome, PrintsStream, TellsDevices, exit_status};
-ghost use Rattle.ipc_print.specs.Streams.{outcome_tail, write_fault};
+ghost use Rattle.ipc_print.specs.Streams.{PrintsSome, PrintsStream, TellsFailures};
+ghost use Rattle.ipc_print.specs.Streams.{exit_status, outcome_tail, write_fault};
 
 use crate::batch_text::print_batch;
 use crate::form::Form;
@@ -204,8 +204,8 @@ fn print_open<R: Source, W: Sink>(
     ensures prints { PrintsStream form stream.old stream.new
         (output (W.written sink.old) (W.failures sink.old) [])
         (output (W.written sink.new) (W.failures sink.new) []) result }
-    ensures devices { TellsDevices stream.old.failures stream.new.failures (W.failures sink.old)
-        (W.failures sink.new) (exit_status result) }
+    ensures devices { stream.old.failures ≡ 0 → TellsFailures stream.old.failures
+        stream.new.failures (W.failures sink.old) (W.failures sink.new) result }
 {
     if let Err(fault) = check_form(form, stream.schema()) {
         return Err(Stop::Text(fault));
@@ -218,13 +218,16 @@ fn print_open<R: Source, W: Sink>(
     }
 }
 
-/// Prints the stream of `source`, batch by batch under these limits, to `sink` in a form, and gives
-/// the source back. What was printed before a refusal stands, and no byte behind an end-of-stream
-/// mark is read.
+/// Prints the stream of `source` to `sink` in a form, batch by batch under these limits. Returns
+/// the source. What was printed before a refusal remains valid. No byte after an end-of-stream mark
+/// is read. At Ok the sink was flushed.
 ///
-/// `Read` is answered where the stream is refused or the source failed, `Text` where the columns or
-/// a row have no text in this form, `Write` where the sink failed; each has its want of memory too.
-/// At Ok the sink was flushed.
+/// # Errors
+///
+/// - `Read`: the stream is refused, the source failed, or memory ran out in reading. It has the
+///   number of the message; the schema's is 0.
+/// - `Text`: the columns or a row have no text in this form, or memory ran out in making one.
+/// - `Write`: the sink failed, also if the source failed before it, or memory ran out in writing.
 pub fn print<R: Source, W: Sink>(
     alloc: Global,
     limits: Limits,
@@ -235,15 +238,17 @@ pub fn print<R: Source, W: Sink>(
     // At Ok the sink holds nothing back.
     ensures handed_on { OnOk result.0 (W.held_back sink.new ≡ Some []) }
     // At Ok the bytes that were taken denote a table with its end, and exactly its text was
-    // printed; at a fault its cause is true, and exactly what came before was printed.
+    // printed; at a fault its cause is true, and exactly what came before was printed. The number
+    // of the message is the count of the messages before it.
     ensures prints { Prints form limits (R.remaining source) (R.remaining result.1)
         (W.written sink.old) (W.written sink.new) result.0 }
     // Whatever the answer, a beginning of the text of what was read was printed.
     ensures part { PrintsSome form limits (R.remaining source) (R.remaining result.1)
         (W.written sink.old) (W.written sink.new) }
-    // F36 and W9 are answered exactly where the source or the sink failed.
-    ensures devices { TellsDevices (R.failures source) (R.failures result.1) (W.failures sink.old)
-        (W.failures sink.new) (exit_status result.0) }
+    // W9 is answered exactly where the sink failed in this call, and F36 exactly where the source
+    // did and the sink did not.
+    ensures devices { TellsFailures (R.failures source) (R.failures result.1)
+        (W.failures sink.old) (W.failures sink.new) result.0 }
     // A table with its mark is printed whatever follows it, unless its columns or a row have no
     // text, the source or the sink fails, or memory runs out.
     ensures marked { (x rest : List ℕ) (t : Table)

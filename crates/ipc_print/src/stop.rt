@@ -10,7 +10,7 @@ use ipc_stream::End;
 /// Why printing stopped.
 #[derive(Debug, Drop)]
 pub enum Stop {
-    /// The stream was refused at the message with this number.
+    /// The stream was refused at the message with this number, the count of the messages before it.
     Read(Fault, u64),
     /// What was read could not be written.
     Write(WriteFault),

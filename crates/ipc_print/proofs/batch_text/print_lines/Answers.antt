@@ -6,7 +6,7 @@ use Rattle.ipc_model.specs.declared.value.Value.{Value}
 use Rattle.ipc_print.specs.Forms.{HasLine, HaveLines, line_of}
 use Rattle.ipc_print.specs.declared.rows.PrintFault.TheVariants.{OutOfMemory}
 use Rattle.ipc_print.proofs.Lines.{rows_next, rows_cut}
-use Rattle.ipc_print.proofs.Puts.{puts_kept, puts_never}
+use Rattle.ipc_print.proofs.Puts.{puts_kept, puts_never, puts_none}
 use Rattle.ipc_print.proofs.Shown.{all_more}
 use Rattle.ipc_print.proofs.batch_text.print_lines.Goals as goal
 
@@ -33,6 +33,9 @@ returns-in_err-put g c =
     c.loop-row.invariant.put
     (rw (c.deref-in-loop-row-2.ensures.value, c.in-Ok.ensures.text, c.deref-in-loop-row.ensures.value, same, kept)
     at c.in_err-put.ensures))
+
+pub loop-row-init : goal.loop-row-init
+loop-row-init g c = record { have = tt; put = puts_none _ }
 
 pub loop-row-preserved : goal.loop-row-preserved
 loop-row-preserved g c =
