@@ -1,5 +1,4 @@
-//! The command `arrowstream`, which reads and writes Arrow IPC streams: `arrowstream --help` says
-//! how.
+//! The command `arrowstream`, which reads and writes Arrow IPC streams: see `arrowstream --help`.
 #![tactic(auto)]
 
 ghost use Rattle.std.specs.Prelude.{IfOk};
@@ -15,8 +14,8 @@ use std::io::{IsTerminal, Write};
 use std::process::ExitCode;
 use std::{env, io};
 
-// The arguments of the command line, after the program's name. The name is always the same, so that
-// the usage doesn't depend on the path by which the program was started.
+// The arguments of the command line, after the program's name. The name is constant, so that the
+// usage does not depend on the path by which the program was started.
 fn collect_words(alloc: Global, words: Args) -> Result<Vec<String>, AllocError> {
     let mut all = Vec::new(alloc);
     all.push(String::from_str(alloc, "arrowstream")?)?;
@@ -57,7 +56,8 @@ fn help_words(alloc: Global) -> Result<Vec<String>, AllocError> {
     Ok(words)
 }
 
-// A terminal as standard input has no stream: the usage is told, as of wrong words.
+// If standard input is a terminal, there is no stream: the usage is printed, as for wrong
+// arguments.
 fn ask_input(rt: &HostRuntime) -> Result<(), Usage> {
     if !rt.stdin().is_terminal() {
         return Ok(());
@@ -79,7 +79,7 @@ fn read_job_and_schema(rt: &HostRuntime) -> Result<(Job, Option<Device<File>>), 
     Ok((job, schema))
 }
 
-// Tells why there is no job, and answers the exit status.
+// Prints why there is no job, and returns the exit status.
 fn tell_usage(rt: &HostRuntime, usage: &Usage) -> u8 {
     match usage {
         Usage::Help(text) => match io::writer(rt).write_all(text.as_bytes()) {

@@ -1,4 +1,4 @@
-//! Writing a whole tree.
+//! Writes a whole tree.
 ghost use Rattle.std.specs.Prelude.{◌≡◌, ◌≤◌, ◌<◌, ◌+◌, ◌*◌, ◌/◌, ◌^◌, ◌↔◌, ◌++◌, ℕ, List, length};
 ghost use Rattle.std.specs.Prelude.{IfOk, IsErrOf};
 ghost use Rattle.ipc_build.specs.declared.fault.BuildFault.TheVariants.{TooLarge};
@@ -28,23 +28,28 @@ fn write_buffer(out: &mut Vec<u8>, tree: &FlatTree) -> Result<(), AllocError>
     Ok(())
 }
 
-/// The bytes of a buffer whose root table is `tree`, in the FlatBuffers binary format.
+/// Returns the bytes of a buffer whose root table is `tree`, in the FlatBuffers binary format.
 ///
-/// The tree lies in them, also where other bytes stand behind them, as padding does; every scalar,
-/// offset, count and vtable entry stands at a multiple of its width from their first byte. They
-/// begin with the root offset and carry neither a file identifier nor their own size. Padded to a
-/// multiple of 8 they are at most `room` bytes, which is 16, 24 and 10 for each vtable entry for a
-/// table, 8 and its bytes for a text, 12 and 4 for each table for a vector of tables, and 12 and 16
-/// for each pair for a vector of pairs.
+/// The bytes denote the tree, also if other bytes follow them, for example padding. Every scalar,
+/// offset, count and vtable entry is at a multiple of its width from their first byte. They begin
+/// with the root offset, and have neither a file identifier nor their own size.
 ///
-/// The slots' numbers ascend in each table and are below 16, and tables nest at most 255 deep. Each
-/// slot is visited a few times, so the time it takes grows with the slots and the bytes alone.
+/// Padded to a multiple of 8 they are at most `room` bytes. This size bound is the sum of:
 ///
-/// `greatest` is the most room that the tree may have. It is below 2^31, as far as the format's
-/// offsets reach, which are signed numbers of 32 bits.
+/// - 16 bytes;
+/// - for each table 24 bytes, and 10 for each entry of its vtable;
+/// - for each text 8 bytes, and its own bytes;
+/// - for each vector of tables 12 bytes, and 4 for each table;
+/// - for each vector of pairs 12 bytes, and 16 for each pair.
 ///
-/// `TooLarge` exactly where `room` passes `greatest`, and before any memory is taken; `OutOfMemory`
-/// only where a growth of the bytes was refused.
+/// In each table the slots' numbers must ascend and be below 16. Tables may nest at most 255 deep.
+/// Each slot is visited a few times, so the time is proportional to the slots and the bytes.
+///
+/// `greatest` is the maximum size bound of the tree. It must be below 2^31, because the format's
+/// offsets are signed numbers of 32 bits.
+///
+/// Errors: `TooLarge` exactly if the size bound is above `greatest`, before any memory is taken;
+/// `OutOfMemory` only if memory for the bytes ran out.
 pub fn build(alloc: Global, tree: &FlatTree, greatest: u64) -> Result<Vec<u8>, BuildFault>
     requires ascends { Ascends (fields 0) (view tree.now) }
     requires limit { greatest < 2 ^ 31 }

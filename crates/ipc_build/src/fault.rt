@@ -4,10 +4,10 @@ use thiserror::Error;
 /// Why a tree was not written.
 #[derive(Clone, Copy, Debug, PartialEq, Eq, Drop, Error)]
 pub enum BuildFault {
-    /// The tree's room passes the greatest that the caller of `build` allows.
+    /// The tree's size bound is above `greatest`, which the caller of `build` allows.
     #[error("the tree has more room than it may")]
     TooLarge,
-    /// Memory for the bytes was refused.
+    /// Memory for the bytes ran out.
     #[error("out of memory")]
     OutOfMemory,
 }

@@ -1,4 +1,4 @@
-//! What stands in a table itself: scalars and offsets.
+//! Writes the inline parts of a table: scalars and offsets.
 ghost use Rattle.std.specs.Prelude.{◌≡◌, ◌≤◌, ◌<◌, ◌^◌};
 ghost use Rattle.ipc_build.specs.Trees.{node};
 ghost use Rattle.ipc_build.specs.Layout.{inline_value};
@@ -6,7 +6,7 @@ ghost use Rattle.ipc_build.specs.Layout.{inline_value};
 use crate::places::{prefix_place, table_place};
 use crate::tree::Slot;
 
-// The number that stands at `h` for a field: its scalar, or the offset of what begins at `p`.
+// The number at `h` for a field: its scalar, or the offset of what begins at `p`.
 pub(crate) fn inline_value(slot: &Slot, h: usize, p: usize) -> u64
     requires before { h ≤ p }
     requires small { p < 2 ^ 32 }

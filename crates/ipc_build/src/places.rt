@@ -1,4 +1,4 @@
-//! Where tables, strings and vectors begin and end.
+//! The positions where tables, strings and vectors begin and end.
 ghost use Rattle.std.specs.Prelude.{◌≡◌, ◌≤◌, ◌<◌, ◌^◌};
 ghost use Rattle.ipc_build.specs.Trees.{view, fields_view};
 ghost use Rattle.ipc_build.specs.Layout.{prefix_place, entry_count, table_place};
@@ -26,7 +26,7 @@ pub(crate) fn entry_count(slots: &[(u16, Slot)]) -> usize
     count
 }
 
-// Where the table stands whose vtable is at `p`.
+// The position of the table whose vtable is at `p`.
 pub(crate) fn table_place(tree: &FlatTree, p: usize) -> usize
     requires { p < 2 ^ 32 }
     ensures { result ≡ table_place (view tree.now) p }

@@ -1,4 +1,4 @@
-//! How many bytes a tree may take, before any of them is written.
+//! Computes the size bound of a tree before any byte is written.
 ghost use Rattle.std.specs.Prelude.{◌≡◌, ◌≤◌, ◌<◌, ◌+◌, ◌*◌, ◌^◌, ℕ, length, ⊤};
 ghost use Rattle.ipc_build.specs.Trees.{node, view, fields_view, tables_view};
 ghost use Rattle.ipc_build.specs.Layout.{entry_count};

@@ -1,4 +1,4 @@
-//! Scalars and padding.
+//! Writes scalars and padding.
 ghost use Rattle.std.specs.Prelude.{◌≡◌, ◌++◌, ◌<◌, ◌≤◌, ◌+◌, ◌^◌, length, take, drop, IfOk};
 ghost use Rattle.ipc_build.specs.Layout.{little, padding};
 
@@ -25,7 +25,7 @@ pub(crate) fn push_u64(out: &mut Vec<u8>, x: u64) -> Result<(), AllocError>
     Ok(())
 }
 
-// So many zero bytes.
+// Appends `n` zero bytes.
 pub(crate) fn push_padding(out: &mut Vec<u8>, n: usize) -> Result<(), AllocError>
     requires { n < 2 ^ 34 }
     ensures { IfOk result (λ _. out.new.items ≡ out.old.items ++ padding n) }

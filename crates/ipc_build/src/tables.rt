@@ -1,4 +1,4 @@
-//! Tables, strings and vectors.
+//! Writes tables, strings and vectors.
 ghost use Rattle.std.specs.Prelude.{◌≡◌, ◌≤◌, ◌<◌, ◌+◌, ◌-◌, ◌*◌, ◌^◌, ◌++◌, ℕ, length, take, IfOk};
 ghost use Rattle.std.specs.Int.{w64, cast_unsigned};
 ghost use Rattle.ipc_build.specs.Trees.{node, view, fields_view, tables_view};
@@ -14,7 +14,7 @@ use crate::scalars::{push_padding, push_u16, push_u32, push_u64, put_u32, put_u6
 use crate::tree::{FlatTree, Slot};
 use std::alloc::AllocError;
 
-// The entries of a table's vtable: where each field stands, from the table on, and 0 for a number
+// The entries of a table's vtable: the offset of each field from the table on, and 0 for a number
 // that no field has.
 fn write_entries(out: &mut Vec<u8>, slots: &[(u16, Slot)]) -> Result<(), AllocError>
     requires { Writable (fields 0) (fields_view slots.now) }

@@ -1,10 +1,10 @@
-//! The values that are written.
+//! The trees that are written.
 use ipc_items::{Items, Text};
 
-/// A table ("Tables"): what stands in its fields. A field without a slot is absent.
+/// A table ("Tables"): the values of its fields. A field without a slot is absent.
 ///
-/// Each slot is a field's number in the schema and the field's value. `build` asks that the numbers
-/// ascend, none twice, and are below 16. Contracts see a tree as the `view` of it.
+/// Each slot is a field's number in the schema and the field's value. `build` requires that the
+/// numbers ascend, without repeats, and are below 16. Contracts describe a tree by its `view`.
 #[cycle(flat)]
 #[derive(Drop)]
 pub struct FlatTree {
@@ -12,16 +12,16 @@ pub struct FlatTree {
     pub slots: Items<(u16, Slot)>,
 }
 
-/// What stands in a field. Scalars are little-endian, signed ones in two's complement ("Format
+/// The value of a field. Scalars are little-endian, signed ones in two's complement ("Format
 /// Components").
 #[cycle(flat)]
 #[derive(Drop)]
 pub enum Slot {
-    /// An unsigned number of 8 bits, as a union's type code is.
+    /// An unsigned number of 8 bits, for example a union's type code.
     U8(u8),
-    /// A truth value: a byte that is 1 or 0.
+    /// A boolean: a byte that is 1 or 0.
     Bool(bool),
-    /// A signed number of 16 bits, as most enums are.
+    /// A signed number of 16 bits, for example an enum.
     I16(i16),
     /// A signed number of 32 bits.
     I32(i32),
@@ -29,7 +29,7 @@ pub enum Slot {
     I64(i64),
     /// A string in UTF-8 ("Strings and Vectors").
     Text(Text),
-    /// A table, or the value of a union.
+    /// A table, or the table of a union.
     Table(FlatTree),
     /// A vector of tables.
     Tables(Items<FlatTree>),

@@ -18,7 +18,7 @@ use std::alloc::{AllocError, Global};
 use std::collections::BTreeMap;
 use std::rc::Rc;
 
-/// So many nodes and so many buffers.
+/// A number of nodes and a number of buffers.
 #[derive(Clone, Copy, Debug, PartialEq, Eq, Drop)]
 pub(crate) struct Cursor {
     pub(crate) node: usize,
@@ -42,7 +42,7 @@ fn count_field(field: &Field, before: Cursor) -> Cursor
     count(field.children.as_slice(), below)
 }
 
-/// The nodes and buffers that fields need, beside what others need before them.
+/// Returns the nodes and buffers that the fields need, added to `before`.
 #[cycle(count)]
 pub(crate) fn count(fields: &[Field], before: Cursor) -> Cursor
     requires nodes { before.node + nodes_in (shape_of fields.now) < 2 ^ 60 }
@@ -57,7 +57,7 @@ pub(crate) fn count(fields: &[Field], before: Cursor) -> Cursor
     place
 }
 
-// Where the head says that a buffer lies.
+// The range of a buffer in the body, as the head states it.
 fn span_at(head: &BatchHead, buffer: usize) -> BufferRange
     requires { buffer < length head.now.buffers }
     ensures { (body : List ℕ) → span_bytes body result ≡ buffer_at head.now body buffer }
@@ -139,7 +139,7 @@ fn values_for(
     }
 }
 
-// Whether texts or indices stand in a part or below it.
+// Whether a part or one of its descendants has texts or indices.
 fn has_judged(part: &ColumnRanges) -> bool
     requires { IsMarked part.now }
     ensures { (body : List ℕ) → result ≡ have_judged (one body part.now) }
@@ -147,7 +147,7 @@ fn has_judged(part: &ColumnRanges) -> bool
     part.layout.is_judged() || part.judged_below
 }
 
-// Whether they stand in one of the parts or below it.
+// Whether one of the parts or their descendants has texts or indices.
 fn have_judged(parts: &[ColumnRanges]) -> bool
     requires { AreMarked parts.now }
     ensures { (body : List ℕ) → result ≡ have_judged (columns body parts.now) }
@@ -181,7 +181,7 @@ fn assign_field(
         → children_of body r.0 ≡ cut (dictionaries_in dictionaries.now) (field_children field.now)
         head.now body (at.node + 1)
         (at.buffer + own_buffers (field_layout field.now))) }
-    // It says rightly whether texts or indices stand below it, and so do those below it.
+    // Each part states correctly whether its descendants have texts or indices.
     ensures marks { IfOk result (λ r. IsMarked r.0) }
     ensures node { IfOk result (λ r. r.1.node ≡ at.node + 1 + nodes_in (field_children field.now)) }
     ensures buffer { IfOk result (λ r. r.1.buffer
@@ -211,7 +211,7 @@ fn assign_field(
     Ok((part, next))
 }
 
-/// The parts of fields whose nodes and buffers begin at a place, and the place after them.
+/// Returns the parts of fields whose nodes and buffers begin at `at`, and the position after them.
 #[cycle(cut)]
 pub(crate) fn assign_buffers(
     alloc: Global,

@@ -119,8 +119,8 @@ impl Clone for Batch {
 
     ghost is_clone = { λ batch copy. copy ≡ batch };
 
-    /// The same batch over the same body. It takes no memory, and is refused only where the count
-    /// of clones is full.
+    /// Returns a batch that shares the rows and the body. It takes no memory. It returns an error
+    /// only if the reference count is at its maximum.
     fn clone(&self) -> Result<Batch, AllocError> {
         Ok(Batch {
             shared: self.shared.clone()?,
@@ -129,20 +129,26 @@ impl Clone for Batch {
 }
 
 impl Batch {
-    /// The rows that a batch's metadata and body give for the fields of its schema.
+    /// Validates the metadata and the body of a record batch for the fields of its schema, and
+    /// returns its rows (Message.fbs, RecordBatch; Arrow Columnar Format, "RecordBatch message").
     ///
-    /// The caller has the fields from a schema that passes its check, and the dictionaries are
-    /// those in force, by their ids: each a batch of one column, which is no list, no struct and no
-    /// column of indices. The batch keeps those of its fields, however they are replaced later.
+    /// The fields must be those of a schema that passes `Schema::check`. `dictionaries` maps ids to
+    /// the dictionaries in force; each is a batch of one column that has no children and no
+    /// dictionary. The batch keeps the dictionaries of its fields, even if they are replaced later.
     ///
-    /// Refused with F26 `WrongNodeCount`, F27 `WrongBufferCount`, F28 `BadNode`, F29
-    /// `BufferOutOfBody`, F30 `BufferTooShort`, F31 `BadNullCount`, F32 `BadOffsets`, F33
-    /// `ValueNotUtf8` or F34 `BadIndex` only where that is true of the parts, and then they give no
-    /// rows: F28 and F29 where there are as many nodes and buffers as the fields need, F30 to F34
-    /// where also the lengths, the null counts and the ranges of the metadata are in their bounds;
-    /// with `OutOfMemory` where the list of columns or a block that clones share finds no room, or
-    /// as many batches share a dictionary as can be counted (Message.fbs, RecordBatch; Arrow
-    /// Columnar Format, "RecordBatch message").
+    /// A refusal is true of the input, which then has no rows. Errors:
+    ///
+    /// - F26 `WrongNodeCount` or F27 `WrongBufferCount`: the number of nodes or buffers is not the
+    ///   number that the fields need.
+    /// - F28 `BadNode` or F29 `BufferOutOfBody`, only if these numbers are right.
+    /// - F30 `BufferTooShort`, F31 `BadNullCount` or F32 `BadOffsets`, only if lengths, null counts
+    ///   and ranges of the metadata are also within their bounds.
+    /// - F33 `ValueNotUtf8` or F34 `BadIndex`, only if the buffers are also long enough and the
+    ///   offsets are in order.
+    ///
+    /// `OutOfMemory` is returned if memory for the list of columns, or for the block that clones
+    /// share, ran out. It is also returned if the number of batches that share a dictionary is at
+    /// its maximum.
     pub fn check(
         alloc: Global,
         limits: &Limits,
@@ -166,14 +172,14 @@ impl Batch {
             (λ fault. RefusesParts limits.now fault (dictionaries_in dictionaries.now)
             fields.value.items head body.items) }
         ensures columns { IfOk result (λ batch. batch.columns ≡ length fields.value.items) }
-        // Each column lies as its field's type does.
+        // Each column has the layout of its field's type.
         ensures layouts { IfOk result
             (λ batch. batch.layouts ≡ map field_layout fields.value.items) }
         ensures body { IfOk result (λ batch. batch.body_len ≡ length body.items) }
         // The batch keeps the body as it is.
         ensures bytes { IfOk result (λ batch. batch.body ≡ body.items) }
-        // No slot is visited but those of texts and indices, and those of lists and structs with a
-        // validity bitmap that such stand below; each of them once at most.
+        // Only slots of texts and indices are visited, and slots of lists and structs that have a
+        // validity bitmap and such descendants. Each is visited at most once.
         ensures visits { IfOk result
             (λ batch. batch.tests ≤ visits_in (columns_of (dictionaries_in dictionaries.now)
             fields.value.items head body.items)) }
@@ -182,10 +188,10 @@ impl Batch {
         Batch::check_borrowed(alloc, limits, fields.as_slice(), head, body, dictionaries)
     }
 
-    /// As `check`, of fields that are lent: a batch keeps none of them.
+    /// Validates a record batch as `Batch::check` does, with borrowed fields. The batch keeps none
+    /// of them, so a reader that has the schema makes no second list of its fields.
     ///
-    /// A reader that has the schema lends its fields as they are, and keeps no second list of them.
-    /// What goes in, the limits, and each refusal with its cause are as of `check`.
+    /// The parameters, the limits and the errors are those of `Batch::check`.
     pub fn check_borrowed(
         alloc: Global,
         limits: &Limits,
@@ -208,13 +214,13 @@ impl Batch {
             (λ fault. RefusesParts limits.now fault (dictionaries_in dictionaries.now)
             fields.now head body.items) }
         ensures columns { IfOk result (λ batch. batch.columns ≡ length fields.now) }
-        // Each column lies as its field's type does.
+        // Each column has the layout of its field's type.
         ensures layouts { IfOk result (λ batch. batch.layouts ≡ map field_layout fields.now) }
         ensures body { IfOk result (λ batch. batch.body_len ≡ length body.items) }
         // The batch keeps the body as it is.
         ensures bytes { IfOk result (λ batch. batch.body ≡ body.items) }
-        // No slot is visited but those of texts and indices, and those of lists and structs with a
-        // validity bitmap that such stand below; each of them once at most.
+        // Only slots of texts and indices are visited, and slots of lists and structs that have a
+        // validity bitmap and such descendants. Each is visited at most once.
         ensures visits { IfOk result
             (λ batch. batch.tests ≤ visits_in (columns_of (dictionaries_in dictionaries.now)
             fields.now head body.items)) }
@@ -223,14 +229,14 @@ impl Batch {
         read(alloc, limits, fields, &head, body, dictionaries)
     }
 
-    /// How many rows there are.
+    /// Returns the number of rows.
     pub fn rows(&self) -> usize
         ensures { result ≡ length self.now.rows }
     {
         self.shared.count
     }
 
-    /// How many columns there are.
+    /// Returns the number of columns.
     pub fn columns(&self) -> usize
         ensures count { result ≡ self.now.columns }
         // Each row has a value for each of them.
@@ -239,26 +245,27 @@ impl Batch {
         self.shared.parts.len()
     }
 
-    /// How many bytes the body has.
+    /// Returns the number of bytes of the body.
     pub fn body_len(&self) -> usize
         ensures { result ≡ self.now.body_len }
     {
         self.shared.body.len()
     }
 
-    /// How many slots `check` visited one by one.
+    /// Returns the number of slots that `check` visited one by one.
     pub fn tests(&self) -> u64
         ensures { result ≡ self.now.tests }
     {
         self.shared.slot_tests
     }
 
-    /// What stands in a row and a column, lent. The caller gives a row below `rows` and a column
-    /// below `columns`.
+    /// Lends the value in a row and a column. `row` must be below `rows`, and `column` below
+    /// `columns`.
     ///
-    /// The column's field says what it means. Signed integers, dates and timestamps are `Int`, in
-    /// the field's unit from 1970-01-01 on; unsigned integers are `UInt`; binary and fixed-size
-    /// binary are `Bytes`; lists and structs lend their own values.
+    /// The column's field defines the meaning. Signed integers, dates, times, timestamps and
+    /// durations are `Int`, in the field's unit; dates and timestamps count from 1970-01-01.
+    /// Unsigned integers are `UInt`. Binary and fixed-size binary are `Bytes`. Lists and structs
+    /// lend their own values.
     #[inline(always)]
     pub fn cell(&self, row: usize, column: usize) -> Cell<'_>
         requires row { row < length self.now.rows }
@@ -276,8 +283,8 @@ impl Batch {
         )
     }
 
-    /// What stands in a row and a column, as a value of its own. The caller gives a row below
-    /// `rows` and a column below `columns`. Refused where its lists find no room.
+    /// Returns the value in a row and a column as an owned value. `row` must be below `rows`, and
+    /// `column` below `columns`. Returns an error if memory for its lists ran out.
     pub fn read_cell(&self, alloc: Global, row: usize, column: usize) -> Result<Value, AllocError>
         requires row { row < length self.now.rows }
         requires column { column < self.now.columns }
@@ -289,9 +296,10 @@ impl Batch {
         read_value(alloc, body, &shared.parts, shared.count, row, column)
     }
 
-    /// A column, found once for all its rows. The caller gives a column below `columns`.
+    /// Returns a column whose buffers are found once for all its rows. `column` must be below
+    /// `columns`.
     ///
-    /// It lends what `cell` lends, without looking its buffers up anew for each row.
+    /// Its `at` lends what `Batch::cell` lends, without finding the buffers again for each row.
     pub fn column(&self, column: usize) -> ColumnView<'_>
         requires { column < self.now.columns }
         ensures { AreOfColumn self.now.rows column result }
@@ -300,11 +308,11 @@ impl Batch {
         view_in(shared.body.as_slice(), &shared.parts, shared.count, column)
     }
 
-    /// The slots of a column and of the columns below it, found once for all its rows. The caller
-    /// gives a column below `columns`.
+    /// Returns the slots of a column and of its descendants, found once for all rows. `column` must
+    /// be below `columns`.
     ///
-    /// A whole column is read so: its numbers as they lie, or the lists and structs in it without a
-    /// `Cell` for each.
+    /// Use it to read a whole column: its numbers as they are laid out, or its lists and structs
+    /// without a `Cell` for each.
     pub fn slots(&self, column: usize) -> SlotView<'_>
         requires { column < self.now.columns }
         ensures layout { slice_get self.now.layouts column ≡ Some result.column.layout }
@@ -316,8 +324,8 @@ impl Batch {
         slots_in(shared.body.as_slice(), &shared.parts, shared.count, column)
     }
 
-    /// Whether this may be a dictionary of other batches: it has one column, which is no list, no
-    /// struct and no column of indices (Arrow Columnar Format, "Dictionary Messages").
+    /// Returns whether this may be a dictionary of other batches: it has one column, which has no
+    /// children and no dictionary (Arrow Columnar Format, "Dictionary Messages").
     pub fn is_dictionary(&self) -> bool
         ensures yes { IsTrue result → IsDictionary self.now }
         ensures no { IsDictionary self.now → IsTrue result }
@@ -326,8 +334,8 @@ impl Batch {
         are_alone(&shared.parts)
     }
 
-    /// The list with the body's bytes, for a use of its own: none where the batch has clones left,
-    /// or where it is the dictionary of another batch, which keep it.
+    /// Returns the bytes of the body for other use. Returns `None` if the batch still has clones,
+    /// or is the dictionary of another batch; these keep the body.
     pub fn into_body(self) -> Option<Vec<u8>>
         ensures len { IfSome result (λ body. length body.items ≡ self.body_len) }
         // They are the bytes that the batch was checked with.
@@ -356,7 +364,7 @@ impl Batch {
         share_values(&shared.body, &shared.parts, shared.count)
     }
 
-    /// The rows as values of their own. Refused with `OutOfMemory` alone, where a list can't grow.
+    /// Returns the rows as owned values. Errors: `OutOfMemory`, if memory for a list ran out.
     pub fn to_rows(&self, alloc: Global) -> Result<Items<Row>, Fault>
         ensures rows { IfOk result (λ rows. rows ≡ self.now.rows) }
         ensures memory { IfErr result (λ fault. fault ≡ Fault.OutOfMemory) }
@@ -366,9 +374,9 @@ impl Batch {
         Ok(rows)
     }
 
-    /// Puts the values of one row in the place of all that `values` has, whose room is used again.
-    /// The caller gives a row below `rows`. Refused with `OutOfMemory` alone, where a list can't
-    /// grow; then what `values` has is of no use.
+    /// Replaces all that `values` has by the values of one row, and uses its memory again. `row`
+    /// must be below `rows`. Errors: `OutOfMemory`, if memory for a list ran out; then the contents
+    /// of `values` are unspecified.
     pub fn read_row(&self, alloc: Global, row: usize, values: &mut Vec<Value>) -> Result<(), Fault>
         requires { row < length self.now.rows }
         ensures values { OnOk result (values.new.items ≡ slice_index_or self.now.rows row []) }
@@ -387,7 +395,7 @@ impl Batch {
     }
 }
 
-/// The law: the parts of a batch give one list of rows at most.
+/// The law: the parts of a batch denote at most one list of rows.
 pub fn one_list_of_rows()
     ensures { IsOneList }
 {}

@@ -1,15 +1,15 @@
 use ipc_model::Layout;
 
-/// The buffers of a column, lent as they lie in the body (Arrow Columnar Format, "Buffer Listing
-/// for Each Layout").
+/// The buffers of a column, lent as they are laid out in the body (Arrow Columnar Format, "Buffer
+/// Listing for Each Layout").
 #[derive(Clone, Copy, Debug, Drop)]
 pub struct Buffers<'a> {
-    /// How the slots lie in them.
+    /// The layout of the slots.
     pub layout: Layout,
-    /// The validity bitmap, or no bytes where the column has none.
+    /// The validity bitmap, or no bytes if the column has none.
     pub validity: &'a [u8],
-    /// Where slots of any length begin and end: none in a layout without offsets.
+    /// The offsets of slots of variable length. A layout without offsets has no bytes here.
     pub offsets: &'a [u8],
-    /// What the slots hold. What stands in null slots means nothing.
+    /// The values of the slots. Those of null slots have no meaning.
     pub values: &'a [u8],
 }

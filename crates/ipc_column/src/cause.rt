@@ -1,26 +1,26 @@
 use ipc_model::Fault;
 
-/// Why the parts of a batch give no rows.
+/// Why the parts of a batch have no rows.
 #[derive(Clone, Copy, Debug, PartialEq, Eq, Drop)]
 pub enum Cause {
-    /// F26: not as many nodes as the fields need.
+    /// F26: the number of nodes is not the number that the fields need.
     WrongNodeCount,
-    /// F27: not as many buffers as the fields need.
+    /// F27: the number of buffers is not the number that the fields need.
     WrongBufferCount,
-    /// F28: a length or a null count out of its bounds, a column that isn't as long as the batch,
-    /// or a child that is shorter than its struct.
+    /// F28: a length or a null count is out of its bounds; a column's length is not the batch's; or
+    /// a child is shorter than its struct or fixed-size list needs.
     BadNode,
-    /// F29: a buffer that doesn't lie in the body.
+    /// F29: a buffer is not within the body.
     BufferOutOfBody,
-    /// F30: a buffer with fewer bytes than the slots need.
+    /// F30: a buffer has fewer bytes than its slots need.
     BufferTooShort,
-    /// F31: a null count unlike the clear bits.
+    /// F31: a null count differs from the clear bits of its bitmap.
     BadNullCount,
-    /// F32: offsets that are negative, decrease or pass the values, or the slots of the child.
+    /// F32: offsets are negative, decrease, or end after the values or the slots of the child.
     BadOffsets,
-    /// F33: a text that a row shows and that isn't UTF-8.
+    /// F33: a visible text is not UTF-8.
     ValueNotUtf8,
-    /// F34: an index that a row shows and that is of no value in its dictionary.
+    /// F34: a visible index is not that of a value in its dictionary.
     BadIndex,
 }
 

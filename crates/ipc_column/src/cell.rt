@@ -23,12 +23,12 @@ use ipc_model::{IntBits, Layout};
 use ipc_scalar::bit;
 use std::marker::Model;
 
-/// What a slot of a column holds, lent by its batch.
+/// The value in a slot of a column, lent by its batch.
 #[derive(Debug, Drop)]
 pub enum Cell<'a> {
     /// The slot is null.
     Null,
-    /// A truth value.
+    /// A boolean.
     Bool(bool),
     /// A signed number.
     Int(i64),
@@ -40,11 +40,11 @@ pub enum Cell<'a> {
     Text(&'a str),
     /// The values of a list.
     List(ListCell<'a>),
-    /// A value for each child of a struct.
+    /// The values of a struct, one for each child.
     Struct(StructCell<'a>),
 }
 
-/// The values of a list, lent by its batch: contracts see them as a list. It takes no memory.
+/// The values of a list, lent by its batch. Contracts describe it as a list. It takes no memory.
 #[derive(Debug, Drop)]
 pub struct ListCell<'a> {
     body: &'a [u8],
@@ -73,14 +73,14 @@ impl<'a> Model for ListCell<'a> {
 }
 
 impl<'a> ListCell<'a> {
-    /// How many values there are.
+    /// Returns the number of values.
     pub fn len(&self) -> usize
         ensures { result ≡ length self.now }
     {
         self.to - self.from
     }
 
-    /// Value `i`, lent by the batch. The caller gives an `i` below `len`.
+    /// Lends value `i`, which must be below `len`.
     pub fn at(&self, i: usize) -> Cell<'a>
         requires { i < length self.now }
         ensures { slice_get self.now i ≡ Some (cell_value result) }
@@ -88,7 +88,7 @@ impl<'a> ListCell<'a> {
         item_at(self.body, self.parts, self.from, self.to, i)
     }
 
-    /// The values in order, each lent by the batch.
+    /// Returns an iterator over the values, in order, each lent by the batch.
     pub fn iter(&self) -> ListIter<'a>
         ensures { result ≡ self.now }
     {
@@ -96,8 +96,8 @@ impl<'a> ListCell<'a> {
     }
 }
 
-/// The values of a struct, one for each child of its field, lent by its batch: contracts see them
-/// as a list. It takes no memory.
+/// The values of a struct, one for each child of its field, lent by its batch. Contracts describe
+/// it as a list. It takes no memory.
 #[derive(Debug, Drop)]
 pub struct StructCell<'a> {
     body: &'a [u8],
@@ -125,14 +125,14 @@ impl<'a> Model for StructCell<'a> {
 }
 
 impl<'a> StructCell<'a> {
-    /// How many values there are: one for each child.
+    /// Returns the number of values, one for each child.
     pub fn len(&self) -> usize
         ensures { result ≡ length self.now }
     {
         self.parts.len()
     }
 
-    /// The value of child `i`, lent by the batch. The caller gives an `i` below `len`.
+    /// Lends the value of child `i`, which must be below `len`.
     pub fn at(&self, i: usize) -> Cell<'a>
         requires { i < length self.now }
         ensures { slice_get self.now i ≡ Some (cell_value result) }
@@ -140,7 +140,7 @@ impl<'a> StructCell<'a> {
         value_at(self.body, self.parts, self.slot, i)
     }
 
-    /// The values in order, one of each child, each lent by the batch.
+    /// Returns an iterator over the values, one for each child in order, each lent by the batch.
     pub fn iter(&self) -> StructIter<'a>
         ensures { result ≡ self.now }
     {
@@ -169,7 +169,7 @@ fn struct_of<'a>(body: &'a [u8], parts: &'a [ColumnRanges], slot: usize) -> Stru
     StructCell { body, parts, slot }
 }
 
-// The values of a list, one of so many.
+// The values of the list in one of `slots` slots.
 fn list_between<'a>(
     body: &'a [u8],
     parts: &'a [ColumnRanges],
@@ -201,7 +201,7 @@ fn fixed_list<'a>(body: &'a [u8], parts: &'a [ColumnRanges], size: u32, slot: us
     list_of(body, parts, first, first + size as usize)
 }
 
-/// Whether a slot isn't null.
+/// Returns whether a slot is not null.
 #[inline(always)]
 pub(crate) fn is_valid(validity: &[u8], slot: usize) -> bool
     requires { has_bitmap (slot + 1) (length validity.now) ≡ true }
@@ -210,7 +210,8 @@ pub(crate) fn is_valid(validity: &[u8], slot: usize) -> bool
     validity.is_empty() || bit(validity, slot)
 }
 
-/// What a valid slot of a column that stands alone holds, one of the first `slots`.
+/// Returns the value of a valid slot of a column without children or dictionary, one of its first
+/// `slots`.
 #[tactic(auto, using(crate::proofs::Widths::slot_inside))]
 #[inline(always)]
 pub(crate) fn leaf_cell<'a>(
@@ -252,7 +253,7 @@ pub(crate) fn leaf_cell<'a>(
     }
 }
 
-/// What a valid slot holds, one of the first `slots`, over the parts of the children.
+/// Returns the value of a valid slot, one of the first `slots`, of a column with these children.
 #[tactic(auto, using(crate::proofs::Widths::slot_inside))]
 #[inline(always)]
 pub(crate) fn own_cell<'a>(
@@ -298,7 +299,8 @@ pub(crate) fn own_cell<'a>(
     }
 }
 
-/// Whether a slot isn't null, where its bitmap is this span. A span of no bytes isn't looked up.
+/// Returns whether a slot is not null, with this range as its bitmap. A range of no bytes is not
+/// read.
 #[tactic(auto, unfolding(crate::specs::Columns::bytes_of))]
 #[inline(always)]
 pub(crate) fn is_valid_in(body: &[u8], validity: BufferRange, slot: usize) -> bool
@@ -308,7 +310,7 @@ pub(crate) fn is_valid_in(body: &[u8], validity: BufferRange, slot: usize) -> bo
     validity.len == 0 || is_valid(bytes_at(body, validity), slot)
 }
 
-/// What a slot of a part holds.
+/// Returns the value in a slot of a part.
 #[inline(always)]
 pub(crate) fn cell_at<'a>(body: &'a [u8], part: &'a ColumnRanges, slot: usize) -> Cell<'a>
     requires { HasValue (column_of body.now part.now) (children_of body.now part.now) slot }
@@ -331,7 +333,7 @@ pub(crate) fn cell_at<'a>(body: &'a [u8], part: &'a ColumnRanges, slot: usize) -
     )
 }
 
-/// Value `i` of a range of slots of the first of the parts.
+/// Returns value `i` of a range of slots of the first part.
 pub(crate) fn item_at<'a>(
     body: &'a [u8],
     parts: &'a [ColumnRanges],
@@ -361,7 +363,7 @@ fn value_at<'a>(body: &'a [u8], parts: &'a [ColumnRanges], slot: usize, i: usize
     cell_at(body, &parts[i], slot)
 }
 
-/// What stands in a row and a column of parts that give so many rows.
+/// Returns the value in a row and a column of parts with `rows` rows.
 #[inline(always)]
 pub(crate) fn cell_in<'a>(
     body: &'a [u8],

@@ -1,4 +1,4 @@
-//! The values of lent lists and structs, one after another.
+//! Iterators over the values of lists and structs that a batch lends.
 ghost use Rattle.std.specs.Prelude.{◌≡◌, ◌+◌, ◌-◌};
 ghost use Rattle.std.specs.Iterator.{YieldsFirstBy, item_count};
 ghost use Rattle.ipc_column.specs.Cells.{cell_value};
@@ -10,8 +10,8 @@ use crate::cell::{Cell, cell_at, item_at};
 use crate::ranges::ColumnRanges;
 use std::marker::Model;
 
-/// The values of a list, lent by its batch one after another: contracts see those that are left. It
-/// takes no memory.
+/// Iterates over the values of a list, lent by its batch. Contracts describe it as the list of the
+/// remaining values. It takes no memory.
 #[derive(Debug, Drop)]
 pub struct ListIter<'a> {
     body: &'a [u8],
@@ -56,8 +56,8 @@ impl<'a> Iterator for ListIter<'a> {
     }
 }
 
-/// The values of a struct, lent by its batch one after another: contracts see those that are left.
-/// It takes no memory.
+/// Iterates over the values of a struct, lent by its batch. Contracts describe it as the list of
+/// the remaining values. It takes no memory.
 #[derive(Debug, Drop)]
 pub struct StructIter<'a> {
     body: &'a [u8],
@@ -99,7 +99,7 @@ impl<'a> Iterator for StructIter<'a> {
     }
 }
 
-/// The values of a range of slots of the first of the parts.
+/// Returns the values of a range of slots of the first part.
 pub(crate) fn list_values<'a>(
     body: &'a [u8],
     parts: &'a [ColumnRanges],
@@ -117,7 +117,7 @@ pub(crate) fn list_values<'a>(
     }
 }
 
-/// The values of a slot of each part.
+/// Returns the values in one slot of each part.
 pub(crate) fn struct_values<'a>(
     body: &'a [u8],
     parts: &'a [ColumnRanges],

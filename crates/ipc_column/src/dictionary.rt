@@ -1,4 +1,4 @@
-//! The values of dictionaries, as columns of indices keep them.
+//! The values of dictionaries, shared with columns of indices.
 ghost use Rattle.std.specs.Prelude.{◌≡◌, ◌<◌, ◌≤◌, ◌+◌, ◌*◌, ℕ, List, length, map, true, [], IfOk};
 ghost use Rattle.std.specs.Prelude.{IsTrue, Some, slice_get, IfSome, IfNone};
 ghost use Rattle.ipc_model.specs.Layouts.{number_bytes};
@@ -23,14 +23,14 @@ use std::alloc::AllocError;
 use std::marker::Model;
 use std::rc::Rc;
 
-/// The values of a dictionary, shared with the batch that has them, and none where a column has no
-/// dictionary or that has none in force. Contracts see them as a list.
+/// The values of a dictionary, shared with its batch. There are none if a column has no dictionary
+/// or none in force. Contracts describe it as a list.
 #[derive(Debug, Drop)]
 pub struct DictionaryValues {
     leaf: Option<Leaf>,
 }
 
-// A column that stands alone, over a body that batches share.
+// A column without children or dictionary, over a body that batches share.
 #[derive(Debug, Drop)]
 struct Leaf {
     layout: Layout,
@@ -57,14 +57,14 @@ impl Model for DictionaryValues {
 }
 
 impl DictionaryValues {
-    /// No values.
+    /// Returns a dictionary without values.
     pub(crate) fn none() -> DictionaryValues
         ensures { result ≡ [] }
     {
         DictionaryValues { leaf: None }
     }
 
-    /// How many values there are.
+    /// Returns the number of values.
     #[inline(always)]
     pub(crate) fn len(&self) -> usize
         ensures { result ≡ length self.now }
@@ -75,7 +75,7 @@ impl DictionaryValues {
         }
     }
 
-    /// The slots of the values, where there is a column of them.
+    /// Returns the slots of the values, if there is a column of them.
     pub(crate) fn slots(&self) -> Option<SlotView<'_>>
         ensures values { IfSome result (λ slots. slot_values slots ≡ self.now) }
         ensures none { IfNone result (self.now ≡ []) }
@@ -86,7 +86,7 @@ impl DictionaryValues {
         }
     }
 
-    /// Value `i`, lent.
+    /// Lends value `i`.
     pub(crate) fn at(&self, i: usize) -> Cell<'_>
         requires { i < length self.now }
         ensures value { slice_get self.now i ≡ Some (cell_value result) }
@@ -99,7 +99,7 @@ impl DictionaryValues {
     }
 }
 
-// The slots of a column that stands alone. Of the dictionary nothing is asked.
+// The slots of a column without children or dictionary. The `dictionary` is not read.
 fn leaf_slots<'a>(leaf: &'a Leaf, dictionary: &'a DictionaryValues) -> SlotView<'a>
     requires { IsLeaf leaf.now }
     ensures { slot_values result ≡ values_in (leaf_column leaf.now) none }
@@ -137,7 +137,7 @@ fn value_in(leaf: &Leaf, slot: usize) -> Cell<'_>
     )
 }
 
-/// The value with the index in a slot, or null where there is none.
+/// Returns the value with the index in a slot, or null if there is none.
 #[inline(always)]
 pub(crate) fn indexed_cell<'a>(
     bits: IntBits,
@@ -157,7 +157,7 @@ pub(crate) fn indexed_cell<'a>(
     }
 }
 
-// Whether values of this layout lie in one column.
+// Whether values of this layout are stored in one column.
 fn stands_alone(layout: Layout) -> bool
     ensures { result ≡ stands_alone layout }
 {
@@ -171,7 +171,7 @@ fn stands_alone(layout: Layout) -> bool
     }
 }
 
-/// Whether there is one part, whose values lie in its column alone.
+/// Returns whether there is one part, whose values are stored in its column alone.
 pub(crate) fn are_alone(parts: &[ColumnRanges]) -> bool
     ensures yes { IsTrue result → (body : List ℕ) → AreAlone (columns body parts.now) }
     ensures no { (body : List ℕ) → AreAlone (columns body parts.now) → IsTrue result }
@@ -182,8 +182,8 @@ pub(crate) fn are_alone(parts: &[ColumnRanges]) -> bool
     stands_alone(parts[0].layout)
 }
 
-/// The values of the one column of parts that give so many rows. The body isn't copied; this is
-/// refused only where the count of those that share it is full.
+/// Returns the values of the one column of parts with `rows` rows. The body is not copied. Returns
+/// an error only if the reference count is at its maximum.
 pub(crate) fn share_values(
     body: &Rc<Vec<u8>>,
     parts: &[ColumnRanges],

@@ -5,7 +5,7 @@ ghost use Rattle.ipc_column.specs.Values.{number_in, place_below, signed_at};
 
 use ipc_model::IntBits;
 
-/// The unsigned number in a slot of two bytes.
+/// Returns the unsigned number in a slot of two bytes.
 #[inline(always)]
 pub(crate) fn u16_at(values: &[u8], slot: usize) -> u16
     requires { 2 * (slot + 1) ≤ length values.now }
@@ -14,7 +14,7 @@ pub(crate) fn u16_at(values: &[u8], slot: usize) -> u16
     u16::from_le_bytes(values.as_chunks::<2>().0[slot])
 }
 
-/// The unsigned number in a slot of four bytes.
+/// Returns the unsigned number in a slot of four bytes.
 #[inline(always)]
 pub(crate) fn u32_at(values: &[u8], slot: usize) -> u32
     requires { 4 * (slot + 1) ≤ length values.now }
@@ -23,7 +23,7 @@ pub(crate) fn u32_at(values: &[u8], slot: usize) -> u32
     u32::from_le_bytes(values.as_chunks::<4>().0[slot])
 }
 
-/// The unsigned number in a slot of eight bytes.
+/// Returns the unsigned number in a slot of eight bytes.
 #[inline(always)]
 pub(crate) fn u64_at(values: &[u8], slot: usize) -> u64
     requires { 8 * (slot + 1) ≤ length values.now }
@@ -32,7 +32,7 @@ pub(crate) fn u64_at(values: &[u8], slot: usize) -> u64
     u64::from_le_bytes(values.as_chunks::<8>().0[slot])
 }
 
-/// The signed number in a slot.
+/// Returns the signed number in a slot.
 #[inline(always)]
 pub(crate) fn signed_at(bits: IntBits, values: &[u8], slot: usize) -> i64
     requires { number_bytes bits * (slot + 1) ≤ length values.now }
@@ -46,7 +46,7 @@ pub(crate) fn signed_at(bits: IntBits, values: &[u8], slot: usize) -> i64
     }
 }
 
-/// The unsigned number in a slot.
+/// Returns the unsigned number in a slot.
 #[inline(always)]
 pub(crate) fn unsigned_at(bits: IntBits, values: &[u8], slot: usize) -> u64
     requires { number_bytes bits * (slot + 1) ≤ length values.now }
@@ -60,7 +60,7 @@ pub(crate) fn unsigned_at(bits: IntBits, values: &[u8], slot: usize) -> u64
     }
 }
 
-// A number as that of one of so many values, where it is one.
+// The number as a position, if it is below `count`.
 #[inline(always)]
 fn place_below(number: u64, count: usize) -> Option<usize>
     ensures { result ≡ place_below count (pos number) }
@@ -72,7 +72,7 @@ fn place_below(number: u64, count: usize) -> Option<usize>
     }
 }
 
-/// The index in a slot, where it is that of one of so many values.
+/// Returns the index in a slot, if it is that of one of `count` values.
 #[inline(always)]
 pub(crate) fn index_in(
     bits: IntBits,
@@ -94,7 +94,7 @@ pub(crate) fn index_in(
     place_below(index.unsigned_abs(), count)
 }
 
-/// The bytes of a slot of so many.
+/// Returns the bytes of a slot of `width` bytes.
 #[inline(always)]
 pub(crate) fn bytes_of(width: u32, values: &[u8], slot: usize) -> &[u8]
     requires { width * (slot + 1) ≤ length values.now }

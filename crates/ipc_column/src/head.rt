@@ -49,8 +49,8 @@ fn lie_in(size: usize, buffers: &[(i64, i64)]) -> bool
     good
 }
 
-/// Whether the head has the nodes and buffers that the fields need, with lengths in their bounds
-/// and ranges within `size` bytes.
+/// Checks that the head has the nodes and buffers that the fields need. Lengths must be within
+/// their bounds, and ranges within a body of `size` bytes.
 #[tactic(auto, using(crate::proofs::Fields::buffers_most))]
 pub(crate) fn check_head(
     limits: &Limits,

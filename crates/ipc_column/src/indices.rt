@@ -1,4 +1,4 @@
-//! Whether the indices of a column are those of values in its dictionary.
+//! Checks that the indices of a column are those of values in its dictionary.
 ghost use Rattle.std.specs.Prelude.{◌≡◌, ◌≤◌, ◌<◌, ◌+◌, ◌-◌, ◌*◌, ◌^◌, ℕ, List, length, true};
 ghost use Rattle.std.specs.Prelude.{IsTrue, is_some};
 ghost use Rattle.ipc_model.specs.Layouts.{number_bytes};
@@ -10,7 +10,7 @@ use crate::largest::largest;
 use crate::slot_visit::visit;
 use ipc_model::IntBits;
 
-// Whether the index in a slot is that of one of so many values.
+// Whether the index in a slot is that of one of `count` values.
 #[inline(always)]
 fn is_index(bits: IntBits, signed: bool, indices: &[u8], slot: usize, count: usize) -> bool
     requires { number_bytes bits * (slot + 1) ≤ length indices.now }
@@ -31,9 +31,9 @@ fn largest_signed(bits: IntBits) -> u64
     }
 }
 
-/// Whether the slots from one up to another all hold indices of one of so many values, null slots
-/// included. The largest of them tells: taken as unsigned, a negative number is above all that
-/// aren't.
+/// Returns whether the slots from `from` up to `to`, null slots included, all hold indices of one
+/// of `count` values. It compares only the largest index. Read as unsigned, a negative number is
+/// above every number that is not negative.
 pub(crate) fn are_indices(
     bits: IntBits,
     signed: bool,
@@ -51,7 +51,7 @@ pub(crate) fn are_indices(
     largest < count as u64 && (!signed || largest <= largest_signed(bits))
 }
 
-// Whether a slot is null or holds an index of one of so many values. The slot is visited.
+// Whether a slot is null or holds an index of one of `count` values. The slot is visited.
 fn visit_index(
     bits: IntBits,
     signed: bool,
@@ -70,8 +70,8 @@ fn visit_index(
     !visit(validity, slot, tests) || is_index(bits, signed, indices, slot, count)
 }
 
-/// Whether the slots from one up to another are each null or hold an index of one of so many
-/// values. They are visited where not all of them, null or not, hold such indices.
+/// Returns whether each slot from `from` up to `to` is null or holds an index of one of `count`
+/// values. The slots are visited only if some slot, null or not, holds another index.
 pub(crate) fn visit_indices(
     bits: IntBits,
     signed: bool,

@@ -1,5 +1,5 @@
-//! The largest of the numbers in slots, of which each contract says that none is above it. No loop
-//! here ends early, so that the compiler may look at many slots at a time.
+//! Finds the largest number in a range of slots, by loops that the compiler may turn into vector
+//! code.
 ghost use Rattle.std.specs.Prelude.{◌≡◌, ◌≤◌, ◌<◌, ◌+◌, ◌*◌, ℕ, length, slice_index};
 ghost use Rattle.ipc_scalar.specs.Bytes.{num};
 ghost use Rattle.ipc_model.specs.Layouts.{number_bytes};
@@ -20,7 +20,7 @@ fn largest_u8(numbers: &[u8], from: usize, to: usize) -> u8
     most
 }
 
-// The same of numbers of two bytes.
+// The largest number of two bytes in a range of slots.
 fn largest_u16(numbers: &[u8], from: usize, to: usize) -> u16
     requires range { from ≤ to }
     requires inside { 2 * to ≤ length numbers.now }
@@ -59,8 +59,8 @@ fn largest_u64(numbers: &[u8], from: usize, to: usize) -> u64
     most
 }
 
-/// The largest of the numbers in the slots from one up to another, taken as unsigned, or 0 where
-/// there are none.
+/// Returns the largest of the numbers in the slots from `from` up to `to`, read as unsigned, or 0
+/// if there are none.
 pub(crate) fn largest(bits: IntBits, numbers: &[u8], from: usize, to: usize) -> u64
     requires range { from ≤ to }
     requires inside { number_bytes bits * to ≤ length numbers.now }

@@ -1,7 +1,5 @@
-//! Record batches read in place: columns over one body, whose cells are lent (Arrow Columnar
-//! Format).
-//!
-//! A batch is accepted exactly where its fields, its metadata and its body give rows, memory aside.
+//! Reads record batches in place: columns over one body, whose cells are lent. A batch is accepted
+//! exactly if its fields, metadata and body denote rows, memory aside (Arrow Columnar Format).
 #![tactic(auto)]
 
 mod assign;

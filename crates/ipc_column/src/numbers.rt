@@ -1,15 +1,15 @@
 use ipc_model::IntBits;
 
-/// The numbers of a column, lent as they lie in the body (Arrow Columnar Format, "Fixed-size
-/// Primitive Layout").
+/// The numbers of a column, lent as they are laid out in the body (Arrow Columnar Format,
+/// "Fixed-size Primitive Layout").
 #[derive(Clone, Copy, Debug, Drop)]
 pub struct Numbers<'a> {
-    /// How many bits each has.
+    /// The number of bits of each number.
     pub bits: IntBits,
-    /// Whether they are signed, in two's complement.
+    /// Whether the numbers are signed, in two's complement.
     pub signed: bool,
-    /// The validity bitmap, or no bytes where no slot is null.
+    /// The validity bitmap, or no bytes if the column has none.
     pub validity: &'a [u8],
-    /// A number for each slot, the lowest byte first. Those of null slots mean nothing.
+    /// A number for each slot, little-endian. Those of null slots have no meaning.
     pub values: &'a [u8],
 }

@@ -16,7 +16,7 @@ fn offset_at(offsets: &[u8], i: usize) -> i32
     u32_at(offsets, i).cast_signed()
 }
 
-/// Where offset `i` points, if it isn't negative.
+/// Returns the position that offset `i` states, if it is not negative.
 #[inline(always)]
 pub(crate) fn place_at(offsets: &[u8], i: usize) -> usize
     requires { 4 * (i + 1) ≤ length offsets.now }
@@ -25,7 +25,7 @@ pub(crate) fn place_at(offsets: &[u8], i: usize) -> usize
     offset_at(offsets, i).unsigned_abs() as usize
 }
 
-/// Where offset `i` points, which isn't negative.
+/// Returns the position that offset `i` states, which is not negative.
 #[inline(always)]
 pub(crate) fn start_at(offsets: &[u8], i: usize) -> usize
     requires bytes { 4 * (i + 1) ≤ length offsets.now }
@@ -35,8 +35,8 @@ pub(crate) fn start_at(offsets: &[u8], i: usize) -> usize
     u32_at(offsets, i) as usize
 }
 
-/// Where the slots of the child begin that belong to a slot of lists of a fixed size; 0 where there
-/// is no child. The child has all slots up to the end of that list.
+/// Returns the first slot of the child that belongs to a slot of fixed-size lists, or 0 if there is
+/// no child. The child has all slots up to the end of that list.
 #[inline(always)]
 pub(crate) fn fixed_place(size: u32, children: &[ColumnRanges], slot: usize) -> usize
     requires { (body : List ℕ)
@@ -53,8 +53,8 @@ pub(crate) fn fixed_place(size: u32, children: &[ColumnRanges], slot: usize) -> 
     size as usize * slot
 }
 
-/// Whether the offsets of so many slots begin at 0 or above, don't decrease and end within so many
-/// bytes.
+/// Returns whether the offsets of `slots` slots are not negative, do not decrease, and end within
+/// `size` bytes.
 #[tactic(auto, using(crate::proofs::Below::all_below_more))]
 pub(crate) fn are_in_order(offsets: &[u8], slots: usize, size: usize) -> bool
     requires { 4 * (slots + 1) ≤ length offsets.now }
@@ -67,7 +67,7 @@ pub(crate) fn are_in_order(offsets: &[u8], slots: usize, size: usize) -> bool
     0 <= offset_at(offsets, 0) && ordered && place_at(offsets, slots) <= size
 }
 
-/// The bytes of a slot, one of so many.
+/// Returns the bytes of a slot, one of `slots`.
 #[inline(always)]
 pub(crate) fn bytes_between<'a>(
     offsets: &[u8],

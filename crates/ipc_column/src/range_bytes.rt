@@ -3,7 +3,7 @@ ghost use Rattle.ipc_column.specs.Spans.{span_bytes};
 
 use crate::ranges::BufferRange;
 
-/// The bytes of a span, or none where it passes the end of the body.
+/// Returns the bytes of a range, or no bytes if it ends after the body.
 #[tactic(auto, unfolding(crate::specs::Columns::bytes_of))]
 #[inline(always)]
 pub(crate) fn bytes_at(body: &[u8], span: BufferRange) -> &[u8]

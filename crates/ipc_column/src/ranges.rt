@@ -1,34 +1,34 @@
 use crate::dictionary::DictionaryValues;
 use ipc_model::Layout;
 
-/// Where the bytes of a buffer lie in the body.
+/// The range of a buffer in the body.
 #[derive(Clone, Copy, Debug, Drop)]
 pub struct BufferRange {
-    /// The place of its first byte.
+    /// The position of its first byte.
     pub start: usize,
-    /// How many bytes it has.
+    /// The number of its bytes.
     pub len: usize,
 }
 
-/// A field's node with its buffers, over a body that stands elsewhere.
+/// A field's node with its buffers, over a body that is stored separately.
 #[derive(Debug, Drop)]
 pub struct ColumnRanges {
-    /// How the slots lie in the buffers.
+    /// The layout of the slots.
     pub layout: Layout,
-    /// How many slots there are.
+    /// The number of slots.
     pub slots: usize,
-    /// How many of them are null.
+    /// The number of null slots.
     pub nulls: usize,
     /// The validity bitmap.
     pub validity: BufferRange,
-    /// The offsets of values whose lengths differ.
+    /// The offsets of values of variable length.
     pub offsets: BufferRange,
     /// The values.
     pub values: BufferRange,
-    /// The parts of the field's children.
+    /// The parts of the field's children, in order.
     pub children: Vec<ColumnRanges>,
-    /// The values that its slots are indices of.
+    /// The dictionary's values, if the slots hold indices.
     pub dictionary: DictionaryValues,
-    /// Whether texts or indices stand in one of the children or below it.
+    /// Whether a descendant has texts or indices.
     pub judged_below: bool,
 }

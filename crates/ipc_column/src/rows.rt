@@ -131,7 +131,7 @@ fn read_values(
     Ok(Items::from_vec(values))
 }
 
-/// Puts the values of one row in the place of all that `values` has.
+/// Replaces all that `values` has by the values of one row.
 pub(crate) fn read_row(
     alloc: Global,
     body: &[u8],
@@ -168,7 +168,7 @@ fn row_at(
     Ok(Items::from_vec(values))
 }
 
-/// The value of a row in part `i` of parts that give so many rows.
+/// Returns the value in a row of part `i`, of parts with `rows` rows.
 pub(crate) fn read_value(
     alloc: Global,
     body: &[u8],
@@ -186,7 +186,7 @@ pub(crate) fn read_value(
     read_slot(alloc, body, &parts[i], at)
 }
 
-/// The rows of parts that give so many.
+/// Returns the rows of parts with `rows` rows.
 #[tactic(auto, using(crate::proofs::Cells::rows_more))]
 pub(crate) fn rows_in(
     alloc: Global,

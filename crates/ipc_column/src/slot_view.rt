@@ -1,4 +1,4 @@
-//! The slots of a column and of the columns below it, whose buffers are found in the body once.
+//! The slots of a column and of its descendants, whose buffers are found in the body once.
 ghost use Rattle.std.specs.Prelude.{◌≡◌, ◌<◌, ℕ, List, length, slice_get, Some, true, IfSome};
 ghost use Rattle.std.specs.Prelude.{is_some, slice_index, take, ◌≤◌, ◌+◌, ◌*◌, ℤ, Bool, []};
 ghost use Rattle.std.specs.Prelude.{IfNone};
@@ -34,12 +34,12 @@ use ipc_model::Layout;
 use ipc_scalar::{bit, count_clear};
 use std::marker::Model;
 
-/// What a slot of a column holds by itself, lent by its batch.
+/// The content of a slot of a column without the values of its children, lent by its batch.
 #[derive(Clone, Copy, Debug, Drop)]
 pub enum Slot<'a> {
     /// The slot is null.
     Null,
-    /// A truth value.
+    /// A boolean.
     Bool(bool),
     /// A signed number.
     Int(i64),
@@ -47,23 +47,23 @@ pub enum Slot<'a> {
     UInt(u64),
     /// Bytes of the body.
     Bytes(&'a [u8]),
-    /// The bytes of a text, which are UTF-8 where a row shows the slot.
+    /// The bytes of a text. They are UTF-8 if a row shows the slot.
     Text(&'a [u8]),
-    /// A list: its values are those of the child from one slot up to another.
+    /// A list: its values are in the child's slots from `from` up to `to`.
     List {
         /// The slot of its first value.
         from: usize,
-        /// The slot behind that of its last value.
+        /// The slot after that of its last value.
         to: usize,
     },
-    /// A struct: its values are those of each child in the same slot.
+    /// A struct: its values are in the slot with this slot's number of each child.
     Struct,
 }
 
-/// The slots of a column, lent, whose buffers were found in the body, and the columns of its
-/// children. It takes no memory.
+/// The slots of a column, lent, with its buffers in the body and the columns of its children. It
+/// takes no memory.
 ///
-/// Contracts see its buffers and those of its children. Slots that no row leads to are among them.
+/// Contracts describe its buffers and those of its children. They include slots that no row shows.
 #[derive(Debug, Drop)]
 pub struct SlotView<'a> {
     layout: Layout,
@@ -100,7 +100,7 @@ impl<'a> Model for SlotView<'a> {
 }
 
 impl<'a> SlotView<'a> {
-    /// How many slots there are.
+    /// Returns the number of slots.
     #[inline(always)]
     pub fn len(&self) -> usize
         ensures { result ≡ length (slot_values self.now) }
@@ -108,31 +108,31 @@ impl<'a> SlotView<'a> {
         self.slots
     }
 
-    /// What a slot holds. The caller gives a slot below `len`.
+    /// Returns the content of a slot. `slot` must be below `len`.
     ///
-    /// A list, or a struct, tells the slots of the children where its values are. An index lends
-    /// its value of the dictionary, and is null where there is none.
+    /// For a list or a struct it states the children's slots that have the values. For an index it
+    /// lends the value of the dictionary, and it is null if there is none.
     #[inline(always)]
     pub fn at(&self, slot: usize) -> Slot<'a>
         requires { slot < length (slot_values self.now) }
         ensures value { slice_get (slot_values self.now) slot
             ≡ Some (shown (row (below self.now)) slot result) }
-        // The children have the slots that are told.
+        // The children have the slots that the result states.
         ensures inside { LeadsInside (below self.now) slot result }
     {
         self.at_layout(self.layout, slot)
     }
 
-    /// What a slot holds, as `at` tells it, where the caller knows how the slots lie: with a layout
-    /// that stands in the call, what reads the slot is compiled for that layout alone. The caller
-    /// gives the column's layout, and a slot below `len`.
+    /// Returns the content of a slot, as `at` does, for a known layout. If the call names a
+    /// constant layout, the code that reads the slot is compiled for that layout only. `layout`
+    /// must be the column's layout, and `slot` must be below `len`.
     #[inline(always)]
     pub fn at_layout(&self, layout: Layout, slot: usize) -> Slot<'a>
         requires layout { self.now.column.layout ≡ layout }
         requires slot { slot < length (slot_values self.now) }
         ensures value { slice_get (slot_values self.now) slot
             ≡ Some (shown (row (below self.now)) slot result) }
-        // The children have the slots that are told.
+        // The children have the slots that the result states.
         ensures inside { LeadsInside (below self.now) slot result }
     {
         if !is_valid(self.validity, slot) {
@@ -149,9 +149,10 @@ impl<'a> SlotView<'a> {
         )
     }
 
-    /// The bytes of the column's data from the text in a slot on, and how many of them the text
-    /// has: none where the slot is null. So a short text can be copied by one load of more bytes
-    /// than it has. The caller gives a slot below `len` of a column of texts.
+    /// Returns the bytes of the column's data from the beginning of the text in a slot, and the
+    /// number of bytes of the text. Returns `None` if the slot is null. So a short text can be
+    /// copied by one load of more bytes than it has. `slot` must be below `len`, and the column
+    /// must be one of texts.
     #[inline(always)]
     pub fn text_at(&self, slot: usize) -> Option<(&'a [u8], usize)>
         requires layout { self.now.column.layout ≡ Layout.VariableBytes true }
@@ -166,7 +167,7 @@ impl<'a> SlotView<'a> {
         }
     }
 
-    /// Whether a slot is null. The caller gives a slot below `len`.
+    /// Returns whether a slot is null. `slot` must be below `len`.
     pub fn is_null(&self, slot: usize) -> bool
         requires { slot < length (slot_values self.now) }
         ensures { (value : Value) → slice_get (slot_values self.now) slot ≡ Some value
@@ -179,8 +180,9 @@ impl<'a> SlotView<'a> {
         }
     }
 
-    /// The numbers of the column as they lie in the body, with their validity bitmap: none where
-    /// the column has anything else, also indices of numbers.
+    /// Returns the numbers of the column as they are laid out in the body, with the validity
+    /// bitmap. Returns `None` if the column stores anything else; indices into a dictionary of
+    /// numbers are no numbers.
     #[inline(always)]
     pub fn numbers(&self) -> Option<Numbers<'a>>
         // It lends exactly the columns of numbers.
@@ -198,8 +200,8 @@ impl<'a> SlotView<'a> {
         }
     }
 
-    /// The buffers of the column as they lie in the body. They have what the slots need: a bit for
-    /// each slot in a bitmap that is there, the values, and offsets in order.
+    /// Returns the buffers of the column as they are laid out in the body. They have the bytes that
+    /// the slots need: a bit for each slot if there is a bitmap, the values, and offsets in order.
     #[inline(always)]
     pub fn buffers(&self) -> Buffers<'a>
         ensures { AreBuffers self.now result }
@@ -212,7 +214,7 @@ impl<'a> SlotView<'a> {
         }
     }
 
-    /// How the slots lie, and with it what they show.
+    /// Returns the layout of the slots, which defines what they hold.
     pub fn layout(&self) -> Layout
         ensures layout { result ≡ self.now.column.layout }
         ensures values { AllByRecursion (IsShownBy result) (slot_values self.now) }
@@ -220,8 +222,8 @@ impl<'a> SlotView<'a> {
         layout_over(self.layout, self.values)
     }
 
-    /// How many slots the validity bitmap says are null: none without a bitmap. A slot of the null
-    /// layout is null without one, and so may be an index.
+    /// Returns the number of slots that the validity bitmap marks as null, or 0 without a bitmap. A
+    /// slot of the null layout is null without a bitmap, and so may an index be.
     pub fn null_count(&self) -> u64
         ensures { result ≡ nulls_in self.now.column.validity (length (slot_values self.now)) }
     {
@@ -231,21 +233,21 @@ impl<'a> SlotView<'a> {
         count_clear(self.validity, self.slots)
     }
 
-    /// How many bytes the values have, as they lie in the body. Those of slots that nothing leads
-    /// to are among them.
+    /// Returns the number of bytes of the values, as they are laid out in the body. Values of slots
+    /// that no row shows are included.
     pub fn data_len(&self) -> usize
         ensures lent { result ≡ length self.now.column.values }
         ensures room { HoldValues self.now.column.layout (length (slot_values self.now)) result }
-        // Texts and binary values lie beside one another.
+        // The bytes of texts and binary values do not overlap.
         ensures spelled { stands_alone self.now.column.layout ≡ true
             → spelled_len (slot_values self.now) ≤ result }
     {
         self.values.len()
     }
 
-    /// Where in the dictionary the value stands that a slot shows. The caller gives a slot below
-    /// `len`. None where the slot is null, or its index isn't that of a value, and where the column
-    /// isn't one of indices.
+    /// Returns the index in the dictionary of the value that a slot shows. `slot` must be below
+    /// `len`. Returns `None` if the slot is null, if its index is not that of a value, or if the
+    /// column has no dictionary.
     #[inline(always)]
     pub fn entry_at(&self, slot: usize) -> Option<usize>
         requires { slot < length (slot_values self.now) }
@@ -269,8 +271,8 @@ impl<'a> SlotView<'a> {
         }
     }
 
-    /// The slots of the values of the column's dictionary: none where it has no dictionary, as a
-    /// column that isn't one of indices, or where none is in force.
+    /// Returns the slots of the values of the column's dictionary. Returns `None` if the column has
+    /// no dictionary or none in force.
     pub fn entries(&self) -> Option<SlotView<'a>>
         ensures values { IfSome result
             (λ entries. slot_values entries ≡ self.now.column.dictionary) }
@@ -279,14 +281,15 @@ impl<'a> SlotView<'a> {
         self.dictionary.slots()
     }
 
-    /// How many children there are: one of a list, one for each part of a struct, else none.
+    /// Returns the number of children: one for a list or a fixed-size list, one for each member of
+    /// a struct, and 0 otherwise.
     pub fn children(&self) -> usize
         ensures { result ≡ length self.now.children }
     {
         self.children.len()
     }
 
-    /// The slots of child `i`. The caller gives an `i` below `children`.
+    /// Returns the slots of child `i`, which must be below `children`.
     pub fn child(&self, i: usize) -> SlotView<'a>
         requires { i < length self.now.children }
         ensures { slice_get (nested_in self.now) i ≡ Some result }
@@ -305,7 +308,8 @@ fn layout_over(layout: Layout, bytes: &[u8]) -> Layout
     layout
 }
 
-// The data from the text in a slot on, one of so many, and how many bytes the text has.
+// The data from the beginning of the text in a slot, one of `slots`, and the number of bytes of the
+// text.
 #[inline(always)]
 fn text_in<'a>(offsets: &[u8], values: &'a [u8], slots: usize, slot: usize) -> (&'a [u8], usize)
     requires slot { slot < slots }
@@ -390,7 +394,7 @@ fn leaf_slot(cell: Cell<'_>) -> Slot<'_>
     }
 }
 
-/// The slots of a column whose buffers these are.
+/// Returns the slots of a column with these buffers.
 pub(crate) fn slots_found<'a>(
     layout: Layout,
     slots: usize,
@@ -437,7 +441,7 @@ fn slots_of<'a>(body: &'a [u8], part: &'a ColumnRanges) -> SlotView<'a>
     }
 }
 
-/// The slots of a column of parts that give so many rows.
+/// Returns the slots of a column of parts with `rows` rows.
 pub(crate) fn slots_in<'a>(
     body: &'a [u8],
     parts: &'a [ColumnRanges],

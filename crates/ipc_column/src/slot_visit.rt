@@ -4,7 +4,7 @@ ghost use Rattle.ipc_column.specs.Values.{is_valid};
 
 use crate::cell::is_valid;
 
-/// Whether a slot isn't null. Each slot that is looked at by itself is looked at here, and the
+/// Returns whether a slot is not null. Each slot that is visited by itself is visited here, and the
 /// visit is counted.
 pub(crate) fn visit(validity: &[u8], slot: usize, tests: &mut u64) -> bool
     requires bitmap { has_bitmap (slot + 1) (length validity.now) ≡ true }

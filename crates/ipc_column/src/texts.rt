@@ -7,7 +7,7 @@ ghost use Rattle.ipc_column.specs.Values.{place};
 use crate::offsets::{bytes_between, place_at, start_at};
 use crate::slot_visit::visit;
 
-/// The text of bytes that were found UTF-8.
+/// Returns the text of bytes that are known to be UTF-8.
 #[inline(always)]
 pub(crate) fn text_of(bytes: &[u8]) -> &str
     requires { is_utf8 bytes.now ≡ true }
@@ -30,8 +30,8 @@ fn is_first(byte: u8) -> bool
     byte < 128 || 192 <= byte
 }
 
-// Of the slots from one up to another, the first that begins where the last ends, as each behind it
-// does; the end of the slots where none does.
+// The first slot between `from` and `to` that begins where the last ends, as each slot after it
+// does; `to` if there is none.
 fn first_at_end(offsets: &[u8], slots: usize, from: usize, to: usize) -> usize
     requires range { from ≤ to }
     requires inside { to ≤ slots }
@@ -69,7 +69,8 @@ fn are_cuts(offsets: &[u8], front: &[u8], slots: usize, from: usize, to: usize) 
     cuts
 }
 
-/// Whether the slots from one up to another are one text that may be cut where they begin.
+/// Returns whether the bytes of the slots from `from` up to `to` together are one UTF-8 text that
+/// may be cut where the slots begin.
 pub(crate) fn is_whole(offsets: &[u8], values: &[u8], slots: usize, from: usize, to: usize) -> bool
     requires range { from ≤ to }
     requires inside { to ≤ slots }
@@ -83,7 +84,7 @@ pub(crate) fn is_whole(offsets: &[u8], values: &[u8], slots: usize, from: usize,
         && are_cuts(offsets, &values[..end], slots, from, to)
 }
 
-// Whether a slot, one of so many, is null or holds UTF-8. The slot is visited.
+// Whether a slot, one of `slots`, is null or holds UTF-8. The slot is visited.
 fn visit_text(
     validity: &[u8],
     offsets: &[u8],
@@ -103,8 +104,8 @@ fn visit_text(
     !visit(validity, slot, tests) || is_text(bytes_between(offsets, values, slots, slot))
 }
 
-/// Whether the slots from one up to another, of so many, are each null or hold UTF-8. They are
-/// visited where they aren't one text that may be cut between them.
+/// Returns whether each slot from `from` up to `to`, of `slots` slots, is null or holds UTF-8. The
+/// slots are visited only if they are not together one text that may be cut between them.
 pub(crate) fn visit_texts(
     validity: &[u8],
     offsets: &[u8],

@@ -24,7 +24,8 @@ fn has_bitmap(slots: usize, bytes: usize) -> bool
     bytes == 0 || slots.div_ceil(8) <= bytes
 }
 
-// Whether so many bytes hold slots of a width in bytes, or the slots of a child lists of a size.
+// Whether `bytes` bytes hold `slots` slots of `width` bytes, or the slots of a child hold such
+// lists.
 #[tactic(auto, using(crate::proofs::Widths::holds_by_quotient))]
 fn holds_width(width: usize, slots: usize, bytes: usize) -> bool
     ensures { result ≡ nat_le (width * slots) bytes }
@@ -58,7 +59,7 @@ fn holds_offsets(layout: Layout, slots: usize, bytes: usize) -> bool
     }
 }
 
-// Whether each of the parts has so many slots at least.
+// Whether each of the parts has at least `slots` slots.
 fn have_slots(parts: &[ColumnRanges], slots: usize) -> bool
     ensures { (body : List ℕ) → result ≡ have_slots slots (columns body parts.now) }
 {
@@ -69,7 +70,7 @@ fn have_slots(parts: &[ColumnRanges], slots: usize) -> bool
     long
 }
 
-// Whether each of the parts has the slots at least of so many lists of a size.
+// Whether each of the parts has at least the slots of `lists` lists of `size` values.
 fn have_lists(parts: &[ColumnRanges], size: usize, lists: usize) -> bool
     ensures { (body : List ℕ) → result ≡ have_slots (size * lists) (columns body parts.now) }
 {
@@ -80,7 +81,7 @@ fn have_lists(parts: &[ColumnRanges], size: usize, lists: usize) -> bool
     long
 }
 
-// Whether the offsets of so many lists are in order, within the slots of the child.
+// Whether the offsets of `slots` lists are in order, within the slots of the child.
 fn are_lists(offsets: &[u8], slots: usize, children: &[ColumnRanges]) -> bool
     requires { 4 * (slots + 1) ≤ length offsets.now }
     ensures { (body : List ℕ)
@@ -91,8 +92,8 @@ fn are_lists(offsets: &[u8], slots: usize, children: &[ColumnRanges]) -> bool
     are_in_order(offsets, slots, end) && have_slots(children, end)
 }
 
-// Whether the offsets of so many slots are in order, within so many bytes of values or within the
-// slots of the child.
+// Whether the offsets of `slots` slots are in order, within the bytes of values or the slots of the
+// child.
 fn in_order(
     layout: Layout,
     slots: usize,
@@ -111,8 +112,8 @@ fn in_order(
     }
 }
 
-// Whether the children of so many slots have as many, where these are structs, and the slots of
-// that many lists, where these are lists of a fixed size.
+// Whether the children have enough slots: `slots` for structs, and those of `slots` lists for
+// fixed-size lists.
 fn are_long(layout: Layout, slots: usize, children: &[ColumnRanges]) -> bool
     ensures { (body : List ℕ) → result ≡ are_long layout slots (columns body children.now) }
 {
@@ -168,7 +169,7 @@ fn check_part(body: &[u8], part: &ColumnRanges) -> Result<(), Cause>
     Ok(())
 }
 
-// The same of each part, children included.
+// Checks each part with its children.
 #[cycle(check_all)]
 fn check_all(body: &[u8], parts: &[ColumnRanges]) -> Result<(), Cause>
     ensures { Judges result (λ why. every (passes why) (columns body.now parts.now)) }
@@ -200,8 +201,8 @@ fn check_tops(body: &[u8], parts: &[ColumnRanges], rows: usize) -> Result<(), Ca
     if same { Ok(()) } else { Err(Cause::BadNode) }
 }
 
-/// Whether the parts, which are the columns of a batch, give so many rows; how many slots were
-/// visited to find that.
+/// Checks that the parts, which are the columns of a batch, have `rows` rows. Returns the number of
+/// slots that were visited.
 pub(crate) fn check_columns(body: &[u8], parts: &[ColumnRanges], rows: usize) -> Result<u64, Cause>
     requires few { visits_in (columns body.now parts.now) < 2 ^ 64 }
     requires marks { AreMarked parts.now }

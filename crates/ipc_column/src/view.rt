@@ -16,7 +16,7 @@ use crate::slot_view::{SlotView, slots_found};
 use ipc_model::Layout;
 use std::marker::Model;
 
-/// A column of a batch, lent, whose buffers were found in the body: contracts see it as the list of
+/// A column of a batch, lent, with its buffers in the body. Contracts describe it as the list of
 /// its values. It takes no memory.
 #[derive(Debug, Drop)]
 pub struct ColumnView<'a> {
@@ -51,7 +51,7 @@ impl<'a> Model for ColumnView<'a> {
 }
 
 impl<'a> ColumnView<'a> {
-    /// How many values there are: one for each row of the batch.
+    /// Returns the number of values, one for each row of the batch.
     #[inline(always)]
     pub fn len(&self) -> usize
         ensures { result ≡ length self.now }
@@ -59,9 +59,9 @@ impl<'a> ColumnView<'a> {
         self.slots
     }
 
-    /// The value in a slot, lent by the batch. The caller gives a slot below `len`.
+    /// Lends the value in a slot. `slot` must be below `len`.
     ///
-    /// It is what `Batch::cell` lends for the slot's row and the column.
+    /// It equals what `Batch::cell` lends for the slot's row and this column.
     #[inline(always)]
     pub fn at(&self, slot: usize) -> Cell<'a>
         requires { slot < length self.now }
@@ -80,8 +80,8 @@ impl<'a> ColumnView<'a> {
         )
     }
 
-    /// The slots of the column, by which those of its children are reached: a whole column of lists
-    /// or structs is read so, without a `Cell` for each of its lists.
+    /// Returns the slots of the column, which give access to its children. Use it to read a whole
+    /// column of lists or structs without a `Cell` for each.
     #[inline(always)]
     pub fn slots(&self) -> SlotView<'a>
         ensures values { slot_values result ≡ self.now }
@@ -146,7 +146,7 @@ fn view_of<'a>(body: &'a [u8], part: &'a ColumnRanges) -> ColumnView<'a>
     }
 }
 
-/// A column of parts that give so many rows, found.
+/// Returns a column of parts with `rows` rows.
 pub(crate) fn view_in<'a>(
     body: &'a [u8],
     parts: &'a [ColumnRanges],

@@ -17,9 +17,9 @@ use crate::texts::visit_texts;
 use crate::whole::is_whole_part;
 use ipc_model::{IntBits, Layout};
 
-// Whether what a part's slots from one up to another lead to is good: in a list the slots between
-// its offsets, in a list of a fixed size that many for each, in a struct the same slots of each
-// child.
+// Whether the descendants of a part's slots from `from` up to `to` are valid. For a list these are
+// the slots between its offsets; for a fixed-size list its number of slots for each; for a struct
+// the slots of equal number of each child.
 #[cycle(visit)]
 fn visit_below(
     body: &[u8],
@@ -56,8 +56,8 @@ fn visit_below(
     }
 }
 
-// Whether a slot of a part that texts or indices stand below is null, or what it leads to is good.
-// The slot is visited.
+// Whether a slot is null or its descendants are valid. Some descendant of the part has texts or
+// indices. The slot is visited.
 #[cycle(visit)]
 fn visit_slot(body: &[u8], part: &ColumnRanges, slot: usize, tests: &mut u64) -> Result<(), Cause>
     requires slots { AreSlots (one body.now part.now) slot (slot + 1) }
@@ -77,7 +77,7 @@ fn visit_slot(body: &[u8], part: &ColumnRanges, slot: usize, tests: &mut u64) ->
     visit_below(body, part, slot, slot + 1, tests)
 }
 
-// The same of the slots from one up to another.
+// Whether the slots from `from` up to `to` are each null or their descendants are valid.
 #[cycle(visit)]
 fn visit_slots(
     body: &[u8],
@@ -154,10 +154,9 @@ fn visit_index_part(
     }
 }
 
-// Whether the slots of a part from one up to another are good: each is null, or what stands in it
-// and below it is UTF-8 where it is a text, and of a value where it is an index. Where there is no
-// bitmap, all that the slots lead to is looked at together; where neither texts nor indices stand
-// below, nothing is.
+// Whether the slots of a part from `from` up to `to` are valid: each is null, or its texts are
+// UTF-8 and its indices are those of values, with its descendants. Without a bitmap all descendants
+// are checked together. If no descendant has texts or indices, none is checked.
 #[cycle(visit)]
 fn visit_part(
     body: &[u8],
@@ -190,7 +189,7 @@ fn visit_part(
     visit_slots(body, part, from, to, tests)
 }
 
-// The same of each part.
+// Whether the slots of each part are valid.
 #[cycle(visit)]
 fn visit_all(
     body: &[u8],
@@ -211,8 +210,8 @@ fn visit_all(
     Ok(())
 }
 
-// The same of a part, of which no slot is visited where all its texts are UTF-8 and all its indices
-// those of values.
+// Whether the slots of a part are valid. None is visited if all its texts are UTF-8 and all its
+// indices are those of values.
 fn visit_column(
     body: &[u8],
     part: &ColumnRanges,
@@ -232,8 +231,8 @@ fn visit_column(
     visit_part(body, part, from, to, tests)
 }
 
-/// Whether the slots of each part from one up to another are good: neither a text is visible in
-/// them that isn't UTF-8, nor an index that is of no value. Each slot that is visited is counted.
+/// Checks the slots of each part from `from` up to `to`: every visible text is UTF-8, and every
+/// visible index is that of a value. Each slot that is visited is counted.
 pub(crate) fn visit_columns(
     body: &[u8],
     parts: &[ColumnRanges],

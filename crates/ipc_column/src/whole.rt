@@ -1,5 +1,5 @@
-//! Columns all of whose texts are UTF-8 and all of whose indices are those of values, whether a row
-//! shows them or not: most are, and that is seen without a look at any bitmap.
+//! A fast check of columns: all texts are UTF-8 and all indices are those of values, whether
+//! visible or not; no bitmap is read.
 ghost use Rattle.std.specs.Prelude.{◌≡◌, ◌<◌, true, IsTrue};
 ghost use Rattle.ipc_column.specs.declared.cause.Cause.{Cause};
 ghost use Rattle.ipc_column.specs.Checks.{good, range_good};
@@ -40,9 +40,9 @@ fn is_whole_below(body: &[u8], part: &ColumnRanges, from: usize, to: usize) -> b
     }
 }
 
-/// Whether the slots of a part from one up to another, in it and below it, are UTF-8 where they are
-/// texts, and of a value where they are indices, null slots and what they lead to included. Where
-/// they aren't all, those that a row shows still may be.
+/// Returns whether a part's slots from `from` up to `to`, with their descendants, have only texts
+/// that are UTF-8 and indices of values. Null slots and their descendants are included. If it
+/// returns false, the visible ones may still be valid.
 #[cycle(whole)]
 pub(crate) fn is_whole_part(body: &[u8], part: &ColumnRanges, from: usize, to: usize) -> bool
     requires slots { AreSlots (one body.now part.now) from to }
@@ -67,7 +67,7 @@ pub(crate) fn is_whole_part(body: &[u8], part: &ColumnRanges, from: usize, to: u
     is_whole_below(body, part, from, to)
 }
 
-// The same of each part.
+// Whether `is_whole_part` holds for each part.
 #[cycle(whole)]
 fn are_whole(body: &[u8], parts: &[ColumnRanges], from: usize, to: usize) -> bool
     requires slots { AreSlots (columns body.now parts.now) from to }

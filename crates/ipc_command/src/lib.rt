@@ -1,5 +1,4 @@
-//! What the command `arrowstream` does: the words that ask for a job, and each job between an input
-//! and a sink.
+//! The command `arrowstream`: reads its arguments, and does each job between an input and a sink.
 #![tactic(auto)]
 
 mod running;

@@ -1,4 +1,4 @@
-//! Jobs: each is done between an input and a sink.
+//! Does jobs, each between an input and a sink.
 ghost use Rattle.std.specs.Prelude.{◌≡◌, ◌≢◌, ◌⊎◌, [], Result, Some, IfErr, IfOk, OnOk, ⊤};
 ghost use Rattle.ipc_command.specs.Jobs.{Answers, AnswersCsv, AnswersPrint, AnswersRewrite};
 ghost use Rattle.ipc_command.specs.Jobs.{bytes_of, exit_status, failures_of, lifted, stop_of_csv};
@@ -124,16 +124,20 @@ fn do_job<P: Source, R: Read, W: Sink>(
     (result, input, sink, schema)
 }
 
-/// Does a job: reads `input` batch by batch and sends what the job makes of it to `sink`; on a
-/// refusal prints the fault's line to `messages`. What went out before it stands. Of a stream, no
-/// byte behind its end-of-stream mark is read.
+/// Does a job: reads `input` batch by batch and writes the result to `sink`. After a refusal it
+/// prints the fault's line to `messages`; the bytes that were sent remain sent. Of a stream, no
+/// byte after its end-of-stream mark is read.
 ///
-/// `schema` is the file that the job names, or none where that can't be opened; only `FromCsv`
-/// reads it. The caller gives a batch size from 1 to 2^31 - 1, as `read_words` does.
+/// `schema` is the file that the job names, or `None` if it cannot be opened. Only `FromCsv` reads
+/// it. The batch size must be from 1 to 2^31 - 1, as `read_words` returns it.
 ///
-/// The answer is the exit status, and the input, the sink and the schema's file again: 0 where all
-/// was done, 1 where what was read is refused, 3 where the input, the schema's file or the sink
-/// failed, 4 where memory ran out. A failing `messages` changes nothing.
+/// Returns the exit status, the input, the sink and the schema's file. A failing `messages` changes
+/// nothing. The exit status is:
+///
+/// - 0 if the job is done;
+/// - 1 if what was read is refused;
+/// - 3 if the input, the schema's file or the sink failed;
+/// - 4 if memory ran out.
 pub fn run<P: Source, R: Read, W: Sink, E: Write>(
     alloc: Global,
     job: Job,
@@ -160,8 +164,8 @@ pub fn run<P: Source, R: Read, W: Sink, E: Write>(
     run_with_seed(alloc, Seed::Fixed, job, schema, input, sink, messages)
 }
 
-/// The same, where the values of dictionaries that are written are hashed with this seed: nobody
-/// who doesn't know it can choose values whose hashes collide.
+/// Does a job as `run` does, but hashes the values of dictionaries that are written with this seed.
+/// Nobody who does not know a random seed can choose values whose hashes collide.
 pub fn run_with_seed<P: Source, R: Read, W: Sink, E: Write>(
     alloc: Global,
     seed: Seed,

@@ -1,4 +1,4 @@
-//! The schema of a file.
+//! Reads a schema from a file.
 ghost use Rattle.std.specs.Prelude.{◌≡◌, ◌⊎◌, ◌++◌, ◌+◌, ◌≤◌, List, ℕ, Some, IfErr, IfOk, IfSome};
 ghost use Rattle.std.specs.Prelude.{OnOk};
 ghost use Rattle.std.specs.Io.KnownBytes.{Consumes, IsAtEnd};
@@ -12,11 +12,11 @@ use ipc_moments::TextFault;
 use ipc_stream::Source;
 use std::alloc::Global;
 
-// For so many bytes a file is asked in a call.
+// The number of bytes that one call reads of a file.
 const PIECE: usize = 4_096;
 
-// Asks a file once, and puts what comes behind the text. Says how many bytes that are: none only at
-// the end.
+// Calls a file once, and appends what comes to the text. Returns the number of bytes, which is 0
+// only at the end.
 fn read_piece<P: Source>(file: &mut P, text: &mut Vec<u8>) -> Result<usize, Stop>
     ensures came { OnOk result ((piece : List ℕ) × (text.new.items ≡ text.old.items ++ piece)
         × Consumes (P.remaining file.old) (P.remaining file.new) piece) }
@@ -74,7 +74,7 @@ fn read_open<P: Source>(alloc: Global, file: &mut P) -> Result<Schema, Stop>
     }
 }
 
-/// The schema whose JSON text a file holds, and the file again.
+/// Reads a schema from a file with its JSON text. Returns the file with the result.
 pub fn read_schema<P: Source>(alloc: Global, file: Option<P>) -> (Result<Schema, Stop>, Option<P>)
     ensures read { IfOk result.0 (IsSchemaOf (bytes_of P.remaining file)) }
     ensures works { OnOk result.0 (failures_of P.failures result.1 ≡ 0) }

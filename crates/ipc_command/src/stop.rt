@@ -1,4 +1,4 @@
-//! Why a job stopped, as an exit status and a line.
+//! The exit status and the line of each reason why a job stops.
 ghost use Rattle.std.specs.Prelude.{◌≡◌, ◌∷◌, ◌++◌, [], OnOk, Some};
 ghost use Rattle.std.specs.Io.KnownBytes.{Appends};
 ghost use Rattle.ipc_command.specs.Jobs.{stop_of_csv, stop_of_print, stop_of_rewrite, stop_status};
@@ -15,13 +15,13 @@ use std::io::Write;
 pub enum Stop {
     /// The stream was refused at the message with this number, or the source failed there.
     Read(Fault, u64),
-    /// The input of CSV failed.
+    /// The CSV input failed.
     Input,
-    /// The file with the schema can't be read.
+    /// The file with the schema cannot be read.
     Schema,
     /// What was read could not be written.
     Write(WriteFault),
-    /// What was read has no text, or is none.
+    /// What was read has no text, or is not a valid text.
     Text(TextFault),
 }
 
@@ -72,7 +72,7 @@ impl From<ipc_from_csv::Stop> for Stop {
 }
 
 impl Stop {
-    /// The exit status: 1 where what was read is refused, 3 where a device failed, 4 where memory
+    /// Returns the exit status: 1 if what was read is refused, 3 if a device failed, 4 if memory
     /// ran out.
     pub fn exit_status(&self) -> u8
         ensures { result ≡ stop_status self.now }

@@ -1,4 +1,4 @@
-//! What a command line asks for.
+//! Reads the arguments of a command line.
 ghost use Rattle.std.specs.Prelude.{◌≡◌, IfOk, IfSome};
 ghost use Rattle.ipc_command.specs.Words.{AreAskedFor, HasGoodSize, HaveOptions, IsAsked};
 ghost use Rattle.ipc_command.specs.Words.{IsBatchSize};
@@ -9,37 +9,37 @@ use clap::{Arg, ArgAction, ArgMatches, Command, Error};
 use ipc_model::Limits;
 use std::alloc::{AllocError, Global};
 
-/// What is to be done, and how much a stream that is read may hold.
+/// What to do, and the limits of a stream that is read.
 #[derive(Debug, Drop)]
 pub enum Job {
-    /// Reads a stream, and prints its schema and how many bytes, batches and rows it has.
+    /// Read a stream, and print its schema and its numbers of bytes, batches and rows.
     Check(Limits),
-    /// Prints each row of a stream as a JSON array on a line of its own.
+    /// Print each row of a stream as a JSON array on a line of its own.
     Show {
-        /// How much the stream may hold.
+        /// The limits of the stream.
         limits: Limits,
-        /// Whether a line with its pairs stands in front of each batch's rows.
+        /// Whether to print a line with its pairs before the rows of each batch.
         pairs: bool,
     },
-    /// Prints a stream as CSV.
+    /// Print a stream as CSV.
     ToCsv(Limits),
-    /// Writes a stream anew, with the same schema, batches and rows.
+    /// Rewrite a stream in canonical layout, with its schema, batches and rows.
     Rewrite(Limits),
-    /// Writes records of CSV as a stream.
+    /// Write CSV records as a stream.
     FromCsv {
         /// The path of a file with the schema as JSON.
         schema: String,
-        /// How many rows a batch has; the last may have fewer.
+        /// The number of rows of a batch; the last batch may have fewer.
         batch: u64,
     },
 }
 
-/// Why a command line asks for no job.
+/// Why a command line contains no job.
 #[derive(Debug, Drop)]
 pub enum Usage {
-    /// It asks for help or the version: this text, for standard output.
+    /// The arguments ask for help or the version: this text, for standard output.
     Help(String),
-    /// It is none of the program's: why, and how it is used, for standard error.
+    /// The arguments are invalid: why, and the usage, for standard error.
     Wrong(String),
     /// Memory ran out.
     OutOfMemory,
@@ -233,7 +233,8 @@ fn with_subcommand<'a>(
     command.subcommand(subcommand?)
 }
 
-// The program's words. Its help tells the subcommands in the order in which they are added.
+// The arguments of the program. The help lists the subcommands in the order in which they are
+// added.
 fn command<'a>(alloc: Global) -> Result<Command<'a>, AllocError> {
     let command = with_subcommand(program(alloc), check(alloc))?;
     let command = with_subcommand(command, show(alloc))?;
@@ -242,7 +243,7 @@ fn command<'a>(alloc: Global) -> Result<Command<'a>, AllocError> {
     with_subcommand(command, rewrite(alloc))
 }
 
-// What a refused command line is told.
+// The message for a refused command line.
 fn usage_of(alloc: Global, error: &Error) -> Usage {
     let Ok(text) = format!(in alloc; "{error}") else {
         return Usage::OutOfMemory;
@@ -348,10 +349,10 @@ fn read<'a>(alloc: Global, words: &'a [String]) -> Result<Job, Usage>
     }
 }
 
-/// The job that the words of a command line ask for, the program's own name first.
+/// Reads the job from the arguments of a command line, of which the first is the program's name.
 ///
-/// `Help` is answered where they ask for help or the version, `Wrong` where they are none of the
-/// program's, a number out of its range among them, and `OutOfMemory` where memory ran out.
+/// Errors: `Help` if the arguments ask for help or the version; `Wrong` if they are invalid, for
+/// example a number out of its range; `OutOfMemory` if memory ran out.
 pub fn read_words(alloc: Global, words: Vec<String>) -> Result<Job, Usage>
     // Its limits are the usual ones but for those that the three options ask for, and a batch has
     // from 1 to 2^31 - 1 rows.

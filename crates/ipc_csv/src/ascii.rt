@@ -1,4 +1,4 @@
-//! Texts in UTF-8. Most are ASCII, which is told eight bytes at a time.
+//! Validates UTF-8, eight bytes at a time where a text is ASCII.
 ghost use Rattle.std.specs.Prelude.{◌≡◌, IfSome, IsSome, IsTrue};
 ghost use Rattle.std.specs.Str.{IsAscii, IsUtf8};
 
@@ -53,7 +53,7 @@ fn any_text(bytes: &[u8]) -> Option<&str>
     }
 }
 
-/// The text that bytes are. None where they are not UTF-8.
+/// Returns the bytes as a text, or `None` if they are not UTF-8.
 #[inline(always)]
 pub(crate) fn text_of(bytes: &[u8]) -> Option<&str>
     ensures only { IfSome result (λ text. (text.now ≡ bytes.now) × IsUtf8 bytes.now) }

@@ -1,4 +1,4 @@
-//! Values from the texts of CSV fields: each in the one spelling that is written.
+//! Reads values from the texts of CSV fields, each in the one spelling that is written.
 ghost use Rattle.std.specs.Prelude.{◌≡◌, ℤ, ℕ, List, ◌<◌, ◌^◌, IfSome, Some, FitsSigned, decimal};
 ghost use Rattle.std.specs.Prelude.{Bool, IfOk, IfErr, IsSome, None, option_map, false, IsTrue};
 ghost use Rattle.std.specs.Int.{w64};
@@ -11,8 +11,8 @@ use ipc_moments::TextFault;
 use itoa::Buffer;
 use std::alloc::{AllocError, Global};
 
-/// The signed number, of an integer or a duration, whose decimal text this is: no plus sign, no
-/// leading zero, no `-0`. None for any other text.
+/// Reads a signed number, of an integer or a duration, in decimal: without plus sign, leading zero
+/// or `-0`. Returns `None` for any other text.
 pub fn read_int(text: &str) -> Option<i64>
     ensures only { IfSome result (λ z. signed_decimal z ≡ text.now) }
     ensures all { (z : ℤ) → FitsSigned w64 z → signed_decimal z ≡ text.now → result ≡ Some z }
@@ -27,7 +27,7 @@ pub fn read_int(text: &str) -> Option<i64>
     }
 }
 
-/// The unsigned number whose decimal text this is: no sign, no leading zero. None for any other
+/// Reads an unsigned number in decimal: without sign or leading zero. Returns `None` for any other
 /// text.
 pub fn read_uint(text: &str) -> Option<u64>
     ensures only { IfSome result (λ n. decimal n ≡ text.now) }
@@ -44,7 +44,7 @@ pub fn read_uint(text: &str) -> Option<u64>
     }
 }
 
-/// The boolean whose text this is, `true` or `false`. None for any other text.
+/// Reads a boolean, `true` or `false`. Returns `None` for any other text.
 pub fn read_bool(text: &str) -> Option<bool>
     ensures only { IfSome result (λ truth. bool_text truth ≡ text.now) }
     ensures all { (truth : Bool) → bool_text truth ≡ text.now → result ≡ Some truth }
@@ -56,8 +56,8 @@ pub fn read_bool(text: &str) -> Option<bool>
     }
 }
 
-/// The text whose field of CSV this is, one backslash in front of another taken away. None for a
-/// field with one backslash in front, as that of null is.
+/// Reads a text from its CSV field: of two leading backslashes one is removed. Returns `None` for a
+/// field with exactly one leading backslash, as null has.
 pub fn read_text(field: &[u8]) -> Option<&[u8]>
     ensures only { IfSome result (λ text. backslashed text.now ≡ field.now) }
     ensures all { (t : List ℕ) → backslashed t ≡ field.now → IsSome result }
@@ -73,8 +73,8 @@ pub fn read_text(field: &[u8]) -> Option<&[u8]>
     }
 }
 
-/// The bytes whose hexadecimal digits these are, in either case. None for any other text. It
-/// refuses only where memory ran out.
+/// Reads bytes from their hexadecimal digits, in either case. Returns `None` for any other text.
+/// Errors: `OutOfMemory` only.
 pub fn read_bytes(alloc: Global, text: &[u8]) -> Result<Option<Vec<u8>>, TextFault>
     ensures bytes { IfOk result (λ read. option_map (λ b. b.items) read ≡ bytes_of text.now) }
     ensures refused { IfErr result (λ fault. fault ≡ TextFault.OutOfMemory) }
@@ -87,8 +87,8 @@ pub fn read_bytes(alloc: Global, text: &[u8]) -> Result<Option<Vec<u8>>, TextFau
     }
 }
 
-/// Puts the bytes whose hexadecimal digits these are, in either case, in place of others, and says
-/// whether there are such.
+/// Replaces bytes by those with these hexadecimal digits, in either case. Returns whether the text
+/// consists of such digits.
 pub(crate) fn decode_bytes(bytes: &mut Vec<u8>, text: &[u8]) -> Result<bool, AllocError>
     ensures bytes { IfOk result
         (λ read. IsTrue read → bytes_of text.now ≡ Some bytes.new.items) }

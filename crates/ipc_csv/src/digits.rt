@@ -1,11 +1,10 @@
-//! Numbers of few decimal digits, read in one pass.
+//! Reads numbers with few decimal digits in one pass.
 ghost use Rattle.std.specs.Prelude.{◌≡◌, ◌<◌, ◌≤◌, ◌+◌, ◌^◌, IfSome, decimal, length};
 ghost use Rattle.std.specs.Prelude.{get_or, true, FitsSigned};
 ghost use Rattle.std.specs.Fmt.{signed_decimal};
 ghost use Rattle.std.specs.Int.{w64};
 
-// Whether these can be the digits of a number below 10^18: some, at most 18, and no zero in front
-// of others.
+// Whether these can be the digits of a number below 10^18: 1 to 18 digits, without a leading zero.
 fn are_few(digits: &[u8]) -> bool
     ensures { result ≡ true → (0 < length digits.now) × (length digits.now ≤ 18)
         × (get_or digits.now 0 0 ≡ 48 → length digits.now ≡ 1) }
@@ -24,7 +23,7 @@ fn value_of(digit: u8) -> u64
     u64::from(digit).wrapping_sub(48)
 }
 
-/// The number below 10^18 whose decimal digits these are. None for any other text.
+/// Reads a number below 10^18 in decimal. Returns `None` for any other text.
 pub(crate) fn read_short(digits: &[u8]) -> Option<u64>
     ensures only { IfSome result (λ n. decimal n ≡ digits.now) }
     ensures small { IfSome result (λ n. n < 10 ^ 18) }
@@ -43,7 +42,7 @@ pub(crate) fn read_short(digits: &[u8]) -> Option<u64>
     Some(number)
 }
 
-/// The number of at most 18 digits whose decimal text this is. None for any other text.
+/// Reads a signed number of at most 18 decimal digits. Returns `None` for any other text.
 #[inline(never)]
 pub(crate) fn read_short_signed(text: &[u8]) -> Option<i64>
     ensures only { IfSome result (λ z. signed_decimal z ≡ text.now) }

@@ -1,7 +1,4 @@
-//! Bytes from their hexadecimal digits, those of sixteen bytes at a time.
-//!
-//! The value of a digit is reckoned and not looked up, so that those of sixteen bytes are found at
-//! once.
+//! Decodes hexadecimal digits, those of sixteen bytes at once, by computing their values.
 ghost use Rattle.std.specs.Prelude.{◌≡◌, ◌≤◌, ◌<◌, ◌+◌, ◌*◌, ◌&&◌, nat_lt, length, IsTrue, Some};
 ghost use Rattle.std.specs.Prelude.{None, ℕ, List, ◌++◌, take, false, slice_index};
 ghost use Rattle.hex.specs.Hex.{hex_digit_value};
@@ -93,8 +90,7 @@ fn put_sixteen(bytes: &mut [u8], at: usize, sixteen: &[u8; 16])
     bytes[at..at + 16].copy_from_slice(sixteen);
 }
 
-// Writes the bytes of the rest of the digits behind the first `at`, and says whether all are
-// digits.
+// Writes the bytes of the digits after the first `at` bytes. Returns whether all are digits.
 #[inline(always)]
 fn decode_behind(text: &[u8], bytes: &mut [u8], at: usize) -> bool
     requires { length text.now + 2 * at ≡ 2 * length bytes.old }
@@ -105,8 +101,8 @@ fn decode_behind(text: &[u8], bytes: &mut [u8], at: usize) -> bool
     decode_each(text, &mut bytes[at..])
 }
 
-/// Writes the bytes of pairs of digits, in either case, and says whether all are digits. No branch
-/// depends on them.
+/// Writes the bytes of pairs of digits, in either case. Returns whether all are digits. No branch
+/// depends on the digits.
 #[inline(never)]
 pub(crate) fn decode_pairs(text: &[u8], bytes: &mut [u8]) -> bool
     requires { length text.now ≡ 2 * length bytes.old }

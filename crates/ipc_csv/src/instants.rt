@@ -1,6 +1,4 @@
-//! Dates and points in time, read in one pass over the places of their digits.
-//!
-//! What is read so is known to have this text, which isn't made again. Any other text is left to
+//! Reads dates and timestamps by the positions of their digits, and passes other texts to
 //! `ipc_moments`.
 ghost use Rattle.std.specs.Prelude.{◌≡◌, ◌<◌, ◌≤◌, ◌+◌, ◌*◌, ◌/◌, ◌%◌, ◌++◌, ◌^◌, ℤ, pos, length};
 ghost use Rattle.std.specs.Prelude.{get_or, drop, ◌-◌, take, unsigned_abs, IfSome, Some};
@@ -19,10 +17,10 @@ use jiff_core::civil::Date;
 // The number of the day 0001-01-01, the first that has a text.
 const FIRST_DAY: i64 = -719_162;
 
-// On so many days before and after 1970-01-01 nanoseconds surely fit.
+// Within this number of days before and after 1970-01-01, nanoseconds fit.
 const DAYS_OF_NANOSECONDS: i64 = 106_000;
 
-// The number whose digit stands at a place, or 10 and more where none does.
+// The number of the digit at a position, or at least 10 if there is no digit.
 #[inline(always)]
 fn digit_at(text: &[u8], place: usize) -> u32
     requires { place < length text.now }
@@ -31,7 +29,7 @@ fn digit_at(text: &[u8], place: usize) -> u32
     u32::from(text[place].wrapping_sub(b'0'))
 }
 
-// The number whose two digits stand from a place on, or 100 where others stand there.
+// The number of the two digits from a position on, or 100 if they are no digits.
 #[inline(always)]
 fn pair_at(text: &[u8], place: usize) -> u32
     requires { place + 1 < length text.now }
@@ -47,7 +45,7 @@ fn pair_at(text: &[u8], place: usize) -> u32
     tens * 10 + ones
 }
 
-// The number whose three digits stand from a place on, or 1,000 where others stand there.
+// The number of the three digits from a position on, or 1,000 if they are no digits.
 #[inline(always)]
 fn three_at(text: &[u8], place: usize) -> u32
     requires { place + 2 < length text.now }
@@ -64,8 +62,8 @@ fn three_at(text: &[u8], place: usize) -> u32
     hundreds * 100 + rest
 }
 
-// Whether each byte in front is from the one of a text to that of another. Where each of the other
-// is nine more, behind a digit as behind a mark, all places have one test, which is made at once.
+// Whether each leading byte of `text` is between those of `least` and `most`. All positions are
+// tested in one loop without a branch.
 #[inline(always)]
 fn lies_between(text: &[u8], least: &[u8], most: &[u8]) -> bool
     requires inside { length least.now ≤ length text.now }
@@ -81,7 +79,7 @@ fn lies_between(text: &[u8], least: &[u8], most: &[u8]) -> bool
     lies
 }
 
-// The number whose two digits are known to stand from a place on.
+// The number of the two bytes from a position on, which are known to be digits.
 #[inline(always)]
 fn pair_here(text: &[u8], place: usize) -> u32
     requires inside { place + 1 < length text.now }
@@ -94,7 +92,7 @@ fn pair_here(text: &[u8], place: usize) -> u32
     u32::from(text[place]) * 10 + u32::from(text[place + 1]) - 528
 }
 
-// The number whose three digits are known to stand from a place on.
+// The number of the three bytes from a position on, which are known to be digits.
 #[inline(always)]
 fn three_here(text: &[u8], place: usize) -> u32
     requires inside { place + 2 < length text.now }
@@ -110,7 +108,7 @@ fn three_here(text: &[u8], place: usize) -> u32
     hundreds + u32::from(text[place + 1]) * 10 + u32::from(text[place + 2]) - 5_328
 }
 
-// The number of the day whose text stands in front.
+// The number of the day at the front of the text.
 #[inline(never)]
 fn day_in_front(text: &[u8]) -> Option<i64>
     requires { 10 ≤ length text.now }
@@ -137,7 +135,7 @@ fn day_in_front(text: &[u8]) -> Option<i64>
     Some(number)
 }
 
-// The seconds after midnight whose text stands in front.
+// The seconds after midnight of the time at the front of the text.
 #[inline(always)]
 fn clock_in_front(text: &[u8]) -> Option<u64>
     requires { 8 ≤ length text.now }
@@ -159,7 +157,7 @@ fn clock_in_front(text: &[u8]) -> Option<u64>
     Some(u64::from(hours * 3_600 + minutes * 60 + seconds))
 }
 
-// The number whose three digits are a text behind a point.
+// The number of the three digits after a point.
 #[inline(always)]
 fn thousandths(text: &[u8]) -> Option<u64>
     ensures text { IfSome result (λ n. text.now ≡ fraction_text TimeUnit.Millisecond n) }
@@ -175,8 +173,8 @@ fn thousandths(text: &[u8]) -> Option<u64>
     Some(u64::from(part))
 }
 
-// The number whose six digits stand behind a digit and a point. The digit in front is that of the
-// seconds: with it the places are eight, whose tests are made at once.
+// The number of the six digits after a digit and a point. The first digit is that of the seconds:
+// with it there are eight positions, which are tested at once.
 #[inline(always)]
 fn millionths_behind(text: &[u8]) -> Option<u64>
     requires { 1 ≤ length text.now }
@@ -192,7 +190,7 @@ fn millionths_behind(text: &[u8]) -> Option<u64>
     Some(u64::from(first * 1_000 + second))
 }
 
-// The same of nine digits.
+// The number of the nine digits after a point.
 #[inline(always)]
 fn billionths(text: &[u8]) -> Option<u64>
     ensures text { IfSome result (λ n. text.now ≡ fraction_text TimeUnit.Nanosecond n) }
@@ -210,7 +208,7 @@ fn billionths(text: &[u8]) -> Option<u64>
     Some(u64::from(first * 1_000_000 + second * 1_000 + third))
 }
 
-// The part of a second in this unit whose text stands behind a digit.
+// The part of a second in this unit, whose text follows a digit.
 #[inline(always)]
 fn fraction_behind(unit: TimeUnit, text: &[u8]) -> Option<u64>
     requires { 1 ≤ length text.now }
@@ -227,7 +225,7 @@ fn fraction_behind(unit: TimeUnit, text: &[u8]) -> Option<u64>
     }
 }
 
-// The units of so many seconds and a part of one.
+// The units of a number of seconds and a part of one.
 #[inline(always)]
 fn units_of(unit: TimeUnit, seconds: u64, part: u64) -> u64
     requires seconds { seconds < 86_400 }
@@ -243,7 +241,7 @@ fn units_of(unit: TimeUnit, seconds: u64, part: u64) -> u64
     }
 }
 
-// The number of so many units after the midnight with which a day begins, where it surely fits.
+// The number of units from 1970-01-01 to a time of a day, if a quick bound shows that it fits.
 #[inline(always)]
 fn number_of(unit: TimeUnit, day: i64, units: u64) -> Option<i64>
     requires day { IsEpochDay day }
@@ -265,7 +263,7 @@ fn number_of(unit: TimeUnit, day: i64, units: u64) -> Option<i64>
     }
 }
 
-// A text without the `Z` that stands behind it where there is a time zone that isn't empty.
+// The text without its final `Z`, which it has if there is a time zone that is not empty.
 #[inline(always)]
 fn without_zone<'a>(timezone: &Option<Text>, text: &'a [u8]) -> Option<&'a [u8]>
     ensures { IfSome result (λ front. text.now ≡ front.now ++ zone_text timezone.now) }
@@ -279,7 +277,7 @@ fn without_zone<'a>(timezone: &Option<Text>, text: &'a [u8]) -> Option<&'a [u8]>
     }
 }
 
-// The number of a point in time whose text this is, where it is told by the places of its digits.
+// Reads a timestamp from the positions of its digits, if that is possible.
 #[inline(never)]
 fn plain_timestamp(unit: TimeUnit, timezone: &Option<Text>, text: &[u8]) -> Option<i64>
     ensures { IfSome result (λ z. timestamp_text unit timezone.now z ≡ Some text.now) }
@@ -294,7 +292,7 @@ fn plain_timestamp(unit: TimeUnit, timezone: &Option<Text>, text: &[u8]) -> Opti
     number_of(unit, day, units_of(unit, seconds, part))
 }
 
-// The number of a day whose text this is, where it is told by the places of its digits.
+// Reads a day from the positions of its digits, if that is possible.
 #[inline(never)]
 fn plain_day(text: &[u8]) -> Option<i64>
     ensures text { IfSome result (λ z. day_text z ≡ Some text.now) }
@@ -306,8 +304,7 @@ fn plain_day(text: &[u8]) -> Option<i64>
     day_in_front(text)
 }
 
-// The number of any point in time whose text this is. It stands in a function of its own, so that
-// no other text pays for its room.
+// Reads any timestamp. It is a function of its own, so that only such texts take its stack space.
 #[inline(never)]
 fn any_timestamp(unit: TimeUnit, timezone: &Option<Text>, text: &[u8]) -> Option<i64>
     ensures only { IfSome result (λ z. timestamp_text unit timezone.now z ≡ Some text.now) }
@@ -320,7 +317,7 @@ fn any_timestamp(unit: TimeUnit, timezone: &Option<Text>, text: &[u8]) -> Option
     }
 }
 
-/// The number of a point in time whose text this is, as `ipc_moments::read_timestamp`.
+/// Reads a timestamp, as `ipc_moments::read_timestamp` does.
 #[inline(always)]
 pub(crate) fn read_instant(unit: TimeUnit, timezone: &Option<Text>, text: &[u8]) -> Option<i64>
     ensures only { IfSome result (λ z. timestamp_text unit timezone.now z ≡ Some text.now) }
@@ -333,7 +330,7 @@ pub(crate) fn read_instant(unit: TimeUnit, timezone: &Option<Text>, text: &[u8])
     any_timestamp(unit, timezone, text)
 }
 
-/// The number of a day whose text this is, as `ipc_moments::read_date`.
+/// Reads the number of a day, as `ipc_moments::read_date` does.
 pub(crate) fn read_day(text: &[u8]) -> Option<i64>
     ensures only { IfSome result (λ z. day_text z ≡ Some text.now) }
     ensures all { (z : ℤ) → day_text z ≡ Some text.now → result ≡ Some z }

@@ -1,4 +1,4 @@
-//! CSV of rows, both ways.
+//! Reads and writes rows as CSV.
 #![tactic(auto)]
 
 mod ascii;

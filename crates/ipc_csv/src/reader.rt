@@ -1,4 +1,4 @@
-//! A row from the fields of a record of CSV.
+//! Reads a row from the fields of a CSV record.
 ghost use Rattle.std.specs.Prelude.{◌≡◌, ◌<◌, ◌^◌, ℕ, ℤ, List, IfOk, IfErr, IfSome, MatchResult};
 ghost use Rattle.std.specs.Prelude.{Some, Bool, FitsSigned, decimal, option_map, length, OnOk};
 ghost use Rattle.std.specs.Prelude.{None, Ok};
@@ -167,7 +167,7 @@ fn put_binary(alloc: Global, text: &[u8], place: &mut Value) -> Result<bool, All
     }
 }
 
-// A number that is one of so many bits.
+// The number, if it fits this number of bits.
 #[inline(always)]
 fn within(bits: IntBits, number: Option<i64>) -> Option<i64>
     ensures number { IfSome result (λ z. number ≡ Some z) }
@@ -184,7 +184,7 @@ fn within(bits: IntBits, number: Option<i64>) -> Option<i64>
     if is_within { Some(number) } else { None }
 }
 
-// Whether a value is so many bytes.
+// Whether a value is bytes of this size.
 #[inline(always)]
 fn has_size(size: u32, value: &Value) -> bool
     ensures { IsTrue result ↔ IsOfKind (FixedSizeBinary size) 0 (out-Value value.now) }
@@ -195,8 +195,8 @@ fn has_size(size: u32, value: &Value) -> bool
     }
 }
 
-// Puts a truth in the place of a value, where there is one. In the place of another nothing has to
-// be let go.
+// Replaces a value by a boolean, if there is one. A boolean is overwritten in place, so nothing has
+// to be dropped.
 #[inline(always)]
 fn put_truth(truth: Option<bool>, place: &mut Value) -> bool
     ensures only { IsTrue result → IfSome truth (λ b. out-Value place.new ≡ Value-F.Bool b) }
@@ -212,7 +212,7 @@ fn put_truth(truth: Option<bool>, place: &mut Value) -> bool
     true
 }
 
-// The same of a signed number.
+// Replaces a value by a signed number, if there is one.
 #[inline(always)]
 fn put_int(number: Option<i64>, place: &mut Value) -> bool
     ensures only { IsTrue result → IfSome number (λ z. out-Value place.new ≡ Value-F.Int z) }
@@ -228,7 +228,7 @@ fn put_int(number: Option<i64>, place: &mut Value) -> bool
     true
 }
 
-// The same, where it is one of the field's own.
+// Replaces a value by another, if there is one and it fits the field.
 fn put_own(field: &Field, value: Option<Value>, place: &mut Value) -> bool
     ensures put { IsTrue result → value ≡ Some place.new }
     ensures own { IsTrue result → IsOwn (out-Field field.now).kind (out-Field field.now).nullable
@@ -247,9 +247,8 @@ fn put_own(field: &Field, value: Option<Value>, place: &mut Value) -> bool
     true
 }
 
-// Puts null in the place of a value, where it is one of the field's own and CSV has a place for the
-// field. What is seldom read stands in functions of its own, so that no other value pays for its
-// room.
+// Replaces a value by null, if null fits the field and CSV can represent the field. Rare cases are
+// functions of their own, so that other values do not take their stack space.
 #[inline(never)]
 fn put_null(field: &Field, place: &mut Value) -> bool
     ensures put { IsTrue result → place.new ≡ Null }
@@ -266,7 +265,7 @@ fn put_null(field: &Field, place: &mut Value) -> bool
     put_own(field, Some(Value::Null), place)
 }
 
-// The same of the unsigned number whose text this is.
+// Replaces a value by the unsigned number with this text.
 #[inline(never)]
 fn put_count(field: &Field, text: &[u8], place: &mut Value) -> bool
     ensures own { IsTrue result → IsOwn (out-Field field.now).kind (out-Field field.now).nullable
@@ -281,7 +280,7 @@ fn put_count(field: &Field, text: &[u8], place: &mut Value) -> bool
     put_own(field, read_count(text).map(Value::UInt), place)
 }
 
-// The same of the date in milliseconds whose text this is.
+// Replaces a value by the date in milliseconds with this text.
 #[inline(never)]
 fn put_date(field: &Field, text: &[u8], place: &mut Value) -> bool
     ensures own { IsTrue result → IsOwn (out-Field field.now).kind (out-Field field.now).nullable
@@ -300,7 +299,7 @@ fn put_date(field: &Field, text: &[u8], place: &mut Value) -> bool
     )
 }
 
-// The same of the time whose text this is.
+// Replaces a value by the time with this text.
 #[inline(never)]
 fn put_time(field: &Field, unit: TimeUnit, text: &[u8], place: &mut Value) -> bool
     ensures own { IsTrue result → IsOwn (out-Field field.now).kind (out-Field field.now).nullable
@@ -380,7 +379,7 @@ fn read_field(
     read_own(alloc, field, text, place)
 }
 
-// Makes so many values of a row, of which those that were there stay in front.
+// Gives a row `count` values. Values that were there remain at the front.
 fn resize(row: &mut Vec<Value>, count: usize) -> Result<(), AllocError>
     ensures { OnOk result (length row.new.items ≡ count) }
 {
@@ -402,8 +401,8 @@ fn bad_field(number: u64, column: usize) -> TextFault
     }
 }
 
-// The values of a row, where there are as many fields as columns, each in the room of the one that
-// stood there. Where all are read, no column is one of lists or structs.
+// Reads the values of a row, if there is one field for each column. Each value uses the memory of
+// the earlier value of its column. If all are read, no column is a list or a struct.
 fn read_fields(
     alloc: Global,
     columns: &[Field],
@@ -434,15 +433,20 @@ fn read_fields(
     Ok(())
 }
 
-/// The row of this schema as which the fields of a record of CSV read, the record with this number.
+/// Reads the row of the CSV record with this number. Each value fits its column.
 ///
-/// Null is `\N`, booleans `true` and `false`; numbers are decimal without a plus sign, a leading
-/// zero and `-0`; bytes are hexadecimal digits of either case; dates, times and points in time have
-/// their one text. A text that begins with a backslash begins with two. Each value fits its column.
+/// Null is `\N`, and booleans are `true` and `false`. Numbers are decimal, without plus sign,
+/// leading zero or `-0`. Bytes are hexadecimal digits in either case. Dates, times and timestamps
+/// have one spelling. A text that begins with a backslash begins with two.
 ///
-/// X1 and X2 as `check_flat`, then X5 where there are not as many fields as columns, then X4 with
-/// the first column whose field is not the text of a value that fits. It takes memory for the row,
-/// its texts and its bytes.
+/// Errors, in this order of precedence:
+///
+/// - X1 and X2 as in `check_flat`;
+/// - X5 if the number of fields is not the number of columns;
+/// - X4 with the first column whose field is not the text of a value that fits.
+///
+/// `OutOfMemory` is returned if memory ran out. It takes memory for the row, its texts and its
+/// bytes.
 pub fn row_from_csv(
     alloc: Global,
     schema: &Schema,
@@ -464,13 +468,18 @@ pub fn row_from_csv(
     Ok(row)
 }
 
-/// Reads a record of CSV, the record with this number, into a row of this schema: as
-/// `row_from_csv`, with the room that the row's values have. What the row holds before means
-/// nothing, and so does what it holds where the record is refused.
+/// Reads the CSV record with this number into a row, as `row_from_csv` does, and uses the memory of
+/// the row's values again. The contents of the row before the call, and after an error, have no
+/// meaning.
 ///
-/// X1 and X2 as `check_flat`, then X5 where there are not as many fields as columns, then X4 with
-/// the first column whose field is not the text of a value that fits. It takes memory only where a
-/// text or bytes are longer than any that stood in their column before.
+/// Errors, in this order of precedence:
+///
+/// - X1 and X2 as in `check_flat`;
+/// - X5 if the number of fields is not the number of columns;
+/// - X4 with the first column whose field is not the text of a value that fits.
+///
+/// `OutOfMemory` is returned if memory ran out. It takes memory only for a text or bytes longer
+/// than all earlier ones of their column.
 pub fn fill_row_from_csv(
     alloc: Global,
     schema: &Schema,
@@ -510,7 +519,7 @@ fn is_name_of(field: &Field, name: &[u8]) -> bool
     name == field.name.as_str().as_bytes()
 }
 
-// The names of the columns, where there are as many of them.
+// Checks the names of the columns, if the header has one for each.
 fn check_names(columns: &[Field], header: &ByteRecord) -> Result<(), TextFault>
     requires { length columns.now ≡ length (fields_of header.now) }
     ensures names { OnOk result (fields_of header.now ≡ names columns.now) }
@@ -532,10 +541,14 @@ fn check_names(columns: &[Field], header: &ByteRecord) -> Result<(), TextFault>
     Ok(())
 }
 
-/// Whether a record of CSV is the header of a schema's columns, as `csv_header` writes it.
+/// Checks that a CSV record is the header of a schema's columns, as `csv_header` writes it. It
+/// takes no memory.
 ///
-/// X1 and X2 as `check_flat`, then X5 where there are not as many fields as columns, then X4 with
-/// the first column whose name is another; the header is record 0. It takes no memory.
+/// Errors, in this order of precedence, where the header is record 0:
+///
+/// - X1 and X2 as in `check_flat`;
+/// - X5 if the number of fields is not the number of columns;
+/// - X4 with the first column of another name.
 pub fn check_header(schema: &Schema, header: &ByteRecord) -> Result<(), TextFault>
     ensures names { OnOk result ((flat_fault schema.now.fields ≡ None)
         × (fields_of header.now ≡ names schema.now.fields)) }

@@ -1,4 +1,4 @@
-//! The CSV text of a row.
+//! Writes a row as CSV.
 ghost use Rattle.std.specs.Prelude.{◌≡◌, ◌++◌, length, List, ℕ, OnOk, OnErr, IfOk};
 ghost use Rattle.std.specs.Prelude.{IfErr, Ok, decimal};
 ghost use Rattle.std.specs.List.{list_any};
@@ -42,7 +42,7 @@ fn push_escaped(out: &mut Vec<u8>, field: &[u8]) -> Result<(), AllocError>
     Ok(())
 }
 
-// Two texts as one between quotes, as far as memory goes.
+// Appends two texts between quotes, until memory runs out.
 fn push_quoted(out: &mut Vec<u8>, front: &[u8], field: &[u8]) -> Result<(), AllocError>
     ensures ok { OnOk result
         (out.new.items ≡ out.old.items ++ csv.quoted default_writer (front.now ++ field.now)) }
@@ -55,7 +55,7 @@ fn push_quoted(out: &mut Vec<u8>, front: &[u8], field: &[u8]) -> Result<(), Allo
     Ok(())
 }
 
-// Two texts as they stand, as far as memory goes.
+// Appends two texts without quotes, until memory runs out.
 fn push_plain(out: &mut Vec<u8>, front: &[u8], field: &[u8]) -> Result<(), AllocError>
     ensures ok { OnOk result (out.new.items ≡ out.old.items ++ front.now ++ field.now) }
     ensures refused { BeginsWith out.old.items out.new.items }
@@ -82,9 +82,8 @@ fn push_joined(out: &mut Vec<u8>, front: &[u8], field: &[u8]) -> Result<(), Allo
     pushed
 }
 
-/// Appends a text as a field of CSV: in quotes where it has a comma, a quote or an end of line,
-/// with each quote in it doubled (RFC 4180, section 2). Where memory is refused, `out` is as it
-/// was.
+/// Appends a text as a CSV field (RFC 4180, section 2). It is quoted if it has a comma, a quote or
+/// an end of line, and each quote in it is doubled. If memory ran out, `out` is unchanged.
 pub fn push_field(out: &mut Vec<u8>, field: &[u8]) -> Result<(), AllocError>
     ensures ok { OnOk result (out.new.items ≡ with_field out.old.items field.now) }
     ensures refused { OnErr result (out.new.items ≡ out.old.items) }
@@ -92,7 +91,7 @@ pub fn push_field(out: &mut Vec<u8>, field: &[u8]) -> Result<(), AllocError>
     push_joined(out, b"", field)
 }
 
-/// Appends null as a field of CSV: `\N`. Where memory is refused, `out` is as it was.
+/// Appends null as a CSV field: `\N`. If memory ran out, `out` is unchanged.
 pub fn push_null(out: &mut Vec<u8>) -> Result<(), AllocError>
     ensures ok { OnOk result (out.new.items ≡ with_field out.old.items null_text) }
     ensures refused { OnErr result (out.new.items ≡ out.old.items) }
@@ -100,8 +99,7 @@ pub fn push_null(out: &mut Vec<u8>) -> Result<(), AllocError>
     push_field(out, b"\\N")
 }
 
-/// Appends a boolean as a field of CSV: `true` or `false`. Where memory is refused, `out` is as it
-/// was.
+/// Appends a boolean as a CSV field: `true` or `false`. If memory ran out, `out` is unchanged.
 pub fn push_bool(out: &mut Vec<u8>, truth: bool) -> Result<(), AllocError>
     ensures ok { OnOk result (out.new.items ≡ with_field out.old.items (bool_text truth)) }
     ensures refused { OnErr result (out.new.items ≡ out.old.items) }
@@ -112,8 +110,7 @@ pub fn push_bool(out: &mut Vec<u8>, truth: bool) -> Result<(), AllocError>
     }
 }
 
-/// Appends an unsigned number as a field of CSV: its decimal digits. Where memory is refused, `out`
-/// is as it was.
+/// Appends an unsigned number as a CSV field, in decimal. If memory ran out, `out` is unchanged.
 pub fn push_uint(out: &mut Vec<u8>, number: u64) -> Result<(), AllocError>
     ensures ok { OnOk result (out.new.items ≡ with_field out.old.items (decimal number)) }
     ensures refused { OnErr result (out.new.items ≡ out.old.items) }
@@ -138,9 +135,9 @@ fn push_moment(
     Ok(push_field(out, text.as_str().as_bytes())?)
 }
 
-/// Appends a signed number of a column of this type as a field of CSV: a date, a time or a point in
-/// time as its text, any other number in decimal. X3 with the column's number where it has no text.
-/// Where it refuses, `out` is as it was.
+/// Appends a signed number of a column of this type as a CSV field: a date, a time or a timestamp
+/// as its text, any other number in decimal. Errors: X3 with the column's number if it has no text;
+/// `OutOfMemory`. After an error `out` is unchanged.
 pub fn push_int(
     out: &mut Vec<u8>,
     column: u64,
@@ -159,8 +156,8 @@ pub fn push_int(
     }
 }
 
-/// Appends bytes as a field of CSV: two lower-case hexadecimal digits for each. Where memory is
-/// refused, `out` is as it was.
+/// Appends bytes as a CSV field: two lower-case hexadecimal digits for each. If memory ran out,
+/// `out` is unchanged.
 #[tactic(auto, using(crate::proofs::PlainDigits::digits_as_they_stand))]
 pub fn push_bytes(out: &mut Vec<u8>, bytes: &[u8]) -> Result<(), AllocError>
     ensures ok { OnOk result (out.new.items ≡ with_field out.old.items (encode_lower bytes.now)) }
@@ -169,8 +166,8 @@ pub fn push_bytes(out: &mut Vec<u8>, bytes: &[u8]) -> Result<(), AllocError>
     push_digits(out, bytes)
 }
 
-/// Appends a text as a field of CSV, with one more backslash in front of one. Where memory is
-/// refused, `out` is as it was.
+/// Appends a text as a CSV field. If it begins with a backslash, one more is added before it. If
+/// memory ran out, `out` is unchanged.
 pub fn push_text(out: &mut Vec<u8>, text: &str) -> Result<(), AllocError>
     ensures ok { OnOk result (out.new.items ≡ with_field out.old.items (backslashed text.now)) }
     ensures refused { OnErr result (out.new.items ≡ out.old.items) }
@@ -181,10 +178,15 @@ pub fn push_text(out: &mut Vec<u8>, text: &str) -> Result<(), AllocError>
     push_joined(out, b"\\", text.as_bytes())
 }
 
-/// Appends a value of a column of this type as a field of CSV. X3 with the column's number where it
-/// has no text: a date or a point in time outside the years 0001 to 9999, milliseconds of a date
-/// that are no whole days, a time not within 24 hours, a list and a struct. Where it refuses, `out`
-/// is as it was.
+/// Appends a value of a column of this type as a CSV field. After an error `out` is unchanged.
+///
+/// Errors: `OutOfMemory`, and X3 with the column's number if the value has no text. These values
+/// have no text:
+///
+/// - a date or a timestamp outside the years 0001 to 9999;
+/// - milliseconds of a date that are no whole days;
+/// - a time outside 24 hours;
+/// - a list, a fixed-size list or a struct.
 pub fn push_value(
     out: &mut Vec<u8>,
     column: u64,
@@ -207,8 +209,8 @@ pub fn push_value(
     Ok(())
 }
 
-/// Appends the comma in front of the column with this number, of which the first has none. Where
-/// memory is refused, `out` is as it was.
+/// Appends the comma before the column with this number. The first column, number 0, has none. If
+/// memory ran out, `out` is unchanged.
 pub fn push_comma(out: &mut Vec<u8>, column: usize) -> Result<(), AllocError>
     ensures ok { OnOk result (out.new.items ≡ out.old.items ++ csv.next_sep default_writer column) }
     ensures refused { OnErr result (out.new.items ≡ out.old.items) }
@@ -219,7 +221,7 @@ pub fn push_comma(out: &mut Vec<u8>, column: usize) -> Result<(), AllocError>
     Ok(())
 }
 
-// What ends a record, as far as memory goes.
+// Appends the end of a record, until memory runs out.
 fn push_end(out: &mut Vec<u8>, start: usize) -> Result<(), AllocError>
     ensures ok { OnOk result (out.new.items ≡ out.old.items ++ end_behind start out.old.items) }
     ensures refused { BeginsWith out.old.items out.new.items }
@@ -231,8 +233,8 @@ fn push_end(out: &mut Vec<u8>, start: usize) -> Result<(), AllocError>
     Ok(())
 }
 
-/// Ends a record whose fields stand in `out` from `start` on: by a line feed, behind two quotes
-/// where nothing stands there. Where memory is refused, `out` is as it was.
+/// Ends a record whose fields are in `out` from `start` on. It appends a line feed; if there are no
+/// bytes from `start` on, two quotes come before it. If memory ran out, `out` is unchanged.
 #[tactic(auto, using(crate::proofs::Quoted::cut_back))]
 pub fn end_record(out: &mut Vec<u8>, start: usize) -> Result<(), AllocError>
     ensures ok { OnOk result (out.new.items ≡ out.old.items ++ end_behind start out.old.items) }
@@ -271,7 +273,7 @@ fn push_values(out: &mut Vec<u8>, fields: &[Field], row: &[Value]) -> Result<(),
     Ok(())
 }
 
-/// Whether a type is one of lists or of structs.
+/// Returns whether a type is a list, a fixed-size list or a struct.
 pub(crate) fn is_nested(kind: &DataType) -> bool
     ensures { result ≡ spec.is_nested kind.now }
 {
@@ -287,8 +289,8 @@ fn has_nested(fields: &[Field]) -> bool
     fields.iter().any(|field| is_nested(&field.kind))
 }
 
-/// Whether CSV has a place for a schema's columns. X1 for a column of lists or structs, X2 where
-/// there is no column.
+/// Checks that CSV can represent the columns of a schema. Errors: X1 for a column that is a list or
+/// a struct; X2 if there is no column.
 pub fn check_flat(schema: &Schema) -> Result<(), TextFault>
     ensures { result ≡ unless_fault (flat_fault schema.now.fields) (Ok tt) }
 {
@@ -302,8 +304,8 @@ pub fn check_flat(schema: &Schema) -> Result<(), TextFault>
     Ok(())
 }
 
-/// The header of a schema's columns in CSV, their names as they stand, with its line feed. X1 and
-/// X2 as `check_flat`.
+/// Returns the CSV header of a schema's columns: their names, unchanged, with a line feed. Errors:
+/// X1 and X2 as in `check_flat`; `OutOfMemory`.
 pub fn csv_header(alloc: Global, schema: &Schema) -> Result<Vec<u8>, TextFault>
     ensures ok { IfOk result (λ text. spec.header_text schema.now.fields ≡ Ok text.items) }
     ensures refused { IfErr result (IsRefusal (spec.header_text schema.now.fields)) }
@@ -315,12 +317,15 @@ pub fn csv_header(alloc: Global, schema: &Schema) -> Result<Vec<u8>, TextFault>
     Ok(out)
 }
 
-/// The record of a row in CSV with its line feed (RFC 4180).
+/// Returns a row as a CSV record with its line feed (RFC 4180).
 ///
-/// Null is `\N`, numbers and durations are decimal, bytes lower-case hexadecimal digits, dates,
-/// times and points in time their text; a text that begins with a backslash gets one more in front.
-/// The row conforms to the schema; that nulls stand in required columns does no harm. X1 and X2 as
-/// `check_flat`, then X3 with the first column whose value has no text, as `push_value`.
+/// Null is `\N`, numbers and durations are decimal, bytes are lower-case hexadecimal digits, and
+/// dates, times and timestamps are their texts. A text that begins with a backslash gets one more
+/// before it. The row must conform to the schema, except that nulls in columns that are not
+/// nullable are written too.
+///
+/// Errors: X1 and X2 as in `check_flat`; X3 with the first column whose value has no text, as in
+/// `push_value`; `OutOfMemory`.
 pub fn csv_record(alloc: Global, schema: &Schema, row: &[Value]) -> Result<Vec<u8>, TextFault>
     ensures ok { IfOk result (λ text. spec.row_csv schema.now.fields row.now ≡ Ok text.items) }
     ensures refused { IfErr result (IsRefusal (spec.row_csv schema.now.fields row.now)) }

@@ -9,18 +9,21 @@ use ipc_model::{Fault, Limits, Schema};
 use std::alloc::Global;
 use std::marker::Model;
 
-/// A stream whose bytes come in pieces of any length (Arrow Columnar Format, "IPC Streaming
+/// Reads a stream whose bytes arrive in pieces of any length (Arrow Columnar Format, "IPC Streaming
 /// Format" and "Encapsulated message format").
 ///
-/// Bytes are pushed by `feed`, or pulled by `feed_from`; the two may be mixed. Of the message at
-/// hand all bytes that came are kept, and behind a message nothing of it: the body of a record
-/// batch goes to the batch without a copy, and that of a dictionary stays while it is in force.
-/// However small the pieces are, metadata is read when it
-/// is whole and once more with the whole body, and the lists grow as bytes come, never by what a
-/// message states. A batch that is needed no more may be given back to `reuse`.
+/// Bytes are pushed by `feed` or pulled by `feed_from`, and the two may be mixed. The decoder keeps
+/// all bytes of the current message that came, and none of them after it. The body of a record
+/// batch moves to the batch without a copy. The body of a dictionary batch is kept while its
+/// dictionary is in force.
 ///
-/// After a refusal each call answers `Failed` (F35) and takes nothing; the events before it stand.
-/// After the end mark, or after a `close` that was `Ok`, nothing is taken either.
+/// For any size of the pieces, metadata is read once when it is complete, and once more with the
+/// complete body. Lists grow as bytes come, never by what a message states. Pass a batch that is no
+/// longer needed to `reuse`.
+///
+/// After a refusal each call returns `Failed` (F35) and takes no bytes; earlier events remain
+/// valid. After the end-of-stream mark, or after a `close` that returned `Ok`, no bytes are taken
+/// either.
 #[derive(Drop)]
 pub struct Decoder {
     frames: Frames,
@@ -51,8 +54,8 @@ impl Decoder {
     ghost use Rattle.ipc_decode.specs.FedMessages.{FeedsMessage, ForTold};
     ghost use Rattle.ipc_decode.specs.Reader.{phase_of};
 
-    /// At the beginning of a stream, of which nothing came. What it accepts is within `limits`, in
-    /// each call. It takes no memory.
+    /// Creates a decoder at the beginning of a stream. All that it accepts, in each call, is within
+    /// `limits`. It takes no memory.
     pub fn new(alloc: Global, limits: Limits) -> Decoder
         ensures limits { result.limits ≡ limits }
         ensures state { result.state ≡ None }
@@ -66,25 +69,28 @@ impl Decoder {
         }
     }
 
-    /// Takes a beginning of `piece` and says how many bytes it has: it ends with the first event,
-    /// which is given at once, and without one the whole piece is taken. A dictionary's message
-    /// tells no event: its values are in force from its last byte on, and more is taken behind it.
-    /// What was not taken is the caller's to feed again. After the end mark, or after a `close`
-    /// that was `Ok`, nothing is
-    /// taken, `Ok((0, None))`.
+    /// Takes a beginning of `piece`, up to the first event. Returns the number of bytes taken, and
+    /// the event if there is one. Without an event the whole piece is taken.
+    ///
+    /// A dictionary batch is no event: its values are in force from its last byte on, and the
+    /// following bytes are taken in this call too. Pass the bytes that were not taken to the next
+    /// call. After the end-of-stream mark, or after a `close` that returned `Ok`, no bytes are
+    /// taken, and the call returns `Ok((0, None))`.
     ///
     /// Each refusal comes with the byte that decides it, wherever the piece ends, and is true of
-    /// the message at hand:
+    /// the current message:
     ///
-    /// - at 4 bytes F1: they are not the continuation mark;
-    /// - at 8 bytes F2 and F3, for the size of the metadata, and F10 for an end mark before the
-    ///   schema;
-    /// - at the last byte of the metadata F5 to F9 and F12 to F24, for what it states;
-    /// - at the last byte of the body F10 (another message where the schema is due), F11 (a second
-    ///   schema), F25 (a dictionary that no field names), F26 to F33, for a dictionary, and F26 to
-    ///   F34, for a batch.
+    /// - at its byte 4: F1, the bytes are not the continuation mark;
+    /// - at its byte 8: F2 and F3, for the size of the metadata, and F10, for an end-of-stream mark
+    ///   before the schema;
+    /// - at the last byte of its metadata: F5 to F9 and F12 to F24, for what the metadata states;
+    /// - at the last byte of its body: F10 if the first message is not a schema, and F11 if a later
+    ///   one is;
+    /// - at the last byte of its body: F25 if no field has the dictionary's id, F26 to F33 for a
+    ///   dictionary batch, and F26 to F34 for a record batch.
     ///
-    /// `Failed` (F35) says that an earlier call was refused, `OutOfMemory` (F37) that a growth was.
+    /// Other errors: `Failed` (F35) if an earlier call was refused; `OutOfMemory` (F37) if memory
+    /// ran out.
     pub fn feed(&mut self, piece: &[u8]) -> Result<(usize, Option<Event>), Fault>
         ensures fed { Feeds self.old piece.now self.new result }
         ensures limits { self.new.limits ≡ self.old.limits }
@@ -103,7 +109,7 @@ impl Decoder {
         }
     }
 
-    // Takes a beginning of the piece, as `feed` does, but no byte behind the message at hand.
+    // Takes a beginning of the piece, as `feed` does, but no byte after the current message.
     fn feed_message(&mut self, piece: &[u8]) -> Result<(usize, Fed), Fault>
         ensures fed { FeedsMessage self.old piece.now self.new result }
         ensures limits { self.new.limits ≡ self.old.limits }
@@ -123,14 +129,16 @@ impl Decoder {
         }
     }
 
-    /// Asks the source once, for no more than `wants` says, and takes what comes, straight to where
-    /// it is kept. It says how many bytes came, beside a refusal too, and the event that they
-    /// bring; those of a dictionary's message bring none. Without a refusal no byte comes only at
-    /// the source's end; after the end mark, or
-    /// after a `close` that was `Ok`, the source is not asked, `(0, Ok(None))`.
+    /// Calls the source once, for at most `wants` bytes, and stores what comes without a further
+    /// copy. Returns the number of bytes that came, also with a refusal, and the event that they
+    /// complete. A dictionary batch is no event.
     ///
-    /// What comes is answered as `feed` answers it, each refusal with its deciding byte, and there
-    /// is one more: `Read` (F36), the source failed.
+    /// Without a refusal, a count of 0 means that the source is at its end. After the end-of-stream
+    /// mark, or after a `close` that returned `Ok`, the source is not called, and the result is
+    /// `(0, Ok(None))`.
+    ///
+    /// Errors: those of `feed`, each with the byte that decides it, and `Read` (F36) if the source
+    /// failed.
     pub fn feed_from<R: Source>(&mut self, source: &mut R) -> (usize, Result<Option<Event>, Fault>)
         ensures drawn { Draws (R.remaining source.old) (R.remaining source.new) self.old self.new
             result.0 result.1 }
@@ -158,9 +166,11 @@ impl Decoder {
         }
     }
 
-    /// Takes a batch back that is needed no more, so that the next body is read over its bytes: no
-    /// memory is asked for and cleared up to its length. Else nothing changes. It is let go where
-    /// it has clones left, where bytes of a body came already, at the end and after a refusal.
+    /// Takes a batch back that is no longer needed. The next body is read over its bytes, so no
+    /// memory is allocated and cleared up to its length. The state of the stream does not change.
+    ///
+    /// The batch is dropped if it still has clones, or if bytes of a body already came. It is also
+    /// dropped at the end of the stream, and after a refusal.
     pub fn reuse(&mut self, batch: Batch)
         ensures { self.new ≡ self.old }
     {
@@ -169,7 +179,8 @@ impl Decoder {
         }
     }
 
-    /// The schema of the stream, or none before its message is whole. It stays after a refusal.
+    /// Returns the schema of the stream, or `None` before its message is complete. The schema
+    /// remains after a refusal.
     pub fn schema(&self) -> Option<&Schema>
         ensures { option_copied result ≡ schema_of self.now.state }
     {
@@ -179,9 +190,9 @@ impl Decoder {
         }
     }
 
-    /// How many bytes are still needed before the next decision: at 4 bytes of a message, at 8, at
-    /// its whole metadata, at its whole body. 0 after the end mark, after a refusal, and after a
-    /// `close` that was `Ok`. It fails never and takes no memory.
+    /// Returns the number of bytes before the next decision: to byte 4 of a message, to byte 8, to
+    /// the end of its metadata, or to the end of its body. Returns 0 after the end-of-stream mark,
+    /// after a refusal, and after a `close` that returned `Ok`. It never fails and takes no memory.
     pub fn wants(&self) -> usize
         ensures { Wants self.now.limits self.now.stage result }
     {
@@ -191,10 +202,9 @@ impl Decoder {
         }
     }
 
-    /// How many bytes are kept: those of the message at hand, of which all that came is, and those
-    /// of the bodies that set the dictionaries in force. After the end and after a refusal the
-    /// dictionaries stay, and nothing of a message. The count stops at 2^64 - 1. It fails never and
-    /// takes no memory.
+    /// Returns the number of bytes that are kept: all that came of the current message, and the
+    /// bodies of the dictionaries in force. After the end and after a refusal only the dictionaries
+    /// are kept. The count saturates at 2^64 - 1. It never fails and takes no memory.
     pub fn held(&self) -> usize
         ensures { result ≡ held_of self.now }
     {
@@ -211,7 +221,7 @@ impl Decoder {
         }
     }
 
-    /// The limits that it was made with.
+    /// Returns the limits that the decoder was created with.
     pub fn limits(&self) -> Limits
         ensures { result ≡ self.now.limits }
     {
@@ -237,19 +247,20 @@ impl Decoder {
         course.into_schema()
     }
 
-    /// How many messages came, the schema's and those of dictionaries included; a refused one isn't
-    /// counted. The count stops
-    /// at 2^64 - 1.
+    /// Returns the number of messages that came, including the schema's and those of dictionaries.
+    /// A refused message is not counted. The count saturates at 2^64 - 1.
     pub fn messages(&self) -> u64
         ensures { result ≡ self.now.messages }
     {
         self.course.messages
     }
 
-    /// Says that no more bytes come: how the stream ended. Behind the schema and between two
-    /// messages that is `End::Closed`, after the end mark `End::Mark`, and a second call says the
-    /// same. Inside a message, and before the schema, it is `Truncated` (F4), a refusal as of
-    /// `feed`; after a refusal it is `Failed` (F35). It takes no memory.
+    /// Ends the input: no more bytes come. Returns `End::Closed` after the schema and between two
+    /// messages, and `End::Mark` after the end-of-stream mark. A second call returns this end
+    /// again. It takes no memory.
+    ///
+    /// Errors: `Truncated` (F4) inside a message and before the schema, which is a refusal as in
+    /// `feed`; `Failed` (F35) after a refusal.
     pub fn close(&mut self) -> Result<End, Fault>
         ensures { ClosesAt self.old self.old.stage self.new result }
     {

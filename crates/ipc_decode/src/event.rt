@@ -1,13 +1,13 @@
 use ipc_column::Batch;
 use ipc_model::{Items, Text};
 
-/// What the bytes of a stream tell, in their order (Arrow Columnar Format, "IPC Streaming Format").
+/// What the bytes of a stream complete, in order (Arrow Columnar Format, "IPC Streaming Format").
 #[derive(Debug, Drop)]
 pub enum Event {
-    /// The schema came, and is in force from here on.
+    /// The schema is complete, and in force from now on.
     Schema,
-    /// A record batch, with the pairs of key and value of its message (Message.fbs, table Message,
-    /// `custom_metadata`; in their order, with keys that are repeated).
+    /// A record batch, with the pairs of key and value of its message, in order; keys may repeat
+    /// (Message.fbs, table Message, `custom_metadata`).
     Batch(Batch, Items<(Text, Text)>),
     /// The end-of-stream mark.
     End,

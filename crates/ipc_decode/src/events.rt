@@ -36,7 +36,7 @@ fn scope_of(alloc: Global, limits: &Limits, frame: Frame) -> Result<Scope, Fault
     Scope::new(alloc, *limits, schema_in(frame)?)
 }
 
-// What a frame behind the schema brings: an event, or none where it sets a dictionary.
+// What a frame after the schema brings: an event, or none if it sets a dictionary.
 fn next_of(alloc: Global, scope: &mut Scope, frame: Frame) -> Result<Option<Event>, Fault>
     ensures next { Brings scope.old.limits (Some (in_scope scope.old)) frame
         (Some (in_scope scope.new)) result }
@@ -60,7 +60,7 @@ fn next_of(alloc: Global, scope: &mut Scope, frame: Frame) -> Result<Option<Even
     }
 }
 
-// What a frame brings, before the schema or behind it.
+// What a frame brings, before or after the schema.
 fn event_of(
     alloc: Global,
     limits: &Limits,
@@ -98,7 +98,7 @@ impl Course {
         }
     }
 
-    // Takes the next frame: what it tells, or none where it sets a dictionary.
+    // Takes the next frame. Returns its event, or none if it sets a dictionary.
     pub fn accept(&mut self, alloc: Global, frame: Frame) -> Result<Option<Event>, Fault>
         requires { IsWellFormedFrame self.old.limits frame }
         ensures limits { self.new.limits ≡ self.old.limits }

@@ -5,7 +5,7 @@ use crate::event::Event;
 pub enum Fed {
     // No whole message: all was taken, or nothing is any more.
     More,
-    // A message that tells nothing.
+    // A message without an event.
     Silent,
     // An event.
     Told(Event),

@@ -1,5 +1,5 @@
-//! Streams that are read, in pieces, batch by batch or as a whole table (Arrow Columnar Format,
-//! "IPC Streaming Format").
+//! Reads streams in pieces, batch by batch or as a whole table (Arrow Columnar Format, "IPC
+//! Streaming Format").
 #![tactic(auto)]
 
 mod course;

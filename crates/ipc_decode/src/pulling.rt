@@ -10,7 +10,7 @@ use ipc_column::Batch;
 use ipc_frame::Source;
 use ipc_model::{Fault, Items, Text};
 
-// What comes behind the schema.
+// What comes after the schema.
 #[derive(Drop)]
 pub enum Next {
     // A batch, with the pairs of its message.
@@ -19,8 +19,8 @@ pub enum Next {
     Ended(End),
 }
 
-// Asks the source until an event is there, or none at its end, behind which the decoder is closed.
-// How many bytes came is added to `taken`.
+// Calls the source until there is an event, or none at the source's end, after which the decoder is
+// closed. The number of bytes that came is added to `taken`.
 fn pull<R: Source>(
     source: &mut R,
     decoder: &mut Decoder,
@@ -72,7 +72,7 @@ pub fn read_schema<R: Source>(
     }
 }
 
-// The next batch behind the schema, or how the stream ends.
+// The next batch after the schema, or how the stream ends.
 pub fn read_next<R: Source>(
     source: &mut R,
     decoder: &mut Decoder,

@@ -19,7 +19,7 @@ use ipc_model::{Fault, Field, Items, Limits, Schema, Text};
 use std::alloc::Global;
 use std::marker::Model;
 
-/// A stream that is read batch by batch.
+/// Reads a stream batch by batch from a source.
 #[derive(Drop)]
 pub struct StreamReader<R: Source> {
     source: R,
@@ -82,9 +82,11 @@ fn open_with<R: Source>(
 }
 
 impl<R: Source> StreamReader<R> {
-    /// Reads the first message, which is the schema's. What is read, from here on, is within the
-    /// limits. At a refusal the source comes back with the fault. A source that failed before is
-    /// returned as F36 at its first use.
+    /// Reads the first message, which is the schema's, and no byte after it. All that is read, now
+    /// and later, is within `limits`.
+    ///
+    /// Errors: each fault is returned with the source. A source that failed before returns F36 at
+    /// its first call.
     pub fn open(alloc: Global, limits: Limits, source: R) -> Result<StreamReader<R>, (Fault, R)>
         ensures opened { IfOk result (λ s. Opens limits (R.remaining source) s) }
         ensures refused { IfErr result (λ e. OpenFails limits (R.remaining source)
@@ -101,23 +103,23 @@ impl<R: Source> StreamReader<R> {
         open_with(alloc, limits, source)
     }
 
-    /// The limits that it was opened with.
+    /// Returns the limits that the reader was opened with.
     pub fn limits(&self) -> Limits
         ensures { result ≡ self.now.limits }
     {
         self.decoder.limits()
     }
 
-    /// The schema of the stream.
+    /// Returns the schema of the stream.
     pub fn schema(&self) -> &Schema
         ensures { result.now ≡ self.now.schema }
     {
         self.decoder.schema().unwrap()
     }
 
-    /// The columns of the stream: the field with a number says what the cells of a batch's column
-    /// with this number mean. Of an `Int` its type says whether it is a number, a date or a
-    /// timestamp, and in which unit.
+    /// Returns the columns of the stream. Field `i` defines the meaning of the cells in column `i`
+    /// of each batch. For an `Int` cell, its type defines whether it is a number, a date, a time, a
+    /// timestamp or a duration, and its unit.
     pub fn fields(&self) -> &[Field]
         ensures { result.now ≡ self.now.schema.fields }
     {
@@ -145,10 +147,13 @@ impl<R: Source> StreamReader<R> {
         }
     }
 
-    /// The next batch with the pairs of key and value of its message (Message.fbs, table Message,
-    /// `custom_metadata`; in their order, with keys that are repeated), or none at the end of the
-    /// stream and from then on. The dictionaries that come before it are set, and stay in force.
-    /// After a refusal every call answers F35 and takes nothing.
+    /// Returns the next batch with the pairs of key and value of its message, in order; keys may
+    /// repeat (Message.fbs, table Message, `custom_metadata`). Returns `None` at the end of the
+    /// stream and in each later call. Dictionaries that come before the batch are set, and remain
+    /// in force.
+    ///
+    /// Errors: F36 if the source failed, F37 if memory ran out, and any other refusal of the
+    /// stream. After a refusal each call returns F35 and takes no bytes.
     pub fn next(&mut self) -> Result<Option<(Batch, Items<(Text, Text)>)>, Fault>
         ensures next { NextCall self.old self.new result }
         // A batch has a column for each field of the schema.
@@ -158,13 +163,14 @@ impl<R: Source> StreamReader<R> {
         ensures failures { StaysOrFails self.old.failures self.new.failures result }
         // F36 is answered only where the source had not failed before.
         ensures rose { IfErr result (λ fault. fault ≡ Fault.Read → self.old.failures ≡ 0) }
-        // Messages that tell a batch, at the front of the source, are read, whatever dictionaries
+        // Messages that denote a batch, at the front of the source, are read, whatever dictionaries
         // they set and whatever follows them, unless memory runs out or the source fails.
         ensures batch { (x rest : List ℕ) (b : BatchRows)
             → self.old.phase ≡ Phase.Reading → self.old.remaining ≡ Some (x ++ rest)
             → TellsBatch self.old.limits (in_force_of self.old) b x
             → MatchResult result (λ next. GivesBatch next b) IsOutside }
-        // So is an end, by the mark or where nothing is left.
+        // An end of the stream at the front of the source is read too: the mark, or the end of the
+        // source.
         ensures ended { (z : List ℕ) (end : End) → self.old.phase ≡ Phase.Reading
             → self.old.remaining ≡ Some z → BeginsEnd end z
             → MatchResult result (λ next. self.new.phase ≡ Phase.Ended end) IsOutside }
@@ -172,15 +178,15 @@ impl<R: Source> StreamReader<R> {
         self.advance()
     }
 
-    /// Takes a batch back that is needed no more, so that the next body is read over its bytes, as
-    /// `Decoder::reuse` does. Else nothing changes.
+    /// Takes a batch back that is no longer needed, so that the next body is read over its bytes,
+    /// as `Decoder::reuse` does. The state of the stream does not change.
     pub fn reuse(&mut self, batch: Batch)
         ensures { self.new ≡ self.old }
     {
         self.decoder.reuse(batch)
     }
 
-    /// How the stream ended: none until `next` has answered `Ok(None)`.
+    /// Returns how the stream ended, or `None` until `next` has returned `Ok(None)`.
     pub fn end(&self) -> Option<End>
         ensures { result ≡ end_of self.now.phase }
     {
@@ -190,23 +196,23 @@ impl<R: Source> StreamReader<R> {
         }
     }
 
-    /// How many messages were read, the schema's and those of dictionaries included; a refused one
-    /// isn't counted. The count
-    /// stops at 2^64 - 1.
+    /// Returns the number of messages that were read, including the schema's and those of
+    /// dictionaries. A refused message is not counted. The count saturates at 2^64 - 1.
     pub fn messages(&self) -> u64
         ensures { result ≡ self.now.messages }
     {
         self.decoder.messages()
     }
 
-    /// How many bytes were taken of the source, an end mark included. The count stops at 2^64 - 1.
+    /// Returns the number of bytes that were taken from the source, including the end-of-stream
+    /// mark. The count saturates at 2^64 - 1.
     pub fn taken(&self) -> u64
         ensures { result ≡ self.now.taken }
     {
         self.taken
     }
 
-    /// The source, which has left what was not taken.
+    /// Returns the source. It still has the bytes that were not taken.
     pub fn into_inner(self) -> R
         ensures remaining { R.remaining result ≡ self.remaining }
         ensures bound { R.bound result ≡ self.bound }

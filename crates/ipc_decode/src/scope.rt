@@ -7,8 +7,9 @@ ghost use Rattle.ipc_decode.specs.Alone.{HasColumnsOf, are_alone};
 use ipc_dictionaries::Dictionaries;
 use ipc_model::{Limits, Schema};
 
-// What is in force behind the message of a schema: the schema, which has no more fields than the
-// limits allow, and the dictionaries that were set, each of which has one column that stands alone.
+// What is in force after the schema's message: the schema, with no more fields than the limits
+// allow, and the dictionaries that were set. The values of each are one column without children or
+// dictionary.
 #[derive(Drop)]
 pub struct Scope {
     pub limits: Limits,

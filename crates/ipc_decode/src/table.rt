@@ -17,7 +17,7 @@ use ipc_frame::Source;
 use ipc_model::{BatchRows, Batches, Fault, Items, Limits, Table, Text};
 use std::alloc::Global;
 
-// Puts the pairs and rows of a batch behind those of the batches before.
+// Appends the pairs and rows of a batch to the earlier batches.
 fn keep_batch(
     alloc: Global,
     batches: &mut Vec<BatchRows>,
@@ -33,7 +33,7 @@ fn keep_batch(
     Ok(())
 }
 
-// The batches behind the schema, and how the stream ends.
+// The batches after the schema, and how the stream ends.
 fn read_batches<R: Source>(
     alloc: Global,
     source: &mut R,
@@ -78,21 +78,28 @@ fn read_messages<R: Source>(
     }
 }
 
-/// The table that a source gives, and how the stream ends (Arrow Columnar Format, "IPC Streaming
-/// Format").
+/// Reads a whole stream. Returns its table and how the stream ended (Arrow Columnar Format, "IPC
+/// Streaming Format").
 ///
-/// Exactly the bytes through the end-of-stream mark are taken, or all that the source has where the
-/// stream ends without a mark. After a refusal the bytes through the one that decides it were
-/// taken: the fourth of a message (F1), its eighth (F2, F3, and F10 for an end mark), the last of
-/// its metadata (F5 to F9, F12 to F24) or of its body (F10, F11, F25 to F34). F4 comes where the
-/// source ends elsewhere than after the schema and between two messages, F36 exactly where the
-/// source failed in this call, and F37 where a growth was refused.
+/// It takes exactly the bytes through the end-of-stream mark, or all bytes of the source if the
+/// stream ends without a mark.
+///
+/// Errors, with the last byte that was taken of the source:
+///
+/// - F1: byte 4 of a message.
+/// - F2, F3, and F10 for an end-of-stream mark: byte 8 of a message.
+/// - F5 to F9, and F12 to F24: the last byte of a message's metadata.
+/// - F10, F11, and F25 to F34: the last byte of a message's body.
+/// - F4: the source ends elsewhere than after the schema and between two messages.
+/// - F36: exactly if the source failed in this call.
+/// - F37: memory ran out.
 pub fn read_table<R: Source>(
     alloc: Global,
     limits: &Limits,
     source: &mut R,
 ) -> Result<(Table, End), Fault>
-    // What was taken denotes the answer. Where no mark ended it, nothing is left.
+    // The bytes that were taken denote the result. If no mark ended the stream, the source is at
+    // its end.
     ensures denotes { IfOk result (λ a. (x : List ℕ)
         × Consumes (R.remaining source.old) (R.remaining source.new) x
         × Denotes limits.now x a.0 a.1

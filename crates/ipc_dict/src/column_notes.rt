@@ -1,4 +1,4 @@
-//! The values of dictionaries in a batch that was read, column by column: each value of its
+//! Counts the dictionary values of a batch that was read, column by column; each value of its
 //! dictionaries is looked up once.
 ghost use Rattle.std.specs.Prelude.{◌≡◌, ◌<◌, ◌+◌, ◌⊎◌, List, [], true, length, Some, slice_get};
 ghost use Rattle.std.specs.Prelude.{slice_index_or, slice_set, IfErr, IfOk, IsTrue, OnOk};
@@ -47,7 +47,7 @@ fn is_apart(field: &Field, others: &[Field]) -> bool
     true
 }
 
-/// Whether surely no dictionary is named by two of the fields.
+/// Returns true only if no dictionary is named by two of the fields.
 pub(crate) fn are_all_apart(fields: &[Field]) -> bool
     ensures { IsTrue result → AreApart fields.now }
 {
@@ -71,7 +71,7 @@ fn none_noted(alloc: Global, slots: &SlotView<'_>) -> Result<Vec<bool>, AllocErr
     Ok(noted)
 }
 
-// Notes what stands in a row of a column.
+// Notes the value in a row of a column.
 #[tactic(auto, using(crate::proofs::Notes::all_grow_same))]
 fn note_cell(
     alloc: Global,
@@ -96,8 +96,8 @@ fn note_cell(
     note_value(entries, recent, field, &value)
 }
 
-// The same where it is this value of the column's dictionary, and marks it. One that is marked
-// isn't looked at again.
+// Notes a value that is this value of the column's dictionary, and marks it. A marked value is not
+// looked up again.
 #[tactic(auto, using(crate::proofs::Notes::all_grow_same))]
 fn note_entry(
     alloc: Global,
@@ -202,7 +202,7 @@ fn note_column(
     Ok(())
 }
 
-// The same, at once where the field surely names no dictionary.
+// Notes the values of a column. It returns at once if the field clearly names no dictionary.
 #[tactic(auto, using(crate::proofs::Notes::all_grow_same))]
 fn note_field(
     alloc: Global,

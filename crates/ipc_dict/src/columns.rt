@@ -1,4 +1,4 @@
-//! How many values dictionaries have, and how much these are, as the columns that they are sent as.
+//! The sizes of dictionaries, as the columns in which they are sent.
 ghost use Rattle.std.specs.Prelude.{◌≡◌, ◌<◌, List, [], ◌∷◌, length, Some, IfOk, IfErr, OnOk};
 ghost use Rattle.std.specs.Prelude.{OnErr, ◌⊎◌};
 ghost use Rattle.ipc_model.specs.declared.schema.Field.{Field};
@@ -19,8 +19,7 @@ use ipc_model::{Limits, Schema, WriteFault};
 use std::alloc::Global;
 use std::mem;
 
-/// The numbers of the columns that dictionaries are sent as, side by side with the entries of a
-/// tally.
+/// The sizes of the columns in which dictionaries are sent, parallel to the entries of a tally.
 #[derive(Debug, Drop)]
 pub(crate) struct EntryColumns {
     pub(crate) limits: Limits,
@@ -30,10 +29,10 @@ pub(crate) struct EntryColumns {
 }
 
 impl EntryColumns {
-    /// The columns of these entries, which have no values yet.
+    /// Creates the columns of these entries, which have no values yet.
     ///
-    /// Refused with W6 `TooLong` where even the column of no values is longer than a body may be,
-    /// and with W11 `OutOfMemory` where the columns find no room.
+    /// Errors: W6 `TooLong` if the column without values already exceeds `limits.body`; W11
+    /// `OutOfMemory` if memory for the columns ran out.
     pub(crate) fn new(
         alloc: Global,
         limits: &Limits,
@@ -65,11 +64,10 @@ impl EntryColumns {
         })
     }
 
-    /// Counts the values of each entry behind the first so many, which are counted already. Where
-    /// they are refused, the columns are as before.
+    /// Counts the values of each entry after the first `marks[i]`, which are already counted. After
+    /// an error the columns are unchanged.
     ///
-    /// Refused with `TooLong` or `TooMany` where an entry's values are more than the limits allow a
-    /// column.
+    /// Errors: `TooLong` or `TooMany` if an entry's values exceed the limits of a column.
     pub(crate) fn count(&mut self, entries: &[TallyEntry], marks: &[usize]) -> Result<(), PushFault>
         requires columns { length self.old.counted.items ≡ length entries.now }
         requires room { length self.old.next.items ≡ length entries.now }
@@ -117,7 +115,7 @@ fn fresh_column(
     CountedColumn::new(column, limits)
 }
 
-// The numbers of each column with the values behind the first so many.
+// The sizes of each column with the values after those that are already counted.
 fn count_next(
     next: &mut [CountedColumn],
     before: &[CountedColumn],

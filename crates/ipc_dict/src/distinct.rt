@@ -9,7 +9,7 @@ use ipc_model::Value;
 use std::alloc::{AllocError, Global};
 use std::marker::Model;
 
-/// Values without repeats, distinct from 0 in the order of their first appearance.
+/// Distinct values, numbered from 0 in the order of their first appearance.
 #[derive(Debug, Drop)]
 pub struct DistinctValues {
     values: IndexSet<Value, Seed>,
@@ -29,14 +29,14 @@ impl Model for DistinctValues {
 }
 
 impl DistinctValues {
-    /// No value. It takes no memory.
+    /// Creates an empty list of values. It takes no memory.
     pub fn new(alloc: Global) -> DistinctValues
         ensures { result ≡ [] }
     {
         DistinctValues::with_seed(alloc, Seed::Fixed)
     }
 
-    /// No value, and hashes that begin with this seed. It takes no memory.
+    /// Creates an empty list of values, whose hashes use this seed. It takes no memory.
     pub fn with_seed(alloc: Global, seed: Seed) -> DistinctValues
         ensures { result ≡ [] }
     {
@@ -45,28 +45,28 @@ impl DistinctValues {
         }
     }
 
-    /// How many values there are.
+    /// Returns the number of values.
     pub fn len(&self) -> usize
         ensures { result ≡ length self.now }
     {
         self.values.len()
     }
 
-    /// Whether the value is there.
+    /// Returns whether the value is one of these.
     pub fn contains(&self, value: &Value) -> bool
         ensures { result ≡ is_seen self.now value.now }
     {
         self.values.contains(value)
     }
 
-    /// The number of a value.
+    /// Returns the index of a value, or `None` if it is none of these.
     pub fn index_of(&self, value: &Value) -> Option<usize>
         ensures { result ≡ place value.now self.now }
     {
         self.values.get_index_of(value)
     }
 
-    /// The number of a value, where it may be this one: then it costs one comparison, and no hash.
+    /// Returns the index of a value. If it is `guess`, this takes one comparison and no hash.
     #[inline]
     pub(crate) fn index_near(&self, guess: usize, value: &Value) -> Option<usize>
         ensures { result ≡ place value.now self.now }
@@ -88,21 +88,22 @@ impl DistinctValues {
         }
     }
 
-    /// The values in order.
+    /// Returns the values in order.
     pub fn as_slice(&self) -> &[Value]
         ensures { result.now ≡ self.now }
     {
         self.values.as_slice()
     }
 
-    /// The values behind the first `len`.
+    /// Returns the values after the first `len`.
     pub(crate) fn since(&self, len: usize) -> &[Value]
         ensures { result.now ≡ drop len self.now }
     {
         self.values.as_slice().get(len..).unwrap_or(&[])
     }
 
-    /// Puts a copy of the value last, unless it is there. Answers whether it was new.
+    /// Appends a copy of the value, if it is not there yet. Returns whether it was new. After an
+    /// error, because memory ran out, the values are unchanged.
     pub fn add(&mut self, value: &Value) -> Result<bool, AllocError>
         ensures added { IfOk result (λ new. new ≡ not (is_seen self.old value.now)) }
         ensures values { OnOk result (self.new ≡ seen self.old value.now) }
@@ -116,7 +117,7 @@ impl DistinctValues {
         Ok(true)
     }
 
-    /// Keeps the first `len` values.
+    /// Keeps the first `len` values, and drops the others.
     pub fn truncate(&mut self, len: usize)
         ensures { self.new ≡ take len self.old }
     {

@@ -15,15 +15,15 @@ use ipc_model::Value;
 /// The distinct values of one dictionary.
 #[derive(Debug, Drop)]
 pub struct TallyEntry {
-    /// The dictionary's id.
+    /// The id of the dictionary.
     pub id: i64,
-    /// How many values its narrowest index type counts.
+    /// The number of values that its narrowest index type counts.
     pub limit: usize,
-    /// Its values.
+    /// The values.
     pub values: DistinctValues,
 }
 
-// Where the dictionary stands.
+// The position of the dictionary's entry.
 pub(crate) fn find(entries: &[TallyEntry], id: i64) -> Option<usize>
     ensures within { IfSome result (λ i. i < length entries.now) }
     ensures found { IfSome result
@@ -44,7 +44,7 @@ pub(crate) fn find(entries: &[TallyEntry], id: i64) -> Option<usize>
     None
 }
 
-// One more value of a dictionary, which may stand at this place. Answers where it stands.
+// Notes one value of a dictionary, which may be at this position. Returns its position.
 fn note_in(entry: &mut TallyEntry, guess: usize, value: &Value) -> Result<usize, NoteFault>
     ensures noted { OnOk result (entry.new ≡ note_entry value.now entry.old) }
     ensures fits { OnOk result
@@ -67,7 +67,7 @@ fn note_in(entry: &mut TallyEntry, guess: usize, value: &Value) -> Result<usize,
     Ok(place)
 }
 
-// One more value of the dictionary with the id, where there is one. It is kept where it stands.
+// Notes one value of the dictionary with the id, if there is one, and keeps its position.
 pub(crate) fn note_one(
     entries: &mut [TallyEntry],
     recent: &mut Recent,
@@ -92,8 +92,8 @@ pub(crate) fn note_one(
     Ok(())
 }
 
-// Where a value stands among those of the dictionary with the id. A row's values are asked for
-// behind their noting, so most stand where they were noted lately.
+// The position of a value among those of the dictionary with the id. The values of a row are looked
+// up after they are noted, so most are still at the kept position.
 pub(crate) fn place_in(
     entries: &[TallyEntry],
     recent: &Recent,
@@ -107,7 +107,7 @@ pub(crate) fn place_in(
     place_of(&entries[i].values, guess, value)
 }
 
-// The same among the values of one dictionary, where it may stand at this place.
+// The position of a value among those of one dictionary, where it may be at this position.
 fn place_of(values: &DistinctValues, guess: usize, value: &Value) -> Option<u64>
     ensures { result ≡ place value.now values.now }
 {

@@ -5,20 +5,20 @@ use ipc_encode::PushFault;
 use ipc_model::WriteFault;
 use std::alloc::AllocError;
 
-/// Why the values of a row aren't counted, in one byte. As a fault of a writer it is W6, W7, W8,
+/// Why the values of a row are not counted, in one byte. As a fault of the writer it is W6, W7, W8,
 /// W10 or W11.
 #[derive(Clone, Copy, Debug, PartialEq, Eq, Drop)]
 pub enum NoteFault {
-    /// A dictionary would have more distinct values than an index type of its fields can count.
+    /// A dictionary would have more distinct values than an index type of its fields counts.
     DictionaryFull,
     /// As the one column of their message, a dictionary's values would have more data than offsets
-    /// reach or than a body may have.
+    /// reach, or more bytes than a body may have.
     TooLong,
     /// A dictionary would have more values than the limits allow.
     TooMany,
-    /// A value finds no room.
+    /// Memory for a value ran out.
     OutOfMemory,
-    /// What counts them has failed before.
+    /// The call comes after `OutOfMemory`.
     Failed,
 }
 

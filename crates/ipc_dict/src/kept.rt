@@ -13,17 +13,17 @@ use std::marker::Model;
 /// What was sent so far of one dictionary.
 #[derive(Debug, Drop)]
 pub struct KeptEntry {
-    /// The dictionary's id.
+    /// The id of the dictionary.
     pub id: i64,
-    /// Its values, where it was sent.
+    /// The values, if the dictionary was sent.
     pub values: Option<DistinctValues>,
 }
 
 /// What a writer has sent so far: for each id of its schema the values of the last dictionary with
 /// that id, if there was one.
 ///
-/// Contracts see it as the list of its entries, in the order in which their ids first stand in the
-/// schema (pre-order).
+/// Contracts describe it as the list of its entries, in the order in which their ids first appear
+/// in the schema (pre-order).
 #[derive(Debug, Drop)]
 pub struct Kept {
     pub(crate) entries: Vec<KeptEntry>,
@@ -43,10 +43,10 @@ impl Model for Kept {
 }
 
 impl Kept {
-    /// Nothing sent yet, of any id that the schema's fields name. What is sent later is moved
-    /// here, which takes no memory.
+    /// Creates an entry for each id that the schema's fields name, of which nothing is sent. What
+    /// is sent later is moved here, which takes no memory.
     ///
-    /// Refused with `OutOfMemory` where the entries find no room.
+    /// Errors: `OutOfMemory` if memory for the entries ran out.
     #[tactic(auto, using(crate::proofs::Ids::ids_unsent))]
     pub fn new(alloc: Global, schema: &Schema) -> Result<Kept, WriteFault>
         ensures entries { IfOk result (λ kept. kept ≡ unsent (ids_of schema.now.fields)) }

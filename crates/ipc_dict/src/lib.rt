@@ -1,7 +1,6 @@
-//! The dictionaries of a stream (Arrow Columnar Format, "Dictionary Messages"): those that a reader
-//! has in force, and what a writer has sent, counts in a batch and plans to send.
-//!
-//! A dictionary is replaced whole, and fields with one id share it.
+//! The dictionaries of a stream, each replaced as a whole and shared by the fields with its id:
+//! those that a reader has in force, and what a writer has sent, counts in a batch and plans to
+//! send (Arrow Columnar Format, "Dictionary Messages").
 #![tactic(auto)]
 
 mod column_notes;

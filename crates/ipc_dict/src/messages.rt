@@ -1,4 +1,4 @@
-//! Whether the messages of dictionaries have metadata within the limits.
+//! Checks that the metadata of dictionary messages is within the limits.
 ghost use Rattle.std.specs.Prelude.{◌≡◌, ◌<◌, ◌≤◌, List, Some, true, false, IfErr, IfOk};
 ghost use Rattle.ipc_model.specs.declared.schema.Field.{Field};
 ghost use Rattle.ipc_dictionaries.specs.ValuesColumns.{IsOneColumn, columns_for, columns_in};
@@ -33,11 +33,11 @@ fn is_short(limits: &Limits, columns: &Dictionaries, entry: &TallyEntry) -> bool
     dictionary_room(1, layout.own_buffers() as u32) <= limits.metadata
 }
 
-/// Whether the metadata of the message of each dictionary that the schema's fields name is within
-/// the limits, whatever the values (Message.fbs, table DictionaryBatch).
+/// Returns whether the metadata of the message of each dictionary that the schema's fields name is
+/// within the limits, whatever the values (Message.fbs, table DictionaryBatch).
 ///
-/// The caller has the columns of the schema's dictionaries. Refused with W11 `OutOfMemory` where
-/// their ids find no room.
+/// `columns` must be those of the schema's dictionaries. Errors: W11 `OutOfMemory` if memory for
+/// the ids ran out.
 pub fn has_short_messages(
     alloc: Global,
     limits: &Limits,

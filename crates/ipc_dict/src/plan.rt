@@ -1,4 +1,4 @@
-//! Which dictionaries a batch sends, and the indices of its values.
+//! Plans which dictionaries a batch sends, and the indices of its values.
 ghost use Rattle.std.specs.Prelude.{◌≡◌, ◌≢◌, ◌⊎◌, length, IfOk, IfErr};
 ghost use Rattle.ipc_dict.specs.Planning.{after_all, sends_of, AllSettled, FindsAll};
 ghost use Rattle.ipc_dict.specs.Planning.{FindsNoted, KnowsAll};
@@ -18,11 +18,11 @@ use ipc_model::{Items, Limits, Row, Schema, Value, WriteFault};
 use std::alloc::Global;
 use std::marker::Model;
 
-/// What a batch does with each dictionary of its schema: it is sent with the batch where it has
-/// not been, or where it lacks a value of the batch, and otherwise its values are found among those
-/// that were sent before (Arrow Columnar Format, "Dictionary Messages").
+/// What a batch does with each dictionary of its schema (Arrow Columnar Format, "Dictionary
+/// Messages"). A dictionary is sent with the batch if it was not sent yet, or if it lacks a value
+/// of the batch. Otherwise the values are found among those that were sent before.
 ///
-/// Its indices are those of the dictionaries as they are once the batch was sent.
+/// The indices of the batch are those in the dictionaries after the batch is sent.
 #[derive(Debug, Drop)]
 pub struct Plan {
     pub(crate) entries: Vec<TallyEntry>,
@@ -50,17 +50,20 @@ impl Model for Plan {
 }
 
 impl Plan {
-    /// What a batch of these rows does with each dictionary of the schema.
+    /// Plans what a batch of these rows does with each dictionary of the schema.
     ///
-    /// The caller has rows that fit the schema, and the `Kept` of a writer of this schema. Each
-    /// dictionary's values are the distinct ones of the rows other than null, in order of first
-    /// appearance: rows in their order, in a row from left to right, depth first.
+    /// The rows must fit the schema, and `kept` must be that of a writer of this schema. The values
+    /// of each dictionary are the distinct values other than null of the rows, in order of first
+    /// appearance: row by row, and within a row in field order, depth first.
     ///
-    /// Refused with W7 `DictionaryFull` exactly where these are more than some index type of the
-    /// dictionary's fields can count; with W8 `TooManyRows` where they are more than
-    /// `limits.slots`, and with W6 `TooLong` where as the one column of their message they have
-    /// more data than offsets reach, or more than `limits.body` bytes (Arrow Columnar Format,
-    /// "Array lengths"); with W11 `OutOfMemory` where they or the lists of the plan find no room.
+    /// Errors:
+    ///
+    /// - W7 `DictionaryFull`: exactly if a dictionary has more of these values than an index type
+    ///   of its fields counts.
+    /// - W8 `TooManyRows`: a dictionary has more than `limits.slots` of these values.
+    /// - W6 `TooLong`: as the one column of their message, the values have more data than offsets
+    ///   reach, or more than `limits.body` bytes (Arrow Columnar Format, "Array lengths").
+    /// - W11 `OutOfMemory`: memory for the values or for the lists of the plan ran out.
     pub fn for_rows(
         alloc: Global,
         limits: &Limits,
@@ -110,24 +113,25 @@ impl Plan {
         tally.settle(alloc, kept)
     }
 
-    /// The dictionaries to send before the batch, each with its id, in the order in which the ids
-    /// first stand in the schema (pre-order). The values are rows of one value. It takes no memory.
+    /// Returns the dictionaries to send before the batch, each with its id, in the order in which
+    /// the ids first appear in the schema (pre-order). The values are rows of one value. It takes
+    /// no memory.
     pub fn sends(&self) -> &[(i64, Items<Row>)]
         ensures { result.now ≡ sends_of self.now.entries self.now.numbers }
     {
         self.sends.as_slice()
     }
 
-    /// Brings what was sent up to date: the dictionaries that the plan sends take the place of
-    /// those before. It takes no memory.
+    /// Records that the plan's dictionaries were sent: they replace the earlier ones in `kept`. It
+    /// takes no memory.
     ///
-    /// The caller has what the plan was made with. What has another number of dictionaries stays as
-    /// it was.
+    /// `kept` must be that with which the plan was made. If it has another number of dictionaries,
+    /// it is unchanged.
     pub fn commit(self, kept: &mut Kept)
         ensures after { kept_ids kept.old ≡ tally_ids self.entries
             → kept.new ≡ after_all kept.old self.entries self.numbers }
         ensures ids { kept_ids kept.new ≡ kept_ids kept.old }
-        // What has another number of dictionaries is left as it was.
+        // If `kept` has another number of dictionaries, it is unchanged.
         ensures unchanged { length kept.old ≢ length self.entries → kept.new ≡ kept.old }
     {
         let Plan {

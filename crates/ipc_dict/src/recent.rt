@@ -1,28 +1,28 @@
-//! Where the values stand that were noted lately.
+//! The positions of values that were noted recently.
 use byteorder::{ByteOrder, LittleEndian};
 use ipc_model::Value;
 use std::alloc::{AllocError, Global};
 
-// How many places are kept, of all dictionaries together: as many as the upper bits of a mixed sum
-// tell apart.
+// The number of positions that are kept for all dictionaries together. It is the number of values
+// of the upper bits of a mixed sum.
 const PLACES: usize = 1 << 12;
 
 const LOWER_BITS: u32 = 52;
 
-// An odd number without a pattern, 2^64 divided by the golden ratio: a product by it has upper bits
-// that hang on all bits of a sum.
+// An odd number without a pattern, 2^64 divided by the golden ratio. The upper bits of a product by
+// it depend on all bits of the sum.
 const MIX: u64 = 0x9E37_79B9_7F4A_7C15;
 
-/// Where values stand in their dictionaries that were noted lately. It is a guess: another value of
-/// the same spot may have been noted since, so whoever asks compares what stands there. A value is
-/// found by it without its hash.
+/// The positions in their dictionaries of values that were noted recently. A position is a guess:
+/// another value of its spot may have been noted since, so the caller compares the value there. A
+/// value is found without its hash.
 #[derive(Debug, Drop)]
 pub(crate) struct Recent {
     places: Vec<usize>,
 }
 
 impl Recent {
-    /// No values of so many dictionaries. Where there is none it takes no memory.
+    /// Creates it for this number of dictionaries. For 0 dictionaries it takes no memory.
     pub(crate) fn new(alloc: Global, dictionaries: usize) -> Result<Recent, AllocError> {
         let mut places = Vec::new(alloc);
         if dictionaries > 0 {
@@ -31,13 +31,13 @@ impl Recent {
         Ok(Recent { places })
     }
 
-    /// Where the value of a spot may stand.
+    /// Returns the position at which the value of a spot may be.
     #[inline(always)]
     pub(crate) fn place(&self, spot: usize) -> usize {
         self.places.get(spot).copied().unwrap_or(0)
     }
 
-    /// Keeps where the value of a spot stands.
+    /// Keeps the position of the value of a spot.
     #[inline(always)]
     pub(crate) fn keep(&mut self, spot: usize, place: usize) {
         if let Some(kept) = self.places.get_mut(spot) {
@@ -46,14 +46,14 @@ impl Recent {
     }
 }
 
-/// The spot of a value of the dictionary with this number.
+/// Returns the spot of a value of the dictionary with this number.
 #[inline(always)]
 pub(crate) fn spot_of(dictionary: usize, value: &Value) -> usize {
     let sum = sum_of(value).wrapping_add(dictionary as u64);
     ((sum ^ (sum >> 32)).wrapping_mul(MIX) >> LOWER_BITS) as usize
 }
 
-// A sum that seldom is the same of two values of a dictionary.
+// A sum that is seldom equal for two values of a dictionary.
 #[inline(always)]
 fn sum_of(value: &Value) -> u64 {
     match value {

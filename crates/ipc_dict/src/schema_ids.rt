@@ -13,7 +13,7 @@ use crate::seed::Seed;
 use ipc_model::{Dictionary, Field, IntBits};
 use std::alloc::{AllocError, Global};
 
-// Puts the dictionaries of a field and of all below it behind those that were found.
+// Appends the dictionaries of a field and of its descendants to those that were found.
 #[cycle(collect)]
 fn collect_one(found: &mut Vec<Dictionary>, field: &Field) -> Result<(), AllocError>
     ensures { OnOk result (found.new.items ≡ found.old.items ++ of_field field.now) }
@@ -24,7 +24,7 @@ fn collect_one(found: &mut Vec<Dictionary>, field: &Field) -> Result<(), AllocEr
     collect(found, field.children.as_slice())
 }
 
-// The same of several fields.
+// Appends the dictionaries of several fields and of their descendants to those that were found.
 #[cycle(collect)]
 fn collect(found: &mut Vec<Dictionary>, fields: &[Field]) -> Result<(), AllocError>
     ensures { OnOk result (found.new.items ≡ found.old.items ++ of_fields fields.now) }
@@ -51,7 +51,7 @@ fn count_of(dictionary: &Dictionary) -> usize
     }
 }
 
-// Where the dictionary's entry stands.
+// The position of the dictionary's entry.
 fn find_entry(entries: &[TallyEntry], dictionary: &Dictionary) -> Option<usize>
     ensures within { IfSome result (λ i. i < length entries.now) }
     ensures found { IfSome result (λ i. (e : TallyEntry) → i < length entries.now
@@ -124,8 +124,9 @@ pub(crate) fn unused_entries(
     Ok(entries)
 }
 
-/// A tally begins with one entry for each id that the fields of its schema name, in the order in
-/// which the ids first stand there (pre-order), each with the least count of its index types.
+/// The law: a tally begins with one entry for each id that the fields of its schema name. The
+/// entries are in the order in which the ids first appear (pre-order). Each has the smallest count
+/// of its index types.
 pub fn entries_of_schema()
     ensures { AreOfSchema }
 {}

@@ -1,16 +1,15 @@
-//! What the hashes of values begin with.
+//! The seed of the hashes of values.
 ghost use Rattle.ipc_dict.specs.Seeds.{first_hasher};
 
 use std::hash::{BuildHasher, DefaultHasher, RandomState};
 
-/// What the hashes of distinct values begin with. No answer depends on it, only the time that
-/// values take.
+/// The seed of the hashes of distinct values. No result depends on it, only the time.
 #[derive(Clone, Copy, Debug)]
 pub enum Seed {
-    /// The same in each run. Whoever picks the values can make their hashes collide, and each new
-    /// value then costs a look at all before it.
+    /// A constant seed. Whoever chooses the values can make their hashes collide; each new value is
+    /// then compared with all earlier ones.
     Fixed,
-    /// Drawn at random by the program: nobody who doesn't know it can make hashes collide.
+    /// A seed that the program drew at random. Nobody who does not know it can make hashes collide.
     Random(RandomState),
 }
 

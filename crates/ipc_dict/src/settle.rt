@@ -1,4 +1,4 @@
-//! What a plan does with each dictionary, all of which stand in one order.
+//! Plans each dictionary; the lists of dictionaries are all in one order.
 ghost use Rattle.std.specs.Prelude.{◌≡◌, ◌∷◌, ◌++◌, [], map, length, IfOk, OnOk, IfNone, IfSome};
 ghost use Rattle.ipc_dict.specs.Planning.{AreNumbers, Lacks, IsSettled, AllSettled, number_at};
 ghost use Rattle.ipc_dict.specs.Planning.{index, number, kept_number, after, after_all, own_send};
@@ -62,7 +62,7 @@ fn number_of(values: &DistinctValues, numbers: &Option<Items<u64>>, value: &Valu
     }
 }
 
-// The index that stands in the place of a batch's own number in the dictionary with this id.
+// The index that replaces a batch's own number in the dictionary with this id.
 pub(crate) fn number_of_index(
     entries: &[TallyEntry],
     numbers: &[Option<Items<u64>>],
@@ -205,7 +205,7 @@ pub(crate) fn commit(
     }
 }
 
-// The same for one dictionary.
+// Keeps the values of one dictionary as the last ones sent, if the plan sends it.
 fn keep(alloc: Global, kept: &mut KeptEntry, entry: &mut TallyEntry, numbers: &Option<Items<u64>>)
     ensures { kept.new ≡ record kept.old {
       values = after kept.old.values entry.old.values numbers.now;

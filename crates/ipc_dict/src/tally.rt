@@ -1,4 +1,4 @@
-//! A batch's distinct values, row by row.
+//! The distinct values of a batch, counted row by row.
 ghost use Rattle.std.specs.Prelude.{◌↔◌, [], IsTrue};
 ghost use Rattle.std.specs.Prelude.{◌≡◌, true, false, length, IfOk, IfErr, OnOk, OnErr, ◌⊎◌, Err};
 ghost use Rattle.ipc_dict.specs.Noting.{note_all, AllFit, IsFull, HoldsDistinct, lens, cut};
@@ -29,18 +29,18 @@ use std::alloc::{AllocError, Global};
 use std::marker::Model;
 
 /// The distinct values of each dictionary in the rows of a batch so far, in order of first
-/// appearance: rows in their order, in a row from left to right, depth first. Nulls have no place
-/// in a dictionary (Arrow Columnar Format, "Dictionary-encoded Layout").
+/// appearance: row by row, and within a row in field order, depth first. Nulls have no entry in a
+/// dictionary (Arrow Columnar Format, "Dictionary-encoded Layout").
 ///
-/// Where a field names a dictionary, 32 KiB tell where values stand that were noted lately, so that
-/// these are found again without their hashes.
+/// If a field names a dictionary, 32 KiB keep the positions of recent values. These are found again
+/// without their hashes.
 #[derive(Debug, Drop)]
 pub struct Tally {
     fields: Items<Field>,
     entries: Vec<TallyEntry>,
     // How many values each dictionary had before the row.
     marks: Vec<usize>,
-    // Where values stand that were noted lately.
+    // The positions of values that were noted recently.
     recent: Recent,
     // Each dictionary's values as the one column of its message.
     columns: EntryColumns,
@@ -74,14 +74,15 @@ impl Model for Tally {
 }
 
 impl Tally {
-    /// No row yet: an entry without values for each id that the schema's fields name. An id may
-    /// have as many values as the index type that counts the fewest among its fields', and as the
-    /// limits allow the one column of its message (Arrow Columnar Format, "Dictionary Messages").
+    /// Creates a tally without rows, with an entry for each id that the schema's fields name. The
+    /// narrowest index type of its fields bounds the number of values of an id. So do the limits of
+    /// the one column of its message (Arrow Columnar Format, "Dictionary Messages").
     ///
-    /// The fields are copied, and values are hashed with the fixed seed. Refused with W6 `TooLong`
-    /// where even the column of no values is longer than `limits.body` bytes: a binary or UTF-8
-    /// column has one offset; with W11 `OutOfMemory` where the fields, the entries or their columns
-    /// find no room.
+    /// The fields are copied, and hashes use `Seed::Fixed`.
+    ///
+    /// Errors: W6 `TooLong` if the column without values already has more than `limits.body` bytes,
+    /// because a binary or UTF-8 column has one offset; W11 `OutOfMemory` if memory for the fields,
+    /// the entries or their columns ran out.
     pub fn new(alloc: Global, limits: &Limits, schema: &Schema) -> Result<Tally, WriteFault>
         ensures fresh { IfOk result (λ tally. tally ≡ record {
           failed = false;
@@ -100,7 +101,7 @@ impl Tally {
         Tally::with_seed(alloc, limits, schema, Seed::Fixed)
     }
 
-    /// The same, with values that are hashed with this seed.
+    /// Creates a tally as `Tally::new` does, but hashes use this seed.
     pub fn with_seed(
         alloc: Global,
         limits: &Limits,
@@ -136,15 +137,17 @@ impl Tally {
         })
     }
 
-    /// Counts the values of one more row. The caller has a row that fits the schema. A value that
-    /// is known already takes no memory.
+    /// Counts the values of one row, which must fit the schema. A known value takes no memory.
     ///
-    /// Refused with W7 `DictionaryFull` exactly where a dictionary would have more distinct values
-    /// than an index type of its fields can count; with W8 `TooManyRows` where they would be more
-    /// than `limits.slots`, and with W6 `TooLong` where as the one column of their message they
-    /// would have more data than offsets reach, or more than `limits.body` bytes (Arrow Columnar
-    /// Format, "Array lengths"). Then the tally is as before the row. Refused with W11
-    /// `OutOfMemory` where a value finds no room, and from then on with W10 `Failed`.
+    /// Errors, where after W6, W7 and W8 the tally is as before the call:
+    ///
+    /// - W7 `DictionaryFull`: exactly if a dictionary would have more distinct values than an index
+    ///   type of its fields counts.
+    /// - W8 `TooManyRows`: a dictionary would have more than `limits.slots` values.
+    /// - W6 `TooLong`: as the one column of their message, the values would have more data than
+    ///   offsets reach, or more than `limits.body` bytes (Arrow Columnar Format, "Array lengths").
+    /// - W11 `OutOfMemory`: memory for a value ran out.
+    /// - W10 `Failed`: the call comes after W11.
     pub fn note(&mut self, row: &[Value]) -> Result<(), WriteFault>
         ensures noted { OnOk result (self.new ≡ record self.old {
           entries = note_all self.old.entries (row_pairs self.old.fields row.now);
@@ -176,7 +179,8 @@ impl Tally {
         Ok(())
     }
 
-    /// The same, for callers that note row by row: a fault is one byte.
+    /// Counts the values of one row as `Tally::note` does. The fault has one byte, for callers that
+    /// call it for each row.
     #[inline(always)]
     pub fn note_row(&mut self, row: &[Value]) -> Result<(), NoteFault>
         ensures noted { OnOk result (self.new ≡ record self.old {
@@ -224,14 +228,18 @@ impl Tally {
 }
 
 impl Tally {
-    /// Counts the values of all rows of a batch that was read, column by column, and says whether
-    /// it did: what `note` of each row counts. Each value of the batch's dictionaries is looked up
-    /// once. The caller has a batch whose rows fit the schema.
+    /// Counts the values of all rows of a batch that was read, column by column, as `note` of each
+    /// row does. Returns whether it did. Each value of the batch's dictionaries is looked up once.
+    /// The rows of the batch must fit the schema.
     ///
-    /// At `Ok(false)` nothing was counted, and `note` takes the rows one by one: a dictionary would
-    /// be full or too long, two fields name one dictionary, one is named below a list or a struct,
-    /// or the batch has another number of columns. Refused with W11 `OutOfMemory` where a value or
-    /// a mark finds no room, and from then on with W10 `Failed`.
+    /// At `Ok(false)` nothing was counted; then call `note` for each row. The implementation
+    /// returns it if:
+    ///
+    /// - a dictionary would be full or too long;
+    /// - two fields name one dictionary, or a descendant of a list or a struct names one;
+    /// - the batch has another number of columns.
+    ///
+    /// Errors: W11 `OutOfMemory` if memory for a value or a mark ran out; W10 `Failed` after W11.
     pub fn note_columns(&mut self, batch: &Batch) -> Result<bool, NoteFault>
         ensures noted { IfOk result (λ counted. counted ≡ true → self.new ≡ record self.old {
           entries = note_all self.old.entries (rows_pairs self.old.fields batch.now.rows);
@@ -276,13 +284,15 @@ impl Tally {
 }
 
 impl Tally {
-    /// What a batch with these rows does with each dictionary.
+    /// Plans what a batch with these rows does with each dictionary.
     ///
-    /// The caller has the `Kept` of a writer of the same schema. A dictionary is sent exactly where
-    /// it has not been or lacks a value of the batch, and then holds exactly the batch's distinct
-    /// values in order of first appearance. Refused with W11 `OutOfMemory` where the lists of the
-    /// plan find no room, and with W10 `Failed` where the tally has failed, or `kept` has another
-    /// number of dictionaries, as that of no writer of the schema has.
+    /// `kept` must be that of a writer of this schema. A dictionary is sent exactly if it was not
+    /// sent yet, or lacks a value of the batch. It then has exactly the batch's distinct values, in
+    /// order of first appearance.
+    ///
+    /// Errors: W11 `OutOfMemory` if memory for the lists of the plan ran out; W10 `Failed` if the
+    /// tally has failed, or if `kept` has another number of dictionaries than a writer of the
+    /// schema has.
     pub fn settle(self, alloc: Global, kept: &Kept) -> Result<Plan, WriteFault>
         ensures entries { IfOk result (λ plan. plan.entries ≡ self.entries) }
         // Each dictionary is within the limits, as the one column of its message.
@@ -316,7 +326,7 @@ impl Tally {
         Ok(settle(alloc, &kept.entries, entries)?)
     }
 
-    /// Whether there is no dictionary to count values of.
+    /// Returns whether the schema's fields name no dictionary.
     pub fn is_empty(&self) -> bool
         ensures { IsTrue result ↔ (self.now.entries ≡ []) }
     {
@@ -329,7 +339,7 @@ impl IndexOf for Tally {
 
     ghost index = { λ tally id value. noted_place tally.entries id value };
 
-    // Where the value stands among those of its dictionary so far. It keeps this place.
+    // The position of the value among those of its dictionary so far. It does not change later.
     fn index_of(&self, id: i64, value: &Value) -> Option<u64> {
         place_in(&self.entries, &self.recent, id, value)
     }
@@ -512,17 +522,18 @@ fn restore(entries: &mut [TallyEntry], marks: &[usize])
     }
 }
 
-/// A value keeps the place that a tally gives it, whatever is noted behind it.
+/// The law: a value keeps the position that a tally gives it, whatever is noted later.
 pub fn keeps_places()
     ensures { KeepsPlaces }
 {}
 
-/// Each value that was noted has a place in the tally, where its dictionary has an entry.
+/// The law: each value that was noted has a position in the tally, if its dictionary has an entry.
 pub fn places_all()
     ensures { PlacesAll }
 {}
 
-/// A tally's entry holds the distinct values of its dictionary, in order of first appearance.
+/// The law: a tally's entry has the distinct values of its dictionary, in order of first
+/// appearance.
 pub fn holds_distinct()
     ensures { HoldsDistinct }
 {}

@@ -1,5 +1,4 @@
-//! The values of dictionaries in a row: from left to right, those below a list or a struct in its
-//! place, nulls left out.
+//! Finds the dictionary values of a row in field order, depth first, without nulls.
 ghost use Rattle.std.specs.Prelude.{◌≡◌, [], map, IfErr, IsTrue, OnOk, ◌⊎◌};
 ghost use Rattle.ipc_model.specs.declared.value.Value.{Value};
 ghost use Rattle.ipc_dict.specs.Noting.{note_all, AllFit, IsFull, AllGrow};
@@ -10,7 +9,7 @@ use crate::fault::NoteFault;
 use crate::recent::Recent;
 use ipc_model::{DataType, Field, Value};
 
-/// Whether a field surely names no dictionary, nor does any below it.
+/// Returns true only if neither the field nor a descendant names a dictionary.
 #[inline(always)]
 #[tactic(auto, using(crate::proofs::Walks::plain_pairs))]
 pub(crate) fn is_plain(field: &Field) -> bool
@@ -19,8 +18,8 @@ pub(crate) fn is_plain(field: &Field) -> bool
     field.dictionary.is_none() && field.children.is_empty()
 }
 
-/// Notes the values of dictionaries in one value of a field. It stands by itself, so that what has
-/// no dictionary costs no call.
+/// Notes the dictionary values in one value of a field. It is a function of its own, so that a
+/// value without dictionaries costs no call.
 #[cycle(note)]
 #[inline(always)]
 #[tactic(auto, using(crate::proofs::Notes::all_grow_same, crate::proofs::Notes::all_grow_trans))]
@@ -45,7 +44,7 @@ pub(crate) fn note_value(
     note_named(entries, recent, field, value)
 }
 
-// The same of a field that may name a dictionary.
+// Notes the dictionary values in one value of a field that may name a dictionary.
 #[cycle(note)]
 #[tactic(auto, using(crate::proofs::Notes::all_grow_same, crate::proofs::Notes::all_grow_trans))]
 fn note_named(
@@ -84,7 +83,7 @@ fn note_named(
     }
 }
 
-// The same of a list's values, whose field is its child.
+// Notes the dictionary values in the items of a list, whose field is its child.
 #[cycle(note)]
 #[tactic(auto, using(crate::proofs::Notes::all_grow_same, crate::proofs::Notes::all_grow_trans))]
 fn note_items(
@@ -109,7 +108,7 @@ fn note_items(
     Ok(())
 }
 
-// The same of values that stand beside their fields: those of a row or of a struct.
+// Notes the dictionary values in several values with their fields: those of a row or of a struct.
 #[cycle(note)]
 #[tactic(auto, using(crate::proofs::Notes::all_grow_same, crate::proofs::Notes::all_grow_trans))]
 pub(crate) fn note_each(

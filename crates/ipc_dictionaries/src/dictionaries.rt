@@ -12,12 +12,12 @@ use std::collections::BTreeMap;
 use std::marker::Model;
 use std::rc::Rc;
 
-/// The dictionaries in force while a stream is read: for each id that was set, its values, which
-/// are a batch of one column (Arrow Columnar Format, "Dictionary Messages"). Beside them stand the
-/// columns by which each dictionary of the schema is read.
+/// The dictionaries in force while a stream is read. For each id that was set it has the values,
+/// which are a batch of one column (Arrow Columnar Format, "Dictionary Messages"). It also has the
+/// column by which each dictionary of the schema is read.
 ///
-/// Contracts see the values in force as the list of their ids, each beside its values, in the order
-/// of the ids.
+/// Contracts describe the values in force as the list of the ids, each with its values, in the
+/// order of the ids.
 #[derive(Debug, Drop)]
 pub struct Dictionaries {
     columns: Vec<(i64, Items<Field>)>,
@@ -42,12 +42,12 @@ impl Model for Dictionaries {
 }
 
 impl Dictionaries {
-    /// No dictionary in force, as a stream of this schema begins. What is put in force later takes
-    /// its place from `alloc`.
+    /// Creates the dictionaries at the beginning of a stream of this schema: none is in force.
+    /// Dictionaries that are set later take memory from `alloc`.
     ///
-    /// The caller has a schema that passes its check: then a field that names a dictionary has no
-    /// parts, and the fields that name one dictionary have values of one type. Refused with
-    /// `OutOfMemory` where the columns of the dictionaries find no room.
+    /// The schema must pass `Schema::check`: then the values of a dictionary have no children, and
+    /// the fields with one dictionary id have values of one type. Errors: `OutOfMemory` if memory
+    /// for the columns of the dictionaries ran out.
     pub fn new(alloc: Global, schema: &Schema) -> Result<Dictionaries, Fault>
         ensures none { IfOk result (λ dictionaries. dictionaries ≡ record {
           columns = columns_in schema.now.fields;
@@ -64,21 +64,21 @@ impl Dictionaries {
         })
     }
 
-    /// The one column by which the values of the dictionary with this id are read: it has the name
-    /// and the type of the first field of the schema in pre-order that names the dictionary, and no
-    /// dictionary, parts or pairs of its own; its values may be null. None where no field names the
-    /// dictionary. It takes no memory.
+    /// Returns the one column by which the values of the dictionary with this id are read, or
+    /// `None` if no field names the dictionary. It takes no memory.
     ///
-    /// The field's type is that of the values (Schema.fbs, table Field, `dictionary`), and a
-    /// dictionary batch has one column (Arrow Columnar Format, "Dictionary Messages").
+    /// The column has the name and the type of the first field in pre-order that names the
+    /// dictionary. Its values may be null, and it has no dictionary, children or pairs. The field's
+    /// type is that of the values (Schema.fbs, table Field, `dictionary`), and a dictionary batch
+    /// has one column (Arrow Columnar Format, "Dictionary Messages").
     pub fn fields_of(&self, id: i64) -> Option<&Items<Field>>
         ensures { option_copied result ≡ columns_for self.now.columns id }
     {
         columns_at(&self.columns, id)
     }
 
-    /// The values in force, by the id of their dictionary: what a batch with columns of indices is
-    /// checked under. It takes no memory.
+    /// Returns the values in force, by the id of their dictionary. A batch with columns of indices
+    /// is validated against them. It takes no memory.
     pub fn current(&self) -> &BTreeMap<i64, Rc<Batch>>
         ensures current { in_force result.now ≡ self.now.current }
         // Each of them is a batch of one column, which is no list, no struct and no column of
@@ -88,22 +88,21 @@ impl Dictionaries {
         &self.current
     }
 
-    /// How many bytes the bodies of the values in force have together: each once, and none of a
-    /// batch that was replaced.
+    /// Returns the number of bytes of the bodies of the values in force. Each body counts once, and
+    /// a replaced batch does not count.
     pub fn held(&self) -> usize
         ensures { result ≡ total self.now.current }
     {
         self.held
     }
 
-    /// Puts these values in force for the id, in the place of those before, if there were any
-    /// (Arrow Columnar Format, "Dictionary Messages"). A batch that was read before keeps the
-    /// values that it was read with.
+    /// Sets the values of the dictionary with this id. They replace its earlier values, if there
+    /// were any (Arrow Columnar Format, "Dictionary Messages"). A batch that was read before keeps
+    /// the values that it was read with.
     ///
-    /// The caller has the values checked as one column of the type that the id's fields have, and
-    /// no
-    /// dictionaries: then it is no list, no struct and no column of indices. Refused with
-    /// `OutOfMemory` where the values or their place find no room; then all is as before.
+    /// The values must be a batch that was validated as one column of the type of the id's fields,
+    /// without dictionaries: then the column has no children and no dictionary. Errors:
+    /// `OutOfMemory` if memory ran out; then nothing has changed.
     pub fn apply(&mut self, alloc: Global, id: i64, values: Batch) -> Result<(), Fault>
         requires { IsDictionary values }
         ensures after { OnOk result (self.new ≡ record self.old {

@@ -1,6 +1,5 @@
-//! The dictionaries that a reader has in force (Arrow Columnar Format, "Dictionary Messages").
-//!
-//! A dictionary is replaced whole, and fields with one id share it.
+//! The dictionaries that a reader has in force, each replaced as a whole and shared by the fields
+//! with its id (Arrow Columnar Format, "Dictionary Messages").
 #![tactic(auto)]
 
 mod dictionaries;

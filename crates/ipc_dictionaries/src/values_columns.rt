@@ -1,4 +1,4 @@
-//! The columns that a schema's dictionaries are read by.
+//! The columns by which a schema's dictionaries are read.
 ghost use Rattle.std.specs.Prelude.{◌≡◌, ◌++◌, ◌∷◌, [], IfOk, OnOk};
 ghost use Rattle.ipc_model.specs.declared.schema.Field.{out-Field};
 ghost use Rattle.ipc_dictionaries.specs.ValuesColumns.{values_column, columns_of, columns_in};
@@ -22,7 +22,7 @@ fn values_column(alloc: Global, field: &Field) -> Result<Field, AllocError>
     })
 }
 
-// The same as a list of one.
+// The column of a field's dictionary, as a list of one field.
 fn own_columns(alloc: Global, field: &Field) -> Result<Items<Field>, AllocError>
     ensures { IfOk result (λ columns. columns
         ≡ values_column (out-Field field.now).name (out-Field field.now).kind ∷ []) }
@@ -32,7 +32,7 @@ fn own_columns(alloc: Global, field: &Field) -> Result<Items<Field>, AllocError>
     Ok(Items::from_vec(columns))
 }
 
-// Puts the columns of a field's own dictionary, where it has one, behind those that were found.
+// Appends the column of a field's own dictionary, if it has one, to those that were found.
 fn collect_own(
     alloc: Global,
     found: &mut Vec<(i64, Items<Field>)>,
@@ -48,7 +48,7 @@ fn collect_own(
     Ok(())
 }
 
-// Puts the columns of a field and of all below it behind those that were found.
+// Appends the columns of a field and of its descendants to those that were found.
 #[cycle(collect_columns)]
 fn collect_one(
     alloc: Global,
@@ -61,7 +61,7 @@ fn collect_one(
     collect_columns(alloc, found, field.children.as_slice())
 }
 
-// The same of several fields.
+// Appends the columns of several fields and of their descendants to those that were found.
 #[cycle(collect_columns)]
 pub(crate) fn collect_columns(
     alloc: Global,
@@ -76,8 +76,8 @@ pub(crate) fn collect_columns(
     Ok(())
 }
 
-/// Each dictionary that the fields of a schema name is read by one column, whose values may be
-/// null, without a dictionary, parts or pairs of its own.
+/// The law: each dictionary that the fields of a schema name is read by one column. Its values may
+/// be null, and it has no dictionary, children or pairs.
 pub fn one_column()
     ensures { AreOneColumn }
 {}

@@ -16,23 +16,25 @@ use crate::parts::Parts;
 use ipc_model::{Field, Limits, Row, WriteFault};
 use std::alloc::Global;
 
-/// The parts of the record batch that has these rows (Message.fbs, RecordBatch; Arrow Columnar
-/// Format, "RecordBatch message").
+/// Encodes rows as the parts of one record batch (Message.fbs, RecordBatch; Arrow Columnar Format,
+/// "RecordBatch message").
 ///
-/// The caller has the fields from a schema that passes its check, and rows that fit them. In the
-/// place of each value other than null in a field with a dictionary the index is written that
-/// `indices` tells, 0 where it tells none. The caller knows that each has one that fits the field's
-/// index type.
+/// The fields must be those of a schema that passes `Schema::check`, and the rows must fit them.
+/// For each value other than null in a field with a dictionary, the index from `indices` is
+/// written, or 0 if it has none. The index must fit the field's index type.
 ///
-/// Buffers stand in the order of the fields, those of a field's children right behind its own, each
-/// padded with zeros to a multiple of 8 bytes; a buffer's length is without its padding. There is a
-/// validity bitmap only where a value is null. A null slot is zeros, false or an empty range, and
-/// offsets begin at 0. Below a null struct stands a null in each child.
+/// Buffers are in the order of the fields, those of a field's children directly after its own. Each
+/// is padded with zeros to a multiple of 8 bytes, and its length is without the padding. There is a
+/// validity bitmap only if a value is null. A null slot is zeros, false or an empty range, and
+/// offsets begin at 0. A null struct has a null in each child.
 ///
-/// Refused with W8 `TooManyRows` where there are more than `limits.slots` rows, or as many items
-/// in all lists of a column; with W6 `TooLong` where a binary or UTF-8 column has more than
-/// 2^31 - 1 bytes of data, whatever the limits, or the body would have more than `limits.body`
-/// bytes; with W11 `OutOfMemory` where a list can't grow.
+/// Errors:
+///
+/// - W8 `TooManyRows`: there are more than `limits.slots` rows, or more than `limits.slots` items
+///   in all lists of a column.
+/// - W6 `TooLong`: a binary or UTF-8 column has more than 2^31 - 1 bytes of data, whatever the
+///   limits; or the body would have more than `limits.body` bytes.
+/// - W11 `OutOfMemory`: memory for a list ran out.
 pub fn encode<I: IndexOf>(
     alloc: Global,
     limits: &Limits,

@@ -1,4 +1,4 @@
-//! What the buffers of a column that was read hold, as those of a column that is built hold it.
+//! The buffers of a column that was read, in the form of a column that is built.
 ghost use Rattle.std.specs.Prelude.{◌≡◌, ◌≤◌, ◌<◌, ◌+◌, ◌*◌, ℕ, false, length, IfSome, IsTrue};
 ghost use Rattle.std.specs.Prelude.{slice_index, take};
 ghost use Rattle.std.specs.List.{AllByRecursion};
@@ -15,7 +15,7 @@ use ipc_column::SlotView;
 use ipc_model::Layout;
 use ipc_scalar::get_u32;
 
-/// The validity bitmap of a column, where it says which slots are null.
+/// Returns the validity bitmap of a column, if it marks exactly the null slots.
 pub(crate) fn lent_marks<'a>(view: &SlotView<'a>) -> Option<&'a [u8]>
     ensures marks { IfSome result (λ marks. MarksNulls marks.now (slot_values view.now)) }
     ensures bits { IfSome result (λ marks. HasBits marks.now (length (slot_values view.now))) }
@@ -27,18 +27,18 @@ pub(crate) fn lent_marks<'a>(view: &SlotView<'a>) -> Option<&'a [u8]>
     }
 }
 
-/// The texts or binary values of a column, as they lie in the body.
+/// The texts or binary values of a column, as they are laid out in the body.
 #[derive(Clone, Copy, Debug, Drop)]
 pub(crate) struct LentContents<'a> {
-    /// Their bytes, one after another.
+    /// The bytes of the values, one after another.
     pub(crate) bytes: &'a [u8],
-    /// Where the first of them begins.
+    /// The offset at which the first value begins.
     pub(crate) start: usize,
-    /// Where each ends, in 32 bits.
+    /// The offset at which each value ends, in 32 bits.
     pub(crate) ends: &'a [u8],
 }
 
-/// Offset `i`, which isn't negative.
+/// Returns offset `i`, which is not negative.
 #[inline(always)]
 pub(crate) fn offset_at(offsets: &[u8], i: usize) -> u32
     requires { 4 * (i + 1) ≤ length offsets.now }
@@ -65,7 +65,7 @@ pub(crate) fn nulls_are_empty(marks: &[u8], offsets: &[u8], count: usize) -> boo
     true
 }
 
-/// The texts or binary values of a column, where null slots have no bytes.
+/// Returns the texts or binary values of a column, if null slots have no bytes.
 pub(crate) fn lent_contents<'a>(view: &SlotView<'a>) -> Option<LentContents<'a>>
     ensures bytes { IfSome result
         (λ lent. lent.bytes.now ≡ slots Content (slot_values view.now)) }
@@ -96,7 +96,7 @@ pub(crate) fn lent_contents<'a>(view: &SlotView<'a>) -> Option<LentContents<'a>>
     })
 }
 
-/// The bytes of the slots of a fixed width, where none of them is null.
+/// Returns the bytes of slots of a fixed width, if none of them is null.
 pub(crate) fn lent_widths<'a>(view: &SlotView<'a>, width: u32) -> Option<&'a [u8]>
     ensures { IfSome result
         (λ bytes. bytes.now ≡ slots (Fixed width) (slot_values view.now)) }

@@ -40,13 +40,13 @@ use ipc_model::{Field, Items, Limits, Row, Value, WriteFault};
 use std::alloc::{AllocError, Global};
 use std::mem;
 
-// So much more than a row's weight is asked for at once, so that the next rows find it spare.
+// The headroom that is computed in addition to a row's weight, so that later rows fit into it.
 const MORE: u64 = 1 << 20;
 
-/// The rows of a record batch, taken one at a time (Message.fbs, RecordBatch).
+/// Builds a record batch from rows, one at a time (Message.fbs, RecordBatch).
 ///
-/// A builder has the buffers of each column as they grow, in a tree of the fields' shape. It is
-/// told apart by the rows that it holds: `new` has none, `push` adds one, and `finish` gives the
+/// A builder has the growing buffers of each column, in a tree of the fields' shape. Its contracts
+/// describe it by the rows that it holds: `new` has none, `push` adds one, and `finish` returns the
 /// parts of all.
 #[derive(Debug, Drop)]
 pub struct Builder {
@@ -54,10 +54,10 @@ pub struct Builder {
     rows: usize,
     limits: Limits,
     failed: bool,
-    // How far a look at a row goes.
+    // The depth of the check of a row.
     look: Look,
-    // What is spare behind the rows that are held. Only a look into lists and structs asks for it,
-    // and tells it anew; where no column has children it is nothing.
+    // The headroom after the rows that are held. Only the check of lists and structs uses it, and
+    // updates it. If no column has children, it is 0.
     spare: Spare,
     // What it holds has no meaning; the body takes its room.
     body: Vec<u8>,
@@ -122,10 +122,11 @@ fn join<N: Renumber>(
 }
 
 impl Builder {
-    /// No rows of these fields, which are those of a schema that passes its check.
+    /// Creates a builder without rows. The fields must be those of a schema that passes
+    /// `Schema::check`.
     ///
-    /// Refused with W6 `TooLong` where even the buffers of no rows have more than `limits.body`
-    /// bytes, and with W11 `OutOfMemory` where a list can't grow.
+    /// Errors: W6 `TooLong` if the buffers of zero rows already have more than `limits.body` bytes;
+    /// W11 `OutOfMemory` if memory for a list ran out.
     pub fn new(alloc: Global, fields: &[Field], limits: &Limits) -> Result<Builder, WriteFault>
         ensures rows { (known : Numbering) → IfOk result (HasRows known limits.now fields.now []) }
         ensures refused { IfErr result (IsRefused limits.now fields.now []) }
@@ -133,10 +134,10 @@ impl Builder {
         Builder::with_room(alloc, fields, limits, Room::new(alloc))
     }
 
-    /// No rows of these fields, in the room of a batch that was finished before. Its rows are none
-    /// of this one's.
+    /// Creates a builder without rows in the memory of a batch that was finished before. None of
+    /// that batch's rows are in this one.
     ///
-    /// Refused as `new` is.
+    /// The requirements and the errors are those of `Builder::new`.
     pub fn with_room(
         alloc: Global,
         fields: &[Field],
@@ -191,7 +192,7 @@ impl Builder {
         })
     }
 
-    /// How many rows are held.
+    /// Returns the number of rows that are held.
     pub fn row_count(&self) -> usize
         ensures { (known : Numbering) (limits : Limits) (fields : List Field)
             (rows : List (List Value))
@@ -200,20 +201,23 @@ impl Builder {
         self.rows
     }
 
-    // Whether there are as many rows as the limits allow.
+    // Whether the number of rows is at its limit.
     fn is_full(&self) -> bool
         ensures { IsTrue result ↔ (self.now.limits.slots ≤ self.now.rows) }
     {
         self.rows >= self.limits.slots as usize
     }
 
-    /// Whether the rows with this one more are within the limits. It takes no memory, and the rows
-    /// that are held stay as they are.
+    /// Checks that the rows that are held and this row are together within the limits. It takes no
+    /// memory, and the rows are unchanged.
     ///
-    /// Refused with W8 `TooManyRows` where they would be more than `limits.slots`, or as many items
-    /// in all lists of a column; with W6 `TooLong` where a binary or UTF-8 column would have more
-    /// than 2^31 - 1 bytes of data, whatever the limits, or the body more than `limits.body` bytes;
-    /// with W10 `Failed` after W11.
+    /// Errors:
+    ///
+    /// - W8 `TooManyRows`: there would be more than `limits.slots` rows, or more than
+    ///   `limits.slots` items in all lists of a column.
+    /// - W6 `TooLong`: a binary or UTF-8 column would have more than 2^31 - 1 bytes of data,
+    ///   whatever the limits, or the body more than `limits.body` bytes.
+    /// - W10 `Failed`: the call comes after W11.
     pub fn fits(&mut self, row: &[Value]) -> Result<(), WriteFault>
         ensures within { (known : Numbering) (limits : Limits) (fields : List Field)
             (rows : List (List Value))
@@ -238,8 +242,8 @@ impl Builder {
         Ok(())
     }
 
-    /// The same, for callers that ask it of each row: a fault is one byte. Whether the builder has
-    /// failed isn't looked at.
+    /// Checks a row as `Builder::fits` does, for callers that check each row: a fault has one byte.
+    /// It does not check whether the builder has failed.
     #[inline(always)]
     pub fn fit_row(&mut self, row: &[Value]) -> Result<(), PushFault>
         ensures within { (known : Numbering) (limits : Limits) (fields : List Field)
@@ -264,7 +268,8 @@ impl Builder {
         Ok(())
     }
 
-    // What `spare_behind` tells of a row with lists or structs, where the columns are weighed anew.
+    // The headroom after a row with lists or structs, as `spare_behind` returns it. The columns are
+    // weighed again.
     #[cold]
     #[inline(never)]
     fn spare_anew(&self, fields: &[Field], row: &[Value]) -> Option<Spare>
@@ -287,7 +292,7 @@ impl Builder {
         None
     }
 
-    // What `spare_behind` tells of a row with lists or structs.
+    // The headroom after a row with lists or structs, as `spare_behind` returns it.
     #[inline(never)]
     fn spare_inside(&self, fields: &[Field], row: &[Value]) -> Option<Spare>
         ensures fits { IfSome result (λ spare. EachFits Fits fields.now row.now) }
@@ -302,8 +307,8 @@ impl Builder {
         }
     }
 
-    // What `spare_behind` tells of a row without lists and structs, where there is room for one.
-    // Nothing is spare, and nobody asks for it.
+    // The headroom after a row without lists and structs, as `spare_behind` returns it: it is 0 and
+    // is not used. None if the row may not fit.
     #[inline(always)]
     fn spare_beside(&self, fields: &[Field], row: &[Value]) -> Option<Spare>
         requires { self.now.rows < self.now.limits.slots }
@@ -321,13 +326,13 @@ impl Builder {
         None
     }
 
-    /// How much weight is spare behind a row that surely conforms to the fields of the rows that
-    /// are held, and is within the limits with them: with all of these, rows that weigh less are
-    /// within the limits too. A row weighs 6 for each slot that it gives to any column, those below
-    /// lists and structs too, and as much as its data there (`weight_of`).
+    /// Fast accept of a row: returns a headroom if the row conforms to the fields and is within the
+    /// limits with the rows that are held. Further rows that weigh less than the headroom are
+    /// within the limits too. A row weighs 6 for each slot that it adds to any column, descendants
+    /// included, and the size of its data there (`weight_of`).
     ///
-    /// It takes one look at each value, for callers that push row by row, and give what is spare to
-    /// `take_row`. None where that isn't sure, as near the limits: `conforms` and `fits` tell.
+    /// Each value is checked once. Pass the headroom to `take_row`. `None` means that this check
+    /// cannot accept the row, for example near the limits: then use `conforms` and `fits`.
     #[inline(always)]
     pub fn spare_behind(&self, fields: &[Field], row: &[Value]) -> Option<Spare>
         ensures conforms { (known : Numbering) (limits : Limits) (rows : List (List Value))
@@ -349,11 +354,12 @@ impl Builder {
         }
     }
 
-    /// Whether all rows of a batch that was read surely conform to the fields of the rows that are
-    /// held, and are within the limits with them. It takes one look at each column, also at those
-    /// of the children of lists and structs, where these have just the slots that theirs lead to,
-    /// and at the dictionary that it reads its values from, and none at the values, but whether one
-    /// is null: where it isn't sure, as for lists of a fixed size, the rows one by one tell.
+    /// Fast accept of a batch that was read: returns true only if all its rows conform to the
+    /// fields and are within the limits with the rows that are held.
+    ///
+    /// It checks each column once: its layout, the dictionary of its values, and whether a value is
+    /// null. The children of lists and structs must have exactly the slots that their parents refer
+    /// to. If it returns false, as for fixed-size lists, check the rows one by one.
     pub fn surely_takes_columns(&self, fields: &[Field], batch: &Batch) -> bool
         ensures conforms { (known : Numbering) (limits : Limits) (rows : List (List Value))
             → HasRows known limits fields.now rows self.now → IsTrue result
@@ -368,13 +374,13 @@ impl Builder {
         columns_surely_fit(fields, &self.nodes, batch, self.rows, &self.limits)
     }
 
-    /// Takes one row more, and asks for the index of each value other than null in a field with a
-    /// dictionary. The caller has asked `fits`, and each of these values has an index that fits the
+    /// Adds one row. For each value other than null in a field with a dictionary it looks up the
+    /// index, or writes 0 if it has none. The row must pass `fits`, and each index must fit the
     /// field's index type.
     ///
-    /// A value that isn't known has index 0. Refused with W11 `OutOfMemory` where a list can't
-    /// grow; then, as after any refusal, the builder has failed, and every later call answers W10
-    /// `Failed`. A row that doesn't fit may be refused with W6 or W8.
+    /// Errors: W11 `OutOfMemory` if memory for a list ran out. A row that does not pass `fits` may
+    /// be refused with W6 or W8. After any error the builder has failed, and each later call
+    /// returns W10 `Failed`.
     pub fn push<I: IndexOf>(&mut self, row: &[Value], indices: &I) -> Result<(), WriteFault>
         ensures pushed { (limits : Limits) (fields : List Field) (rows : List (List Value))
             → HasRows (told (I.IndexOf.index indices.now)) limits fields rows self.old
@@ -391,8 +397,8 @@ impl Builder {
         Ok(())
     }
 
-    /// The same, for callers that push row by row: a fault is one byte. `spare` is what
-    /// `spare_behind` told of this row, or `Spare::none`.
+    /// Adds one row as `Builder::push` does, for callers that push each row: a fault has one byte.
+    /// `spare` is the result of `spare_behind` for this row, or `Spare::none`.
     #[inline(always)]
     pub fn take_row<I: IndexOf>(
         &mut self,
@@ -427,7 +433,7 @@ impl Builder {
         Ok(())
     }
 
-    // Whether there may be so many rows more.
+    // Whether the limits allow `count` more rows.
     fn has_room(&self, count: usize) -> bool
         ensures { IsTrue result ↔ (self.now.rows + count ≤ self.now.limits.slots) }
     {
@@ -435,18 +441,22 @@ impl Builder {
         self.rows <= most && count <= most - self.rows
     }
 
-    /// Takes all rows of a batch that was read, column by column, and asks for the index of each
-    /// value other than null in a field with a dictionary: what `push` of each row takes. No value
-    /// is made for a cell, but one for each value of a dictionary, whose index is asked for once,
-    /// and in lists of a fixed size, in lists and structs whose children have a dictionary or other
-    /// slots than these lead to, and in columns that lie unlike the field: these read rows anew.
-    /// Where the batch has fewer columns than there are fields the others get nulls, and columns
-    /// behind those of the fields are left out.
+    /// Adds all rows of a batch that was read, column by column, as `push` adds each row. If the
+    /// batch has fewer columns than there are fields, the other fields get nulls. Columns after
+    /// those of the fields are ignored.
     ///
-    /// The caller knows that the rows with those that are held are within the limits, and as of
-    /// `push` that each index fits its field's index type. Refused with W11 `OutOfMemory` where a
-    /// list can't grow, and with W6 or W8 where the rows aren't within the limits; then the builder
-    /// has failed, and every later call answers W10 `Failed`.
+    /// For each value of a dictionary the index is looked up once, and no values are made for other
+    /// cells. These columns are read value by value:
+    ///
+    /// - fixed-size lists;
+    /// - lists and structs whose children have a dictionary, or slots that their parent does not
+    ///   refer to;
+    /// - columns of another layout than the field's.
+    ///
+    /// The rows with those that are held must be within the limits, and each index must fit its
+    /// field's index type. Errors: W11 `OutOfMemory` if memory for a list ran out; W6 or W8 if the
+    /// rows are not within the limits. After any error the builder has failed, and each later call
+    /// returns W10 `Failed`.
     pub fn take_columns<I: IndexOf>(&mut self, batch: &Batch, indices: &I) -> Result<(), PushFault>
         ensures pushed { (limits : Limits) (fields : List Field) (rows : List (List Value))
             → HasRows (told (I.IndexOf.index indices.now)) limits fields rows self.old
@@ -474,11 +484,11 @@ impl Builder {
         Ok(())
     }
 
-    /// The parts of the rows, where each index under which a value was pushed has the number that
-    /// stands in its place. The caller knows that this number fits the field's index type.
+    /// Returns the parts of the rows. Each index under which a value was pushed is replaced by its
+    /// number in `numbers`, which must fit the field's index type.
     ///
-    /// Refused with W11 `OutOfMemory` where a list can't grow, and with W10 `Failed` after a
-    /// refusal of `push`.
+    /// Errors: W11 `OutOfMemory` if memory for a list ran out; W10 `Failed` after an error of
+    /// `push`.
     pub fn finish<N: Renumber>(self, numbers: &N) -> Result<Parts, WriteFault>
         // The parts give the rows back under each map in which the numbers find their values.
         ensures rows { (known : Numbering) (limits : Limits) (fields : List Field)
@@ -524,7 +534,8 @@ impl Builder {
     }
 }
 
-/// A builder holds the same rows under any indices that agree on the values of these.
+/// The law: the rows that a builder holds do not depend on the indices, if these agree on the rows'
+/// values.
 pub fn holds_agreeing()
     ensures { HoldsAgreeing }
 {}

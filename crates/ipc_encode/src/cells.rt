@@ -6,7 +6,7 @@ ghost use Rattle.ipc_encode.specs.Pieces.{Valid, True};
 
 use ipc_model::Value;
 
-/// The value of a row in a column, null where the row has no such column.
+/// Returns the value of a row in a column, or null if the row has no such column.
 pub(crate) fn value_at<'a>(row: &'a [Value], column: usize, null: &'a Value) -> &'a Value
     requires { null.now ≡ Null }
     ensures { result.now ≡ cell column row.now }
@@ -14,7 +14,7 @@ pub(crate) fn value_at<'a>(row: &'a [Value], column: usize, null: &'a Value) -> 
     row.get(column).unwrap_or(null)
 }
 
-/// Whether a value isn't null.
+/// Returns whether a value is not null.
 #[inline(always)]
 pub(crate) fn is_valid(value: &Value) -> bool
     ensures { result ≡ is_set Valid value.now }
@@ -22,7 +22,7 @@ pub(crate) fn is_valid(value: &Value) -> bool
     !matches!(value, Value::Null)
 }
 
-/// How many nulls a value is: one or none.
+/// Returns the number of nulls in one value: 0 or 1.
 #[inline(always)]
 pub(crate) fn null_count(value: &Value) -> usize
     ensures count { result ≡ (if is_set Valid value.now then 0 else 1) }
@@ -31,7 +31,7 @@ pub(crate) fn null_count(value: &Value) -> usize
     usize::from(!is_valid(value))
 }
 
-/// How many values are null, with this one behind so many nulls.
+/// Returns the number of nulls with this value after `nulls` nulls.
 #[inline(always)]
 pub(crate) fn nulls_with(nulls: usize, value: &Value) -> usize
     requires { nulls < 2 ^ 32 }
@@ -40,14 +40,14 @@ pub(crate) fn nulls_with(nulls: usize, value: &Value) -> usize
     nulls + usize::from(!is_valid(value))
 }
 
-/// Whether a value is true.
+/// Returns whether a value is true.
 pub(crate) fn is_true(value: &Value) -> bool
     ensures { result ≡ is_set True value.now }
 {
     matches!(value, Value::Bool(true))
 }
 
-/// The bits of a number, in two's complement where it is signed.
+/// Returns the bits of a number, in two's complement if it is signed.
 #[inline(always)]
 pub(crate) fn number_bits(value: &Value) -> u64
     ensures { result ≡ number_bits value.now }
@@ -59,7 +59,7 @@ pub(crate) fn number_bits(value: &Value) -> u64
     }
 }
 
-/// The bytes of a binary value or a text.
+/// Returns the bytes of a binary value or a text.
 #[inline(always)]
 pub(crate) fn content(value: &Value) -> &[u8]
     ensures bytes { result.now ≡ content value.now }
@@ -72,7 +72,7 @@ pub(crate) fn content(value: &Value) -> &[u8]
     }
 }
 
-/// The bytes that a value takes of a fixed width.
+/// Returns the number of bytes that a value takes in a column of fixed width.
 #[inline(always)]
 pub(crate) fn fixed_len(value: &Value, width: u32) -> usize
     ensures len { result ≡ length (fixed width value.now) }
@@ -84,7 +84,7 @@ pub(crate) fn fixed_len(value: &Value, width: u32) -> usize
     }
 }
 
-/// The items of a list; none of any other value.
+/// Returns the items of a list. Any other value has none.
 #[inline(always)]
 pub(crate) fn items(value: &Value) -> &[Value]
     ensures { result.now ≡ items value.now }
@@ -95,7 +95,7 @@ pub(crate) fn items(value: &Value) -> &[Value]
     }
 }
 
-/// How many items a list has; none has any other value.
+/// Returns the number of items of a list. Any other value has none.
 #[inline(always)]
 pub(crate) fn item_count(value: &Value) -> usize
     ensures count { result ≡ length (items value.now) }

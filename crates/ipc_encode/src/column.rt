@@ -1,7 +1,7 @@
 use crate::counts::Counts;
 use ipc_model::Layout;
 
-/// The most bytes, or items, that offsets of 32 bits reach.
+/// The maximum number of bytes or items that offsets of 32 bits reach.
 pub(crate) const MAX_DATA: usize = ipc_model::MAX_DATA as usize;
 
 /// The buffers of one column with the values so far, each without padding.
@@ -9,29 +9,29 @@ pub(crate) const MAX_DATA: usize = ipc_model::MAX_DATA as usize;
 pub(crate) struct Column {
     pub(crate) layout: Layout,
     pub(crate) counts: Counts,
-    /// The numbers with a row that is asked about, and none else.
+    /// The sizes with a row that is being checked.
     pub(crate) next: Counts,
-    /// Empty while no value is null.
+    /// The validity bitmap. It is empty while no value is null.
     pub(crate) validity: Vec<u8>,
     pub(crate) offsets: Vec<u8>,
     pub(crate) values: Vec<u8>,
-    /// In a column of indices the index of each value, none of null.
+    /// In a column of indices, the index of each value. A null has none.
     pub(crate) indices: Vec<Option<u64>>,
 }
 
 /// What a column does with a value.
 #[derive(Clone, Copy, Debug, PartialEq, Eq, Drop)]
 pub(crate) enum Purpose {
-    /// It takes the value into its buffers.
+    /// Append the value to its buffers.
     Keep,
-    /// It counts the value among the next row's.
+    /// Count the value in the sizes with the next row.
     Count,
 }
 
 impl Purpose {
     ghost use Rattle.std.specs.Prelude.{◌≡◌, ◌↔◌, IsTrue};
 
-    /// Whether values are kept.
+    /// Returns whether values are kept.
     #[inline(always)]
     pub(crate) fn keeps(self) -> bool
         ensures { IsTrue result ↔ (self ≡ Purpose.Keep) }

@@ -1,5 +1,4 @@
-//! The columns of a batch that was read, taken as they lie, without a value of its own for each
-//! slot.
+//! Adds the columns of a batch that was read as they are laid out, without a value for each slot.
 ghost use Rattle.std.specs.Prelude.{◌≡◌, ◌<◌, ◌++◌, ℕ, List, [], length, slice_index_or, IfErr};
 ghost use Rattle.std.specs.Prelude.{OnOk};
 ghost use Rattle.ipc_model.specs.declared.layout.Layout.{Layout};
@@ -70,9 +69,10 @@ fn take_each<I: IndexOf>(
     Ok(())
 }
 
-// Takes the values of a column of a batch, null where the batch has no such column: numbers as they
-// lie, nulls, bits and bytes as they are lent, indices by the values of their dictionary, lists and
-// structs whole where their children have just the slots that theirs lead to, others one by one.
+// Adds the values of a column of a batch, or nulls if the batch has no such column. Numbers, nulls,
+// bits and bytes are copied as they are lent, and indices by the values of their dictionary. Lists
+// and structs are copied whole if their children have exactly the slots that they refer to. Other
+// columns are read value by value.
 fn take_column<I: IndexOf>(
     node: &mut Node,
     batch: &Batch,
@@ -116,9 +116,8 @@ fn take_column<I: IndexOf>(
     take_each(node, batch, column, limits, indices)
 }
 
-/// Takes the values of each column of a batch, nulls where it has no such column.
-///
-/// Refused as `take_parts`.
+/// Adds the values of each column of a batch, or nulls if it has no such column. The errors are
+/// those of `take_parts`.
 pub(crate) fn take_batch<I: IndexOf>(
     nodes: &mut [Node],
     batch: &Batch,

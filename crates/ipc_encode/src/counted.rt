@@ -13,11 +13,11 @@ use crate::counts::Counts;
 use crate::fault::PushFault;
 use ipc_model::{Field, Layout, Limits, Value, WriteFault, layout_of};
 
-/// The numbers of one column without children: how many slots it has, how many of them are null,
-/// and how much data they have. Its values are counted and not kept, so that it takes no memory.
+/// The sizes of one column without children: its slots, its null slots, and its data. Its values
+/// are counted and not kept, so it takes no memory.
 ///
-/// It is for the values of a dictionary, which are one column of a message (Arrow Columnar Format,
-/// "Dictionary Messages").
+/// It serves for the values of a dictionary, which are one column of a message (Arrow Columnar
+/// Format, "Dictionary Messages").
 #[derive(Clone, Copy, Debug, Drop)]
 pub struct CountedColumn {
     layout: Layout,
@@ -25,11 +25,10 @@ pub struct CountedColumn {
 }
 
 impl CountedColumn {
-    /// The numbers of a column of this field without values. The caller has a field without
-    /// children.
+    /// Creates the sizes of a column of this field without values. The field must have no children.
     ///
-    /// Refused with `TooLong` where even the buffers of no values have more than `limits.body`
-    /// bytes: a binary or UTF-8 column has one offset (Arrow Columnar Format, "Variable-size Binary
+    /// Errors: `TooLong` if the buffers of zero values already have more than `limits.body` bytes.
+    /// A binary or UTF-8 column has one offset (Arrow Columnar Format, "Variable-size Binary
     /// Layout").
     pub fn new(field: &Field, limits: &Limits) -> Result<CountedColumn, PushFault>
         requires { field_children field.now ≡ bare }
@@ -44,11 +43,13 @@ impl CountedColumn {
         column.within_body(limits)
     }
 
-    /// The numbers with these values more.
+    /// Returns the sizes with these values added. It takes no memory.
     ///
-    /// Refused with `TooMany` where the slots would be more than `limits.slots`, and with `TooLong`
-    /// where the data of a binary or UTF-8 column would be more than offsets reach, or the buffers
-    /// more than `limits.body` bytes (Arrow Columnar Format, "Array lengths"). It takes no memory.
+    /// Errors (Arrow Columnar Format, "Array lengths"):
+    ///
+    /// - `TooMany`: there would be more than `limits.slots` slots.
+    /// - `TooLong`: a binary or UTF-8 column would have more data than offsets reach, or the
+    ///   buffers more than `limits.body` bytes.
     pub fn with(self, values: &[Value], limits: &Limits) -> Result<CountedColumn, PushFault>
         ensures counts { (fields : List Field) (rows : List (List Value))
             → CountsRows limits.now fields rows self
@@ -69,7 +70,7 @@ impl CountedColumn {
         column.within_body(limits)
     }
 
-    // The same numbers, where the buffers are within a body.
+    // Returns these sizes, if the buffers are within a body.
     fn within_body(self, limits: &Limits) -> Result<CountedColumn, PushFault>
         ensures counts { (fields : List Field) (rows : List (List Value))
             → shape_of fields ≡ field self.layout bare bare

@@ -18,7 +18,7 @@ use crate::fault::PushFault;
 use crate::index::IndexOf;
 use ipc_model::{Layout, Limits, Value};
 
-/// How much a value adds to the data of a column.
+/// Returns the amount that a value adds to the data of a column.
 #[inline(always)]
 pub(crate) fn datum(layout: Layout, value: &Value) -> usize
     ensures is { result ≡ datum layout value.now }
@@ -46,7 +46,7 @@ fn passes_offsets(layout: Layout, amount: usize) -> bool
     }
 }
 
-// Whether so many bytes of data are more than a body may have.
+// Whether this amount of data has more bytes than a body may have.
 #[inline(always)]
 fn passes_body(layout: Layout, amount: usize, limits: &Limits) -> bool
     ensures passes { IsTrue result → (limits.now.body < amount) × ¬ (layout ≡ Lists) }
@@ -59,7 +59,7 @@ fn passes_body(layout: Layout, amount: usize, limits: &Limits) -> bool
 }
 
 impl Counts {
-    /// The numbers of a column without values.
+    /// Returns the sizes of a column without values.
     pub(crate) fn none() -> Counts
         ensures { (limits : Limits) (layout : Layout) → IsCounted limits layout [] result }
     {
@@ -70,10 +70,10 @@ impl Counts {
         }
     }
 
-    /// The numbers with one value more.
+    /// Returns the sizes with one more value.
     ///
-    /// Refused with `TooMany` where the slots would be more than the limits allow, and with
-    /// `TooLong` where the data would be more than offsets reach, or its bytes more than a body.
+    /// Errors: `TooMany` if there would be more slots than the limits allow; `TooLong` if there
+    /// would be more data than offsets reach, or more bytes than a body may have.
     #[inline(always)]
     pub(crate) fn with(
         self,
@@ -101,9 +101,8 @@ impl Counts {
         })
     }
 
-    /// The numbers with so many values more, so many of them null, where all have so much data.
-    ///
-    /// Refused as `with`.
+    /// Returns the sizes with `slot_count` more values, of which `null_count` are null. `amount` is
+    /// the data of all values. The errors are those of `Counts::with`.
     pub(crate) fn with_all(
         self,
         layout: Layout,
@@ -138,7 +137,7 @@ impl Counts {
 }
 
 impl Column {
-    /// Its numbers: of the values that it has, or with those of the next row.
+    /// Returns the sizes of the values that the column has, or those with the next row.
     pub(crate) fn counts(&self, purpose: Purpose) -> Counts
         ensures { (known : Numbering) (limits : Limits) (layout : Layout) (values : List Value)
             → HasTaken known purpose limits layout values self.now
@@ -150,7 +149,7 @@ impl Column {
         }
     }
 
-    /// The next row is counted from the numbers of the values.
+    /// Begins to count the next row from the sizes of the values.
     pub(crate) fn start(&mut self)
         ensures started { (known : Numbering) (limits : Limits) (layout : Layout)
             (values : List Value)
@@ -181,10 +180,10 @@ impl Column {
         Ok(())
     }
 
-    /// Takes one value more, with its index in a column of indices, or counts it among those of the
-    /// next row. After a refusal the buffers or the next numbers are of no use.
+    /// Adds one value, with its index in a column of indices, or counts it in the sizes with the
+    /// next row. After an error the buffers or these sizes are unusable.
     ///
-    /// Refused as `Counts::with`, and with `OutOfMemory` where a buffer can't grow.
+    /// Errors: those of `Counts::with`, and `OutOfMemory` if memory for a buffer ran out.
     #[inline(always)]
     pub(crate) fn take<I: IndexOf>(
         &mut self,
@@ -217,7 +216,7 @@ impl Column {
         }
     }
 
-    /// The same of a column with children.
+    /// Adds or counts one value of a column with children, as `take` does.
     #[inline(always)]
     pub(crate) fn take_outer<I: IndexOf>(
         &mut self,

@@ -4,16 +4,17 @@ ghost use Rattle.ipc_encode.specs.Faults.{write_fault};
 use ipc_model::WriteFault;
 use std::alloc::AllocError;
 
-/// Why a row or a value isn't taken, in one byte. As a fault of a writer it is W6, W8, W10 or W11.
+/// Why a row or a value is not added, in one byte. As a fault of the writer it is W6, W8, W10 or
+/// W11.
 #[derive(Clone, Copy, Debug, PartialEq, Eq, Drop)]
 pub enum PushFault {
-    /// A column would have more data than offsets reach or than a body may have.
+    /// A column would have more data than offsets reach, or more bytes than a body may have.
     TooLong,
     /// There would be more rows, or a column would have more slots, than the limits allow.
     TooMany,
-    /// A list can't grow.
+    /// Memory for a list ran out.
     OutOfMemory,
-    /// What takes it has failed before.
+    /// The call comes after an error that made it fail.
     Failed,
 }
 

@@ -35,7 +35,7 @@ fn start_node(node: &mut Node)
     node.column.start();
 }
 
-// The same of each column.
+// Begins to count the next row in each column.
 #[cycle(start)]
 fn start_nodes(nodes: &mut [Node])
     ensures started { (known : Numbering) (limits : Limits) (shape : Shape)
@@ -52,8 +52,8 @@ fn start_nodes(nodes: &mut [Node])
     }
 }
 
-// What is left of so many bytes behind the buffers of a column and of those below it. None where
-// they are too few.
+// The remaining bytes after the buffers of a column and of its descendants. None if `bytes` is too
+// small.
 #[cycle(left)]
 fn left_behind(node: &Node, purpose: Purpose, bytes: u64) -> Option<u64>
     ensures left { (known : Numbering) (limits : Limits) (layout : Layout)
@@ -74,8 +74,8 @@ fn left_behind(node: &Node, purpose: Purpose, bytes: u64) -> Option<u64>
     left_behind_all(&node.children, purpose, bytes - len)
 }
 
-/// What is left of so many bytes behind the buffers of columns, each padded, and of those below
-/// them: those that they have, or with the next row. None where they are too few.
+/// Returns the remaining bytes after the padded buffers of columns and of their descendants, with
+/// or without the next row. Returns `None` if `bytes` is too small.
 #[cycle(left)]
 pub(crate) fn left_behind_all(nodes: &[Node], purpose: Purpose, bytes: u64) -> Option<u64>
     ensures left { (known : Numbering) (limits : Limits) (shape : Shape)
@@ -95,8 +95,8 @@ pub(crate) fn left_behind_all(nodes: &[Node], purpose: Purpose, bytes: u64) -> O
     Some(left)
 }
 
-// What is left of so many bytes behind the buffers of a column of this layout without children,
-// with one value more. Where the caller has matched the layout, nothing below it asks again.
+// The remaining bytes after the buffers of a column of this layout without children, with one more
+// value. If the caller has matched the layout, no code below tests it again.
 #[inline(always)]
 fn left_behind_laid(
     layout: Layout,
@@ -121,7 +121,8 @@ fn left_behind_laid(
     Ok(bytes - len)
 }
 
-// The same of a column of any layout.
+// The remaining bytes after the buffers of a column of any layout without children, with one more
+// value.
 #[inline(always)]
 fn left_behind_leaf(
     value: &Value,
@@ -155,7 +156,8 @@ fn left_behind_leaf(
     }
 }
 
-// The same of a column with those below it. It counts the value in the numbers for the next row.
+// The remaining bytes after the buffers of a column and of its descendants, with one more value. It
+// counts the value in the sizes with the next row.
 fn left_behind_tree(
     value: &Value,
     node: &mut Node,
@@ -185,7 +187,7 @@ fn left_behind_tree(
     }
 }
 
-// The same of any column.
+// The remaining bytes after the buffers of any column, with one more value.
 #[inline(always)]
 fn left_behind_with(
     value: &Value,
@@ -214,10 +216,10 @@ fn left_behind_with(
     left_behind_tree(value, node, limits, bytes)
 }
 
-/// Whether columns with the values of one row more are within the limits. It takes no memory.
+/// Checks that columns with the values of one more row are within the limits. It takes no memory.
 ///
-/// Refused with `TooMany` where one would have too many slots, and with `TooLong` where one would
-/// have more data than offsets reach, or their buffers more bytes than a body.
+/// Errors: `TooMany` if a column would have too many slots; `TooLong` if a column would have more
+/// data than offsets reach, or the buffers more bytes than a body may have.
 pub(crate) fn fit(nodes: &mut [Node], row: &[Value], limits: &Limits) -> Result<(), PushFault>
     ensures fit { (known : Numbering) (shape : Shape) (given : ℕ → List Value)
         → AreColumns known limits.now shape nodes.old given

@@ -4,7 +4,7 @@ ghost use Rattle.ipc_encode.specs.Bitmaps.{bitmap};
 
 use std::alloc::AllocError;
 
-/// Appends a bit to so many packed ones. Bits behind the last are 0.
+/// Appends a bit to `bits` packed ones. Bits after the last are 0.
 #[inline(always)]
 pub(crate) fn push_bit(bytes: &mut Vec<u8>, bits: usize, bit: bool) -> Result<(), AllocError>
     ensures { (flags : List Bool) → length flags ≡ bits → bytes.old.items ≡ bitmap flags
@@ -19,7 +19,7 @@ pub(crate) fn push_bit(bytes: &mut Vec<u8>, bits: usize, bit: bool) -> Result<()
     Ok(())
 }
 
-/// So many bits that are set, packed, where there were none.
+/// Appends `bits` packed bits that are set to an empty list.
 pub(crate) fn set_bits(bytes: &mut Vec<u8>, bits: usize) -> Result<(), AllocError>
     ensures { bytes.old.items ≡ []
         → OnOk result (bytes.new.items ≡ bitmap (replicate bits true)) }

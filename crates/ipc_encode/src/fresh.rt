@@ -25,9 +25,8 @@ fn new_node(field: &Field, kept: Option<Node>, alloc: Global) -> Result<Node, Al
     Ok(Node { column, children })
 }
 
-/// Columns of these fields without values, in the room of nodes that held others.
-///
-/// Refused where a list can't grow.
+/// Returns columns of these fields without values, in the memory of nodes that held others. Returns
+/// an error if memory for a list ran out.
 #[cycle(new)]
 pub(crate) fn new_nodes(
     fields: &[Field],

@@ -4,19 +4,18 @@ ghost use Rattle.ipc_encode.specs.Numbers.{number_or};
 
 use ipc_model::Value;
 
-/// The numbers under which the values of dictionaries are known (Arrow Columnar Format,
-/// "Dictionary-encoded Layout").
+/// The indices of dictionary values (Arrow Columnar Format, "Dictionary-encoded Layout").
 pub trait IndexOf {
-    /// The index of each value that is known, by the dictionary's id and the value.
+    /// The index of each known value, by the dictionary's id and the value.
     ghost index: { Self → ℤ → Value → Option ℕ };
 
-    /// Looks up the index of a value in the dictionary with this id. None where it is not known
-    /// there. It takes no memory.
+    /// Looks up the index of a value in the dictionary with this id. Returns `None` if it is not
+    /// known there. It takes no memory.
     fn index_of(&self, id: i64, value: &Value) -> Option<u64>
         ensures { result ≡ index self.now id value.now };
 }
 
-/// No dictionary: no value has an index.
+/// Indices without dictionaries: no value has an index.
 #[derive(Clone, Copy, Debug, Drop)]
 pub struct NoIndices;
 
@@ -30,20 +29,19 @@ impl IndexOf for NoIndices {
     }
 }
 
-/// Other numbers for the indices under which values were pushed (Arrow Columnar Format,
+/// New numbers for the indices under which values were pushed (Arrow Columnar Format,
 /// "Dictionary-encoded Layout").
 pub trait Renumber {
-    /// The number that stands in the place of each index that has another, by the dictionary's id
-    /// and the index.
+    /// The number that replaces each index that has another, by the dictionary's id and the index.
     ghost number: { Self → ℤ → ℕ → Option ℕ };
 
-    /// The number of an index in the dictionary with this id: itself where it has no other. It
-    /// takes no memory.
+    /// Returns the number of an index in the dictionary with this id. It is the index itself if it
+    /// has no other number. It takes no memory.
     fn to(&self, id: i64, from: u64) -> u64
         ensures { result ≡ number_or (number self.now id from) from };
 }
 
-/// Each index keeps its number.
+/// Numbers that leave each index as it is.
 #[derive(Clone, Copy, Debug, Drop)]
 pub struct SameNumbers;
 

@@ -1,5 +1,4 @@
-//! A column of indices that was read, taken by the values of its dictionary, each of which is
-//! looked up once.
+//! Adds a column of indices that was read, by the values of its dictionary; each is looked up once.
 ghost use Rattle.std.specs.Prelude.{◌≡◌, ◌≤◌, ◌<◌, ◌^◌, ◌+◌, ◌++◌, ℕ, ℤ, Bool, List, []};
 ghost use Rattle.std.specs.Prelude.{length, map, Option, Some, slice_get, slice_index_or};
 ghost use Rattle.std.specs.Prelude.{IfErr, IfOk, IfSome, OnOk};
@@ -59,7 +58,7 @@ fn keep_index(kept: &mut Vec<Option<Option<u64>>>, entry: usize, index: Option<u
     }
 }
 
-// The index of what stands in a row of a column.
+// The index of the value in a row of a column.
 fn cell_index<I: IndexOf>(
     alloc: Global,
     batch: &Batch,
@@ -82,7 +81,7 @@ fn cell_index<I: IndexOf>(
     })
 }
 
-// The index of a value of the dictionary, which stands in a row of the column. It is kept.
+// The index of this value of the dictionary, which a row of the column shows. It is kept.
 fn entry_index<I: IndexOf>(
     alloc: Global,
     batch: &Batch,
@@ -189,7 +188,7 @@ fn count_nulls(indices: &[Option<u64>]) -> usize
     null_count
 }
 
-// Appends whether each value has an index to so many packed bits.
+// Appends whether each value has an index to `held` packed bits.
 fn push_marks(bits: &mut Vec<u8>, held: usize, indices: &[Option<u64>]) -> Result<(), AllocError>
     requires { held + length indices.now < 2 ^ 63 }
     ensures { (known : Value → ℕ) (before values : List Value)
@@ -203,8 +202,8 @@ fn push_marks(bits: &mut Vec<u8>, held: usize, indices: &[Option<u64>]) -> Resul
     Ok(())
 }
 
-// Notes whether each value has an index, so many of them none, behind so many others with so many
-// nulls. There is a bitmap only where a value is null.
+// Records whether each value has an index, after the values that are held. There is a bitmap only
+// if a value is null.
 fn push_validities(
     validity: &mut Vec<u8>,
     held: usize,
@@ -229,10 +228,9 @@ fn push_validities(
 }
 
 impl Column {
-    /// Takes the values of a column of a batch into one of indices of this width. The index of each
-    /// value of a dictionary that was read is asked for once.
-    ///
-    /// Refused as `take`.
+    /// Adds the values of a column of a batch to a column of indices of this width. The index of
+    /// each value of a dictionary that was read is looked up once. The errors are those of
+    /// `Column::take`.
     pub(crate) fn take_indices<I: IndexOf>(
         &mut self,
         batch: &Batch,

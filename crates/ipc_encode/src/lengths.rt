@@ -11,7 +11,7 @@ use crate::counts::Counts;
 use ipc_model::Layout;
 use ipc_scalar::pad8;
 
-// The bytes of a validity bitmap of so many slots, of which so many are null.
+// The bytes of a validity bitmap of `slots` slots, of which `nulls` are null.
 #[inline(always)]
 fn validity_len(layout: Layout, slots: usize, nulls: usize) -> usize
     requires { slots ≤ greatest_slots }
@@ -25,7 +25,7 @@ fn validity_len(layout: Layout, slots: usize, nulls: usize) -> usize
     }
 }
 
-// The bytes of the offsets of so many slots.
+// The bytes of the offsets of `slots` slots.
 #[inline(always)]
 fn offsets_len(layout: Layout, slots: usize) -> usize
     requires { slots ≤ greatest_slots }
@@ -38,7 +38,7 @@ fn offsets_len(layout: Layout, slots: usize) -> usize
     }
 }
 
-// The bytes of the values of so many slots with so much data.
+// The bytes of the values of `slots` slots with this amount of data.
 #[inline(always)]
 fn values_len(layout: Layout, slots: usize, amount: usize) -> usize
     requires few { slots ≤ greatest_slots }
@@ -56,8 +56,8 @@ fn values_len(layout: Layout, slots: usize, amount: usize) -> usize
     }
 }
 
-// The bytes of a column's buffers in a body: so many slots, of which so many are null, with so much
-// data.
+// The bytes of a column's buffers in a body: `slots` slots, of which `nulls` are null, with this
+// amount of data.
 #[inline(always)]
 fn column_len(layout: Layout, slots: usize, nulls: usize, amount: usize) -> u64
     requires few { slots ≤ greatest_slots }
@@ -70,7 +70,7 @@ fn column_len(layout: Layout, slots: usize, nulls: usize, amount: usize) -> u64
 }
 
 impl Counts {
-    /// The bytes that the buffers of a column with these numbers take in a body, each padded.
+    /// Returns the bytes that the padded buffers of a column with these sizes take in a body.
     #[inline(always)]
     pub(crate) fn len(self, layout: Layout) -> u64
         ensures { (limits : Limits) (values : List Value) → IsCounted limits layout values self

@@ -1,4 +1,4 @@
-//! The slots of a column that was read, taken without a value of their own.
+//! Adds the slots of a column that was read, without a value for each.
 ghost use Rattle.std.specs.Prelude.{◌≡◌, ◌<◌, ◌^◌, ◌+◌, ◌++◌, List, true, length, IfErr, IfSome};
 ghost use Rattle.std.specs.Prelude.{◌≤◌, ◌*◌, ◌%◌, ◌&&◌, ℕ, Bool, false, take, slice_index_or};
 ghost use Rattle.std.specs.Prelude.{IfOk, OnOk};
@@ -37,7 +37,7 @@ fn count_marked_nulls(view: &SlotView<'_>) -> Option<usize>
     marks::count_nulls(lent_marks(view)?, view.len())
 }
 
-/// How many slots are null.
+/// Returns the number of null slots.
 pub(crate) fn count_nulls(view: &SlotView<'_>) -> usize
     ensures { result ≡ nulls (slot_values view.now) }
 {
@@ -52,7 +52,7 @@ pub(crate) fn count_nulls(view: &SlotView<'_>) -> usize
     null_count
 }
 
-// Appends whether each slot is valid to so many packed bits.
+// Appends whether each slot is valid to `held` packed bits.
 fn push_marks(bits: &mut Vec<u8>, held: usize, view: &SlotView<'_>) -> Result<(), AllocError>
     requires { held + length (slot_values view.now) < 2 ^ 63 }
     ensures { (before : List Value) → length before ≡ held
@@ -69,8 +69,8 @@ fn push_marks(bits: &mut Vec<u8>, held: usize, view: &SlotView<'_>) -> Result<()
     Ok(())
 }
 
-// Appends so many bytes of truths to bits that fill their bytes. Where the bitmap says that a slot
-// is null, its bit is 0.
+// Appends bytes of booleans to bits that fill their bytes. If the bitmap marks a slot as null, its
+// bit is 0.
 fn push_set_bits(
     bits: &mut Vec<u8>,
     truths: &[u8],
@@ -93,8 +93,8 @@ fn push_set_bits(
     Ok(())
 }
 
-// Appends whether slots are true to so many packed bits, a byte at a time, and says of how many: of
-// none where the slots aren't bits, or the bits so far don't fill their bytes.
+// Appends whether slots are true to `held` packed bits, one byte at a time. Returns the number of
+// slots, which is 0 if the slots are no bits, or the bits so far do not fill their bytes.
 fn push_truth_bytes(
     bits: &mut Vec<u8>,
     held: usize,
@@ -118,7 +118,7 @@ fn push_truth_bytes(
     Ok(whole * 8)
 }
 
-// Appends whether each slot is true to so many packed bits.
+// Appends whether each slot is true to `held` packed bits.
 fn push_truths(bits: &mut Vec<u8>, held: usize, view: &SlotView<'_>) -> Result<(), AllocError>
     requires { held + length (slot_values view.now) < 2 ^ 63 }
     ensures { (before : List Value) → length before ≡ held
@@ -210,8 +210,8 @@ fn push_contents(
     push_each_content(values, offsets, view)
 }
 
-/// Notes whether each slot is valid, so many of them null, in a column of this layout, which may
-/// have no validity bitmap, behind so many others with so many nulls.
+/// Records whether each slot is valid, where `more_nulls` are null, after `held` slots with
+/// `held_nulls` nulls. The layout of the column may have no validity bitmap.
 pub(crate) fn push_validities(
     layout: Layout,
     validity: &mut Vec<u8>,
@@ -238,8 +238,8 @@ pub(crate) fn push_validities(
     push_marks(validity, held, view)
 }
 
-// Appends what all slots give to the values and the offsets of a column of this layout, behind so
-// many others.
+// Appends the bytes of all slots to the values and the offsets of a column of this layout, after
+// those that are held.
 fn push_slots(
     layout: Layout,
     held: usize,
@@ -269,7 +269,7 @@ fn push_slots(
     }
 }
 
-// How much data the values of a column of this layout are, whose bytes are so many.
+// The amount of data of values with this number of bytes in a column of this layout.
 fn data_len(layout: Layout, bytes: usize) -> usize
     requires { is_lent layout ≡ true }
     ensures { (vs : List Value) → bytes ≡ length (values_in layout vs)
@@ -282,7 +282,7 @@ fn data_len(layout: Layout, bytes: usize) -> usize
     }
 }
 
-/// Whether all slots of a column of this layout are taken as they are lent.
+/// Returns whether all slots of a column of this layout are copied as they are lent.
 pub(crate) fn is_lent(layout: Layout) -> bool
     ensures { result ≡ is_lent layout }
 {
@@ -293,11 +293,9 @@ pub(crate) fn is_lent(layout: Layout) -> bool
 }
 
 impl Column {
-    /// Takes the values of all slots of a column, without a value of its own for each. That they
-    /// are in this column then is promised where a column of texts gets texts, which the caller
-    /// knows of the field.
-    ///
-    /// Refused as `take`.
+    /// Adds the values of all slots of a column, without a value for each. The contract states that
+    /// they are in this column if a column of texts gets texts, which the caller knows from the
+    /// field. The errors are those of `Column::take`.
     pub(crate) fn take_lent(
         &mut self,
         view: &SlotView<'_>,

@@ -1,4 +1,4 @@
-//! The rows of a record batch written: its nodes, its buffers and its body (Arrow Columnar Format,
+//! Encodes the rows of a record batch: its nodes, its buffers and its body (Arrow Columnar Format,
 //! "RecordBatch message").
 #![tactic(auto)]
 

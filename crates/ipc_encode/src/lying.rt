@@ -1,4 +1,4 @@
-//! Whether the columns of a batch lie as those of a builder.
+//! Compares the layouts of the columns of a batch with those of a builder.
 ghost use Rattle.std.specs.Prelude.{◌≡◌, ◌<◌, ◌+◌, ℕ, List, Some, false, length, slice_get};
 ghost use Rattle.std.specs.Prelude.{slice_index_or, IsTrue};
 ghost use Rattle.ipc_column.specs.Nested.{Nested, alone, slot_values};
@@ -23,7 +23,7 @@ use crate::node::Node;
 use ipc_column::SlotView;
 use ipc_model::Layout;
 
-/// Whether lists have all slots of their child, one list behind another.
+/// Returns true only if lists use all slots of their child, one list after another.
 pub(crate) fn lists_have_all(view: &SlotView<'_>) -> bool
     ensures slots { IsTrue result → (child : Nested)
         → slice_get (nested_in view.now) 0 ≡ Some child
@@ -65,8 +65,8 @@ fn nulls_are_shared(marks: &[u8], child: &SlotView<'_>) -> bool
     }
 }
 
-/// Whether the structs of a column have all slots of a child: one each, which is null where the
-/// struct is.
+/// Returns true only if the structs of a column use all slots of a child: one each, which is null
+/// if the struct is.
 pub(crate) fn structs_have_all(view: &SlotView<'_>, i: usize) -> bool
     requires { i < length view.now.children }
     ensures slots { IsTrue result → (child : Nested)
@@ -113,8 +113,8 @@ fn is_taken_whole(layout: Layout) -> bool
     !matches!(layout, Layout::FixedLists(_) | Layout::Indices { .. })
 }
 
-/// Whether a column that was read lies as that of a node, and each column below it as that of the
-/// node's children, with no slots but those that the slots of its column lead to.
+/// Returns true only if a column that was read and its descendants have the layouts of a node and
+/// its descendants. They must have no slots but those that the column's slots refer to.
 #[cycle(lies_whole)]
 pub(crate) fn lies_whole(node: &Node, view: &SlotView<'_>) -> bool
     ensures { IsTrue result → (known : Numbering) (limits : Limits) (layout : Layout)
@@ -130,7 +130,7 @@ pub(crate) fn lies_whole(node: &Node, view: &SlotView<'_>) -> bool
     node.children.len() == view.children() && lie_whole(&node.children, view)
 }
 
-// The same of each child of a column that was read, one for each of several nodes.
+// Whether each child of a column that was read has the layouts of its node, as in `lies_whole`.
 #[cycle(lies_whole)]
 fn lie_whole(nodes: &[Node], view: &SlotView<'_>) -> bool
     requires { length nodes.now ≡ length view.now.children }

@@ -1,4 +1,4 @@
-//! Values that are taken many at once, as the items of a list are.
+//! Adds many values at once, such as the items of a list.
 ghost use Rattle.std.specs.Prelude.{◌≡◌, ◌++◌, false, List, length, IfErr, IfOk, IsTrue, OnOk};
 ghost use Rattle.ipc_model.specs.declared.layout.Layout.{Layout};
 ghost use Rattle.ipc_model.specs.declared.schema.IntBits.{IntBits};
@@ -32,7 +32,7 @@ fn push_each(list: &mut Vec<u8>, values: &[Value], bits: IntBits) -> Result<usiz
     Ok(nulls)
 }
 
-// The same. Each width has a loop of its own, in which a number is one store.
+// Appends the numbers of values. Each width has a loop of its own, in which a number is one store.
 fn push_numbers(list: &mut Vec<u8>, values: &[Value], bits: IntBits) -> Result<usize, AllocError>
     ensures bytes { OnOk result
         (list.new.items ≡ list.old.items ++ slots (Number bits) values.now) }
@@ -104,9 +104,8 @@ impl Column {
         Ok(())
     }
 
-    /// Takes several values more. After a refusal the column is of no use.
-    ///
-    /// Refused as `push`.
+    /// Adds several values. After an error the column is unusable. The errors are those of
+    /// `Column::push`.
     pub(crate) fn push_all<I: IndexOf>(
         &mut self,
         values: &[Value],

@@ -1,4 +1,4 @@
-//! The validity bitmap of a column that was read, taken behind the values of another.
+//! Appends the validity bitmap of a column that was read to that of another.
 ghost use Rattle.std.specs.Prelude.{◌≡◌, ◌≤◌, ◌<◌, ◌^◌, ◌+◌, ◌++◌, List, length, take, IfOk};
 ghost use Rattle.std.specs.Prelude.{IfNone, IfSome, IsTrue, OnOk, ℕ, ◌*◌, true};
 ghost use Rattle.ipc_model.specs.declared.value.Value.{Value};
@@ -14,7 +14,8 @@ use crate::flags::{push_bit, set_bits};
 use ipc_scalar::{bit, count_clear};
 use std::alloc::AllocError;
 
-/// Whether a slot is valid, by the bitmap of its column: each is where there is none.
+/// Returns whether a slot is valid, by the bitmap of its column. Without a bitmap each slot is
+/// valid.
 #[inline(always)]
 pub(crate) fn is_marked_valid(marks: &[u8], slot: usize) -> bool
     requires { HasBits marks.now (slot + 1) }
@@ -23,8 +24,8 @@ pub(crate) fn is_marked_valid(marks: &[u8], slot: usize) -> bool
     marks.is_empty() || bit(marks, slot)
 }
 
-/// How many of so many slots are null, by the bitmap of their column: not known where it has too
-/// few bits.
+/// Returns the number of null slots among the first `count`, by the bitmap of their column. Returns
+/// `None` if the bitmap has too few bits.
 pub(crate) fn count_nulls(marks: &[u8], count: usize) -> Option<usize>
     ensures bits { IfSome result (λ many. HasBits marks.now count) }
     ensures none { IfNone result (¬ HasBits marks.now count) }
@@ -40,8 +41,8 @@ pub(crate) fn count_nulls(marks: &[u8], count: usize) -> Option<usize>
     Some(count_clear(marks, count) as usize)
 }
 
-// Appends whether slots are valid to so many packed bits, a byte at a time, and says of how many:
-// of none where the bits so far don't fill their bytes.
+// Appends whether slots are valid to `held` packed bits, one byte at a time. Returns the number of
+// slots, which is 0 if the bits so far do not fill their bytes.
 fn push_mark_bytes(
     bits: &mut Vec<u8>,
     held: usize,
@@ -62,7 +63,7 @@ fn push_mark_bytes(
     Ok(count / 8 * 8)
 }
 
-/// Appends whether each of so many slots is valid to so many packed bits.
+/// Appends whether each of `count` slots is valid to `held` packed bits.
 pub(crate) fn push_marks(
     bits: &mut Vec<u8>,
     held: usize,
@@ -82,8 +83,8 @@ pub(crate) fn push_marks(
     Ok(())
 }
 
-/// Notes whether each of so many slots is valid, so many of them null, behind so many others with
-/// so many nulls. There is a bitmap only where a slot is null.
+/// Records whether each of `count` slots is valid, where `more_nulls` are null, after `held` slots
+/// with `held_nulls` nulls. There is a bitmap only if a slot is null.
 pub(crate) fn push_validities(
     validity: &mut Vec<u8>,
     held: usize,
@@ -108,7 +109,7 @@ pub(crate) fn push_validities(
     push_marks(validity, held, marks, count)
 }
 
-// Whether each bit that is set in so many bytes is set in those of another list.
+// Whether each set bit of the first `count` bytes is also set in another list.
 fn bits_are_among(few: &[u8], many: &[u8], count: usize) -> bool
     requires few { count ≤ length few.now }
     requires many { count ≤ length many.now }
@@ -123,8 +124,8 @@ fn bits_are_among(few: &[u8], many: &[u8], count: usize) -> bool
     true
 }
 
-/// Whether each of so many slots that is valid by one bitmap is valid by another too. They are
-/// compared a byte at a time.
+/// Returns true only if each of `count` slots that is valid in one bitmap is also valid in another.
+/// It compares one byte at a time.
 pub(crate) fn valid_are_among(few: &[u8], many: &[u8], count: usize) -> bool
     requires few { HasBits few.now count }
     requires many { HasBits many.now count }

@@ -1,4 +1,4 @@
-//! The slots of lists and structs that were read, taken without a value of their own.
+//! Adds the slots of lists and structs that were read, without a value for each.
 ghost use Rattle.std.specs.Prelude.{◌≡◌, ◌⊎◌, ◌<◌, ◌+◌, ◌++◌, List, IfErr, IfOk, OnOk};
 ghost use Rattle.ipc_model.specs.Limits.{max_data};
 ghost use Rattle.ipc_model.specs.declared.layout.Layout.{Layout};
@@ -20,8 +20,8 @@ use crate::slot_parts::item_count;
 use ipc_column::SlotView;
 use ipc_model::{Layout, Limits};
 
-// Where a list ends that begins at a start and has so many items. `TooLong` past what offsets
-// reach.
+// The end of a list that begins at `start` and has `count` items. Returns `TooLong` if offsets do
+// not reach it.
 fn list_end(start: usize, count: usize) -> Result<usize, PushFault>
     ensures end { IfOk result (λ end. end ≡ start + count) }
     ensures refused { IfErr result
@@ -79,10 +79,9 @@ fn push_ends(
 }
 
 impl Column {
-    /// Takes all slots of a column into one of lists or structs: whether each is valid, and where
-    /// each list ends. Those of the children are taken beside it.
-    ///
-    /// Refused as `take`.
+    /// Adds all slots of a column to one of lists or structs: whether each is valid, and where each
+    /// list ends. The slots of the children are added separately. The errors are those of
+    /// `Column::take`.
     pub(crate) fn take_nested(
         &mut self,
         view: &SlotView<'_>,

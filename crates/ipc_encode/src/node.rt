@@ -11,7 +11,7 @@ pub(crate) struct Node {
 }
 
 impl Node {
-    /// Whether there is no column below its own.
+    /// Returns whether the column has no children.
     #[inline(always)]
     pub(crate) fn is_leaf(&self) -> bool
         ensures { IsTrue result ↔ (length (out-Node self.now).children.items ≡ 0) }

@@ -1,4 +1,4 @@
-//! The numbers of a column that was read, taken as they lie.
+//! Adds the numbers of a column that was read as they are laid out.
 ghost use Rattle.std.specs.Prelude.{◌≡◌, ◌≤◌, ◌+◌, ◌*◌, ◌++◌, Bool, List, length, IfErr, OnOk};
 ghost use Rattle.std.specs.Prelude.{IfNone, IfSome, IsTrue, slice_index_or};
 ghost use Rattle.ipc_model.specs.declared.schema.IntBits.{IntBits};
@@ -24,7 +24,7 @@ use ipc_column::{Numbers, SlotView};
 use ipc_model::{IntBits, Layout, Limits};
 use std::alloc::AllocError;
 
-/// The numbers of a column, and how many of its slots are null.
+/// The numbers of a column, and the number of its null slots.
 #[derive(Clone, Copy, Debug, Drop)]
 pub(crate) struct LentNumbers<'a> {
     pub(crate) numbers: Numbers<'a>,
@@ -55,7 +55,7 @@ fn push_slot(
     values.extend_from_slice(&bytes[width * slot..width * slot + width])
 }
 
-// Appends the bytes of each slot, which are so many each.
+// Appends the bytes of each slot, which all have one width.
 #[inline(always)]
 fn push_each(
     values: &mut Vec<u8>,
@@ -111,7 +111,7 @@ fn push_all(
     values.extend_from_slice(&bytes[..numbers.bits.bytes() * view.len()])
 }
 
-// Appends the bytes of all slots, so many of them null.
+// Appends the bytes of all slots, of which a given number are null.
 fn push_numbers(
     values: &mut Vec<u8>,
     view: &SlotView<'_>,
@@ -131,10 +131,8 @@ fn push_numbers(
 }
 
 impl Column {
-    /// Takes the numbers of all slots of a column, so many of them null, into one of numbers of the
-    /// same width.
-    ///
-    /// Refused as `take`.
+    /// Adds the numbers of all slots of a column, of which `null_count` are null, to a column of
+    /// numbers with equal width. The errors are those of `Column::take`.
     pub(crate) fn take_numbers(
         &mut self,
         view: &SlotView<'_>,
@@ -174,7 +172,7 @@ impl Column {
     }
 }
 
-// Whether a column of this layout has numbers of so many bits.
+// Whether a column of this layout has numbers of this width.
 fn holds_numbers(layout: Layout, bits: IntBits) -> bool
     ensures told { IsTrue result → (signed : Bool) × (layout ≡ NumbersLaid bits signed) }
     ensures all { (signed : Bool) → layout ≡ NumbersLaid bits signed → IsTrue result }
@@ -185,7 +183,7 @@ fn holds_numbers(layout: Layout, bits: IntBits) -> bool
     }
 }
 
-/// The numbers of a column, where they have as many bits as in one of this layout.
+/// Returns the numbers of a column, if they have the width of numbers in this layout.
 pub(crate) fn lent_numbers<'a>(layout: Layout, view: &SlotView<'a>) -> Option<LentNumbers<'a>>
     ensures numbers { IfSome result (λ lent. AreNumbers view.now lent.numbers) }
     ensures bits { IfSome result
@@ -193,7 +191,7 @@ pub(crate) fn lent_numbers<'a>(layout: Layout, view: &SlotView<'a>) -> Option<Le
     ensures nulls { IfSome result (λ lent. lent.null_count ≡ nulls (slot_values view.now)) }
     ensures laid { IfSome result
         (λ lent. (signed : Bool) × (layout ≡ NumbersLaid lent.numbers.bits signed)) }
-    // It lends all numbers that lie as in the column.
+    // It lends all numbers that have the column's layout.
     ensures none { IfNone result ((bits : IntBits) (signed : Bool)
         → layout ≡ NumbersLaid bits signed → ¬ (view.now.column.layout ≡ layout)) }
 {

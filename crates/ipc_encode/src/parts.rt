@@ -21,22 +21,22 @@ use crate::room::Room;
 use ipc_model::{IntBits, Items, Layout, Value};
 use std::alloc::AllocError;
 
-/// What rows are written as (Message.fbs, RecordBatch).
+/// The encoded rows of a record batch (Message.fbs, RecordBatch).
 #[derive(Debug, Drop)]
 pub struct Parts {
-    /// For each field in pre-order how many slots it has, and how many of them are null (struct
+    /// For each field in pre-order the number of its slots, and the number of null slots (struct
     /// FieldNode).
     pub nodes: Items<(i64, i64)>,
-    /// For each buffer in pre-order at which byte of the body it begins, and how many bytes it has
-    /// without its padding (Schema.fbs, struct Buffer).
+    /// For each buffer in pre-order its offset in the body, and its length without padding, both in
+    /// bytes (Schema.fbs, struct Buffer).
     pub buffers: Items<(i64, i64)>,
     /// The bytes of the buffers, each padded with zeros to a multiple of 8 bytes.
     pub body: Vec<u8>,
-    /// The lists of the columns, whose room `Builder::with_room` takes for the next batch.
+    /// The lists of the columns. `Builder::with_room` uses their memory for the next batch.
     pub room: Room,
 }
 
-/// A record batch as far as it is written.
+/// A record batch that is being written.
 #[derive(Debug, Drop)]
 pub(crate) struct Draft {
     /// The nodes of the columns so far.
@@ -47,7 +47,7 @@ pub(crate) struct Draft {
     pub(crate) body: Vec<u8>,
 }
 
-// Appends the zeros that bring so many bytes to a multiple of 8.
+// Appends the zeros that pad `len` bytes to a multiple of 8.
 fn pad(body: &mut Vec<u8>, len: usize) -> Result<(), AllocError>
     ensures { OnOk result (body.new.items ≡ body.old.items ++ replicate ((8 - len % 8) % 8) 0) }
 {
@@ -215,9 +215,8 @@ fn add_node<N: Renumber>(node: &Node, draft: &mut Draft, numbers: &N) -> Result<
     add_below(node, draft, numbers)
 }
 
-/// Adds the nodes and the buffers of columns, each with those below it behind it.
-///
-/// Refused where a list can't grow.
+/// Appends the nodes and the buffers of columns, each column before its descendants. Returns an
+/// error if memory for a list ran out.
 #[cycle(add)]
 pub(crate) fn add_nodes<N: Renumber>(
     nodes: &[Node],

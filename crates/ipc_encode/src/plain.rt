@@ -1,10 +1,10 @@
-//! How slots lie, and whether whatever they show is of a type.
+//! Compares layouts, and tests whether all values of a layout are of a type.
 ghost use Rattle.std.specs.Prelude.{◌≡◌, IsTrue};
 ghost use Rattle.ipc_encode.specs.PlainColumns.{is_plain};
 
 use ipc_model::{DataType, DateUnit, Layout};
 
-/// Whether whatever slots of a type's layout show is of the type.
+/// Returns whether all values that the slots of a type's layout can hold are of the type.
 pub(crate) fn is_plain(kind: &DataType) -> bool
     ensures { result ≡ is_plain kind.now }
 {
@@ -21,7 +21,7 @@ pub(crate) fn is_plain(kind: &DataType) -> bool
     )
 }
 
-/// Whether slots of two layouts lie alike.
+/// Returns true only if two layouts are equal.
 pub(crate) fn lie_alike(one: Layout, other: Layout) -> bool
     ensures { IsTrue result → one ≡ other }
 {

@@ -24,7 +24,7 @@ use crate::index::IndexOf;
 use ipc_model::{IntBits, Layout, Limits, Value};
 use std::alloc::{AllocError, Global};
 
-// Notes whether one more slot is valid, behind so many slots with so many nulls.
+// Records whether one more slot is valid, after `slots` slots with `null_count` nulls.
 #[inline(always)]
 fn push_validity_bit(
     validity: &mut Vec<u8>,
@@ -46,7 +46,8 @@ fn push_validity_bit(
     push_bit(validity, slots, is_valid)
 }
 
-// The same in a column of this layout, which may have no validity bitmap.
+// Records whether one more slot is valid in a column of this layout, which may have no validity
+// bitmap.
 #[inline(always)]
 fn push_validity(
     layout: Layout,
@@ -65,8 +66,8 @@ fn push_validity(
     push_validity_bit(validity, slots, null_count, value)
 }
 
-// Appends a number of 64 bits. It isn't `inline(always)`, and neither is `push_four`: so the length
-// is known where the list's own code is taken in, and what is left is one store.
+// Appends a number of 64 bits. It is not `inline(always)`, and neither is `push_four`: so the
+// length is known where the list's own code is inlined, which becomes one store.
 #[inline]
 fn push_eight(values: &mut Vec<u8>, number: u64) -> Result<(), AllocError>
     ensures { OnOk result (values.new.items ≡ values.old.items ++ bytes_low_first 0 8 number) }
@@ -82,7 +83,7 @@ fn push_four(values: &mut Vec<u8>, number: u64) -> Result<(), AllocError>
     values.extend_from_slice(&number.to_le_bytes()[..4])
 }
 
-/// Appends so many low bits of a number.
+/// Appends the low bits of a number, of this width.
 #[inline(always)]
 pub(crate) fn push_bits(values: &mut Vec<u8>, number: u64, bits: IntBits) -> Result<(), AllocError>
     ensures { OnOk result (values.new.items
@@ -109,7 +110,7 @@ pub(crate) fn push_number(
     push_bits(values, number_bits(value), bits)
 }
 
-// Appends the bytes of a binary value, or so many zeros.
+// Appends the bytes of a binary value, or `width` zeros.
 fn push_fixed(values: &mut Vec<u8>, value: &Value, width: u32) -> Result<(), AllocError>
     ensures { OnOk result (values.new.items
         ≡ values.old.items ++ slot_bytes (Fixed width) value.now) }
@@ -128,7 +129,7 @@ fn push_content(values: &mut Vec<u8>, value: &Value) -> Result<(), AllocError>
     values.extend_from_slice(content(value))
 }
 
-/// Appends where a slot ends.
+/// Appends the offset at which a slot ends.
 #[inline(always)]
 pub(crate) fn push_offset(offsets: &mut Vec<u8>, end: usize) -> Result<(), AllocError>
     ensures { OnOk result (offsets.new.items ≡ offsets.old.items ++ bytes_low_first 0 4 end) }
@@ -136,8 +137,8 @@ pub(crate) fn push_offset(offsets: &mut Vec<u8>, end: usize) -> Result<(), Alloc
     push_four(offsets, end as u64)
 }
 
-// Appends what a value, whose number has these bits, gives to the buffer of values of a column with
-// so many slots.
+// Appends the bytes of a value, whose number has these bits, to the values of a column of `slots`
+// slots.
 #[inline(always)]
 fn push_value(
     layout: Layout,
@@ -178,7 +179,7 @@ fn push_end(layout: Layout, offsets: &mut Vec<u8>, end: usize) -> Result<(), All
     }
 }
 
-/// The index of a value that isn't null. One that isn't known has 0.
+/// Returns the index of a value that is not null. A value that is not known has index 0.
 pub(crate) fn known_index<I: IndexOf>(indices: &I, id: i64, value: &Value) -> Option<u64>
     ensures { result ≡ index_of (told (I.IndexOf.index indices.now) id) value.now }
 {
@@ -249,7 +250,7 @@ fn empty_column(
 }
 
 impl Column {
-    /// A column of this layout without values.
+    /// Creates a column of this layout without values.
     pub(crate) fn new(alloc: Global, layout: Layout) -> Result<Column, AllocError>
         ensures { (known : Numbering) (limits : Limits)
             → IfOk result (IsColumn known limits layout []) }
@@ -263,7 +264,7 @@ impl Column {
         )
     }
 
-    /// A column of this layout without values, in the room of this one.
+    /// Creates a column of this layout without values, in the memory of this one.
     pub(crate) fn emptied(self, layout: Layout) -> Result<Column, AllocError>
         ensures { (known : Numbering) (limits : Limits)
             → IfOk result (IsColumn known limits layout []) }
@@ -308,9 +309,9 @@ impl Column {
         Ok(())
     }
 
-    // Takes one number of 64 bits more, or null, as `push` does. Nothing behind the counts asks for
-    // the layout: with a match on it before the bytes are appended the compiler takes that for
-    // rare, and calls it.
+    // Adds one number of 64 bits, or null, as `push` does. After the counts no code tests the
+    // layout: with a match on it before the bytes are appended, the compiler treats that as rare,
+    // and calls it.
     #[inline(always)]
     fn push_long(&mut self, signed: bool, value: &Value, limits: &Limits) -> Result<(), PushFault>
         ensures pushed { (known : Numbering) (values : List Value)
@@ -334,7 +335,7 @@ impl Column {
         Ok(())
     }
 
-    // The same of 32 bits.
+    // Adds one number of 32 bits, or null, as `push` does.
     #[inline(always)]
     fn push_word(&mut self, signed: bool, value: &Value, limits: &Limits) -> Result<(), PushFault>
         ensures pushed { (known : Numbering) (values : List Value)
@@ -358,7 +359,7 @@ impl Column {
         Ok(())
     }
 
-    // The same of numbers of this width, or null.
+    // Adds one number of this width, or null, as `push` does.
     #[inline(never)]
     fn push_numbers<I: IndexOf>(
         &mut self,
@@ -386,7 +387,7 @@ impl Column {
         }
     }
 
-    // The same of truths.
+    // Adds one boolean, or null, as `push` does.
     #[inline(never)]
     fn push_truth<I: IndexOf>(
         &mut self,
@@ -405,7 +406,7 @@ impl Column {
         self.push_laid(Layout::Bits, value, limits, indices)
     }
 
-    // The same of binary values or texts.
+    // Adds one binary value or text, or null, as `push` does.
     #[inline(never)]
     fn push_run(&mut self, utf8: bool, value: &Value, limits: &Limits) -> Result<(), PushFault>
         ensures pushed { (known : Numbering) (values : List Value)
@@ -430,7 +431,7 @@ impl Column {
         Ok(())
     }
 
-    // The same of lists, whose items are in the child.
+    // Adds one list, or null, as `push` does. Its items are in the child.
     #[inline(never)]
     fn push_list(&mut self, value: &Value, limits: &Limits) -> Result<(), PushFault>
         ensures pushed { (known : Numbering) (values : List Value)
@@ -449,7 +450,7 @@ impl Column {
         Ok(())
     }
 
-    // The same of structs, whose parts are in the children.
+    // Adds one struct, or null, as `push` does. Its values are in the children.
     #[inline(never)]
     fn push_struct<I: IndexOf>(
         &mut self,
@@ -468,7 +469,7 @@ impl Column {
         self.push_laid(Layout::Structs, value, limits, indices)
     }
 
-    // The same of any other layout.
+    // Adds one value of any other layout, as `push` does.
     #[inline(never)]
     fn push_other<I: IndexOf>(
         &mut self,
@@ -488,7 +489,8 @@ impl Column {
         self.push_laid(layout, value, limits, indices)
     }
 
-    // The same of any layout. What each asks for stands by itself, so that none pays for another.
+    // Adds one value of any layout, as `push` does. Each layout has a function of its own, so that
+    // none takes stack space for another.
     #[inline(never)]
     fn push_any<I: IndexOf>(
         &mut self,
@@ -516,7 +518,7 @@ impl Column {
         }
     }
 
-    // The same, where the value is a number. Those of 64 and 32 bits are taken here by few steps.
+    // Adds one number, as `push` does. Numbers of 64 and 32 bits are added here in a few steps.
     #[inline(always)]
     fn push_int<I: IndexOf>(
         &mut self,
@@ -545,7 +547,7 @@ impl Column {
         }
     }
 
-    // The same, where the value is no number. Truths and texts are told from the others first.
+    // Adds one value that is no number, as `push` does. Booleans and texts are tested first.
     #[inline(always)]
     fn push_rest<I: IndexOf>(
         &mut self,
@@ -568,9 +570,9 @@ impl Column {
         }
     }
 
-    /// Takes one value more. After a refusal the column is of no use.
+    /// Adds one value. After an error the column is unusable.
     ///
-    /// Refused as `Counts::with`, and with `OutOfMemory` where a buffer can't grow.
+    /// Errors: those of `Counts::with`, and `OutOfMemory` if memory for a buffer ran out.
     #[inline(always)]
     pub(crate) fn push<I: IndexOf>(
         &mut self,
@@ -592,8 +594,8 @@ impl Column {
         }
     }
 
-    /// Takes one value more in a column with children, as `push` does. Lists and structs are told
-    /// from the others first.
+    /// Adds one value to a column with children, as `push` does. Lists and structs are tested
+    /// first.
     #[inline(always)]
     pub(crate) fn push_outer<I: IndexOf>(
         &mut self,

@@ -1,10 +1,8 @@
 use crate::node::Node;
 use std::alloc::Global;
 
-/// The lists of a batch that was finished, whose room those of the next take (Message.fbs,
-/// RecordBatch).
-///
-/// Nothing of what they held is seen again.
+/// The lists of a batch that was finished, whose memory the next batch uses (Message.fbs,
+/// RecordBatch). Their contents are never read again.
 #[derive(Debug, Drop)]
 pub struct Room {
     pub(crate) nodes: Vec<Node>,
@@ -12,7 +10,7 @@ pub struct Room {
 }
 
 impl Room {
-    /// No room. It takes no memory.
+    /// Creates an empty one. It takes no memory.
     pub fn new(alloc: Global) -> Room {
         Room {
             nodes: Vec::new(alloc),
@@ -20,7 +18,7 @@ impl Room {
         }
     }
 
-    /// The room of these nodes.
+    /// Keeps the memory of these nodes.
     pub(crate) fn of_nodes(alloc: Global, nodes: Vec<Node>) -> Room {
         Room {
             nodes,
@@ -28,7 +26,7 @@ impl Room {
         }
     }
 
-    /// Takes the list of a body, where it is sent.
+    /// Keeps the memory of a body after it was sent.
     pub fn keep_body(&mut self, body: Vec<u8>) {
         self.body = body;
     }

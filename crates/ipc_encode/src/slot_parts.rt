@@ -1,4 +1,4 @@
-//! What a slot of a column that was read gives to a column's buffers.
+//! The bytes that a slot of a column that was read adds to a column's buffers.
 ghost use Rattle.std.specs.Prelude.{◌≡◌, ◌++◌, ℕ, List, OnOk, length, replicate};
 ghost use Rattle.ipc_model.specs.declared.value.Value.{Value};
 ghost use Rattle.ipc_column.specs.Slots.{shown};
@@ -8,7 +8,7 @@ ghost use Rattle.ipc_encode.specs.Pieces.{Fixed, True, Valid};
 use ipc_column::Slot;
 use std::alloc::AllocError;
 
-/// Whether a slot isn't null.
+/// Returns whether a slot is not null.
 #[inline(always)]
 pub(crate) fn is_valid(held: &Slot<'_>) -> bool
     ensures { (under : ℕ → List Value) (slot : ℕ)
@@ -20,7 +20,7 @@ pub(crate) fn is_valid(held: &Slot<'_>) -> bool
     }
 }
 
-/// Whether a slot is true.
+/// Returns whether a slot is true.
 #[inline(always)]
 pub(crate) fn is_true(held: &Slot<'_>) -> bool
     ensures { (under : ℕ → List Value) (slot : ℕ)
@@ -32,7 +32,7 @@ pub(crate) fn is_true(held: &Slot<'_>) -> bool
     }
 }
 
-/// The bytes of a binary value or a text in a slot.
+/// Returns the bytes of a binary value or a text in a slot.
 #[inline(always)]
 pub(crate) fn content<'a>(held: &Slot<'a>) -> &'a [u8]
     ensures { (under : ℕ → List Value) (slot : ℕ)
@@ -45,14 +45,14 @@ pub(crate) fn content<'a>(held: &Slot<'a>) -> &'a [u8]
     }
 }
 
-// Appends so many zeros.
+// Appends `width` zeros.
 fn push_zeros(values: &mut Vec<u8>, width: u32) -> Result<(), AllocError>
     ensures { OnOk result (values.new.items ≡ values.old.items ++ replicate width 0) }
 {
     values.resize(values.len() + width as usize, 0)
 }
 
-/// Appends the bytes of a binary value, or so many zeros.
+/// Appends the bytes of a binary value, or `width` zeros.
 #[inline(always)]
 pub(crate) fn push_fixed(
     values: &mut Vec<u8>,
@@ -68,7 +68,7 @@ pub(crate) fn push_fixed(
     }
 }
 
-/// How many items the list in a slot has; none has any other slot.
+/// Returns the number of items of the list in a slot. Any other slot has none.
 #[inline(always)]
 pub(crate) fn item_count(held: &Slot<'_>) -> usize
     ensures { (under : ℕ → List Value) (slot : ℕ)

@@ -48,7 +48,7 @@ fn most_content(layout: Layout, counts: Counts, value: &Value) -> Option<u64>
     }
 }
 
-/// Whether the slots of a column are numbers, which have at most 8 bytes.
+/// Returns whether the slots of a column are numbers, which have at most 8 bytes.
 #[inline(always)]
 pub(crate) fn has_numbers(layout: Layout) -> bool
     ensures small { IsTrue result → (values : List Value) → data_in layout values
@@ -58,7 +58,7 @@ pub(crate) fn has_numbers(layout: Layout) -> bool
     matches!(layout, Layout::Numbers { .. })
 }
 
-/// The same of numbers or truths.
+/// Returns whether the slots of a column are numbers or booleans, which have at most 8 bytes.
 #[inline(always)]
 pub(crate) fn has_small(layout: Layout) -> bool
     ensures small { IsTrue result → (values : List Value) → data_in layout values
@@ -68,7 +68,8 @@ pub(crate) fn has_small(layout: Layout) -> bool
     matches!(layout, Layout::Numbers { .. } | Layout::Bits)
 }
 
-// The same, with those first that take no more than 8 for each slot.
+// An upper bound of the data with one more value, beyond 8 for each slot. Numbers and booleans are
+// tested first.
 #[inline(always)]
 fn most_data(layout: Layout, counts: Counts, value: &Value) -> Option<u64>
     ensures most { (limits : Limits) (values : List Value) → IsCounted limits layout values counts
@@ -106,7 +107,7 @@ fn is_long(field: &Field, value: &Value) -> bool
     }
 }
 
-// Whether a value is one of a field's own, where that is told by one look at its type.
+// Fast accept: the value fits the field, without a check of values inside it, by its type alone.
 #[inline(always)]
 fn is_plain(field: &Field, value: &Value) -> bool
     ensures { IsTrue result → IsOwn (out-Field field.now).kind (out-Field field.now).nullable
@@ -132,7 +133,7 @@ fn is_plain(field: &Field, value: &Value) -> bool
     }
 }
 
-// The same, where the field has no children.
+// Fast accept: the value fits the field, which has no children.
 #[inline(always)]
 fn fits_plainly(field: &Field, value: &Value) -> bool
     ensures { IsTrue result → Fits field.now value.now }
@@ -140,7 +141,7 @@ fn fits_plainly(field: &Field, value: &Value) -> bool
     field.children.is_empty() && is_plain(field, value)
 }
 
-// The same, with numbers of 64 bits first: those are told by few comparisons.
+// Fast accept: the value fits the field. Numbers of 64 bits are tested first, with few comparisons.
 #[inline(always)]
 fn fits_surely(field: &Field, value: &Value) -> bool
     ensures { IsTrue result → Fits field.now value.now }
@@ -156,8 +157,8 @@ fn fits_alone(field: &Field, value: &Value) -> bool
     field.children.is_empty() && field.is_own(value)
 }
 
-// Whether a value surely fits its field, and a column of numbers without children is its own: then
-// nothing of what the column takes at most hangs on the value.
+// Fast accept: the value fits and the leaf stores numbers, so its size bound does not depend on the
+// value.
 #[inline(always)]
 fn is_sure(field: &Field, value: &Value, node: &Node) -> bool
     ensures fits { IsTrue result → Fits field.now value.now }
@@ -174,7 +175,7 @@ fn is_sure(field: &Field, value: &Value, node: &Node) -> bool
     fits_surely(field, value)
 }
 
-/// Whether a value surely fits a field, where that is told by the value alone.
+/// Fast accept: returns true only if a value fits a field.
 #[inline(always)]
 pub(crate) fn fits(field: &Field, value: &Value) -> bool
     ensures { IsTrue result → Fits field.now value.now }
@@ -182,8 +183,8 @@ pub(crate) fn fits(field: &Field, value: &Value) -> bool
     fits_surely(field, value) || fits_alone(field, value)
 }
 
-// The bytes that the buffers of a column without children take at most with one value more, beside
-// those that don't hang on the value, where the value fits the field.
+// The size bound of a column without children with one more value, if the value fits the field.
+// Bytes that do not depend on the value are not included.
 #[inline(always)]
 fn most_with(field: &Field, value: &Value, node: &Node) -> Option<u64>
     ensures fits { IfSome result (λ most. Fits field.now value.now) }
@@ -200,9 +201,9 @@ fn most_with(field: &Field, value: &Value, node: &Node) -> Option<u64>
     most_data(node.column.layout, node.column.counts, value)
 }
 
-/// Whether a row surely fits these fields, none of which has children, and with it their columns of
-/// so many rows the limits. It takes one look at each value, as far as it is told. Where the answer
-/// is no, a closer look is needed.
+/// Fast accept: returns true only if a row fits these fields, none of which has children, and is
+/// within the limits after `rows` rows of their columns. Each value is checked once. If it returns
+/// false, use the full check.
 #[inline(always)]
 pub(crate) fn row_surely_fits(
     fields: &[Field],
@@ -253,17 +254,17 @@ pub(crate) fn row_surely_fits(
     true
 }
 
-/// How far a look at a row goes.
+/// The depth of the check of a row.
 #[derive(Clone, Copy, Debug, PartialEq, Eq)]
 pub(crate) enum Look {
-    /// Into columns without children alone. It is short, so that it can stand where rows are
+    /// Into columns without children only. It is short, so that it can be inlined where rows are
     /// pushed.
     Flat,
     /// Into lists and structs too.
     Deep,
 }
 
-/// How far a look at rows of these columns goes.
+/// Returns the depth of the check of rows of these columns.
 pub(crate) fn look_for(nodes: &[Node]) -> Look {
     for node in nodes {
         if !node.is_leaf() {

@@ -1,4 +1,4 @@
-//! Whether all rows of a batch that was read surely fit, told by one look at each of its columns.
+//! Fast accept of all rows of a batch that was read, with one check of each column.
 ghost use Rattle.std.specs.Prelude.{◌≡◌, ◌≤◌, ◌+◌, ◌*◌, ◌++◌, ℕ, ℤ, Bool, false, List, length};
 ghost use Rattle.std.specs.Prelude.{IfSome, IsTrue};
 ghost use Rattle.std.specs.List.{AllByRecursion};
@@ -29,7 +29,7 @@ use crate::sure_slots::most_of_nested;
 use ipc_column::{Batch, SlotView};
 use ipc_model::{Field, Layout, Limits, layout_of};
 
-// Whether the values of a column surely fit a field, told by how they lie.
+// Fast accept: the values of a column fit a field, by their layout.
 fn column_fits(field: &Field, slots: &SlotView<'_>) -> bool
     ensures fits { IsTrue result → AllByRecursion (Fits field.now) (slot_values slots.now) }
     ensures plain { IsTrue result → LiesPlainly slots.now.column.layout }
@@ -63,8 +63,8 @@ fn has_no_null(slots: &SlotView<'_>) -> bool
     true
 }
 
-// Whether the values of a column of indices surely fit a field, told by how those of its dictionary
-// lie, and where the field is required by each slot.
+// Fast accept: the values of a column of indices fit a field, by the layout of its dictionary's
+// values. If the field is not nullable, each slot is checked.
 fn entries_fit(field: &Field, slots: &SlotView<'_>) -> bool
     ensures { IsTrue result → AllByRecursion (Fits field.now) (slot_values slots.now) }
 {
@@ -80,7 +80,7 @@ fn entries_fit(field: &Field, slots: &SlotView<'_>) -> bool
     field.nullable || has_no_null(slots)
 }
 
-// The same as `most_with_slots` of a column of indices, each of which takes 8 bytes at most.
+// The size bound of a column of indices, as in `most_with_slots`. Each index takes at most 8 bytes.
 fn most_of_indices(layout: Layout, field: &Field, slots: &SlotView<'_>) -> Option<u64>
     requires { (bits : IntBits) × ((signed : Bool) × ((id : ℤ)
         × (layout ≡ Indices bits signed id))) }
@@ -124,8 +124,8 @@ fn most_of_slots(layout: Layout, counts: Counts, slots: &SlotView<'_>) -> Option
     }
 }
 
-// The bytes that the buffers of a column, and of those below it, take at most with these slots
-// more, beside those that don't hang on what they show, where that surely fits the field.
+// The size bound of a column and its descendants with these slots added, if they are sure to fit
+// the field. Bytes that do not depend on the values are not included.
 fn most_with_slots(field: &Field, slots: &SlotView<'_>, node: &Node, limits: &Limits) -> Option<u64>
     ensures fits { IfSome result
         (λ most. AllByRecursion (Fits field.now) (slot_values slots.now)) }
@@ -152,9 +152,9 @@ fn most_with_slots(field: &Field, slots: &SlotView<'_>, node: &Node, limits: &Li
     most_of_slots(node.column.layout, node.column.counts, slots)
 }
 
-/// Whether all rows of a batch surely fit these fields, and with them their columns of so many rows
-/// the limits. It takes one look at each column. Where the answer is no, the rows have to be looked
-/// at.
+/// Fast accept: returns true only if all rows of a batch fit these fields, and are within the
+/// limits after `rows` rows of their columns. Each column is checked once. If it returns false,
+/// check the rows.
 pub(crate) fn columns_surely_fit(
     fields: &[Field],
     nodes: &[Node],

@@ -1,4 +1,4 @@
-//! Whether a list or a struct surely fits, told by one look at each value inside it.
+//! Fast accept of a list or a struct, with one check of each value inside it.
 ghost use Rattle.std.specs.Prelude.{◌≡◌, ◌≤◌, ◌+◌, ◌++◌, ℕ, List, [], ◌∷◌, length, IfSome};
 ghost use Rattle.std.specs.Prelude.{◌<◌, ◌^◌, IsTrue, replicate};
 ghost use Rattle.ipc_model.specs.Fits.{EachFits, Fits, InnerFit, IsOwn};
@@ -27,8 +27,8 @@ use crate::sure::{fits, has_numbers};
 use crate::tree::nulls_below;
 use ipc_model::{DataType, Field, Layout, Limits, Value};
 
-// What is left of so many bytes behind the weight of so many nulls in each of several columns. None
-// where they are too few.
+// The remaining bytes after the weight of `count` nulls in each of several columns. None if `bytes`
+// is too small.
 fn left_of_nulls(nodes: &[Node], count: u64, bytes: u64) -> Option<u64>
     ensures weight { (known : Numbering) (limits : Limits) (shape : Shape)
         (before : ℕ → List Value) → AreNodes (IsColumn known limits) shape nodes.now before
@@ -45,7 +45,7 @@ fn left_of_nulls(nodes: &[Node], count: u64, bytes: u64) -> Option<u64>
     Some(left)
 }
 
-// How much a value adds to the data of a column, at most. Numbers are told first.
+// An upper bound of the amount that a value adds to the data of a column. Numbers are tested first.
 #[inline(always)]
 fn most_datum(layout: Layout, value: &Value) -> usize
     ensures most { datum layout value.now ≤ result }
@@ -57,8 +57,8 @@ fn most_datum(layout: Layout, value: &Value) -> usize
     datum(layout, value)
 }
 
-// Whether a value is one of a field's own, the values inside it aside. Lists and structs are told
-// first.
+// Whether a value fits a field, without a check of the values inside it. Lists and structs are
+// tested first.
 #[inline(always)]
 fn is_own(field: &Field, value: &Value) -> bool
     ensures { IsTrue result → IsOwn (out-Field field.now).kind (out-Field field.now).nullable
@@ -71,8 +71,8 @@ fn is_own(field: &Field, value: &Value) -> bool
     }
 }
 
-// What is left of so many bytes behind the weight of a value, which fits its field. None where they
-// are too few, or that asks for a closer look.
+// The remaining bytes after the weight of a value, which fits its field. None if `bytes` is too
+// small, or the value needs the full check.
 #[cycle(look)]
 #[inline(always)]
 fn left_of(field: &Field, value: &Value, node: &Node, bytes: u64) -> Option<u64>
@@ -94,7 +94,7 @@ fn left_of(field: &Field, value: &Value, node: &Node, bytes: u64) -> Option<u64>
     Some(bytes - weight)
 }
 
-// The same of a column with children.
+// The remaining bytes after the weight of a value of a column with children.
 #[cycle(look)]
 fn left_inside(field: &Field, value: &Value, node: &Node, bytes: u64) -> Option<u64>
     ensures fits { IfSome result (λ left. Fits field.now value.now) }
@@ -128,7 +128,7 @@ fn left_inside(field: &Field, value: &Value, node: &Node, bytes: u64) -> Option<
     }
 }
 
-// The same of the items of a list, which has one child.
+// The remaining bytes after the weight of the items of a list, which has one child.
 #[cycle(look)]
 #[inline(always)]
 fn left_of_items(fields: &[Field], items: &[Value], nodes: &[Node], bytes: u64) -> Option<u64>
@@ -149,7 +149,7 @@ fn left_of_items(fields: &[Field], items: &[Value], nodes: &[Node], bytes: u64) 
     Some(left)
 }
 
-// The same of the parts of a struct, each in its own child.
+// The remaining bytes after the weight of the values of a struct, each in its own child.
 #[cycle(look)]
 #[inline(always)]
 fn left_of_parts(fields: &[Field], parts: &[Value], nodes: &[Node], bytes: u64) -> Option<u64>
@@ -169,8 +169,8 @@ fn left_of_parts(fields: &[Field], parts: &[Value], nodes: &[Node], bytes: u64) 
     Some(left)
 }
 
-/// What is left of so many bytes behind the weight of a column and of those below it, each of which
-/// has room for so many slots more. None where they are too few, or one has not.
+/// Returns the remaining bytes after the weight of a column and of its descendants, each of which
+/// has room for `more` slots. Returns `None` if `bytes` is too small, or a column has no such room.
 #[cycle(room)]
 #[inline(always)]
 pub(crate) fn left_of_node(node: &Node, more: u64, limits: &Limits, bytes: u64) -> Option<u64>
@@ -199,7 +199,7 @@ pub(crate) fn left_of_node(node: &Node, more: u64, limits: &Limits, bytes: u64) 
     left_of_nodes(&node.children, more, limits, bytes - weight)
 }
 
-// The same of several columns.
+// The remaining bytes after the weight of several columns, as in `left_of_node`.
 #[cycle(room)]
 fn left_of_nodes(nodes: &[Node], more: u64, limits: &Limits, bytes: u64) -> Option<u64>
     requires { more ≤ max_data }
@@ -220,8 +220,8 @@ fn left_of_nodes(nodes: &[Node], more: u64, limits: &Limits, bytes: u64) -> Opti
     Some(left)
 }
 
-/// What is left of so much weight behind that of a row, whose values fit their fields. None where
-/// it is too little, or that asks for a closer look.
+/// Returns the remaining weight after that of a row, whose values fit their fields. Returns `None`
+/// if `spare` is too small, or a value needs the full check.
 #[inline(never)]
 pub(crate) fn left_of_row(
     fields: &[Field],
@@ -238,7 +238,8 @@ pub(crate) fn left_of_row(
     left_of_parts(fields, row, nodes, spare)
 }
 
-/// Whether columns are surely within the limits with so much weight more, however it is spread.
+/// Returns true only if columns are within the limits with this additional weight, however it is
+/// distributed.
 pub(crate) fn have_spare(nodes: &[Node], spare: u64, limits: &Limits) -> bool
     requires { spare ≤ max_data }
     ensures { (known : Numbering) (shape : Shape) (before added : ℕ → List Value)

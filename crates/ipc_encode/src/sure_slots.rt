@@ -1,5 +1,4 @@
-//! Whether all slots of a column with children surely fit, told by one look at it and at each
-//! column below it, where these have just the slots that its own lead to.
+//! Fast accept of all slots of a column with children, with one check of it and of each descendant.
 ghost use Rattle.std.specs.Prelude.{◌≡◌, ◌<◌, ◌≤◌, ◌+◌, ◌*◌, ◌++◌, ℕ, true, false, List, length};
 ghost use Rattle.std.specs.Prelude.{IfSome, IsTrue, slice_index_or};
 ghost use Rattle.std.specs.List.{AllByRecursion};
@@ -69,8 +68,8 @@ fn most_data(view: &SlotView<'_>) -> Option<u64>
     }
 }
 
-// What is left of so many bytes behind the data of a column without children, whose slots fit the
-// field, nulls aside. None where they are too few, or the slots ask for a closer look.
+// The remaining bytes after the data of a column without children, whose slots other than null fit
+// the field. None if `bytes` is too small, or the slots need the full check.
 fn left_of_leaf(field: &Field, view: &SlotView<'_>, bytes: u64) -> Option<u64>
     ensures fits { IfSome result (λ left. (i : ℕ) → i < length (slot_values view.now)
         → (is_set Valid (slice_index_or (slot_values view.now) i Null) ≡ false
@@ -89,9 +88,9 @@ fn left_of_leaf(field: &Field, view: &SlotView<'_>, bytes: u64) -> Option<u64>
     bytes.checked_sub(most_data(view)?)
 }
 
-// What is left of so many bytes behind the weight of all slots of a column and of those below it,
-// each of which fits its field where the column above, by its bitmap, isn't null. None where they
-// are too few, or that asks for a closer look.
+// The remaining bytes after the weight of all slots of a column and of its descendants. Each slot
+// fits its field if the parent, by its bitmap, is not null. None if `bytes` is too small, or a slot
+// needs the full check.
 #[cycle(slots)]
 fn left_of_slots(
     field: &Field,
@@ -126,7 +125,7 @@ fn left_of_slots(
     }
 }
 
-// The same of the items of lists, which are all slots of their one child.
+// The remaining bytes after the items of lists, which are all slots of their one child.
 #[cycle(slots)]
 fn left_of_items(fields: &[Field], view: &SlotView<'_>, nodes: &[Node], bytes: u64) -> Option<u64>
     ensures fits { IfSome result (λ left. InnerFit Fits kinds.List fields.now
@@ -145,8 +144,8 @@ fn left_of_items(fields: &[Field], view: &SlotView<'_>, nodes: &[Node], bytes: u
     left_of_slots(&fields[0], &child, &[], &nodes[0], left)
 }
 
-// The same of the parts of structs, which are all slots of the children, where the struct isn't
-// null.
+// The remaining bytes after the values of structs, which are all slots of the children, where the
+// struct is not null.
 #[cycle(slots)]
 fn left_of_parts(fields: &[Field], view: &SlotView<'_>, nodes: &[Node], bytes: u64) -> Option<u64>
     ensures size { IfSome result (λ left. length fields.now ≡ length view.now.children) }
@@ -174,9 +173,9 @@ fn left_of_parts(fields: &[Field], view: &SlotView<'_>, nodes: &[Node], bytes: u
     Some(left)
 }
 
-/// The bytes that the buffers of a column with children, and of those below it, take at most with
-/// all slots of a column that was read more, which fit its field. None where that asks for a closer
-/// look.
+/// Returns the size bound of a column with children and of its descendants, after all slots of a
+/// column that was read are added. These slots fit its field. Returns `None` if they need the full
+/// check.
 pub(crate) fn most_of_nested(
     field: &Field,
     view: &SlotView<'_>,

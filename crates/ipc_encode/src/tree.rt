@@ -19,10 +19,10 @@ use crate::index::IndexOf;
 use crate::node::Node;
 use ipc_model::{Layout, Limits, Value};
 
-// From so many values on, taking them at once costs less than one by one.
+// From this number of values on, adding them at once costs less than one by one.
 const MANY: usize = 8;
 
-/// How many nulls a null gives to each column below one of this layout.
+/// Returns the number of nulls that a null adds to each child of a column of this layout.
 #[inline]
 pub(crate) fn nulls_below(layout: Layout) -> u64
     ensures count { result ≡ nulls_below layout }
@@ -35,7 +35,7 @@ pub(crate) fn nulls_below(layout: Layout) -> u64
     }
 }
 
-// Takes or counts so many nulls in a column.
+// Adds or counts this number of nulls in a column.
 fn take_own_nulls<I: IndexOf>(
     column: &mut Column,
     count: u64,
@@ -64,7 +64,7 @@ fn take_own_nulls<I: IndexOf>(
     Ok(())
 }
 
-// Takes or counts so many nulls in a column, and those that they give to its children.
+// Adds or counts this number of nulls in a column, and those that they add to its children.
 #[cycle(take_null)]
 fn take_null<I: IndexOf>(
     node: &mut Node,
@@ -99,7 +99,7 @@ fn take_null<I: IndexOf>(
     take_own_nulls(&mut node.column, count, purpose, limits, indices)
 }
 
-// The same in each column.
+// Adds or counts this number of nulls in each column.
 #[cycle(take_null)]
 fn take_nulls<I: IndexOf>(
     nodes: &mut [Node],
@@ -132,10 +132,8 @@ fn take_nulls<I: IndexOf>(
     Ok(())
 }
 
-/// Takes or counts a value in a column, and in its children the items of a list or the parts of a
-/// struct.
-///
-/// Refused as `Column::take`, whichever column refuses it.
+/// Adds or counts a value in a column, and in its children the items of a list or the values of a
+/// struct. The errors are those of `Column::take`, from any of these columns.
 #[cycle(take)]
 #[inline(always)]
 pub(crate) fn take<I: IndexOf>(
@@ -169,7 +167,7 @@ pub(crate) fn take<I: IndexOf>(
     take_deep(value, node, purpose, limits, indices)
 }
 
-// The same of a column with children: theirs first.
+// Adds or counts a value in a column with children: first in the children.
 #[cycle(take)]
 fn take_deep<I: IndexOf>(
     value: &Value,
@@ -320,9 +318,8 @@ fn take_all<I: IndexOf>(
     Ok(())
 }
 
-/// Takes or counts the value of each column, null where there is none.
-///
-/// Refused as `take`.
+/// Adds or counts the value of each column, or null if there is none. The errors are those of
+/// `take`.
 #[cycle(take)]
 pub(crate) fn take_parts<I: IndexOf>(
     parts: &[Value],

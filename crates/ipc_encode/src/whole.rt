@@ -1,4 +1,4 @@
-//! Columns with children, taken as they lie: all slots of each at once.
+//! Adds columns with children as they are laid out: all slots of each at once.
 ghost use Rattle.std.specs.Prelude.{◌++◌, ℕ, Bool, List, IfErr, OnOk};
 ghost use Rattle.ipc_model.specs.declared.layout.Layout.{Layout};
 ghost use Rattle.ipc_model.specs.declared.layout.Layout.TheVariants.{Numbers as NumbersLaid};
@@ -44,7 +44,7 @@ fn take_all_numbers(
     }
 }
 
-// Takes all slots of a column into one that they lie as. Slots that don't lie so give nothing.
+// Adds all slots of a column to one of equal layout. Slots of another layout add nothing.
 fn take_slots(column: &mut Column, view: &SlotView<'_>, limits: &Limits) -> Result<(), PushFault>
     ensures taken { (known : Numbering) (layout : Layout) (before more : List Value)
         → IsColumn known limits.now layout before column.old
@@ -64,9 +64,8 @@ fn take_slots(column: &mut Column, view: &SlotView<'_>, limits: &Limits) -> Resu
     }
 }
 
-/// Takes all slots of a column, and of those below it, into those of a node, which they lie as.
-///
-/// Refused as `Column::take`, whichever column refuses it.
+/// Adds all slots of a column and of its descendants to those of a node of equal layout. The errors
+/// are those of `Column::take`, from any of these columns.
 #[cycle(take_whole)]
 pub(crate) fn take_whole(
     node: &mut Node,

@@ -5,15 +5,20 @@ use crate::table::TableRef;
 use ipc_scalar::FlatFault;
 
 /// Bytes in the FlatBuffers binary format.
+///
+/// Only what is read is validated: each accessor returns what the bytes denote there, or a
+/// `FlatFault` exactly if they are ill-formed. A field that is not read may hold anything.
+/// Positions need no alignment, and the zero byte after a string is not read. A field is bounded by
+/// the bytes, not by its table's stated inline size.
 pub struct Flat {}
 
 impl Flat {
-    /// The root table of `bytes`: the one to which the offset in their first four bytes points
+    /// Returns the root table of `bytes`, to which the offset in their first four bytes points
     /// ("Format Components").
     ///
-    /// `OffsetZero` where that offset is 0; `OutOfBounds` where the offset, its target or the
-    /// table's first four bytes pass the end; `BadVtable` where no vtable stands where the table
-    /// says.
+    /// Errors: `OffsetZero` if that offset is 0; `OutOfBounds` if the offset, its target or the
+    /// table's first four bytes end after the bytes; `BadVtable` if there is no vtable where the
+    /// table states it.
     pub fn root(bytes: &[u8]) -> Result<TableRef<'_>, FlatFault>
         ensures { result ≡ table_from bytes.now 0 }
     {

@@ -5,9 +5,9 @@ use crate::offset::elements_at;
 use ipc_scalar::FlatFault;
 use std::marker::Model;
 
-/// A vector of structs of borrowed bytes: each of one width, one after another ("Structs", "Strings
-/// and Vectors"). Contracts see it as `Structs`: the bytes, the first struct's place, how many
-/// there are and their width in bytes.
+/// A vector of structs in borrowed bytes: each of one width, one after another ("Structs", "Strings
+/// and Vectors"). Contracts describe it as `Structs`: the bytes, the position of the first struct,
+/// the number of structs, and their width in bytes.
 #[derive(Drop)]
 pub struct StructVec<'a> {
     bytes: &'a [u8],
@@ -42,15 +42,14 @@ impl<'a> StructVec<'a> {
         })
     }
 
-    /// How many structs there are.
+    /// Returns the number of structs.
     pub fn len(&self) -> usize
         ensures { result ≡ self.now.len }
     {
         self.len
     }
 
-    /// The bytes of struct `i`, as many as a struct's width. The caller knows that `i` is below
-    /// `len()`.
+    /// Returns the bytes of struct `i`, which are `width` bytes. `i` must be below `len()`.
     pub fn at(&self, i: usize) -> &'a [u8]
         requires { i < self.now.len }
         ensures bytes { result.now ≡ slice_range self.now.bytes (self.now.at + i * self.now.width)

@@ -11,12 +11,13 @@ use crate::table_vec::TableVec;
 use ipc_scalar::{FlatFault, get_i32, get_i64, get_u16};
 use std::marker::Model;
 
-/// A table of borrowed bytes, whose vtable was found ("Tables"). Contracts see it as a `TableView`:
-/// the bytes and its place in them.
+/// A table in borrowed bytes, whose vtable was found ("Tables"). Contracts describe it as a
+/// `TableView`: the bytes and its position in them.
 ///
-/// A `slot` is a field's number, from 0. A field is absent where the vtable ends before its entry
-/// or the entry is 0. Where it is present and its inline bytes (the number's own, or the four of an
-/// offset) pass the end, every accessor answers `OutOfBounds`.
+/// A `slot` is the number of a field, from 0. A field is absent if the vtable ends before its
+/// entry, or the entry is 0. If it is present and its inline bytes end after the bytes, every
+/// accessor returns `OutOfBounds`. The inline bytes are those of a number, or the four bytes of an
+/// offset.
 #[derive(Drop)]
 pub struct TableRef<'a> {
     bytes: &'a [u8],
@@ -90,8 +91,8 @@ impl<'a> TableRef<'a> {
         Ok(Some(at))
     }
 
-    /// The unsigned 8-bit number in a field, or `default` where the field is absent. A boolean is
-    /// such a number too, false at 0 alone.
+    /// Returns the unsigned 8-bit number in a field, or `default` if the field is absent. A boolean
+    /// is such a number too: only 0 is false.
     #[tactic(auto, unfolding(crate::specs::Views::scalar), using(crate::proofs::Scalars::byte_is))]
     pub fn scalar_u8(&self, slot: u16, default: u8) -> Result<u8, FlatFault>
         ensures { result ≡ scalar self.now slot 1 byte default }
@@ -102,7 +103,7 @@ impl<'a> TableRef<'a> {
         }
     }
 
-    /// The signed 16-bit number in a field, or `default` where the field is absent.
+    /// Returns the signed 16-bit number in a field, or `default` if the field is absent.
     #[tactic(auto, unfolding(crate::specs::Views::scalar))]
     pub fn scalar_i16(&self, slot: u16, default: i16) -> Result<i16, FlatFault>
         ensures { result ≡ scalar self.now slot 2 int16 default }
@@ -113,7 +114,7 @@ impl<'a> TableRef<'a> {
         }
     }
 
-    /// The signed 32-bit number in a field, or `default` where the field is absent.
+    /// Returns the signed 32-bit number in a field, or `default` if the field is absent.
     #[tactic(auto, unfolding(crate::specs::Views::scalar))]
     pub fn scalar_i32(&self, slot: u16, default: i32) -> Result<i32, FlatFault>
         ensures { result ≡ scalar self.now slot 4 int32 default }
@@ -124,7 +125,7 @@ impl<'a> TableRef<'a> {
         }
     }
 
-    /// The signed 64-bit number in a field, or `default` where the field is absent.
+    /// Returns the signed 64-bit number in a field, or `default` if the field is absent.
     #[tactic(auto, unfolding(crate::specs::Views::scalar))]
     pub fn scalar_i64(&self, slot: u16, default: i64) -> Result<i64, FlatFault>
         ensures { result ≡ scalar self.now slot 8 int64 default }
@@ -135,10 +136,10 @@ impl<'a> TableRef<'a> {
         }
     }
 
-    /// The table to which a field's offset points, or `None` where the field is absent.
+    /// Returns the table to which a field's offset points, or `None` if the field is absent.
     ///
-    /// `OffsetZero` where the offset is 0; `OutOfBounds` where its target or the table's first four
-    /// bytes pass the end; `BadVtable` where no vtable stands where the table says.
+    /// Errors: `OffsetZero` if the offset is 0; `OutOfBounds` if its target or the table's first
+    /// four bytes end after the bytes; `BadVtable` if there is no vtable where the table states it.
     #[tactic(auto, unfolding(crate::specs::Views::field))]
     pub fn table(&self, slot: u16) -> Result<Option<TableRef<'a>>, FlatFault>
         ensures { result ≡ field self.now slot table_from }
@@ -149,11 +150,11 @@ impl<'a> TableRef<'a> {
         }
     }
 
-    /// The text to which a field's offset points, or `None` where the field is absent ("Strings and
-    /// Vectors"). Its bytes are borrowed.
+    /// Returns the text to which a field's offset points, or `None` if the field is absent
+    /// ("Strings and Vectors"). Its bytes are borrowed.
     ///
-    /// `OffsetZero` where the offset is 0; `OutOfBounds` where its target, the text's length or its
-    /// bytes pass the end; `NotUtf8` where those bytes are not UTF-8.
+    /// Errors: `OffsetZero` if the offset is 0; `OutOfBounds` if its target, the text's length or
+    /// its bytes end after the bytes; `NotUtf8` if the text is not UTF-8.
     #[tactic(auto, unfolding(crate::specs::Views::field))]
     pub fn text(&self, slot: u16) -> Result<Option<&'a str>, FlatFault>
         ensures { IsAnswer (option_map (λ s. s.now)) result (field self.now slot text_of) }
@@ -164,12 +165,12 @@ impl<'a> TableRef<'a> {
         }
     }
 
-    /// The vector of tables to which a field's offset points, or `None` where the field is absent
-    /// ("Strings and Vectors"). Its elements are offsets, each of which is judged once it is asked
-    /// for.
+    /// Returns the vector of tables to which a field's offset points, or `None` if the field is
+    /// absent ("Strings and Vectors"). Its elements are offsets, each of which is validated when it
+    /// is read.
     ///
-    /// `OffsetZero` where the offset is 0; `OutOfBounds` where its target, the count or the
-    /// elements, four bytes each, pass the end.
+    /// Errors: `OffsetZero` if the offset is 0; `OutOfBounds` if its target, the count or the
+    /// elements, four bytes each, end after the bytes.
     #[tactic(auto, unfolding(crate::specs::Views::field))]
     pub fn tables(&self, slot: u16) -> Result<Option<TableVec<'a>>, FlatFault>
         ensures { result ≡ field self.now slot (elements_from 4) }
@@ -180,12 +181,12 @@ impl<'a> TableRef<'a> {
         }
     }
 
-    /// The vector of structs, of `width` bytes each, to which a field's offset points, or `None`
-    /// where the field is absent ("Structs", "Strings and Vectors"). Structs lie inline, one after
-    /// another.
+    /// Returns the vector of structs, of `width` bytes each, to which a field's offset points, or
+    /// `None` if the field is absent ("Structs", "Strings and Vectors"). Structs are stored inline,
+    /// one after another.
     ///
-    /// `OffsetZero` where the offset is 0; `OutOfBounds` where its target, the count or the structs
-    /// pass the end.
+    /// Errors: `OffsetZero` if the offset is 0; `OutOfBounds` if its target, the count or the
+    /// structs end after the bytes.
     #[tactic(auto, unfolding(crate::specs::Views::field))]
     pub fn structs(&self, slot: u16, width: usize) -> Result<Option<StructVec<'a>>, FlatFault>
         ensures { result ≡ field self.now slot (structs_from width) }

@@ -6,9 +6,9 @@ use crate::table::TableRef;
 use ipc_scalar::FlatFault;
 use std::marker::Model;
 
-/// A vector of tables of borrowed bytes: offsets of four bytes, one after another ("Strings and
-/// Vectors"). Contracts see it as `Elements`: the bytes, the first offset's place and how many
-/// there are.
+/// A vector of tables in borrowed bytes: offsets of four bytes, one after another ("Strings and
+/// Vectors"). Contracts describe it as `Elements`: the bytes, the position of the first offset, and
+/// the number of offsets.
 #[derive(Drop)]
 pub struct TableVec<'a> {
     bytes: &'a [u8],
@@ -37,17 +37,17 @@ impl<'a> TableVec<'a> {
         Ok(TableVec { bytes, at, len })
     }
 
-    /// How many tables there are.
+    /// Returns the number of tables.
     pub fn len(&self) -> usize
         ensures { result ≡ self.now.len }
     {
         self.len
     }
 
-    /// Table `i`, to which offset `i` points. The caller knows that `i` is below `len()`.
+    /// Returns table `i`, to which offset `i` points. `i` must be below `len()`.
     ///
-    /// `OffsetZero` where the offset is 0; `OutOfBounds` where its target or the table's first four
-    /// bytes pass the end; `BadVtable` where no vtable stands where the table says.
+    /// Errors: `OffsetZero` if the offset is 0; `OutOfBounds` if its target or the table's first
+    /// four bytes end after the bytes; `BadVtable` if there is no vtable where the table states it.
     pub fn at(&self, i: usize) -> Result<TableRef<'a>, FlatFault>
         requires { i < self.now.len }
         ensures { result ≡ table_from self.now.bytes (self.now.at + i * 4) }

@@ -5,8 +5,8 @@ use crate::source::Source;
 use ipc_model::Fault;
 use std::alloc::{AllocError, Global};
 
-// The bytes of a body that came, at the front of a list. What stands behind them, from before or
-// cleared, is read over.
+// The bytes of a body that came, at the front of a list. The bytes after them, old or cleared, are
+// overwritten by the next reads.
 #[derive(Drop)]
 pub struct Body {
     list: Vec<u8>,
@@ -40,7 +40,7 @@ impl Body {
         self.len
     }
 
-    // Puts bytes behind those that came.
+    // Appends bytes to those that came.
     pub fn extend(&mut self, bytes: &[u8]) -> Result<(), AllocError>
         ensures { OnOk result (came_in self.new ≡ came_in self.old ++ bytes.now) }
     {
@@ -50,8 +50,8 @@ impl Body {
         Ok(())
     }
 
-    // Sees that there are bytes to read over behind those that came: where there are none, room is
-    // cleared for some of what is wanted.
+    // Makes sure that there is space to read into after the bytes that came. If there is none, it
+    // clears space for some of the wanted bytes.
     fn make_place(&mut self, wanted: usize) -> Result<(), AllocError>
         requires { 0 < wanted }
         ensures place { OnOk result (self.new.len < vec_len self.new.list) }
@@ -66,7 +66,7 @@ impl Body {
         Ok(())
     }
 
-    // Asks the source once, for no more than is wanted, and puts what comes behind what came.
+    // Calls the source once, for at most the wanted bytes, and appends what comes.
     pub fn read<R: Source>(&mut self, source: &mut R, wanted: usize) -> Result<usize, Fault>
         requires { 0 < wanted }
         ensures comes { IfOk result (λ k. Comes (R.remaining source.old)

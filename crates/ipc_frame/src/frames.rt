@@ -18,7 +18,7 @@ pub(crate) enum Phase {
     Refused,
 }
 
-// Behind a message another one may come, and nothing behind the end mark.
+// After a message another one may come; after the end-of-stream mark nothing comes.
 fn phase_behind(frame: &Frame) -> Phase
     ensures { result ≡ phase_after frame.now }
 {
@@ -28,17 +28,19 @@ fn phase_behind(frame: &Frame) -> Phase
     }
 }
 
-/// The messages of a stream, whose bytes come in pieces of any length (Arrow Columnar Format,
-/// "Encapsulated message format" and "IPC Streaming Format").
+/// Splits a stream, whose bytes arrive in pieces of any length, into its messages (Arrow Columnar
+/// Format, "Encapsulated message format" and "IPC Streaming Format").
 ///
-/// Bytes are pushed by `feed`, or pulled by `feed_from`; the two may be mixed. Of the message at
-/// hand all bytes that came are kept, and nothing else: its metadata is looked at once it is whole
-/// and once more with the whole body, and the list of the body is the one that is handed out. The
-/// lists grow as bytes come, never by what a message states: together they take at most twice what
-/// came, and 64 KiB. Nothing is kept between two messages but a list that was given to `reuse`, and
-/// no list behind the end mark, after a refusal, or after `close`.
+/// Bytes are pushed by `feed` or pulled by `feed_from`, and the two may be mixed. It keeps all
+/// bytes of the current message that came, and no others. Metadata is read once when it is
+/// complete, and once more with the complete body. The list of the body moves to the message
+/// without a copy.
 ///
-/// After a refusal each call answers F35 (`Failed`) and takes nothing.
+/// Lists grow as bytes come, never by what a message states: together they take at most twice the
+/// bytes that came, and 64 KiB. Between two messages only a list that was passed to `reuse` is
+/// kept. No list is kept after the end-of-stream mark, after a refusal, or after `close`.
+///
+/// After a refusal each call returns F35 (`Failed`) and takes no bytes.
 #[derive(Drop)]
 pub struct Frames {
     parts: Parts,
@@ -62,8 +64,7 @@ impl Frames {
     ghost use Rattle.ipc_frame.specs.Pulled.{FailsWhile, Takes};
     ghost use Rattle.ipc_frame.specs.Pieces.{Closes, Feeds, Wants, held_of, taking};
 
-    /// At the beginning of a stream, of which nothing came. What it accepts is under `limits`, in
-    /// each call.
+    /// Starts at the beginning of a stream. All that it accepts, in each call, is within `limits`.
     pub fn new(alloc: Global, limits: Limits) -> Frames
         ensures limits { result.limits ≡ limits }
         ensures progress { result.progress ≡ taking [] }
@@ -76,21 +77,22 @@ impl Frames {
         }
     }
 
-    /// Takes a beginning of `piece` and says how many bytes it has: it ends with the first message
-    /// or end mark that is whole, which is given at once, and without one the whole piece is taken.
-    /// What was not taken is the caller's to feed again. After the end mark, or after a `close`
-    /// that was `Ok`, nothing is taken, `Ok((0, None))`.
+    /// Takes a beginning of `piece`, up to the end of the first message or end-of-stream mark.
+    /// Returns the number of bytes taken, and the message or mark if it is complete. If none is
+    /// complete, the whole piece is taken.
     ///
-    /// Each refusal comes with the byte that decides it, wherever the piece ends:
+    /// Pass the bytes that were not taken to the next call. After the end-of-stream mark, or after
+    /// a `close` that returned `Ok`, no bytes are taken, and the call returns `Ok((0, None))`.
     ///
-    /// - `NotContinued` (F1), at 4 bytes: they are not the continuation mark.
-    /// - `BadMetadataLength` (F2), at 8 bytes: the size of the metadata is below 0.
-    /// - `MetadataTooLong` (F3), at 8 bytes: the size is above `limits.metadata`.
-    /// - F5 to F9 and F12 to F24, at the last byte of the metadata: it states no head under the
-    ///   limits whose types are read, as `ipc_meta::read_message` tells for each.
+    /// Errors, each with the byte that decides it, wherever the piece ends:
+    ///
+    /// - `NotContinued` (F1), at byte 4: the bytes are not the continuation mark.
+    /// - `BadMetadataLength` (F2), at byte 8: the size of the metadata is negative.
+    /// - `MetadataTooLong` (F3), at byte 8: the size is above `limits.metadata`.
+    /// - F5 to F9 and F12 to F24, at the last byte of the metadata: the metadata states no valid
+    ///   head within the limits. `ipc_meta::read_message` explains each of them.
     /// - `Failed` (F35): an earlier call was refused.
-    /// - `OutOfMemory` (F37): a list could not grow, or the head could not be read for want of
-    ///   memory.
+    /// - `OutOfMemory` (F37): memory for a list or for the head ran out.
     pub fn feed(&mut self, piece: &[u8]) -> Result<(usize, Option<Frame>), Fault>
         ensures feeds { Feeds self.old.limits self.old.progress piece.now self.new.progress result }
         ensures limits { self.new.limits ≡ self.old.limits }
@@ -118,13 +120,16 @@ impl Frames {
         }
     }
 
-    /// Asks the source once, for no more than `wants` says, and takes what comes, straight to where
-    /// it is kept. It says how many bytes came, beside a refusal too, and the message or end mark
-    /// that they make whole. Without a refusal no byte comes only at the source's end; after the
-    /// end mark, or after a `close` that was `Ok`, the source is not asked, `(0, Ok(None))`.
+    /// Calls the source once, for at most `wants` bytes, and stores what comes without a further
+    /// copy. Returns the number of bytes that came, also with a refusal, and the message or
+    /// end-of-stream mark that they complete.
     ///
-    /// What comes is answered as `feed` answers it, each refusal with its deciding byte, and there
-    /// is one more: `Read` (F36), the source failed.
+    /// Without a refusal, a count of 0 means that the source is at its end. After the end-of-stream
+    /// mark, or after a `close` that returned `Ok`, the source is not called, and the result is
+    /// `(0, Ok(None))`.
+    ///
+    /// Errors: those of `feed`, each with the byte that decides it, and `Read` (F36) if the source
+    /// failed.
     pub fn feed_from<R: Source>(&mut self, source: &mut R) -> (usize, Result<Option<Frame>, Fault>)
         ensures takes { Takes self.old.limits (R.remaining source.old)
             (R.remaining source.new) self.old.progress self.new.progress result.0 result.1 }
@@ -163,9 +168,11 @@ impl Frames {
         }
     }
 
-    /// Takes a list, to read the next body over its bytes: what it holds is never looked at, but no
-    /// memory is asked for and cleared up to its length. It is let go where bytes of a body came
-    /// already, where the list that is there is as long, behind the end mark and after a refusal.
+    /// Takes a list, over whose bytes the next body is read. Its contents are never read, and no
+    /// memory is allocated and cleared up to its length.
+    ///
+    /// The list is dropped if bytes of a body already came, or if the present list is at least as
+    /// long. It is also dropped after the end-of-stream mark, and after a refusal.
     pub fn reuse(&mut self, list: Vec<u8>)
         ensures { self.new ≡ self.old }
     {
@@ -174,9 +181,9 @@ impl Frames {
         }
     }
 
-    /// How many bytes are still needed before the next decision: at 4 bytes of a message, at 8, at
-    /// its whole metadata, at its whole body. 0 after the end mark, after a refusal, and after a
-    /// `close` that was `Ok`. It fails never and takes no memory.
+    /// Returns the number of bytes before the next decision: to byte 4 of a message, to byte 8, to
+    /// the end of its metadata, or to the end of its body. Returns 0 after the end-of-stream mark,
+    /// after a refusal, and after a `close` that returned `Ok`. It never fails and takes no memory.
     pub fn wants(&self) -> usize
         ensures { Wants self.now.limits self.now.progress result }
     {
@@ -186,10 +193,10 @@ impl Frames {
         }
     }
 
-    /// How many bytes are kept: those that came of the message at hand. It fails never and takes no
+    /// Returns the number of bytes of the current message that came. It never fails and takes no
     /// memory.
     ///
-    /// A list that was given to `reuse` has bytes that this does not count: they are of no message,
+    /// The bytes of a list that was passed to `reuse` are not counted: they belong to no message,
     /// and the next body is read over them.
     pub fn held(&self) -> usize
         ensures came { result ≡ held_of self.now.progress }
@@ -199,9 +206,11 @@ impl Frames {
         self.parts.start.len() + self.parts.meta.len() + self.parts.body.len()
     }
 
-    /// Says that no more bytes come. Between two messages, before the first one, and after the end
-    /// mark that is `Ok`, at a second call too; inside a message it is `Truncated` (F4), a refusal
-    /// as of `feed`, and after a refusal `Failed` (F35). It takes no memory.
+    /// Ends the input: no more bytes come. Returns `Ok` before the first message, between two
+    /// messages, and after the end-of-stream mark, also in a second call. It takes no memory.
+    ///
+    /// Errors: `Truncated` (F4) inside a message, which is a refusal as in `feed`; `Failed` (F35)
+    /// after a refusal.
     pub fn close(&mut self) -> Result<(), Fault>
         ensures closed { Closes self.old.progress self.new.progress result }
         ensures limits { self.new.limits ≡ self.old.limits }

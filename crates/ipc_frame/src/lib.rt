@@ -1,5 +1,5 @@
-//! Encapsulated messages: the mark, the size of the metadata, the metadata and the body (Arrow
-//! Columnar Format, "Encapsulated message format").
+//! Splits streams into encapsulated messages, and writes them: the continuation mark, the size of
+//! the metadata, the metadata and the body (Arrow Columnar Format, "Encapsulated message format").
 #![tactic(auto)]
 
 mod body;

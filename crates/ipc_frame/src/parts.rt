@@ -53,7 +53,7 @@ pub fn wanted(limits: &Limits, parts: &Parts, awaited: Awaited) -> usize
     }
 }
 
-// Puts bytes behind those that are there.
+// Appends bytes to those that are there.
 pub fn extend(
     limits: &Limits,
     parts: &mut Parts,

@@ -14,8 +14,8 @@ use std::alloc::{AllocError, Global};
 // For how many bytes room is made and cleared at most at once, where few came.
 pub const PIECE: usize = 65_536;
 
-// Asks the source once, for at most `room` bytes, which are read over those behind the first
-// `start` bytes.
+// Calls the source once, for at most `room` bytes, which overwrite those after the first `start`
+// bytes.
 fn read_behind<R: Source>(
     source: &mut R,
     list: &mut [u8],
@@ -39,7 +39,8 @@ fn read_behind<R: Source>(
     }
 }
 
-// The same of a list.
+// Calls the source once, for at most `room` bytes, which overwrite those of a list after its first
+// `start` bytes.
 pub fn read_over<R: Source>(
     source: &mut R,
     list: &mut Vec<u8>,
@@ -60,8 +61,8 @@ pub fn read_over<R: Source>(
     read_behind(source, list, start, room)
 }
 
-// Makes room behind what a full list holds, for some of what is wanted: for as much as it holds or
-// one piece, whichever is more.
+// Makes space after the contents of a full list, for some of the wanted bytes: its length or one
+// piece, whichever is more.
 pub fn make_room(list: &mut Vec<u8>, wanted: usize) -> Result<(), AllocError>
     requires { 0 < wanted }
     ensures room { OnOk result (vec_len list.new < vec_capacity list.new) }
@@ -75,7 +76,7 @@ pub fn make_room(list: &mut Vec<u8>, wanted: usize) -> Result<(), AllocError>
     Ok(())
 }
 
-// Asks the source once, for no more than is wanted, and puts what comes behind what the list holds.
+// Calls the source once, for at most the wanted bytes, and appends what comes to the list.
 fn read_onto<R: Source>(source: &mut R, list: &mut Vec<u8>, wanted: usize) -> Result<usize, Fault>
     requires { 0 < wanted }
     ensures comes { IfOk result (λ k. Comes (R.remaining source.old)

@@ -10,7 +10,7 @@ use std::fmt;
 #[derive(Clone, Copy, Debug, PartialEq, Eq)]
 pub struct Failed;
 
-/// `the device failed`.
+/// Prints `the device failed`.
 impl fmt::Display for Failed {
     ghost output = { λ failed. Some (failed_text failed) };
 
@@ -21,20 +21,20 @@ impl fmt::Display for Failed {
 
 impl Error for Failed {}
 
-/// What gives the bytes of a stream, in pieces of its own choice.
+/// A device that returns the bytes of a stream, in pieces of its own choice.
 pub trait Source {
-    /// The bytes that are still to come, where the source tells them.
+    /// The bytes that are still to come, if the source reports them.
     ghost remaining: { Self → Option (List ℕ) };
 
-    /// How many calls failed: 0 until one does, 1 from then on.
+    /// The failure count: 0 until a call fails, and 1 afterwards.
     ghost failures: { Self → ℕ };
 
-    /// No more bytes than so many are still to come.
+    /// An upper bound of the number of bytes that are still to come.
     ghost bound: { Self → ℕ };
 
-    /// Puts the next bytes at the front of `into` and says how many they are: none only where
-    /// `into` is empty or no byte is left. A call that fails takes no byte, and so does each one
-    /// after it.
+    /// Puts the next bytes at the front of `into` and returns their number. It is 0 only if `into`
+    /// is empty or the source is at its end. A call that fails takes no byte, and each later call
+    /// fails too.
     fn read(&mut self, into: &mut [u8]) -> Result<usize, Failed>
         ensures count { IfOk result (λ k. k ≤ length into.new) }
         ensures bytes { ReadConsumes (remaining self.old) (remaining self.new) result into.new }

@@ -16,8 +16,8 @@ pub enum Step {
     Whole(Frame),
 }
 
-// What the bytes that came make. A whole message is handed out with its lists, and behind it
-// nothing is kept.
+// What the bytes that came complete. A complete message moves out with its lists, and nothing is
+// kept after it.
 pub fn conclude(
     alloc: Global,
     limits: &Limits,

@@ -1,4 +1,4 @@
-//! The rows of an input's records, sent in batches.
+//! Sends the rows of CSV records in batches.
 ghost use Rattle.std.specs.Prelude.{◌≡◌, ◌≢◌, ◌<◌, ◌≤◌, ◌-◌, ◌^◌, ◌∷◌, ℕ, List, [], Option, None};
 ghost use Rattle.std.specs.Prelude.{Some, Err, IfErr, IfOk, OnOk};
 ghost use Rattle.ipc_model.specs.declared.fault.WriteFault.{WriteFault};
@@ -19,8 +19,8 @@ use ipc_stream::{BatchWriter, Seed, Sink, StreamWriter};
 use std::alloc::Global;
 use std::io::Read;
 
-// Pushes the kept row and those of the next records, until the batch has so many rows or no record
-// is left, and says whether it is full.
+// Pushes the kept row and those of the next records, until the batch has this number of rows or no
+// record remains. Returns whether the batch is full.
 fn push_rows<R: Read, W: Sink>(
     alloc: Global,
     rows: &mut RowReader<R>,
@@ -74,7 +74,7 @@ fn send_batch<R: Read, W: Sink>(
     Ok(full)
 }
 
-// Sends the rows of all records behind the header, in batches of so many rows, of which the last
+// Sends the rows of all records after the header, in batches of this number of rows. The last batch
 // may have fewer.
 fn send_records<R: Read, W: Sink>(
     alloc: Global,
@@ -128,7 +128,7 @@ fn begin_stream<W: Sink>(
     Ok(stream)
 }
 
-// Sends the stream of the records behind the header, and gives its sink back.
+// Sends the stream of the records after the header, and returns its sink.
 fn send_stream<R: Read, W: Sink>(
     alloc: Global,
     seed: Seed,
@@ -157,27 +157,36 @@ fn send_stream<R: Read, W: Sink>(
     }
 }
 
-/// Writes the records of CSV that `input` gives as a stream of batches of `batch` rows, of which
-/// the last may have fewer, and gives `input` and `sink` back.
+/// Reads CSV records from `input` and writes them to `sink` as a stream, in batches of `batch`
+/// rows. The last batch may have fewer. Returns `input` and `sink` with the result. `batch` must be
+/// from 1 to 2^31 - 1.
 ///
 /// A byte order mark at the start is dropped, and blank lines are no records. The first record is
-/// the header, with the names of the columns in their order. Each record behind it becomes a row by
-/// `ipc_text::row_from_csv`. No record makes a stream without batches. Under `Limits::standard()`
-/// the schema goes out once the header is right, each batch, behind the dictionaries that it needs,
-/// as soon as its last record is read, and at the end the end-of-stream mark; then the sink is
-/// flushed. One record is kept, one row, the buffers of one batch, and the values of the
-/// dictionaries, hashed with `Seed::Fixed`.
+/// the header, with the names of the columns in order. Each record after it becomes a row, as
+/// `ipc_text::row_from_csv` reads it. Without records the stream has no batches.
 ///
-/// `batch` is from 1 to 2^31 - 1. What went out before a refusal stands: the full batches of the
-/// records before it. Text X1 and X2 come before anything is read; X5 and X4 of record 0, the
-/// header, before anything goes out, and so X5 where there is no record; X5 and X4 of a record
-/// behind it, counted from 1, where it reads as no row. Write has the refusals of
-/// `StreamWriter::start` and `finish` and of `BatchWriter`: W1 and W6 for the schema; at a record,
-/// before the next is read, W6 where with it the batch or the values of a dictionary in it are too
-/// long, W7 where these are more than an index type of the dictionary's fields counts, W8 where
-/// they are more than `limits.slots`; W9 where the sink failed, W11 where memory was refused. Input
-/// is returned where the reader failed or gave more than 2^64 - 1 records behind the header, and
-/// Text OutOfMemory where memory for a record or its row was refused.
+/// The stream is within `Limits::standard()`. The schema is sent when the header was checked. Each
+/// batch is sent as soon as its last record is read, after the dictionaries that it needs. At the
+/// end the end-of-stream mark is sent, and the sink is flushed. One record, one row, the buffers of
+/// one batch, and the values of the dictionaries are kept. Hashes use `Seed::Fixed`.
+///
+/// Errors, after which the bytes that were sent remain sent, with the full batches of earlier
+/// records:
+///
+/// - `Text` X1 and X2: before anything is read.
+/// - `Text` X5 and X4 of record 0, the header: before anything is sent. X5 of record 0 also comes
+///   if there is no record.
+/// - `Text` X5 and X4 of a later record, counted from 1: it is no row of the schema.
+/// - `Text` `OutOfMemory`: memory for a record or its row ran out.
+/// - `Write` W1 and W6: the schema is refused, as in `StreamWriter::start`.
+/// - `Write` W6, at a record: with it the batch, or the values of a dictionary in it, are too long.
+/// - `Write` W7 or W8, at a record: with it the batch has more values of a dictionary than an index
+///   type of its fields counts (W7), or than `limits.slots` (W8).
+/// - `Write` W9: the sink failed.
+/// - `Write` W11: memory ran out.
+/// - `Input`: the reader failed, or returned more than 2^64 - 1 records after the header.
+///
+/// Faults at a record come before the next record is read.
 pub fn from_csv<R: Read, W: Sink>(
     alloc: Global,
     input: R,
@@ -208,8 +217,8 @@ pub fn from_csv<R: Read, W: Sink>(
     from_csv_with_seed(alloc, Seed::Fixed, input, sink, schema, batch)
 }
 
-/// The same, where the values of dictionaries are hashed with this seed: nobody who doesn't know it
-/// can choose values whose hashes collide.
+/// Converts CSV to a stream as `from_csv` does, but hashes the values of dictionaries with this
+/// seed. Nobody who does not know a random seed can choose values whose hashes collide.
 pub fn from_csv_with_seed<R: Read, W: Sink>(
     alloc: Global,
     seed: Seed,

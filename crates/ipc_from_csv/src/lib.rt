@@ -1,4 +1,4 @@
-//! Records of CSV become a stream (RFC 4180; Arrow Columnar Format, "IPC Streaming Format").
+//! Converts CSV records to a stream (RFC 4180; Arrow Columnar Format, "IPC Streaming Format").
 #![tactic(auto)]
 
 mod convert;

@@ -1,4 +1,4 @@
-//! The records of an input, one after the other.
+//! Reads the CSV records of an input one by one.
 ghost use Rattle.std.specs.Prelude.{◌≡◌, ◌⊎◌, ℕ, List, [], Option, IfErr, IfOk, OnErr, OnOk, true};
 ghost use Rattle.csv.specs.Reading.{error_kind, has_failed, is_io};
 ghost use Rattle.csv.specs.Records.{fields_of};
@@ -56,7 +56,7 @@ pub fn next_record<R: Read>(reader: &mut Reader<R>, fields: &mut ByteRecord) -> 
     }
 }
 
-// Reads the header, once the columns have a place in CSV, and judges it.
+// Reads the header and checks it, if CSV can represent the columns.
 pub fn read_header<R: Read>(
     reader: &mut Reader<R>,
     fields: &mut ByteRecord,

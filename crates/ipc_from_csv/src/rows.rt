@@ -1,4 +1,4 @@
-//! The rows of an input's records, one after the other.
+//! Reads the rows of an input's CSV records one by one.
 ghost use Rattle.std.specs.Prelude.{◌≡◌, ◌<◌, ◌+◌, ◌^◌, ℕ, List, Option, IfErr, IfOk, OnOk, true};
 ghost use Rattle.std.specs.Prelude.{false};
 ghost use Rattle.ipc_model.specs.declared.value.Value.{Value};
@@ -14,17 +14,17 @@ use ipc_model::{Items, Row, Schema};
 use std::alloc::Global;
 use std::io::Read;
 
-// The rows of the records behind a header. One record is kept, and one row.
+// The rows of the records after a header. One record and one row are kept.
 pub struct RowReader<R> {
     pub reader: Reader<R>,
     pub fields: ByteRecord,
     pub row: Row,
-    // How many records behind the header were read.
+    // The number of records after the header that were read.
     pub count: u64,
 }
 
 impl<R: Read> RowReader<R> {
-    // The rows behind the header, which `reader` gave as its first record.
+    // The rows after the header, which `reader` returned as its first record.
     pub fn new(alloc: Global, reader: Reader<R>, fields: ByteRecord) -> RowReader<R>
         ensures reader { result.reader ≡ reader }
         ensures count { result.count ≡ 0 }

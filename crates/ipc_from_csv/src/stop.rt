@@ -8,23 +8,23 @@ use ipc_model::WriteFault;
 use ipc_moments::TextFault;
 use std::alloc::AllocFailed;
 
-/// Why no whole stream was made of an input.
+/// Why a conversion from CSV stopped.
 #[derive(Debug, PartialEq, Eq, Drop)]
 pub enum Stop {
-    /// The input's reader failed, or gave more than 2^64 - 1 records behind the header.
+    /// The input's reader failed, or returned more than 2^64 - 1 records after the header.
     Input,
     /// The stream could not be written: W1 to W9, or W11.
     Write(WriteFault),
-    /// The columns have no place in CSV (X1, X2), the header is another or a record is no row (X4,
+    /// CSV cannot represent the columns (X1, X2), the header is another or a record is no row (X4,
     /// X5), or memory ran out.
     Text(TextFault),
 }
 
-/// Why no row is read of a record. It takes little room: a `Stop` holds the way to a value too, and
-/// each call that may answer one clears its room.
+/// Why a record is not read as a row. It is small: a `Stop` also holds a path to a value, and each
+/// call that may return one clears space for it.
 #[derive(Debug, PartialEq, Eq, Drop)]
 pub(crate) enum NoRow {
-    /// The input's reader failed, or gave too many records.
+    /// The input's reader failed, or returned too many records.
     Input,
     /// The record is no row, or memory ran out.
     Text(TextFault),

@@ -1,7 +1,5 @@
-//! A vector and a text that contracts see as plain lists.
-//!
-//! Types are made of them, so that equality of two values speaks of what they hold, and never of
-//! how much room they have reserved.
+//! A vector and a text that contracts describe as plain lists, so that equality depends only on
+//! their contents.
 #![tactic(auto)]
 
 mod items;

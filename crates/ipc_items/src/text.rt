@@ -1,4 +1,4 @@
-//! A text that contracts see as the plain list of its bytes.
+//! A text that contracts describe as the plain list of its bytes.
 ghost use Rattle.std.specs.Prelude.{◌≡◌, ◌==◌, length, IfOk, string_bytes, Some};
 
 use std::alloc::{AllocError, Global};
@@ -8,9 +8,9 @@ use std::hash::{Hash, Hasher};
 use std::marker::Model;
 use std::ops::DerefStr;
 
-/// A `String` that contracts see as the list of its bytes in UTF-8.
+/// A `String` that contracts describe as the list of its UTF-8 bytes.
 ///
-/// It is made from a `String` and gives the same `String` back, and neither takes memory.
+/// It is made from a `String` and converted back into that `String`. Neither takes memory.
 #[derive(Debug, Drop)]
 pub struct Text {
     string: String,
@@ -25,7 +25,7 @@ impl Model for Text {
 }
 
 impl Text {
-    /// A copy of `text`. The error comes where `alloc` gives no memory.
+    /// Copies a text. Returns an error if memory from `alloc` ran out.
     pub fn copied(alloc: Global, text: &str) -> Result<Text, AllocError>
         ensures { IfOk result (λ copy. copy ≡ text.now) }
     {
@@ -33,14 +33,14 @@ impl Text {
         Ok(Text { string })
     }
 
-    /// The text of `string`. It takes no memory.
+    /// Converts a string into a text. It takes no memory.
     pub fn from_string(string: String) -> Text
         ensures { result ≡ string_bytes string }
     {
         Text { string }
     }
 
-    /// The string of this text. It takes no memory.
+    /// Converts the text back into a string. It takes no memory.
     pub fn into_string(self) -> String
         ensures { string_bytes result ≡ self }
     {
@@ -48,21 +48,21 @@ impl Text {
         string
     }
 
-    /// The text as a `&str`.
+    /// Returns the text as a `&str`.
     pub fn as_str(&self) -> &str
         ensures { result.now ≡ self.now }
     {
         self.string.as_str()
     }
 
-    /// How many bytes the text has in UTF-8.
+    /// Returns the number of bytes of the text in UTF-8.
     pub fn len(&self) -> usize
         ensures { result ≡ length self.now }
     {
         self.string.len()
     }
 
-    /// Whether the text has no bytes.
+    /// Returns whether the text has no bytes.
     pub fn is_empty(&self) -> bool
         ensures { result ≡ (length self.now == 0) }
     {
@@ -86,7 +86,7 @@ impl AsStr for Text {
     }
 }
 
-/// The text itself.
+/// Prints the text as it is.
 impl fmt::Display for Text {
     ghost output = { λ text. Some text };
 

@@ -1,4 +1,4 @@
-//! JSON of schemas, both ways, and of rows and pairs, as it is written.
+//! Converts schemas to JSON and back, and rows and pairs to JSON.
 #![tactic(auto)]
 
 mod row;

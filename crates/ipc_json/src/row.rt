@@ -1,4 +1,4 @@
-//! The JSON text of a row.
+//! Writes a row as JSON.
 ghost use Rattle.std.specs.Prelude.{◌≡◌, ◌++◌, ◌∷◌, [], map, OnOk, OnErr, IfOk};
 ghost use Rattle.std.specs.Prelude.{IfErr, string_bytes};
 ghost use Rattle.hex.specs.Hex.{encode_lower};
@@ -16,9 +16,9 @@ use ipc_moments::{TextFault, moment_text, push_digits};
 use json::Writer;
 use std::alloc::{AllocError, Global};
 
-/// Appends a signed number of a field of this type to what a writer of JSON has: a date, a time or
-/// a point in time as its text where it has one, and else the number. Where memory is refused, the
-/// writer has what it had.
+/// Appends a signed number of a field of this type to a JSON writer. A date, a time or a timestamp
+/// is written as its text if it has one; any other number is written as a number. If memory ran
+/// out, the writer is unchanged.
 pub fn put_int(out: &mut Writer, kind: &DataType, number: i64) -> Result<(), AllocError>
     ensures ok { OnOk result (out.new.tokens
         ≡ out.old.tokens ++ json_tokens (outline (int_json kind.now number))) }
@@ -31,8 +31,8 @@ pub fn put_int(out: &mut Writer, kind: &DataType, number: i64) -> Result<(), All
     }
 }
 
-/// Appends bytes as a text of lower-case hexadecimal digits. What `digits` holds means nothing: it
-/// is room for the text, to be used again. Where memory is refused, the writer has what it had.
+/// Appends bytes to a JSON writer as a string of lower-case hexadecimal digits. `digits` is scratch
+/// memory, whose contents have no meaning. If memory ran out, the writer is unchanged.
 pub fn put_bytes(out: &mut Writer, digits: &mut Vec<u8>, bytes: &[u8]) -> Result<(), AllocError>
     ensures ok { OnOk result (out.new.tokens
         ≡ out.old.tokens ++ Token.string (encode_lower bytes.now) ∷ []) }
@@ -154,12 +154,12 @@ fn put_row(
     put_each(out, digits, fields, row)
 }
 
-/// Appends a row to what a writer of JSON has.
+/// Appends a row to a JSON writer.
 ///
-/// The row conforms to the schema; that nulls stand in required columns, that milliseconds of a
-/// date are no whole days, or that a time is not within 24 hours, does no harm. What `digits` holds
-/// means nothing: it is room for the digits of bytes, to be used again. Where memory is refused, a
-/// first part of the row's tokens may have been appended.
+/// The row must have values of the kinds of its columns. It need not conform in every way: nulls in
+/// columns that are not nullable, milliseconds of a date that are no whole days, and times outside
+/// 24 hours are written too. `digits` is scratch memory, whose contents have no meaning. If memory
+/// ran out, the first tokens of the row may have been appended.
 pub fn put_row_json(
     out: &mut Writer,
     digits: &mut Vec<u8>,
@@ -175,11 +175,11 @@ pub fn put_row_json(
     put_row(out, digits, schema.fields.as_slice(), row)
 }
 
-/// The text of a row: a compact array of its values (RFC 8259).
+/// Returns a row as a compact JSON array of its values (RFC 8259).
 ///
-/// Numbers and durations are whole numbers, bytes texts of lower-case hexadecimal digits, lists and
-/// structs arrays; a date, a time or a point in time is its text where it has one, and else a whole
-/// number. It refuses only where memory ran out.
+/// Numbers and durations are integers, bytes are strings of lower-case hexadecimal digits, and
+/// lists and structs are arrays. A date, a time or a timestamp is its text if it has one, and else
+/// an integer. Errors: `OutOfMemory` only.
 pub fn row_json(alloc: Global, schema: &Schema, row: &[Value]) -> Result<String, TextFault>
     ensures text { IfOk result (λ text. string_bytes text ≡ row_text schema.now.fields row.now) }
     ensures refused { IfErr result (λ fault. fault ≡ TextFault.OutOfMemory) }

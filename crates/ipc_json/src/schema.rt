@@ -1,4 +1,4 @@
-//! The JSON text of a schema.
+//! Writes a schema as JSON.
 ghost use Rattle.std.specs.Prelude.{◌≡◌, ◌++◌, ◌∷◌, [], map, OnOk, IfOk, IfErr, string_bytes};
 ghost use Rattle.std.specs.Prelude.{codes};
 ghost use Rattle.json.specs.Token.{Token};
@@ -182,7 +182,7 @@ fn put_pair_array(out: &mut Writer, pairs: &[(Text, Text)]) -> Result<(), AllocE
     put_pairs(out, pairs)
 }
 
-// The keys that stand before the name: of the children's number, the dictionary and the pairs.
+// The keys before the name: the number of children, the dictionary and the pairs.
 fn put_first_members(out: &mut Writer, field: &Field) -> Result<(), AllocError>
     ensures ok { OnOk result
         (out.new.tokens ≡ out.old.tokens ++ first_tokens (out-Field field.now)) }
@@ -262,12 +262,12 @@ fn put_schema(out: &mut Writer, schema: &Schema) -> Result<(), AllocError>
     out.end_object()
 }
 
-/// The text of a schema: a compact object with the keys `fields`, all fields with those below them
-/// in pre-order, and `metadata`, the schema's pairs (RFC 8259).
+/// Returns a schema as a compact JSON object (RFC 8259). The key `fields` has all fields with their
+/// descendants in pre-order, and the key `metadata` has the schema's pairs.
 ///
-/// A field is an object with the keys `children` (how many it has), `dictionary` (null, or its id,
-/// the type of its indices and whether its values are ordered), `metadata`, `name`, `nullable` and
-/// `type`. It refuses only where memory ran out.
+/// A field is an object with the keys `children`, `dictionary`, `metadata`, `name`, `nullable` and
+/// `type`. `children` is the number of its children. `dictionary` is null, or has the id, the type
+/// of the indices and whether the values are ordered. Errors: `OutOfMemory` only.
 pub fn schema_json(alloc: Global, schema: &Schema) -> Result<String, TextFault>
     ensures text { IfOk result (λ text. string_bytes text ≡ schema_text schema.now) }
     ensures refused { IfErr result (λ fault. fault ≡ TextFault.OutOfMemory) }
@@ -278,8 +278,8 @@ pub fn schema_json(alloc: Global, schema: &Schema) -> Result<String, TextFault>
     Ok(unsafe { String::from_utf8_unchecked(bytes) })
 }
 
-/// The text of pairs of metadata: a compact array of arrays of a key and a value, in their order.
-/// It refuses only where memory ran out.
+/// Returns pairs of metadata as a compact JSON array. Each pair is an array of a key and a value,
+/// in order. Errors: `OutOfMemory` only.
 pub fn pairs_json(alloc: Global, pairs: &[(Text, Text)]) -> Result<String, TextFault>
     ensures text { IfOk result (λ text. string_bytes text ≡ pairs_text pairs.now) }
     ensures refused { IfErr result (λ fault. fault ≡ TextFault.OutOfMemory) }

@@ -1,4 +1,4 @@
-//! A schema from its JSON text.
+//! Reads a schema from its JSON text.
 ghost use Rattle.std.specs.Prelude.{◌≡◌, ◌≢◌, ◌⊎◌, ◌∷◌, [], ℕ, List, Bool, Option, Some, None};
 ghost use Rattle.std.specs.Prelude.{Ok, IfOk, OnOk};
 ghost use Rattle.std.specs.Prelude.{IfErr, IfSome, MatchResult, FitsSigned, IsSome, IsOk, length};
@@ -40,7 +40,7 @@ use serde_json::Value;
 use std::alloc::Global;
 use std::collections::btree_map::Iter;
 
-// How many fields may stand one above another, as `Limits::standard` has it.
+// The maximum nesting of fields, as in `Limits::standard`.
 const GREATEST_DEPTH: u64 = 64;
 
 fn bits_of(width: u64) -> Option<IntBits>
@@ -370,7 +370,7 @@ fn read_pairs(alloc: Global, value: &Value) -> Result<Vec<(Text, Text)>, TextFau
     Ok(pairs)
 }
 
-// What stands at an object's next key, where it is this one.
+// The value of an object's next member, if it has this key.
 fn next_member<'a>(members: &mut Iter<'a, String, Value>, key: &str) -> Result<&'a Value, TextFault>
     ensures only { IfOk result (λ v. members_view members.old
         ≡ member key.now (view v.now) (members_view members.new)) }
@@ -400,7 +400,7 @@ fn members_in(value: &Value) -> Result<Iter<'_, String, Value>, TextFault>
     }
 }
 
-// What stands behind a field's pairs: its name, whether it is nullable, and its type.
+// The members after a field's pairs: its name, whether it is nullable, and its type.
 #[derive(Drop)]
 struct LastMembers {
     name: Text,
@@ -473,7 +473,7 @@ fn read_own(alloc: Global, value: &Value) -> Result<OwnField, TextFault>
     Ok(OwnField { field, children })
 }
 
-// The field that stands first, with all below it, and what stands behind.
+// The first field with its descendants, and the entries after them.
 #[cycle(tree)]
 fn read_field(alloc: Global, entries: &[Value], depth: u64) -> Result<(Field, &[Value]), TextFault>
     ensures read { IfOk result (λ read.
@@ -495,7 +495,7 @@ fn read_field(alloc: Global, entries: &[Value], depth: u64) -> Result<(Field, &[
     Ok((own.field.with_children(children), rest))
 }
 
-// So many fields, each with all below it, and what stands behind.
+// The next `count` fields with their descendants, and the entries after them.
 #[cycle(tree)]
 fn read_children(
     alloc: Global,
@@ -610,12 +610,13 @@ fn read_text_of(alloc: Global, text: &str) -> Result<Schema, TextFault>
     Ok(schema)
 }
 
-/// The schema whose JSON text this is, in the form of `schema_json`: with its keys in any order,
-/// where of a key that stands twice the last counts, with no other key, and with whitespace between
-/// tokens. Of the text that `schema_json` gives of a schema, it is that schema.
+/// Reads a schema from its JSON text, in the form that `schema_json` writes. The keys may be in any
+/// order, with whitespace between tokens. If a key is repeated, the last one counts. Other keys are
+/// not allowed. If `Schema::check` accepts a schema with `Limits::standard`, the text that
+/// `schema_json` returns for it is read as that schema.
 ///
-/// X6 where the text is none of that form, or that of a schema which `Schema::check` refuses under
-/// `Limits::standard`. It takes memory for the text's values and the schema.
+/// Errors: X6 if the text has another form, or if `Schema::check` refuses its schema with
+/// `Limits::standard`; `OutOfMemory`. It takes memory for the text's values and for the schema.
 pub fn schema_from_json(alloc: Global, text: &str) -> Result<Schema, TextFault>
     ensures read { IfOk result (λ s. (read_text text.now ≡ Some (schema_json s))
         × ((limits : Limits) × IsStandard limits × WellFormed limits s)) }

@@ -40,8 +40,8 @@ fn read_numbers(alloc: Global, table: &TableRef<'_>, slot: u16) -> Result<Items<
     Ok(Items::from_vec(numbers))
 }
 
-/// A RecordBatch table (Message.fbs): 0 length, 1 nodes, 2 buffers, 3 compression. A table for the
-/// compression is `Compressed`, whatever it holds.
+/// Reads a RecordBatch table (Message.fbs): 0 length, 1 nodes, 2 buffers, 3 compression. Returns
+/// `Compressed` if there is a compression table, whatever it holds.
 #[tactic(auto, unfolding(crate::specs::Reading::batch_read))]
 pub(crate) fn read_batch(alloc: Global, table: &TableRef<'_>) -> Result<BatchHead, Fault>
     ensures { AnswersUnlessOutOfMemory (λ b. b) result (batch_read table.now) }
@@ -59,8 +59,8 @@ pub(crate) fn read_batch(alloc: Global, table: &TableRef<'_>) -> Result<BatchHea
     })
 }
 
-/// A DictionaryBatch table (Message.fbs): 0 id, 1 data, 2 isDelta. Values that add to a dictionary
-/// are `DeltaDictionary`, and absent values `BadHeader`.
+/// Reads a DictionaryBatch table (Message.fbs): 0 id, 1 data, 2 isDelta. Returns `DeltaDictionary`
+/// if the values add to a dictionary, and `BadHeader` if there is no data.
 pub(crate) fn read_dictionary_batch(
     alloc: Global,
     table: &TableRef<'_>,

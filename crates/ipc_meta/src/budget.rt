@@ -4,20 +4,20 @@ ghost use Rattle.ipc_meta.specs.Budgets.{less_text, less_pairs, less_fields};
 
 use ipc_model::Fault;
 
-/// How much a schema may still have while it is read. What several offsets point to counts at each
-/// of them, so that a small message can't denote a large schema.
+/// What a schema may still have while it is read. A table that several offsets point to counts once
+/// for each of them, so that a small message cannot denote a large schema.
 #[derive(Clone, Copy, Debug, PartialEq, Eq)]
 pub(crate) struct Budget {
-    /// Columns and the fields below them.
+    /// The remaining number of columns and their descendants.
     pub(crate) fields: u64,
-    /// Bytes of names, keys, values and timezones.
+    /// The remaining bytes of names, keys, values and timezones.
     pub(crate) text: u64,
-    /// Pairs of key and value.
+    /// The remaining number of pairs of key and value.
     pub(crate) pairs: u64,
 }
 
 impl Budget {
-    /// Counts so many fields; more than are left is `TooManyFields`.
+    /// Counts `count` fields. Returns `TooManyFields` if fewer remain.
     pub(crate) fn take_fields(&mut self, count: usize) -> Result<(), Fault>
         ensures { AnswersUnlessOutOfMemory (λ _. self.new) result (less_fields count self.old) }
     {
@@ -28,7 +28,7 @@ impl Budget {
         Ok(())
     }
 
-    /// Counts so many bytes of text; more than are left is `TooMuchText`.
+    /// Counts `count` bytes of text. Returns `TooMuchText` if fewer remain.
     pub(crate) fn take_text(&mut self, count: usize) -> Result<(), Fault>
         ensures { AnswersUnlessOutOfMemory (λ _. self.new) result (less_text count self.old) }
     {
@@ -39,7 +39,7 @@ impl Budget {
         Ok(())
     }
 
-    /// Counts so many pairs; more than are left is `TooMuchText`.
+    /// Counts `count` pairs. Returns `TooMuchText` if fewer remain.
     pub(crate) fn take_pairs(&mut self, count: usize) -> Result<(), Fault>
         ensures { AnswersUnlessOutOfMemory (λ _. self.new) result (less_pairs count self.old) }
     {

@@ -35,8 +35,8 @@ fn read_pair(alloc: Global, table: &TableRef<'_>, left: &mut Budget) -> Result<(
     Ok((key, value))
 }
 
-/// The pairs of key and value in a field, which holds a vector of KeyValue tables (Schema.fbs). All
-/// are counted before the first is read.
+/// Reads the pairs of key and value in a field that holds a vector of KeyValue tables (Schema.fbs).
+/// All are counted before the first is read.
 #[tactic(auto, unfolding(crate::specs::Reading::pairs_read, crate::specs::Tables::vector_at))]
 pub(crate) fn read_pairs(
     alloc: Global,
@@ -59,8 +59,8 @@ pub(crate) fn read_pairs(
     Ok(Items::from_vec(pairs))
 }
 
-/// The fields in a field, which holds a vector of Field tables (Schema.fbs), with at most `depth`
-/// levels. All are counted before the first is read.
+/// Reads the fields in a field that holds a vector of Field tables (Schema.fbs), with at most
+/// `depth` levels. All are counted before the first is read.
 #[cycle(fields)]
 #[tactic(auto, unfolding(crate::specs::Reading::fields_read, crate::specs::Tables::vector_at))]
 pub(crate) fn read_fields(

@@ -1,8 +1,5 @@
-//! Reads and writes the metadata of one message of an Arrow IPC stream: a FlatBuffer whose root is
-//! a Message table (Message.fbs), with a schema (Schema.fbs) or the head of a batch in it.
-//!
-//! What is answered is what the tables state. Only the fields that are named here are looked at;
-//! any other field may hold anything.
+//! Reads and writes the metadata of one message: a FlatBuffer whose root is a Message table
+//! (Message.fbs), with a schema (Schema.fbs) or the head of a batch in it.
 #![tactic(auto)]
 
 mod batches;

@@ -14,7 +14,7 @@ fn fault_of(fault: FlatFault) -> Fault
     }
 }
 
-/// What the FlatBuffers reader answered, as an answer about the message.
+/// Converts a result of the FlatBuffers reader into a result about the message.
 pub(crate) fn lifted<T>(answer: Result<T, FlatFault>) -> Result<T, Fault>
     ensures { result ≡ lift answer }
 {

@@ -43,8 +43,8 @@ fn check_endianness(table: &TableRef<'_>) -> Result<(), Fault>
     Ok(())
 }
 
-// The fields of a Schema table (Schema.fbs, table Schema, 1), with at most so many levels as the
-// limits allow.
+// The fields of a Schema table (Schema.fbs, table Schema, 1), with at most the number of levels
+// that the limits allow.
 fn read_columns(
     alloc: Global,
     limits: &Limits,
@@ -192,45 +192,52 @@ fn check_body_length(limits: &Limits, length: u64) -> Result<(), Fault>
     Ok(())
 }
 
-/// Reads the metadata of one message: what its header states, and how many bytes the message's body
-/// has, from 0 to `limits.body` (Message.fbs, table Message).
+/// Reads the metadata of one message. Returns what its header states, and the number of bytes of
+/// the message's body, from 0 to `limits.body` (Message.fbs, table Message).
 ///
-/// The body's length, the fields, the text and the pairs are within `limits`; how long the metadata
-/// itself is isn't asked. `metadata` is the FlatBuffer alone, without the mark and the size before
-/// it; padding behind it may hold anything (Arrow Columnar Format, "Encapsulated message format").
-/// A schema that is answered is well formed. The pairs of the message itself are read where it is
-/// a record batch's, and aren't looked at in others. An absent vector is empty, an absent name, key
-/// or value is the empty text, and an absent timezone is none, unlike an empty one. Memory for
-/// texts, fields, nodes and buffers is taken from `alloc`.
+/// `metadata` is the FlatBuffer alone, without the continuation mark and the size before it.
+/// Padding after it may hold anything (Arrow Columnar Format, "Encapsulated message format").
+///
+/// The body's length, the fields, the text and the pairs are within `limits`. The length of the
+/// metadata itself is not checked. A schema that is returned is well formed. The pairs of the
+/// message are read for a record batch only. Only the fields that this crate names are read; any
+/// other field may hold anything.
+///
+/// An absent vector is empty, and an absent name, key or value is the empty text. An absent
+/// timezone is `None`, and differs from an empty one. Memory for texts, fields, nodes and buffers
+/// is taken from `alloc`.
 ///
 /// # Errors
 ///
-/// Each is true of the metadata. Where several causes stand in it, one of them is returned.
+/// Each fault is true of the metadata. If several apply, one of them is returned.
 ///
-/// - `BadFlat` (F5): an offset, a vtable or a range that is looked at is ill-formed (FlatBuffers
-///   binary format). What stands behind the code of another header or type isn't looked at.
+/// - `BadFlat` (F5): an offset, a vtable or a range that the reader uses is ill-formed (FlatBuffers
+///   binary format). The table of an unsupported header or type is not read.
 /// - `BadVersion` (F6): the version is not V5.
-/// - `BadHeader` (F7): the header is neither a schema nor a dictionary batch nor a record batch, or
-///   it is absent, or it is a dictionary batch without data.
-/// - `BadBodyLength` (F8): the body has fewer than 0 bytes.
+/// - `BadHeader` (F7): the header is absent, or is of another kind than schema, dictionary batch or
+///   record batch, or is a dictionary batch without data.
+/// - `BadBodyLength` (F8): the length of the body is negative.
 /// - `BodyTooLong` (F9): the body has more than `limits.body` bytes.
 /// - `BigEndian` (F12): the schema's endianness is not Little.
-/// - `UnsupportedType` (F13): a field's type is none of those that are known here; with the type's
-///   code in union Type (Schema.fbs).
-/// - `BadType` (F14): a field's type has no table, or a width or a unit that no type has.
-/// - `BadChildren` (F15): a list without exactly one child, or children of a type that has none.
+/// - `UnsupportedType` (F13): a field has a type that is not supported, with the type's code in
+///   union Type (Schema.fbs).
+/// - `BadType` (F14): a field's type has no table; an integer has another width than 8, 16, 32 or
+///   64 bits; the byte width of a fixed-size binary or the list size of a fixed-size list is
+///   negative; a date, time, timestamp or duration has a unit that does not exist; or a time has
+///   another width than its unit's.
+/// - `BadChildren` (F15): a list has not exactly one child, or a type without children has some.
 /// - `NameNotUtf8` (F16): a name, a key, a value or a timezone is not UTF-8.
-/// - `TooManyFields` (F17): more than `limits.fields` fields with their descendants.
-/// - `TooDeep` (F18): fields more than `limits.depth` deep, where a column is 1 deep.
-/// - `TooMuchText` (F19): more than `limits.text` bytes of names, keys, values and timezones, or
-///   more than `limits.pairs` pairs of key and value: in a schema, or in the pairs of a record
-///   batch's message, which are counted by themselves.
-/// - `DictionaryConflict` (F20): two fields have one dictionary and values of different types.
-/// - `NestedDictionary` (F21): a dictionary of lists or of structs.
+/// - `TooManyFields` (F17): there are more than `limits.fields` fields, descendants included.
+/// - `TooDeep` (F18): fields are nested deeper than `limits.depth`, where a column has depth 1.
+/// - `TooMuchText` (F19): there are more than `limits.text` bytes of names, keys, values and
+///   timezones, or more than `limits.pairs` pairs of key and value. A schema is counted as a whole;
+///   so are the pairs of a record batch's message.
+/// - `DictionaryConflict` (F20): two fields with one dictionary id have values of different types.
+/// - `NestedDictionary` (F21): the values of a dictionary are lists or structs.
 /// - `BadIndexType` (F22): a dictionary's indices have another width than 8, 16, 32 or 64 bits.
-/// - `Compressed` (F23): a batch has a table for its compression.
+/// - `Compressed` (F23): a batch has a compression table.
 /// - `DeltaDictionary` (F24): a dictionary batch adds to a dictionary.
-/// - `OutOfMemory` (F37): `alloc` refused memory.
+/// - `OutOfMemory` (F37): memory from `alloc` ran out.
 pub fn read_message(alloc: Global, limits: &Limits, metadata: &[u8]) -> Result<(Head, u64), Fault>
     ensures found { IfOk result (λ r. HeadOf limits.now metadata.now r.0 r.1) }
     ensures only { (head : Head) (m : ℕ) → HeadOf limits.now metadata.now head m

@@ -1,4 +1,4 @@
-//! The fields of tables that are written.
+//! Fields of the tables that the writer makes.
 ghost use Rattle.std.specs.Prelude.{◌≡◌, map, IfOk};
 ghost use Rattle.ipc_build.specs.Trees.{none, string, node, view, fields_view};
 ghost use Rattle.ipc_meta.specs.Written.{fields_then, pair_tree, with_pairs};
@@ -7,10 +7,10 @@ use ipc_build::{FlatTree, Slot};
 use ipc_model::{Items, Text};
 use std::alloc::{AllocError, Global};
 
-/// The fields of a table by their numbers.
+/// The fields of a table, with their numbers.
 pub(crate) type Slots = Vec<(u16, Slot)>;
 
-/// The table with these fields.
+/// Returns the table with these fields.
 pub(crate) fn table_of(slots: Slots) -> FlatTree
     ensures { view result ≡ fields_view slots.items }
 {
@@ -19,7 +19,7 @@ pub(crate) fn table_of(slots: Slots) -> FlatTree
     }
 }
 
-/// A text in a field.
+/// Returns a field that holds a text.
 pub(crate) fn text_slot(text: &Text) -> Result<Slot, AllocError>
     ensures { IfOk result (λ s. node s ≡ (string text.now, none)) }
 {
@@ -44,7 +44,7 @@ fn pair_trees(alloc: Global, pairs: &[(Text, Text)]) -> Result<Vec<FlatTree>, Al
     Ok(trees)
 }
 
-/// Adds a vector of pairs, where there are any.
+/// Adds a vector of pairs, if there are any.
 pub(crate) fn push_pairs(
     alloc: Global,
     slots: &mut Slots,

@@ -1,4 +1,4 @@
-//! The tables of schemas, batches and messages that are written.
+//! The tables of schemas, batches and messages that the writer makes.
 ghost use Rattle.std.specs.Prelude.{◌≡◌, ◌≤◌, ◌^◌, map, IfOk};
 ghost use Rattle.ipc_build.specs.Trees.{view};
 ghost use Rattle.ipc_model.specs.Greatest.{greatest_body};
@@ -114,7 +114,7 @@ fn message_tree(
     Ok(table_of(slots))
 }
 
-/// The message of a schema, which has no body and no pairs (Message.fbs, table Message).
+/// Returns the message of a schema, which has no body and no pairs (Message.fbs, table Message).
 pub(crate) fn schema_message(alloc: Global, schema: &Schema) -> Result<FlatTree, AllocError>
     ensures { IfOk result (λ t. view t ≡ schema_message schema.now) }
 {
@@ -122,8 +122,8 @@ pub(crate) fn schema_message(alloc: Global, schema: &Schema) -> Result<FlatTree,
     message_tree(alloc, 1, header, 0, &Items::new(alloc))
 }
 
-/// The message of a record batch with these pairs and a body of so many bytes (Message.fbs, table
-/// Message).
+/// Returns the message of a record batch with these pairs and a body of `body` bytes (Message.fbs,
+/// table Message).
 pub(crate) fn batch_message(
     alloc: Global,
     head: &BatchHead,
@@ -137,8 +137,8 @@ pub(crate) fn batch_message(
     message_tree(alloc, 3, header, body, pairs)
 }
 
-/// The message of a dictionary batch with this id and a body of so many bytes, which has no pairs
-/// (Message.fbs, table Message).
+/// Returns the message of a dictionary batch with this id and a body of `body` bytes. It has no
+/// pairs (Message.fbs, table Message).
 pub(crate) fn dictionary_message(
     alloc: Global,
     id: i64,

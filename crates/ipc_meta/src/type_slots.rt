@@ -1,4 +1,4 @@
-//! The tables of types and dictionaries that are written.
+//! The tables of types and dictionaries that the writer makes.
 ghost use Rattle.std.specs.Prelude.{◌≡◌, IfOk, pos};
 ghost use Rattle.ipc_build.specs.Trees.{Tree, fields_view};
 ghost use Rattle.ipc_model.specs.declared.schema.DataType.TheVariants as t;
@@ -66,7 +66,7 @@ fn timestamp_slots(
     }
 }
 
-/// The fields of a type's table (Schema.fbs, union Type).
+/// Returns the fields of a type's table (Schema.fbs, union Type).
 pub(crate) fn type_slots(alloc: Global, kind: &DataType) -> Result<Slots, AllocError>
     ensures { IfOk result (λ slots. fields_view slots.items ≡ type_tree kind.now) }
 {
@@ -100,7 +100,7 @@ fn dictionary_slots(alloc: Global, dictionary: Dictionary) -> Result<Slots, Allo
     ]?)
 }
 
-/// Adds a field's dictionary, where it has one.
+/// Adds a field's dictionary, if it has one.
 pub(crate) fn push_dictionary(
     alloc: Global,
     slots: &mut Slots,

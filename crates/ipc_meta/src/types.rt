@@ -39,7 +39,7 @@ fn unit_of(unit: i16) -> Option<TimeUnit>
     }
 }
 
-/// The truth value in a field: an absent byte and 0 are false, any other byte is true.
+/// Reads the boolean in a field: an absent byte and 0 are false, any other byte is true.
 #[tactic(auto, unfolding(crate::specs::Tables::flag_at))]
 pub(crate) fn read_flag(table: &TableRef<'_>, slot: u16) -> Result<bool, Fault>
     ensures { result ≡ flag_at table.now slot }
@@ -215,7 +215,7 @@ fn text_len(kind: &DataType) -> usize
     }
 }
 
-/// The type of a field, with the bytes of its timezone counted.
+/// Reads the type of a field, and counts the bytes of its timezone.
 #[tactic(auto, unfolding(crate::specs::Reading::type_read))]
 pub(crate) fn read_counted_type(
     alloc: Global,
@@ -253,7 +253,7 @@ fn read_encoding(table: &TableRef<'_>) -> Result<Dictionary, Fault>
     Ok(Dictionary { id, index, ordered })
 }
 
-/// The dictionary of a field (Schema.fbs, table Field, 4), where it has one.
+/// Reads the dictionary of a field, if it has one (Schema.fbs, table Field, 4).
 #[tactic(auto, unfolding(crate::specs::Tables::dictionary_at))]
 pub(crate) fn read_dictionary(field: &TableRef<'_>) -> Result<Option<Dictionary>, Fault>
     ensures { result ≡ dictionary_at field.now }

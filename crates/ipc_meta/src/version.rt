@@ -1,2 +1,2 @@
-/// Schema.fbs, enum MetadataVersion: V5, the one version that is read and written.
+/// Version V5, the only version that is read and written (Schema.fbs, enum MetadataVersion).
 pub(crate) const VERSION: i16 = 4;

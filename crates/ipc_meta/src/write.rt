@@ -1,4 +1,4 @@
-//! Metadata that is written.
+//! Writes the metadata of messages.
 ghost use Rattle.std.specs.Prelude.{◌≡◌, ◌⊎◌, ◌<◌, ◌≤◌, ◌+◌, ◌*◌, ◌/◌, ◌^◌, ◌++◌, ℕ, List, length};
 ghost use Rattle.std.specs.Prelude.{IfOk, IfErr, OnOk};
 ghost use Rattle.ipc_build.specs.Trees.{Tree, view};
@@ -36,23 +36,26 @@ fn built(alloc: Global, limits: &Limits, tree: &FlatTree) -> Result<Vec<u8>, Wri
     }
 }
 
-/// The metadata of a schema's message (Message.fbs, table Message; Schema.fbs, table Schema), for a
-/// schema that is well formed under the limits (`Schema::check`). The message has no body.
+/// Returns the metadata of a schema's message, which has no body (Message.fbs, table Message;
+/// Schema.fbs, table Schema). The schema must be well formed within the limits (`Schema::check`).
 ///
-/// The bytes are a FlatBuffer, in which each scalar and offset is aligned to its size. Written are
-/// the version (V5), the header with its code, and the body's length; of the schema its fields, and
-/// its pairs where there are any; of each field its name, whether it is nullable, its type with the
-/// code, and its children, and a dictionary and pairs where there are any; of each type all its
-/// fields, but a timezone only where there is one. No other field is present. Padding may follow
-/// the bytes: padded to a multiple of 8 they are at most `limits.metadata`.
+/// The bytes are a FlatBuffer in which each scalar and offset is aligned to its size. Padding may
+/// follow them: padded to a multiple of 8 they are at most `limits.metadata` bytes. These fields
+/// are present, and no others:
+///
+/// - of the message: the version (V5), the header with its code, and the body's length;
+/// - of the schema: its fields, and its pairs if there are any;
+/// - of each field: its name, whether it is nullable, its type with the code, its children, and a
+///   dictionary and pairs if there are any;
+/// - of each type: all its fields, but a timezone only if there is one.
 ///
 /// # Errors
 ///
-/// - `TooLong` (W6): the room of the metadata is above `limits.metadata` bytes. It is 16, and for
-///   each table 24 and 10 for each of its vtable's entries, for each text 8 and its bytes, for each
-///   vector of tables 12 and 4 for each of them, and for each vector of pairs of numbers 12 and 16
-///   for each of them.
-/// - `OutOfMemory` (W11): `alloc` refused memory.
+/// - `TooLong` (W6): the size bound of the metadata is above `limits.metadata` bytes. It is the sum
+///   of 16 bytes; for each table 24, and 10 for each entry of its vtable; for each text 8, and its
+///   bytes; for each vector of tables 12, and 4 for each table; for each vector of pairs of numbers
+///   12, and 16 for each pair.
+/// - `OutOfMemory` (W11): memory from `alloc` ran out.
 pub fn write_schema(alloc: Global, limits: &Limits, schema: &Schema) -> Result<Vec<u8>, WriteFault>
     requires { WellFormed limits.now schema.now }
     // Exactly these fields are there, whatever follows.
@@ -61,7 +64,7 @@ pub fn write_schema(alloc: Global, limits: &Limits, schema: &Schema) -> Result<V
     ensures aligned { IfOk result (λ b. Aligned b.items (schema_message schema.now)) }
     ensures states { IfOk result
         (λ b. (rest : List ℕ) → HeadOf limits.now (b.items ++ rest) (Head.Schema schema.now) 0) }
-    // Nothing stands behind them.
+    // No bytes follow the message.
     ensures size { IfOk result (λ b. length b.items ≡ size (schema_message schema.now)) }
     ensures within { IfOk result (λ b. (length b.items + 7) / 8 * 8 ≤ schema_room schema.now) }
     ensures short { IfOk result (λ b. (length b.items + 7) / 8 * 8 ≤ limits.now.metadata) }
@@ -73,7 +76,8 @@ pub fn write_schema(alloc: Global, limits: &Limits, schema: &Schema) -> Result<V
     built(alloc, limits, &message)
 }
 
-// Asks that a batch's body, with so many bytes, and its message's pairs are within the limits.
+// Checks that the body of a batch, which has `body` bytes, and its message's pairs are within the
+// limits.
 fn check_batch(limits: &Limits, pairs: &[(Text, Text)], body: u64) -> Result<(), WriteFault>
     ensures body { OnOk result (body ≤ limits.now.body) }
     ensures pairs { OnOk result (AllowPairs limits.now pairs.now) }
@@ -86,18 +90,19 @@ fn check_batch(limits: &Limits, pairs: &[(Text, Text)], body: u64) -> Result<(),
     Ok(())
 }
 
-/// The metadata of a record batch's message with a body of so many bytes (Message.fbs, tables
-/// Message and RecordBatch), with these pairs of key and value: the numbers of the head are written
-/// as they are, and so are the pairs, which are absent where there are none. Its layout and its
-/// padding are those of `write_schema`'s.
+/// Returns the metadata of a record batch's message with a body of `body` bytes (Message.fbs,
+/// tables Message and RecordBatch). The numbers of the head and the pairs of key and value are
+/// written as they are; without pairs their vector is absent. The layout and the padding are those
+/// of `write_schema`.
 ///
 /// # Errors
 ///
-/// - `TooLong` (W6): the body has more than `limits.body` bytes, the keys and values of the pairs
-///   have more than `limits.text` bytes, there are more than `limits.pairs` pairs, or the room of
-///   the metadata is above `limits.metadata`: 158, 16 for each node and each buffer, and where
-///   there are pairs 22, and 64 with the bytes of key and value for each of them.
-/// - `OutOfMemory` (W11): `alloc` refused memory.
+/// - `TooLong` (W6): the body has more than `limits.body` bytes; the keys and values of the pairs
+///   have more than `limits.text` bytes; there are more than `limits.pairs` pairs; or the size
+///   bound of the metadata is above `limits.metadata` bytes. It is 158 bytes, and 16 for each node
+///   and each buffer. With pairs it is 22 bytes more, and for each pair 64 and the bytes of its key
+///   and value.
+/// - `OutOfMemory` (W11): memory from `alloc` ran out.
 pub fn write_batch(
     alloc: Global,
     limits: &Limits,
@@ -124,9 +129,8 @@ pub fn write_batch(
     built(alloc, limits, &message)
 }
 
-/// The room of the metadata of a dictionary batch's message with so many nodes and buffers, in
-/// bytes: what it may need at most, whatever the numbers in it (Message.fbs, table
-/// DictionaryBatch).
+/// Returns the size bound, in bytes, of the metadata of a dictionary batch's message (Message.fbs,
+/// table DictionaryBatch). It depends on the number of nodes and of buffers only.
 #[tactic(auto, using(crate::proofs::WrittenOrder::dictionary_counts))]
 pub fn dictionary_room(nodes: u32, buffers: u32) -> u64
     ensures { result ≡ dictionary_room nodes buffers }
@@ -134,16 +138,16 @@ pub fn dictionary_room(nodes: u32, buffers: u32) -> u64
     212 + 16 * u64::from(nodes) + 16 * u64::from(buffers)
 }
 
-/// The metadata of a dictionary batch's message with a body of so many bytes (Message.fbs, tables
-/// Message and DictionaryBatch): the dictionary's id and the numbers of the head are written as
-/// they are, and isDelta is written as false. The message has no pairs. Its layout and its padding
-/// are those of `write_schema`'s.
+/// Returns the metadata of a dictionary batch's message with a body of `body` bytes (Message.fbs,
+/// tables Message and DictionaryBatch). The dictionary's id and the numbers of the head are written
+/// as they are, and isDelta is written as false. The message has no pairs. The layout and the
+/// padding are those of `write_schema`.
 ///
 /// # Errors
 ///
-/// - `TooLong` (W6): the body has more than `limits.body` bytes, or the room of the metadata is
-///   above `limits.metadata`: 212, and 16 for each node and each buffer.
-/// - `OutOfMemory` (W11): `alloc` refused memory.
+/// - `TooLong` (W6): the body has more than `limits.body` bytes, or the size bound of the metadata
+///   is above `limits.metadata` bytes. It is 212 bytes, and 16 for each node and each buffer.
+/// - `OutOfMemory` (W11): memory from `alloc` ran out.
 pub fn write_dictionary(
     alloc: Global,
     limits: &Limits,

@@ -1,11 +1,11 @@
-//! The codes of types.
+//! The codes of types in Schema.fbs.
 ghost use Rattle.std.specs.Prelude.{◌≡◌};
 ghost use Rattle.ipc_model.specs.TypeCodes.{type_code};
 
 use crate::schema::DataType;
 
 impl DataType {
-    /// The code of the type in union Type (Schema.fbs), from 1 to 18.
+    /// Returns the type's code in union Type (Schema.fbs), from 1 to 18.
     pub fn code(&self) -> u8
         ensures { result ≡ type_code self.now }
     {

@@ -1,4 +1,4 @@
-//! The table of types: how the slots of each lie in buffers, and how wide numbers are.
+//! The layouts of types: which buffers each needs, and how wide numbers are.
 ghost use Rattle.std.specs.Prelude.{◌≡◌};
 ghost use Rattle.ipc_model.specs.Layouts.{type_layout, layout, own_buffers, has_validity};
 ghost use Rattle.ipc_model.specs.Layouts.{is_judged, is_signed_64, is_texts, number_bytes};
@@ -7,7 +7,7 @@ ghost use Rattle.ipc_model.specs.Ranges.{width};
 
 use crate::schema::{DataType, DateUnit, Dictionary, IntBits, TimeUnit};
 
-/// How the slots of a field lie in its buffers (Arrow Columnar Format, "Physical Memory Layout").
+/// The layout of a field's slots in its buffers (Arrow Columnar Format, "Physical Memory Layout").
 #[derive(Clone, Copy, Debug, PartialEq, Eq, Drop)]
 pub enum Layout {
     /// No buffers: each slot is null ("Null Layout").
@@ -16,12 +16,12 @@ pub enum Layout {
     Bits,
     /// A validity bitmap, and numbers of one width ("Fixed-size Primitive Layout").
     Numbers {
-        /// How many bits a number has.
+        /// The number of bits of each number.
         bits: IntBits,
         /// Whether it is stored in two's complement.
         signed: bool,
     },
-    /// A validity bitmap, and so many bytes for each slot ("Fixed-size Primitive Layout").
+    /// A validity bitmap, and this number of bytes for each slot ("Fixed-size Primitive Layout").
     FixedBytes(u32),
     /// A validity bitmap, offsets of 32 bits, and the bytes between them ("Variable-size Binary
     /// Layout").
@@ -32,19 +32,19 @@ pub enum Layout {
     /// A validity bitmap, and offsets of 32 bits into the slots of the one child ("Variable-size
     /// List Layout").
     Lists,
-    /// A validity bitmap; slot i holds so many slots of the one child, from i times as many on
-    /// ("Fixed-Size List Layout").
+    /// A validity bitmap. Slot `i` holds `size` slots of the one child, from `i * size` on; the
+    /// number is the size ("Fixed-Size List Layout").
     FixedLists(u32),
-    /// A validity bitmap; the values of a slot stand in that slot of each child ("Struct Layout").
+    /// A validity bitmap. Slot `i` holds the values in slot `i` of each child ("Struct Layout").
     Structs,
-    /// A validity bitmap, and the indices, of one width, of values in a dictionary that stands
-    /// elsewhere ("Dictionary-encoded Layout").
+    /// A validity bitmap, and indices of one width into a dictionary, which is stored separately
+    /// ("Dictionary-encoded Layout").
     Indices {
-        /// How many bits an index has.
+        /// The number of bits of each index.
         bits: IntBits,
         /// Whether it is stored in two's complement.
         signed: bool,
-        /// Which dictionary the values stand in.
+        /// The id of the dictionary.
         id: i64,
     },
 }
@@ -85,8 +85,8 @@ fn type_layout(kind: &DataType) -> Layout
     }
 }
 
-/// The layout of the slots of a field of this type with this dictionary: indices where there is
-/// one, whatever the type.
+/// Returns the layout of a field of this type with this dictionary. With a dictionary it is
+/// `Indices`, whatever the type.
 pub fn layout_of(kind: &DataType, dictionary: Option<Dictionary>) -> Layout
     ensures { result ≡ layout kind.now dictionary }
 {
@@ -101,8 +101,8 @@ pub fn layout_of(kind: &DataType, dictionary: Option<Dictionary>) -> Layout
 }
 
 impl Layout {
-    /// How many buffers a field of this layout has without those of its children (Arrow Columnar
-    /// Format, "Buffer Listing for Each Layout"): from 0 to 3.
+    /// Returns the number of buffers of a field of this layout, without those of its children: 0 to
+    /// 3 (Arrow Columnar Format, "Buffer Listing for Each Layout").
     pub fn own_buffers(self) -> usize
         ensures { result ≡ own_buffers self }
     {
@@ -118,7 +118,8 @@ impl Layout {
         }
     }
 
-    /// Whether a null count is that of a validity bitmap, as it is but for the null layout.
+    /// Returns whether the layout has a validity bitmap that the null count must match. Only the
+    /// null layout has none.
     pub fn has_validity(self) -> bool
         ensures { result ≡ has_validity self }
     {
@@ -128,7 +129,7 @@ impl Layout {
         }
     }
 
-    /// Whether each slot holds a text in UTF-8.
+    /// Returns whether each slot holds a text in UTF-8.
     pub fn is_texts(self) -> bool
         ensures { result ≡ is_texts self }
     {
@@ -138,8 +139,8 @@ impl Layout {
         }
     }
 
-    /// Whether what each valid slot holds has to be judged by itself: a text has to be UTF-8, and
-    /// an index that of a value in its dictionary.
+    /// Returns whether each visible slot must be validated by itself: a text must be UTF-8, and an
+    /// index must be that of a value in its dictionary.
     pub fn is_judged(self) -> bool
         ensures { result ≡ is_judged self }
     {
@@ -150,7 +151,7 @@ impl Layout {
         }
     }
 
-    /// Whether each slot holds a signed number of 64 bits.
+    /// Returns whether each slot holds a signed number of 64 bits.
     pub fn is_signed_64(self) -> bool
         ensures { result ≡ is_signed_64 self }
     {
@@ -165,8 +166,8 @@ impl Layout {
 }
 
 impl TimeUnit {
-    /// How many bits a time of day in this unit has: 32 for seconds and milliseconds, 64 for
-    /// microseconds and nanoseconds (Schema.fbs, table Time, `bitWidth`).
+    /// Returns the number of bits of a time of day in this unit: 32 for seconds and milliseconds,
+    /// 64 for microseconds and nanoseconds (Schema.fbs, table Time, `bitWidth`).
     pub fn time_bits(self) -> IntBits
         ensures { result ≡ time_bits self }
     {
@@ -178,7 +179,7 @@ impl TimeUnit {
 }
 
 impl IntBits {
-    /// How many bits a number has: 8, 16, 32 or 64 (Schema.fbs, table Int, `bitWidth`).
+    /// Returns the number of bits: 8, 16, 32 or 64 (Schema.fbs, table Int, `bitWidth`).
     pub fn width(self) -> u8
         ensures { result ≡ width self }
     {
@@ -190,7 +191,7 @@ impl IntBits {
         }
     }
 
-    /// How many bytes a number has: 1, 2, 4 or 8.
+    /// Returns the number of bytes: 1, 2, 4 or 8.
     pub fn bytes(self) -> usize
         ensures { result ≡ number_bytes self }
     {

@@ -1,4 +1,4 @@
-//! How much one stream, schema or batch may hold.
+//! Limits on what one stream, schema or batch may hold.
 ghost use Rattle.std.specs.Prelude.{◌≤◌, ◌^◌, ◌-◌};
 ghost use Rattle.ipc_model.specs.Greatest.{greatest_metadata, greatest_body, greatest_slots};
 ghost use Rattle.ipc_model.specs.Greatest.{greatest_fields, greatest_depth, greatest_text};
@@ -7,8 +7,8 @@ ghost use Rattle.ipc_model.specs.Greatest.{greatest_pairs};
 use crate::check::pair_text;
 use ipc_items::Text;
 
-/// The most bytes of data of a column whose offsets have 32 bits, whatever the limits (Arrow
-/// Columnar Format, "Variable-size Binary Layout").
+/// The maximum number of bytes of data of a column with offsets of 32 bits, whatever the limits
+/// (Arrow Columnar Format, "Variable-size Binary Layout").
 pub const MAX_DATA: u64 = 0x7fff_ffff;
 
 // The greatest values of the limits.
@@ -26,29 +26,30 @@ const GREATEST_TEXT: u64 = 1 << 30;
 
 const GREATEST_PAIRS: u64 = 1 << 24;
 
-/// How much one stream, schema or batch may hold: what a reader takes from strangers, and what a
-/// writer makes. Each value is at most its greatest, which is part of the type.
+/// Limits on what one stream, schema or batch may hold, for what a reader accepts and what a writer
+/// makes. Each value is at most its maximum, which is part of the type.
 ///
 /// `Limits::standard()` has values that fit what is written in practice. The standard bounds slots
-/// and the data of a column by lengths and offsets of 32 bits; the other limits are this project's.
+/// and the data of a column by lengths and offsets of 32 bits. The other limits are those of this
+/// library.
 #[derive(Clone, Copy, Debug, PartialEq, Eq)]
 pub struct Limits {
-    /// The most bytes of a message's metadata, its padding included: at most 2^28.
+    /// The maximum number of bytes of a message's metadata, padding included: at most 2^28.
     pub metadata: u64,
-    /// The most bytes of a message's body: at most 2^42.
+    /// The maximum number of bytes of a message's body: at most 2^42.
     pub body: u64,
-    /// The most rows of a batch, and the most slots of a column: at most 2^31 - 1 (Arrow Columnar
-    /// Format, "Array lengths").
+    /// The maximum number of rows of a batch, and of slots of a column: at most 2^31 - 1 (Arrow
+    /// Columnar Format, "Array lengths").
     pub slots: u64,
-    /// The most fields of a schema, their descendants included: at most 2^20.
+    /// The maximum number of fields of a schema, descendants included: at most 2^20.
     pub fields: u64,
-    /// The most fields one above another, where a column is 1 deep: at most 64.
+    /// The maximum nesting of fields: at most 64. A column has depth 1.
     pub depth: u64,
-    /// The most bytes of a schema's names, keys, values and timezones together, and of the keys and
-    /// values of one batch: at most 2^30.
+    /// The maximum number of bytes of a schema's names, keys, values and timezones together, and of
+    /// the keys and values of one batch: at most 2^30.
     pub text: u64,
-    /// The most pairs of key and value of a schema and its fields together, and of one batch: at
-    /// most 2^24.
+    /// The maximum number of pairs of key and value of a schema and its fields together, and of one
+    /// batch: at most 2^24.
     pub pairs: u64,
     pub ghost metadata_fits: { metadata ≤ greatest_metadata },
     pub ghost body_fits: { body ≤ greatest_body },
@@ -64,8 +65,8 @@ impl Limits {
     ghost use Rattle.ipc_model.specs.Limits.{IsStandard, Covers, HaveValues, AreAllowed};
     ghost use Rattle.ipc_model.specs.Entries.{AllowPairs};
 
-    /// Limits that fit what is written in practice: metadata of 2^24 bytes, bodies of 2^40, 2^31 -
-    /// 1 slots, 65,536 fields, 64 of them one above another, 2^26 bytes of text and 2^20 pairs.
+    /// Returns limits that fit what is written in practice: metadata of 2^24 bytes, bodies of 2^40
+    /// bytes, `2^31 - 1` slots, 65,536 fields, a depth of 64, 2^26 bytes of text, and 2^20 pairs.
     pub fn standard() -> Limits
         ensures { IsStandard result }
     {
@@ -80,7 +81,7 @@ impl Limits {
         }
     }
 
-    /// Limits with these values. None exactly where one of them is above its greatest.
+    /// Creates limits with these values. Returns `None` exactly if a value is above its maximum.
     pub fn new(
         metadata: u64,
         body: u64,
@@ -129,7 +130,8 @@ impl Limits {
             && pairs <= GREATEST_PAIRS
     }
 
-    /// Whether no value is below the other's: then what is within the others is within these.
+    /// Returns whether no value is below the corresponding value of `others`. Then all that is
+    /// within `others` is within these limits.
     pub fn covers(&self, others: &Limits) -> bool
         ensures { IsTrue result ↔ Covers self.now others.now }
     {
@@ -142,8 +144,8 @@ impl Limits {
             && self.pairs >= others.pairs
     }
 
-    /// Whether one batch may have these pairs of key and value: they are not more than `pairs`, and
-    /// their keys and values have not more than `text` bytes together.
+    /// Returns whether one batch may have these pairs of key and value: there are at most `pairs`
+    /// of them, and their keys and values have at most `text` bytes together.
     pub fn allow_pairs(&self, pairs: &[(Text, Text)]) -> bool
         ensures { IsTrue result ↔ AllowPairs self.now pairs.now }
     {

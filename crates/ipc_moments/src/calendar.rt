@@ -38,8 +38,8 @@ fn date_of(day: i64) -> Date
     Date::from_days_since_min((day + 4_371_587) as u32)
 }
 
-/// Writes the text of the day with this number, in the years 0001 to 9999, and returns where it
-/// ends. Where there is none, nothing is written.
+/// Writes the text of a day in the years 0001 to 9999, and returns the position after it. For any
+/// other day it writes nothing and returns `None`.
 #[inline(always)]
 pub(crate) fn put_day(text: &mut [u8], at: usize, day: i64) -> Option<usize>
     requires { at + 10 ≤ length text.old }

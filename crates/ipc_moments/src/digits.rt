@@ -1,17 +1,17 @@
-//! Bytes as lower-case hexadecimal digits.
+//! Writes bytes as lower-case hexadecimal digits.
 ghost use Rattle.std.specs.Prelude.{◌≡◌, ◌++◌, ◌+◌, ◌*◌, OnOk, OnErr, IfSome};
 ghost use Rattle.hex.specs.Hex.{encode_lower};
 
 use std::alloc::AllocError;
 
-// The length that so many bytes lead to, two digits for each behind what is there.
+// The length after two digits for each of `bytes` bytes.
 fn length_with_digits(length: usize, bytes: usize) -> Option<usize>
     ensures { IfSome result (λ n. n ≡ length + 2 * bytes) }
 {
     length.checked_add(bytes.checked_mul(2)?)
 }
 
-/// Appends two digits for each byte. Where memory is refused, `out` is as it was.
+/// Appends two digits for each byte. If memory ran out, `out` is unchanged.
 pub fn push_digits(out: &mut Vec<u8>, bytes: &[u8]) -> Result<(), AllocError>
     ensures ok { OnOk result (out.new.items ≡ out.old.items ++ encode_lower bytes.now) }
     ensures refused { OnErr result (out.new.items ≡ out.old.items) }

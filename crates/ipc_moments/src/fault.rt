@@ -1,4 +1,4 @@
-//! Why a text is not made, or not read.
+//! The faults of texts.
 ghost use Rattle.std.specs.Prelude.{◌≡◌, Some};
 ghost use Rattle.ipc_moments.specs.declared.fault.TextFault.TheVariants.{OutOfMemory};
 ghost use Rattle.ipc_moments.specs.FaultLines.{text_fault_line};
@@ -7,42 +7,43 @@ use std::alloc::{AllocError, AllocFailed};
 use std::error::Error;
 use std::fmt;
 
-/// Why a text is not made, or not read. Each refusal but want of memory has a number, X1 to X6.
-/// Records are numbered from 0, which is the header's; columns from 0.
+/// Why a text is not written or not read. Each fault except `OutOfMemory` has a number, X1 to X6.
+/// Records are numbered from 1, and the header is record 0. Columns are numbered from 0.
 #[derive(Clone, Copy, Debug, PartialEq, Eq, Drop)]
 pub enum TextFault {
-    /// X1: a column of lists or structs, which CSV has no place for.
+    /// X1: a column is a list or a struct, which CSV cannot represent.
     NotFlat,
-    /// X2: no column, of which CSV has no record.
+    /// X2: the schema has no columns, so CSV has no record of it.
     NoColumns,
-    /// X3: a date or a point in time outside the years 0001 to 9999, milliseconds of a date that
-    /// are no whole days, or a time not within 24 hours, for CSV; the first such column.
+    /// X3: CSV has no text for a value; this is the first such column. It is a date or timestamp
+    /// outside the years 0001 to 9999, or a time outside its day. It may also be a date in
+    /// milliseconds with a part of a day.
     NoTextForm {
-        /// The column's number.
+        /// The number of the column.
         column: u64,
     },
-    /// X4: not the text of a value that conforms, or a header's name unlike the schema's; the first
-    /// such column.
+    /// X4: a field is not the text of a value that fits its column, or a name in the header is not
+    /// the column's. It is the first such column.
     BadField {
-        /// The record's number.
+        /// The number of the record.
         record: u64,
-        /// The column's number.
+        /// The number of the column.
         column: u64,
     },
-    /// X5: not as many fields as columns, which is asked before X4. An input without a header is
-    /// record 0.
+    /// X5: the number of fields is not the number of columns. This is checked before X4. An input
+    /// without a header is refused at record 0.
     WrongFieldCount {
-        /// The record's number.
+        /// The number of the record.
         record: u64,
     },
-    /// X6: not the JSON form of a schema, or of one that `Schema::check` refuses.
+    /// X6: the text is not the JSON of a schema, or `Schema::check` refuses its schema.
     BadSchemaJson,
     /// Memory ran out.
     OutOfMemory,
 }
 
-/// The number and the name, and the place where there is one, as in
-/// `X4 BadField at record 2 column 0`; for want of memory only `out of memory`.
+/// Prints the number and the name, and the place if there is one, as in `X4 BadField at record 2
+/// column 0`. `OutOfMemory` is printed as `out of memory`.
 impl fmt::Display for TextFault {
     ghost output = { λ fault. Some (text_fault_line fault) };
 

@@ -1,5 +1,4 @@
-//! Texts of dates, times and points in time, both ways, and what else texts of JSON and CSV have in
-//! common: the digits of bytes, and why a text is not made or not read.
+//! Texts of dates, times and timestamps, with hexadecimal digits and the faults of JSON and CSV.
 #![tactic(auto)]
 
 mod calendar;

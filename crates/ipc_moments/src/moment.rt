@@ -1,4 +1,4 @@
-//! Dates, times and points in time as texts at a place.
+//! Writes dates, times and timestamps at a position of a text.
 ghost use Rattle.std.specs.Prelude.{◌≡◌, ◌<◌, ◌≤◌, ◌+◌, ◌/◌, ◌%◌, option_map, length};
 ghost use Rattle.std.specs.Prelude.{IsTrue, ◌↔◌, pos, unsigned_abs};
 ghost use Rattle.std.specs.Int.{int_div_euclid, int_rem_euclid};
@@ -30,8 +30,8 @@ pub(crate) fn ticks_in_a_day(unit: TimeUnit) -> i64
     (86_400 * per_second(unit)) as i64
 }
 
-// The seconds of so many units, and what is left of a second. A division by a number that stands
-// here is a multiplication.
+// The seconds of a number of units, and the remaining part of a second. A division by a constant is
+// compiled to a multiplication.
 #[inline(always)]
 fn seconds_and_part(unit: TimeUnit, number: u64) -> (u64, u64)
     ensures seconds { result.0 ≡ number / per_second unit }
@@ -45,7 +45,7 @@ fn seconds_and_part(unit: TimeUnit, number: u64) -> (u64, u64)
     }
 }
 
-// The day of so many units after 1970-01-01, and the units behind its midnight.
+// The day of a number of units from 1970-01-01, and the units after its midnight.
 #[inline(always)]
 fn day_and_time(unit: TimeUnit, number: i64) -> (i64, u64)
     ensures day { result.0 ≡ int_div_euclid number (pos (ticks_in_a_day unit)) }
@@ -69,7 +69,7 @@ fn day_and_time(unit: TimeUnit, number: i64) -> (i64, u64)
     }
 }
 
-// Writes the text of so many seconds after midnight.
+// Writes the text of a number of seconds after midnight.
 #[inline(always)]
 fn put_clock(text: &mut [u8], at: usize, seconds: u32)
     requires small { seconds < 86_400 }
@@ -117,7 +117,7 @@ fn put_fraction(text: &mut [u8], at: usize, unit: TimeUnit, part: u32) -> usize
     }
 }
 
-// Writes the text of so many units after midnight, and returns where it ends.
+// Writes the text of a number of units after midnight, and returns the position after it.
 #[inline(always)]
 fn put_time_of_day(text: &mut [u8], at: usize, unit: TimeUnit, number: u64) -> usize
     requires small { number < ticks_in_a_day unit }
@@ -149,8 +149,8 @@ fn put_zone(text: &mut [u8], at: usize, timezone: Option<&str>) -> usize
     }
 }
 
-/// Writes the text of a date as of `date_text` from `at` on, where there is one, and returns where
-/// it ends. Else nothing is written.
+/// Writes the text of a date at `at`, as `date_text` does, and returns the position after it. If
+/// there is no text, it writes nothing and returns `None`.
 #[inline(always)]
 pub(crate) fn put_date(text: &mut [u8], at: usize, unit: DateUnit, number: i64) -> Option<usize>
     requires { at + 32 ≤ length text.old }
@@ -167,7 +167,7 @@ pub(crate) fn put_date(text: &mut [u8], at: usize, unit: DateUnit, number: i64) 
     }
 }
 
-// Whether so many units after midnight are a time of day: from 0 on, and below 24 hours.
+// Whether a number of units after midnight is a time of day: at least 0 and below 24 hours.
 #[inline(always)]
 fn is_time_of_day(unit: TimeUnit, number: i64) -> bool
     ensures { IsTrue result ↔ IsTimeOfDay unit number }
@@ -175,7 +175,8 @@ fn is_time_of_day(unit: TimeUnit, number: i64) -> bool
     number >= 0 && number < ticks_in_a_day(unit)
 }
 
-/// The same of a time of day as of `time_text`.
+/// Writes the text of a time of day at `at`, as `time_text` does, and returns the position after
+/// it. If there is no text, it writes nothing and returns `None`.
 #[inline(always)]
 pub(crate) fn put_time(text: &mut [u8], at: usize, unit: TimeUnit, number: i64) -> Option<usize>
     requires { at + 32 ≤ length text.old }
@@ -187,7 +188,8 @@ pub(crate) fn put_time(text: &mut [u8], at: usize, unit: TimeUnit, number: i64) 
     Some(put_time_of_day(text, at, unit, number as u64))
 }
 
-/// The same of a point in time as of `timestamp_text`.
+/// Writes the text of a timestamp at `at`, as `timestamp_text` does, and returns the position after
+/// it. If there is no text, it writes nothing and returns `None`.
 #[inline(always)]
 pub(crate) fn put_timestamp(
     text: &mut [u8],

@@ -1,6 +1,5 @@
-//! Dates, times and points in time from their texts: each in the one spelling that is written.
-//!
-//! A text is taken apart for its number, and the number's text is compared with it.
+//! Reads dates, times and timestamps: parses a text into a number, and compares the number's text
+//! with it.
 ghost use Rattle.std.specs.Prelude.{◌≡◌, ◌<◌, ◌+◌, ◌*◌, ◌/◌, ◌%◌, ◌++◌, ◌∷◌, ◌^◌, ℕ, ℤ, pos};
 ghost use Rattle.std.specs.Prelude.{◌*ℤ◌, ◌+ℤ◌, List, IfSome, Some, option_map, FitsSigned};
 ghost use Rattle.std.specs.Int.{w64};
@@ -18,7 +17,7 @@ use crate::texts::{date_text, time_text, timestamp_text};
 use ipc_model::{DateUnit, TimeUnit};
 use jiff_core::civil::Date;
 
-// The number below 10 whose digit stands in front, and what stands behind.
+// The number of the first digit, and the rest of the text.
 fn take_digit(text: &[u8]) -> Option<(u32, &[u8])>
     ensures small { IfSome result (λ taken. taken.0 < 10) }
     ensures all { (n : ℕ) (rest : List ℕ) → n < 10 → text.now ≡ (48 + n) ∷ rest
@@ -32,7 +31,7 @@ fn take_digit(text: &[u8]) -> Option<(u32, &[u8])>
     }
 }
 
-// The same of two digits.
+// The number of the first two digits, and the rest of the text.
 fn take_two_digits(text: &[u8]) -> Option<(u32, &[u8])>
     ensures small { IfSome result (λ taken. taken.0 < 100) }
     ensures all { (n : ℕ) (rest : List ℕ) → n < 100 → text.now ≡ two_digits n ++ rest
@@ -43,7 +42,7 @@ fn take_two_digits(text: &[u8]) -> Option<(u32, &[u8])>
     Some((tens * 10 + ones, text))
 }
 
-// The same of three digits.
+// The number of the first three digits, and the rest of the text.
 fn take_three_digits(text: &[u8]) -> Option<(u32, &[u8])>
     ensures small { IfSome result (λ taken. taken.0 < 1_000) }
     ensures all { (n : ℕ) (rest : List ℕ) → n < 1_000 → text.now ≡ three_digits n ++ rest
@@ -54,7 +53,7 @@ fn take_three_digits(text: &[u8]) -> Option<(u32, &[u8])>
     Some((hundreds * 100 + rest, text))
 }
 
-// The same of four digits.
+// The number of the first four digits, and the rest of the text.
 fn take_four_digits(text: &[u8]) -> Option<(u32, &[u8])>
     ensures small { IfSome result (λ taken. taken.0 < 10_000) }
     ensures all { (n : ℕ) (rest : List ℕ) → n < 10_000 → text.now ≡ four_digits n ++ rest
@@ -65,7 +64,7 @@ fn take_four_digits(text: &[u8]) -> Option<(u32, &[u8])>
     Some((hundreds * 100 + rest, text))
 }
 
-// What stands behind the first byte.
+// The text after its first byte.
 fn behind(text: &[u8]) -> Option<&[u8]>
     ensures { (byte : ℕ) (rest : List ℕ) → text.now ≡ byte ∷ rest
         → option_map {U = List ℕ} (λ left. left.now) result ≡ Some rest }
@@ -76,7 +75,7 @@ fn behind(text: &[u8]) -> Option<&[u8]>
     }
 }
 
-// The year, month and day whose text stands in front, and what stands behind.
+// The year, month and day at the front of the text, and the rest of the text.
 fn take_civil(text: &[u8]) -> Option<(i16, i8, i8, &[u8])>
     ensures { (c : Civil) (rest : List ℕ) → c.year < 10_000 → c.month < 100 → c.day < 100
         → text.now ≡ civil_text c ++ rest
@@ -89,7 +88,7 @@ fn take_civil(text: &[u8]) -> Option<(i16, i8, i8, &[u8])>
     Some((year as i16, month as i8, day as i8, text))
 }
 
-// The number of the day whose text stands in front, and what stands behind.
+// The number of the day at the front of the text, and the rest of the text.
 fn take_day(text: &[u8]) -> Option<(i64, &[u8])>
     ensures small { IfSome result (λ taken. IsEpochDay taken.0) }
     ensures all { (z : ℤ) (day rest : List ℕ) → day_text z ≡ Some day → text.now ≡ day ++ rest
@@ -102,7 +101,7 @@ fn take_day(text: &[u8]) -> Option<(i64, &[u8])>
     Some((i64::from(date.to_unix_epoch_day()), text))
 }
 
-// The seconds after midnight whose text stands in front, and what stands behind.
+// The seconds after midnight of the time at the front of the text, and the rest of the text.
 fn take_clock(text: &[u8]) -> Option<(u64, &[u8])>
     ensures small { IfSome result (λ taken. taken.0 < 1_000_000) }
     ensures all { (n : ℕ) (rest : List ℕ) → n < 86_400 → text.now ≡ clock_text n ++ rest
@@ -114,7 +113,7 @@ fn take_clock(text: &[u8]) -> Option<(u64, &[u8])>
     Some((u64::from(hours * 3_600 + minutes * 60 + seconds), text))
 }
 
-// The same of two groups of three digits.
+// The number of the first two groups of three digits, and the rest of the text.
 fn take_six_digits(text: &[u8]) -> Option<(u32, &[u8])>
     ensures small { IfSome result (λ taken. taken.0 < 1_000_000) }
     ensures all { (n : ℕ) (rest : List ℕ) → n < 1_000_000
@@ -126,7 +125,7 @@ fn take_six_digits(text: &[u8]) -> Option<(u32, &[u8])>
     Some((thousands * 1_000 + ones, text))
 }
 
-// The same of three groups of three digits.
+// The number of the first three groups of three digits, and the rest of the text.
 fn take_nine_digits(text: &[u8]) -> Option<(u32, &[u8])>
     ensures small { IfSome result (λ taken. taken.0 < 1_000_000_000) }
     ensures all { (n : ℕ) (rest : List ℕ) → n < 1_000_000_000
@@ -140,7 +139,7 @@ fn take_nine_digits(text: &[u8]) -> Option<(u32, &[u8])>
     Some((millions * 1_000_000 + thousands * 1_000 + ones, text))
 }
 
-// The part of a second in this unit whose text stands in front, and what stands behind.
+// The part of a second in this unit at the front of the text, and the rest of the text.
 fn take_fraction(unit: TimeUnit, text: &[u8]) -> Option<(u32, &[u8])>
     ensures small { IfSome result (λ taken. taken.0 < 1_000_000_000) }
     ensures all { (n : ℕ) (rest : List ℕ) → n < per_second unit
@@ -155,7 +154,7 @@ fn take_fraction(unit: TimeUnit, text: &[u8]) -> Option<(u32, &[u8])>
     }
 }
 
-// The units after midnight of the time of day whose text stands in front, and what stands behind.
+// The units after midnight of the time of day at the front of the text, and the rest of the text.
 fn take_time_of_day(unit: TimeUnit, text: &[u8]) -> Option<(u64, &[u8])>
     ensures small { IfSome result (λ taken. taken.0 < 2 ^ 50) }
     ensures all { (n : ℕ) (rest : List ℕ) → n < ticks_in_a_day unit
@@ -190,8 +189,8 @@ fn date_of_day(unit: DateUnit, day: i64) -> i64
     }
 }
 
-/// The number of a date whose text this is, `YYYY-MM-DD`, in the years 0001 to 9999: days or
-/// milliseconds after 1970-01-01. None for any other text.
+/// Reads a date, `YYYY-MM-DD` in the years 0001 to 9999. Returns its days or milliseconds from
+/// 1970-01-01, or `None` for any other text.
 pub fn read_date(unit: DateUnit, text: &[u8]) -> Option<i64>
     ensures only { IfSome result (λ z. spec.date_text unit z ≡ Some text.now) }
     ensures all { (z : ℤ) → spec.date_text unit z ≡ Some text.now → result ≡ Some z }
@@ -201,8 +200,8 @@ pub fn read_date(unit: DateUnit, text: &[u8]) -> Option<i64>
     if_spelled(number, date_text(unit, number), text)
 }
 
-/// The number of a time whose text this is, `hh:mm:ss` with 0, 3, 6 or 9 digits of a second behind
-/// a point by the unit: so many units after midnight. None for any other text.
+/// Reads a time, `hh:mm:ss`, followed by a point and 3, 6 or 9 digits if the unit is not seconds.
+/// Returns the number of units after midnight, or `None` for any other text.
 pub fn read_time(unit: TimeUnit, text: &[u8]) -> Option<i64>
     ensures only { IfSome result (λ z. spec.time_text unit z ≡ Some text.now) }
     ensures all { (z : ℤ) → spec.time_text unit z ≡ Some text.now → result ≡ Some z }
@@ -212,7 +211,7 @@ pub fn read_time(unit: TimeUnit, text: &[u8]) -> Option<i64>
     if_spelled(number, time_text(unit, number), text)
 }
 
-// The number of a point in time, so many units after the midnight with which a day begins.
+// The number of a timestamp that is `units` units after the midnight with which the day begins.
 fn timestamp(unit: TimeUnit, day: i64, units: u64) -> Option<i64>
     requires day { IsEpochDay day }
     requires small { units < 2 ^ 50 }
@@ -226,9 +225,9 @@ fn timestamp(unit: TimeUnit, day: i64, units: u64) -> Option<i64>
     }
 }
 
-/// The number of a point in time whose text this is, a date, `T`, a time as of `read_time`, and `Z`
-/// where a time zone is present and not empty: so many units after 1970-01-01T00:00:00. None for
-/// any other text.
+/// Reads a timestamp: a date, `T`, a time as in `read_time`, and `Z` if there is a time zone that
+/// is not empty. Returns the number of units from 1970-01-01T00:00:00, or `None` for any other
+/// text.
 pub fn read_timestamp(unit: TimeUnit, timezone: Option<&str>, text: &[u8]) -> Option<i64>
     ensures only { IfSome result (λ z. spec.timestamp_text unit
         (option_map (λ zone. zone.now) timezone.entry) z ≡ Some text.now) }

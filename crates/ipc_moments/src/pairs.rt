@@ -1,4 +1,4 @@
-//! The digits of numbers below 100.
+//! The two digits of numbers below 100.
 ghost use Rattle.std.specs.Prelude.{◌≡◌, ◌<◌};
 ghost use Rattle.ipc_moments.specs.Calendar.{two_digits};
 
@@ -15,7 +15,7 @@ static PAIRS: [u16; 100] = [
     0x3639, 0x3739, 0x3839, 0x3939,
 ];
 
-/// The two digits of a number below 100.
+/// Returns the two digits of a number below 100.
 #[inline(always)]
 pub(crate) fn pair(number: u32) -> [u8; 2]
     requires { number < 100 }

@@ -1,4 +1,4 @@
-//! Digits and marks at a place of a text.
+//! Writes digits and marks at a position of a text.
 ghost use Rattle.std.specs.Prelude.{◌≡◌, ◌≤◌, ◌<◌, ◌+◌, ◌∷◌, [], length};
 ghost use Rattle.ipc_moments.specs.Calendar.{four_digits, two_digits};
 ghost use Rattle.ipc_moments.specs.Moments.{three_digits};
@@ -17,8 +17,8 @@ pub(crate) fn put_byte(text: &mut [u8], at: usize, byte: u8)
     text[at] = byte;
 }
 
-/// Writes the two digits of a number below 100, a byte at a time: a copy of two asks whether they
-/// overlap.
+/// Writes the two digits of a number below 100, one byte at a time: a copy of two bytes would
+/// include a check for overlap.
 #[inline(always)]
 pub(crate) fn put_two_digits(text: &mut [u8], at: usize, number: u32)
     requires small { number < 100 }

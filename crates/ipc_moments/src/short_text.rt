@@ -3,7 +3,7 @@ ghost use Rattle.ipc_moments.specs.ShortTexts.{IsPlain};
 
 use std::marker::Model;
 
-/// A text of at most 32 bytes, which takes no memory. Contracts see its bytes.
+/// A text of at most 32 bytes. It takes no memory. Contracts describe it by its bytes.
 #[derive(Drop)]
 pub struct ShortText {
     bytes: [u8; 32],
@@ -22,7 +22,7 @@ impl Model for ShortText {
 }
 
 impl ShortText {
-    /// The first `len` of these bytes.
+    /// Creates the text of the first `len` bytes.
     pub(crate) fn new(bytes: [u8; 32], len: usize) -> ShortText
         requires len { len ≤ 32 }
         requires plain { IsPlain (take len bytes) }
@@ -31,7 +31,7 @@ impl ShortText {
         ShortText { bytes, len }
     }
 
-    /// The text, which is ASCII.
+    /// Returns the text, which is ASCII.
     #[tactic(auto, using(crate::proofs::Ascii::plain_is_utf8))]
     pub fn as_str(&self) -> &str
         ensures { result.now ≡ self.now }

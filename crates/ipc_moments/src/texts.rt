@@ -1,4 +1,4 @@
-//! Dates, times and points in time as short texts, or at a place of a text.
+//! Writes dates, times and timestamps as short texts, or at a position of a text.
 ghost use Rattle.std.specs.Prelude.{◌≡◌, ◌≤◌, ◌+◌, ◌++◌, option_map, length, take, ◌↔◌};
 ghost use Rattle.std.specs.Prelude.{drop, IfSome, IsNone, IsSome};
 ghost use Rattle.ipc_model.specs.Ranges.{IsTimeOfDay};
@@ -13,8 +13,8 @@ use crate::moment::{put_date, put_time, put_timestamp};
 use crate::short_text::ShortText;
 use ipc_model::{DataType, DateUnit, Text, TimeUnit};
 
-/// The text of a date, `YYYY-MM-DD`, of a number of days or of milliseconds after 1970-01-01. None
-/// outside the years 0001 to 9999, and for milliseconds that are no whole days.
+/// Returns the text of a date, `YYYY-MM-DD`. `number` counts days or milliseconds from 1970-01-01.
+/// Returns `None` outside the years 0001 to 9999, and for milliseconds that are no whole days.
 #[tactic(auto, using(crate::proofs::Plain::date_plain))]
 pub fn date_text(unit: DateUnit, number: i64) -> Option<ShortText>
     ensures { result ≡ spec.date_text unit number }
@@ -24,8 +24,9 @@ pub fn date_text(unit: DateUnit, number: i64) -> Option<ShortText>
     Some(ShortText::new(bytes, len))
 }
 
-/// The text of a time of day, so many units after midnight: `hh:mm:ss`, and 0, 3, 6 or 9 digits of
-/// a second behind a point by the unit. None below 0, and from 24 hours on.
+/// Returns the text of a time of day: `hh:mm:ss`, followed by a point and 3, 6 or 9 digits if the
+/// unit is not seconds. `number` counts units after midnight. Returns `None` below 0 and from 24
+/// hours on.
 #[tactic(auto, using(crate::proofs::Plain::time_plain, crate::proofs::Times::time_has_text))]
 pub fn time_text(unit: TimeUnit, number: i64) -> Option<ShortText>
     ensures text { result ≡ spec.time_text unit number }
@@ -36,9 +37,9 @@ pub fn time_text(unit: TimeUnit, number: i64) -> Option<ShortText>
     Some(ShortText::new(bytes, len))
 }
 
-/// The text of a point in time, so many units after 1970-01-01T00:00:00: the date, `T`, `hh:mm:ss`,
-/// 0, 3, 6 or 9 digits of a second behind a point by the unit, and `Z` where a time zone is present
-/// and not empty. None outside the years 0001 to 9999.
+/// Returns the text of a timestamp. It is the date, `T`, `hh:mm:ss`, and a point with 3, 6 or 9
+/// digits if the unit is not seconds. `Z` follows if there is a time zone that is not empty.
+/// `number` counts units from 1970-01-01T00:00:00. Returns `None` outside the years 0001 to 9999.
 #[tactic(auto, using(crate::proofs::Plain::timestamp_plain))]
 pub fn timestamp_text(unit: TimeUnit, timezone: Option<&str>, number: i64) -> Option<ShortText>
     ensures { result ≡ spec.timestamp_text unit
@@ -70,7 +71,7 @@ fn put_days(text: &mut [u8], at: usize, number: i64) -> Option<usize>
     put_date(text, at, DateUnit::Day, number)
 }
 
-// The same in milliseconds.
+// Writes the text of a date in milliseconds.
 #[inline(never)]
 fn put_whole_days(text: &mut [u8], at: usize, number: i64) -> Option<usize>
     requires { at + 32 ≤ length text.old }
@@ -79,7 +80,7 @@ fn put_whole_days(text: &mut [u8], at: usize, number: i64) -> Option<usize>
     put_date(text, at, DateUnit::Millisecond, number)
 }
 
-// The same of a time.
+// Writes the text of a time.
 #[inline(never)]
 fn put_any_time(text: &mut [u8], at: usize, unit: TimeUnit, number: i64) -> Option<usize>
     requires { at + 32 ≤ length text.old }
@@ -88,7 +89,7 @@ fn put_any_time(text: &mut [u8], at: usize, unit: TimeUnit, number: i64) -> Opti
     put_time(text, at, unit, number)
 }
 
-// The same of a point in time in seconds.
+// Writes the text of a timestamp in seconds.
 #[inline(never)]
 fn put_seconds(text: &mut [u8], at: usize, timezone: &Option<Text>, number: i64) -> Option<usize>
     requires { at + 32 ≤ length text.old }
@@ -98,7 +99,7 @@ fn put_seconds(text: &mut [u8], at: usize, timezone: &Option<Text>, number: i64)
     put_timestamp(text, at, TimeUnit::Second, zone_of(timezone), number)
 }
 
-// The same in milliseconds.
+// Writes the text of a timestamp in milliseconds.
 #[inline(never)]
 fn put_milliseconds(
     text: &mut [u8],
@@ -113,7 +114,7 @@ fn put_milliseconds(
     put_timestamp(text, at, TimeUnit::Millisecond, zone_of(timezone), number)
 }
 
-// The same in microseconds.
+// Writes the text of a timestamp in microseconds.
 #[inline(never)]
 fn put_microseconds(
     text: &mut [u8],
@@ -128,7 +129,7 @@ fn put_microseconds(
     put_timestamp(text, at, TimeUnit::Microsecond, zone_of(timezone), number)
 }
 
-// The same in nanoseconds.
+// Writes the text of a timestamp in nanoseconds.
 #[inline(never)]
 fn put_nanoseconds(
     text: &mut [u8],
@@ -164,11 +165,12 @@ fn put_instant(
     }
 }
 
-/// Writes the text of a number of this type that is a date, a time or a point in time from `at` on,
-/// where it has one, and returns where it ends. It is the text of `date_text`, `time_text` or
-/// `timestamp_text`. Else, and of another type, nothing is written.
+/// Writes the text of a date, a time or a timestamp at `at`, and returns the position after it. The
+/// text is that of `date_text`, `time_text` or `timestamp_text`. If the number has no text or is of
+/// another type, it writes nothing and returns `None`.
 ///
-/// The caller sees to 32 bytes of room. What stands in front of the text and behind its end stays.
+/// `text` must have at least 32 bytes from `at` on. The bytes before the text and after its end are
+/// unchanged.
 #[inline(never)]
 #[tactic(auto, using(crate::proofs::Plain::moment_plain))]
 pub fn put_moment(text: &mut [u8], at: usize, kind: &DataType, number: i64) -> Option<usize>
@@ -180,7 +182,7 @@ pub fn put_moment(text: &mut [u8], at: usize, kind: &DataType, number: i64) -> O
         ≡ option_map (λ moment. take at text.old ++ moment)
         (moment_text kind.now number) }
     ensures behind { IfSome result (λ end. drop end text.new ≡ drop end text.old) }
-    // The text stands for itself in a text of JSON, and needs no quotes in CSV.
+    // The text needs no escapes in JSON, and no quotes in CSV.
     ensures plain { IfSome (moment_text kind.now number) IsPlain }
 {
     match kind {
@@ -192,8 +194,8 @@ pub fn put_moment(text: &mut [u8], at: usize, kind: &DataType, number: i64) -> O
     }
 }
 
-/// The text of a number of this type that is a date, a time or a point in time, where it has one.
-/// None for another type.
+/// Returns the text of a date, a time or a timestamp, if it has one. Returns `None` for any other
+/// type.
 pub fn moment_text(kind: &DataType, number: i64) -> Option<ShortText>
     ensures { result ≡ moment_text kind.now number }
 {

@@ -1,4 +1,4 @@
-//! A stream is read batch by batch, and each batch is written as soon as it is read.
+//! Reads a stream batch by batch, and writes each batch as soon as it is read.
 ghost use Rattle.std.specs.Prelude.{◌≡◌, ◌++◌, ◌∷◌, ℕ, List, [], IfErr, IfOk, MatchResult};
 ghost use Rattle.std.specs.Prelude.{OnOk, Option, Some, false, true};
 ghost use Rattle.ipc_model.specs.declared.limits.Limits.{Limits};
@@ -176,17 +176,22 @@ fn copy_stream<R: Source, W: Sink>(
     }
 }
 
-/// Reads a stream from `source` under the limits and writes it anew to `sink`, with the
-/// end-of-stream mark (Arrow Columnar Format, "IPC Streaming Format"): the schema's message goes
-/// out once it is read, and each batch, with its pairs and rows and behind the dictionaries that it
-/// needs, before the next is read. One batch is kept at a time, and of each dictionary the values
-/// that were sent, hashed with `Seed::Fixed`. What is written is within the limits that `raised`
-/// makes of those that are given. Source and sink come back beside the answer.
+/// Reads a stream from `source` and writes it to `sink` in canonical layout, with its schema, its
+/// batches and the end-of-stream mark (Arrow Columnar Format, "IPC Streaming Format"). Returns
+/// `source` and `sink` with the result.
 ///
-/// `Stop::Read` has the refusals of `StreamReader`, F1 to F37 without F35, with the number of the
-/// message, where the schema's is 0. `Stop::Write` has those of `StreamWriter`, W1 to W9 and W11,
-/// of what was read: a null in a required field is read, and refused as W5. W11 comes also where
-/// memory is refused for a batch's rows. What was written before stands.
+/// The schema's message is sent as soon as it is read. Each batch is sent with its pairs and rows,
+/// after the dictionaries that it needs, before the next one is read. One batch is kept at a time,
+/// and of each dictionary the values that were sent. Hashes use `Seed::Fixed`. What is read is
+/// within `limits`, and what is written is within `raised(limits)`.
+///
+/// Errors, after which the bytes that were written remain written:
+///
+/// - `Stop::Read`: the stream is refused, as in `StreamReader`, with F1 to F37 except F35, and with
+///   the number of the message. The schema's message has number 0.
+/// - `Stop::Write`: what was read is refused, as in `StreamWriter`, with W1 to W9 or W11. A null in
+///   a field that is not nullable is read, and refused with W5. W11 also comes if memory for the
+///   rows of a batch ran out.
 pub fn rewrite<R: Source, W: Sink>(
     alloc: Global,
     limits: Limits,
@@ -218,8 +223,8 @@ pub fn rewrite<R: Source, W: Sink>(
     rewrite_with_seed(alloc, Seed::Fixed, limits, source, sink)
 }
 
-/// The same, where the values of dictionaries are hashed with this seed: nobody who doesn't know it
-/// can choose values whose hashes collide.
+/// Rewrites a stream as `rewrite` does, but hashes the values of dictionaries with this seed.
+/// Nobody who does not know a random seed can choose values whose hashes collide.
 pub fn rewrite_with_seed<R: Source, W: Sink>(
     alloc: Global,
     seed: Seed,

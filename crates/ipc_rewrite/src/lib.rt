@@ -1,5 +1,5 @@
-//! A stream is read batch by batch and written anew, with the same schema and the same batches
-//! (Arrow Columnar Format, "IPC Streaming Format").
+//! Reads a stream batch by batch and writes it again in canonical layout, with its schema and
+//! batches (Arrow Columnar Format, "IPC Streaming Format").
 #![tactic(auto)]
 
 mod copying;

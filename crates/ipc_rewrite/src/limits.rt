@@ -1,4 +1,4 @@
-//! The limits of a stream that is written anew.
+//! The limits of a stream that is rewritten.
 ghost use Rattle.std.specs.Prelude.{◌≡◌};
 ghost use Rattle.ipc_model.specs.Limits.{Covers, IsStandard};
 ghost use Rattle.ipc_model.specs.declared.limits.Limits.{Limits};
@@ -6,9 +6,9 @@ ghost use Rattle.ipc_rewrite.specs.Raised.{raised_of};
 
 use ipc_model::Limits;
 
-/// The limits of what `rewrite` writes: those of what it reads, with each value that is below the
-/// standard one raised to it. What is within the given limits is within these, and so is what is
-/// within the standard ones.
+/// Returns the limits of what `rewrite` writes: those of what it reads, in which each value below
+/// the standard one is replaced by the standard one. They cover the given limits and the standard
+/// limits.
 pub fn raised(limits: &Limits) -> Limits
     ensures raised { result ≡ raised_of limits.now }
     ensures covers { Covers result limits.now }

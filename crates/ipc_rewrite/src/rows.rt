@@ -1,4 +1,4 @@
-//! The rows of a batch, each made in the place of the one before it.
+//! Reads the rows of a batch, each into the memory of the row before it.
 ghost use Rattle.std.specs.Prelude.{◌≡◌, ◌<◌, [], length, IfOk, OnOk, IsTrue, string_bytes};
 ghost use Rattle.std.specs.Prelude.{slice_get, slice_index_or, Some};
 ghost use Rattle.ipc_model.specs.declared.value.Value.TheVariants as v;
@@ -10,10 +10,10 @@ use ipc_stream::{Batch, Cell, ColumnView, ListCell, StructCell};
 use std::alloc::{AllocError, Global};
 use std::mem;
 
-// So many lists and structs stand around a value at most.
+// The maximum number of lists and structs around a value.
 const DEEPEST: usize = 64;
 
-/// The columns of a batch, each found once for all rows.
+/// Returns the columns of a batch, each found once for all rows.
 pub(crate) fn columns_of(alloc: Global, batch: &Batch) -> Result<Vec<ColumnView<'_>>, AllocError>
     ensures { IfOk result (λ columns. AreColumns batch.now.rows columns.items) }
 {
@@ -24,7 +24,7 @@ pub(crate) fn columns_of(alloc: Global, batch: &Batch) -> Result<Vec<ColumnView<
     Ok(columns)
 }
 
-// An empty text with the room of a value that is let go, where that is a text.
+// An empty text with the memory of a value that is dropped, if that is a text.
 fn room_for_text(alloc: Global, kept: Value) -> String
     ensures { string_bytes result ≡ [] }
 {
@@ -48,7 +48,7 @@ fn put_text(alloc: Global, text: &str, place: &mut Value) -> Result<(), AllocErr
     Ok(())
 }
 
-// An empty list of bytes with the room of a value that is let go, where that is bytes.
+// An empty list of bytes with the memory of a value that is dropped, if that is bytes.
 fn room_for_bytes(alloc: Global, kept: Value) -> Vec<u8>
     ensures { result.items ≡ [] }
 {
@@ -72,7 +72,7 @@ fn put_bytes(alloc: Global, bytes: &[u8], place: &mut Value) -> Result<(), Alloc
     Ok(())
 }
 
-// Makes so many values of a list, of which those that were there stay in front.
+// Gives a list `count` values. Values that were there remain at the front.
 fn resize(values: &mut Vec<Value>, count: usize) -> Result<(), AllocError>
     ensures { OnOk result (length values.new.items ≡ count) }
 {
@@ -83,8 +83,7 @@ fn resize(values: &mut Vec<Value>, count: usize) -> Result<(), AllocError>
     Ok(())
 }
 
-// The values of a list or a struct that is let go, for a use of their own. What they are means
-// nothing.
+// The values of a list or a struct that is dropped, for other use. They have no meaning.
 fn room_for_values(alloc: Global, kept: Value) -> Vec<Value> {
     match kept {
         Value::List(values) | Value::Struct(values) => values.into_vec(),
@@ -92,7 +91,8 @@ fn room_for_values(alloc: Global, kept: Value) -> Vec<Value> {
     }
 }
 
-// Puts a signed number in the place of a value. Where that is one too, nothing has to be let go.
+// Replaces a value by a signed number. A signed number is overwritten, so nothing has to be
+// dropped.
 #[inline(always)]
 fn put_int(number: i64, place: &mut Value)
     ensures { place.new ≡ v.Int number }
@@ -121,8 +121,8 @@ fn put_leaf(alloc: Global, cell: Cell<'_>, place: &mut Value) -> Result<bool, Al
     Ok(true)
 }
 
-// The same of any value, and says whether there are no more than so many lists and structs around
-// what the cell shows.
+// Replaces a value by that of a cell. Returns whether the cell's values are within this depth of
+// lists and structs.
 #[cycle(put)]
 #[inline(always)]
 fn put_cell(
@@ -140,7 +140,7 @@ fn put_cell(
     }
 }
 
-// The same of a list.
+// Replaces a value by that of a list.
 #[cycle(put)]
 fn put_list(
     alloc: Global,
@@ -164,7 +164,7 @@ fn put_list(
     Ok(true)
 }
 
-// The same of a struct.
+// Replaces a value by that of a struct.
 #[cycle(put)]
 fn put_struct(
     alloc: Global,
@@ -188,8 +188,8 @@ fn put_struct(
     Ok(true)
 }
 
-// Puts the value that a column has in a row in the place of another, and says whether it isn't too
-// deep. It stands by itself, so that a column without lists and structs pays nothing for it.
+// Replaces a value by that of a column in a row. Returns whether it is not too deep. It is a
+// function of its own, so that a column without lists and structs has no cost from it.
 #[inline(never)]
 fn put_nested(
     alloc: Global,
@@ -203,7 +203,7 @@ fn put_nested(
     put_cell(alloc, column.at(at), DEEPEST, place)
 }
 
-// The same, where it is most often neither a list nor a struct.
+// Replaces a value by that of a column in a row, which is most often neither a list nor a struct.
 #[inline(always)]
 fn put_value(
     alloc: Global,
@@ -220,8 +220,7 @@ fn put_value(
     put_nested(alloc, column, at, place)
 }
 
-// Puts the values that columns have in a row in the place of as many others, and says whether none
-// of them is too deep.
+// Replaces values by those of the columns in a row. Returns whether none of them is too deep.
 fn put_row(
     alloc: Global,
     columns: &[ColumnView<'_>],
@@ -240,12 +239,12 @@ fn put_row(
     Ok(true)
 }
 
-/// Puts the values of one row of a batch in the place of those of another, whose room is used
-/// again. The caller gives the batch's columns and a row of it. Refused where a list can't grow;
-/// then what the row has is of no use.
+/// Replaces the values of a row by those of one row of a batch, and uses their memory again.
+/// `columns` must be the batch's, and `at` must be below its number of rows. Returns an error if
+/// memory ran out; then the contents of `row` have no meaning.
 ///
-/// A row is read from its columns as they were found, and from the batch where one of its values is
-/// deeper than the columns of any schema are.
+/// A row is read from its columns as they were found. If a value is deeper than the columns of any
+/// schema, the row is read from the batch.
 pub(crate) fn read_row(
     alloc: Global,
     batch: &Batch,

@@ -1,11 +1,11 @@
-//! Why a stream isn't written anew.
+//! Why a stream is not rewritten.
 
 use ipc_model::{Fault, WriteFault};
 
-/// Why a stream isn't written anew.
+/// Why a stream is not rewritten.
 #[derive(Debug, Drop)]
 pub enum Stop {
-    /// It was refused at the message with this number, which is as many as were read before it.
+    /// The stream was refused at the message with this number, counted from 0.
     Read(Fault, u64),
     /// What was read could not be written.
     Write(WriteFault),

@@ -18,8 +18,8 @@ use ipc_encode::Room;
 use ipc_model::{Items, Limits, Row, WriteFault};
 use std::alloc::Global;
 
-/// The messages of a batch, of which none is sent yet: those of the dictionaries that it needs, and
-/// its own last (Arrow Columnar Format, "IPC Streaming Format").
+/// The messages of one batch, none of which is sent yet: those of the dictionaries that it needs,
+/// then its own (Arrow Columnar Format, "IPC Streaming Format").
 #[derive(Debug, Drop)]
 pub struct BatchMessages {
     messages: Vec<Message>,
@@ -28,14 +28,14 @@ pub struct BatchMessages {
 }
 
 impl BatchMessages {
-    /// The messages.
+    /// Returns the messages in the order in which they are sent.
     pub fn as_slice(&self) -> &[Message]
         ensures { result.now ≡ self.now.messages.items }
     {
         self.messages.as_slice()
     }
 
-    /// The room of its lists, for the batch behind it.
+    /// Returns the memory of its lists, for use by the next batch.
     pub(crate) fn into_room(self) -> Room {
         let BatchMessages { messages, mut room } = self;
         let mut messages = messages;
@@ -54,7 +54,7 @@ fn id_of(id: &i64) -> i64
     *id
 }
 
-// The message of one dictionary, behind those of others. A dictionary that no field names has none.
+// Appends the message of one dictionary. A dictionary that no field names has no message.
 fn add_dictionary(
     alloc: Global,
     limits: &Limits,

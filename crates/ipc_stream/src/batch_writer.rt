@@ -12,12 +12,12 @@ use crate::writer::StreamWriter;
 use ipc_column::Batch;
 use ipc_model::{Items, Text, Value, WriteFault};
 
-/// A batch of a writer's, whose rows are pushed one by one (Arrow Columnar Format, "RecordBatch
-/// message").
+/// A batch of a `StreamWriter` whose rows are pushed one by one (Arrow Columnar Format,
+/// "RecordBatch message").
 ///
-/// It holds the rows that were pushed and not refused, and the pairs of the batch. Nothing goes out
-/// before `send`. A batch that is dropped leaves the writer as it was, but for W11, after which
-/// each call of the writer answers W10.
+/// It holds the pairs of the batch and the rows that were pushed and not refused. Nothing is sent
+/// before `send`. A batch that is dropped leaves the writer as it was. The exception is W11: after
+/// it each call of the writer returns W10.
 pub struct BatchWriter<'a, W: Sink, B = PushedRows> {
     writer: &'a mut StreamWriter<W>,
     batch: B,
@@ -38,12 +38,16 @@ impl<W: Sink> StreamWriter<W> {
     ghost use Rattle.std.specs.Borrow.{RestsIfErr, sem};
     ghost use Rattle.ipc_stream.specs.contracts.writer.StreamWriter.{the_row};
 
-    /// Begins a batch with these pairs of key and value, whose rows are then pushed one by one.
+    /// Begins a batch with these pairs of key and value. Its rows are then pushed one by one.
+    /// Nothing is sent.
     ///
-    /// W6 is returned where the metadata may need more than `limits.metadata` bytes, the pairs are
-    /// more than `limits.pairs` or have more than `limits.text` bytes, or even the buffers of no
-    /// rows, or the message of a dictionary without values, are more than the limits allow; W10
-    /// after W9 or W11; W11 where memory was refused.
+    /// Errors:
+    ///
+    /// - W6: the metadata may need more than `limits.metadata` bytes; there are more than
+    ///   `limits.pairs` pairs, or they have more than `limits.text` bytes; or the buffers of zero
+    ///   rows, or the message of a dictionary without values, already exceed the limits.
+    /// - W10: the call comes after W9 or W11.
+    /// - W11: memory ran out.
     pub fn batch(&mut self, pairs: Items<(Text, Text)>) -> Result<BatchWriter<'_, W>, WriteFault>
         ensures* rests { sem 𝓛 (RestsIfErr (the_row W.row W.Sink) self.entry
             (λ b. b.writer.ghost_name) result (λ last. IfErr result (StaysAt self.old last))) }
@@ -64,15 +68,22 @@ impl<W: Sink> StreamWriter<W> {
 }
 
 impl<W: Sink> BatchWriter<'_, W> {
-    /// Takes one row more.
+    /// Validates one row and adds it to the batch. Nothing is sent.
     ///
-    /// W2 to W5 are returned where `conforms` refuses the row, with the number that it would have
-    /// and the path in it; W6 where with this row a binary or UTF-8 column would have more than
-    /// 2^31 - 1 bytes of data, or the body more than `limits.body`; W8 where there would be more
-    /// than `limits.slots` rows, or as many items in all lists of a column; W6, W7 or W8 where with
-    /// this row the distinct values of a dictionary would be too long or too many, as `write_batch`
-    /// has it. Such a row isn't kept, and the next may come. W10 is returned after W9 or W11, and
-    /// W11 where memory was refused.
+    /// Errors:
+    ///
+    /// - W2 to W5: `conforms` refuses the row. The fault has the number that the row would have in
+    ///   the batch, and the path in the row.
+    /// - W6: with this row a binary or UTF-8 column would have more than 2^31 - 1 bytes of data, or
+    ///   the body more than `limits.body` bytes.
+    /// - W8: with this row there would be more than `limits.slots` rows, or more than
+    ///   `limits.slots` items in all lists of a column.
+    /// - W6, W7 or W8: with this row the distinct values of a dictionary would be too long or too
+    ///   many, as `write_batch` defines it.
+    /// - W10: the call comes after W9 or W11.
+    /// - W11: memory ran out.
+    ///
+    /// After W2 to W8 the row is not kept, and the next row may be pushed.
     #[inline(always)]
     pub fn push(&mut self, row: &[Value]) -> Result<(), WriteFault>
         ensures same_reference { self.new.writer.ghost_name ≡ self.old.writer.ghost_name }
@@ -94,18 +105,24 @@ impl<W: Sink> BatchWriter<'_, W> {
         self.writer.push_row(&mut self.batch, row)
     }
 
-    /// Takes all rows of a batch that was read, straight from its columns, with no value of its own
-    /// for each cell. At `Ok(false)` nothing was taken, and `push` takes the rows one by one: it
-    /// isn't sure of them, or says of one why it isn't taken.
+    /// Adds all rows of a batch that was read, column by column, without making a value for each
+    /// cell. Returns true if it took all rows, and false if it took none. After false, push the
+    /// rows one by one: `push` takes each row or returns why it refuses it.
     ///
-    /// They are taken at once where that is told by one look at each column: each is of numbers,
-    /// truths, dates in days, texts or bytes as its field is, or of indices as those of its field,
-    /// in a dictionary of such values, without a null where the field is required, and all are
-    /// surely within the limits. Lists and structs are of such columns too, or of one another,
-    /// where each child has just the slots that theirs lead to, in their order: those of a list
-    /// begin at the first, and null lists have none; a struct's are null where it is. Each
-    /// dictionary is named by one field of the schema, which is no child of another, and stays
-    /// within the limits. W10 is returned after W9 or W11, and W11 where memory was refused.
+    /// It may return false for any batch; no contract says when. The implementation returns true
+    /// if:
+    ///
+    /// - each column stores numbers, booleans, dates in days, texts or bytes of its field's type,
+    ///   or indices;
+    /// - indices have their field's index type, into a dictionary of such values;
+    /// - a column whose field is not nullable has no null;
+    /// - each list and struct consists of such columns, and each child has exactly the slots that
+    ///   its parent refers to, in order: the first list begins at slot 0, null lists are empty, and
+    ///   a child of a struct is null where the struct is;
+    /// - each dictionary belongs to one field of the schema, which is no child of another field;
+    /// - an upper bound of all lengths is within the limits.
+    ///
+    /// Errors: W10 after W9 or W11; W11 if memory ran out.
     pub fn push_columns(&mut self, batch: &Batch) -> Result<bool, WriteFault>
         ensures same_reference { self.new.writer.ghost_name ≡ self.old.writer.ghost_name }
         ensures stays { Stays self.old.writer.now self.new.writer.now result }
@@ -121,10 +138,10 @@ impl<W: Sink> BatchWriter<'_, W> {
         self.writer.push_columns(&mut self.batch, batch)
     }
 
-    /// Sends the message of the batch with the rows that were pushed, behind those of the
-    /// dictionaries that it needs, as `write_batch` does.
+    /// Sends the message of the batch with the pushed rows, after the messages of the dictionaries
+    /// that it needs, as `StreamWriter::write_batch` does.
     ///
-    /// W9 is returned where the sink failed, W10 after W9 or W11, and W11 where memory was refused.
+    /// Errors: W9 if the sink failed; W10 after W9 or W11; W11 if memory ran out.
     pub fn send(self) -> Result<(), WriteFault>
         ensures sends { (b : BatchRows)
             → HoldsBatch self.entry.writer.now.limits self.entry.writer.now.schema b

@@ -22,8 +22,8 @@ use std::alloc::Global;
 use std::marker::Model;
 use std::mem;
 
-/// A stream whose schema was sent (Arrow Columnar Format, "IPC Streaming Format"): what its next
-/// messages go on from.
+/// A stream whose schema was sent: the state from which its next messages are made (Arrow Columnar
+/// Format, "IPC Streaming Format").
 #[derive(Debug, Drop)]
 pub(crate) struct OpenStream {
     limits: Limits,
@@ -159,7 +159,7 @@ impl OpenStream {
     }
 
     // Sends the messages of a batch whose rows were pushed: those of the dictionaries that it
-    // needs, and its own. All of them are ready before the first goes out.
+    // needs, and its own. All messages are complete before the first is sent.
     pub(crate) fn send_rows<W: Sink>(
         &mut self,
         sink: &mut W,

@@ -23,9 +23,9 @@ use ipc_encode::{Builder, NoIndices, Room, Spare, encode};
 use ipc_model::{Items, Limits, Row, Schema, Text, Value, WriteFault, conforms, is_conforming};
 use std::alloc::Global;
 
-/// The rows of a batch that isn't sent yet, and its pairs (Message.fbs, RecordBatch).
+/// The rows of a batch that is not sent yet, and its pairs (Message.fbs, RecordBatch).
 ///
-/// It is told apart by the batch that it holds.
+/// Its contracts describe it by the batch that it holds.
 #[derive(Debug, Drop)]
 pub struct PushedRows {
     pub(crate) builder: Builder,
@@ -34,8 +34,8 @@ pub struct PushedRows {
     pub(crate) pairs: Items<(Text, Text)>,
 }
 
-// Whether a batch with these pairs and no rows is within the limits. Its message is made and let
-// go, so that what is too long whatever the rows is refused here.
+// Checks that a batch with these pairs and no rows is within the limits. It builds the message and
+// drops it, so a batch that is too long for any rows is refused here.
 fn check_pairs(
     alloc: Global,
     limits: &Limits,
@@ -93,9 +93,8 @@ impl PushedRows {
         }
     }
 
-    // Takes one row more that conforms, whose columns are within the limits with the rows that are
-    // held, and behind which so much weight is spare. After a refusal for memory what is held is of
-    // no use, after any other it is the batch that it was.
+    // Adds one row that conforms, that keeps the columns within the limits, and that leaves this
+    // headroom. After W11 the held batch is unusable; after any other refusal it is unchanged.
     #[inline(always)]
     fn take_sure(&mut self, row: &[Value], spare: Spare) -> Result<(), NoteFault>
         ensures holds { (limits : Limits) (schema : Schema) (b : BatchRows)
@@ -120,7 +119,7 @@ impl PushedRows {
         Ok(())
     }
 
-    // The same of a row that conforms, whose columns are looked at first.
+    // Validates the columns of a row that conforms, then adds it.
     #[inline(never)]
     fn take(&mut self, row: &[Value]) -> Result<(), NoteFault>
         ensures holds { (limits : Limits) (schema : Schema) (b : BatchRows)
@@ -164,8 +163,8 @@ impl PushedRows {
         Ok(())
     }
 
-    // Takes one row more. It tells why not in few bytes: what tells it whole is large, and made
-    // where there is a refusal alone.
+    // Adds one row. The refusal is returned in a few bytes: the full fault is large, and is made
+    // only when it is needed.
     #[inline(always)]
     fn take_any(&mut self, schema: &Schema, row: &[Value]) -> Result<(), Untaken>
         requires { HasShortPaths schema.now }
@@ -189,7 +188,7 @@ impl PushedRows {
         Ok(())
     }
 
-    // What is told of a row that wasn't taken.
+    // Returns the full fault for a row that was refused.
     #[cold]
     #[inline(never)]
     fn told(&self, schema: &Schema, row: &[Value], why: Untaken) -> WriteFault
@@ -209,7 +208,8 @@ impl PushedRows {
         }
     }
 
-    // The same as an answer. It stands by itself, so that room for it is made here alone.
+    // Returns the full fault for a row that was refused, as `Err`. It is a function of its own, so
+    // that only this function has stack space for the fault.
     #[inline(always)]
     fn refuse(&self, schema: &Schema, row: &[Value], why: Untaken) -> Result<(), WriteFault>
         requires short { HasShortPaths schema.now }

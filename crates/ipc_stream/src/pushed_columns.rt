@@ -1,4 +1,4 @@
-//! All rows of a batch that was read, pushed at once.
+//! Pushes all rows of a batch that was read, in one call.
 ghost use Rattle.std.specs.Prelude.{◌++◌, IfErr, IfOk, IsTrue, false};
 ghost use Rattle.std.specs.List.{AllByRecursion};
 ghost use Rattle.ipc_model.specs.Fits.{RowFits};

@@ -31,14 +31,21 @@ fn write_messages<W: Sink>(
     send_end(sink)
 }
 
-/// Writes a table as a stream with the end-of-stream mark (Arrow Columnar Format, "IPC Streaming
-/// Format"): its schema, its batches in order, and the mark, as `StreamWriter::start`,
-/// `write_batch` and `finish` do.
+/// Writes a whole table as a stream: its schema, its batches in order, and the end-of-stream mark,
+/// as `StreamWriter::start`, `write_batch` and `finish` do (Arrow Columnar Format, "IPC Streaming
+/// Format").
 ///
-/// The refusals are theirs: W1 for the schema, W2 to W5 for the first row of a batch that doesn't
-/// fit, with its number in its batch and its path, W6 and W8 for lengths above the limits, W7 for
-/// more values of a dictionary than its indices count, W9 where the sink failed and W11 where
-/// memory was refused. What was sent before stands.
+/// Errors:
+///
+/// - W1: the schema is not well formed.
+/// - W2 to W5: a row does not fit the schema. The fault has the number of the first such row in its
+///   batch, and the path in the row.
+/// - W6 or W8: a length is above the limits.
+/// - W7: a dictionary has more values than its indices count.
+/// - W9: the sink failed.
+/// - W11: memory ran out.
+///
+/// Messages that were sent before the refusal remain sent.
 pub fn write_table<W: Sink>(
     alloc: Global,
     limits: &Limits,
@@ -48,8 +55,8 @@ pub fn write_table<W: Sink>(
     // What was written denotes the table, with its mark, and no call of the sink failed.
     ensures denotes { OnOk result (Sent (IsTableOf limits.now table.now) (W.written sink.old)
         (W.written sink.new) (W.failures sink.old) (W.failures sink.new)) }
-    // It is the schema's message and those of the batches in order, each behind one message of each
-    // dictionary that it needs, and the mark.
+    // The bytes are the schema's message, the batches' messages in order, and the mark. Before each
+    // batch is one message for each dictionary that it needs.
     ensures sends { OnOk result (Sent (SendsStream limits.now table.now) (W.written sink.old)
         (W.written sink.new) (W.failures sink.old) (W.failures sink.new)) }
     // Nothing is held back.

@@ -2,12 +2,12 @@ ghost use Rattle.std.specs.Prelude.{◌≡◌};
 
 use ipc_dict::NoteFault;
 
-/// Why a row isn't taken into a batch, in few bytes.
+/// Why a row is not taken into a batch, in a few bytes.
 #[derive(Clone, Copy, Debug, PartialEq, Eq, Drop)]
 pub(crate) enum Untaken {
-    /// It doesn't conform.
+    /// The row does not conform.
     Misfit,
-    /// With it a column, a dictionary or the body would be too long, or memory was refused.
+    /// With this row a column, a dictionary or the body would be too long, or memory ran out.
     Refused(NoteFault),
 }
 
