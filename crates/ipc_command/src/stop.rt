@@ -6,9 +6,8 @@ ghost use Rattle.ipc_command.specs.Lines.{stop_text};
 
 use ipc_model::{Fault, WriteFault};
 use ipc_moments::TextFault;
-use std::fmt;
-use std::io;
 use std::io::Write;
+use std::{fmt, io};
 
 /// Why a job stopped.
 #[derive(Debug, Drop)]
