@@ -7,8 +7,8 @@ TOP = pathlib.Path(__file__).resolve().parent.parent
 CRATE = TOP / "crates/arrowstream"
 PROGRAM = CRATE / "out/arrowstream"
 SOURCES = ("src", "specs")
-# What it takes to prove and compile the program from nothing, as bin/build was measured.
-COST = "about 40 minutes and 9 GB on 4 cores"
+# What bin/build takes from nothing, as it was measured.
+COST = "30 to 40 minutes and 8 GB of disk on 4 cores"
 
 
 def modified(path):
