@@ -8,7 +8,7 @@ CRATE = TOP / "crates/arrowstream"
 PROGRAM = CRATE / "out/arrowstream"
 SOURCES = ("src", "specs")
 # What bin/build takes from nothing, as it was measured.
-COST = "30 to 40 minutes and 8 GB of disk on 4 cores"
+COST = "40 to 50 minutes and 9 GB of disk on 4 cores"
 
 
 def modified(path):
