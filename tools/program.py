@@ -7,8 +7,8 @@ TOP = pathlib.Path(__file__).resolve().parent.parent
 CRATE = TOP / "crates/arrowstream"
 PROGRAM = CRATE / "out/arrowstream"
 SOURCES = ("src", "specs")
-# What bin/build takes from nothing, as it was measured.
-COST = "40 to 50 minutes and 9 GB of disk on 4 cores"
+# What bin/build takes from nothing: 52 minutes on 4 cores that had other work too.
+COST = "up to an hour and 9 GB of disk on 4 cores"
 
 
 def modified(path):
