@@ -17,7 +17,7 @@ use Rattle.ipc_encode.proofs.Growing.{refused_more}
 use Rattle.ipc_dict.specs.declared.entry.TallyEntry.{TallyEntry}
 use Rattle.ipc_dict.specs.Distinct.{is_seen}
 use Rattle.ipc_dict.specs.declared.columns.EntryColumns.{EntryColumns}
-use Rattle.ipc_dict.specs.EntryColumns.{AllCounted, AreCounted, IsEntryCounted}
+use Rattle.ipc_dict.specs.EntryColumns.{AllCounted, AreEntriesCounted, IsEntryCounted}
 use Rattle.ipc_dict.specs.Noting.{note_entry, note_one, note_all, AllGrow, cut, lens}
 use Rattle.ipc_dict.specs.Within.{AllWithin, IsEntryOver, IsOfLimits, IsOverLimit}
 use Rattle.ipc_dict.proofs.Notes.{cut_back, note_all-append}
@@ -172,24 +172,25 @@ grow_length (e ∷ es) (f ∷ fs) h = ap (λ (n : ℕ). suc n) (grow_length es f
 
 module _ (fields : List Field) where
   -- columns of entries are those of what these grew to, up to their marks
-  pub up_to_marks : (ms : List ℕ) (t u : List TallyEntry) (columns : EntryColumns) → ms ≡ lens t → AllGrow t u → AreCounted fields t columns
-      → AreCounted fields (cut ms u) columns
+  pub up_to_marks : (ms : List ℕ) (t u : List TallyEntry) (columns : EntryColumns) → ms ≡ lens t → AllGrow t u
+      → AreEntriesCounted fields t columns → AreEntriesCounted fields (cut ms u) columns
   up_to_marks ms t u columns is grows h =
-      subst (λ (es : List TallyEntry). AreCounted fields es columns) (sym (ap (λ (ks : List ℕ). cut ks u) is ∙ cut_back t u grows)) h
+      subst (λ (es : List TallyEntry). AreEntriesCounted fields es columns) (sym (ap (λ (ks : List ℕ). cut ks u) is ∙ cut_back t u grows)) h
 
   -- there are as many as entries, also where these grew
-  pub many_columns : (t u : List TallyEntry) (columns : EntryColumns) → AllGrow t u → AreCounted fields t columns
+  pub many_columns : (t u : List TallyEntry) (columns : EntryColumns) → AllGrow t u → AreEntriesCounted fields t columns
       → length columns.counted.items ≡ length u
   many_columns t u columns grows h =
       counted_length columns.limits fields t columns.counted.items h.counted ∙ sym (grow_length t u grows)
 
-  pub counted_within : (es : List TallyEntry) (columns : EntryColumns) → AreCounted fields es columns → AllWithin columns.limits fields es
+  pub counted_within : (es : List TallyEntry) (columns : EntryColumns) → AreEntriesCounted fields es columns
+      → AllWithin columns.limits fields es
   counted_within es columns h = all_within columns.limits fields es columns.counted.items h.counted
 
   -- the same of entries that were written back, of which there are as many as before
   pub within_again : (fs : List Field) (new old : List TallyEntry) (n : ℕ) (columns : EntryColumns) → fs ≡ fields → n ≡ length new
-      → AreCounted fs new columns → AllWithin columns.limits fields (take n (new ++ drop (length new) old))
+      → AreEntriesCounted fs new columns → AllWithin columns.limits fields (take n (new ++ drop (length new) old))
   within_again fs new old n columns same len h =
       let whole = ap (λ (k : ℕ). take k (new ++ drop (length new) old)) len ∙ take-append_seam new (drop (length new) old) in
       subst (λ (es : List TallyEntry). AllWithin columns.limits fields es) (sym whole)
-      (counted_within new columns (subst (λ (xs : List Field). AreCounted xs new columns) same h))
+      (counted_within new columns (subst (λ (xs : List Field). AreEntriesCounted xs new columns) same h))

@@ -24,7 +24,7 @@ AllCounted limits fields (e ∷ es) (column ∷ columns) =
 AllCounted limits fields _ _ = ⊥
 
 -- the columns have the counts of these dictionaries, and an entry in `next` for each
-pub record AreCounted (fields : List Field) (entries : List TallyEntry)
+pub record AreEntriesCounted (fields : List Field) (entries : List TallyEntry)
     (columns : EntryColumns) : Type 0 where
   pub counted : AllCounted columns.limits fields entries columns.counted.items
   pub room : length columns.next.items ≡ length columns.counted.items

@@ -7,7 +7,7 @@ ghost use Rattle.ipc_encode.specs.Faults.{write_fault};
 ghost use Rattle.ipc_encode.specs.Limits.{IsTooLong};
 ghost use Rattle.ipc_dictionaries.specs.ValuesColumns.{columns_for, IsOneColumn};
 ghost use Rattle.ipc_dict.specs.declared.entry.TallyEntry.{TallyEntry};
-ghost use Rattle.ipc_dict.specs.EntryColumns.{AllCounted, AreCounted};
+ghost use Rattle.ipc_dict.specs.EntryColumns.{AllCounted, AreEntriesCounted};
 ghost use Rattle.ipc_dict.specs.Noting.{cut};
 ghost use Rattle.ipc_dict.specs.SchemaIds.{unused};
 ghost use Rattle.ipc_dict.specs.Within.{IsOverLimit};
@@ -40,7 +40,7 @@ impl EntryColumns {
         entries: &[TallyEntry],
     ) -> Result<EntryColumns, WriteFault>
         requires { entries.now ≡ unused schema.now.fields }
-        ensures counted { IfOk result (AreCounted schema.now.fields entries.now) }
+        ensures counted { IfOk result (AreEntriesCounted schema.now.fields entries.now) }
         ensures limits { IfOk result (λ columns. columns.limits ≡ limits.now) }
         ensures over { IfErr result (λ fault. fault ≡ WriteFault.TooLong
             → IsOverLimit limits.now schema.now.fields entries.now fault) }
@@ -73,14 +73,15 @@ impl EntryColumns {
         requires room { length self.old.next.items ≡ length entries.now }
         requires marks { length marks.now ≡ length entries.now }
         ensures counted { (fields : List Field)
-            → AreCounted fields (cut marks.now entries.now) self.old
-            → OnOk result (AreCounted fields entries.now self.new) }
+            → AreEntriesCounted fields (cut marks.now entries.now) self.old
+            → OnOk result (AreEntriesCounted fields entries.now self.new) }
         ensures refused { (fields : List Field)
-            → AreCounted fields (cut marks.now entries.now) self.old
+            → AreEntriesCounted fields (cut marks.now entries.now) self.old
             → IfErr result (λ fault.
             IsOverLimit self.old.limits fields entries.now (write_fault fault)) }
         ensures kept { (fields : List Field) (others : List TallyEntry)
-            → AreCounted fields others self.old → OnErr result (AreCounted fields others self.new) }
+            → AreEntriesCounted fields others self.old
+            → OnErr result (AreEntriesCounted fields others self.new) }
         ensures limits { self.new.limits ≡ self.old.limits }
     {
         count_next(&mut self.next, &self.counted, entries, marks, &self.limits)?;

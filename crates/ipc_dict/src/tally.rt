@@ -7,7 +7,7 @@ ghost use Rattle.ipc_dict.specs.ColumnNotes.{AreApart};
 ghost use Rattle.ipc_dict.specs.Pairs.{row_pairs, rows_pairs};
 ghost use Rattle.ipc_dict.specs.SchemaIds.{unused, kept_ids, tally_ids};
 ghost use Rattle.ipc_dict.specs.Planning.{AllSettled, FindsAll, FindsNoted, KnowsAll};
-ghost use Rattle.ipc_dict.specs.EntryColumns.{AreCounted};
+ghost use Rattle.ipc_dict.specs.EntryColumns.{AreEntriesCounted};
 ghost use Rattle.ipc_dict.specs.Faults.{told_of};
 ghost use Rattle.ipc_dict.specs.Within.{AllWithin, IsOfLimits, IsOverLimit};
 
@@ -55,7 +55,7 @@ impl Model for Tally {
     ghost use Rattle.ipc_dict.specs.contracts.entry.TallyEntry as entry;
     ghost use Rattle.ipc_dict.specs.Tallied.{Tallied};
     ghost use Rattle.ipc_dict.specs.Noting.{AllFit};
-    ghost use Rattle.ipc_dict.specs.EntryColumns.{AreCounted};
+    ghost use Rattle.ipc_dict.specs.EntryColumns.{AreEntriesCounted};
 
     ghost Value = { Tallied };
 
@@ -70,7 +70,7 @@ impl Model for Tally {
     } };
 
     ghost invariant = { λ t. (length t.marks.items ≡ length t.entries.items)
-        × (AllFit t.entries.items × AreCounted t.fields t.entries.items t.columns) };
+        × (AllFit t.entries.items × AreEntriesCounted t.fields t.entries.items t.columns) };
 }
 
 impl Tally {
@@ -367,7 +367,7 @@ fn note_row(
     row: &[Value],
 ) -> Result<(), NoteFault>
     requires marks { length marks.old ≡ length entries.old }
-    requires columns { AreCounted fields.now entries.old columns.old }
+    requires columns { AreEntriesCounted fields.now entries.old columns.old }
     ensures noted { OnOk result
         (entries.new ≡ note_all entries.old (row_pairs fields.now row.now)) }
     ensures ids { tally_ids entries.new ≡ tally_ids entries.old }
@@ -376,7 +376,7 @@ fn note_row(
     ensures full { IfErr result
         (λ fault. told_of fault ≡ WriteFault.DictionaryFull
         → IsFull (note_all entries.old (row_pairs fields.now row.now))) }
-    ensures counted { AreCounted fields.now entries.new columns.new }
+    ensures counted { AreEntriesCounted fields.now entries.new columns.new }
     ensures limits { columns.new.limits ≡ columns.old.limits }
     ensures over { IfErr result (λ fault. IsOfLimits (told_of fault)
         → IsOverLimit columns.old.limits fields.now
@@ -403,15 +403,15 @@ fn note_counted(
     row: &[Value],
 ) -> Result<(), NoteFault>
     requires marks { marks.now ≡ lens entries.old }
-    requires columns { AreCounted fields.now entries.old columns.old }
+    requires columns { AreEntriesCounted fields.now entries.old columns.old }
     ensures noted { OnOk result
         (entries.new ≡ note_all entries.old (row_pairs fields.now row.now)) }
     ensures fits { OnOk result (AllFit entries.old → AllFit entries.new) }
     ensures full { IfErr result
         (λ fault. told_of fault ≡ WriteFault.DictionaryFull
         → IsFull (note_all entries.old (row_pairs fields.now row.now))) }
-    ensures counted { OnOk result (AreCounted fields.now entries.new columns.new) }
-    ensures kept { OnErr result (AreCounted fields.now entries.old columns.new) }
+    ensures counted { OnOk result (AreEntriesCounted fields.now entries.new columns.new) }
+    ensures kept { OnErr result (AreEntriesCounted fields.now entries.old columns.new) }
     ensures limits { columns.new.limits ≡ columns.old.limits }
     ensures over { IfErr result (λ fault. IsOfLimits (told_of fault)
         → IsOverLimit columns.old.limits fields.now
@@ -440,7 +440,7 @@ fn note_batch(
     batch: &Batch,
 ) -> Result<(), NoteFault>
     requires marks { length marks.old ≡ length entries.old }
-    requires columns { AreCounted fields.now entries.old columns.old }
+    requires columns { AreEntriesCounted fields.now entries.old columns.old }
     requires apart { AreApart fields.now }
     requires width { batch.now.columns ≡ length fields.now }
     ensures noted { OnOk result
@@ -448,7 +448,7 @@ fn note_batch(
     ensures ids { tally_ids entries.new ≡ tally_ids entries.old }
     ensures fits { AllFit entries.old → AllFit entries.new }
     ensures err { OnErr result (entries.new ≡ entries.old) }
-    ensures counted { AreCounted fields.now entries.new columns.new }
+    ensures counted { AreEntriesCounted fields.now entries.new columns.new }
     ensures limits { columns.new.limits ≡ columns.old.limits }
 {
     mark(entries, marks);
@@ -470,14 +470,14 @@ fn count_batch(
     batch: &Batch,
 ) -> Result<(), NoteFault>
     requires marks { marks.now ≡ lens entries.old }
-    requires columns { AreCounted fields.now entries.old columns.old }
+    requires columns { AreEntriesCounted fields.now entries.old columns.old }
     requires apart { AreApart fields.now }
     requires width { batch.now.columns ≡ length fields.now }
     ensures noted { OnOk result
         (entries.new ≡ note_all entries.old (rows_pairs fields.now batch.now.rows)) }
     ensures fits { OnOk result (AllFit entries.old → AllFit entries.new) }
-    ensures counted { OnOk result (AreCounted fields.now entries.new columns.new) }
-    ensures kept { OnErr result (AreCounted fields.now entries.old columns.new) }
+    ensures counted { OnOk result (AreEntriesCounted fields.now entries.new columns.new) }
+    ensures kept { OnErr result (AreEntriesCounted fields.now entries.old columns.new) }
     ensures limits { columns.new.limits ≡ columns.old.limits }
     ensures grows { AllGrow entries.old entries.new }
 {

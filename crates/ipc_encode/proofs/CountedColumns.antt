@@ -10,7 +10,7 @@ use Rattle.ipc_column.specs.Shapes.{Shape, bare, field, shape_of}
 use Rattle.ipc_encode.specs.declared.counts.Counts.{Counts}
 use Rattle.ipc_encode.specs.declared.fault.PushFault.{PushFault}
 use Rattle.ipc_encode.specs.declared.fault.PushFault.TheVariants as push
-use Rattle.ipc_encode.specs.Buffers.{columns, column_buffers, joined}
+use Rattle.ipc_encode.specs.Buffers.{columns, column_buffers, padded}
 use Rattle.ipc_encode.specs.Built.{ArePushesRefused, AreTooMuch, AreWithin, IsCounted, IsPushRefused}
 use Rattle.ipc_encode.specs.CountedColumns.{as_rows}
 use Rattle.ipc_encode.specs.Faults.{write_fault}
@@ -32,7 +32,7 @@ more_column rows values = cells_append 0 rows (as_rows values) ∙ ap (λ (ws : 
 module _ (limits : Limits) (fields : List Field) (rows : List (List Value)) (l : Layout) where
   -- a column that was counted, whose buffers are within a body
   pub counts_within : (counts : Counts) (len : ℕ) → shape_of fields ≡ field l bare bare → IsCounted limits l (columns rows 0) counts
-      → len ≡ length (joined (column_buffers l (columns rows 0))) → len ≤ limits.body → IsWithin limits fields rows
+      → len ≡ length (padded (column_buffers l (columns rows 0))) → len ≤ limits.body → IsWithin limits fields rows
   counts_within counts len shape h size fits =
       let count = cells_length 0 rows in
       let whole = parts_length l bare bare (columns rows) in
@@ -44,7 +44,7 @@ module _ (limits : Limits) (fields : List Field) (rows : List (List Value)) (l :
       }))
 
   -- one whose buffers aren't
-  pub counts_past : (len : ℕ) → shape_of fields ≡ field l bare bare → len ≡ length (joined (column_buffers l (columns rows 0)))
+  pub counts_past : (len : ℕ) → shape_of fields ≡ field l bare bare → len ≡ length (padded (column_buffers l (columns rows 0)))
       → limits.body < len → IsTooLong limits fields rows
   counts_past len shape size more = rows_too_much limits fields rows push.TooLong
       (subst (λ (s : Shape). AreTooMuch limits limits.body s (columns rows) push.TooLong) (sym shape)

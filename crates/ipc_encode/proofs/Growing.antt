@@ -15,10 +15,10 @@ use Rattle.ipc_column.specs.Shapes.{Shape, bare, field, shape_of}
 use Rattle.ipc_encode.specs.declared.column.Column.{Column}
 use Rattle.ipc_encode.specs.declared.node.Node.{Node}
 use Rattle.ipc_encode.specs.Cells.{nulls}
-use Rattle.ipc_encode.specs.Buffers.{below, columns, column_buffers, joined, buffers_of, body_of}
+use Rattle.ipc_encode.specs.Buffers.{below, columns, column_buffers, padded, buffers_of, body_of}
 use Rattle.ipc_encode.specs.Columns.{bits_length, padded_length, validity_length, offsets_length, values_length, column_length, data_in}
 use Rattle.ipc_encode.specs.Columns.{PassesOffsets}
-use Rattle.ipc_encode.specs.Limits.{HasLongData, HasLongNode, SomeLongData, IsRefused}
+use Rattle.ipc_encode.specs.Limits.{HasLongData, HasLongItems, HasLongNode, IsPastOffsets, IsRefused, SomeColumn}
 use Rattle.ipc_encode.specs.Built.{IsNode, IsPushRefused, ArePushesRefused}
 use Rattle.ipc_encode.specs.declared.fault.PushFault.{PushFault}
 use Rattle.ipc_encode.specs.declared.fault.PushFault.TheVariants as push
@@ -40,7 +40,7 @@ passes_more (l.Numbers bits signed) m n e h = h
 passes_more (l.FixedBytes width) m n e h = h
 passes_more (l.VariableBytes utf8) m n e h = omega (arith, e, h)
 
-long_more : (layout : Layout) (vs : List Value) (v : Value) → HasLongData layout vs → HasLongData layout (vs ++ v ∷ [])
+long_more : (layout : Layout) (vs : List Value) (v : Value) → IsPastOffsets layout vs → IsPastOffsets layout (vs ++ v ∷ [])
 long_more layout vs v h =
     let more = data_push layout vs v in
     long_is layout (vs ++ v ∷ []) (passes_more layout (data_in layout vs) (data_in layout (vs ++ v ∷ [])) (omega (arith, more))
@@ -100,7 +100,7 @@ column_grow layout n c d a b h g =
 
 -- the buffers of a column with one value more are no shorter
 buffers_grow : (layout : Layout) (vs : List Value) (v : Value)
-    → length (joined (column_buffers layout vs)) ≤ length (joined (column_buffers layout (vs ++ v ∷ [])))
+    → length (padded (column_buffers layout vs)) ≤ length (padded (column_buffers layout (vs ++ v ∷ [])))
 buffers_grow layout vs v =
     let size = length-append vs (v ∷ []) in
     let count : length (vs ++ v ∷ []) ≡ length vs + 1 = omega (arith, size) in
@@ -118,13 +118,13 @@ always_more : (P : List Value → Type 0) → ((vs : List Value) (v : Value) →
 always_more P step vs [] h = subst P (sym (append-nil vs)) h
 always_more P step vs (v ∷ more) h = subst P (append_assoc vs (v ∷ []) more) (always_more P step (vs ++ v ∷ []) more (step vs v h))
 
-pub long_data_more : (layout : Layout) (vs more : List Value) → HasLongData layout vs → HasLongData layout (vs ++ more)
-long_data_more layout vs more h = always_more (HasLongData layout) (long_more layout) vs more h
+pub long_data_more : (layout : Layout) (vs more : List Value) → IsPastOffsets layout vs → IsPastOffsets layout (vs ++ more)
+long_data_more layout vs more h = always_more (IsPastOffsets layout) (long_more layout) vs more h
 
 pub column_more : (layout : Layout) (vs more : List Value)
-    → length (joined (column_buffers layout vs)) ≤ length (joined (column_buffers layout (vs ++ more)))
+    → length (padded (column_buffers layout vs)) ≤ length (padded (column_buffers layout (vs ++ more)))
 column_more layout vs more =
-    always_more (λ (ws : List Value). length (joined (column_buffers layout vs)) ≤ length (joined (column_buffers layout ws)))
+    always_more (λ (ws : List Value). length (padded (column_buffers layout vs)) ≤ length (padded (column_buffers layout ws)))
     (λ ws v h. let grown = buffers_grow layout ws v in omega (arith, grown, h)) vs more (omega arith)
 
 -- ---- more values in each column
@@ -139,37 +139,54 @@ long_nodes_grow most (field l c rest) given more (inr (inl child)) =
 long_nodes_grow most (field l c rest) given more (inr (inr later)) =
     inr (inr (long_nodes_grow most rest (λ j. given (suc j)) (λ j. more (suc j)) later))
 
-pub long_data_grow : (shape : Shape) (given more : ℕ → List Value) → SomeLongData shape given → SomeLongData shape
-    (λ j. given j ++ more j)
-long_data_grow bare given more h = absurd h
-long_data_grow (field l c rest) given more (inl own) = inl (long_data_more l (given 0) (more 0) own)
-long_data_grow (field l c rest) given more (inr (inl child)) =
-    inr (inl (subst (λ (inner : ℕ → List Value). SomeLongData c inner) (λ d j. sym (below_append l (given 0) (more 0) j) d)
-    (long_data_grow c (below l (given 0)) (below l (more 0)) child)))
-long_data_grow (field l c rest) given more (inr (inr later)) =
-    inr (inr (long_data_grow rest (λ j. given (suc j)) (λ j. more (suc j)) later))
+-- a property of one of the columns that more values leave
+some_grow : (P : Layout → List Value → Type 0) → ((layout : Layout) (vs more : List Value) → P layout vs → P layout (vs ++ more))
+    → (shape : Shape) (given more : ℕ → List Value) → SomeColumn P shape given → SomeColumn P shape (λ j. given j ++ more j)
+some_grow P grow bare given more h = absurd h
+some_grow P grow (field l c rest) given more (inl own) = inl (grow l (given 0) (more 0) own)
+some_grow P grow (field l c rest) given more (inr (inl child)) =
+    inr (inl (subst (λ (inner : ℕ → List Value). SomeColumn P c inner) (λ d j. sym (below_append l (given 0) (more 0) j) d)
+    (some_grow P grow c (below l (given 0)) (below l (more 0)) child)))
+some_grow P grow (field l c rest) given more (inr (inr later)) =
+    inr (inr (some_grow P grow rest (λ j. given (suc j)) (λ j. more (suc j)) later))
+
+data_more : (layout : Layout) (vs more : List Value) → HasLongData layout vs → HasLongData layout (vs ++ more)
+data_more (l.VariableBytes utf8) vs more h = long_data_more (l.VariableBytes utf8) vs more h
+data_more _ vs more h = absurd h
+
+items_more : (layout : Layout) (vs more : List Value) → HasLongItems layout vs → HasLongItems layout (vs ++ more)
+items_more l.Lists vs more h = long_data_more l.Lists vs more h
+items_more _ vs more h = absurd h
+
+long_data_grow : (shape : Shape) (given more : ℕ → List Value) → SomeColumn HasLongData shape given
+    → SomeColumn HasLongData shape (λ j. given j ++ more j)
+long_data_grow shape given more h = some_grow HasLongData data_more shape given more h
+
+long_items_grow : (shape : Shape) (given more : ℕ → List Value) → SomeColumn HasLongItems shape given
+    → SomeColumn HasLongItems shape (λ j. given j ++ more j)
+long_items_grow shape given more h = some_grow HasLongItems items_more shape given more h
 
 -- a column's buffers, those below it, and the others
 pub parts_length : (l : Layout) (c rest : Shape) (given : ℕ → List Value)
-    → length (joined (buffers_of (field l c rest) given))
-    ≡ length (joined (column_buffers l (given 0))) + length (joined (buffers_of c (below l (given 0))))
-    + length (joined (buffers_of rest (λ j. given (suc j))))
+    → length (padded (buffers_of (field l c rest) given))
+    ≡ length (padded (column_buffers l (given 0))) + length (padded (buffers_of c (below l (given 0))))
+    + length (padded (buffers_of rest (λ j. given (suc j))))
 parts_length l c rest given =
     let own = column_buffers l (given 0) in
     let inner = buffers_of c (below l (given 0)) in
     let others = buffers_of rest (λ j. given (suc j)) in
     let whole = ap (λ (bs : List ℕ). length bs) (joined_append own (inner ++ others)) in
     let last = ap (λ (bs : List ℕ). length bs) (joined_append inner others) in
-    let a = length-append (joined own) (joined (inner ++ others)) in
-    let b = length-append (joined inner) (joined others) in
+    let a = length-append (padded own) (padded (inner ++ others)) in
+    let b = length-append (padded inner) (padded others) in
     omega (arith, whole, last, a, b)
 
 pub body_grows : (shape : Shape) (given more : ℕ → List Value)
-    → length (joined (buffers_of shape given)) ≤ length (joined (buffers_of shape (λ j. given j ++ more j)))
+    → length (padded (buffers_of shape given)) ≤ length (padded (buffers_of shape (λ j. given j ++ more j)))
 body_grows bare given more = omega arith
 body_grows (field l c rest) given more =
     let own = column_more l (given 0) (more 0) in
-    let inner = subst (λ (g : ℕ → List Value). length (joined (buffers_of c (below l (given 0)))) ≤ length (joined (buffers_of c g)))
+    let inner = subst (λ (g : ℕ → List Value). length (padded (buffers_of c (below l (given 0)))) ≤ length (padded (buffers_of c g)))
     (λ d j. sym (below_append l (given 0) (more 0) j) d) (body_grows c (below l (given 0)) (below l (more 0))) in
     let later = body_grows rest (λ j. given (suc j)) (λ j. more (suc j)) in
     let old = parts_length l c rest given in
@@ -181,7 +198,8 @@ pub refused_grow : (limits : Limits) (shape : Shape) (given more : ℕ → List 
     → ArePushesRefused limits shape (λ j. given j ++ more j) e
 refused_grow limits shape given more push.TooLong (inl long) = inl (long_data_grow shape given more long)
 refused_grow limits shape given more push.TooLong (inr body) = let grown = body_grows shape given more in inr (omega (arith, grown, body))
-refused_grow limits shape given more push.TooMany h = long_nodes_grow limits.slots shape given more h
+refused_grow limits shape given more push.TooMany (inl slots) = inl (long_nodes_grow limits.slots shape given more slots)
+refused_grow limits shape given more push.TooMany (inr items) = inr (long_items_grow shape given more items)
 refused_grow limits shape given more push.OutOfMemory h = h
 refused_grow limits shape given more push.Failed h = h
 
@@ -192,7 +210,8 @@ pub own_refused : (limits : Limits) (l : Layout) (c rest : Shape) (given : ℕ �
     → ArePushesRefused limits (field l c rest) given e
 own_refused limits l c rest given push.TooLong (inl long) = inl (inl long)
 own_refused limits l c rest given push.TooLong (inr body) = let size = parts_length l c rest given in inr (omega (arith, size, body))
-own_refused limits l c rest given push.TooMany h = inl h
+own_refused limits l c rest given push.TooMany (inl slots) = inl (inl slots)
+own_refused limits l c rest given push.TooMany (inr items) = inr (inl items)
 own_refused limits l c rest given push.OutOfMemory h = h
 own_refused limits l c rest given push.Failed h = h
 
@@ -200,7 +219,8 @@ pub child_refused : (limits : Limits) (l : Layout) (c rest : Shape) (given : ℕ
     → ArePushesRefused limits c (below l (given 0)) e → ArePushesRefused limits (field l c rest) given e
 child_refused limits l c rest given push.TooLong (inl long) = inl (inr (inl long))
 child_refused limits l c rest given push.TooLong (inr body) = let size = parts_length l c rest given in inr (omega (arith, size, body))
-child_refused limits l c rest given push.TooMany h = inr (inl h)
+child_refused limits l c rest given push.TooMany (inl slots) = inl (inr (inl slots))
+child_refused limits l c rest given push.TooMany (inr items) = inr (inr (inl items))
 child_refused limits l c rest given push.OutOfMemory h = h
 child_refused limits l c rest given push.Failed h = h
 
@@ -208,7 +228,8 @@ pub later_refused : (limits : Limits) (l : Layout) (c rest : Shape) (given : ℕ
     → ArePushesRefused limits rest (λ j. given (suc j)) e → ArePushesRefused limits (field l c rest) given e
 later_refused limits l c rest given push.TooLong (inl long) = inl (inr (inr long))
 later_refused limits l c rest given push.TooLong (inr body) = let size = parts_length l c rest given in inr (omega (arith, size, body))
-later_refused limits l c rest given push.TooMany h = inr (inr h)
+later_refused limits l c rest given push.TooMany (inl slots) = inl (inr (inr slots))
+later_refused limits l c rest given push.TooMany (inr items) = inr (inr (inr items))
 later_refused limits l c rest given push.OutOfMemory h = h
 later_refused limits l c rest given push.Failed h = h
 
@@ -221,9 +242,12 @@ first_refused limits l c rest given push.TooLong (inr body) =
     let size = parts_length l c rest given in
     let alone = parts_length l c bare (λ j. given 0) in
     inr (omega (arith, size, alone, body))
-first_refused limits l c rest given push.TooMany (inl own) = inl own
-first_refused limits l c rest given push.TooMany (inr (inl child)) = inr (inl child)
-first_refused limits l c rest given push.TooMany (inr (inr none)) = absurd none
+first_refused limits l c rest given push.TooMany (inl (inl own)) = inl (inl own)
+first_refused limits l c rest given push.TooMany (inl (inr (inl child))) = inl (inr (inl child))
+first_refused limits l c rest given push.TooMany (inl (inr (inr none))) = absurd none
+first_refused limits l c rest given push.TooMany (inr (inl own)) = inr (inl own)
+first_refused limits l c rest given push.TooMany (inr (inr (inl child))) = inr (inr (inl child))
+first_refused limits l c rest given push.TooMany (inr (inr (inr none))) = absurd none
 first_refused limits l c rest given push.OutOfMemory h = h
 first_refused limits l c rest given push.Failed h = h
 
@@ -258,15 +282,18 @@ all_refused limits l c before values i e h =
 pub refused_more : (limits : Limits) (fields : List Field) (rows more : List (List Value)) (e : WriteFault) → IsRefused limits fields rows e
     → IsRefused limits fields (rows ++ more) e
 refused_more limits fields rows more fault.TooLong (inl long) =
-    inl (subst (λ (given : ℕ → List Value). SomeLongData (shape_of fields) given) (λ d j. sym (cells_append j rows more) d)
+    inl (subst (λ (given : ℕ → List Value). SomeColumn HasLongData (shape_of fields) given) (λ d j. sym (cells_append j rows more) d)
     (long_data_grow (shape_of fields) (columns rows) (columns more) long))
 refused_more limits fields rows more fault.TooLong (inr body) =
-    let grown = subst (λ (given : ℕ → List Value). length (body_of fields rows) ≤ length (joined (buffers_of (shape_of fields) given)))
+    let grown = subst (λ (given : ℕ → List Value). length (body_of fields rows) ≤ length (padded (buffers_of (shape_of fields) given)))
     (λ d j. sym (cells_append j rows more) d) (body_grows (shape_of fields) (columns rows) (columns more)) in
     inr (omega (arith, grown, body))
 refused_more limits fields rows more fault.TooManyRows (inl many) = let size = length-append rows more in inl (omega (arith, size, many))
-refused_more limits fields rows more fault.TooManyRows (inr long) =
-    inr (subst (λ (given : ℕ → List Value). HasLongNode limits.slots (shape_of fields) given) (λ d j. sym (cells_append j rows more) d)
-    (long_nodes_grow limits.slots (shape_of fields) (columns rows) (columns more) long))
+refused_more limits fields rows more fault.TooManyRows (inr (inl long)) =
+    inr (inl (subst (λ (given : ℕ → List Value). HasLongNode limits.slots (shape_of fields) given) (λ d j. sym (cells_append j rows more) d)
+    (long_nodes_grow limits.slots (shape_of fields) (columns rows) (columns more) long)))
+refused_more limits fields rows more fault.TooManyRows (inr (inr items)) =
+    inr (inr (subst (λ (given : ℕ → List Value). SomeColumn HasLongItems (shape_of fields) given) (λ d j. sym (cells_append j rows more) d)
+    (long_items_grow (shape_of fields) (columns rows) (columns more) items)))
 refused_more limits fields rows more fault.OutOfMemory h = h
 refused_more limits fields rows more _ h = h

@@ -20,6 +20,7 @@ use Rattle.ipc_encode.specs.Writing.{AllStored}
 use Rattle.ipc_encode.specs.Numbers.{Numbering}
 use Rattle.ipc_encode.specs.Built.{AreColumns, AreWithin, AreTooMuch, ArePushesRefused}
 use Rattle.ipc_encode.proofs.Growing.{refused_grow}
+use Rattle.ipc_encode.proofs.PastOffsets.{data_some, items_some}
 use Rattle.ipc_encode.proofs.Siblings.{taken_few, taken_short}
 use Rattle.ipc_encode.proofs.Steps.{cells_append}
 
@@ -49,10 +50,11 @@ rows_within limits fields rows few h = record { few = not_many; short = not_long
   where
     not_many : IsTooMany limits fields rows → ⊥
     not_many (inl many) = omega (arith, few, many)
-    not_many (inr long) = h.few long
+    not_many (inr (inl long)) = h.few long
+    not_many (inr (inr items)) = h.short (items_some (shape_of fields) (columns rows) items)
 
     not_long : IsTooLong limits fields rows → ⊥
-    not_long (inl long) = h.short long
+    not_long (inl long) = h.short (data_some (shape_of fields) (columns rows) long)
     not_long (inr more) = let body = h.body in omega (arith, body, more)
 
 -- columns that are built, whose body isn't too long
@@ -63,14 +65,16 @@ built_within known limits fields rows nodes few h short = record { few = not_man
   where
     not_many : IsTooMany limits fields rows → ⊥
     not_many (inl many) = omega (arith, few, many)
-    not_many (inr long) = taken_few known purpose.Keep limits (shape_of fields) nodes (columns rows) h long
+    not_many (inr (inl long)) = taken_few known purpose.Keep limits (shape_of fields) nodes (columns rows) h long
+    not_many (inr (inr items)) = taken_short known purpose.Keep limits (shape_of fields) nodes (columns rows) h
+        (items_some (shape_of fields) (columns rows) items)
 
 -- columns that are built leave so much of a body
 pub not_too_long : (known : Numbering) (limits : Limits) (fields : List Field) (rows : List (List Value)) (nodes : List Node) (left : ℕ)
     → AreColumns known limits (shape_of fields) nodes (columns rows) → length (body_of fields rows) + left ≡ limits.body
     → IsTooLong limits fields rows → ⊥
 not_too_long known limits fields rows nodes left h e (inl long) = taken_short known purpose.Keep limits (shape_of fields) nodes
-    (columns rows) h long
+    (columns rows) h (data_some (shape_of fields) (columns rows) long)
 not_too_long known limits fields rows nodes left h e (inr more) = omega (arith, e, more)
 
 -- why columns don't take rows is why the rows are refused

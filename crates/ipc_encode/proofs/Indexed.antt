@@ -20,7 +20,7 @@ use Rattle.ipc_encode.specs.Pieces.{Valid, Number}
 use Rattle.ipc_encode.specs.Pieces as p
 use Rattle.ipc_encode.specs.Bitmaps.{bitmap}
 use Rattle.ipc_encode.specs.Cells.{is_null, is_set, flags, nulls, slots, slot_bytes}
-use Rattle.ipc_encode.specs.Buffers.{below, column_buffers, joined, buffers_of, buffers_with, stored, body_of, body_with}
+use Rattle.ipc_encode.specs.Buffers.{below, column_buffers, padded, buffers_of, buffers_with, stored, body_of, body_with}
 use Rattle.ipc_encode.specs.Buffers.{piece_bytes, columns}
 use Rattle.ipc_encode.specs.Columns.{validity_bytes, validity_in, indices_in, data_in, column_length, values_length}
 use Rattle.ipc_encode.specs.Numbers.{Numbering, number_or, renumbered, index_in, index_of, indices_of, as_number, numbers_of, changed}
@@ -97,7 +97,7 @@ validity_same f vs =
 
 -- the buffers of a column are as long as those of its values
 stored_size : (known : Numbering) (lay : Layout) (vs : List Value)
-    → length (joined (column_buffers lay (stored known lay vs))) ≡ length (joined (column_buffers lay vs))
+    → length (padded (column_buffers lay (stored known lay vs))) ≡ length (padded (column_buffers lay vs))
 stored_size known l.Null vs = refl
 stored_size known l.Bits vs = refl
 stored_size known (l.Numbers bits signed) vs = refl
@@ -115,15 +115,15 @@ stored_size known (l.Indices bits signed id) vs =
     ∙ (ap (λ (n : ℕ). column_length lay (length vs) (nulls vs) (values_length lay (length vs) n)) (data_same bits signed id (known id) vs)
     ∙ sym (column_size lay vs))))
 
-three : (a b c : List (List ℕ)) → length (joined (a ++ (b ++ c))) ≡ length (joined a) + (length (joined b) + length (joined c))
+three : (a b c : List (List ℕ)) → length (padded (a ++ (b ++ c))) ≡ length (padded a) + (length (padded b) + length (padded c))
 three a b c =
     ap (λ (bs : List ℕ). length bs) (joined_append a (b ++ c))
-    ∙ (length-append (joined a) (joined (b ++ c))
-    ∙ ap (λ (n : ℕ). length (joined a) + n) (ap (λ (bs : List ℕ). length bs) (joined_append b c) ∙ length-append (joined b) (joined c)))
+    ∙ (length-append (padded a) (padded (b ++ c))
+    ∙ ap (λ (n : ℕ). length (padded a) + n) (ap (λ (bs : List ℕ). length bs) (joined_append b c) ∙ length-append (padded b) (padded c)))
 
 -- and so are those of all columns
 buffers_size : (known : Numbering) (s : Shape) (given : ℕ → List Value)
-    → length (joined (buffers_with known s given)) ≡ length (joined (buffers_of s given))
+    → length (padded (buffers_with known s given)) ≡ length (padded (buffers_of s given))
 buffers_size known bare given = refl
 buffers_size known (field lay children rest) given =
     let own = stored_size known lay (given 0) in

@@ -7,8 +7,8 @@ use Rattle.ipc_column.specs.Shapes.{Shape, bare, field}
 use Rattle.ipc_encode.specs.declared.counts.Counts.{Counts}
 use Rattle.ipc_encode.specs.declared.fault.PushFault.{PushFault}
 use Rattle.ipc_encode.specs.declared.fault.PushFault.TheVariants as push
-use Rattle.ipc_encode.specs.Buffers.{joined, column_buffers, buffers_of}
-use Rattle.ipc_encode.specs.Limits.{HasLongData, HasLongNode, SomeLongData}
+use Rattle.ipc_encode.specs.Buffers.{padded, column_buffers, buffers_of}
+use Rattle.ipc_encode.specs.Limits.{IsPastOffsets, HasLongNode, SomePastOffsets}
 use Rattle.ipc_encode.specs.Built.{IsCounted, IsPushRefused, ArePushesRefused, AreTooMuch, AreWithin, LeavesOf, IsNode, HasTaken}
 use Rattle.ipc_encode.specs.declared.column.Purpose.TheVariants as purpose
 use Rattle.ipc_encode.specs.declared.node.Node.{Node}
@@ -35,14 +35,14 @@ few_leaf most l vs few (inl own) = few own
 few_leaf most l vs few (inr (inl none)) = none
 few_leaf most l vs few (inr (inr none)) = none
 
-pub short_leaf : (l : Layout) (vs : List Value) → (HasLongData l vs → ⊥) → SomeLongData (field l bare bare) (λ j. vs) → ⊥
+pub short_leaf : (l : Layout) (vs : List Value) → (IsPastOffsets l vs → ⊥) → SomePastOffsets (field l bare bare) (λ j. vs) → ⊥
 short_leaf l vs short (inl own) = short own
 short_leaf l vs short (inr (inl none)) = none
 short_leaf l vs short (inr (inr none)) = none
 
 -- a column without children leaves what its own buffers leave
 pub leaf_leaves : (limits : Limits) (l : Layout) (vs : List Value) (counts : Counts) (bytes len : ℕ) → IsCounted limits l vs counts
-    → len ≡ length (joined (column_buffers l vs)) → len ≤ bytes → LeavesOf limits (field l bare bare) (λ j. vs) bytes (bytes - len)
+    → len ≡ length (padded (column_buffers l vs)) → len ≤ bytes → LeavesOf limits (field l bare bare) (λ j. vs) bytes (bytes - len)
 leaf_leaves limits l vs counts bytes len h size fits = record {
   few = few_leaf limits.slots l vs h.few;
   short = short_leaf l vs h.short;
@@ -50,7 +50,7 @@ leaf_leaves limits l vs counts bytes len h size fits = record {
 }
 
 -- a column without children that doesn't go into so many bytes
-pub leaf_past : (limits : Limits) (l : Layout) (vs : List Value) (bytes len : ℕ) → len ≡ length (joined (column_buffers l vs))
+pub leaf_past : (limits : Limits) (l : Layout) (vs : List Value) (bytes len : ℕ) → len ≡ length (padded (column_buffers l vs))
     → bytes < len
     → AreTooMuch limits bytes (field l bare bare) (λ j. vs) push.TooLong
 leaf_past limits l vs bytes len size more = let whole = parts_length l bare bare (λ j. vs) in inr (omega (arith, whole, size, more))
@@ -58,7 +58,7 @@ leaf_past limits l vs bytes len size more = let whole = parts_length l bare bare
 -- a column with those below it leaves what all their buffers leave
 pub tree_leaves : (known : Numbering) (limits : Limits) (l : Layout) (c : Shape) (vs : List Value) (node : Node) (bytes left : ℕ)
     → IsNode (HasTaken known purpose.Count limits) l c node vs
-    → length (joined (buffers_of (field l c bare) (λ j. vs))) + left ≡ bytes → LeavesOf limits (field l c bare) (λ j. vs) bytes left
+    → length (padded (buffers_of (field l c bare) (λ j. vs))) + left ≡ bytes → LeavesOf limits (field l c bare) (λ j. vs) bytes left
 tree_leaves known limits l c vs node bytes left h rest = record {
   few = taken_few known purpose.Count limits (field l c bare) (node ∷ []) (λ j. vs) (h, tt);
   short = taken_short known purpose.Count limits (field l c bare) (node ∷ []) (λ j. vs) (h, tt);

@@ -15,6 +15,7 @@ use Rattle.ipc_model.specs.declared.value.Value.TheVariants.{Null}
 use Rattle.ipc_model.specs.declared.layout.Layout.{Layout}
 use Rattle.ipc_model.specs.declared.layout.Layout.TheVariants as l
 use Rattle.ipc_model.specs.Layouts.{number_bytes}
+use Rattle.ipc_column.proofs.Lendings.{lent_bitmap, lent_values}
 use Rattle.ipc_column.specs.declared.buffers.Buffers.{Buffers}
 use Rattle.ipc_column.specs.Checks.{has_bitmap}
 use Rattle.ipc_column.specs.declared.numbers.Numbers.{Numbers}
@@ -103,7 +104,7 @@ module _ (s : Nested) (b : Buffers) (h : AreBuffers s b) where
   buffers_bits some =
       let count = slot_count s in
       let size = ap (λ (bs : List ℕ). length bs) h.validity in
-      let enough = bits_from s.column.slots (length s.column.validity) h.whole.bitmap (omega (arith, some, size)) in
+      let enough = bits_from s.column.slots (length s.column.validity) (lent_bitmap s b h) (omega (arith, some, size)) in
       omega (arith, enough, count, size)
     where
       either : (x y : Bool) → (x || y) ≡ true → x ≡ false → y ≡ true
@@ -136,7 +137,7 @@ numbers_lent s b n h e marks values =
     let bytes : n.values.now ≡ s.column.values = values ∙ h.values in
     record {
       layout = laid;
-      long = rw (bytes, count) (leb-true (number_bytes n.bits * s.column.slots) (length s.column.values) (rw laid at h.whole.values));
+      long = rw (bytes, count) (leb-true (number_bytes n.bits * s.column.slots) (length s.column.values) (rw laid at (lent_values s b h)));
       each = λ i m. items_first (value_of (row (below s)) s.column) s.column.slots i (omega (arith, m, count))
           ∙ ap (λ (v : Value). Some v)
           (rw (validity, bytes, laid) (ap (λ (v : Value). cond (is_valid s.column.validity i) v Null)
@@ -217,7 +218,7 @@ module _ (s : Nested) (b : Buffers) (h : AreBuffers s b) (e : b.layout ≡ l.Bit
       let count = slot_count s in
       let size = ap (λ (bs : List ℕ). length bs) h.values in
       let laid : s.column.layout ≡ l.Bits = sym h.layout ∙ e in
-      let enough = leb-true ((s.column.slots + 7) / 8) (length s.column.values) (rw laid at h.whole.values) in
+      let enough = leb-true ((s.column.slots + 7) / 8) (length s.column.values) (rw laid at (lent_values s b h)) in
       omega (arith, enough, count, size)
 
 -- ---- a fixed width
@@ -231,7 +232,7 @@ module _ (s : Nested) (b : Buffers) (h : AreBuffers s b) (width : ℕ) (e : b.la
   widths_there =
       let count = slot_count s in
       let laid : s.column.layout ≡ l.FixedBytes width = sym h.layout ∙ e in
-      rw (h.values, count) (leb-true (width * s.column.slots) (length s.column.values) (rw laid at h.whole.values))
+      rw (h.values, count) (leb-true (width * s.column.slots) (length s.column.values) (rw laid at (lent_values s b h)))
 
   -- a slot that isn't null holds its bytes
   width_at : nulls (slot_values s) ≡ 0 → (i : ℕ) → i < length (slot_values s)

@@ -15,6 +15,7 @@ use Rattle.ipc_model.specs.declared.value.Value.{Value}
 use Rattle.ipc_model.specs.declared.value.Value.TheVariants.{Null}
 use Rattle.ipc_model.specs.declared.layout.Layout.{Layout}
 use Rattle.ipc_model.specs.declared.layout.Layout.TheVariants as l
+use Rattle.ipc_column.proofs.Lendings.{lent_offsets, lent_order}
 use Rattle.ipc_column.specs.declared.buffers.Buffers.{Buffers}
 use Rattle.ipc_column.specs.Checks.{are_ascending}
 use Rattle.ipc_column.specs.Lending.{AreBuffers}
@@ -82,7 +83,8 @@ module _ (s : Nested) (b : Buffers) (h : AreBuffers s b) (utf8 : Bool) (e : b.la
   offsets_there =
       let count = slot_count s in
       let size = ap (λ (bs : List ℕ). length bs) h.offsets in
-      let there = bytes_from s.column.slots (length s.column.offsets) (rw contents_laid at h.whole.offsets) (omega (arith, some, count)) in
+      let there = bytes_from s.column.slots (length s.column.offsets) (rw contents_laid at (lent_offsets s b h))
+      (omega (arith, some, count)) in
       omega (arith, there, count, size)
 
   ascend : are_ascending b.offsets.now (length (slot_values s)) (length b.values.now) ≡ true
@@ -90,7 +92,7 @@ module _ (s : Nested) (b : Buffers) (h : AreBuffers s b) (utf8 : Bool) (e : b.la
       let count = slot_count s in
       rw (h.offsets, h.values, count)
       (bytes_rise utf8 s.column.offsets (below s) s.column.slots 0 (length s.column.values) (omega (arith, some, count))
-      (rw contents_laid at h.whole.offsets) (rw contents_laid at h.whole.order))
+      (rw contents_laid at (lent_offsets s b h)) (rw contents_laid at (lent_order s b h)))
 
 module _ (s : Nested) (b : Buffers) (h : AreBuffers s b) (utf8 : Bool) (e : b.layout ≡ l.VariableBytes utf8)
     (some : 0 < length (slot_values s)) (small : (k : ℕ) → get_or b.offsets.now k 0 < 256)

@@ -43,3 +43,4 @@ pub mod Reading
 pub mod EntryIndices
 pub mod SureIndices
 pub mod SureSlots
+pub mod PastOffsets

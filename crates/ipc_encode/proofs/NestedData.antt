@@ -7,7 +7,7 @@ use Rattle.ipc_model.specs.declared.value.Value.TheVariants.{Null}
 use Rattle.ipc_model.specs.Limits.{max_data}
 use Rattle.ipc_encode.specs.Cells.{items}
 use Rattle.ipc_encode.specs.Columns.{data_in}
-use Rattle.ipc_encode.specs.Limits.{HasLongData}
+use Rattle.ipc_encode.specs.Limits.{IsPastOffsets}
 use Rattle.std.proofs.lemmas.List.{take_more}
 use Rattle.ipc_encode.proofs.NestedSlots.{items_run}
 use Rattle.ipc_encode.proofs.Steps.{items_extents}
@@ -28,7 +28,7 @@ items_next vs i m =
     omega (arith, all, same)
 
 -- lists with more items than offsets reach
-pub long_lists : (vs : List Value) → max_data < data_in l.Lists vs → HasLongData l.Lists vs
+pub long_lists : (vs : List Value) → max_data < data_in l.Lists vs → IsPastOffsets l.Lists vs
 long_lists vs h =
     let run = items_run vs in
     let all = items_extents vs in

@@ -11,6 +11,7 @@ use Rattle.ipc_model.specs.declared.value.Value.TheVariants as v
 use Rattle.ipc_model.specs.declared.value.Value.TheVariants.{Null}
 use Rattle.ipc_model.specs.declared.layout.Layout.{Layout}
 use Rattle.ipc_model.specs.declared.layout.Layout.TheVariants as l
+use Rattle.ipc_column.proofs.Lendings.{lent_offsets, lent_order}
 use Rattle.ipc_column.specs.declared.buffers.Buffers.{Buffers}
 use Rattle.ipc_column.specs.declared.ranges.ColumnRanges.{ColumnRanges}
 use Rattle.ipc_column.specs.Checks.{are_ascending, have_slots}
@@ -137,7 +138,7 @@ module _ (s : Nested) (b : Buffers) (h : AreBuffers s b) (e : b.layout ≡ l.Lis
   list_offsets_there =
       let count = slot_count s in
       let size = ap (λ (bs : List ℕ). length bs) h.offsets in
-      let there = bytes_from s.column.slots (length s.column.offsets) (rw list_laid at h.whole.offsets) (omega (arith, some, count)) in
+      let there = bytes_from s.column.slots (length s.column.offsets) (rw list_laid at (lent_offsets s b h)) (omega (arith, some, count)) in
       omega (arith, there, count, size)
 
   list_ascend : are_ascending b.offsets.now (length (slot_values s)) (place b.offsets.now (length (slot_values s))) ≡ true
@@ -145,8 +146,8 @@ module _ (s : Nested) (b : Buffers) (h : AreBuffers s b) (e : b.layout ≡ l.Lis
       let count = slot_count s in
       let n = s.column.slots in
       let o = s.column.offsets in
-      let there = bytes_from n (length o) (rw list_laid at h.whole.offsets) (omega (arith, some, count)) in
-      let both = order_from n o (are_ascending o n (place o n) && have_slots (place o n) (below s)) (rw list_laid at h.whole.order)
+      let there = bytes_from n (length o) (rw list_laid at (lent_offsets s b h)) (omega (arith, some, count)) in
+      let both = order_from n o (are_ascending o n (place o n) && have_slots (place o n) (below s)) (rw list_laid at (lent_order s b h))
       (omega (arith, some, count)) there in
       rw (h.offsets, count) (and_parts (are_ascending o n (place o n)) (have_slots (place o n) (below s)) both).0
 

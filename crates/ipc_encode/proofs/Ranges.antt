@@ -7,7 +7,7 @@ use Rattle.std.proofs.Math.Seq.{drop-append_seam, take-append_seam}
 use Rattle.std.proofs.lemmas.Int.{ints}
 use Rattle.ipc_column.specs.Columns.{bytes_of}
 use Rattle.ipc_column.specs.Rules.{LiesIn}
-use Rattle.ipc_encode.specs.Buffers.{padded_buffer, joined, ranges_from}
+use Rattle.ipc_encode.specs.Buffers.{padded_buffer, padded, ranges_from}
 
 -- what stands behind a front
 pub cut_behind : (front b more : List ℕ) → take (length front + length b - length front) (drop (length front) (front ++ (b ++ more))) ≡ b
@@ -32,25 +32,25 @@ range_bytes body range = bytes_of body (unsigned_abs range.0) (unsigned_abs rang
 
 -- buffer k of those behind a front
 pub buffer_back : (bs : List (List ℕ)) (front : List ℕ) (k : ℕ) → k < length bs
-    → range_bytes (front ++ joined bs) (get_or (ranges_from (length front) bs) k (pos 0, pos 0)) ≡ get_or bs k []
+    → range_bytes (front ++ padded bs) (get_or (ranges_from (length front) bs) k (pos 0, pos 0)) ≡ get_or bs k []
 buffer_back [] front k l = absurd (omega arith)
 buffer_back (b ∷ bs) front zero l =
     let zeros = replicate {A = ℕ} ((8 - length b % 8) % 8) 0 in
-    ap (λ (xs : List ℕ). bytes_of (front ++ xs) (length front) (length b)) (append_assoc b zeros (joined bs))
-    ∙ bytes_behind front b (zeros ++ joined bs)
+    ap (λ (xs : List ℕ). bytes_of (front ++ xs) (length front) (length b)) (append_assoc b zeros (padded bs))
+    ∙ bytes_behind front b (zeros ++ padded bs)
 buffer_back (b ∷ bs) front (suc k) l =
     ap (λ (xs : List ℕ). range_bytes xs (get_or (ranges_from (length front + length (padded_buffer b)) bs) k (pos 0, pos 0)))
-    (sym (append_assoc front (padded_buffer b) (joined bs)))
-    ∙ (ap (λ (n : ℕ). range_bytes ((front ++ padded_buffer b) ++ joined bs) (get_or (ranges_from n bs) k (pos 0, pos 0)))
+    (sym (append_assoc front (padded_buffer b) (padded bs)))
+    ∙ (ap (λ (n : ℕ). range_bytes ((front ++ padded_buffer b) ++ padded bs) (get_or (ranges_from n bs) k (pos 0, pos 0)))
     (sym (length-append front (padded_buffer b)))
     ∙ buffer_back bs (front ++ padded_buffer b) k (omega arith))
 
 -- the ranges of buffers lie within a body that has room for all of them
-pub ranges_inside : (bs : List (List ℕ)) (start size : ℕ) → start + length (joined bs) ≤ size
+pub ranges_inside : (bs : List (List ℕ)) (start size : ℕ) → start + length (padded bs) ≤ size
     → AllByRecursion (LiesIn size) (ranges_from start bs)
 ranges_inside [] start size h = tt
 ranges_inside (b ∷ bs) start size h =
-    let whole = length-append (padded_buffer b) (joined bs) in
+    let whole = length-append (padded_buffer b) (padded bs) in
     let own = length-append b (replicate {A = ℕ} ((8 - length b % 8) % 8) 0) in
     let within : start + length b ≤ size = omega (arith, h, whole, own) in (
       record { offset = omega (arith, ints); bytes = omega (arith, ints); within = λ some. omega (arith, ints, within) },

@@ -9,7 +9,7 @@ use Rattle.ipc_model.specs.declared.layout.Layout.{Layout}
 use Rattle.ipc_model.specs.declared.layout.Layout.TheVariants as l
 use Rattle.ipc_model.specs.Layouts.{number_bytes, has_validity}
 use Rattle.ipc_column.specs.Dictionaries.{Dictionaries}
-use Rattle.ipc_column.specs.Rules.{HoldValues, HoldOffsets, IsLongEnough, HasBits, CountsNulls}
+use Rattle.ipc_column.specs.Rules.{HoldValues, HoldOffsets, IsLongEnough, HasWholeBitmap, CountsNulls}
 use Rattle.ipc_encode.specs.Pieces.{Valid, True}
 use Rattle.ipc_encode.specs.Pieces.{Run, ValueSlot}
 use Rattle.ipc_encode.specs.Pieces.{Number, Fixed, Content}
@@ -75,7 +75,7 @@ counts_nulls m known lay n vs h = record { with_bitmap = there lay; without_bitm
     none = validity_cases (λ bytes. length bytes ≡ 0 → nulls vs ≡ 0) vs (λ none h. none)
         (λ h. let e = bitmap_length vs in let m = nulls_most vs in omega (arith, e, h, m))
 
-    there : (l : Layout) → has_validity l ≡ true → 0 < length (validity_in l vs) → HasBits (column_of m known l vs)
+    there : (l : Layout) → has_validity l ≡ true → 0 < length (validity_in l vs) → HasWholeBitmap (column_of m known l vs)
         → nulls vs ≡ clear (validity_in l vs) (length vs)
     there l.Null e h b = absurd (omega arith)
     there l.Lists e h b = some h

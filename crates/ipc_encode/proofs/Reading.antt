@@ -22,7 +22,8 @@ use Rattle.ipc_model.specs.declared.layout.Layout.TheVariants as l
 use Rattle.ipc_meta.specs.declared.head.BatchHead.{BatchHead}
 use Rattle.ipc_column.specs.Columns.{Column, Columns, Each, EachTop}
 use Rattle.ipc_column.specs.Shapes.{Shape, bare, field, shape_of, node_at, buffer_at, columns_of, dictionary_at}
-use Rattle.ipc_column.specs.Rules.{IsNode, LiesIn, IsLongEnough, CountsNulls, HasOffsets, HasLongChildren, IsText, SpellsTexts, HasIndex}
+use Rattle.ipc_column.specs.Rules.{IsFieldNode, LiesIn, IsLongEnough, CountsNulls, HasOffsets, HasLongChildren, IsText, SpellsTexts}
+use Rattle.ipc_column.specs.Rules.{HasIndex}
 use Rattle.ipc_column.specs.Rules.{HoldsIndices, IsIndex}
 use Rattle.ipc_column.specs.Dictionaries.{Dictionaries, values_for}
 use Rattle.ipc_column.specs.Values.{is_valid, place, row}
@@ -34,7 +35,7 @@ use Rattle.ipc_encode.specs.Numbers.{Numbering}
 use Rattle.ipc_encode.specs.Indices.{InColumn, InColumns, Finds, FindsRows}
 use Rattle.ipc_encode.specs.Buffers.{below, nodes_of, columns, row_nodes, row_buffers_with, ranges_from, body_with}
 use Rattle.ipc_encode.specs.Columns.{validity_in, offsets_in}
-use Rattle.ipc_encode.specs.Limits.{HasLongData, HasLongNode, SomeLongData, IsWithin}
+use Rattle.ipc_encode.specs.Limits.{HasLongData, HasLongNode, SomeColumn, IsWithin}
 use Rattle.ipc_encode.specs.Writing.{AreStored, AllStored}
 use Rattle.ipc_encode.proofs.Ranges.{buffer_back, ranges_length, ranges_inside}
 use Rattle.ipc_encode.proofs.Steps.{cells_length}
@@ -103,7 +104,7 @@ short_is most (l.FixedLists size) children vs m held short few = tt
 
 goods : (ds : Dictionaries) (known : Numbering) (most : ℕ) (s : Shape) (given : ℕ → List Value) → most ≤ 2 ^ 31 - 1 → ColumnsHeld s given
     → AllStored s given → InColumns (Finds ds known) s given
-    → ¬ SomeLongData s given → ¬ HasLongNode most s given → AllGood ds known most s given
+    → ¬ SomeColumn HasLongData s given → ¬ HasLongNode most s given → AllGood ds known most s given
 goods ds known most bare given m held stored found short few = tt
 goods ds known most (field l children rest) given m held stored found short few = (
   record {
@@ -261,7 +262,7 @@ indices_written ds known most (field l children rest) given g i k = (
 
 are_nodes : (ds : Dictionaries) (known : Numbering) (limits : Limits) (s : Shape) (given : ℕ → List Value)
     → AllGood ds known limits.slots s given
-    → AllByRecursion (IsNode limits) (nodes_of s given)
+    → AllByRecursion (IsFieldNode limits) (nodes_of s given)
 are_nodes ds known limits bare given g = tt
 are_nodes ds known limits (field l children rest) given g =
     let few = g.0.few in
@@ -271,7 +272,7 @@ are_nodes ds known limits (field l children rest) given g =
         nulls_from = omega (arith, ints);
         nulls_to = omega (arith, ints, most);
       },
-      all_both (IsNode limits) (nodes_of children (below l (given 0))) (nodes_of rest (λ j. given (suc j)))
+      all_both (IsFieldNode limits) (nodes_of children (below l (given 0))) (nodes_of rest (λ j. given (suc j)))
           (are_nodes ds known limits children (below l (given 0)) g.1.0) (are_nodes ds known limits rest (λ j. given (suc j)) g.1.1),
     )
 
@@ -327,7 +328,7 @@ rows_back {limits} ds known fields rows fine fits within stored found =
     let few : length rows ≤ limits.slots = not_above (length rows) limits.slots (λ x. within.few (inl x)) in
     let good = goods ds known most s given limits.slots_fit (rows_held limits fields rows fine fits) stored found
     (λ x. within.short (inl x))
-    (λ x. within.few (inr x)) in
+    (λ x. within.few (inr (inl x))) in
     let e : columns_of ds fields head body ≡ written ds known s given =
     cut_back ds known s given head body 0 0
     (λ k h. ap (λ (q : ℕ). node_at head q) (let z : 0 + k ≡ k = omega arith in z))
@@ -339,7 +340,7 @@ rows_back {limits} ds known fields rows fine fits within stored found =
       buffers = ranges_length (row_buffers_with known fields rows) 0 ∙ buffers_length known s given;
       lengths = record {
         batch = record { from = omega (arith, ints); to = omega (arith, ints, few) };
-        nodes = All-from_recursion (IsNode limits) (row_nodes fields rows) (are_nodes ds known limits s given good);
+        nodes = All-from_recursion (IsFieldNode limits) (row_nodes fields rows) (are_nodes ds known limits s given good);
         columns = subst (λ (cs : Columns). EachTop (λ c. pos c.slots ≡ pos (length rows)) cs) (sym e)
             (slots_written ds known (λ n. pos n ≡ pos (length rows)) s given (λ j. ap (λ (n : ℕ). pos n) (cells_length j rows)));
         children = subst (λ (cs : Columns). Each (λ c children. HasLongChildren c.layout c.slots children) cs) (sym e)

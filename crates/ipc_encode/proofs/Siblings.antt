@@ -14,8 +14,8 @@ use Rattle.ipc_encode.specs.declared.fault.PushFault.{PushFault}
 use Rattle.ipc_encode.specs.declared.fault.PushFault.TheVariants as push
 use Rattle.ipc_encode.specs.declared.node.Node.{Node}
 use Rattle.ipc_encode.specs.Cells.{nulls}
-use Rattle.ipc_encode.specs.Buffers.{below, column_buffers, joined, nodes_of, buffers_of}
-use Rattle.ipc_encode.specs.Limits.{HasLongData, HasLongNode, SomeLongData}
+use Rattle.ipc_encode.specs.Buffers.{below, column_buffers, padded, nodes_of, buffers_of}
+use Rattle.ipc_encode.specs.Limits.{HasLongData, HasLongItems, HasLongNode, IsPastOffsets, SomeColumn, SomePastOffsets}
 use Rattle.ipc_encode.specs.Built.{AreNodes, IsNode, HasTaken, AreTooMuch, LeavesOf}
 use Rattle.ipc_encode.specs.Numbers.{Numbering}
 use Rattle.ipc_encode.proofs.Adding.{joined_append}
@@ -100,17 +100,17 @@ nodes_next (suc i) (field k d rest) given l c h =
 
 -- the bytes of one field more
 pub bytes_next : (i : ℕ) (shape : Shape) (given : ℕ → List Value) (l : Layout) (c : Shape) → IsAt i shape l c
-    → length (joined (buffers_of (first (suc i) shape) given))
-    ≡ length (joined (buffers_of (first i shape) given)) + length (joined (buffers_of (field l c bare) (λ j. given i)))
+    → length (padded (buffers_of (first (suc i) shape) given))
+    ≡ length (padded (buffers_of (first i shape) given)) + length (padded (buffers_of (field l c bare) (λ j. given i)))
 bytes_next i shape given l c h =
     let so_far = buffers_of (first i shape) given in
     let one = buffers_of (field l c bare) (λ j. given i) in
-    ap (λ (bs : List (List ℕ)). length (joined bs)) (buffers_next i shape given l c h)
-    ∙ (ap (λ (bs : List ℕ). length bs) (joined_append so_far one) ∙ length-append (joined so_far) (joined one))
+    ap (λ (bs : List (List ℕ)). length (padded bs)) (buffers_next i shape given l c h)
+    ∙ (ap (λ (bs : List ℕ). length bs) (joined_append so_far one) ∙ length-append (padded so_far) (padded one))
 
 -- the first fields have no more bytes than all
 pub first_within : (i : ℕ) (shape : Shape) (given : ℕ → List Value)
-    → length (joined (buffers_of (first i shape) given)) ≤ length (joined (buffers_of shape given))
+    → length (padded (buffers_of (first i shape) given)) ≤ length (padded (buffers_of shape given))
 first_within zero shape given = omega arith
 first_within (suc i) bare given = omega arith
 first_within (suc i) (field k c rest) given =
@@ -135,12 +135,12 @@ few_next most (suc i) (field k d rest) given l c at so one (inr (inr later)) =
     few_next most i rest (λ j. given (suc j)) l c at (λ x. so (inr (inr x))) one later
 
 pub short_next : (i : ℕ) (shape : Shape) (given : ℕ → List Value) (l : Layout) (c : Shape) → IsAt i shape l c
-    → (SomeLongData (first i shape) given → ⊥) → (SomeLongData (field l c bare) (λ j. given i) → ⊥)
-    → SomeLongData (first (suc i) shape) given → ⊥
+    → (SomePastOffsets (first i shape) given → ⊥) → (SomePastOffsets (field l c bare) (λ j. given i) → ⊥)
+    → SomePastOffsets (first (suc i) shape) given → ⊥
 short_next i bare given l c at so one h = absurd at
 short_next zero (field k d rest) given l c at so one h =
-    one (subst (λ (s : Shape). SomeLongData (field l s bare) (λ j. given 0)) at.1
-    (subst (λ (m : Layout). SomeLongData (field m d bare) (λ j. given 0)) at.0 h))
+    one (subst (λ (s : Shape). SomePastOffsets (field l s bare) (λ j. given 0)) at.1
+    (subst (λ (m : Layout). SomePastOffsets (field m d bare) (λ j. given 0)) at.0 h))
 short_next (suc i) (field k d rest) given l c at so one (inl own) = so (inl own)
 short_next (suc i) (field k d rest) given l c at so one (inr (inl child)) = so (inr (inl child))
 short_next (suc i) (field k d rest) given l c at so one (inr (inr later)) =
@@ -173,21 +173,21 @@ long_node_at most zero (field k d rest) given l c at (inr (inl child)) =
 long_node_at most zero (field k d rest) given l c at (inr (inr none)) = absurd none
 long_node_at most (suc i) (field k d rest) given l c at h = inr (inr (long_node_at most i rest (λ j. given (suc j)) l c at h))
 
-long_data_at : (i : ℕ) (shape : Shape) (given : ℕ → List Value) (l : Layout) (c : Shape) → IsAt i shape l c
-    → SomeLongData (field l c bare) (λ j. given i) → SomeLongData shape given
-long_data_at i bare given l c at h = absurd at
-long_data_at zero (field k d rest) given l c at (inl own) =
-    inl (subst (λ (m : Layout). HasLongData m (given 0)) (sym at.0) own)
-long_data_at zero (field k d rest) given l c at (inr (inl child)) =
-    inr (inl (subst (λ (m : Layout). SomeLongData d (below m (given 0))) (sym at.0)
-    (subst (λ (s : Shape). SomeLongData s (below l (given 0))) (sym at.1) child)))
-long_data_at zero (field k d rest) given l c at (inr (inr none)) = absurd none
-long_data_at (suc i) (field k d rest) given l c at h = inr (inr (long_data_at i rest (λ j. given (suc j)) l c at h))
+some_at : (P : Layout → List Value → Type 0) (i : ℕ) (shape : Shape) (given : ℕ → List Value) (l : Layout) (c : Shape) → IsAt i shape l c
+    → SomeColumn P (field l c bare) (λ j. given i) → SomeColumn P shape given
+some_at P i bare given l c at h = absurd at
+some_at P zero (field k d rest) given l c at (inl own) =
+    inl (subst (λ (m : Layout). P m (given 0)) (sym at.0) own)
+some_at P zero (field k d rest) given l c at (inr (inl child)) =
+    inr (inl (subst (λ (m : Layout). SomeColumn P d (below m (given 0))) (sym at.0)
+    (subst (λ (s : Shape). SomeColumn P s (below l (given 0))) (sym at.1) child)))
+some_at P zero (field k d rest) given l c at (inr (inr none)) = absurd none
+some_at P (suc i) (field k d rest) given l c at h = inr (inr (some_at P i rest (λ j. given (suc j)) l c at h))
 
 -- where the first fields leave too little for the next, all are too much
 pub past_next : (i : ℕ) (shape : Shape) (given : ℕ → List Value) (l : Layout) (c : Shape) (bytes left : ℕ) → IsAt i shape l c
-    → length (joined (buffers_of (first i shape) given)) + left ≡ bytes
-    → left < length (joined (buffers_of (field l c bare) (λ j. given i))) → bytes < length (joined (buffers_of shape given))
+    → length (padded (buffers_of (first i shape) given)) + left ≡ bytes
+    → left < length (padded (buffers_of (field l c bare) (λ j. given i))) → bytes < length (padded (buffers_of shape given))
 past_next i shape given l c bytes left at so more =
     let size = bytes_next i shape given l c at in
     let within = first_within (suc i) shape given in
@@ -195,11 +195,13 @@ past_next i shape given l c bytes left at so more =
 
 pub too_much_next : (limits : Limits) (i : ℕ) (shape : Shape) (given : ℕ → List Value) (l : Layout) (c : Shape) (bytes left : ℕ)
     (e : PushFault)
-    → IsAt i shape l c → length (joined (buffers_of (first i shape) given)) + left ≡ bytes
+    → IsAt i shape l c → length (padded (buffers_of (first i shape) given)) + left ≡ bytes
     → AreTooMuch limits left (field l c bare) (λ j. given i) e → AreTooMuch limits bytes shape given e
-too_much_next limits i shape given l c bytes left push.TooLong at so (inl long) = inl (long_data_at i shape given l c at long)
+too_much_next limits i shape given l c bytes left push.TooLong at so (inl long) = inl (some_at HasLongData i shape given l c at long)
 too_much_next limits i shape given l c bytes left push.TooLong at so (inr more) = inr (past_next i shape given l c bytes left at so more)
-too_much_next limits i shape given l c bytes left push.TooMany at so h = long_node_at limits.slots i shape given l c at h
+too_much_next limits i shape given l c bytes left push.TooMany at so (inl slots) =
+    inl (long_node_at limits.slots i shape given l c at slots)
+too_much_next limits i shape given l c bytes left push.TooMany at so (inr items) = inr (some_at HasLongItems i shape given l c at items)
 too_much_next limits i shape given l c bytes left push.OutOfMemory at so h = absurd h
 too_much_next limits i shape given l c bytes left push.Failed at so h = absurd h
 
@@ -207,7 +209,7 @@ too_much_next limits i shape given l c bytes left push.Failed at so h = absurd h
 
 counted_of : (known : Numbering) (p : Purpose) (limits : Limits) (l : Layout) (vs : List Value) (column : Column)
     → HasTaken known p limits l vs column
-    → (limits.slots < length vs → ⊥) × (HasLongData l vs → ⊥)
+    → (limits.slots < length vs → ⊥) × (IsPastOffsets l vs → ⊥)
 counted_of known purpose.Keep limits l vs column h = (h.counted.few, h.counted.short)
 counted_of known purpose.Count limits l vs column h = (h.counted.few, h.counted.short)
 
@@ -221,7 +223,7 @@ taken_few known p limits (field l c rest) (m ∷ ms) given h (inr (inr later)) =
     h.1 later
 
 pub taken_short : (known : Numbering) (p : Purpose) (limits : Limits) (shape : Shape) (nodes : List Node) (given : ℕ → List Value)
-    → AreNodes (HasTaken known p limits) shape nodes given → SomeLongData shape given → ⊥
+    → AreNodes (HasTaken known p limits) shape nodes given → SomePastOffsets shape given → ⊥
 taken_short known p limits bare nodes given h x = x
 taken_short known p limits (field l c rest) [] given h x = absurd h
 taken_short known p limits (field l c rest) (m ∷ ms) given h (inl own) = (counted_of known p limits l (given 0) _ h.0.0).1 own

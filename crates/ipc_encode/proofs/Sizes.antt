@@ -16,10 +16,10 @@ use Rattle.ipc_encode.specs.Pieces.{Valid, True, Number, Fixed, Content}
 use Rattle.ipc_encode.specs.Pieces as p
 use Rattle.ipc_encode.specs.Bitmaps.{bitmap}
 use Rattle.ipc_encode.specs.Cells.{flags, nulls, content, fixed, items, slot_bytes, slots, ends, offsets, extent, number_bits, all_items}
-use Rattle.ipc_encode.specs.Buffers.{padded_buffer, joined, piece_bytes, column_buffers}
+use Rattle.ipc_encode.specs.Buffers.{padded_buffer, padded, piece_bytes, column_buffers}
 use Rattle.ipc_encode.specs.Columns.{validity_bytes, values_in, bits_length, padded_length, data_in, values_length}
 use Rattle.ipc_encode.specs.Columns.{column_length, PassesOffsets}
-use Rattle.ipc_encode.specs.Limits.{HasLongData}
+use Rattle.ipc_encode.specs.Limits.{IsPastOffsets}
 use Rattle.ipc_encode.specs.Built.{IsCounted}
 use Rattle.ipc_encode.proofs.Bits.{length_bytes, flags_length}
 
@@ -27,23 +27,23 @@ pub padded_is : (b : List ℕ) → length (padded_buffer b) ≡ padded_length (l
 padded_is b = length-append b (replicate {A = ℕ} ((8 - length b % 8) % 8) 0)
     ∙ ap (λ (n : ℕ). length b + n) (length-replicate ((8 - length b % 8) % 8) 0)
 
-joined_one : (a : List ℕ) → length (joined (a ∷ [])) ≡ padded_length (length a) + padded_length 0 + padded_length 0
+joined_one : (a : List ℕ) → length (padded (a ∷ [])) ≡ padded_length (length a) + padded_length 0 + padded_length 0
 joined_one a = let size = length-append (padded_buffer a) [] in omega (arith, size, padded_is a)
 
-joined_run : (a b : List ℕ) → length (joined (a ∷ b ∷ [])) ≡ padded_length (length a) + padded_length (length b) + padded_length 0
+joined_run : (a b : List ℕ) → length (padded (a ∷ b ∷ [])) ≡ padded_length (length a) + padded_length (length b) + padded_length 0
 joined_run a b =
     let size = length-append (padded_buffer a) (padded_buffer b ++ []) in
     let last = length-append (padded_buffer b) [] in
     omega (arith, size, last, padded_is a, padded_is b)
 
-joined_two : (a b : List ℕ) → length (joined (a ∷ b ∷ [])) ≡ padded_length (length a) + padded_length 0 + padded_length (length b)
+joined_two : (a b : List ℕ) → length (padded (a ∷ b ∷ [])) ≡ padded_length (length a) + padded_length 0 + padded_length (length b)
 joined_two a b =
     let size = length-append (padded_buffer a) (padded_buffer b ++ []) in
     let last = length-append (padded_buffer b) [] in
     omega (arith, size, last, padded_is a, padded_is b)
 
 joined_three : (a b c : List ℕ)
-    → length (joined (a ∷ b ∷ c ∷ [])) ≡ padded_length (length a) + padded_length (length b) + padded_length (length c)
+    → length (padded (a ∷ b ∷ c ∷ [])) ≡ padded_length (length a) + padded_length (length b) + padded_length (length c)
 joined_three a b c =
     let size = length-append (padded_buffer a) (padded_buffer b ++ (padded_buffer c ++ [])) in
     let more = length-append (padded_buffer b) (padded_buffer c ++ []) in
@@ -117,7 +117,7 @@ no_data layout (v ∷ vs) none = let more = no_data layout vs none in let here =
 
 -- the buffers of a column have the length that its counts give
 pub column_size : (layout : Layout) (vs : List Value)
-    → length (joined (column_buffers layout vs)) ≡ column_length layout (length vs) (nulls vs) (values_length layout (length vs)
+    → length (padded (column_buffers layout vs)) ≡ column_length layout (length vs) (nulls vs) (values_length layout (length vs)
     (data_in layout vs))
 column_size l.Null vs = refl
 column_size l.Lists vs = joined_run (validity_bytes vs) (offsets p.Items vs)
@@ -156,11 +156,11 @@ column_size (l.VariableBytes utf8) vs =
 
 -- a buffer of values is among the others
 last_within : (layout : Layout) (vs : List Value) → values_length layout (length vs) (data_in layout vs) ≡ data_in layout vs
-    → data_in layout vs ≤ length (joined (column_buffers layout vs))
+    → data_in layout vs ≤ length (padded (column_buffers layout vs))
 last_within layout vs e = let size = column_size layout vs in omega (arith, size, e)
 
 -- the bytes of data are among those of the buffers
-pub data_within : (layout : Layout) (vs : List Value) → (layout ≡ l.Lists → ⊥) → data_in layout vs ≤ length (joined
+pub data_within : (layout : Layout) (vs : List Value) → (layout ≡ l.Lists → ⊥) → data_in layout vs ≤ length (padded
     (column_buffers layout vs))
 data_within l.Null vs other = let none = no_data l.Null vs (λ v. refl) in omega (arith, none)
 data_within (l.Indices bits signed id) vs other = last_within (l.Indices bits signed id) vs refl
@@ -173,7 +173,7 @@ data_within (l.FixedBytes width) vs other = last_within (l.FixedBytes width) vs 
 data_within (l.VariableBytes utf8) vs other = last_within (l.VariableBytes utf8) vs refl
 
 -- data is long exactly where it passes its offsets
-pub long_is : (layout : Layout) (vs : List Value) → PassesOffsets layout (data_in layout vs) → HasLongData layout vs
+pub long_is : (layout : Layout) (vs : List Value) → PassesOffsets layout (data_in layout vs) → IsPastOffsets layout vs
 long_is l.Null vs h = h
 long_is (l.Indices bits signed id) vs h = h
 long_is l.Lists vs h = let size = items_data vs in omega (arith, size, h)
@@ -184,7 +184,7 @@ long_is (l.Numbers bits signed) vs h = h
 long_is (l.FixedBytes width) vs h = h
 long_is (l.VariableBytes utf8) vs h = let size = content_data utf8 vs in omega (arith, size, h)
 
-pub long_from : (layout : Layout) (vs : List Value) → HasLongData layout vs → PassesOffsets layout (data_in layout vs)
+pub long_from : (layout : Layout) (vs : List Value) → IsPastOffsets layout vs → PassesOffsets layout (data_in layout vs)
 long_from l.Null vs h = h
 long_from (l.Indices bits signed id) vs h = h
 long_from l.Lists vs h = let size = items_data vs in omega (arith, size, h)
@@ -198,5 +198,5 @@ long_from (l.VariableBytes utf8) vs h = let size = content_data utf8 vs in omega
 -- the numbers of a column give the length of its buffers
 pub counted_size : (limits : Limits) (layout : Layout) (vs : List Value) (counts : Counts) → IsCounted limits layout vs counts
     → column_length layout counts.slots counts.nulls (values_length layout counts.slots counts.amount)
-    ≡ length (joined (column_buffers layout vs))
+    ≡ length (padded (column_buffers layout vs))
 counted_size limits layout vs counts h = rw (h.slots_are, h.nulls_are, h.amount_is) (sym (column_size layout vs))

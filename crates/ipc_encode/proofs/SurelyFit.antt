@@ -18,10 +18,10 @@ use Rattle.ipc_model.proofs.FitsLemmas.{fits_parts}
 use Rattle.ipc_column.specs.Shapes.{Shape, bare, field, shape_of}
 use Rattle.ipc_encode.specs.declared.column.Column.{Column}
 use Rattle.ipc_encode.specs.declared.node.Node.{Node}
-use Rattle.ipc_encode.specs.Buffers.{joined, column_buffers}
+use Rattle.ipc_encode.specs.Buffers.{padded, column_buffers}
 use Rattle.ipc_encode.specs.Cells.{nulls}
 use Rattle.ipc_encode.specs.Columns.{datum, data_in, bits_length, padded_length, offsets_length, validity_length, values_length}
-use Rattle.ipc_encode.specs.Limits.{HasLongData}
+use Rattle.ipc_encode.specs.Limits.{IsPastOffsets}
 use Rattle.ipc_encode.specs.Built.{AreNodes, AreWithin, TakeAtMost}
 use Rattle.ipc_encode.proofs.Growing.{parts_length}
 use Rattle.ipc_encode.proofs.Leaving.{few_leaf, short_leaf}
@@ -118,7 +118,7 @@ values_few (l.Indices bits signed id) n amount = omega arith
 
 -- the buffers of a column take no more than so much for each slot, and their data
 pub buffers_few : (layout : Layout) (vs : List Value)
-    → length (joined (column_buffers layout vs)) ≤ 6 * length vs + 25 + data_in layout vs
+    → length (padded (column_buffers layout vs)) ≤ 6 * length vs + 25 + data_in layout vs
 buffers_few layout vs =
     let size = column_size layout vs in
     let v = validity_few layout (length vs) (nulls vs) in
@@ -131,7 +131,7 @@ buffers_few layout vs =
 
 -- a column without children
 pub leaf_takes : (limits : Limits) (layout : Layout) (vs : List Value) (least amount : ℕ) → length vs ≤ limits.slots
-    → (HasLongData layout vs → ⊥) → 14 * length vs + 25 ≤ least → data_in layout vs ≤ 8 * length vs + amount
+    → (IsPastOffsets layout vs → ⊥) → 14 * length vs + 25 ≤ least → data_in layout vs ≤ 8 * length vs + amount
     → TakeAtMost limits (least + amount) (field layout bare bare) (λ j. vs)
 leaf_takes limits layout vs least amount few short most held = record {
   few = few_leaf limits.slots layout vs (λ many. omega (arith, few, many));

@@ -22,10 +22,10 @@ use Rattle.ipc_model.specs.declared.value.Value.TheViews.{out-Value, roll-Value,
 use Rattle.ipc_model.specs.Fits.{Fits, EachFits, InnerFit, IsOwn}
 use Rattle.ipc_model.proofs.FitsLemmas.{fits_parts}
 use Rattle.ipc_column.specs.Shapes.{Shape, bare, field}
-use Rattle.ipc_encode.specs.Buffers.{below, nulls_below, joined, buffers_of}
+use Rattle.ipc_encode.specs.Buffers.{below, nulls_below, padded, buffers_of}
 use Rattle.ipc_encode.specs.Cells.{cell, items, items_in, fixed_items}
 use Rattle.ipc_encode.specs.Columns.{datum, data_in, PassesOffsets}
-use Rattle.ipc_encode.specs.Limits.{HasLongNode, SomeLongData}
+use Rattle.ipc_encode.specs.Limits.{HasLongNode, SomePastOffsets}
 use Rattle.ipc_encode.specs.Built.{TakeAtMost, weight_of}
 use Rattle.ipc_encode.proofs.Below.{fixed_are, parts_are, null_gives, nulls_give}
 use Rattle.ipc_encode.proofs.Growing.{parts_length}
@@ -100,7 +100,7 @@ passes (l.FixedLists size) n h = absurd h
 passes (l.Indices bits signed id) n h = absurd h
 
 -- more data than offsets reach weigh more
-short_weight : (each : ℕ) (shape : Shape) (given : ℕ → List Value) → SomeLongData shape given → max_data < weight_of each shape given
+short_weight : (each : ℕ) (shape : Shape) (given : ℕ → List Value) → SomePastOffsets shape given → max_data < weight_of each shape given
 short_weight each bare given h = absurd h
 short_weight each (field l c rest) given (inl own) =
     let long = passes l (data_in l (given 0)) (long_from l (given 0) own) in omega (arith, long)
@@ -110,7 +110,7 @@ short_weight each (field l c rest) given (inr (inr later)) =
     let long = short_weight each rest (λ j. given (suc j)) later in omega (arith, long)
 
 -- buffers take no more bytes than their columns weigh
-bytes_weight : (shape : Shape) (given : ℕ → List Value) → length (joined (buffers_of shape given)) ≤ weight_of 25 shape given
+bytes_weight : (shape : Shape) (given : ℕ → List Value) → length (padded (buffers_of shape given)) ≤ weight_of 25 shape given
 bytes_weight bare given = omega arith
 bytes_weight (field l c rest) given =
     let whole = parts_length l c rest given in

@@ -89,9 +89,9 @@ abbrev pub padded_buffer : List ℕ → List ℕ
 padded_buffer b = b ++ replicate ((8 - length b % 8) % 8) 0
 
 -- buffers one after another, each padded
-abbrev pub joined : List (List ℕ) → List ℕ
-joined [] = []
-joined (b ∷ bs) = padded_buffer b ++ joined bs
+abbrev pub padded : List (List ℕ) → List ℕ
+padded [] = []
+padded (b ∷ bs) = padded_buffer b ++ padded bs
 
 -- the range of each buffer: where it begins, the first at `start`, and its length without padding
 -- (Schema.fbs, Buffer)
@@ -116,7 +116,7 @@ row_buffers fields rows = buffers_of (shape_of fields) (columns rows)
 -- the body of these rows, all buffers padded (Arrow Columnar Format, "RecordBatch message"); it has
 -- the length of the written one, but not the bytes of its indices
 abbrev pub body_of : List Field → List (List Value) → List ℕ
-body_of fields rows = joined (row_buffers fields rows)
+body_of fields rows = padded (row_buffers fields rows)
 
 -- ---- the numbers of indices
 
@@ -148,7 +148,7 @@ row_buffers_with indices fields rows = buffers_with indices (shape_of fields) (c
 
 -- the body of these rows; `indices` gives the index of each dictionary value
 abbrev pub body_with : Numbering → List Field → List (List Value) → List ℕ
-body_with indices fields rows = joined (row_buffers_with indices fields rows)
+body_with indices fields rows = padded (row_buffers_with indices fields rows)
 
 -- the parts are exactly these nodes, buffers and body, so equal rows with equal indices give equal
 -- bytes

@@ -15,12 +15,13 @@ use Rattle.ipc_encode.specs.declared.spare.Spare.{Spare}
 use Rattle.ipc_encode.specs.declared.column.Purpose.{Purpose}
 use Rattle.ipc_encode.specs.declared.column.Purpose.TheVariants as purpose
 use Rattle.ipc_column.specs.Shapes.{Shape, bare, field, shape_of}
-use Rattle.ipc_encode.specs.Buffers.{below, columns, joined, column_buffers, buffers_of}
+use Rattle.ipc_encode.specs.Buffers.{below, columns, padded, column_buffers, buffers_of}
 use Rattle.ipc_encode.specs.Cells.{nulls}
 use Rattle.ipc_encode.specs.Columns.{validity_in, offsets_in, values_in, indices_in, data_in}
 use Rattle.ipc_encode.specs.Numbers.{Numbering}
 use Rattle.ipc_encode.specs.Indices.{AgreeOn}
-use Rattle.ipc_encode.specs.Limits.{HasLongData, HasLongNode, SomeLongData, IsWithin}
+use Rattle.ipc_encode.specs.Limits.{HasLongData, HasLongItems, HasLongNode, IsPastOffsets}
+use Rattle.ipc_encode.specs.Limits.{IsWithin, SomeColumn, SomePastOffsets}
 use Rattle.ipc_encode.specs.Writing.{AreStored}
 
 -- the counts of a column of this layout with these values, which are within the limits
@@ -30,7 +31,7 @@ pub record IsCounted (limits : Limits) (layout : Layout) (values : List Value)
   pub nulls_are : counts.nulls ≡ nulls values
   pub amount_is : counts.amount ≡ data_in layout values
   pub few : ¬ (limits.slots < length values)
-  pub short : ¬ HasLongData layout values
+  pub short : ¬ IsPastOffsets layout values
 
 -- the buffers of a column of this layout with these values; indices are stored as numbers until the
 -- column is written (Arrow Columnar Format, "Buffer Listing for Each Layout")
@@ -81,8 +82,8 @@ HasTaken indices purpose.Count limits = IsNext limits
 -- columns of this shape with these values are within the limits
 pub record AreWithin (limits : Limits) (shape : Shape) (given : ℕ → List Value) : Type 0 where
   pub few : ¬ HasLongNode limits.slots shape given
-  pub short : ¬ SomeLongData shape given
-  pub body : length (joined (buffers_of shape given)) ≤ limits.body
+  pub short : ¬ SomePastOffsets shape given
+  pub body : length (padded (buffers_of shape given)) ≤ limits.body
 
 -- the weight of columns of this shape with these values, at every level: `each` for a column, 6 for
 -- each slot, and the data. With 25 for `each`, it is at least the bytes of their buffers
@@ -111,21 +112,23 @@ pub record HasRows (indices : Numbering) (limits : Limits) (fields : List Field)
   pub within : IsWithin limits fields rows
   pub has_spare : HasSpare limits fields rows builder.spare
 
--- why a column does not take the last of these values: too many slots, more data than its offsets
--- can address, more than a body may have, or out of memory
+-- why a column does not take the last of these values: too many slots or items of lists, more bytes
+-- than its offsets can address, more than a body may have, or out of memory
 abbrev pub IsPushRefused : Limits → Layout → List Value → PushFault → Type 0
 IsPushRefused limits layout values fault.TooLong =
-    HasLongData layout values ⊎ (limits.body < length (joined (column_buffers layout values)))
-IsPushRefused limits layout values fault.TooMany = limits.slots < length values
+    HasLongData layout values ⊎ (limits.body < length (padded (column_buffers layout values)))
+IsPushRefused limits layout values fault.TooMany =
+    (limits.slots < length values) ⊎ HasLongItems layout values
 IsPushRefused limits layout values fault.OutOfMemory = ⊤
 IsPushRefused limits layout values fault.Failed = ⊥
 
 -- why columns of this shape, or columns below them, do not take the last of these values: too many
--- slots, more data than offsets can address, more than a body may have, or out of memory
+-- slots or items of lists, more bytes than offsets can address or a body may have, or out of memory
 abbrev pub ArePushesRefused : Limits → Shape → (ℕ → List Value) → PushFault → Type 0
-ArePushesRefused limits shape given fault.TooLong = SomeLongData shape given
-    ⊎ (limits.body < length (joined (buffers_of shape given)))
-ArePushesRefused limits shape given fault.TooMany = HasLongNode limits.slots shape given
+ArePushesRefused limits shape given fault.TooLong = SomeColumn HasLongData shape given
+    ⊎ (limits.body < length (padded (buffers_of shape given)))
+ArePushesRefused limits shape given fault.TooMany =
+    HasLongNode limits.slots shape given ⊎ SomeColumn HasLongItems shape given
 ArePushesRefused limits shape given fault.OutOfMemory = ⊤
 ArePushesRefused limits shape given fault.Failed = ⊥
 
@@ -134,22 +137,23 @@ ArePushesRefused limits shape given fault.Failed = ⊥
 pub record TakeAtMost (limits : Limits) (most : ℕ) (shape : Shape) (given : ℕ
     → List Value) : Type 0 where
   pub few : ¬ HasLongNode limits.slots shape given
-  pub short : ¬ SomeLongData shape given
-  pub bytes : length (joined (buffers_of shape given)) ≤ most
+  pub short : ¬ SomePastOffsets shape given
+  pub bytes : length (padded (buffers_of shape given)) ≤ most
 
 -- the buffers of columns with these values leave `left` of this many bytes, and each column is
 -- within the limits of slots and offsets
 pub record LeavesOf (limits : Limits) (shape : Shape) (given : ℕ → List Value)
     (bytes left : ℕ) : Type 0 where
   pub few : ¬ HasLongNode limits.slots shape given
-  pub short : ¬ SomeLongData shape given
-  pub rest : length (joined (buffers_of shape given)) + left ≡ bytes
+  pub short : ¬ SomePastOffsets shape given
+  pub rest : length (padded (buffers_of shape given)) + left ≡ bytes
 
 -- why columns are not within the limits, or their buffers not within this many bytes
 abbrev pub AreTooMuch : Limits → ℕ → Shape → (ℕ → List Value) → PushFault → Type 0
-AreTooMuch limits bytes shape given fault.TooLong = SomeLongData shape given
-    ⊎ (bytes < length (joined (buffers_of shape given)))
-AreTooMuch limits bytes shape given fault.TooMany = HasLongNode limits.slots shape given
+AreTooMuch limits bytes shape given fault.TooLong = SomeColumn HasLongData shape given
+    ⊎ (bytes < length (padded (buffers_of shape given)))
+AreTooMuch limits bytes shape given fault.TooMany =
+    HasLongNode limits.slots shape given ⊎ SomeColumn HasLongItems shape given
 AreTooMuch limits bytes shape given fault.OutOfMemory = ⊥
 AreTooMuch limits bytes shape given fault.Failed = ⊥
 

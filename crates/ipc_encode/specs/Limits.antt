@@ -20,35 +20,57 @@ HasLongNode most (field l children rest) given =
     (most < length (given 0)) ⊎ (HasLongNode most children (below l (given 0))
     ⊎ HasLongNode most rest (λ j. given (suc j)))
 
--- there are more rows than the limits allow, or more slots in a column or one below it
-abbrev pub IsTooMany : Limits → List Field → List (List Value) → Type 0
-IsTooMany limits fields rows =
-    (limits.slots < length rows) ⊎ HasLongNode limits.slots (shape_of fields) (columns rows)
+-- the property holds for one of the columns, or for a column below it, with its layout and values
+abbrev pub SomeColumn : (Layout → List Value → Type 0) → Shape → (ℕ → List Value) → Type 0
+SomeColumn Property bare given = ⊥
+SomeColumn Property (field l children rest) given =
+    Property l (given 0) ⊎ (SomeColumn Property children (below l (given 0))
+    ⊎ SomeColumn Property rest (λ j. given (suc j)))
 
--- there are more bytes, or more items of lists, than a 32-bit offset can address
--- (Arrow Columnar Format, "Variable-size Binary Layout", "Variable-size List Layout")
+-- there are more bytes of binary or UTF-8 data than a 32-bit offset can address (Arrow Columnar
+-- Format, "Variable-size Binary Layout")
 abbrev pub HasLongData : Layout → List Value → Type 0
 HasLongData (l.VariableBytes utf8) values = max_data < length (slots Content values)
-HasLongData l.Null values = ⊥
-HasLongData l.Bits values = ⊥
-HasLongData (l.Numbers bits signed) values = ⊥
-HasLongData (l.FixedBytes width) values = ⊥
-HasLongData l.Lists values = max_data < length (all_items values)
-HasLongData l.Structs values = ⊥
-HasLongData (l.FixedLists size) values = ⊥
-HasLongData (l.Indices bits signed id) values = ⊥
+HasLongData _ values = ⊥
 
--- one of the columns, or a column below it, has more data than offsets can address (`HasLongData`)
-abbrev pub SomeLongData : Shape → (ℕ → List Value) → Type 0
-SomeLongData bare given = ⊥
-SomeLongData (field l children rest) given =
-    HasLongData l (given 0) ⊎ (SomeLongData children (below l (given 0))
-    ⊎ SomeLongData rest (λ j. given (suc j)))
+-- there are more items of lists than a 32-bit offset can address. Where a list has its child, these
+-- are the child's slots (Arrow Columnar Format, "Variable-size List Layout")
+abbrev pub HasLongItems : Layout → List Value → Type 0
+HasLongItems l.Lists values = max_data < length (all_items values)
+HasLongItems _ values = ⊥
 
--- a column has more data than its offsets can address, or the body would be too long
+-- there are more rows than the limits allow, more slots in a column or one below it, or more items
+-- of lists than a child can have slots (`HasLongItems`)
+abbrev pub IsTooMany : Limits → List Field → List (List Value) → Type 0
+IsTooMany limits fields rows = (limits.slots < length rows)
+    ⊎ (HasLongNode limits.slots (shape_of fields) (columns rows)
+    ⊎ SomeColumn HasLongItems (shape_of fields) (columns rows))
+
+-- a column of binary or UTF-8 data has more of it than offsets can address (`HasLongData`), or the
+-- body would be too long
 abbrev pub IsTooLong : Limits → List Field → List (List Value) → Type 0
-IsTooLong limits fields rows = SomeLongData (shape_of fields) (columns rows)
+IsTooLong limits fields rows = SomeColumn HasLongData (shape_of fields) (columns rows)
     ⊎ (limits.body < length (body_of fields rows))
+
+-- there is more data than 32-bit offsets can address: bytes (`HasLongData`), or items of lists
+-- (`HasLongItems`)
+abbrev pub IsPastOffsets : Layout → List Value → Type 0
+IsPastOffsets (l.VariableBytes utf8) values = max_data < length (slots Content values)
+IsPastOffsets l.Null values = ⊥
+IsPastOffsets l.Bits values = ⊥
+IsPastOffsets (l.Numbers bits signed) values = ⊥
+IsPastOffsets (l.FixedBytes width) values = ⊥
+IsPastOffsets l.Lists values = max_data < length (all_items values)
+IsPastOffsets l.Structs values = ⊥
+IsPastOffsets (l.FixedLists size) values = ⊥
+IsPastOffsets (l.Indices bits signed id) values = ⊥
+
+-- one of the columns, or a column below it, has more data than offsets can address
+abbrev pub SomePastOffsets : Shape → (ℕ → List Value) → Type 0
+SomePastOffsets bare given = ⊥
+SomePastOffsets (field l children rest) given =
+    IsPastOffsets l (given 0) ⊎ (SomePastOffsets children (below l (given 0))
+    ⊎ SomePastOffsets rest (λ j. given (suc j)))
 
 -- the rows are within the limits
 pub record IsWithin (limits : Limits) (fields : List Field) (rows : List

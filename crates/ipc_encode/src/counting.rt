@@ -46,6 +46,20 @@ fn passes_offsets(layout: Layout, amount: usize) -> bool
     }
 }
 
+// The fault of data that offsets do not reach, or that is too long for a body. The items of lists
+// are slots of a child.
+#[inline(always)]
+fn past_fault(layout: Layout) -> PushFault
+    ensures lists { layout ≡ Lists → result ≡ PushFault.TooMany }
+    ensures bytes { ¬ (layout ≡ Lists) → result ≡ PushFault.TooLong }
+    ensures memory { ¬ (result ≡ PushFault.OutOfMemory) }
+{
+    match layout {
+        Layout::Lists => PushFault::TooMany,
+        _ => PushFault::TooLong,
+    }
+}
+
 // Whether this amount of data has more bytes than a body may have.
 #[inline(always)]
 fn passes_body(layout: Layout, amount: usize, limits: &Limits) -> bool
@@ -72,8 +86,9 @@ impl Counts {
 
     /// Returns the sizes with one more value.
     ///
-    /// Errors: `TooMany` if there would be more slots than the limits allow; `TooLong` if there
-    /// would be more data than offsets reach, or more bytes than a body may have.
+    /// Errors: `TooMany` if there would be more slots than the limits allow, or more items of lists
+    /// than offsets reach; `TooLong` if there would be more bytes than offsets reach or a body may
+    /// have.
     #[inline(always)]
     pub(crate) fn with(
         self,
@@ -92,7 +107,7 @@ impl Counts {
         }
         let amount = self.amount + datum(layout, value);
         if passes_offsets(layout, amount) || passes_body(layout, amount, limits) {
-            return Err(PushFault::TooLong);
+            return Err(past_fault(layout));
         }
         Ok(Counts {
             slots: self.slots + 1,
@@ -126,7 +141,7 @@ impl Counts {
             return Err(PushFault::TooMany);
         }
         if passes_offsets(layout, amount) || passes_body(layout, amount, limits) {
-            return Err(PushFault::TooLong);
+            return Err(past_fault(layout));
         }
         Ok(Counts {
             slots: self.slots + slot_count,

@@ -4,7 +4,7 @@ ghost use Rattle.ipc_model.specs.declared.layout.Layout.{Layout};
 ghost use Rattle.ipc_model.specs.declared.limits.Limits.{Limits};
 ghost use Rattle.ipc_model.specs.declared.value.Value.{Value};
 ghost use Rattle.ipc_column.specs.Shapes.{Shape, bare, field};
-ghost use Rattle.ipc_encode.specs.Buffers.{buffers_of, joined};
+ghost use Rattle.ipc_encode.specs.Buffers.{buffers_of, padded};
 ghost use Rattle.ipc_encode.specs.Cells.{cell};
 ghost use Rattle.ipc_encode.specs.Built.{AreColumns, AreNodes, IsNode, HasTaken, IsColumn, IsNext};
 ghost use Rattle.ipc_encode.specs.Built.{AreTooMuch, AreWithin, IsCounted, LeavesOf};
@@ -60,11 +60,11 @@ fn left_behind(node: &Node, purpose: Purpose, bytes: u64) -> Option<u64>
         (children : Shape) (values : List Value)
         → IsNode (HasTaken known purpose limits) layout children node.now values
         → IfSome result (λ left.
-        length (joined (buffers_of (field layout children bare) (λ j. values))) + left ≡ bytes) }
+        length (padded (buffers_of (field layout children bare) (λ j. values))) + left ≡ bytes) }
     ensures none { (known : Numbering) (limits : Limits) (layout : Layout)
         (children : Shape) (values : List Value)
         → IsNode (HasTaken known purpose limits) layout children node.now values → result ≡ None
-        → bytes < length (joined (buffers_of (field layout children bare) (λ j. values))) }
+        → bytes < length (padded (buffers_of (field layout children bare) (λ j. values))) }
     ensures fewer { IfSome result (λ left. left ≤ bytes) }
 {
     let len = node.column.counts(purpose).len(node.column.layout);
@@ -81,11 +81,11 @@ pub(crate) fn left_behind_all(nodes: &[Node], purpose: Purpose, bytes: u64) -> O
     ensures left { (known : Numbering) (limits : Limits) (shape : Shape)
         (given : ℕ → List Value)
         → AreNodes (HasTaken known purpose limits) shape nodes.now given
-        → IfSome result (λ left. length (joined (buffers_of shape given)) + left ≡ bytes) }
+        → IfSome result (λ left. length (padded (buffers_of shape given)) + left ≡ bytes) }
     ensures none { (known : Numbering) (limits : Limits) (shape : Shape)
         (given : ℕ → List Value)
         → AreNodes (HasTaken known purpose limits) shape nodes.now given → result ≡ None
-        → bytes < length (joined (buffers_of shape given)) }
+        → bytes < length (padded (buffers_of shape given)) }
     ensures fewer { IfSome result (λ left. left ≤ bytes) }
 {
     let mut left = bytes;
@@ -219,7 +219,7 @@ fn left_behind_with(
 /// Checks that columns with the values of one more row are within the limits. It takes no memory.
 ///
 /// Errors: `TooMany` if a column would have too many slots; `TooLong` if a column would have more
-/// data than offsets reach, or the buffers more bytes than a body may have.
+/// bytes than offsets reach, or the buffers more bytes than a body may have.
 pub(crate) fn fit(nodes: &mut [Node], row: &[Value], limits: &Limits) -> Result<(), PushFault>
     ensures fit { (known : Numbering) (shape : Shape) (given : ℕ → List Value)
         → AreColumns known limits.now shape nodes.old given

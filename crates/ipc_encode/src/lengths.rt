@@ -2,7 +2,7 @@ ghost use Rattle.std.specs.Prelude.{◌≡◌, ◌≤◌, ◌+◌, ◌*◌, List
 ghost use Rattle.ipc_model.specs.Greatest.{greatest_body, greatest_slots};
 ghost use Rattle.ipc_model.specs.declared.limits.Limits.{Limits};
 ghost use Rattle.ipc_model.specs.declared.value.Value.{Value};
-ghost use Rattle.ipc_encode.specs.Buffers.{column_buffers, joined};
+ghost use Rattle.ipc_encode.specs.Buffers.{column_buffers, padded};
 ghost use Rattle.ipc_encode.specs.Columns.{offsets_length, validity_length, values_length};
 ghost use Rattle.ipc_encode.specs.Columns.{column_length};
 ghost use Rattle.ipc_encode.specs.Built.{IsCounted};
@@ -74,7 +74,7 @@ impl Counts {
     #[inline(always)]
     pub(crate) fn len(self, layout: Layout) -> u64
         ensures { (limits : Limits) (values : List Value) → IsCounted limits layout values self
-            → result ≡ length (joined (column_buffers layout values)) }
+            → result ≡ length (padded (column_buffers layout values)) }
     {
         column_len(layout, self.slots, self.nulls, self.amount)
     }

@@ -20,21 +20,21 @@ use crate::slot_parts::item_count;
 use ipc_column::SlotView;
 use ipc_model::{Layout, Limits};
 
-// The end of a list that begins at `start` and has `count` items. Returns `TooLong` if offsets do
+// The end of a list that begins at `start` and has `count` items. Returns `TooMany` if offsets do
 // not reach it.
 fn list_end(start: usize, count: usize) -> Result<usize, PushFault>
     ensures end { IfOk result (λ end. end ≡ start + count) }
     ensures refused { IfErr result
-        (λ fault. (fault ≡ PushFault.TooLong) × (max_data < start + count)) }
+        (λ fault. (fault ≡ PushFault.TooMany) × (max_data < start + count)) }
 {
     match start.checked_add(count) {
         Some(end) if end <= MAX_DATA => Ok(end),
-        _ => Err(PushFault::TooLong),
+        _ => Err(PushFault::TooMany),
     }
 }
 
 // Appends where the list of each slot ends, the first of them beginning at a start, and says where
-// the last ends. `TooLong` past what offsets reach.
+// the last ends. `TooMany` past what offsets reach.
 fn push_list_ends(
     offsets: &mut Vec<u8>,
     view: &SlotView<'_>,
@@ -44,7 +44,7 @@ fn push_list_ends(
     ensures offsets { OnOk result (offsets.new.items
         ≡ offsets.old.items ++ ends Items start (slot_values view.now)) }
     ensures refused { IfErr result (λ fault. (fault ≡ PushFault.OutOfMemory)
-        ⊎ ((fault ≡ PushFault.TooLong)
+        ⊎ ((fault ≡ PushFault.TooMany)
         × (max_data < start + data_in Lists (slot_values view.now)))) }
 {
     let mut end = start;
@@ -56,7 +56,7 @@ fn push_list_ends(
 }
 
 // Appends what all slots give to the offsets of a column of lists or structs, whose data so far is
-// so much, and says how much it is then. `TooLong` past what offsets reach.
+// so much, and says how much it is then. `TooMany` past what offsets reach.
 fn push_ends(
     layout: Layout,
     offsets: &mut Vec<u8>,

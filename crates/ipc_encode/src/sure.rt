@@ -12,7 +12,7 @@ ghost use Rattle.ipc_column.specs.Shapes.{Shape, bare, shape_of};
 ghost use Rattle.ipc_column.specs.Shapes as shapes;
 ghost use Rattle.ipc_encode.specs.Cells.{cell};
 ghost use Rattle.ipc_encode.specs.Columns.{data_in};
-ghost use Rattle.ipc_encode.specs.Limits.{HasLongData};
+ghost use Rattle.ipc_encode.specs.Limits.{IsPastOffsets};
 ghost use Rattle.ipc_encode.specs.Built.{AreColumns, AreWithin, IsColumn, IsCounted, IsNode};
 ghost use Rattle.ipc_encode.specs.Built.{TakeAtMost};
 ghost use Rattle.ipc_encode.specs.Numbers.{Numbering};
@@ -31,7 +31,7 @@ fn most_content(layout: Layout, counts: Counts, value: &Value) -> Option<u64>
         → IfSome result (λ most. data_in layout (values ++ value.now ∷ [])
         ≤ 8 * length (values ++ value.now ∷ []) + most) }
     ensures short { (limits : Limits) (values : List Value) → IsCounted limits layout values counts
-        → IfSome result (λ most. ¬ HasLongData layout (values ++ value.now ∷ [])) }
+        → IfSome result (λ most. ¬ IsPastOffsets layout (values ++ value.now ∷ [])) }
     ensures few { IfSome result (λ most. most < 2 ^ 63 + 2 ^ 43) }
 {
     match layout {
@@ -53,7 +53,7 @@ fn most_content(layout: Layout, counts: Counts, value: &Value) -> Option<u64>
 pub(crate) fn has_numbers(layout: Layout) -> bool
     ensures small { IsTrue result → (values : List Value) → data_in layout values
         ≤ 8 * length values + 0 }
-    ensures short { IsTrue result → (values : List Value) → ¬ HasLongData layout values }
+    ensures short { IsTrue result → (values : List Value) → ¬ IsPastOffsets layout values }
 {
     matches!(layout, Layout::Numbers { .. })
 }
@@ -63,7 +63,7 @@ pub(crate) fn has_numbers(layout: Layout) -> bool
 pub(crate) fn has_small(layout: Layout) -> bool
     ensures small { IsTrue result → (values : List Value) → data_in layout values
         ≤ 8 * length values + 0 }
-    ensures short { IsTrue result → (values : List Value) → ¬ HasLongData layout values }
+    ensures short { IsTrue result → (values : List Value) → ¬ IsPastOffsets layout values }
 {
     matches!(layout, Layout::Numbers { .. } | Layout::Bits)
 }
@@ -76,7 +76,7 @@ fn most_data(layout: Layout, counts: Counts, value: &Value) -> Option<u64>
         → IfSome result (λ most. data_in layout (values ++ value.now ∷ [])
         ≤ 8 * length (values ++ value.now ∷ []) + most) }
     ensures short { (limits : Limits) (values : List Value) → IsCounted limits layout values counts
-        → IfSome result (λ most. ¬ HasLongData layout (values ++ value.now ∷ [])) }
+        → IfSome result (λ most. ¬ IsPastOffsets layout (values ++ value.now ∷ [])) }
     ensures few { IfSome result (λ most. most < 2 ^ 63 + 2 ^ 43) }
 {
     if has_small(layout) {

@@ -16,7 +16,7 @@ ghost use Rattle.ipc_encode.specs.Built.{AreColumns, AreWithin, IsColumn, IsCoun
 ghost use Rattle.ipc_encode.specs.Built.{TakeAtMost};
 ghost use Rattle.ipc_encode.specs.Cells.{cells};
 ghost use Rattle.ipc_encode.specs.Columns.{data_in};
-ghost use Rattle.ipc_encode.specs.Limits.{HasLongData};
+ghost use Rattle.ipc_encode.specs.Limits.{IsPastOffsets};
 ghost use Rattle.ipc_encode.specs.Numbers.{Numbering};
 ghost use Rattle.ipc_encode.specs.PlainColumns.{LiesPlainly};
 
@@ -90,7 +90,7 @@ fn most_of_indices(layout: Layout, field: &Field, slots: &SlotView<'_>) -> Optio
         → IfSome result (λ most. data_in layout (values ++ slot_values slots.now)
         ≤ 8 * length (values ++ slot_values slots.now) + most) }
     ensures short { (values : List Value)
-        → IfSome result (λ most. ¬ HasLongData layout (values ++ slot_values slots.now)) }
+        → IfSome result (λ most. ¬ IsPastOffsets layout (values ++ slot_values slots.now)) }
 {
     let _layout = layout;
     if entries_fit(field, slots) {
@@ -109,7 +109,7 @@ fn most_of_slots(layout: Layout, counts: Counts, slots: &SlotView<'_>) -> Option
         → IfSome result (λ most. data_in layout (values ++ slot_values slots.now)
         ≤ 8 * length (values ++ slot_values slots.now) + most) }
     ensures short { (limits : Limits) (values : List Value) → IsCounted limits layout values counts
-        → IfSome result (λ most. ¬ HasLongData layout (values ++ slot_values slots.now)) }
+        → IfSome result (λ most. ¬ IsPastOffsets layout (values ++ slot_values slots.now)) }
 {
     if has_small(layout) {
         return Some(0);

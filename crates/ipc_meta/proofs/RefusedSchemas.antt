@@ -22,7 +22,7 @@ use Rattle.ipc_model.specs.declared.schema.Schema.{Schema}
 use Rattle.ipc_model.proofs.SameTypes.{same_itself}
 use Rattle.ipc_meta.specs.Fields.{VectorAt, FieldAt}
 use Rattle.ipc_meta.specs.Reached.{schema, HasTable}
-use Rattle.ipc_meta.specs.Causes.{Encodes, Cause, in_schema}
+use Rattle.ipc_meta.specs.Causes.{HasDictionaryColumn, Cause, in_schema}
 use Rattle.ipc_meta.proofs.Refused.{choose}
 use Rattle.ipc_meta.proofs.GoodTypes.{good_type}
 use Rattle.ipc_meta.proofs.Entries.{Told, entries_told}
@@ -59,9 +59,9 @@ leaf_test _ h leaf = cc
 
 -- a dictionary's types so far are those of the metadata
 abbrev AreEncoded : List ℕ → (ℤ → Option DataType) → Type 0
-AreEncoded b kinds = (id : ℤ) (κ : DataType) → kinds id ≡ Some κ → Encodes b id κ
+AreEncoded b kinds = (id : ℤ) (κ : DataType) → kinds id ≡ Some κ → HasDictionaryColumn b id κ
 
-encoded : (b : List ℕ) (s : TableView) (e : Entry) (d : Dictionary) → Told b s e → e.dictionary ≡ Some d → Encodes b d.id e.kind
+encoded : (b : List ℕ) (s : TableView) (e : Entry) (d : Dictionary) → Told b s e → e.dictionary ≡ Some d → HasDictionaryColumn b d.id e.kind
 encoded b s e d h is = (h.table, h.has, (h.kind, (d, h.dictionary ∙ ap Ok is, refl)))
 
 encoded_after : (b : List ℕ) (s : TableView) (kinds : ℤ → Option DataType) (e : Entry) → Told b s e → AreEncoded b kinds
@@ -73,7 +73,8 @@ encoded_after b s kinds e h all = go e.dictionary refl
     go (Some d) is id κ k =
         choose (int_eq d.id id) _ _ _ k
         (λ same k. let type : e.kind ≡ κ = cc in let one : d.id
-        ≡ id = (Decides-int_eq d.id id).0 same in subst (λ n. Encodes b n κ) one (subst (Encodes b d.id) type (encoded b s e d h is)))
+        ≡ id = (Decides-int_eq d.id id).0 same in subst (λ n. HasDictionaryColumn b n κ) one
+        (subst (HasDictionaryColumn b d.id) type (encoded b s e d h is)))
         (λ other k. all id κ k)
 
 conflict : (limits : Limits) (b : List ℕ) (s : TableView) (kinds : ℤ → Option DataType) (e : Entry) → Told b s e → AreEncoded b kinds

@@ -79,8 +79,8 @@ HasBadChildren b = Has b column (λ t. (κ : DataType) × (es : Elements) × (ty
 
 -- some field has values of this type in the dictionary with this id (Schema.fbs, table
 -- DictionaryEncoding)
-abbrev pub Encodes : List ℕ → ℤ → DataType → Type 0
-Encodes b id κ = Has b column (λ t. (type_at t ≡ Ok κ)
+abbrev pub HasDictionaryColumn : List ℕ → ℤ → DataType → Type 0
+HasDictionaryColumn b id κ = Has b column (λ t. (type_at t ≡ Ok κ)
     × ((d : Dictionary) × (dictionary_at t ≡ Ok (Some d)) × (d.id ≡ id)))
 
 -- the texts or the pairs of a schema, or of the message of a record batch, are above their limits
@@ -112,8 +112,10 @@ Cause limits b f.TooDeep = Has b schema
     (λ t. (u : TableView) × (depth : ℕ) × (limits.depth < depth) × IsDeep t depth u)
 Cause limits b f.TooMuchText = HasMuchText limits b
 Cause limits b f.DictionaryConflict =
-    (id : ℤ) × (κ : DataType) × (μ : DataType) × Encodes b id κ × Encodes b id μ × (κ ≢ μ)
-Cause limits b f.NestedDictionary = (id : ℤ) × (κ : DataType) × Encodes b id κ × (IsLeaf κ → ⊥)
+    (id : ℤ) × (κ : DataType) × (μ : DataType) × HasDictionaryColumn b id κ
+    × HasDictionaryColumn b id μ × (κ ≢ μ)
+Cause limits b f.NestedDictionary =
+    (id : ℤ) × (κ : DataType) × HasDictionaryColumn b id κ × (IsLeaf κ → ⊥)
 Cause limits b f.BadIndexType = Has b index_type
     (λ t. Is (scalar t 0 4 int32 (pos 0)) (λ width. bits_of width ≡ None))
 Cause limits b f.Compressed = Has b record_batch

@@ -1,6 +1,6 @@
 use Rattle.std.proofs.Common.{◌∙◌, sym, subst, List}
 use Rattle.ipc_dict.specs.declared.entry.TallyEntry.{TallyEntry}
-use Rattle.ipc_dict.specs.EntryColumns.{AreCounted}
+use Rattle.ipc_dict.specs.EntryColumns.{AreEntriesCounted}
 use Rattle.ipc_dict.proofs.Notes.{grown_by_none}
 use Rattle.ipc_dict.proofs.EntryColumns.{many_columns, up_to_marks}
 use Rattle.ipc_dict.proofs.tally.count_batch.Goals as goal
@@ -26,4 +26,4 @@ pub returns-else-have_grown-clause-counted : goal.returns-else-have_grown-clause
 returns-else-have_grown-clause-counted c =
     let same = grown_by_none c.args.entries.now c.note_columns.new.entries c.note_columns.ensures.grows
     (c.have_grown.ensures c.if-have_grown.false ∙ c.requires.marks) in
-    subst (λ (es : List TallyEntry). AreCounted c.args.fields.now es c.args.columns.now) (sym same) c.requires.columns
+    subst (λ (es : List TallyEntry). AreEntriesCounted c.args.fields.now es c.args.columns.now) (sym same) c.requires.columns

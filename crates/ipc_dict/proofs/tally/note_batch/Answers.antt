@@ -1,6 +1,6 @@
 use Rattle.std.proofs.Common.{◌≡◌, ◌∙◌, ap, sym, subst, List}
 use Rattle.ipc_dict.specs.declared.entry.TallyEntry.{TallyEntry}
-use Rattle.ipc_dict.specs.EntryColumns.{AreCounted}
+use Rattle.ipc_dict.specs.EntryColumns.{AreEntriesCounted}
 use Rattle.ipc_dict.specs.Noting.{AllFit, cut}
 use Rattle.ipc_dict.specs.SchemaIds.{tally_ids}
 use Rattle.ipc_dict.proofs.Notes.{cut_back}
@@ -21,4 +21,4 @@ returns-in-Err-clause-err c = back c
 
 pub returns-in-Err-clause-counted : goal.returns-in-Err-clause-counted
 returns-in-Err-clause-counted c =
-    subst (λ (es : List TallyEntry). AreCounted c.args.fields.now es c.count_batch.new.columns) (sym (back c)) c.in-Err.ensures.kept
+    subst (λ (es : List TallyEntry). AreEntriesCounted c.args.fields.now es c.count_batch.new.columns) (sym (back c)) c.in-Err.ensures.kept

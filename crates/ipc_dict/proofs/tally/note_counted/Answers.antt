@@ -2,7 +2,7 @@ use Rattle.std.proofs.Common.{◌∙◌, inl, inr, sym, subst, List}
 use Rattle.std.proofs.lemmas.Result.{err_from_is_err_and}
 use Rattle.ipc_encode.specs.Faults.{write_fault}
 use Rattle.ipc_dict.specs.declared.entry.TallyEntry.{TallyEntry}
-use Rattle.ipc_dict.specs.EntryColumns.{AreCounted}
+use Rattle.ipc_dict.specs.EntryColumns.{AreEntriesCounted}
 use Rattle.ipc_dict.specs.Within.{IsOverLimit}
 use Rattle.ipc_dict.proofs.Notes.{grown_by_none}
 use Rattle.ipc_dict.proofs.NoteFaults.{told_push}
@@ -51,4 +51,4 @@ pub returns-else-have_grown-clause-counted : goal.returns-else-have_grown-clause
 returns-else-have_grown-clause-counted c =
     let same = grown_by_none c.args.entries.now c.note_each.new.entries c.note_each.ensures.grows
     (c.have_grown.ensures c.if-have_grown.false ∙ c.requires.marks) in
-    subst (λ (es : List TallyEntry). AreCounted c.args.fields.now es c.args.columns.now) (sym same) c.requires.columns
+    subst (λ (es : List TallyEntry). AreEntriesCounted c.args.fields.now es c.args.columns.now) (sym same) c.requires.columns

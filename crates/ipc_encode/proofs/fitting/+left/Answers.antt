@@ -3,7 +3,7 @@ use Rattle.std.proofs.lemmas.Option.{IfSome_then}
 use Rattle.ipc_model.specs.declared.layout.Layout.{Layout}
 use Rattle.ipc_column.specs.Shapes.{Shape, bare}
 use Rattle.ipc_encode.specs.declared.node.Node.{Node, out-Node}
-use Rattle.ipc_encode.specs.Buffers.{below, joined, buffers_of, column_buffers}
+use Rattle.ipc_encode.specs.Buffers.{below, padded, buffers_of, column_buffers}
 use Rattle.ipc_encode.specs.declared.column.Purpose.{Purpose}
 use Rattle.ipc_encode.specs.declared.counts.Counts.{Counts}
 use Rattle.ipc_encode.specs.Built.{AreNodes, IsNode, HasTaken, IsCounted}
@@ -21,10 +21,10 @@ own_bytes : (known : Numbering) (limits : Limits) (p : Purpose) (layout : Layout
     (len : ℕ)
     → IsNode (HasTaken known p limits) layout children node values → IsCounted limits (out-Node node).column.layout values counts
     → ((vs : List Value) → IsCounted limits (out-Node node).column.layout vs counts
-    → len ≡ length (joined (column_buffers (out-Node node).column.layout vs)))
-    → len ≡ length (joined (column_buffers layout values))
+    → len ≡ length (padded (column_buffers (out-Node node).column.layout vs)))
+    → len ≡ length (padded (column_buffers layout values))
 own_bytes known limits p layout children values node counts len h counted is =
-    is values counted ∙ ap (λ (l : Layout). length (joined (column_buffers l values)))
+    is values counted ∙ ap (λ (l : Layout). length (padded (column_buffers l values)))
     (taken_laid known p limits layout values (out-Node node).column h.0)
 
 pub left_behind-returns-then-len-bytes-clause-none : goal.left_behind-returns-then-len-bytes-clause-none
@@ -79,5 +79,5 @@ pub left_behind_all-returns-clause-left : goal.left_behind_all-returns-clause-le
 left_behind_all-returns-clause-left t c = λ known limits shape given h.
     let all = first_all (HasTaken known c.args.purpose limits) c.loop-node.node-index shape c.args.nodes.now given
     (omega (arith, c.loop-node-test.false, c.loop-node.auto.node-index-end)) h in
-    subst (λ (s : Shape). length (joined (buffers_of s given)) + c.loop-node.left ≡ c.args.bytes) all
+    subst (λ (s : Shape). length (padded (buffers_of s given)) + c.loop-node.left ≡ c.args.bytes) all
     (c.loop-node.invariant.left known limits shape given h)

@@ -42,7 +42,7 @@ returns-in-Lists-clause-refused c = λ limits before held.
       | inl memory ↦ subst (IsPushRefused limits Lists (before ++ view)) (sym memory) tt
       | inr long ↦
           let past : max_data < data_in Lists (before ++ view) = (let far = long.1 in omega (arith, far, own, all)) in
-          subst (IsPushRefused limits Lists (before ++ view)) (sym long.0) (inl (long_lists (before ++ view) past))
+          subst (IsPushRefused limits Lists (before ++ view)) (sym long.0) (inr (long_lists (before ++ view) past))
     ])
     c.push_list_ends.ensures.refused)
 

@@ -28,7 +28,7 @@ returns-else-field-clause-fits c = λ no.
     let lies = subst (λ (l : Layout). LiesPlainly l) (sym same ∙ c.layout.ensures.layout) (plain_lies kind plain) in
     required_fit c.args.field.now (type_layout kind) (slot_values c.args.slots.now) (plain_shows kind plain)
     (eqb-true _ _ (sym c.is_empty.ensures ∙ c.if-not-is_empty.false))
-    (none_null c.args.slots.now lies.alone lies.some (sym c.null_count.ensures ∙ eqb-true _ _ no))
+    (none_null c.args.slots.now lies.alone lies.some (λ some. sym (c.null_count.ensures.with_bitmap some) ∙ eqb-true _ _ no))
     (subst (λ (l : Layout). AllByRecursion (IsShownBy l) (slot_values c.args.slots.now)) same c.layout.ensures.values)
 
 pub returns-then-field-clause-plain : goal.returns-then-field-clause-plain

@@ -3,7 +3,7 @@ use Rattle.ipc_model.specs.declared.limits.Limits.{Limits}
 use Rattle.ipc_model.specs.declared.schema.Field.{Field}
 use Rattle.ipc_dict.specs.declared.entry.TallyEntry.{TallyEntry}
 use Rattle.ipc_dict.specs.declared.columns.EntryColumns.{EntryColumns}
-use Rattle.ipc_dict.specs.EntryColumns.{AreCounted}
+use Rattle.ipc_dict.specs.EntryColumns.{AreEntriesCounted}
 use Rattle.ipc_dict.specs.Noting.{AllFit}
 use Rattle.ipc_dict.specs.Within.{AllWithin}
 use Rattle.ipc_dict.proofs.EntryColumns.{counted_within}
@@ -11,9 +11,9 @@ use Rattle.ipc_dict.proofs.SchemaIds.{fit-unused}
 use Rattle.ipc_dict.proofs.tally.Tally.with_seed.Goals as goal
 
 -- columns that count entries, where these are seen in another way
-counted : (fields : List Field) (seen es : List TallyEntry) (columns : EntryColumns) → seen ≡ es → AreCounted fields seen columns
-    → AreCounted fields es columns
-counted fields seen es columns same h = subst (λ (xs : List TallyEntry). AreCounted fields xs columns) same h
+counted : (fields : List Field) (seen es : List TallyEntry) (columns : EntryColumns) → seen ≡ es → AreEntriesCounted fields seen columns
+    → AreEntriesCounted fields es columns
+counted fields seen es columns same h = subst (λ (xs : List TallyEntry). AreEntriesCounted fields xs columns) same h
 
 pub invariant_of-result : goal.invariant_of-result
 invariant_of-result c =
@@ -24,7 +24,7 @@ invariant_of-result c =
       c.in_ok-marks.ensures ∙ ap length c.deref.ensures.value,
       (
         subst AllFit (sym c.in_ok-entries.ensures) (fit-unused _),
-        subst (λ (fs : List Field). AreCounted fs es columns) (sym copied) all,
+        subst (λ (fs : List Field). AreEntriesCounted fs es columns) (sym copied) all,
       ),
     )
 

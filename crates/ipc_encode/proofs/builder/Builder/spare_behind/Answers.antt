@@ -15,3 +15,13 @@ returns-in-Deep-clause-within c = λ known limits rows h.
     IfSome_then c.spare_inside.result (c.spare_inside.ensures.spare known limits rows h)
     (λ spare told. rows_within limits fields next (omega (arith, size, h.count, most))
     (spare_within limits fields next spare told.0 told.1))
+
+pub returns-in-Flat-clause-within : goal.returns-in-Flat-clause-within
+returns-in-Flat-clause-within c = λ known limits rows h.
+    let fields = c.args.fields.now in
+    let next = rows ++ c.args.row.now ∷ [] in
+    let size = length-append rows (c.args.row.now ∷ []) in
+    let most = subst (λ (l : Limits). c.args.self.now.rows < l.slots) h.limits_are
+    (not_full c.args.self.now.rows c.args.self.now.limits.slots (λ full. absurd (let e = c.if-is_full.ensures.1 full in cc))) in
+    IfSome_then c.spare_beside.result (c.spare_beside.ensures.within known limits rows h)
+    (λ spare told. rows_within limits fields next (omega (arith, size, h.count, most)) told)

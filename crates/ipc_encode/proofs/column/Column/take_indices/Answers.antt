@@ -1,4 +1,4 @@
-use Rattle.std.proofs.Common.{◌≡◌, ◌∙◌, refl, sym, ap, subst, ℕ, ◌+◌, ◌*◌, ◌++◌, ℤ, Bool, List, Option, length, map}
+use Rattle.std.proofs.Common.{inl, ◌≡◌, ◌∙◌, refl, sym, ap, subst, ℕ, ◌+◌, ◌*◌, ◌++◌, ℤ, Bool, List, Option, length, map}
 use Rattle.std.proofs.Common.{length-append, arith}
 use Rattle.std.proofs.lemmas.List.{length-map, map-append}
 use Rattle.std.proofs.lemmas.Result.{err_from_is_err_and}
@@ -36,7 +36,7 @@ returns-then-count-limits-clause-refused g c = λ signed id before h.
     let more = cells c.args.column c.args.batch.now.rows in
     let size = cells_length c.args.column c.args.batch.now.rows in
     let all = length-append before more in
-    omega (arith, size, all, c.if-count-limits.true, c.rows-count.ensures)
+    inl (omega (arith, size, all, c.if-count-limits.true, c.rows-count.ensures))
 
 pub with_all-requires : goal.with_all-requires
 with_all-requires g c =

@@ -1,8 +1,9 @@
-use Rattle.std.proofs.Common.{◌∙◌, sym, ap, subst, ℕ, ◌+◌, ◌++◌, [], ◌∷◌, cond, length-append, arith, inl, inr}
+use Rattle.std.proofs.Common.{◌∙◌, sym, ap, subst, ℕ, ◌+◌, ◌++◌, [], ◌∷◌, cond, length-append, arith}
 use Rattle.ipc_encode.specs.Pieces.{Valid}
 use Rattle.ipc_encode.specs.Cells.{is_set}
 use Rattle.ipc_encode.specs.Columns.{PassesOffsets}
 use Rattle.ipc_encode.proofs.Steps.{nulls_push, amount_more}
+use Rattle.ipc_encode.proofs.PastOffsets.{body_refused, past_refused}
 use Rattle.ipc_encode.proofs.Sizes.{long_is, long_from, data_within}
 use Rattle.ipc_encode.proofs.counts.Counts.with.Goals.{then-passes_offsets-via-then-passes_offsets}
 use Rattle.ipc_encode.proofs.counts.Counts.with.Goals.{then-passes_offsets-via-else-passes_offsets+then-passes_body}
@@ -13,12 +14,16 @@ returns-then-passes_offsets-clause-refused c = λ values h.
     let amount = amount_more c.args.layout values c.args.value.now c.args.self.amount c.datum.result h.amount_is c.datum.ensures.is in
     elim c.then-passes_offsets.branch [
       | then-passes_offsets-via-then-passes_offsets w ↦
-          inl (long_is c.args.layout (values ++ c.args.value.now ∷ []) (subst (λ (n : ℕ). PassesOffsets c.args.layout n) amount
+          past_refused c.args.limits.now c.args.layout (values ++ c.args.value.now ∷ []) c.past_fault.result
+          c.past_fault.ensures.lists c.past_fault.ensures.bytes
+          (long_is c.args.layout (values ++ c.args.value.now ∷ []) (subst (λ (n : ℕ). PassesOffsets c.args.layout n) amount
           (c.passes_offsets.ensures.passes w.if-passes_offsets.true)))
       | then-passes_offsets-via-else-passes_offsets+then-passes_body w ↦
           let passed = w.passes_body.ensures.passes w.if-passes_body.true in
           let within = data_within c.args.layout (values ++ c.args.value.now ∷ []) passed.1 in
-          inr (omega (arith, passed.0, amount, within))
+          body_refused c.args.limits.now c.args.layout (values ++ c.args.value.now ∷ []) c.past_fault.result
+          c.past_fault.ensures.bytes passed.1
+          (omega (arith, passed.0, amount, within))
     ]
 
 pub returns-clause-counted : goal.returns-clause-counted

@@ -1,6 +1,7 @@
-use Rattle.std.proofs.Common.{sym, subst, ℕ, ◌++◌, length-append, arith, inl, inr}
+use Rattle.std.proofs.Common.{sym, subst, ℕ, ◌++◌, length-append, arith}
 use Rattle.ipc_encode.specs.Columns.{PassesOffsets}
 use Rattle.ipc_encode.proofs.Marked.{nulls_append}
+use Rattle.ipc_encode.proofs.PastOffsets.{body_refused, past_refused}
 use Rattle.ipc_encode.proofs.Sizes.{long_is, long_from, data_within}
 use Rattle.ipc_encode.proofs.counts.Counts.with_all.Goals.{then-passes_offsets-via-then-passes_offsets}
 use Rattle.ipc_encode.proofs.counts.Counts.with_all.Goals.{then-passes_offsets-via-else-passes_offsets+then-passes_body}
@@ -10,12 +11,16 @@ pub returns-then-passes_offsets-clause-refused : goal.returns-then-passes_offset
 returns-then-passes_offsets-clause-refused c = λ before values h count many amount.
     elim c.then-passes_offsets.branch [
       | then-passes_offsets-via-then-passes_offsets w ↦
-          inl (long_is c.args.layout (before ++ values) (subst (λ (n : ℕ). PassesOffsets c.args.layout n) (sym amount)
+          past_refused c.args.limits.now c.args.layout (before ++ values) c.past_fault.result
+          c.past_fault.ensures.lists c.past_fault.ensures.bytes
+          (long_is c.args.layout (before ++ values) (subst (λ (n : ℕ). PassesOffsets c.args.layout n) (sym amount)
           (c.passes_offsets.ensures.passes w.if-passes_offsets.true)))
       | then-passes_offsets-via-else-passes_offsets+then-passes_body w ↦
           let passed = w.passes_body.ensures.passes w.if-passes_body.true in
           let within = data_within c.args.layout (before ++ values) passed.1 in
-          inr (omega (arith, passed.0, amount, within))
+          body_refused c.args.limits.now c.args.layout (before ++ values) c.past_fault.result
+          c.past_fault.ensures.bytes passed.1
+          (omega (arith, passed.0, amount, within))
     ]
 
 pub returns-clause-counted : goal.returns-clause-counted
