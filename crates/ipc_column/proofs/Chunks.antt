@@ -3,11 +3,9 @@ use Rattle.std.proofs.Common.{◌≡◌, ◌∙◌, refl, sym, ap, true, ◌^◌
 use Rattle.std.proofs.Common.{get_or, arith, inl, inr}
 use Rattle.std.specs.Int.{w16, w32, w64, cast_signed, from_le_bytes}
 use Rattle.std.specs.Prelude.{pos, int_le, unsigned_abs}
-use Rattle.std.specs.Ordering.{ord_max, nat_cmp}
 use Rattle.std.specs.Simd.{first_chunks}
-use Rattle.std.proofs.lemmas.Bool.{cases_lt, cases_order, false≢true, le-ltb}
+use Rattle.std.proofs.lemmas.Bool.{cases_lt, false≢true, le-ltb}
 use Rattle.std.proofs.lemmas.Int.{to_z_pos}
-use Rattle.std.proofs.lemmas.Bool.Decides.{nat_tests}
 use Rattle.std.proofs.lemmas.List.{drop-drop}
 use Rattle.std.proofs.lemmas.Simd.{get_or-chunk}
 use Rattle.ipc_scalar.specs.Bytes.{num}
@@ -76,18 +74,6 @@ pub slot_8 : (xs : List ℕ) (all : List (List ℕ)) (i : ℕ) (d : List ℕ) �
 slot_8 xs all i d is inside =
     ap (λ (c : List (List ℕ)). from_le_bytes w64 (get_or c i d)) is
     ∙ (ap (from_le_bytes w64) (chunk_at 8 (length xs / 8) i xs d (omega arith)) ∙ number_8 xs (8 * i))
-
--- a bound of the numbers in one slot more
-pub bound_more : (f : ℕ → ℕ) (a i x y : ℕ) → ((k : ℕ) → a ≤ k → k < i → f k ≤ x) → x ≤ y → f i ≤ y → (k : ℕ) → a ≤ k → k < i + 1 → f k ≤ y
-bound_more f a i x y all up here k from below =
-    elim (cases_order k i) as (λ _. f k ≤ y) [
-      | inl e ↦ rw e here
-      | inr r ↦ elim r as (λ _. f k ≤ y) [ inl m ↦ omega (arith, all k from m) | inr m ↦ absurd (omega arith) ]
-    ]
-
--- the larger of two numbers is above both
-pub max_above : (x y : ℕ) → (x ≤ ord_max nat_cmp x y) × (y ≤ ord_max nat_cmp x y)
-max_above x y = (grind (arith, nat_tests), grind (arith, nat_tests))
 
 -- a number of four bytes that isn't negative where it is seen as signed
 pub positive_is : (n : ℕ) → int_le (pos 0) (cast_signed w32 n) ≡ true → n ≡ unsigned_abs (cast_signed w32 n)

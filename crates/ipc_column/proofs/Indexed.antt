@@ -1,49 +1,37 @@
--- Numbers below a count, which are indices of so many values.
-use Rattle.std.proofs.Common.{◌≡◌, ◌∙◌, ap, refl, ℕ, ◌+◌, ◌-◌, ◌*◌, ◌^◌, ◌<◌, ◌≤◌, Bool, true, false, List, arith}
-use Rattle.std.specs.Prelude.{◌||◌, not, pos, is_some}
-use Rattle.std.specs.Int.{w8, w16, w32, w64}
+-- Numbers from 0 to a count less 1, which are indices of so many values.
+use Rattle.std.proofs.Common.{◌≡◌, refl, subst, arith, ℕ, ◌+◌, ◌<◌, Bool, true, false, List, []}
+use Rattle.std.specs.Prelude.{ℤ, pos, negsuc, is_some}
 use Rattle.std.proofs.lemmas.Bool.{lt-ltb}
-use Rattle.std.proofs.lemmas.Int.{to_z_pos}
-use Rattle.ipc_scalar.specs.Bytes.{num}
+use Rattle.std.proofs.lemmas.Int.{ints}
+use Rattle.ipc_scalar.specs.Bytes.{number, IsBelow}
 use Rattle.ipc_model.specs.declared.schema.IntBits.{IntBits}
 use Rattle.ipc_model.specs.declared.schema.IntBits.TheVariants.{B8, B16, B32, B64}
-use Rattle.ipc_model.specs.Layouts.{number_bytes}
+use Rattle.ipc_model.specs.Ranges.{width}
 use Rattle.ipc_column.specs.Checks.{all_slots, index_good}
-use Rattle.ipc_column.specs.Values.{is_valid, number_in, place_below}
-use Rattle.ipc_column.proofs.Goods.{slots_from, or_true}
+use Rattle.ipc_column.specs.Values.{number_in, place_below}
+use Rattle.ipc_column.proofs.Below.{below_from}
 
-pos_below : (n x : ℕ) → x < n → is_some (place_below n (pos x)) ≡ true
-pos_below n x l = rw (lt-ltb x n l) refl
+-- an index of a value
+index_below : (n : ℕ) (x : ℤ) → IsBelow n x → is_some (place_below n x) ≡ true
+index_below n (pos x) h = let high = h.1 in let l : x < n = omega (arith, ints) in rw (lt-ltb x n l) refl
+index_below n (negsuc x) h = let low = h.0 in absurd (omega (arith, ints))
 
--- a number with a sign bit that is clear
-signed_below : (n g : ℕ) (bits : IntBits) (b : List ℕ) (i : ℕ) → num b (number_bytes bits * i) (number_bytes bits) < n
-    → num b (number_bytes bits * i) (number_bytes bits) ≤ g → g + 1 ≡ 2 ^ (8 * number_bytes bits - 1)
-    → is_some (place_below n (number_in bits true b i)) ≡ true
-signed_below n g B8 b i l m e = rw (to_z_pos w8 (num b (1 * i) 1) (omega arith)) (pos_below n _ l)
-signed_below n g B16 b i l m e = rw (to_z_pos w16 (num b (2 * i) 2) (omega arith)) (pos_below n _ l)
-signed_below n g B32 b i l m e = rw (to_z_pos w32 (num b (4 * i) 4) (omega arith)) (pos_below n _ l)
-signed_below n g B64 b i l m e = rw (to_z_pos w64 (num b (8 * i) 8) (omega arith)) (pos_below n _ l)
+-- the same number, read in two ways
+number_is : (bits : IntBits) (signed : Bool) (b : List ℕ) (i : ℕ) → number (width bits) signed b i ≡ number_in bits signed b i
+number_is B8 true b i = refl
+number_is B16 true b i = refl
+number_is B32 true b i = refl
+number_is B64 true b i = refl
+number_is B8 false b i = refl
+number_is B16 false b i = refl
+number_is B32 false b i = refl
+number_is B64 false b i = refl
 
--- slots whose indices are of values
-indices_good : (validity : List ℕ) (bits : IntBits) (signed : Bool) (n : ℕ) (b : List ℕ) (from to : ℕ)
-    → ((i : ℕ) → from ≤ i → i < to → is_some (place_below n (number_in bits signed b i)) ≡ true)
-    → all_slots (index_good validity bits signed n b) from (to - from) ≡ true
-indices_good validity bits signed n b from to all =
-    slots_from (index_good validity bits signed n b) from to
-    (λ i l m. ap (λ (x : Bool). not (is_valid validity i) || x) (all i l m) ∙ or_true (not (is_valid validity i)))
-
--- unsigned numbers of which the largest is of a value
-pub unsigned_good : (validity : List ℕ) (bits : IntBits) (signed : Bool) (n most : ℕ) (b : List ℕ) (from to : ℕ)
-    → ((i : ℕ) → from ≤ i → i < to → num b (number_bytes bits * i) (number_bytes bits) ≤ most) → most < n → signed ≡ false
-    → all_slots (index_good validity bits signed n b) from (to - from) ≡ true
-unsigned_good validity bits signed n most b from to all below sign =
-    rw sign (indices_good validity bits false n b from to (λ i l m. pos_below n _ (omega (arith, all i l m))))
-
--- signed numbers, none of which is negative where the largest isn't
-pub signed_good : (validity : List ℕ) (bits : IntBits) (signed : Bool) (n most g : ℕ) (b : List ℕ) (from to : ℕ)
-    → ((i : ℕ) → from ≤ i → i < to → num b (number_bytes bits * i) (number_bytes bits) ≤ most) → most < n → signed ≡ true → most ≤ g
-    → g + 1 ≡ 2 ^ (8 * number_bytes bits - 1)
-    → all_slots (index_good validity bits signed n b) from (to - from) ≡ true
-signed_good validity bits signed n most g b from to all below sign small top =
-    rw sign (indices_good validity bits true n b from to
-    (λ i l m. signed_below n g bits b i (omega (arith, all i l m)) (omega (arith, all i l m)) top))
+-- slots that hold numbers below a count
+pub slots_good : (bits : IntBits) (signed : Bool) (n : ℕ) (b : List ℕ) (slots : ℕ)
+    → ((i : ℕ) → i < slots → IsBelow n (number (width bits) signed b i)) → all_slots (index_good [] bits signed n b) 0 slots ≡ true
+slots_good bits signed n b slots all = below_from (λ k. index_good [] bits signed n b (0 + k)) slots
+    (λ k l. index_below n (number_in bits signed b (0 + k)) (good (0 + k) (omega arith)))
+  where
+    good : (k : ℕ) → k < slots → IsBelow n (number_in bits signed b k)
+    good k l = subst (IsBelow n) (number_is bits signed b k) (all k l)

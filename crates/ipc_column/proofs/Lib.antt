@@ -15,9 +15,11 @@ pub mod Below
 pub mod Slices
 pub mod Visits
 pub mod Lent
+pub mod Lendings
 pub mod Weights
 pub mod Visited
 pub mod Marks
+mod Marking
 pub mod Wider
 pub mod Found
 pub mod Leads

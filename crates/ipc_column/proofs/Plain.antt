@@ -5,7 +5,8 @@ use Rattle.std.specs.Prelude.{slice_range, ◌==◌}
 use Rattle.std.specs.List.{AllByRecursion}
 use Rattle.std.specs.Int.{w8, w16, w32, w64, cast_signed}
 use Rattle.std.proofs.lemmas.List.{length-take-le}
-use Rattle.std.proofs.lemmas.Bool.{cases_lt, eqb-true, leb-true}
+use Rattle.std.proofs.lemmas.Bool.{cases_lt, leb-true}
+use Rattle.std.proofs.lemmas.Bool.Decides.{nat_tests}
 use Rattle.std.proofs.lemmas.Int.{ints}
 use Rattle.ipc_scalar.specs.Bytes.{num, bit, clear}
 use Rattle.ipc_model.specs.Ranges.{width, IsSignedWithin, IsUnsignedWithin}
@@ -17,7 +18,7 @@ use Rattle.ipc_model.specs.declared.value.Value.{Value}
 use Rattle.ipc_model.specs.declared.value.Value.TheVariants as v
 use Rattle.ipc_model.specs.Layouts.{number_bytes}
 use Rattle.ipc_column.specs.Columns.{Column, Columns}
-use Rattle.ipc_column.specs.Checks.{holds_values, nulls_in}
+use Rattle.ipc_column.specs.Checks.{holds_values}
 use Rattle.ipc_column.specs.Dictionaries.{stands_alone}
 use Rattle.ipc_column.specs.Lent.{AreFound, values_in}
 use Rattle.ipc_column.specs.Nested.{Nested, below, slot_values}
@@ -268,14 +269,6 @@ has_room c children h = rw (items_length (value_of (row children) c) 0 c.slots) 
     by_layout l.Structs h = tt
     by_layout (l.Indices bits signed id) h = leb-true _ _ h
 
--- the nulls that a bitmap tells
-pub nulls_told : (validity : List ℕ) (n count : ℕ) → ¬ (length validity ≡ 0) → count ≡ clear validity n → count ≡ nulls_in validity n
-nulls_told validity n count some e = either (length validity == 0) refl
-  where
-    either : (none : Bool) → (length validity == 0) ≡ none → count ≡ cond none 0 (clear validity n)
-    either true is = absurd (some (eqb-true _ _ is))
-    either false is = e
-
 -- no bit below n is clear where none of n is
 bits_set : (validity : List ℕ) (n k : ℕ) → k < n → clear validity n ≡ 0 → bit validity k ≡ true
 unfolding clear
@@ -291,18 +284,20 @@ bits_set validity (suc n) k m none = either (bits_set validity n k) (bit validit
     either before_it false is = absurd (let one = rw is at none in omega (arith, one))
 
 -- so each slot is valid
-valid_at : (validity : List ℕ) (n k : ℕ) → k < n → nulls_in validity n ≡ 0 → is_valid validity k ≡ true
-valid_at validity n k m none = either (length validity == 0) refl none
+valid_at : (validity : List ℕ) (n k : ℕ) → k < n → (0 < length validity → clear validity n ≡ 0) → is_valid validity k ≡ true
+valid_at validity n k m none = either (length validity == 0) refl
   where
-    either : (empty : Bool) → (length validity == 0) ≡ empty → cond empty 0 (clear validity n) ≡ 0 → is_valid validity k ≡ true
-    either true is h = rw is refl
-    either false is h = rw is (bits_set validity n k m h)
+    either : (empty : Bool) → (length validity == 0) ≡ empty → is_valid validity k ≡ true
+    either true is = rw is refl
+    either false is = rw is (bits_set validity n k m (none (grind (arith, nat_tests))))
 
 -- a column whose values lie in it alone, and in whose bitmap no slot is null, has a value in each slot
 pub none_null : (n : Nested) → stands_alone n.column.layout ≡ true → ¬ (n.column.layout ≡ l.Null)
-    → nulls_in n.column.validity (length (slot_values n)) ≡ 0 → AllByRecursion (λ v. is_null v ≡ false) (slot_values n)
+    → (0 < length n.column.validity → clear n.column.validity (length (slot_values n)) ≡ 0)
+    → AllByRecursion (λ v. is_null v ≡ false) (slot_values n)
 none_null n alone some none =
-    let few = rw (items_length (value_of (row (below n)) n.column) 0 n.column.slots) at none in
+    let few : 0 < length n.column.validity → clear n.column.validity n.column.slots ≡ 0 =
+    λ marks. rw (items_length (value_of (row (below n)) n.column) 0 n.column.slots) at none marks in
     items_each (λ v. is_null v ≡ false) (value_of (row (below n)) n.column) 0 n.column.slots
     (λ k from to. let valid = valid_at n.column.validity n.column.slots k (omega (arith, to)) few in
     rw valid (nothing_null n.column.layout n.column.dictionary (row (below n)) n.column.offsets n.column.values k some

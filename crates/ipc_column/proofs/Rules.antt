@@ -18,7 +18,7 @@ use Rattle.ipc_column.specs.declared.cause.Cause.TheVariants as cause
 use Rattle.ipc_column.specs.Columns.{Column, Columns, none, column, Each, EachTop, every, every_top}
 use Rattle.ipc_column.specs.Shapes.{shape_of, columns_of}
 use Rattle.ipc_column.specs.Rules.{HasNodes, HasBuffers, HasLengths, HasRanges, HasBytes, HasNullCounts, HasOrder, HasTexts, IsSlotCount}
-use Rattle.ipc_column.specs.Rules.{IsNode, LiesIn, HoldValues, HoldOffsets, IsLongEnough, CountsNulls, AreOffsets, HasOffsets, IsText}
+use Rattle.ipc_column.specs.Rules.{IsFieldNode, LiesIn, HoldValues, HoldOffsets, IsLongEnough, CountsNulls, AreOffsets, HasOffsets, IsText}
 use Rattle.ipc_column.specs.Rules.{SpellsTexts, HasLongChildren, IsIndex, HasIndex, HoldsIndices, HasIndices}
 use Rattle.ipc_column.specs.Dictionaries.{Dictionaries}
 use Rattle.ipc_model.specs.declared.value.Value.{Value}
@@ -46,7 +46,7 @@ of_slot_count {limits} z =
     Decides-like (is_slot_count limits z) (λ p. record { from = p.0; to = p.1 }) (λ h. (h.from, h.to))
     (Decides-and _ _ (of_le (pos 0) z) (of_le z (pos limits.slots)))
 
-of_node : {limits : Limits} → (n : ℤ × ℤ) → Decides (is_node limits n) (IsNode limits n)
+of_node : {limits : Limits} → (n : ℤ × ℤ) → Decides (is_node limits n) (IsFieldNode limits n)
 of_node {limits} n =
     Decides-like (is_node limits n) (λ p. record { slots = p.0; nulls_from = p.1.0; nulls_to = p.1.1 })
     (λ h. (h.slots, (h.nulls_from, h.nulls_to)))
@@ -84,8 +84,8 @@ of_range size r = (
 )
 
 -- the test of the nodes decides whether each has a length, and a null count that is at most the length
-pub of_nodes : {limits : Limits} → (nodes : List (ℤ × ℤ)) → Decides (all (is_node limits) nodes) (All (IsNode limits) nodes)
-of_nodes {limits} nodes = Decides-by_and (is_node limits) (IsNode limits) (all (is_node limits)) of_node refl (λ _ _. refl) nodes
+pub of_nodes : {limits : Limits} → (nodes : List (ℤ × ℤ)) → Decides (all (is_node limits) nodes) (All (IsFieldNode limits) nodes)
+of_nodes {limits} nodes = Decides-by_and (is_node limits) (IsFieldNode limits) (all (is_node limits)) of_node refl (λ _ _. refl) nodes
 
 -- ---- columns
 
@@ -108,7 +108,7 @@ of_offsets_bytes (l.VariableBytes utf8) n bytes = of_some n _ (of_bound (4 * (n 
 of_offsets_bytes l.Lists n bytes = of_some n _ (of_bound (4 * (n + 1)) bytes)
 of_offsets_bytes _ n bytes = (λ e. tt, λ h. refl)
 
-of_bytes : (c : Column) (children : Columns) → Decides (passes cause.BufferTooShort c children) (IsLongEnough c)
+pub of_bytes : (c : Column) (children : Columns) → Decides (passes cause.BufferTooShort c children) (IsLongEnough c)
 of_bytes c children =
     Decides-like (passes cause.BufferTooShort c children) (λ p. record { bitmap = p.0; values = p.1.0; offsets = p.1.1 })
     (λ h. (h.bitmap, (h.values, h.offsets)))
@@ -197,12 +197,12 @@ of_lists o n cs = (
         of_each_top (λ c. nat_le (place o n) c.slots) (λ c. offset o n ≤ℤ pos c.slots)
         (λ c. of_last (offset o n) c.slots (above o n n p.0 q.0 (omega arith))) cs
 
-of_order : (l : Layout) (n : ℕ) (o : List ℕ) (size : ℕ) (cs : Columns) → Decides (in_order l n o size cs) (HasOffsets l n o size cs)
+pub of_order : (l : Layout) (n : ℕ) (o : List ℕ) (size : ℕ) (cs : Columns) → Decides (in_order l n o size cs) (HasOffsets l n o size cs)
 of_order (l.VariableBytes utf8) n o size cs = of_some n _ (of_when _ _ (of_bound (4 * (n + 1)) (length o)) (of_ascending o n size))
 of_order l.Lists n o size cs = of_some n _ (of_when _ _ (of_bound (4 * (n + 1)) (length o)) (of_lists o n cs))
 of_order _ n o size cs = (λ e. tt, λ h. refl)
 
-of_long : (l : Layout) (n : ℕ) (cs : Columns) → Decides (are_long l n cs) (HasLongChildren l n cs)
+pub of_long : (l : Layout) (n : ℕ) (cs : Columns) → Decides (are_long l n cs) (HasLongChildren l n cs)
 of_long l.Structs n cs = of_have_slots n cs
 of_long (l.FixedLists size) n cs = of_have_slots (size * n) cs
 of_long _ n cs = (λ e. tt, λ h. refl)

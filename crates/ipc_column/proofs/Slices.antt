@@ -1,11 +1,11 @@
 -- Where the bytes of slots lie, and when they are texts.
 use Rattle.std.proofs.Common.{◌≡◌, ◌∙◌, refl, sym, ap, ℕ, zero, suc, ◌+◌, ◌-◌, ◌<◌, ◌≤◌, Bool, true, false, List, length, take, drop}
-use Rattle.std.proofs.Common.{add-one, arith, get_or, ◌↔◌, subst, inl, inr, length-drop, le-leb}
+use Rattle.std.proofs.Common.{add-one, arith, ◌↔◌, subst, inl, inr, length-drop}
 use Rattle.std.specs.Prelude.{◌&&◌, ◌||◌, not, ℤ, pos, negsuc, int_le, nat_le, unsigned_abs, slice_range, IsTrue}
 use Rattle.std.specs.Str.{is_utf8, IsUtf8, IsCharBoundary}
 use Rattle.std.proofs.lemmas.Str.{IsUtf8-from_is_utf8, is_utf8-from_IsUtf8, IsUtf8-between, IsCharBoundary-end}
-use Rattle.std.proofs.lemmas.List.{drop-take, take-take, drop-drop, get_or-drop, get_or-take, length-take-le}
-use Rattle.std.proofs.lemmas.Bool.{and_parts, and_from, leb-true, cases_order}
+use Rattle.std.proofs.lemmas.List.{drop-take, take-take, drop-drop, length-take-le}
+use Rattle.std.proofs.lemmas.Bool.{and_parts, leb-true, cases_order}
 use Rattle.ipc_column.specs.Values.{offset, place, between, is_valid}
 use Rattle.ipc_column.specs.Checks.{all_below, all_slots, is_ascending_at, are_ascending, text_good, AreCuts}
 use Rattle.ipc_column.proofs.Below.{below_at, below_from}
@@ -93,75 +93,63 @@ cut_text w b l i j p q r u ci cj =
     subst IsUtf8 (e ∙ ap (λ (k : ℕ). take (j - i) (drop k w)) start)
     (subst (λ (k : ℕ). IsUtf8 (take k (drop (i - b) (take l (drop b w))))) size t)
 
--- offsets that ascend within some data end where they end
-pub ascending_self : (o : List ℕ) (n size : ℕ) → are_ascending o n size ≡ true → are_ascending o n (place o n) ≡ true
-ascending_self o n size h =
-    let p = and_parts (int_le (pos 0) (offset o 0)) (all_below (is_ascending_at o) n && nat_le (place o n) size) h in
-    let q = and_parts (all_below (is_ascending_at o) n) (nat_le (place o n) size) p.1 in
-    and_from _ _ p.0 (and_from _ _ q.0 (le-leb (place o n) (place o n) (omega arith)))
-
 -- one slot more that begins where a text may be cut
-pub cut_more : (o w : List ℕ) (a i : ℕ) → AreCuts o w a i → place o i < length w
-    → (128 ≤ get_or w (place o i) 0 → 192 ≤ get_or w (place o i) 0) → AreCuts o w a (i + 1)
-cut_more o w a i all inside first k from below =
-    elim (cases_order k i) as (λ _. IsCharBoundary w (place o k)) [
-      | inl e ↦ rw e (omega (arith, inside), λ l. first)
-      | inr r ↦ elim r as (λ _. IsCharBoundary w (place o k)) [ inl m ↦ all k from m | inr m ↦ absurd (omega arith) ]
+pub cut_more : (o text : List ℕ) (a i : ℕ) → AreCuts o text a i → IsCharBoundary text (place o i - place o a) → AreCuts o text a (i + 1)
+cut_more o text a i all here k from below =
+    elim (cases_order k i) as (λ _. IsCharBoundary text (place o k - place o a)) [
+      | inl e ↦ rw e here
+      | inr r ↦ elim r as (λ _. IsCharBoundary text (place o k - place o a)) [ inl m ↦ all k from m | inr m ↦ absurd (omega arith) ]
     ]
 
--- where the bytes up to the end of a cut may be cut, it may be
-cut_in : (w : List ℕ) (f e p : ℕ) → f ≤ p → e ≤ length w → IsCharBoundary (take e w) p → IsCharBoundary (slice_range w f e) (p - f)
-cut_in w f e p l m h =
-    let all : length (take e w) ≡ e = length-take-le e w m in
-    let cut : length (slice_range w f e) ≡ e - f = length-take-le (e - f) (drop f w) (omega (arith, length-drop f w)) in (
-      omega (arith, h.0),
-      λ i b.
-          let same : get_or (slice_range w f e) (p - f) 0 ≡ get_or (take e w) p 0 =
-          get_or-take (e - f) (drop f w) (p - f) 0 (omega arith)
-          ∙ (get_or-drop f w (p - f) 0
-          ∙ (ap (λ (k : ℕ). get_or w k 0) (let at : f + (p - f) ≡ p = omega arith in at) ∙ sym (get_or-take e w p 0 (omega arith)))) in
-          omega (arith, h.1 (omega arith)),
-    )
-
--- slots of one text are texts where the bytes up to its end may be cut where they begin
-pub whole_good : (o w v : List ℕ) (n a b : ℕ) → are_ascending o n (length w) ≡ true → a ≤ b → b ≤ n
-    → is_utf8 (slice_range w (place o a) (place o b)) ≡ true
-    → AreCuts o (take (place o b) w) a b
-    → all_slots (text_good v o w) a (b - a) ≡ true
-whole_good o w v n a b h ab bn u cuts = below_from (λ k. text_good v o w (a + k)) (b - a)
-    (λ k l. or_true (not (is_valid v (a + k))) _ (is_utf8-from_IsUtf8 _ (spelled (a + k) (omega arith) (omega (arith, l)))))
+-- slots of one text are texts where it may be cut where they begin
+whole_text : (o w : List ℕ) (n a b : ℕ) → are_ascending o n (length w) ≡ true → a ≤ b → b ≤ n
+    → IsUtf8 (slice_range w (place o a) (place o b))
+    → AreCuts o (slice_range w (place o a) (place o b)) a b
+    → (i : ℕ) → a ≤ i → i < b → is_utf8 (between o w i) ≡ true
+whole_text o w n a b h ab bn u cuts i f l = is_utf8-from_IsUtf8 _ spelled
   where
-    or_true : (x y : Bool) → y ≡ true → (x || y) ≡ true
-    or_true true y e = refl
-    or_true false y e = e
+    all : Places o n (length w) a b
+    all = places o n (length w) a b h ab bn
 
-    end : place o a ≤ place o b → place o b ≤ length w → IsCharBoundary (slice_range w (place o a) (place o b)) (place o b - place o a)
-    end p q =
+    end : IsCharBoundary (slice_range w (place o a) (place o b)) (place o b - place o a)
+    end =
         let size : length (slice_range w (place o a) (place o b)) ≡ place o b - place o a =
-        length-take-le (place o b - place o a) (drop (place o a) w) (omega (arith, length-drop (place o a) w)) in
+        length-take-le (place o b - place o a) (drop (place o a) w) (omega (
+          arith,
+          length-drop (place o a) w,
+          all.order,
+          all.last,
+          all.inside,
+        )) in
         subst (λ (k : ℕ). IsCharBoundary (slice_range w (place o a) (place o b)) k) size
         (IsCharBoundary-end (slice_range w (place o a) (place o b)))
 
-    cut_at : (j : ℕ) → a ≤ j → j ≤ b → IsCharBoundary (slice_range w (place o a) (place o b)) (place o j - place o a)
-    cut_at j f m =
-        elim (cases_order j b) as (λ _. IsCharBoundary (slice_range w (place o a) (place o b)) (place o j - place o a)) [
-          | inl e ↦ let p = places o n (length w) a b h ab bn in subst
-              (λ (k : ℕ). IsCharBoundary (slice_range w (place o a) (place o b)) (place o k - place o a)) (sym e)
-              (end p.order (omega (arith, p.last, p.inside)))
-          | inr r ↦ elim r as (λ _. IsCharBoundary (slice_range w (place o a) (place o b)) (place o j - place o a)) [
-            | inl k ↦ let p = places o n (length w) a b h ab bn in
-                let q = places o n (length w) a j h f (omega (arith, m, bn)) in
-                cut_in w (place o a) (place o b)
-                (place o j) q.order (omega (arith, p.last, p.inside)) (cuts j f k)
+    next : IsCharBoundary (slice_range w (place o a) (place o b)) (place o (i + 1) - place o a)
+    next =
+        elim (cases_order (i + 1) b) as (λ _. IsCharBoundary (slice_range w (place o a) (place o b)) (place o (i + 1) - place o a)) [
+          | inl e ↦ subst (λ (k : ℕ). IsCharBoundary (slice_range w (place o a) (place o b)) (place o k - place o a)) (sym e) end
+          | inr r ↦ elim r as (λ _. IsCharBoundary (slice_range w (place o a) (place o b)) (place o (i + 1) - place o a)) [
+            | inl k ↦ cuts (i + 1) (omega (arith, f)) k
             | inr k ↦ absurd (omega arith)
           ]
         ]
 
-    spelled : (i : ℕ) → a ≤ i → i < b → IsUtf8 (between o w i)
-    spelled i f l =
+    spelled : IsUtf8 (between o w i)
+    spelled =
         let p = places o n (length w) i (i + 1) h (omega arith) (omega arith) in
         let q = places o n (length w) a i h f (omega arith) in
         let r = places o n (length w) (i + 1) b h (omega arith) bn in
         cut_text w (place o a) (place o b - place o a) (place o i) (place o (i + 1)) q.order p.order
-        (omega (arith, q.order, p.order, r.order))
-        (IsUtf8-from_is_utf8 _ u) (cut_at i f (omega arith)) (cut_at (i + 1) (omega arith) (omega arith))
+        (omega (arith, q.order, p.order, r.order)) u (cuts i f l) next
+
+-- and so they pass, null or not
+pub whole_good : (o w v : List ℕ) (n a b : ℕ) → are_ascending o n (length w) ≡ true → a ≤ b → b ≤ n
+    → IsUtf8 (slice_range w (place o a) (place o b))
+    → AreCuts o (slice_range w (place o a) (place o b)) a b
+    → all_slots (text_good v o w) a (b - a) ≡ true
+whole_good o w v n a b h ab bn u cuts = below_from (λ k. text_good v o w (a + k)) (b - a)
+    (λ k l. or_true (not (is_valid v (a + k))) _ (whole_text o w n a b h ab bn u cuts (a + k) (omega arith) (omega (arith, l))))
+  where
+    or_true : (x y : Bool) → y ≡ true → (x || y) ≡ true
+    or_true true y e = refl
+    or_true false y e = e

@@ -7,14 +7,14 @@ use Rattle.ipc_model.specs.declared.limits.Limits.{Limits}
 use Rattle.ipc_model.specs.declared.schema.Field.{Field}
 use Rattle.ipc_model.specs.declared.value.Value.{Value}
 use Rattle.ipc_meta.specs.declared.head.BatchHead.{BatchHead}
-use Rattle.ipc_column.specs.Rules.{IsSlotCount, IsNode}
+use Rattle.ipc_column.specs.Rules.{IsSlotCount, IsFieldNode}
 use Rattle.ipc_column.specs.Dictionaries.{Dictionaries}
 use Rattle.ipc_column.specs.Rows.{Rows}
 
 count_wider : (limits others : Limits) (count : ℤ) → Covers others limits → IsSlotCount limits count → IsSlotCount others count
 count_wider limits others count c h = record { from = h.from; to = omega (arith, ints, h.to, c.slots) }
 
-node_wider : (limits others : Limits) (node : ℤ × ℤ) → Covers others limits → IsNode limits node → IsNode others node
+node_wider : (limits others : Limits) (node : ℤ × ℤ) → Covers others limits → IsFieldNode limits node → IsFieldNode others node
 node_wider limits others node c h = record {
   slots = count_wider limits others node.0 c h.slots;
   nulls_from = h.nulls_from;
@@ -30,7 +30,7 @@ rows_wider limits others m fields head body rows c r = record {
   buffers = r.buffers;
   lengths = record {
     batch = count_wider limits others head.length c r.lengths.batch;
-    nodes = All-weaker (IsNode limits) (IsNode others) (λ node. node_wider limits others node c) head.nodes r.lengths.nodes;
+    nodes = All-weaker (IsFieldNode limits) (IsFieldNode others) (λ node. node_wider limits others node c) head.nodes r.lengths.nodes;
     columns = r.lengths.columns;
     children = r.lengths.children;
   };

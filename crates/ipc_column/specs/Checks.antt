@@ -194,9 +194,11 @@ abbrev pub index_good : List ℕ → IntBits → Bool → ℕ → List ℕ → �
 index_good validity bits signed n values i =
     not (is_valid validity i) || is_some (place_below n (number_in bits signed values i))
 
--- each slot from i up to j begins at a character boundary of these bytes
+-- each slot from i up to j begins at a character boundary of this text, which begins where slot i
+-- does
 abbrev pub AreCuts : List ℕ → List ℕ → ℕ → ℕ → Type 0
-AreCuts offsets bytes i j = (k : ℕ) → i ≤ k → k < j → IsCharBoundary bytes (place offsets k)
+AreCuts offsets text i j = (k : ℕ) → i ≤ k → k < j
+    → IsCharBoundary text (place offsets k - place offsets i)
 
 -- how many of the first n slots are null
 abbrev pub nulls_in : List ℕ → ℕ → ℕ

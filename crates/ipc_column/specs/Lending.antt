@@ -1,6 +1,7 @@
 -- Columns that are lent as they are laid out (Arrow Columnar Format, "Physical Memory Layout").
 use Rattle.std.specs.Prelude.{◌≡◌, ℕ, ◌*◌, ◌<◌, ◌≤◌, Bool, true, false, List, [], ◌∷◌, length}
-use Rattle.std.specs.Prelude.{Some, slice_get, if◌then◌else◌}
+use Rattle.std.specs.Prelude.{Some, slice_get, if◌then◌else◌, ℤ, pos}
+use Rattle.ipc_model.specs.declared.schema.IntBits.{IntBits}
 use Rattle.ipc_model.specs.declared.value.Value.{Value}
 use Rattle.ipc_model.specs.declared.value.Value.TheVariants as v
 use Rattle.ipc_model.specs.declared.layout.Layout.{Layout}
@@ -10,9 +11,9 @@ use Rattle.ipc_column.specs.declared.buffers.Buffers.{Buffers}
 use Rattle.ipc_column.specs.declared.numbers.Numbers.{Numbers}
 use Rattle.ipc_column.specs.Columns.{Columns, none, column}
 use Rattle.ipc_column.specs.Dictionaries.{stands_alone}
-use Rattle.ipc_column.specs.Lent.{AreFound}
 use Rattle.ipc_column.specs.Nested.{Nested, below, slot_values}
-use Rattle.ipc_column.specs.Values.{is_valid, own_value}
+use Rattle.ipc_column.specs.Rules.{HasLongChildren, HasOffsets, IsLongEnough}
+use Rattle.ipc_column.specs.Values.{is_valid, number_in, own_value}
 
 -- the layout of each of the columns
 abbrev pub layouts_of : Columns → List Layout
@@ -43,10 +44,25 @@ pub record AreNumbers (s : Nested) (n : Numbers) : Type 0 where
   pub each : (i : ℕ) → i < length (slot_values s)
       → slice_get (slot_values s) i ≡ Some (number_of n i)
 
--- these are the buffers of a column, which have the bytes that its slots need
+-- these are the buffers of a column: they have the bytes that its slots need, offsets are in order
+-- within the values or the child, and children are long enough
 pub record AreBuffers (s : Nested) (b : Buffers) : Type 0 where
   pub layout : b.layout ≡ s.column.layout
   pub validity : b.validity.now ≡ s.column.validity
   pub offsets : b.offsets.now ≡ s.column.offsets
   pub values : b.values.now ≡ s.column.values
-  pub whole : AreFound s.column (below s)
+  pub long_enough : IsLongEnough s.column
+  pub in_order : HasOffsets s.column.layout s.column.slots s.column.offsets
+      (length s.column.values) (below s)
+  pub long_children : HasLongChildren s.column.layout s.column.slots (below s)
+
+-- slot k holds, not null, the index i into the dictionary of its column (Arrow Columnar Format,
+-- "Dictionary-encoded Layout")
+pub record HoldsEntry (s : Nested) (k i : ℕ) : Type 0 where
+  pub bits : IntBits
+  pub signed : Bool
+  pub id : ℤ
+  pub layout : s.column.layout ≡ l.Indices bits signed id
+  pub valid : is_valid s.column.validity k ≡ true
+  pub index : number_in bits signed s.column.values k ≡ pos i
+  pub within : i < length s.column.dictionary

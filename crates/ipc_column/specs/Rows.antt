@@ -13,7 +13,7 @@ use Rattle.ipc_column.specs.Shapes.{columns_of}
 use Rattle.ipc_column.specs.Values.{row}
 use Rattle.ipc_column.specs.Rules.{HasNodes, HasBuffers, HasLengths, HasRanges, HasBytes}
 use Rattle.ipc_column.specs.Rules.{HasNullCounts, HasOrder, HasTexts, HasIndices, IsSlotCount}
-use Rattle.ipc_column.specs.Rules.{IsNode}
+use Rattle.ipc_column.specs.Rules.{IsFieldNode}
 use Rattle.ipc_model.specs.declared.limits.Limits.{Limits}
 
 -- the head and the body are a record batch of the fields (Arrow Columnar Format, "RecordBatch
@@ -50,7 +50,7 @@ pub record HasParts (limits : Limits) (fields : List Field) (head : BatchHead)
     (body : List ℕ) : Type 0 where
   pub counts : HasCounts fields head
   pub batch : IsSlotCount limits head.length
-  pub bounds : All (IsNode limits) head.nodes
+  pub bounds : All (IsFieldNode limits) head.nodes
   pub ranges : HasRanges head body
 
 -- the fault's cause is true of a head and a body. A bad node or range needs the right counts; a

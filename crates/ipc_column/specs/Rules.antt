@@ -33,7 +33,7 @@ pub record IsSlotCount (limits : Limits) (count : ℤ) : Type 0 where
   pub to : count ≤ℤ pos limits.slots
 
 -- a node has a length, and a null count that is at most the length (Message.fbs, FieldNode)
-pub record IsNode (limits : Limits) (node : ℤ × ℤ) : Type 0 where
+pub record IsFieldNode (limits : Limits) (node : ℤ × ℤ) : Type 0 where
   pub slots : IsSlotCount limits node.0
   pub nulls_from : pos 0 ≤ℤ node.1
   pub nulls_to : node.1 ≤ℤ node.0
@@ -58,7 +58,7 @@ HasLongChildren (l.Indices bits signed id) n children = ⊤
 pub record HasLengths (limits : Limits) (m : Dictionaries) (fields : List Field)
     (head : BatchHead) (body : List ℕ) : Type 0 where
   pub batch : IsSlotCount limits head.length
-  pub nodes : All (IsNode limits) head.nodes
+  pub nodes : All (IsFieldNode limits) head.nodes
   pub columns : EachTop (λ c. pos c.slots ≡ head.length) (columns_of m fields head body)
   pub children : Each (λ c children. HasLongChildren c.layout c.slots children)
       (columns_of m fields head body)
@@ -100,13 +100,13 @@ HoldOffsets (l.FixedBytes width) n bytes = ⊤
 HoldOffsets (l.Indices bits signed id) n bytes = ⊤
 
 -- the validity bitmap has a bit for each slot (Arrow Columnar Format, "Validity bitmaps")
-abbrev pub HasBits : Column → Type 0
-HasBits c = (c.slots + 7) / 8 ≤ length c.validity
+abbrev pub HasWholeBitmap : Column → Type 0
+HasWholeBitmap c = (c.slots + 7) / 8 ≤ length c.validity
 
 -- the buffers have the bytes that the slots need: a bit for each slot if there is a bitmap, the
 -- values, and the offsets
 pub record IsLongEnough (c : Column) : Type 0 where
-  pub bitmap : 0 < length c.validity → HasBits c
+  pub bitmap : 0 < length c.validity → HasWholeBitmap c
   pub values : HoldValues c.layout c.slots (length c.values)
   pub offsets : HoldOffsets c.layout c.slots (length c.offsets)
 
@@ -117,7 +117,7 @@ HasBytes m fields head body = Each (λ c children. IsLongEnough c) (columns_of m
 -- the null count is the number of clear bits in the bitmap, and 0 without a bitmap
 -- (Arrow Columnar Format, "Null count"); a column of the null layout may have any
 pub record CountsNulls (c : Column) : Type 0 where
-  pub with_bitmap : has_validity c.layout ≡ true → 0 < length c.validity → HasBits c
+  pub with_bitmap : has_validity c.layout ≡ true → 0 < length c.validity → HasWholeBitmap c
       → c.nulls ≡ clear c.validity c.slots
   pub without_bitmap : has_validity c.layout ≡ true → length c.validity ≡ 0 → c.nulls ≡ 0
 

@@ -4,9 +4,7 @@ ghost use Rattle.ipc_column.specs.Shapes.{cut, shape_of, field_layout, field_chi
 ghost use Rattle.ipc_column.specs.Shapes.{buffers_in, column_at, buffer_at, validity_at};
 ghost use Rattle.ipc_column.specs.Shapes.{dictionary_at, offsets_at, values_at};
 ghost use Rattle.ipc_column.specs.Dictionaries.{AreDictionaries, dictionaries_in, values_for};
-ghost use Rattle.ipc_column.specs.Marks.{AreMarked, IsMarked};
-ghost use Rattle.ipc_column.specs.Rules.{have_judged};
-ghost use Rattle.ipc_column.specs.Views.{columns, column_of, children_of, one};
+ghost use Rattle.ipc_column.specs.Views.{columns, column_of, children_of};
 ghost use Rattle.ipc_column.specs.Spans.{span_bytes};
 
 use crate::batch::Batch;
@@ -139,26 +137,6 @@ fn values_for(
     }
 }
 
-// Whether a part or one of its descendants has texts or indices.
-fn has_judged(part: &ColumnRanges) -> bool
-    requires { IsMarked part.now }
-    ensures { (body : List ℕ) → result ≡ have_judged (one body part.now) }
-{
-    part.layout.is_judged() || part.judged_below
-}
-
-// Whether one of the parts or their descendants has texts or indices.
-fn have_judged(parts: &[ColumnRanges]) -> bool
-    requires { AreMarked parts.now }
-    ensures { (body : List ℕ) → result ≡ have_judged (columns body parts.now) }
-{
-    let mut found = false;
-    for part in parts {
-        found = found || has_judged(part);
-    }
-    found
-}
-
 // The part of a field with this node and this first buffer, and the place after it.
 #[cycle(cut)]
 fn assign_field(
@@ -181,8 +159,6 @@ fn assign_field(
         → children_of body r.0 ≡ cut (dictionaries_in dictionaries.now) (field_children field.now)
         head.now body (at.node + 1)
         (at.buffer + own_buffers (field_layout field.now))) }
-    // Each part states correctly whether its descendants have texts or indices.
-    ensures marks { IfOk result (λ r. IsMarked r.0) }
     ensures node { IfOk result (λ r. r.1.node ≡ at.node + 1 + nodes_in (field_children field.now)) }
     ensures buffer { IfOk result (λ r. r.1.buffer
         ≡ at.buffer + own_buffers (field_layout field.now)
@@ -196,7 +172,6 @@ fn assign_field(
     };
     let fields = field.children.as_slice();
     let (children, next) = assign_buffers(alloc, fields, head, dictionaries, below)?;
-    let judged_below = have_judged(&children);
     let part = ColumnRanges {
         layout,
         slots: slots.unsigned_abs() as usize,
@@ -206,7 +181,7 @@ fn assign_field(
         values: values_span(layout, head, at.buffer),
         children,
         dictionary: dictionary_of(layout, dictionaries)?,
-        judged_below,
+        known_valid: false,
     };
     Ok((part, next))
 }
@@ -228,7 +203,6 @@ pub(crate) fn assign_buffers(
     ensures parts { IfOk result (λ r. (body : List ℕ)
         → columns body r.0.items ≡ cut (dictionaries_in dictionaries.now) (shape_of fields.now)
         head.now body at.node at.buffer) }
-    ensures marks { IfOk result (λ r. AreMarked r.0.items) }
     ensures number { IfOk result (λ r. length r.0.items ≡ length fields.now) }
     ensures node { IfOk result (λ r. r.1.node ≡ at.node + nodes_in (shape_of fields.now)) }
     ensures buffer { IfOk result (λ r. r.1.buffer ≡ at.buffer + buffers_in (shape_of fields.now)) }

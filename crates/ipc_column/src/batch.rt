@@ -102,9 +102,9 @@ fn read(
 {
     check_head(limits, fields, head, body.len())?;
     let start = Cursor { node: 0, buffer: 0 };
-    let (parts, _) = assign_buffers(alloc, fields, head, dictionaries, start)?;
+    let (mut parts, _) = assign_buffers(alloc, fields, head, dictionaries, start)?;
     let count = head.length.unsigned_abs() as usize;
-    let slot_tests = check_columns(&body, &parts, count)?;
+    let slot_tests = check_columns(&body, &mut parts, count)?;
     let shared = Shared {
         count,
         parts,

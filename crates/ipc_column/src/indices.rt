@@ -1,14 +1,14 @@
 //! Checks that the indices of a column are those of values in its dictionary.
-ghost use Rattle.std.specs.Prelude.{◌≡◌, ◌≤◌, ◌<◌, ◌+◌, ◌-◌, ◌*◌, ◌^◌, ℕ, List, length, true};
+ghost use Rattle.std.specs.Prelude.{◌≡◌, ◌≤◌, ◌<◌, ◌+◌, ◌-◌, ◌*◌, ◌^◌, [], length, true};
 ghost use Rattle.std.specs.Prelude.{IsTrue, is_some};
 ghost use Rattle.ipc_model.specs.Layouts.{number_bytes};
 ghost use Rattle.ipc_column.specs.Checks.{all_slots, has_bitmap, index_good};
 ghost use Rattle.ipc_column.specs.Values.{number_in, place_below};
 
 use crate::fixed::index_in;
-use crate::largest::largest;
 use crate::slot_visit::visit;
 use ipc_model::IntBits;
+use ipc_scalar::indices_below;
 
 // Whether the index in a slot is that of one of `count` values.
 #[inline(always)]
@@ -19,36 +19,20 @@ fn is_index(bits: IntBits, signed: bool, indices: &[u8], slot: usize, count: usi
     index_in(bits, signed, indices, slot, count).is_some()
 }
 
-// The largest signed number of a width.
-fn largest_signed(bits: IntBits) -> u64
-    ensures { result + 1 ≡ 2 ^ (8 * number_bytes bits - 1) }
-{
-    match bits {
-        IntBits::B8 => 0x7f,
-        IntBits::B16 => 0x7fff,
-        IntBits::B32 => 0x7fff_ffff,
-        IntBits::B64 => 0x7fff_ffff_ffff_ffff,
-    }
-}
-
-/// Returns whether the slots from `from` up to `to`, null slots included, all hold indices of one
-/// of `count` values. It compares only the largest index. Read as unsigned, a negative number is
-/// above every number that is not negative.
+/// Returns whether all `slots` slots, null slots included, hold indices of one of `count` values.
+/// The indices are scanned once.
 pub(crate) fn are_indices(
     bits: IntBits,
     signed: bool,
     indices: &[u8],
     count: usize,
-    from: usize,
-    to: usize,
+    slots: usize,
 ) -> bool
-    requires range { from ≤ to }
-    requires inside { number_bytes bits * to ≤ length indices.now }
-    ensures { IsTrue result → (validity : List ℕ)
-        → all_slots (index_good validity bits signed count indices.now) from (to - from) ≡ true }
+    requires { number_bytes bits * slots ≤ length indices.now }
+    ensures { IsTrue result
+        → all_slots (index_good [] bits signed count indices.now) 0 slots ≡ true }
 {
-    let largest = largest(bits, indices, from, to);
-    largest < count as u64 && (!signed || largest <= largest_signed(bits))
+    indices_below(indices, bits.width(), signed, slots, count as u64)
 }
 
 // Whether a slot is null or holds an index of one of `count` values. The slot is visited.
@@ -71,7 +55,7 @@ fn visit_index(
 }
 
 /// Returns whether each slot from `from` up to `to` is null or holds an index of one of `count`
-/// values. The slots are visited only if some slot, null or not, holds another index.
+/// values.
 pub(crate) fn visit_indices(
     bits: IntBits,
     signed: bool,
@@ -90,9 +74,6 @@ pub(crate) fn visit_indices(
         ≡ all_slots (index_good validity.now bits signed count indices.now) from (to - from) }
     ensures counted { tests.new ≤ tests.old + (to - from) }
 {
-    if are_indices(bits, signed, indices, count, from, to) {
-        return true;
-    }
     for slot in from..to {
         if !visit_index(bits, signed, validity, indices, count, slot, tests) {
             return false;

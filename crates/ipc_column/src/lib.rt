@@ -12,7 +12,7 @@ mod dictionary;
 mod fixed;
 mod head;
 mod indices;
-mod largest;
+mod known;
 mod numbers;
 mod offsets;
 mod range_bytes;
@@ -24,7 +24,6 @@ mod texts;
 mod validate;
 mod view;
 mod visit;
-mod whole;
 
 pub use batch::{Batch, one_list_of_rows};
 pub use buffers::Buffers;

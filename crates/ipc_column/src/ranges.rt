@@ -29,6 +29,7 @@ pub struct ColumnRanges {
     pub children: Vec<ColumnRanges>,
     /// The dictionary's values, if the slots hold indices.
     pub dictionary: DictionaryValues,
-    /// Whether a descendant has texts or indices.
-    pub judged_below: bool,
+    /// Whether all texts and indices in the slots and below them are known to be valid, those of
+    /// null slots included.
+    pub known_valid: bool,
 }

@@ -3,6 +3,7 @@ ghost use Rattle.std.specs.Prelude.{◌≡◌, ◌<◌, ℕ, List, length, slice
 ghost use Rattle.std.specs.Prelude.{is_some, slice_index, take, ◌≤◌, ◌+◌, ◌*◌, ℤ, Bool, []};
 ghost use Rattle.std.specs.Prelude.{IfNone};
 ghost use Rattle.std.specs.List.{AllByRecursion};
+ghost use Rattle.ipc_scalar.specs.Bytes.{clear};
 ghost use Rattle.ipc_model.specs.declared.schema.IntBits.{IntBits};
 ghost use Rattle.ipc_model.specs.declared.layout.Layout.TheVariants.{Indices};
 ghost use Rattle.ipc_model.specs.declared.value.Value.{Value};
@@ -10,9 +11,10 @@ ghost use Rattle.ipc_model.specs.declared.value.Value.TheVariants.{Null};
 ghost use Rattle.ipc_column.specs.Cells.{cell_value, is_leaf};
 ghost use Rattle.ipc_column.specs.Columns.{Columns};
 ghost use Rattle.ipc_column.specs.Checks.{Holds, are_long, holds_offsets, holds_values, in_order};
-ghost use Rattle.ipc_column.specs.Checks.{are_ascending, nulls_in};
+ghost use Rattle.ipc_column.specs.Checks.{are_ascending};
 ghost use Rattle.ipc_column.specs.Dictionaries.{stands_alone};
-ghost use Rattle.ipc_column.specs.Lending.{AreBuffers, AreNumbers, are_numbers, layouts_of};
+ghost use Rattle.ipc_column.specs.Lending.{AreBuffers, AreNumbers, HoldsEntry, are_numbers};
+ghost use Rattle.ipc_column.specs.Lending.{layouts_of};
 ghost use Rattle.ipc_column.specs.Lent.{AreFound, AreOfColumn, found};
 ghost use Rattle.ipc_column.specs.Slots.{LeadsInside, is_null, nested, nested_in, shown};
 ghost use Rattle.ipc_column.specs.Slots.{text_shown};
@@ -225,7 +227,9 @@ impl<'a> SlotView<'a> {
     /// Returns the number of slots that the validity bitmap marks as null, or 0 without a bitmap. A
     /// slot of the null layout is null without a bitmap, and so may an index be.
     pub fn null_count(&self) -> u64
-        ensures { result ≡ nulls_in self.now.column.validity (length (slot_values self.now)) }
+        ensures with_bitmap { 0 < length self.now.column.validity
+            → result ≡ clear self.now.column.validity (length (slot_values self.now)) }
+        ensures without_bitmap { length self.now.column.validity ≡ 0 → result ≡ 0 }
     {
         if self.validity.is_empty() {
             return 0;
@@ -245,12 +249,14 @@ impl<'a> SlotView<'a> {
         self.values.len()
     }
 
-    /// Returns the index in the dictionary of the value that a slot shows. `slot` must be below
-    /// `len`. Returns `None` if the slot is null, if its index is not that of a value, or if the
-    /// column has no dictionary.
+    /// Returns the index that a slot holds, that of the dictionary's value which it shows. `slot`
+    /// must be below `len`. Returns `None` if the slot is null, if its index is not that of a
+    /// value, or if the column has no dictionary.
     #[inline(always)]
     pub fn entry_at(&self, slot: usize) -> Option<usize>
         requires { slot < length (slot_values self.now) }
+        ensures entry { IfSome result (λ i. HoldsEntry self.now slot i) }
+        ensures none { IfNone result ((i : ℕ) → ¬ HoldsEntry self.now slot i) }
         ensures within { IfSome result (λ i. i < length self.now.column.dictionary) }
         ensures shown { IfSome result (λ i. slice_get self.now.column.dictionary i
             ≡ slice_get (slot_values self.now) slot) }

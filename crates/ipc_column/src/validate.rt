@@ -5,16 +5,16 @@ ghost use Rattle.ipc_column.specs.Checks.{in_order, is_shown, nulls_in, passes, 
 ghost use Rattle.ipc_column.specs.Checks.{all_pass};
 ghost use Rattle.ipc_column.specs.Checks.{have_slots, are_long, are_ascending};
 ghost use Rattle.ipc_column.specs.Columns.{every, every_top};
-ghost use Rattle.ipc_column.specs.Marks.{AreMarked};
 ghost use Rattle.ipc_column.specs.Rules.{visits_in};
 ghost use Rattle.ipc_column.specs.Values.{place};
 ghost use Rattle.ipc_column.specs.Views.{columns, column_of, children_of};
 
 use crate::cause::Cause;
+use crate::known::mark_parts;
 use crate::offsets::{are_in_order, place_at};
 use crate::range_bytes::bytes_at;
 use crate::ranges::ColumnRanges;
-use crate::visit::visit_columns;
+use crate::visit::visit_all;
 use ipc_model::Layout;
 use ipc_scalar::count_clear;
 
@@ -202,19 +202,24 @@ fn check_tops(body: &[u8], parts: &[ColumnRanges], rows: usize) -> Result<(), Ca
 }
 
 /// Checks that the parts, which are the columns of a batch, have `rows` rows. Returns the number of
-/// slots that were visited.
-pub(crate) fn check_columns(body: &[u8], parts: &[ColumnRanges], rows: usize) -> Result<u64, Cause>
-    requires few { visits_in (columns body.now parts.now) < 2 ^ 64 }
-    requires marks { AreMarked parts.now }
-    ensures judged { Judges result (λ why. all_pass why rows (columns body.now parts.now)) }
+/// slots that were visited. The parts keep their columns, and store what is known to be valid.
+pub(crate) fn check_columns(
+    body: &[u8],
+    parts: &mut [ColumnRanges],
+    rows: usize,
+) -> Result<u64, Cause>
+    requires few { visits_in (columns body.now parts.old) < 2 ^ 64 }
+    ensures judged { Judges result (λ why. all_pass why rows (columns body.now parts.old)) }
     // What rows show comes last.
     ensures shown_last { IfErr result (λ why. is_shown why ≡ true → (other : Cause)
-        → every (passes other) (columns body.now parts.now) ≡ true) }
-    ensures visited { IfOk result (λ tests. tests ≤ visits_in (columns body.now parts.now)) }
+        → every (passes other) (columns body.now parts.old) ≡ true) }
+    ensures visited { IfOk result (λ tests. tests ≤ visits_in (columns body.now parts.old)) }
+    ensures columns { columns body.now parts.new ≡ columns body.now parts.old }
 {
     check_all(body, parts)?;
     check_tops(body, parts, rows)?;
+    mark_parts(body, parts);
     let mut tests = 0;
-    visit_columns(body, parts, 0, rows, &mut tests)?;
+    visit_all(body, parts, 0, rows, &mut tests)?;
     Ok(tests)
 }

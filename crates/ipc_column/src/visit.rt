@@ -14,7 +14,6 @@ use crate::range_bytes::bytes_at;
 use crate::ranges::ColumnRanges;
 use crate::slot_visit::visit;
 use crate::texts::visit_texts;
-use crate::whole::is_whole_part;
 use ipc_model::{IntBits, Layout};
 
 // Whether the descendants of a part's slots from `from` up to `to` are valid. For a list these are
@@ -33,7 +32,7 @@ fn visit_below(
     requires room { tests.old + weight_below (column_of body.now part.now).layout
         (weight (children_of body.now part.now)) (column_of body.now part.now).offsets from to
         < 2 ^ 64 }
-    requires marks { IsMarked part.now }
+    requires marks { IsMarked body.now part.now }
     ensures judged { Judges result (λ why. range_good (column_of body.now part.now).layout
         (good why (children_of body.now part.now)) (column_of body.now part.now).offsets from to) }
     ensures cost { tests.new ≤ tests.old + weight_below (column_of body.now part.now).layout
@@ -66,7 +65,7 @@ fn visit_slot(body: &[u8], part: &ColumnRanges, slot: usize, tests: &mut u64) ->
         ≡ true }
     requires room { tests.old + weight (one body.now part.now) slot (slot + 1) < 2 ^ 64 }
     requires small { slot + 1 < 2 ^ 64 }
-    requires marks { IsMarked part.now }
+    requires marks { IsMarked body.now part.now }
     ensures judged { Judges result (λ why. good_slot why (good why (children_of body.now part.now))
         (column_of body.now part.now) slot) }
     ensures cost { tests.new ≤ tests.old + weight (one body.now part.now) slot (slot + 1) }
@@ -91,7 +90,7 @@ fn visit_slots(
     requires visited { is_visited (column_of body.now part.now) (children_of body.now part.now)
         ≡ true }
     requires room { tests.old + weight (one body.now part.now) from to < 2 ^ 64 }
-    requires marks { IsMarked part.now }
+    requires marks { IsMarked body.now part.now }
     ensures judged { Judges result (λ why. good why (one body.now part.now) from to) }
     ensures cost { tests.new ≤ tests.old + weight (one body.now part.now) from to }
 {
@@ -155,8 +154,8 @@ fn visit_index_part(
 }
 
 // Whether the slots of a part from `from` up to `to` are valid: each is null, or its texts are
-// UTF-8 and its indices are those of values, with its descendants. Without a bitmap all descendants
-// are checked together. If no descendant has texts or indices, none is checked.
+// UTF-8 and its indices are those of values, with its descendants. Nothing is visited that is known
+// to be valid. Without a bitmap all descendants are checked together.
 #[cycle(visit)]
 fn visit_part(
     body: &[u8],
@@ -167,11 +166,14 @@ fn visit_part(
 ) -> Result<(), Cause>
     requires slots { AreSlots (one body.now part.now) from to }
     requires room { tests.old + weight (one body.now part.now) from to < 2 ^ 64 }
-    requires marks { IsMarked part.now }
+    requires marks { IsMarked body.now part.now }
     ensures judged { Judges result (λ why. good why (one body.now part.now) from to) }
     ensures cost { tests.new ≤ tests.old + weight (one body.now part.now) from to }
 {
     if from == to {
+        return Ok(());
+    }
+    if part.known_valid {
         return Ok(());
     }
     if part.layout.is_texts() {
@@ -180,18 +182,16 @@ fn visit_part(
     if let Layout::Indices { bits, signed, .. } = part.layout {
         return visit_index_part(body, part, bits, signed, from, to, tests);
     }
-    if !part.judged_below {
-        return Ok(());
-    }
     if bytes_at(body, part.validity).is_empty() {
         return visit_below(body, part, from, to, tests);
     }
     visit_slots(body, part, from, to, tests)
 }
 
-// Whether the slots of each part are valid.
+/// Checks the slots of each part from `from` up to `to`: every visible text is UTF-8, and every
+/// visible index is that of a value. Each slot that is visited is counted.
 #[cycle(visit)]
-fn visit_all(
+pub(crate) fn visit_all(
     body: &[u8],
     parts: &[ColumnRanges],
     from: usize,
@@ -200,54 +200,12 @@ fn visit_all(
 ) -> Result<(), Cause>
     requires slots { AreSlots (columns body.now parts.now) from to }
     requires room { tests.old + weight (columns body.now parts.now) from to < 2 ^ 64 }
-    requires marks { AreMarked parts.now }
+    requires marks { AreMarked body.now parts.now }
     ensures judged { Judges result (λ why. good why (columns body.now parts.now) from to) }
     ensures cost { tests.new ≤ tests.old + weight (columns body.now parts.now) from to }
 {
     for part in parts {
         visit_part(body, part, from, to, tests)?;
-    }
-    Ok(())
-}
-
-// Whether the slots of a part are valid. None is visited if all its texts are UTF-8 and all its
-// indices are those of values.
-fn visit_column(
-    body: &[u8],
-    part: &ColumnRanges,
-    from: usize,
-    to: usize,
-    tests: &mut u64,
-) -> Result<(), Cause>
-    requires slots { AreSlots (one body.now part.now) from to }
-    requires room { tests.old + weight (one body.now part.now) from to < 2 ^ 64 }
-    requires marks { IsMarked part.now }
-    ensures judged { Judges result (λ why. good why (one body.now part.now) from to) }
-    ensures cost { tests.new ≤ tests.old + weight (one body.now part.now) from to }
-{
-    if is_whole_part(body, part, from, to) {
-        return Ok(());
-    }
-    visit_part(body, part, from, to, tests)
-}
-
-/// Checks the slots of each part from `from` up to `to`: every visible text is UTF-8, and every
-/// visible index is that of a value. Each slot that is visited is counted.
-pub(crate) fn visit_columns(
-    body: &[u8],
-    parts: &[ColumnRanges],
-    from: usize,
-    to: usize,
-    tests: &mut u64,
-) -> Result<(), Cause>
-    requires slots { AreSlots (columns body.now parts.now) from to }
-    requires room { tests.old + weight (columns body.now parts.now) from to < 2 ^ 64 }
-    requires marks { AreMarked parts.now }
-    ensures judged { Judges result (λ why. good why (columns body.now parts.now) from to) }
-    ensures cost { tests.new ≤ tests.old + weight (columns body.now parts.now) from to }
-{
-    for part in parts {
-        visit_column(body, part, from, to, tests)?;
     }
     Ok(())
 }

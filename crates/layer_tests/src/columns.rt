@@ -88,8 +88,29 @@ fn are_texts(alloc: Global) -> Result<bool, Fault> {
     Ok(batch(alloc, DataType::Utf8, parts, &body)?.tests() == 2)
 }
 
+// Two texts that share the bytes of one character.
+fn are_parts_of_a_character(alloc: Global) -> bool {
+    let body = [0, 0, 0, 0, 1, 0, 0, 0, 2, 0, 0, 0, 0xc3, 0xa9];
+    let parts: Parts<'_> = (&[(2, 0)], &[(0, 0), (0, 12), (12, 2)]);
+    matches!(
+        batch(alloc, DataType::Utf8, parts, &body),
+        Err(Fault::ValueNotUtf8)
+    )
+}
+
+// A null slot over ff between texts: all three slots are visited.
+fn are_around_a_null(alloc: Global) -> Result<bool, Fault> {
+    let body = [
+        0b101, 0, 0, 0, 0, 0, 0, 0, 1, 0, 0, 0, 2, 0, 0, 0, 3, 0, 0, 0, 0x61, 0xff, 0x62,
+    ];
+    let parts: Parts<'_> = (&[(3, 1)], &[(0, 1), (4, 16), (20, 3)]);
+    Ok(batch(alloc, DataType::Utf8, parts, &body)?.tests() == 3)
+}
+
 #[test]
 fn slots_of_flat_columns(rt: HostRuntime) {
+    assert!(rt; are_parts_of_a_character(rt.alloc()));
+    assert!(rt; are_around_a_null(rt.alloc()) == Ok(true));
     assert!(rt; are_nulls(rt.alloc()) == Ok(true));
     assert!(rt; are_of_no_bytes(rt.alloc()) == Ok(true));
     assert!(rt; are_texts(rt.alloc()) == Ok(true));

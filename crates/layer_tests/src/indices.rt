@@ -83,12 +83,18 @@ pub(crate) fn indexed(
     batch_under(alloc, column(alloc)?, parts, body, dictionaries.current())
 }
 
-// An index that has a value isn't tested by itself, and below null slots each is; there stand an
-// index that has no value and one below 0.
+// One scan tells that an index has a value. Null slots with an index that has none make each slot
+// visited.
 fn are_few(alloc: Global, dictionaries: &Dictionaries) -> Result<bool, Fault> {
     let one = indexed(alloc, (1, 0), &[0], dictionaries)?.tests();
     let found = indexed(alloc, (3, 2), &[0b010, 2, 0, 0xff], dictionaries)?;
-    Ok(one == 0 && found.tests() == 3 && matches!(cell_of(&found, 1), Some(Cell::Text("a"))))
+    let null_9 = indexed(alloc, (3, 1), &[0b011, 0, 1, 9], dictionaries)?.tests();
+    Ok(
+        one == 0
+            && found.tests() == 3
+            && null_9 == 3
+            && matches!(cell_of(&found, 1), Some(Cell::Text("a"))),
+    )
 }
 
 // How a thousand indices stand in a thousand lists: one in each, or all of them in the first.
@@ -159,19 +165,18 @@ fn is_told(
     let mut body = Vec::new(alloc);
     write(&mut body, thousand)?;
     Ok(match tests(alloc, thousand, &body, dictionaries) {
-        Ok(tests) =>
-            matches!(thousand.wanted, Ok((least, most)) if least <= tests && tests <= most),
+        Ok(tests) => matches!(thousand.wanted, Ok(wanted) if tests == wanted),
         Err(fault) => thousand.wanted == Err(fault),
     })
 }
 
-// Whether the last slot is valid, the last index, and how many slots are tested, at least and at
-// most, or why the batch is refused.
+// Whether the last slot is valid, the last index, and the number of slots that are visited, or why
+// the batch is refused.
 struct Thousand {
     spread: Spread,
     last_valid: bool,
     last: u8,
-    wanted: Result<(u64, u64), Fault>,
+    wanted: Result<u64, Fault>,
 }
 
 const THOUSANDS: [Thousand; 6] = [
@@ -185,13 +190,13 @@ const THOUSANDS: [Thousand; 6] = [
         spread: Spread::OneInEach,
         last_valid: true,
         last: 1,
-        wanted: Ok((0, 0)),
+        wanted: Ok(0),
     },
     Thousand {
         spread: Spread::OneInEach,
         last_valid: false,
         last: 2,
-        wanted: Ok((1, 2000)),
+        wanted: Ok(1999),
     },
     // The first list shows all indices, of which only a null one may be of no value.
     Thousand {
@@ -204,13 +209,13 @@ const THOUSANDS: [Thousand; 6] = [
         spread: Spread::AllInFirst,
         last_valid: true,
         last: 1,
-        wanted: Ok((0, 2000)),
+        wanted: Ok(0),
     },
     Thousand {
         spread: Spread::AllInFirst,
         last_valid: false,
         last: 9,
-        wanted: Ok((1, 2000)),
+        wanted: Ok(1000),
     },
 ];
 

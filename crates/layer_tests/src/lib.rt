@@ -1,8 +1,10 @@
-//! Tests of the crates below the stream: lists, FlatBuffers in place, rows, limits, printed words,
-//! messages whose bytes come one by one, batches of one column, and rows taken one at a time,
+//! Tests of the crates below the stream: bits, lists, FlatBuffers in place, rows, limits, printed
+//! words, messages whose bytes come one by one, batches of one column, rows taken one at a time,
 //! nested ones too, columns of lists and structs, dictionaries, and columns of their indices.
 #![tactic(auto)]
 
+#[cfg(test)]
+mod bits;
 #[cfg(test)]
 mod columns;
 #[cfg(test)]

@@ -4,7 +4,6 @@ use Rattle.ipc_column.specs.Dictionaries.{dictionaries_in}
 use Rattle.ipc_column.specs.Views.{columns}
 use Rattle.ipc_column.specs.Columns.{Columns, beside}
 use Rattle.ipc_column.proofs.Fields.{nodes_from, buffers_from, nodes_done, buffers_done, cut_step, cut_done, beside_none}
-use Rattle.ipc_column.proofs.Marks.{marked_from, marked_push}
 use Rattle.ipc_column.proofs.assign.+cut.Goals as goal
 
 pub assign_buffers-assign_field-requires : goal.assign_buffers-assign_field-requires
@@ -36,8 +35,6 @@ assign_buffers-loop-field-preserved t c =
           (c.in_ok-part.ensures.column body) (c.in_ok-part.ensures.children body) c.in_ok-part.ensures.node c.in_ok-part.ensures.buffer
           (c.loop-field.invariant.parts body));
       number = search rules;
-      marks = rw c.in_ok-push.ensures.items (marked_push c.loop-field.parts.items c.in_ok-part.part c.loop-field.invariant.marks
-          c.in_ok-part.ensures.marks);
       nodes = omega (arith, n, c.in_ok-part.ensures.node);
       buffers = omega (arith, b, c.in_ok-part.ensures.buffer);
     }
@@ -60,8 +57,3 @@ pub assign_buffers-returns-clause-buffer : goal.assign_buffers-returns-clause-bu
 assign_buffers-returns-clause-buffer t c =
     let b = buffers_done c.args.fields.now c.loop-field.field-index (omega arith) in
     omega (arith, b)
-
-pub assign_field-returns-clause-marks : goal.assign_field-returns-clause-marks
-assign_field-returns-clause-marks t c =
-    marked_from _ c.in_ok-children.ensures.marks
-    (λ body. rw c.deref.ensures.value at (c.have_judged-judged_below.ensures body))

@@ -1,7 +1,6 @@
 use Rattle.std.proofs.Common.{◌≡◌, ◌+◌, ℕ, List, length, drop}
 use Rattle.ipc_column.specs.Columns.{beside}
 use Rattle.ipc_column.specs.Dictionaries.{dictionaries_in}
-use Rattle.ipc_column.specs.Marks.{AreMarked}
 use Rattle.ipc_column.specs.Views.{columns}
 use Rattle.ipc_column.specs.Shapes.{shape_of, nodes_in, buffers_in, cut}
 use Rattle.ipc_column.proofs.assign.+cut.Given as goal
@@ -11,7 +10,6 @@ invariant-assign_buffers-loop-field l = record {
   parts : (body : List ℕ) → beside (columns body l.parts.items)
       (cut (dictionaries_in l.dictionaries) (shape_of (drop l.field-index l.fields)) l.head body l.place.node l.place.buffer)
       ≡ cut (dictionaries_in l.dictionaries) (shape_of l.fields) l.head body l.fn.at.node l.fn.at.buffer;
-  marks : AreMarked l.parts.items;
   number : length l.parts.items ≡ l.field-index;
   nodes : l.place.node + nodes_in (shape_of (drop l.field-index l.fields)) ≡ l.fn.at.node + nodes_in (shape_of l.fields);
   buffers : l.place.buffer + buffers_in (shape_of (drop l.field-index l.fields)) ≡ l.fn.at.buffer + buffers_in (shape_of l.fields);

@@ -7,35 +7,38 @@ use Rattle.ipc_column.proofs.Slots.{row_slots, all_judged, shown_fails, shown_as
 use Rattle.ipc_column.proofs.Weights.{weight_most}
 use Rattle.ipc_column.proofs.validate.check_columns.Goals as goal
 
-pub visit_columns-requires-clause-slots : goal.visit_columns-requires-clause-slots
-visit_columns-requires-clause-slots c =
-    row_slots (columns c.args.body.now c.args.parts.now) c.args.rows 0 c.args.rows (omega arith) (omega arith) c.in_ok-check_all.ensures
-    (c.in_ok-check_tops.ensures cause.BadNode)
+pub visit_all-requires-clause-slots : goal.visit_all-requires-clause-slots
+visit_all-requires-clause-slots c =
+    rw c.mark_parts.ensures.columns
+    (row_slots (columns c.args.body.now c.args.parts.now) c.args.rows 0 c.args.rows (omega arith) (omega arith) c.in_ok-check_all.ensures
+    (c.in_ok-check_tops.ensures cause.BadNode))
 
-pub visit_columns-requires-clause-room : goal.visit_columns-requires-clause-room
-visit_columns-requires-clause-room c =
+pub visit_all-requires-clause-room : goal.visit_all-requires-clause-room
+visit_all-requires-clause-room c =
     let most = weight_most (columns c.args.body.now c.args.parts.now) 0 c.args.rows
     (row_slots (columns c.args.body.now c.args.parts.now) c.args.rows 0 c.args.rows (omega arith) (omega arith) c.in_ok-check_all.ensures
     (c.in_ok-check_tops.ensures cause.BadNode)) in
-    omega (arith, most, c.requires.few)
+    rw c.mark_parts.ensures.columns (omega (arith, most, c.requires.few))
 
 pub returns-clause-judged : goal.returns-clause-judged
 returns-clause-judged c =
     all_judged (columns c.args.body.now c.args.parts.now) c.args.rows c.in_ok-check_all.ensures c.in_ok-check_tops.ensures
-    c.in_ok-visit_columns.ensures.judged
+    (rw c.mark_parts.ensures.columns at c.in_ok-visit_all.ensures.judged)
 
 pub returns-clause-visited : goal.returns-clause-visited
 returns-clause-visited c =
     let most = weight_most (columns c.args.body.now c.args.parts.now) 0 c.args.rows
     (row_slots (columns c.args.body.now c.args.parts.now) c.args.rows 0 c.args.rows (omega arith) (omega arith) c.in_ok-check_all.ensures
     (c.in_ok-check_tops.ensures cause.BadNode)) in
-    omega (arith, most, c.in_ok-visit_columns.ensures.cost)
+    let cost = rw c.mark_parts.ensures.columns at c.in_ok-visit_all.ensures.cost in
+    omega (arith, most, cost)
 
-pub returns-in_err-visit_columns-clause-judged : goal.returns-in_err-visit_columns-clause-judged
-returns-in_err-visit_columns-clause-judged c =
-    let d = c.in_err-visit_columns.field-0.0 in
-    let p = err_from_is_err_and c.from_residual-in_err-visit_columns.result c.from_residual-in_err-visit_columns.ensures.1 in
-    rw (p.1, p.2) (shown_fails d c.args.rows (columns c.args.body.now c.args.parts.now) c.in_err-visit_columns.ensures.judged)
+pub returns-in_err-visit_all-clause-judged : goal.returns-in_err-visit_all-clause-judged
+returns-in_err-visit_all-clause-judged c =
+    let d = c.in_err-visit_all.field-0.0 in
+    let p = err_from_is_err_and c.from_residual-in_err-visit_all.result c.from_residual-in_err-visit_all.ensures.1 in
+    rw (p.1, p.2) (shown_fails d c.args.rows (columns c.args.body.now c.args.parts.now)
+    (rw c.mark_parts.ensures.columns at c.in_err-visit_all.ensures.judged))
 
 pub returns-in_err-check_all-clause-shown_last : goal.returns-in_err-check_all-clause-shown_last
 returns-in_err-check_all-clause-shown_last c =

@@ -9,7 +9,7 @@ use Rattle.std.proofs.lemmas.Bool.{and_left}
 use Rattle.std.proofs.lemmas.Result.{err_from_is_err_and}
 use Rattle.ipc_column.specs.Views.{columns, one, column_of, children_of}
 use Rattle.ipc_column.proofs.Goods.{slots_more, slots_fail, good_one, good_first}
-use Rattle.ipc_column.proofs.Marks.{says_judged, marked_below, marked_at}
+use Rattle.ipc_column.proofs.Marks.{known_good, marked_at, marked_below, unknown_below}
 use Rattle.ipc_column.proofs.Parts.{columns_from}
 use Rattle.ipc_column.proofs.Slots.{slots_first, slots_within, part_long, part_most, bitmap_front}
 use Rattle.ipc_column.proofs.FixedLists.{fixed_place_have, fixed_child}
@@ -38,7 +38,7 @@ visit_below-visit_all-requires t c =
       search (rules, the_lemmas),
       rw (c.deref.ensures.value, c.place_at-first.ensures, c.place_at-end.ensures, c.bytes_at-offsets.ensures) (
         list_slots c.args.body.now c.args.part.now c.args.from c.args.to c.requires.slots c.requires.some c.in-Lists.is,
-        (omega (arith, w, c.requires.room), marked_below c.args.part.now c.requires.marks),
+        (omega (arith, w, c.requires.room), marked_below c.args.body.now c.args.part.now c.requires.marks),
       ),
     )
 
@@ -72,7 +72,7 @@ visit_below-visit_all-requires-in-FixedLists t c =
       rw c.deref-in-FixedLists-3.ensures.value (
         fixed_child c.args.body.now children c.in-FixedLists.size c.args.from c.args.to c.fixed_place-first.result c.fixed_place.result
             first none last c.requires.some slots,
-        (omega (arith, w, c.requires.room), marked_below c.args.part.now c.requires.marks),
+        (omega (arith, w, c.requires.room), marked_below c.args.body.now c.args.part.now c.requires.marks),
       ),
     )
 
@@ -109,7 +109,7 @@ visit_below-visit_all-requires-in-Structs t c =
       search (rules, the_lemmas),
       rw c.deref-in-Structs.ensures.value (
         struct_slots c.args.body.now c.args.part.now c.args.from c.args.to c.requires.slots c.requires.some c.in-Structs.is,
-        (omega (arith, w, c.requires.room), marked_below c.args.part.now c.requires.marks),
+        (omega (arith, w, c.requires.room), marked_below c.args.body.now c.args.part.now c.requires.marks),
       ),
     )
 
@@ -228,11 +228,9 @@ visit_part-returns-then-is_empty-clause-cost t c =
     let w = below_weight (column_of c.args.body.now c.args.part.now) (children_of c.args.body.now c.args.part.now) c.args.from c.args.to in
     omega (arith, w, c.visit_below.ensures.cost)
 
-pub visit_part-returns-then-not-part-clause-judged : goal.visit_part-returns-then-not-part-clause-judged
-visit_part-returns-then-not-part-clause-judged t c = λ why.
-    quiet_part why c.args.body.now c.args.part.now c.args.from c.args.to
-    (not_judged (out-ColumnRanges c.args.part.now).layout (sym c.is_texts.ensures ∙ c.if-is_texts.false) c.in_default.not-Indices)
-    (sym (says_judged c.args.body.now c.args.part.now c.requires.marks) ∙ c.if-not-part.true)
+pub visit_part-returns-then-part-clause-judged : goal.visit_part-returns-then-part-clause-judged
+visit_part-returns-then-part-clause-judged t c =
+    known_good c.args.body.now c.args.part.now c.requires.marks c.if-part.true c.args.from c.args.to c.requires.slots
 
 pub visit_part-visit_slots-requires : goal.visit_part-visit_slots-requires
 visit_part-visit_slots-requires t c = (
@@ -244,7 +242,9 @@ visit_part-visit_slots-requires t c = (
           ∙ not_judged (out-ColumnRanges c.args.part.now).layout (sym c.is_texts.ensures ∙ c.if-is_texts.false) c.in_default.not-Indices,
       (
         visited_below c.args.body.now c.args.part.now (rw c.bytes_at.ensures at (sym c.is_empty.ensures ∙ c.if-is_empty.false))
-            (sym (says_judged c.args.body.now c.args.part.now c.requires.marks) ∙ c.if-not-part.false),
+            (unknown_below c.args.body.now c.args.part.now c.requires.marks
+            (not_judged (out-ColumnRanges c.args.part.now).layout (sym c.is_texts.ensures ∙ c.if-is_texts.false) c.in_default.not-Indices)
+            c.if-part.false),
         (c.requires.room, c.requires.marks),
       ),
     ),
@@ -258,7 +258,8 @@ visit_all-visit_part-requires t c =
     let w = weight_first (column_of c.args.body.now c.part-item.result) (children_of c.args.body.now c.part-item.result)
     (columns c.args.body.now (drop (c.loop-part.part-index + 1) c.args.parts.now)) c.args.from c.args.to in
     let k = rw (e, w) at c.loop-part.invariant.cost in
-    let m = marked_at c.args.parts.now c.loop-part.part-index c.part-item.result (omega arith) c.part-item.is c.requires.marks in
+    let m = marked_at c.args.body.now c.args.parts.now c.loop-part.part-index c.part-item.result (omega arith) c.part-item.is
+    c.requires.marks in
     (search (rules, the_lemmas), (s.0, (omega (arith, k, c.requires.room), m)))
 
 pub visit_all-returns-in_err-visit_part-clause-judged : goal.visit_all-returns-in_err-visit_part-clause-judged

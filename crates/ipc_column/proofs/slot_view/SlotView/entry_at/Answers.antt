@@ -1,15 +1,18 @@
-use Rattle.std.proofs.Common.{◌≡◌, ◌∙◌, sym, ap, subst, get_or, ℕ, ◌<◌, Bool, true, List, Option, Some, None, length, cond, IfSome, IfNone}
+use Rattle.std.proofs.Common.{◌≡◌, ◌∙◌, sym, ap, subst, get_or, ℕ, ◌<◌, Bool, false, List, Option, Some, None, length, cond, IfSome, IfNone}
 use Rattle.std.specs.Prelude.{ℤ, slice_get}
 use Rattle.std.proofs.lemmas.Option.{slice_get-get_or}
 use Rattle.ipc_model.specs.declared.layout.Layout.{Layout}
+use Rattle.ipc_model.specs.declared.layout.Layout.TheVariants.{Indices}
 use Rattle.ipc_model.specs.declared.schema.IntBits.{IntBits}
 use Rattle.ipc_model.specs.declared.value.Value.{Value}
 use Rattle.ipc_model.specs.declared.value.Value.TheVariants as v
 use Rattle.ipc_column.specs.Lent.{found}
 use Rattle.ipc_column.specs.Nested.{Nested, slot_values}
-use Rattle.ipc_column.specs.Values.{number_in, own_value, place_below, row, value_at}
+use Rattle.ipc_column.specs.Values.{is_valid, number_in, own_value, place_below, row, value_at}
 use Rattle.ipc_column.specs.Views.{columns}
 use Rattle.ipc_column.proofs.Alone.{index_value, index_within, no_value}
+use Rattle.ipc_column.proofs.Lendings.{entry_held, null_holds, other_holds}
+use Rattle.ipc_column.specs.Lending.{HoldsEntry}
 use Rattle.ipc_column.proofs.Leads.{slot_inside, slot_shows}
 use Rattle.ipc_column.proofs.Slots.{bitmap_front}
 use Rattle.ipc_column.proofs.Widths.{slot_inside as width_inside}
@@ -88,3 +91,34 @@ returns-in-Indices-clause-shown c =
 pub returns-in-Indices-clause-null : goal.returns-in-Indices-clause-null
 returns-in-Indices-clause-null c = λ bits signed id e.
     (entry c.self.inside.dictionary.now _ c.index_in.result _ (known c) (shows c)).1
+
+-- ---- the index itself
+
+pub returns-then-not-valid-clause-none : goal.returns-then-not-valid-clause-none
+returns-then-not-valid-clause-none c = null_holds c.args.self.now c.args.slot
+    (subst (λ (n : Nested). is_valid n.column.validity c.args.slot ≡ false) c.self.view_is
+    (sym c.is_valid-valid.ensures ∙ c.if-not-valid.true))
+
+held : (c : goal.After-index_in) → IfSome c.index_in.result (λ i. HoldsEntry c.args.self.now c.args.slot i)
+    × IfNone c.index_in.result ((i : ℕ) → ¬ HoldsEntry c.args.self.now c.args.slot i)
+held c =
+    let s = c.self.inside in
+    subst (λ (n : Nested). IfSome c.index_in.result (λ i. HoldsEntry n c.args.slot i)
+    × IfNone c.index_in.result ((i : ℕ) → ¬ HoldsEntry n c.args.slot i)) c.self.view_is
+    (entry_held (record {
+      column = found s.layout s.slots s.validity.now s.offsets.now s.values.now s.dictionary.now;
+      body = s.body.now;
+      children = s.children.now;
+    }) c.args.slot c.in-Indices.bits c.in-Indices.signed c.in-Indices.id c.index_in.result c.in-Indices.is
+    (sym c.is_valid-valid.ensures ∙ c.if-not-valid.false) (known c))
+
+pub returns-in-Indices-clause-entry : goal.returns-in-Indices-clause-entry
+returns-in-Indices-clause-entry c = (held c).0
+
+pub returns-in-Indices-clause-none : goal.returns-in-Indices-clause-none
+returns-in-Indices-clause-none c = (held c).1
+
+pub returns-in_default-clause-none : goal.returns-in_default-clause-none
+returns-in_default-clause-none c = other_holds c.args.self.now c.args.slot
+    (subst (λ (n : Nested). (bits : IntBits) (signed : Bool) (id : ℤ) → ¬ (n.column.layout ≡ Indices bits signed id))
+    c.self.view_is c.in_default.not-Indices)
