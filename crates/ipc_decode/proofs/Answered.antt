@@ -1,7 +1,7 @@
 -- There is one answer to the bytes of a source.
-use Rattle.std.proofs.Common.{◌≡◌, ◌∙◌, refl, sym, ap, subst, ℕ, inl, inr, List, [], ◌∷◌, ◌++◌, map, Option, Some, None, Result, Ok, Err}
+use Rattle.std.proofs.Common.{◌≡◌, ◌∙◌, refl, sym, ap, subst, ℕ, inl, inr, List, [], ◌++◌, Option, Some, None, Result, Ok, Err}
 use Rattle.std.proofs.Common.{append_assoc, arith}
-use Rattle.std.specs.Prelude.{IfOk, MatchResult, true}
+use Rattle.std.specs.Prelude.{IfOk, MatchResult}
 use Rattle.std.specs.Io.KnownBytes.{Consumes, IsAtEnd}
 use Rattle.std.proofs.lemmas.List.{append-nil}
 use Rattle.ipc_model.specs.declared.fault.Fault.{Fault}
@@ -11,8 +11,7 @@ use Rattle.ipc_frame.specs.Frames.{eos}
 use Rattle.ipc_decode.specs.declared.end.End.{End}
 use Rattle.ipc_decode.specs.declared.end.End.TheVariants.{Mark, Closed}
 use Rattle.ipc_decode.specs.Failures.{FailsAs}
-use Rattle.ipc_model.specs.declared.table.BatchRows.{BatchRows}
-use Rattle.ipc_decode.specs.Stream.{State, Event, batch, Run, events_of, Denotes}
+use Rattle.ipc_decode.specs.Stream.{State, Event, Run, events_of, Denotes}
 use Rattle.ipc_decode.specs.Reasons.{IsOutside, Reads}
 use Rattle.ipc_decode.specs.Taken.{TakesTable}
 use Rattle.ipc_decode.proofs.OneReading.{IsStop, one_run, events_same}

@@ -1,7 +1,7 @@
 -- What a call of a reader answers where a message, or an end, is at the front of what its source gives.
 use Rattle.std.proofs.Common.{◌≡◌, ◌∙◌, refl, sym, ap, subst, ℕ, ◌⊎◌, inl, inr, List, [], ◌∷◌, ◌++◌, Option, Some, None, Result, Ok, Err}
-use Rattle.std.proofs.Common.{append_assoc, arith, length, length-append}
-use Rattle.std.specs.Prelude.{IfErr, IfOk, MatchResult, true}
+use Rattle.std.proofs.Common.{append_assoc}
+use Rattle.std.specs.Prelude.{IfErr, IfOk, MatchResult}
 use Rattle.std.specs.Io.KnownBytes.{Consumes}
 use Rattle.ipc_model.specs.declared.fault.Fault.{Fault}
 use Rattle.ipc_model.specs.declared.schema.Schema.{Schema}
@@ -14,12 +14,12 @@ use Rattle.ipc_decode.specs.declared.end.End.{End}
 use Rattle.ipc_decode.specs.declared.end.End.TheVariants.{Mark, Closed}
 use Rattle.ipc_decode.specs.declared.phase.Phase.{Phase}
 use Rattle.ipc_decode.specs.declared.phase.Phase.TheVariants as phase
-use Rattle.ipc_decode.specs.Decoding.{TellsLast}
 use Rattle.ipc_decode.specs.Reader.{BeginsEnd, EndsBehind, GivesBatch, NextAnswer, NextCall, Opens, OpenFails, Reader, in_force_of}
 use Rattle.ipc_decode.specs.Reasons.{Ends, IsOutside, Reads}
-use Rattle.ipc_decode.specs.Stream.{Event, Run, State, Step, batch, came, done, first, more, schema, sets, OpensStream, TellsBatch}
-use Rattle.ipc_decode.proofs.OneReading.{IsStop, frame_stop, step_one}
-use Rattle.ipc_decode.proofs.Reasons.{both_none, stop_breaks, told_breaks}
+use Rattle.ipc_decode.specs.Stream.{Event, InForce, Run, State, Step, batch, came, done, first, more, schema, sets}
+use Rattle.ipc_decode.specs.Stream.{OpensStream, SetsOnly, TellsBatch}
+use Rattle.ipc_decode.proofs.OneReading.{IsStop, frame_stop, one_run, step_one}
+use Rattle.ipc_decode.proofs.Reasons.{both_none, run_breaks, told_breaks}
 use Rattle.ipc_decode.proofs.Runs.{told_run}
 use Rattle.ipc_model.specs.declared.limits.Limits.{Limits}
 
@@ -76,22 +76,10 @@ run_not_end {limits} u a d ds
     run_not_end u a d ds rest (subst (λ q. Run limits q y' fs' υ') (sym one.1) rest')
     (sym (ap (λ l. l ++ fs) (one.0 ∙ parts.0)) ∙ p) parts.1 stop same.same_rest
 
--- where a run may stop at once it is no message
-pub run_stopped : {limits : Limits} → {σ τ : State} {x : List ℕ} {es : List Event} (b : List ℕ) → Run limits σ x es τ → IsStop (x ++ b)
-    → (x ≡ []) × (σ ≡ τ)
-run_stopped b done stop = (refl, refl)
-run_stopped b (more {x = x} {metadata = m} {body = body} {y = y} {h = g} frame step rest) stop =
-    absurd (frame_stop x m body (y ++ b) ((x ++ y) ++ b) g frame (sym (append_assoc x y b)) stop)
-
 -- where reading ends by itself, a run may stop
 ends_stop : (limits : Limits) (σ : State) (z b : List ℕ) (end : End) → Ends limits σ z (Some b) (Ok end) → IsStop (z ++ b)
 ends_stop limits σ z b Mark h = inr (b, ap (λ y. y ++ b) h.0)
 ends_stop limits σ z b Closed h = inl (ap (λ y. y ++ b) h.0 ∙ h.2)
-
--- a message has bytes
-told_long : {limits : Limits} → (σ τ : State) (x : List ℕ) (e : Event) → TellsLast limits σ x e τ → x ≡ [] → ⊥
-told_long σ τ x e t none =
-    omega (arith, t.told.frame.begun, ap length (sym t.joined ∙ none), length-append t.silent t.message)
 
 -- the bytes that are left where they are known
 known : (y z : List ℕ) (old new : Option (List ℕ)) → old ≡ Some y → Consumes old new z → (b : List ℕ) × (new ≡ Some b) × (y ≡ z ++ b)
@@ -186,41 +174,41 @@ same_end limits σ z b Mark Closed h e =
 same_end limits σ z b Closed Mark h e =
     let none : eos ++ b ≡ [] = sym (ap (λ y. y ++ b) e.0) ∙ h in absurd (cc)
 
-module _ (old new : Reader) (z b : List ℕ) (end : End) (left : new.remaining ≡ Some b) (begins : BeginsEnd end (z ++ b)) where
-  -- no message comes before the end
-  at_once : (answer : Result End Fault) (h : EndsBehind old new z answer) → h.rest ≡ z
-  at_once answer h =
-      let all : z ++ b ≡ h.whole ++ (h.rest ++ b) = ap (λ y. y ++ b) h.joined ∙ append_assoc h.whole h.rest b in
-      let none = run_stopped (h.rest ++ b) h.run (subst IsStop all (stop_at end (z ++ b) begins)) in
-      sym (h.joined ∙ ap (λ y. y ++ h.rest) none.0)
+module _ (old new : Reader) (x u z b : List ℕ) (o : InForce) (end : End)
+    (only : Run old.limits (Some (in_force_of old)) x [] (Some o)) (left : new.remaining ≡ Some b) (begins : BeginsEnd end u)
+    (joined : x ++ u ≡ z ++ b) where
+  ends_there : (answer : Result End Fault) (h : EndsBehind old new z answer)
+      → Ends old.limits (Some (in_force_of new)) h.rest (Some b) answer
+  ends_there answer h = subst (λ l. Ends old.limits (Some (in_force_of new)) h.rest l answer) left h.ends
 
-  ends_there : (answer : Result End Fault) (h : EndsBehind old new z answer) → Ends old.limits (Some (in_force_of new)) z (Some b) answer
-  ends_there answer h =
-      subst (λ y. Ends old.limits (Some (in_force_of new)) y (Some b) answer) (at_once answer h)
-      (subst (λ l. Ends old.limits (Some (in_force_of new)) h.rest l answer) left h.ends)
+  bytes_there : (answer : Result End Fault) (h : EndsBehind old new z answer) → x ++ u ≡ h.whole ++ (h.rest ++ b)
+  bytes_there answer h = joined ∙ (ap (λ y. y ++ b) h.joined ∙ append_assoc h.whole h.rest b)
 
   gives_end : (r : Result (Option Found) Fault) (p : Phase) → NextAnswer old new phase.Reading z r p
-      → MatchResult r (λ found. p ≡ phase.Ended end) IsOutside
+      → MatchResult r (λ found. (found ≡ None) × (p ≡ phase.Ended end)) IsOutside
   gives_end (Ok (Some found)) phase.Reading h =
       let run = told_run (Some (in_force_of old)) (Some (in_force_of new)) z (batch (rows_of found)) h.last in
-      absurd (told_long (Some (in_force_of old)) (Some (in_force_of new)) z (batch (rows_of found)) h.last
-      (run_stopped b run (stop_at end (z ++ b) begins)).0)
+      absurd (run_not_end b u (batch (rows_of found)) [] run only refl refl (stop_at end u begins) (sym joined))
   gives_end (Ok (Some found)) (phase.Ended other) h = absurd h
   gives_end (Ok (Some found)) phase.Refused h = absurd h
   gives_end (Ok None) phase.Reading h = absurd h
   gives_end (Ok None) (phase.Ended other) h =
-      same_end old.limits (Some (in_force_of new)) z b end other begins (ends_there (Ok other) h)
+      let ends = ends_there (Ok other) h in
+      let one = one_run u (h.rest ++ b) only h.run (stop_at end u begins)
+      (ends_stop old.limits (Some (in_force_of new)) h.rest b other ends) (bytes_there (Ok other) h) in
+      (refl, same_end old.limits (Some (in_force_of new)) h.rest b end other (subst (BeginsEnd end) one.rest begins) ends)
   gives_end (Ok None) phase.Refused h = absurd h
   gives_end (Err fault) phase.Reading h = absurd h
   gives_end (Err fault) (phase.Ended other) h = absurd h
   gives_end (Err fault) phase.Refused h =
-      stop_breaks {limits = old.limits} (Some (in_force_of new)) z b fault (λ e. absurd (cc)) (stop_at end (z ++ b) begins)
-      (ends_there (Err fault) h)
+      run_breaks u h.rest b fault only h.run (λ none. absurd (cc)) (stop_at end u begins) (ends_there (Err fault) h)
+      (bytes_there (Err fault) h)
 
--- where the end is next, the reader comes to that end, unless memory runs out or the source fails
-pub next_end : (old new : Reader) (r : Result (Option Found) Fault) (z : List ℕ) (end : End) → NextCall old new r
-    → old.phase ≡ phase.Reading → old.remaining ≡ Some z → BeginsEnd end z → MatchResult r (λ found. new.phase ≡ phase.Ended end) IsOutside
-next_end old new r z end h reading is begins =
-    let k = known z h.x old.remaining new.remaining is h.bytes in
-    gives_end old new h.x k.0 end k.1 (subst (BeginsEnd end) k.2 begins) r new.phase
+-- where the end is next, behind dictionaries alone, the reader comes to that end, unless memory runs out or the source fails
+pub next_end : (old new : Reader) (r : Result (Option Found) Fault) (x z : List ℕ) (o : InForce) (end : End) → NextCall old new r
+    → old.phase ≡ phase.Reading → old.remaining ≡ Some (x ++ z) → SetsOnly old.limits (in_force_of old) x o → BeginsEnd end z
+    → MatchResult r (λ found. (found ≡ None) × (new.phase ≡ phase.Ended end)) IsOutside
+next_end old new r x z o end h reading is only begins =
+    let k = known (x ++ z) h.x old.remaining new.remaining is h.bytes in
+    gives_end old new x z h.x k.0 o end only k.1 begins k.2 r new.phase
     (subst (λ p. NextAnswer old new p h.x r new.phase) reading h.gives)

@@ -19,7 +19,7 @@ use Rattle.ipc_decode.specs.declared.event.Event.TheVariants as told
 use Rattle.ipc_decode.specs.Courses.{Brings, IsWellFormedFrame, RefusesFrame, RefusesValues}
 use Rattle.ipc_decode.specs.Found.{rows_of}
 use Rattle.ipc_decode.specs.Reasons.{Refuses, early, no_schema, second_schema, dictionary, no_values, no_rows}
-use Rattle.ipc_decode.specs.Stream.{InForce, State, Event, schema, batch, Step, first, came, sets, IsMessage}
+use Rattle.ipc_decode.specs.Stream.{InForce, State, Event, schema, batch, Step, IsMessage}
 use Rattle.ipc_decode.specs.Verdicts.{Decision, at_mark, at_size, at_metadata, at_body, FallsAt, Reason}
 
 -- ---- one frame

@@ -1,17 +1,18 @@
 -- What the calls of a decoder say.
 use Rattle.std.proofs.Common.{◌≡◌, ◌≢◌, ◌∙◌, refl, sym, ap, subst, ℕ, ◌-◌, ◌^◌, ◌≤◌, List, [], ◌∷◌, ◌++◌, Option, Some, None}
-use Rattle.std.proofs.Common.{Result, Ok, Err, length, take, arith}
-use Rattle.std.specs.Prelude.{Bool, true, false}
+use Rattle.std.proofs.Common.{Result, Ok, Err, length, take, drop, arith}
+use Rattle.std.specs.Prelude.{Bool, true, false, IfErr}
 use Rattle.std.specs.Io.KnownBytes.{Consumes, IsAtEnd}
 use Rattle.std.proofs.lemmas.List.{append-nil}
 use Rattle.ipc_frame.proofs.Exact.{pending_none}
+use Rattle.ipc_frame.proofs.Sized.{frame_sized, sized_longer}
 use Rattle.ipc_frame.proofs.Undecided.{pending_frame}
 use Rattle.std.proofs.Math.Seq.{take-length}
 use Rattle.ipc_model.specs.Answers.{UnlessOutOfMemory}
 use Rattle.ipc_model.specs.declared.fault.Fault.{Fault}
 use Rattle.ipc_model.specs.declared.fault.Fault.TheVariants.{OutOfMemory}
 use Rattle.ipc_model.specs.declared.limits.Limits.{Limits}
-use Rattle.ipc_frame.specs.Frames.{Pending}
+use Rattle.ipc_frame.specs.Frames.{IsSized, Pending}
 use Rattle.ipc_frame.specs.Sees.{IsFrame}
 use Rattle.ipc_frame.specs.Pieces.{Framing, behind}
 use Rattle.ipc_frame.specs.Pieces as frames
@@ -24,7 +25,7 @@ use Rattle.ipc_decode.specs.declared.end.End.TheVariants.{Mark}
 use Rattle.ipc_decode.specs.declared.event.Event.{Event as Told}
 use Rattle.ipc_decode.specs.declared.event.Event.TheVariants as told
 use Rattle.ipc_decode.specs.Counts.{count_up}
-use Rattle.ipc_decode.specs.Courses.{Brings, IsWellFormedFrame, IsRefused, IsSound, Moves, decoding_of, stage_of}
+use Rattle.ipc_decode.specs.Courses.{Brings, IsMessageFrame, IsWellFormedFrame, IsRefused, IsSound, Moves, decoding_of, stage_of}
 use Rattle.ipc_decode.specs.Decoding.{Decoding, taking, over, refused, Reaches, Waits, Tells, RefusesAt, FeedsOn, FeedsAt, Feeds, Gives}
 use Rattle.ipc_decode.specs.Decoding.{IsFew, EndsAt, Draws, TellsOne}
 use Rattle.ipc_decode.specs.Scopes.{state_of}
@@ -33,6 +34,7 @@ use Rattle.ipc_decode.specs.Found.{rows_of}
 use Rattle.ipc_decode.specs.Stream.{State, Event, Run, done, schema, batch, IsMessage}
 use Rattle.ipc_decode.specs.Verdicts.{Decision, Reason}
 use Rattle.ipc_decode.proofs.Courses.{frame_well_formed, Brought, brought, early_reason, frame_reason, refused_stays}
+use Rattle.ipc_decode.proofs.Feeding.{all_bytes}
 use Rattle.ipc_decode.proofs.Runs.{messages_none, messages_one, run_one}
 
 -- want of memory, and any other fault
@@ -48,6 +50,11 @@ memory_only _ h = absurd (cc)
 other_fault : (e : Fault) → is_memory e ≡ false → e ≢ OutOfMemory
 unfolding is_memory
 other_fault e h p = let q : true ≡ false = subst (λ x. is_memory x ≡ false) p h in cc
+
+-- a message has a size
+message_sized : (limits : Limits) (x : List ℕ) (frame : Framed) → IsFrame limits x frame → IsMessageFrame frame → IsSized limits x
+message_sized limits x (f.Message meta head body) is message = frame_sized x meta.items body.items head is
+message_sized limits x f.End is message = absurd message
 
 -- how a decoder goes on behind what a frame brought
 abbrev pub Went : Decoding → Decoding → Option Told → Type 0
@@ -118,19 +125,19 @@ module _ (old new : Decoding) (fits : old.messages ≤ 2 ^ 64 - 1) where
   pub refuses : (z piece : List ℕ) (e : Fault) → new.state ≡ old.state → new.messages ≡ old.messages → new.stage ≡ refused
       → UnlessOutOfMemory e
       ((n : ℕ) × (n ≤ length piece) × ((d : Decision) × Reason old.limits e d old.state (z ++ take n piece)))
-      → FeedsOn old z piece new (Err e)
-  refuses z piece e same count stage reason = (
+      → (e ≡ OutOfMemory → IsSized old.limits (z ++ piece)) → FeedsOn old z piece new (Err e)
+  refuses z piece e same count stage reason sized = (
     stage,
     elim (is_memory e) as (λ b. is_memory e ≡ b
         → (n : ℕ) × (n ≤ length piece) × RefusesAt old new (z ++ take n piece) e) [
           | true ↦ λ h. (
-            0,
+            length piece,
             omega arith,
             (
-              z ++ take 0 piece,
-              still (z ++ take 0 piece) same count,
-              λ other. absurd (other (memory_only e
-                  h)),
+              z ++ take (length piece) piece,
+              still (z ++ take (length piece) piece) same count,
+              (λ other. absurd (other (memory_only e h))),
+              λ is. subst (λ y. IsSized old.limits (z ++ y)) (sym (take-length piece)) (sized is),
             ),
           )
           | false ↦ λ h. let why = reason (other_fault e h) in (
@@ -139,7 +146,8 @@ module _ (old new : Decoding) (fits : old.messages ≤ 2 ^ 64 - 1) where
             (
               z ++ take why.0 piece,
               still (z ++ take why.0 piece) same count,
-              λ other. (why.2.0, subst (λ σ. Reason old.limits e why.2.0 σ (z ++ take why.0 piece)) (sym same) why.2.1),
+              (λ other. (why.2.0, subst (λ σ. Reason old.limits e why.2.0 σ (z ++ take why.0 piece)) (sym same) why.2.1)),
+              λ is. absurd (other_fault e h is),
             ),
           )
         ] refl,
@@ -179,6 +187,12 @@ module _ (before after : Framing) (c d : Course) (sound : IsSound before c) (rea
   abbrev pub FramesFeed : List ℕ → Result (ℕ × Option Framed) Fault → Type 0
   FramesFeed piece r = frames.Feeds before.limits before.progress piece after.progress r
 
+  -- where memory runs out for the frames, the size of the metadata came
+  fed_memory : (piece : List ℕ) → frames.TakesMemory before.limits before.progress piece → IsSized c.limits (kept ++ piece)
+  fed_memory piece h =
+      subst (λ l. frames.TakesMemory l (frames.taking kept) piece) sound.same_limits
+      (subst (λ p. frames.TakesMemory before.limits p piece) takes h)
+
   -- the whole piece is kept
   pub feeds_none : (n : ℕ) (piece : List ℕ) (found : Option Framed) → found ≡ None → FramesFeed piece (Ok (n, found)) → d ≡ c
       → Feeds old piece new (Ok (n, None))
@@ -193,13 +207,15 @@ module _ (before after : Framing) (c d : Course) (sound : IsSound before c) (rea
       )
 
   -- what the frames refuse is refused
-  pub feeds_refused : (piece : List ℕ) (e f : Fault) → f ≡ e → FramesFeed piece (Err e) → IsRefused c d → Feeds old piece new (Err f)
-  feeds_refused piece e f is h gone =
+  pub feeds_refused : (piece : List ℕ) (e f : Fault) → f ≡ e → FramesFeed piece (Err e)
+      → (e ≡ OutOfMemory → frames.TakesMemory before.limits before.progress piece) → IsRefused c d → Feeds old piece new (Err f)
+  feeds_refused piece e f is h memory gone =
       let g = fed piece (Err e) (Err f) (ap Err (sym is)) h in
       at_stage piece (Err f)
       (refuses (decoding_of before c) new fits kept piece f (ap state_of gone.2) gone.3 (ap (stage_of after.progress) gone.0)
       (λ other. let why = g.1 other in
-      (why.0, why.1, early_reason c.limits (state_of c.scope) (kept ++ take why.0 piece) f why.2)))
+      (why.0, why.1, early_reason c.limits (state_of c.scope) (kept ++ take why.0 piece) f why.2))
+      (λ out. fed_memory piece (memory (sym is ∙ out))))
 
   -- a frame that is taken tells its event
   pub feeds_event : (n : ℕ) (piece : List ℕ) (found : Option Framed) (frame : Framed) (r : Option Told) (e : Told) → r ≡ Some e
@@ -241,8 +257,8 @@ module _ (before after : Framing) (c d : Course) (sound : IsSound before c) (rea
   -- a frame that is refused is so at its last byte
   pub feeds_frame_refused : (n : ℕ) (piece : List ℕ) (found : Option Framed) (frame : Framed) (e : Fault) → found ≡ Some frame
       → FramesFeed piece (Ok (n, found)) → Brings c.limits (state_of c.scope) frame (state_of d.scope) (Err e) → Moves c d (Err e)
-      → Feeds old piece new (Err e)
-  feeds_frame_refused n piece found frame e is h b m =
+      → (e ≡ OutOfMemory → IsMessageFrame frame) → Feeds old piece new (Err e)
+  feeds_frame_refused n piece found frame e is h b m memory =
       let g = fed piece (Ok (n, found)) (Ok (n, Some frame)) (ap (λ f. Ok (n, f)) is) h in
       at_stage piece (Err e)
       (refuses (decoding_of before c) new fits kept piece e (refused_stays c.limits (state_of c.scope) (state_of d.scope) frame e b) m.1
@@ -251,7 +267,9 @@ module _ (before after : Framing) (c d : Course) (sound : IsSound before c) (rea
         n,
         g.0,
         frame_reason c.limits (state_of c.scope) (state_of d.scope) (kept ++ take n piece) frame e g.2 b other,
-      )))
+      ))
+      (λ out. subst (IsSized c.limits) (all_bytes kept piece n)
+      (sized_longer (kept ++ take n piece) (drop n piece) (message_sized c.limits (kept ++ take n piece) frame g.2 (memory out)))))
 
   -- a schema that the frames bring keeps the rules
   pub fed_well_formed : (n : ℕ) (piece : List ℕ) (found : Option Framed) (frame : Framed) → found ≡ Some frame
@@ -295,14 +313,18 @@ module _ (before after : Framing) (c d : Course) (sound : IsSound before c) (rea
         )
 
     -- what the frames refuse is refused
-    pub draws_refused : (e f : Fault) → f ≡ e → r ≡ Err e → IsRefused c d → Draws from to old new count (Err f)
-    draws_refused e f same is gone =
+    pub draws_refused : (e f : Fault) → f ≡ e → r ≡ Err e
+        → IfErr r (λ fault. fault ≡ OutOfMemory → frames.TakesMemory before.limits before.progress []) → IsRefused c d
+        → Draws from to old new count (Err f)
+    draws_refused e f same is memory gone =
         let g = took (Err f) (is ∙ ap Err (sym same)) in
+        let sized = subst (λ q. IfErr q (λ fault. fault ≡ OutOfMemory → frames.TakesMemory before.limits before.progress [])) is memory in
         drawn (Err f) g.came g.counted g.bytes g.few tt (
           ap (stage_of after.progress) gone.0,
           ap state_of gone.2,
           gone.3,
-          λ a b. early_reason c.limits (state_of c.scope) (kept ++ g.came) f (g.gives.1 a b),
+          (λ a b. early_reason c.limits (state_of c.scope) (kept ++ g.came) f (g.gives.1 a b)),
+          λ out. sized_longer kept g.came (subst (IsSized c.limits) (append-nil kept) (fed_memory [] (sized (sym same ∙ out)))),
         )
 
     -- a frame that is taken tells its event, or nothing
@@ -336,15 +358,17 @@ module _ (before after : Framing) (c d : Course) (sound : IsSound before c) (rea
 
     -- a frame that is refused is so at its last byte
     pub draws_frame_refused : (frame : Framed) (e : Fault) → r ≡ Ok (Some frame)
-        → Brings c.limits (state_of c.scope) frame (state_of d.scope) (Err e) → Moves c d (Err e) → Draws from to old new count (Err e)
-    draws_frame_refused frame e is b m =
+        → Brings c.limits (state_of c.scope) frame (state_of d.scope) (Err e) → Moves c d (Err e)
+        → (e ≡ OutOfMemory → IsMessageFrame frame) → Draws from to old new count (Err e)
+    draws_frame_refused frame e is b m memory =
         let g = took (Ok (Some frame)) is in
         let whole = subst (λ y. IsFrame c.limits (kept ++ y) frame) (take-length g.came) g.gives.2 in
         drawn (Err e) g.came g.counted g.bytes g.few tt (
           ap (stage_of after.progress) m.0,
           refused_stays c.limits (state_of c.scope) (state_of d.scope) frame e b,
           m.1,
-          λ x y. frame_reason c.limits (state_of c.scope) (state_of d.scope) (kept ++ g.came) frame e whole b y,
+          (λ x y. frame_reason c.limits (state_of c.scope) (state_of d.scope) (kept ++ g.came) frame e whole b y),
+          λ out. message_sized c.limits (kept ++ g.came) frame whole (memory out),
         )
 
     -- a schema that the frames bring keeps the rules

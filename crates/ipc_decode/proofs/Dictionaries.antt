@@ -16,7 +16,6 @@ use Rattle.std.specs.declared.rc.Rc.{Rc}
 use Rattle.ipc_model.specs.Entries.{Entry, Listing, entries, preorder_step}
 use Rattle.ipc_model.specs.WellFormed.{IsAmong, WellFormed}
 use Rattle.ipc_model.specs.declared.limits.Limits.{Limits}
-use Rattle.ipc_model.specs.declared.schema.Dictionary.{Dictionary}
 use Rattle.ipc_model.specs.declared.schema.DataType.{DataType}
 use Rattle.ipc_model.specs.declared.schema.Field.{Field, fold-roll-Field}
 use Rattle.ipc_model.specs.declared.schema.Schema.{Schema}
@@ -30,10 +29,9 @@ use Rattle.ipc_dictionaries.proofs.Leaves.{columns_alone}
 use Rattle.ipc_dictionaries.proofs.Named.{NamesOther, names_other, none_named, some_entry}
 use Rattle.ipc_dictionaries.proofs.ValuesColumns as law
 use Rattle.ipc_decode.specs.Alone.{are_alone, is_alone}
-use Rattle.ipc_decode.specs.Decoding.{dictionary_bytes}
 use Rattle.ipc_decode.specs.Reasons.{NamesNone}
 use Rattle.ipc_decode.specs.Scopes.{dictionaries_of, set_by}
-use Rattle.ipc_decode.specs.Stream.{DictionaryInForce, InForce, values_in}
+use Rattle.ipc_decode.specs.Stream.{DictionaryInForce}
 
 -- ---- which dictionaries the fields name
 

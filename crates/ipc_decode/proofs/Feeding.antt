@@ -1,20 +1,20 @@
 -- Calls of a decoder, one behind another.
-use Rattle.std.proofs.Common.{◌≡◌, ◌∙◌, refl, sym, ap, subst, ℕ, ◌+◌, ◌-◌, ◌^◌, ◌<◌, ◌≤◌, ◌⊎◌, inl, inr, List, [], ◌∷◌, ◌++◌, Option, Some}
+use Rattle.std.proofs.Common.{◌≡◌, ◌∙◌, refl, sym, ap, subst, ℕ, ◌+◌, ◌≤◌, ◌⊎◌, inl, inr, List, [], ◌++◌, Option, Some}
 use Rattle.std.proofs.Common.{None}
-use Rattle.std.proofs.Common.{Result, Ok, Err, length, length-append, length-drop, length-take, append_assoc, take, drop, arith}
+use Rattle.std.proofs.Common.{Result, Ok, Err, length, length-drop, append_assoc, take, drop, arith}
 use Rattle.std.proofs.Math.Seq.{take-add}
 use Rattle.std.proofs.lemmas.List.{take-append-drop}
 use Rattle.ipc_model.specs.Answers.{UnlessOutOfMemory}
 use Rattle.ipc_model.specs.declared.fault.Fault.{Fault}
 use Rattle.ipc_model.specs.declared.limits.Limits.{Limits}
-use Rattle.ipc_frame.specs.Frames.{eos, Pending}
+use Rattle.ipc_frame.specs.Frames.{eos, IsSized, Pending}
 use Rattle.ipc_decode.specs.declared.event.Event.{Event as Told}
 use Rattle.ipc_decode.specs.declared.event.Event.TheVariants as told
 use Rattle.ipc_decode.specs.declared.fed.Fed.{Fed}
 use Rattle.ipc_decode.specs.declared.fed.Fed.TheVariants as fed
 use Rattle.ipc_decode.specs.Counts.{messages_in}
-use Rattle.ipc_decode.specs.Decoding.{Decoding, FeedsAt, FeedsOn, Feeds, Reaches, RefusesAt, Tells, TellsLast, TellsOne, Waits, kept_bytes}
-use Rattle.ipc_decode.specs.Decoding.{Stage, taking, over, refused}
+use Rattle.ipc_decode.specs.Decoding.{Decoding, FeedsAt, FeedsOn, Feeds, Reaches, RefusesAt, Tells, TellsLast, TellsOne, Waits}
+use Rattle.ipc_decode.specs.Decoding.{taking}
 use Rattle.ipc_decode.specs.FedMessages.{FeedsMessage, FeedsSilent}
 use Rattle.ipc_decode.specs.Found.{rows_of}
 use Rattle.ipc_decode.specs.Stream.{State, Event, schema, batch}
@@ -65,6 +65,7 @@ module _ (a b c : Decoding) (x z w : List ℕ) (same : b.limits ≡ a.limits) (p
     h.0,
     reaches_then h.0 [] h.1,
     subst (λ l. UnlessOutOfMemory e ((d : Decision) × Reason l e d c.state h.0)) same h.2,
+    λ out. subst (λ l. IsSized l h.0) same (h.3 out),
   )
 
 -- what is fed of the rest of a piece is what an equal answer says
@@ -87,7 +88,7 @@ feeding_none d piece = record { within = omega arith; same_limits = refl; so_far
 cut_bytes : (z piece : List ℕ) (k n : ℕ) → (z ++ take k piece) ++ take n (drop k piece) ≡ z ++ take (k + n) piece
 cut_bytes z piece k n = append_assoc z (take k piece) (take n (drop k piece)) ∙ ap (λ y. z ++ y) (sym (take-add k n piece))
 
-all_bytes : (z piece : List ℕ) (k : ℕ) → (z ++ take k piece) ++ drop k piece ≡ z ++ piece
+pub all_bytes : (z piece : List ℕ) (k : ℕ) → (z ++ take k piece) ++ drop k piece ≡ z ++ piece
 all_bytes z piece k = append_assoc z (take k piece) (drop k piece) ∙ ap (λ y. z ++ y) (take-append-drop k piece)
 
 -- what is answered of the rest of a piece, as an answer of the whole

@@ -1,5 +1,5 @@
 -- What is read next of a stream, by what was pulled.
-use Rattle.std.proofs.Common.{◌≡◌, ◌≢◌, ◌∙◌, refl, sym, ap, subst, ℕ, List, [], ◌∷◌, Option, Some, None, Result, Ok, Err, length, arith}
+use Rattle.std.proofs.Common.{◌≡◌, ◌≢◌, ◌∙◌, refl, ap, subst, ℕ, List, [], ◌∷◌, Option, Some, None, Result, Ok, Err, length, arith}
 use Rattle.ipc_model.specs.declared.fault.Fault.{Fault}
 use Rattle.ipc_model.specs.declared.limits.Limits.{Limits}
 use Rattle.ipc_model.specs.declared.schema.Schema.{Schema}
@@ -15,7 +15,7 @@ use Rattle.ipc_decode.specs.declared.pulling.Next.TheVariants as next
 use Rattle.ipc_decode.specs.Decoding.{Decoding, Stage, taking, refused, HasColumns, Reaches, schema_of}
 use Rattle.ipc_decode.specs.Found.{rows_of}
 use Rattle.ipc_decode.specs.Reader.{schema_in}
-use Rattle.ipc_decode.specs.Reasons.{Reads}
+use Rattle.ipc_decode.specs.Reasons.{NeedsMemory, Reads}
 use Rattle.ipc_decode.specs.Stream.{State, Event, schema, batch, Step, first, came, sets, Run, done, more, begun}
 use Rattle.ipc_decode.specs.Taken.{HasAllColumns, Pulls, ReadsNext, StopsAt, TakesSchema}
 use Rattle.ipc_decode.proofs.Reasons.{run_open, step_open}
@@ -71,7 +71,7 @@ step_no_schema s (came r) some is = absurd (cc)
 step_no_schema s (sets found r) some is = absurd (cc)
 
 -- what stops behind messages that tell nothing is read
-pub stops_reads : (old new : Decoding) (x : List ℕ) (left : Option (List ℕ)) (stage : Stage) (r : Result End Fault)
+abbrev pub stops_reads : (old new : Decoding) (x : List ℕ) (left : Option (List ℕ)) (stage : Stage) (r : Result End Fault)
     → StopsAt old new x left stage r → Reads old.limits old.state x left [] r
 stops_reads old new x left stage r h = record {
   state = new.state;
@@ -83,12 +83,12 @@ stops_reads old new x left stage r h = record {
 }
 
 decoding_is : (d : Decoding) (l : Limits) (s : State) (g : Stage) (m : ℕ) → d.limits ≡ l → d.state ≡ s → d.stage ≡ g → d.messages ≡ m
-    → d ≡ record { limits = l; state = s; stage = g; messages = m }
+    → d ≡ record { limits = l; state = s; stage = g; messages = m; room = d.room }
 decoding_is d l s g m a b c e =
-    ap (λ x. record { limits = x; state = d.state; stage = d.stage; messages = d.messages }) a
-    ∙ (ap (λ x. record { limits = l; state = x; stage = d.stage; messages = d.messages }) b
-    ∙ (ap (λ x. record { limits = l; state = s; stage = x; messages = d.messages }) c
-    ∙ ap (λ x. record { limits = l; state = s; stage = g; messages = x }) e))
+    ap (λ x. record { limits = x; state = d.state; stage = d.stage; messages = d.messages; room = d.room }) a
+    ∙ (ap (λ x. record { limits = l; state = x; stage = d.stage; messages = d.messages; room = d.room }) b
+    ∙ (ap (λ x. record { limits = l; state = s; stage = x; messages = d.messages; room = d.room }) c
+    ∙ ap (λ x. record { limits = l; state = s; stage = g; messages = x; room = d.room }) e))
 
 -- ---- behind the schema
 
@@ -106,7 +106,7 @@ module _ (old new : Option (List ℕ)) (n0 n1 : ℕ) (before after : Decoding) (
     x = p.x;
     takes = p.takes;
     same_limits = same_limits;
-    gives = record { rest = eos; reaches = p.gives.0; ends = (refl, p.gives.1); at = p.gives.2 };
+    gives = record { rest = eos; reaches = p.gives.0; ends = (refl, p.gives.1); memory = tt; at = p.gives.2 };
   }
 
   -- so does the end of the source
@@ -175,7 +175,8 @@ module _ (old new : Option (List ℕ)) (n0 n1 : ℕ) (before after : Decoding) (
   schema_broken e p = record {
     x = p.x;
     takes = p.takes;
-    gives = subst (λ σ. Reads before.limits σ p.x new [] (Err e)) none (stops_reads before after p.x new refused (Err e) p.gives);
+    gives = subst (λ σ. (r : Reads before.limits σ p.x new [] (Err e)) × NeedsMemory before.limits r.rest (Err e)) none
+        (stops_reads before after p.x new refused (Err e) p.gives, p.gives.memory);
   }
 
   nothing_open : {x rest : List ℕ} → Reaches before after x [] rest → after.state ≢ None → ⊥

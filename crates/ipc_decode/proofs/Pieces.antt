@@ -1,6 +1,6 @@
 -- What is told of pieces is the verdict about their bytes.
-use Rattle.std.proofs.Common.{◌≡◌, ◌∙◌, refl, sym, ap, subst, ℕ, List, [], ◌∷◌, ◌++◌, Some, None, Ok, Result, Option, append_assoc, take}
-use Rattle.std.proofs.Common.{drop}
+use Rattle.std.proofs.Common.{◌≡◌, ◌∙◌, refl, sym, ap, subst, ℕ, List, [], ◌∷◌, ◌++◌, Some, None, Ok, Err, Result, Option, append_assoc}
+use Rattle.std.proofs.Common.{drop, take}
 use Rattle.std.specs.List.{concat}
 use Rattle.std.proofs.lemmas.List.{append-nil, append_cancel_left, take-append-drop}
 use Rattle.ipc_model.specs.declared.fault.Fault.{Fault}
@@ -14,11 +14,11 @@ use Rattle.ipc_frame.proofs.OneFrame.{frame_one, no_frame_at_end}
 use Rattle.ipc_decode.specs.declared.event.Event.{Event as Told}
 use Rattle.ipc_decode.specs.declared.event.Event.TheVariants as told
 use Rattle.ipc_decode.specs.Decoding.{Decoding, FeedsAt, FeedsOn, taking}
-use Rattle.ipc_decode.specs.Fed.{AnyPieces, AreTold, Call, EndsWithMark, GoesOn, HasVerdict, Leaves, TablePieces, none, kept, goes_on}
-use Rattle.ipc_decode.specs.Fed.{ended}
+use Rattle.ipc_decode.specs.Fed.{AnyPieces, AreTold, Call, EndsWithMark, GoesOn, HasRefusal, HasVerdict, Leaves, RefusesByVerdict}
+use Rattle.ipc_decode.specs.Fed.{TablePieces, TellsVerdict, after_event, after_none, ended, fails, goes_on, kept, none}
 use Rattle.ipc_decode.specs.Found.{rows_of}
 use Rattle.ipc_decode.specs.Stream.{Denotes, Event, Run, State, Step, batch, done, events_of, more as then, schema}
-use Rattle.ipc_decode.specs.Verdicts.{Decides, Out, Reached, Verdict}
+use Rattle.ipc_decode.specs.Verdicts.{Decides, Out, Reached, Reason, Verdict}
 use Rattle.ipc_decode.specs.Verdicts as out
 use Rattle.ipc_decode.proofs.OneReading.{at_eos, one_run, step_one}
 use Rattle.ipc_decode.proofs.Runs.{run_then, told_reached}
@@ -77,8 +77,8 @@ leaves_on out.end told.End told left on h = absurd on
 leaves_on (out.refused c) e told left on h = h
 
 -- after each call the rest goes on
-pub any_pieces : AnyPieces
-any_pieces d g z left k pieces events stage pending none = record {
+told_pieces : TellsVerdict
+told_pieces d g z left k pieces events stage pending none = record {
   x = z;
   joined = refl;
   events = [];
@@ -92,10 +92,10 @@ any_pieces d g z left k pieces events stage pending none = record {
     decides = pending;
   };
 }
-any_pieces d g z left k pieces events stage pending (kept {e = e} {piece = piece} {pieces = more} n call rest) =
+told_pieces d g z left k pieces events stage pending (kept {e = e} {piece = piece} {pieces = more} n call rest) =
     let f = feeds_on d e z piece (Ok (n, None)) stage call in
     let w = f.1 in
-    let v = any_pieces e g w.0 left w.3.0 more events w.2 (subst (λ l. Pending l w.0 w.3.0) (sym call.1) w.3.1) rest in
+    let v = told_pieces e g w.0 left w.3.0 more events w.2 (subst (λ l. Pending l w.0 w.3.0) (sym call.1) w.3.1) rest in
     record {
       x = w.1.reached.whole ++ v.x;
       joined = sym (append_assoc z piece (concat more)) ∙ all_joined d e (z ++ piece) [] left w.0 [] w.1.reached call.1 more events v;
@@ -105,10 +105,10 @@ any_pieces d g z left k pieces events stage pending (kept {e = e} {piece = piece
       leaves = v.leaves;
       verdict = all_verdict d e (z ++ piece) [] left w.0 [] w.1.reached call.1 more events v;
     }
-any_pieces d g z left k pieces events stage pending
+told_pieces d g z left k pieces events stage pending
     (goes_on {e = e} {piece = piece} {pieces = more} {events = later} n {event = told.Schema} on call rest) =
     let f = (feeds_on d e z piece (Ok (n, Some told.Schema)) stage call).1 in
-    let v = any_pieces e g [] left 4 (drop n piece ∷ more) later f.1.stage (subst (λ l. Pending l [] 4) (sym call.1) pending_none) rest in
+    let v = told_pieces e g [] left 4 (drop n piece ∷ more) later f.1.stage (subst (λ l. Pending l [] 4) (sym call.1) pending_none) rest in
     let h = told_reached d.state e.state (z ++ take n piece) (schema f.0) f.1.last in
     record {
       x = h.whole ++ v.x;
@@ -120,11 +120,11 @@ any_pieces d g z left k pieces events stage pending
       leaves = leaves_on v.out told.Schema later left on v.leaves;
       verdict = all_verdict d e (z ++ take n piece) [] left [] (schema f.0 ∷ []) h call.1 (drop n piece ∷ more) later v;
     }
-any_pieces d g z left k pieces events stage pending
+told_pieces d g z left k pieces events stage pending
     (goes_on {e = e} {piece = piece} {pieces = more} {events = later} n {event = told.Batch found pairs} on call rest) =
     let f = (feeds_on d e z piece (Ok (n, Some (told.Batch found pairs))) stage call).1 in
     let b = batch (rows_of (found, pairs)) in
-    let v = any_pieces e g [] left 4 (drop n piece ∷ more) later f.stage (subst (λ l. Pending l [] 4) (sym call.1) pending_none) rest in
+    let v = told_pieces e g [] left 4 (drop n piece ∷ more) later f.stage (subst (λ l. Pending l [] 4) (sym call.1) pending_none) rest in
     let h = told_reached d.state e.state (z ++ take n piece) b f.last in
     record {
       x = h.whole ++ v.x;
@@ -136,8 +136,8 @@ any_pieces d g z left k pieces events stage pending
       leaves = leaves_on v.out (told.Batch found pairs) later left on v.leaves;
       verdict = all_verdict d e (z ++ take n piece) [] left [] (b ∷ []) h call.1 (drop n piece ∷ more) later v;
     }
-any_pieces d g z left k pieces events stage pending (goes_on n {event = told.End} on call rest) = absurd on
-any_pieces d g z left k pieces events stage pending (ended {e = e} {piece = piece} {pieces = more} n call) =
+told_pieces d g z left k pieces events stage pending (goes_on n {event = told.End} on call rest) = absurd on
+told_pieces d g z left k pieces events stage pending (ended {e = e} {piece = piece} {pieces = more} n call) =
     let f = (feeds_on d e z piece (Ok (n, Some told.End)) stage call).1 in
     record {
       x = z ++ take n piece;
@@ -148,6 +148,76 @@ any_pieces d g z left k pieces events stage pending (ended {e = e} {piece = piec
       leaves = refl;
       verdict = record { state = e.state; rest = eos; reached = f.0.reached; decides = (refl, f.1) };
     }
+
+-- messages that are whole, and what is refused behind them
+module _ (d e : Decoding) (front rest : List ℕ) (es : List Event) (h : Reached d.limits d.state front es e.state rest)
+    (same : e.limits ≡ d.limits) (pieces : List (List ℕ)) (told : List Told) (fault : Fault) (v : HasRefusal e rest pieces told fault)
+    (z : List ℕ) (all : List (List ℕ)) (cut : z ++ concat all ≡ front ++ concat pieces) (tells : List Told)
+    (are : AreTold tells (es ++ v.events)) where
+  refused_behind : HasRefusal d z all tells fault
+  refused_behind =
+      let both = subst (λ l. (u : Verdict l e.state v.x v.events (out.refused v.decision)) × Reason l fault v.decision u.state u.rest) same
+      (v.verdict, v.reason) in
+      record {
+        x = h.whole ++ v.x;
+        behind = v.behind;
+        joined = cut ∙ (ap (λ y. y ++ concat pieces) h.joined
+            ∙ (append_assoc h.whole rest (concat pieces)
+            ∙ (ap (λ y. h.whole ++ y) v.joined ∙ sym (append_assoc h.whole v.x v.behind))));
+        events = es ++ v.events;
+        are_told = are;
+        decision = v.decision;
+        verdict = record {
+          state = both.0.state;
+          rest = both.0.rest;
+          reached = reached_behind d.state e.state both.0.state h.whole v.x both.0.rest es v.events h.run both.0.reached;
+          decides = both.0.decides;
+        };
+        reason = both.1;
+      }
+
+-- the call that is refused is so for its verdict, and those before it go on
+refused_pieces : RefusesByVerdict
+refused_pieces d z k pieces events fault stage pending (fails {piece = piece} {pieces = more} e call) other =
+    let f = (feeds_on d e z piece (Err fault) stage call).1 in
+    let why = f.2.2 other in
+    record {
+      x = z ++ take f.0 piece;
+      behind = drop f.0 piece ++ concat more;
+      joined = cut_at z piece (concat more) f.0;
+      events = [];
+      are_told = tt;
+      decision = why.0;
+      verdict = record { state = e.state; rest = f.2.0; reached = f.2.1.reached; decides = (fault, other, why.1) };
+      reason = why.1;
+    }
+refused_pieces d z k pieces events fault stage pending (after_none {e = e} {piece = piece} {pieces = more} n call rest) other =
+    let w = (feeds_on d e z piece (Ok (n, None)) stage call).1 in
+    let v = refused_pieces e w.0 w.3.0 more events fault w.2 (subst (λ l. Pending l w.0 w.3.0) (sym call.1) w.3.1) rest other in
+    refused_behind d e (z ++ piece) w.0 [] w.1.reached call.1 more events fault v z (piece ∷ more)
+    (sym (append_assoc z piece (concat more))) events v.are_told
+refused_pieces d z k pieces events fault stage pending
+    (after_event {e = e} {piece = piece} {pieces = more} {events = later} n {event = told.Schema} on call rest) other =
+    let f = (feeds_on d e z piece (Ok (n, Some told.Schema)) stage call).1 in
+    let v = refused_pieces e [] 4 (drop n piece ∷ more) later fault f.1.stage (subst (λ l. Pending l [] 4) (sym call.1) pending_none) rest
+    other in
+    let h = told_reached d.state e.state (z ++ take n piece) (schema f.0) f.1.last in
+    refused_behind d e (z ++ take n piece) [] (schema f.0 ∷ []) h call.1 (drop n piece ∷ more) later fault v z (piece ∷ more)
+    (cut_at z piece (concat more) n) (told.Schema ∷ later) v.are_told
+refused_pieces d z k pieces events fault stage pending
+    (after_event {e = e} {piece = piece} {pieces = more} {events = later} n {event = told.Batch found pairs} on call rest) other =
+    let f = (feeds_on d e z piece (Ok (n, Some (told.Batch found pairs))) stage call).1 in
+    let b = batch (rows_of (found, pairs)) in
+    let v = refused_pieces e [] 4 (drop n piece ∷ more) later fault f.stage (subst (λ l. Pending l [] 4) (sym call.1) pending_none) rest
+    other in
+    let h = told_reached d.state e.state (z ++ take n piece) b f.last in
+    refused_behind d e (z ++ take n piece) [] (b ∷ []) h call.1 (drop n piece ∷ more) later fault v z (piece ∷ more)
+    (cut_at z piece (concat more) n) (told.Batch found pairs ∷ later) (refl, v.are_told)
+refused_pieces d z k pieces events fault stage pending (after_event n {event = told.End} on call rest) other = absurd on
+
+-- both together
+pub any_pieces : AnyPieces
+any_pieces = (told_pieces, refused_pieces)
 
 -- ---- a table with its mark
 
@@ -205,6 +275,6 @@ module _ (d : Decoding) (x w left : List ℕ) (t : Table) (pieces : List (List �
 -- a table and its mark are told as they are
 pub table_pieces : TablePieces
 table_pieces d g x w left t pieces told empty fresh denotes joined fed =
-    let h = any_pieces d g [] left 4 pieces told fresh pending_none fed in
+    let h = told_pieces d g [] left 4 pieces told fresh pending_none fed in
     let all = by_out d x w left t pieces told h empty denotes joined h.out refl in
     record { are_told = subst (AreTold told) all.0 h.are_told; ends = all.2; behind = all.1 }

@@ -1,5 +1,5 @@
 -- Events that are pulled from a source.
-use Rattle.std.proofs.Common.{◌≡◌, ◌≢◌, ◌∙◌, refl, sym, ap, subst, ℕ, ◌+◌, ◌-◌, ◌^◌, ◌<◌, ◌≤◌, ◌⊎◌, inl, inr, List, [], ◌∷◌, ◌++◌, Option}
+use Rattle.std.proofs.Common.{◌≡◌, ◌≢◌, ◌∙◌, refl, sym, ap, subst, ℕ, ◌+◌, ◌-◌, ◌^◌, ◌<◌, ◌≤◌, ◌⊎◌, inl, inr, List, [], ◌++◌, Option}
 use Rattle.std.proofs.Common.{Some, None}
 use Rattle.std.proofs.Common.{Result, Ok, Err, length, length-append, arith}
 use Rattle.std.specs.Prelude.{Bool, true, false, OnOk}
@@ -10,7 +10,8 @@ use Rattle.std.proofs.lemmas.List.{nil_from_length}
 use Rattle.ipc_model.specs.declared.fault.Fault.{Fault}
 use Rattle.ipc_model.specs.declared.fault.Fault.TheVariants.{OutOfMemory, Read, Truncated}
 use Rattle.ipc_model.specs.declared.limits.Limits.{Limits}
-use Rattle.ipc_frame.specs.Frames.{eos, Pending}
+use Rattle.ipc_frame.specs.Frames.{eos, IsSized, Pending}
+use Rattle.ipc_frame.specs.Parts.{no_room}
 use Rattle.ipc_frame.specs.Failures.{UnlessOutside}
 use Rattle.ipc_frame.proofs.Exact.{pending_none}
 use Rattle.ipc_decode.specs.declared.end.End.{End}
@@ -150,6 +151,7 @@ module _ (old now new : Option (List ℕ)) (b0 b1 f0 f1 n0 n1 n2 : ℕ) (before 
               (still decoder after counts_fit rest g.1 g.2);
           ends = breaks before.limits after.state rest new e wanted_now
               (subst (λ σ. UnlessOutside e ((d : Decision) × Reason before.limits e d σ rest)) (sym g.1) reason);
+          memory = λ out. subst (λ l. IsSized l rest) p.same_limits (g.4 out);
           at = g.0;
         };
       }
@@ -202,7 +204,7 @@ fewer_left old now new b0 b1 b2 f0 f1 n0 n1 n2 before decoder after count r p t 
 
 -- a decoder that was closed between two messages
 abbrev closed_now : Decoding → Decoding
-closed_now d = record { limits = d.limits; state = d.state; stage = over Closed; messages = d.messages }
+closed_now d = record { limits = d.limits; state = d.state; stage = over Closed; messages = d.messages; room = no_room }
 
 module _ (old now : Option (List ℕ)) (b0 b1 f0 f1 n0 n1 : ℕ) (before decoder after : Decoding)
     (p : Pulling old now b0 b1 f0 f1 n0 n1 before decoder) (at_end : IsAtEnd now) where
@@ -222,6 +224,7 @@ module _ (old now : Option (List ℕ)) (b0 b1 f0 f1 n0 n1 : ℕ) (before decoder
           rest = p.z;
           reaches = reaches;
           ends = cut c.0 c.1 (ap (λ d. d.state) c.2);
+          memory = λ out. let bad : Truncated ≡ OutOfMemory = sym c.1 ∙ out in absurd (cc);
           at = ap (λ d. d.stage) c.2;
         };
       }
@@ -244,6 +247,7 @@ module _ (old now : Option (List ℕ)) (b0 b1 f0 f1 n0 n1 : ℕ) (before decoder
           rest = [];
           reaches = reaches;
           ends = (refl, (λ none. c.1 (sym (ap (λ d. d.state) c.3) ∙ none)), at_end);
+          memory = tt;
           at = ap (λ d. d.stage) c.3;
         };
       }

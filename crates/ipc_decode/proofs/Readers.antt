@@ -16,7 +16,7 @@ use Rattle.ipc_decode.specs.Reader.{EndsBehind, LeadsTo, NextAnswer, NextCall, O
 use Rattle.ipc_decode.specs.Reader.{in_force_of}
 use Rattle.ipc_decode.specs.Failures.{FailsAs}
 use Rattle.ipc_decode.specs.Reader.{KeepsNone, phase_of, schema_in}
-use Rattle.ipc_decode.specs.Reasons.{Ends, Reads}
+use Rattle.ipc_decode.specs.Reasons.{Ends, NeedsMemory, Reads}
 use Rattle.ipc_decode.specs.Stream.{State, Event, schema, batch, Run}
 use Rattle.ipc_decode.specs.Taken.{ReadsNext, StopsAt, TakesSchema}
 use Rattle.ipc_decode.proofs.Nexts.{run_keeps}
@@ -116,6 +116,7 @@ module _ (old new : Option (List ℕ)) (f0 f1 b0 b1 n0 n1 : ℕ) (before after :
         joined = h.reaches.reached.joined;
         run = all.0;
         ends = subst (λ τ. Ends before.limits τ h.rest new answer) (some_is after.state open_after) h.ends;
+        memory = h.memory;
         messages = omega (arith, h.reaches.counted, all.1);
       }
 
@@ -239,4 +240,5 @@ opens old new f b n0 n1 before after limits none same t = record {
 pub open_fails : (old new : Option (List ℕ)) (n0 n1 : ℕ) (before after : Decoding) (limits : Limits) (e : Fault) → before.limits ≡ limits
     → TakesSchema old new n0 n1 before after (Err e) → OpenFails limits old new e
 open_fails old new n0 n1 before after limits e same t =
-    record { x = t.x; bytes = t.takes.bytes; reads = subst (λ l. Reads l None t.x new [] (Err e)) same t.gives }
+    let both = subst (λ l. (r : Reads l None t.x new [] (Err e)) × NeedsMemory l r.rest (Err e)) same t.gives in
+    record { x = t.x; bytes = t.takes.bytes; reads = both.0; memory = both.1 }

@@ -159,7 +159,7 @@ pub table_unopened : (old new : Option (List ℕ)) (n0 n1 : ℕ) (before after :
 table_unopened old new n0 n1 before after limits e same t = record {
   x = t.x;
   bytes = t.takes.bytes;
-  gives = ([], subst (λ l. Reads l None t.x new [] (Err e)) same t.gives);
+  gives = ([], subst (λ l. Reads l None t.x new [] (Err e)) same t.gives.0);
 }
 
 module _ (old now new : Option (List ℕ)) (n0 n1 : ℕ) (before opened : Decoding) (limits : Limits) (same : before.limits ≡ limits)

@@ -1,5 +1,5 @@
 -- One verdict, and any cut.
-use Rattle.std.proofs.Common.{◌≡◌, ◌≢◌, ◌∙◌, refl, sym, ap, subst, ℕ, ◌+◌, inl, inr, List, [], ◌∷◌, ◌++◌, append_assoc, arith, None}
+use Rattle.std.proofs.Common.{◌≡◌, ◌≢◌, ◌∙◌, refl, sym, ap, subst, ℕ, ◌+◌, inl, inr, List, [], ◌++◌, append_assoc, arith, None}
 use Rattle.std.proofs.Common.{length, length-append, length-drop, drop}
 use Rattle.std.proofs.lemmas.List.{append-nil, nil_from_length}
 use Rattle.ipc_model.specs.declared.fault.Fault.{Fault}

@@ -13,6 +13,7 @@ use Rattle.ipc_model.specs.declared.schema.Schema.{Schema}
 use Rattle.ipc_meta.specs.declared.head.BatchHead.{BatchHead}
 use Rattle.ipc_meta.specs.declared.head.Head.TheVariants as h
 use Rattle.ipc_frame.specs.Pieces.{Framing, Progress}
+use Rattle.ipc_frame.specs.Parts.{no_room}
 use Rattle.ipc_frame.specs.Pieces as frames
 use Rattle.ipc_frame.specs.declared.frame.Frame.{Frame as Framed}
 use Rattle.ipc_frame.specs.declared.frame.Frame.TheVariants as f
@@ -37,6 +38,11 @@ use Rattle.ipc_decode.specs.Stream.{InForce, State, Step, begun, values_in, sche
 abbrev pub IsWellFormedFrame : Limits → Framed → Type 0
 IsWellFormedFrame limits (f.Message meta (h.Schema s) body) = WellFormed limits s
 IsWellFormedFrame limits frame = ⊤
+
+-- the frame is a message, and not the end mark
+abbrev pub IsMessageFrame : Framed → Type 0
+IsMessageFrame (f.Message meta head body) = ⊤
+IsMessageFrame f.End = ⊥
 
 -- the frame is a message with this schema, or it is not a schema's and the fault is MissingSchema
 abbrev pub BringsSchema : Framed → Result Schema Fault → Type 0
@@ -126,9 +132,12 @@ decoding_of framing course = record {
   state = state_of course.scope;
   stage = stage_of framing.progress course.phase;
   messages = course.messages;
+  room = framing.room;
 }
 
--- the frames have the same limits, and take bytes while the stream is being read
+-- the frames have the same limits. They take bytes while the stream is being read, and keep no list
+-- afterwards
 pub record IsSound (framing : Framing) (course : Course) : Type 0 where
   pub same_limits : framing.limits ≡ course.limits
   pub takes : course.phase ≡ phase.Reading → (z : List ℕ) × (framing.progress ≡ frames.taking z)
+  pub let_go : course.phase ≢ phase.Reading → framing.room ≡ no_room

@@ -7,11 +7,12 @@ use Rattle.std.specs.List.{sum_by}
 use Rattle.std.specs.Map.{values_of}
 use Rattle.ipc_model.specs.Answers.{UnlessOutOfMemory}
 use Rattle.ipc_model.specs.declared.fault.Fault.{Fault}
-use Rattle.ipc_model.specs.declared.fault.Fault.TheVariants.{Failed, Truncated}
+use Rattle.ipc_model.specs.declared.fault.Fault.TheVariants.{Failed, OutOfMemory, Truncated}
 use Rattle.ipc_model.specs.declared.limits.Limits.{Limits}
 use Rattle.ipc_model.specs.declared.schema.Schema.{Schema}
 use Rattle.ipc_frame.specs.Failures.{FailsAs, UnlessOutside}
-use Rattle.ipc_frame.specs.Frames.{eos, Pending}
+use Rattle.ipc_frame.specs.Frames.{eos, IsSized, Pending}
+use Rattle.ipc_frame.specs.Parts.{Room, no_room}
 use Rattle.ipc_decode.specs.declared.end.End.{End}
 use Rattle.ipc_decode.specs.declared.end.End.TheVariants.{Mark, Closed}
 use Rattle.ipc_decode.specs.declared.event.Event.{Event as Told}
@@ -28,13 +29,14 @@ pub data Stage : Type 0 where
   over : End → Stage
   refused : Stage
 
--- the value of a decoder: its limits, what is in force, the stage of the stream, and how many
--- messages have come
+-- the value of a decoder: its limits, what is in force, the stage of the stream, how many messages
+-- have come, and the room of the lists that it keeps for the current message
 pub record Decoding : Type 0 where
   pub limits : Limits
   pub state : State
   pub stage : Stage
   pub messages : ℕ
+  pub room : Room
 
 -- the bytes x are whole messages and then `rest`. The messages report these events, and change a
 -- decoder's state and number of messages from the old to the new
@@ -72,10 +74,11 @@ Tells old new x told.End =
     Reaches old new x [] eos × (new.state ≢ None) × (new.stage ≡ over Mark)
 
 -- the whole messages of the bytes x report no event; what follows them is refused for this fault,
--- exactly at its last byte
+-- exactly at its last byte. Memory runs out only after the first eight bytes of a message
 abbrev pub RefusesAt : Decoding → Decoding → List ℕ → Fault → Type 0
 RefusesAt old new x fault = (rest : List ℕ) × Reaches old new x [] rest
     × UnlessOutOfMemory fault ((d : Decision) × Reason old.limits fault d new.state rest)
+    × (fault ≡ OutOfMemory → IsSized old.limits rest)
 
 -- the stored bytes z with a beginning of the piece end with an event, or are refused at their last
 -- byte; or the whole piece is taken
@@ -100,12 +103,14 @@ abbrev pub Feeds : Decoding → List ℕ → Decoding → Result (ℕ × Option 
 Feeds old piece new r = FeedsAt old old.stage piece new r
 
 -- the result is what `feed` returns for the bytes that came from a source. A refusal comes at the
--- last of them and leaves what is in force; no whole message came before it
+-- last of them and leaves what is in force; no whole message came before it. Memory runs out only
+-- after the first eight bytes of a message
 abbrev pub Gives : Decoding → Stage → List ℕ → Decoding → Result (Option Told) Fault → Type 0
 Gives old stage came new (Ok found) = FeedsAt old stage came new (Ok (length came, found))
 Gives old (taking z) came new (Err fault) = (new.stage ≡ refused) × (new.state ≡ old.state)
     × (new.messages ≡ old.messages)
     × UnlessOutside fault ((d : Decision) × Reason old.limits fault d old.state (z ++ came))
+    × (fault ≡ OutOfMemory → IsSized old.limits (z ++ came))
 Gives old stage came new (Err fault) = FeedsAt old stage came new (Err fault)
 
 -- at most the bytes up to the next decision came, and none if no message is awaited
@@ -155,10 +160,20 @@ dictionary_bytes (Some o) = sum_by (λ d. d.bytes) (values_of o.dictionaries)
 abbrev pub held_of : Decoding → ℕ
 held_of d = count_up (dictionary_bytes d.state) (kept_bytes d.stage)
 
--- the decoder with its stage replaced
+-- the decoder with its stage replaced, of which no list is kept
 abbrev pub at_stage : Decoding → Stage → Decoding
-at_stage d stage =
-    record { limits = d.limits; state = d.state; stage = stage; messages = d.messages }
+at_stage d stage = record {
+  limits = d.limits;
+  state = d.state;
+  stage = stage;
+  messages = d.messages;
+  room = no_room;
+}
+
+-- no list is kept after the end and after a refusal
+abbrev pub LetsGo : Stage → Room → Type 0
+LetsGo (taking z) room = ⊤
+LetsGo stage room = room ≡ no_room
 
 -- no more bytes come. After a schema, and if no byte of an unfinished message has come, the stream
 -- has ended; otherwise it is cut off, which is F4. An end stays as it was; after a refusal the

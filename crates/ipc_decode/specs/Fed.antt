@@ -1,8 +1,9 @@
 -- A stream that is pushed in pieces, call by call (Arrow Columnar Format, "IPC Streaming Format").
-use Rattle.std.specs.Prelude.{◌≡◌, ℕ, List, [], ◌∷◌, ◌++◌, drop, Option, None, Some}
-use Rattle.std.specs.Prelude.{Result, Ok, ⊤}
+use Rattle.std.specs.Prelude.{◌≡◌, ◌≢◌, ℕ, List, [], ◌∷◌, ◌++◌, drop, Option, None, Some}
+use Rattle.std.specs.Prelude.{Result, Ok, Err, ⊤}
 use Rattle.std.specs.List.{concat}
 use Rattle.ipc_model.specs.declared.fault.Fault.{Fault}
+use Rattle.ipc_model.specs.declared.fault.Fault.TheVariants.{OutOfMemory}
 use Rattle.ipc_model.specs.declared.table.Table.{Table}
 use Rattle.ipc_frame.specs.Frames.{Pending}
 use Rattle.ipc_decode.specs.declared.event.Event.{Event as Told}
@@ -11,7 +12,7 @@ use Rattle.ipc_decode.specs.Decoding.{Decoding, Feeds, taking}
 use Rattle.ipc_decode.specs.Found.{rows_of}
 use Rattle.ipc_decode.specs.declared.end.End.TheVariants.{Mark}
 use Rattle.ipc_decode.specs.Stream.{Event, schema, batch, Denotes, events_of}
-use Rattle.ipc_decode.specs.Verdicts.{Out, more, end, refused, Verdict}
+use Rattle.ipc_decode.specs.Verdicts.{Decision, Out, more, end, refused, Reason, Verdict}
 
 -- a call of `feed` with this piece and this result, which leaves the limits as they were
 abbrev pub Call : Decoding → List ℕ → Decoding → Result (ℕ × Option Told) Fault → Type 0
@@ -72,10 +73,47 @@ pub record HasVerdict (d : Decoding) (z : List ℕ) (pieces : List (List ℕ)) (
   pub verdict : Verdict d.limits d.state x events out
 
 -- however the bytes of a stream are cut into pieces, the returned events are those of their verdict
-abbrev pub AnyPieces : Type 0
-AnyPieces = (d g : Decoding) (z left : List ℕ) (k : ℕ) (pieces : List (List ℕ))
+abbrev pub TellsVerdict : Type 0
+TellsVerdict = (d g : Decoding) (z left : List ℕ) (k : ℕ) (pieces : List (List ℕ))
     (events : List Told) → d.stage ≡ taking z → Pending d.limits z k
     → Fed d pieces events g left → HasVerdict d z pieces events left
+
+-- a decoder is fed these pieces in turn, and again what a call left of a piece, until a call is
+-- refused for this fault. The calls before it return these events
+pub data FedRefused : Decoding → List (List ℕ) → List Told → Fault → Type 0 where
+  fails : {d : Decoding} {piece : List ℕ} {pieces : List (List ℕ)} {fault : Fault} (e : Decoding)
+      → Call d piece e (Err fault) → FedRefused d (piece ∷ pieces) [] fault
+  after_none : {d e : Decoding} {piece : List ℕ} {pieces : List (List ℕ)} {events : List Told}
+      {fault : Fault} (n : ℕ) → Call d piece e (Ok (n, None)) → FedRefused e pieces events fault
+      → FedRefused d (piece ∷ pieces) events fault
+  after_event : {d e : Decoding} {piece : List ℕ} {pieces : List (List ℕ)} {events : List Told}
+      {fault : Fault} (n : ℕ) {event : Told} → GoesOn event
+      → Call d piece e (Ok (n, Some event)) → FedRefused e (drop n piece ∷ pieces) events fault
+      → FedRefused d (piece ∷ pieces) (event ∷ events) fault
+
+-- the stored bytes z and the pieces begin with bytes that are refused for this fault: their verdict
+-- has the events that were returned, and the refusal's cause is true
+pub record HasRefusal (d : Decoding) (z : List ℕ) (pieces : List (List ℕ)) (told : List Told)
+    (fault : Fault) : Type 0 where
+  pub x : List ℕ
+  pub behind : List ℕ
+  pub joined : z ++ concat pieces ≡ x ++ behind
+  pub events : List Event
+  pub are_told : AreTold told events
+  pub decision : Decision
+  pub verdict : Verdict d.limits d.state x events (refused decision)
+  pub reason : Reason d.limits fault decision verdict.state verdict.rest
+
+-- however the bytes of a stream are cut into pieces, a refusal is that of their verdict, unless
+-- memory ran out
+abbrev pub RefusesByVerdict : Type 0
+RefusesByVerdict = (d : Decoding) (z : List ℕ) (k : ℕ) (pieces : List (List ℕ))
+    (events : List Told) (fault : Fault) → d.stage ≡ taking z → Pending d.limits z k
+    → FedRefused d pieces events fault → fault ≢ OutOfMemory → HasRefusal d z pieces events fault
+
+-- the events and the refusal that are returned for pieces are those of the verdict of their bytes
+abbrev pub AnyPieces : Type 0
+AnyPieces = TellsVerdict × RefusesByVerdict
 
 -- the returned events are those of a table and its end, and the bytes after its end mark are left
 pub record IsToldWhole (t : Table) (w : List ℕ) (told : List Told) (left : List ℕ) : Type 0 where

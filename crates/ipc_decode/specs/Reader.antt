@@ -14,7 +14,7 @@ use Rattle.ipc_decode.specs.declared.phase.Phase.TheVariants.{Reading, Ended, Re
 use Rattle.ipc_decode.specs.Decoding.{Stage, taking, over, refused, TellsLast}
 use Rattle.ipc_decode.specs.Stream.{DictionaryInForce, InForce, State, Event, schema, batch, Run}
 use Rattle.ipc_decode.specs.Found.{Found, rows_of}
-use Rattle.ipc_decode.specs.Reasons.{Ends, Reads}
+use Rattle.ipc_decode.specs.Reasons.{Ends, NeedsMemory, Reads}
 use Rattle.ipc_decode.specs.Counts.{count_up, messages_in}
 use Rattle.ipc_model.specs.declared.limits.Limits.{Limits}
 
@@ -77,6 +77,7 @@ pub record OpenFails (limits : Limits) (old new : Option (List ℕ)) (fault : Fa
   pub x : List ℕ
   pub bytes : Consumes old new x
   pub reads : Reads limits None x new [] (Err fault)
+  pub memory : NeedsMemory limits reads.rest (Err fault)
 
 -- the bytes x are whole messages without an event, then one with this event; they change what is in
 -- force for a reader from the old value to the new
@@ -92,6 +93,7 @@ pub record EndsBehind (old new : Reader) (x : List ℕ) (answer : Result End Fau
   pub joined : x ≡ whole ++ rest
   pub run : Run old.limits (Some (in_force_of old)) whole [] (Some (in_force_of new))
   pub ends : Ends old.limits (Some (in_force_of new)) rest new.remaining answer
+  pub memory : NeedsMemory old.limits rest answer
   pub messages : new.messages ≡ count_up old.messages (messages_in run)
 
 -- no byte was taken, and what is in force stays

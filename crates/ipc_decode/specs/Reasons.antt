@@ -3,7 +3,7 @@ use Rattle.std.specs.Prelude.{◌≢◌, ◌⊎◌, [], ◌≡◌, ℤ, ℕ, ◌
 use Rattle.std.specs.Prelude.{Result, Ok, Err, ⊤}
 use Rattle.std.specs.Io.KnownBytes.{IsAtEnd}
 use Rattle.ipc_model.specs.declared.fault.Fault.{Fault}
-use Rattle.ipc_model.specs.declared.fault.Fault.TheVariants.{Truncated}
+use Rattle.ipc_model.specs.declared.fault.Fault.TheVariants.{OutOfMemory, Truncated}
 use Rattle.ipc_model.specs.declared.fault.Fault.TheVariants.{MissingSchema, SecondSchema}
 use Rattle.ipc_model.specs.declared.fault.Fault.TheVariants.{UnknownDictionary}
 use Rattle.ipc_model.specs.WellFormed.{IsAmong}
@@ -15,7 +15,7 @@ use Rattle.ipc_meta.specs.declared.head.BatchHead.{BatchHead}
 use Rattle.ipc_meta.specs.declared.head.Head.TheVariants as h
 use Rattle.ipc_frame.specs.declared.frame.Frame.{Frame as Framed}
 use Rattle.ipc_frame.specs.declared.frame.Frame.TheVariants as f
-use Rattle.ipc_frame.specs.Frames.{eos, Frame, Pending}
+use Rattle.ipc_frame.specs.Frames.{eos, Frame, IsSized, Pending}
 use Rattle.ipc_frame.specs.Sees.{IsFrame}
 use Rattle.ipc_frame.specs.Decisions.{RefusesNow}
 use Rattle.ipc_column.specs.Rows.{RefusesParts}
@@ -85,6 +85,11 @@ abbrev pub Ends : Limits → State → List ℕ → Option (List ℕ) → Result
 Ends limits σ z left (Ok Mark) = (z ≡ eos) × (σ ≢ None)
 Ends limits σ z left (Ok Closed) = (z ≡ []) × (σ ≢ None) × IsAtEnd left
 Ends limits σ z left (Err fault) = Breaks limits σ z left fault
+
+-- memory runs out only after the first eight bytes of a message, and not at the end mark
+abbrev pub NeedsMemory : Limits → List ℕ → Result End Fault → Type 0
+NeedsMemory limits z (Ok end) = ⊤
+NeedsMemory limits z (Err fault) = fault ≡ OutOfMemory → IsSized limits z
 
 -- the bytes x are messages that report these events, and then reading ends with this result; `left`
 -- is still in the source

@@ -104,6 +104,10 @@ AddsBatch limits s b x = Run limits (Some (begun s)) x (batch b ∷ []) (Some (b
 abbrev pub TellsBatch : Limits → InForce → BatchRows → List ℕ → Type 0
 TellsBatch limits o b x = (τ : State) × Run limits (Some o) x (batch b ∷ []) τ
 
+-- x is messages that report no event and change what is in force: they set dictionaries
+abbrev pub SetsOnly : Limits → InForce → List ℕ → InForce → Type 0
+SetsOnly limits o x p = Run limits (Some o) x [] (Some p)
+
 -- x is one message, which changes the state and reports these events
 pub record IsMessage (limits : Limits) (σ : State) (x : List ℕ) (events : List Event)
     (τ : State) : Type 0 where

@@ -2,7 +2,7 @@
 -- Streaming Format").
 use Rattle.std.specs.Prelude.{◌≡◌, ℕ, List, [], ◌∷◌, length, map, Option, Some, None}
 use Rattle.std.specs.Prelude.{Result, Ok, Err, ⊤}
-use Rattle.std.specs.Io.KnownBytes.{Consumes, IsAtEnd}
+use Rattle.std.specs.Io.KnownBytes.{Consumes}
 use Rattle.ipc_model.specs.declared.fault.Fault.{Fault}
 use Rattle.ipc_model.specs.declared.limits.Limits.{Limits}
 use Rattle.ipc_model.specs.declared.schema.Schema.{Schema}
@@ -17,7 +17,7 @@ use Rattle.ipc_decode.specs.Counts.{count_up}
 use Rattle.ipc_decode.specs.Decoding.{Decoding, Stage, taking, over, refused, Reaches, Tells}
 use Rattle.ipc_decode.specs.Decoding.{TellsOne}
 use Rattle.ipc_decode.specs.Found.{rows_of}
-use Rattle.ipc_decode.specs.Reasons.{Ends, Reads}
+use Rattle.ipc_decode.specs.Reasons.{Ends, NeedsMemory, Reads}
 use Rattle.ipc_decode.specs.Stream.{State, Event, schema, batch, Run, begun, events_of}
 
 -- a call took these bytes and counted them
@@ -32,6 +32,7 @@ pub record StopsAt (old new : Decoding) (x : List ℕ) (left : Option (List ℕ)
   pub rest : List ℕ
   pub reaches : Reaches old new x [] rest
   pub ends : Ends old.limits new.state rest left answer
+  pub memory : NeedsMemory old.limits rest answer
   pub at : new.stage ≡ stage
 
 -- the bytes x report this event, or the source is at its end after whole messages, or reading
@@ -58,8 +59,10 @@ GivesSchema old new x left (Ok done) = (s : Schema)
       state = Some (begun s);
       stage = taking [];
       messages = 1;
+      room = new.room;
     })
-GivesSchema old new x left (Err fault) = Reads old.limits None x left [] (Err fault)
+GivesSchema old new x left (Err fault) = (r : Reads old.limits None x left [] (Err fault))
+    × NeedsMemory old.limits r.rest (Err fault)
 
 -- the bytes that were taken from the source for the schema, and the result
 pub record TakesSchema (old new : Option (List ℕ)) (count_old count_new : ℕ)

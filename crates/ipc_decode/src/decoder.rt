@@ -48,8 +48,11 @@ impl Model for Decoder {
 }
 
 impl Decoder {
-    ghost use Rattle.std.specs.Prelude.{◌≡◌, ◌≤◌, ◌+◌, [], None, IfOk, IfSome, OnOk, option_copied};
+    ghost use Rattle.std.specs.Prelude.{◌≡◌, ◌≤◌, ◌+◌, [], None, IfOk, IfSome, MatchResult, OnOk};
+    ghost use Rattle.std.specs.Prelude.{option_copied};
+    ghost use Rattle.ipc_frame.specs.Parts.{no_room};
     ghost use Rattle.ipc_decode.specs.Decoding.{ClosesAt, Draws, FailsWhile, Feeds, HasColumns};
+    ghost use Rattle.ipc_decode.specs.Decoding.{LetsGo};
     ghost use Rattle.ipc_decode.specs.Decoding.{Wants, held_of, kept_bytes, schema_of, taking};
     ghost use Rattle.ipc_decode.specs.FedMessages.{FeedsMessage, ForTold};
     ghost use Rattle.ipc_decode.specs.Reader.{phase_of};
@@ -61,6 +64,7 @@ impl Decoder {
         ensures state { result.state ≡ None }
         ensures stage { result.stage ≡ taking [] }
         ensures messages { result.messages ≡ 0 }
+        ensures room { result.room ≡ no_room }
     {
         Decoder {
             frames: Frames::new(alloc, limits),
@@ -90,12 +94,15 @@ impl Decoder {
     ///   dictionary batch, and F26 to F34 for a record batch.
     ///
     /// Other errors: `Failed` (F35) if an earlier call was refused; `OutOfMemory` (F37) if memory
-    /// ran out.
+    /// ran out, after byte 8 of a message.
     pub fn feed(&mut self, piece: &[u8]) -> Result<(usize, Option<Event>), Fault>
         ensures fed { Feeds self.old piece.now self.new result }
         ensures limits { self.new.limits ≡ self.old.limits }
         // A batch has a column for each field of the schema.
         ensures columns { IfOk result (λ found. IfSome found.1 (HasColumns self.new.state)) }
+        // No list is kept with an event and after a refusal.
+        ensures moved { MatchResult result (λ found. IfSome found.1 (λ _. self.new.room ≡ no_room))
+            (λ _. self.new.room ≡ no_room) }
     {
         let mut taken = 0;
         loop {
@@ -114,6 +121,8 @@ impl Decoder {
         ensures fed { FeedsMessage self.old piece.now self.new result }
         ensures limits { self.new.limits ≡ self.old.limits }
         ensures columns { IfOk result (λ fed. ForTold fed.1 (HasColumns self.new.state)) }
+        ensures moved { MatchResult result (λ fed. ForTold fed.1 (λ _. self.new.room ≡ no_room))
+            (λ _. self.new.room ≡ no_room) }
     {
         match self.course.phase {
             Phase::Refused => Err(Fault::Failed),
@@ -148,6 +157,9 @@ impl Decoder {
             (R.failures source.new) result.1 }
         // A batch has a column for each field of the schema.
         ensures columns { IfOk result.1 (λ found. IfSome found (HasColumns self.new.state)) }
+        // No list is kept with an event and after a refusal.
+        ensures moved { MatchResult result.1 (λ found. IfSome found (λ _. self.new.room ≡ no_room))
+            (λ _. self.new.room ≡ no_room) }
     {
         match self.course.phase {
             Phase::Refused => (0, Err(Fault::Failed)),
@@ -172,10 +184,15 @@ impl Decoder {
     /// The batch is dropped if it still has clones, or if bytes of a body already came. It is also
     /// dropped at the end of the stream, and after a refusal.
     pub fn reuse(&mut self, batch: Batch)
-        ensures { self.new ≡ self.old }
+        ensures same { self.new ≡ record self.old { room = self.new.room } }
+        // One list is kept for the next body, and none after the end or a refusal.
+        ensures metadata { self.new.room.metadata ≡ self.old.room.metadata }
+        ensures let_go { LetsGo self.new.stage self.new.room }
     {
-        if let Some(body) = batch.into_body() {
-            self.frames.reuse(body);
+        if let Phase::Reading = self.course.phase {
+            if let Some(body) = batch.into_body() {
+                self.frames.reuse(body);
+            }
         }
     }
 
@@ -204,7 +221,9 @@ impl Decoder {
 
     /// Returns the number of bytes that are kept: all that came of the current message, and the
     /// bodies of the dictionaries in force. After the end and after a refusal only the dictionaries
-    /// are kept. The count saturates at 2^64 - 1. It never fails and takes no memory.
+    /// are kept. The body of a batch that was passed to `reuse` is not counted: at most one is
+    /// kept, between two messages. The count saturates at 2^64 - 1. It never fails and takes no
+    /// memory.
     pub fn held(&self) -> usize
         ensures { result ≡ held_of self.now }
     {
@@ -262,7 +281,9 @@ impl Decoder {
     /// Errors: `Truncated` (F4) inside a message and before the schema, which is a refusal as in
     /// `feed`; `Failed` (F35) after a refusal.
     pub fn close(&mut self) -> Result<End, Fault>
-        ensures { ClosesAt self.old self.old.stage self.new result }
+        ensures closes { ClosesAt self.old self.old.stage self.new result }
+        // No list is kept, whatever the result.
+        ensures let_go { self.new.room ≡ no_room }
     {
         match self.course.phase {
             Phase::Refused => Err(Fault::Failed),

@@ -1,6 +1,6 @@
-ghost use Rattle.std.specs.Prelude.{◌≡◌, IfOk, IfSome, None, Some};
+ghost use Rattle.std.specs.Prelude.{◌≡◌, IfErr, IfOk, IfSome, None, Some};
 ghost use Rattle.ipc_decode.specs.Courses.{Brings, BringsSchema, BringsScope, IsRefused};
-ghost use Rattle.ipc_decode.specs.Courses.{IsWellFormedFrame, Moves};
+ghost use Rattle.ipc_decode.specs.Courses.{IsMessageFrame, IsWellFormedFrame, Moves};
 ghost use Rattle.ipc_decode.specs.Decoding.{HasColumns, dictionary_bytes, schema_of};
 ghost use Rattle.ipc_decode.specs.Scopes.{IsUnder, in_scope, state_of};
 
@@ -31,6 +31,7 @@ fn schema_in(frame: Frame) -> Result<Schema, Fault>
 fn scope_of(alloc: Global, limits: &Limits, frame: Frame) -> Result<Scope, Fault>
     requires { IsWellFormedFrame limits.now frame }
     ensures scope { BringsScope frame result }
+    ensures memory { IfErr result (λ fault. fault ≡ Fault.OutOfMemory → IsMessageFrame frame) }
     ensures limits { IfOk result (λ scope. scope.limits ≡ limits.now) }
 {
     Scope::new(alloc, *limits, schema_in(frame)?)
@@ -40,6 +41,7 @@ fn scope_of(alloc: Global, limits: &Limits, frame: Frame) -> Result<Scope, Fault
 fn next_of(alloc: Global, scope: &mut Scope, frame: Frame) -> Result<Option<Event>, Fault>
     ensures next { Brings scope.old.limits (Some (in_scope scope.old)) frame
         (Some (in_scope scope.new)) result }
+    ensures memory { IfErr result (λ fault. fault ≡ Fault.OutOfMemory → IsMessageFrame frame) }
     ensures limits { scope.new.limits ≡ scope.old.limits }
     ensures columns { IfOk result
         (λ found. IfSome found (HasColumns (Some (in_scope scope.new)))) }
@@ -70,6 +72,7 @@ fn event_of(
     requires well_formed { IsWellFormedFrame limits.now frame }
     requires under { IsUnder limits.now scope.old }
     ensures brings { Brings limits.now (state_of scope.old) frame (state_of scope.new) result }
+    ensures memory { IfErr result (λ fault. fault ≡ Fault.OutOfMemory → IsMessageFrame frame) }
     ensures under { IsUnder limits.now scope.new }
     ensures columns { IfOk result (λ found. IfSome found (HasColumns (state_of scope.new))) }
 {
@@ -105,6 +108,9 @@ impl Course {
         ensures brings { Brings self.old.limits (state_of self.old.scope) frame
             (state_of self.new.scope) result }
         ensures moves { Moves self.old self.new result }
+        // The end mark takes no memory.
+        ensures memory { IfErr result (λ fault. fault ≡ Fault.OutOfMemory
+            → IsMessageFrame frame) }
         ensures columns { IfOk result
             (λ found. IfSome found (HasColumns (state_of self.new.scope))) }
     {

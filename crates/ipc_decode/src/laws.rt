@@ -37,8 +37,8 @@ pub fn any_cut()
     ensures { AnyCut }
 {}
 
-/// The law: what a decoder returns for pieces is the verdict about their bytes. So it does not
-/// depend on how the bytes are cut into pieces.
+/// The law: what a decoder returns for pieces, its events and its refusal, is the verdict about
+/// their bytes. So it does not depend on how the bytes are cut, unless memory runs out.
 pub fn any_pieces()
     ensures { AnyPieces }
 {}

@@ -7,7 +7,7 @@ ghost use Rattle.ipc_decode.specs.Failures.{StaysOrFails, Tells};
 ghost use Rattle.ipc_decode.specs.Reader.{BeginsEnd, GivesBatch, NextCall, Opens, OpenFails};
 ghost use Rattle.ipc_decode.specs.Reader.{KeepsNone, WorksWhile, end_of, in_force_of};
 ghost use Rattle.ipc_decode.specs.Reasons.{IsOutside};
-ghost use Rattle.ipc_decode.specs.Stream.{OpensStream, TellsBatch};
+ghost use Rattle.ipc_decode.specs.Stream.{InForce, OpensStream, SetsOnly, TellsBatch};
 
 use crate::decoder::Decoder;
 use crate::end::End;
@@ -169,11 +169,13 @@ impl<R: Source> StreamReader<R> {
             → self.old.phase ≡ Phase.Reading → self.old.remaining ≡ Some (x ++ rest)
             → TellsBatch self.old.limits (in_force_of self.old) b x
             → MatchResult result (λ next. GivesBatch next b) IsOutside }
-        // An end of the stream at the front of the source is read too: the mark, or the end of the
-        // source.
-        ensures ended { (z : List ℕ) (end : End) → self.old.phase ≡ Phase.Reading
-            → self.old.remaining ≡ Some z → BeginsEnd end z
-            → MatchResult result (λ next. self.new.phase ≡ Phase.Ended end) IsOutside }
+        // An end of the stream is read too, after messages that only set dictionaries: the mark, or
+        // the end of the source.
+        ensures ended { (x z : List ℕ) (o : InForce) (end : End)
+            → self.old.phase ≡ Phase.Reading → self.old.remaining ≡ Some (x ++ z)
+            → SetsOnly self.old.limits (in_force_of self.old) x o → BeginsEnd end z
+            → MatchResult result (λ next. (next ≡ None) × (self.new.phase ≡ Phase.Ended end))
+            IsOutside }
     {
         self.advance()
     }

@@ -1,5 +1,5 @@
 -- What no more bytes than were wanted can show.
-use Rattle.std.proofs.Common.{◌≡◌, ◌∙◌, refl, sym, subst, ap, ℕ, ◌+◌, ◌-◌, ◌≤◌, ◌⊎◌, inl, inr, List, [], ◌++◌, length, take, drop}
+use Rattle.std.proofs.Common.{◌≡◌, ◌∙◌, refl, sym, subst, ap, ℕ, ◌+◌, ◌-◌, ◌≤◌, inl, inr, List, [], ◌++◌, length, take, drop}
 use Rattle.std.proofs.Common.{length-append, length-drop, arith}
 use Rattle.std.specs.Prelude.{slice_range, pos, true, int_lt}
 use Rattle.std.proofs.lemmas.List.{take-append-le, drop-append-le}

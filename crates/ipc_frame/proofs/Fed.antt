@@ -27,7 +27,7 @@ feeds_none limits z piece p n a h =
 pub sound_behind : (limits : Limits) (z : List ℕ) (p : Parts) (frame : Framed) → IsWhole limits z p frame
     → IsSound limits p (phase_after frame)
 sound_behind limits z p (f.Message meta head body) h = h.fresh
-sound_behind limits z p f.End h = h.empty
+sound_behind limits z p f.End h = (h.empty, h.room)
 
 -- and the next message is at its beginning, unless it was the end mark
 pub progress_behind : (limits : Limits) (z : List ℕ) (p : Parts) (frame : Framed) → IsWhole limits z p frame
@@ -43,30 +43,30 @@ feeds_whole limits z piece p n frame h = (h.0, progress_behind limits _ p frame 
 
 -- ---- what is kept
 
-lengths : (p : Parts) → length (bytes_of p) ≡ length p.start.items + length p.meta.items + length (came_in p.body)
-lengths p = omega (arith, length-append p.start.items (p.meta.items ++ came_in p.body), length-append p.meta.items (came_in p.body))
+lengths : (p : Parts) → length (bytes_of p) ≡ length p.start + length p.meta.items + length (came_in p.body)
+lengths p = omega (arith, length-append p.start (p.meta.items ++ came_in p.body), length-append p.meta.items (came_in p.body))
 
 -- the parts in front of a body have few bytes
 pub front_fits : (limits : Limits) (p : Parts) (s : Phase) → IsSound limits p s
-    → length p.start.items + length p.meta.items ≤ 268435464
+    → length p.start + length p.meta.items ≤ 268435464
 front_fits limits p (phase.Reading awaited.Mark) h = omega (arith, h.fits.few, ap length h.fits.no_metadata)
 front_fits limits p (phase.Reading awaited.Size) h = omega (arith, h.fits.few, ap length h.fits.no_metadata)
 front_fits limits p (phase.Reading (awaited.Metadata n)) h =
     omega (arith, h.fits.eight, h.fits.few, h.fits.begins.fits, limits.metadata_fits)
 front_fits limits p (phase.Reading (awaited.Body n)) h = omega (arith, h.fits.eight, h.fits.begins.fits, limits.metadata_fits)
-front_fits limits p phase.Ended h = omega (arith, ap length h, lengths p)
-front_fits limits p phase.Refused h = omega (arith, ap length h, lengths p)
+front_fits limits p phase.Ended h = omega (arith, ap length h.0, lengths p)
+front_fits limits p phase.Refused h = omega (arith, ap length h.0, lengths p)
 
 -- the bytes that are kept are counted
 pub held_is : (limits : Limits) (p : Parts) (s : Phase) → IsSound limits p s
-    → length p.start.items + length p.meta.items + length (came_in p.body) ≡ held_of (progress_of p s)
+    → length p.start + length p.meta.items + length (came_in p.body) ≡ held_of (progress_of p s)
 held_is limits p (phase.Reading a) h = omega (arith, lengths p)
-held_is limits p phase.Ended h = omega (arith, ap length h, lengths p)
-held_is limits p phase.Refused h = omega (arith, ap length h, lengths p)
+held_is limits p phase.Ended h = omega (arith, ap length h.0, lengths p)
+held_is limits p phase.Refused h = omega (arith, ap length h.0, lengths p)
 
 -- no more is kept than one message may have
 pub held_bounded : (limits : Limits) (p : Parts) (s : Phase) → IsSound limits p s
-    → length p.start.items + length p.meta.items + length (came_in p.body) ≤ 8 + limits.metadata + limits.body
+    → length p.start + length p.meta.items + length (came_in p.body) ≤ 8 + limits.metadata + limits.body
 held_bounded limits p (phase.Reading awaited.Mark) h =
     omega (arith, h.fits.few, ap length h.fits.no_metadata, ap length h.fits.no_body)
 held_bounded limits p (phase.Reading awaited.Size) h =
@@ -75,5 +75,5 @@ held_bounded limits p (phase.Reading (awaited.Metadata n)) h =
     omega (arith, h.fits.eight, h.fits.few, h.fits.begins.fits, ap length h.fits.no_body)
 held_bounded limits p (phase.Reading (awaited.Body n)) h =
     omega (arith, h.fits.eight, h.fits.begins.fits, h.fits.few, h.fits.states.fits)
-held_bounded limits p phase.Ended h = omega (arith, ap length h, lengths p)
-held_bounded limits p phase.Refused h = omega (arith, ap length h, lengths p)
+held_bounded limits p phase.Ended h = omega (arith, ap length h.0, lengths p)
+held_bounded limits p phase.Refused h = omega (arith, ap length h.0, lengths p)

@@ -9,12 +9,13 @@ use Rattle.std.proofs.Math.Seq.{take-add}
 use Rattle.ipc_model.specs.declared.limits.Limits.{Limits}
 use Rattle.ipc_frame.specs.Bodies.{came_in}
 use Rattle.ipc_frame.specs.Frames.{Pending}
-use Rattle.ipc_frame.specs.Parts.{bytes_of, InMark, InSize, InMetadata, InBody}
-use Rattle.ipc_frame.specs.Pieces.{IsSound, progress_of, taking}
+use Rattle.ipc_frame.specs.Parts.{bytes_of, InMark, InSize, InMetadata, InBody, Undecided}
+use Rattle.ipc_frame.specs.Pieces.{progress_of, taking}
 use Rattle.ipc_frame.specs.Pulled.{Behind, Comes}
 use Rattle.ipc_frame.specs.declared.body.Body.{Body}
 use Rattle.ipc_frame.specs.declared.frames.Phase.{Phase}
 use Rattle.ipc_frame.specs.declared.frames.Phase.TheVariants as phase
+use Rattle.ipc_frame.specs.declared.parts.Awaited.{Awaited}
 use Rattle.ipc_frame.specs.declared.parts.Awaited.TheVariants as awaited
 use Rattle.ipc_frame.specs.declared.parts.Parts.{Parts}
 
@@ -46,7 +47,7 @@ module _ (limits : Limits) (p : Parts) (b : Body) (same : came_in b ≡ came_in 
   with_body = record { start = p.start; meta = p.meta; body = b }
 
   pub same_bytes : bytes_of with_body ≡ bytes_of p
-  same_bytes = ap (λ z. p.start.items ++ (p.meta.items ++ z)) same
+  same_bytes = ap (λ z. p.start ++ (p.meta.items ++ z)) same
 
   pub same_progress : (s : Phase) → progress_of with_body s ≡ progress_of p s
   same_progress (phase.Reading a) = ap taking same_bytes
@@ -56,22 +57,20 @@ module _ (limits : Limits) (p : Parts) (b : Body) (same : came_in b ≡ came_in 
   pending_there : (k : ℕ) → Pending limits (bytes_of p) k → Pending limits (bytes_of with_body) k
   pending_there k h = subst (λ z. Pending limits z k) (sym same_bytes) h
 
-  pub sound_there : (s : Phase) → IsSound limits p s → IsSound limits with_body s
-  sound_there (phase.Reading awaited.Mark) h = record {
-    fits = subst (λ z. InMark p.start.items p.meta.items z) (sym same) h.fits;
+  pub sound_there : (a : Awaited) → Undecided limits p a → Undecided limits with_body a
+  sound_there awaited.Mark h = record {
+    fits = subst (λ z. InMark p.start p.meta.items z) (sym same) h.fits;
     pending = pending_there _ h.pending;
   }
-  sound_there (phase.Reading awaited.Size) h = record {
-    fits = subst (λ z. InSize p.start.items p.meta.items z) (sym same) h.fits;
+  sound_there awaited.Size h = record {
+    fits = subst (λ z. InSize p.start p.meta.items z) (sym same) h.fits;
     pending = pending_there _ h.pending;
   }
-  sound_there (phase.Reading (awaited.Metadata n)) h = record {
-    fits = subst (λ z. InMetadata limits p.start.items p.meta.items z n) (sym same) h.fits;
+  sound_there (awaited.Metadata n) h = record {
+    fits = subst (λ z. InMetadata limits p.start p.meta.items z n) (sym same) h.fits;
     pending = pending_there _ h.pending;
   }
-  sound_there (phase.Reading (awaited.Body n)) h = record {
-    fits = subst (λ z. InBody limits p.start.items p.meta.items z n) (sym same) h.fits;
+  sound_there (awaited.Body n) h = record {
+    fits = subst (λ z. InBody limits p.start p.meta.items z n) (sym same) h.fits;
     pending = subst (λ j. Pending limits (bytes_of with_body) j) (ap (λ z. n - length z) (sym same)) (pending_there _ h.pending);
   }
-  sound_there phase.Ended h = same_bytes ∙ h
-  sound_there phase.Refused h = same_bytes ∙ h

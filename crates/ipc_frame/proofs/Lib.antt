@@ -9,3 +9,4 @@ pub mod Pulls
 pub mod Held
 pub mod Written
 pub mod Wider
+pub mod Sized

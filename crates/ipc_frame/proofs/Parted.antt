@@ -1,5 +1,5 @@
 -- From the parts of a message to what its bytes say.
-use Rattle.std.proofs.Common.{◌≡◌, ◌∙◌, refl, sym, ap, subst, ℕ, ◌+◌, ◌-◌, ◌<◌, ◌≤◌, ◌⊎◌, inr, List, [], ◌++◌, length, take, drop}
+use Rattle.std.proofs.Common.{◌≡◌, ◌∙◌, refl, sym, ap, subst, ℕ, ◌+◌, ◌-◌, ◌<◌, ◌≤◌, inr, List, [], ◌++◌, length, take, drop}
 use Rattle.std.proofs.Common.{length-append, arith}
 use Rattle.std.specs.Prelude.{slice_range, pos}
 use Rattle.std.proofs.lemmas.List.{append-nil, take_all, take_at, drop_at}
@@ -63,24 +63,24 @@ module _ (limits : Limits) (s m b : List ℕ) (eight : length s ≡ 8) where
 
 -- ---- the first eight bytes
 
-alone : (p : Parts) → p.meta.items ≡ [] → came_in p.body ≡ [] → bytes_of p ≡ p.start.items
-alone p a b = ap (λ z. p.start.items ++ (z ++ came_in p.body)) a ∙ (ap (λ z. p.start.items ++ z) b ∙ append-nil p.start.items)
+alone : (p : Parts) → p.meta.items ≡ [] → came_in p.body ≡ [] → bytes_of p ≡ p.start
+alone p a b = ap (λ z. p.start ++ (z ++ came_in p.body)) a ∙ (ap (λ z. p.start ++ z) b ∙ append-nil p.start)
 
-module _ (limits : Limits) (p : Parts) (h : InSize p.start.items p.meta.items (came_in p.body)) where
-  module _ (whole : 8 ≤ length p.start.items) where
-    begins : (n : ℕ) → int32 p.start.items 4 ≡ pos n → n ≤ limits.metadata → Begins limits p.start.items n
+module _ (limits : Limits) (p : Parts) (h : InSize p.start p.meta.items (came_in p.body)) where
+  module _ (whole : 8 ≤ length p.start) where
+    begins : (n : ℕ) → int32 p.start 4 ≡ pos n → n ≤ limits.metadata → Begins limits p.start n
     begins n is fits = record { begun = whole; marked = h.marked; sized = is; fits = fits }
 
     -- a size of 0 is the end mark's
-    pub ends : int32 p.start.items 4 ≡ pos 0 → bytes_of p ≡ eos
+    pub ends : int32 p.start 4 ≡ pos 0 → bytes_of p ≡ eos
     ends none =
-        alone p h.no_metadata h.no_body ∙ (sym (take_all 8 p.start.items h.few)
-        ∙ eos_of {limits = limits} p.start.items (begins 0 none (omega arith)))
+        alone p h.no_metadata h.no_body ∙ (sym (take_all 8 p.start h.few)
+        ∙ eos_of {limits = limits} p.start (begins 0 none (omega arith)))
 
-    pub sized : (n : ℕ) → int32 p.start.items 4 ≡ pos n → n ≤ limits.metadata → 0 < n → Undecided limits p (awaited.Metadata n)
+    pub sized : (n : ℕ) → int32 p.start 4 ≡ pos n → n ≤ limits.metadata → 0 < n → Undecided limits p (awaited.Metadata n)
     sized n is fits some =
         let none : length p.meta.items ≡ 0 = ap length h.no_metadata in
-        let eight : length p.start.items ≡ 8 = omega (arith, whole, h.few) in
+        let eight : length p.start ≡ 8 = omega (arith, whole, h.few) in
         let size = begins n is fits in
         record {
           fits = record { eight = eight; begins = size; some = some; few = omega (arith, none); no_body = h.no_body };
@@ -89,7 +89,7 @@ module _ (limits : Limits) (p : Parts) (h : InSize p.start.items p.meta.items (c
 
 -- ---- the metadata
 
-module _ (limits : Limits) (p : Parts) (n : ℕ) (h : InMetadata limits p.start.items p.meta.items (came_in p.body) n) where
+module _ (limits : Limits) (p : Parts) (n : ℕ) (h : InMetadata limits p.start p.meta.items (came_in p.body) n) where
   pub metadata_short : length p.meta.items < n → Undecided limits p (awaited.Metadata n)
   metadata_short short = record {
     fits = h;
@@ -100,8 +100,8 @@ module _ (limits : Limits) (p : Parts) (n : ℕ) (h : InMetadata limits p.start.
     all : n ≡ length p.meta.items
     all = omega (arith, h.few)
 
-    here : Begins limits p.start.items (length p.meta.items)
-    here = subst (λ j. Begins limits p.start.items j) all h.begins
+    here : Begins limits p.start (length p.meta.items)
+    here = subst (λ j. Begins limits p.start j) all h.begins
 
     none : length (came_in p.body) ≡ 0
     none = ap length h.no_body
@@ -123,7 +123,7 @@ module _ (limits : Limits) (p : Parts) (n : ℕ) (h : InMetadata limits p.start.
 
 -- ---- the body
 
-module _ (limits : Limits) (p : Parts) (n : ℕ) (h : InBody limits p.start.items p.meta.items (came_in p.body) n) where
+module _ (limits : Limits) (p : Parts) (n : ℕ) (h : InBody limits p.start p.meta.items (came_in p.body) n) where
   pub body_short : length (came_in p.body) < n → Undecided limits p (awaited.Body n)
   body_short short = record {
     fits = h;
@@ -139,7 +139,7 @@ module _ (limits : Limits) (p : Parts) (n : ℕ) (h : InBody limits p.start.item
 -- ---- no byte
 
 -- of a message of which nothing came four bytes are wanted
-pub nothing_came : (limits : Limits) (p : Parts) → p.start.items ≡ [] → p.meta.items ≡ [] → came_in p.body ≡ []
+pub nothing_came : (limits : Limits) (p : Parts) → p.start ≡ [] → p.meta.items ≡ [] → came_in p.body ≡ []
     → (bytes_of p ≡ []) × Undecided limits p awaited.Mark
 nothing_came limits p a b d =
     let empty : bytes_of p ≡ [] = rw (a, b, d) refl in

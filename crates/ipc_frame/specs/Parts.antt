@@ -1,6 +1,7 @@
 -- The bytes of one message that have come so far, in its three parts (Arrow Columnar Format,
 -- "Encapsulated message format").
 use Rattle.std.specs.Prelude.{◌≡◌, ℕ, ◌-◌, ◌<◌, ◌≤◌, List, [], ◌++◌, length, take, Result, Ok, Err}
+use Rattle.std.specs.Prelude.{vec_capacity, ⊤}
 use Rattle.ipc_meta.specs.declared.head.Head.{Head}
 use Rattle.ipc_meta.specs.Heads.{HeadOf}
 use Rattle.ipc_model.specs.Answers.{UnlessOutOfMemory}
@@ -17,12 +18,25 @@ use Rattle.ipc_frame.specs.declared.decision.Decision.TheVariants as decision
 
 -- all bytes that have come
 abbrev pub bytes_of : Parts → List ℕ
-bytes_of p = p.start.items ++ (p.meta.items ++ came_in p.body)
+bytes_of p = p.start ++ (p.meta.items ++ came_in p.body)
+
+-- how many bytes the lists of a message have room for: the metadata's and the body's
+pub record Room : Type 0 where
+  pub metadata : ℕ
+  pub body : ℕ
+
+-- there is no list
+abbrev pub no_room : Room
+no_room = record { metadata = 0; body = 0 }
+
+-- the room of the lists of a message
+abbrev pub room_of : Parts → Room
+room_of p = record { metadata = vec_capacity p.meta; body = vec_capacity p.body.list }
 
 -- how many bytes are needed before the next decision
 abbrev pub wanted_of : Parts → Awaited → ℕ
-wanted_of p awaited.Mark = 4 - length p.start.items
-wanted_of p awaited.Size = 8 - length p.start.items
+wanted_of p awaited.Mark = 4 - length p.start
+wanted_of p awaited.Size = 8 - length p.start
 wanted_of p (awaited.Metadata size) = size - length p.meta.items
 wanted_of p (awaited.Body size) = size - length (came_in p.body)
 
@@ -58,11 +72,11 @@ pub record InBody (limits : Limits) (start meta body : List ℕ) (size : ℕ) : 
 
 -- the parts before the awaited one are complete, and the awaited one has at most its size
 abbrev pub Fits : Limits → Parts → Awaited → Type 0
-Fits limits p awaited.Mark = InMark p.start.items p.meta.items (came_in p.body)
-Fits limits p awaited.Size = InSize p.start.items p.meta.items (came_in p.body)
+Fits limits p awaited.Mark = InMark p.start p.meta.items (came_in p.body)
+Fits limits p awaited.Size = InSize p.start p.meta.items (came_in p.body)
 Fits limits p (awaited.Metadata size) =
-    InMetadata limits p.start.items p.meta.items (came_in p.body) size
-Fits limits p (awaited.Body size) = InBody limits p.start.items p.meta.items (came_in p.body) size
+    InMetadata limits p.start p.meta.items (came_in p.body) size
+Fits limits p (awaited.Body size) = InBody limits p.start p.meta.items (came_in p.body) size
 
 -- nothing is decided: more of the awaited part has to come
 pub record Undecided (limits : Limits) (p : Parts) (a : Awaited) : Type 0 where
@@ -77,3 +91,10 @@ Decides limits p (Ok (decision.Message head)) =
     Frame limits (bytes_of p) p.meta.items head (came_in p.body)
 Decides limits p (Err fault) =
     UnlessOutOfMemory fault (RefusesMessage limits (bytes_of p) fault)
+
+-- the awaited part comes after the size of the metadata
+abbrev pub HasSize : Awaited → Type 0
+HasSize awaited.Mark = ⊥
+HasSize awaited.Size = ⊥
+HasSize (awaited.Metadata size) = ⊤
+HasSize (awaited.Body size) = ⊤

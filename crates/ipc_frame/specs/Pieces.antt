@@ -1,15 +1,15 @@
 -- Messages that arrive in pieces, call by call (Arrow Columnar Format, "Encapsulated message
 -- format" and "IPC Streaming Format").
 use Rattle.std.specs.Prelude.{◌≡◌, ◌≢◌, ℕ, ◌≤◌, List, [], ◌++◌, length, take, Option, Some, None}
-use Rattle.std.specs.Prelude.{Result, Ok, Err}
+use Rattle.std.specs.Prelude.{Result, Ok, Err, ⊤}
 use Rattle.ipc_model.specs.Answers.{UnlessOutOfMemory}
 use Rattle.ipc_model.specs.declared.fault.Fault.{Fault}
 use Rattle.ipc_model.specs.declared.fault.Fault.TheVariants.{Failed, Truncated}
 use Rattle.ipc_model.specs.declared.limits.Limits.{Limits}
-use Rattle.ipc_frame.specs.Frames.{Pending}
+use Rattle.ipc_frame.specs.Frames.{IsSized, Pending}
 use Rattle.ipc_frame.specs.Sees.{IsFrame}
 use Rattle.ipc_frame.specs.Decisions.{RefusesNow}
-use Rattle.ipc_frame.specs.Parts.{bytes_of, Undecided}
+use Rattle.ipc_frame.specs.Parts.{Room, bytes_of, no_room, room_of, Undecided}
 use Rattle.ipc_frame.specs.declared.frame.Frame.{Frame as Framed}
 use Rattle.ipc_frame.specs.declared.frame.Frame.TheVariants as f
 use Rattle.ipc_frame.specs.declared.frames.Phase.{Phase}
@@ -24,10 +24,11 @@ pub data Progress : Type 0 where
   ended : Progress
   refused : Progress
 
--- the value of a `Frames`: its limits and its progress
+-- the value of a `Frames`: its limits, its progress, and the room of the lists that it keeps
 pub record Framing : Type 0 where
   pub limits : Limits
   pub progress : Progress
+  pub room : Room
 
 -- the progress that the stored bytes and the phase denote
 abbrev pub progress_of : Parts → Phase → Progress
@@ -35,12 +36,12 @@ progress_of p (phase.Reading a) = taking (bytes_of p)
 progress_of p phase.Ended = ended
 progress_of p phase.Refused = refused
 
--- the stored bytes are the undecided beginning of a message; none are stored after the end or a
--- refusal
+-- the stored bytes are the undecided beginning of a message; none are stored, and no list is kept,
+-- after the end or a refusal
 abbrev pub IsSound : Limits → Parts → Phase → Type 0
 IsSound limits p (phase.Reading a) = Undecided limits p a
-IsSound limits p phase.Ended = bytes_of p ≡ []
-IsSound limits p phase.Refused = bytes_of p ≡ []
+IsSound limits p phase.Ended = (bytes_of p ≡ []) × (room_of p ≡ no_room)
+IsSound limits p phase.Refused = (bytes_of p ≡ []) × (room_of p ≡ no_room)
 
 -- the phase after a frame: after a message the next one is awaited, after the end mark nothing
 abbrev pub phase_after : Framed → Phase
@@ -84,3 +85,16 @@ Closes (taking z) new (Ok x) = (z ≡ []) × (new ≡ ended)
 Closes (taking z) new (Err fault) = (z ≢ []) × (fault ≡ Truncated) × (new ≡ refused)
 Closes ended new r = (new ≡ ended) × (r ≡ Ok tt)
 Closes refused new r = (new ≡ refused) × (r ≡ Err Failed)
+
+-- no list is kept after the end or a refusal
+abbrev pub LetsGo : Progress → Room → Type 0
+LetsGo (taking z) room = ⊤
+LetsGo ended room = room ≡ no_room
+LetsGo refused room = room ≡ no_room
+
+-- a call may take memory for a message only after its first eight bytes: the stored bytes with the
+-- piece state a size of the metadata, which is within the limits and above 0
+abbrev pub TakesMemory : Limits → Progress → List ℕ → Type 0
+TakesMemory limits (taking z) piece = IsSized limits (z ++ piece)
+TakesMemory limits ended piece = ⊥
+TakesMemory limits refused piece = ⊥

@@ -6,18 +6,19 @@ use Rattle.ipc_model.specs.declared.fault.Fault.{Fault}
 use Rattle.ipc_model.specs.declared.limits.Limits.{Limits}
 use Rattle.ipc_frame.specs.Sees.{IsFrame, RefusesMessage}
 use Rattle.ipc_frame.specs.Decisions.{RefusesNow}
-use Rattle.ipc_frame.specs.Parts.{bytes_of, Undecided}
+use Rattle.ipc_frame.specs.Parts.{bytes_of, no_room, room_of, Undecided}
 use Rattle.ipc_frame.specs.declared.frame.Frame.{Frame as Framed}
 use Rattle.ipc_frame.specs.declared.parts.Parts.{Parts}
 use Rattle.ipc_frame.specs.declared.parts.Awaited.TheVariants.{Mark}
 use Rattle.ipc_frame.specs.declared.step.Step.{Step}
 use Rattle.ipc_frame.specs.declared.step.Step.TheVariants.{More, Whole}
 
--- the bytes are this frame, and nothing is stored after it
+-- the bytes are this frame, and nothing is stored after it, nor a list kept
 pub record IsWhole (limits : Limits) (z : List ℕ) (p : Parts) (frame : Framed) : Type 0 where
   pub is : IsFrame limits z frame
   pub empty : bytes_of p ≡ []
   pub fresh : Undecided limits p Mark
+  pub room : room_of p ≡ no_room
 
 -- the bytes z are stored and undecided, or they are a frame, or they are refused
 abbrev pub Concludes : Limits → List ℕ → Parts → Result Step Fault → Type 0

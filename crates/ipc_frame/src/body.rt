@@ -16,15 +16,16 @@ pub struct Body {
 
 impl Body {
     ghost use Rattle.std.specs.Prelude.{◌≡◌, ◌<◌, ◌≤◌, ◌+◌, ◌^◌, ◌++◌, [], length};
-    ghost use Rattle.std.specs.Prelude.{IfErr, IfOk, OnErr, OnOk};
+    ghost use Rattle.std.specs.Prelude.{IfErr, IfOk, OnErr, OnOk, vec_capacity};
     ghost use Rattle.std.specs.Io.KnownBytes.{Keeps};
-    ghost use Rattle.ipc_frame.specs.Bodies.{came_in};
+    ghost use Rattle.ipc_frame.specs.Bodies.{KeepsOne, came_in};
     ghost use Rattle.ipc_frame.specs.Failures.{FailsAs, IsOutside};
     ghost use Rattle.ipc_frame.specs.Pulled.{Comes};
 
     // With no byte.
     pub fn new(alloc: Global) -> Body
-        ensures { came_in result ≡ [] }
+        ensures came { came_in result ≡ [] }
+        ensures room { vec_capacity result.list ≡ 0 }
     {
         Body {
             list: Vec::new(alloc),
@@ -85,7 +86,9 @@ impl Body {
 
     // Takes a list to read over, where no byte came and it is longer than the one that is there.
     pub fn reuse(&mut self, list: Vec<u8>)
-        ensures { came_in self.new ≡ came_in self.old }
+        ensures came { came_in self.new ≡ came_in self.old }
+        ensures kept { KeepsOne (vec_capacity self.old.list) (vec_capacity self.new.list)
+            (vec_capacity list) }
     {
         if self.len == 0 && self.list.len() < list.len() {
             self.list = list;

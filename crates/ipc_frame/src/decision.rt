@@ -1,6 +1,6 @@
-ghost use Rattle.std.specs.Prelude.{◌≡◌, ◌↔◌, IsTrue};
+ghost use Rattle.std.specs.Prelude.{◌≡◌, ◌≢◌, ◌↔◌, IfErr, IsTrue};
 ghost use Rattle.ipc_frame.specs.Frames.{mark};
-ghost use Rattle.ipc_frame.specs.Parts.{Decides, Fits};
+ghost use Rattle.ipc_frame.specs.Parts.{Decides, Fits, HasSize};
 
 use crate::frame::MARK;
 use crate::parts::{Awaited, Parts};
@@ -26,12 +26,13 @@ fn is_mark(bytes: &[u8]) -> bool
 // What the first four bytes say: a message begins with the mark.
 fn decide_mark(limits: &Limits, parts: &Parts) -> Result<Decision, Fault>
     requires { Fits limits.now parts.now Awaited.Mark }
-    ensures { Decides limits.now parts.now result }
+    ensures decides { Decides limits.now parts.now result }
+    ensures memory { IfErr result (λ fault. fault ≢ Fault.OutOfMemory) }
 {
     if parts.start.len() < 4 {
         return Ok(Decision::More(Awaited::Mark));
     }
-    if !is_mark(&parts.start) {
+    if !is_mark(parts.start.as_slice()) {
         return Err(Fault::NotContinued);
     }
     Ok(Decision::More(Awaited::Size))
@@ -40,12 +41,13 @@ fn decide_mark(limits: &Limits, parts: &Parts) -> Result<Decision, Fault>
 // What the first eight bytes say: the size of the metadata, which is 0 in the end mark alone.
 fn decide_size(limits: &Limits, parts: &Parts) -> Result<Decision, Fault>
     requires { Fits limits.now parts.now Awaited.Size }
-    ensures { Decides limits.now parts.now result }
+    ensures decides { Decides limits.now parts.now result }
+    ensures memory { IfErr result (λ fault. fault ≢ Fault.OutOfMemory) }
 {
     if parts.start.len() < 8 {
         return Ok(Decision::More(Awaited::Size));
     }
-    let size = get_i32(&parts.start, 4).unwrap_or(0);
+    let size = get_i32(parts.start.as_slice(), 4).unwrap_or(0);
     if size == 0 {
         return Ok(Decision::End);
     }
@@ -104,7 +106,9 @@ pub fn decide(
     awaited: Awaited,
 ) -> Result<Decision, Fault>
     requires { Fits limits.now parts.now awaited }
-    ensures { Decides limits.now parts.now result }
+    ensures decides { Decides limits.now parts.now result }
+    // Memory runs out only once the size of the metadata is known.
+    ensures memory { IfErr result (λ fault. fault ≡ Fault.OutOfMemory → HasSize awaited) }
 {
     match awaited {
         Awaited::Mark => decide_mark(limits, parts),

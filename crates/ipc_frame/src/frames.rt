@@ -37,8 +37,9 @@ fn phase_behind(frame: &Frame) -> Phase
 /// without a copy.
 ///
 /// Lists grow as bytes come, never by what a message states: together they take at most twice the
-/// bytes that came, and 64 KiB. Between two messages only a list that was passed to `reuse` is
-/// kept. No list is kept after the end-of-stream mark, after a refusal, or after `close`.
+/// bytes that came, and 64 KiB. The first eight bytes of a message take no memory. Between two
+/// messages only a list that was passed to `reuse` is kept. No list is kept after the end-of-stream
+/// mark, after a refusal, or after `close`.
 ///
 /// After a refusal each call returns F35 (`Failed`) and takes no bytes.
 #[derive(Drop)]
@@ -50,24 +51,34 @@ pub struct Frames {
 }
 
 impl Model for Frames {
+    ghost use Rattle.ipc_frame.specs.Parts.{room_of};
     ghost use Rattle.ipc_frame.specs.Pieces.{Framing, progress_of, IsSound};
 
     ghost Value = { Framing };
 
-    ghost view = { λ s. record { limits = s.limits; progress = progress_of s.parts s.phase } };
+    ghost view = { λ s. record {
+      limits = s.limits;
+      progress = progress_of s.parts s.phase;
+      room = room_of s.parts;
+    } };
 
     ghost invariant = { λ s. IsSound s.limits s.parts s.phase };
 }
 
 impl Frames {
-    ghost use Rattle.std.specs.Prelude.{◌≡◌, ◌≤◌, ◌+◌, [], OnOk};
+    ghost use Rattle.std.specs.Prelude.{◌≡◌, ◌≤◌, ◌+◌, [], IfErr, IfSome, MatchResult, OnOk};
+    ghost use Rattle.std.specs.Prelude.{vec_capacity};
+    ghost use Rattle.ipc_frame.specs.Bodies.{KeepsOne};
+    ghost use Rattle.ipc_frame.specs.Parts.{no_room};
     ghost use Rattle.ipc_frame.specs.Pulled.{FailsWhile, Takes};
-    ghost use Rattle.ipc_frame.specs.Pieces.{Closes, Feeds, Wants, held_of, taking};
+    ghost use Rattle.ipc_frame.specs.Pieces.{Closes, Feeds, LetsGo, TakesMemory, Wants, held_of};
+    ghost use Rattle.ipc_frame.specs.Pieces.{taking};
 
     /// Starts at the beginning of a stream. All that it accepts, in each call, is within `limits`.
     pub fn new(alloc: Global, limits: Limits) -> Frames
         ensures limits { result.limits ≡ limits }
         ensures progress { result.progress ≡ taking [] }
+        ensures room { result.room ≡ no_room }
     {
         Frames {
             parts: Parts::new(alloc),
@@ -92,10 +103,17 @@ impl Frames {
     /// - F5 to F9 and F12 to F24, at the last byte of the metadata: the metadata states no valid
     ///   head within the limits. `ipc_meta::read_message` explains each of them.
     /// - `Failed` (F35): an earlier call was refused.
-    /// - `OutOfMemory` (F37): memory for a list or for the head ran out.
+    /// - `OutOfMemory` (F37): memory for a list or for the head ran out, after byte 8.
     pub fn feed(&mut self, piece: &[u8]) -> Result<(usize, Option<Frame>), Fault>
         ensures feeds { Feeds self.old.limits self.old.progress piece.now self.new.progress result }
         ensures limits { self.new.limits ≡ self.old.limits }
+        // No list is kept after a message, after the end-of-stream mark and after a refusal.
+        ensures moved { MatchResult result (λ found. IfSome found.1 (λ _. self.new.room ≡ no_room))
+            (λ _. self.new.room ≡ no_room) }
+        ensures let_go { LetsGo self.new.progress self.new.room }
+        // Memory runs out only after the first eight bytes of a message, and not at the mark.
+        ensures memory { IfErr result (λ fault. fault ≡ Fault.OutOfMemory
+            → TakesMemory self.old.limits self.old.progress piece.now) }
     {
         match self.phase {
             Phase::Ended => Ok((0, None)),
@@ -137,6 +155,13 @@ impl Frames {
         ensures fewer { OnOk result.1 ((R.bound source.new + result.0) ≤ R.bound source.old) }
         ensures failures { FailsWhile self.old.progress (R.failures source.old)
             (R.failures source.new) result.1 }
+        // No list is kept after a message, after the end-of-stream mark and after a refusal.
+        ensures moved { MatchResult result.1 (λ found. IfSome found (λ _. self.new.room ≡ no_room))
+            (λ _. self.new.room ≡ no_room) }
+        ensures let_go { LetsGo self.new.progress self.new.room }
+        // Memory runs out only after the first eight bytes of a message, and not at the mark.
+        ensures memory { IfErr result.1 (λ fault. fault ≡ Fault.OutOfMemory
+            → TakesMemory self.old.limits self.old.progress []) }
     {
         match self.phase {
             Phase::Ended => (0, Ok(None)),
@@ -174,7 +199,12 @@ impl Frames {
     /// The list is dropped if bytes of a body already came, or if the present list is at least as
     /// long. It is also dropped after the end-of-stream mark, and after a refusal.
     pub fn reuse(&mut self, list: Vec<u8>)
-        ensures { self.new ≡ self.old }
+        ensures progress { self.new.progress ≡ self.old.progress }
+        ensures limits { self.new.limits ≡ self.old.limits }
+        // One list is kept for the next body: this one, or the one that was kept before.
+        ensures kept { KeepsOne self.old.room.body self.new.room.body (vec_capacity list) }
+        ensures metadata { self.new.room.metadata ≡ self.old.room.metadata }
+        ensures let_go { LetsGo self.new.progress self.new.room }
     {
         if let Phase::Reading(_) = self.phase {
             self.parts.body.reuse(list);
@@ -197,7 +227,7 @@ impl Frames {
     /// memory.
     ///
     /// The bytes of a list that was passed to `reuse` are not counted: they belong to no message,
-    /// and the next body is read over them.
+    /// and the next body is read over them. `reuse` keeps at most one list.
     pub fn held(&self) -> usize
         ensures came { result ≡ held_of self.now.progress }
         // The mark and the size have 8 bytes, and the limits bound the metadata and the body.
@@ -214,11 +244,14 @@ impl Frames {
     pub fn close(&mut self) -> Result<(), Fault>
         ensures closed { Closes self.old.progress self.new.progress result }
         ensures limits { self.new.limits ≡ self.old.limits }
+        // No list is kept, whatever the result.
+        ensures let_go { self.new.room ≡ no_room }
     {
         match self.phase {
             Phase::Ended => Ok(()),
             Phase::Refused => Err(Fault::Failed),
-            Phase::Reading(Awaited::Mark) if self.parts.start.is_empty() => {
+            Phase::Reading(Awaited::Mark) if self.parts.start.len() == 0 => {
+                self.parts = Parts::new(self.alloc);
                 self.phase = Phase::Ended;
                 Ok(())
             }

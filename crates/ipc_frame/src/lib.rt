@@ -10,6 +10,7 @@ pub mod laws;
 mod parts;
 mod pull;
 mod source;
+mod start;
 mod step;
 mod write;
 

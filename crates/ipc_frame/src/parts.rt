@@ -1,8 +1,9 @@
-ghost use Rattle.std.specs.Prelude.{◌≡◌, ◌≤◌, ◌++◌, [], length, OnOk};
+ghost use Rattle.std.specs.Prelude.{◌≡◌, ◌≤◌, ◌++◌, [], length, OnErr, OnOk};
 ghost use Rattle.ipc_frame.specs.Bodies.{came_in};
-ghost use Rattle.ipc_frame.specs.Parts.{Fits, bytes_of, wanted_of};
+ghost use Rattle.ipc_frame.specs.Parts.{Fits, HasSize, bytes_of, no_room, room_of, wanted_of};
 
 use crate::body::Body;
+use crate::start::Start;
 use ipc_model::Limits;
 use std::alloc::{AllocError, Global};
 
@@ -10,7 +11,7 @@ use std::alloc::{AllocError, Global};
 // body.
 #[derive(Drop)]
 pub struct Parts {
-    pub start: Vec<u8>,
+    pub start: Start,
     pub meta: Vec<u8>,
     pub body: Body,
 }
@@ -28,12 +29,13 @@ pub enum Awaited {
 impl Parts {
     // With no byte.
     pub fn new(alloc: Global) -> Parts
-        ensures start { result.start.items ≡ [] }
+        ensures start { result.start ≡ [] }
         ensures meta { result.meta.items ≡ [] }
         ensures body { came_in result.body ≡ [] }
+        ensures room { room_of result ≡ no_room }
     {
         Parts {
-            start: Vec::new(alloc),
+            start: Start::new(),
             meta: Vec::new(alloc),
             body: Body::new(alloc),
         }
@@ -64,9 +66,13 @@ pub fn extend(
     requires few { length bytes.now ≤ wanted_of parts.old awaited }
     ensures fits { OnOk result (Fits limits.now parts.new awaited) }
     ensures bytes { OnOk result (bytes_of parts.new ≡ bytes_of parts.old ++ bytes.now) }
+    ensures memory { OnErr result (HasSize awaited) }
 {
     match awaited {
-        Awaited::Mark | Awaited::Size => parts.start.extend_from_slice(bytes),
+        Awaited::Mark | Awaited::Size => {
+            parts.start.extend(bytes);
+            Ok(())
+        }
         Awaited::Metadata(_) => parts.meta.extend_from_slice(bytes),
         Awaited::Body(_) => parts.body.extend(bytes),
     }

@@ -2,7 +2,7 @@ ghost use Rattle.std.specs.Prelude.{◌≡◌, ◌<◌, ◌≤◌, ◌+◌, ◌*
 ghost use Rattle.std.specs.Prelude.{IfOk, IfErr, OnOk, OnErr};
 ghost use Rattle.std.specs.Io.KnownBytes.{Keeps};
 ghost use Rattle.ipc_frame.specs.Failures.{FailsAs, IsOutside};
-ghost use Rattle.ipc_frame.specs.Parts.{Fits, Undecided, bytes_of, wanted_of};
+ghost use Rattle.ipc_frame.specs.Parts.{Fits, HasSize, Undecided, bytes_of, wanted_of};
 ghost use Rattle.ipc_frame.specs.Pulled.{Behind, Comes, ReadsOn};
 
 use crate::parts::{Awaited, Parts, wanted};
@@ -16,7 +16,7 @@ pub const PIECE: usize = 65_536;
 
 // Calls the source once, for at most `room` bytes, which overwrite those after the first `start`
 // bytes.
-fn read_behind<R: Source>(
+pub fn read_behind<R: Source>(
     source: &mut R,
     list: &mut [u8],
     start: usize,
@@ -111,10 +111,12 @@ fn read_part<R: Source>(
     ensures lost { OnErr result (Keeps (R.remaining source.old) (R.remaining source.new)) }
     ensures only { IfErr result IsOutside }
     ensures failures { FailsAs (R.failures source.old) (R.failures source.new) result }
+    ensures memory { IfErr result (λ fault. fault ≡ Fault.OutOfMemory → HasSize awaited) }
 {
     let wants = wanted(limits, parts, awaited);
     match awaited {
-        Awaited::Mark | Awaited::Size => read_onto(source, &mut parts.start, wants),
+        Awaited::Mark => parts.start.read(source, wants),
+        Awaited::Size => parts.start.read(source, wants),
         Awaited::Metadata(_) => read_onto(source, &mut parts.meta, wants),
         Awaited::Body(_) => parts.body.read(source, wants),
     }
@@ -134,6 +136,7 @@ pub fn read_on<R: Source>(
         (R.remaining source.new) (bytes_of parts.old) parts.new result.0 result.1 }
     ensures fewer { OnOk result.1 ((R.bound source.new + result.0) ≤ R.bound source.old) }
     ensures failures { FailsAs (R.failures source.old) (R.failures source.new) result.1 }
+    ensures memory { IfErr result.1 (λ fault. fault ≡ Fault.OutOfMemory → HasSize awaited) }
 {
     match read_part(limits, source, parts, awaited) {
         Ok(count) => (count, conclude(alloc, limits, parts, awaited)),

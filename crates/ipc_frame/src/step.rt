@@ -1,10 +1,13 @@
-ghost use Rattle.ipc_frame.specs.Parts.{Fits, Undecided, bytes_of};
+ghost use Rattle.std.specs.Prelude.{◌≡◌, ◌++◌, IfErr};
+ghost use Rattle.ipc_frame.specs.Frames.{IsSized};
+ghost use Rattle.ipc_frame.specs.Parts.{Fits, HasSize, Undecided, bytes_of};
 ghost use Rattle.ipc_frame.specs.Steps.{Concludes, FeedsOn};
 
 use crate::body::Body;
 use crate::decision::{Decision, decide};
 use crate::frame::Frame;
 use crate::parts::{Awaited, Parts, extend, wanted};
+use crate::start::Start;
 use ipc_model::{Fault, Limits};
 use std::alloc::Global;
 use std::mem::replace;
@@ -25,7 +28,8 @@ pub fn conclude(
     awaited: Awaited,
 ) -> Result<Step, Fault>
     requires { Fits limits.now parts.old awaited }
-    ensures { Concludes limits.now (bytes_of parts.old) parts.new result }
+    ensures concludes { Concludes limits.now (bytes_of parts.old) parts.new result }
+    ensures memory { IfErr result (λ fault. fault ≡ Fault.OutOfMemory → HasSize awaited) }
 {
     match decide(alloc, limits, parts, awaited)? {
         Decision::More(awaited) => Ok(Step::More(awaited)),
@@ -34,7 +38,7 @@ pub fn conclude(
             Ok(Step::Whole(Frame::End))
         }
         Decision::Message(head) => {
-            parts.start.clear();
+            parts.start = Start::new();
             let meta = replace(&mut parts.meta, Vec::new(alloc));
             let body = replace(&mut parts.body, Body::new(alloc)).into_list();
             Ok(Step::Whole(Frame::Message { meta, head, body }))
@@ -51,7 +55,9 @@ pub fn feed_on(
     piece: &[u8],
 ) -> Result<(usize, Step), Fault>
     requires { Undecided limits.now parts.old awaited }
-    ensures { FeedsOn limits.now (bytes_of parts.old) piece.now parts.new result }
+    ensures feeds { FeedsOn limits.now (bytes_of parts.old) piece.now parts.new result }
+    ensures memory { IfErr result (λ fault. fault ≡ Fault.OutOfMemory
+        → IsSized limits.now (bytes_of parts.old ++ piece.now)) }
 {
     let mut awaited = awaited;
     let mut taken = 0;

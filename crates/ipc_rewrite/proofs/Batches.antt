@@ -163,9 +163,14 @@ module _ (old now new : Reader) (before after : Writer) (b : Copied old now befo
   counted_more found t k is = omega (arith, b.counted k is, (came found t).1.messages, (all_came found t).1)
 
   -- what is true of the writer's limits, its schema and what it sent is true of those that it had, with these batches
-  as_before : (P : Opened → Type 0) → P (record { limits = after.limits; schema = after.schema; kept = after.kept })
-      → P (record { limits = before.limits; schema = old.schema; kept = kept_after old.schema.fields before.kept b.batches })
-  as_before P h = subst P (λ i. record { limits = b.sent_limits i; schema = b.sent_schema i; kept = b.kept i }) h
+  as_before : (P : Opened → Type 0) → P (record { limits = after.limits; schema = after.schema; kept = after.kept; seed = after.seed })
+      → P (record {
+        limits = before.limits;
+        schema = old.schema;
+        kept = kept_after old.schema.fields before.kept b.batches;
+        seed = after.seed;
+      })
+  as_before P h = subst P (λ i. record { limits = b.sent_limits i; schema = b.sent_schema i; kept = b.kept i; seed = after.seed }) h
 
   -- where one batch more is read and sent, the batches that were sent are those from before and it
   pub copied_more : (found : Found) (next : Writer) → NextCall now new (Ok (Some found)) → new.failures ≡ now.failures

@@ -58,9 +58,9 @@ module _ {limits : Limits} (start : Option (List ℕ)) (s t : Reader) (before : 
   table_with batches = record { schema = s.schema; batches = batches }
 
   -- what is true of the new stream's limits, and of nothing sent but its schema, is true of the raised ones
-  raised_too : (P : Opened → Type 0) → P (record { limits = before.limits; schema = s.schema; kept = before.kept })
-      → P (record { limits = raised_of limits; schema = s.schema; kept = none_sent s.schema })
-  raised_too P h = subst P (λ i. record { limits = raised_here i; schema = s.schema; kept = begun.nothing_kept i }) h
+  raised_too : (P : Opened → Type 0) → P (record { limits = before.limits; schema = s.schema; kept = before.kept; seed = before.seed })
+      → P (record { limits = raised_of limits; schema = s.schema; kept = none_sent s.schema; seed = before.seed })
+  raised_too P h = subst P (λ i. record { limits = raised_here i; schema = s.schema; kept = begun.nothing_kept i; seed = before.seed }) h
 
   -- the messages of the schema and of these batches were sent
   all_sent : (batches : List BatchRows) (w1 : Option (List ℕ)) (f1 : ℕ)

@@ -126,6 +126,7 @@ fn begin_stream<W: Sink>(
 ) -> Result<StreamWriter<W>, (WriteFault, W)>
     ensures started { IfOk result
         (λ s. Starts (raised_of limits.now) schema.now (W.written sink) (W.failures sink) s) }
+    ensures seeded { IfOk result (λ s. s.seed ≡ seed) }
     ensures refused { IfErr result (λ e. StartFails (raised_of limits.now) schema.now
         (W.written sink) (W.written e.1) (W.failures sink) (W.failures e.1) e.0) }
 {

@@ -12,17 +12,19 @@ use Rattle.ipc_encode.specs.Limits.{IsWithin}
 use Rattle.ipc_dictionaries.specs.Applied.{Applied}
 use Rattle.ipc_dictionaries.specs.ValuesColumns.{IsOneColumn, columns_for, columns_in}
 use Rattle.ipc_dict.specs.declared.kept.KeptEntry.{KeptEntry}
+use Rattle.ipc_dict.specs.declared.seed.Seed.{Seed}
 use Rattle.ipc_dict.specs.Planned.{Planned}
 use Rattle.ipc_dict.specs.Planning.{after_all}
 use Rattle.ipc_dict.specs.SchemaIds.{ids_of, kept_ids, tally_ids}
 use Rattle.ipc_dict.specs.Within.{dictionary_room_of}
 
--- a stream whose schema was sent: its limits, its schema, and the values that were sent of each
--- dictionary
+-- a stream whose schema was sent: its limits, its schema, the values that were sent of each
+-- dictionary, and the seed of the hashes of values
 pub record Opened : Type 0 where
   pub limits : Limits
   pub schema : Schema
   pub kept : List KeptEntry
+  pub seed : Seed
 
 -- the schema is well formed, these are the columns of its dictionaries, and `kept` has an entry for
 -- each of them

@@ -43,13 +43,20 @@ impl Model for OpenStream {
     ghost use Rattle.std.specs.Coded.{codes};
     ghost use Rattle.ipc_model.specs.contracts.schema.Field as field;
     ghost use Rattle.ipc_dict.specs.contracts.kept.KeptEntry as entry;
+    ghost use Rattle.ipc_dict.specs.contracts.seed.Seed as hashing;
     ghost use Rattle.ipc_stream.specs.OpenStreams.{IsGoingOn, Opened};
 
     ghost Value = { Opened };
 
-    ghost coded = { Prim.hlevel (codes, field.the_row.coded, entry.the_row.coded) };
+    ghost coded = { Prim.hlevel
+        (codes, field.the_row.coded, entry.the_row.coded, hashing.the_row.coded) };
 
-    ghost view = { λ s. record { limits = s.limits; schema = s.schema; kept = s.kept } };
+    ghost view = { λ s. record {
+      limits = s.limits;
+      schema = s.schema;
+      kept = s.kept;
+      seed = s.seed;
+    } };
 
     ghost invariant = { λ s. IsGoingOn s.limits s.schema s.columns s.kept };
 }
@@ -77,6 +84,7 @@ impl OpenStream {
           limits = limits.now;
           schema = schema.now;
           kept = none_sent schema.now;
+          seed = Seed.Fixed;
         }) }
         ensures sends { Sends (OpensStream limits.now schema.now) (W.written sink.old)
             (W.written sink.new) (W.failures sink.old) (W.failures sink.new) result }
@@ -102,7 +110,7 @@ impl OpenStream {
 
     // Hashes the values of the dictionaries of later batches with this seed.
     pub(crate) fn set_seed(&mut self, seed: Seed)
-        ensures { self.new ≡ self.old }
+        ensures { self.new ≡ record self.old { seed = seed } }
     {
         self.seed = seed;
     }

@@ -3,10 +3,10 @@
 use crate::scripts::{Step, played, stream_of, tell};
 use crate::tables::{Column, NUMBERS, empty};
 use ipc_model::{Limits, Table};
-use ipc_stream::{Device, Limited, write_table};
+use ipc_stream::{Device, Limited, Sink, Source, write_table};
 use std::alloc::{AllocError, Global};
 use std::io;
-use std::io::Write;
+use std::io::{Read, Write};
 use std::test::Fail;
 
 // A writer that takes three bytes in a call and fails after so many calls; its flush works or
@@ -133,6 +133,63 @@ fn is_not_finished_where_a_flush_fails(rt: HostRuntime) -> Result<(), Fail> {
     let mut told = String::new(rt.alloc());
     let bytes = unflushed(rt.alloc(), &steps, &mut told)?;
     assert!(rt; bytes.as_slice() == whole.as_slice() && told.as_str() == "W9 Write\n");
+    Ok(())
+}
+
+// A reader and writer that counts its calls, and moves one byte in each.
+#[derive(Drop)]
+struct Counting {
+    reads: u32,
+    writes: u32,
+    flushes: u32,
+}
+
+impl Read for Counting {
+    fn read(&mut self, into: &mut [u8]) -> io::Result<usize> {
+        self.reads = self.reads.saturating_add(1);
+        Ok(into.len().min(1))
+    }
+}
+
+impl Write for Counting {
+    fn write(&mut self, bytes: &[u8]) -> io::Result<usize> {
+        self.writes = self.writes.saturating_add(1);
+        Ok(bytes.len().min(1))
+    }
+
+    fn flush(&mut self) -> io::Result<()> {
+        self.flushes = self.flushes.saturating_add(1);
+        Ok(())
+    }
+}
+
+// How many calls a reader or writer gets for one read, two writes and three flushes of a device.
+fn calls_of() -> (u32, u32, u32) {
+    let mut device = Device::new(Counting {
+        reads: 0,
+        writes: 0,
+        flushes: 0,
+    });
+    let mut bytes = [0; 4];
+    let _ = device.read(&mut bytes);
+    for _ in 0..2 {
+        let _ = device.write(&bytes);
+    }
+    for _ in 0..3 {
+        let _ = device.flush();
+    }
+    let Counting {
+        reads,
+        writes,
+        flushes,
+    } = device.into_inner();
+    (reads, writes, flushes)
+}
+
+// A device makes one call for each of its own.
+#[test]
+fn makes_one_call_for_each(rt: HostRuntime) -> Result<(), Fail> {
+    assert!(rt; calls_of() == (1, 2, 3));
     Ok(())
 }
 

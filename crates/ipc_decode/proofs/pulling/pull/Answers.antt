@@ -30,7 +30,7 @@ returns-in_err-close-clause-pulled g c =
     (c.in_ok-event.was ∙ ap Ok c.in_default.is) c.feed_from-count.ensures.fewer c.feed_from-count.ensures.failures
     c.feed_from-count.ensures.limits)
     (none_came _ _ _ _ _ _ _ c.feed_from-count.ensures.drawn c.loop-event.invariant.kept (c.in_ok-event.was ∙ ap Ok c.in_default.is)
-    c.if-count-eq0.true) c.in_err-close.field-0.0 c.in_err-close.ensures)
+    c.if-count-eq0.true) c.in_err-close.field-0.0 c.in_err-close.ensures.closes)
 
 pub returns-then-count-eq0-clause-pulled : goal.returns-then-count-eq0-clause-pulled
 returns-then-count-eq0-clause-pulled g c =
@@ -39,7 +39,7 @@ returns-then-count-eq0-clause-pulled g c =
     (c.in_ok-event.was ∙ ap Ok c.in_default.is) c.feed_from-count.ensures.fewer c.feed_from-count.ensures.failures
     c.feed_from-count.ensures.limits)
     (none_came _ _ _ _ _ _ _ c.feed_from-count.ensures.drawn c.loop-event.invariant.kept (c.in_ok-event.was ∙ ap Ok c.in_default.is)
-    c.if-count-eq0.true) c.in_ok-close.field-0 c.in_ok-close.ensures
+    c.if-count-eq0.true) c.in_ok-close.field-0 c.in_ok-close.ensures.closes
 
 pub loop-event-preserved : goal.loop-event-preserved
 loop-event-preserved g c =

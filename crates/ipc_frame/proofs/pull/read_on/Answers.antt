@@ -2,7 +2,7 @@ use Rattle.ipc_frame.proofs.Pulls.{reads_lost, reads_step}
 use Rattle.ipc_frame.proofs.pull.read_on.Goals as goal
 
 pub returns-in-Ok-clause-reads : goal.returns-in-Ok-clause-reads
-returns-in-Ok-clause-reads g c = reads_step _ _ _ _ _ _ _ _ c.requires c.in-Ok.ensures.comes _ c.conclude.ensures
+returns-in-Ok-clause-reads g c = reads_step _ _ _ _ _ _ _ _ c.requires c.in-Ok.ensures.comes _ c.conclude.ensures.concludes
 
 pub returns-in-Err-clause-reads : goal.returns-in-Err-clause-reads
 returns-in-Err-clause-reads g c =

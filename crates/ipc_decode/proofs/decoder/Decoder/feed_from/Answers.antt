@@ -7,7 +7,7 @@ pub returns-in-Err-clause-drawn : goal.returns-in-Err-clause-drawn
 returns-in-Err-clause-drawn g c =
     draws_refused c.self.inside.frames c.feed_from-count.new.self c.self.inside.course c.refuse.new.self c.self.invariant c.in-Reading.is
     c.self.inside.course.counted _ c.self.view_is _ _ _ _ c.feed_from-count.ensures.takes c.in-Err.fault _ c.refuse.ensures.fault
-    c.in-Err.is c.refuse.ensures.refused
+    c.in-Err.is c.feed_from-count.ensures.memory c.refuse.ensures.refused
 
 pub returns-in-Ok-None-clause-drawn : goal.returns-in-Ok-None-clause-drawn
 returns-in-Ok-None-clause-drawn g c =
@@ -24,5 +24,5 @@ returns-after-accept-clause-drawn g c = elim c.match-accept.branch [
       c.accept.new.self c.self.invariant c.in-Reading.is c.self.inside.course.counted _ c.self.view_is _ _ _ _
       c.feed_from-count.ensures.takes c.in-Ok-Some.frame w.in-Err-accept.fault (c.in-Ok-Some.is ∙ ap Ok c.in-Ok-Some.field-0-is)
       w.in-Err-accept.ensures.brings
-      w.in-Err-accept.ensures.moves)
+      w.in-Err-accept.ensures.moves w.in-Err-accept.ensures.memory)
 ]

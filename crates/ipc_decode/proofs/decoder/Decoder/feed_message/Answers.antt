@@ -13,13 +13,14 @@ returns-in_err-event-in-Ok-default-Some-clause-fed c =
     c.self.inside.course.counted _ c.self.view_is c.in-Ok-default-Some.taken _ _
     c.in-Ok-default-Some.frame c.in_err-event-in-Ok-default-Some.field-0.0 c.in-Ok-default-Some.field-0-1-is
     c.in-Ok-default-Some.ensures.feeds
-    c.in_err-event-in-Ok-default-Some.ensures.brings c.in_err-event-in-Ok-default-Some.ensures.moves)
+    c.in_err-event-in-Ok-default-Some.ensures.brings c.in_err-event-in-Ok-default-Some.ensures.moves
+    c.in_err-event-in-Ok-default-Some.ensures.memory)
 
 pub returns-in-Err-clause-fed : goal.returns-in-Err-clause-fed
 returns-in-Err-clause-fed c =
     feeds_refused c.self.inside.frames c.feed.new.self c.self.inside.course c.refuse.new.self c.self.invariant c.in-Reading.is
     c.self.inside.course.counted _ c.self.view_is _ c.in-Err.fault _ c.refuse.ensures.fault
-    c.in-Err.ensures.feeds c.refuse.ensures.refused
+    c.in-Err.ensures.feeds c.in-Err.ensures.memory c.refuse.ensures.refused
 
 pub returns-in-Ok-default-None-clause-fed : goal.returns-in-Ok-default-None-clause-fed
 returns-in-Ok-default-None-clause-fed c =

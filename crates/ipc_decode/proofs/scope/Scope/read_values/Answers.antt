@@ -1,6 +1,6 @@
 use Rattle.std.proofs.Common.{◌≡◌, ◌∙◌, refl, sym, ap, inl, Some, w64}
 use Rattle.std.proofs.lemmas.Int.{to_z-of_z}
-use Rattle.ipc_dictionaries.specs.ValuesColumns.{columns_for, columns_in}
+use Rattle.ipc_dictionaries.specs.ValuesColumns.{columns_for}
 use Rattle.ipc_decode.proofs.Dictionaries.{answers_dictionary, few_columns, no_column}
 use Rattle.ipc_decode.proofs.scope.Scope.read_values.Goals as goal
 

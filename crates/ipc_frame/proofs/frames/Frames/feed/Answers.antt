@@ -14,7 +14,7 @@ invariant_of-self c =
     let limits = c.self.inside.limits in
     let z = bytes_of c.self.inside.parts in
     (subst (λ s. FeedsOn limits z c.args.piece.now c.feed_on.new.parts (Ok (more.taken, s))) more.field-0-1-is
-    (subst (λ r. FeedsOn limits z c.args.piece.now c.feed_on.new.parts r) more.is c.feed_on.ensures)).2
+    (subst (λ r. FeedsOn limits z c.args.piece.now c.feed_on.new.parts r) more.is c.feed_on.ensures.feeds)).2
 
 pub returns-in-Ok-default-More-clause-feeds : goal.returns-in-Ok-default-More-clause-feeds
 returns-in-Ok-default-More-clause-feeds c =
@@ -23,14 +23,14 @@ returns-in-Ok-default-More-clause-feeds c =
     let z = bytes_of c.self.inside.parts in
     rw (← c.self.view_is, c.in-Reading.is) (feeds_none limits z _ _ _ more.awaited
     (subst (λ s. FeedsOn limits z c.args.piece.now c.feed_on.new.parts (Ok (more.taken, s))) more.field-0-1-is
-    (subst (λ r. FeedsOn limits z c.args.piece.now c.feed_on.new.parts r) more.is c.feed_on.ensures)))
+    (subst (λ r. FeedsOn limits z c.args.piece.now c.feed_on.new.parts r) more.is c.feed_on.ensures.feeds)))
 
 pub returns-in-Err-clause-feeds : goal.returns-in-Err-clause-feeds
 returns-in-Err-clause-feeds c =
     let limits = c.self.inside.limits in
     let z = bytes_of c.self.inside.parts in
     rw (← c.self.view_is, c.in-Reading.is)
-    (refl, subst (λ r. FeedsOn limits z c.args.piece.now c.feed_on.new.parts r) c.in-Err.is c.feed_on.ensures)
+    (refl, subst (λ r. FeedsOn limits z c.args.piece.now c.feed_on.new.parts r) c.in-Err.is c.feed_on.ensures.feeds)
 
 pub invariant_of-self-in-Ok-default-Whole : goal.invariant_of-self-in-Ok-default-Whole
 invariant_of-self-in-Ok-default-Whole c =
@@ -38,7 +38,7 @@ invariant_of-self-in-Ok-default-Whole c =
     let limits = c.self.inside.limits in
     let z = bytes_of c.self.inside.parts in
     let fed = subst (λ s. FeedsOn limits z c.args.piece.now c.feed_on.new.parts (Ok (whole.taken, s))) whole.field-0-1-is
-    (subst (λ r. FeedsOn limits z c.args.piece.now c.feed_on.new.parts r) whole.is c.feed_on.ensures) in
+    (subst (λ r. FeedsOn limits z c.args.piece.now c.feed_on.new.parts r) whole.is c.feed_on.ensures.feeds) in
     rw c.phase_behind-self-inside.ensures (sound_behind _ _ _ whole.frame fed.1)
 
 pub returns-in-Ok-default-Whole-clause-feeds : goal.returns-in-Ok-default-Whole-clause-feeds
@@ -48,4 +48,4 @@ returns-in-Ok-default-Whole-clause-feeds c =
     let z = bytes_of c.self.inside.parts in
     rw (← c.self.view_is, c.in-Reading.is, c.phase_behind-self-inside.ensures) (feeds_whole limits z _ _ _ whole.frame
     (subst (λ s. FeedsOn limits z c.args.piece.now c.feed_on.new.parts (Ok (whole.taken, s))) whole.field-0-1-is
-    (subst (λ r. FeedsOn limits z c.args.piece.now c.feed_on.new.parts r) whole.is c.feed_on.ensures)))
+    (subst (λ r. FeedsOn limits z c.args.piece.now c.feed_on.new.parts r) whole.is c.feed_on.ensures.feeds)))

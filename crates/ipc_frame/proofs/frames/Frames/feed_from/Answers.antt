@@ -1,7 +1,10 @@
-use Rattle.std.proofs.Common.{subst, Ok, ◌∙◌, ap}
-use Rattle.ipc_frame.specs.Parts.{bytes_of}
+use Rattle.std.proofs.Common.{◌≡◌, subst, Ok, ◌∙◌, ap}
+use Rattle.std.specs.Prelude.{IfErr}
+use Rattle.ipc_model.specs.declared.fault.Fault.TheVariants.{OutOfMemory}
+use Rattle.ipc_frame.specs.Parts.{HasSize, bytes_of}
 use Rattle.ipc_frame.specs.Pieces.{IsSound}
 use Rattle.ipc_frame.proofs.Fed.{sound_behind}
+use Rattle.ipc_frame.proofs.Sized.{sized_alone, sized_at}
 use Rattle.ipc_frame.proofs.Pulls.{reads_at, takes_more, takes_whole, takes_refused}
 use Rattle.ipc_frame.proofs.frames.Frames.feed_from.Goals as goal
 
@@ -39,3 +42,11 @@ returns-in-Err-clause-takes g c =
     rw (← c.self.view_is, c.in-Reading.is)
     (takes_refused _ _ _ (bytes_of c.self.inside.parts) c.read_on-count.new.parts _ c.in-Err.fault
     (reads_at _ _ _ _ _ _ _ _ c.in-Err.is c.read_on-count.ensures.reads))
+
+pub returns-in-Err-clause-memory : goal.returns-in-Err-clause-memory
+returns-in-Err-clause-memory g c =
+    let undecided = subst (λ p. IsSound c.self.inside.limits c.self.inside.parts p) c.in-Reading.is c.self.invariant in
+    let memory = subst (λ r. IfErr r (λ fault. fault ≡ OutOfMemory → HasSize c.in-Reading.awaited)) c.in-Err.is
+    c.read_on-count.ensures.memory in
+    rw (← c.self.view_is, c.in-Reading.is)
+    (λ is. sized_alone _ (sized_at c.self.inside.limits c.self.inside.parts c.in-Reading.awaited (memory is) undecided.fits))

@@ -1,14 +1,17 @@
-use Rattle.std.proofs.Common.{◌∙◌, ap}
-use Rattle.ipc_frame.specs.Pieces.{Framing, Progress}
-use Rattle.ipc_frame.proofs.Held.{same_progress, sound_there}
+use Rattle.std.proofs.Common.{subst, sym}
+use Rattle.ipc_frame.specs.Pieces.{IsSound}
+use Rattle.ipc_frame.proofs.Held.{same_progress, sound_there, with_body}
 use Rattle.ipc_frame.proofs.frames.Frames.reuse.Goals as goal
 
 pub invariant_of-self : goal.invariant_of-self
 invariant_of-self c =
-    sound_there c.self.inside.limits c.self.inside.parts c.reuse.new.self c.reuse.ensures c.self.inside.phase c.self.invariant
+    let limits = c.self.inside.limits in
+    let parts = c.self.inside.parts in
+    let undecided = subst (λ s. IsSound limits parts s) c.in-Reading.is c.self.invariant in
+    subst (λ s. IsSound limits (with_body limits parts c.reuse.new.self c.reuse.ensures.came) s) (sym c.in-Reading.is)
+    (sound_there limits parts c.reuse.new.self c.reuse.ensures.came c.in-Reading.field-0 undecided)
 
-pub returns-in-Reading : goal.returns-in-Reading
-returns-in-Reading c =
-    let framing : Progress → Framing = λ progress. record { limits = c.self.inside.limits; progress = progress } in
-    ap framing (same_progress c.self.inside.limits c.self.inside.parts c.reuse.new.self c.reuse.ensures c.self.inside.phase)
-    ∙ c.self.view_is
+pub returns-in-Reading-clause-progress : goal.returns-in-Reading-clause-progress
+returns-in-Reading-clause-progress c =
+    rw (← c.self.view_is)
+    (same_progress c.self.inside.limits c.self.inside.parts c.reuse.new.self c.reuse.ensures.came c.self.inside.phase)

@@ -6,6 +6,7 @@ use Rattle.ipc_model.specs.declared.table.BatchRows.{BatchRows}
 use Rattle.ipc_model.specs.declared.value.Value.{Value}
 use Rattle.ipc_model.proofs.Depths.{short_paths}
 use Rattle.ipc_dict.specs.declared.kept.KeptEntry.{KeptEntry}
+use Rattle.ipc_dict.specs.declared.seed.Seed.{Seed}
 use Rattle.ipc_stream.specs.OpenStreams.{Opened}
 use Rattle.ipc_stream.specs.Pushed.{HoldsBatch, RefusesHeld, no_rows, with_rows}
 use Rattle.ipc_stream.specs.declared.pushed.PushedRows.{PushedRows}
@@ -15,13 +16,13 @@ use Rattle.ipc_stream.proofs.HeldRows.{judged_sent}
 use Rattle.ipc_stream.proofs.open_stream.OpenStream.send_batch.Goals as goal
 
 -- the batch whose rows were pushed is held
-all_held : (old begun : Opened) (limits : Limits) (s : Schema) (kept : List KeptEntry) (b : BatchRows)
+all_held : (old begun : Opened) (limits : Limits) (s : Schema) (kept : List KeptEntry) (seed : Seed) (b : BatchRows)
     (pairs : List (List ℕ × List ℕ)) (rows : List (List Value)) (held new : PushedRows)
-    → record { limits = limits; schema = s; kept = kept } ≡ begun → begun ≡ old → pairs ≡ b.pairs → rows ≡ b.rows
+    → record { limits = limits; schema = s; kept = kept; seed = seed } ≡ begun → begun ≡ old → pairs ≡ b.pairs → rows ≡ b.rows
     → HoldsBatch old.limits old.schema (no_rows pairs) held
     → (HoldsBatch limits s (no_rows pairs) held → HoldsBatch limits s (with_rows pairs rows) new)
     → HoldsBatch begun.limits begun.schema b new
-all_held old begun limits s kept b pairs rows held new view same copied all begins pushes =
+all_held old begun limits s kept seed b pairs rows held new view same copied all begins pushes =
     let first = subst (λ (o : Opened). HoldsBatch o.limits o.schema (no_rows pairs) held) (sym (view ∙ same)) begins in
     let given = subst (λ (rs : List (List Value)). HoldsBatch limits s (with_rows pairs rs) new) all (pushes first) in
     let whole = subst (λ (ps : List (List ℕ × List ℕ)). HoldsBatch limits s (with_rows ps b.rows) new) copied given in
@@ -45,8 +46,9 @@ returns-clause-sends g c =
     let copied = c.in_ok-clone.ensures.cases.1 (λ p q same i. (same.0 i, same.1 i)) in
     rw (← c.begin_batch.ensures.same)
     (c.send_rows.ensures.sends c.args.batch.now
-    (all_held c.args.self.now c.begin_batch.new.self c.self.inside.limits c.self.inside.schema c.self.inside.kept c.args.batch.now _ _ _ _
-    c.self.view_is c.begin_batch.ensures.same copied c.as_slice.ensures c.in_ok-held.ensures.holds
+    (all_held c.args.self.now c.begin_batch.new.self c.self.inside.limits c.self.inside.schema c.self.inside.kept
+    c.self.inside.seed c.args.batch.now _ _ _ _ c.self.view_is c.begin_batch.ensures.same copied c.as_slice.ensures
+    c.in_ok-held.ensures.holds
     (λ h. c.in_ok-push_all.ensures.holds c.self.inside.limits c.in_ok-clone.field-0 c.self.invariant.well_formed h)))
 
 pub returns-clause-sent : goal.returns-clause-sent
@@ -54,16 +56,18 @@ returns-clause-sent g c =
     let copied = c.in_ok-clone.ensures.cases.1 (λ p q same i. (same.0 i, same.1 i)) in
     rw (← c.begin_batch.ensures.same)
     (c.send_rows.ensures.sent c.args.batch.now
-    (all_held c.args.self.now c.begin_batch.new.self c.self.inside.limits c.self.inside.schema c.self.inside.kept c.args.batch.now _ _ _ _
-    c.self.view_is c.begin_batch.ensures.same copied c.as_slice.ensures c.in_ok-held.ensures.holds
+    (all_held c.args.self.now c.begin_batch.new.self c.self.inside.limits c.self.inside.schema c.self.inside.kept
+    c.self.inside.seed c.args.batch.now _ _ _ _ c.self.view_is c.begin_batch.ensures.same copied c.as_slice.ensures
+    c.in_ok-held.ensures.holds
     (λ h. c.in_ok-push_all.ensures.holds c.self.inside.limits c.in_ok-clone.field-0 c.self.invariant.well_formed h)))
 
 pub returns-clause-judged : goal.returns-clause-judged
 returns-clause-judged g c =
     let copied = c.in_ok-clone.ensures.cases.1 (λ p q same i. (same.0 i, same.1 i)) in
     let held =
-    all_held c.args.self.now c.begin_batch.new.self c.self.inside.limits c.self.inside.schema c.self.inside.kept c.args.batch.now _ _ _ _
-    c.self.view_is c.begin_batch.ensures.same copied c.as_slice.ensures c.in_ok-held.ensures.holds
+    all_held c.args.self.now c.begin_batch.new.self c.self.inside.limits c.self.inside.schema c.self.inside.kept
+    c.self.inside.seed c.args.batch.now _ _ _ _ c.self.view_is c.begin_batch.ensures.same copied c.as_slice.ensures
+    c.in_ok-held.ensures.holds
     (λ h. c.in_ok-push_all.ensures.holds c.self.inside.limits c.in_ok-clone.field-0 c.self.invariant.well_formed h) in
     rw (← c.begin_batch.ensures.same)
     (judged_sent c.begin_batch.new.self.limits c.begin_batch.new.self.schema c.args.batch.now c.send_rows.result held.accepted

@@ -1,4 +1,5 @@
-use Rattle.std.proofs.Common.{ap}
+use Rattle.std.proofs.Common.{ap, sym, ◌∙◌}
+use Rattle.ipc_model.proofs.FirstRowFaults.{first_both}
 use Rattle.ipc_model.specs.Refusals.{refusal_of}
 use Rattle.ipc_stream.proofs.HeldRows.{misfit_last}
 use Rattle.ipc_encode.specs.Numbers.{told}
@@ -10,7 +11,7 @@ pub returns : goal.returns
 returns c = λ limits b h.
     rw c.at_row.ensures
     (misfit_last c.args.schema.now.fields b.rows c.args.row.now c.in-Err.fault c.conforms.result _ h.accepted.fit c.conforms.ensures.fits.1
-    c.conforms.ensures.first c.in-Err.is
+    (c.in-Err.is ∙ sym ((first_both c.args.schema.now.fields c.args.row.now c.in-Err.fault).1 c.in-Err.ensures.first)) c.in-Err.is
     (ap (refusal_of c.in-Err.fault)
     (c.row_count.ensures (told (noted_place (tallied c.args.schema.now.fields b.rows))) limits c.args.schema.now.fields b.rows
     h.rows)))

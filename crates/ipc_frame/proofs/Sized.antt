@@ -1,0 +1,63 @@
+-- The first eight bytes of a message, behind which it takes memory.
+use Rattle.std.proofs.Common.{◌≡◌, subst, ℕ, ◌<◌, List, [], ◌∷◌, ◌++◌, length, take, drop, append_assoc, arith, Result, Ok, Err}
+use Rattle.std.specs.Prelude.{IfErr}
+use Rattle.std.proofs.lemmas.List.{take-append-drop}
+use Rattle.ipc_model.specs.declared.fault.Fault.{Fault}
+use Rattle.ipc_model.specs.declared.fault.Fault.TheVariants.{OutOfMemory}
+use Rattle.ipc_model.specs.declared.limits.Limits.{Limits}
+use Rattle.ipc_meta.specs.declared.head.Head.{Head}
+use Rattle.ipc_meta.specs.Heads.{HeadOf}
+use Rattle.ipc_meta.proofs.Empty.{no_metadata}
+use Rattle.ipc_frame.specs.Bodies.{came_in}
+use Rattle.ipc_frame.specs.Frames.{Frame, IsSized}
+use Rattle.ipc_frame.specs.Parts.{bytes_of, Fits, HasSize}
+use Rattle.ipc_frame.specs.declared.parts.Awaited.{Awaited}
+use Rattle.ipc_frame.specs.declared.parts.Awaited.TheVariants as awaited
+use Rattle.ipc_frame.specs.declared.parts.Parts.{Parts}
+use Rattle.ipc_frame.proofs.Exact.{begins_longer}
+use Rattle.ipc_frame.proofs.Stepped.{Feeding}
+
+-- bytes with a size have it with more bytes behind them
+pub sized_longer : {limits : Limits} → (z c : List ℕ) → IsSized limits z → IsSized limits (z ++ c)
+sized_longer z c h = (h.0, h.1, begins_longer z c h.0 h.2)
+
+-- metadata that states a head isn't empty
+pub some_metadata : {limits : Limits} → (meta : List ℕ) (head : Head) (n : ℕ) → HeadOf limits meta head n → 0 < length meta
+some_metadata [] head n h = absurd (no_metadata head n h)
+some_metadata (b ∷ bs) head n h = omega arith
+
+-- once the size is known, the bytes that came have it
+pub sized_at : (limits : Limits) (p : Parts) (a : Awaited) → HasSize a → Fits limits p a → IsSized limits (bytes_of p)
+sized_at limits p awaited.Mark has fits = absurd has
+sized_at limits p awaited.Size has fits = absurd has
+sized_at limits p (awaited.Metadata n) has fits =
+    sized_longer p.start (p.meta.items ++ came_in p.body) (n, fits.some, fits.begins)
+sized_at limits p (awaited.Body n) has fits =
+    sized_longer p.start (p.meta.items ++ came_in p.body)
+    (length p.meta.items, some_metadata p.meta.items fits.head n fits.states, fits.begins)
+
+-- and so have the bytes that are fed
+pub feeding_sized : (limits : Limits) (old piece : List ℕ) (p : Parts) (a : Awaited) (taken : ℕ) → Feeding limits old piece p a taken
+    → HasSize a → IsSized limits (old ++ piece)
+feeding_sized limits old piece p a taken h has =
+    subst (λ z. IsSized limits (old ++ z)) (take-append-drop taken piece)
+    (subst (IsSized limits) (append_assoc old (take taken piece) (drop taken piece))
+    (sized_longer (old ++ take taken piece) (drop taken piece)
+    (subst (IsSized limits) h.kept (sized_at limits p a has h.undecided.fits))))
+
+-- bytes with a size have it with none behind them
+pub sized_alone : {limits : Limits} → (z : List ℕ) → IsSized limits z → IsSized limits (z ++ [])
+sized_alone z h = sized_longer z [] h
+
+-- whatever the answer, memory ran out where it may
+pub memory_ran_out : {T : Type 0} → (r : Result T Fault) (P : Type 0) → P → IfErr r (λ fault. fault ≡ OutOfMemory → P)
+memory_ran_out (Ok x) P p = tt
+memory_ran_out (Err fault) P p = λ is. p
+
+-- a message has a size
+pub frame_sized : {limits : Limits} → (x m body : List ℕ) (g : Head) → Frame limits x m g body → IsSized limits x
+frame_sized x m body g f = (
+  length m,
+  some_metadata m g (length body) f.states,
+  record { begun = f.begun; marked = f.marked; sized = f.sized; fits = f.fits },
+)
