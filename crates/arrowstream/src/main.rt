@@ -112,13 +112,13 @@ fn main(rt: HostRuntime) -> ExitCode {
         Err(usage) => return ExitCode::from(tell_usage(&rt, &usage)),
     };
     let output = Device::new(io::writer(&rt));
-    let mut messages = rt.stderr();
+    let mut messages = Device::new(rt.stderr());
     let (status, _input, _output, _schema) = run_with_seed(
         rt.alloc(),
         draw_seed(&rt),
         job,
         schema,
-        rt.reader(),
+        Device::new(rt.reader()),
         output,
         &mut messages,
     );

@@ -1,5 +1,5 @@
 -- What the jobs read and send, and the exit statuses.
-use Rattle.std.specs.Prelude.{◌≡◌, ◌⊎◌, ℕ, List, Option, Some, Result, Ok, Err, ⊤}
+use Rattle.std.specs.Prelude.{◌≡◌, ◌≢◌, ◌⊎◌, ℕ, List, Option, Some, Result, Ok, Err, ⊤}
 use Rattle.std.specs.Prelude.{IfSome, None, option_and_then}
 use Rattle.std.specs.List.{AllByRecursion}
 use Rattle.std.specs.Str.{IsUtf8}
@@ -16,15 +16,16 @@ use Rattle.ipc_json.specs.SchemaJson.{schema_json}
 use Rattle.ipc_json.specs.SchemaTexts.{HasWideId}
 use Rattle.ipc_moments.specs.declared.fault.TextFault.{TextFault}
 use Rattle.ipc_moments.specs.declared.fault.TextFault.TheVariants as x
-use Rattle.ipc_print.specs.Streams.{Prints}
+use Rattle.ipc_print.specs.Streams.{Prints, TellsFailures as PrintTells}
 use Rattle.ipc_print.specs.declared.form.Form.{Form}
 use Rattle.ipc_print.specs.declared.form.Form.TheVariants.{Counts, Rows, Records}
 use Rattle.ipc_print.specs.declared.stop.Stop.{Stop as PrintStop}
 use Rattle.ipc_print.specs.declared.stop.Stop.TheVariants as print
-use Rattle.ipc_rewrite.specs.Rewriting.{Rewrites}
+use Rattle.ipc_rewrite.specs.Rewriting.{Rewrites, TellsFailures as RewriteTells}
 use Rattle.ipc_rewrite.specs.declared.stop.Stop.{Stop as RewriteStop}
 use Rattle.ipc_rewrite.specs.declared.stop.Stop.TheVariants as rewrite
 use Rattle.ipc_from_csv.specs.Conversion as csv
+use Rattle.ipc_from_csv.specs.Stops.{TellsSource}
 use Rattle.ipc_from_csv.specs.declared.stop.Stop.{Stop as CsvStop}
 use Rattle.ipc_from_csv.specs.declared.stop.Stop.TheVariants as from_csv
 use Rattle.ipc_command.specs.declared.stop.Stop.{Stop}
@@ -73,19 +74,23 @@ abbrev pub lifted : {A : Type 0} → (A → Stop) → Result ⊤ A → Result �
 lifted stop_of (Ok done) = Ok done
 lifted stop_of (Err why) = Err (stop_of why)
 
--- what a result states about a stream that is printed in a form
+-- what a result states about a stream that is printed in a form. W9 and F36 come exactly where the
+-- sink or the source failed, as `print` states it
 abbrev pub AnswersPrint : Form → Limits → Option (List ℕ) → Option (List ℕ) → Option (List ℕ)
-    → Option (List ℕ) → Result ⊤ Stop → Type 0
-AnswersPrint form limits old new written_old written_new r =
-    (p : Result ⊤ PrintStop) × (r ≡ lifted stop_of_print p)
+    → Option (List ℕ) → ℕ → ℕ → ℕ → ℕ → Result ⊤ Stop → Type 0
+AnswersPrint form limits old new written_old written_new source_old source_new sink_old sink_new
+    r = (p : Result ⊤ PrintStop) × (r ≡ lifted stop_of_print p)
     × Prints form limits old new written_old written_new p
+    × PrintTells source_old source_new sink_old sink_new p
 
--- what a result states about a stream that is rewritten
+-- what a result states about a stream that is rewritten. W9 and F36 come exactly where the sink or
+-- the source failed, as `rewrite` states it
 abbrev pub AnswersRewrite : Limits → Option (List ℕ) → Option (List ℕ) → Option (List ℕ)
-    → Option (List ℕ) → ℕ → ℕ → Result ⊤ Stop → Type 0
-AnswersRewrite limits old new written_old written_new failures_old failures_new r =
+    → Option (List ℕ) → ℕ → ℕ → ℕ → ℕ → Result ⊤ Stop → Type 0
+AnswersRewrite limits old new written_old written_new source_old source_new sink_old sink_new r =
     (p : Result ⊤ RewriteStop) × (r ≡ lifted stop_of_rewrite p)
-    × Rewrites limits old new written_old written_new failures_old failures_new p
+    × Rewrites limits old new written_old written_new sink_old sink_new p
+    × RewriteTells source_old source_new sink_old sink_new p
 
 -- the bytes of a file, if it was opened and they are known
 abbrev pub bytes_of : {P : Type 0} → (P → Option (List ℕ)) → Option P → Option (List ℕ)
@@ -126,29 +131,41 @@ HasNoSchema bytes failures (stop.Text x.BadSchemaJson) =
 HasNoSchema bytes failures (stop.Text x.OutOfMemory) = ⊤
 HasNoSchema bytes failures why = ⊥
 
--- what a result states about records of CSV. Either there was no schema, and nothing was sent; or
--- the records were converted by the file's schema to a stream with batches of `size` rows, or that
--- broke off
+-- the sink's count of failures before and after a conversion with this result: at W9 it is 1, and
+-- any other answer leaves a sink that works as one
+pub record TellsSink (old new : ℕ) (r : Result ⊤ CsvStop) : Type 0 where
+  pub failed : r ≡ Err (from_csv.Write w.Write) → new ≡ 1
+  pub works : r ≢ Err (from_csv.Write w.Write) → old ≡ 0 → new ≡ 0
+
+-- what a result states about records of CSV. Either there was no schema, and neither the source nor
+-- the sink was called; or the records were converted by the file's schema to a stream with batches
+-- of `size` rows, or that broke off
 abbrev pub AnswersCsv : Option (List ℕ) → ℕ → ℕ → Option (List ℕ) → Option (List ℕ)
-    → Option (List ℕ) → ℕ → ℕ → Result ⊤ Stop → Type 0
-AnswersCsv bytes failures size input written_old written_new failures_old failures_new r =
-    ((why : Stop) × (r ≡ Err why) × HasNoSchema bytes failures why × (written_new ≡ written_old)
-    × (failures_new ≡ failures_old))
+    → Option (List ℕ) → ℕ → ℕ → ℕ → ℕ → Result ⊤ Stop → Type 0
+AnswersCsv bytes failures size input written_old written_new source_old source_new sink_old sink_new
+    r = ((why : Stop) × (r ≡ Err why) × HasNoSchema bytes failures why
+    × (written_new ≡ written_old) × (source_new ≡ source_old) × (sink_new ≡ sink_old))
     ⊎ ((s : Schema) × IsSchemaOf bytes s × (failures ≡ 0) × (p : Result ⊤ CsvStop)
     × (r ≡ lifted stop_of_csv p)
-    × csv.Answers input s size written_old written_new failures_old failures_new p)
+    × csv.Answers input s size written_old written_new sink_old sink_new p
+    × TellsSource source_old source_new p × TellsSink sink_old sink_new p)
 
--- what a result states about a job: what was read of the input, and what was sent. `bytes` and
--- `failures` are those of the schema's file
+-- what a result states about a job: what was read of the input, what was sent, and which device
+-- failed. `bytes` and `failures` are those of the schema's file
 abbrev pub Answers : Job → Option (List ℕ) → ℕ → Option (List ℕ) → Option (List ℕ)
-    → Option (List ℕ) → Option (List ℕ) → ℕ → ℕ → Result ⊤ Stop → Type 0
-Answers (job.Check limits) bytes failures old new written_old written_new failed_old failed_new r =
-    AnswersPrint Counts limits old new written_old written_new r
-Answers (job.Show limits pairs) bytes failures old new written_old written_new failed_old failed_new
-    r = AnswersPrint (Rows pairs) limits old new written_old written_new r
-Answers (job.ToCsv limits) bytes failures old new written_old written_new failed_old failed_new r =
-    AnswersPrint Records limits old new written_old written_new r
-Answers (job.Rewrite limits) bytes failures old new written_old written_new failed_old failed_new
-    r = AnswersRewrite limits old new written_old written_new failed_old failed_new r
-Answers (job.FromCsv path size) bytes failures old new written_old written_new failed_old failed_new
-    r = AnswersCsv bytes failures size old written_old written_new failed_old failed_new r
+    → Option (List ℕ) → Option (List ℕ) → ℕ → ℕ → ℕ → ℕ → Result ⊤ Stop → Type 0
+Answers (job.Check limits) bytes failures old new written_old written_new source_old source_new
+    sink_old sink_new r = AnswersPrint Counts limits old new written_old written_new source_old
+    source_new sink_old sink_new r
+Answers (job.Show limits pairs) bytes failures old new written_old written_new source_old source_new
+    sink_old sink_new r = AnswersPrint (Rows pairs) limits old new written_old written_new
+    source_old source_new sink_old sink_new r
+Answers (job.ToCsv limits) bytes failures old new written_old written_new source_old source_new
+    sink_old sink_new r = AnswersPrint Records limits old new written_old written_new source_old
+    source_new sink_old sink_new r
+Answers (job.Rewrite limits) bytes failures old new written_old written_new source_old source_new
+    sink_old sink_new r = AnswersRewrite limits old new written_old written_new source_old
+    source_new sink_old sink_new r
+Answers (job.FromCsv path size) bytes failures old new written_old written_new source_old source_new
+    sink_old sink_new r = AnswersCsv bytes failures size old written_old written_new source_old
+    source_new sink_old sink_new r

@@ -1,7 +1,8 @@
 //! Does jobs, each between an input and a sink.
-ghost use Rattle.std.specs.Prelude.{◌≡◌, ◌≢◌, ◌⊎◌, [], Result, Some, IfErr, IfOk, OnOk, ⊤};
+ghost use Rattle.std.specs.Prelude.{◌≡◌, ◌≢◌, ◌⊎◌, [], Result, Some, OnOk, is_some, ⊤};
 ghost use Rattle.ipc_command.specs.Jobs.{Answers, AnswersCsv, AnswersPrint, AnswersRewrite};
 ghost use Rattle.ipc_command.specs.Jobs.{bytes_of, exit_status, failures_of, lifted, stop_of_csv};
+ghost use Rattle.ipc_command.specs.Lines.{TellsStop};
 ghost use Rattle.ipc_command.specs.Words.{HasGoodSize, IsBatchSize};
 ghost use Rattle.ipc_command.specs.declared.stop.Stop.{Stop};
 
@@ -12,51 +13,52 @@ use ipc_from_csv::from_csv_with_seed;
 use ipc_model::Limits;
 use ipc_print::{Form, print};
 use ipc_rewrite::rewrite_with_seed;
-use ipc_stream::{Device, Seed, Sink, Source};
+use ipc_stream::{Seed, Sink, Source};
 use std::alloc::Global;
-use std::io::{Read, Write};
 
 // Prints a stream in a form.
-fn print_job<R: Read, W: Sink>(
+fn print_job<S: Source, W: Sink>(
     alloc: Global,
     form: Form,
     limits: Limits,
-    input: R,
+    input: S,
     sink: W,
-) -> (Result<(), Stop>, R, W)
-    ensures answers { AnswersPrint form limits (R.remaining input) (R.remaining result.1)
-        (W.written sink) (W.written result.2) result.0 }
+) -> (Result<(), Stop>, S, W)
+    ensures answers { AnswersPrint form limits (S.remaining input) (S.remaining result.1)
+        (W.written sink) (W.written result.2) (S.failures input) (S.failures result.1)
+        (W.failures sink) (W.failures result.2) result.0 }
     ensures handed_on { OnOk result.0 (W.held_back result.2 ≡ Some []) }
     ensures works { exit_status result.0 ≢ 3 → W.failures sink ≡ 0 → W.failures result.2 ≡ 0 }
 {
     let mut sink = sink;
-    let (result, source) = print(alloc, limits, form, Device::new(input), &mut sink);
+    let (result, source) = print(alloc, limits, form, input, &mut sink);
     let result = match result {
         Ok(()) => Ok(()),
         Err(why) => Err(why.into()),
     };
-    (result, source.into_inner(), sink)
+    (result, source, sink)
 }
 
 // Writes a stream anew.
-fn rewrite_job<R: Read, W: Sink>(
+fn rewrite_job<S: Source, W: Sink>(
     alloc: Global,
     seed: Seed,
     limits: Limits,
-    input: R,
+    input: S,
     sink: W,
-) -> (Result<(), Stop>, R, W)
-    ensures answers { AnswersRewrite limits (R.remaining input) (R.remaining result.1)
-        (W.written sink) (W.written result.2) (W.failures sink) (W.failures result.2) result.0 }
+) -> (Result<(), Stop>, S, W)
+    ensures answers { AnswersRewrite limits (S.remaining input) (S.remaining result.1)
+        (W.written sink) (W.written result.2) (S.failures input) (S.failures result.1)
+        (W.failures sink) (W.failures result.2) result.0 }
     ensures handed_on { OnOk result.0 (W.held_back result.2 ≡ Some []) }
     ensures works { exit_status result.0 ≢ 3 → W.failures sink ≡ 0 → W.failures result.2 ≡ 0 }
 {
-    let (result, source, sink) = rewrite_with_seed(alloc, seed, limits, Device::new(input), sink);
+    let (result, source, sink) = rewrite_with_seed(alloc, seed, limits, input, sink);
     let result = match result {
         Ok(()) => Ok(()),
         Err(why) => Err(why.into()),
     };
-    (result, source.into_inner(), sink)
+    (result, source, sink)
 }
 
 // What became of records of CSV, as what became of the job.
@@ -70,20 +72,21 @@ fn csv_result(answer: Result<(), ipc_from_csv::Stop>) -> Result<(), Stop>
 }
 
 // Writes records of CSV as a stream, by the schema of a file.
-fn csv_job<P: Source, R: Read, W: Sink>(
+fn csv_job<P: Source, S: Source, W: Sink>(
     alloc: Global,
     seed: Seed,
     file: Option<P>,
     batch: u64,
-    input: R,
+    input: S,
     sink: W,
-) -> (Result<(), Stop>, R, W, Option<P>)
+) -> (Result<(), Stop>, S, W, Option<P>)
     requires { IsBatchSize batch }
     ensures answers { AnswersCsv (bytes_of P.remaining file) (failures_of P.failures result.3)
-        batch (R.remaining input) (W.written sink) (W.written result.2) (W.failures sink)
-        (W.failures result.2) result.0 }
+        batch (S.remaining input) (W.written sink) (W.written result.2) (S.failures input)
+        (S.failures result.1) (W.failures sink) (W.failures result.2) result.0 }
     ensures handed_on { OnOk result.0 (W.held_back result.2 ≡ Some []) }
     ensures works { exit_status result.0 ≢ 3 → W.failures sink ≡ 0 → W.failures result.2 ≡ 0 }
+    ensures file { is_some result.3 ≡ is_some file }
 {
     let (schema, file) = read_schema(alloc, file);
     let schema = match schema {
@@ -95,20 +98,21 @@ fn csv_job<P: Source, R: Read, W: Sink>(
 }
 
 // Does a job, as `run`.
-fn do_job<P: Source, R: Read, W: Sink>(
+fn do_job<P: Source, S: Source, W: Sink>(
     alloc: Global,
     seed: Seed,
     job: Job,
     schema: Option<P>,
-    input: R,
+    input: S,
     sink: W,
-) -> (Result<(), Stop>, R, W, Option<P>)
+) -> (Result<(), Stop>, S, W, Option<P>)
     requires { HasGoodSize job }
     ensures answers { Answers job (bytes_of P.remaining schema) (failures_of P.failures result.3)
-        (R.remaining input) (R.remaining result.1) (W.written sink) (W.written result.2)
-        (W.failures sink) (W.failures result.2) result.0 }
+        (S.remaining input) (S.remaining result.1) (W.written sink) (W.written result.2)
+        (S.failures input) (S.failures result.1) (W.failures sink) (W.failures result.2) result.0 }
     ensures handed_on { OnOk result.0 (W.held_back result.2 ≡ Some []) }
     ensures works { exit_status result.0 ≢ 3 → W.failures sink ≡ 0 → W.failures result.2 ≡ 0 }
+    ensures file { is_some result.3 ≡ is_some schema }
 {
     let (result, input, sink) = match job {
         Job::Check(limits) => print_job(alloc, Form::Counts, limits, input, sink),
@@ -125,8 +129,8 @@ fn do_job<P: Source, R: Read, W: Sink>(
 }
 
 /// Does a job: reads `input` batch by batch and writes the result to `sink`. After a refusal it
-/// prints the fault's line to `messages`; the bytes that were sent remain sent. Of a stream, no
-/// byte after its end-of-stream mark is read.
+/// prints the fault's line to `messages`, and at success nothing; the bytes that were sent remain
+/// sent. Of a stream, no byte after its end-of-stream mark is read.
 ///
 /// `schema` is the file that the job names, or `None` if it cannot be opened. Only `FromCsv` reads
 /// it. The batch size must be from 1 to 2^31 - 1, as `read_words` returns it.
@@ -138,20 +142,22 @@ fn do_job<P: Source, R: Read, W: Sink>(
 /// - 1 if what was read is refused;
 /// - 3 if the input, the schema's file or the sink failed;
 /// - 4 if memory ran out.
-pub fn run<P: Source, R: Read, W: Sink, E: Write>(
+pub fn run<P: Source, S: Source, W: Sink, E: Sink>(
     alloc: Global,
     job: Job,
     schema: Option<P>,
-    input: R,
+    input: S,
     sink: W,
     messages: &mut E,
-) -> (u8, R, W, Option<P>)
+) -> (u8, S, W, Option<P>)
     requires { HasGoodSize job }
-    // The status is that of an answer, which says what was read and what went out.
+    // The status is that of an answer, which says what was read, what went out and which device
+    // failed. Its line, if it has one, was printed.
     ensures answers { (r : Result ⊤ Stop) × (result.0 ≡ exit_status r)
         × Answers job (bytes_of P.remaining schema) (failures_of P.failures result.3)
-        (R.remaining input) (R.remaining result.1) (W.written sink) (W.written result.2)
-        (W.failures sink) (W.failures result.2) r }
+        (S.remaining input) (S.remaining result.1) (W.written sink) (W.written result.2)
+        (S.failures input) (S.failures result.1) (W.failures sink) (W.failures result.2) r
+        × TellsStop (E.written messages.old) (E.written messages.new) (E.failures messages.new) r }
     // Where all was done the sink holds nothing back.
     ensures handed_on { result.0 ≡ 0 → W.held_back result.2 ≡ Some [] }
     // A sink fails only at 3.
@@ -159,28 +165,32 @@ pub fn run<P: Source, R: Read, W: Sink, E: Write>(
     // There is no other status.
     ensures one { (result.0 ≡ 0) ⊎ (result.0 ≡ 1) ⊎ (result.0 ≡ 3) ⊎ (result.0 ≡ 4) }
     // At 0 no message is written.
-    ensures silent { result.0 ≡ 0 → E.contents messages.new ≡ E.contents messages.old }
+    ensures silent { result.0 ≡ 0 → E.written messages.new ≡ E.written messages.old }
+    // A file that was opened comes back, and none is made up.
+    ensures file { is_some result.3 ≡ is_some schema }
 {
     run_with_seed(alloc, Seed::Fixed, job, schema, input, sink, messages)
 }
 
 /// Does a job as `run` does, but hashes the values of dictionaries that are written with this seed.
 /// Nobody who does not know a random seed can choose values whose hashes collide.
-pub fn run_with_seed<P: Source, R: Read, W: Sink, E: Write>(
+pub fn run_with_seed<P: Source, S: Source, W: Sink, E: Sink>(
     alloc: Global,
     seed: Seed,
     job: Job,
     schema: Option<P>,
-    input: R,
+    input: S,
     sink: W,
     messages: &mut E,
-) -> (u8, R, W, Option<P>)
+) -> (u8, S, W, Option<P>)
     requires { HasGoodSize job }
-    // The status is that of an answer, which says what was read and what went out.
+    // The status is that of an answer, which says what was read, what went out and which device
+    // failed. Its line, if it has one, was printed.
     ensures answers { (r : Result ⊤ Stop) × (result.0 ≡ exit_status r)
         × Answers job (bytes_of P.remaining schema) (failures_of P.failures result.3)
-        (R.remaining input) (R.remaining result.1) (W.written sink) (W.written result.2)
-        (W.failures sink) (W.failures result.2) r }
+        (S.remaining input) (S.remaining result.1) (W.written sink) (W.written result.2)
+        (S.failures input) (S.failures result.1) (W.failures sink) (W.failures result.2) r
+        × TellsStop (E.written messages.old) (E.written messages.new) (E.failures messages.new) r }
     // Where all was done the sink holds nothing back.
     ensures handed_on { result.0 ≡ 0 → W.held_back result.2 ≡ Some [] }
     // A sink fails only at 3.
@@ -188,13 +198,15 @@ pub fn run_with_seed<P: Source, R: Read, W: Sink, E: Write>(
     // There is no other status.
     ensures one { (result.0 ≡ 0) ⊎ (result.0 ≡ 1) ⊎ (result.0 ≡ 3) ⊎ (result.0 ≡ 4) }
     // At 0 no message is written.
-    ensures silent { result.0 ≡ 0 → E.contents messages.new ≡ E.contents messages.old }
+    ensures silent { result.0 ≡ 0 → E.written messages.new ≡ E.written messages.old }
+    // A file that was opened comes back, and none is made up.
+    ensures file { is_some result.3 ≡ is_some schema }
 {
     let (result, input, sink, schema) = do_job(alloc, seed, job, schema, input, sink);
     match result {
         Ok(()) => (0, input, sink, schema),
         Err(stop) => {
-            let _ = stop.write_line(messages);
+            let _ = stop.write_line(alloc, messages);
             (stop.exit_status(), input, sink, schema)
         }
     }

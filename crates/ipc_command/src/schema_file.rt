@@ -1,6 +1,6 @@
 //! Reads a schema from a file.
 ghost use Rattle.std.specs.Prelude.{◌≡◌, ◌⊎◌, ◌++◌, ◌+◌, ◌≤◌, List, ℕ, Some, IfErr, IfOk, IfSome};
-ghost use Rattle.std.specs.Prelude.{OnOk};
+ghost use Rattle.std.specs.Prelude.{OnOk, is_some};
 ghost use Rattle.std.specs.Io.KnownBytes.{Consumes, IsAtEnd};
 ghost use Rattle.ipc_command.specs.Jobs.{HasNoSchema, HoldsNoSchema, IsSchemaOf, IsUnreadable};
 ghost use Rattle.ipc_command.specs.Jobs.{bytes_of, failures_of};
@@ -80,6 +80,7 @@ pub fn read_schema<P: Source>(alloc: Global, file: Option<P>) -> (Result<Schema,
     ensures works { OnOk result.0 (failures_of P.failures result.1 ≡ 0) }
     ensures none { IfErr result.0
         (HasNoSchema (bytes_of P.remaining file) (failures_of P.failures result.1)) }
+    ensures file { is_some result.1 ≡ is_some file }
 {
     let Some(mut file) = file else {
         return (Err(Stop::Schema), None);

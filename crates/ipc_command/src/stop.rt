@@ -1,13 +1,15 @@
 //! The exit status and the line of each reason why a job stops.
-ghost use Rattle.std.specs.Prelude.{◌≡◌, ◌∷◌, ◌++◌, [], OnOk, Some};
+ghost use Rattle.std.specs.Prelude.{◌≡◌, ◌<◌, ℕ, List, length, OnOk, Some};
 ghost use Rattle.std.specs.Io.KnownBytes.{Appends};
 ghost use Rattle.ipc_command.specs.Jobs.{stop_of_csv, stop_of_print, stop_of_rewrite, stop_status};
-ghost use Rattle.ipc_command.specs.Lines.{stop_text};
+ghost use Rattle.ipc_command.specs.Lines.{IsLineOf, stop_text};
+ghost use Rattle.ipc_stream.specs.Failures.{Counts};
 
 use ipc_model::{Fault, WriteFault};
 use ipc_moments::TextFault;
-use std::io::Write;
-use std::{fmt, io};
+use ipc_stream::{Failed, Sink};
+use std::alloc::Global;
+use std::fmt;
 
 /// Why a job stopped.
 #[derive(Debug, Drop)]
@@ -85,13 +87,35 @@ impl Stop {
         }
     }
 
-    /// Writes it as one line. An error is the writer's.
-    pub fn write_line<E: Write>(&self, messages: &mut E) -> io::Result<()>
-        ensures line { OnOk result (Appends (E.contents messages.old) (E.contents messages.new)
-            (stop_text self.now ++ 10 ∷ [])) }
+    /// Writes it as one line to a sink; if memory for the line runs out, the line says that.
+    ///
+    /// Errors: the sink failed, and it may have taken a part of the line.
+    pub fn write_line<E: Sink>(&self, alloc: Global, messages: &mut E) -> Result<(), Failed>
+        ensures line { OnOk result ((line : List ℕ) × IsLineOf self.now line
+            × Appends (E.written messages.old) (E.written messages.new) line) }
+        ensures failures { Counts (E.failures messages.old) (E.failures messages.new) result }
     {
-        writeln!(messages, "{self}")
+        match format!(in alloc; "{self}\n") {
+            Ok(line) => write_all(messages, line.as_bytes()),
+            Err(_) => write_all(messages, b"out of memory\n"),
+        }
     }
+}
+
+// Writes all of the bytes.
+fn write_all<E: Sink>(sink: &mut E, bytes: &[u8]) -> Result<(), Failed>
+    requires { 0 < length bytes.now }
+    ensures ok { OnOk result (Appends (E.written sink.old) (E.written sink.new) bytes.now) }
+    ensures failures { Counts (E.failures sink.old) (E.failures sink.new) result }
+{
+    let mut written = 0;
+    while written < bytes.len() {
+        match sink.write(&bytes[written..]) {
+            Ok(count) => written += count,
+            Err(failed) => return Err(failed),
+        }
+    }
+    Ok(())
 }
 
 /// The fault with the number of its message, as in `F4 Truncated at message 1`. The input and the

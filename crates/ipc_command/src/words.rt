@@ -1,7 +1,13 @@
 //! Reads the arguments of a command line.
-ghost use Rattle.std.specs.Prelude.{◌≡◌, IfOk, IfSome};
-ghost use Rattle.ipc_command.specs.Words.{AreAskedFor, HasGoodSize, HaveOptions, IsAsked};
-ghost use Rattle.ipc_command.specs.Words.{IsBatchSize};
+ghost use Rattle.std.specs.Prelude.{◌≡◌, ℕ, IfErr, IfOk, IfSome, None, codes, false, map};
+ghost use Rattle.std.specs.Prelude.{string_bytes};
+ghost use Rattle.clap.specs.Words.{app_of, found_of, kind_of, new_app, rows_of, rule_of};
+ghost use Rattle.clap.specs.Words.{subcommand_rows_of};
+ghost use Rattle.ipc_model.specs.declared.limits.Limits.{Limits};
+ghost use Rattle.ipc_command.specs.CommandLine as line;
+ghost use Rattle.ipc_command.specs.Words.{AskForLimits, Asks, AsksNoJob, HasGoodSize, HasNumber};
+ghost use Rattle.ipc_command.specs.Words.{HaveValues, IsBatchSize, IsCommand, IsJobFound, IsJobOf};
+ghost use Rattle.ipc_command.specs.Words.{IsNone, IsUnasked, IsUsageOf};
 
 use clap::builder::ValueParser;
 use clap::error::ErrorKind;
@@ -46,6 +52,11 @@ pub enum Usage {
 }
 
 impl From<AllocError> for Usage {
+    ghost use Rattle.std.specs.Prelude.{◌≡◌};
+    ghost use Rattle.ipc_command.specs.declared.words.Usage.TheVariants.{OutOfMemory};
+
+    ghost from_gives = { λ _ why. why ≡ OutOfMemory };
+
     fn from(_: AllocError) -> Usage {
         Usage::OutOfMemory
     }
@@ -112,7 +123,10 @@ Examples:
   arrowstream from-csv --schema trades.json --batch 1000 < trades.csv > trades.arrows";
 
 // An option of this name with a value, for which its help shows this word.
-fn option<'a>(alloc: Global, name: &'a str, value: &'a str) -> Arg<'a> {
+fn option<'a>(alloc: Global, name: &'a str, value: &'a str) -> Arg<'a>
+    ensures rule { rule_of result ≡ line.option name.entry.now }
+    ensures own { result.global ≡ false }
+{
     let option = Arg::new(alloc, name).long(name);
     option.value_name(value).action(ArgAction::Set)
 }
@@ -126,14 +140,20 @@ fn number<'a>(
     greatest: u64,
     usual: &'a str,
     help: &'a str,
-) -> Arg<'a> {
+) -> Arg<'a>
+    ensures rule { rule_of result ≡ line.number name.entry.now least greatest usual.entry.now }
+    ensures own { result.global ≡ false }
+{
     let number = option(alloc, name, "N").default_value(usual);
     let parser = ValueParser::unsigned(least, greatest);
     number.value_parser(parser).help(help)
 }
 
 // The options that say how much a stream may hold.
-fn with_limits<'a>(alloc: Global, command: Command<'a>) -> Result<Command<'a>, AllocError> {
+fn with_limits<'a>(alloc: Global, command: Command<'a>) -> Result<Command<'a>, AllocError>
+    requires { IsCommand (app_of command) command }
+    ensures { IfOk result (IsCommand (line.with_limits (app_of command.entry))) }
+{
     command
         .arg(number(
             alloc,
@@ -162,89 +182,108 @@ fn with_limits<'a>(alloc: Global, command: Command<'a>) -> Result<Command<'a>, A
 }
 
 // A subcommand with this help and no options.
-fn described<'a>(alloc: Global, name: &'a str, about: &'a str, examples: &'a str) -> Command<'a> {
+fn described<'a>(alloc: Global, name: &'a str, about: &'a str, examples: &'a str) -> Command<'a>
+    ensures { IsCommand (new_app name.entry.now) result }
+{
     let job = Command::new(alloc, name);
     job.about(about).after_help(examples)
 }
 
 // A subcommand that reads a stream to its end.
-fn check<'a>(alloc: Global) -> Result<Command<'a>, AllocError> {
+fn check<'a>(alloc: Global) -> Result<Command<'a>, AllocError>
+    ensures { IfOk result (IsCommand line.check) }
+{
     let about = "Reads an Arrow IPC stream to its end, and prints its schema and counts";
     with_limits(alloc, described(alloc, "check", about, CHECK_EXAMPLES))
 }
 
 // The option that prints the pairs of each batch.
-fn pairs<'a>(alloc: Global) -> Arg<'a> {
+fn pairs<'a>(alloc: Global) -> Arg<'a>
+    ensures rule { rule_of result ≡ line.flag (codes "pairs") }
+    ensures own { result.global ≡ false }
+{
     let help = "Print the pairs of key and value of each batch on a line before its rows";
     let pairs = Arg::new(alloc, "pairs").long("pairs");
     pairs.action(ArgAction::SetTrue).help(help)
 }
 
 // The subcommand that prints rows.
-fn show<'a>(alloc: Global) -> Result<Command<'a>, AllocError> {
+fn show<'a>(alloc: Global) -> Result<Command<'a>, AllocError>
+    ensures { IfOk result (IsCommand line.show) }
+{
     let about = "Prints each row of an Arrow IPC stream as a JSON array on a line of its own";
     let show = described(alloc, "show", about, SHOW_EXAMPLES);
     with_limits(alloc, show.arg(pairs(alloc))?)
 }
 
 // The subcommand that prints a stream as CSV.
-fn to_csv<'a>(alloc: Global) -> Result<Command<'a>, AllocError> {
+fn to_csv<'a>(alloc: Global) -> Result<Command<'a>, AllocError>
+    ensures { IfOk result (IsCommand line.to_csv) }
+{
     let about = "Prints an Arrow IPC stream as CSV with a header";
     with_limits(alloc, described(alloc, "to-csv", about, TO_CSV_EXAMPLES))
 }
 
 // The option that names the file with the schema.
-fn schema<'a>(alloc: Global) -> Arg<'a> {
+fn schema<'a>(alloc: Global) -> Arg<'a>
+    ensures rule { rule_of result ≡ line.needed (codes "schema") }
+    ensures own { result.global ≡ false }
+{
     let schema = option(alloc, "schema", "PATH").required(true);
     schema.help("A file with the schema as JSON")
 }
 
 // The option that says how many rows a batch has.
-fn batch<'a>(alloc: Global) -> Arg<'a> {
+fn batch<'a>(alloc: Global) -> Arg<'a>
+    ensures rule { rule_of result ≡ line.batch }
+    ensures own { result.global ≡ false }
+{
     let help = "Rows of a batch; the last batch may have fewer";
     number(alloc, "batch", 1, 0x7fff_ffff, "65536", help)
 }
 
 // The subcommand that writes a stream of CSV.
-fn from_csv<'a>(alloc: Global) -> Result<Command<'a>, AllocError> {
+fn from_csv<'a>(alloc: Global) -> Result<Command<'a>, AllocError>
+    ensures { IfOk result (IsCommand line.from_csv) }
+{
     let about = "Converts CSV to an Arrow IPC stream";
     let from_csv = described(alloc, "from-csv", about, FROM_CSV_EXAMPLES);
     from_csv.arg(schema(alloc))?.arg(batch(alloc))
 }
 
 // The subcommand that writes a stream anew.
-fn rewrite<'a>(alloc: Global) -> Result<Command<'a>, AllocError> {
+fn rewrite<'a>(alloc: Global) -> Result<Command<'a>, AllocError>
+    ensures { IfOk result (IsCommand line.rewrite) }
+{
     let about = "Rewrites an Arrow IPC stream in canonical layout, batch by batch";
     with_limits(alloc, described(alloc, "rewrite", about, REWRITE_EXAMPLES))
 }
 
 // The program's words without its subcommands.
-fn program<'a>(alloc: Global) -> Command<'a> {
+fn program<'a>(alloc: Global) -> Command<'a>
+    ensures { IsCommand line.program result }
+{
     let about = "Reads and writes Apache Arrow IPC streams";
     let program = described(alloc, "arrowstream", about, EXAMPLES);
     program.version("0.1.0").subcommand_required(true)
 }
 
-// A command with one more subcommand, where both found memory.
-fn with_subcommand<'a>(
-    command: Command<'a>,
-    subcommand: Result<Command<'a>, AllocError>,
-) -> Result<Command<'a>, AllocError> {
-    command.subcommand(subcommand?)
-}
-
 // The arguments of the program. The help lists the subcommands in the order in which they are
 // added.
-fn command<'a>(alloc: Global) -> Result<Command<'a>, AllocError> {
-    let command = with_subcommand(program(alloc), check(alloc))?;
-    let command = with_subcommand(command, show(alloc))?;
-    let command = with_subcommand(command, to_csv(alloc))?;
-    let command = with_subcommand(command, from_csv(alloc))?;
-    with_subcommand(command, rewrite(alloc))
+fn command<'a>(alloc: Global) -> Result<Command<'a>, AllocError>
+    ensures { IfOk result (IsCommand line.arrowstream) }
+{
+    let command = program(alloc).subcommand(check(alloc)?)?;
+    let command = command.subcommand(show(alloc)?)?;
+    let command = command.subcommand(to_csv(alloc)?)?;
+    let command = command.subcommand(from_csv(alloc)?)?;
+    command.subcommand(rewrite(alloc)?)
 }
 
 // The message for a refused command line.
-fn usage_of(alloc: Global, error: &Error) -> Usage {
+fn usage_of(alloc: Global, error: &Error) -> Usage
+    ensures { IsUsageOf (kind_of error.now) result }
+{
     let Ok(text) = format!(in alloc; "{error}") else {
         return Usage::OutOfMemory;
     };
@@ -256,22 +295,35 @@ fn usage_of(alloc: Global, error: &Error) -> Usage {
 }
 
 // A command line that is none of the program's, and why.
-fn wrong(alloc: Global, why: &str) -> Usage {
+fn wrong(alloc: Global, why: &str) -> Usage
+    ensures { IsNone result }
+{
     match String::from_str(alloc, why) {
         Ok(text) => Usage::Wrong(text),
         Err(_) => Usage::OutOfMemory,
     }
 }
 
-// Limits with the options' values. None where one of them is above its greatest.
-fn limits_with(metadata: Option<u64>, body: Option<u64>, rows: Option<u64>) -> Option<Limits>
-    ensures { IfSome result (λ limits. HaveOptions metadata body rows limits) }
+// The number of an option.
+fn number_of(options: &ArgMatches<'_>, name: &str) -> Option<u64>
+    ensures some { IfSome result (HasNumber name.now (rows_of (found_of options.now))) }
+    ensures none { result ≡ None → (n : ℕ) → HasNumber name.now (rows_of (found_of options.now)) n
+        → ⊥ }
+{
+    options.get_one::<u64>(name)
+}
+
+// Limits with these values, and else the standard ones. None where one of them is above its
+// greatest.
+fn limits_with(metadata: u64, body: u64, rows: u64) -> Option<Limits>
+    ensures some { IfSome result (HaveValues metadata body rows) }
+    ensures none { result ≡ None → (limits : Limits) → HaveValues metadata body rows limits → ⊥ }
 {
     let usual = Limits::standard();
     Limits::new(
-        metadata.unwrap_or(usual.metadata),
-        body.unwrap_or(usual.body),
-        rows.unwrap_or(usual.slots),
+        metadata,
+        body,
+        rows,
         usual.fields,
         usual.depth,
         usual.text,
@@ -279,38 +331,67 @@ fn limits_with(metadata: Option<u64>, body: Option<u64>, rows: Option<u64>) -> O
     )
 }
 
-// The limits that a subcommand's options ask for.
-fn read_limits(alloc: Global, words: &ArgMatches<'_>) -> Result<Limits, Usage>
-    ensures { IfOk result AreAskedFor }
+// The limits that a subcommand's options ask for, if there are such.
+fn limits_of(options: &ArgMatches<'_>) -> Option<Limits>
+    ensures some { IfSome result (AskForLimits (rows_of (found_of options.now))) }
+    ensures none { result ≡ None → (limits : Limits)
+        → AskForLimits (rows_of (found_of options.now)) limits → ⊥ }
 {
-    let limits = limits_with(
-        words.get_one::<u64>("max-metadata"),
-        words.get_one::<u64>("max-body"),
-        words.get_one::<u64>("max-rows"),
-    );
-    match limits {
+    let metadata = number_of(options, "max-metadata")?;
+    let body = number_of(options, "max-body")?;
+    let rows = number_of(options, "max-rows")?;
+    limits_with(metadata, body, rows)
+}
+
+// The limits that a subcommand's options ask for.
+fn read_limits(alloc: Global, options: &ArgMatches<'_>) -> Result<Limits, Usage>
+    ensures asked { IfOk result (AskForLimits (rows_of (found_of options.now))) }
+    ensures refused { IfErr result (IsUnasked (AskForLimits (rows_of (found_of options.now)))) }
+{
+    match limits_of(options) {
         Some(limits) => Ok(limits),
         None => Err(wrong(alloc, "error: a limit is above its greatest value\n")),
     }
 }
 
+// The number of rows of a batch that is asked for, if it is allowed.
+fn batch_size(options: &ArgMatches<'_>) -> Option<u64>
+    ensures some { IfSome result (λ n. HasNumber (codes "batch") (rows_of (found_of options.now)) n
+        × IsBatchSize n) }
+    ensures none { result ≡ None → (n : ℕ)
+        → HasNumber (codes "batch") (rows_of (found_of options.now)) n → IsBatchSize n → ⊥ }
+{
+    let batch = number_of(options, "batch")?;
+    if 1 <= batch && batch <= 0x7fff_ffff {
+        Some(batch)
+    } else {
+        None
+    }
+}
+
 // The schema's path and the batch size that `from-csv` is given.
-fn read_from_csv(alloc: Global, words: &ArgMatches<'_>) -> Result<Job, Usage>
-    ensures asked { IfOk result IsAsked }
+fn read_from_csv(alloc: Global, options: &ArgMatches<'_>) -> Result<Job, Usage>
+    ensures asked { IfOk result (IsJobOf (codes "from-csv") (rows_of (found_of options.now))) }
+    ensures refused { IfErr result
+        (IsUnasked (IsJobOf (codes "from-csv") (rows_of (found_of options.now)))) }
     ensures size { IfOk result HasGoodSize }
 {
-    match (words.get_str("schema"), words.get_one::<u64>("batch")) {
-        (Some(path), Some(batch)) if 1 <= batch && batch <= 0x7fff_ffff => Ok(Job::FromCsv {
-            schema: String::from_str(alloc, path)?,
-            batch,
-        }),
-        _ => Err(wrong(alloc, "error: no schema, or a batch of no size\n")),
-    }
+    let Some(path) = options.get_str("schema") else {
+        return Err(wrong(alloc, "error: no schema\n"));
+    };
+    let Some(batch) = batch_size(options) else {
+        return Err(wrong(alloc, "error: a batch of no size\n"));
+    };
+    Ok(Job::FromCsv {
+        schema: String::from_str(alloc, path)?,
+        batch,
+    })
 }
 
 // The job of a subcommand that is given these options.
 fn read_job(alloc: Global, name: &str, options: &ArgMatches<'_>) -> Result<Job, Usage>
-    ensures asked { IfOk result IsAsked }
+    ensures asked { IfOk result (IsJobOf name.now (rows_of (found_of options.now))) }
+    ensures refused { IfErr result (IsUnasked (IsJobOf name.now (rows_of (found_of options.now)))) }
     ensures size { IfOk result HasGoodSize }
 {
     match name {
@@ -328,7 +409,8 @@ fn read_job(alloc: Global, name: &str, options: &ArgMatches<'_>) -> Result<Job, 
 
 // The job of the subcommand that was asked for.
 fn job_of(alloc: Global, words: &ArgMatches<'_>) -> Result<Job, Usage>
-    ensures asked { IfOk result IsAsked }
+    ensures asked { IfOk result (IsJobFound (subcommand_rows_of words.now)) }
+    ensures refused { IfErr result (IsUnasked (IsJobFound (subcommand_rows_of words.now))) }
     ensures size { IfOk result HasGoodSize }
 {
     match words.subcommand() {
@@ -339,7 +421,8 @@ fn job_of(alloc: Global, words: &ArgMatches<'_>) -> Result<Job, Usage>
 
 // The job of words that the command line outlives.
 fn read<'a>(alloc: Global, words: &'a [String]) -> Result<Job, Usage>
-    ensures asked { IfOk result IsAsked }
+    ensures asked { IfOk result (Asks (map string_bytes words.entry.now)) }
+    ensures refused { IfErr result (AsksNoJob (map string_bytes words.entry.now)) }
     ensures size { IfOk result HasGoodSize }
 {
     let command: Command<'a> = command(alloc)?;
@@ -354,9 +437,13 @@ fn read<'a>(alloc: Global, words: &'a [String]) -> Result<Job, Usage>
 /// Errors: `Help` if the arguments ask for help or the version; `Wrong` if they are invalid, for
 /// example a number out of its range; `OutOfMemory` if memory ran out.
 pub fn read_words(alloc: Global, words: Vec<String>) -> Result<Job, Usage>
-    // Its limits are the usual ones but for those that the three options ask for, and a batch has
-    // from 1 to 2^31 - 1 rows.
-    ensures asked { IfOk result IsAsked }
+    // The job is the one of the subcommand that the words name, with the values of its options in
+    // the words, or else their defaults.
+    ensures asked { IfOk result (Asks (map string_bytes words.items)) }
+    // Help is answered only if help or the version is asked for, and `Wrong` only if the words have
+    // another fault or ask for no job.
+    ensures refused { IfErr result (AsksNoJob (map string_bytes words.items)) }
+    // A batch has from 1 to 2^31 - 1 rows.
     ensures size { IfOk result HasGoodSize }
 {
     read(alloc, words.as_slice())

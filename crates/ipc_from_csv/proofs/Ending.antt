@@ -194,3 +194,9 @@ pub header_stops : {R : Type 0} (remaining : R → Option (List ℕ)) (input : O
 header_stops remaining input s size old failures reader stop.Input answers = before answers (refl, refl)
 header_stops remaining input s size old failures reader (stop.Text fault) answers = in_header answers (refl, refl)
 header_stops remaining input s size old failures reader (stop.Write fault) answers = absurd answers
+
+-- the same, where the reader says what the bytes are of
+pub header_told : {R : Type 0} (reader : Reader R) (remaining : R → Option (List ℕ)) (input : Option (List ℕ)) (s : Schema) (size : ℕ)
+    (old : Option (List ℕ)) (failures : ℕ) (why : Stop) → AnswersHeader remaining input s.fields reader (Err why)
+    → StopsFor input s size old old failures failures why
+header_told reader remaining input s size old failures why answers = header_stops remaining input s size old failures reader why answers

@@ -11,11 +11,12 @@ use Rattle.ipc_model.specs.declared.schema.Field.{Field, out-Field}
 use Rattle.ipc_model.specs.declared.schema.Field.TheFolds.{fold_out-Field}
 use Rattle.ipc_model.specs.declared.value.Value.{Value}
 use Rattle.ipc_model.specs.declared.layout.Layout.{Layout}
+use Rattle.ipc_model.specs.declared.layout.Layout.TheVariants as l
 use Rattle.ipc_model.specs.declared.limits.Limits.{Limits}
 use Rattle.ipc_model.specs.Layouts.{layout}
 use Rattle.ipc_column.specs.Shapes.{Shape, bare, field, field_shape, field_step, shape_of}
 use Rattle.ipc_encode.specs.Buffers.{below, columns}
-use Rattle.ipc_encode.specs.Limits.{HasLongNode, IsTooMany}
+use Rattle.ipc_encode.specs.Limits.{HasLongItems, HasLongNode, IsTooMany, SomeColumn}
 use Rattle.ipc_encode.proofs.Steps.{below_none, cells_length}
 use Rattle.ipc_csv.specs.RowCsv.{flat_fault, is_nested}
 
@@ -26,6 +27,20 @@ no_values most (field l children rest) (inl own) = absurd (omega (arith, own))
 no_values most (field l children rest) (inr (inl under)) =
     no_values most children (subst (λ (given : ℕ → List Value). HasLongNode most children given) (λ d j. below_none l j d) under)
 no_values most (field l children rest) (inr (inr more)) = no_values most rest more
+
+-- a column that gives no values to a child has no items
+no_items : (l : Layout) (vs : List Value) → ((j : ℕ) → below l vs j ≡ []) → HasLongItems l vs → ⊥
+no_items l.Lists vs none long = let size = ap length (none 0) in absurd (omega (arith, size, long))
+no_items _ vs none long = long
+
+-- no values are no items, at any level
+no_items_below : (shape : Shape) → SomeColumn HasLongItems shape (λ j. []) → ⊥
+no_items_below bare h = h
+no_items_below (field l children rest) (inl own) = no_items l [] (below_none l) own
+no_items_below (field l children rest) (inr (inl under)) =
+    no_items_below children
+    (subst (λ (given : ℕ → List Value). SomeColumn HasLongItems children given) (λ d j. below_none l j d) under)
+no_items_below (field l children rest) (inr (inr more)) = no_items_below rest more
 
 -- the values of a type without inner values give none to a child
 flat_below : (kind : DataType) (d : Option Dictionary) (vs : List Value) (j : ℕ) → is_nested kind ≡ false → below (layout kind d) vs j ≡ []
@@ -53,6 +68,29 @@ neither : (a b : Bool) → (a || b) ≡ false → (a ≡ false) × (b ≡ false)
 neither false b e = (refl, e)
 neither true b e = absurd (cc)
 
+-- the layout of a field's column gives no values to a child, where the type has no inner values
+flat_field : (f : Field) → is_nested (out-Field f).kind ≡ false → (vs : List Value) (j : ℕ) → below (field_shape f).0 vs j ≡ []
+flat_field f flat =
+    let laid : layout (out-Field f).kind (out-Field f).dictionary ≡ (field_shape f).0 =
+    ap (λ (s : Layout × Shape). s.0) (sym (fold_out-Field (Layout × Shape) field_step f)) in
+    subst (λ (l : Layout). (vs : List Value) (j : ℕ) → below l vs j ≡ []) laid
+    (λ vs j. flat_below (out-Field f).kind (out-Field f).dictionary vs j flat)
+
+flat_items : (fs : List Field) (given : ℕ → List Value) → AreFlat fs → SomeColumn HasLongItems (shape_of fs) given → ⊥
+flat_items [] given flat h = h
+flat_items (f ∷ fs) given flat h =
+    let both = neither (is_nested (out-Field f).kind) (list_any (λ g. is_nested (out-Field g).kind) fs) flat in
+    one (field_shape f).0 (field_shape f).1 (flat_field f both.0) (λ more. flat_items fs (λ j. given (suc j)) both.1 more) h
+  where
+    one : (l : Layout) (children : Shape) → ((vs : List Value) (j : ℕ) → below l vs j ≡ [])
+        → (SomeColumn HasLongItems (shape_of fs) (λ j. given (suc j)) → ⊥)
+        → SomeColumn HasLongItems (field l children (shape_of fs)) given → ⊥
+    one l children none rest (inl own) = no_items l (given 0) (none (given 0)) own
+    one l children none rest (inr (inl under)) =
+        no_items_below children
+        (subst (λ (g : ℕ → List Value). SomeColumn HasLongItems children g) (λ d j. none (given 0) j d) under)
+    one l children none rest (inr (inr more)) = rest more
+
 flat_long : (most : ℕ) (fs : List Field) (given : ℕ → List Value) → AreFlat fs → ((j : ℕ) → length (given j) ≤ most)
     → HasLongNode most (shape_of fs) given → ⊥
 flat_long most [] given flat few h = h
@@ -77,7 +115,8 @@ flat_long most (f ∷ fs) given flat few h =
 pub flat_rows : (limits : Limits) (fs : List Field) (rows : List (List Value)) → AreFlat fs → length rows ≤ limits.slots
     → IsTooMany limits fs rows → ⊥
 flat_rows limits fs rows flat few (inl many) = absurd (omega (arith, many, few))
-flat_rows limits fs rows flat few (inr long) =
+flat_rows limits fs rows flat few (inr (inr items)) = flat_items fs (columns rows) flat items
+flat_rows limits fs rows flat few (inr (inl long)) =
     flat_long limits.slots fs (columns rows) flat (λ j. let size = cells_length j rows in omega (arith, size, few)) long
 
 first_none : {X : Type 0} (b : Bool) (x : X) (y : Option X) → (if b then Some x else y) ≡ None → b ≡ false

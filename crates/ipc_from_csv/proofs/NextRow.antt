@@ -1,12 +1,20 @@
 -- One record more, read as one row more.
-use Rattle.std.proofs.Common.{◌≡◌, sym, subst, ℕ, ◌+◌, List, [], ◌∷◌, ◌++◌, Option, None, arith}
-use Rattle.std.specs.Prelude.{true}
+use Rattle.std.proofs.Common.{◌≡◌, sym, subst, refl, ap, ℕ, ◌+◌, List, [], ◌∷◌, ◌++◌, Option, Some, None, Result, Ok, Err, arith}
+use Rattle.std.specs.Prelude.{true, ⊤, IfErr, OnOk}
+use Rattle.std.specs.Io.KnownBytes.{Keeps}
 use Rattle.std.proofs.lemmas.List.{length_push}
 use Rattle.csv.specs.declared.reader.Reader.{Reader}
 use Rattle.ipc_model.specs.declared.schema.Schema.{Schema}
 use Rattle.ipc_model.specs.declared.value.Value.{Value}
 use Rattle.ipc_csv.specs.CsvRows.{RecordReadsAs}
-use Rattle.ipc_csv.specs.RowCsv.{flat_fault, names}
+use Rattle.ipc_csv.specs.RowCsv.{flat_fault, names, unless_fault}
+use Rattle.ipc_moments.specs.declared.fault.TextFault.{TextFault}
+use Rattle.ipc_from_csv.specs.Conversion.{Answers, Converts, StopsFor}
+use Rattle.ipc_from_csv.specs.Stops.{TellsInput, TellsNext, stop_of}
+use Rattle.ipc_from_csv.specs.declared.stop.NoRow.{NoRow}
+use Rattle.ipc_from_csv.specs.declared.stop.NoRow.TheVariants as none
+use Rattle.ipc_from_csv.specs.declared.stop.Stop.{Stop}
+use Rattle.ipc_from_csv.specs.declared.stop.Stop.TheVariants as stop
 use Rattle.ipc_from_csv.specs.Records.{Stands}
 use Rattle.ipc_from_csv.specs.Steps.{FindsRow, HasRead}
 use Rattle.ipc_from_csv.specs.declared.rows.RowReader.{RowReader}
@@ -37,3 +45,27 @@ finds_row remaining input s records rows old new texts has stands counted reads 
     read = each_push s.fields records rows texts new.row has.read reads;
   },
 )
+
+-- a reader that stands at the start of bytes that are kept stands at the start of those that were known
+pub stands_kept : {R : Type 0} (remaining : R → Option (List ℕ)) (known input : Option (List ℕ)) (reader : Reader R) → Keeps known input
+    → Stands remaining input [] reader → Stands remaining known [] reader
+stands_kept remaining None input reader same stands = tt
+stands_kept remaining (Some xs) None reader same stands = absurd same
+stands_kept remaining (Some xs) (Some ys) reader same stands = subst (λ bytes. Stands remaining (Some bytes) [] reader) same stands
+
+-- why no row is read tells of the source what the stop does
+pub told_next : (failures : ℕ) (why : NoRow) → TellsNext failures (let r : Result ⊤ NoRow = Err why in r)
+    → TellsInput failures (let r : Result ⊤ Stop = Err (stop_of why) in r)
+told_next failures none.Input tells = tells
+told_next failures (none.Text fault) tells = tells
+
+-- what is answered of the whole conversion, at Ok and at a refusal
+pub answers_ok : (input : Option (List ℕ)) (s : Schema) (size : ℕ) (old new : Option (List ℕ)) (f0 f1 : ℕ) (r : Result ⊤ Stop)
+    → Answers input s size old new f0 f1 r → OnOk r (Converts input s size old new f0 f1)
+answers_ok input s size old new f0 f1 (Ok x) h = h
+answers_ok input s size old new f0 f1 (Err why) h = tt
+
+pub answers_err : (input : Option (List ℕ)) (s : Schema) (size : ℕ) (old new : Option (List ℕ)) (f0 f1 : ℕ) (r : Result ⊤ Stop)
+    → Answers input s size old new f0 f1 r → IfErr r (StopsFor input s size old new f0 f1)
+answers_err input s size old new f0 f1 (Ok x) h = tt
+answers_err input s size old new f0 f1 (Err why) h = h

@@ -73,9 +73,9 @@ starts_out s old failures writer {limits} standard starts = record {
 module _ (s : Schema) (batches : List BatchRows) (old : Option (List ℕ)) (failures : ℕ) (writer new : Writer)
     (out : IsOut s batches old failures writer) (b : BatchRows) where
   -- what is true of the schema of the writer and of what it sent is true of these batches'
-  pub as_out : (P : Opened → Type 0) → P (record { limits = writer.limits; schema = writer.schema; kept = writer.kept })
-      → P (record { limits = writer.limits; schema = s; kept = kept_after s.fields (none_sent s) batches })
-  as_out P h = subst P (λ i. record { limits = writer.limits; schema = out.same_schema i; kept = out.kept i }) h
+  pub as_out : (P : Opened → Type 0) → P (record { limits = writer.limits; schema = writer.schema; kept = writer.kept; seed = writer.seed })
+      → P (record { limits = writer.limits; schema = s; kept = kept_after s.fields (none_sent s) batches; seed = writer.seed })
+  as_out P h = subst P (λ i. record { limits = writer.limits; schema = out.same_schema i; kept = out.kept i; seed = writer.seed }) h
 
   sent_more : Sent (SendsBatch writer.limits s (kept_after s.fields (none_sent s) batches) b) writer.written new.written writer.failures
       new.failures → Sent (SendsTable writer.limits (table_of s (batches ++ b ∷ []))) old new.written failures new.failures
@@ -91,7 +91,7 @@ module _ (s : Schema) (batches : List BatchRows) (old : Option (List ℕ)) (fail
   pub batch_out : LeavesBatch writer b new (Ok tt) → AcceptsBatch writer.limits writer.schema b
       → IsOut s (batches ++ b ∷ []) old failures new
   batch_out leaves accepts =
-      let (worked, sent, same_schema, same_limits, works, kept) = leaves in
+      let (worked, sent, same_schema, same_limits, works, kept, same_seed) = leaves in
       let first = as_out (λ z. Sent (SendsBatch z.limits z.schema z.kept b) writer.written new.written writer.failures new.failures) sent in
       let fits = as_out (λ z. AcceptsBatch z.limits z.schema b) accepts in
       let kept_here = as_out (λ z. new.kept ≡ kept_after z.schema.fields z.kept (b ∷ [])) kept in

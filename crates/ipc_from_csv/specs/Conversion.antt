@@ -99,7 +99,7 @@ pub data RefusesText (input : Option (List ℕ)) (s : Schema) (size : ℕ) (old 
       → StopsBehind input s size old new failures_old failures_new
       → RefusesText input s size old new failures_old failures_new fault
 
--- the reader of the input stopped: before the header was read, and nothing was sent, or after some
+-- the source of the input failed: before the header was read, and nothing was sent, or after some
 -- records
 pub data StopsReading (input : Option (List ℕ)) (s : Schema) (size : ℕ) (old new : Option (List ℕ))
     (failures_old failures_new : ℕ) : Type 0 where

@@ -39,7 +39,7 @@ FindsRow remaining input s records rows now true = (texts : List (List ℕ))
     × HasRead remaining input s (records ++ texts ∷ []) (rows ++ now.row ∷ []) now
 FindsRow remaining input s records rows now false = AreRecordsOf input (names s.fields ∷ records)
 
--- why no row is read after these records: the reader stopped, memory ran out, or the next record
+-- why no row is read after these records: the source failed, memory ran out, or the next record
 -- does not read as a row
 abbrev pub RefusesNext : Option (List ℕ) → Schema → List (List (List ℕ)) → Stop → Type 0
 RefusesNext input s records why = (why ≡ stop.Input) ⊎ (why ≡ stop.Text OutOfMemory)

@@ -9,19 +9,23 @@ ghost use Rattle.ipc_from_csv.specs.Records.{IsSetUp};
 ghost use Rattle.ipc_from_csv.specs.Conversion.{Answers, Converts, IsLeftToRefuse, StopsFor};
 ghost use Rattle.ipc_from_csv.specs.Steps.{Begins, Came, HasRead, PushesRows, SendsBatch};
 ghost use Rattle.ipc_from_csv.specs.Steps.{SendsRecords};
+ghost use Rattle.ipc_from_csv.specs.Stops.{TellsInput, TellsSource};
+ghost use Rattle.csv.specs.Reading.{reader_source};
 
 use crate::records::{read_header, reader_of};
 use crate::rows::RowReader;
+use crate::source_reader::{SourceReader, Watched};
 use crate::stop::Stop;
 use csv::ByteRecord;
+use ipc_csv::check_flat;
 use ipc_model::{Items, Limits, Schema, WriteFault};
-use ipc_stream::{BatchWriter, Seed, Sink, StreamWriter};
+use ipc_stream::{BatchWriter, Seed, Sink, Source, StreamWriter};
 use std::alloc::Global;
 use std::io::Read;
 
 // Pushes the kept row and those of the next records, until the batch has this number of rows or no
 // record remains. Returns whether the batch is full.
-fn push_rows<R: Read, W: Sink>(
+fn push_rows<R: Read + Watched, W: Sink>(
     alloc: Global,
     rows: &mut RowReader<R>,
     schema: &Schema,
@@ -30,6 +34,8 @@ fn push_rows<R: Read, W: Sink>(
 ) -> Result<bool, Stop>
     requires some { 0 < size }
     requires set_up { IsSetUp rows.old.reader }
+    requires works { R.failures (reader_source rows.old.reader) ≡ 0 }
+    ensures device { TellsInput (R.failures (reader_source rows.new.reader)) result }
     ensures set_up { OnOk result (IsSetUp rows.new.reader) }
     ensures counted { OnOk result (rows.old.count ≤ rows.new.count) }
     ensures same_reference { batch.new.writer.ghost_name ≡ batch.old.writer.ghost_name }
@@ -52,7 +58,7 @@ fn push_rows<R: Read, W: Sink>(
 }
 
 // Sends a batch of the kept row and those of the next records, and says whether it was full.
-fn send_batch<R: Read, W: Sink>(
+fn send_batch<R: Read + Watched, W: Sink>(
     alloc: Global,
     rows: &mut RowReader<R>,
     stream: &mut StreamWriter<W>,
@@ -61,6 +67,8 @@ fn send_batch<R: Read, W: Sink>(
 ) -> Result<bool, Stop>
     requires some { 0 < size }
     requires set_up { IsSetUp rows.old.reader }
+    requires works { R.failures (reader_source rows.old.reader) ≡ 0 }
+    ensures device { TellsInput (R.failures (reader_source rows.new.reader)) result }
     ensures set_up { OnOk result (IsSetUp rows.new.reader) }
     ensures counted { OnOk result (rows.old.count ≤ rows.new.count) }
     ensures sends { (input old : Option (List ℕ)) (failures : ℕ)
@@ -76,7 +84,7 @@ fn send_batch<R: Read, W: Sink>(
 
 // Sends the rows of all records after the header, in batches of this number of rows. The last batch
 // may have fewer.
-fn send_records<R: Read, W: Sink>(
+fn send_records<R: Read + Watched, W: Sink>(
     alloc: Global,
     rows: &mut RowReader<R>,
     stream: &mut StreamWriter<W>,
@@ -85,6 +93,8 @@ fn send_records<R: Read, W: Sink>(
 ) -> Result<(), Stop>
     requires some { 0 < size }
     requires set_up { IsSetUp rows.old.reader }
+    requires works { R.failures (reader_source rows.old.reader) ≡ 0 }
+    ensures device { TellsInput (R.failures (reader_source rows.new.reader)) result }
     ensures sends { (input old : Option (List ℕ)) (failures : ℕ)
         → Begins R.remaining input schema.now old failures rows.old stream.old
         → SendsRecords input schema.now size old failures stream.new result }
@@ -120,6 +130,7 @@ fn begin_stream<W: Sink>(
 ) -> Result<StreamWriter<W>, (WriteFault, W)>
     ensures started { IfOk result
         (λ s. Starts limits schema.now (W.written sink) (W.failures sink) s) }
+    ensures seeded { IfOk result (λ s. s.seed ≡ seed) }
     ensures refused { IfErr result (λ e. StartFails limits schema.now (W.written sink)
         (W.written e.1) (W.failures sink) (W.failures e.1) e.0) }
 {
@@ -129,7 +140,7 @@ fn begin_stream<W: Sink>(
 }
 
 // Sends the stream of the records after the header, and returns its sink.
-fn send_stream<R: Read, W: Sink>(
+fn send_stream<R: Read + Watched, W: Sink>(
     alloc: Global,
     seed: Seed,
     rows: &mut RowReader<R>,
@@ -139,6 +150,8 @@ fn send_stream<R: Read, W: Sink>(
 ) -> (Result<(), Stop>, W)
     requires some { 0 < batch }
     requires set_up { IsSetUp rows.old.reader }
+    requires works { R.failures (reader_source rows.old.reader) ≡ 0 }
+    ensures device { TellsInput (R.failures (reader_source rows.new.reader)) result.0 }
     ensures converts { (input : Option (List ℕ))
         → HasRead R.remaining input schema.now [] [] rows.old
         → Answers input schema.now batch (W.written sink) (W.written result.1) (W.failures sink)
@@ -177,17 +190,18 @@ fn send_stream<R: Read, W: Sink>(
 /// - `Text` X5 and X4 of record 0, the header: before anything is sent. X5 of record 0 also comes
 ///   if there is no record.
 /// - `Text` X5 and X4 of a later record, counted from 1: it is no row of the schema.
-/// - `Text` `OutOfMemory`: memory for a record or its row ran out.
+/// - `Text` `OutOfMemory`: memory for a record or its row ran out, or there are more than 2^64 - 1
+///   records after the header.
 /// - `Write` W1 and W6: the schema is refused, as in `StreamWriter::start`.
 /// - `Write` W6, at a record: with it the batch, or the values of a dictionary in it, are too long.
 /// - `Write` W7 or W8, at a record: with it the batch has more values of a dictionary than an index
 ///   type of its fields counts (W7), or than `limits.slots` (W8).
 /// - `Write` W9: the sink failed.
 /// - `Write` W11: memory ran out.
-/// - `Input`: the reader failed, or returned more than 2^64 - 1 records after the header.
+/// - `Input`: the source failed, perhaps before the call.
 ///
 /// Faults at a record come before the next record is read.
-pub fn from_csv<R: Read, W: Sink>(
+pub fn from_csv<R: Source, W: Sink>(
     alloc: Global,
     input: R,
     sink: W,
@@ -213,13 +227,15 @@ pub fn from_csv<R: Read, W: Sink>(
     // Any other answer leaves a sink that works as one.
     ensures works { result.0 ≢ Err (stop.Write WriteFault.Write) → W.failures sink ≡ 0
         → W.failures result.2 ≡ 0 }
+    // `Input` comes exactly where the source failed.
+    ensures device { TellsSource (R.failures input) (R.failures result.1) result.0 }
 {
     from_csv_with_seed(alloc, Seed::Fixed, input, sink, schema, batch)
 }
 
 /// Converts CSV to a stream as `from_csv` does, but hashes the values of dictionaries with this
 /// seed. Nobody who does not know a random seed can choose values whose hashes collide.
-pub fn from_csv_with_seed<R: Read, W: Sink>(
+pub fn from_csv_with_seed<R: Source, W: Sink>(
     alloc: Global,
     seed: Seed,
     input: R,
@@ -246,13 +262,18 @@ pub fn from_csv_with_seed<R: Read, W: Sink>(
     // Any other answer leaves a sink that works as one.
     ensures works { result.0 ≢ Err (stop.Write WriteFault.Write) → W.failures sink ≡ 0
         → W.failures result.2 ≡ 0 }
+    // `Input` comes exactly where the source failed.
+    ensures device { TellsSource (R.failures input) (R.failures result.1) result.0 }
 {
-    let mut reader = reader_of(alloc, input);
+    if let Err(fault) = check_flat(schema) {
+        return (Err(Stop::Text(fault)), input, sink);
+    }
+    let mut reader = reader_of(alloc, SourceReader::new(input));
     let mut fields = ByteRecord::new(alloc);
     if let Err(why) = read_header(&mut reader, &mut fields, schema) {
-        return (Err(why), reader.into_inner(), sink);
+        return (Err(why), reader.into_inner().into_inner(), sink);
     }
     let mut rows = RowReader::new(alloc, reader, fields);
     let (result, sink) = send_stream(alloc, seed, &mut rows, sink, schema, batch);
-    (result, rows.into_inner(), sink)
+    (result, rows.into_inner().into_inner(), sink)
 }

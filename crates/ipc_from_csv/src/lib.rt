@@ -4,6 +4,7 @@
 mod convert;
 mod records;
 mod rows;
+mod source_reader;
 mod stop;
 
 pub use convert::{from_csv, from_csv_with_seed};

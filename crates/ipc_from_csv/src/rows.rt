@@ -4,13 +4,16 @@ ghost use Rattle.std.specs.Prelude.{false};
 ghost use Rattle.ipc_model.specs.declared.value.Value.{Value};
 ghost use Rattle.ipc_from_csv.specs.Records.{IsSetUp};
 ghost use Rattle.ipc_from_csv.specs.Steps.{FindsRow, HasRead, RefusesNext};
-ghost use Rattle.ipc_from_csv.specs.Stops.{stop_of};
+ghost use Rattle.ipc_from_csv.specs.Stops.{TellsNext, stop_of};
+ghost use Rattle.csv.specs.Reading.{reader_source};
 
 use crate::records::next_record;
+use crate::source_reader::Watched;
 use crate::stop::NoRow;
 use csv::{ByteRecord, Reader};
 use ipc_csv::fill_row_from_csv;
 use ipc_model::{Items, Row, Schema};
+use ipc_moments::TextFault;
 use std::alloc::Global;
 use std::io::Read;
 
@@ -23,7 +26,7 @@ pub struct RowReader<R> {
     pub count: u64,
 }
 
-impl<R: Read> RowReader<R> {
+impl<R: Read + Watched> RowReader<R> {
     // The rows after the header, which `reader` returned as its first record.
     pub fn new(alloc: Global, reader: Reader<R>, fields: ByteRecord) -> RowReader<R>
         ensures reader { result.reader ≡ reader }
@@ -38,7 +41,7 @@ impl<R: Read> RowReader<R> {
     }
 
     // Reads the next record and makes the kept row the one as which it reads, and says whether
-    // there was a record.
+    // there was a record. A record above 2^64 - 1 has no number, which counts as a want of memory.
     pub fn next(&mut self, alloc: Global, schema: &Schema) -> Result<bool, NoRow>
         requires set_up { IsSetUp self.old.reader }
         ensures set_up { OnOk result (IsSetUp self.new.reader) }
@@ -53,12 +56,13 @@ impl<R: Read> RowReader<R> {
         ensures counted { IfOk result (λ found. found ≡ true
             → (self.new.count ≡ self.old.count + 1) × (self.new.count < 2 ^ 64)) }
         ensures stayed { IfOk result (λ found. found ≡ false → self.new.count ≡ self.old.count) }
+        ensures device { TellsNext (R.failures (reader_source self.new.reader)) result }
     {
         if !next_record(&mut self.reader, &mut self.fields)? {
             return Ok(false);
         }
         let Some(count) = self.count.checked_add(1) else {
-            return Err(NoRow::Input);
+            return Err(NoRow::Text(TextFault::OutOfMemory));
         };
         self.count = count;
         fill_row_from_csv(alloc, schema, count, &self.fields, &mut self.row)?;
@@ -66,7 +70,9 @@ impl<R: Read> RowReader<R> {
     }
 
     // The input.
-    pub fn into_inner(self) -> R {
+    pub fn into_inner(self) -> R
+        ensures { result ≡ reader_source self.reader }
+    {
         let RowReader {
             reader,
             fields: _,

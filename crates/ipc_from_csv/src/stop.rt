@@ -11,7 +11,7 @@ use std::alloc::AllocFailed;
 /// Why a conversion from CSV stopped.
 #[derive(Debug, PartialEq, Eq, Drop)]
 pub enum Stop {
-    /// The input's reader failed, or returned more than 2^64 - 1 records after the header.
+    /// The source of the input failed.
     Input,
     /// The stream could not be written: W1 to W9, or W11.
     Write(WriteFault),
@@ -24,7 +24,7 @@ pub enum Stop {
 /// call that may return one clears space for it.
 #[derive(Debug, PartialEq, Eq, Drop)]
 pub(crate) enum NoRow {
-    /// The input's reader failed, or returned too many records.
+    /// The source of the input failed.
     Input,
     /// The record is no row, or memory ran out.
     Text(TextFault),

@@ -130,9 +130,10 @@ pub record TellsSink (old new : ℕ) (fault : WriteFault) : Type 0 where
   pub stayed : fault ≢ w.Write → new ≡ old
 
 -- the counts of failures of source and sink before and after a call with this result. At Ok neither
--- ever failed. At `Read` the fault is F36 exactly if the source failed in the call, and the sink
--- did not fail in it. At `Text` neither failed in it. At `Write` the fault is W9 exactly if the
--- sink failed in the call; with any other fault neither failed. If both failed, the answer is W9
+-- ever failed. At `Read` the source's count is 1 if the fault is F36, and another fault leaves it;
+-- the sink's is left. At `Text` the source never failed, and the sink's count is left. At `Write`
+-- the sink's count is 1 if the fault is W9, and any other fault leaves both. So of devices that had
+-- not failed before, F36 and W9 name the one that failed; if both failed, the answer is W9
 abbrev pub TellsFailures : ℕ → ℕ → ℕ → ℕ → Result ⊤ Stop → Type 0
 TellsFailures source_old source_new sink_old sink_new (Ok done) =
     (source_old ≡ 0) × (source_new ≡ 0) × (sink_old ≡ 0) × (sink_new ≡ 0)

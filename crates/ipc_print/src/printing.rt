@@ -245,8 +245,9 @@ pub fn print<R: Source, W: Sink>(
     // Whatever the answer, a beginning of the text of what was read was printed.
     ensures part { PrintsSome form limits (R.remaining source) (R.remaining result.1)
         (W.written sink.old) (W.written sink.new) }
-    // W9 is answered exactly where the sink failed in this call, and F36 exactly where the source
-    // did and the sink did not.
+    // With devices that had not failed before, W9 is answered exactly where the sink failed in this
+    // call, and F36 exactly where the source did and the sink did not. If a device had failed
+    // before, the answer is no success, and its count stays 1.
     ensures devices { TellsFailures (R.failures source) (R.failures result.1)
         (W.failures sink.old) (W.failures sink.new) result.0 }
     // A table with its mark is printed whatever follows it, unless its columns or a row have no

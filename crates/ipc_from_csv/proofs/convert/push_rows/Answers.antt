@@ -24,6 +24,7 @@ loop-init g c = (
         c.in_ok-push.ensures.stays.1 (c.in_ok-push.ensures.judged _ held),
     refl,
   ),
+  c.requires.works,
 )
 
 pub next-requires : goal.next-requires
@@ -87,6 +88,7 @@ loop-preserved g c = (
             c.push-in-loop.new.self.writer.now _ c.in_ok-push-2.ensures.stays.1 (c.in_ok-push-2.ensures.judged _ holds.held_rows),
         length_push left c.next.new.self.row ∙ ap (λ n. n + 1) many,
       ),
+  c.in_ok-next.ensures.device,
 )
 
 pub returns-clause-set_up : goal.returns-clause-set_up

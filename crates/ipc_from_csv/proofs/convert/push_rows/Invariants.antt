@@ -1,4 +1,5 @@
 use Rattle.std.proofs.Common.{◌≡◌, ◌<◌, ◌≤◌, ℕ, List, [], ◌∷◌, length, Option}
+use Rattle.csv.specs.Reading.{reader_source}
 use Rattle.ipc_model.specs.declared.value.Value.{Value}
 use Rattle.ipc_stream.specs.Pushed.{HoldsBatch, no_rows}
 use Rattle.ipc_from_csv.specs.Records.{IsSetUp}
@@ -13,4 +14,4 @@ invariant-loop g l =
     → Came g.R.Read.remaining input l.schema l.size old failures l.fn.rows l.fn.batch.writer.now (l.fn.rows.row ∷ [])
     → HoldsBatch l.fn.batch.writer.now.limits l.fn.batch.writer.now.schema (no_rows []) l.fn.batch.batch
     → (left : List (List Value)) × Holds g.R.Read.remaining input l.schema l.size old failures l.rows l.batch.writer.now l.batch.batch left
-    × (length left ≡ l.counter))
+    × (length left ≡ l.counter)) × (g.R.Watched.failures (reader_source l.rows.reader) ≡ 0)

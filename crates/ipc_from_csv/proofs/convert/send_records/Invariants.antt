@@ -1,4 +1,5 @@
-use Rattle.std.proofs.Common.{◌-◌, ◌^◌, ℕ, List, [], Option}
+use Rattle.std.proofs.Common.{◌≡◌, ◌-◌, ◌^◌, ℕ, List, [], Option}
+use Rattle.csv.specs.Reading.{reader_source}
 use Rattle.ipc_from_csv.specs.Records.{IsSetUp}
 use Rattle.ipc_from_csv.specs.Steps.{Begins, Came}
 use Rattle.ipc_from_csv.proofs.convert.send_records.Given as goal
@@ -9,6 +10,7 @@ invariant-loop-alloc g l =
     IsSetUp l.rows.reader
     × ((input old : Option (List ℕ)) (failures : ℕ) → Begins g.R.Read.remaining input l.schema old failures l.fn.rows l.fn.stream
     → Came g.R.Read.remaining input l.schema l.size old failures l.rows l.stream [])
+    × (g.R.Watched.failures (reader_source l.rows.reader) ≡ 0)
 
 -- each batch takes records, of which no more are counted than an integer of 64 bits holds
 abbrev pub decreases-loop-alloc : goal.decreases-loop-alloc

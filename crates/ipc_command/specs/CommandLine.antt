@@ -1,0 +1,71 @@
+-- The command line of the program, in the words of the crate `clap`: its subcommands and their
+-- options.
+use Rattle.std.specs.Prelude.{ℕ, ◌^◌, ◌-◌, [], ◌∷◌, Some, codes, true}
+use Rattle.clap.specs.Words.{App, Rule, Text, new_app, new_rule, with_rule, with_subcommand}
+use Rattle.clap.specs.declared.builder.action.ArgAction.TheVariants.{Set, SetTrue}
+use Rattle.clap.specs.declared.builder.value_parser.ValueParser.TheVariants.{Unsigned}
+
+-- an option with one value, `--name VALUE`
+abbrev pub option : Text → Rule
+option name = record (new_rule name) { long = Some name; action = Some Set; value_names = 1 }
+
+-- an option whose value is a number in this range, with its default as text
+abbrev pub number : Text → ℕ → ℕ → Text → Rule
+number name least greatest usual = record (option name) {
+  defaults = usual ∷ [];
+  parser = Some (Unsigned least greatest);
+}
+
+-- an option without a value
+abbrev pub flag : Text → Rule
+flag name = record (new_rule name) { long = Some name; action = Some SetTrue }
+
+-- an option that must be given
+abbrev pub needed : Text → Rule
+needed name = record (option name) { required = true }
+
+-- a subcommand with the options for limits
+abbrev pub with_limits : App → App
+with_limits a = with_rule (with_rule (with_rule a
+    (number (codes "max-metadata") 0 (2 ^ 28) (codes "16777216")))
+    (number (codes "max-body") 0 (2 ^ 42) (codes "1099511627776")))
+    (number (codes "max-rows") 0 (2 ^ 31 - 1) (codes "2147483647"))
+
+-- the subcommand that validates a stream
+abbrev pub check : App
+check = with_limits (new_app (codes "check"))
+
+-- the subcommand that prints rows as JSON
+abbrev pub show : App
+show = with_limits (with_rule (new_app (codes "show")) (flag (codes "pairs")))
+
+-- the subcommand that prints records of CSV
+abbrev pub to_csv : App
+to_csv = with_limits (new_app (codes "to-csv"))
+
+-- the option with the number of rows of a batch
+abbrev pub batch : Rule
+batch = number (codes "batch") 1 (2 ^ 31 - 1) (codes "65536")
+
+-- the subcommand that makes a stream of records of CSV
+abbrev pub from_csv : App
+from_csv = with_rule (with_rule (new_app (codes "from-csv")) (needed (codes "schema"))) batch
+
+-- the subcommand that writes a stream in canonical layout
+abbrev pub rewrite : App
+rewrite = with_limits (new_app (codes "rewrite"))
+
+-- the program without its subcommands; it has a version, and needs a subcommand
+abbrev pub program : App
+program = record {
+  top = record (new_app (codes "arrowstream")).top {
+    has_version = true;
+    subcommand_required = true;
+  };
+  subs = [];
+}
+
+-- the program
+abbrev pub arrowstream : App
+arrowstream = with_subcommand (with_subcommand (with_subcommand (with_subcommand
+    (with_subcommand program check.top) show.top) to_csv.top) from_csv.top) rewrite.top
