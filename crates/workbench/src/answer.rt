@@ -1,4 +1,4 @@
-//! What is read in a stream.
+//! What a reader answers to a stream.
 use crate::cut::{Cut, InTwo, source_of};
 use crate::request::Request;
 use ipc_model::{BatchRows, Fault, Items, Table, Text};
@@ -8,19 +8,19 @@ use std::alloc::{AllocError, Global};
 /// What a reader answers to a stream.
 #[derive(PartialEq, Eq, Drop)]
 pub struct Answer {
-    /// The schema and the batches that were read: none where the schema is refused.
+    /// The schema and the batches that were read, or `None` if the schema was refused.
     pub table: Option<Table>,
-    /// How the stream ends: none where it is refused.
+    /// How the stream ends, or `None` if it was refused.
     pub end: Option<End>,
-    /// Why it is refused, and the number of the message at which it is.
+    /// Why it was refused, and the number of the refused message.
     pub refusal: Option<(Fault, u64)>,
-    /// How many bytes the reader says that it took: none where the schema is refused.
+    /// How many bytes the reader took by its own count, or `None` if the schema was refused.
     pub taken: Option<u64>,
-    /// How many bytes the source has left.
+    /// How many bytes remain in the source.
     pub left: usize,
 }
 
-/// Puts the rows of a batch behind those that are kept.
+/// Appends the rows of a batch to those that are kept.
 pub fn keep_rows(
     alloc: Global,
     batch: &Batch,
@@ -44,12 +44,12 @@ fn read_batches<R: Source>(
     Ok(())
 }
 
-// How many bytes the source has left.
+// How many bytes remain in the source.
 fn left_in(source: Limited<InTwo<Memory>>) -> usize {
     source.into_inner().into_inner().unread().len()
 }
 
-// What is read behind the schema, as if the source had nothing left then.
+// What is read after the schema. The count of remaining bytes is still 0.
 fn read_behind<R: Source>(
     alloc: Global,
     reader: &mut StreamReader<R>,
@@ -68,7 +68,7 @@ fn read_behind<R: Source>(
     })
 }
 
-// The same, with what the source has left.
+// What is read after the schema, with the bytes that remain in the source.
 fn read_on(
     alloc: Global,
     reader: StreamReader<Limited<InTwo<Memory>>>,
@@ -80,7 +80,7 @@ fn read_on(
 }
 
 impl Answer {
-    /// What is read where the source's bytes are cut so.
+    /// Reads a stream that is cut in this way.
     pub fn pulled(alloc: Global, request: &Request, cut: Cut) -> Result<Answer, AllocError> {
         let source = source_of(request.stream.clone()?, cut);
         match StreamReader::open(alloc, request.limits, source) {

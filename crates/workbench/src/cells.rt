@@ -1,40 +1,39 @@
-//! Cells that are read through the views of their batch, by which it is measured what reading them
-//! costs where no text is made.
+//! Measures the time to read cells through the views of a batch, without making texts.
 use crate::tree::{Tree, add_column, add_slot, tree_of};
 use ipc_model::{Fault, Limits};
 use ipc_stream::{Batch, Cell, ColumnView, Device, Source, StreamReader};
 use std::alloc::{AllocError, Global};
 use std::io::Read;
 
-// The most levels of columns.
+// The greatest depth of columns.
 const LEVELS: u32 = 64;
 
-/// In which order cells are read.
+/// The order in which cells are read.
 #[derive(Clone, Copy)]
 pub enum Order {
-    /// One column after another, by its slots.
+    /// Column by column.
     Columns,
-    /// One row after another, as they are printed.
+    /// Row by row, as they are printed.
     Rows,
 }
 
 /// What was read.
 #[derive(Clone, Copy)]
 pub struct Cells {
-    /// How many rows, each as often as it was read.
+    /// The number of rows, counted once for each reading.
     pub rows: u64,
-    /// All values together: numbers, and the lengths of texts.
+    /// The sum of all numbers and of the lengths of all texts.
     pub sum: u64,
 }
 
-// A column, by which a row's value is read as it is printed.
+// A column, read as it is when a row is printed.
 #[derive(Drop)]
 struct Column<'a> {
     values: ColumnView<'a>,
     tree: Tree<'a>,
 }
 
-// Adds a cell; one that is a list or a struct by the slots below it.
+// Adds a cell. For a list or a struct, adds the slots below it.
 fn add_cell(sum: u64, column: &Column<'_>, row: usize) -> u64 {
     if row >= column.values.len() {
         return sum;
@@ -83,7 +82,7 @@ fn add_columns(alloc: Global, sum: u64, batch: &Batch) -> Result<u64, AllocError
     Ok(sum)
 }
 
-// Reads the cells of a batch so many times.
+// Reads the cells of a batch `times` times.
 fn read_batch(
     alloc: Global,
     batch: &Batch,
@@ -102,7 +101,7 @@ fn read_batch(
     Ok(Cells { rows, sum })
 }
 
-// Puts the batches of a reader, to its end, behind those that are kept.
+// Appends all remaining batches of a reader to those that are kept.
 fn keep_batches<R: Source>(
     reader: &mut StreamReader<R>,
     batches: &mut Vec<Batch>,
@@ -126,7 +125,7 @@ fn keep_all<R: Read + Drop>(
     keep_batches(&mut reader, batches)
 }
 
-/// Reads a stream to its end, and then the cells of each of its batches so many times.
+/// Reads a stream to its end, and then the cells of each batch `times` times.
 pub fn read_cells<R: Read + Drop>(
     alloc: Global,
     input: R,

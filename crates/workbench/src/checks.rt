@@ -1,4 +1,4 @@
-//! Batches that are checked again and again, by which `Batch::check` is measured alone.
+//! Measures `Batch::check` alone.
 use crate::messages::read_messages;
 use ipc_column::Batch;
 use ipc_dictionaries::Dictionaries;
@@ -8,17 +8,17 @@ use std::alloc::{AllocError, Global};
 use std::collections::BTreeMap;
 use std::io::Read;
 
-/// What was checked: each batch as often as it was.
+/// What was checked, counted once for each check.
 #[derive(Clone, Copy)]
 pub struct Checked {
-    /// How many rows.
+    /// The number of rows.
     pub rows: u64,
-    /// How many bytes the bodies have.
+    /// The number of bytes of the bodies.
     pub bytes: u64,
 }
 
 impl Checked {
-    // With so many more.
+    // Adds rows and bytes.
     fn with(self, rows: u64, bytes: u64) -> Checked {
         Checked {
             rows: self.rows.saturating_add(rows),
@@ -35,7 +35,7 @@ fn copied(head: &BatchHead) -> Result<BatchHead, AllocError> {
     })
 }
 
-// What batches are checked under.
+// What a batch is checked with.
 #[derive(Drop)]
 struct Scope {
     alloc: Global,
@@ -44,7 +44,7 @@ struct Scope {
 }
 
 impl Scope {
-    // Checks a batch so many times, over the same bytes, and adds what was checked.
+    // Checks a batch `times` times over the same bytes, and adds its rows and bytes.
     fn check(
         &self,
         head: &BatchHead,
@@ -66,7 +66,7 @@ impl Scope {
                 self.dictionaries.current(),
             )?;
             checked = checked.with(batch.rows() as u64, batch.body_len() as u64);
-            // Nothing else has the batch, so that its body comes back.
+            // Nothing else refers to the batch, so its body is returned.
             match batch.into_body() {
                 Some(same) => body = same,
                 None => return Ok(checked),
@@ -75,7 +75,7 @@ impl Scope {
         Ok(checked)
     }
 
-    // The values of a dictionary.
+    // Checks the values of a dictionary.
     fn values(&self, id: i64, head: BatchHead, body: Vec<u8>) -> Result<Batch, Fault> {
         let Some(columns) = self.dictionaries.fields_of(id) else {
             return Err(Fault::UnknownDictionary);
@@ -101,7 +101,7 @@ impl Scope {
     }
 }
 
-// Checks the messages behind the schema's.
+// Checks the messages after the schema.
 fn check_messages(
     scope: &mut Scope,
     messages: Vec<(Head, Vec<u8>)>,
@@ -118,7 +118,7 @@ fn check_messages(
     Ok(checked)
 }
 
-/// Reads a stream to its end, and then checks each of its batches so many times.
+/// Reads a stream to its end, and then checks each batch `times` times.
 pub fn check_stream<R: Read + Drop>(alloc: Global, input: R, times: u32) -> Result<Checked, Fault> {
     let (schema, messages) = read_messages(alloc, input)?;
     let dictionaries = Dictionaries::new(alloc, &schema)?;

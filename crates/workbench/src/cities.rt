@@ -1,13 +1,13 @@
-//! Texts with a dictionary, by which it is measured how a column of indices is pushed.
+//! Texts with a dictionary, to measure how a column of indices is pushed.
 use ipc_model::{DataType, Dictionary, Field, IndexType, IntBits, Row, Schema, Value};
 use std::alloc::{AllocError, Global};
 
 const SIDES: [&str; 4] = ["north", "south", "east", "west"];
 
-// How many cities there are.
+// The number of cities.
 const CITIES: u16 = 1000;
 
-/// One nullable column of texts, whose indices are signed numbers of 16 bits.
+/// One nullable column of texts, with signed indices of 16 bits.
 pub fn schema_of_cities(alloc: Global) -> Result<Schema, AllocError> {
     let index = IndexType {
         bits: IntBits::B16,
@@ -22,8 +22,8 @@ pub fn schema_of_cities(alloc: Global) -> Result<Schema, AllocError> {
     Ok(Schema::new(vec![in alloc; city.with_dictionary(dictionary)]?))
 }
 
-/// A row that goes by its number: null at one number of twenty, and else one of a thousand texts of
-/// some ten bytes.
+/// The row with this number: null for one of twenty, or else one of a thousand texts of about ten
+/// bytes.
 pub fn row_of_city(alloc: Global, number: u16) -> Result<Row, AllocError> {
     if number % 20 == 7 {
         return Ok(Row::from(vec![in alloc; Value::Null]?));

@@ -7,13 +7,13 @@ use ipc_stream::{Failed, Limited, Memory, Source};
 /// How a stream is cut into pieces.
 #[derive(Clone, Copy)]
 pub enum Cut {
-    /// Into pieces of so many bytes, and at least one.
+    /// Into pieces of this many bytes, at least one.
     Each(usize),
-    /// In two, behind so many bytes.
+    /// In two, after this many bytes.
     At(usize),
 }
 
-/// A source of which the first bytes come alone, and then the others.
+/// A source that gives its first bytes alone, and then the others.
 #[derive(Drop)]
 pub struct InTwo<D> {
     inner: D,
@@ -22,7 +22,7 @@ pub struct InTwo<D> {
 }
 
 impl<D> InTwo<D> {
-    /// The source itself.
+    /// Returns the source that was cut.
     pub fn into_inner(self) -> D {
         let InTwo { inner, first: _ } = self;
         inner
@@ -48,7 +48,7 @@ impl<D: Source> Source for InTwo<D> {
     }
 }
 
-/// A source of these bytes that is cut so.
+/// A source of these bytes that is cut in this way.
 pub fn source_of(stream: Vec<u8>, cut: Cut) -> Limited<InTwo<Memory>> {
     let inner = Memory::new(stream);
     match cut {

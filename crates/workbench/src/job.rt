@@ -1,43 +1,43 @@
-//! What a command line asks for.
+//! The job that a command line asks for.
 use crate::cells::Order;
 use crate::rows::Data;
 use std::env::Args;
 
-/// What is to be done.
+/// A job.
 #[derive(Clone, Copy)]
 pub enum Job {
     /// Writes a stream of rows that are pushed one by one.
     PushRows {
-        /// What the rows hold.
+        /// What the rows contain.
         data: Data,
-        /// How many batches there are.
+        /// The number of batches.
         batches: u32,
-        /// How many rows each of them has.
+        /// The number of rows in each batch.
         rows: u32,
     },
-    /// Pushes standard input in pieces.
+    /// Pushes standard input to a decoder in pieces.
     Push {
-        /// How many bytes a piece has at most.
+        /// The greatest number of bytes in a piece.
         size: u32,
     },
-    /// Pulls the stream of standard input.
+    /// Reads the stream of standard input with a reader.
     Pull {
         /// Whether each batch is given back to the reader.
         reuses: bool,
     },
-    /// Checks each batch of standard input again and again.
+    /// Checks each batch of standard input several times.
     Check {
         /// How many times.
         times: u32,
     },
-    /// Reads the cells of each batch of standard input again and again.
+    /// Reads the cells of each batch of standard input several times.
     Cells {
         /// In which order.
         order: Order,
         /// How many times.
         times: u32,
     },
-    /// Says what is read in the streams of standard input, each of which is a line.
+    /// Answers each line of standard input, which is a stream.
     Answer,
 }
 
@@ -45,7 +45,7 @@ fn number(words: &mut Args) -> Option<u32> {
     words.next()?.as_str().parse::<u32>().ok()
 }
 
-// The job of this name, whose numbers are the next words.
+// The job with this name. The next words are its numbers.
 fn named(name: &str, words: &mut Args) -> Option<Job> {
     Some(match name {
         "push-rows" => Job::PushRows {
@@ -75,7 +75,7 @@ fn named(name: &str, words: &mut Args) -> Option<Job> {
 }
 
 impl Job {
-    /// The job that the words ask for, of which the first is the program's name.
+    /// The job that the words ask for. The first word is the program's name.
     pub fn asked(words: Args) -> Option<Job> {
         let mut words = words;
         let _program = words.next();

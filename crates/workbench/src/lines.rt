@@ -1,4 +1,4 @@
-//! The lines that say what is read in a stream.
+//! The lines of an answer.
 use crate::answer::Answer;
 use crate::cut::Cut;
 use crate::report::{Other, PIECES, Report, RoundTrip, Way};
@@ -35,7 +35,7 @@ fn write_rest<W: fmt::Write>(f: &mut fmt::Formatter<W>, field: &Field) -> fmt::R
     f.write_str("\n")
 }
 
-// A field and those below it, each behind two blanks more than its parent.
+// A field and its descendants, each indented by two blanks more than its parent.
 #[cycle(write_field)]
 fn write_field<W: fmt::Write>(
     field: &Field,
@@ -121,7 +121,7 @@ impl fmt::Display for Answer {
     }
 }
 
-// How many bytes were taken. What the reader says of it has to agree with what the source has left.
+// How many bytes were taken. The reader's count has to agree with what remains in the source.
 fn write_taken<W: fmt::Write>(
     f: &mut fmt::Formatter<W>,
     answer: &Answer,
@@ -144,7 +144,7 @@ fn write_round_trip<W: fmt::Write>(f: &mut fmt::Formatter<W>, trip: &RoundTrip) 
     }
 }
 
-// The sizes of the pieces that made no difference, or the answer in pieces of a size that did.
+// The sizes of pieces that made no difference, or the answer for a size that did.
 fn write_pieces<W: fmt::Write>(
     f: &mut fmt::Formatter<W>,
     in_pieces: &Option<(usize, Answer)>,
@@ -159,7 +159,7 @@ fn write_pieces<W: fmt::Write>(
     f.write_str(" same\n")
 }
 
-// The way and the cut for which something else was answered, with that.
+// The way and the cut for which the answer differs, with that answer.
 fn write_other<W: fmt::Write>(f: &mut fmt::Formatter<W>, other: &Option<Other>) -> fmt::Result {
     let Some(other) = other else {
         return Ok(());

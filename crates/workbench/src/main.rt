@@ -1,4 +1,4 @@
-//! The program `workbench`, whose first word says the job:
+//! The program `workbench`. Its first argument is the job:
 //!
 //!     workbench push-rows i64|mixed|dictionary|nested|flat BATCHES ROWS > STREAM
 //!     workbench push SIZE < STREAM
@@ -6,17 +6,21 @@
 //!     workbench check|cells|cells-by-row TIMES < STREAM
 //!     workbench answer < LINES
 //!
-//! `push-rows` makes 1,024 rows and pushes them in turn, so many for each of so many batches.
-//! `push` reads standard input in pieces of at most so many bytes, pushes each to a decoder and
-//! counts. `pull` reads it by a reader and counts; `pull-over` gives each batch back to the reader.
-//! `check` reads it to its end, and then checks each batch so many times; `cells` adds up the cells
-//! of each batch so many times, column by column, and `cells-by-row` row by row.
+//! | job | what it does |
+//! |---|---|
+//! | `push-rows` | makes 1,024 rows, and pushes `ROWS` of them in turn for each batch |
+//! | `push` | pushes standard input to a decoder, in pieces of at most `SIZE` bytes, and counts |
+//! | `pull` | reads standard input with a reader, and counts |
+//! | `pull-over` | as `pull`, and gives each batch back to the reader |
+//! | `check` | reads standard input to its end, and then checks each batch `TIMES` times |
+//! | `cells` | adds up the cells of each batch `TIMES` times, column by column |
+//! | `cells-by-row` | as `cells`, row by row |
+//! | `answer` | answers each line, a stream in hexadecimal digits, by lines and an empty one |
 //!
-//! `answer` reads lines, of which each is a stream in hexadecimal digits, with the limits that are
-//! not the standard ones behind it, as in `, metadata 39, slots 3`. Each is answered by some lines
-//! and an empty one. They say what the library reads in it, whether it reads the same when the
-//! bytes come in small pieces, pulled or pushed, and whether the rows come back when they are
-//! written. `cases/README.md` says how the lines look.
+//! A line of `answer` may set limits after the stream, as in `, metadata 39, slots 3`. The answer
+//! has what the library reads in the stream, whether it reads the same when the bytes come in small
+//! pieces, pulled or pushed, and whether the rows come back when they are written.
+//! `cases/README.md` describes its lines.
 #![tactic(auto)]
 
 mod answer;

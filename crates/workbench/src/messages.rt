@@ -6,7 +6,7 @@ use ipc_stream::Device;
 use std::alloc::Global;
 use std::io::Read;
 
-// The next message, or none at the end of the stream.
+// The next message, or `None` at the end of the stream.
 fn next_message<S: Source>(
     frames: &mut Frames,
     source: &mut S,
@@ -43,7 +43,7 @@ fn read_schema<S: Source>(frames: &mut Frames, source: &mut S) -> Result<Schema,
     }
 }
 
-// The messages that are left, behind those that were read.
+// The messages that were not read yet.
 fn read_rest<S: Source>(
     frames: &mut Frames,
     source: &mut S,
@@ -58,8 +58,7 @@ fn read_rest<S: Source>(
     Ok(())
 }
 
-/// Reads a stream to its end: the schema, and of each message behind it what its metadata says and
-/// its body.
+/// Reads a stream to its end: its schema, and the head and the body of each later message.
 pub fn read_messages<R: Read + Drop>(
     alloc: Global,
     input: R,

@@ -1,13 +1,13 @@
-//! Rows with a list and a struct, and rows with the same values in columns of their own, by which
-//! it is measured what nesting costs.
+//! Rows with a list and a struct, and rows with the same values in flat columns, to measure what
+//! nesting costs.
 use crate::values::{signed, spread, word};
 use ipc_model::{DataType, Field, IntBits, Items, Row, Schema, Value};
 use std::alloc::{AllocError, Global};
 
-// How many values a list has at most.
+// The greatest number of values in a list.
 const MOST: u16 = 3;
 
-// How many values the list of a row has.
+// The number of values in the list of a row.
 fn length(number: u16) -> u16 {
     number % (MOST + 1)
 }
@@ -40,8 +40,8 @@ fn flat_type(place: usize) -> DataType {
     }
 }
 
-/// The same values: as many nullable columns of numbers as a list has values at most, a number and
-/// a text.
+/// The same values in flat columns: a nullable column of numbers for each value that a list can
+/// have, a number and a text.
 pub fn flat_schema(alloc: Global) -> Result<Schema, AllocError> {
     let mut fields = Vec::new(alloc);
     for (place, name) in FLAT.iter().enumerate() {
@@ -52,12 +52,12 @@ pub fn flat_schema(alloc: Global) -> Result<Schema, AllocError> {
     Ok(Schema::new(fields))
 }
 
-// The number of a pair.
+// The number of a struct.
 fn count(number: u16) -> Value {
     Value::Int(i64::from(number) * 31)
 }
 
-// A list of no value to three.
+// A list of up to three values.
 fn list(alloc: Global, number: u16) -> Result<Value, AllocError> {
     let mut numbers = Vec::with_capacity(alloc, usize::from(MOST))?;
     for place in 0..length(number) {
@@ -74,7 +74,7 @@ fn pair(alloc: Global, number: u16) -> Result<Value, AllocError> {
     Ok(Value::Struct(Items::from_vec(pair)))
 }
 
-/// A row that goes by its number.
+/// The row with this number.
 pub fn nested_row(alloc: Global, number: u16) -> Result<Row, AllocError> {
     let mut row = Vec::with_capacity(alloc, 2)?;
     row.push(list(alloc, number)?)?;
@@ -82,7 +82,7 @@ pub fn nested_row(alloc: Global, number: u16) -> Result<Row, AllocError> {
     Ok(Row::from(row))
 }
 
-/// The same values side by side, where null stands for a value that the list doesn't have.
+/// The same values side by side. Null is in place of a value that the list does not have.
 pub fn flat_row(alloc: Global, number: u16) -> Result<Row, AllocError> {
     let mut values = Vec::with_capacity(alloc, usize::from(MOST) + 2)?;
     for place in 0..MOST {

@@ -1,11 +1,11 @@
-//! A stream that is pulled, by which `StreamReader` is measured.
+//! Measures `StreamReader`.
 use crate::pushes::Counts;
 use ipc_model::{Fault, Limits};
 use ipc_stream::{Device, End, Source, StreamReader};
 use std::alloc::Global;
 use std::io::Read;
 
-// Takes the batches of a reader to its end.
+// Reads all remaining batches.
 fn pull<R: Source>(
     reader: &mut StreamReader<R>,
     reuses: bool,
@@ -21,7 +21,7 @@ fn pull<R: Source>(
     Ok(())
 }
 
-// The same, and says what came and how the stream ended.
+// Reads all remaining batches, and returns the counts and the end of the stream.
 fn pull_to_end<R: Source>(
     reader: &mut StreamReader<R>,
     reuses: bool,
@@ -34,8 +34,8 @@ fn pull_to_end<R: Source>(
     Ok((counts, reader.end().unwrap_or(End::Closed)))
 }
 
-/// Reads a stream to its end, and says what came and how it ended. Where `reuses` is said, each
-/// batch is given back to the reader.
+/// Reads a stream to its end, and returns the counts and the end. If `reuses` is true, each batch
+/// is given back to the reader.
 pub fn pull_stream<R: Read + Drop>(
     alloc: Global,
     input: R,

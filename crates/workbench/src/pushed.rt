@@ -1,11 +1,11 @@
-//! Rows that are pushed one by one, by which a batch that takes rows is measured.
+//! Measures a batch whose rows are pushed one by one.
 use crate::rows::Data;
 use ipc_model::{Items, Limits, Row, Schema, WriteFault};
 use ipc_stream::{BatchWriter, Device, Sink, StreamWriter};
 use std::alloc::{AllocError, Global};
 use std::io::Write;
 
-// How many rows are made; they are pushed in turn.
+// The number of different rows. They are pushed in turn.
 const MADE: u16 = 1024;
 
 fn rows(alloc: Global, data: Data) -> Result<Vec<Row>, AllocError> {
@@ -16,7 +16,7 @@ fn rows(alloc: Global, data: Data) -> Result<Vec<Row>, AllocError> {
     Ok(rows)
 }
 
-// Pushes so many of the rows in turn.
+// Pushes `count` rows in turn.
 fn push_each<W: Sink>(
     batch: &mut BatchWriter<'_, W>,
     rows: &[Row],
@@ -30,7 +30,7 @@ fn push_each<W: Sink>(
     Ok(())
 }
 
-// Pushes so many of the rows in turn and sends them.
+// Pushes `count` rows in turn and sends them.
 fn push_batch<W: Sink>(
     alloc: Global,
     stream: &mut StreamWriter<W>,
@@ -42,7 +42,7 @@ fn push_batch<W: Sink>(
     batch.send()
 }
 
-// Sends so many batches of so many rows.
+// Sends `batches` batches of `count` rows.
 fn push_batches<W: Sink>(
     alloc: Global,
     stream: &mut StreamWriter<W>,
@@ -56,7 +56,7 @@ fn push_batches<W: Sink>(
     Ok(())
 }
 
-// Writes a stream of so many batches of so many rows.
+// Writes a stream of `batches` batches of `count` rows.
 fn write_rows<W: Write + Drop>(
     alloc: Global,
     writer: W,
@@ -71,7 +71,7 @@ fn write_rows<W: Write + Drop>(
     Ok(())
 }
 
-/// Writes so many batches of so many rows, each of them pushed.
+/// Writes a stream of `batches` batches of `count` rows, each of them pushed.
 pub fn push_rows<W: Write + Drop>(
     alloc: Global,
     writer: W,

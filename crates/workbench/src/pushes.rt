@@ -1,19 +1,19 @@
-//! A stream that is pushed in pieces, by which `Decoder` is measured.
+//! Measures `Decoder` with a stream that is pushed in pieces.
 use ipc_model::{Fault, Limits};
 use ipc_stream::{Decoder, End, Event};
 use std::alloc::Global;
 use std::io::Read;
 
-/// What came of a stream.
+/// What was read from a stream.
 #[derive(Clone, Copy)]
 pub struct Counts {
-    /// How many batches.
+    /// The number of batches.
     pub batches: u64,
-    /// How many rows they have.
+    /// The number of their rows.
     pub rows: u64,
 }
 
-// Pushes what was read, and adds what it tells.
+// Pushes a piece, and adds the batches that it completes.
 fn push(decoder: &mut Decoder, piece: &[u8], counts: &mut Counts) -> Result<(), Fault> {
     let mut rest = piece;
     for _ in 0..=piece.len() {
@@ -31,7 +31,7 @@ fn push(decoder: &mut Decoder, piece: &[u8], counts: &mut Counts) -> Result<(), 
     Ok(())
 }
 
-// Reads pieces to the end of the input, each into the same room, and pushes them.
+// Reads pieces to the end of the input into one buffer, and pushes them.
 fn push_all<R: Read>(
     input: &mut R,
     decoder: &mut Decoder,
@@ -48,7 +48,7 @@ fn push_all<R: Read>(
     Ok(())
 }
 
-// The same, and says what came and how the stream ended.
+// Pushes all pieces, and returns the counts and the end of the stream.
 fn push_to_end<R: Read>(
     input: &mut R,
     decoder: &mut Decoder,
@@ -62,8 +62,8 @@ fn push_to_end<R: Read>(
     Ok((counts, decoder.close()?))
 }
 
-/// Reads standard input in pieces of so many bytes and pushes each, and says what came and how the
-/// stream ended. A failed read is `Read`.
+/// Reads standard input in pieces of at most `size` bytes, pushes each, and returns the counts and
+/// the end of the stream. If a read fails, the fault is `Read`.
 pub fn push_stream<R: Read + Drop>(
     alloc: Global,
     input: R,

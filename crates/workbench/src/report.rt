@@ -1,4 +1,4 @@
-//! What is looked at in the answer to a stream.
+//! Reads a stream in several ways, and compares the answers.
 use crate::answer::Answer;
 use crate::cut::Cut;
 use crate::request::Request;
@@ -6,16 +6,16 @@ use ipc_model::{Fault, Limits, Table};
 use ipc_stream::{Memory, RoundTripFault, read_table, write_and_read_back};
 use std::alloc::{AllocError, Global};
 
-/// The sizes of the pieces in which a stream is read again.
+/// The sizes of pieces in which a stream is read again.
 pub const PIECES: [usize; 5] = [1, 2, 3, 7, 64];
 
-// The sizes of the pieces in which it is read and pushed, of which nothing is said where all is the
-// same.
+// The sizes of pieces in which it is read and pushed. They are in the answer only if something
+// differs.
 const MORE_PIECES: [usize; 1] = [8];
 
 const PUSHED: [usize; 5] = [1, 3, 7, 8, 64];
 
-/// How the bytes of a stream go in.
+/// How the bytes of a stream reach the reader.
 #[derive(Clone, Copy)]
 pub enum Way {
     /// A reader asks a source for them.
@@ -24,7 +24,7 @@ pub enum Way {
     Pushed,
 }
 
-/// What is answered where the bytes go in otherwise.
+/// Another answer, and the way in which the stream was read then.
 #[derive(Drop)]
 pub struct Other {
     pub way: Way,
@@ -32,35 +32,35 @@ pub struct Other {
     pub answer: Answer,
 }
 
-/// How the rows of a stream come back when they are written.
+/// How a table comes back after it was written.
 #[derive(Drop)]
 pub enum RoundTrip {
-    /// Schema, batches and end are the same, and what stood behind the mark was left.
+    /// Schema, batches and end are equal, and the bytes after the mark were not taken.
     Same,
     /// Something differs.
     Differs,
-    /// They aren't written, or what was written isn't read.
+    /// The table is not written, or what was written is not read.
     Refused(RoundTripFault),
 }
 
-/// What is said of a stream.
+/// All answers to a stream.
 #[derive(Drop)]
 pub struct Report {
-    /// How many bytes it has.
+    /// The number of its bytes.
     pub length: usize,
-    /// What is read in it.
+    /// What a reader answers.
     pub answer: Answer,
-    /// The first size of pieces in which something else is read, with that.
+    /// The first size of pieces for which the answer differs, with that answer.
     pub in_pieces: Option<(usize, Answer)>,
-    /// What is answered at the first other way and cut for which that differs.
+    /// The first other way and cut for which the answer differs, with that answer.
     pub other: Option<Other>,
     /// Whether `read_table` answers the same.
     pub same_table: bool,
-    /// How its rows come back: none where it is refused.
+    /// How the table comes back, or `None` if the stream is refused.
     pub round_trip: Option<RoundTrip>,
 }
 
-// What is read in pieces of the first size for which that differs.
+// The answer in pieces of the first size for which it differs.
 fn in_pieces(
     alloc: Global,
     request: &Request,
@@ -75,7 +75,7 @@ fn in_pieces(
     Ok(None)
 }
 
-// What is answered where the stream goes in and is cut so, if that differs.
+// The answer to a stream that is read in this way and cut so, if it differs.
 fn other_at(
     alloc: Global,
     request: &Request,
@@ -93,14 +93,13 @@ fn other_at(
     })
 }
 
-// A stream of at most so many bytes is cut in two at every place, a longer one at so many places
-// that lie evenly.
+// A short stream is cut in two at every place, and a longer one at places at equal distances.
 const EVERYWHERE: usize = 16_384;
 
 const PLACES: usize = 32;
 
-// Whether a stream states more fields, text or pairs than the limits allow. Each reading of such a
-// one may take a while, so it counts as longer.
+// Whether a stream states more fields, text or pairs than the limits allow. Reading such a stream
+// may take long, so it is cut like a longer one.
 fn is_long_to_read(whole: &Answer) -> bool {
     matches!(
         &whole.refusal,
@@ -108,7 +107,7 @@ fn is_long_to_read(whole: &Answer) -> bool {
     )
 }
 
-// The first cut in two at which something else is answered, with that.
+// The first cut in two for which the answer differs, with that answer.
 fn other_in_two(
     alloc: Global,
     request: &Request,
@@ -129,7 +128,7 @@ fn other_in_two(
     Ok(None)
 }
 
-// The same of pieces of these sizes, and then of two pieces.
+// The first piece size or cut in two for which the answer differs, with that answer.
 fn other_cut(
     alloc: Global,
     request: &Request,
@@ -144,7 +143,7 @@ fn other_cut(
     other_in_two(alloc, request, way, whole)
 }
 
-// The same of both ways.
+// The first difference, pulled or pushed.
 fn otherwise(
     alloc: Global,
     request: &Request,
@@ -156,7 +155,7 @@ fn otherwise(
     }
 }
 
-// Whether `read_table` answers the same as a reader did, and takes the same bytes.
+// Whether `read_table` gives the answer of a reader and takes as many bytes.
 fn is_same_table(alloc: Global, request: &Request, answer: &Answer) -> Result<bool, AllocError> {
     let mut source = Memory::new(request.stream.clone()?);
     let same = match read_table(alloc, &request.limits, &mut source) {
@@ -166,10 +165,10 @@ fn is_same_table(alloc: Global, request: &Request, answer: &Answer) -> Result<bo
     Ok(same && source.unread().len() == answer.left)
 }
 
-// Bytes that stand behind what is written.
+// Bytes that are put after the written stream.
 const BEHIND: &[u8] = b"behind";
 
-// Whether what came back is the table, and what stands behind it was left.
+// Whether the table came back and the bytes after it were not taken.
 fn is_back(back: &Table, source: &Memory, table: &Table) -> bool {
     back.is_same(table) && source.unread() == BEHIND
 }
@@ -189,7 +188,7 @@ fn round_trip(alloc: Global, table: &Table) -> RoundTrip {
     }
 }
 
-// How the rows of an answer come back: none where the stream is refused.
+// How the table of an answer comes back, or `None` if the stream is refused.
 fn round_trip_of(alloc: Global, answer: &Answer) -> Option<RoundTrip> {
     match (&answer.table, answer.end) {
         (Some(table), Some(_)) => Some(round_trip(alloc, table)),
@@ -197,7 +196,7 @@ fn round_trip_of(alloc: Global, answer: &Answer) -> Option<RoundTrip> {
     }
 }
 
-// What else is read in a stream than an answer.
+// Other answers to a stream than this one.
 #[derive(Drop)]
 struct Differences {
     in_pieces: Option<(usize, Answer)>,
@@ -213,7 +212,7 @@ impl Differences {
 }
 
 impl Report {
-    /// What is said of the stream at the front of the bytes.
+    /// All answers to the stream at the front of the bytes.
     pub fn of(alloc: Global, request: &Request) -> Result<Report, AllocError> {
         let answer = Answer::pulled(alloc, request, Cut::Each(usize::MAX))?;
         let same_table = is_same_table(alloc, request, &answer)?;

@@ -1,4 +1,4 @@
-//! What is asked in a line.
+//! The request in a line.
 use anyhow::{Context, Result};
 use ipc_model::Limits;
 use std::alloc::Global;
@@ -8,7 +8,7 @@ use std::alloc::Global;
 pub struct Request {
     /// The bytes of the stream.
     pub stream: Vec<u8>,
-    /// The standard limits, but for those that the line sets.
+    /// The standard limits, except those that the line sets.
     pub limits: Limits,
 }
 
@@ -21,8 +21,8 @@ fn place_of(name: &str) -> Option<usize> {
     NAMES.iter().position(|known| *known == name)
 }
 
-// The same limits with another value for the one of this name: None where there is no such limit,
-// or the value is above its greatest.
+// These limits with another value for the one with this name, or `None` if there is no such limit
+// or the value is above the greatest.
 fn with(limits: Limits, name: &str, value: u64) -> Option<Limits> {
     let mut values = [
         limits.metadata,
@@ -38,15 +38,15 @@ fn with(limits: Limits, name: &str, value: u64) -> Option<Limits> {
     Limits::new(metadata, body, slots, fields, depth, text, pairs)
 }
 
-// The same limits with one that is set as in `metadata 39`.
+// These limits with one that is set as in `metadata 39`.
 fn set(limits: Limits, setting: &str) -> Option<Limits> {
     let (name, value) = setting.split_once(' ')?;
     with(limits, name, value.parse::<u64>().ok()?)
 }
 
 impl Request {
-    /// What a line asks: a stream in hexadecimal digits, and behind it the limits that it sets, as
-    /// in `ffffffff00000000, metadata 39, slots 3`.
+    /// The request in a line: a stream in hexadecimal digits, followed by the limits that it sets,
+    /// as in `ffffffff00000000, metadata 39, slots 3`.
     pub fn of(alloc: Global, line: &str) -> Result<Request> {
         let mut limits = Limits::standard();
         let mut parts = line.split(", ");

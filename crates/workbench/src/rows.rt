@@ -1,16 +1,16 @@
-//! Schemas and their rows, by which writing is measured.
+//! Schemas and their rows, to measure writing.
 use crate::cities::{row_of_city, schema_of_cities};
 use crate::nested::{flat_row, flat_schema, nested_row, nested_schema};
 use crate::values::{signed, spread, word};
 use ipc_model::{DataType, Field, IntBits, Row, Schema, Text, TimeUnit, Value};
 use std::alloc::{AllocError, Global};
 
-/// What the rows hold.
+/// What the rows contain.
 #[derive(Clone, Copy)]
 pub enum Data {
     /// Four required columns of signed 64-bit integers.
     Numbers,
-    /// Numbers of two widths, texts, truths and timestamps, most of them nullable.
+    /// Numbers of two widths, texts, booleans and timestamps, most of them nullable.
     Mixed,
     /// One nullable column of texts with a dictionary.
     Cities,
@@ -21,7 +21,7 @@ pub enum Data {
 }
 
 impl Data {
-    /// The data that a word names.
+    /// The data with this name.
     pub fn of(word: &str) -> Option<Data> {
         match word {
             "i64" => Some(Data::Numbers),
@@ -44,7 +44,7 @@ impl Data {
         }
     }
 
-    /// A row that goes by its number.
+    /// The row with this number.
     pub fn row(self, alloc: Global, number: u16) -> Result<Row, AllocError> {
         match self {
             Data::Numbers => row_of_numbers(alloc, number),
@@ -64,7 +64,7 @@ fn schema_of_numbers(alloc: Global) -> Result<Schema, AllocError> {
     Ok(Schema::new(fields))
 }
 
-// Numbers that are spread over all lengths.
+// Numbers of all lengths.
 fn row_of_numbers(alloc: Global, number: u16) -> Result<Row, AllocError> {
     let mut values = Vec::with_capacity(alloc, 4)?;
     for place in 0..4 {
@@ -73,7 +73,7 @@ fn row_of_numbers(alloc: Global, number: u16) -> Result<Row, AllocError> {
     Ok(Row::from(values))
 }
 
-// A point in time of one zone.
+// A timestamp with a timezone.
 fn zoned(alloc: Global) -> Result<DataType, AllocError> {
     Ok(DataType::Timestamp {
         unit: TimeUnit::Microsecond,
@@ -81,7 +81,7 @@ fn zoned(alloc: Global) -> Result<DataType, AllocError> {
     })
 }
 
-// The names of the mixed columns, of which all but the first are nullable.
+// The names of the mixed columns. All but the first are nullable.
 const MIXED: [&str; 5] = ["id", "count", "name", "flag", "at"];
 
 fn mixed_type(alloc: Global, place: usize) -> Result<DataType, AllocError> {
@@ -104,7 +104,7 @@ fn mixed_schema(alloc: Global) -> Result<Schema, AllocError> {
     Ok(Schema::new(fields))
 }
 
-// A value that goes by the number of its row, and is null at each so manyth of them.
+// The value of a row at a place. All places but the first are null in some rows.
 fn mixed_value(alloc: Global, number: u16, place: usize) -> Result<Value, AllocError> {
     let long = i64::from(number);
     match place {

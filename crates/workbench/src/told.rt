@@ -1,4 +1,4 @@
-//! What a decoder tells of a stream whose bytes are pushed in pieces.
+//! The answer of a decoder to a stream that is pushed in pieces.
 use crate::answer::{Answer, keep_rows};
 use crate::cut::Cut;
 use crate::request::Request;
@@ -6,7 +6,7 @@ use ipc_model::{BatchRows, Fault, Items, Schema, Table};
 use ipc_stream::{Decoder, End, Event};
 use std::alloc::{AllocError, Global};
 
-// What was told so far, and how many bytes were taken.
+// The events so far, and how many bytes were taken.
 #[derive(Drop)]
 struct Told {
     batches: Vec<BatchRows>,
@@ -14,7 +14,7 @@ struct Told {
 }
 
 impl Told {
-    // Pushes one piece, and what a call leaves of it again.
+    // Pushes one piece, and again what a call did not take of it.
     fn push(&mut self, alloc: Global, decoder: &mut Decoder, piece: &[u8]) -> Result<(), Fault> {
         let mut piece = piece;
         for _ in 0..=piece.len() {
@@ -56,7 +56,7 @@ impl Told {
     }
 }
 
-// A copy of the schema that is in force.
+// A copy of the schema in force.
 fn schema_of(decoder: &Decoder) -> Result<Option<Schema>, AllocError> {
     match decoder.schema() {
         Some(schema) => Ok(Some(schema.clone()?)),
@@ -71,8 +71,8 @@ fn ending(pushed: Result<(), Fault>, decoder: &mut Decoder) -> Result<End, Fault
 }
 
 impl Answer {
-    /// What is told where the stream is cut so. Where it is refused, the bytes that were taken are
-    /// those of `whole`: `feed` doesn't tell them.
+    /// The answer to a stream that is cut in this way. If it is refused, the count of bytes is that
+    /// of `whole`, because `feed` does not return it then.
     pub fn pushed(
         alloc: Global,
         request: &Request,
@@ -88,7 +88,7 @@ impl Answer {
         )
     }
 
-    // The same by a decoder that took nothing yet.
+    // The answer of a new decoder.
     fn told_by(
         alloc: Global,
         decoder: &mut Decoder,

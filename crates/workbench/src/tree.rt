@@ -1,15 +1,15 @@
-//! The slots of a column and of all columns below it, added up.
+//! The sum over a column and its descendants.
 use ipc_stream::{Slot, SlotView};
 use std::alloc::{AllocError, Global};
 
-/// A column and all columns below it, each found once for all rows.
+/// A column and its descendants, looked up once for all rows.
 #[derive(Drop)]
 pub struct Tree<'a> {
     slots: SlotView<'a>,
     children: Vec<Tree<'a>>,
 }
 
-/// Finds a column and those below it, up to so many levels.
+/// Looks up a column and its descendants, up to `levels` levels.
 pub fn tree_of<'a>(
     alloc: Global,
     slots: SlotView<'a>,
@@ -24,7 +24,7 @@ pub fn tree_of<'a>(
     Ok(Tree { slots, children })
 }
 
-/// Adds what a slot holds: a number, the length of a text, and all values of a list or a struct.
+/// Adds the value of a slot: a number, the length of a text, or all values of a list or a struct.
 #[cycle(slot)]
 pub fn add_slot(sum: u64, tree: &Tree<'_>, slot: usize) -> u64 {
     if slot >= tree.slots.len() {
@@ -41,7 +41,7 @@ pub fn add_slot(sum: u64, tree: &Tree<'_>, slot: usize) -> u64 {
     }
 }
 
-// Adds the values of a list, which stand in slots of the first child.
+// Adds the values of a list, which are slots of the first child.
 #[cycle(slot)]
 fn add_list(sum: u64, tree: &Tree<'_>, from: usize, to: usize) -> u64 {
     let mut sum = sum;
@@ -63,7 +63,7 @@ fn add_struct(sum: u64, tree: &Tree<'_>, slot: usize) -> u64 {
     sum
 }
 
-/// Adds what each slot of a column holds.
+/// Adds the value of each slot of a column.
 pub fn add_column(sum: u64, tree: &Tree<'_>) -> u64 {
     let mut sum = sum;
     for slot in 0..tree.slots.len() {

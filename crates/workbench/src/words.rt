@@ -2,14 +2,14 @@
 use ipc_model::{DataType, DateUnit, Dictionary, IntBits, Items, Text, TimeUnit, Value};
 use std::fmt;
 
-/// A text between quotes, escaped as `str::escape_default` does: what isn't printable ASCII stands
-/// as `\u{e9}`.
+/// A text between quotes, escaped as by `str::escape_default`: a character outside printable ASCII
+/// is written as `\u{e9}`.
 pub fn write_text<W: fmt::Write>(f: &mut fmt::Formatter<W>, text: &str) -> fmt::Result {
     let escaped = text.escape_default();
     write!(f, "\"{escaped}\"")
 }
 
-/// Pairs of key and value, a blank before each.
+/// Pairs of key and value, with a blank before each.
 pub fn write_pairs<W: fmt::Write>(
     f: &mut fmt::Formatter<W>,
     pairs: &[(Text, Text)],
@@ -77,7 +77,7 @@ pub fn write_type<W: fmt::Write>(f: &mut fmt::Formatter<W>, kind: &DataType) -> 
     }
 }
 
-/// A dictionary, as in ` dictionary(7 int8 ordered)`, a blank before it.
+/// A dictionary, as in ` dictionary(7 int8 ordered)`, with a blank before it.
 pub fn write_dictionary<W: fmt::Write>(
     f: &mut fmt::Formatter<W>,
     dictionary: Dictionary,
@@ -111,7 +111,7 @@ pub fn write_value<W: fmt::Write>(value: &Value, f: &mut fmt::Formatter<W>) -> f
     }
 }
 
-// The values between two brackets, with a blank between two of them.
+// The values between two brackets, separated by blanks.
 #[cycle(write_value)]
 fn write_values<W: fmt::Write>(
     values: &Items<Value>,
