@@ -1,8 +1,9 @@
 -- An index of a dictionary's values is one of its index type, and each value that was noted has one.
 use Rattle.std.proofs.Common.{◌≡◌, ◌∙◌, refl, sym, ap, subst, ℕ, zero, suc, ◌+◌, ◌-◌, ◌^◌, ◌<◌, ◌≤◌, Bool, true, false, cond}
-use Rattle.std.proofs.Common.{ℤ, List, [], ◌∷◌, length, Some, IsSome, int_eq, arith}
+use Rattle.std.proofs.Common.{ℤ, List, [], ◌∷◌, length, map, Option, Some, None, IsSome, int_eq, arith}
 use Rattle.std.specs.Prelude.{min}
 use Rattle.std.specs.List.{Contains}
+use Rattle.std.specs.Option.{IfSome}
 use Rattle.std.proofs.lemmas.Int.{ints}
 use Rattle.std.proofs.lemmas.Bool.Decides.{Decides-int_eq}
 use Rattle.std.proofs.lemmas.List.Elements.{All-contains, All-from_recursion}
@@ -16,8 +17,9 @@ use Rattle.ipc_encode.specs.Indices.{IsIndexWithin}
 use Rattle.ipc_dict.specs.declared.entry.TallyEntry.{TallyEntry}
 use Rattle.ipc_dict.specs.Distinct.{same, place}
 use Rattle.ipc_dict.specs.Noting.{note_entry, note_one, note_all, noted_for, noted_place, AllFit}
-use Rattle.ipc_dict.specs.SchemaIds.{counted, count_of, of_fields, unused}
+use Rattle.ipc_dict.specs.SchemaIds.{counted, count_of, of_fields, tally_bounds, tally_ids, unused}
 use Rattle.ipc_dict.specs.SchemaEntries.{counts_for, least, AreInOrder}
+use Rattle.ipc_dict.specs.Sending.{AreAddressed}
 use Rattle.ipc_dict.proofs.Places.{places_all}
 use Rattle.ipc_dict.proofs.SchemaEntries.{are_of_schema}
 
@@ -67,6 +69,17 @@ module _ (id : ℤ) (n : ℕ) where
   limited-note_all t [] h = h
   limited-note_all t (p ∷ ps) h = limited-note_all (note_one t p.0 p.1) ps (limited-note_one t p.0 p.1 h)
 
+  -- that depends on the ids and limits alone
+  limited_same : (es fs : List TallyEntry) → tally_bounds es ≡ tally_bounds fs → Limited fs → Limited es
+  limited_same [] fs same h = tt
+  limited_same (e ∷ es) [] same h = absurd cc
+  limited_same (e ∷ es) (f ∷ fs) same h =
+      let rest : tally_bounds es ≡ tally_bounds fs = cc in
+      let head : (e.id, e.limit) ≡ (f.id, f.limit) = cc in (
+        λ is. subst (λ m. m ≤ n) (sym (ap (λ (p : ℤ × ℕ). p.1) head)) (h.0 (ap (λ (p : ℤ × ℕ). int_eq p.0 id) (sym head) ∙ is)),
+        limited_same es fs rest h.1,
+      )
+
   limited-order : (ds : List Dictionary) → least (counts_for ds id) ≤ n → (from : ℕ) (es : List TallyEntry) → AreInOrder ds from es
       → Limited es
   limited-order ds low from [] h = tt
@@ -114,6 +127,26 @@ noted_counts fields ps d xs named fit found =
     let limited = limited-order d.id (count_of d) (of_fields fields) low 0 (unused fields) (are_of_schema fields).ordered in
     let kept = limited-note_all d.id (count_of d) (unused fields) ps limited in
     noted_below d.id (count_of d) (note_all (unused fields) ps) xs kept fit found
+
+-- entries with the ids and limits of the fields that fit their limits
+pub addressed : (fields : List Field) (es : List TallyEntry) → tally_bounds es ≡ tally_bounds (unused fields) → AllFit es
+    → AreAddressed fields es
+addressed fields es bounds fit d named = by (noted_for es d.id) refl
+  where
+    by : (o : Option (List Value)) → noted_for es d.id ≡ o → IfSome o (λ values. length values ≤ count_of d)
+    by None e = tt
+    by (Some xs) e =
+        let low = least_counts (of_fields fields) d named in
+        let limited = limited-order d.id (count_of d) (of_fields fields) low 0 (unused fields) (are_of_schema fields).ordered in
+        noted_below d.id (count_of d) es xs (limited_same d.id (count_of d) es (unused fields) bounds limited) fit e
+
+ids_in : (es : List TallyEntry) → map (λ (p : ℤ × ℕ). p.0) (tally_bounds es) ≡ tally_ids es
+ids_in [] = refl
+ids_in (e ∷ es) = ap (λ l. e.id ∷ l) (ids_in es)
+
+-- entries with the same ids and limits have the same ids
+pub bounds_ids : (es fs : List TallyEntry) → tally_bounds es ≡ tally_bounds fs → tally_ids es ≡ tally_ids fs
+bounds_ids es fs same = sym (ids_in es) ∙ ap (map (λ (p : ℤ × ℕ). p.0)) same ∙ ids_in fs
 
 -- a dictionary that the fields name has its entry
 pub has_entry : (fields : List Field) (d : Dictionary) → Contains (of_fields fields) d → IsSome (noted_for (unused fields) d.id)

@@ -6,7 +6,7 @@ use Rattle.ipc_model.specs.declared.value.Value.{Value}
 use Rattle.ipc_dict.specs.declared.entry.TallyEntry.{TallyEntry}
 use Rattle.ipc_dict.specs.Noting.{note_entry, note_one, note_all}
 use Rattle.ipc_dict.specs.Pairs.{row_pairs, rows_pairs}
-use Rattle.ipc_dict.specs.SchemaIds.{tally_ids, unused}
+use Rattle.ipc_dict.specs.SchemaIds.{tally_bounds, tally_ids, unused}
 use Rattle.ipc_dict.specs.Counted.{HoldsRows}
 use Rattle.ipc_dict.proofs.OneId.{holds_distinct}
 use Rattle.ipc_dict.proofs.SchemaIds.{unused-noted_for}
@@ -33,6 +33,17 @@ ids-note_one (e ∷ es) id v =
 pub ids_note_all : (t : List TallyEntry) (ps : List (ℤ × Value)) → tally_ids (note_all t ps) ≡ tally_ids t
 ids_note_all t [] = refl
 ids_note_all t (p ∷ ps) = ids_note_all (note_one t p.0 p.1) ps ∙ ids-note_one t p.0 p.1
+
+bounds-note_one : (t : List TallyEntry) (id : ℤ) (v : Value) → tally_bounds (note_one t id v) ≡ tally_bounds t
+bounds-note_one [] id v = refl
+bounds-note_one (e ∷ es) id v =
+    elim (int_eq e.id id) as (λ b. tally_bounds (cond b (note_entry v e ∷ es) (e ∷ note_one es id v)) ≡ (e.id, e.limit) ∷ tally_bounds es)
+    [ true ↦ refl | false ↦ ap (λ l. (e.id, e.limit) ∷ l) (bounds-note_one es id v) ]
+
+-- nor how many values a dictionary may have
+pub bounds_note_all : (t : List TallyEntry) (ps : List (ℤ × Value)) → tally_bounds (note_all t ps) ≡ tally_bounds t
+bounds_note_all t [] = refl
+bounds_note_all t (p ∷ ps) = bounds_note_all (note_one t p.0 p.1) ps ∙ bounds-note_one t p.0 p.1
 
 -- what was counted of the rows are their distinct values
 pub holds_rows : (fields : List Field) (rows : List (List Value))

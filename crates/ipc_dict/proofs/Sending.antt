@@ -20,7 +20,7 @@ use Rattle.ipc_dict.specs.Noting.{AllFit, noted_for}
 use Rattle.ipc_dict.specs.Planning.{AreNumbers, IsSettled, AllSettled, SameIds, after, after_all, own_send, sends_of, sent_for}
 use Rattle.ipc_dict.specs.Pairs.{rows_pairs}
 use Rattle.ipc_dict.specs.SchemaIds.{count_of, ids_of, kept_ids, of_fields, tally_ids, unsent, unused}
-use Rattle.ipc_dict.specs.Sending.{AreCounted, batch_values, needed, needed_of, tallied, sent_next, sent_after}
+use Rattle.ipc_dict.specs.Sending.{AreAddressed, AreCounted, batch_values, needed, needed_of, tallied, sent_next, sent_after}
 use Rattle.ipc_dict.proofs.CoveredIndices.{has_entry, noted_counts}
 use Rattle.ipc_dict.proofs.Ids.{same_ids}
 use Rattle.ipc_dict.proofs.Rows.{holds_rows, ids_note_all}
@@ -212,6 +212,39 @@ sent_unsent (i ∷ ids) id = by (sent_unsent ids id) (int_eq i id)
     by : sent_for (unsent ids) id ≡ None → (b : Bool) → cond b None (sent_for (unsent ids) id) ≡ None
     by rest true = refl
     by rest false = rest
+
+-- nothing that was sent is counted by each index type
+pub none_counted : (fields : List Field) → AreCounted fields (unsent (ids_of fields))
+none_counted fields d named =
+    subst (λ o. IfSome o (λ known. length known ≤ count_of d)) (sym (sent_unsent (ids_of fields) d.id)) tt
+
+-- ---- what is sent by a plan
+
+module _ (id : ℤ) (n : ℕ) where
+  -- at most so many values, if there are some
+  abbrev Few : Option (List Value) → Type 0
+  Few o = IfSome o (λ values. length values ≤ n)
+
+  few_after : (ks : List KeptEntry) (es : List TallyEntry) (os : List (Option (List ℕ))) → SameIds ks es → Few (noted_for es id)
+      → Few (sent_for ks id) → Few (sent_for (after_all ks es os) id)
+  few_after [] es os ids noted sent = tt
+  few_after (k ∷ ks) [] os ids noted sent = absurd ids
+  few_after (k ∷ ks) (e ∷ es) [] ids noted sent = sent
+  few_after (k ∷ ks) (e ∷ es) (o ∷ os) ids noted sent =
+      by (few_after ks es os ids.1) (int_eq k.id id) (ap (λ z. int_eq z id) (sym ids.0)) o noted sent
+    where
+      by : (Few (noted_for es id) → Few (sent_for ks id) → Few (sent_for (after_all ks es os) id)) → (b : Bool) → int_eq e.id id ≡ b
+          → (p : Option (List ℕ)) → Few (cond (int_eq e.id id) (Some e.values) (noted_for es id))
+          → Few (cond b k.values (sent_for ks id)) → Few (cond b (after k.values e.values p) (sent_for (after_all ks es os) id))
+      by rest true q (Some to) noted sent = sent
+      by rest true q None noted sent = subst (λ c. Few (cond c (Some e.values) (noted_for es id))) q noted
+      by rest false q p noted sent = rest (subst (λ c. Few (cond c (Some e.values) (noted_for es id))) q noted) sent
+
+-- where each index type counts the values before and those of a plan, it counts those once the plan was sent
+pub counted_plan : (fields : List Field) (kept : List KeptEntry) (es : List TallyEntry) (os : List (Option (List ℕ)))
+    → kept_ids kept ≡ tally_ids es → AreAddressed fields es → AreCounted fields kept → AreCounted fields (after_all kept es os)
+counted_plan fields kept es os ids values before d named =
+    few_after d.id (count_of d) kept es os (same_ids kept es ids) (values d named) (before d named)
 
 -- what is sent changes no id
 pub ids_sent_after : (fields : List Field) (rows : List (List Value)) (kept : List KeptEntry)

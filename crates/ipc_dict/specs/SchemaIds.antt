@@ -76,6 +76,10 @@ ids_of fields = map (λ e. e.id) (unused fields)
 abbrev pub tally_ids : List TallyEntry → List ℤ
 tally_ids es = map (λ e. e.id) es
 
+-- the id of each dictionary of a tally or a plan, and how many values it may have
+abbrev pub tally_bounds : List TallyEntry → List (ℤ × ℕ)
+tally_bounds es = map (λ e. (e.id, e.limit)) es
+
 -- the ids of what was sent
 abbrev pub kept_ids : List KeptEntry → List ℤ
 kept_ids es = map (λ e. e.id) es

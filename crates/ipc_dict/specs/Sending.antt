@@ -10,7 +10,7 @@ use Rattle.ipc_model.specs.declared.value.Value.{Value}
 use Rattle.ipc_dict.specs.declared.entry.TallyEntry.{TallyEntry}
 use Rattle.ipc_dict.specs.declared.kept.KeptEntry.{KeptEntry}
 use Rattle.ipc_dict.specs.Distinct.{is_seen, distinct}
-use Rattle.ipc_dict.specs.Noting.{of_id, note_all}
+use Rattle.ipc_dict.specs.Noting.{of_id, note_all, noted_for}
 use Rattle.ipc_dict.specs.Pairs.{rows_pairs}
 use Rattle.ipc_dict.specs.Planning.{sent_for}
 use Rattle.ipc_dict.specs.SchemaIds.{of_fields, count_of, unused}
@@ -54,6 +54,11 @@ abbrev pub needed : List Field → List (List Value) → List KeptEntry → List
 needed fields rows [] = []
 needed fields rows (e ∷ kept) =
     needed_of e.values e.id (batch_values fields rows e.id) ++ needed fields rows kept
+
+-- each index type of the fields can address the values that a tally or a plan has of its dictionary
+abbrev pub AreAddressed : List Field → List TallyEntry → Type 0
+AreAddressed fields entries = (d : Dictionary) → Contains (of_fields fields) d
+    → IfSome (noted_for entries d.id) (λ values. length values ≤ count_of d)
 
 -- the number of values sent of a dictionary is within what each index type of its fields can
 -- address

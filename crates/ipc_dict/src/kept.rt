@@ -1,6 +1,7 @@
 //! What a writer has sent of each dictionary.
 ghost use Rattle.std.specs.Prelude.{◌≡◌, IfOk, IfErr, map};
 ghost use Rattle.ipc_dict.specs.SchemaIds.{ids_of, kept_ids, tally_ids, unsent};
+ghost use Rattle.ipc_dict.specs.Sending.{AreCounted};
 
 use crate::distinct::DistinctValues;
 use crate::entry::TallyEntry;
@@ -51,6 +52,7 @@ impl Kept {
     pub fn new(alloc: Global, schema: &Schema) -> Result<Kept, WriteFault>
         ensures entries { IfOk result (λ kept. kept ≡ unsent (ids_of schema.now.fields)) }
         ensures ids { IfOk result (λ kept. kept_ids kept ≡ ids_of schema.now.fields) }
+        ensures counted { IfOk result (λ kept. AreCounted schema.now.fields kept) }
         ensures memory { IfErr result (λ fault. fault ≡ WriteFault.OutOfMemory) }
     {
         let entries = unused_entries(alloc, Seed::Fixed, schema.fields.as_slice())?;

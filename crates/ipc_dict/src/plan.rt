@@ -1,12 +1,13 @@
 //! Plans which dictionaries a batch sends, and the indices of its values.
-ghost use Rattle.std.specs.Prelude.{◌≡◌, ◌≢◌, ◌⊎◌, length, IfOk, IfErr};
+ghost use Rattle.std.specs.Prelude.{◌≡◌, ◌≢◌, ◌⊎◌, List, length, IfOk, IfErr};
+ghost use Rattle.ipc_model.specs.declared.schema.Field.{Field};
 ghost use Rattle.ipc_dict.specs.Planning.{after_all, sends_of, AllSettled, FindsAll};
 ghost use Rattle.ipc_dict.specs.Planning.{FindsNoted, KnowsAll};
 ghost use Rattle.ipc_dict.specs.Counted.{HoldsRows};
 ghost use Rattle.ipc_dict.specs.Noting.{note_all, AllFit, IsFull};
 ghost use Rattle.ipc_dict.specs.Pairs.{rows_pairs};
 ghost use Rattle.ipc_dict.specs.SchemaIds.{kept_ids, tally_ids, ids_of, unused};
-ghost use Rattle.ipc_dict.specs.Sending.{tallied};
+ghost use Rattle.ipc_dict.specs.Sending.{AreAddressed, AreCounted, tallied};
 ghost use Rattle.ipc_dict.specs.Within.{AllWithin, IsOfLimits, IsOverLimit};
 
 use crate::entry::TallyEntry;
@@ -131,6 +132,11 @@ impl Plan {
         ensures after { kept_ids kept.old ≡ tally_ids self.entries
             → kept.new ≡ after_all kept.old self.entries self.numbers }
         ensures ids { kept_ids kept.new ≡ kept_ids kept.old }
+        // If index types can address the values sent before and those of the plan, they can address
+        // the values sent now.
+        ensures counted { (fields : List Field) → kept_ids kept.old ≡ tally_ids self.entries
+            → AreAddressed fields self.entries → AreCounted fields kept.old
+            → AreCounted fields kept.new }
         // If `kept` has another number of dictionaries, it is unchanged.
         ensures unchanged { length kept.old ≢ length self.entries → kept.new ≡ kept.old }
     {

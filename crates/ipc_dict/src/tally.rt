@@ -5,7 +5,8 @@ ghost use Rattle.ipc_dict.specs.Noting.{note_all, AllFit, IsFull, HoldsDistinct,
 ghost use Rattle.ipc_dict.specs.Noting.{AllGrow, KeepsPlaces, PlacesAll};
 ghost use Rattle.ipc_dict.specs.ColumnNotes.{AreApart};
 ghost use Rattle.ipc_dict.specs.Pairs.{row_pairs, rows_pairs};
-ghost use Rattle.ipc_dict.specs.SchemaIds.{unused, kept_ids, tally_ids};
+ghost use Rattle.ipc_dict.specs.SchemaIds.{ids_of, unused, kept_ids, tally_bounds, tally_ids};
+ghost use Rattle.ipc_dict.specs.Sending.{AreAddressed};
 ghost use Rattle.ipc_dict.specs.Planning.{AllSettled, FindsAll, FindsNoted, KnowsAll};
 ghost use Rattle.ipc_dict.specs.EntryColumns.{AreEntriesCounted};
 ghost use Rattle.ipc_dict.specs.Faults.{told_of};
@@ -55,6 +56,7 @@ impl Model for Tally {
     ghost use Rattle.ipc_dict.specs.contracts.entry.TallyEntry as entry;
     ghost use Rattle.ipc_dict.specs.Tallied.{Tallied};
     ghost use Rattle.ipc_dict.specs.Noting.{AllFit};
+    ghost use Rattle.ipc_dict.specs.SchemaIds.{tally_bounds, unused};
     ghost use Rattle.ipc_dict.specs.EntryColumns.{AreEntriesCounted};
 
     ghost Value = { Tallied };
@@ -69,7 +71,8 @@ impl Model for Tally {
       entries = t.entries.items;
     } };
 
-    ghost invariant = { λ t. (length t.marks.items ≡ length t.entries.items)
+    ghost invariant = { λ t. ((length t.marks.items ≡ length t.entries.items)
+        × (tally_bounds t.entries.items ≡ tally_bounds (unused t.fields)))
         × (AllFit t.entries.items × AreEntriesCounted t.fields t.entries.items t.columns) };
 }
 
@@ -152,6 +155,9 @@ impl Tally {
         ensures noted { OnOk result (self.new ≡ record self.old {
           entries = note_all self.old.entries (row_pairs self.old.fields row.now);
         }) }
+        // The fields, the limits and the ids never change, whatever the result is.
+        ensures fields { self.new.fields ≡ self.old.fields }
+        ensures limits { self.new.limits ≡ self.old.limits }
         ensures ids { tally_ids self.new.entries ≡ tally_ids self.old.entries }
         ensures fits { AllFit self.new.entries }
         ensures within { AllWithin self.new.limits self.new.fields self.new.entries }
@@ -186,6 +192,9 @@ impl Tally {
         ensures noted { OnOk result (self.new ≡ record self.old {
           entries = note_all self.old.entries (row_pairs self.old.fields row.now);
         }) }
+        // The fields, the limits and the ids never change, whatever the result is.
+        ensures fields { self.new.fields ≡ self.old.fields }
+        ensures limits { self.new.limits ≡ self.old.limits }
         ensures ids { tally_ids self.new.entries ≡ tally_ids self.old.entries }
         ensures fits { AllFit self.new.entries }
         ensures within { AllWithin self.new.limits self.new.fields self.new.entries }
@@ -245,6 +254,9 @@ impl Tally {
           entries = note_all self.old.entries (rows_pairs self.old.fields batch.now.rows);
         }) }
         ensures unchanged { IfOk result (λ counted. counted ≡ false → self.new ≡ self.old) }
+        // The fields, the limits and the ids never change, whatever the result is.
+        ensures fields { self.new.fields ≡ self.old.fields }
+        ensures limits { self.new.limits ≡ self.old.limits }
         ensures ids { tally_ids self.new.entries ≡ tally_ids self.old.entries }
         ensures fits { AllFit self.new.entries }
         ensures within { AllWithin self.new.limits self.new.fields self.new.entries }
@@ -295,6 +307,10 @@ impl Tally {
     /// schema has.
     pub fn settle(self, alloc: Global, kept: &Kept) -> Result<Plan, WriteFault>
         ensures entries { IfOk result (λ plan. plan.entries ≡ self.entries) }
+        // Its dictionaries are those of the tally's fields.
+        ensures ids { IfOk result (λ plan. tally_ids plan.entries ≡ ids_of self.fields) }
+        // Each index type of the fields can address the values of its dictionary.
+        ensures addressed { IfOk result (λ plan. AreAddressed self.fields plan.entries) }
         // Each dictionary is within the limits, as the one column of its message.
         ensures within { IfOk result (λ plan. AllWithin self.limits self.fields plan.entries) }
         // Each is sent where it has not been or lacks a value, and nowhere else.
@@ -357,7 +373,7 @@ fn zeros_for(alloc: Global, entries: &[TallyEntry]) -> Result<Vec<usize>, AllocE
 }
 
 // One more row, or none of its values where it is refused.
-#[tactic(auto, using(crate::proofs::Rows::ids_note_all))]
+#[tactic(auto, using(crate::proofs::Rows::ids_note_all, crate::proofs::Rows::bounds_note_all))]
 fn note_row(
     entries: &mut [TallyEntry],
     recent: &mut Recent,
@@ -371,6 +387,7 @@ fn note_row(
     ensures noted { OnOk result
         (entries.new ≡ note_all entries.old (row_pairs fields.now row.now)) }
     ensures ids { tally_ids entries.new ≡ tally_ids entries.old }
+    ensures bounds { tally_bounds entries.new ≡ tally_bounds entries.old }
     ensures fits { AllFit entries.old → AllFit entries.new }
     ensures err { OnErr result (entries.new ≡ entries.old) }
     ensures full { IfErr result
@@ -429,7 +446,7 @@ fn note_counted(
 }
 
 // All rows of a batch, or none of their values where they are refused.
-#[tactic(auto, using(crate::proofs::Rows::ids_note_all))]
+#[tactic(auto, using(crate::proofs::Rows::ids_note_all, crate::proofs::Rows::bounds_note_all))]
 fn note_batch(
     alloc: Global,
     entries: &mut [TallyEntry],
@@ -446,6 +463,7 @@ fn note_batch(
     ensures noted { OnOk result
         (entries.new ≡ note_all entries.old (rows_pairs fields.now batch.now.rows)) }
     ensures ids { tally_ids entries.new ≡ tally_ids entries.old }
+    ensures bounds { tally_bounds entries.new ≡ tally_bounds entries.old }
     ensures fits { AllFit entries.old → AllFit entries.new }
     ensures err { OnErr result (entries.new ≡ entries.old) }
     ensures counted { AreEntriesCounted fields.now entries.new columns.new }

@@ -2,7 +2,7 @@ use Rattle.std.proofs.Common.{◌≡◌, ◌∙◌, ap, sym, subst, List}
 use Rattle.ipc_dict.specs.declared.entry.TallyEntry.{TallyEntry}
 use Rattle.ipc_dict.specs.EntryColumns.{AreEntriesCounted}
 use Rattle.ipc_dict.specs.Noting.{AllFit, cut}
-use Rattle.ipc_dict.specs.SchemaIds.{tally_ids}
+use Rattle.ipc_dict.specs.SchemaIds.{tally_bounds, tally_ids}
 use Rattle.ipc_dict.proofs.Notes.{cut_back}
 use Rattle.ipc_dict.proofs.tally.note_batch.Goals as goal
 
@@ -15,6 +15,9 @@ returns-in-Err-clause-fits c = λ h. subst AllFit (sym (back c)) h
 
 pub returns-in-Err-clause-ids : goal.returns-in-Err-clause-ids
 returns-in-Err-clause-ids c = ap tally_ids (back c)
+
+pub returns-in-Err-clause-bounds : goal.returns-in-Err-clause-bounds
+returns-in-Err-clause-bounds c = ap tally_bounds (back c)
 
 pub returns-in-Err-clause-err : goal.returns-in-Err-clause-err
 returns-in-Err-clause-err c = back c
