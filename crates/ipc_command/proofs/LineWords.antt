@@ -1,39 +1,38 @@
 -- What is read of the words of a command line.
-use Rattle.std.proofs.Common.{◌≡◌, ◌∙◌, sym, ap, subst, refl, ℕ, List, [], Option, Some, None, Result, Ok, Err, ◌<◌, ◌^◌, arith}
-use Rattle.std.proofs.Common.{◌⊎◌, ⊎_elim, inl, inr, true, false, slice_index, ap₂, ◌||◌}
-use Rattle.std.specs.Prelude.{Bool, IfErr, IfSome, unwrap_or, codes, string_bytes}
+use Rattle.std.proofs.Common.{◌≡◌, ◌∙◌, sym, ap, subst, refl, ℕ, List, [], Option, Some, None, Result, Ok, Err, ◌<◌, ◌≤◌, ◌^◌, arith}
+use Rattle.std.proofs.Common.{◌⊎◌, ⊎_elim, inl, inr, true, false, slice_index, ap₂, ◌||◌, is_some}
+use Rattle.std.specs.Prelude.{Bool, IfErr, codes, option_map, unwrap_or}
 use Rattle.std.specs.Result.{IsErrAnd}
-use Rattle.std.specs.Str.Parse.{ParsesUnsigned, digits_value, without_leading_plus}
-use Rattle.clap.specs.Words.{FailsBy, HasKind, HasMatchesOf, app_of, first_value, kind_of, subcommand_rows_of}
+use Rattle.std.specs.Str.Parse.{ParsesBool, ParsesUnsigned}
+use Rattle.clap.specs.Words.{FailsBy, HasKind, HasMatchesOf, IsParsedFrom, app_of, first_value, kind_of, one_of, subcommand_rows_of}
 use Rattle.clap.specs.Words.{IsAmong, ReadsOne, Row, Text, fault_of, first_of, found_of, is_simple, is_simple_and_free, one_text}
 use Rattle.clap.specs.Words.{AddsArg, AddsSubcommand, App, Rule, rows_of, rule_of, subcommand_of, with_rule, with_subcommand}
 use Rattle.clap.specs.declared.builder.arg.Arg.{Arg}
 use Rattle.clap.specs.declared.builder.command.Command.{Command}
+use Rattle.clap.specs.declared.builder.command.Command.TheViews.{out-Command}
 use Rattle.clap.specs.declared.error.Error.{Error}
 use Rattle.clap.specs.declared.error.kind.ErrorKind.{ErrorKind}
 use Rattle.clap.specs.declared.error.kind.ErrorKind.TheVariants as kind
 use Rattle.clap.proofs.OnLiterals.{clap_on_literals}
 use Rattle.clap.specs.declared.parser.matches.ArgMatches.{ArgMatches}
+use Rattle.clap.specs.declared.parser.matches.ArgMatches.TheViews.{out-ArgMatches}
 use Rattle.clap.proofs.WalkLemmas.{first_value-rows, one_text-rows}
-use Rattle.ipc_model.specs.declared.limits.Limits.{Limits}
 use Rattle.ipc_command.specs.CommandLine.{arrowstream}
-use Rattle.ipc_command.specs.Words.{Asks, AskForLimits, AsksNoJob, HasFlag, HasNumber, HaveValues, IsBatchSize, IsJobFound, IsJobOf, IsNone}
-use Rattle.ipc_command.specs.Words.{IsCommand, IsUnasked, IsUsageOf}
+use Rattle.ipc_command.specs.Words.{Asks, AsksNoJob, HasFlag, HasLimits, HasNumber, HasWrongLimit, HasWrongValue, IsCommand}
+use Rattle.ipc_command.specs.Words.{IsJobFound, IsUsageOf, IsWrong, IsWrongFor, IsWrongFound, LacksNumber}
 use Rattle.ipc_command.specs.declared.words.Job.{Job}
-use Rattle.ipc_command.specs.declared.words.Job.TheVariants as job
 use Rattle.ipc_command.specs.declared.words.Usage.{Usage}
 use Rattle.ipc_command.specs.declared.words.Usage.TheVariants as usage
 
 module _ {E : Type 0} (G : List ℕ → Result ℕ E → Type 0) (only : (u : List ℕ) (x : Result ℕ E) → G u x → ParsesUnsigned 64 10 u x)
-    (m : ArgMatches) (name : Text) where
-  -- a number that is read of an option is its number
-  pub some_number : (r : Option ℕ) → (one_text (found_of m) name ≡ None → r ≡ None)
-      → ((t : List ℕ) → one_text (found_of m) name ≡ Some t → ReadsOne G t r)
-      → IfSome r (HasNumber name (rows_of (found_of m)))
-  some_number None none value = tt
-  some_number (Some n) none value = go (one_text (found_of m) name) refl
+    (m : ArgMatches) (name : Text) (least greatest : ℕ) where
+  -- a number that is read of an option, and is in its range, is its number
+  pub some_number : (n : ℕ) → (one_text (found_of m) name ≡ None → Some n ≡ None)
+      → ((t : List ℕ) → one_text (found_of m) name ≡ Some t → ReadsOne G t (Some n)) → least ≤ n → n ≤ greatest
+      → HasNumber name least greatest (rows_of (found_of m)) n
+  some_number n none value above below = go (one_text (found_of m) name) refl
     where
-      go : (o : Option Text) → one_text (found_of m) name ≡ o → HasNumber name (rows_of (found_of m)) n
+      go : (o : Option Text) → one_text (found_of m) name ≡ o → HasNumber name least greatest (rows_of (found_of m)) n
       go None e =
           let bad : Some n ≡ None = none e in
           absurd cc
@@ -44,72 +43,37 @@ module _ {E : Type 0} (G : List ℕ → Result ℕ E → Type 0) (only : (u : Li
             found = sym (one_text-rows (found_of m) name) ∙ e;
             numeral = p.0.0;
             value = p.1;
-            fits = subst (λ x. x < 2 ^ 64) (sym p.1) p.0.1;
+            least_is = above;
+            greatest_is = below;
           }
 
   -- where none is read there is none
-  pub no_number : (r : Option ℕ) → ((t : List ℕ) → one_text (found_of m) name ≡ Some t → ReadsOne G t r) → r ≡ None
-      → (n : ℕ) → HasNumber name (rows_of (found_of m)) n → ⊥
-  no_number (Some k) value is n h = absurd cc
-  no_number None value is n h =
+  pub no_number : greatest < 2 ^ 64 → ((t : List ℕ) → one_text (found_of m) name ≡ Some t → ReadsOne G t None)
+      → LacksNumber name least greatest (rows_of (found_of m))
+  no_number fits value n h =
       let e = value h.text (one_text-rows (found_of m) name ∙ h.found) in
-      only h.text (Err e.0) e.1 (h.numeral, subst (λ x. x < 2 ^ 64) h.value h.fits)
+      let small : n < 2 ^ 64 = omega (arith, h.greatest_is, fits) in
+      only h.text (Err e.0) e.1 (h.numeral, subst (λ x. x < 2 ^ 64) h.value small)
 
--- an option has one number
-pub same_number : (name : Text) (rows : List Row) (a b : ℕ) → HasNumber name rows a → HasNumber name rows b → a ≡ b
-same_number name rows a b h k =
-    let same : h.text ≡ k.text = ap (λ (o : Option Text). unwrap_or o []) (sym h.found ∙ k.found) in
-    h.value ∙ ap (λ t. digits_value 10 (without_leading_plus t)) same ∙ sym k.value
+  -- nor where one is read that is out of range
+  pub other_number : (k : ℕ) → ((t : List ℕ) → one_text (found_of m) name ≡ Some t → ReadsOne G t (Some k))
+      → (least ≤ k → k ≤ greatest → ⊥) → LacksNumber name least greatest (rows_of (found_of m))
+  other_number k value outside n h =
+      let p = only h.text (Ok k) (value h.text (one_text-rows (found_of m) name ∙ h.found)) in
+      let same : n ≡ k = h.value ∙ sym p.1 in
+      outside (subst (λ x. least ≤ x) same h.least_is) (subst (λ x. x ≤ greatest) same h.greatest_is)
 
--- where no limits have these numbers, the options ask for none
-pub no_limits : (rows : List Row) (a b c : ℕ) → HasNumber (codes "max-metadata") rows a → HasNumber (codes "max-body") rows b
-    → HasNumber (codes "max-rows") rows c → ((limits : Limits) → HaveValues a b c limits → ⊥)
-    → (limits : Limits) → AskForLimits rows limits → ⊥
-no_limits rows a b c ha hb hc none limits h = none limits (record {
-  metadata_is = h.values.metadata_is ∙ same_number _ rows _ _ h.metadata_option ha;
-  body_is = h.values.body_is ∙ same_number _ rows _ _ h.body_option hb;
-  rows_are = h.values.rows_are ∙ same_number _ rows _ _ h.rows_option hc;
-  fields = h.values.fields;
-  depth = h.values.depth;
-  text = h.values.text;
-  pairs = h.values.pairs;
-})
+-- a usage that says why the words are wrong
+pub wrong_for : {cause : Type 0} (why : Usage) → IsWrong why → cause → IsWrongFor cause why
+wrong_for (usage.Help text) wrong is = wrong
+wrong_for (usage.Wrong text) wrong is = is
+wrong_for usage.OutOfMemory wrong is = tt
 
-module _ {T : Type 0} (asked : T → Type 0) where
-  -- where nothing is asked for, the usage says so
-  pub unasked : (why : Usage) → IsNone why → ((x : T) → asked x → ⊥) → IsUnasked asked why
-  unasked (usage.Help text) none nothing = none
-  unasked (usage.Wrong text) none nothing = nothing
-  unasked usage.OutOfMemory none nothing = tt
-
-  -- what asks for more isn't asked for either
-  pub unasked_more : {S : Type 0} (more : S → Type 0) (why : Usage) → ((y : S) → more y → (x : T) × asked x) → IsUnasked asked why
-      → IsUnasked more why
-  unasked_more more (usage.Help text) has none = none
-  unasked_more more (usage.Wrong text) has none = λ y h.
-      let one = has y h in none one.0 one.1
-  unasked_more more usage.OutOfMemory has none = tt
-
--- each subcommand but `from-csv` asks for limits
-pub limits_asked : (name : Text) (rows : List Row) → (name ≡ codes "from-csv" → ⊥) → (job : Job) → IsJobOf name rows job
-    → (limits : Limits) × AskForLimits rows limits
-limits_asked name rows other (job.Check limits) h = (limits, h.1)
-limits_asked name rows other (job.Show limits pairs) h = (limits, h.1)
-limits_asked name rows other (job.ToCsv limits) h = (limits, h.1)
-limits_asked name rows other (job.Rewrite limits) h = (limits, h.1)
-limits_asked name rows other (job.FromCsv path size) h = absurd (other h.0)
-
-other_text : (a b : Text) (m n : ℕ) → slice_index a 0 ≡ m → slice_index b 0 ≡ n → (m ≡ n → ⊥) → a ≡ b → ⊥
-other_text a b m n first second other same = other (sym first ∙ ap (λ t. slice_index t 0) same ∙ second)
-
--- `from-csv` asks for a path and a size
-pub csv_asked : (rows : List Row) (j : Job) → IsJobOf (codes "from-csv") rows j
-    → (path : Text) × (size : ℕ) × (first_of (codes "schema") rows ≡ Some path) × HasNumber (codes "batch") rows size × IsBatchSize size
-csv_asked rows (job.Check limits) h = absurd (other_text _ (codes "check") 102 99 refl refl (λ e. absurd (omega (arith, e))) h.0)
-csv_asked rows (job.Show limits pairs) h = absurd (other_text _ (codes "show") 102 115 refl refl (λ e. absurd (omega (arith, e))) h.0)
-csv_asked rows (job.ToCsv limits) h = absurd (other_text _ (codes "to-csv") 102 116 refl refl (λ e. absurd (omega (arith, e))) h.0)
-csv_asked rows (job.Rewrite limits) h = absurd (other_text _ (codes "rewrite") 102 114 refl refl (λ e. absurd (omega (arith, e))) h.0)
-csv_asked rows (job.FromCsv path size) h = (string_bytes path, size, h.1, h.2, h.3)
+-- also for a cause that follows
+pub wrong_more : {cause more : Type 0} (why : Usage) → (cause → more) → IsWrongFor cause why → IsWrongFor more why
+wrong_more (usage.Help text) follows wrong = wrong
+wrong_more (usage.Wrong text) follows wrong = follows wrong
+wrong_more usage.OutOfMemory follows wrong = tt
 
 -- an error of one of the kinds gives the usage of words that are no job
 pub usage_told : (words : List Text) (fault : ErrorKind) (why : Usage) → IsUsageOf fault why
@@ -123,13 +87,14 @@ usage_told words fault (usage.Wrong text) is among =
     ⊎_elim (λ e. absurd (is.2 e)) (λ a. inl (fault, a, is.0, is.1)) among
 usage_told words fault usage.OutOfMemory is among = tt
 
--- where the words are taken, and no subcommand asks for a job, they ask for none
-pub unasked_words : (words : List Text) (found : Option (Text × List Row)) (why : Usage) → fault_of arrowstream words ≡ []
-    → found ≡ subcommand_of arrowstream words → IsUnasked (IsJobFound found) why → AsksNoJob words why
-unasked_words words found (usage.Help text) taken same none = absurd none
-unasked_words words found (usage.Wrong text) taken same none =
-    inr (taken, λ j h. none j (h.name, h.rows, same ∙ h.entered, h.asked))
-unasked_words words found usage.OutOfMemory taken same none = tt
+-- where the words are taken, a subcommand was found, and a value of it is wrong, the words ask for no job
+pub wrong_words : (words : List Text) (found : Option (Text × List Row)) (why : Usage) → fault_of arrowstream words ≡ []
+    → found ≡ subcommand_of arrowstream words → is_some found ≡ true → IsWrongFor (IsWrongFound found) why → AsksNoJob words why
+wrong_words words found (usage.Help text) taken same some wrong = absurd wrong
+wrong_words words found (usage.Wrong text) taken same some wrong = ⊎_elim
+    (λ none. let bad : is_some found ≡ false = ap (λ (o : Option (Text × List Row)). is_some o) none in absurd cc)
+    (λ h. inr (record { taken = taken; name = h.0; rows = h.1; entered = sym same ∙ h.2; wrong = h.3 })) wrong
+wrong_words words found usage.OutOfMemory taken same some wrong = tt
 
 -- and where one does, they ask for that
 pub asked_words : (words : List Text) (found : Option (Text × List Row)) (j : Job) → fault_of arrowstream words ≡ []
@@ -181,6 +146,13 @@ refused_by words c {e} is (Err x) same kinds =
     err_is : (x y : Error) → (let r : Result ArgMatches Error = Err x in r) ≡ Err y → x ≡ y
     err_is x y h = cc
 
+-- a subcommand with limits, of which one is wrong
+pub limits_wrong : (name : Text) (rows : List Row) (why : Usage) (r : Result Job Usage) → HasLimits name → IsErrAnd r (λ y. y ≡ why)
+    → IsWrongFor (HasWrongLimit rows) why → IfErr r (IsWrongFor (HasWrongValue name rows))
+limits_wrong name rows why (Ok j) has same wrong = absurd same
+limits_wrong name rows why (Err e) has same wrong =
+    subst (IsWrongFor (HasWrongValue name rows)) (sym same) (wrong_more why (λ h. inl (has, h)) wrong)
+
 -- the subcommand that was found is the one that the words name
 pub found_by : (words : List Text) (c : Command) (m : ArgMatches) → IsCommand arrowstream c → HasMatchesOf (app_of c) words m
     → subcommand_rows_of m ≡ subcommand_of arrowstream words
@@ -191,36 +163,51 @@ pub text_found : (m : ArgMatches) (name text : Text) (o : Option Text) → o ≡
     → first_of name (rows_of (found_of m)) ≡ Some text
 text_found m name text o is read = sym (first_value-rows (found_of m) name) ∙ sym is ∙ read
 
--- a subcommand of another name than `from-csv`, whose limits are refused, asks for no job
-pub limits_unasked : (rows : List Row) (why : Usage) (name t : Text) (first : ℕ) (r : Result Job Usage) → name ≡ t → slice_index t 0 ≡ first
-    → (102 ≡ first → ⊥) → IsErrAnd r (λ y. y ≡ why) → IsUnasked (AskForLimits rows) why → IfErr r (IsUnasked (IsJobOf name rows))
-limits_unasked rows why name t first (Ok j) named is other same none = absurd same
-limits_unasked rows why name t first (Err e) named is other same none = subst (IsUnasked (IsJobOf name rows)) (sym same)
-    (unasked_more (AskForLimits rows) (IsJobOf name rows) why (limits_asked name rows
-    (λ csv. other_text (codes "from-csv") t 102 first refl is other (sym csv ∙ named))) none)
+-- and where none is read, none was found
+pub no_text : (m : ArgMatches) (name : Text) (o : Option Text) → o ≡ first_value (found_of m) name → o ≡ None
+    → first_of name (rows_of (found_of m)) ≡ None
+no_text m name o is read = sym (first_value-rows (found_of m) name) ∙ sym is ∙ read
 
--- the subcommand `show` asks for this job
-pub show_asked : (name : Text) (rows : List Row) (limits : Limits) (pairs : Bool) → name ≡ codes "show" → AskForLimits rows limits
-    → HasFlag (codes "pairs") rows pairs → IsJobOf name rows (job.Show limits pairs)
-show_asked name rows limits pairs named asked flag = (named, asked, flag)
+-- the parse enters a subcommand, since the program needs one
+pub some_found : (c : Command) (m : ArgMatches) → IsCommand arrowstream c → IsParsedFrom c m → is_some (subcommand_rows_of m) ≡ true
+some_found c m is parsed =
+    let local : (out-Command parsed.built).has_globals ≡ false = parsed.from.globals ∙ is.1 in
+    let needed : (out-Command parsed.built).subcommand_required ≡ true =
+    parsed.from.needs_subcommand ∙ ap (λ (a : App). a.top.subcommand_required) is.0 in
+    go _ (out-ArgMatches m).subcommand ((parsed.parsed local).checked.subcommand needed)
+  where
+    go : {A B : Type 0} (f : A → B) (o : Option A) → is_some o ≡ true → is_some (option_map f o) ≡ true
+    go f None h = h
+    go f (Some x) h = refl
 
--- what is read of a flag is its value
-pub flag_read : (m : ArgMatches) (name : Text) (b : Bool) → (one_text (found_of m) name ≡ Some (codes "true") → b ≡ true)
-    → (one_text (found_of m) name ≡ Some (codes "false") → b ≡ false) → HasFlag name (rows_of (found_of m)) b
-flag_read m name b given left_out = record {
-  given = λ h. given (one_text-rows (found_of m) name ∙ h);
-  left_out = λ h. left_out (one_text-rows (found_of m) name ∙ h);
-}
+module _ (E : Type 0) (m : ArgMatches) (name : Text) where
+  -- whether a flag is read as `true`
+  pub flag_read : (o : Option Bool) → (one_text (found_of m) name ≡ None → o ≡ None)
+      → ((t : List ℕ) → one_text (found_of m) name ≡ Some t → ReadsOne (ParsesBool {E = E}) t o)
+      → HasFlag name (rows_of (found_of m)) (unwrap_or o false)
+  flag_read None none value = (
+    λ given.
+        let bad : false ≡ true = given in absurd cc,
+    λ e.
+        let h = value (codes "true") (one_text-rows (found_of m) name ∙ e) in absurd (h.1.0 refl),
+  )
+  flag_read (Some true) none value = (λ _. go (one_text (found_of m) name) refl, λ _. refl)
+    where
+      go : (o : Option Text) → one_text (found_of m) name ≡ o → one_of name (rows_of (found_of m)) ≡ Some (codes "true")
+      go None e =
+          let bad : Some true ≡ None = none e in
+          absurd cc
+      go (Some t) e = sym (one_text-rows (found_of m) name) ∙ e ∙ ap (λ (u : Text). Some u) (value t e)
+  flag_read (Some false) none value = (
+    λ given.
+        let bad : false ≡ true = given in absurd cc,
+    λ e.
+        let h : codes "true" ≡ codes "false" = value (codes "true") (one_text-rows (found_of m) name ∙ e) in
+        let first : 116 ≡ 102 = ap (λ t. slice_index t 0) h in
+        absurd (omega (arith, first)),
+  )
 
--- without a path, or without a size, `from-csv` asks for no job
-pub no_path : (m : ArgMatches) (o : Option Text) → o ≡ first_value (found_of m) (codes "schema") → o ≡ None → (j : Job)
-    → IsJobOf (codes "from-csv") (rows_of (found_of m)) j → ⊥
-no_path m o is none j h =
-    let asked = csv_asked _ j h in
-    let bad : None ≡ Some asked.0 = sym none ∙ is ∙ first_value-rows (found_of m) (codes "schema") ∙ asked.2 in
-    cc
-
-pub no_size : (m : ArgMatches) → ((n : ℕ) → HasNumber (codes "batch") (rows_of (found_of m)) n → IsBatchSize n → ⊥) → (j : Job)
-    → IsJobOf (codes "from-csv") (rows_of (found_of m)) j → ⊥
-no_size m none j h =
-    let asked = csv_asked _ j h in none asked.1 asked.3 asked.4
+  pub flag_is : (o : Option Bool) (b : Bool) → b ≡ unwrap_or o false → (one_text (found_of m) name ≡ None → o ≡ None)
+      → ((t : List ℕ) → one_text (found_of m) name ≡ Some t → ReadsOne (ParsesBool {E = E}) t o)
+      → HasFlag name (rows_of (found_of m)) b
+  flag_is o b is none value = subst (λ x. HasFlag name (rows_of (found_of m)) x) (sym is) (flag_read o none value)

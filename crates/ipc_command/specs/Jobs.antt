@@ -74,8 +74,8 @@ abbrev pub lifted : {A : Type 0} → (A → Stop) → Result ⊤ A → Result �
 lifted stop_of (Ok done) = Ok done
 lifted stop_of (Err why) = Err (stop_of why)
 
--- what a result states about a stream that is printed in a form. W9 and F36 come exactly where the
--- sink or the source failed, as `print` states it
+-- what a result states about a stream that is printed in a form. When W9 and F36 come, the counts
+-- of failures of sink and source tell, as `print` states it
 abbrev pub AnswersPrint : Form → Limits → Option (List ℕ) → Option (List ℕ) → Option (List ℕ)
     → Option (List ℕ) → ℕ → ℕ → ℕ → ℕ → Result ⊤ Stop → Type 0
 AnswersPrint form limits old new written_old written_new source_old source_new sink_old sink_new
@@ -83,8 +83,8 @@ AnswersPrint form limits old new written_old written_new source_old source_new s
     × Prints form limits old new written_old written_new p
     × PrintTells source_old source_new sink_old sink_new p
 
--- what a result states about a stream that is rewritten. W9 and F36 come exactly where the sink or
--- the source failed, as `rewrite` states it
+-- what a result states about a stream that is rewritten. When W9 and F36 come, the counts of
+-- failures of sink and source tell, as `rewrite` states it
 abbrev pub AnswersRewrite : Limits → Option (List ℕ) → Option (List ℕ) → Option (List ℕ)
     → Option (List ℕ) → ℕ → ℕ → ℕ → ℕ → Result ⊤ Stop → Type 0
 AnswersRewrite limits old new written_old written_new source_old source_new sink_old sink_new r =

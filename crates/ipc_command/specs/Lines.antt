@@ -1,5 +1,6 @@
 -- The line that is printed for a job that stopped.
-use Rattle.std.specs.Prelude.{◌≡◌, ◌⊎◌, ◌++◌, ◌∷◌, [], ℕ, List, Option, Result, Ok, Err, ⊤, codes}
+use Rattle.std.specs.Prelude.{◌≡◌, ◌++◌, ◌∷◌, [], ℕ, List, MatchResult, Option, Result, Ok, Err, ⊤}
+use Rattle.std.specs.Prelude.{codes}
 use Rattle.std.specs.Io.KnownBytes.{Appends}
 use Rattle.ipc_model.specs.Texts.{fault_text, stop_line, write_fault_text}
 use Rattle.ipc_model.specs.declared.fault.Fault.TheVariants as f
@@ -22,14 +23,13 @@ stop_text stop.Schema = codes "cannot read schema"
 stop_text (stop.Write fault) = write_line fault
 stop_text (stop.Text fault) = text_fault_line fault
 
--- the lines that may be printed for a job that stopped: its own, or, if memory for that ran out,
--- that memory ran out
-abbrev pub IsLineOf : Stop → List ℕ → Type 0
-IsLineOf why line = (line ≡ stop_text why ++ 10 ∷ []) ⊎ (line ≡ codes "out of memory\n")
-
 -- what is printed of a result to messages with this count of failures: nothing if the job is done;
--- if it stopped and no call failed, exactly one line
+-- if it stopped and no call failed, exactly its line
 abbrev pub TellsStop : Option (List ℕ) → Option (List ℕ) → ℕ → Result ⊤ Stop → Type 0
 TellsStop old new failures (Ok done) = new ≡ old
-TellsStop old new failures (Err why) =
-    failures ≡ 0 → (line : List ℕ) × IsLineOf why line × Appends old new line
+TellsStop old new failures (Err why) = failures ≡ 0 → Appends old new (stop_text why ++ 10 ∷ [])
+
+-- a sink's count of failures before and after a part of a line: it stays, or a call failed and it
+-- is 1
+abbrev pub Passes : {T E : Type 0} → ℕ → ℕ → Result T E → Type 0
+Passes old new r = MatchResult r (λ _. new ≡ old) (λ _. new ≡ 1)

@@ -1,6 +1,6 @@
 -- What a command line asks for.
-use Rattle.std.specs.Prelude.{◌≡◌, ◌≢◌, ◌⊎◌, ◌<◌, ◌≤◌, ℕ, ◌^◌, ◌-◌, Bool, true, false, List, []}
-use Rattle.std.specs.Prelude.{Option, Some, ⊤, codes, string_bytes}
+use Rattle.std.specs.Prelude.{◌≡◌, ◌≢◌, ◌⊎◌, ◌↔◌, ◌≤◌, ℕ, ◌^◌, ◌-◌, Bool, IsTrue, List, []}
+use Rattle.std.specs.Prelude.{Option, None, Some, ⊤, codes, false, string_bytes}
 use Rattle.std.specs.Str.Parse.{IsNumeral, digits_value, without_leading_plus}
 use Rattle.clap.specs.Words.{App, IsAmong, Row, Text, app_of, fault_of, first_of}
 use Rattle.clap.specs.Words.{one_of, subcommand_of}
@@ -15,38 +15,39 @@ use Rattle.ipc_command.specs.declared.words.Job.TheVariants as job
 use Rattle.ipc_command.specs.declared.words.Usage.{Usage}
 use Rattle.ipc_command.specs.declared.words.Usage.TheVariants as usage
 
--- the option has this number: the decimal number of its value in the words, or of its default
-pub record HasNumber (name : Text) (rows : List Row) (n : ℕ) : Type 0 where
+-- the option has this number, which is in its range: the decimal number of its value in the words,
+-- or of its default
+pub record HasNumber (name : Text) (least greatest : ℕ) (rows : List Row) (n : ℕ) : Type 0 where
   pub text : Text
   pub found : one_of name rows ≡ Some text
   pub numeral : IsNumeral 10 (without_leading_plus text)
   pub value : n ≡ digits_value 10 (without_leading_plus text)
-  pub fits : n < 2 ^ 64
+  pub least_is : least ≤ n
+  pub greatest_is : n ≤ greatest
 
--- the flag is `true` where the words have it, and `false` where they do not
-pub record HasFlag (name : Text) (rows : List Row) (flag : Bool) : Type 0 where
-  pub given : one_of name rows ≡ Some (codes "true") → flag ≡ true
-  pub left_out : one_of name rows ≡ Some (codes "false") → flag ≡ false
+-- the option has no such number
+abbrev pub LacksNumber : Text → ℕ → ℕ → List Row → Type 0
+LacksNumber name least greatest rows = (n : ℕ) → HasNumber name least greatest rows n → ⊥
 
--- limits with these values; the others are the standard ones
-pub record HaveValues (metadata body rows : ℕ) (limits : Limits) : Type 0 where
-  pub metadata_is : limits.metadata ≡ metadata
-  pub body_is : limits.body ≡ body
-  pub rows_are : limits.slots ≡ rows
+-- the flag is `true` exactly where the words have it
+abbrev pub HasFlag : Text → List Row → Bool → Type 0
+HasFlag name rows flag = IsTrue flag ↔ (one_of name rows ≡ Some (codes "true"))
+
+-- the options of a subcommand ask for these limits; the others are the standard ones
+pub record AskForLimits (rows : List Row) (limits : Limits) : Type 0 where
+  pub metadata : HasNumber (codes "max-metadata") 0 (2 ^ 28) rows limits.metadata
+  pub body : HasNumber (codes "max-body") 0 (2 ^ 42) rows limits.body
+  pub slots : HasNumber (codes "max-rows") 0 (2 ^ 31 - 1) rows limits.slots
   pub fields : limits.fields ≡ 65536
   pub depth : limits.depth ≡ 64
   pub text : limits.text ≡ 2 ^ 26
   pub pairs : limits.pairs ≡ 2 ^ 20
 
--- the options of a subcommand ask for these limits
-pub record AskForLimits (rows : List Row) (limits : Limits) : Type 0 where
-  pub metadata : ℕ
-  pub body : ℕ
-  pub slots : ℕ
-  pub metadata_option : HasNumber (codes "max-metadata") rows metadata
-  pub body_option : HasNumber (codes "max-body") rows body
-  pub rows_option : HasNumber (codes "max-rows") rows slots
-  pub values : HaveValues metadata body slots limits
+-- one of the limits is no number from 0 to its greatest value
+abbrev pub HasWrongLimit : List Row → Type 0
+HasWrongLimit rows = LacksNumber (codes "max-metadata") 0 (2 ^ 28) rows
+    ⊎ (LacksNumber (codes "max-body") 0 (2 ^ 42) rows
+    ⊎ LacksNumber (codes "max-rows") 0 (2 ^ 31 - 1) rows)
 
 -- a number of rows that a batch may be asked to have
 abbrev pub IsBatchSize : ℕ → Type 0
@@ -69,7 +70,25 @@ IsJobOf name rows (job.ToCsv limits) = (name ≡ codes "to-csv") × AskForLimits
 IsJobOf name rows (job.Rewrite limits) = (name ≡ codes "rewrite") × AskForLimits rows limits
 IsJobOf name rows (job.FromCsv path size) = (name ≡ codes "from-csv")
     × (first_of (codes "schema") rows ≡ Some (string_bytes path))
-    × HasNumber (codes "batch") rows size × IsBatchSize size
+    × HasNumber (codes "batch") 1 (2 ^ 31 - 1) rows size
+
+-- the subcommand of this name has options for limits
+abbrev pub HasLimits : Text → Type 0
+HasLimits name = (name ≡ codes "check")
+    ⊎ ((name ≡ codes "show") ⊎ ((name ≡ codes "to-csv") ⊎ (name ≡ codes "rewrite")))
+
+-- no subcommand has this name
+abbrev pub IsNoSubcommand : Text → Type 0
+IsNoSubcommand name = (HasLimits name → ⊥) × (name ≢ codes "from-csv")
+
+-- an option of the subcommand of this name has none of its values: a limit is out of its range;
+-- `from-csv` has no path, or its batch size is no number from 1 to 2^31 - 1; or there is no such
+-- subcommand
+abbrev pub HasWrongValue : Text → List Row → Type 0
+HasWrongValue name rows = (HasLimits name × HasWrongLimit rows)
+    ⊎ (((name ≡ codes "from-csv") × ((first_of (codes "schema") rows ≡ None)
+    ⊎ LacksNumber (codes "batch") 1 (2 ^ 31 - 1) rows))
+    ⊎ IsNoSubcommand name)
 
 -- the words ask for this job: `clap` finds no fault in them, and they name a subcommand that asks
 -- for it
@@ -80,15 +99,24 @@ pub record Asks (words : List Text) (job : Job) : Type 0 where
   pub entered : subcommand_of arrowstream words ≡ Some (name, rows)
   pub asked : IsJobOf name rows job
 
--- why words are no job. They ask for help or the version; or they have another fault, or they have
--- none and ask for no job; or memory ran out
+-- `clap` finds no fault in the words, and the subcommand that they name has a value that is none of
+-- its option's
+pub record HaveWrongValue (words : List Text) : Type 0 where
+  pub taken : fault_of arrowstream words ≡ []
+  pub name : Text
+  pub rows : List Row
+  pub entered : subcommand_of arrowstream words ≡ Some (name, rows)
+  pub wrong : HasWrongValue name rows
+
+-- why words are no job. They ask for help or the version; or they have another fault, or a value
+-- that is none of its option's; or memory ran out
 abbrev pub AsksNoJob : List Text → Usage → Type 0
 AsksNoJob words (usage.Help text) = IsAmong kind.DisplayHelp (fault_of arrowstream words)
     ⊎ IsAmong kind.DisplayVersion (fault_of arrowstream words)
 AsksNoJob words (usage.Wrong text) =
     ((fault : ErrorKind) × IsAmong fault (fault_of arrowstream words)
     × (fault ≢ kind.DisplayHelp) × (fault ≢ kind.DisplayVersion))
-    ⊎ ((fault_of arrowstream words ≡ []) × ((job : Job) → Asks words job → ⊥))
+    ⊎ HaveWrongValue words
 AsksNoJob words usage.OutOfMemory = ⊤
 
 -- ---- the steps in between
@@ -104,17 +132,22 @@ IsUsageOf fault (usage.Wrong text) = (fault ≢ kind.DisplayHelp) × (fault ≢ 
     × (fault ≢ kind.OutOfMemory)
 IsUsageOf fault usage.OutOfMemory = ⊤
 
--- the usage of words that ask for nothing
-abbrev pub IsNone : Usage → Type 0
-IsNone (usage.Help text) = ⊥
-IsNone (usage.Wrong text) = ⊤
-IsNone usage.OutOfMemory = ⊤
+-- the usage of words that are wrong, memory aside
+abbrev pub IsWrong : Usage → Type 0
+IsWrong (usage.Help text) = ⊥
+IsWrong (usage.Wrong text) = ⊤
+IsWrong usage.OutOfMemory = ⊤
 
--- nothing is asked for, or memory ran out
-abbrev pub IsUnasked : {T : Type 0} → (T → Type 0) → Usage → Type 0
-IsUnasked asked (usage.Help text) = ⊥
-IsUnasked {T} asked (usage.Wrong text) = (x : T) → asked x → ⊥
-IsUnasked asked usage.OutOfMemory = ⊤
+-- the same, and the words are wrong for this cause
+abbrev pub IsWrongFor : Type 0 → Usage → Type 0
+IsWrongFor cause (usage.Help text) = ⊥
+IsWrongFor cause (usage.Wrong text) = cause
+IsWrongFor cause usage.OutOfMemory = ⊤
+
+-- a subcommand was found with a value that is none of its option's, or none was found
+abbrev pub IsWrongFound : Option (Text × List Row) → Type 0
+IsWrongFound found = (found ≡ None)
+    ⊎ ((name : Text) × (rows : List Row) × (found ≡ Some (name, rows)) × HasWrongValue name rows)
 
 -- a subcommand was found that asks for this job
 abbrev pub IsJobFound : Option (Text × List Row) → Job → Type 0

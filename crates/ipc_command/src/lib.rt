@@ -1,6 +1,7 @@
 //! The command `arrowstream`: reads its arguments, and does each job between an input and a sink.
 #![tactic(auto)]
 
+mod line;
 mod running;
 mod schema_file;
 mod stop;

@@ -152,7 +152,7 @@ pub fn run<P: Source, S: Source, W: Sink, E: Sink>(
 ) -> (u8, S, W, Option<P>)
     requires { HasGoodSize job }
     // The status is that of an answer, which says what was read, what went out and which device
-    // failed. Its line, if it has one, was printed.
+    // failed. Exactly its line was printed, and at success nothing.
     ensures answers { (r : Result ⊤ Stop) × (result.0 ≡ exit_status r)
         × Answers job (bytes_of P.remaining schema) (failures_of P.failures result.3)
         (S.remaining input) (S.remaining result.1) (W.written sink) (W.written result.2)
@@ -164,8 +164,6 @@ pub fn run<P: Source, S: Source, W: Sink, E: Sink>(
     ensures works { result.0 ≢ 3 → W.failures sink ≡ 0 → W.failures result.2 ≡ 0 }
     // There is no other status.
     ensures one { (result.0 ≡ 0) ⊎ (result.0 ≡ 1) ⊎ (result.0 ≡ 3) ⊎ (result.0 ≡ 4) }
-    // At 0 no message is written.
-    ensures silent { result.0 ≡ 0 → E.written messages.new ≡ E.written messages.old }
     // A file that was opened comes back, and none is made up.
     ensures file { is_some result.3 ≡ is_some schema }
 {
@@ -185,7 +183,7 @@ pub fn run_with_seed<P: Source, S: Source, W: Sink, E: Sink>(
 ) -> (u8, S, W, Option<P>)
     requires { HasGoodSize job }
     // The status is that of an answer, which says what was read, what went out and which device
-    // failed. Its line, if it has one, was printed.
+    // failed. Exactly its line was printed, and at success nothing.
     ensures answers { (r : Result ⊤ Stop) × (result.0 ≡ exit_status r)
         × Answers job (bytes_of P.remaining schema) (failures_of P.failures result.3)
         (S.remaining input) (S.remaining result.1) (W.written sink) (W.written result.2)
@@ -197,8 +195,6 @@ pub fn run_with_seed<P: Source, S: Source, W: Sink, E: Sink>(
     ensures works { result.0 ≢ 3 → W.failures sink ≡ 0 → W.failures result.2 ≡ 0 }
     // There is no other status.
     ensures one { (result.0 ≡ 0) ⊎ (result.0 ≡ 1) ⊎ (result.0 ≡ 3) ⊎ (result.0 ≡ 4) }
-    // At 0 no message is written.
-    ensures silent { result.0 ≡ 0 → E.written messages.new ≡ E.written messages.old }
     // A file that was opened comes back, and none is made up.
     ensures file { is_some result.3 ≡ is_some schema }
 {
@@ -206,7 +202,7 @@ pub fn run_with_seed<P: Source, S: Source, W: Sink, E: Sink>(
     match result {
         Ok(()) => (0, input, sink, schema),
         Err(stop) => {
-            let _ = stop.write_line(alloc, messages);
+            let _ = stop.write_line(messages);
             (stop.exit_status(), input, sink, schema)
         }
     }

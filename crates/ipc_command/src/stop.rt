@@ -1,15 +1,14 @@
 //! The exit status and the line of each reason why a job stops.
-ghost use Rattle.std.specs.Prelude.{◌≡◌, ◌<◌, ℕ, List, length, OnOk, Some};
+ghost use Rattle.std.specs.Prelude.{◌≡◌, ◌++◌, ◌∷◌, [], OnOk};
 ghost use Rattle.std.specs.Io.KnownBytes.{Appends};
 ghost use Rattle.ipc_command.specs.Jobs.{stop_of_csv, stop_of_print, stop_of_rewrite, stop_status};
-ghost use Rattle.ipc_command.specs.Lines.{IsLineOf, stop_text};
+ghost use Rattle.ipc_command.specs.Lines.{Passes, stop_text};
 ghost use Rattle.ipc_stream.specs.Failures.{Counts};
 
+use crate::line::{end_line, send, send_fault, send_read_fault, send_text_fault, send_write_fault};
 use ipc_model::{Fault, WriteFault};
 use ipc_moments::TextFault;
 use ipc_stream::{Failed, Sink};
-use std::alloc::Global;
-use std::fmt;
 
 /// Why a job stopped.
 #[derive(Debug, Drop)]
@@ -87,50 +86,32 @@ impl Stop {
         }
     }
 
-    /// Writes it as one line to a sink; if memory for the line runs out, the line says that.
+    /// Writes it as one line to a sink: the fault with the number of its message, as in
+    /// `F4 Truncated at message 1`. The input and the schema's file have a line without a message,
+    /// and out of memory has no number. Nothing is allocated.
     ///
     /// Errors: the sink failed, and it may have taken a part of the line.
-    pub fn write_line<E: Sink>(&self, alloc: Global, messages: &mut E) -> Result<(), Failed>
-        ensures line { OnOk result ((line : List ℕ) × IsLineOf self.now line
-            × Appends (E.written messages.old) (E.written messages.new) line) }
+    pub fn write_line<E: Sink>(&self, messages: &mut E) -> Result<(), Failed>
+        ensures line { OnOk result (Appends (E.written messages.old) (E.written messages.new)
+            (stop_text self.now ++ 10 ∷ [])) }
         ensures failures { Counts (E.failures messages.old) (E.failures messages.new) result }
     {
-        match format!(in alloc; "{self}\n") {
-            Ok(line) => write_all(messages, line.as_bytes()),
-            Err(_) => write_all(messages, b"out of memory\n"),
-        }
+        self.send_text(messages)?;
+        end_line(messages)
     }
-}
 
-// Writes all of the bytes.
-fn write_all<E: Sink>(sink: &mut E, bytes: &[u8]) -> Result<(), Failed>
-    requires { 0 < length bytes.now }
-    ensures ok { OnOk result (Appends (E.written sink.old) (E.written sink.new) bytes.now) }
-    ensures failures { Counts (E.failures sink.old) (E.failures sink.new) result }
-{
-    let mut written = 0;
-    while written < bytes.len() {
-        match sink.write(&bytes[written..]) {
-            Ok(count) => written += count,
-            Err(failed) => return Err(failed),
-        }
-    }
-    Ok(())
-}
-
-/// The fault with the number of its message, as in `F4 Truncated at message 1`. The input and the
-/// schema's file have a line without a message, and out of memory has no number.
-impl fmt::Display for Stop {
-    ghost output = { λ stop. Some (stop_text stop) };
-
-    fn fmt<W: fmt::Write>(&self, f: &mut fmt::Formatter<W>) -> fmt::Result {
+    // Sends the line without its line feed.
+    fn send_text<E: Sink>(&self, messages: &mut E) -> Result<(), Failed>
+        ensures sent { OnOk result
+            (Appends (E.written messages.old) (E.written messages.new) (stop_text self.now)) }
+        ensures failures { Passes (E.failures messages.old) (E.failures messages.new) result }
+    {
         match self {
-            Stop::Read(fault, message) => write!(f, "{}", fault.at_message(*message)),
-            Stop::Input => write!(f, "{}", Fault::Read),
-            Stop::Schema => f.write_str("cannot read schema"),
-            Stop::Write(WriteFault::OutOfMemory) => f.write_str("out of memory"),
-            Stop::Write(fault) => write!(f, "{fault}"),
-            Stop::Text(fault) => write!(f, "{fault}"),
+            Stop::Read(fault, message) => send_read_fault(messages, fault, *message),
+            Stop::Input => send_fault(messages, &Fault::Read),
+            Stop::Schema => send(messages, "cannot read schema"),
+            Stop::Write(fault) => send_write_fault(messages, fault),
+            Stop::Text(fault) => send_text_fault(messages, fault),
         }
     }
 }

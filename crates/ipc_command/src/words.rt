@@ -1,13 +1,13 @@
 //! Reads the arguments of a command line.
-ghost use Rattle.std.specs.Prelude.{◌≡◌, ℕ, IfErr, IfOk, IfSome, None, codes, false, map};
+ghost use Rattle.std.specs.Prelude.{◌≡◌, IfErr, IfOk, IfSome, None, codes, false, map};
 ghost use Rattle.std.specs.Prelude.{string_bytes};
 ghost use Rattle.clap.specs.Words.{app_of, found_of, kind_of, new_app, rows_of, rule_of};
 ghost use Rattle.clap.specs.Words.{subcommand_rows_of};
-ghost use Rattle.ipc_model.specs.declared.limits.Limits.{Limits};
 ghost use Rattle.ipc_command.specs.CommandLine as line;
-ghost use Rattle.ipc_command.specs.Words.{AskForLimits, Asks, AsksNoJob, HasGoodSize, HasNumber};
-ghost use Rattle.ipc_command.specs.Words.{HaveValues, IsBatchSize, IsCommand, IsJobFound, IsJobOf};
-ghost use Rattle.ipc_command.specs.Words.{IsNone, IsUnasked, IsUsageOf};
+ghost use Rattle.ipc_command.specs.Words.{AskForLimits, Asks, AsksNoJob, HasFlag, HasGoodSize};
+ghost use Rattle.ipc_command.specs.Words.{HasNumber, HasWrongLimit, HasWrongValue, IsCommand};
+ghost use Rattle.ipc_command.specs.Words.{IsJobFound, IsJobOf, IsUsageOf, IsWrong, IsWrongFound};
+ghost use Rattle.ipc_command.specs.Words.{IsWrongFor, LacksNumber};
 
 use clap::builder::ValueParser;
 use clap::error::ErrorKind;
@@ -61,6 +61,13 @@ impl From<AllocError> for Usage {
         Usage::OutOfMemory
     }
 }
+
+// The greatest values of the options, each of which the help shows.
+const GREATEST_METADATA: u64 = 1 << 28;
+
+const GREATEST_BODY: u64 = 1 << 42;
+
+const GREATEST_ROWS: u64 = 0x7fff_ffff;
 
 const EXAMPLES: &str = "\
 Each subcommand reads standard input and writes to standard output.
@@ -159,7 +166,7 @@ fn with_limits<'a>(alloc: Global, command: Command<'a>) -> Result<Command<'a>, A
             alloc,
             "max-metadata",
             0,
-            1 << 28,
+            GREATEST_METADATA,
             "16777216",
             "Maximum bytes of a message's metadata",
         ))?
@@ -167,7 +174,7 @@ fn with_limits<'a>(alloc: Global, command: Command<'a>) -> Result<Command<'a>, A
             alloc,
             "max-body",
             0,
-            1 << 42,
+            GREATEST_BODY,
             "1099511627776",
             "Maximum bytes of a message's body",
         ))?
@@ -175,7 +182,7 @@ fn with_limits<'a>(alloc: Global, command: Command<'a>) -> Result<Command<'a>, A
             alloc,
             "max-rows",
             0,
-            0x7fff_ffff,
+            GREATEST_ROWS,
             "2147483647",
             "Maximum rows of a batch",
         ))
@@ -239,7 +246,7 @@ fn batch<'a>(alloc: Global) -> Arg<'a>
     ensures own { result.global ≡ false }
 {
     let help = "Rows of a batch; the last batch may have fewer";
-    number(alloc, "batch", 1, 0x7fff_ffff, "65536", help)
+    number(alloc, "batch", 1, GREATEST_ROWS, "65536", help)
 }
 
 // The subcommand that writes a stream of CSV.
@@ -296,7 +303,7 @@ fn usage_of(alloc: Global, error: &Error) -> Usage
 
 // A command line that is none of the program's, and why.
 fn wrong(alloc: Global, why: &str) -> Usage
-    ensures { IsNone result }
+    ensures { IsWrong result }
 {
     match String::from_str(alloc, why) {
         Ok(text) => Usage::Wrong(text),
@@ -304,21 +311,37 @@ fn wrong(alloc: Global, why: &str) -> Usage
     }
 }
 
-// The number of an option.
-fn number_of(options: &ArgMatches<'_>, name: &str) -> Option<u64>
-    ensures some { IfSome result (HasNumber name.now (rows_of (found_of options.now))) }
-    ensures none { result ≡ None → (n : ℕ) → HasNumber name.now (rows_of (found_of options.now)) n
-        → ⊥ }
+// The number of an option, if it is one from a least to a greatest one.
+fn number_of(options: &ArgMatches<'_>, name: &str, least: u64, greatest: u64) -> Option<u64>
+    ensures some { IfSome result
+        (HasNumber name.now least greatest (rows_of (found_of options.now))) }
+    ensures none { result ≡ None
+        → LacksNumber name.now least greatest (rows_of (found_of options.now)) }
 {
-    options.get_one::<u64>(name)
+    let number = options.get_one::<u64>(name)?;
+    if least <= number && number <= greatest {
+        Some(number)
+    } else {
+        None
+    }
 }
 
-// Limits with these values, and else the standard ones. None where one of them is above its
-// greatest.
-fn limits_with(metadata: u64, body: u64, rows: u64) -> Option<Limits>
-    ensures some { IfSome result (HaveValues metadata body rows) }
-    ensures none { result ≡ None → (limits : Limits) → HaveValues metadata body rows limits → ⊥ }
+// Whether a flag is given.
+fn has_flag(options: &ArgMatches<'_>, name: &str) -> bool
+    ensures { HasFlag name.now (rows_of (found_of options.now)) result }
 {
+    options.get_one::<bool>(name).unwrap_or(false)
+}
+
+// The limits that a subcommand's options ask for; the others are the standard ones. None where a
+// limit is out of its range.
+fn limits_of(options: &ArgMatches<'_>) -> Option<Limits>
+    ensures some { IfSome result (AskForLimits (rows_of (found_of options.now))) }
+    ensures none { result ≡ None → HasWrongLimit (rows_of (found_of options.now)) }
+{
+    let metadata = number_of(options, "max-metadata", 0, GREATEST_METADATA)?;
+    let body = number_of(options, "max-body", 0, GREATEST_BODY)?;
+    let rows = number_of(options, "max-rows", 0, GREATEST_ROWS)?;
     let usual = Limits::standard();
     Limits::new(
         metadata,
@@ -331,22 +354,10 @@ fn limits_with(metadata: u64, body: u64, rows: u64) -> Option<Limits>
     )
 }
 
-// The limits that a subcommand's options ask for, if there are such.
-fn limits_of(options: &ArgMatches<'_>) -> Option<Limits>
-    ensures some { IfSome result (AskForLimits (rows_of (found_of options.now))) }
-    ensures none { result ≡ None → (limits : Limits)
-        → AskForLimits (rows_of (found_of options.now)) limits → ⊥ }
-{
-    let metadata = number_of(options, "max-metadata")?;
-    let body = number_of(options, "max-body")?;
-    let rows = number_of(options, "max-rows")?;
-    limits_with(metadata, body, rows)
-}
-
 // The limits that a subcommand's options ask for.
 fn read_limits(alloc: Global, options: &ArgMatches<'_>) -> Result<Limits, Usage>
     ensures asked { IfOk result (AskForLimits (rows_of (found_of options.now))) }
-    ensures refused { IfErr result (IsUnasked (AskForLimits (rows_of (found_of options.now)))) }
+    ensures refused { IfErr result (IsWrongFor (HasWrongLimit (rows_of (found_of options.now)))) }
 {
     match limits_of(options) {
         Some(limits) => Ok(limits),
@@ -354,32 +365,17 @@ fn read_limits(alloc: Global, options: &ArgMatches<'_>) -> Result<Limits, Usage>
     }
 }
 
-// The number of rows of a batch that is asked for, if it is allowed.
-fn batch_size(options: &ArgMatches<'_>) -> Option<u64>
-    ensures some { IfSome result (λ n. HasNumber (codes "batch") (rows_of (found_of options.now)) n
-        × IsBatchSize n) }
-    ensures none { result ≡ None → (n : ℕ)
-        → HasNumber (codes "batch") (rows_of (found_of options.now)) n → IsBatchSize n → ⊥ }
-{
-    let batch = number_of(options, "batch")?;
-    if 1 <= batch && batch <= 0x7fff_ffff {
-        Some(batch)
-    } else {
-        None
-    }
-}
-
 // The schema's path and the batch size that `from-csv` is given.
 fn read_from_csv(alloc: Global, options: &ArgMatches<'_>) -> Result<Job, Usage>
     ensures asked { IfOk result (IsJobOf (codes "from-csv") (rows_of (found_of options.now))) }
     ensures refused { IfErr result
-        (IsUnasked (IsJobOf (codes "from-csv") (rows_of (found_of options.now)))) }
+        (IsWrongFor (HasWrongValue (codes "from-csv") (rows_of (found_of options.now)))) }
     ensures size { IfOk result HasGoodSize }
 {
     let Some(path) = options.get_str("schema") else {
         return Err(wrong(alloc, "error: no schema\n"));
     };
-    let Some(batch) = batch_size(options) else {
+    let Some(batch) = number_of(options, "batch", 1, GREATEST_ROWS) else {
         return Err(wrong(alloc, "error: a batch of no size\n"));
     };
     Ok(Job::FromCsv {
@@ -391,14 +387,15 @@ fn read_from_csv(alloc: Global, options: &ArgMatches<'_>) -> Result<Job, Usage>
 // The job of a subcommand that is given these options.
 fn read_job(alloc: Global, name: &str, options: &ArgMatches<'_>) -> Result<Job, Usage>
     ensures asked { IfOk result (IsJobOf name.now (rows_of (found_of options.now))) }
-    ensures refused { IfErr result (IsUnasked (IsJobOf name.now (rows_of (found_of options.now)))) }
+    ensures refused { IfErr result
+        (IsWrongFor (HasWrongValue name.now (rows_of (found_of options.now)))) }
     ensures size { IfOk result HasGoodSize }
 {
     match name {
         "check" => Ok(Job::Check(read_limits(alloc, options)?)),
         "show" => Ok(Job::Show {
             limits: read_limits(alloc, options)?,
-            pairs: options.get_flag("pairs"),
+            pairs: has_flag(options, "pairs"),
         }),
         "to-csv" => Ok(Job::ToCsv(read_limits(alloc, options)?)),
         "from-csv" => read_from_csv(alloc, options),
@@ -410,7 +407,7 @@ fn read_job(alloc: Global, name: &str, options: &ArgMatches<'_>) -> Result<Job, 
 // The job of the subcommand that was asked for.
 fn job_of(alloc: Global, words: &ArgMatches<'_>) -> Result<Job, Usage>
     ensures asked { IfOk result (IsJobFound (subcommand_rows_of words.now)) }
-    ensures refused { IfErr result (IsUnasked (IsJobFound (subcommand_rows_of words.now))) }
+    ensures refused { IfErr result (IsWrongFor (IsWrongFound (subcommand_rows_of words.now))) }
     ensures size { IfOk result HasGoodSize }
 {
     match words.subcommand() {
@@ -440,8 +437,8 @@ pub fn read_words(alloc: Global, words: Vec<String>) -> Result<Job, Usage>
     // The job is the one of the subcommand that the words name, with the values of its options in
     // the words, or else their defaults.
     ensures asked { IfOk result (Asks (map string_bytes words.items)) }
-    // Help is answered only if help or the version is asked for, and `Wrong` only if the words have
-    // another fault or ask for no job.
+    // Help is answered only if help or the version is asked for. `Wrong` is answered only if `clap`
+    // refuses the words for another fault, or takes them and a value is none that its option takes.
     ensures refused { IfErr result (AsksNoJob (map string_bytes words.items)) }
     // A batch has from 1 to 2^31 - 1 rows.
     ensures size { IfOk result HasGoodSize }

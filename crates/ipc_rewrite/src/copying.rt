@@ -205,7 +205,8 @@ pub fn rewrite<R: Source, W: Sink>(
         (W.written sink) (W.written result.2) (W.failures sink) (W.failures result.2) result.0 }
     // At Ok the sink holds nothing back.
     ensures handed_on { OnOk result.0 (W.held_back result.2 ≡ Some []) }
-    // F36 and W9 are answered exactly where the source or the sink failed in this call.
+    // With devices that had not failed before, F36 and W9 are answered exactly where the source or
+    // the sink failed in this call.
     ensures devices { TellsFailures (R.failures source) (R.failures result.1) (W.failures sink)
         (W.failures result.2) result.0 }
     // A table with its mark is written whatever follows it, or refused as it is by a writer, unless
@@ -239,7 +240,8 @@ pub fn rewrite_with_seed<R: Source, W: Sink>(
         (W.written sink) (W.written result.2) (W.failures sink) (W.failures result.2) result.0 }
     // At Ok the sink holds nothing back.
     ensures handed_on { OnOk result.0 (W.held_back result.2 ≡ Some []) }
-    // F36 and W9 are answered exactly where the source or the sink failed in this call.
+    // With devices that had not failed before, F36 and W9 are answered exactly where the source or
+    // the sink failed in this call.
     ensures devices { TellsFailures (R.failures source) (R.failures result.1) (W.failures sink)
         (W.failures result.2) result.0 }
     // A table with its mark is written whatever follows it, or refused as it is by a writer, unless

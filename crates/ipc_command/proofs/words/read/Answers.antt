@@ -1,6 +1,6 @@
 use Rattle.std.proofs.lemmas.Result.{IfOk-weaker, IfErr-weaker}
 use Rattle.std.specs.Prelude.{map, string_bytes}
-use Rattle.ipc_command.proofs.LineWords.{asked_words, failed_by, found_by, refused_by, unasked_words, usage_told}
+use Rattle.ipc_command.proofs.LineWords.{asked_words, failed_by, found_by, refused_by, some_found, usage_told, wrong_words}
 use Rattle.ipc_command.proofs.words.read.Goals as goal
 
 pub returns-in-Ok-clause-asked : goal.returns-in-Ok-clause-asked
@@ -17,7 +17,8 @@ returns-in-Ok-clause-refused c =
     let taken = failed_by words c.in_ok-command.command c.in_ok-command.ensures c.try_get_matches_from.result c.in-Ok.is
     c.try_get_matches_from.ensures.kinds in
     let same = found_by words c.in_ok-command.command c.in-Ok.matches c.in_ok-command.ensures c.in-Ok.ensures.matches in
-    IfErr-weaker c.job_of.result _ _ (λ why h. unasked_words words _ why taken same h) c.job_of.ensures.refused
+    let some = some_found c.in_ok-command.command c.in-Ok.matches c.in_ok-command.ensures c.in-Ok.ensures.parsed in
+    IfErr-weaker c.job_of.result _ _ (λ why h. wrong_words words _ why taken same some h) c.job_of.ensures.refused
 
 pub returns-in-Err-clause-refused : goal.returns-in-Err-clause-refused
 returns-in-Err-clause-refused c =

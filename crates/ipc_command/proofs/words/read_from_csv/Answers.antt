@@ -1,15 +1,14 @@
-use Rattle.std.proofs.Common.{rules, refl}
-use Rattle.ipc_command.proofs.LineWords.{no_path, no_size, text_found, unasked}
+use Rattle.std.proofs.Common.{rules, refl, inl, inr}
+use Rattle.ipc_command.proofs.LineWords.{no_text, text_found, wrong_for}
 use Rattle.ipc_command.proofs.words.read_from_csv.Goals as goal
 
 pub returns-in_default-clause-refused : goal.returns-in_default-clause-refused
-returns-in_default-clause-refused c = unasked _ _ c.wrong.ensures (no_path _ _ c.get_str.ensures (search rules))
+returns-in_default-clause-refused c =
+    wrong_for _ c.wrong.ensures (inr (inl (refl, inl (no_text _ _ _ c.get_str.ensures (search rules)))))
 
-pub returns-in_default-batch_size-clause-refused : goal.returns-in_default-batch_size-clause-refused
-returns-in_default-batch_size-clause-refused c =
-    unasked _ _ c.wrong-in_default-batch_size.ensures (no_size _ (c.batch_size.ensures.none (search rules)))
+pub returns-in_default-number_of-clause-refused : goal.returns-in_default-number_of-clause-refused
+returns-in_default-number_of-clause-refused c =
+    wrong_for _ c.wrong-in_default-number_of.ensures (inr (inl (refl, inr (c.number_of.ensures.none (search rules)))))
 
 pub returns-clause-asked : goal.returns-clause-asked
-returns-clause-asked c =
-    let size = c.in-Some-batch_size.ensures.some in
-    (refl, text_found _ _ _ _ c.get_str.ensures (search rules), size.0, size.1)
+returns-clause-asked c = (refl, text_found _ _ _ _ c.get_str.ensures (search rules), c.in-Some-number_of.ensures.some)

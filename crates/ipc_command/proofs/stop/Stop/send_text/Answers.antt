@@ -1,0 +1,19 @@
+use Rattle.std.proofs.Common.{ap}
+use Rattle.ipc_command.specs.Lines.{stop_text}
+use Rattle.ipc_command.proofs.SentLines.{sent_as}
+use Rattle.ipc_command.proofs.stop.Stop.send_text.Goals as goal
+
+pub returns-in-Read-clause-sent : goal.returns-in-Read-clause-sent
+returns-in-Read-clause-sent g c = sent_as _ _ _ _ c.send_read_fault.result (ap stop_text c.in-Read.is) c.send_read_fault.ensures.sent
+
+pub returns-in-Input-clause-sent : goal.returns-in-Input-clause-sent
+returns-in-Input-clause-sent g c = sent_as _ _ _ _ c.send_fault.result (ap stop_text c.in-Input.is) c.send_fault.ensures.sent
+
+pub returns-in-Schema-clause-sent : goal.returns-in-Schema-clause-sent
+returns-in-Schema-clause-sent g c = sent_as _ _ _ _ c.send.result (ap stop_text c.in-Schema.is) c.send.ensures.sent
+
+pub returns-in-Write-clause-sent : goal.returns-in-Write-clause-sent
+returns-in-Write-clause-sent g c = sent_as _ _ _ _ c.send_write_fault.result (ap stop_text c.in-Write.is) c.send_write_fault.ensures.sent
+
+pub returns-in-Text-clause-sent : goal.returns-in-Text-clause-sent
+returns-in-Text-clause-sent g c = sent_as _ _ _ _ c.send_text_fault.result (ap stop_text c.in-Text.is) c.send_text_fault.ensures.sent
