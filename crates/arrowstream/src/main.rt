@@ -4,13 +4,16 @@
 ghost use Rattle.std.specs.Prelude.{IfOk};
 ghost use Rattle.ipc_command.specs.Words.{HasGoodSize};
 
+mod retry;
+
 use ipc_command::{Job, Usage, read_words, run_with_seed};
-use ipc_stream::{Device, Seed};
+use ipc_stream::{Device, Seed, Sink};
+use retry::Retry;
 use std::alloc::{AllocError, Global};
 use std::env::Args;
 use std::fs::File;
 use std::hash::RandomState;
-use std::io::{IsTerminal, Write};
+use std::io::{BufWriter, IsTerminal, Write};
 use std::process::ExitCode;
 use std::{env, io};
 
@@ -37,12 +40,12 @@ fn read_job(rt: &HostRuntime) -> Result<Job, Usage>
 }
 
 // The file with the schema, where the job names one that can be opened.
-fn open_schema(rt: &HostRuntime, job: &Job) -> Result<Option<Device<File>>, Usage> {
+fn open_schema(rt: &HostRuntime, job: &Job) -> Result<Option<Device<Retry<File>>>, Usage> {
     let Job::FromCsv { schema, .. } = job else {
         return Ok(None);
     };
     match File::open(rt, schema.as_str()) {
-        Ok(file) => Ok(Some(Device::new(file))),
+        Ok(file) => Ok(Some(Device::new(Retry::new(file)))),
         Err(error) if error.kind() == io::ErrorKind::OutOfMemory => Err(Usage::OutOfMemory),
         Err(_) => Ok(None),
     }
@@ -70,7 +73,7 @@ fn ask_input(rt: &HostRuntime) -> Result<(), Usage> {
 }
 
 // The job of the command line, with its schema's file.
-fn read_job_and_schema(rt: &HostRuntime) -> Result<(Job, Option<Device<File>>), Usage>
+fn read_job_and_schema(rt: &HostRuntime) -> Result<(Job, Option<Device<Retry<File>>>), Usage>
     ensures { IfOk result (λ read. HasGoodSize read.0) }
 {
     let job = read_job(rt)?;
@@ -106,21 +109,34 @@ fn draw_seed(rt: &HostRuntime) -> Seed {
     }
 }
 
-fn main(rt: HostRuntime) -> ExitCode {
-    let (job, schema) = match read_job_and_schema(&rt) {
-        Ok(read) => read,
-        Err(usage) => return ExitCode::from(tell_usage(&rt, &usage)),
+// Does the job, and returns the exit status. The line of a job that stops is one write.
+fn do_job(rt: &HostRuntime, job: Job, schema: Option<Device<Retry<File>>>) -> Result<u8, Usage>
+    requires { HasGoodSize job }
+{
+    let Ok(stderr) = BufWriter::new(rt.alloc(), Retry::new(rt.stderr())) else {
+        return Err(Usage::OutOfMemory);
     };
-    let output = Device::new(io::writer(&rt));
-    let mut messages = Device::new(rt.stderr());
+    let mut messages = Device::new(stderr);
     let (status, _input, _output, _schema) = run_with_seed(
         rt.alloc(),
-        draw_seed(&rt),
+        draw_seed(rt),
         job,
         schema,
-        Device::new(rt.reader()),
-        output,
+        Device::new(Retry::new(rt.reader())),
+        Device::new(Retry::new(io::writer(rt))),
         &mut messages,
     );
-    ExitCode::from(status)
+    let _ = messages.flush();
+    Ok(status)
+}
+
+fn main(rt: HostRuntime) -> ExitCode {
+    let result = match read_job_and_schema(&rt) {
+        Ok((job, schema)) => do_job(&rt, job, schema),
+        Err(usage) => Err(usage),
+    };
+    match result {
+        Ok(status) => ExitCode::from(status),
+        Err(usage) => ExitCode::from(tell_usage(&rt, &usage)),
+    }
 }
