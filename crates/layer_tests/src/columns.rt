@@ -109,9 +109,8 @@ fn are_around_a_null(alloc: Global) -> Result<bool, Fault> {
 
 #[test]
 fn slots_of_flat_columns(rt: HostRuntime) {
-    assert!(rt; are_parts_of_a_character(rt.alloc()));
-    assert!(rt; are_around_a_null(rt.alloc()) == Ok(true));
-    assert!(rt; are_nulls(rt.alloc()) == Ok(true));
-    assert!(rt; are_of_no_bytes(rt.alloc()) == Ok(true));
-    assert!(rt; are_texts(rt.alloc()) == Ok(true));
+    let alloc = rt.alloc();
+    assert!(rt; are_parts_of_a_character(alloc) && are_around_a_null(alloc) == Ok(true));
+    assert!(rt; are_nulls(alloc) == Ok(true) && are_of_no_bytes(alloc) == Ok(true));
+    assert!(rt; are_texts(alloc) == Ok(true));
 }

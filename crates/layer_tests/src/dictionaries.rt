@@ -11,7 +11,7 @@ use crate::encoding::fit;
 use crate::indices::{A_AND_B, ONLY_C, in_force, indexed, set};
 use ipc_column::{Batch, Cell};
 use ipc_dict::{Dictionaries, Kept, Plan, Tally};
-use ipc_encode::{Builder, IndexOf, encode};
+use ipc_encode::{Builder, encode};
 use ipc_model::{
     DataType, Dictionary, Fault, Field, IndexType, IntBits, Items, Limits, Row, Schema, Value,
     WriteFault,
@@ -253,80 +253,6 @@ fn grows_batches_of_indices(rt: HostRuntime) -> Result<(), Fail> {
         );
     }
     Ok(())
-}
-
-fn numbered(alloc: Global, number: usize) -> Result<Value, AllocError> {
-    Value::text(alloc, &format!(in alloc; "{number}")?)
-}
-
-// Counts a row of the text with this number and a null.
-fn take_one(alloc: Global, tally: &mut Tally, number: usize) -> Result<(), WriteFault> {
-    let row = [numbered(alloc, number)?, Value::Null];
-    tally.note(&row)
-}
-
-// Counts a row of two texts behind the first 127.
-fn take_two(alloc: Global, tally: &mut Tally) -> Result<(), WriteFault> {
-    let row = [numbered(alloc, 127)?, numbered(alloc, 128)?];
-    tally.note(&row)
-}
-
-// Counts rows of the first texts, and tells how many rows were taken.
-fn take(alloc: Global, tally: &mut Tally, texts: usize) -> Result<usize, WriteFault> {
-    for number in 0..texts {
-        match take_one(alloc, tally, number) {
-            Ok(()) => {}
-            Err(WriteFault::DictionaryFull) => return Ok(number),
-            Err(fault) => return Err(fault),
-        }
-    }
-    Ok(texts)
-}
-
-fn tally_of_two(alloc: Global) -> Result<Tally, WriteFault> {
-    let schema = schema_of(alloc, 2)?;
-    tally_of(alloc, &schema)
-}
-
-// How many of so many texts are taken.
-fn taken(alloc: Global, texts: usize) -> Result<usize, WriteFault> {
-    let mut tally = tally_of_two(alloc)?;
-    take(alloc, &mut tally, texts)
-}
-
-// Whether, behind 127 texts, a row of two new ones is refused and leaves no index, and the first is
-// taken alone.
-fn cuts_off(alloc: Global, tally: &mut Tally, first: &Value) -> bool {
-    take(alloc, tally, 127) == Ok(127)
-        && take_two(alloc, tally) == Err(WriteFault::DictionaryFull)
-        && tally.index_of(7, first).is_none()
-        && take_one(alloc, tally, 127) == Ok(())
-        && tally.index_of(7, first) == Some(127)
-}
-
-fn is_cut_off(alloc: Global) -> Result<bool, WriteFault> {
-    let first = numbered(alloc, 127)?;
-    let mut tally = tally_of_two(alloc)?;
-    Ok(cuts_off(alloc, &mut tally, &first))
-}
-
-fn kept_of_none(alloc: Global) -> Result<Kept, WriteFault> {
-    Kept::new(alloc, &schema_of(alloc, 0)?)
-}
-
-// Why a tally gives no plan to a writer of no columns.
-fn refusal(alloc: Global) -> Result<Option<WriteFault>, WriteFault> {
-    let kept = kept_of_none(alloc)?;
-    Ok(tally_of_two(alloc)?.settle(alloc, &kept).err())
-}
-
-// Indices of 8 bits count 128 texts.
-#[test]
-fn as_many_texts_as_the_indices_count(rt: HostRuntime) {
-    assert!(rt; taken(rt.alloc(), 128) == Ok(128));
-    assert!(rt; taken(rt.alloc(), 129) == Ok(128));
-    assert!(rt; is_cut_off(rt.alloc()) == Ok(true));
-    assert!(rt; refusal(rt.alloc()) == Ok(Some(WriteFault::Failed)));
 }
 
 fn letter_of<'a>(cell: Cell<'a>) -> &'a str {

@@ -1,5 +1,4 @@
 //! Messages whose bytes come one by one.
-ghost use Rattle.std.specs.Prelude.{◌≤◌};
 
 use ipc_frame::Frames;
 use ipc_model::{Fault, Limits};
@@ -27,62 +26,9 @@ fn feed(frames: &mut Frames, piece: &[u8]) -> Result<(usize, bool), Fault> {
     Ok((taken, frame.is_some()))
 }
 
-// Behind so many bytes: how many are wanted before the next decision, and how many are held.
-const DECISIONS: [(usize, (usize, usize)); 6] = [
-    (0, (4, 0)),
-    (5, (3, 5)),
-    (8, (112, 8)),
-    (120, (4, 0)),
-    (256, (24, 136)),
-    (288, (0, 0)),
-];
-
-// Whether behind so many bytes as many are wanted and held as are given there, if any are.
-fn is_decided(frames: &Frames, count: usize) -> bool {
-    for (place, wanted) in DECISIONS {
-        if place == count && (frames.wants(), frames.held()) != wanted {
-            return false;
-        }
-    }
-    true
-}
-
-// Whether a byte is taken, and a frame is given with it where it is a message's last.
-fn is_fed(frames: &mut Frames, at: usize, byte: u8) -> Result<bool, Fault> {
-    if !is_decided(frames, at) {
-        return Ok(false);
-    }
-    let (taken, is_given) = feed(frames, &[byte])?;
-    Ok(taken == 1 && is_given == matches!(at, 119 | 279 | 287))
-}
-
-// Whether so many bytes of the stream are taken one by one as they should be.
-fn are_fed(frames: &mut Frames, count: usize) -> bool
-    requires { count ≤ 288 }
-{
-    for at in 0..count {
-        if is_fed(frames, at, STREAM[at]) != Ok(true) {
-            return false;
-        }
-    }
-    is_decided(frames, count)
-}
-
 // Whether nothing is taken from now on.
 fn has_failed(frames: &mut Frames) -> bool {
     feed(frames, &STREAM) == Err(Fault::Failed) && frames.held() == 0 && frames.wants() == 0
-}
-
-fn is_ended_inside(frames: &mut Frames) -> bool {
-    are_fed(frames, 279) && frames.close() == Err(Fault::Truncated) && has_failed(frames)
-}
-
-#[test]
-fn bytes_one_by_one(rt: HostRuntime) {
-    let mut frames = Frames::new(rt.alloc(), Limits::standard());
-    assert!(rt; are_fed(&mut frames, 288));
-    let mut frames = Frames::new(rt.alloc(), Limits::standard());
-    assert!(rt; is_ended_inside(&mut frames));
 }
 
 // Feeds a piece to its end, or to the end mark.

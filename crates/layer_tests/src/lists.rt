@@ -177,8 +177,8 @@ fn are_most_rows(alloc: Global) -> Result<bool, Fault> {
 
 #[test]
 fn most_slots_below_eight_lists(rt: HostRuntime) {
-    assert!(rt; are_most_slots(rt.alloc()) == Ok(true));
-    assert!(rt; are_most_rows(rt.alloc()) == Ok(true));
+    let alloc = rt.alloc();
+    assert!(rt; are_most_slots(alloc) == Ok(true) && are_most_rows(alloc) == Ok(true));
 }
 
 // Nodes of a thousand slots each, of which the last has one null.
@@ -282,8 +282,9 @@ fn are_lists_of_lists(alloc: Global) -> Result<bool, Fault> {
 
 #[test]
 fn slots_below_structs_and_lists(rt: HostRuntime) {
-    assert!(rt; is_null_struct(rt.alloc()) == Ok(true));
-    assert!(rt; are_lists_of_lists(rt.alloc()) == Ok(true));
+    let alloc = rt.alloc();
+    assert!(rt; is_null_struct(alloc) == Ok(true) && are_lists_of_lists(alloc) == Ok(true));
+    assert!(rt; are_in_order(alloc) == Ok(true));
 }
 
 // The lists [1, 2], null and [null].
@@ -329,11 +330,6 @@ fn are_in_order(alloc: Global) -> Result<bool, Fault> {
                 Some(Slot::List { from: 2, to: 3 })
             ),
     )
-}
-
-#[test]
-fn values_in_order(rt: HostRuntime) {
-    assert!(rt; are_in_order(rt.alloc()) == Ok(true));
 }
 
 const THREE_ROWS: [&[u8]; 3] = [b"[12]", b"-", b"[-]"];

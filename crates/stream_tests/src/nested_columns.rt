@@ -1,10 +1,8 @@
-//! Batches of lists and structs that were read and go to another stream column by column.
+//! Rows of lists and structs.
 
-use crate::columns::{is_copied, is_left, stream_of};
 use crate::tables::int;
-use ipc_model::{DataType, Field, IntBits, Items, Row, Schema, Value, WriteFault};
+use ipc_model::{DataType, Field, IntBits, Items, Row, Schema, Value};
 use std::alloc::{AllocError, Global};
-use std::test::Fail;
 
 // A nullable field with one child.
 fn around(alloc: Global, kind: DataType, child: Field) -> Result<Field, AllocError> {
@@ -30,8 +28,8 @@ fn parts(alloc: Global, required: bool) -> Result<Vec<Field>, AllocError> {
     Ok(parts)
 }
 
-// Lists of lists of texts, and nullable structs, whose number is required or not.
-fn nested_schema(alloc: Global, required: bool) -> Result<Schema, AllocError> {
+/// Lists of lists of texts, and nullable structs, whose number is required or not.
+pub fn nested_schema(alloc: Global, required: bool) -> Result<Schema, AllocError> {
     let pair = Field::new(alloc, "b", DataType::Struct)?.nullable();
     let mut fields = Vec::new(alloc);
     fields.push(word_lists(alloc)?)?;
@@ -59,56 +57,32 @@ fn pair(alloc: Global, number: Value) -> Result<Value, AllocError> {
     Ok(Value::Struct(two(alloc, number, Value::List(list))?))
 }
 
-// Nulls, an empty list and a null struct, and lists that have one, with a struct of this number.
-fn nested_rows(alloc: Global, number: Value) -> Result<Vec<Row>, AllocError> {
+/// Adds rows of nulls, of an empty list and a null struct, and of lists that have one. The structs
+/// have a number where it is required, and null where it isn't.
+pub fn add_nested_rows(
+    alloc: Global,
+    rows: &mut Vec<Row>,
+    required: bool,
+) -> Result<(), AllocError> {
+    let number = if required { Value::Int(5) } else { Value::Null };
     let lists = Value::List(two(alloc, words(alloc)?, Value::Null)?);
     let none = Value::List(Items::new(alloc));
-    let mut rows = Vec::new(alloc);
     rows.push(two(alloc, Value::Null, Value::Null)?)?;
     rows.push(two(alloc, lists, pair(alloc, number)?)?)?;
-    rows.push(two(alloc, none, Value::Null)?)?;
-    Ok(rows)
+    Ok(rows.push(two(alloc, none, Value::Null)?)?)
 }
 
-// The stream of such rows.
-fn nested_stream(alloc: Global, required: bool, number: Value) -> Result<Vec<u8>, WriteFault> {
-    let schema = nested_schema(alloc, required)?;
-    stream_of(alloc, &schema, nested_rows(alloc, number)?)
-}
-
-// A required part is null where its struct is, and is taken with it.
-#[test]
-fn copies_lists_and_structs(rt: HostRuntime) -> Result<(), Fail> {
-    let bytes = nested_stream(rt.alloc(), true, Value::Int(5))?;
-    let schema = nested_schema(rt.alloc(), true)?;
-    assert!(rt; is_copied(rt.alloc(), &bytes, &schema, (true, &bytes))?);
-    Ok(())
-}
-
-#[test]
-fn leaves_null_parts_of_structs_that_are_not_null(rt: HostRuntime) -> Result<(), Fail> {
-    let bytes = nested_stream(rt.alloc(), false, Value::Null)?;
-    let schema = nested_schema(rt.alloc(), true)?;
-    assert!(rt; is_left(rt.alloc(), &bytes, &schema)?);
-    Ok(())
-}
-
-// One column of lists of two numbers.
-fn pairs_schema(alloc: Global) -> Result<Schema, AllocError> {
+/// One column of lists of two numbers.
+pub fn pairs_schema(alloc: Global) -> Result<Schema, AllocError> {
     let item = Field::new(alloc, "a", int(IntBits::B8, true))?;
     let mut fields = Vec::new(alloc);
     fields.push(around(alloc, DataType::FixedSizeList(2), item)?)?;
     Ok(Schema::new(fields))
 }
 
-#[test]
-fn leaves_lists_of_a_fixed_size(rt: HostRuntime) -> Result<(), Fail> {
-    let schema = pairs_schema(rt.alloc())?;
-    let mut row = Vec::new(rt.alloc());
-    row.push(Value::List(two(rt.alloc(), Value::Int(1), Value::Int(2))?))?;
-    let mut rows = Vec::new(rt.alloc());
-    rows.push(Items::from_vec(row))?;
-    let bytes = stream_of(rt.alloc(), &schema, rows)?;
-    assert!(rt; is_left(rt.alloc(), &bytes, &schema)?);
-    Ok(())
+/// Adds a row of it.
+pub fn add_pair(alloc: Global, rows: &mut Vec<Row>) -> Result<(), AllocError> {
+    let mut row = Vec::new(alloc);
+    row.push(Value::List(two(alloc, Value::Int(1), Value::Int(2))?))?;
+    Ok(rows.push(Items::from_vec(row))?)
 }

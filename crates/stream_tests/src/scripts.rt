@@ -92,16 +92,14 @@ fn let_go<W: Sink>(
     batch.push(row)
 }
 
-// Takes one step.
+// Takes one step with its batch.
 fn take<W: Sink>(
     alloc: Global,
     writer: &mut StreamWriter<W>,
-    column: Column,
     step: Step<'_>,
+    batch: BatchRows,
     told: &mut String,
 ) -> Result<(), WriteFault> {
-    let (numbers, is_paired) = step.parts();
-    let batch = column.batch(alloc, numbers, is_paired)?;
     match step {
         Step::Write(_) | Step::WritePaired(_) => writer.write_batch(&batch),
         Step::Push(_) | Step::PushPaired(_) => push_rows(alloc, writer, batch, told),
@@ -109,18 +107,23 @@ fn take<W: Sink>(
     }
 }
 
+// Takes the steps, and says how many of them were taken without a refusal.
 fn take_all<W: Sink>(
     alloc: Global,
     writer: &mut StreamWriter<W>,
     column: Column,
     steps: &[Step<'_>],
     told: &mut String,
-) -> Result<(), AllocError> {
+) -> Result<usize, AllocError> {
+    let mut taken = 0usize;
     for step in steps {
-        let answer = take(alloc, writer, column, *step, told);
+        let (numbers, is_paired) = step.parts();
+        let batch = column.batch(alloc, numbers, is_paired)?;
+        let answer = take(alloc, writer, *step, batch, told);
+        taken = taken.saturating_add(usize::from(answer.is_ok()));
         tell(alloc, told, answer)?;
     }
-    Ok(())
+    Ok(taken)
 }
 
 // Takes the steps, and ends the stream.
@@ -130,19 +133,20 @@ fn finished<W: Sink + Drop>(
     column: Column,
     steps: &[Step<'_>],
     told: &mut String,
-) -> Result<W, AllocError> {
+) -> Result<(W, usize), AllocError> {
     let mut writer = writer;
-    take_all(alloc, &mut writer, column, steps, told)?;
+    let taken = take_all(alloc, &mut writer, column, steps, told)?;
     match writer.finish() {
-        Ok(sink) => Ok(sink),
+        Ok(sink) => Ok((sink, taken.saturating_add(2))),
         Err((fault, sink)) => {
             tell(alloc, told, Err(fault))?;
-            Ok(sink)
+            Ok((sink, taken.saturating_add(1)))
         }
     }
 }
 
-/// Writes a stream of the column by these steps, with its end, and tells what is refused.
+/// Writes a stream of the column by these steps, with its end, and tells what is refused. Gives the
+/// sink back, and how many calls were not refused: the start, the steps and the end.
 pub fn played<W: Sink + Drop>(
     alloc: Global,
     limits: Limits,
@@ -150,12 +154,12 @@ pub fn played<W: Sink + Drop>(
     column: Column,
     steps: &[Step<'_>],
     told: &mut String,
-) -> Result<W, AllocError> {
+) -> Result<(W, usize), AllocError> {
     match StreamWriter::start(alloc, limits, sink, &column.schema(alloc)?) {
         Ok(writer) => finished(alloc, writer, column, steps, told),
         Err((fault, sink)) => {
             tell(alloc, told, Err(fault))?;
-            Ok(sink)
+            Ok((sink, 0))
         }
     }
 }
@@ -168,7 +172,8 @@ pub fn sent(
     steps: &[Step<'_>],
     told: &mut String,
 ) -> Result<Vec<u8>, AllocError> {
-    Ok(played(alloc, limits, empty(alloc), column, steps, told)?.into_bytes())
+    let (sink, _done) = played(alloc, limits, empty(alloc), column, steps, told)?;
+    Ok(sink.into_bytes())
 }
 
 /// The same under the standard limits, where nothing needs to be told.

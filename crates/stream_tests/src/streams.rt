@@ -1,87 +1,142 @@
-//! What a reader does after its last message, and at a source that fails. What it answers to
-//! streams stands in `cases/`.
+//! What a reader answers by calls: at a source that fails at each of its calls in turn, after a
+//! refusal and after the end. What it answers to streams stands in `cases/`.
+ghost use Rattle.std.specs.Prelude.{◌≤◌, ◌+◌, length, IfOk};
+ghost use Rattle.std.specs.Io.KnownBytes.{ReadConsumes};
 
-use crate::pieces::STREAM;
-use ipc_model::{Fault, Limits};
-use ipc_stream::{End, Limited, Memory, StreamReader};
+use crate::pieces::{STREAM, nullable_stream};
+use crate::tables::{Column, NUMBERS};
+use ipc_model::{Fault, Limits, Table};
+use ipc_stream::{End, Failed, Limited, Memory, Source, StreamReader, read_table};
 use std::alloc::{AllocError, Global};
 use std::test::Fail;
 
-// What a call for the next batch answers: the number of its rows. Then how the stream ended, and
-// how many bytes and messages were taken.
-type Said = (Result<Option<usize>, Fault>, Option<End>, u64, u64);
+// A source that counts its calls.
+#[derive(Drop)]
+struct Counted<D> {
+    inner: D,
+    calls: u64,
+}
 
-fn rows_of_next(reader: &mut StreamReader<Memory>) -> Result<Option<usize>, Fault> {
+impl<D: Source> Source for Counted<D> {
+    ghost remaining = { λ s. D.remaining s.inner };
+
+    ghost failures = { λ s. D.failures s.inner };
+
+    ghost bound = { λ s. D.bound s.inner };
+
+    fn read(&mut self, into: &mut [u8]) -> Result<usize, Failed> {
+        self.calls = self.calls.saturating_add(1);
+        self.inner.read(into)
+    }
+}
+
+type Tested = Counted<Limited<Memory>>;
+
+// The result of a call for the next batch: the number of its rows.
+type Said = Result<Option<usize>, Fault>;
+
+fn rows_of_next(reader: &mut StreamReader<Tested>) -> Said {
     match reader.next()? {
         Some((batch, _)) => Ok(Some(batch.rows())),
         None => Ok(None),
     }
 }
 
-fn said(reader: &mut StreamReader<Memory>) -> Said {
-    let rows = rows_of_next(reader);
-    (rows, reader.end(), reader.taken(), reader.messages())
-}
+// The results of three such calls, how the stream ended, and the numbers of bytes and messages
+// taken and of calls of the source. Or the fault of `open`, and the number of calls.
+type Heard = Result<([Said; 3], Option<End>, u64, u64, u64), (Fault, u64)>;
 
-// What three such calls answer, and how many bytes are left then; none where the schema of one
-// field isn't read.
-fn said_of(alloc: Global, bytes: Vec<u8>) -> Option<([Said; 3], usize)> {
-    match StreamReader::open(alloc, Limits::standard(), Memory::new(bytes)) {
-        Ok(reader) => said_by(reader),
-        Err(_) => None,
+// What a reader returns for a source of these bytes that gives one byte in each of `calls` calls.
+fn heard(alloc: Global, bytes: Vec<u8>, calls: u64) -> Heard {
+    let inner = Limited::new(Memory::new(bytes), 1, calls);
+    match StreamReader::open(alloc, Limits::standard(), Counted { inner, calls: 0 }) {
+        Ok(mut reader) => {
+            let said = [
+                rows_of_next(&mut reader),
+                rows_of_next(&mut reader),
+                rows_of_next(&mut reader),
+            ];
+            let (end, taken, messages) = (reader.end(), reader.taken(), reader.messages());
+            Ok((said, end, taken, messages, reader.into_inner().calls))
+        }
+        Err((fault, source)) => Err((fault, source.calls)),
     }
 }
 
-fn said_by(reader: StreamReader<Memory>) -> Option<([Said; 3], usize)> {
-    let mut reader = reader;
-    let has_field = reader.schema().fields.len() == 1;
-    let all = [said(&mut reader), said(&mut reader), said(&mut reader)];
-    let left = reader.into_inner().unread().len();
-    if has_field { Some((all, left)) } else { None }
+// What it should return: the schema has 120 bytes, the batch 160, and the mark 8. The source is not
+// called again after a failed call, and not after the mark.
+fn wanted(calls: u64) -> Heard {
+    let failed = Err(Fault::Failed);
+    let asked = calls.saturating_add(1);
+    match calls {
+        0..=119 => Err((Fault::Read, asked)),
+        120..=279 => Ok(([Err(Fault::Read), failed, failed], None, calls, 1, asked)),
+        280..=287 => Ok((
+            [Ok(Some(3)), Err(Fault::Read), failed],
+            None,
+            calls,
+            2,
+            asked,
+        )),
+        _ => Ok((
+            [Ok(Some(3)), Ok(None), Ok(None)],
+            Some(End::Mark),
+            288,
+            2,
+            288,
+        )),
+    }
 }
 
-// A schema's message, that message again, and the end mark.
-fn two_schemas(alloc: Global) -> Result<Vec<u8>, AllocError> {
+// The first number of calls for which a reader returns something else, if there is one.
+fn heard_otherwise(alloc: Global, bytes: &[u8]) -> Result<Option<u64>, AllocError> {
+    for calls in 0..=289 {
+        if heard(alloc, Vec::from_slice(alloc, bytes)?, calls) != wanted(calls) {
+            return Ok(Some(calls));
+        }
+    }
+    Ok(None)
+}
+
+// A schema's message, that message again, and the end mark: a second schema is refused, and after
+// that every call, without taking a byte.
+fn stays_refused(alloc: Global) -> Result<bool, AllocError> {
     let mut bytes = Vec::from_slice(alloc, &STREAM[..120])?;
     bytes.extend_from_slice(&STREAM[..120])?;
     bytes.extend_from_slice(&STREAM[280..])?;
-    Ok(bytes)
+    let said = [
+        Err(Fault::SecondSchema),
+        Err(Fault::Failed),
+        Err(Fault::Failed),
+    ];
+    Ok(heard(alloc, bytes, u64::MAX) == Ok((said, None, 240, 1, 240)))
 }
 
-// A second schema is refused, and after that every call, without taking a byte.
-#[test]
-fn stays_refused(rt: HostRuntime) -> Result<(), Fail> {
-    let first = (Err(Fault::SecondSchema), None, 240, 1);
-    let other = (Err(Fault::Failed), None, 240, 1);
-    let said = said_of(rt.alloc(), two_schemas(rt.alloc())?);
-    assert!(rt; said == Some(([first, other, other], 8)));
-    Ok(())
+// Whether the stream's table is read from a source that gives at most `step` bytes in each call.
+fn is_read(alloc: Global, step: usize, table: &Table) -> Result<bool, Fault> {
+    let memory = Memory::new(Vec::from_slice(alloc, &STREAM)?);
+    let mut source = Limited::new(memory, step.max(1), u64::MAX);
+    let (read, end) = read_table(alloc, &Limits::standard(), &mut source)?;
+    Ok(read.is_same(table) && end == End::Mark)
 }
 
-// The end is answered once it is reached, and again.
-#[test]
-fn stays_ended(rt: HostRuntime) -> Result<(), Fail> {
-    let first = (Ok(Some(3)), None, 280, 2);
-    let other = (Ok(None), Some(End::Mark), 288, 2);
-    let said = said_of(rt.alloc(), Vec::from_slice(rt.alloc(), &STREAM)?);
-    assert!(rt; said == Some(([first, other, other], 0)));
-    Ok(())
-}
-
-// A source that fails at its third read, which asks for the metadata, and so before there is a
-// reader: the fault, and how many bytes are left.
-fn refused(alloc: Global, bytes: Vec<u8>) -> Option<(Fault, usize)> {
-    let source = Limited::new(Memory::new(bytes), 56, 2);
-    match StreamReader::open(alloc, Limits::standard(), source) {
-        Ok(_reader) => None,
-        Err((fault, source)) => Some((fault, source.into_inner().unread().len())),
+// The first step by which something else is read, if there is one.
+fn read_otherwise(alloc: Global, table: &Table) -> Result<Option<usize>, Fault> {
+    for step in 1..=STREAM.len() {
+        if !is_read(alloc, step, table)? {
+            return Ok(Some(step));
+        }
     }
+    Ok(None)
 }
 
 #[test]
-fn tells_a_failed_source(rt: HostRuntime) -> Result<(), Fail> {
-    let refusal = refused(rt.alloc(), Vec::from_slice(rt.alloc(), &STREAM)?);
-    assert!(rt; refusal == Some((Fault::Read, 280)));
+fn sources_that_fail_or_give_few_bytes(rt: HostRuntime) -> Result<(), Fail> {
+    let bytes = nullable_stream(rt.alloc())?;
+    let table = Column::Numbers.table(rt.alloc(), NUMBERS, false)?;
+    assert!(rt; heard_otherwise(rt.alloc(), &bytes)? == None);
+    assert!(rt; stays_refused(rt.alloc())?);
+    assert!(rt; read_otherwise(rt.alloc(), &table)? == None);
     Ok(())
 }
 

@@ -36,6 +36,11 @@ pub type Rows<'a> = &'a [Option<i64>];
 /// The numbers 1, -2 and the greatest of 64 bits.
 pub const NUMBERS: Rows<'static> = &[Some(1), Some(-2), Some(i64::MAX)];
 
+/// One letter.
+pub const A: Rows<'static> = &[Some(0x61)];
+
+pub const B: Rows<'static> = &[Some(0x62)];
+
 /// The letters of a number: a and b, b and c, c and d.
 pub const AB: Option<i64> = Some(0x6162);
 
@@ -167,18 +172,28 @@ impl Column {
         })
     }
 
-    fn batches(self, alloc: Global, numbers: Rows<'_>) -> Result<Items<BatchRows>, AllocError> {
+    fn batches(
+        self,
+        alloc: Global,
+        numbers: Rows<'_>,
+        is_paired: bool,
+    ) -> Result<Items<BatchRows>, AllocError> {
         let mut batches = Vec::new(alloc);
-        batches.push(self.batch(alloc, numbers, true)?)?;
+        batches.push(self.batch(alloc, numbers, is_paired)?)?;
         Ok(Items::from_vec(batches))
     }
 
-    /// A table of one such batch, with one pair.
-    pub fn table(self, alloc: Global, numbers: Rows<'_>) -> Result<Table, AllocError> {
+    /// A table of one such batch.
+    pub fn table(
+        self,
+        alloc: Global,
+        numbers: Rows<'_>,
+        is_paired: bool,
+    ) -> Result<Table, AllocError> {
         let schema = self.schema(alloc)?;
         Ok(Table {
             schema,
-            batches: self.batches(alloc, numbers)?,
+            batches: self.batches(alloc, numbers, is_paired)?,
         })
     }
 }

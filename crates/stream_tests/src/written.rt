@@ -1,9 +1,9 @@
 //! What writers refuse, alone and under limits, and what they send all the same: it is what another
 //! writer sends of the rows that are left. What a reader answers under limits stands in `cases/`.
 
-use crate::scripts::{Step, sent, stream_of, tell};
-use crate::tables::{AB, BC, CD, Column, NUMBERS, Rows, empty};
-use ipc_model::{DataType, Fault, Field, Limits, Schema, Table, WriteFault};
+use crate::scripts::{Step, ended, sent, started, stream_of};
+use crate::tables::{AB, BC, CD, Column, NUMBERS, empty};
+use ipc_model::{DataType, Fault, Field, Items, Limits, Schema, Table, Value, WriteFault};
 use ipc_stream::{Memory, StreamWriter, read_table, write_table};
 use std::alloc::{AllocError, Global};
 use std::test::Fail;
@@ -166,46 +166,27 @@ fn answered_otherwise(alloc: Global) -> Result<Option<usize>, AllocError> {
     Ok(None)
 }
 
-#[test]
-fn answers_to_scripts(rt: HostRuntime) -> Result<(), Fail> {
-    assert!(rt; answered_otherwise(rt.alloc())? == None);
-    Ok(())
-}
-
-// What is told of a table that is written whole, and its bytes.
-fn table_sent(alloc: Global, table: &Table, told: &mut String) -> Result<Vec<u8>, AllocError> {
-    let mut sink = empty(alloc);
-    let answer = write_table(alloc, &Limits::standard(), &mut sink, table);
-    tell(alloc, told, answer)?;
-    Ok(sink.into_bytes())
-}
-
-// Whether a table is refused for its second row, and only what begins its stream, before the end
-// mark, goes out.
-fn is_refused(alloc: Global, table: &Table, whole: &[u8]) -> Result<bool, AllocError> {
-    let mut told = String::new(alloc);
-    let bytes = table_sent(alloc, table, &mut told)?;
-    let is_begun = whole.starts_with(&bytes) && bytes.len().saturating_add(8) == whole.len();
-    Ok(is_begun && told.as_str() == "W4 OutOfRange at row 1 path 0\n")
-}
-
-const MISFITS: [(Column, [Option<i64>; 2]); 2] = [
-    (Column::UnsignedBytes, [Some(255), Some(256)]),
-    (Column::Days, [Some(86_400_000), Some(1)]),
-];
-
-// Whether a table of these numbers is.
-fn is_misfit(alloc: Global, column: Column, numbers: Rows<'_>) -> Result<bool, AllocError> {
-    let whole = stream_of(alloc, column, &[])?;
-    is_refused(alloc, &column.table(alloc, numbers)?, &whole)
-}
-
-#[test]
-fn tells_the_row_of_a_table(rt: HostRuntime) -> Result<(), Fail> {
-    for (column, numbers) in MISFITS {
-        assert!(rt; is_misfit(rt.alloc(), column, &numbers)?);
+// Sends those of the numbers that fit their column as one batch.
+fn push_numbers(
+    alloc: Global,
+    stream: &mut StreamWriter<Memory>,
+    numbers: &[i64],
+) -> Result<(), WriteFault> {
+    let mut batch = stream.batch(Items::new(alloc))?;
+    for number in numbers {
+        match batch.push(&[Value::Int(*number)]) {
+            Ok(()) | Err(WriteFault::Row { .. }) => {}
+            Err(fault) => return Err(fault),
+        }
     }
-    Ok(())
+    batch.send()
+}
+
+// The stream of a writer with a batch of those of the numbers that fit.
+fn pushed(alloc: Global, numbers: &[i64]) -> Result<Vec<u8>, WriteFault> {
+    let mut writer = started(alloc, &Column::Bytes.schema(alloc)?)?;
+    push_numbers(alloc, &mut writer, numbers)?;
+    ended(writer)
 }
 
 // The body of the numbers, and the end mark.
@@ -214,10 +195,32 @@ const BEHIND: [u8; 32] = [
     255, 127, 255, 255, 255, 255, 0, 0, 0, 0,
 ];
 
+// Whether no writer is started for a column of this type, and nothing goes out.
+fn is_bad(alloc: Global, kind: DataType) -> Result<bool, AllocError> {
+    let mut fields = Vec::new(alloc);
+    fields.push(Field::new(alloc, "a", kind)?)?;
+    let schema = Schema::new(fields);
+    Ok(
+        match StreamWriter::start(alloc, Limits::standard(), empty(alloc), &schema) {
+            Ok(_writer) => false,
+            Err((fault, sink)) => fault == WriteFault::BadSchema && sink.into_bytes().is_empty(),
+        },
+    )
+}
+
+// The schemas have a width that no column has, and a list without its child.
 #[test]
-fn writes_numbers(rt: HostRuntime) -> Result<(), Fail> {
+fn answers_of_writers(rt: HostRuntime) -> Result<(), Fail> {
+    assert!(rt; answered_otherwise(rt.alloc())? == None);
+    let fit = stream_of(
+        rt.alloc(),
+        Column::Bytes,
+        &[Step::Write(&[Some(127), Some(-128)])],
+    )?;
+    assert!(rt; pushed(rt.alloc(), &[127, 128, -128, -129])?.as_slice() == fit.as_slice());
     let bytes = stream_of(rt.alloc(), Column::Numbers, &[Step::Write(NUMBERS)])?;
-    assert!(rt; bytes.ends_with(&BEHIND));
+    let is_wide = is_bad(rt.alloc(), DataType::FixedSizeBinary(1 << 31))?;
+    assert!(rt; bytes.ends_with(&BEHIND) && is_wide && is_bad(rt.alloc(), DataType::List)?);
     Ok(())
 }
 
@@ -240,39 +243,7 @@ pub fn comes_back(alloc: Global, table: &Table) -> Result<bool, Fail> {
 
 #[test]
 fn grows_a_written_table(rt: HostRuntime) -> Result<(), Fail> {
-    let table = Column::Numbers.table(rt.alloc(), NUMBERS)?;
+    let table = Column::Numbers.table(rt.alloc(), NUMBERS, true)?;
     assert!(rt; comes_back(rt.alloc(), &table)?);
-    Ok(())
-}
-
-// A width that no column has; a list without its child.
-fn refused_column(alloc: Global, number: usize) -> Result<Field, AllocError> {
-    match number {
-        0 => Field::new(alloc, "a", DataType::FixedSizeBinary(1 << 31)),
-        _ => Field::new(alloc, "a", DataType::List),
-    }
-}
-
-// Whether no writer is started for a schema, and nothing goes out.
-fn is_bad(alloc: Global, schema: &Schema) -> bool {
-    match StreamWriter::start(alloc, Limits::standard(), empty(alloc), schema) {
-        Ok(_writer) => false,
-        Err((fault, sink)) => fault == WriteFault::BadSchema && sink.into_bytes().is_empty(),
-    }
-}
-
-// The schema of such a column.
-fn refused_schema(alloc: Global, number: usize) -> Result<Schema, AllocError> {
-    let mut fields = Vec::new(alloc);
-    fields.push(refused_column(alloc, number)?)?;
-    Ok(Schema::new(fields))
-}
-
-#[test]
-fn refuses_schemas(rt: HostRuntime) -> Result<(), Fail> {
-    for number in 0..2 {
-        let schema = refused_schema(rt.alloc(), number)?;
-        assert!(rt; is_bad(rt.alloc(), &schema), "column {number}");
-    }
     Ok(())
 }

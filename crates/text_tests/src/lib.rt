@@ -2,4 +2,6 @@
 #![tactic(auto)]
 
 #[cfg(test)]
+mod jobs;
+#[cfg(test)]
 mod texts;

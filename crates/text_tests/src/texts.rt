@@ -101,17 +101,13 @@ fn answer(alloc: Global, schema: &Schema, case: &Case) -> Result<Vec<u8>, TextFa
     }
 }
 
-fn is_answered_under(alloc: Global, schema: &Schema, case: &Case) -> bool {
-    match answer(alloc, schema, case) {
-        Ok(text) => matches!(case.wanted, Ok(wanted) if wanted.as_bytes() == text.as_slice()),
-        Err(fault) => matches!(case.wanted, Err(wanted) if wanted == fault),
-    }
-}
-
-fn is_answered(alloc: Global, case: &Case) -> bool {
-    match schema_from_json(alloc, case.schema) {
-        Ok(schema) => is_answered_under(alloc, &schema, case),
-        Err(_) => false,
+// Whether a case is answered as it should be. Memory that ran out is no answer.
+fn is_answered(alloc: Global, case: &Case) -> Result<bool, TextFault> {
+    let schema = schema_from_json(alloc, case.schema)?;
+    match answer(alloc, &schema, case) {
+        Ok(text) => Ok(matches!(case.wanted, Ok(wanted) if wanted.as_bytes() == text.as_slice())),
+        Err(TextFault::OutOfMemory) => Err(TextFault::OutOfMemory),
+        Err(fault) => Ok(matches!(case.wanted, Err(wanted) if wanted == fault)),
     }
 }
 
@@ -226,10 +222,11 @@ const CASES: [Case; 14] = [
 ];
 
 #[test]
-fn schemas_and_records(rt: HostRuntime) {
+fn grows_schemas_and_records(rt: HostRuntime) -> Result<(), TextFault> {
     for (number, case) in CASES.iter().enumerate() {
-        assert!(rt; is_answered(rt.alloc(), case), "case {number}");
+        assert!(rt; is_answered(rt.alloc(), case)?, "case {number}");
     }
+    Ok(())
 }
 
 // What has a text that tells a day, a time of day or a point in time.
