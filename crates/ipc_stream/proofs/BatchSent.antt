@@ -179,21 +179,21 @@ module _ (limits : Limits) (s : Schema) (b : BatchRows) (kept : List KeptEntry) 
       → TellsRows limits ds s b m
 
   -- the batch is told where its dictionaries are in force
-  tells_own : WellFormed limits s → kept_ids kept ≡ ids_of s.fields → AllSettled kept (tallied s.fields b.rows) os
-      → FindsNoted kept (tallied s.fields b.rows) os → Tells → (o : InForce) → IsInForce s (sent_after s.fields b.rows kept) o
-      → IsMessage limits (Some o) (bytes_of m) (batch b ∷ []) (Some o)
-  tells_own well ids settled finds tells o in_force =
+  tells_own : WellFormed limits s → AreCounted s.fields (sent_after s.fields b.rows kept) → kept_ids kept ≡ ids_of s.fields
+      → AllSettled kept (tallied s.fields b.rows) os → FindsNoted kept (tallied s.fields b.rows) os → Tells → (o : InForce)
+      → IsInForce s (sent_after s.fields b.rows kept) o → IsMessage limits (Some o) (bytes_of m) (batch b ∷ []) (Some o)
+  tells_own well counted ids settled finds tells o in_force =
       let after = sent_is s.fields b.rows kept os ids settled in
       let found = plan_finds limits s b.rows kept os (values_in o.dictionaries) well
       (λ id. in_force.values_are id ∙ ap (λ k. sent_for k id) (sym after))
-      (subst (AreCounted s.fields) (sym after) in_force.counted) finds in
+      (subst (AreCounted s.fields) (sym after) counted) finds in
       tells (values_in o.dictionaries) found o in_force.schema_is refl
 
   -- the messages of its dictionaries bring it there
-  sets_first : AllFit (tallied s.fields b.rows) → kept_ids kept ≡ ids_of s.fields → AllSettled kept (tallied s.fields b.rows) os
+  sets_first : kept_ids kept ≡ ids_of s.fields → AllSettled kept (tallied s.fields b.rows) os
       → SetDictionaries limits s (sends_of (tallied s.fields b.rows) os) ms → (o : InForce) → IsInForce s kept o
       → (τ : InForce) × (IsInForce s (sent_after s.fields b.rows kept) τ × Run limits (Some o) (all_bytes ms) [] (Some τ))
-  sets_first fit ids settled sets o in_force =
+  sets_first ids settled sets o in_force =
       let entries = tallied s.fields b.rows in
       let after = sent_is s.fields b.rows kept os ids settled in
       let first = sent_run limits s kept entries os ms o in_force.schema_is in_force.values_are
@@ -203,7 +203,6 @@ module _ (limits : Limits) (s : Schema) (b : BatchRows) (kept : List KeptEntry) 
           record {
             schema_is = first.1.0;
             values_are = λ id. first.1.1.0 id ∙ ap (λ k. sent_for k id) after;
-            counted = counted_after s.fields b.rows kept fit in_force.counted;
           },
           first.1.1.1,
         ),
@@ -226,11 +225,11 @@ module _ (limits : Limits) (s : Schema) (b : BatchRows) (kept : List KeptEntry) 
       )
 
   -- the messages of a plan's dictionaries, and behind them one that tells the batch where they are in force
-  pub batch_sent : WellFormed limits s → AllFit (tallied s.fields b.rows) → kept_ids kept ≡ ids_of s.fields
+  pub batch_sent : WellFormed limits s → AllFit (tallied s.fields b.rows) → AreCounted s.fields kept → kept_ids kept ≡ ids_of s.fields
       → AllSettled kept (tallied s.fields b.rows) os → FindsNoted kept (tallied s.fields b.rows) os
       → SetDictionaries limits s (sends_of (tallied s.fields b.rows) os) ms → Tells → SendsBatch limits s kept b (all_bytes (ms ++ m ∷ []))
-  batch_sent well fit ids settled finds sets tells =
-      let own = tells_own well ids settled finds tells in
+  batch_sent well fit counted ids settled finds sets tells =
+      let own = tells_own well (counted_after s.fields b.rows kept fit counted) ids settled finds tells in
       record {
         dictionaries = all_bytes ms;
         own = bytes_of m;
@@ -238,7 +237,7 @@ module _ (limits : Limits) (s : Schema) (b : BatchRows) (kept : List KeptEntry) 
         set = subst (λ sends. DictionaryMessages limits s sends (all_bytes ms)) (needed_is s.fields b.rows kept os ids settled)
             (set_messages limits s (sends_of (tallied s.fields b.rows) os) ms sets);
         told = own;
-        in_turn = both_told (sets_first fit ids settled sets) own;
+        in_turn = both_told (sets_first ids settled sets) own;
       }
 
 -- ---- parts

@@ -1,14 +1,13 @@
 -- What is in force along the batches of a stream, one after another.
-use Rattle.std.proofs.Common.{◌≡◌, ◌∙◌, refl, sym, ap, subst, ℕ, zero, suc, take, ◌≤◌, List, [], ◌∷◌, ◌++◌, length, map, Some, None}
+use Rattle.std.proofs.Common.{◌≡◌, ◌∙◌, refl, sym, ap, subst, ℕ, zero, suc, take, List, [], ◌∷◌, ◌++◌, map, Some, None}
 use Rattle.std.proofs.Common.{append_assoc}
-use Rattle.std.specs.Option.{IfSome}
 use Rattle.std.proofs.lemmas.List.{append-nil, map-append}
 use Rattle.ipc_model.specs.declared.limits.Limits.{Limits}
 use Rattle.ipc_model.specs.declared.schema.Field.{Field}
 use Rattle.ipc_model.specs.declared.schema.Schema.{Schema}
 use Rattle.ipc_model.specs.declared.table.BatchRows.{BatchRows}
 use Rattle.ipc_dict.specs.declared.kept.KeptEntry.{KeptEntry}
-use Rattle.ipc_dict.specs.SchemaIds.{count_of, ids_of}
+use Rattle.ipc_dict.specs.SchemaIds.{ids_of}
 use Rattle.ipc_dict.specs.Sending.{sent_after}
 use Rattle.ipc_dict.proofs.Sending.{sent_unsent}
 use Rattle.ipc_decode.specs.Stream.{Event, schema, batch, begun, Run, done, OpensStream}
@@ -22,7 +21,6 @@ pub begun_in_force : (s : Schema) → IsInForce s (none_sent s) (begun s)
 begun_in_force s = record {
   schema_is = refl;
   values_are = λ id. sym (sent_unsent (ids_of s.fields) id);
-  counted = λ d named. subst (λ o. IfSome o (λ known. length known ≤ count_of d)) (sym (sent_unsent (ids_of s.fields) d.id)) tt;
 }
 
 -- what was sent once batches were and then others

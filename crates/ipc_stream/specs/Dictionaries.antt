@@ -11,7 +11,7 @@ use Rattle.ipc_dict.specs.declared.kept.KeptEntry.{KeptEntry}
 use Rattle.ipc_dict.specs.Noting.{AllFit}
 use Rattle.ipc_dict.specs.Planning.{sent_for}
 use Rattle.ipc_dict.specs.SchemaIds.{ids_of, unsent}
-use Rattle.ipc_dict.specs.Sending.{AreCounted, needed, tallied, sent_after}
+use Rattle.ipc_dict.specs.Sending.{needed, tallied, sent_after}
 use Rattle.ipc_dict.specs.Within.{AllWithin, HaveShortMessages}
 use Rattle.ipc_frame.specs.Frames.{eos}
 use Rattle.ipc_decode.specs.Stream.{InForce, State, Run, IsMessage, OpensStream, batch, events_of}
@@ -27,11 +27,10 @@ kept_after fields kept [] = kept
 kept_after fields kept (b ∷ more) = kept_after fields (sent_after fields b.rows kept) more
 
 -- for a reader, this schema is in force, and the values that were sent last of each dictionary,
--- whatever bytes set them. Each index type of its fields can address them
+-- whatever bytes set them
 pub record IsInForce (s : Schema) (kept : List KeptEntry) (o : InForce) : Type 0 where
   pub schema_is : o.schema ≡ s
   pub values_are : (id : ℤ) → at (values_in o.dictionaries) id ≡ sent_for kept id
-  pub counted : AreCounted s.fields kept
 
 -- x is messages that report exactly these batches: from each state in which the values sent are in
 -- force, to one in which they are with those of the batches

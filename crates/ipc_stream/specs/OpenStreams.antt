@@ -16,6 +16,7 @@ use Rattle.ipc_dict.specs.declared.seed.Seed.{Seed}
 use Rattle.ipc_dict.specs.Planned.{Planned}
 use Rattle.ipc_dict.specs.Planning.{after_all}
 use Rattle.ipc_dict.specs.SchemaIds.{ids_of, kept_ids, tally_ids}
+use Rattle.ipc_dict.specs.Sending.{AreCounted}
 use Rattle.ipc_dict.specs.Within.{dictionary_room_of}
 
 -- a stream whose schema was sent: its limits, its schema, the values that were sent of each
@@ -27,12 +28,13 @@ pub record Opened : Type 0 where
   pub seed : Seed
 
 -- the schema is well formed, these are the columns of its dictionaries, and `kept` has an entry for
--- each of them
+-- each of them. Each index type of the fields can address the values that were sent
 pub record IsGoingOn (limits : Limits) (s : Schema) (columns : Applied)
     (kept : List KeptEntry) : Type 0 where
   pub well_formed : WellFormed limits s
   pub columns_are : columns.columns ≡ columns_in s.fields
   pub ids : kept_ids kept ≡ ids_of s.fields
+  pub counted : AreCounted s.fields kept
 
 -- these rows can be sent as the dictionary with the id: its column is well formed, the rows fit it,
 -- and they and the message's metadata are within the limits

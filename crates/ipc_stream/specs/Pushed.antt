@@ -45,6 +45,19 @@ pub record HoldsBatch (limits : Limits) (s : Schema) (b : BatchRows)
   pub pairs : held.pairs ≡ b.pairs
   pub accepted : AcceptsBatch limits s b
 
+-- the rows that are held belong to a stream with these limits and this schema, whatever they are
+abbrev pub BelongsTo : Limits → Schema → PushedRows → Type 0
+BelongsTo limits s held = (held.tally.limits ≡ limits) × (held.tally.fields ≡ s.fields)
+
+-- the rows that are held belong to the stream to which they belonged before a call
+abbrev pub StaysInStream : PushedRows → PushedRows → Type 0
+StaysInStream old new =
+    (new.tally.limits ≡ old.tally.limits) × (new.tally.fields ≡ old.tally.fields)
+
+-- a call leaves the limits and the schema of a writer as they were
+abbrev pub KeepsStream : Writer → Writer → Type 0
+KeepsStream old new = (new.limits ≡ old.limits) × (new.schema ≡ old.schema)
+
 -- why a batch is not begun, or a row not taken into it: the batch would be refused. W9 does not
 -- occur, since the sink is not called; a writer that has failed returns W10
 abbrev pub RefusesHeld : Limits → Schema → BatchRows → Bool → WriteFault → Type 0

@@ -4,7 +4,8 @@ ghost use Rattle.std.specs.List.{AllByRecursion};
 ghost use Rattle.ipc_model.specs.declared.schema.Schema.{Schema};
 ghost use Rattle.ipc_model.specs.declared.table.BatchRows.{BatchRows};
 ghost use Rattle.ipc_dictionaries.specs.ValuesColumns.{columns_in};
-ghost use Rattle.ipc_dict.specs.Sending.{sent_after};
+ghost use Rattle.ipc_dict.specs.SchemaIds.{ids_of, tally_ids};
+ghost use Rattle.ipc_dict.specs.Sending.{AreAddressed, sent_after};
 ghost use Rattle.ipc_stream.specs.Dictionaries.{SendsBatch};
 ghost use Rattle.ipc_stream.specs.Messages.{AddsDictionary, SetDictionaries, all_bytes};
 ghost use Rattle.ipc_stream.specs.OpenStreams.{CanBeSent, IsGoingOn, Leads};
@@ -118,6 +119,8 @@ pub fn held_messages(
         → HoldsBatch limits.now s b held
         → IfErr result (λ fault. fault ≡ WriteFault.OutOfMemory) }
     ensures some { IfOk result (λ r. 0 < length r.0.messages.items) }
+    ensures ids { IfOk result (λ r. tally_ids r.1.entries ≡ ids_of held.tally.fields) }
+    ensures addressed { IfOk result (λ r. AreAddressed held.tally.fields r.1.entries) }
 {
     let PushedRows {
         builder,

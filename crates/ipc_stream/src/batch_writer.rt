@@ -1,4 +1,7 @@
 ghost use Rattle.std.specs.Prelude.{◌≡◌, Err, IfErr, IfOk, MatchResult, true};
+ghost use Rattle.std.specs.Coded.{Coded-set, coded_list};
+ghost use Rattle.ipc_model.specs.contracts.limits.Limits as bounds;
+ghost use Rattle.ipc_model.specs.contracts.schema.Field as field;
 ghost use Rattle.ipc_model.specs.declared.table.BatchRows.{BatchRows};
 ghost use Rattle.ipc_stream.specs.Pushed.{HoldsBatch, RefusesHeld, Stays, StaysAt};
 ghost use Rattle.ipc_stream.specs.Pushed.{no_rows, with_row};
@@ -6,6 +9,7 @@ ghost use Rattle.ipc_stream.specs.PushedColumns.{HoldsColumns, RefusesColumns};
 ghost use Rattle.ipc_stream.specs.Writer.{LeavesBatch};
 ghost use Rattle.ipc_stream.specs.Writing.{AcceptsBatch, RefusesBatch};
 
+use crate::held::Held;
 use crate::pushed::PushedRows;
 use crate::sink::Sink;
 use crate::writer::StreamWriter;
@@ -18,12 +22,15 @@ use ipc_model::{Items, Text, Value, WriteFault};
 /// It holds the pairs of the batch and the rows that were pushed and not refused. Nothing is sent
 /// before `send`. A batch that is dropped leaves the writer as it was. The exception is W11: after
 /// it each call of the writer returns W10.
-pub struct BatchWriter<'a, W: Sink, B = PushedRows> {
+pub struct BatchWriter<'a, W: Sink, B: Held = PushedRows> {
     writer: &'a mut StreamWriter<W>,
     batch: B,
+    // The rows belong to the writer's stream.
+    ghost same_limits: { B.limits batch ≡ writer.now.limits } by { Coded-set bounds.the_row.coded (B.limits batch) writer.now.limits },
+    ghost same_fields: { B.fields batch ≡ writer.now.schema.fields } by { Coded-set (coded_list field.the_row.coded) (B.fields batch) writer.now.schema.fields },
 }
 
-impl<W: Sink, B: Drop> Drop for BatchWriter<'_, W, B> {
+impl<W: Sink, B: Held + Drop> Drop for BatchWriter<'_, W, B> {
     fn drop(self)
         ensures { self.exit.0.now ≡ self.entry.writer.now }
     {

@@ -1,10 +1,11 @@
 ghost use Rattle.std.specs.Prelude.{◌≡◌, ◌⊎◌, IfErr, IfOk, MatchResult, OnErr, OnOk, false};
 ghost use Rattle.ipc_model.specs.declared.table.BatchRows.{BatchRows};
 ghost use Rattle.ipc_dictionaries.specs.ValuesColumns.{columns_in};
-ghost use Rattle.ipc_dict.specs.Sending.{sent_after};
+ghost use Rattle.ipc_dict.specs.Sending.{AreCounted, sent_after};
 ghost use Rattle.ipc_decode.specs.Stream.{OpensStream};
 ghost use Rattle.ipc_stream.specs.Dictionaries.{SendsBatch, none_sent};
-ghost use Rattle.ipc_stream.specs.Pushed.{HoldsBatch, RefusesHeld, no_rows, with_row};
+ghost use Rattle.ipc_stream.specs.Pushed.{BelongsTo, HoldsBatch, RefusesHeld, StaysInStream};
+ghost use Rattle.ipc_stream.specs.Pushed.{no_rows, with_row};
 ghost use Rattle.ipc_stream.specs.PushedColumns.{HoldsColumns, RefusesColumns};
 ghost use Rattle.ipc_stream.specs.Writing.{AcceptsBatch, AcceptsSchema, RefusesBatch};
 ghost use Rattle.ipc_stream.specs.Writing.{RefusesSchema, Sends};
@@ -86,6 +87,8 @@ impl OpenStream {
           kept = none_sent schema.now;
           seed = Seed.Fixed;
         }) }
+        ensures counted { IfOk result
+            (λ stream. AreCounted stream.schema.fields stream.kept) }
         ensures sends { Sends (OpensStream limits.now schema.now) (W.written sink.old)
             (W.written sink.new) (W.failures sink.old) (W.failures sink.new) result }
         ensures judged { MatchResult result (λ _. AcceptsSchema limits.now schema.now)
@@ -137,6 +140,7 @@ impl OpenStream {
     // Takes one row more into a batch of this stream's. Nothing is sent.
     #[inline(always)]
     pub(crate) fn push_row(&self, held: &mut PushedRows, row: &[Value]) -> Result<(), WriteFault>
+        ensures stays { StaysInStream held.old held.new }
         ensures holds { (b : BatchRows) → HoldsBatch self.now.limits self.now.schema b held.old
             → OnOk result
             (HoldsBatch self.now.limits self.now.schema (with_row b row.now) held.new) }
@@ -157,6 +161,7 @@ impl OpenStream {
         held: &mut PushedRows,
         batch: &Batch,
     ) -> Result<bool, WriteFault>
+        ensures stays { StaysInStream held.old held.new }
         ensures holds { (b : BatchRows) → HoldsBatch self.now.limits self.now.schema b held.old
             → IfOk result
             (HoldsColumns self.now.limits self.now.schema b batch.now.rows held.new) }
@@ -173,6 +178,7 @@ impl OpenStream {
         sink: &mut W,
         held: PushedRows,
     ) -> Result<(), WriteFault>
+        requires { BelongsTo self.old.limits self.old.schema held }
         ensures sends { (b : BatchRows) → HoldsBatch self.old.limits self.old.schema b held
             → Sends (SendsBatch self.old.limits self.old.schema self.old.kept b)
             (W.written sink.old) (W.written sink.new) (W.failures sink.old)
@@ -181,6 +187,9 @@ impl OpenStream {
             → OnOk result (self.new ≡ record self.old {
               kept = sent_after self.old.schema.fields b.rows self.old.kept;
             }) }
+        ensures limits { self.new.limits ≡ self.old.limits }
+        ensures schema { self.new.schema ≡ self.old.schema }
+        ensures counted { OnOk result (AreCounted self.new.schema.fields self.new.kept) }
         ensures err { OnErr result (self.new ≡ self.old) }
         ensures only { (b : BatchRows) → HoldsBatch self.old.limits self.old.schema b held
             → IfErr result
@@ -211,6 +220,7 @@ impl OpenStream {
         ensures sent { OnOk result (self.new ≡ record self.old {
           kept = sent_after self.old.schema.fields batch.now.rows self.old.kept;
         }) }
+        ensures counted { OnOk result (AreCounted self.new.schema.fields self.new.kept) }
         ensures err { OnErr result (self.new ≡ self.old) }
         ensures judged { MatchResult result
             (λ _. AcceptsBatch self.old.limits self.old.schema batch.now)

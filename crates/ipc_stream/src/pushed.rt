@@ -13,8 +13,8 @@ ghost use Rattle.ipc_dict.specs.Faults.{told_of};
 ghost use Rattle.ipc_dict.specs.Within.{HaveShortMessages};
 ghost use Rattle.ipc_stream.specs.Parts.{AcceptsPairs};
 ghost use Rattle.ipc_stream.specs.Writing.{RefusesBatch};
-ghost use Rattle.ipc_stream.specs.Pushed.{HoldsBatch, RefusesHeld, RefusesRow, no_rows};
-ghost use Rattle.ipc_stream.specs.Pushed.{with_row, with_rows};
+ghost use Rattle.ipc_stream.specs.Pushed.{HoldsBatch, RefusesHeld, RefusesRow, StaysInStream};
+ghost use Rattle.ipc_stream.specs.Pushed.{no_rows, with_row, with_rows};
 
 use crate::messages::parts_message;
 use crate::untaken::Untaken;
@@ -97,6 +97,7 @@ impl PushedRows {
     // headroom. After W11 the held batch is unusable; after any other refusal it is unchanged.
     #[inline(always)]
     fn take_sure(&mut self, row: &[Value], spare: Spare) -> Result<(), NoteFault>
+        ensures stays { StaysInStream self.old self.new }
         ensures holds { (limits : Limits) (schema : Schema) (b : BatchRows)
             → WellFormed limits schema → RowFits schema.fields row.now
             → IsWithin limits schema.fields (b.rows ++ row.now ∷ [])
@@ -122,6 +123,7 @@ impl PushedRows {
     // Validates the columns of a row that conforms, then adds it.
     #[inline(never)]
     fn take(&mut self, row: &[Value]) -> Result<(), NoteFault>
+        ensures stays { StaysInStream self.old self.new }
         ensures holds { (limits : Limits) (schema : Schema) (b : BatchRows)
             → WellFormed limits schema → RowFits schema.fields row.now
             → HoldsBatch limits schema b self.old
@@ -143,6 +145,7 @@ impl PushedRows {
     #[inline(never)]
     fn take_unsure(&mut self, schema: &Schema, row: &[Value]) -> Result<(), Untaken>
         requires { HasShortPaths schema.now }
+        ensures stays { StaysInStream self.old self.new }
         ensures holds { (limits : Limits) (b : BatchRows) → WellFormed limits schema.now
             → HoldsBatch limits schema.now b self.old
             → OnOk result (HoldsBatch limits schema.now (with_row b row.now) self.new) }
@@ -168,6 +171,7 @@ impl PushedRows {
     #[inline(always)]
     fn take_any(&mut self, schema: &Schema, row: &[Value]) -> Result<(), Untaken>
         requires { HasShortPaths schema.now }
+        ensures stays { StaysInStream self.old self.new }
         ensures holds { (limits : Limits) (b : BatchRows) → WellFormed limits schema.now
             → HoldsBatch limits schema.now b self.old
             → OnOk result (HoldsBatch limits schema.now (with_row b row.now) self.new) }
@@ -231,6 +235,7 @@ impl PushedRows {
     #[inline(always)]
     pub(crate) fn push(&mut self, schema: &Schema, row: &[Value]) -> Result<(), WriteFault>
         requires { HasShortPaths schema.now }
+        ensures stays { StaysInStream self.old self.new }
         ensures holds { (limits : Limits) (b : BatchRows) → WellFormed limits schema.now
             → HoldsBatch limits schema.now b self.old
             → OnOk result (HoldsBatch limits schema.now (with_row b row.now) self.new) }

@@ -6,7 +6,7 @@ ghost use Rattle.ipc_model.specs.WellFormed.{WellFormed};
 ghost use Rattle.ipc_model.specs.declared.limits.Limits.{Limits};
 ghost use Rattle.ipc_model.specs.declared.table.BatchRows.{BatchRows};
 ghost use Rattle.ipc_encode.specs.Limits.{IsWithin};
-ghost use Rattle.ipc_stream.specs.Pushed.{HoldsBatch};
+ghost use Rattle.ipc_stream.specs.Pushed.{HoldsBatch, StaysInStream};
 ghost use Rattle.ipc_stream.specs.PushedColumns.{HoldsColumns, RefusesColumns};
 
 use crate::pushed::PushedRows;
@@ -35,6 +35,7 @@ impl PushedRows {
         schema: &Schema,
         batch: &Batch,
     ) -> Result<bool, WriteFault>
+        ensures stays { StaysInStream self.old self.new }
         ensures holds { (limits : Limits) (b : BatchRows) → WellFormed limits schema.now
             → HoldsBatch limits schema.now b self.old
             → IfOk result (HoldsColumns limits schema.now b batch.now.rows self.new) }

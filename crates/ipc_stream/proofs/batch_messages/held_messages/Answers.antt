@@ -112,7 +112,7 @@ returns-clause-messages c = λ s b going h.
     (c.in_ok-message.ensures.message ds s b.rows numbered) in
     subst (λ (ms : List Message). SendsBatch limits s c.args.kept.now b (all_bytes ms)) (sym c.in_ok-push.ensures.items)
     (batch_sent limits s b c.args.kept.now os c.in_ok-messages.messages.items c.in_ok-message.message going.well_formed
-    h.accepted.within.dictionaries.counted going.ids settled finds set tells)
+    h.accepted.within.dictionaries.counted going.counted going.ids settled finds set tells)
 
 pub returns-clause-sent : goal.returns-clause-sent
 returns-clause-sent c = λ s b going h.

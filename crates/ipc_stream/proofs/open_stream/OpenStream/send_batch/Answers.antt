@@ -1,4 +1,4 @@
-use Rattle.std.proofs.Common.{◌≡◌, ◌∙◌, sym, subst, ℕ, List}
+use Rattle.std.proofs.Common.{◌≡◌, ◌∙◌, sym, ap, subst, ℕ, List}
 use Rattle.std.proofs.lemmas.Result.{err_from_is_err_and}
 use Rattle.ipc_model.specs.declared.limits.Limits.{Limits}
 use Rattle.ipc_model.specs.declared.schema.Schema.{Schema}
@@ -7,6 +7,7 @@ use Rattle.ipc_model.specs.declared.value.Value.{Value}
 use Rattle.ipc_model.proofs.Depths.{short_paths}
 use Rattle.ipc_dict.specs.declared.kept.KeptEntry.{KeptEntry}
 use Rattle.ipc_dict.specs.declared.seed.Seed.{Seed}
+use Rattle.ipc_dict.specs.Tallied.{Tallied}
 use Rattle.ipc_stream.specs.OpenStreams.{Opened}
 use Rattle.ipc_stream.specs.Pushed.{HoldsBatch, RefusesHeld, no_rows, with_rows}
 use Rattle.ipc_stream.specs.declared.pushed.PushedRows.{PushedRows}
@@ -40,6 +41,16 @@ returns-in_err-held-clause-judged g c =
 
 pub push_all-requires : goal.push_all-requires
 push_all-requires g c = short_paths {limits = c.self.inside.limits} c.self.inside.schema c.self.invariant.well_formed
+
+pub send_rows-requires : goal.send_rows-requires
+send_rows-requires g c =
+    let copied = c.in_ok-clone.ensures.cases.1 (λ p q same i. (same.0 i, same.1 i)) in
+    let held =
+    all_held c.args.self.now c.begin_batch.new.self c.self.inside.limits c.self.inside.schema c.self.inside.kept
+    c.self.inside.seed c.args.batch.now _ _ _ _ c.self.view_is c.begin_batch.ensures.same copied c.as_slice.ensures
+    c.in_ok-held.ensures.holds
+    (λ h. c.in_ok-push_all.ensures.holds c.self.inside.limits c.in_ok-clone.field-0 c.self.invariant.well_formed h) in
+    (ap (λ (t : Tallied). t.limits) held.tally, ap (λ (t : Tallied). t.fields) held.tally)
 
 pub returns-clause-sends : goal.returns-clause-sends
 returns-clause-sends g c =
