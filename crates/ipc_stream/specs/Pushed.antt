@@ -1,9 +1,12 @@
 -- A batch whose rows are pushed one by one (Message.fbs, RecordBatch).
 use Rattle.std.specs.Prelude.{◌≡◌, ℕ, Bool, true, false, List, [], ◌∷◌, ◌++◌, Result, Ok, Err}
+use Rattle.std.specs.Coded.{Coded, coded_list}
 use Rattle.ipc_model.specs.Fits.{RowFits}
+use Rattle.ipc_model.specs.contracts.schema.Field as field
 use Rattle.ipc_model.specs.declared.fault.WriteFault.{WriteFault}
 use Rattle.ipc_model.specs.declared.fault.WriteFault.TheVariants as w
 use Rattle.ipc_model.specs.declared.limits.Limits.{Limits}
+use Rattle.ipc_model.specs.declared.schema.Field.{Field}
 use Rattle.ipc_model.specs.declared.schema.Schema.{Schema}
 use Rattle.ipc_model.specs.declared.table.BatchRows.{BatchRows}
 use Rattle.ipc_model.specs.declared.value.Value.{Value}
@@ -44,6 +47,10 @@ pub record HoldsBatch (limits : Limits) (s : Schema) (b : BatchRows)
       held.builder
   pub pairs : held.pairs ≡ b.pairs
   pub accepted : AcceptsBatch limits s b
+
+-- how the fields of a schema are compared: two equations between them are one
+abbrev pub coded_fields : Coded (List Field)
+coded_fields = coded_list field.the_row.coded
 
 -- the rows that are held belong to a stream with these limits and this schema, whatever they are
 abbrev pub BelongsTo : Limits → Schema → PushedRows → Type 0

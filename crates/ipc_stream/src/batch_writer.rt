@@ -1,10 +1,9 @@
 ghost use Rattle.std.specs.Prelude.{◌≡◌, Err, IfErr, IfOk, MatchResult, true};
-ghost use Rattle.std.specs.Coded.{Coded-set, coded_list};
+ghost use Rattle.std.specs.Coded.{Coded-set};
 ghost use Rattle.ipc_model.specs.contracts.limits.Limits as bounds;
-ghost use Rattle.ipc_model.specs.contracts.schema.Field as field;
 ghost use Rattle.ipc_model.specs.declared.table.BatchRows.{BatchRows};
 ghost use Rattle.ipc_stream.specs.Pushed.{HoldsBatch, RefusesHeld, Stays, StaysAt};
-ghost use Rattle.ipc_stream.specs.Pushed.{no_rows, with_row};
+ghost use Rattle.ipc_stream.specs.Pushed.{coded_fields, no_rows, with_row};
 ghost use Rattle.ipc_stream.specs.PushedColumns.{HoldsColumns, RefusesColumns};
 ghost use Rattle.ipc_stream.specs.Writer.{LeavesBatch};
 ghost use Rattle.ipc_stream.specs.Writing.{AcceptsBatch, RefusesBatch};
@@ -26,8 +25,8 @@ pub struct BatchWriter<'a, W: Sink, B: Held = PushedRows> {
     writer: &'a mut StreamWriter<W>,
     batch: B,
     // The rows belong to the writer's stream.
-    ghost same_limits: { B.limits batch ≡ writer.now.limits } by { Coded-set bounds.the_row.coded (B.limits batch) writer.now.limits },
-    ghost same_fields: { B.fields batch ≡ writer.now.schema.fields } by { Coded-set (coded_list field.the_row.coded) (B.fields batch) writer.now.schema.fields },
+    ghost limits: { B.limits batch ≡ writer.now.limits } by { Coded-set bounds.the_row.coded _ _ },
+    ghost fields: { B.fields batch ≡ writer.now.schema.fields } by { Coded-set coded_fields _ _ },
 }
 
 impl<W: Sink, B: Held + Drop> Drop for BatchWriter<'_, W, B> {
