@@ -39,25 +39,30 @@ fn schema(alloc: Global) -> Result<Schema, AllocError> {
     Ok(Schema::new(fields))
 }
 
-// Rows, and why they don't fit the schema: none where they do.
-const ROWS: [([Given<'static>; 2], Option<RowCause>); 11] = [
-    ([Given::Int(-128), Given::Null], None),
-    ([Given::Int(0), Given::Null], None),
-    ([Given::Int(127), Given::Null], None),
-    ([Given::Int(1), Given::Pair(-86_400_000, "é")], None),
-    ([Given::Int(1), Given::Pair(0, "é")], None),
-    ([Given::Int(1), Given::Pair(86_400_000, "é")], None),
-    ([Given::Int(128), Given::Null], Some(RowCause::OutOfRange)),
-    ([Given::Int(-129), Given::Null], Some(RowCause::OutOfRange)),
-    ([Given::UInt(1), Given::Null], Some(RowCause::WrongKind)),
-    ([Given::Null, Given::Null], Some(RowCause::NullNotAllowed)),
+// Rows, and why they do not fit the schema, or `None` if they fit.
+const ROWS: [(&[Given<'static>], Option<RowCause>); 13] = [
+    (&[Given::Int(-128), Given::Null], None),
+    (&[Given::Int(0), Given::Null], None),
+    (&[Given::Int(127), Given::Null], None),
+    (&[Given::Int(1), Given::Pair(-86_400_000, "é")], None),
+    (&[Given::Int(1), Given::Pair(0, "é")], None),
+    (&[Given::Int(1), Given::Pair(86_400_000, "é")], None),
+    (&[Given::Int(1)], Some(RowCause::RowWidth)),
     (
-        [Given::Int(1), Given::Bool(true)],
+        &[Given::Int(1), Given::Null, Given::Null],
+        Some(RowCause::RowWidth),
+    ),
+    (&[Given::Int(128), Given::Null], Some(RowCause::OutOfRange)),
+    (&[Given::Int(-129), Given::Null], Some(RowCause::OutOfRange)),
+    (&[Given::UInt(1), Given::Null], Some(RowCause::WrongKind)),
+    (&[Given::Null, Given::Null], Some(RowCause::NullNotAllowed)),
+    (
+        &[Given::Int(1), Given::Bool(true)],
         Some(RowCause::WrongKind),
     ),
 ];
 
-// Why a row doesn't fit a schema: none where it does.
+// Why a row does not fit a schema, or `None` if it fits.
 #[tactic(auto, using(ipc_model::proofs::Depths::short_paths))]
 fn cause_under(alloc: Global, schema: &Schema, row: &[Value]) -> Result<Option<RowCause>, Fault> {
     schema.check(alloc, &Limits::standard())?;
@@ -67,7 +72,7 @@ fn cause_under(alloc: Global, schema: &Schema, row: &[Value]) -> Result<Option<R
     }
 }
 
-// The number of the first row that is judged otherwise.
+// The number of the first row with another cause.
 fn first_unlike(alloc: Global, schema: &Schema) -> Result<Option<usize>, Fault> {
     for (number, (cells, wanted)) in ROWS.iter().enumerate() {
         let row = row_of(alloc, cells)?;

@@ -1,5 +1,5 @@
 //! Trees that are written in the FlatBuffers binary format and read back.
-ghost use Rattle.std.specs.Prelude.{◌≡◌, IfOk};
+ghost use Rattle.std.specs.Prelude.{◌≡◌, ◌<◌, ◌^◌, IfOk};
 ghost use Rattle.std.specs.List.{All};
 ghost use Rattle.ipc_build.specs.Trees.{view};
 ghost use Rattle.ipc_build.specs.Ascends.{fields, Ascends};
@@ -128,7 +128,52 @@ fn is_byte_for_byte(alloc: Global) -> Result<bool, AllocError> {
     Ok(matches!(&built, Ok(bytes) if bytes.as_slice() == ONE_SCALAR.as_slice()))
 }
 
+// Whether a tree has exactly this room.
+fn has_room(alloc: Global, tree: &FlatTree, room: u64) -> bool
+    requires ascends { Ascends (fields 0) (view tree.now) }
+    requires limit { room < 2 ^ 31 }
+{
+    let less = build(alloc, tree, room.saturating_sub(1));
+    build(alloc, tree, room).is_ok() && matches!(less, Err(BuildFault::TooLarge))
+}
+
+// Whether a table whose field 0 is a text of this many bytes has this room.
+fn text_has_room(alloc: Global, bytes: usize, room: u64) -> Result<bool, AllocError>
+    requires { room < 2 ^ 31 }
+{
+    let text = "a".repeat(alloc, bytes)?;
+    let tree = of_text(alloc, &text)?;
+    Ok(has_room(alloc, &tree, room))
+}
+
+// Whether a table whose field 0 is a vector of two tables or pairs has this room.
+#[tactic(auto, using(ipc_build::proofs::Ascending::ascending))]
+fn vectors_have_room(alloc: Global, tables: u64, pairs: u64) -> Result<bool, AllocError>
+    requires tables { tables < 2 ^ 31 }
+    requires pairs { pairs < 2 ^ 31 }
+{
+    let two = two_tables(alloc, "")?;
+    let slots = vec![in alloc; (0, Slot::Tables(Items::from(two)))]?;
+    let of_tables = FlatTree {
+        slots: Items::from(slots),
+    };
+    let two = vec![in alloc; (1, -1), (2, 3)]?;
+    let slots = vec![in alloc; (0, Slot::Pairs(Items::from(two)))]?;
+    let of_pairs = FlatTree {
+        slots: Items::from(slots),
+    };
+    Ok(has_room(alloc, &of_tables, tables) && has_room(alloc, &of_pairs, pairs))
+}
+
+// The root offset takes 16, a table 24 and 10 for each field up to its last one, a text 8 and its
+// bytes. A vector takes 12, and 4 for each table or 16 for each pair. So the two tables, one with
+// an empty text, have 16 + 34 + 12 + 8 + 34 + 8 + 24, and the pairs 16 + 34 + 12 + 32.
 #[test]
-fn bytes(rt: HostRuntime) {
-    assert!(rt; is_byte_for_byte(rt.alloc()) == Ok(true));
+fn bytes_and_room(rt: HostRuntime) {
+    let alloc = rt.alloc();
+    assert!(rt; is_byte_for_byte(alloc) == Ok(true));
+    let has_texts = text_has_room(alloc, 0, 58) == Ok(true)
+        && text_has_room(alloc, 1, 59) == Ok(true)
+        && text_has_room(alloc, 1000, 1058) == Ok(true);
+    assert!(rt; has_texts && vectors_have_room(alloc, 136, 94) == Ok(true));
 }
