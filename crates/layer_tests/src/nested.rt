@@ -261,7 +261,7 @@ struct Limited {
     built: Option<&'static [u8]>,
 }
 
-const LIMITED: [Limited; 7] = [
+const LIMITED: [Limited; 8] = [
     Limited {
         kind: Kind::DaysAndTexts,
         body: 1 << 40,
@@ -308,6 +308,16 @@ const LIMITED: [Limited; 7] = [
         rows: &[b"[123]-", b"[]-"],
         taken: 2,
         wanted: Ok(()),
+        built: None,
+    },
+    // Each list of two numbers takes two slots of its child, so three slots do not hold two lists.
+    Limited {
+        kind: Kind::Twos,
+        body: 1 << 40,
+        slots: 3,
+        rows: &[b"[12]", b"[34]"],
+        taken: 1,
+        wanted: Err(WriteFault::TooManyRows),
         built: None,
     },
     // The three rows of lists and structs have 96 bytes.

@@ -1,0 +1,132 @@
+#!/usr/bin/env python3
+"""Measures what `check` takes of streams that state much in few bytes: seconds and peak memory.
+
+    bench/hostile.py [PROGRAM]
+
+Each stream refers to one field, one pair or one buffer very often. The limits count each reference.
+"""
+import os
+import pathlib
+import struct
+import subprocess
+import sys
+import time
+
+TOP = pathlib.Path(__file__).resolve().parent.parent
+PROGRAM = sys.argv[1] if sys.argv[1:] else str(TOP / "crates/arrowstream/out/arrowstream")
+END = b"\xff\xff\xff\xff\0\0\0\0"
+
+
+class Metadata:
+    """A FlatBuffer. An object is placed under a name after all that refer to it."""
+
+    def __init__(self, root):
+        self.out, self.places, self.references = bytearray(), {}, []
+        self.refer(root)
+
+    def refer(self, name):
+        self.references.append((len(self.out), name))
+        self.out += bytes(4)
+
+    def pad(self, size):
+        self.out += bytes(-len(self.out) % size)
+
+    def table(self, name, *fields):
+        """A table with these fields: number, format and value. A format `O` is a reference."""
+        self.pad(8)
+        count = 1 + max((number for number, _, _ in fields), default=-1)
+        vtable = len(self.out)
+        self.out += bytes(4 + 2 * count)
+        self.pad(8)
+        at = self.places[name] = len(self.out)
+        self.out += struct.pack("<i", at - vtable)
+        for number, form, value in fields:
+            self.pad(4 if form == "O" else struct.calcsize(form))
+            struct.pack_into("<H", self.out, vtable + 4 + 2 * number, len(self.out) - at)
+            if form == "O":
+                self.refer(value)
+            else:
+                self.out += struct.pack("<" + form, value)
+        struct.pack_into("<HH", self.out, vtable, 4 + 2 * count, len(self.out) - at)
+
+    def vector(self, name, count, target):
+        """A vector of `count` references to one object."""
+        self.pad(4)
+        self.places[name] = len(self.out)
+        self.out += struct.pack("<I", count)
+        for _ in range(count):
+            self.refer(target)
+
+    def pairs(self, name, pairs):
+        """A vector of pairs of numbers of 64 bits."""
+        self.pad(4)
+        self.out += bytes((4 - len(self.out)) % 8)
+        self.places[name] = len(self.out)
+        self.out += struct.pack("<I", len(pairs))
+        for pair in pairs:
+            self.out += struct.pack("<qq", *pair)
+
+    def text(self, name, text):
+        self.pad(4)
+        self.places[name] = len(self.out)
+        self.out += struct.pack("<I", len(text)) + text + b"\0"
+
+    def message(self, body=b""):
+        """The message with this metadata and body."""
+        for at, name in self.references:
+            struct.pack_into("<I", self.out, at, self.places[name] - at)
+        self.pad(8)
+        return b"\xff\xff\xff\xff" + struct.pack("<i", len(self.out)) + bytes(self.out) + body
+
+
+def schema(fields, pairs):
+    """The message of a schema with `fields` references to one column of signed numbers of 64 bits,
+    which has `pairs` references to one pair of texts of eight bytes."""
+    made = Metadata("message")
+    made.table("message", (0, "h", 4), (1, "B", 1), (2, "O", "schema"))
+    made.table("schema", (1, "O", "fields"))
+    made.vector("fields", fields, "field")
+    made.table("field", (0, "O", "name"), (1, "B", 1), (2, "B", 2), (3, "O", "type"),
+               (6, "O", "pairs"))
+    made.text("name", b"a")
+    made.table("type", (0, "i", 64), (1, "B", 1))
+    made.vector("pairs", pairs, "pair")
+    made.table("pair", (0, "O", "text"), (1, "O", "text"))
+    made.text("text", b"k" * 8)
+    return made.message()
+
+
+def batch(columns, rows):
+    """The message of a batch whose columns have all their values in one buffer."""
+    made = Metadata("message")
+    made.table("message", (0, "h", 4), (1, "B", 3), (2, "O", "batch"), (3, "q", 8 * rows))
+    made.table("batch", (0, "q", rows), (1, "O", "nodes"), (2, "O", "buffers"))
+    made.pairs("nodes", [(rows, 0)] * columns)
+    made.pairs("buffers", [(0, 0), (0, 8 * rows)] * columns)
+    return made.message(struct.pack("<q", 1) * rows)
+
+
+STREAMS = [
+    ("65,000 pairs: 1,000 columns share 65 references to one pair", schema(1_000, 65)),
+    ("2^20 pairs: 1,024 columns share 1,024 references to one pair", schema(1_024, 1_024)),
+    ("65,536 columns, one field", schema(65_536, 0)),
+    ("20,000 columns of 1,000 rows over one buffer", schema(20_000, 0) + batch(20_000, 1_000)),
+]
+
+
+def main():
+    print(f"{'bytes':>10} {'seconds':>8} {'peak MiB':>9}  stream")
+    for name, stream in STREAMS:
+        started = time.monotonic()
+        ran = subprocess.Popen([PROGRAM, "check"], stdin=subprocess.PIPE, stdout=subprocess.DEVNULL)
+        ran.stdin.write(stream + END)
+        ran.stdin.close()
+        _, status, used = os.wait4(ran.pid, 0)
+        seconds = time.monotonic() - started
+        print(f"{len(stream) + 8:>10,} {seconds:>8.2f} {used.ru_maxrss / 1024:>9.1f}  {name}")
+        if status != 0:
+            print(f"hostile: {name}: status {os.waitstatus_to_exitcode(status)}")
+
+
+if __name__ == "__main__":
+    main()
