@@ -4,6 +4,7 @@
     bench/hostile.py [PROGRAM]
 
 Each stream refers to one field, one pair or one buffer very often. The limits count each reference.
+A peak below that of this script, about 20 MiB, cannot be told from it.
 """
 import os
 import pathlib
@@ -79,38 +80,52 @@ class Metadata:
         return b"\xff\xff\xff\xff" + struct.pack("<i", len(self.out)) + bytes(self.out) + body
 
 
-def schema(fields, pairs):
+def schema(fields, pairs, kind=2):
     """The message of a schema with `fields` references to one column of signed numbers of 64 bits,
-    which has `pairs` references to one pair of texts of eight bytes."""
+    or of texts where `kind` is 5. It has `pairs` references to one pair of texts of eight bytes."""
     made = Metadata("message")
     made.table("message", (0, "h", 4), (1, "B", 1), (2, "O", "schema"))
     made.table("schema", (1, "O", "fields"))
     made.vector("fields", fields, "field")
-    made.table("field", (0, "O", "name"), (1, "B", 1), (2, "B", 2), (3, "O", "type"),
+    made.table("field", (0, "O", "name"), (1, "B", 1), (2, "B", kind), (3, "O", "type"),
                (6, "O", "pairs"))
     made.text("name", b"a")
-    made.table("type", (0, "i", 64), (1, "B", 1))
+    made.table("type", *([(0, "i", 64), (1, "B", 1)] if kind == 2 else []))
     made.vector("pairs", pairs, "pair")
     made.table("pair", (0, "O", "text"), (1, "O", "text"))
     made.text("text", b"k" * 8)
     return made.message()
 
 
-def batch(columns, rows):
-    """The message of a batch whose columns have all their values in one buffer."""
+def batch(columns, rows, buffers, body):
+    """The message of a batch whose columns all have these buffers of the body."""
     made = Metadata("message")
-    made.table("message", (0, "h", 4), (1, "B", 3), (2, "O", "batch"), (3, "q", 8 * rows))
+    made.table("message", (0, "h", 4), (1, "B", 3), (2, "O", "batch"), (3, "q", len(body)))
     made.table("batch", (0, "q", rows), (1, "O", "nodes"), (2, "O", "buffers"))
     made.pairs("nodes", [(rows, 0)] * columns)
-    made.pairs("buffers", [(0, 0), (0, 8 * rows)] * columns)
-    return made.message(struct.pack("<q", 1) * rows)
+    made.pairs("buffers", buffers * columns)
+    return made.message(body)
+
+
+def numbers(columns, rows):
+    """A stream of columns of numbers with one buffer of values."""
+    buffers = [(0, 0), (0, 8 * rows)]
+    return schema(columns, 0) + batch(columns, rows, buffers, struct.pack("<q", 1) * rows)
+
+
+def texts(columns, rows):
+    """A stream of columns of empty texts with one buffer of offsets."""
+    body = bytes(4 * (rows + 1) + 4 * (1 - rows % 2))
+    buffers = [(0, 0), (0, 4 * (rows + 1)), (0, 0)]
+    return schema(columns, 0, 5) + batch(columns, rows, buffers, body)
 
 
 STREAMS = [
     ("65,000 pairs: 1,000 columns share 65 references to one pair", schema(1_000, 65)),
     ("2^20 pairs: 1,024 columns share 1,024 references to one pair", schema(1_024, 1_024)),
     ("65,536 columns, one field", schema(65_536, 0)),
-    ("20,000 columns of 1,000 rows over one buffer", schema(20_000, 0) + batch(20_000, 1_000)),
+    ("20,000 columns of 1,000 rows over one buffer", numbers(20_000, 1_000)),
+    ("8,000 columns of 100,000 texts over one buffer", texts(8_000, 100_000)),
 ]
 
 
