@@ -1,9 +1,15 @@
 //! Readers and writers that repeat an interrupted call.
-ghost use Rattle.std.specs.Prelude.{None};
+ghost use Rattle.std.specs.Prelude.{◌≡◌, ◌≢◌, ◌↔◌, IsTrue, IfErr};
+ghost use Rattle.std.specs.Io.{ReadsAtMost, WritesAtMost};
+ghost use Rattle.std.specs.Io.KnownBytes.{Keeps, ReadConsumes, WriteAppends};
+ghost use Rattle.std.specs.IoError.{error_kind};
 
-use std::io::{ErrorKind, Read, Result, Write};
+use std::io::{Error, ErrorKind, Read, Result, Write};
 
 /// A reader or writer that repeats each call that a signal interrupts (`ErrorKind::Interrupted`).
+///
+/// Everything else is answered as the inner reader or writer answers it. After 2^64 - 1 interrupted
+/// tries of one call the error is `ErrorKind::TimedOut`.
 #[derive(Drop)]
 pub struct Retry<T> {
     inner: T,
@@ -11,45 +17,74 @@ pub struct Retry<T> {
 
 impl<T> Retry<T> {
     /// Creates one from a reader or writer.
-    pub fn new(inner: T) -> Self {
+    pub fn new(inner: T) -> Self
+        ensures { result.inner ≡ inner }
+    {
         Retry { inner }
     }
 }
 
-impl<T: Read> Read for Retry<T> {
-    ghost remaining = { λ _. None };
+// Whether a signal interrupted the call.
+fn is_interrupted(error: &Error) -> bool
+    ensures { IsTrue result ↔ (error_kind error.now ≡ ErrorKind.Interrupted) }
+{
+    error.kind() == ErrorKind::Interrupted
+}
 
-    fn read(&mut self, into: &mut [u8]) -> Result<usize> {
+// The error of a call that is interrupted without end.
+fn too_many_tries() -> Error
+    ensures { error_kind result ≡ ErrorKind.TimedOut }
+{
+    Error::from(ErrorKind::TimedOut)
+}
+
+impl<T: Read> Read for Retry<T> {
+    ghost remaining = { λ r. T.remaining r.inner };
+
+    fn read(&mut self, into: &mut [u8]) -> Result<usize>
+        ensures bound { ReadsAtMost result into.new }
+        ensures bytes { ReadConsumes (T.remaining self.old.inner)
+            (T.remaining self.new.inner) result into.new }
+        ensures retried { IfErr result (λ e. error_kind e ≢ ErrorKind.Interrupted) }
+    {
         for _ in 0..u64::MAX {
             match self.inner.read(into) {
-                Err(error) if error.kind() == ErrorKind::Interrupted => {}
+                Err(error) if is_interrupted(&error) => {}
                 result => return result,
             }
         }
-        self.inner.read(into)
+        Err(too_many_tries())
     }
 }
 
 impl<T: Write> Write for Retry<T> {
-    ghost contents = { λ _. None };
+    ghost contents = { λ r. T.contents r.inner };
 
-    fn write(&mut self, bytes: &[u8]) -> Result<usize> {
+    fn write(&mut self, bytes: &[u8]) -> Result<usize>
+        ensures bound { WritesAtMost result bytes.now }
+        ensures bytes { WriteAppends (T.contents self.old.inner)
+            (T.contents self.new.inner) result bytes.now }
+        ensures retried { IfErr result (λ e. error_kind e ≢ ErrorKind.Interrupted) }
+    {
         for _ in 0..u64::MAX {
             match self.inner.write(bytes) {
-                Err(error) if error.kind() == ErrorKind::Interrupted => {}
+                Err(error) if is_interrupted(&error) => {}
                 result => return result,
             }
         }
-        self.inner.write(bytes)
+        Err(too_many_tries())
     }
 
-    fn flush(&mut self) -> Result<()> {
+    fn flush(&mut self) -> Result<()>
+        ensures bytes { Keeps (T.contents self.old.inner) (T.contents self.new.inner) }
+        ensures retried { IfErr result (λ e. error_kind e ≢ ErrorKind.Interrupted) }
+    {
         for _ in 0..u64::MAX {
             match self.inner.flush() {
-                Err(error) if error.kind() == ErrorKind::Interrupted => {}
+                Err(error) if is_interrupted(&error) => {}
                 result => return result,
             }
         }
-        self.inner.flush()
+        Err(too_many_tries())
     }
 }
