@@ -7,6 +7,7 @@ use ipc_text::{
     read_uint, row_from_csv, row_json, schema_from_json, schema_json, time_text, timestamp_text,
 };
 use std::alloc::Global;
+use std::test::Fail;
 
 // A schema of five columns, and pairs.
 const FLAT: &str = "{\"fields\":[\
@@ -222,7 +223,7 @@ const CASES: [Case; 14] = [
 ];
 
 #[test]
-fn grows_schemas_and_records(rt: HostRuntime) -> Result<(), TextFault> {
+fn grows_schemas_and_records(rt: HostRuntime) -> Result<(), Fail> {
     for (number, case) in CASES.iter().enumerate() {
         assert!(rt; is_answered(rt.alloc(), case)?, "case {number}");
     }

@@ -1,5 +1,4 @@
 //! The job that a command line asks for.
-use crate::cells::Order;
 use crate::rows::Data;
 use std::env::Args;
 
@@ -15,28 +14,8 @@ pub enum Job {
         /// The number of rows in each batch.
         rows: u32,
     },
-    /// Pushes standard input to a decoder in pieces.
-    Push {
-        /// The greatest number of bytes in a piece.
-        size: u32,
-    },
     /// Reads the stream of standard input with a reader.
-    Pull {
-        /// Whether each batch is given back to the reader.
-        reuses: bool,
-    },
-    /// Checks each batch of standard input several times.
-    Check {
-        /// How many times.
-        times: u32,
-    },
-    /// Reads the cells of each batch of standard input several times.
-    Cells {
-        /// In which order.
-        order: Order,
-        /// How many times.
-        times: u32,
-    },
+    Pull,
     /// Answers each line of standard input, which is a stream.
     Answer,
 }
@@ -53,22 +32,7 @@ fn named(name: &str, words: &mut Args) -> Option<Job> {
             batches: number(words)?,
             rows: number(words)?,
         },
-        "push" => Job::Push {
-            size: number(words)?,
-        },
-        "pull" => Job::Pull { reuses: false },
-        "pull-over" => Job::Pull { reuses: true },
-        "check" => Job::Check {
-            times: number(words)?,
-        },
-        "cells" => Job::Cells {
-            order: Order::Columns,
-            times: number(words)?,
-        },
-        "cells-by-row" => Job::Cells {
-            order: Order::Rows,
-            times: number(words)?,
-        },
+        "pull" => Job::Pull,
         "answer" => Job::Answer,
         _ => return None,
     })

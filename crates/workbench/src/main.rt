@@ -1,20 +1,13 @@
 //! The program `workbench`. Its first argument is the job:
 //!
 //!     workbench push-rows i64|mixed|dictionary|nested|flat BATCHES ROWS > STREAM
-//!     workbench push SIZE < STREAM
-//!     workbench pull|pull-over < STREAM
-//!     workbench check|cells|cells-by-row TIMES < STREAM
+//!     workbench pull < STREAM
 //!     workbench answer < LINES
 //!
 //! | job | what it does |
 //! |---|---|
 //! | `push-rows` | makes 1,024 rows, and pushes `ROWS` of them in turn for each batch |
-//! | `push` | pushes standard input to a decoder, in pieces of at most `SIZE` bytes, and counts |
-//! | `pull` | reads standard input with a reader, and counts |
-//! | `pull-over` | as `pull`, and gives each batch back to the reader |
-//! | `check` | reads standard input to its end, and then checks each batch `TIMES` times |
-//! | `cells` | adds up the cells of each batch `TIMES` times, column by column |
-//! | `cells-by-row` | as `cells`, row by row |
+//! | `pull` | reads standard input with a reader, drops each batch, and counts |
 //! | `answer` | answers each line, a stream in hexadecimal digits, by lines and an empty one |
 //!
 //! A line of `answer` may set limits after the stream, as in `, metadata 39, slots 3`. The answer
@@ -24,59 +17,37 @@
 #![tactic(auto)]
 
 mod answer;
-mod cells;
-mod checks;
 mod cities;
 mod cut;
 mod job;
 mod lines;
-mod messages;
 mod nested;
 mod pulls;
 mod pushed;
-mod pushes;
 mod report;
 mod request;
 mod requests;
 mod rows;
 mod told;
-mod tree;
 mod values;
 mod words;
 
 use anyhow::Result;
-use cells::{Cells, read_cells};
-use checks::{Checked, check_stream};
 use job::Job;
-use pulls::pull_stream;
+use pulls::{Counts, pull_stream};
 use pushed::push_rows;
-use pushes::{Counts, push_stream};
 use requests::answer_lines;
 use std::process::ExitCode;
 use std::{env, io};
 
 const USAGE: &str = "\
 usage: workbench push-rows i64|mixed|dictionary|nested|flat BATCHES ROWS > STREAM
-       workbench push SIZE < STREAM
-       workbench pull|pull-over < STREAM
-       workbench check|cells|cells-by-row TIMES < STREAM
+       workbench pull < STREAM
        workbench answer < LINES";
 
 fn tell(rt: &HostRuntime, counts: Counts) -> Result<()> {
     let Counts { batches, rows } = counts;
     println!(rt; "{batches} batches, {rows} rows")?;
-    Ok(())
-}
-
-fn tell_checked(rt: &HostRuntime, checked: Checked) -> Result<()> {
-    let Checked { rows, bytes } = checked;
-    println!(rt; "{rows} rows, {bytes} bytes")?;
-    Ok(())
-}
-
-fn tell_cells(rt: &HostRuntime, cells: Cells) -> Result<()> {
-    let Cells { rows, sum } = cells;
-    println!(rt; "{rows} rows, {sum} in sum")?;
     Ok(())
 }
 
@@ -90,27 +61,27 @@ fn run(rt: &HostRuntime, job: Job) -> Result<()> {
             push_rows(rt.alloc(), io::writer(rt), data, batches, rows)?;
             Ok(())
         }
-        Job::Push { size } => tell(rt, push_stream(rt.alloc(), rt.reader(), size as usize)?.0),
-        Job::Pull { reuses } => tell(rt, pull_stream(rt.alloc(), rt.reader(), reuses)?.0),
-        Job::Check { times } => tell_checked(rt, check_stream(rt.alloc(), rt.reader(), times)?),
-        Job::Cells { order, times } => {
-            tell_cells(rt, read_cells(rt.alloc(), rt.reader(), order, times)?)
-        }
+        Job::Pull => tell(rt, pull_stream(rt.alloc(), rt.reader())?),
         Job::Answer => answer_lines(rt),
     }
 }
 
+// Does the job of the command line. Returns false if it names none.
+fn run_words(rt: &HostRuntime) -> Result<bool> {
+    let Some(job) = Job::asked(env::args(rt)?) else {
+        return Ok(false);
+    };
+    run(rt, job)?;
+    Ok(true)
+}
+
 fn main(rt: HostRuntime) -> ExitCode {
-    let asked = match env::args(&rt) {
-        Ok(words) => Job::asked(words),
-        Err(_) => None,
-    };
-    let Some(job) = asked else {
-        let _ = rt.eprintln(USAGE);
-        return ExitCode::from(2);
-    };
-    match run(&rt, job) {
-        Ok(()) => ExitCode::from(0),
+    match run_words(&rt) {
+        Ok(true) => ExitCode::from(0),
+        Ok(false) => {
+            let _ = rt.eprintln(USAGE);
+            ExitCode::from(2)
+        }
         Err(fault) => {
             let _ = eprintln!(rt; "{fault}");
             ExitCode::from(1)
