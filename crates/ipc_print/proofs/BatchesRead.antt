@@ -1,7 +1,7 @@
 -- Batches that are read and printed.
 use Rattle.ipc_model.specs.declared.table.BatchRows.{BatchRows}
-use Rattle.std.proofs.Common.{◌≡◌, ◌∙◌, refl, sym, ap, subst, ℕ, List, [], ◌∷◌, ◌++◌, map, Option, Some, None}
-use Rattle.std.proofs.Common.{Result, Ok, Err, append-nil}
+use Rattle.std.proofs.Common.{◌≡◌, ◌∙◌, refl, sym, ap, subst, ℕ, List, [], ◌∷◌, ◌++◌, map, take, Option, Some}
+use Rattle.std.proofs.Common.{None, Result, Ok, Err, append-nil}
 use Rattle.std.specs.Io.KnownBytes.{Consumes}
 use Rattle.std.proofs.KnownBytes.{Consumes-nil, Consumes-trans}
 use Rattle.std.proofs.lemmas.List.{map-append}
@@ -15,6 +15,7 @@ use Rattle.ipc_decode.specs.Failures.{Tells}
 use Rattle.ipc_decode.specs.Reader.{EndsBehind, LeadsTo, Reader, in_force_of, NextAnswer, NextCall, end_of}
 use Rattle.ipc_decode.specs.Stream.{batch, Run, done}
 use Rattle.ipc_print.specs.declared.rows.PrintFault.{PrintFault}
+use Rattle.ipc_print.specs.declared.rows.PrintFault.TheVariants.{Write}
 use Rattle.ipc_model.specs.declared.schema.Field.{Field}
 use Rattle.ipc_model.specs.declared.schema.Schema.{Schema}
 use Rattle.ipc_moments.specs.declared.fault.TextFault.{TextFault}
@@ -22,14 +23,14 @@ use Rattle.ipc_print.specs.declared.form.Form.{Form}
 use Rattle.ipc_print.specs.declared.stop.Outcome.TheVariants.{Whole, Broken, Refused as Lacking}
 use Rattle.ipc_print.specs.Columns.{AreShownColumns}
 use Rattle.ipc_print.specs.Forms.{head_of, line_of, HaveLines, HaveAllLines, row_count}
-use Rattle.ipc_print.specs.Output.{Output, output, Puts}
-use Rattle.ipc_print.specs.Rows.{AreShownRows, lines, batch_lines}
+use Rattle.ipc_print.specs.Output.{Output, output, Puts, PutFails}
+use Rattle.ipc_print.specs.Rows.{AreShownRows, lines, batch_lines, last_lines}
 use Rattle.ipc_print.specs.Streams.{PrintsRows, PrintsPart, PrintsBatches, PutsRows}
-use Rattle.ipc_print.proofs.Puts.{puts_then, puts_not_then, puts_not_more, puts_none}
+use Rattle.ipc_print.proofs.Puts.{puts_then, puts_not_then, puts_none, missing_all, missing_at, missing_then}
 use Rattle.ipc_print.proofs.Shown.{all_more}
 use Rattle.ipc_print.proofs.Lines.{put_at, not_at}
 use Rattle.ipc_print.proofs.Messages.{Came, Counted, ReadsCounted, came, counted_then, ends_counted, reads_then}
-use Rattle.ipc_print.proofs.Texts.{batch_lines_more}
+use Rattle.ipc_print.proofs.Texts.{batch_lines_more, last_lines_more}
 use Rattle.ipc_print.proofs.BatchesShown.{batch_shown}
 use Rattle.std.proofs.Common.{◌+◌, length, inl, arith}
 use Rattle.std.specs.Prelude.{unwrap_or}
@@ -41,7 +42,7 @@ use Rattle.ipc_print.specs.declared.stop.Tally.{Tally}
 use Rattle.ipc_print.specs.Forms.{row_count}
 use Rattle.ipc_print.specs.Streams.{IsTally}
 
--- these batches were read behind the schema, and printed
+-- these batches were read behind the schema and printed, and nothing of them is kept
 pub record Batches (form : Form) (tally : Tally) (old now : Reader) (before after : Output) : Type 0 where
   pub x : List ℕ
   pub batches : List BatchRows
@@ -56,13 +57,15 @@ pub record Batches (form : Form) (tally : Tally) (old now : Reader) (before afte
   pub tallies : IsTally tally batches
   pub have : HaveAllLines form old.schema.fields batches
   pub puts : Puts before after (batch_lines (head_of form) (line_of form old.schema.fields) batches)
+  pub sent : after.kept ≡ []
 
 zero_more : (k : ℕ) → k + 0 ≡ k
 zero_more k = omega arith
 
 -- before the first batch nothing was read and nothing printed
-pub batches_none : (form : Form) (r : Reader) (o : Output) → r.phase ≡ Reading → Batches form (record { batches = 0; rows = 0 }) r r o o
-batches_none form r o reading = record {
+pub batches_none : (form : Form) (r : Reader) (o : Output) → r.phase ≡ Reading → o.kept ≡ []
+    → Batches form (record { batches = 0; rows = 0 }) r r o o
+batches_none form r o reading empty = record {
   x = [];
   batches = [];
   bytes = Consumes-nil r.remaining;
@@ -76,6 +79,7 @@ batches_none form r o reading = record {
   tallies = (omega arith, omega arith);
   have = tt;
   puts = puts_none o;
+  sent = empty;
 }
 
 -- one batch more is counted
@@ -160,13 +164,15 @@ module _ (form : Form) (tally : Tally) (old now new : Reader) (before after : Ou
       → new.messages ≡ count_up 0 (k + messages_in (more_run found t).0)
   numbered_more found t k is = omega (arith, b.numbered k is, (found_run found t).1.messages, (more_run found t).1)
 
-  -- where one batch more is read and its rows are put, the batches that were printed are those from before and it
+  -- where one batch more is read, its rows are put and what is kept is sent, the batches that were printed are those from before and it
   pub batches_more : (fields : List Field) (found : Found) (next : Tally) (w : Option (List ℕ)) (n : ℕ) (k : List ℕ)
-      → next.batches ≡ count_up tally.batches 1 → next.rows ≡ count_up tally.rows (length found.0.rows)
+      (last : Output) → next.batches ≡ count_up tally.batches 1 → next.rows ≡ count_up tally.rows (length found.0.rows)
       → fields ≡ old.schema.fields → NextCall now new (Ok (Some found)) → new.failures ≡ now.failures
-      → PutsRows form fields (head_of form found.1) found.0.rows after w n k (Ok None) → Batches form next old new before (output w n k)
-  batches_more fields found next w n k one all is t works p =
+      → PutsRows form fields (head_of form found.1) found.0.rows after w n k (Ok None) → Puts (output w n k) last [] → last.kept ≡ []
+      → Batches form next old new before last
+  batches_more fields found next w n k last one all is t works p flushed empty =
       let q = same_puts fields found w n k (Ok None) is p in
+      let rows = head_of form found.1 ++ lines line found.0.rows in
       record {
         x = b.x ++ t.x;
         batches = b.batches ++ rows_of found ∷ [];
@@ -180,9 +186,10 @@ module _ (form : Form) (tally : Tally) (old now new : Reader) (before after : Ou
         numbered = numbered_more found t;
         tallies = tally_more tally next b.batches (rows_of found) b.tallies one all;
         have = all_more (λ q. HaveLines form old.schema.fields q.rows) b.batches (rows_of found) b.have q.0;
-        puts = put_at before (output w n k) _ _ (batch_lines_more line (head_of form) b.batches (rows_of found))
-            (puts_then before after (output w n k) (batch_lines (head_of form) line b.batches)
-            (head_of form found.1 ++ lines line found.0.rows) b.puts q.1);
+        puts = put_at before last _ _ (batch_lines_more line (head_of form) b.batches (rows_of found))
+            (puts_then before after last (batch_lines (head_of form) line b.batches) rows b.puts
+            (put_at after last _ _ (append-nil rows) (puts_then after (output w n k) last rows [] q.1 flushed)));
+        sent = empty;
       }
 
   -- a row of the batch that came isn't printed, and those before it were
@@ -203,6 +210,12 @@ module _ (form : Form) (tally : Tally) (old now new : Reader) (before after : Ou
           have = b.have;
           refuses = q.1;
           puts = puts_then before after (output w n k) (batch_lines (head_of form) line b.batches) _ b.puts q.2;
+          few = omega (
+            arith,
+            q.2.few,
+            ap length b.sent,
+            length-append after.kept (head_of form found.1 ++ lines line (take q.0 found.0.rows)),
+          );
         },
         λ z. works ∙ (b.counts ∙ z),
       )
@@ -213,6 +226,11 @@ module _ (form : Form) (tally : Tally) (old now new : Reader) (before after : Ou
       → PutsRows form fields (head_of form found.1) found.0.rows after w n k (Err e) → PrintsPart form [] old new before w n e
   batches_cut fields found w n k e is t works p =
       let q = same_puts fields found w n k (Err e) is p in
+      let rows = head_of form found.1 ++ lines line found.0.rows in
+      let missing = missing_at before w n _ _ e (length rows)
+      (batch_lines_more line (head_of form) b.batches (rows_of found) ∙ sym (append-nil _))
+      (missing_then before after w n (batch_lines (head_of form) line b.batches) rows e (length rows) b.puts
+      (missing_all after w n rows e b.sent q)) in
       record {
         x = b.x ++ t.x;
         batches = b.batches ++ rows_of found ∷ [];
@@ -224,11 +242,25 @@ module _ (form : Form) (tally : Tally) (old now new : Reader) (before after : Ou
         run = (more_run found t).0;
         tail = [];
         ends = inl refl;
-        puts = puts_not_more before w n _ [] e (not_at before w n _ _ e (batch_lines_more line (head_of form) b.batches (rows_of found))
-            (puts_not_then before after w n (batch_lines (head_of form) line b.batches)
-            (head_of form found.1 ++ lines line found.0.rows) e b.puts q));
+        puts = missing.0;
+        few = omega (
+          arith,
+          missing.1,
+          ap length (last_lines_more line (head_of form) [] b.batches (rows_of found)),
+          length-append (last_lines [] (head_of form) line (b.batches ++ rows_of found ∷ [])) [],
+        );
         works = λ other z. works ∙ (b.counts ∙ z);
       }
+
+  -- they were, and what is kept was not sent
+  pub batches_unsent : (fields : List Field) (found : Found) (w v : Option (List ℕ)) (n m : ℕ) (k : List ℕ)
+      → fields ≡ old.schema.fields → NextCall now new (Ok (Some found)) → new.failures ≡ now.failures
+      → PutsRows form fields (head_of form found.1) found.0.rows after w n k (Ok None) → PutFails (output w n k) v m [] Write
+      → PrintsPart form [] old new before v m Write
+  batches_unsent fields found w v n m k is t works p q =
+      let rows = head_of form found.1 ++ lines (line_of form fields) found.0.rows in
+      batches_cut fields found v m [] Write is t works
+      (not_at after v m _ _ Write (append-nil rows) (puts_not_then after (output w n k) v m rows [] Write p.1 q))
 
   behind : (y : List ℕ) (r : Result End Fault) (h : EndsBehind now new y r)
       → ReadsCounted old.limits (Some (in_force_of old)) (b.x ++ y) new.remaining (map batch b.batches) r
@@ -254,6 +286,7 @@ module _ (form : Form) (tally : Tally) (old now new : Reader) (before after : Ou
     numbered = λ k is. omega (arith, b.numbered k is, h.messages, (behind y r h).1);
     have = b.have;
     puts = b.puts;
+    sent = b.sent;
   }
 
   -- where the end is read behind the batches that were printed, all rows of the stream were

@@ -1,7 +1,7 @@
 -- The front and the tail around the rows of batches.
 use Rattle.ipc_model.specs.declared.table.BatchRows.{BatchRows}
-use Rattle.std.proofs.Common.{◌≡◌, ◌∙◌, refl, sym, ap, ℕ, List, [], ◌∷◌, ◌++◌, take, drop, Option, Some}
-use Rattle.std.proofs.Common.{Result, Ok, Err, append_assoc, append-nil}
+use Rattle.std.proofs.Common.{◌≡◌, ◌∙◌, refl, sym, ap, subst, ℕ, List, [], ◌∷◌, ◌++◌, take, drop, Option, Some}
+use Rattle.std.proofs.Common.{Result, Ok, Err, append_assoc, append-nil, length-append, arith, ◌+◌}
 use Rattle.std.proofs.KnownBytes.{Consumes-nil}
 use Rattle.ipc_model.specs.declared.fault.Fault.{Fault}
 use Rattle.ipc_model.specs.declared.value.Value.{Value}
@@ -14,12 +14,12 @@ use Rattle.ipc_print.specs.declared.form.Form.{Form}
 use Rattle.ipc_print.specs.declared.stop.Outcome.{Outcome}
 use Rattle.ipc_print.specs.declared.stop.Outcome.TheVariants.{Whole, Broken, Refused as Lacking}
 use Rattle.ipc_print.specs.Forms.{head_of, line_of, tail_of, tail_text}
-use Rattle.ipc_print.specs.Output.{Output, Puts, PutFails}
-use Rattle.ipc_print.specs.Rows.{lines, batch_lines}
+use Rattle.ipc_print.specs.Output.{Output, output, Puts, PutFails}
+use Rattle.ipc_print.specs.Rows.{lines, batch_lines, last_lines}
 use Rattle.ipc_print.specs.Streams.{PrintsRows, PrintsPart, PrintsBatches}
-use Rattle.ipc_print.proofs.Puts.{puts_then, puts_not_then, puts_not_more, puts_not_front, puts_never}
+use Rattle.ipc_print.proofs.Puts.{puts_then, puts_not_then, puts_never, missing_all, missing_at, missing_more, missing_then}
 use Rattle.ipc_print.proofs.Lines.{put_at, not_at}
-use Rattle.ipc_print.proofs.Texts.{batch_lines_more, head_rest}
+use Rattle.ipc_print.proofs.Texts.{batch_lines_more, head_rest, last_lines_front, last_lines_more}
 use Rattle.std.proofs.Common.{length, inl, inr}
 use Rattle.ipc_decode.specs.Counts.{count_up}
 use Rattle.ipc_print.specs.declared.stop.Tally.{Tally}
@@ -28,25 +28,43 @@ use Rattle.ipc_print.specs.Streams.{IsTally, IsWhole, PrintsAll, outcome_tail}
 
 -- nothing was read, and of the front a beginning was printed
 pub part_front : (form : Form) (front : List ℕ) (r : Reader) (before : Output) (w : Option (List ℕ)) (n : ℕ) (e : PrintFault)
-    → PutFails before w n front e → PrintsPart form front r r before w n e
-part_front form front r before w n e q = record {
-  x = [];
-  batches = [];
-  bytes = Consumes-nil r.remaining;
-  rest = [];
-  whole = [];
-  joined = refl;
-  state = Some (in_force_of r);
-  run = done;
-  tail = [];
-  ends = inl refl;
-  puts = puts_not_more before w n _ [] e (puts_not_more before w n front [] e q);
-  works = λ other z. z;
-}
+    → before.kept ≡ [] → PutFails before w n front e → PrintsPart form front r r before w n e
+part_front form front r before w n e empty q =
+    let missing = missing_at before w n _ _ e (length front) (sym (append-nil front) ∙ sym (append-nil (front ++ [])))
+    (missing_all before w n front e empty q) in
+    record {
+      x = [];
+      batches = [];
+      bytes = Consumes-nil r.remaining;
+      rest = [];
+      whole = [];
+      joined = refl;
+      state = Some (in_force_of r);
+      run = done;
+      tail = [];
+      ends = inl refl;
+      puts = missing.0;
+      few = omega (arith, missing.1, length-append front []);
+      works = λ other z. z;
+    }
 
 -- nothing was read and printed, since memory ran out
-pub part_none : (form : Form) (front : List ℕ) (r : Reader) (o : Output) → PrintsPart form front r r o o.written o.failures OutOfMemory
-part_none form front r o = part_front form front r o o.written o.failures OutOfMemory (puts_never o front)
+pub part_none : (form : Form) (front : List ℕ) (r : Reader) (o : Output) → o.kept ≡ []
+    → PrintsPart form front r r o o.written o.failures OutOfMemory
+part_none form front r o empty = part_front form front r o o.written o.failures OutOfMemory empty (puts_never o front)
+
+-- the front was put, and it was sent, or the sink failed
+pub front_sent : (before mid : Output) (w : Option (List ℕ)) (n : ℕ) (k front : List ℕ) → Puts before mid front
+    → Puts mid (output w n []) [] → k ≡ [] → Puts before (output w n k) front
+front_sent before mid w n k front p q empty =
+    subst (λ (z : List ℕ). Puts before (output w n z) front) (sym empty)
+    (put_at before (output w n []) _ _ (append-nil front) (puts_then before mid (output w n []) front [] p q))
+
+pub front_unsent : (form : Form) (front : List ℕ) (r : Reader) (before mid : Output) (w : Option (List ℕ)) (n : ℕ) → before.kept ≡ []
+    → Puts before mid front → PutFails mid w n [] Write → PrintsPart form front r r before w n Write
+front_unsent form front r before mid w n empty p q =
+    part_front form front r before w n Write empty
+    (not_at before w n _ _ Write (append-nil front) (puts_not_then before mid w n front [] Write p q))
 
 module _ (form : Form) (front : List ℕ) (old new : Reader) where
   abbrev line_in : List Value → List ℕ
@@ -63,6 +81,7 @@ module _ (form : Form) (front : List ℕ) (old new : Reader) where
     numbered = q.numbered;
     have = q.have;
     puts = puts_then before mid after front (batch_lines (head_of form) line_in q.batches) p q.puts;
+    sent = q.sent;
   }
 
   -- what was put behind the front, with the front
@@ -87,29 +106,41 @@ module _ (form : Form) (front : List ℕ) (old new : Reader) where
               (sym (append_assoc front (batch_lines (head_of form) line_in h.batches)
               (head_of form h.last.pairs ++ lines line_in (take h.count h.last.rows))))
               (puts_then before mid after front _ p h.puts);
+          few = h.few;
         },
         q.1,
       )
-  behind_front before mid after (Err e) p q = record {
-    x = q.x;
-    batches = q.batches;
-    bytes = q.bytes;
-    rest = q.rest;
-    whole = q.whole;
-    joined = q.joined;
-    state = q.state;
-    run = q.run;
-    tail = q.tail;
-    ends = q.ends;
-    puts = not_at before after.written after.failures _ _ e (sym (append_assoc front (batch_lines (head_of form) line_in q.batches) q.tail))
-        (puts_not_then before mid after.written after.failures front (batch_lines (head_of form) line_in q.batches ++ q.tail) e p q.puts);
-    works = q.works;
-  }
+  behind_front before mid after (Err e) p q =
+      let texts = batch_lines (head_of form) line_in q.batches in
+      let most = length (last_lines [] (head_of form) line_in q.batches ++ q.tail) in
+      let missing = missing_at before after.written after.failures _ _ e most (sym (append_assoc front texts q.tail))
+      (missing_then before mid after.written after.failures front (texts ++ q.tail) e most p (q.puts, q.few)) in
+      record {
+        x = q.x;
+        batches = q.batches;
+        bytes = q.bytes;
+        rest = q.rest;
+        whole = q.whole;
+        joined = q.joined;
+        state = q.state;
+        run = q.run;
+        tail = q.tail;
+        ends = q.ends;
+        puts = missing.0;
+        few = omega (
+          arith,
+          missing.1,
+          last_lines_front line_in (head_of form) front q.batches,
+          length-append (last_lines [] (head_of form) line_in q.batches) q.tail,
+          length-append (last_lines front (head_of form) line_in q.batches) q.tail,
+        );
+        works = q.works;
+      }
 
   module _ (before mid : Output) where
-    rows_flushed : (r : Result End Fault) (after : Output) → PrintsRows form front old new before mid r → Puts mid after []
-        → PrintsRows form front old new before after r
-    rows_flushed r after p q = record {
+    rows_flushed : (r : Result End Fault) (after : Output) → after.kept ≡ [] → PrintsRows form front old new before mid r
+        → Puts mid after [] → PrintsRows form front old new before after r
+    rows_flushed r after empty p q = record {
       x = p.x;
       batches = p.batches;
       bytes = p.bytes;
@@ -119,6 +150,7 @@ module _ (form : Form) (front : List ℕ) (old new : Reader) where
       have = p.have;
       puts = put_at before after _ _ (append-nil (front ++ batch_lines (head_of form) line_in p.batches))
           (puts_then before mid after _ [] p.puts q);
+      sent = empty;
     }
 
     -- the tail of counts is that of the batches
@@ -129,9 +161,9 @@ module _ (form : Form) (front : List ℕ) (old new : Reader) where
         ∙ ap (λ (n : ℕ). tail_of form e new.taken (count_up 0 (length batches)) n) few
 
     -- the tail was put too, and what was kept went out
-    pub flushed : (outcome : Outcome) (last after : Output) → PrintsBatches form front old new before mid (Ok outcome)
+    pub flushed : (outcome : Outcome) (last after : Output) → after.kept ≡ [] → PrintsBatches form front old new before mid (Ok outcome)
         → Puts mid last (outcome_tail form outcome new.taken) → Puts last after [] → PrintsAll form front old new before after (Ok outcome)
-    flushed (Whole e tally) last after p tail q = (
+    flushed (Whole e tally) last after empty p tail q = (
       record {
         middle = mid;
         rows = p.0.0;
@@ -139,8 +171,8 @@ module _ (form : Form) (front : List ℕ) (old new : Reader) where
       },
       p.1,
     )
-    flushed (Broken f) last after p tail q = (rows_flushed (Err f) after p.0 (puts_then mid last after [] [] tail q), p.1)
-    flushed (Lacking f) last after p tail q =
+    flushed (Broken f) last after empty p tail q = (rows_flushed (Err f) after empty p.0 (puts_then mid last after [] [] tail q), p.1)
+    flushed (Lacking f) last after empty p tail q =
         let h = p.0 in (
           record {
             x = h.x;
@@ -153,26 +185,30 @@ module _ (form : Form) (front : List ℕ) (old new : Reader) where
             have = h.have;
             refuses = h.refuses;
             puts = put_at before after _ _ (append-nil _) (puts_then before mid after _ [] h.puts (puts_then mid last after [] [] tail q));
+            few = omega (arith, ap length empty);
           },
           p.1,
         )
 
     rows_unflushed : (r : Result End Fault) (w : Option (List ℕ)) (n : ℕ) → PrintsRows form front old new before mid r
         → PutFails mid w n [] Write → PrintsPart form front old new before w n Write
-    rows_unflushed r w n p q = record {
-      x = p.x;
-      batches = p.batches;
-      bytes = p.bytes;
-      rest = p.reads.rest;
-      whole = p.reads.whole;
-      joined = p.reads.joined;
-      state = p.reads.state;
-      run = p.reads.run;
-      tail = [];
-      ends = inl refl;
-      puts = puts_not_then before mid w n _ [] Write p.puts q;
-      works = λ other. absurd (other refl);
-    }
+    rows_unflushed r w n p q =
+        let missing = missing_then before mid w n _ [] Write 0 p.puts (missing_all mid w n [] Write p.sent q) in
+        record {
+          x = p.x;
+          batches = p.batches;
+          bytes = p.bytes;
+          rest = p.reads.rest;
+          whole = p.reads.whole;
+          joined = p.reads.joined;
+          state = p.reads.state;
+          run = p.reads.run;
+          tail = [];
+          ends = inl refl;
+          puts = missing.0;
+          few = omega (arith, missing.1);
+          works = λ other. absurd (other refl);
+        }
 
     -- the text of batches and of the first rows of one more is a beginning of the text with all its rows
     all_rows : (batches : List BatchRows) (rows : BatchRows) (count : ℕ)
@@ -193,6 +229,8 @@ module _ (form : Form) (front : List ℕ) (old new : Reader) where
         → PrintsPart form front old new before w n e
     tail_cut (Whole end tally) w n e is p q =
         let r = p.0.0 in
+        let tail = outcome_tail form (Whole end tally) new.taken in
+        let missing = missing_then before mid w n _ tail e (length tail) r.puts (missing_all mid w n tail e r.sent q) in
         record {
           x = r.x;
           batches = r.batches;
@@ -202,9 +240,10 @@ module _ (form : Form) (front : List ℕ) (old new : Reader) where
           joined = r.reads.joined;
           state = r.reads.state;
           run = r.reads.run;
-          tail = outcome_tail form (Whole end tally) new.taken;
+          tail = tail;
           ends = inr (end, (new.taken, tail_is end tally r.batches p.0.1));
-          puts = puts_not_then before mid w n _ _ e r.puts q;
+          puts = missing.0;
+          few = omega (arith, missing.1, length-append (last_lines front (head_of form) line_in r.batches) tail);
           works = λ other. p.1;
         }
     tail_cut (Broken f) w n e is p q = absurd is
@@ -219,6 +258,14 @@ module _ (form : Form) (front : List ℕ) (old new : Reader) where
     unflushed (Broken f) last w n p tail q = rows_unflushed (Err f) w n p.0 (puts_not_then mid last w n [] [] Write tail q)
     unflushed (Lacking f) last w n p tail q =
         let h = p.0 in
+        let sent = head_of form h.last.pairs ++ lines line_in (take h.count h.last.rows) in
+        let unsent = lines line_in (drop h.count h.last.rows) in
+        let cut = puts_not_then mid last w n [] [] Write tail q in
+        let first = missing_at before w n _ _ Write (length mid.kept) (append-nil _)
+        (missing_then before mid w n _ [] Write (length mid.kept) h.puts (cut, omega (arith, cut.few, length-append mid.kept []))) in
+        let missing = missing_at before w n _ _ Write (length mid.kept + length unsent)
+        (sym (all_rows h.batches h.last h.count) ∙ sym (append-nil _))
+        (missing_more before w n _ unsent Write (length mid.kept) first) in
         record {
           x = h.x;
           batches = h.batches ++ h.last ∷ [];
@@ -230,8 +277,15 @@ module _ (form : Form) (front : List ℕ) (old new : Reader) where
           run = h.run;
           tail = [];
           ends = inl refl;
-          puts = puts_not_more before w n _ [] Write (puts_not_front before w n _ _ _ Write (all_rows h.batches h.last h.count)
-              (not_at before w n _ _ Write (append-nil _)
-              (puts_not_then before mid w n _ [] Write h.puts (puts_not_then mid last w n [] [] Write tail q))));
+          puts = missing.0;
+          few = omega (
+            arith,
+            missing.1,
+            h.few,
+            length-append sent unsent,
+            ap length (head_rest line_in (head_of form h.last.pairs) h.last.rows h.count),
+            ap length (last_lines_more line_in (head_of form) front h.batches h.last),
+            length-append (last_lines front (head_of form) line_in (h.batches ++ h.last ∷ [])) [],
+          );
           works = λ other. absurd (other refl);
         }

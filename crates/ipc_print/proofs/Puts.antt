@@ -1,6 +1,6 @@
 -- Text that was put, part by part.
-use Rattle.std.proofs.Common.{◌≡◌, ◌∙◌, refl, sym, ap, subst, ℕ, ◌≤◌, List, [], ◌++◌, length, take, drop, Option, Some, None, append_assoc}
-use Rattle.std.proofs.Common.{append-nil, take-append-drop}
+use Rattle.std.proofs.Common.{◌≡◌, ◌∙◌, refl, sym, ap, subst, ℕ, ◌+◌, ◌≤◌, List, [], ◌++◌, length, take, drop, Option, Some, None}
+use Rattle.std.proofs.Common.{append_assoc, append-nil, take-append-drop, arith, length-append, length-drop}
 use Rattle.std.specs.Io.KnownBytes.{Appends, Keeps}
 use Rattle.std.proofs.lemmas.List.{drop_all}
 use Rattle.ipc_stream.proofs.SentBytes.{SentSome}
@@ -31,12 +31,13 @@ grows_kept (Some xs) k0 k1 t e = ap (λ (l : List ℕ). xs ++ l) e ∙ sym (appe
 
 -- nothing was put
 pub puts_none : (o : Output) → Puts o o []
-puts_none o = record { bytes = grows_none o.written o.kept; stayed = refl }
+puts_none o = record { bytes = grows_none o.written o.kept; few = omega (arith, length-append o.kept []); stayed = refl }
 
 -- one text and then another
 pub puts_then : (a b c : Output) (t u : List ℕ) → Puts a b t → Puts b c u → Puts a c (t ++ u)
 puts_then a b c t u p q = record {
   bytes = grows_then a.written b.written c.written a.kept b.kept c.kept t u p.bytes q.bytes;
+  few = omega (arith, p.few, q.few, length-append a.kept t, length-append b.kept u, length-append t u, length-append a.kept (t ++ u));
   stayed = q.stayed ∙ p.stayed;
 }
 
@@ -50,6 +51,7 @@ pub puts_not_then : (a b : Output) (w : Option (List ℕ)) (n : ℕ) (t u : List
 puts_not_then a b w n t u e p q = record {
   behind = q.behind;
   bytes = grows_then a.written b.written w a.kept b.kept q.behind t u p.bytes q.bytes;
+  few = omega (arith, p.few, q.few, length-append a.kept t, length-append b.kept u, length-append t u, length-append a.kept (t ++ u));
   failed = q.failed;
   stayed = λ other. q.stayed other ∙ p.stayed;
 }
@@ -60,6 +62,14 @@ pub puts_not_more : (a : Output) (w : Option (List ℕ)) (n : ℕ) (t u : List �
 puts_not_more a w n t u e q = record {
   behind = q.behind ++ u;
   bytes = grows_more a.written w a.kept q.behind t u q.bytes;
+  few = omega (
+    arith,
+    q.few,
+    length-append q.behind u,
+    length-append a.kept t,
+    length-append t u,
+    length-append a.kept (t ++ u),
+  );
   failed = q.failed;
   stayed = q.stayed;
 }
@@ -71,7 +81,7 @@ puts_not_front a w n t u whole e is q = subst (λ (x : List ℕ). PutFails a w n
 
 -- a text that is kept
 pub puts_kept : (w : Option (List ℕ)) (n : ℕ) (k0 k1 t : List ℕ) → k1 ≡ k0 ++ t → Puts (output w n k0) (output w n k1) t
-puts_kept w n k0 k1 t e = record { bytes = grows_kept w k0 k1 t e; stayed = refl }
+puts_kept w n k0 k1 t e = record { bytes = grows_kept w k0 k1 t e; few = omega (arith, ap length e); stayed = refl }
 
 -- memory ran out before any of it was put
 pub puts_never : (o : Output) (t : List ℕ) → PutFails o o.written o.failures t OutOfMemory
@@ -79,6 +89,7 @@ puts_never o t = record {
   behind = o.kept ++ t;
   bytes = subst (λ (x : List ℕ). Grows o.written o.kept o.written (o.kept ++ t) x) refl
       (grows_more o.written o.written o.kept o.kept [] t (grows_none o.written o.kept));
+  few = omega arith;
   failed = λ is. absurd (cc);
   stayed = λ other. refl;
 }
@@ -105,6 +116,7 @@ pub sent_cut : (old now new : Option (List ℕ)) (f0 f1 f2 : ℕ) (bytes : List 
 sent_cut old now new f0 f1 f2 bytes sent i kept failed = record {
   behind = drop sent bytes;
   bytes = grows_same old now new bytes (drop sent bytes) [] (grows_sent old now bytes sent i.appended) kept;
+  few = omega (arith, length-drop sent bytes, length-append bytes []);
   failed = λ is. failed;
   stayed = λ other. absurd (other refl);
 }
@@ -114,6 +126,7 @@ pub sent_all : (old now : Option (List ℕ)) (f0 f1 : ℕ) (bytes : List ℕ) (s
     → Puts (output old f0 bytes) (output now f1 []) []
 sent_all old now f0 f1 bytes sent i all = record {
   bytes = subst (λ (k : List ℕ). Grows old bytes now k []) (drop_all sent bytes all) (grows_sent old now bytes sent i.appended);
+  few = omega arith;
   stayed = i.same;
 }
 
@@ -123,6 +136,7 @@ pub flush_cut : (a : Output) (now new : Option (List ℕ)) (n m : ℕ) → Puts 
 flush_cut a now new n m p kept failed = record {
   behind = [];
   bytes = grows_same a.written now new a.kept [] [] p.bytes kept;
+  few = omega arith;
   failed = λ is. failed;
   stayed = λ other. absurd (other refl);
 }
@@ -132,6 +146,7 @@ pub flush_done : (a : Output) (now new : Option (List ℕ)) (n m : ℕ) → Puts
     → Puts a (output new m []) []
 flush_done a now new n m p kept works = record {
   bytes = grows_same a.written now new a.kept [] [] p.bytes kept;
+  few = omega arith;
   stayed = works.1 ∙ (sym works.0 ∙ p.stayed);
 }
 
@@ -144,7 +159,7 @@ grows_whole (Some xs) (Some ys) word behind p =
 -- a text that was sent by itself was put
 pub puts_sent : (w v : Option (List ℕ)) (n m : ℕ) (word : List ℕ) → Puts (output w n word) (output v m []) []
     → Puts (output w n []) (output v m []) word
-puts_sent w v n m word p = record { bytes = grows_whole w v word [] p.bytes; stayed = p.stayed }
+puts_sent w v n m word p = record { bytes = grows_whole w v word [] p.bytes; few = omega arith; stayed = p.stayed }
 
 -- a text that was sent by itself and not whole was not put
 pub puts_not_sent : (w v : Option (List ℕ)) (n m : ℕ) (word : List ℕ) (e : PrintFault) → PutFails (output w n word) v m [] e
@@ -152,6 +167,35 @@ pub puts_not_sent : (w v : Option (List ℕ)) (n m : ℕ) (word : List ℕ) (e :
 puts_not_sent w v n m word e q = record {
   behind = q.behind;
   bytes = grows_whole w v word q.behind q.bytes;
+  few = omega (arith, q.few, length-append word []);
   failed = q.failed;
   stayed = q.stayed;
 }
+
+-- ---- how much of a text that was not put is not written
+
+-- the text was not put, and at most this many of its bytes, and of those that were kept, are not written
+abbrev pub Missing : Output → Option (List ℕ) → ℕ → List ℕ → PrintFault → ℕ → Type 0
+Missing a w n t e k = (q : PutFails a w n t e) × (length q.behind ≤ k)
+
+-- where nothing was kept, no more than the text is missing
+pub missing_all : (a : Output) (w : Option (List ℕ)) (n : ℕ) (t : List ℕ) (e : PrintFault) → a.kept ≡ [] → PutFails a w n t e
+    → Missing a w n t e (length t)
+missing_all a w n t e none q = (q, omega (arith, q.few, ap length none, length-append a.kept t))
+
+-- what is missing of a second text, where the first one was put
+pub missing_then : (a b : Output) (w : Option (List ℕ)) (n : ℕ) (t u : List ℕ) (e : PrintFault) (k : ℕ) → Puts a b t → Missing b w n u e k
+    → Missing a w n (t ++ u) e k
+unfolding puts_not_then
+missing_then a b w n t u e k p q = (puts_not_then a b w n t u e p q.0, q.1)
+
+-- what is missing of a text and of more behind it
+pub missing_more : (a : Output) (w : Option (List ℕ)) (n : ℕ) (t u : List ℕ) (e : PrintFault) (k : ℕ) → Missing a w n t e k
+    → Missing a w n (t ++ u) e (k + length u)
+unfolding puts_not_more
+missing_more a w n t u e k q = (puts_not_more a w n t u e q.0, omega (arith, q.1, length-append q.0.behind u))
+
+-- and of an equal text
+pub missing_at : (a : Output) (w : Option (List ℕ)) (n : ℕ) (t u : List ℕ) (e : PrintFault) (k : ℕ) → t ≡ u → Missing a w n t e k
+    → Missing a w n u e k
+missing_at a w n t u e k is q = subst (λ (x : List ℕ). Missing a w n x e k) is q

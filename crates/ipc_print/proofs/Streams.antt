@@ -27,10 +27,10 @@ use Rattle.ipc_print.specs.Output.{Output, output, Grows}
 use Rattle.ipc_print.specs.Rows.{lines, batch_lines}
 use Rattle.ipc_print.specs.Streams.{PrintsTable, Breaks, unopened, broken, Stops, unfit, refused, PrintsSome, nothing, some, PrintsStream}
 use Rattle.ipc_print.specs.Streams.{Prints, PrintsRows, PrintsPart, RefusesRow, write_fault}
-use Rattle.ipc_print.specs.Streams.{printed}
+use Rattle.ipc_print.specs.Streams.{printed, last_printed}
 use Rattle.ipc_print.proofs.Messages.{ReadsCounted}
 use Rattle.ipc_print.proofs.Puts.{grows_more, grows_then}
-use Rattle.ipc_print.proofs.Texts.{batch_lines_more, head_rest}
+use Rattle.ipc_print.proofs.Texts.{batch_lines_more, head_rest, last_lines_more}
 use Rattle.std.proofs.lemmas.List.{map-append, length-append}
 use Rattle.ipc_decode.proofs.Runs.{run_then, reads_after}
 use Rattle.ipc_model.specs.declared.limits.Limits.{Limits}
@@ -120,7 +120,7 @@ module _ {limits : Limits} (form : Form) (old : Option (List ℕ)) (s t : Reader
       (Consumes-trans old s.remaining t.remaining o.x r.x o.bytes r.bytes))
       (run_then None (Some (in_force_of s)) r.state o.x r.whole (schema s.schema ∷ []) (map batch r.batches) o.run
       (subst (λ l. Run l (Some (in_force_of s)) r.whole (map batch r.batches) r.state) o.same_limits r.run))
-      r.ends r.puts.bytes
+      r.ends r.puts.bytes r.few
 
   prints_rows : (r : Result ⊤ Stop) → PrintsStream form s t (output w0 n0 []) (output w1 n1 []) r
       → Prints form limits old t.remaining w0 w1 r
@@ -182,7 +182,7 @@ broken_part form old new w0 w1 fault n (unopened x bytes reads number kept) = no
 broken_part form old new w0 w1 fault n (broken x y t bytes opens behind number have text) =
     let reads = reads_opened x y t new (Err fault) opens behind in
     some reads.whole reads.rest [] [] t reads.state (subst (λ (z : List ℕ). Consumes old new z) reads.joined bytes) reads.run (inl refl)
-    (appends_grows w0 w1 _ (subst (λ (z : List ℕ). Appends w0 w1 z) (sym (append-nil _)) text))
+    (appends_grows w0 w1 _ (subst (λ (z : List ℕ). Appends w0 w1 z) (sym (append-nil _)) text)) (omega arith)
 
 -- the text of batches and of the first rows of one more is a beginning of the text with all its rows
 all_rows : (form : Form) (t : Table) (rows : BatchRows) (count : ℕ)
@@ -213,6 +213,13 @@ stopped_part {limits} form old new w0 w1 fault (refused x t rows count σ bytes 
     (subst (λ (z : List ℕ). Grows w0 [] w1 rest z) (all_rows form t rows count ∙ sym (append-nil _))
     (grows_more w0 w1 [] [] (printed form t.schema t.batches ++ (head_of form rows.pairs ++ lines line (take count rows.rows))) rest
     (appends_grows w0 w1 _ text)))
+    (omega (
+      arith,
+      ap length (head_rest line (head_of form rows.pairs) rows.rows count),
+      length-append (head_of form rows.pairs ++ lines line (take count rows.rows)) rest,
+      ap length (last_lines_more line (head_of form) (front_text form t.schema) t.batches rows),
+      length-append (last_printed form t.schema (t.batches ++ rows ∷ [])) [],
+    ))
 
 table_part : {limits : Limits} → (form : Form) (old new w0 w1 : Option (List ℕ)) → PrintsTable form limits old new w0 w1
     → PrintsSome form limits old new w0 w1
@@ -220,9 +227,9 @@ table_part {limits} form old new w0 w1 s = by_end s.end s.denotes
   where
     by_end : (end : End) → Denotes limits s.x s.table end → PrintsSome form limits old new w0 w1
     by_end Mark d = some d.0 _ [] _ s.table d.2.0 (subst (λ (z : List ℕ). Consumes old new z) d.1 s.bytes) d.2.1
-        (inr (s.end, (count_up 0 (length s.x), refl))) (appends_grows w0 w1 _ s.text)
+        (inr (s.end, (count_up 0 (length s.x), refl))) (appends_grows w0 w1 _ s.text) (omega arith)
     by_end Closed d = some s.x [] [] _ s.table d.0 (subst (λ (z : List ℕ). Consumes old new z) (sym (append-nil s.x)) s.bytes) d.1
-        (inr (s.end, (count_up 0 (length s.x), refl))) (appends_grows w0 w1 _ s.text)
+        (inr (s.end, (count_up 0 (length s.x), refl))) (appends_grows w0 w1 _ s.text) (omega arith)
 
 -- whatever the answer, a beginning of the text of the batches that were read was printed
 pub part_of : {limits : Limits} → (form : Form) (old new w0 w1 : Option (List ℕ)) (r : Result ⊤ Stop) → Prints form limits old new w0 w1 r

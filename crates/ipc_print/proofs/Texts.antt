@@ -1,12 +1,12 @@
 -- Rows as text, value by value.
 use Rattle.ipc_model.specs.declared.table.BatchRows.{BatchRows}
-use Rattle.std.proofs.Common.{◌≡◌, ◌∙◌, refl, sym, ap, ℕ, ◌+◌, ◌<◌, List, [], ◌∷◌, ◌++◌, length, take, drop, Some}
+use Rattle.std.proofs.Common.{◌≡◌, ◌∙◌, refl, sym, ap, ℕ, ◌+◌, ◌<◌, ◌≤◌, List, [], ◌∷◌, ◌++◌, length, take, drop, Some}
 use Rattle.std.proofs.Common.{append_assoc, append-nil, take-append-drop, arith}
 use Rattle.std.specs.Prelude.{slice_get, slice_index_or, codes}
 use Rattle.std.proofs.lemmas.List.{take_more, take_all, length-take-le}
 use Rattle.std.proofs.lemmas.Option.{get_or_from_slice_get}
 use Rattle.ipc_model.specs.declared.value.Value.{Value}
-use Rattle.ipc_print.specs.Rows.{cell_text, comma, behind_commas, opened, line, lines, batch_lines}
+use Rattle.ipc_print.specs.Rows.{cell_text, comma, behind_commas, opened, line, lines, batch_lines, last_lines}
 
 behind_append : (vs ws : List Value) → behind_commas (vs ++ ws) ≡ behind_commas vs ++ behind_commas ws
 behind_append [] ws = refl
@@ -84,3 +84,15 @@ module _ (line_of : List Value → List ℕ) where
       append_assoc (head_of b.pairs ++ lines line_of b.rows) (batch_lines head_of line_of bs)
       (head_of rows.pairs ++ lines line_of rows.rows)
       ∙ ap (λ (x : List ℕ). (head_of b.pairs ++ lines line_of b.rows) ++ x) (batch_lines_more head_of bs rows)
+
+  -- the last of batches and one more is that one
+  pub last_lines_more : (head_of : List (List ℕ × List ℕ) → List ℕ) (front : List ℕ) (batches : List BatchRows) (rows : BatchRows)
+      → last_lines front head_of line_of (batches ++ rows ∷ []) ≡ head_of rows.pairs ++ lines line_of rows.rows
+  last_lines_more head_of front [] rows = refl
+  last_lines_more head_of front (b ∷ bs) rows = last_lines_more head_of (head_of b.pairs ++ lines line_of b.rows) bs rows
+
+  -- the text of the last of batches is no shorter with a front, which is that of none
+  pub last_lines_front : (head_of : List (List ℕ × List ℕ) → List ℕ) (front : List ℕ) (batches : List BatchRows)
+      → length (last_lines [] head_of line_of batches) ≤ length (last_lines front head_of line_of batches)
+  last_lines_front head_of front [] = omega arith
+  last_lines_front head_of front (b ∷ bs) = omega arith

@@ -1,5 +1,6 @@
 -- How printing changes the sink and the text that is kept for it.
-use Rattle.std.specs.Prelude.{◌≡◌, ◌≢◌, ℕ, List, ◌++◌, take, Option, Some, None, Result, Ok, Err, ⊤}
+use Rattle.std.specs.Prelude.{◌≡◌, ◌≢◌, ◌≤◌, ℕ, List, ◌++◌, length, take, Option, Some, None}
+use Rattle.std.specs.Prelude.{Result, Ok, Err, ⊤}
 use Rattle.ipc_print.specs.declared.rows.PrintFault.{PrintFault}
 use Rattle.ipc_print.specs.declared.rows.PrintFault.TheVariants.{Write}
 
@@ -17,9 +18,11 @@ Grows None kept new still text = ⊤
 Grows (Some held) kept None still text = ⊥
 Grows (Some held) kept (Some holds) still text = holds ++ still ≡ held ++ kept ++ text
 
--- the text was appended to what was written or kept, and the sink's count of failures stayed
+-- the text was appended to what was written or kept, and the sink's count of failures stayed; no
+-- more is kept than the old kept text and this one
 pub record Puts (old new : Output) (text : List ℕ) : Type 0 where
   pub bytes : Grows old.written old.kept new.written new.kept text
+  pub few : length new.kept ≤ length (old.kept ++ text)
   pub stayed : new.failures ≡ old.failures
 
 -- the text was not put: a beginning of the kept text and this text was written; the sink failed in
@@ -28,6 +31,7 @@ pub record PutFails (old : Output) (written : Option (List ℕ)) (failures : ℕ
     (fault : PrintFault) : Type 0 where
   pub behind : List ℕ
   pub bytes : Grows old.written old.kept written behind text
+  pub few : length behind ≤ length (old.kept ++ text)
   pub failed : fault ≡ Write → failures ≡ 1
   pub stayed : fault ≢ Write → failures ≡ old.failures
 

@@ -68,6 +68,13 @@ batch_lines head_of line_of [] = []
 batch_lines head_of line_of (b ∷ batches) =
     (head_of b.pairs ++ lines line_of b.rows) ++ batch_lines head_of line_of batches
 
+-- the text of the last of these batches; `front` if there is none
+abbrev pub last_lines : List ℕ → (List (List ℕ × List ℕ) → List ℕ) → (List Value → List ℕ)
+    → List BatchRows → List ℕ
+last_lines front head_of line_of [] = front
+last_lines front head_of line_of (b ∷ batches) =
+    last_lines (head_of b.pairs ++ lines line_of b.rows) head_of line_of batches
+
 -- each value of the rows is null or a signed number
 abbrev pub AreShownRows : List (List Value) → Type 0
 AreShownRows rows = AllByRecursion (AllByRecursion IsShown) rows

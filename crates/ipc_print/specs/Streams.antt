@@ -1,7 +1,7 @@
 -- What is read from a stream and printed, for each result.
 use Rattle.ipc_model.specs.declared.table.BatchRows.{BatchRows}
-use Rattle.std.specs.Prelude.{◌≡◌, ◌≢◌, ◌⊎◌, ◌+◌, ℕ, List, [], ◌∷◌, ◌++◌, length, map, take, Option}
-use Rattle.std.specs.Prelude.{Some, None}
+use Rattle.std.specs.Prelude.{◌≡◌, ◌≢◌, ◌⊎◌, ◌+◌, ◌≤◌, ℕ, List, [], ◌∷◌, ◌++◌, length, map, take}
+use Rattle.std.specs.Prelude.{Option, Some, None}
 use Rattle.std.specs.Prelude.{Result, Ok, Err, ⊤, Contains}
 use Rattle.std.specs.Io.KnownBytes.{Appends, Consumes, IsAtEnd, Keeps}
 use Rattle.ipc_model.specs.declared.fault.Fault.{Fault}
@@ -36,13 +36,18 @@ use Rattle.ipc_print.specs.Forms.{form_fault, front_text, head_of, line_of, Have
 use Rattle.ipc_print.specs.Forms.{row_count, tail_of, tail_text}
 use Rattle.ipc_print.specs.Forms.{HaveAllLines, Refuses}
 use Rattle.ipc_print.specs.Output.{Output, output, Grows, Puts, PutFails}
-use Rattle.ipc_print.specs.Rows.{lines, batch_lines}
+use Rattle.ipc_print.specs.Rows.{lines, batch_lines, last_lines}
 
 -- the text that is printed for batches with these columns: the front, and for each batch its head
 -- and a line for each row
 abbrev pub printed : Form → Schema → List BatchRows → List ℕ
 printed form s batches =
     front_text form s ++ batch_lines (head_of form) (line_of form s.fields) batches
+
+-- the text of the last batch; without batches, that of the front
+abbrev pub last_printed : Form → Schema → List BatchRows → List ℕ
+last_printed form s batches =
+    last_lines (front_text form s) (head_of form) (line_of form s.fields) batches
 
 -- the bytes that were taken denote a table and its end, and exactly its text was printed: the
 -- front, the rows in order, and the text at the end
@@ -96,7 +101,9 @@ pub data Stops (form : Form) (limits : Limits) (old new written_old written_new 
       ++ lines (line_of form table.schema.fields) (take count last.rows)))
       → Stops form limits old new written_old written_new fault
 
--- for each result: a beginning of the text of the batches that were read was printed
+-- for each result: a beginning of the text of the batches that were read was printed. What is not
+-- printed is at most the text of the last batch and of the end; so the text of all batches before
+-- the last one was printed, and the front, if there is a batch
 pub data PrintsSome (form : Form) (limits : Limits) (old new written_old written_new : Option
     (List ℕ)) : Type 0 where
   nothing : (x : List ℕ) → Consumes old new x → Keeps written_old written_new
@@ -104,6 +111,7 @@ pub data PrintsSome (form : Form) (limits : Limits) (old new written_old written
   some : (x rest behind tail : List ℕ) (table : Table) (σ : State) → Consumes old new (x ++ rest)
       → Run limits None x (events_of table) σ → IsTail form table.batches tail
       → Grows written_old [] written_new behind (printed form table.schema table.batches ++ tail)
+      → length behind ≤ length (last_printed form table.schema table.batches ++ tail)
       → PrintsSome form limits old new written_old written_new
 
 -- the exit status of a refusal of texts
@@ -202,7 +210,7 @@ module _ (form : Form) (front : List ℕ) (old new : Reader) (before : Output) w
   line = line_of form old.schema.fields
 
   -- the batches that were read after the schema, how reading ended, and that their rows were put
-  -- after `front`
+  -- after `front`; nothing of them is kept
   pub record PrintsRows (after : Output) (answer : Result End Fault) : Type 0 where
     pub x : List ℕ
     pub batches : List BatchRows
@@ -215,9 +223,10 @@ module _ (form : Form) (front : List ℕ) (old new : Reader) (before : Output) w
         + messages_in reads.run)
     pub have : HaveAllLines form old.schema.fields batches
     pub puts : Puts before after (front ++ batch_lines (head_of form) line batches)
+    pub sent : after.kept ≡ []
 
   -- the batches that were read after the schema, and a row of the last of them that cannot be
-  -- printed; all text before it was put
+  -- printed; all text before it was put, and at most that of the last batch is kept
   pub record RefusesRow (after : Output) (fault : TextFault) : Type 0 where
     pub x : List ℕ
     pub batches : List BatchRows
@@ -231,9 +240,11 @@ module _ (form : Form) (front : List ℕ) (old new : Reader) (before : Output) w
     pub puts : Puts before after
         ((front ++ batch_lines (head_of form) line batches)
         ++ (head_of form last.pairs ++ lines line (take count last.rows)))
+    pub few :
+        length after.kept ≤ length (head_of form last.pairs ++ lines line (take count last.rows))
 
   -- batches that were read after the schema; the output failed while `front`, their text or the
-  -- text at the end was put
+  -- text at the end was put, and only the last part of it is missing
   pub record PrintsPart (written : Option (List ℕ)) (failures : ℕ)
       (fault : PrintFault) : Type 0 where
     pub x : List ℕ
@@ -249,6 +260,7 @@ module _ (form : Form) (front : List ℕ) (old new : Reader) (before : Output) w
     pub puts :
         PutFails before written failures
         ((front ++ batch_lines (head_of form) line batches) ++ tail) fault
+    pub few : length puts.behind ≤ length (last_lines front (head_of form) line batches ++ tail)
     pub works : fault ≢ p.Write → old.failures ≡ 0 → new.failures ≡ 0
 
   -- all batches were read after the schema; `front`, all their rows and the text at the end were

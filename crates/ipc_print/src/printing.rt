@@ -26,7 +26,8 @@ use ipc_stream::{End, Sink, Source, StreamReader};
 use itoa::Buffer;
 use std::alloc::{AllocError, Global};
 
-// Prints the rows of a stream, and tells how that ended.
+// Prints the rows of a stream, and tells how that ended. The text of each batch is sent before the
+// next one is read.
 fn print_rows<R: Source, W: Sink>(
     alloc: Global,
     form: Form,
@@ -36,6 +37,7 @@ fn print_rows<R: Source, W: Sink>(
 ) -> Result<Outcome, PrintFault>
     requires reading { stream.old.phase ≡ Reading }
     requires fits { form_fault form stream.old.schema.fields ≡ None }
+    requires empty { lines.old ≡ [] }
     ensures schema { stream.new.schema ≡ stream.old.schema }
     ensures limits { stream.new.limits ≡ stream.old.limits }
     ensures prints { PrintsBatches form [] stream.old stream.new
@@ -51,6 +53,7 @@ fn print_rows<R: Source, W: Sink>(
                 if let Some(fault) = refused {
                     return Ok(Outcome::Refused(fault));
                 }
+                lines.flush(sink)?;
                 tally = tally.with_batch(batch.rows());
                 stream.reuse(batch);
             }
@@ -149,7 +152,8 @@ fn print_front<W: Sink>(
     }
 }
 
-// Prints a stream behind its schema. What comes before a fault goes out before it is returned.
+// Prints a stream behind its schema. The text in front of the rows is sent before the first batch
+// is read, and what comes before a fault before that is returned.
 fn print_stream<R: Source, W: Sink>(
     alloc: Global,
     form: Form,
@@ -166,6 +170,7 @@ fn print_stream<R: Source, W: Sink>(
 {
     let mut lines = Lines::new(alloc)?;
     print_front(alloc, form, stream.schema(), &mut lines, sink)?;
+    lines.flush(sink)?;
     let outcome = print_rows(alloc, form, stream, &mut lines, sink)?;
     print_tail(alloc, form, outcome, stream.taken(), &mut lines, sink)?;
     lines.flush(sink)?;
@@ -222,6 +227,9 @@ fn print_open<R: Source, W: Sink>(
 /// the source. What was printed before a refusal remains valid. No byte after an end-of-stream mark
 /// is read. At Ok the sink was flushed.
 ///
+/// The text of the schema and of each batch is written, and the sink is flushed, before the next
+/// batch is read. A batch takes one write for each 64 KiB of its text, and at least one.
+///
 /// # Errors
 ///
 /// - `Read`: the stream is refused, the source failed, or memory ran out in reading. It has the
@@ -242,7 +250,8 @@ pub fn print<R: Source, W: Sink>(
     // of the message is the count of the messages before it.
     ensures prints { Prints form limits (R.remaining source) (R.remaining result.1)
         (W.written sink.old) (W.written sink.new) result.0 }
-    // Whatever the answer, a beginning of the text of what was read was printed.
+    // Whatever the answer, a beginning of the text of what was read was printed: at least all text
+    // before that of the last batch that was read.
     ensures part { PrintsSome form limits (R.remaining source) (R.remaining result.1)
         (W.written sink.old) (W.written sink.new) }
     // With devices that had not failed before, W9 is answered exactly where the sink failed in this

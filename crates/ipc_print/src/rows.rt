@@ -631,8 +631,9 @@ impl Lines {
     pub fn flush<W: Sink>(&mut self, sink: &mut W) -> Result<(), PrintFault>
         ensures works { MatchResult result (λ _. W.failures sink.new ≡ 0)
             (λ fault. fault ≡ PrintFault.Write) }
-        // Nothing is held back.
+        // Nothing is held back, and nothing is kept.
         ensures handed_on { OnOk result (W.held_back sink.new ≡ Some []) }
+        ensures empty { OnOk result (self.new ≡ []) }
         ensures puts { PrintsAs (output (W.written sink.old) (W.failures sink.old) self.old)
             (W.written sink.new) (W.failures sink.new) [] [] result }
     {

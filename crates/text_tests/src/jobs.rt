@@ -44,24 +44,27 @@ enum Asked {
     FromCsv,
 }
 
-// A job, its input, the fewest calls that read it, and the whole output where it is a text.
-type Case = (Asked, &'static [u8], u64, Option<&'static [u8]>);
+// A job, its input, the fewest calls that read it, how often its output is flushed, and the whole
+// output where it is a text. A text is flushed before the first batch, after each batch, and at the
+// end.
+type Case = (Asked, &'static [u8], u64, u64, Option<&'static [u8]>);
 
 const CASES: [Case; 5] = [
     (
         Asked::Check,
         &STREAM,
         288,
+        3,
         Some(
             b"{\"fields\":[{\"children\":0,\"dictionary\":null,\
 \"metadata\":[],\"name\":\"a\",\"nullable\":true,\"type\":[\"int\",32]}],\"metadata\":[]}\n\
 mark 288 bytes 1 batches 3 rows\n",
         ),
     ),
-    (Asked::Show, &STREAM, 288, Some(b"[1]\n[null]\n[3]\n")),
-    (Asked::ToCsv, &STREAM, 288, Some(RECORDS)),
-    (Asked::Rewrite, &STREAM, 288, None),
-    (Asked::FromCsv, RECORDS, 10, None),
+    (Asked::Show, &STREAM, 288, 3, Some(b"[1]\n[null]\n[3]\n")),
+    (Asked::ToCsv, &STREAM, 288, 3, Some(RECORDS)),
+    (Asked::Rewrite, &STREAM, 288, 1, None),
+    (Asked::FromCsv, RECORDS, 10, 1, None),
 ];
 
 fn job_of(alloc: Global, asked: Asked) -> Job
@@ -123,7 +126,7 @@ fn line_of(asked: Asked, bytes: u64) -> &'static str {
 // The number of calls of its input that a job needs. None if with fewer it does not stop as it
 // should, or with these it does not do all.
 fn reads(alloc: Global, case: Case, whole: &[u8]) -> Result<Option<u64>, AllocError> {
-    let (asked, input, _, _) = case;
+    let (asked, input, _, _, _) = case;
     for calls in 0..300 {
         let (status, output, messages) = done(alloc, asked, input, (calls, u64::MAX))?;
         if status == 0 {
@@ -138,31 +141,34 @@ fn reads(alloc: Global, case: Case, whole: &[u8]) -> Result<Option<u64>, AllocEr
     Ok(None)
 }
 
-// Whether a job stops at an output that fails after this number of bytes, and has them. After all
-// of them, its flush fails.
-fn is_unwritten(
-    alloc: Global,
-    (asked, input, _, _): Case,
-    bytes: usize,
-    whole: &[u8],
-) -> Result<bool, AllocError> {
-    let (status, output, messages) = done(alloc, asked, input, (u64::MAX, bytes as u64))?;
-    let is_told = messages.as_slice() == b"W9 Write\n".as_slice();
-    Ok(status == 3 && is_told && whole.get(..bytes) == Some(output.as_slice()))
+// The number of calls of its output that a job needs: one for each byte and each flush. None if
+// with fewer it does not stop as it should, or with these it does not do all.
+fn writes(alloc: Global, case: Case, whole: &[u8]) -> Result<Option<u64>, AllocError> {
+    let (asked, input, _, _, _) = case;
+    for calls in 0..1000 {
+        let (status, output, messages) = done(alloc, asked, input, (u64::MAX, calls))?;
+        if status == 0 {
+            let is_done = output.as_slice() == whole && messages.is_empty();
+            return Ok(if is_done { Some(calls) } else { None });
+        }
+        let is_told = messages.as_slice() == b"W9 Write\n".as_slice();
+        if status != 3 || !is_told || !whole.starts_with(&output) {
+            return Ok(None);
+        }
+    }
+    Ok(None)
 }
 
 // Whether a job stops so at each call of its input and of its output, and the whole output is the
-// wanted one. The input is read to its last byte at least.
+// wanted one. The input is read to its last byte at least, and the output flushed so often.
 fn stops(alloc: Global, case: Case) -> Result<bool, AllocError> {
-    let (asked, input, least, wanted) = case;
+    let (asked, input, least, flushes, wanted) = case;
     let (status, whole, _) = done(alloc, asked, input, (u64::MAX, u64::MAX))?;
-    for bytes in 0..=whole.len() {
-        if !is_unwritten(alloc, case, bytes, &whole)? {
-            return Ok(false);
-        }
-    }
+    let calls = writes(alloc, case, &whole)?.unwrap_or(0);
+    let is_flushed = calls.checked_sub(whole.len() as u64) == Some(flushes);
     let is_wanted = status == 0 && whole.as_slice() == wanted.unwrap_or(whole.as_slice());
-    Ok(is_wanted && matches!(reads(alloc, case, &whole)?, Some(calls) if calls >= least))
+    let is_read = matches!(reads(alloc, case, &whole)?, Some(calls) if calls >= least);
+    Ok(is_flushed && is_wanted && is_read)
 }
 
 // What `check` prints of batches without columns, of 3, 0 and 2 rows.

@@ -2,11 +2,13 @@ use Rattle.std.proofs.Common.{◌≡◌, ◌∙◌, ap, subst}
 use Rattle.std.proofs.lemmas.Result.{err_from_is_err_and}
 use Rattle.ipc_model.specs.declared.schema.Schema.{Schema}
 use Rattle.ipc_print.specs.Columns.{AreShownColumns}
-use Rattle.ipc_print.proofs.BatchesRead.{batches_none, batches_more, batches_cut, batches_refused, batches_end, batches_break, found_shown}
+use Rattle.ipc_print.specs.Output.{output}
+use Rattle.ipc_print.proofs.BatchesRead.{batches_none, batches_more, batches_cut, batches_unsent}
+use Rattle.ipc_print.proofs.BatchesRead.{batches_refused, batches_end, batches_break, found_shown}
 use Rattle.ipc_print.proofs.printing.print_rows.Goals as goal
 
 pub loop-batch-init : goal.loop-batch-init
-loop-batch-init g c = rw c.none-tally.ensures (batches_none c.args.form c.args.stream.now _ c.requires.reading)
+loop-batch-init g c = rw c.none-tally.ensures (batches_none c.args.form c.args.stream.now _ c.requires.reading c.requires.empty)
 
 pub print_batch-requires-clause-numbers : goal.print_batch-requires-clause-numbers
 print_batch-requires-clause-numbers g c =
@@ -35,6 +37,19 @@ returns-in-Some-clause-prints g c =
     (g.W.Sink.written c.print_batch.new.sink) (g.W.Sink.failures c.print_batch.new.sink) c.print_batch.new.lines c.in-Some.fault is next
     c.in-Ok-Some.ensures.failures (rw (c.in-Some.is, c.deref.ensures) at c.in_ok-refused-in-Ok-Some.ensures)
 
+pub returns-in_err-flush-in-Ok-Some-clause-prints : goal.returns-in_err-flush-in-Ok-Some-clause-prints
+returns-in_err-flush-in-Ok-Some-clause-prints g c =
+    let p = err_from_is_err_and c.from_residual-in_err-flush-in-Ok-Some.result c.from_residual-in_err-flush-in-Ok-Some.ensures.1 in
+    let next = rw c.in-Ok-Some.field-0-is at c.in-Ok-Some.ensures.next in
+    let is : c.fields-fields.result.now ≡ c.args.stream.now.schema.fields =
+    c.fields-fields.ensures ∙ ap (λ (s : Schema). s.fields) (next.same_schema ∙ c.loop-batch.invariant.same) in
+    rw (p.1, p.2, c.in_err-flush-in-Ok-Some.ensures.works) (batches_unsent c.args.form _ _ _ _ _ _ c.loop-batch.invariant
+    c.fields-fields.result.now (c.in-Ok-Some.batch, c.in-Ok-Some.pairs)
+    (g.W.Sink.written c.print_batch.new.sink) (g.W.Sink.written c.flush.new.sink) (g.W.Sink.failures c.print_batch.new.sink)
+    (g.W.Sink.failures c.flush.new.sink) c.print_batch.new.lines is next c.in-Ok-Some.ensures.failures
+    (rw (c.in_default.is, c.deref.ensures) at c.in_ok-refused-in-Ok-Some.ensures)
+    (rw c.in_err-flush-in-Ok-Some.ensures.works at c.in_err-flush-in-Ok-Some.ensures.puts))
+
 pub loop-batch-preserved : goal.loop-batch-preserved
 loop-batch-preserved g c =
     let next = rw c.in-Ok-Some.field-0-is at c.in-Ok-Some.ensures.next in
@@ -44,8 +59,10 @@ loop-batch-preserved g c =
     (batches_more c.args.form _ _ _ _ _ _ c.loop-batch.invariant c.fields-fields.result.now (c.in-Ok-Some.batch, c.in-Ok-Some.pairs)
     c.with_batch-tally.result
     (g.W.Sink.written c.print_batch.new.sink) (g.W.Sink.failures c.print_batch.new.sink) c.print_batch.new.lines
+    (output (g.W.Sink.written c.flush.new.sink) (g.W.Sink.failures c.flush.new.sink) c.flush.new.self)
     c.with_batch-tally.ensures.batches (rw c.rows.ensures at c.with_batch-tally.ensures.rows) is next c.in-Ok-Some.ensures.failures
-    (rw (c.in_default.is, c.deref.ensures) at c.in_ok-refused-in-Ok-Some.ensures))
+    (rw (c.in_default.is, c.deref.ensures) at c.in_ok-refused-in-Ok-Some.ensures)
+    (rw c.in_ok-flush-in-Ok-Some.ensures.empty c.in_ok-flush-in-Ok-Some.ensures.puts) c.in_ok-flush-in-Ok-Some.ensures.empty)
 
 pub returns-in-Ok-None-clause-prints : goal.returns-in-Ok-None-clause-prints
 returns-in-Ok-None-clause-prints g c =
