@@ -4,7 +4,7 @@
 use crate::scripts::{Step, played, stream_of};
 use crate::tables::{A, B, Column, NUMBERS, empty};
 use ipc_model::{Limits, Table, WriteFault};
-use ipc_stream::{Device, Limited, Memory, Sink, Source, write_table};
+use ipc_stream::{Device, Limited, Sink, Source, write_table};
 use std::alloc::{AllocError, Global};
 use std::io;
 use std::io::{Read, Write};
@@ -22,7 +22,7 @@ const SCRIPTS: [Script; 3] = [
 
 // The numbers of calls of a sink that takes one byte in each, until a writer has started, has taken
 // each step, and has finished. The end mark takes eight calls, and the flush one.
-fn ends((column, steps): Script, alloc: Global) -> Result<Vec<usize>, AllocError> {
+fn ends((column, steps): Script, alloc: Global) -> Result<Vec<usize>, WriteFault> {
     let mut ends = Vec::new(alloc);
     for count in 0..=steps.len() {
         let begun = stream_of(alloc, column, steps.get(..count).unwrap_or_default())?;
@@ -41,24 +41,30 @@ fn done_within(ends: &[usize], calls: usize) -> usize {
     done
 }
 
-// The lines of a writer whose sink fails after `done` of its calls: W9 of the next call, and W10 of
-// each later one. A writer that does not start has no later call.
-fn told_of(alloc: Global, done: usize, calls: usize) -> Result<String, AllocError> {
-    let others = if done == 0 {
-        1
-    } else {
-        calls.saturating_sub(done)
-    };
-    if done == calls {
-        return Ok(String::new(alloc));
+// Whether these are the faults of a writer that stopped in a call with the fault `first`, and
+// returned W10 from each of `later` or more calls after it.
+fn is_stopped(faults: &[WriteFault], first: &WriteFault, later: usize) -> bool {
+    for fault in faults.get(1..).unwrap_or_default() {
+        if *fault != WriteFault::Failed {
+            return false;
+        }
     }
-    let mut told = String::from_str(alloc, "W9 Write\n")?;
-    told.push_str(&"W10 Failed\n".repeat(alloc, others.saturating_sub(1))?)?;
-    Ok(told)
+    faults.len() > later && faults.first() == Some(first)
+}
+
+// The number of calls that follow the one in which a writer stopped after `done` calls: those of
+// its later steps and its end. A writer that does not start has none.
+fn later(done: usize, ends: &[usize]) -> usize {
+    if done == 0 {
+        0
+    } else {
+        ends.len().saturating_sub(done.saturating_add(1))
+    }
 }
 
 // Whether a sink that takes at most `step` bytes in each of `calls` calls has the first `count`
-// bytes of the whole stream, and each call of the writer returns what it should.
+// bytes of the whole stream, and each call of the writer returns what it should: W9 from the call
+// in which the sink fails.
 fn is_cut(
     alloc: Global,
     (step, calls): (usize, u64),
@@ -66,21 +72,25 @@ fn is_cut(
     count: usize,
     (whole, ends): (&[u8], &[usize]),
 ) -> Result<bool, AllocError> {
-    let mut told = String::new(alloc);
-    let sink = Limited::new(empty(alloc), step.max(1), calls);
-    let (sink, done) = played(alloc, Limits::standard(), sink, column, steps, &mut told)?;
+    let sink = Limited::new(empty(alloc)?, step.max(1), calls);
+    let (sink, done, faults) = played(alloc, Limits::standard(), sink, column, steps)?;
     let bytes = sink.into_inner().into_bytes();
-    let wanted = told_of(alloc, done, ends.len())?;
+    let calls = later(done, ends);
+    let is_answered = if done == ends.len() {
+        faults.is_empty()
+    } else {
+        faults.len() == calls.saturating_add(1) && is_stopped(&faults, &WriteFault::Write, calls)
+    };
     Ok(
-        done == done_within(ends, count)
-            && told.as_str() == wanted.as_str()
+        is_answered
+            && done == done_within(ends, count)
             && bytes.as_slice() == whole.get(..count).unwrap_or(whole),
     )
 }
 
 // The first number of calls of a sink after which a writer is not as it should be, if there is one.
 // A sink that takes three bytes in each call gets the same bytes.
-fn cut_otherwise(alloc: Global, script: Script) -> Result<Option<usize>, AllocError> {
+fn cut_otherwise(alloc: Global, script: Script) -> Result<Option<usize>, WriteFault> {
     let whole = stream_of(alloc, script.0, script.1)?;
     let ends = ends(script, alloc)?;
     for count in 0..=whole.len().saturating_add(1) {
@@ -94,23 +104,29 @@ fn cut_otherwise(alloc: Global, script: Script) -> Result<Option<usize>, AllocEr
 
 // Whether a sink that takes one byte in each of `calls` calls has that many bytes of a table's
 // stream, and the answer is W9 until the flush succeeds.
-fn is_table_cut(alloc: Global, calls: usize, table: &Table, whole: &[u8]) -> bool {
-    let mut sink = Limited::new(empty(alloc), 1, calls as u64);
+fn is_table_cut(
+    alloc: Global,
+    calls: usize,
+    table: &Table,
+    whole: &[u8],
+) -> Result<bool, AllocError> {
+    let mut sink = Limited::new(empty(alloc)?, 1, calls as u64);
     let answer = write_table(alloc, &Limits::standard(), &mut sink, table);
     let is_answered = match answer {
         Ok(()) => calls > whole.len(),
         Err(fault) => calls <= whole.len() && fault == WriteFault::Write,
     };
-    is_answered && sink.into_inner().into_bytes().as_slice() == whole.get(..calls).unwrap_or(whole)
+    let bytes = sink.into_inner().into_bytes();
+    Ok(is_answered && bytes.as_slice() == whole.get(..calls).unwrap_or(whole))
 }
 
 // The first number of calls of a sink after which `write_table` is not as it should be, if there is
 // one.
-fn table_cut_otherwise(alloc: Global) -> Result<Option<usize>, AllocError> {
+fn table_cut_otherwise(alloc: Global) -> Result<Option<usize>, WriteFault> {
     let table = Column::Numbers.table(alloc, NUMBERS, false)?;
     let whole = stream_of(alloc, Column::Numbers, &[Step::Write(NUMBERS)])?;
     for calls in 0..=whole.len().saturating_add(1) {
-        if !is_table_cut(alloc, calls, &table, &whole) {
+        if !is_table_cut(alloc, calls, &table, &whole)? {
             return Ok(Some(calls));
         }
     }
@@ -129,37 +145,26 @@ fn sinks_that_fail_or_take_few_bytes(rt: HostRuntime) -> Result<(), Fail> {
     Ok(())
 }
 
-// Whether these are the lines of a writer that was out of memory in a call, and returned W10 from
-// each of `later` or more calls after it.
-fn is_out_of_memory(alloc: Global, told: &str, later: usize) -> Result<bool, AllocError> {
-    let rest = told.strip_prefix("out of memory\n").unwrap_or("?");
-    let failed = "W10 Failed\n";
-    let count = rest.len() / failed.len();
-    Ok(count >= later && rest == failed.repeat(alloc, count)?.as_str())
-}
-
-// Whether a stream is written whole. After a refused growth the writer must have failed, with
-// nothing of that call in the sink. Then the result is that refusal.
+// Whether a stream is written whole. After a refused growth the sink must have nothing of that call
+// and of the later ones, which return W10. Then the result is that refusal.
 fn is_grown(
     alloc: Global,
     (column, steps): Script,
     (whole, ends): (&[u8], &[usize]),
 ) -> Result<bool, WriteFault> {
-    let mut told = String::new(alloc);
-    let sink = Memory::new(Vec::with_capacity(alloc, 1 << 12)?);
-    let (sink, done) = played(alloc, Limits::standard(), sink, column, steps, &mut told)?;
+    let sink = empty(alloc)?;
+    let (sink, done, faults) = played(alloc, Limits::standard(), sink, column, steps)?;
     let bytes = sink.into_bytes();
-    if told.is_empty() {
+    if faults.is_empty() {
         return Ok(bytes.as_slice() == whole);
     }
-    let (out, later) = match done {
-        0 => (Some(&0), 0),
-        _ => (
-            ends.get(done - 1),
-            ends.len().saturating_sub(done.saturating_add(1)),
-        ),
+    let out = if done == 0 {
+        Some(&0)
+    } else {
+        ends.get(done - 1)
     };
-    if Some(&bytes.len()) == out && is_out_of_memory(alloc, &told, later)? {
+    let is_out = Some(&bytes.len()) == out && whole.starts_with(&bytes);
+    if is_out && is_stopped(&faults, &WriteFault::OutOfMemory, later(done, ends)) {
         return Err(WriteFault::OutOfMemory);
     }
     Ok(false)
@@ -242,25 +247,29 @@ fn calls_of(alloc: Global) -> (u32, u32, u32) {
     device.into_inner().calls
 }
 
-// The number of writes that succeed, whether flushes do, the lines of the writer of the stream, and
-// the number of bytes that are out. A flush that fails is W9, after all bytes.
-const WRITERS: [(u32, bool, &str, usize); 3] = [
-    (u32::MAX, true, "", usize::MAX),
-    (5, true, "W9 Write\n", 15),
-    (u32::MAX, false, "W9 Write\n", usize::MAX),
+// The number of writes that succeed, whether flushes do, and the number of bytes that are out. A
+// flush that fails is W9, after all bytes.
+const WRITERS: [(u32, bool, usize); 3] = [
+    (u32::MAX, true, usize::MAX),
+    (5, true, 15),
+    (u32::MAX, false, usize::MAX),
 ];
 
 fn device_has(
     alloc: Global,
-    (writes, flushes, wanted, count): (u32, bool, &str, usize),
+    (writes, flushes, count): (u32, bool, usize),
     whole: &[u8],
 ) -> Result<bool, AllocError> {
-    let mut told = String::new(alloc);
     let device = device_of(alloc, writes, flushes);
     let (column, steps) = SCRIPTS[0];
-    let (device, _done) = played(alloc, Limits::standard(), device, column, steps, &mut told)?;
+    let (device, _done, faults) = played(alloc, Limits::standard(), device, column, steps)?;
     let bytes = device.into_inner().bytes;
-    Ok(bytes.as_slice() == whole.get(..count).unwrap_or(whole) && told.as_str() == wanted)
+    let is_answered = if writes == u32::MAX && flushes {
+        faults.is_empty()
+    } else {
+        faults.as_slice() == [WriteFault::Write].as_slice()
+    };
+    Ok(is_answered && bytes.as_slice() == whole.get(..count).unwrap_or(whole))
 }
 
 // A device makes one call for each of its own, and fails where that does.

@@ -5,7 +5,7 @@ use crate::tables::{AB, BC, Column, Rows};
 use crate::written::comes_back;
 use ipc_frame::{END, Frame, Frames};
 use ipc_meta::Head;
-use ipc_model::{Fault, Limits, Table};
+use ipc_model::{Fault, Limits, Table, WriteFault};
 use std::alloc::{AllocError, Global};
 use std::test::Fail;
 
@@ -172,18 +172,15 @@ fn steps_of<'a>(
     Ok(steps)
 }
 
-fn sends(alloc: Global, script: &Script, pushes: bool) -> Result<bool, Fault> {
+fn sends(alloc: Global, script: &Script, pushes: bool) -> Result<bool, Fail> {
     let steps = steps_of(alloc, script.batches, pushes)?;
     let bytes = stream_of(alloc, script.column, &steps)?;
-    are_sent(
-        &mut Frames::new(alloc, Limits::standard()),
-        &bytes,
-        script.sent,
-    )
+    let mut frames = Frames::new(alloc, Limits::standard());
+    Ok(are_sent(&mut frames, &bytes, script.sent)?)
 }
 
 // The number of the first script for which something else is sent, if there is one.
-fn unsent(alloc: Global) -> Result<Option<usize>, Fault> {
+fn unsent(alloc: Global) -> Result<Option<usize>, Fail> {
     for (number, script) in SCRIPTS.iter().enumerate() {
         for pushes in [false, true] {
             if !sends(alloc, script, pushes)? {
@@ -212,13 +209,13 @@ fn many(alloc: Global) -> Result<Vec<Option<i64>>, AllocError> {
     Ok(many)
 }
 
-// Whether a writer of letters that takes these steps tells that a dictionary is full, and sends
-// what another one sends of those.
-fn is_full(alloc: Global, steps: &[Step<'_>], same: &[Step<'_>]) -> Result<bool, AllocError> {
-    let mut told = String::new(alloc);
-    let bytes = sent(alloc, Limits::standard(), Column::Letters, steps, &mut told)?;
+// Whether a writer of letters that takes these steps returns once that a dictionary is full, and
+// sends what another one sends of those.
+fn is_full(alloc: Global, steps: &[Step<'_>], same: &[Step<'_>]) -> Result<bool, WriteFault> {
+    let (bytes, faults) = sent(alloc, Limits::standard(), Column::Letters, steps)?;
     let wanted = stream_of(alloc, Column::Letters, same)?;
-    Ok(told.as_str() == "W7 DictionaryFull\n" && bytes.as_slice() == wanted.as_slice())
+    let is_told = faults.as_slice() == [WriteFault::DictionaryFull].as_slice();
+    Ok(is_told && bytes.as_slice() == wanted.as_slice())
 }
 
 // A table of as many letters as these indices count.

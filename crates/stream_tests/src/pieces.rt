@@ -1,8 +1,10 @@
 //! Streams whose bytes are pushed in pieces.
 
+use crate::scripts::{Step, stream_of};
+use crate::tables::{A, B, Column};
 use ipc_model::{Fault, Limits};
 use ipc_stream::{Decoder, End, Event};
-use std::alloc::{AllocError, Global};
+use std::alloc::Global;
 use std::test::Fail;
 
 /// The stream of samples/int64.arrows: a schema of 120 bytes, a batch of 160 with a body of 24, and
@@ -20,35 +22,6 @@ pub const STREAM: [u8; 288] = [
     255, 255, 255, 255, 255, 255, 255, 255, 255, 255, 255, 255, 255, 127, 255, 255, 255, 255, 0, 0,
     0, 0,
 ];
-
-// The bytes by which samples/int32.arrows differs, with their positions: the field's nullability
-// and width; the null count, the length of the bitmap, and the offset and length of the values; and
-// the body, which has the bitmap 101 and the values 1, 0 and 3.
-const NULLABLE: [(usize, &[u8]); 7] = [
-    (84, &[1]),
-    (108, &[32]),
-    (208, &[1]),
-    (232, &[1]),
-    (240, &[8]),
-    (248, &[12]),
-    (
-        256,
-        &[
-            5, 0, 0, 0, 0, 0, 0, 0, 1, 0, 0, 0, 0, 0, 0, 0, 3, 0, 0, 0, 0, 0, 0, 0,
-        ],
-    ),
-];
-
-/// The stream of samples/int32.arrows. Its messages have the lengths of those above.
-pub fn nullable_stream(alloc: Global) -> Result<Vec<u8>, AllocError> {
-    let mut bytes = Vec::new(alloc);
-    for (at, others) in NULLABLE {
-        bytes.extend_from_slice(STREAM.get(bytes.len()..at).unwrap_or_default())?;
-        bytes.extend_from_slice(others)?;
-    }
-    bytes.extend_from_slice(&STREAM[280..])?;
-    Ok(bytes)
-}
 
 // The stream of samples/no_fields.arrows, and two bytes after its mark.
 const NO_FIELDS: [u8; 58] = [
@@ -83,9 +56,8 @@ fn fresh(alloc: Global) -> Decoder {
 #[test]
 fn bytes_before_each_decision(rt: HostRuntime) -> Result<(), Fail> {
     let of_none = are_wanted(&mut fresh(rt.alloc()), &NO_FIELDS, &[4, 4, 40, 4, 4])?;
-    let bytes = nullable_stream(rt.alloc())?;
     let numbers = [4, 4, 112, 4, 4, 128, 24, 4, 4];
-    let of_one = are_wanted(&mut fresh(rt.alloc()), &bytes, &numbers)?;
+    let of_one = are_wanted(&mut fresh(rt.alloc()), &STREAM, &numbers)?;
     assert!(rt; of_none && of_one);
     Ok(())
 }
@@ -109,35 +81,49 @@ fn push<'a>(
     Ok(rest)
 }
 
-// Feeds the stream in pieces of three bytes.
-fn push_in_threes(decoder: &mut Decoder, events: &mut Vec<Event>) -> Result<(), Fault> {
-    for piece in STREAM.chunks(3) {
+// Feeds a stream in pieces of three bytes.
+fn push_in_threes(
+    decoder: &mut Decoder,
+    stream: &[u8],
+    events: &mut Vec<Event>,
+) -> Result<(), Fault> {
+    for piece in stream.chunks(3) {
         push(decoder, piece, events)?;
     }
     Ok(())
 }
 
-// Whether a growth was refused, and nothing is taken from then on.
-fn is_out_of_memory(decoder: &mut Decoder, fault: Fault) -> bool {
-    let again = decoder.feed(&STREAM).err();
-    let closed = decoder.close();
-    fault == Fault::OutOfMemory && again == Some(Fault::Failed) && closed == Err(Fault::Failed)
+// Whether a decoder that ran out of memory takes nothing from then on.
+fn has_failed(decoder: &mut Decoder, stream: &[u8]) -> bool {
+    let again = decoder.feed(stream).err();
+    again == Some(Fault::Failed) && decoder.close() == Err(Fault::Failed)
 }
 
-// What comes of the stream, and whether the decoder is as it has to be then.
-fn fed_in_threes(decoder: &mut Decoder, events: &mut Vec<Event>) -> (Result<(), Fault>, bool) {
-    match push_in_threes(decoder, events) {
+// Whether a decoder gives so many events, at most 4, and takes so many messages of a stream. After
+// a refused growth it must have failed. Then the result is that refusal.
+fn is_fed(alloc: Global, stream: &[u8], (events, messages): (usize, u64)) -> Result<bool, Fault> {
+    // With this room each later growth is one of the decoder.
+    let mut given = Vec::with_capacity(alloc, 4)?;
+    let mut decoder = fresh(alloc);
+    match push_in_threes(&mut decoder, stream, &mut given) {
         Ok(()) => {
-            let is_ended = decoder.messages() == 2 && decoder.close() == Ok(End::Mark);
-            (Ok(()), is_ended && events.len() == 3)
+            let is_ended = decoder.messages() == messages && decoder.close() == Ok(End::Mark);
+            Ok(is_ended && given.len() == events)
         }
-        Err(fault) => (Err(fault), is_out_of_memory(decoder, fault)),
+        Err(fault) if has_failed(&mut decoder, stream) => Err(fault),
+        Err(_) => Ok(false),
     }
 }
 
+// The events are the schema, each batch and the end, and no dictionary.
 #[test]
-fn grows_a_pushed_stream(rt: HostRuntime) -> Result<(), Fail> {
-    let (fed, is_well) = fed_in_threes(&mut fresh(rt.alloc()), &mut Vec::new(rt.alloc()));
-    assert!(rt; is_well);
-    Ok(fed?)
+fn grows_pushed_streams(rt: HostRuntime) -> Result<(), Fail> {
+    assert!(rt; is_fed(rt.alloc(), &STREAM, (3, 2))?);
+    let letters = stream_of(
+        rt.alloc(),
+        Column::Letters,
+        &[Step::Write(A), Step::Write(B)],
+    )?;
+    assert!(rt; is_fed(rt.alloc(), &letters, (4, 5))?);
+    Ok(())
 }

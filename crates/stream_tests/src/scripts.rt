@@ -34,7 +34,7 @@ impl<'a> Step<'a> {
 
 /// A writer into memory that sent this schema.
 pub fn started(alloc: Global, schema: &Schema) -> Result<StreamWriter<Memory>, WriteFault> {
-    Ok(StreamWriter::start(alloc, Limits::standard(), empty(alloc), schema)?)
+    Ok(StreamWriter::start(alloc, Limits::standard(), empty(alloc)?, schema)?)
 }
 
 /// Ends the stream of a writer, and gives its bytes.
@@ -42,41 +42,35 @@ pub fn ended(writer: StreamWriter<Memory>) -> Result<Vec<u8>, WriteFault> {
     Ok(writer.finish()?.into_bytes())
 }
 
-/// Tells a refusal in a line.
-pub fn tell(
-    alloc: Global,
-    told: &mut String,
-    answer: Result<(), WriteFault>,
-) -> Result<(), AllocError> {
+// Keeps a refusal.
+fn keep(faults: &mut Vec<WriteFault>, answer: Result<(), WriteFault>) -> Result<(), AllocError> {
     if let Err(fault) = answer {
-        told.push_str(format!(in alloc; "{fault}\n")?.as_str())?;
+        faults.push(fault)?;
     }
     Ok(())
 }
 
-// Takes rows, and tells those that are refused.
+// Takes rows, and keeps the faults of those that are refused.
 fn take_rows<W: Sink>(
-    alloc: Global,
     batch: &mut BatchWriter<'_, W>,
     rows: &[Row],
-    told: &mut String,
+    faults: &mut Vec<WriteFault>,
 ) -> Result<(), AllocError> {
     for row in rows {
-        tell(alloc, told, batch.push(row.as_slice()))?;
+        keep(faults, batch.push(row.as_slice()))?;
     }
     Ok(())
 }
 
 // Sends a batch of those of the rows that fit.
 fn push_rows<W: Sink>(
-    alloc: Global,
     writer: &mut StreamWriter<W>,
     batch: BatchRows,
-    told: &mut String,
+    faults: &mut Vec<WriteFault>,
 ) -> Result<(), WriteFault> {
     let BatchRows { pairs, rows } = batch;
     let mut batch = writer.batch(pairs)?;
-    take_rows(alloc, &mut batch, rows.as_slice(), told)?;
+    take_rows(&mut batch, rows.as_slice(), faults)?;
     batch.send()
 }
 
@@ -94,90 +88,108 @@ fn let_go<W: Sink>(
 
 // Takes one step with its batch.
 fn take<W: Sink>(
-    alloc: Global,
     writer: &mut StreamWriter<W>,
     step: Step<'_>,
     batch: BatchRows,
-    told: &mut String,
+    faults: &mut Vec<WriteFault>,
 ) -> Result<(), WriteFault> {
     match step {
         Step::Write(_) | Step::WritePaired(_) => writer.write_batch(&batch),
-        Step::Push(_) | Step::PushPaired(_) => push_rows(alloc, writer, batch, told),
+        Step::Push(_) | Step::PushPaired(_) => push_rows(writer, batch, faults),
         Step::LetGo(number) => let_go(writer, batch.pairs, &[Value::Int(number)]),
     }
 }
 
-// Takes the steps, and says how many of them were taken without a refusal.
-fn take_all<W: Sink>(
+// The steps with their batches.
+type Prepared<'a> = Vec<(Step<'a>, BatchRows)>;
+
+fn prepared<'a>(
     alloc: Global,
-    writer: &mut StreamWriter<W>,
     column: Column,
-    steps: &[Step<'_>],
-    told: &mut String,
-) -> Result<usize, AllocError> {
-    let mut taken = 0usize;
+    steps: &[Step<'a>],
+) -> Result<Prepared<'a>, AllocError> {
+    let mut prepared = Vec::new(alloc);
     for step in steps {
         let (numbers, is_paired) = step.parts();
-        let batch = column.batch(alloc, numbers, is_paired)?;
-        let answer = take(alloc, writer, *step, batch, told);
+        prepared.push((*step, column.batch(alloc, numbers, is_paired)?))?;
+    }
+    Ok(prepared)
+}
+
+// Takes the steps, and returns how many of them were taken without a refusal.
+fn take_all<W: Sink>(
+    writer: &mut StreamWriter<W>,
+    steps: Prepared<'_>,
+    faults: &mut Vec<WriteFault>,
+) -> Result<usize, AllocError> {
+    let mut taken = 0usize;
+    for (step, batch) in steps {
+        let answer = take(writer, step, batch, faults);
         taken = taken.saturating_add(usize::from(answer.is_ok()));
-        tell(alloc, told, answer)?;
+        keep(faults, answer)?;
     }
     Ok(taken)
 }
 
 // Takes the steps, and ends the stream.
 fn finished<W: Sink + Drop>(
-    alloc: Global,
     writer: StreamWriter<W>,
-    column: Column,
-    steps: &[Step<'_>],
-    told: &mut String,
+    steps: Prepared<'_>,
+    faults: &mut Vec<WriteFault>,
 ) -> Result<(W, usize), AllocError> {
     let mut writer = writer;
-    let taken = take_all(alloc, &mut writer, column, steps, told)?;
+    let taken = take_all(&mut writer, steps, faults)?;
     match writer.finish() {
         Ok(sink) => Ok((sink, taken.saturating_add(2))),
         Err((fault, sink)) => {
-            tell(alloc, told, Err(fault))?;
+            keep(faults, Err(fault))?;
             Ok((sink, taken.saturating_add(1)))
         }
     }
 }
 
-/// Writes a stream of the column by these steps, with its end, and tells what is refused. Gives the
-/// sink back, and how many calls were not refused: the start, the steps and the end.
+// The number of faults for which there is room before the first call of a writer.
+const ROOM: usize = 16;
+
+/// Writes a stream of the column by these steps, with its end. Returns the sink, how many calls
+/// were not refused (the start, the steps and the end), and the faults of those that were. All that
+/// the test needs itself is allocated before the first call, unless there are more than 16 faults.
 pub fn played<W: Sink + Drop>(
     alloc: Global,
     limits: Limits,
     sink: W,
     column: Column,
     steps: &[Step<'_>],
-    told: &mut String,
-) -> Result<(W, usize), AllocError> {
-    match StreamWriter::start(alloc, limits, sink, &column.schema(alloc)?) {
-        Ok(writer) => finished(alloc, writer, column, steps, told),
+) -> Result<(W, usize, Vec<WriteFault>), AllocError> {
+    let schema = column.schema(alloc)?;
+    let steps = prepared(alloc, column, steps)?;
+    let mut faults = Vec::with_capacity(alloc, ROOM)?;
+    let (sink, done) = match StreamWriter::start(alloc, limits, sink, &schema) {
+        Ok(writer) => finished(writer, steps, &mut faults)?,
         Err((fault, sink)) => {
-            tell(alloc, told, Err(fault))?;
-            Ok((sink, 0))
+            keep(&mut faults, Err(fault))?;
+            (sink, 0)
         }
-    }
+    };
+    Ok((sink, done, faults))
 }
 
-/// The bytes of such a stream.
+/// The bytes of such a stream, and the faults.
 pub fn sent(
     alloc: Global,
     limits: Limits,
     column: Column,
     steps: &[Step<'_>],
-    told: &mut String,
-) -> Result<Vec<u8>, AllocError> {
-    let (sink, _done) = played(alloc, limits, empty(alloc), column, steps, told)?;
-    Ok(sink.into_bytes())
+) -> Result<(Vec<u8>, Vec<WriteFault>), AllocError> {
+    let (sink, _done, faults) = played(alloc, limits, empty(alloc)?, column, steps)?;
+    Ok((sink.into_bytes(), faults))
 }
 
-/// The same under the standard limits, where nothing needs to be told.
-pub fn stream_of(alloc: Global, column: Column, steps: &[Step<'_>]) -> Result<Vec<u8>, AllocError> {
-    let mut told = String::new(alloc);
-    sent(alloc, Limits::standard(), column, steps, &mut told)
+/// The bytes of such a stream under the standard limits, or the first fault.
+pub fn stream_of(alloc: Global, column: Column, steps: &[Step<'_>]) -> Result<Vec<u8>, WriteFault> {
+    let (bytes, faults) = sent(alloc, Limits::standard(), column, steps)?;
+    match faults.into_iter().next() {
+        Some(fault) => Err(fault),
+        None => Ok(bytes),
+    }
 }

@@ -207,6 +207,7 @@ pub fn pairs(alloc: Global, is_paired: bool) -> Result<Items<(Text, Text)>, Allo
     Ok(Items::from_vec(pairs))
 }
 
-pub fn empty(alloc: Global) -> Memory {
-    Memory::new(Vec::new(alloc))
+/// A sink with room for the streams of most tests.
+pub fn empty(alloc: Global) -> Result<Memory, AllocError> {
+    Ok(Memory::new(Vec::with_capacity(alloc, 1 << 12)?))
 }

@@ -145,19 +145,28 @@ fn limits_of(values: [u64; 7]) -> Option<Limits> {
     Limits::new(metadata, body, slots, fields, depth, text, pairs)
 }
 
+// A line for each fault.
+fn lines_of(alloc: Global, faults: &[WriteFault]) -> Result<String, AllocError> {
+    let mut lines = String::new(alloc);
+    for fault in faults {
+        lines.push_str(format!(in alloc; "{fault}\n")?.as_str())?;
+    }
+    Ok(lines)
+}
+
 // Whether a writer answers and sends what the script says.
-fn is_answered(alloc: Global, script: &Script) -> Result<bool, AllocError> {
+fn is_answered(alloc: Global, script: &Script) -> Result<bool, WriteFault> {
     let Some(limits) = limits_of(script.limits) else {
         return Ok(false);
     };
-    let mut told = String::new(alloc);
-    let bytes = sent(alloc, limits, script.column, script.steps, &mut told)?;
+    let (bytes, faults) = sent(alloc, limits, script.column, script.steps)?;
     let wanted = stream_of(alloc, script.column, script.same)?;
+    let told = lines_of(alloc, &faults)?;
     Ok(told.as_str() == script.told && bytes.as_slice() == wanted.as_slice())
 }
 
 // The number of the first script to which something else is answered, if there is one.
-fn answered_otherwise(alloc: Global) -> Result<Option<usize>, AllocError> {
+fn answered_otherwise(alloc: Global) -> Result<Option<usize>, WriteFault> {
     for (number, script) in SCRIPTS.iter().enumerate() {
         if !is_answered(alloc, script)? {
             return Ok(Some(number));
@@ -200,8 +209,9 @@ fn is_bad(alloc: Global, kind: DataType) -> Result<bool, AllocError> {
     let mut fields = Vec::new(alloc);
     fields.push(Field::new(alloc, "a", kind)?)?;
     let schema = Schema::new(fields);
+    let sink = empty(alloc)?;
     Ok(
-        match StreamWriter::start(alloc, Limits::standard(), empty(alloc), &schema) {
+        match StreamWriter::start(alloc, Limits::standard(), sink, &schema) {
             Ok(_writer) => false,
             Err((fault, sink)) => fault == WriteFault::BadSchema && sink.into_bytes().is_empty(),
         },
@@ -232,13 +242,9 @@ fn table_of(alloc: Global, bytes: Vec<u8>) -> Result<Table, Fault> {
 
 /// Whether a table is written, and read back.
 pub fn comes_back(alloc: Global, table: &Table) -> Result<bool, Fail> {
-    let mut sink = empty(alloc);
-    match write_table(alloc, &Limits::standard(), &mut sink, table) {
-        Ok(()) => Ok(table_of(alloc, sink.into_bytes())?.is_same(table)),
-        // A memory fails only where it can't grow.
-        Err(WriteFault::Write) => Err(Fail::from(WriteFault::OutOfMemory)),
-        Err(fault) => Err(Fail::from(fault)),
-    }
+    let mut sink = empty(alloc)?;
+    write_table(alloc, &Limits::standard(), &mut sink, table)?;
+    Ok(table_of(alloc, sink.into_bytes())?.is_same(table))
 }
 
 #[test]
