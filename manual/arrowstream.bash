@@ -3,18 +3,18 @@ _arrowstream() {
   local words current=${COMP_WORDS[COMP_CWORD]}
   local previous=${COMP_WORDS[COMP_CWORD - 1]}
   COMPREPLY=()
-  case "$previous" in
-    --schema) compopt -o filenames
+  case "${COMP_WORDS[1]} $previous" in
+    "from-csv --schema") compopt -o filenames
       mapfile -t COMPREPLY < <(compgen -f -- "$current")
       return ;;
-    --batch|--max-body|--max-metadata|--max-rows) return ;;
+    *" --batch"|*" --max-body"|*" --max-metadata"|*" --max-rows") return ;;
   esac
   case "${COMP_WORDS[1]}" in
-    check) words='--max-metadata --max-body --max-rows --help' ;;
-    show) words='--pairs --max-metadata --max-body --max-rows --help' ;;
-    to-csv) words='--max-metadata --max-body --max-rows --help' ;;
+    check) words='--schema --max-metadata --max-body --max-rows --require-mark --help' ;;
+    show) words='--pairs --max-metadata --max-body --max-rows --require-mark --help' ;;
+    to-csv) words='--max-metadata --max-body --max-rows --require-mark --help' ;;
     from-csv) words='--schema --batch --help' ;;
-    rewrite) words='--max-metadata --max-body --max-rows --help' ;;
+    rewrite) words='--max-metadata --max-body --max-rows --require-mark --help' ;;
     help) words='check show to-csv from-csv rewrite' ;;
   esac
   [ "$COMP_CWORD" -gt 1 ] || words='check show to-csv from-csv rewrite help --help --version'

@@ -94,9 +94,11 @@ def manual(version, top, pages):
 
 def bash(top, pages):
     """Completion for bash: after an option with a value the value, else subcommands or options."""
-    options = [(option, value) for page in pages for option, value, _ in page.long_options()]
-    paths = "|".join(sorted({option for option, value in options if value == "PATH"}))
-    numbers = "|".join(sorted({option for option, value in options if value == "N"}))
+    options = [
+        (page.name, option, value) for page in pages for option, value, _ in page.long_options()
+    ]
+    paths = "|".join(f'"{name} {option}"' for name, option, value in options if value == "PATH")
+    numbers = "|".join(sorted({f'*" {option}"' for _, option, value in options if value == "N"}))
     cases = [
         f"    {page.name}) words='{' '.join(option for option, _, _ in page.long_options())}' ;;"
         for page in pages
@@ -109,7 +111,7 @@ def bash(top, pages):
             "  local words current=${COMP_WORDS[COMP_CWORD]}",
             "  local previous=${COMP_WORDS[COMP_CWORD - 1]}",
             "  COMPREPLY=()",
-            '  case "$previous" in',
+            '  case "${COMP_WORDS[1]} $previous" in',
             f"    {paths}) compopt -o filenames",
             '      mapfile -t COMPREPLY < <(compgen -f -- "$current")',
             "      return ;;",

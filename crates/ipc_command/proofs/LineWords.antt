@@ -19,7 +19,7 @@ use Rattle.clap.specs.declared.parser.matches.ArgMatches.TheViews.{out-ArgMatche
 use Rattle.clap.proofs.WalkLemmas.{first_value-rows, one_text-rows}
 use Rattle.ipc_command.specs.CommandLine.{arrowstream}
 use Rattle.ipc_command.specs.Words.{Asks, AsksNoJob, HasFlag, HasLimits, HasNumber, HasWrongLimit, HasWrongValue, IsCommand}
-use Rattle.ipc_command.specs.Words.{IsJobFound, IsUsageOf, IsWrong, IsWrongFor, IsWrongFound, LacksNumber}
+use Rattle.ipc_command.specs.Words.{IsHint, IsJobFound, IsUsageOf, IsWrong, IsWrongFor, IsWrongFound, LacksNumber}
 use Rattle.ipc_command.specs.declared.words.Job.{Job}
 use Rattle.ipc_command.specs.declared.words.Usage.{Usage}
 use Rattle.ipc_command.specs.declared.words.Usage.TheVariants as usage
@@ -84,8 +84,19 @@ usage_told words fault (usage.Help text) is among = ⊎_elim
     (λ a. ⊎_elim (λ h. inl (subst (λ k. IsAmong k (fault_of arrowstream words)) h a))
     (λ h. inr (subst (λ k. IsAmong k (fault_of arrowstream words)) h a)) is) among
 usage_told words fault (usage.Wrong text) is among =
-    ⊎_elim (λ e. absurd (is.2 e)) (λ a. inl (fault, a, is.0, is.1)) among
+    ⊎_elim (λ e. absurd (is.2 e)) (λ a. inl (fault, a, is.0, is.1, is.3)) among
 usage_told words fault usage.OutOfMemory is among = tt
+
+-- the usage for a word that is no argument is one for an error of that kind
+pub hinted : (fault : ErrorKind) (why : Usage) → fault ≡ kind.UnknownArgument → IsHint why → IsUsageOf fault why
+hinted fault (usage.Help text) is hint = absurd hint
+hinted fault (usage.Wrong text) is hint = (
+  λ e. let bad : kind.UnknownArgument ≡ kind.DisplayHelp = sym is ∙ e in absurd cc,
+  λ e. let bad : kind.UnknownArgument ≡ kind.DisplayVersion = sym is ∙ e in absurd cc,
+  λ e. let bad : kind.UnknownArgument ≡ kind.OutOfMemory = sym is ∙ e in absurd cc,
+  λ e. hint,
+)
+hinted fault usage.OutOfMemory is hint = tt
 
 -- where the words are taken, a subcommand was found, and a value of it is wrong, the words ask for no job
 pub wrong_words : (words : List Text) (found : Option (Text × List Row)) (why : Usage) → fault_of arrowstream words ≡ []

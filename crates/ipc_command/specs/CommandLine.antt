@@ -24,16 +24,17 @@ flag name = record (new_rule name) { long = Some name; action = Some SetTrue }
 abbrev pub needed : Text → Rule
 needed name = record (option name) { required = true }
 
--- a subcommand with the options for limits
+-- a subcommand with the options for limits and for the end of a stream
 abbrev pub with_limits : App → App
-with_limits a = with_rule (with_rule (with_rule a
+with_limits a = with_rule (with_rule (with_rule (with_rule a
     (number (codes "max-metadata") 0 (2 ^ 28) (codes "16777216")))
     (number (codes "max-body") 0 (2 ^ 42) (codes "1099511627776")))
-    (number (codes "max-rows") 0 (2 ^ 31 - 1) (codes "2147483647"))
+    (number (codes "max-rows") 0 (2 ^ 31 - 1) (codes "2147483647")))
+    (flag (codes "require-mark"))
 
 -- the subcommand that validates a stream
 abbrev pub check : App
-check = with_limits (new_app (codes "check"))
+check = with_limits (with_rule (new_app (codes "check")) (flag (codes "schema")))
 
 -- the subcommand that prints rows as JSON
 abbrev pub show : App

@@ -1,6 +1,6 @@
 -- What the jobs read and send, and the exit statuses.
 use Rattle.std.specs.Prelude.{◌≡◌, ◌≢◌, ◌⊎◌, ℕ, List, Option, Some, Result, Ok, Err, ⊤}
-use Rattle.std.specs.Prelude.{IfSome, None, option_and_then}
+use Rattle.std.specs.Prelude.{Bool, IfSome, None, option_and_then}
 use Rattle.std.specs.List.{AllByRecursion}
 use Rattle.std.specs.Str.{IsUtf8}
 use Rattle.serde_json.specs.Read.{read}
@@ -16,7 +16,7 @@ use Rattle.ipc_json.specs.SchemaJson.{schema_json}
 use Rattle.ipc_json.specs.SchemaTexts.{HasWideId}
 use Rattle.ipc_moments.specs.declared.fault.TextFault.{TextFault}
 use Rattle.ipc_moments.specs.declared.fault.TextFault.TheVariants as x
-use Rattle.ipc_print.specs.Streams.{Prints, TellsFailures as PrintTells}
+use Rattle.ipc_print.specs.Streams.{Prints, PrintsSchema, TellsFailures as PrintTells}
 use Rattle.ipc_print.specs.declared.form.Form.{Form}
 use Rattle.ipc_print.specs.declared.form.Form.TheVariants.{Counts, Rows, Records}
 use Rattle.ipc_print.specs.declared.stop.Stop.{Stop as PrintStop}
@@ -74,22 +74,31 @@ abbrev pub lifted : {A : Type 0} → (A → Stop) → Result ⊤ A → Result �
 lifted stop_of (Ok done) = Ok done
 lifted stop_of (Err why) = Err (stop_of why)
 
+-- what a result states about the schema of a stream that is printed
+abbrev pub AnswersSchema : Limits → Option (List ℕ) → Option (List ℕ) → Option (List ℕ)
+    → Option (List ℕ) → ℕ → ℕ → ℕ → ℕ → Result ⊤ Stop → Type 0
+AnswersSchema limits old new written_old written_new source_old source_new sink_old sink_new r =
+    (p : Result ⊤ PrintStop) × (r ≡ lifted stop_of_print p)
+    × PrintsSchema limits old new written_old written_new p
+    × PrintTells source_old source_new sink_old sink_new p
+
 -- what a result states about a stream that is printed in a form. When W9 and F36 come, the counts
 -- of failures of sink and source tell, as `print` states it
-abbrev pub AnswersPrint : Form → Limits → Option (List ℕ) → Option (List ℕ) → Option (List ℕ)
-    → Option (List ℕ) → ℕ → ℕ → ℕ → ℕ → Result ⊤ Stop → Type 0
-AnswersPrint form limits old new written_old written_new source_old source_new sink_old sink_new
-    r = (p : Result ⊤ PrintStop) × (r ≡ lifted stop_of_print p)
-    × Prints form limits old new written_old written_new p
+abbrev pub AnswersPrint : Form → Bool → Limits → Option (List ℕ) → Option (List ℕ)
+    → Option (List ℕ) → Option (List ℕ) → ℕ → ℕ → ℕ → ℕ → Result ⊤ Stop → Type 0
+AnswersPrint form mark limits old new written_old written_new source_old source_new sink_old
+    sink_new r = (p : Result ⊤ PrintStop) × (r ≡ lifted stop_of_print p)
+    × Prints (record { form = form; require_mark = mark }) limits old new written_old written_new p
     × PrintTells source_old source_new sink_old sink_new p
 
 -- what a result states about a stream that is rewritten. When W9 and F36 come, the counts of
 -- failures of sink and source tell, as `rewrite` states it
-abbrev pub AnswersRewrite : Limits → Option (List ℕ) → Option (List ℕ) → Option (List ℕ)
+abbrev pub AnswersRewrite : Bool → Limits → Option (List ℕ) → Option (List ℕ) → Option (List ℕ)
     → Option (List ℕ) → ℕ → ℕ → ℕ → ℕ → Result ⊤ Stop → Type 0
-AnswersRewrite limits old new written_old written_new source_old source_new sink_old sink_new r =
+AnswersRewrite mark limits old new written_old written_new source_old source_new sink_old sink_new
+    r =
     (p : Result ⊤ RewriteStop) × (r ≡ lifted stop_of_rewrite p)
-    × Rewrites limits old new written_old written_new sink_old sink_new p
+    × Rewrites mark limits old new written_old written_new sink_old sink_new p
     × RewriteTells source_old source_new sink_old sink_new p
 
 -- the bytes of a file, if it was opened and they are known
@@ -154,18 +163,21 @@ AnswersCsv bytes failures size input written_old written_new source_old source_n
 -- failed. `bytes` and `failures` are those of the schema's file
 abbrev pub Answers : Job → Option (List ℕ) → ℕ → Option (List ℕ) → Option (List ℕ)
     → Option (List ℕ) → Option (List ℕ) → ℕ → ℕ → ℕ → ℕ → Result ⊤ Stop → Type 0
-Answers (job.Check limits) bytes failures old new written_old written_new source_old source_new
-    sink_old sink_new r = AnswersPrint Counts limits old new written_old written_new source_old
+Answers (job.Schema limits) bytes failures old new written_old written_new source_old source_new
+    sink_old sink_new r = AnswersSchema limits old new written_old written_new source_old source_new
+    sink_old sink_new r
+Answers (job.Check limits mark) bytes failures old new written_old written_new source_old source_new
+    sink_old sink_new r = AnswersPrint Counts mark limits old new written_old written_new source_old
     source_new sink_old sink_new r
-Answers (job.Show limits pairs) bytes failures old new written_old written_new source_old source_new
-    sink_old sink_new r = AnswersPrint (Rows pairs) limits old new written_old written_new
+Answers (job.Show limits pairs mark) bytes failures old new written_old written_new source_old
+    source_new sink_old sink_new r = AnswersPrint (Rows pairs) mark limits old new written_old
+    written_new source_old source_new sink_old sink_new r
+Answers (job.ToCsv limits mark) bytes failures old new written_old written_new source_old source_new
+    sink_old sink_new r = AnswersPrint Records mark limits old new written_old written_new
     source_old source_new sink_old sink_new r
-Answers (job.ToCsv limits) bytes failures old new written_old written_new source_old source_new
-    sink_old sink_new r = AnswersPrint Records limits old new written_old written_new source_old
-    source_new sink_old sink_new r
-Answers (job.Rewrite limits) bytes failures old new written_old written_new source_old source_new
-    sink_old sink_new r = AnswersRewrite limits old new written_old written_new source_old
-    source_new sink_old sink_new r
+Answers (job.Rewrite limits mark) bytes failures old new written_old written_new source_old
+    source_new sink_old sink_new r = AnswersRewrite mark limits old new written_old written_new
+    source_old source_new sink_old sink_new r
 Answers (job.FromCsv path size) bytes failures old new written_old written_new source_old source_new
     sink_old sink_new r = AnswersCsv bytes failures size old written_old written_new source_old
     source_new sink_old sink_new r

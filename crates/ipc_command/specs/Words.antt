@@ -1,6 +1,7 @@
 -- What a command line asks for.
 use Rattle.std.specs.Prelude.{◌≡◌, ◌≢◌, ◌⊎◌, ◌↔◌, ◌≤◌, ℕ, ◌^◌, ◌-◌, Bool, IsTrue, List, []}
-use Rattle.std.specs.Prelude.{Option, None, Some, ⊤, codes, false, string_bytes}
+use Rattle.std.specs.Prelude.{Option, None, Some, ⊤, codes, false, true, string_bytes, ◌++◌, ◌==◌}
+use Rattle.std.specs.List.{starts_with}
 use Rattle.std.specs.Str.Parse.{IsNumeral, digits_value, without_leading_plus}
 use Rattle.clap.specs.Words.{App, IsAmong, Row, Text, app_of, fault_of, first_of}
 use Rattle.clap.specs.Words.{one_of, subcommand_of}
@@ -55,19 +56,27 @@ IsBatchSize size = (1 ≤ size) × (size ≤ 2 ^ 31 - 1)
 
 -- the job's batch size, if it has one, is allowed
 abbrev pub HasGoodSize : Job → Type 0
-HasGoodSize (job.Check limits) = ⊤
-HasGoodSize (job.Show limits pairs) = ⊤
-HasGoodSize (job.ToCsv limits) = ⊤
-HasGoodSize (job.Rewrite limits) = ⊤
+HasGoodSize (job.Schema limits) = ⊤
+HasGoodSize (job.Check limits mark) = ⊤
+HasGoodSize (job.Show limits pairs mark) = ⊤
+HasGoodSize (job.ToCsv limits mark) = ⊤
+HasGoodSize (job.Rewrite limits mark) = ⊤
 HasGoodSize (job.FromCsv path size) = IsBatchSize size
 
 -- the subcommand of this name, with what was found for its options, asks for this job
 abbrev pub IsJobOf : Text → List Row → Job → Type 0
-IsJobOf name rows (job.Check limits) = (name ≡ codes "check") × AskForLimits rows limits
-IsJobOf name rows (job.Show limits pairs) =
+IsJobOf name rows (job.Schema limits) =
+    (name ≡ codes "check") × AskForLimits rows limits × HasFlag (codes "schema") rows true
+IsJobOf name rows (job.Check limits mark) =
+    (name ≡ codes "check") × AskForLimits rows limits × HasFlag (codes "schema") rows false
+    × HasFlag (codes "require-mark") rows mark
+IsJobOf name rows (job.Show limits pairs mark) =
     (name ≡ codes "show") × AskForLimits rows limits × HasFlag (codes "pairs") rows pairs
-IsJobOf name rows (job.ToCsv limits) = (name ≡ codes "to-csv") × AskForLimits rows limits
-IsJobOf name rows (job.Rewrite limits) = (name ≡ codes "rewrite") × AskForLimits rows limits
+    × HasFlag (codes "require-mark") rows mark
+IsJobOf name rows (job.ToCsv limits mark) =
+    (name ≡ codes "to-csv") × AskForLimits rows limits × HasFlag (codes "require-mark") rows mark
+IsJobOf name rows (job.Rewrite limits mark) =
+    (name ≡ codes "rewrite") × AskForLimits rows limits × HasFlag (codes "require-mark") rows mark
 IsJobOf name rows (job.FromCsv path size) = (name ≡ codes "from-csv")
     × (first_of (codes "schema") rows ≡ Some (string_bytes path))
     × HasNumber (codes "batch") 1 (2 ^ 31 - 1) rows size
@@ -108,6 +117,13 @@ pub record HaveWrongValue (words : List Text) : Type 0 where
   pub entered : subcommand_of arrowstream words ≡ Some (name, rows)
   pub wrong : HasWrongValue name rows
 
+-- the message for a word that is no argument says that the word looks like an option, or ends with
+-- how a file is read
+abbrev pub Hints : List ℕ → Type 0
+Hints text = IsTrue (starts_with ◌==◌ text (codes "error: unexpected argument '-"))
+    ⊎ ((front : List ℕ) × (text ≡ front
+    ++ codes "\nInput is read from standard input: arrowstream check < FILE\n"))
+
 -- why words are no job. They ask for help or the version; or they have another fault, or a value
 -- that is none of its option's; or memory ran out
 abbrev pub AsksNoJob : List Text → Usage → Type 0
@@ -115,7 +131,8 @@ AsksNoJob words (usage.Help text) = IsAmong kind.DisplayHelp (fault_of arrowstre
     ⊎ IsAmong kind.DisplayVersion (fault_of arrowstream words)
 AsksNoJob words (usage.Wrong text) =
     ((fault : ErrorKind) × IsAmong fault (fault_of arrowstream words)
-    × (fault ≢ kind.DisplayHelp) × (fault ≢ kind.DisplayVersion))
+    × (fault ≢ kind.DisplayHelp) × (fault ≢ kind.DisplayVersion)
+    × (fault ≡ kind.UnknownArgument → Hints (string_bytes text)))
     ⊎ HaveWrongValue words
 AsksNoJob words usage.OutOfMemory = ⊤
 
@@ -129,8 +146,14 @@ IsCommand app c = (app_of c ≡ app) × ((out-Command c).has_globals ≡ false)
 abbrev pub IsUsageOf : ErrorKind → Usage → Type 0
 IsUsageOf fault (usage.Help text) = (fault ≡ kind.DisplayHelp) ⊎ (fault ≡ kind.DisplayVersion)
 IsUsageOf fault (usage.Wrong text) = (fault ≢ kind.DisplayHelp) × (fault ≢ kind.DisplayVersion)
-    × (fault ≢ kind.OutOfMemory)
+    × (fault ≢ kind.OutOfMemory) × (fault ≡ kind.UnknownArgument → Hints (string_bytes text))
 IsUsageOf fault usage.OutOfMemory = ⊤
+
+-- the usage for a word that is no argument
+abbrev pub IsHint : Usage → Type 0
+IsHint (usage.Help text) = ⊥
+IsHint (usage.Wrong text) = Hints (string_bytes text)
+IsHint usage.OutOfMemory = ⊤
 
 -- the usage of words that are wrong, memory aside
 abbrev pub IsWrong : Usage → Type 0

@@ -1,6 +1,7 @@
 //! Does jobs, each between an input and a sink.
 ghost use Rattle.std.specs.Prelude.{◌≡◌, ◌≢◌, ◌⊎◌, [], Result, Some, OnOk, is_some, ⊤};
 ghost use Rattle.ipc_command.specs.Jobs.{Answers, AnswersCsv, AnswersPrint, AnswersRewrite};
+ghost use Rattle.ipc_command.specs.Jobs.{AnswersSchema};
 ghost use Rattle.ipc_command.specs.Jobs.{bytes_of, exit_status, failures_of, lifted, stop_of_csv};
 ghost use Rattle.ipc_command.specs.Lines.{TellsStop};
 ghost use Rattle.ipc_command.specs.Words.{HasGoodSize, IsBatchSize};
@@ -11,27 +12,51 @@ use crate::stop::Stop;
 use crate::words::Job;
 use ipc_from_csv::from_csv_with_seed;
 use ipc_model::Limits;
-use ipc_print::{Form, print};
+use ipc_print::{Form, PrintOptions, print, print_schema};
 use ipc_rewrite::rewrite_with_seed;
 use ipc_stream::{Seed, Sink, Source};
 use std::alloc::Global;
 
-// Prints a stream in a form.
-fn print_job<S: Source, W: Sink>(
+// Prints the schema of a stream.
+fn schema_job<S: Source, W: Sink>(
     alloc: Global,
-    form: Form,
     limits: Limits,
     input: S,
     sink: W,
 ) -> (Result<(), Stop>, S, W)
-    ensures answers { AnswersPrint form limits (S.remaining input) (S.remaining result.1)
+    ensures answers { AnswersSchema limits (S.remaining input) (S.remaining result.1)
         (W.written sink) (W.written result.2) (S.failures input) (S.failures result.1)
         (W.failures sink) (W.failures result.2) result.0 }
     ensures handed_on { OnOk result.0 (W.held_back result.2 ≡ Some []) }
     ensures works { exit_status result.0 ≢ 3 → W.failures sink ≡ 0 → W.failures result.2 ≡ 0 }
 {
     let mut sink = sink;
-    let (result, source) = print(alloc, limits, form, input, &mut sink);
+    let (result, source) = print_schema(alloc, limits, input, &mut sink);
+    let result = match result {
+        Ok(()) => Ok(()),
+        Err(why) => Err(why.into()),
+    };
+    (result, source, sink)
+}
+
+// Prints a stream in a form.
+fn print_job<S: Source, W: Sink>(
+    alloc: Global,
+    form: Form,
+    require_mark: bool,
+    limits: Limits,
+    input: S,
+    sink: W,
+) -> (Result<(), Stop>, S, W)
+    ensures answers { AnswersPrint form require_mark limits (S.remaining input)
+        (S.remaining result.1) (W.written sink) (W.written result.2) (S.failures input)
+        (S.failures result.1) (W.failures sink) (W.failures result.2) result.0 }
+    ensures handed_on { OnOk result.0 (W.held_back result.2 ≡ Some []) }
+    ensures works { exit_status result.0 ≢ 3 → W.failures sink ≡ 0 → W.failures result.2 ≡ 0 }
+{
+    let mut sink = sink;
+    let options = PrintOptions { form, require_mark };
+    let (result, source) = print(alloc, limits, options, input, &mut sink);
     let result = match result {
         Ok(()) => Ok(()),
         Err(why) => Err(why.into()),
@@ -43,17 +68,18 @@ fn print_job<S: Source, W: Sink>(
 fn rewrite_job<S: Source, W: Sink>(
     alloc: Global,
     seed: Seed,
+    require_mark: bool,
     limits: Limits,
     input: S,
     sink: W,
 ) -> (Result<(), Stop>, S, W)
-    ensures answers { AnswersRewrite limits (S.remaining input) (S.remaining result.1)
+    ensures answers { AnswersRewrite require_mark limits (S.remaining input) (S.remaining result.1)
         (W.written sink) (W.written result.2) (S.failures input) (S.failures result.1)
         (W.failures sink) (W.failures result.2) result.0 }
     ensures handed_on { OnOk result.0 (W.held_back result.2 ≡ Some []) }
     ensures works { exit_status result.0 ≢ 3 → W.failures sink ≡ 0 → W.failures result.2 ≡ 0 }
 {
-    let (result, source, sink) = rewrite_with_seed(alloc, seed, limits, input, sink);
+    let (result, source, sink) = rewrite_with_seed(alloc, seed, require_mark, limits, input, sink);
     let result = match result {
         Ok(()) => Ok(()),
         Err(why) => Err(why.into()),
@@ -115,12 +141,19 @@ fn do_job<P: Source, S: Source, W: Sink>(
     ensures file { is_some result.3 ≡ is_some schema }
 {
     let (result, input, sink) = match job {
-        Job::Check(limits) => print_job(alloc, Form::Counts, limits, input, sink),
-        Job::Show { limits, pairs } => {
-            print_job(alloc, Form::Rows { pairs }, limits, input, sink)
+        Job::Schema(limits) => schema_job(alloc, limits, input, sink),
+        Job::Check { limits, marked } => {
+            print_job(alloc, Form::Counts, marked, limits, input, sink)
         }
-        Job::ToCsv(limits) => print_job(alloc, Form::Records, limits, input, sink),
-        Job::Rewrite(limits) => rewrite_job(alloc, seed, limits, input, sink),
+        Job::Show {
+            limits,
+            pairs,
+            marked,
+        } => print_job(alloc, Form::Rows { pairs }, marked, limits, input, sink),
+        Job::ToCsv { limits, marked } => {
+            print_job(alloc, Form::Records, marked, limits, input, sink)
+        }
+        Job::Rewrite { limits, marked } => rewrite_job(alloc, seed, marked, limits, input, sink),
         Job::FromCsv { schema: _, batch } => return csv_job(
             alloc, seed, schema, batch, input, sink,
         ),

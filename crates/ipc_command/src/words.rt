@@ -6,8 +6,8 @@ ghost use Rattle.clap.specs.Words.{subcommand_rows_of};
 ghost use Rattle.ipc_command.specs.CommandLine as line;
 ghost use Rattle.ipc_command.specs.Words.{AskForLimits, Asks, AsksNoJob, HasFlag, HasGoodSize};
 ghost use Rattle.ipc_command.specs.Words.{HasNumber, HasWrongLimit, HasWrongValue, IsCommand};
-ghost use Rattle.ipc_command.specs.Words.{IsJobFound, IsJobOf, IsUsageOf, IsWrong, IsWrongFound};
-ghost use Rattle.ipc_command.specs.Words.{IsWrongFor, LacksNumber};
+ghost use Rattle.ipc_command.specs.Words.{IsHint, IsJobFound, IsJobOf, IsUsageOf, IsWrong};
+ghost use Rattle.ipc_command.specs.Words.{IsWrongFor, IsWrongFound, LacksNumber};
 
 use clap::builder::ValueParser;
 use clap::error::ErrorKind;
@@ -18,19 +18,38 @@ use std::alloc::{AllocError, Global};
 /// What to do, and the limits of a stream that is read.
 #[derive(Debug, Drop)]
 pub enum Job {
+    /// Print the schema of a stream as a line of JSON, and read no more.
+    Schema(Limits),
     /// Read a stream, and print its schema and its numbers of bytes, batches and rows.
-    Check(Limits),
+    Check {
+        /// The limits of the stream.
+        limits: Limits,
+        /// Whether the end-of-stream mark is required.
+        marked: bool,
+    },
     /// Print each row of a stream as a JSON array on a line of its own.
     Show {
         /// The limits of the stream.
         limits: Limits,
         /// Whether to print a line with its pairs before the rows of each batch.
         pairs: bool,
+        /// Whether the end-of-stream mark is required.
+        marked: bool,
     },
     /// Print a stream as CSV.
-    ToCsv(Limits),
+    ToCsv {
+        /// The limits of the stream.
+        limits: Limits,
+        /// Whether the end-of-stream mark is required.
+        marked: bool,
+    },
     /// Rewrite a stream in canonical layout, with its schema, batches and rows.
-    Rewrite(Limits),
+    Rewrite {
+        /// The limits of the stream.
+        limits: Limits,
+        /// Whether the end-of-stream mark is required.
+        marked: bool,
+    },
     /// Write CSV records as a stream.
     FromCsv {
         /// The path of a file with the schema as JSON.
@@ -89,9 +108,11 @@ Exit status:
 
 const CHECK_EXAMPLES: &str = "\
 Prints the schema as JSON, and then how the stream ended and its numbers of bytes, batches and rows.
+With --schema, it prints the schema alone, and reads nothing after the schema's message.
 
 Examples:
   arrowstream check < trades.arrows
+  arrowstream check --schema < trades.arrows > trades.json
   arrowstream check --max-rows 1000000 < upload.arrows";
 
 const SHOW_EXAMPLES: &str = "\
@@ -125,7 +146,7 @@ The schema is JSON in the form of the first line that check prints; SCHEMA.md in
 describes it. Each batch is sent as soon as it is full.
 
 Examples:
-  arrowstream check < trades.arrows | head -n 1 > trades.json
+  arrowstream check --schema < trades.arrows > trades.json
   arrowstream from-csv --schema trades.json < trades.csv > trades.arrows
   arrowstream from-csv --schema trades.json --batch 1000 < trades.csv > trades.arrows";
 
@@ -156,7 +177,16 @@ fn number<'a>(
     number.value_parser(parser).help(help)
 }
 
-// The options that say how much a stream may hold.
+// An option without a value.
+fn flag<'a>(alloc: Global, name: &'a str, help: &'a str) -> Arg<'a>
+    ensures rule { rule_of result ≡ line.flag name.entry.now }
+    ensures own { result.global ≡ false }
+{
+    let flag = Arg::new(alloc, name).long(name);
+    flag.action(ArgAction::SetTrue).help(help)
+}
+
+// The options that say how much a stream may hold, and how it must end.
 fn with_limits<'a>(alloc: Global, command: Command<'a>) -> Result<Command<'a>, AllocError>
     requires { IsCommand (app_of command) command }
     ensures { IfOk result (IsCommand (line.with_limits (app_of command.entry))) }
@@ -185,6 +215,11 @@ fn with_limits<'a>(alloc: Global, command: Command<'a>) -> Result<Command<'a>, A
             GREATEST_ROWS,
             "2147483647",
             "Maximum rows of a batch",
+        ))?
+        .arg(flag(
+            alloc,
+            "require-mark",
+            "Refuse a stream that ends without the end-of-stream mark",
         ))
 }
 
@@ -201,17 +236,9 @@ fn check<'a>(alloc: Global) -> Result<Command<'a>, AllocError>
     ensures { IfOk result (IsCommand line.check) }
 {
     let about = "Reads an Arrow IPC stream to its end, and prints its schema and counts";
-    with_limits(alloc, described(alloc, "check", about, CHECK_EXAMPLES))
-}
-
-// The option that prints the pairs of each batch.
-fn pairs<'a>(alloc: Global) -> Arg<'a>
-    ensures rule { rule_of result ≡ line.flag (codes "pairs") }
-    ensures own { result.global ≡ false }
-{
-    let help = "Print the pairs of key and value of each batch on a line before its rows";
-    let pairs = Arg::new(alloc, "pairs").long("pairs");
-    pairs.action(ArgAction::SetTrue).help(help)
+    let check = described(alloc, "check", about, CHECK_EXAMPLES);
+    let help = "Print the schema alone, and read nothing after its message";
+    with_limits(alloc, check.arg(flag(alloc, "schema", help))?)
 }
 
 // The subcommand that prints rows.
@@ -220,7 +247,8 @@ fn show<'a>(alloc: Global) -> Result<Command<'a>, AllocError>
 {
     let about = "Prints each row of an Arrow IPC stream as a JSON array on a line of its own";
     let show = described(alloc, "show", about, SHOW_EXAMPLES);
-    with_limits(alloc, show.arg(pairs(alloc))?)
+    let help = "Print the pairs of key and value of each batch on a line before its rows";
+    with_limits(alloc, show.arg(flag(alloc, "pairs", help))?)
 }
 
 // The subcommand that prints a stream as CSV.
@@ -287,6 +315,26 @@ fn command<'a>(alloc: Global) -> Result<Command<'a>, AllocError>
     command.subcommand(rewrite(alloc)?)
 }
 
+// The beginning of the message for an unexpected option.
+const OPTION: &[u8] = b"error: unexpected argument '-";
+
+// The end of the message for any other unexpected word.
+const HINT: &str = "\nInput is read from standard input: arrowstream check < FILE\n";
+
+// The message for an unexpected word. If the word is no option, it ends with how a file is read.
+fn unexpected(text: String) -> Usage
+    ensures { IsHint result }
+{
+    if text.as_bytes().starts_with(OPTION) {
+        return Usage::Wrong(text);
+    }
+    let mut text = text;
+    match text.push_str(HINT) {
+        Ok(()) => Usage::Wrong(text),
+        Err(_) => Usage::OutOfMemory,
+    }
+}
+
 // The message for a refused command line.
 fn usage_of(alloc: Global, error: &Error) -> Usage
     ensures { IsUsageOf (kind_of error.now) result }
@@ -297,6 +345,7 @@ fn usage_of(alloc: Global, error: &Error) -> Usage
     match error.kind() {
         ErrorKind::DisplayHelp | ErrorKind::DisplayVersion => Usage::Help(text),
         ErrorKind::OutOfMemory => Usage::OutOfMemory,
+        ErrorKind::UnknownArgument => unexpected(text),
         _ => Usage::Wrong(text),
     }
 }
@@ -384,6 +433,23 @@ fn read_from_csv(alloc: Global, options: &ArgMatches<'_>) -> Result<Job, Usage>
     })
 }
 
+// The job of `check` that is given these options.
+fn read_check(alloc: Global, options: &ArgMatches<'_>) -> Result<Job, Usage>
+    ensures asked { IfOk result (IsJobOf (codes "check") (rows_of (found_of options.now))) }
+    ensures refused { IfErr result
+        (IsWrongFor (HasWrongValue (codes "check") (rows_of (found_of options.now)))) }
+    ensures size { IfOk result HasGoodSize }
+{
+    let limits = read_limits(alloc, options)?;
+    if has_flag(options, "schema") {
+        return Ok(Job::Schema(limits));
+    }
+    Ok(Job::Check {
+        limits,
+        marked: has_flag(options, "require-mark"),
+    })
+}
+
 // The job of a subcommand that is given these options.
 fn read_job(alloc: Global, name: &str, options: &ArgMatches<'_>) -> Result<Job, Usage>
     ensures asked { IfOk result (IsJobOf name.now (rows_of (found_of options.now))) }
@@ -392,14 +458,21 @@ fn read_job(alloc: Global, name: &str, options: &ArgMatches<'_>) -> Result<Job, 
     ensures size { IfOk result HasGoodSize }
 {
     match name {
-        "check" => Ok(Job::Check(read_limits(alloc, options)?)),
+        "check" => read_check(alloc, options),
         "show" => Ok(Job::Show {
             limits: read_limits(alloc, options)?,
             pairs: has_flag(options, "pairs"),
+            marked: has_flag(options, "require-mark"),
         }),
-        "to-csv" => Ok(Job::ToCsv(read_limits(alloc, options)?)),
+        "to-csv" => Ok(Job::ToCsv {
+            limits: read_limits(alloc, options)?,
+            marked: has_flag(options, "require-mark"),
+        }),
         "from-csv" => read_from_csv(alloc, options),
-        "rewrite" => Ok(Job::Rewrite(read_limits(alloc, options)?)),
+        "rewrite" => Ok(Job::Rewrite {
+            limits: read_limits(alloc, options)?,
+            marked: has_flag(options, "require-mark"),
+        }),
         _ => Err(wrong(alloc, "error: no subcommand\n")),
     }
 }
@@ -439,6 +512,7 @@ pub fn read_words(alloc: Global, words: Vec<String>) -> Result<Job, Usage>
     ensures asked { IfOk result (Asks (map string_bytes words.items)) }
     // Help is answered only if help or the version is asked for. `Wrong` is answered only if `clap`
     // refuses the words for another fault, or takes them and a value is none that its option takes.
+    // For a word that is no argument and no option, its text ends with how a file is read.
     ensures refused { IfErr result (AsksNoJob (map string_bytes words.items)) }
     // A batch has from 1 to 2^31 - 1 rows.
     ensures size { IfOk result HasGoodSize }

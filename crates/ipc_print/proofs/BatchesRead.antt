@@ -20,12 +20,13 @@ use Rattle.ipc_model.specs.declared.schema.Field.{Field}
 use Rattle.ipc_model.specs.declared.schema.Schema.{Schema}
 use Rattle.ipc_moments.specs.declared.fault.TextFault.{TextFault}
 use Rattle.ipc_print.specs.declared.form.Form.{Form}
+use Rattle.ipc_print.specs.declared.form.PrintOptions.{PrintOptions}
 use Rattle.ipc_print.specs.declared.stop.Outcome.TheVariants.{Whole, Broken, Refused as Lacking}
 use Rattle.ipc_print.specs.Columns.{AreShownColumns}
 use Rattle.ipc_print.specs.Forms.{head_of, line_of, HaveLines, HaveAllLines, row_count}
 use Rattle.ipc_print.specs.Output.{Output, output, Puts, PutFails}
 use Rattle.ipc_print.specs.Rows.{AreShownRows, lines, batch_lines, last_lines}
-use Rattle.ipc_print.specs.Streams.{PrintsRows, PrintsPart, PrintsBatches, PutsRows}
+use Rattle.ipc_print.specs.Streams.{PrintsRows, PrintsPart, PrintsBatches, PutsRows, as_required}
 use Rattle.ipc_print.proofs.Puts.{puts_then, puts_not_then, puts_none, missing_all, missing_at, missing_then}
 use Rattle.ipc_print.proofs.Shown.{all_more}
 use Rattle.ipc_print.proofs.Lines.{put_at, not_at}
@@ -33,9 +34,10 @@ use Rattle.ipc_print.proofs.Messages.{Came, Counted, ReadsCounted, came, counted
 use Rattle.ipc_print.proofs.Texts.{batch_lines_more, last_lines_more}
 use Rattle.ipc_print.proofs.BatchesShown.{batch_shown}
 use Rattle.std.proofs.Common.{◌+◌, length, inl, arith}
-use Rattle.std.specs.Prelude.{unwrap_or}
+use Rattle.std.specs.Prelude.{Bool, IsTrue, false, true, unwrap_or}
 use Rattle.std.proofs.lemmas.List.{length-append}
-use Rattle.ipc_decode.specs.declared.end.End.TheVariants.{Closed}
+use Rattle.ipc_decode.specs.declared.end.End.TheVariants.{Closed, Mark}
+use Rattle.ipc_model.specs.declared.fault.Fault.TheVariants.{Read, Truncated}
 use Rattle.ipc_decode.specs.Reader.{end_of}
 use Rattle.ipc_decode.specs.Counts.{count_up, messages_in}
 use Rattle.ipc_print.specs.declared.stop.Tally.{Tally}
@@ -58,6 +60,18 @@ pub record Batches (form : Form) (tally : Tally) (old now : Reader) (before afte
   pub have : HaveAllLines form old.schema.fields batches
   pub puts : Puts before after (batch_lines (head_of form) (line_of form old.schema.fields) batches)
   pub sent : after.kept ≡ []
+
+-- an end that is taken where the mark is required is the mark
+marked : (mark : Bool) (e f : End) → as_required mark (Ok e) ≡ Ok f → IsTrue mark → e ≡ Mark
+marked mark Mark f is required = refl
+marked true Closed f is required = absurd (cc)
+marked false Closed f is required = absurd (cc)
+
+-- one that is not is no failure of the source
+no_read : (mark : Bool) (e : End) (f : Fault) → as_required mark (Ok e) ≡ Err f → f ≡ Read → ⊥
+no_read mark Mark f is read = cc
+no_read true Closed f is read = let bad : Truncated ≡ Read = cc in cc
+no_read false Closed f is read = cc
 
 zero_more : (k : ℕ) → k + 0 ≡ k
 zero_more k = omega arith
@@ -121,9 +135,10 @@ broke now new Reading Refused x f is h = h
 broke now new (Ended e) q x f is h = absurd (cc)
 broke now new Refused q x f is h = absurd (cc)
 
-module _ (form : Form) (tally : Tally) (old now new : Reader) (before after : Output) (b : Batches form tally old now before after) where
+module _ (options : PrintOptions) (tally : Tally) (old now new : Reader) (before after : Output)
+    (b : Batches options.form tally old now before after) where
   abbrev line : List Value → List ℕ
-  line = line_of form old.schema.fields
+  line = line_of options.form old.schema.fields
 
   -- the batch that came, under the limits that the reader was opened with
   found_run : (found : Found) → (t : NextCall now new (Ok (Some found)))
@@ -149,9 +164,10 @@ module _ (form : Form) (tally : Tally) (old now new : Reader) (before after : Ou
 
   -- what was put of a batch, by the fields that are in force
   same_puts : (fields : List Field) (found : Found) (w : Option (List ℕ)) (n : ℕ) (k : List ℕ) (r : Result (Option TextFault) PrintFault)
-      → fields ≡ old.schema.fields → PutsRows form fields (head_of form found.1) found.0.rows after w n k r
-      → PutsRows form old.schema.fields (head_of form found.1) found.0.rows after w n k r
-  same_puts fields found w n k r is p = subst (λ (fs : List Field). PutsRows form fs (head_of form found.1) found.0.rows after w n k r) is p
+      → fields ≡ old.schema.fields → PutsRows options.form fields (head_of options.form found.1) found.0.rows after w n k r
+      → PutsRows options.form old.schema.fields (head_of options.form found.1) found.0.rows after w n k r
+  same_puts fields found w n k r is p =
+      subst (λ (fs : List Field). PutsRows options.form fs (head_of options.form found.1) found.0.rows after w n k r) is p
 
   counted_more : (found : Found) (t : NextCall now new (Ok (Some found))) (k : ℕ) → old.taken ≡ count_up 0 k
       → new.taken ≡ count_up 0 (k + length (b.x ++ t.x))
@@ -168,11 +184,12 @@ module _ (form : Form) (tally : Tally) (old now new : Reader) (before after : Ou
   pub batches_more : (fields : List Field) (found : Found) (next : Tally) (w : Option (List ℕ)) (n : ℕ) (k : List ℕ)
       (last : Output) → next.batches ≡ count_up tally.batches 1 → next.rows ≡ count_up tally.rows (length found.0.rows)
       → fields ≡ old.schema.fields → NextCall now new (Ok (Some found)) → new.failures ≡ now.failures
-      → PutsRows form fields (head_of form found.1) found.0.rows after w n k (Ok None) → Puts (output w n k) last [] → last.kept ≡ []
-      → Batches form next old new before last
+      → PutsRows options.form fields (head_of options.form found.1) found.0.rows after w n k (Ok None)
+      → Puts (output w n k) last [] → last.kept ≡ []
+      → Batches options.form next old new before last
   batches_more fields found next w n k last one all is t works p flushed empty =
       let q = same_puts fields found w n k (Ok None) is p in
-      let rows = head_of form found.1 ++ lines line found.0.rows in
+      let rows = head_of options.form found.1 ++ lines line found.0.rows in
       record {
         x = b.x ++ t.x;
         batches = b.batches ++ rows_of found ∷ [];
@@ -185,9 +202,9 @@ module _ (form : Form) (tally : Tally) (old now new : Reader) (before after : Ou
         counted = counted_more found t;
         numbered = numbered_more found t;
         tallies = tally_more tally next b.batches (rows_of found) b.tallies one all;
-        have = all_more (λ q. HaveLines form old.schema.fields q.rows) b.batches (rows_of found) b.have q.0;
-        puts = put_at before last _ _ (batch_lines_more line (head_of form) b.batches (rows_of found))
-            (puts_then before after last (batch_lines (head_of form) line b.batches) rows b.puts
+        have = all_more (λ q. HaveLines options.form old.schema.fields q.rows) b.batches (rows_of found) b.have q.0;
+        puts = put_at before last _ _ (batch_lines_more line (head_of options.form) b.batches (rows_of found))
+            (puts_then before after last (batch_lines (head_of options.form) line b.batches) rows b.puts
             (put_at after last _ _ (append-nil rows) (puts_then after (output w n k) last rows [] q.1 flushed)));
         sent = empty;
       }
@@ -195,8 +212,8 @@ module _ (form : Form) (tally : Tally) (old now new : Reader) (before after : Ou
   -- a row of the batch that came isn't printed, and those before it were
   pub batches_refused : (fields : List Field) (found : Found) (w : Option (List ℕ)) (n : ℕ) (k : List ℕ) (fault : TextFault)
       → fields ≡ old.schema.fields → NextCall now new (Ok (Some found)) → new.failures ≡ now.failures
-      → PutsRows form fields (head_of form found.1) found.0.rows after w n k (Ok (Some fault))
-      → PrintsBatches form [] old new before (output w n k) (Ok (Lacking fault))
+      → PutsRows options.form fields (head_of options.form found.1) found.0.rows after w n k (Ok (Some fault))
+      → PrintsBatches options [] old new before (output w n k) (Ok (Lacking fault))
   batches_refused fields found w n k fault is t works p =
       let q = same_puts fields found w n k (Ok (Some fault)) is p in (
         record {
@@ -209,12 +226,12 @@ module _ (form : Form) (tally : Tally) (old now new : Reader) (before after : Ou
           run = (more_run found t).0;
           have = b.have;
           refuses = q.1;
-          puts = puts_then before after (output w n k) (batch_lines (head_of form) line b.batches) _ b.puts q.2;
+          puts = puts_then before after (output w n k) (batch_lines (head_of options.form) line b.batches) _ b.puts q.2;
           few = omega (
             arith,
             q.2.few,
             ap length b.sent,
-            length-append after.kept (head_of form found.1 ++ lines line (take q.0 found.0.rows)),
+            length-append after.kept (head_of options.form found.1 ++ lines line (take q.0 found.0.rows)),
           );
         },
         λ z. works ∙ (b.counts ∙ z),
@@ -223,13 +240,14 @@ module _ (form : Form) (tally : Tally) (old now new : Reader) (before after : Ou
   -- the rows of the batch that came weren't all printed
   pub batches_cut : (fields : List Field) (found : Found) (w : Option (List ℕ)) (n : ℕ) (k : List ℕ) (e : PrintFault)
       → fields ≡ old.schema.fields → NextCall now new (Ok (Some found)) → new.failures ≡ now.failures
-      → PutsRows form fields (head_of form found.1) found.0.rows after w n k (Err e) → PrintsPart form [] old new before w n e
+      → PutsRows options.form fields (head_of options.form found.1) found.0.rows after w n k (Err e)
+      → PrintsPart options.form [] old new before w n e
   batches_cut fields found w n k e is t works p =
       let q = same_puts fields found w n k (Err e) is p in
-      let rows = head_of form found.1 ++ lines line found.0.rows in
+      let rows = head_of options.form found.1 ++ lines line found.0.rows in
       let missing = missing_at before w n _ _ e (length rows)
-      (batch_lines_more line (head_of form) b.batches (rows_of found) ∙ sym (append-nil _))
-      (missing_then before after w n (batch_lines (head_of form) line b.batches) rows e (length rows) b.puts
+      (batch_lines_more line (head_of options.form) b.batches (rows_of found) ∙ sym (append-nil _))
+      (missing_then before after w n (batch_lines (head_of options.form) line b.batches) rows e (length rows) b.puts
       (missing_all after w n rows e b.sent q)) in
       record {
         x = b.x ++ t.x;
@@ -246,8 +264,8 @@ module _ (form : Form) (tally : Tally) (old now new : Reader) (before after : Ou
         few = omega (
           arith,
           missing.1,
-          ap length (last_lines_more line (head_of form) [] b.batches (rows_of found)),
-          length-append (last_lines [] (head_of form) line (b.batches ++ rows_of found ∷ [])) [],
+          ap length (last_lines_more line (head_of options.form) [] b.batches (rows_of found)),
+          length-append (last_lines [] (head_of options.form) line (b.batches ++ rows_of found ∷ [])) [],
         );
         works = λ other z. works ∙ (b.counts ∙ z);
       }
@@ -255,10 +273,11 @@ module _ (form : Form) (tally : Tally) (old now new : Reader) (before after : Ou
   -- they were, and what is kept was not sent
   pub batches_unsent : (fields : List Field) (found : Found) (w v : Option (List ℕ)) (n m : ℕ) (k : List ℕ)
       → fields ≡ old.schema.fields → NextCall now new (Ok (Some found)) → new.failures ≡ now.failures
-      → PutsRows form fields (head_of form found.1) found.0.rows after w n k (Ok None) → PutFails (output w n k) v m [] Write
-      → PrintsPart form [] old new before v m Write
+      → PutsRows options.form fields (head_of options.form found.1) found.0.rows after w n k (Ok None)
+      → PutFails (output w n k) v m [] Write
+      → PrintsPart options.form [] old new before v m Write
   batches_unsent fields found w v n m k is t works p q =
-      let rows = head_of form found.1 ++ lines (line_of form fields) found.0.rows in
+      let rows = head_of options.form found.1 ++ lines (line_of options.form fields) found.0.rows in
       batches_cut fields found v m [] Write is t works
       (not_at after v m _ _ Write (append-nil rows) (puts_not_then after (output w n k) v m rows [] Write p.1 q))
 
@@ -273,7 +292,7 @@ module _ (form : Form) (tally : Tally) (old now new : Reader) (before after : Ou
       (ends_counted now new y r h)))
 
   printed : (y : List ℕ) (r : Result End Fault) → Consumes now.remaining new.remaining y → new.taken ≡ count_up now.taken (length y)
-      → EndsBehind now new y r → PrintsRows form [] old new before after r
+      → EndsBehind now new y r → PrintsRows options.form [] old new before after r
   printed y r bytes more h = record {
     x = b.x ++ y;
     batches = b.batches;
@@ -289,21 +308,40 @@ module _ (form : Form) (tally : Tally) (old now new : Reader) (before after : Ou
     sent = b.sent;
   }
 
-  -- where the end is read behind the batches that were printed, all rows of the stream were
-  pub batches_end : (end : Option End) (e : End) → NextCall now new (Ok None) → new.failures ≡ now.failures → end ≡ end_of new.phase
-      → e ≡ unwrap_or end Closed → PrintsBatches form [] old new before after (Ok (Whole e tally))
+  ended_rows : (found : Option End) (e : End) → NextCall now new (Ok None) → found ≡ end_of new.phase → e ≡ unwrap_or found Closed
+      → (rows : PrintsRows options.form [] old new before after (Ok e)) × IsTally tally rows.batches
   unfolding printed
-  batches_end end e t works found is =
+  ended_rows found e t is given =
       let h = ended now new now.phase new.phase t.x b.reading t.gives in
       let same : e ≡ h.0 =
-      is ∙ (ap (λ (o : Option End). unwrap_or o Closed) found ∙ ap (λ (q : Phase). unwrap_or (end_of q) Closed) h.2) in
-      subst (λ (e : End). PrintsBatches form [] old new before after (Ok (Whole e tally))) (sym same)
-      ((printed t.x (Ok h.0) t.bytes t.counted h.1, b.tallies), λ z. works ∙ (b.counts ∙ z))
+      given ∙ (ap (λ (o : Option End). unwrap_or o Closed) is ∙ ap (λ (q : Phase). unwrap_or (end_of q) Closed) h.2) in
+      subst (λ (e : End). (rows : PrintsRows options.form [] old new before after (Ok e)) × IsTally tally rows.batches) (sym same)
+      (printed t.x (Ok h.0) t.bytes t.counted h.1, b.tallies)
+
+  -- where the end is read behind the batches that were printed, all rows of the stream were
+  pub batches_end : (found : Option End) (e f : End) → NextCall now new (Ok None) → new.failures ≡ now.failures → found ≡ end_of new.phase
+      → e ≡ unwrap_or found Closed → as_required options.require_mark (Ok e) ≡ Ok f
+      → PrintsBatches options [] old new before after (Ok (Whole e tally))
+  batches_end found e f t works is given ends =
+      (ended_rows found e t is given, marked options.require_mark e f ends, λ z. works ∙ (b.counts ∙ z))
+
+  -- where it has no mark, that is the fault
+  pub batches_unmarked : (found : Option End) (e : End) (f : Fault) → NextCall now new (Ok None) → new.failures ≡ now.failures
+      → found ≡ end_of new.phase → e ≡ unwrap_or found Closed → as_required options.require_mark (Ok e) ≡ Err f
+      → PrintsBatches options [] old new before after (Ok (Broken f))
+  batches_unmarked found e f t works is given ends = (
+    Ok e,
+    (ended_rows found e t is given).0,
+    ends,
+    record { failed = λ read. absurd (no_read options.require_mark e f ends read); stayed = λ other. works ∙ b.counts },
+  )
 
   -- where a fault is read behind the batches that were printed, their rows were, and the answer is the fault
   pub batches_break : (f : Fault) → NextCall now new (Err f) → Tells now.failures new.failures f
-      → PrintsBatches form [] old new before after (Ok (Broken f))
+      → PrintsBatches options [] old new before after (Ok (Broken f))
   batches_break f t tells = (
+    Err f,
     printed t.x (Err f) t.bytes t.counted (broke now new now.phase new.phase t.x f b.reading t.gives),
+    refl,
     record { failed = tells.failed; stayed = λ other. tells.stayed other ∙ b.counts },
   )

@@ -11,10 +11,12 @@ use Rattle.ipc_decode.specs.Stream.{done}
 use Rattle.ipc_print.specs.declared.rows.PrintFault.{PrintFault}
 use Rattle.ipc_print.specs.declared.rows.PrintFault.TheVariants.{Write, OutOfMemory}
 use Rattle.ipc_print.specs.declared.form.Form.{Form}
+use Rattle.ipc_print.specs.declared.form.PrintOptions.{PrintOptions}
 use Rattle.ipc_print.specs.declared.stop.Outcome.{Outcome}
 use Rattle.ipc_print.specs.declared.stop.Outcome.TheVariants.{Whole, Broken, Refused as Lacking}
 use Rattle.ipc_print.specs.Forms.{head_of, line_of, tail_of, tail_text}
-use Rattle.ipc_print.specs.Output.{Output, output, Puts, PutFails}
+use Rattle.ipc_print.specs.Output.{Output, output, PrintsAs, Puts, PutFails}
+use Rattle.std.specs.Prelude.{⊤}
 use Rattle.ipc_print.specs.Rows.{lines, batch_lines, last_lines}
 use Rattle.ipc_print.specs.Streams.{PrintsRows, PrintsPart, PrintsBatches}
 use Rattle.ipc_print.proofs.Puts.{puts_then, puts_not_then, puts_never, missing_all, missing_at, missing_more, missing_then}
@@ -60,18 +62,24 @@ front_sent before mid w n k front p q empty =
     subst (λ (z : List ℕ). Puts before (output w n z) front) (sym empty)
     (put_at before (output w n []) _ _ (append-nil front) (puts_then before mid (output w n []) front [] p q))
 
+-- a text was put, and then what is kept was sent, or the sink failed
+pub then_sent : (a b : Output) (w : Option (List ℕ)) (n : ℕ) (t : List ℕ) (r : Result ⊤ PrintFault) → Puts a b t
+    → PrintsAs b w n [] [] r → PrintsAs a w n [] t r
+then_sent a b w n t (Ok _) p q = put_at a (output w n []) _ _ (append-nil t) (puts_then a b (output w n []) t [] p q)
+then_sent a b w n t (Err e) p q = not_at a w n _ _ e (append-nil t) (puts_not_then a b w n t [] e p q)
+
 pub front_unsent : (form : Form) (front : List ℕ) (r : Reader) (before mid : Output) (w : Option (List ℕ)) (n : ℕ) → before.kept ≡ []
     → Puts before mid front → PutFails mid w n [] Write → PrintsPart form front r r before w n Write
 front_unsent form front r before mid w n empty p q =
     part_front form front r before w n Write empty
     (not_at before w n _ _ Write (append-nil front) (puts_not_then before mid w n front [] Write p q))
 
-module _ (form : Form) (front : List ℕ) (old new : Reader) where
+module _ (options : PrintOptions) (front : List ℕ) (old new : Reader) where
   abbrev line_in : List Value → List ℕ
-  line_in = line_of form old.schema.fields
+  line_in = line_of options.form old.schema.fields
 
-  rows_behind : (r : Result End Fault) (before mid after : Output) → Puts before mid front → PrintsRows form [] old new mid after r
-      → PrintsRows form front old new before after r
+  rows_behind : (r : Result End Fault) (before mid after : Output) → Puts before mid front → PrintsRows options.form [] old new mid after r
+      → PrintsRows options.form front old new before after r
   rows_behind r before mid after p q = record {
     x = q.x;
     batches = q.batches;
@@ -80,16 +88,16 @@ module _ (form : Form) (front : List ℕ) (old new : Reader) where
     counted = q.counted;
     numbered = q.numbered;
     have = q.have;
-    puts = puts_then before mid after front (batch_lines (head_of form) line_in q.batches) p q.puts;
+    puts = puts_then before mid after front (batch_lines (head_of options.form) line_in q.batches) p q.puts;
     sent = q.sent;
   }
 
   -- what was put behind the front, with the front
   pub behind_front : (before mid after : Output) (r : Result Outcome PrintFault) → Puts before mid front
-      → PrintsBatches form [] old new mid after r → PrintsBatches form front old new before after r
+      → PrintsBatches options [] old new mid after r → PrintsBatches options front old new before after r
   unfolding rows_behind
-  behind_front before mid after (Ok (Whole e tally)) p q = ((rows_behind (Ok e) before mid after p q.0.0, q.0.1), q.1)
-  behind_front before mid after (Ok (Broken f)) p q = (rows_behind (Err f) before mid after p q.0, q.1)
+  behind_front before mid after (Ok (Whole e tally)) p q = ((rows_behind (Ok e) before mid after p q.0.0, q.0.1), q.1, q.2)
+  behind_front before mid after (Ok (Broken f)) p q = (q.0, rows_behind q.0 before mid after p q.1, q.2, q.3)
   behind_front before mid after (Ok (Lacking f)) p q =
       let h = q.0 in (
         record {
@@ -103,16 +111,16 @@ module _ (form : Form) (front : List ℕ) (old new : Reader) where
           have = h.have;
           refuses = h.refuses;
           puts = put_at before after _ _
-              (sym (append_assoc front (batch_lines (head_of form) line_in h.batches)
-              (head_of form h.last.pairs ++ lines line_in (take h.count h.last.rows))))
+              (sym (append_assoc front (batch_lines (head_of options.form) line_in h.batches)
+              (head_of options.form h.last.pairs ++ lines line_in (take h.count h.last.rows))))
               (puts_then before mid after front _ p h.puts);
           few = h.few;
         },
         q.1,
       )
   behind_front before mid after (Err e) p q =
-      let texts = batch_lines (head_of form) line_in q.batches in
-      let most = length (last_lines [] (head_of form) line_in q.batches ++ q.tail) in
+      let texts = batch_lines (head_of options.form) line_in q.batches in
+      let most = length (last_lines [] (head_of options.form) line_in q.batches ++ q.tail) in
       let missing = missing_at before after.written after.failures _ _ e most (sym (append_assoc front texts q.tail))
       (missing_then before mid after.written after.failures front (texts ++ q.tail) e most p (q.puts, q.few)) in
       record {
@@ -130,16 +138,16 @@ module _ (form : Form) (front : List ℕ) (old new : Reader) where
         few = omega (
           arith,
           missing.1,
-          last_lines_front line_in (head_of form) front q.batches,
-          length-append (last_lines [] (head_of form) line_in q.batches) q.tail,
-          length-append (last_lines front (head_of form) line_in q.batches) q.tail,
+          last_lines_front line_in (head_of options.form) front q.batches,
+          length-append (last_lines [] (head_of options.form) line_in q.batches) q.tail,
+          length-append (last_lines front (head_of options.form) line_in q.batches) q.tail,
         );
         works = q.works;
       }
 
   module _ (before mid : Output) where
-    rows_flushed : (r : Result End Fault) (after : Output) → after.kept ≡ [] → PrintsRows form front old new before mid r
-        → Puts mid after [] → PrintsRows form front old new before after r
+    rows_flushed : (r : Result End Fault) (after : Output) → after.kept ≡ [] → PrintsRows options.form front old new before mid r
+        → Puts mid after [] → PrintsRows options.form front old new before after r
     rows_flushed r after empty p q = record {
       x = p.x;
       batches = p.batches;
@@ -148,21 +156,22 @@ module _ (form : Form) (front : List ℕ) (old new : Reader) where
       counted = p.counted;
       numbered = p.numbered;
       have = p.have;
-      puts = put_at before after _ _ (append-nil (front ++ batch_lines (head_of form) line_in p.batches))
+      puts = put_at before after _ _ (append-nil (front ++ batch_lines (head_of options.form) line_in p.batches))
           (puts_then before mid after _ [] p.puts q);
       sent = empty;
     }
 
     -- the tail of counts is that of the batches
     tail_is : (e : End) (tally : Tally) (batches : List BatchRows) → IsTally tally batches
-        → tail_of form e new.taken tally.batches tally.rows ≡ tail_text form e new.taken batches
+        → tail_of options.form e new.taken tally.batches tally.rows ≡ tail_text options.form e new.taken batches
     tail_is e tally batches (some, few) =
-        ap (λ (n : ℕ). tail_of form e new.taken n tally.rows) some
-        ∙ ap (λ (n : ℕ). tail_of form e new.taken (count_up 0 (length batches)) n) few
+        ap (λ (n : ℕ). tail_of options.form e new.taken n tally.rows) some
+        ∙ ap (λ (n : ℕ). tail_of options.form e new.taken (count_up 0 (length batches)) n) few
 
     -- the tail was put too, and what was kept went out
-    pub flushed : (outcome : Outcome) (last after : Output) → after.kept ≡ [] → PrintsBatches form front old new before mid (Ok outcome)
-        → Puts mid last (outcome_tail form outcome new.taken) → Puts last after [] → PrintsAll form front old new before after (Ok outcome)
+    pub flushed : (outcome : Outcome) (last after : Output) → after.kept ≡ [] → PrintsBatches options front old new before mid (Ok outcome)
+        → Puts mid last (outcome_tail options.form outcome new.taken) → Puts last after []
+        → PrintsAll options front old new before after (Ok outcome)
     flushed (Whole e tally) last after empty p tail q = (
       record {
         middle = mid;
@@ -170,8 +179,10 @@ module _ (form : Form) (front : List ℕ) (old new : Reader) where
         tail = put_at mid after _ _ (append-nil _ ∙ tail_is e tally p.0.0.batches p.0.1) (puts_then mid last after _ [] tail q);
       },
       p.1,
+      p.2,
     )
-    flushed (Broken f) last after empty p tail q = (rows_flushed (Err f) after empty p.0 (puts_then mid last after [] [] tail q), p.1)
+    flushed (Broken f) last after empty p tail q =
+        (p.0, rows_flushed p.0 after empty p.1 (puts_then mid last after [] [] tail q), p.2, p.3)
     flushed (Lacking f) last after empty p tail q =
         let h = p.0 in (
           record {
@@ -190,8 +201,8 @@ module _ (form : Form) (front : List ℕ) (old new : Reader) where
           p.1,
         )
 
-    rows_unflushed : (r : Result End Fault) (w : Option (List ℕ)) (n : ℕ) → PrintsRows form front old new before mid r
-        → PutFails mid w n [] Write → PrintsPart form front old new before w n Write
+    rows_unflushed : (r : Result End Fault) (w : Option (List ℕ)) (n : ℕ) → PrintsRows options.form front old new before mid r
+        → PutFails mid w n [] Write → PrintsPart options.form front old new before w n Write
     rows_unflushed r w n p q =
         let missing = missing_then before mid w n _ [] Write 0 p.puts (missing_all mid w n [] Write p.sent q) in
         record {
@@ -212,24 +223,25 @@ module _ (form : Form) (front : List ℕ) (old new : Reader) where
 
     -- the text of batches and of the first rows of one more is a beginning of the text with all its rows
     all_rows : (batches : List BatchRows) (rows : BatchRows) (count : ℕ)
-        → front ++ batch_lines (head_of form) line_in (batches ++ rows ∷ [])
-        ≡ ((front ++ batch_lines (head_of form) line_in batches) ++ (head_of form rows.pairs ++ lines line_in (take count rows.rows)))
+        → front ++ batch_lines (head_of options.form) line_in (batches ++ rows ∷ [])
+        ≡ ((front ++ batch_lines (head_of options.form) line_in batches)
+        ++ (head_of options.form rows.pairs ++ lines line_in (take count rows.rows)))
         ++ lines line_in (drop count rows.rows)
     all_rows batches rows count =
-        let texts = batch_lines (head_of form) line_in batches in
-        let head = head_of form rows.pairs in
-        ap (λ (t : List ℕ). front ++ t) (sym (batch_lines_more line_in (head_of form) batches rows))
+        let texts = batch_lines (head_of options.form) line_in batches in
+        let head = head_of options.form rows.pairs in
+        ap (λ (t : List ℕ). front ++ t) (sym (batch_lines_more line_in (head_of options.form) batches rows))
         ∙ (sym (append_assoc front texts (head ++ lines line_in rows.rows))
         ∙ (ap (λ (t : List ℕ). (front ++ texts) ++ t) (head_rest line_in head rows.rows count)
         ∙ sym (append_assoc (front ++ texts) (head ++ lines line_in (take count rows.rows)) (lines line_in (drop count rows.rows)))))
 
     -- the tail of a stream that was read to its end was not put
     pub tail_cut : (outcome : Outcome) (w : Option (List ℕ)) (n : ℕ) (e : PrintFault) → IsWhole outcome
-        → PrintsBatches form front old new before mid (Ok outcome) → PutFails mid w n (outcome_tail form outcome new.taken) e
-        → PrintsPart form front old new before w n e
+        → PrintsBatches options front old new before mid (Ok outcome) → PutFails mid w n (outcome_tail options.form outcome new.taken) e
+        → PrintsPart options.form front old new before w n e
     tail_cut (Whole end tally) w n e is p q =
         let r = p.0.0 in
-        let tail = outcome_tail form (Whole end tally) new.taken in
+        let tail = outcome_tail options.form (Whole end tally) new.taken in
         let missing = missing_then before mid w n _ tail e (length tail) r.puts (missing_all mid w n tail e r.sent q) in
         record {
           x = r.x;
@@ -243,22 +255,22 @@ module _ (form : Form) (front : List ℕ) (old new : Reader) where
           tail = tail;
           ends = inr (end, (new.taken, tail_is end tally r.batches p.0.1));
           puts = missing.0;
-          few = omega (arith, missing.1, length-append (last_lines front (head_of form) line_in r.batches) tail);
-          works = λ other. p.1;
+          few = omega (arith, missing.1, length-append (last_lines front (head_of options.form) line_in r.batches) tail);
+          works = λ other. p.2;
         }
     tail_cut (Broken f) w n e is p q = absurd is
     tail_cut (Lacking f) w n e is p q = absurd is
 
     -- what was kept did not go out
     pub unflushed : (outcome : Outcome) (last : Output) (w : Option (List ℕ)) (n : ℕ)
-        → PrintsBatches form front old new before mid (Ok outcome) → Puts mid last (outcome_tail form outcome new.taken)
-        → PutFails last w n [] Write → PrintsPart form front old new before w n Write
+        → PrintsBatches options front old new before mid (Ok outcome) → Puts mid last (outcome_tail options.form outcome new.taken)
+        → PutFails last w n [] Write → PrintsPart options.form front old new before w n Write
     unflushed (Whole e tally) last w n p tail q =
         tail_cut (Whole e tally) w n Write tt p (not_at mid w n _ _ Write (append-nil _) (puts_not_then mid last w n _ [] Write tail q))
-    unflushed (Broken f) last w n p tail q = rows_unflushed (Err f) w n p.0 (puts_not_then mid last w n [] [] Write tail q)
+    unflushed (Broken f) last w n p tail q = rows_unflushed p.0 w n p.1 (puts_not_then mid last w n [] [] Write tail q)
     unflushed (Lacking f) last w n p tail q =
         let h = p.0 in
-        let sent = head_of form h.last.pairs ++ lines line_in (take h.count h.last.rows) in
+        let sent = head_of options.form h.last.pairs ++ lines line_in (take h.count h.last.rows) in
         let unsent = lines line_in (drop h.count h.last.rows) in
         let cut = puts_not_then mid last w n [] [] Write tail q in
         let first = missing_at before w n _ _ Write (length mid.kept) (append-nil _)
@@ -283,9 +295,9 @@ module _ (form : Form) (front : List ℕ) (old new : Reader) where
             missing.1,
             h.few,
             length-append sent unsent,
-            ap length (head_rest line_in (head_of form h.last.pairs) h.last.rows h.count),
-            ap length (last_lines_more line_in (head_of form) front h.batches h.last),
-            length-append (last_lines front (head_of form) line_in (h.batches ++ h.last ∷ [])) [],
+            ap length (head_rest line_in (head_of options.form h.last.pairs) h.last.rows h.count),
+            ap length (last_lines_more line_in (head_of options.form) front h.batches h.last),
+            length-append (last_lines front (head_of options.form) line_in (h.batches ++ h.last ∷ [])) [],
           );
           works = λ other. absurd (other refl);
         }

@@ -2,7 +2,7 @@
 use Rattle.ipc_model.specs.declared.table.BatchRows.{BatchRows}
 use Rattle.std.proofs.Common.{refl, ◌≡◌, ◌≢◌, ◌∙◌, sym, ap, subst, ℕ, inl, inr, List, [], ◌∷◌, ◌++◌, map, take, drop, Option, Some, None}
 use Rattle.std.proofs.Common.{Result, Ok, Err, append_assoc, append-nil, arith}
-use Rattle.std.specs.Prelude.{⊤}
+use Rattle.std.specs.Prelude.{⊤, Bool}
 use Rattle.std.specs.Io.KnownBytes.{Appends, Consumes, IsAtEnd, Keeps}
 use Rattle.std.proofs.KnownBytes.{Consumes-trans, Keeps-refl}
 use Rattle.ipc_model.specs.declared.fault.Fault.{Fault}
@@ -16,6 +16,7 @@ use Rattle.ipc_model.specs.declared.fault.WriteFault.{WriteFault}
 use Rattle.ipc_model.specs.Numbering.{write_fault_status}
 use Rattle.ipc_moments.specs.declared.fault.TextFault.{TextFault}
 use Rattle.ipc_print.specs.declared.form.Form.{Form}
+use Rattle.ipc_print.specs.declared.form.PrintOptions.{PrintOptions}
 use Rattle.ipc_print.specs.declared.rows.PrintFault.{PrintFault}
 use Rattle.ipc_print.specs.declared.rows.PrintFault.TheVariants as p
 use Rattle.ipc_print.specs.declared.stop.Stop.{Stop}
@@ -23,11 +24,11 @@ use Rattle.ipc_print.specs.declared.stop.Stop.TheVariants as stop
 use Rattle.ipc_print.specs.Forms.{front_text, head_of, line_of, tail_text}
 use Rattle.ipc_decode.specs.Counts.{count_up, messages_in}
 use Rattle.std.specs.Prelude.{length}
-use Rattle.ipc_print.specs.Output.{Output, output, Grows}
+use Rattle.ipc_print.specs.Output.{Output, output, Grows, Puts, PutFails}
 use Rattle.ipc_print.specs.Rows.{lines, batch_lines}
 use Rattle.ipc_print.specs.Streams.{PrintsTable, Breaks, unopened, broken, Stops, unfit, refused, PrintsSome, nothing, some, PrintsStream}
 use Rattle.ipc_print.specs.Streams.{Prints, PrintsRows, PrintsPart, RefusesRow, write_fault}
-use Rattle.ipc_print.specs.Streams.{printed, last_printed}
+use Rattle.ipc_print.specs.Streams.{PrintsSchema, printed, last_printed, schema_line}
 use Rattle.ipc_print.proofs.Messages.{ReadsCounted}
 use Rattle.ipc_print.proofs.Puts.{grows_more, grows_then}
 use Rattle.ipc_print.proofs.Texts.{batch_lines_more, head_rest, last_lines_more}
@@ -64,23 +65,29 @@ pub one_more : (t : Table) (rows : BatchRows) → schema t.schema ∷ map batch 
 one_more t rows = ap (λ (es : List Event). schema t.schema ∷ es) (map-append batch t.batches (rows ∷ []))
 
 -- why rows weren't printed is no refusal
-no_refusal : (why : PrintFault) → write_fault_status (write_fault why) ≢ 1
+pub no_refusal : (why : PrintFault) → write_fault_status (write_fault why) ≢ 1
 no_refusal p.Write is = absurd (omega (arith, is))
 no_refusal p.OutOfMemory is = absurd (omega (arith, is))
 
-module _ {limits : Limits} (form : Form) (old : Option (List ℕ)) (s t : Reader) (o : Opens limits old s)
+-- the message that a reader was opened with is a schema's
+schema_opened : {limits : Limits} → (old : Option (List ℕ)) (s : Reader) (o : Opens limits old s) → OpensStream limits s.schema o.x
+schema_opened {limits} old s o =
+    let begun_here : in_force_of s ≡ begun s.schema = ap (λ d. record { schema = s.schema; dictionaries = d }) o.no_dictionary in
+    subst (λ i. Run limits None o.x (schema s.schema ∷ []) (Some i)) begun_here o.run
+
+module _ {limits : Limits} (options : PrintOptions) (old : Option (List ℕ)) (s t : Reader) (o : Opens limits old s)
     (w0 w1 : Option (List ℕ)) (n0 n1 : ℕ) where
   abbrev front : List ℕ
-  front = front_text form s.schema
+  front = front_text options.form s.schema
 
   -- after the schema's message no dictionary is in force
   begun_here : in_force_of s ≡ begun s.schema
   begun_here = ap (λ d. record { schema = s.schema; dictionaries = d }) o.no_dictionary
 
   opened : OpensStream limits s.schema o.x
-  opened = subst (λ i. Run limits None o.x (schema s.schema ∷ []) (Some i)) begun_here o.run
+  opened = schema_opened old s o
 
-  module _ (after : Output) (a : Result End Fault) (r : PrintsRows form front s t (output w0 n0 []) after a) where
+  module _ (after : Output) (a : Result End Fault) (r : PrintsRows options.form front s t (output w0 n0 []) after a) where
     abbrev table : Table
     table = record { schema = s.schema; batches = r.batches }
 
@@ -103,8 +110,8 @@ module _ {limits : Limits} (form : Form) (old : Option (List ℕ)) (s t : Reader
         let counted = r.numbered 1 (omega (arith, o.one_message)) in
         omega (arith, counted, reads_behind.1)
 
-  rows_refused : (fault : TextFault) → RefusesRow form front s t (output w0 n0 []) (output w1 n1 []) fault
-      → Stops form limits old t.remaining w0 w1 fault
+  rows_refused : (fault : TextFault) → RefusesRow options.form front s t (output w0 n0 []) (output w1 n1 []) fault
+      → Stops options.form limits old t.remaining w0 w1 fault
   rows_refused fault r =
       let whole : Table = record { schema = s.schema; batches = r.batches } in
       refused (o.x ++ r.x) whole r.last r.count r.state (Consumes-trans old s.remaining t.remaining o.x r.x o.bytes r.bytes)
@@ -113,7 +120,8 @@ module _ {limits : Limits} (form : Form) (old : Option (List ℕ)) (s t : Reader
       (subst (λ l. Run l (Some (in_force_of s)) r.x (map batch (r.batches ++ r.last ∷ [])) r.state) o.same_limits r.run)))
       r.have r.refuses (grows_appends w0 w1 _ r.puts.bytes)
 
-  part : (why : PrintFault) → PrintsPart form front s t (output w0 n0 []) w1 n1 why → PrintsSome form limits old t.remaining w0 w1
+  part : (why : PrintFault) → PrintsPart options.form front s t (output w0 n0 []) w1 n1 why
+      → PrintsSome options.form limits old t.remaining w0 w1
   part why r =
       some (o.x ++ r.whole) r.rest r.puts.behind r.tail (record { schema = s.schema; batches = r.batches }) r.state
       (subst (λ (z : List ℕ). Consumes old t.remaining z) (ap (λ (z : List ℕ). o.x ++ z) r.joined ∙ sym (append_assoc o.x r.whole r.rest))
@@ -122,9 +130,9 @@ module _ {limits : Limits} (form : Form) (old : Option (List ℕ)) (s t : Reader
       (subst (λ l. Run l (Some (in_force_of s)) r.whole (map batch r.batches) r.state) o.same_limits r.run))
       r.ends r.puts.bytes r.few
 
-  prints_rows : (r : Result ⊤ Stop) → PrintsStream form s t (output w0 n0 []) (output w1 n1 []) r
-      → Prints form limits old t.remaining w0 w1 r
-  prints_rows (Ok done) (fits, (end, all)) =
+  prints_rows : (r : Result ⊤ Stop) → PrintsStream options s t (output w0 n0 []) (output w1 n1 []) r
+      → Prints options limits old t.remaining w0 w1 r
+  prints_rows (Ok done) (fits, (end, all, marked)) =
       let r = all.rows in
       let reads = all_reads all.middle (Ok end) r in
       let long = length-append o.x r.x in
@@ -138,16 +146,17 @@ module _ {limits : Limits} (form : Form) (old : Option (List ℕ)) (s t : Reader
         denotes = denotes (o.x ++ r.x) reads.whole reads.rest
             (record { schema = s.schema; batches = r.batches }) reads.state t.remaining end reads.joined reads.run reads.ends;
         closed = at_end limits reads.state reads.rest t.remaining end reads.ends;
+        marked = marked;
         fits = fits;
         rows = r.have;
-        text = subst (λ (n : ℕ). Appends w0 w1 (printed form s.schema r.batches ++ tail_text form end n r.batches)) taken
+        text = subst (λ (n : ℕ). Appends w0 w1 (printed options.form s.schema r.batches ++ tail_text options.form end n r.batches)) taken
             (grows_appends w0 w1 _ (grows_then w0 all.middle.written w1 [] all.middle.kept [] _ _ r.puts.bytes all.tail.bytes));
       }
-  prints_rows (Err (stop.Read fault n)) (r, tells, number) =
+  prints_rows (Err (stop.Read fault n)) (answer, r, ends, tells, number) =
       let after = output w1 n1 [] in
-      broken o.x r.x (record { schema = s.schema; batches = r.batches }) (all_bytes after (Err fault) r) opened
-      (reads_behind after (Err fault) r).0 (number ∙ numbered after (Err fault) r) r.have
-      (grows_appends w0 w1 (printed form s.schema r.batches) r.puts.bytes)
+      broken o.x r.x (record { schema = s.schema; batches = r.batches }) answer (all_bytes after answer r) opened
+      (reads_behind after answer r).0 ends (number ∙ numbered after answer r) r.have
+      (grows_appends w0 w1 (printed options.form s.schema r.batches) r.puts.bytes)
   prints_rows (Err (stop.Text fault)) (inl other) =
       let taken : Consumes old t.remaining o.x = subst (λ (z : Reader). Consumes old z.remaining o.x) (sym other.same) o.bytes in
       let silent : Keeps w0 w1 = subst (λ (z : Output). Keeps w0 z.written) (sym other.silent) (Keeps-refl w0) in
@@ -157,16 +166,17 @@ module _ {limits : Limits} (form : Form) (old : Option (List ℕ)) (s t : Reader
       (subst (λ (f : WriteFault). write_fault_status f ≢ 1) (sym is) (no_refusal why), part why r)
 
 -- the same with the source that came back
-pub prints_all : {limits : Limits} → (form : Form) (old new : Option (List ℕ)) (s t : Reader) (w0 w1 : Option (List ℕ)) (n0 n1 : ℕ)
-    (r : Result ⊤ Stop) → Opens limits old s → new ≡ t.remaining → PrintsStream form s t (output w0 n0 []) (output w1 n1 []) r
-    → Prints form limits old new w0 w1 r
-prints_all {limits} form old new s t w0 w1 n0 n1 r o is h =
-    subst (λ (z : Option (List ℕ)). Prints form limits old z w0 w1 r) (sym is) (prints_rows form old s t o w0 w1 n0 n1 r h)
+pub prints_all : {limits : Limits} → (options : PrintOptions) (old new : Option (List ℕ)) (s t : Reader)
+    (w0 w1 : Option (List ℕ)) (n0 n1 : ℕ)
+    (r : Result ⊤ Stop) → Opens limits old s → new ≡ t.remaining → PrintsStream options s t (output w0 n0 []) (output w1 n1 []) r
+    → Prints options limits old new w0 w1 r
+prints_all {limits} options old new s t w0 w1 n0 n1 r o is h =
+    subst (λ (z : Option (List ℕ)). Prints options limits old z w0 w1 r) (sym is) (prints_rows options old s t o w0 w1 n0 n1 r h)
 
 -- no schema was read
-pub prints_none : {limits : Limits} → (form : Form) (old new w : Option (List ℕ)) (fault : Fault) → OpenFails limits old new fault
-    → Breaks form limits old new w w fault 0
-prints_none form old new w fault o = unopened o.x o.bytes o.reads refl (Keeps-refl w)
+pub prints_none : {limits : Limits} → (form : Form) (mark : Bool) (old new w : Option (List ℕ)) (fault : Fault)
+    → OpenFails limits old new fault → Breaks form mark limits old new w w fault 0
+prints_none form mark old new w fault o = unopened o.x o.bytes o.reads refl (Keeps-refl w)
 
 -- what was read after a schema's message, as what was read from the first byte on
 pub reads_opened : {limits : Limits} → (x y : List ℕ) (t : Table) (left : Option (List ℕ)) (answer : Result End Fault)
@@ -176,11 +186,11 @@ reads_opened x y t left answer opens reads =
     reads_after None (Some (begun t.schema)) x y left (schema t.schema ∷ []) (map batch t.batches) answer opens reads
 
 -- why a stream isn't read to its end, as what was printed
-broken_part : {limits : Limits} → (form : Form) (old new w0 w1 : Option (List ℕ)) (fault : Fault) (n : ℕ)
-    → Breaks form limits old new w0 w1 fault n → PrintsSome form limits old new w0 w1
-broken_part form old new w0 w1 fault n (unopened x bytes reads number kept) = nothing x bytes kept
-broken_part form old new w0 w1 fault n (broken x y t bytes opens behind number have text) =
-    let reads = reads_opened x y t new (Err fault) opens behind in
+broken_part : {limits : Limits} → (form : Form) (mark : Bool) (old new w0 w1 : Option (List ℕ)) (fault : Fault) (n : ℕ)
+    → Breaks form mark limits old new w0 w1 fault n → PrintsSome form limits old new w0 w1
+broken_part form mark old new w0 w1 fault n (unopened x bytes reads number kept) = nothing x bytes kept
+broken_part form mark old new w0 w1 fault n (broken x y t answer bytes opens behind required number have text) =
+    let reads = reads_opened x y t new answer opens behind in
     some reads.whole reads.rest [] [] t reads.state (subst (λ (z : List ℕ). Consumes old new z) reads.joined bytes) reads.run (inl refl)
     (appends_grows w0 w1 _ (subst (λ (z : List ℕ). Appends w0 w1 z) (sym (append-nil _)) text)) (omega arith)
 
@@ -221,9 +231,9 @@ stopped_part {limits} form old new w0 w1 fault (refused x t rows count σ bytes 
       length-append (last_printed form t.schema (t.batches ++ rows ∷ [])) [],
     ))
 
-table_part : {limits : Limits} → (form : Form) (old new w0 w1 : Option (List ℕ)) → PrintsTable form limits old new w0 w1
+table_part : {limits : Limits} → (form : Form) (mark : Bool) (old new w0 w1 : Option (List ℕ)) → PrintsTable form mark limits old new w0 w1
     → PrintsSome form limits old new w0 w1
-table_part {limits} form old new w0 w1 s = by_end s.end s.denotes
+table_part {limits} form mark old new w0 w1 s = by_end s.end s.denotes
   where
     by_end : (end : End) → Denotes limits s.x s.table end → PrintsSome form limits old new w0 w1
     by_end Mark d = some d.0 _ [] _ s.table d.2.0 (subst (λ (z : List ℕ). Consumes old new z) d.1 s.bytes) d.2.1
@@ -232,9 +242,37 @@ table_part {limits} form old new w0 w1 s = by_end s.end s.denotes
         (inr (s.end, (count_up 0 (length s.x), refl))) (appends_grows w0 w1 _ s.text) (omega arith)
 
 -- whatever the answer, a beginning of the text of the batches that were read was printed
-pub part_of : {limits : Limits} → (form : Form) (old new w0 w1 : Option (List ℕ)) (r : Result ⊤ Stop) → Prints form limits old new w0 w1 r
-    → PrintsSome form limits old new w0 w1
-part_of form old new w0 w1 (Ok done) h = table_part form old new w0 w1 h
-part_of form old new w0 w1 (Err (stop.Read fault n)) h = broken_part form old new w0 w1 fault n h
-part_of form old new w0 w1 (Err (stop.Text fault)) h = stopped_part form old new w0 w1 fault h
-part_of form old new w0 w1 (Err (stop.Write fault)) h = h.1
+pub part_of : {limits : Limits} → (options : PrintOptions) (old new w0 w1 : Option (List ℕ)) (r : Result ⊤ Stop)
+    → Prints options limits old new w0 w1 r → PrintsSome options.form limits old new w0 w1
+part_of options old new w0 w1 (Ok done) h = table_part options.form options.require_mark old new w0 w1 h
+part_of options old new w0 w1 (Err (stop.Read fault n)) h = broken_part options.form options.require_mark old new w0 w1 fault n h
+part_of options old new w0 w1 (Err (stop.Text fault)) h = stopped_part options.form old new w0 w1 fault h
+part_of options old new w0 w1 (Err (stop.Write fault)) h = h.1
+
+-- the schema of a stream, as its line was printed
+pub schema_printed : {limits : Limits} → (old new : Option (List ℕ)) (s : Reader) (w0 w1 : Option (List ℕ)) (n0 n1 : ℕ)
+    → Opens limits old s → new ≡ s.remaining → Puts (output w0 n0 []) (output w1 n1 []) (schema_line s.schema)
+    → PrintsSchema limits old new w0 w1 (Ok tt)
+schema_printed {limits} old new s w0 w1 n0 n1 o is p = (
+  o.x,
+  s.schema,
+  subst (λ (z : Option (List ℕ)). Consumes old z o.x) (sym is) o.bytes,
+  schema_opened old s o,
+  grows_appends w0 w1 (schema_line s.schema) p.bytes,
+)
+
+-- the same where the line was not put whole
+pub schema_cut : {limits : Limits} → (old new : Option (List ℕ)) (s : Reader) (w0 w1 : Option (List ℕ)) (n0 n1 : ℕ) (why : PrintFault)
+    → Opens limits old s → new ≡ s.remaining → PutFails (output w0 n0 []) w1 n1 (schema_line s.schema) why
+    → PrintsSchema limits old new w0 w1 (Err (stop.Write (write_fault why)))
+schema_cut {limits} old new s w0 w1 n0 n1 why o is p = (
+  no_refusal why,
+  (
+    o.x,
+    s.schema,
+    p.behind,
+    subst (λ (z : Option (List ℕ)). Consumes old z o.x) (sym is) o.bytes,
+    schema_opened old s o,
+    p.bytes,
+  ),
+)

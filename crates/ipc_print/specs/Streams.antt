@@ -1,11 +1,11 @@
 -- What is read from a stream and printed, for each result.
 use Rattle.ipc_model.specs.declared.table.BatchRows.{BatchRows}
 use Rattle.std.specs.Prelude.{◌≡◌, ◌≢◌, ◌⊎◌, ◌+◌, ◌≤◌, ℕ, List, [], ◌∷◌, ◌++◌, length, map, take}
-use Rattle.std.specs.Prelude.{Option, Some, None}
+use Rattle.std.specs.Prelude.{Bool, IsTrue, Option, Some, None, false, true}
 use Rattle.std.specs.Prelude.{Result, Ok, Err, ⊤, Contains}
 use Rattle.std.specs.Io.KnownBytes.{Appends, Consumes, IsAtEnd, Keeps}
 use Rattle.ipc_model.specs.declared.fault.Fault.{Fault}
-use Rattle.ipc_model.specs.declared.fault.Fault.TheVariants.{OutOfMemory}
+use Rattle.ipc_model.specs.declared.fault.Fault.TheVariants.{OutOfMemory, Truncated}
 use Rattle.ipc_model.specs.declared.fault.WriteFault.{WriteFault}
 use Rattle.ipc_model.specs.declared.fault.WriteFault.TheVariants as w
 use Rattle.ipc_model.specs.Numbering.{fault_status, write_fault_status}
@@ -15,16 +15,18 @@ use Rattle.ipc_model.specs.declared.schema.Schema.{Schema}
 use Rattle.ipc_model.specs.declared.table.Table.{Table}
 use Rattle.ipc_model.specs.declared.value.Value.{Value}
 use Rattle.ipc_decode.specs.declared.end.End.{End}
-use Rattle.ipc_decode.specs.declared.end.End.TheVariants.{Closed}
+use Rattle.ipc_decode.specs.declared.end.End.TheVariants.{Closed, Mark}
 use Rattle.ipc_decode.specs.Stream.{State, schema, batch, begun, Run, events_of, Denotes}
 use Rattle.ipc_decode.specs.Stream.{OpensStream}
 use Rattle.ipc_decode.specs.Failures.{Tells}
-use Rattle.ipc_decode.specs.Reasons.{Reads}
+use Rattle.ipc_decode.specs.Reasons.{IsOutside, Reads}
 use Rattle.ipc_decode.specs.Reader.{Reader, in_force_of}
 use Rattle.ipc_decode.specs.Counts.{count_up, messages_in}
+use Rattle.ipc_json.specs.SchemaJson.{schema_text}
 use Rattle.ipc_moments.specs.declared.fault.TextFault.{TextFault}
 use Rattle.ipc_moments.specs.declared.fault.TextFault.TheVariants as x
 use Rattle.ipc_print.specs.declared.form.Form.{Form}
+use Rattle.ipc_print.specs.declared.form.PrintOptions.{PrintOptions}
 use Rattle.ipc_print.specs.declared.rows.PrintFault.{PrintFault}
 use Rattle.ipc_print.specs.declared.rows.PrintFault.TheVariants as p
 use Rattle.ipc_print.specs.declared.stop.Stop.{Stop}
@@ -49,16 +51,24 @@ abbrev pub last_printed : Form → Schema → List BatchRows → List ℕ
 last_printed form s batches =
     last_lines (front_text form s) (head_of form) (line_of form s.fields) batches
 
--- the bytes that were taken denote a table and its end, and exactly its text was printed: the
--- front, the rows in order, and the text at the end
-pub record PrintsTable (form : Form) (limits : Limits) (old new written_old written_new : Option
-    (List ℕ)) : Type 0 where
+-- how reading ends for a caller: at the source's end, with F4 if the end mark is required
+abbrev pub as_required : Bool → Result End Fault → Result End Fault
+as_required mark (Err fault) = Err fault
+as_required mark (Ok Mark) = Ok Mark
+as_required true (Ok Closed) = Err Truncated
+as_required false (Ok Closed) = Ok Closed
+
+-- the bytes that were taken denote a table and its end, which is the end mark if that is required,
+-- and exactly its text was printed: the front, the rows in order, and the text at the end
+pub record PrintsTable (form : Form) (mark : Bool) (limits : Limits)
+    (old new written_old written_new : Option (List ℕ)) : Type 0 where
   pub x : List ℕ
   pub table : Table
   pub end : End
   pub bytes : Consumes old new x
   pub denotes : Denotes limits x table end
   pub closed : end ≡ Closed → IsAtEnd new
+  pub marked : IsTrue mark → end ≡ Mark
   pub fits : form_fault form table.schema.fields ≡ None
   pub rows : HaveAllLines form table.schema.fields table.batches
   pub text : Appends written_old written_new (printed form table.schema table.batches
@@ -66,21 +76,21 @@ pub record PrintsTable (form : Form) (limits : Limits) (old new written_old writ
 
 -- why a stream is not read to its end, what was printed before, and the number of the message at
 -- which reading broke off: the count of the messages before it
-pub data Breaks (form : Form) (limits : Limits) (old new written_old written_new : Option (List ℕ))
-    (fault : Fault) (message : ℕ) : Type 0 where
+pub data Breaks (form : Form) (mark : Bool) (limits : Limits)
+    (old new written_old written_new : Option (List ℕ)) (fault : Fault) (message : ℕ) : Type 0 where
   -- no schema was read, and nothing was printed
   unopened : (x : List ℕ) → Consumes old new x → Reads limits None x new [] (Err fault)
       → message ≡ 0 → Keeps written_old written_new
-      → Breaks form limits old new written_old written_new fault message
-  -- reading broke off after a schema and batches, whose text was printed; the messages that were
-  -- read are counted, the schema's included
-  broken : (x y : List ℕ) (table : Table) → Consumes old new (x ++ y)
+      → Breaks form mark limits old new written_old written_new fault message
+  -- reading broke off after a schema and batches, whose text was printed, or it ended there without
+  -- the mark that is required; the messages that were read are counted, the schema's included
+  broken : (x y : List ℕ) (table : Table) (answer : Result End Fault) → Consumes old new (x ++ y)
       → OpensStream limits table.schema x
       → (reads : Reads limits (Some (begun table.schema)) y new (map batch table.batches)
-      (Err fault)) → message ≡ count_up 1 (messages_in reads.run)
+      answer) → as_required mark answer ≡ Err fault → message ≡ count_up 1 (messages_in reads.run)
       → HaveAllLines form table.schema.fields table.batches
       → Appends written_old written_new (printed form table.schema table.batches)
-      → Breaks form limits old new written_old written_new fault message
+      → Breaks form mark limits old new written_old written_new fault message
 
 -- why a table that is read is not printed to its end, and what was printed before
 pub data Stops (form : Form) (limits : Limits) (old new written_old written_new : Option (List ℕ))
@@ -154,16 +164,46 @@ TellsFailures source_old source_new sink_old sink_new (Err (stop.Write fault)) =
 
 -- what a result states about a stream that is printed; if printing stopped, a beginning of the text
 -- was printed
-abbrev pub Prints : Form → Limits → Option (List ℕ) → Option (List ℕ) → Option (List ℕ)
+abbrev pub Prints : PrintOptions → Limits → Option (List ℕ) → Option (List ℕ) → Option (List ℕ)
     → Option (List ℕ) → Result ⊤ Stop → Type 0
-Prints form limits old new written_old written_new (Ok done) =
-    PrintsTable form limits old new written_old written_new
-Prints form limits old new written_old written_new (Err (stop.Read fault message)) =
-    Breaks form limits old new written_old written_new fault message
-Prints form limits old new written_old written_new (Err (stop.Text fault)) =
-    Stops form limits old new written_old written_new fault
-Prints form limits old new written_old written_new (Err (stop.Write fault)) =
-    (write_fault_status fault ≢ 1) × PrintsSome form limits old new written_old written_new
+Prints options limits old new written_old written_new (Ok done) =
+    PrintsTable options.form options.require_mark limits old new written_old written_new
+Prints options limits old new written_old written_new (Err (stop.Read fault message)) =
+    Breaks options.form options.require_mark limits old new written_old written_new fault message
+Prints options limits old new written_old written_new (Err (stop.Text fault)) =
+    Stops options.form limits old new written_old written_new fault
+Prints options limits old new written_old written_new (Err (stop.Write fault)) =
+    (write_fault_status fault ≢ 1) × PrintsSome options.form limits old new written_old written_new
+
+-- the line of a schema: its JSON text and a line feed
+abbrev pub schema_line : Schema → List ℕ
+schema_line s = schema_text s ++ 10 ∷ []
+
+-- what a result states about the schema of a stream that is printed. At Ok exactly the message of
+-- the schema was taken, and its line was printed; at `Read` no schema was read, and nothing was
+-- printed; at `Write` a beginning of the line was printed
+abbrev pub PrintsSchema : Limits → Option (List ℕ) → Option (List ℕ) → Option (List ℕ)
+    → Option (List ℕ) → Result ⊤ Stop → Type 0
+PrintsSchema limits old new written_old written_new (Ok done) =
+    (x : List ℕ) × (s : Schema) × Consumes old new x × OpensStream limits s x
+    × Appends written_old written_new (schema_line s)
+PrintsSchema limits old new written_old written_new (Err (stop.Read fault message)) =
+    (x : List ℕ) × Consumes old new x × Reads limits None x new [] (Err fault) × (message ≡ 0)
+    × Keeps written_old written_new
+PrintsSchema limits old new written_old written_new (Err (stop.Text fault)) = ⊥
+PrintsSchema limits old new written_old written_new (Err (stop.Write fault)) =
+    (write_fault_status fault ≢ 1) × ((x : List ℕ) × (s : Schema) × (behind : List ℕ)
+    × Consumes old new x × OpensStream limits s x
+    × Grows written_old [] written_new behind (schema_line s))
+
+-- the result if the source begins with the message of this schema: its line was printed, or the
+-- source or the sink failed, or memory ran out
+abbrev pub AnswersSchema : Schema → Option (List ℕ) → Option (List ℕ) → Result ⊤ Stop → Type 0
+AnswersSchema s written_old written_new (Ok done) =
+    Appends written_old written_new (schema_line s)
+AnswersSchema s written_old written_new (Err (stop.Read fault message)) = IsOutside fault
+AnswersSchema s written_old written_new (Err (stop.Text fault)) = ⊥
+AnswersSchema s written_old written_new (Err (stop.Write fault)) = write_fault_status fault ≢ 1
 
 -- the columns of a table cannot be printed in the form, or some row cannot, which is the first one
 -- of its batch
@@ -278,25 +318,30 @@ pub record Unfit (form : Form) (old new : Reader) (before after : Output)
   pub silent : after ≡ before
 
 -- what a result states about the rows that are printed after `front`
-abbrev pub PrintsBatches : Form → List ℕ → Reader → Reader → Output → Output
+abbrev pub PrintsBatches : PrintOptions → List ℕ → Reader → Reader → Output → Output
     → Result Outcome PrintFault → Type 0
-PrintsBatches form front old new before after (Ok (o.Whole end tally)) =
-    ((rows : PrintsRows form front old new before after (Ok end)) × IsTally tally rows.batches)
+PrintsBatches options front old new before after (Ok (o.Whole end tally)) =
+    ((rows : PrintsRows options.form front old new before after (Ok end))
+    × IsTally tally rows.batches) × (IsTrue options.require_mark → end ≡ Mark)
     × (old.failures ≡ 0 → new.failures ≡ 0)
-PrintsBatches form front old new before after (Ok (o.Broken fault)) =
-    PrintsRows form front old new before after (Err fault) × Tells old.failures new.failures fault
-PrintsBatches form front old new before after (Ok (o.Refused fault)) =
-    RefusesRow form front old new before after fault × (old.failures ≡ 0 → new.failures ≡ 0)
-PrintsBatches form front old new before after (Err fault) =
-    PrintsPart form front old new before after.written after.failures fault
+PrintsBatches options front old new before after (Ok (o.Broken fault)) =
+    (answer : Result End Fault) × PrintsRows options.form front old new before after answer
+    × (as_required options.require_mark answer ≡ Err fault)
+    × Tells old.failures new.failures fault
+PrintsBatches options front old new before after (Ok (o.Refused fault)) =
+    RefusesRow options.form front old new before after fault
+    × (old.failures ≡ 0 → new.failures ≡ 0)
+PrintsBatches options front old new before after (Err fault) =
+    PrintsPart options.form front old new before after.written after.failures fault
 
 -- what a result states about the rows and the text at the end that are printed after `front`
-abbrev pub PrintsAll : Form → List ℕ → Reader → Reader → Output → Output
+abbrev pub PrintsAll : PrintOptions → List ℕ → Reader → Reader → Output → Output
     → Result Outcome PrintFault → Type 0
-PrintsAll form front old new before after (Ok (o.Whole end tally)) =
-    PrintsWhole form front old new before after end × (old.failures ≡ 0 → new.failures ≡ 0)
-PrintsAll form front old new before after answer =
-    PrintsBatches form front old new before after answer
+PrintsAll options front old new before after (Ok (o.Whole end tally)) =
+    PrintsWhole options.form front old new before after end
+    × (IsTrue options.require_mark → end ≡ Mark) × (old.failures ≡ 0 → new.failures ≡ 0)
+PrintsAll options front old new before after answer =
+    PrintsBatches options front old new before after answer
 
 -- why rows were not printed, as a refusal of writing
 abbrev pub write_fault : PrintFault → WriteFault
@@ -304,19 +349,22 @@ write_fault p.Write = w.Write
 write_fault p.OutOfMemory = w.OutOfMemory
 
 -- what a result states about a stream whose schema was read
-abbrev pub PrintsStream : Form → Reader → Reader → Output → Output → Result ⊤ Stop → Type 0
-PrintsStream form old new before after (Ok done) =
-    (form_fault form old.schema.fields ≡ None)
-    × ((end : End) × PrintsWhole form (front_text form old.schema) old new before after end)
-PrintsStream form old new before after (Err (stop.Read fault message)) =
-    PrintsRows form (front_text form old.schema) old new before after (Err fault)
+abbrev pub PrintsStream : PrintOptions → Reader → Reader → Output → Output → Result ⊤ Stop → Type 0
+PrintsStream options old new before after (Ok done) =
+    (form_fault options.form old.schema.fields ≡ None)
+    × ((end : End) × PrintsWhole options.form (front_text options.form old.schema) old new before
+    after end × (IsTrue options.require_mark → end ≡ Mark))
+PrintsStream options old new before after (Err (stop.Read fault message)) =
+    (answer : Result End Fault)
+    × PrintsRows options.form (front_text options.form old.schema) old new before after answer
+    × (as_required options.require_mark answer ≡ Err fault)
     × Tells old.failures new.failures fault × (message ≡ new.messages)
-PrintsStream form old new before after (Err (stop.Text fault)) =
-    Unfit form old new before after fault
-    ⊎ RefusesRow form (front_text form old.schema) old new before after fault
-PrintsStream form old new before after (Err (stop.Write fault)) =
+PrintsStream options old new before after (Err (stop.Text fault)) =
+    Unfit options.form old new before after fault
+    ⊎ RefusesRow options.form (front_text options.form old.schema) old new before after fault
+PrintsStream options old new before after (Err (stop.Write fault)) =
     (why : PrintFault) × (fault ≡ write_fault why)
-    × PrintsPart form (front_text form old.schema) old new before after.written
+    × PrintsPart options.form (front_text options.form old.schema) old new before after.written
     after.failures why
 
 -- the result of printing a batch: its head and all its rows were put, or those before the first one

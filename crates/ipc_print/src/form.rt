@@ -1,4 +1,4 @@
-//! The forms in which a stream is printed.
+//! The forms in which a stream is printed, and the options of printing.
 
 /// What is printed of a table.
 #[derive(Clone, Copy, Debug, PartialEq, Eq)]
@@ -13,4 +13,13 @@ pub enum Form {
     },
     /// A header and records of CSV.
     Records,
+}
+
+/// What is printed of a stream, and how the stream must end.
+#[derive(Clone, Copy, Debug, PartialEq, Eq)]
+pub struct PrintOptions {
+    /// The form of the text.
+    pub form: Form,
+    /// Whether a stream that ends without the end-of-stream mark is refused.
+    pub require_mark: bool,
 }

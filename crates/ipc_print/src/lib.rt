@@ -18,6 +18,7 @@ mod plain;
 mod printing;
 mod room;
 mod rows;
+mod schema;
 mod short_rows;
 mod stop;
 mod strings;
@@ -27,6 +28,7 @@ mod types;
 mod unquoted;
 
 pub use digits::{put_i64, put_u64};
-pub use form::Form;
+pub use form::{Form, PrintOptions};
 pub use printing::print;
+pub use schema::print_schema;
 pub use stop::Stop;

@@ -1,6 +1,6 @@
 //! A stream is read, and its rows are printed as they come.
 ghost use Rattle.std.specs.Prelude.{◌≡◌, ◌++◌, ◌∷◌, ℕ, List, [], length, Some, IfErr, IfOk, OnOk};
-ghost use Rattle.std.specs.Prelude.{decimal, None, Ok};
+ghost use Rattle.std.specs.Prelude.{decimal, None, Ok, false};
 ghost use Rattle.ipc_decode.specs.Stream.{Denotes};
 ghost use Rattle.ipc_decode.specs.declared.end.End.TheVariants.{Closed, Mark};
 ghost use Rattle.ipc_decode.specs.declared.phase.Phase.TheVariants.{Reading};
@@ -10,40 +10,56 @@ ghost use Rattle.ipc_json.specs.SchemaJson.{schema_text};
 ghost use Rattle.ipc_print.specs.Forms.{counts_text, form_fault, front_text};
 ghost use Rattle.ipc_print.specs.Output.{output, PrintsAs};
 ghost use Rattle.ipc_print.specs.Streams.{AnswersTable, IsWhole, Prints, PrintsAll};
-ghost use Rattle.ipc_print.specs.Streams.{PrintsBatches};
+ghost use Rattle.ipc_print.specs.Streams.{PrintsBatches, as_required};
 ghost use Rattle.ipc_print.specs.Streams.{PrintsSome, PrintsStream, TellsFailures};
 ghost use Rattle.ipc_print.specs.Streams.{exit_status, outcome_tail, write_fault};
 
 use crate::batch_text::print_batch;
-use crate::form::Form;
+use crate::form::{Form, PrintOptions};
 use crate::rows::{Lines, PrintFault};
 use crate::stop::{Outcome, Stop, Tally};
 use ipc_csv::{check_flat, csv_header};
 use ipc_json::schema_json;
-use ipc_model::{Limits, Schema, WriteFault};
+use ipc_model::{Fault, Limits, Schema, WriteFault};
 use ipc_moments::TextFault;
 use ipc_stream::{End, Sink, Source, StreamReader};
 use itoa::Buffer;
 use std::alloc::{AllocError, Global};
 
+// The end of a stream that was read, or F4 if it is not the mark that is required.
+fn check_end(end: End, require_mark: bool) -> Result<End, Fault>
+    ensures { result ≡ as_required require_mark (Ok end) }
+{
+    match end {
+        End::Mark => Ok(End::Mark),
+        End::Closed => {
+            if require_mark {
+                return Err(Fault::Truncated);
+            }
+            Ok(End::Closed)
+        }
+    }
+}
+
 // Prints the rows of a stream, and tells how that ended. The text of each batch is sent before the
 // next one is read.
 fn print_rows<R: Source, W: Sink>(
     alloc: Global,
-    form: Form,
+    options: PrintOptions,
     stream: &mut StreamReader<R>,
     lines: &mut Lines,
     sink: &mut W,
 ) -> Result<Outcome, PrintFault>
     requires reading { stream.old.phase ≡ Reading }
-    requires fits { form_fault form stream.old.schema.fields ≡ None }
+    requires fits { form_fault options.form stream.old.schema.fields ≡ None }
     requires empty { lines.old ≡ [] }
     ensures schema { stream.new.schema ≡ stream.old.schema }
     ensures limits { stream.new.limits ≡ stream.old.limits }
-    ensures prints { PrintsBatches form [] stream.old stream.new
+    ensures prints { PrintsBatches options [] stream.old stream.new
         (output (W.written sink.old) (W.failures sink.old) lines.old)
         (output (W.written sink.new) (W.failures sink.new) lines.new) result }
 {
+    let form = options.form;
     let mut tally = Tally::none();
     loop {
         match stream.next() {
@@ -60,7 +76,10 @@ fn print_rows<R: Source, W: Sink>(
             // The reader has an end now, so none is made up.
             Ok(None) => {
                 let end = stream.end().unwrap_or(End::Closed);
-                return Ok(Outcome::Whole(end, tally));
+                match check_end(end, options.require_mark) {
+                    Ok(_) => return Ok(Outcome::Whole(end, tally)),
+                    Err(missing) => return Ok(Outcome::Broken(missing)),
+                }
             }
             Err(fault) => return Ok(Outcome::Broken(fault)),
         }
@@ -126,8 +145,8 @@ fn print_tail<W: Sink>(
     }
 }
 
-// Prints what stands in front of the rows.
-fn print_front<W: Sink>(
+/// Prints what stands in front of the rows.
+pub(crate) fn print_front<W: Sink>(
     alloc: Global,
     form: Form,
     schema: &Schema,
@@ -156,23 +175,30 @@ fn print_front<W: Sink>(
 // is read, and what comes before a fault before that is returned.
 fn print_stream<R: Source, W: Sink>(
     alloc: Global,
-    form: Form,
+    options: PrintOptions,
     stream: &mut StreamReader<R>,
     sink: &mut W,
 ) -> Result<Outcome, PrintFault>
     requires reading { stream.old.phase ≡ Reading }
-    requires fits { form_fault form stream.old.schema.fields ≡ None }
+    requires fits { form_fault options.form stream.old.schema.fields ≡ None }
     ensures works { IfOk result (λ outcome. W.failures sink.new ≡ 0) }
     ensures handed_on { IfOk result (λ outcome. W.held_back sink.new ≡ Some []) }
-    ensures prints { PrintsAll form (front_text form stream.old.schema) stream.old
+    ensures prints { PrintsAll options (front_text options.form stream.old.schema) stream.old
         stream.new (output (W.written sink.old) (W.failures sink.old) [])
         (output (W.written sink.new) (W.failures sink.new) []) result }
 {
     let mut lines = Lines::new(alloc)?;
-    print_front(alloc, form, stream.schema(), &mut lines, sink)?;
+    print_front(alloc, options.form, stream.schema(), &mut lines, sink)?;
     lines.flush(sink)?;
-    let outcome = print_rows(alloc, form, stream, &mut lines, sink)?;
-    print_tail(alloc, form, outcome, stream.taken(), &mut lines, sink)?;
+    let outcome = print_rows(alloc, options, stream, &mut lines, sink)?;
+    print_tail(
+        alloc,
+        options.form,
+        outcome,
+        stream.taken(),
+        &mut lines,
+        sink,
+    )?;
     lines.flush(sink)?;
     Ok(outcome)
 }
@@ -187,8 +213,8 @@ fn check_form(form: Form, schema: &Schema) -> Result<(), TextFault>
     }
 }
 
-// Why rows weren't printed, as a refusal of writing.
-fn write_fault_of(fault: PrintFault) -> WriteFault
+/// Why rows weren't printed, as a refusal of writing.
+pub(crate) fn write_fault_of(fault: PrintFault) -> WriteFault
     ensures { result ≡ write_fault fault }
 {
     match fault {
@@ -200,22 +226,22 @@ fn write_fault_of(fault: PrintFault) -> WriteFault
 // Prints a stream whose schema was read.
 fn print_open<R: Source, W: Sink>(
     alloc: Global,
-    form: Form,
+    options: PrintOptions,
     stream: &mut StreamReader<R>,
     sink: &mut W,
 ) -> Result<(), Stop>
     requires { stream.old.phase ≡ Reading }
     ensures handed_on { OnOk result (W.held_back sink.new ≡ Some []) }
-    ensures prints { PrintsStream form stream.old stream.new
+    ensures prints { PrintsStream options stream.old stream.new
         (output (W.written sink.old) (W.failures sink.old) [])
         (output (W.written sink.new) (W.failures sink.new) []) result }
     ensures devices { stream.old.failures ≡ 0 → TellsFailures stream.old.failures
         stream.new.failures (W.failures sink.old) (W.failures sink.new) result }
 {
-    if let Err(fault) = check_form(form, stream.schema()) {
+    if let Err(fault) = check_form(options.form, stream.schema()) {
         return Err(Stop::Text(fault));
     }
-    match print_stream(alloc, form, stream, sink) {
+    match print_stream(alloc, options, stream, sink) {
         Ok(Outcome::Whole(..)) => Ok(()),
         Ok(Outcome::Broken(fault)) => Err(Stop::Read(fault, stream.messages())),
         Ok(Outcome::Refused(fault)) => Err(Stop::Text(fault)),
@@ -223,9 +249,9 @@ fn print_open<R: Source, W: Sink>(
     }
 }
 
-/// Prints the stream of `source` to `sink` in a form, batch by batch under these limits. Returns
-/// the source. What was printed before a refusal remains valid. No byte after an end-of-stream mark
-/// is read. At Ok the sink was flushed.
+/// Prints the stream of `source` to `sink` by these options, batch by batch under these limits.
+/// Returns the source. What was printed before a refusal remains valid. No byte after an
+/// end-of-stream mark is read. At Ok the sink was flushed.
 ///
 /// The text of the schema and of each batch is written, and the sink is flushed, before the next
 /// batch is read. A batch takes one write for each 64 KiB of its text, and at least one.
@@ -233,26 +259,27 @@ fn print_open<R: Source, W: Sink>(
 /// # Errors
 ///
 /// - `Read`: the stream is refused, the source failed, or memory ran out in reading. It has the
-///   number of the message; the schema's is 0.
+///   number of the message; the schema's is 0. A required end-of-stream mark that is missing is F4
+///   at the message after the last one.
 /// - `Text`: the columns or a row have no text in this form, or memory ran out in making one.
 /// - `Write`: the sink failed, also if the source failed before it, or memory ran out in writing.
 pub fn print<R: Source, W: Sink>(
     alloc: Global,
     limits: Limits,
-    form: Form,
+    options: PrintOptions,
     source: R,
     sink: &mut W,
 ) -> (Result<(), Stop>, R)
     // At Ok the sink holds nothing back.
     ensures handed_on { OnOk result.0 (W.held_back sink.new ≡ Some []) }
-    // At Ok the bytes that were taken denote a table with its end, and exactly its text was
-    // printed; at a fault its cause is true, and exactly what came before was printed. The number
-    // of the message is the count of the messages before it.
-    ensures prints { Prints form limits (R.remaining source) (R.remaining result.1)
+    // At Ok the bytes that were taken denote a table with its end, which is the mark if that is
+    // required, and exactly its text was printed; at a fault its cause is true, and exactly what
+    // came before was printed. The number of the message is the count of the messages before it.
+    ensures prints { Prints options limits (R.remaining source) (R.remaining result.1)
         (W.written sink.old) (W.written sink.new) result.0 }
     // Whatever the answer, a beginning of the text of what was read was printed: at least all text
     // before that of the last batch that was read.
-    ensures part { PrintsSome form limits (R.remaining source) (R.remaining result.1)
+    ensures part { PrintsSome options.form limits (R.remaining source) (R.remaining result.1)
         (W.written sink.old) (W.written sink.new) }
     // With devices that had not failed before, W9 is answered exactly where the sink failed in this
     // call, and F36 exactly where the source did and the sink did not. If a device had failed
@@ -264,17 +291,18 @@ pub fn print<R: Source, W: Sink>(
     ensures marked { (x rest : List ℕ) (t : Table)
         → R.remaining source ≡ Some (x ++ rest) → Denotes limits x t Mark
         → R.failures result.1 ≡ 0
-        → AnswersTable form t Mark (length x) (W.written sink.old) (W.written sink.new) result.0 }
-    // So is one without a mark where nothing follows.
-    ensures closed { (x : List ℕ) (t : Table)
+        → AnswersTable options.form t Mark (length x) (W.written sink.old) (W.written sink.new)
+        result.0 }
+    // So is one without a mark where nothing follows, if no mark is required.
+    ensures closed { (x : List ℕ) (t : Table) → options.require_mark ≡ false
         → R.remaining source ≡ Some x → Denotes limits x t Closed → R.failures result.1 ≡ 0
-        → AnswersTable form t Closed (length x) (W.written sink.old) (W.written sink.new)
+        → AnswersTable options.form t Closed (length x) (W.written sink.old) (W.written sink.new)
         result.0 }
 {
     match StreamReader::open(alloc, limits, source) {
         Ok(stream) => {
             let mut stream = stream;
-            let result = print_open(alloc, form, &mut stream, sink);
+            let result = print_open(alloc, options, &mut stream, sink);
             (result, stream.into_inner())
         }
         Err((fault, source)) => (Err(Stop::Read(fault, 0)), source),

@@ -1,6 +1,7 @@
 -- Batches that are read and sent.
 use Rattle.std.proofs.Common.{◌≡◌, ◌∙◌, refl, sym, ap, subst, ℕ, suc, ◌+◌, List, [], ◌∷◌, ◌++◌, map, Some, None, Result, Ok}
-use Rattle.std.proofs.Common.{Err, append-nil, append_assoc, arith, false}
+use Rattle.std.proofs.Common.{Err, Option, append-nil, append_assoc, arith, false, true}
+use Rattle.std.specs.Prelude.{Bool, IsTrue, unwrap_or}
 use Rattle.std.specs.List.{AllByRecursion}
 use Rattle.std.specs.Io.KnownBytes.{Consumes}
 use Rattle.std.proofs.KnownBytes.{Appends-nil, Appends-trans, Consumes-nil, Consumes-trans}
@@ -10,11 +11,12 @@ use Rattle.ipc_model.specs.declared.fault.WriteFault.{WriteFault}
 use Rattle.ipc_model.specs.declared.limits.Limits.{Limits}
 use Rattle.ipc_model.specs.declared.table.BatchRows.{BatchRows}
 use Rattle.ipc_decode.specs.declared.end.End.{End}
+use Rattle.ipc_decode.specs.declared.end.End.TheVariants.{Closed, Mark}
 use Rattle.ipc_decode.specs.declared.phase.Phase.{Phase}
 use Rattle.ipc_decode.specs.declared.phase.Phase.TheVariants.{Reading, Ended, Refused}
 use Rattle.ipc_decode.specs.Found.{Found, rows_of}
 use Rattle.ipc_decode.specs.Decoding.{TellsLast}
-use Rattle.ipc_decode.specs.Reader.{EndsBehind, LeadsTo, Reader, in_force_of, NextAnswer, NextCall}
+use Rattle.ipc_decode.specs.Reader.{EndsBehind, LeadsTo, Reader, end_of, in_force_of, NextAnswer, NextCall}
 use Rattle.ipc_decode.specs.Reasons.{Ends}
 use Rattle.ipc_decode.specs.Stream.{State, Event, batch, Run, done}
 use Rattle.ipc_decode.specs.Counts.{count_up, messages_in}
@@ -24,7 +26,8 @@ use Rattle.ipc_stream.specs.Writer.{Writer}
 use Rattle.ipc_stream.specs.Writing.{AcceptsBatch, RefusesBatch, Sent, NotSentWhole}
 use Rattle.ipc_decode.proofs.Runs.{run_one, run_then, messages_one, messages_then}
 use Rattle.ipc_stream.proofs.Chains.{batches_more, kept_then}
-use Rattle.ipc_rewrite.specs.Rewriting.{CopiesRest, RefusesLast}
+use Rattle.ipc_rewrite.specs.declared.stop.Stop.TheVariants as stop
+use Rattle.ipc_rewrite.specs.Rewriting.{CopiesBatches, CopiesRest, RefusesLast, as_required}
 
 -- these batches were read behind the schema, and sent
 pub record Copied (old now : Reader) (before after : Writer) : Type 0 where
@@ -84,9 +87,9 @@ gave now new (Ended e) q x found is h = absurd (cc)
 gave now new Refused q x found is h = absurd (cc)
 
 ended : (now new : Reader) (p q : Phase) (x : List ℕ) → p ≡ Reading → NextAnswer now new p x (Ok None) q
-    → (e : End) × EndsBehind now new x (Ok e)
+    → (e : End) × EndsBehind now new x (Ok e) × (q ≡ Ended e)
 ended now new Reading Reading x is h = absurd h
-ended now new Reading (Ended e) x is h = (e, h)
+ended now new Reading (Ended e) x is h = (e, h, refl)
 ended now new Reading Refused x is h = absurd h
 ended now new (Ended e) q x is h = absurd (cc)
 ended now new Refused q x is h = absurd (cc)
@@ -98,6 +101,12 @@ broke now new Reading (Ended e) x f is h = absurd h
 broke now new Reading Refused x f is h = h
 broke now new (Ended e) q x f is h = absurd (cc)
 broke now new Refused q x f is h = absurd (cc)
+
+-- an end that is taken where the mark is required is the mark
+marked : (mark : Bool) (e f : End) → as_required mark (Ok e) ≡ Ok f → IsTrue mark → e ≡ Mark
+marked mark Mark f is required = refl
+marked true Closed f is required = absurd (cc)
+marked false Closed f is required = absurd (cc)
 
 -- what holds of all of a list and of one element more holds of all
 all_last : {X : Type 0} (P : X → Type 0) (xs : List X) (x : X) → AllByRecursion P xs → P x → AllByRecursion P (xs ++ x ∷ [])
@@ -261,11 +270,27 @@ module _ (old now new : Reader) (before after : Writer) (b : Copied old now befo
   }
 
   -- where the stream's end is read, all its batches were sent
-  pub copied_end : NextCall now new (Ok None) → (end : End) × CopiesRest old new before after (Ok end)
-  copied_end t =
+  copied_rest : (found : Option End) (e : End) → NextCall now new (Ok None) → found ≡ end_of new.phase → e ≡ unwrap_or found Closed
+      → CopiesRest old new before after (Ok e)
+  copied_rest found e t is given =
       let h = ended now new now.phase new.phase t.x b.reading t.gives in
-      (h.0, rest t.x (Ok h.0) t.bytes h.1)
+      let same : e ≡ h.0 =
+      given ∙ (ap (λ (o : Option End). unwrap_or o Closed) is ∙ ap (λ (q : Phase). unwrap_or (end_of q) Closed) h.2) in
+      subst (λ (e : End). CopiesRest old new before after (Ok e)) (sym same) (rest t.x (Ok h.0) t.bytes h.1)
+
+  -- also where the mark is required and there is one
+  pub copied_end : (mark : Bool) (found : Option End) (e f : End) → NextCall now new (Ok None) → found ≡ end_of new.phase
+      → e ≡ unwrap_or found Closed → as_required mark (Ok e) ≡ Ok f → CopiesBatches mark old new before after (Ok tt)
+  copied_end mark found e f t is given ends = (e, copied_rest found e t is given, marked mark e f ends)
+
+  -- where it has no mark, that is the fault
+  pub copied_unmarked : (mark : Bool) (found : Option End) (e : End) (fault : Fault) → NextCall now new (Ok None) → found ≡ end_of new.phase
+      → e ≡ unwrap_or found Closed → as_required mark (Ok e) ≡ Err fault
+      → CopiesBatches mark old new before after (Err (stop.Read fault new.messages))
+  copied_unmarked mark found e fault t is given ends = (Ok e, copied_rest found e t is given, ends, refl)
 
   -- where reading breaks off, all batches before were sent
-  pub copied_break : (fault : Fault) → NextCall now new (Err fault) → CopiesRest old new before after (Err fault)
-  copied_break fault t = rest t.x (Err fault) t.bytes (broke now new now.phase new.phase t.x fault b.reading t.gives)
+  pub copied_break : (mark : Bool) (fault : Fault) → NextCall now new (Err fault)
+      → CopiesBatches mark old new before after (Err (stop.Read fault new.messages))
+  copied_break mark fault t =
+      (Err fault, rest t.x (Err fault) t.bytes (broke now new now.phase new.phase t.x fault b.reading t.gives), refl, refl)

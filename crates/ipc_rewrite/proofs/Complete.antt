@@ -1,7 +1,7 @@
 -- Where a source holds a table, that table is sent, or writing it breaks off, or memory runs out in reading.
 use Rattle.std.proofs.Common.{◌≡◌, ◌∙◌, refl, sym, subst, ℕ, ◌<◌, List, [], ◌∷◌, ◌++◌, length, map, Option, Some, None}
 use Rattle.std.proofs.Common.{Result, Ok, Err, append_assoc, append-nil, arith}
-use Rattle.std.specs.Prelude.{⊤}
+use Rattle.std.specs.Prelude.{⊤, Bool, IsTrue, true, false}
 use Rattle.std.specs.List.{AllByRecursion}
 use Rattle.std.specs.Io.KnownBytes.{Consumes, IsAtEnd}
 use Rattle.std.proofs.lemmas.List.{length-append}
@@ -17,6 +17,7 @@ use Rattle.ipc_model.specs.declared.table.Table.{Table}
 use Rattle.ipc_decode.specs.declared.end.End.{End}
 use Rattle.ipc_decode.specs.declared.end.End.TheVariants.{Mark, Closed}
 use Rattle.ipc_decode.specs.Failures.{Tells}
+use Rattle.ipc_decode.specs.Reasons.{Reads}
 use Rattle.ipc_decode.specs.Stream.{schema, batch, begun, events_of, Denotes, EndsStream, IsTableOf, OpensStream}
 use Rattle.ipc_decode.specs.Taken.{TakesTable}
 use Rattle.ipc_stream.specs.Dictionaries.{SendsBatch, SendsTable, kept_after, none_sent}
@@ -30,7 +31,7 @@ use Rattle.ipc_rewrite.specs.declared.stop.Stop.{Stop}
 use Rattle.ipc_rewrite.specs.declared.stop.Stop.TheVariants as stop
 use Rattle.ipc_rewrite.specs.Raised.{raised_of}
 use Rattle.ipc_rewrite.specs.Rewriting.{AnswersTable, BreaksReading, unopened, broken, BreaksWriting, unstarted, refused}
-use Rattle.ipc_rewrite.specs.Rewriting.{unended, Rewrites, TellsFailures, with_batch}
+use Rattle.ipc_rewrite.specs.Rewriting.{unended, Rewrites, TellsFailures, as_required, with_batch}
 
 -- the batch behind the first ones is inside
 inside_behind : (xs more : List BatchRows) (last : BatchRows) → length xs < length (xs ++ last ∷ more)
@@ -74,7 +75,8 @@ mark_breaks {limits} t w0 between w1 f0 f f1 accepts sent cut =
     (first_out t [] w0 between f0 f accepts sent) in
     end_broken t w0 between w1 f0 f f1 (length t.batches) out (omega arith) (Err w.Write) cut refl
 
-module _ {limits : Limits} (new : Option (List ℕ)) (z : List ℕ) (t : Table) (h : Holds limits z t) (w0 w1 : Option (List ℕ)) (f0 f1 : ℕ)
+module _ {limits : Limits} (mark : Bool) (new : Option (List ℕ)) (z : List ℕ) (t : Table) (h : Holds limits z t)
+    (w0 w1 : Option (List ℕ)) (f0 f1 : ℕ)
     (only : (u : Table) (end : End) → TakesTable limits (Some z) new (Ok (u, end)) → u ≡ t) where
   -- the table that was read to its end is this one
   same_table : (x : List ℕ) (u : Table) (end : End) → Consumes (Some z) new x → Denotes limits x u end → (end ≡ Closed → IsAtEnd new)
@@ -101,45 +103,61 @@ module _ {limits : Limits} (new : Option (List ℕ)) (z : List ℕ) (t : Table) 
       (subst (λ (q : Table). BreaksOff (raised_of limits) q w0 w1 f0 f1 w.Write) (same_table x u end bytes d closed)
       (mark_breaks u w0 between w1 f0 f f1 accepts sent cut))
 
-  reading : (fault : Fault) (message : ℕ) → BreaksReading limits (Some z) new w0 w1 f0 f1 fault message
-      → TakesTable limits (Some z) new (Err fault)
-  reading fault message (unopened x bytes reads number same count) = record { x = x; bytes = bytes; gives = ([], reads) }
-  reading fault message (broken x y u bytes opens reads number accepts sent) = record {
-    x = x ++ y;
-    bytes = bytes;
-    gives = (
-      events_of u,
-      reads_after None (Some (begun u.schema)) x y new (schema u.schema ∷ []) (map batch u.batches) (Err fault) opens reads,
-    );
-  }
+  -- reading breaks off for want of memory, or at an end without the mark
+  reading : (fault : Fault) (message : ℕ) → ((f : Fault) → f ≡ fault → TakesTable limits (Some z) new (Err f) → f ≡ OutOfMemory)
+      → ((u : Table) → TakesTable limits (Some z) new (Ok (u, Closed)) → IsTrue mark → ⊥)
+      → BreaksReading mark limits (Some z) new w0 w1 f0 f1 fault message → fault ≡ OutOfMemory
+  reading fault message memory ends (unopened x bytes reads number same count) =
+      memory fault refl (record { x = x; bytes = bytes; gives = ([], reads) })
+  reading fault message memory ends (broken x y u answer bytes opens reads required number accepts sent) =
+      by_answer mark answer required
+      (reads_after None (Some (begun u.schema)) x y new (schema u.schema ∷ []) (map batch u.batches) answer opens reads) ends
+    where
+      by_answer : (m : Bool) (a : Result End Fault) → as_required m a ≡ Err fault → Reads limits None (x ++ y) new (events_of u) a
+          → ((v : Table) → TakesTable limits (Some z) new (Ok (v, Closed)) → IsTrue m → ⊥) → fault ≡ OutOfMemory
+      by_answer m (Err f) is all none =
+          let same : f ≡ fault = cc in
+          sym same ∙ memory f same (record { x = x ++ y; bytes = bytes; gives = (events_of u, all) })
+      by_answer m (Ok Mark) is all none = absurd (cc)
+      by_answer true (Ok Closed) is all none =
+          absurd (none u (record { x = x ++ y; bytes = bytes; gives = all }) refl)
+      by_answer false (Ok Closed) is all none = absurd (cc)
 
   -- what is answered of a source that holds the table
   pub answered : (g0 g1 : ℕ) → ((fault : Fault) → TakesTable limits (Some z) new (Err fault) → Tells g0 g1 fault → fault ≡ OutOfMemory)
-      → (r : Result ⊤ Stop) → TellsFailures g0 g1 f0 f1 r → Rewrites limits (Some z) new w0 w1 f0 f1 r
+      → ((u : Table) → TakesTable limits (Some z) new (Ok (u, Closed)) → IsTrue mark → ⊥)
+      → (r : Result ⊤ Stop) → TellsFailures g0 g1 f0 f1 r → Rewrites mark limits (Some z) new w0 w1 f0 f1 r
       → AnswersTable (raised_of limits) t w0 w1 f0 f1 r
-  answered g0 g1 memory (Ok done) tells c =
+  answered g0 g1 memory ends (Ok done) tells c =
       subst (λ (u : Table). Sent (IsTableOf (raised_of limits) u) w0 w1 f0 f1)
       (same_table c.x c.table c.end c.bytes c.denotes c.closed) c.sent
-  answered g0 g1 memory (Err (stop.Read fault message)) tells c = memory fault (reading fault message c) tells.0
-  answered g0 g1 memory (Err (stop.Write fault)) tells c = writing fault c
+  answered g0 g1 memory ends (Err (stop.Read fault message)) tells c =
+      reading fault message (λ f same takes. memory f takes (subst (λ e. Tells g0 g1 e) (sym same) tells.0)) ends c
+  answered g0 g1 memory ends (Err (stop.Write fault)) tells c = writing fault c
 
-module _ {limits : Limits} (old new w0 w1 : Option (List ℕ)) (g0 g1 f0 f1 : ℕ) (r : Result ⊤ Stop) (tells : TellsFailures g0 g1 f0 f1 r)
-    (c : Rewrites limits old new w0 w1 f0 f1 r) (none : g1 ≡ 0) where
+module _ {limits : Limits} (mark : Bool) (old new w0 w1 : Option (List ℕ)) (g0 g1 f0 f1 : ℕ) (r : Result ⊤ Stop)
+    (tells : TellsFailures g0 g1 f0 f1 r) (c : Rewrites mark limits old new w0 w1 f0 f1 r) (none : g1 ≡ 0) where
   -- where bytes up to an end mark denote a table, that one is written or refused, unless memory runs out
   pub answered_marked : (x rest : List ℕ) (t : Table) → old ≡ Some (x ++ rest)
       → Denotes limits x t Mark → AnswersTable (raised_of limits) t w0 w1 f0 f1 r
   answered_marked x rest t is d =
       let z = x ++ rest in
-      answered new z t (holds_marked x rest t d) w0 w1 f0 f1
+      answered mark new z t (holds_marked x rest t d) w0 w1 f0 f1
       (λ u end takes. (answers_marked (Some z) new 0 0 (Ok (u, end)) takes refl (refl, refl) x rest t refl d).0) g0 g1
       (λ fault takes failed. answers_marked (Some z) new g0 g1 (Err fault) takes none failed x rest t refl d)
-      r tells (subst (λ (o : Option (List ℕ)). Rewrites limits o new w0 w1 f0 f1 r) is c)
+      (λ u takes required.
+      let same : Closed ≡ Mark = (answers_marked (Some z) new 0 0 (Ok (u, Closed)) takes refl (refl, refl) x rest t refl d).1 in
+      absurd (cc))
+      r tells (subst (λ (o : Option (List ℕ)). Rewrites mark limits o new w0 w1 f0 f1 r) is c)
 
-  -- where all bytes of the source denote a table, that one is written or refused, unless memory runs out
-  pub answered_closed : (x : List ℕ) (t : Table) → old ≡ Some x → Denotes limits x t Closed
+  -- where all bytes of the source denote a table, and no mark is required, that one is written or refused, unless memory runs out
+  pub answered_closed : (x : List ℕ) (t : Table) → mark ≡ false → old ≡ Some x → Denotes limits x t Closed
       → AnswersTable (raised_of limits) t w0 w1 f0 f1 r
-  answered_closed x t is d =
-      answered new x t (holds_closed x t d) w0 w1 f0 f1
+  answered_closed x t free is d =
+      answered mark new x t (holds_closed x t d) w0 w1 f0 f1
       (λ u end takes. (answers_closed (Some x) new 0 0 (Ok (u, end)) takes refl (refl, refl) x t refl d).0) g0 g1
       (λ fault takes failed. answers_closed (Some x) new g0 g1 (Err fault) takes none failed x t refl d)
-      r tells (subst (λ (o : Option (List ℕ)). Rewrites limits o new w0 w1 f0 f1 r) is c)
+      (λ u takes required.
+      let bad : false ≡ true = sym free ∙ required in
+      absurd (cc))
+      r tells (subst (λ (o : Option (List ℕ)). Rewrites mark limits o new w0 w1 f0 f1 r) is c)

@@ -1,7 +1,7 @@
 -- A whole stream, from its schema on.
 use Rattle.std.proofs.Common.{◌≡◌, ◌∙◌, refl, sym, ap, subst, ℕ, List, [], ◌∷◌, ◌++◌, map, Option, Some, None, Result, Ok, Err}
 use Rattle.std.proofs.Common.{arith}
-use Rattle.std.specs.Prelude.{⊤, MatchResult}
+use Rattle.std.specs.Prelude.{⊤, Bool, IsTrue, MatchResult}
 use Rattle.std.specs.List.{AllByRecursion}
 use Rattle.std.specs.Io.KnownBytes.{Consumes}
 use Rattle.std.proofs.KnownBytes.{Appends-trans, Consumes-trans}
@@ -12,6 +12,7 @@ use Rattle.ipc_model.specs.declared.limits.Limits.{Limits}
 use Rattle.ipc_model.specs.declared.table.BatchRows.{BatchRows}
 use Rattle.ipc_model.specs.declared.table.Table.{Table}
 use Rattle.ipc_decode.specs.declared.end.End.{End}
+use Rattle.ipc_decode.specs.declared.end.End.TheVariants.{Mark}
 use Rattle.ipc_decode.specs.Reader.{Reader, in_force_of, Opens, OpenFails}
 use Rattle.ipc_decode.specs.Reasons.{Reads}
 use Rattle.ipc_decode.specs.Stream.{InForce, schema, batch, Run, events_of, DenotesClosed, EndsStream, OpensStream}
@@ -105,9 +106,10 @@ module _ {limits : Limits} (start : Option (List ℕ)) (s t : Reader) (before : 
         let counted = r.counted 1 (omega (arith, o.one_message)) in
         omega (arith, counted, reads_behind.1)
 
-  table_copied : (after : Writer) (end : End) (w1 : Option (List ℕ)) (f1 : ℕ) → CopiesRest s t before after (Ok end)
-      → Sent EndsStream after.written w1 after.failures f1 → CopiesTable limits start t.remaining w0 w1 f0 f1
-  table_copied after end w1 f1 r mark =
+  table_copied : (required : Bool) (after : Writer) (end : End) (w1 : Option (List ℕ)) (f1 : ℕ)
+      → CopiesRest s t before after (Ok end) → (IsTrue required → end ≡ Mark) → Sent EndsStream after.written w1 after.failures f1
+      → CopiesTable required limits start t.remaining w0 w1 f0 f1
+  table_copied required after end w1 f1 r marked mark =
       let h = taken_denotes start t.remaining (Ok (table_with r.batches, end))
       (record { x = o.x ++ r.x; bytes = taken after (Ok end) r; gives = reads after (Ok end) r }) in
       let sent = all_sent r.batches after.written after.failures r.sent in
@@ -119,6 +121,7 @@ module _ {limits : Limits} (start : Option (List ℕ)) (s t : Reader) (before : 
         bytes = h.1;
         denotes = h.2;
         closed = h.3;
+        marked = marked;
         accepts = all_accepted r.batches r.accepts;
         sent = record {
           x = sent.x ++ mark.x;
@@ -138,13 +141,14 @@ module _ {limits : Limits} (start : Option (List ℕ)) (s t : Reader) (before : 
       (all_sent r.batches after.written after.failures r.sent) refl cut
 
   -- where all batches were sent, the stream is written as far as the last call says
-  pub stream_ended : (after : Writer) (end : End) (w1 : Option (List ℕ)) (f1 : ℕ) (r : Result ⊤ Stop) → CopiesRest s t before after (Ok end)
+  pub stream_ended : (required : Bool) (after : Writer) (end : End) (w1 : Option (List ℕ)) (f1 : ℕ) (r : Result ⊤ Stop)
+      → CopiesRest s t before after (Ok end) → (IsTrue required → end ≡ Mark)
       → MatchResult r (λ _. Sent EndsStream after.written w1 after.failures f1)
       (λ why. (why ≡ stop.Write w.Write) × CutShort EndsStream after.written w1 f1)
-      → Rewrites limits start t.remaining w0 w1 f0 f1 r
-  stream_ended after end w1 f1 (Ok done) r mark = table_copied after end w1 f1 r mark
-  stream_ended after end w1 f1 (Err why) r (is, cut) =
-      subst (λ (e : Stop). Rewrites limits start t.remaining w0 w1 f0 f1 (Err e)) (sym is) (mark_refused after end w1 f1 r cut)
+      → Rewrites required limits start t.remaining w0 w1 f0 f1 r
+  stream_ended required after end w1 f1 (Ok done) r marked mark = table_copied required after end w1 f1 r marked mark
+  stream_ended required after end w1 f1 (Err why) r marked (is, cut) =
+      subst (λ (e : Stop). Rewrites required limits start t.remaining w0 w1 f0 f1 (Err e)) (sym is) (mark_refused after end w1 f1 r cut)
 
   -- the schema and these batches were read
   all_read : (batches : List BatchRows) (x : List ℕ) → Run s.limits (Some (in_force_of s)) x (map batch batches) (Some (in_force_of t))
@@ -155,12 +159,12 @@ module _ {limits : Limits} (start : Option (List ℕ)) (s t : Reader) (before : 
         (subst (λ l. Run l (Some (in_force_of s)) x (map batch batches) (Some (in_force_of t))) o.same_limits run),
   )
 
-  broken_here : (after : Writer) (why : Stop) → CopiesBatches s t before after (Err why)
-      → Rewrites limits start t.remaining w0 after.written f0 after.failures (Err why)
-  broken_here after (stop.Read fault message) (r, number) =
-      broken o.x r.x (table_with r.batches) (taken after (Err fault) r) (opened start s o) (reads_behind after (Err fault) r).0
-      (number ∙ numbered after (Err fault) r) (all_accepted r.batches r.accepts) (all_sent r.batches after.written after.failures r.sent)
-  broken_here after (stop.Write fault) r =
+  broken_here : (required : Bool) (after : Writer) (why : Stop) → CopiesBatches required s t before after (Err why)
+      → Rewrites required limits start t.remaining w0 after.written f0 after.failures (Err why)
+  broken_here required after (stop.Read fault message) (answer, r, ends, number) =
+      broken o.x r.x (table_with r.batches) answer (taken after answer r) (opened start s o) (reads_behind after answer r).0 ends
+      (number ∙ numbered after answer r) (all_accepted r.batches r.accepts) (all_sent r.batches after.written after.failures r.sent)
+  broken_here required after (stop.Write fault) r =
       refused (o.x ++ r.x) (table_with r.batches) r.last r.between r.failures
       (Consumes-trans start s.remaining t.remaining o.x r.x o.bytes r.bytes)
       (all_read (r.batches ++ r.last ∷ []) r.x r.run)
@@ -170,13 +174,16 @@ module _ {limits : Limits} (start : Option (List ℕ)) (s t : Reader) (before : 
       after.written r.failures after.failures fault) r.unsent)
 
   -- where the batches were not all read and sent, neither was the stream
-  pub batches_broken : (after : Writer) (w1 : Option (List ℕ)) (f1 : ℕ) (why : Stop) → w1 ≡ after.written → f1 ≡ after.failures
-      → CopiesBatches s t before after (Err why) → Rewrites limits start t.remaining w0 w1 f0 f1 (Err why)
-  batches_broken after w1 f1 why same_bytes same_count copies =
-      subst (λ b. Rewrites limits start t.remaining w0 b f0 f1 (Err why)) (sym same_bytes)
-      (subst (λ n. Rewrites limits start t.remaining w0 after.written f0 n (Err why)) (sym same_count) (broken_here after why copies))
+  pub batches_broken : (required : Bool) (after : Writer) (w1 : Option (List ℕ)) (f1 : ℕ) (why : Stop) → w1 ≡ after.written
+      → f1 ≡ after.failures → CopiesBatches required s t before after (Err why)
+      → Rewrites required limits start t.remaining w0 w1 f0 f1 (Err why)
+  batches_broken required after w1 f1 why same_bytes same_count copies =
+      subst (λ b. Rewrites required limits start t.remaining w0 b f0 f1 (Err why)) (sym same_bytes)
+      (subst (λ n. Rewrites required limits start t.remaining w0 after.written f0 n (Err why)) (sym same_count)
+      (broken_here required after why copies))
 
 -- where no schema is read, nothing is, and nothing was asked of the sink
-pub none_read : {limits : Limits} → (old new w0 : Option (List ℕ)) (f0 : ℕ) (fault : Fault) → OpenFails limits old new fault
-    → BreaksReading limits old new w0 w0 f0 f0 fault 0
-none_read old new w0 f0 fault fails = unopened fails.x fails.bytes fails.reads refl refl refl
+pub none_read : {limits : Limits} → (required : Bool) (old new w0 : Option (List ℕ)) (f0 : ℕ) (fault : Fault)
+    → OpenFails limits old new fault
+    → BreaksReading required limits old new w0 w0 f0 f0 fault 0
+none_read required old new w0 f0 fault fails = unopened fails.x fails.bytes fails.reads refl refl refl

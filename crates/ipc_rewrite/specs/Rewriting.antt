@@ -1,10 +1,10 @@
 -- What is taken from a source and sent to a sink when a stream is rewritten.
 use Rattle.std.specs.Prelude.{◌≡◌, ◌≢◌, ◌+◌, ℕ, List, [], ◌∷◌, ◌++◌, map, Option, Some}
-use Rattle.std.specs.Prelude.{None, Result, Ok, Err, ⊤}
+use Rattle.std.specs.Prelude.{None, Result, Ok, Err, ⊤, Bool, IsTrue, false, true}
 use Rattle.std.specs.Io.KnownBytes.{Consumes, IsAtEnd}
 use Rattle.std.specs.List.{AllByRecursion}
 use Rattle.ipc_model.specs.declared.fault.Fault.{Fault}
-use Rattle.ipc_model.specs.declared.fault.Fault.TheVariants.{OutOfMemory}
+use Rattle.ipc_model.specs.declared.fault.Fault.TheVariants.{OutOfMemory, Truncated}
 use Rattle.ipc_model.specs.declared.fault.WriteFault.{WriteFault}
 use Rattle.ipc_model.specs.declared.fault.WriteFault.TheVariants as w
 use Rattle.ipc_model.specs.declared.limits.Limits.{Limits}
@@ -12,7 +12,7 @@ use Rattle.ipc_model.specs.declared.schema.Schema.{Schema}
 use Rattle.ipc_model.specs.declared.table.BatchRows.{BatchRows}
 use Rattle.ipc_model.specs.declared.table.Table.{Table}
 use Rattle.ipc_decode.specs.declared.end.End.{End}
-use Rattle.ipc_decode.specs.declared.end.End.TheVariants.{Closed}
+use Rattle.ipc_decode.specs.declared.end.End.TheVariants.{Closed, Mark}
 use Rattle.ipc_decode.specs.Failures.{Tells}
 use Rattle.ipc_decode.specs.Reader.{Reader, in_force_of}
 use Rattle.ipc_decode.specs.Reasons.{Reads}
@@ -33,8 +33,17 @@ use Rattle.ipc_rewrite.specs.Raised.{raised_of}
 abbrev pub with_batch : Table → BatchRows → Table
 with_batch t last = record { schema = t.schema; batches = t.batches ++ last ∷ [] }
 
--- the bytes that were taken denote a table and its end, and this table was sent with the end mark
-pub record CopiesTable (limits : Limits) (old new written_old written_new : Option (List ℕ))
+-- how reading ends for a caller: at the source's end, with F4 if the end mark is required
+abbrev pub as_required : Bool → Result End Fault → Result End Fault
+as_required mark (Err fault) = Err fault
+as_required mark (Ok Mark) = Ok Mark
+as_required true (Ok Closed) = Err Truncated
+as_required false (Ok Closed) = Ok Closed
+
+-- the bytes that were taken denote a table and its end, which is the end mark if that is required,
+-- and this table was sent with the end mark
+pub record CopiesTable (mark : Bool) (limits : Limits)
+    (old new written_old written_new : Option (List ℕ))
     (failures_old failures_new : ℕ) : Type 0 where
   pub x : List ℕ
   pub table : Table
@@ -42,27 +51,32 @@ pub record CopiesTable (limits : Limits) (old new written_old written_new : Opti
   pub bytes : Consumes old new x
   pub denotes : Denotes limits x table end
   pub closed : end ≡ Closed → IsAtEnd new
+  pub marked : IsTrue mark → end ≡ Mark
   pub accepts : AcceptsTable (raised_of limits) table
   pub sent : Sent (IsTableOf (raised_of limits) table) written_old written_new failures_old
       failures_new
 
 -- why a stream is not read to its end, and the messages that were sent before
-pub data BreaksReading (limits : Limits) (old new written_old written_new : Option (List ℕ))
+pub data BreaksReading (mark : Bool) (limits : Limits)
+    (old new written_old written_new : Option (List ℕ))
     (failures_old failures_new : ℕ) (fault : Fault) (message : ℕ) : Type 0 where
   -- no schema was read, and the sink was not called
   unopened : (x : List ℕ) → Consumes old new x → Reads limits None x new [] (Err fault)
       → message ≡ 0 → written_new ≡ written_old → failures_new ≡ failures_old
-      → BreaksReading limits old new written_old written_new failures_old failures_new fault message
-  -- reading broke off after a schema and batches, whose messages were sent; `message` counts the
-  -- messages that were read, the schema's included
-  broken : (x y : List ℕ) (table : Table) → Consumes old new (x ++ y)
+      → BreaksReading mark limits old new written_old written_new failures_old failures_new fault
+      message
+  -- reading broke off after a schema and batches, whose messages were sent, or it ended there
+  -- without the mark that is required; `message` counts the messages that were read, the schema's
+  -- included
+  broken : (x y : List ℕ) (table : Table) (answer : Result End Fault) → Consumes old new (x ++ y)
       → OpensStream limits table.schema x
       → (reads : Reads limits (Some (begun table.schema)) y new (map batch table.batches)
-      (Err fault)) → message ≡ count_up 1 (messages_in reads.run)
+      answer) → as_required mark answer ≡ Err fault → message ≡ count_up 1 (messages_in reads.run)
       → AcceptsTable (raised_of limits) table
       → Sent (SendsTable (raised_of limits) table) written_old written_new failures_old
       failures_new
-      → BreaksReading limits old new written_old written_new failures_old failures_new fault message
+      → BreaksReading mark limits old new written_old written_new failures_old failures_new fault
+      message
 
 -- why what was read is not written, and the messages that were sent before. At W9 a beginning of
 -- the refused message was sent, and at any other fault nothing of it
@@ -94,14 +108,15 @@ pub data BreaksWriting (limits : Limits) (old new written_old written_new : Opti
 
 -- what a result states about a stream that is read under these limits and written under the raised
 -- ones
-abbrev pub Rewrites : Limits → Option (List ℕ) → Option (List ℕ) → Option (List ℕ)
+abbrev pub Rewrites : Bool → Limits → Option (List ℕ) → Option (List ℕ) → Option (List ℕ)
     → Option (List ℕ) → ℕ → ℕ → Result ⊤ Stop → Type 0
-Rewrites limits old new written_old written_new failures_old failures_new (Ok done) =
-    CopiesTable limits old new written_old written_new failures_old failures_new
-Rewrites limits old new written_old written_new failures_old failures_new
+Rewrites mark limits old new written_old written_new failures_old failures_new (Ok done) =
+    CopiesTable mark limits old new written_old written_new failures_old failures_new
+Rewrites mark limits old new written_old written_new failures_old failures_new
     (Err (stop.Read fault message)) =
-    BreaksReading limits old new written_old written_new failures_old failures_new fault message
-Rewrites limits old new written_old written_new failures_old failures_new
+    BreaksReading mark limits old new written_old written_new failures_old failures_new fault
+    message
+Rewrites mark limits old new written_old written_new failures_old failures_new
     (Err (stop.Write fault)) =
     BreaksWriting limits old new written_old written_new failures_old failures_new fault
 
@@ -170,10 +185,11 @@ pub record RefusesLast (old new : Reader) (before after : Writer)
       after.failures fault
 
 -- what a result states about the batches after the schema
-abbrev pub CopiesBatches : Reader → Reader → Writer → Writer → Result ⊤ Stop → Type 0
-CopiesBatches old new before after (Ok done) =
-    (end : End) × CopiesRest old new before after (Ok end)
-CopiesBatches old new before after (Err (stop.Read fault message)) =
-    CopiesRest old new before after (Err fault) × (message ≡ new.messages)
-CopiesBatches old new before after (Err (stop.Write fault)) =
+abbrev pub CopiesBatches : Bool → Reader → Reader → Writer → Writer → Result ⊤ Stop → Type 0
+CopiesBatches mark old new before after (Ok done) =
+    (end : End) × CopiesRest old new before after (Ok end) × (IsTrue mark → end ≡ Mark)
+CopiesBatches mark old new before after (Err (stop.Read fault message)) =
+    (answer : Result End Fault) × CopiesRest old new before after answer
+    × (as_required mark answer ≡ Err fault) × (message ≡ new.messages)
+CopiesBatches mark old new before after (Err (stop.Write fault)) =
     RefusesLast old new before after fault

@@ -1,6 +1,6 @@
 //! Reads a stream batch by batch, and writes each batch as soon as it is read.
 ghost use Rattle.std.specs.Prelude.{◌≡◌, ◌++◌, ◌∷◌, ℕ, List, [], IfErr, IfOk, MatchResult};
-ghost use Rattle.std.specs.Prelude.{OnOk, Option, Some, false, true};
+ghost use Rattle.std.specs.Prelude.{Ok, OnOk, Option, Some, false, true};
 ghost use Rattle.ipc_model.specs.declared.limits.Limits.{Limits};
 ghost use Rattle.ipc_model.specs.declared.table.Table.{Table};
 ghost use Rattle.ipc_decode.specs.declared.end.End.TheVariants.{Closed, Mark};
@@ -15,14 +15,14 @@ ghost use Rattle.ipc_stream.specs.Writing.{AcceptsBatch, CutShort};
 ghost use Rattle.ipc_stream.specs.Writing.{RefusesBatch, Sends, Sent};
 ghost use Rattle.ipc_rewrite.specs.declared.stop.Stop.TheVariants.{Write};
 ghost use Rattle.ipc_rewrite.specs.Raised.{raised_of};
-ghost use Rattle.ipc_rewrite.specs.Rewriting.{AnswersTable, CopiesBatches, Rewrites};
+ghost use Rattle.ipc_rewrite.specs.Rewriting.{AnswersTable, CopiesBatches, Rewrites, as_required};
 ghost use Rattle.ipc_rewrite.specs.Rewriting.{TellsFailures};
 
 use crate::limits::raised;
 use crate::rows::{columns_of, read_row};
 use crate::stop::Stop;
-use ipc_model::{Items, Limits, Schema, Text, Value, WriteFault};
-use ipc_stream::{Batch, BatchWriter, Seed, Sink, Source, StreamReader, StreamWriter};
+use ipc_model::{Fault, Items, Limits, Schema, Text, Value, WriteFault};
+use ipc_stream::{Batch, BatchWriter, End, Seed, Sink, Source, StreamReader, StreamWriter};
 use std::alloc::Global;
 
 // Pushes the rows of a batch: all at once straight from its columns, where these are plain, or else
@@ -89,10 +89,27 @@ fn copy_batch<W: Sink>(
     rows.send()
 }
 
-// Writes each batch that is read, to the end of the stream.
+// The end of a stream that was read, or F4 if it is not the mark that is required.
+fn check_end(end: End, require_mark: bool) -> Result<End, Fault>
+    ensures { result ≡ as_required require_mark (Ok end) }
+{
+    match end {
+        End::Mark => Ok(End::Mark),
+        End::Closed => {
+            if require_mark {
+                return Err(Fault::Truncated);
+            }
+            Ok(End::Closed)
+        }
+    }
+}
+
+// Writes each batch that is read, to the end of the stream, which is F4 if it is not the mark that
+// is required.
 #[tactic(auto, using(crate::proofs::Batches::copied_none, crate::proofs::Batches::copied_more))]
 fn copy_batches<R: Source, W: Sink>(
     alloc: Global,
+    require_mark: bool,
     stream: &mut StreamReader<R>,
     writer: &mut StreamWriter<W>,
 ) -> Result<(), Stop>
@@ -101,7 +118,8 @@ fn copy_batches<R: Source, W: Sink>(
     requires works { writer.old.failed ≡ false }
     requires sink { writer.old.failures ≡ 0 }
     requires schema { writer.old.schema ≡ stream.old.schema }
-    ensures copies { CopiesBatches stream.old stream.new writer.old writer.new result }
+    ensures copies { CopiesBatches require_mark stream.old stream.new writer.old writer.new
+        result }
     ensures works { OnOk result (writer.new.failed ≡ false) }
     ensures devices { TellsFailures stream.old.failures stream.new.failures writer.old.failures
         writer.new.failures result }
@@ -110,7 +128,11 @@ fn copy_batches<R: Source, W: Sink>(
     loop {
         match stream.next() {
             Ok(Some((batch, pairs))) => copy_batch(alloc, &batch, pairs, &mut row, writer)?,
-            Ok(None) => return Ok(()),
+            // The reader has an end now, so none is made up.
+            Ok(None) => match check_end(stream.end().unwrap_or(End::Closed), require_mark) {
+                Ok(_) => return Ok(()),
+                Err(missing) => return Err(Stop::Read(missing, stream.messages())),
+            },
             Err(fault) => return Err(Stop::Read(fault, stream.messages())),
         }
     }
@@ -155,14 +177,15 @@ fn end_stream<W: Sink>(writer: StreamWriter<W>) -> (Result<(), Stop>, W)
 fn copy_stream<R: Source, W: Sink>(
     alloc: Global,
     seed: Seed,
+    require_mark: bool,
     stream: &mut StreamReader<R>,
     sink: W,
 ) -> (Result<(), Stop>, W)
     requires reading { stream.old.phase ≡ Reading }
     requires source { stream.old.failures ≡ 0 }
     ensures rewrites { (limits : Limits) (start : Option (List ℕ)) → Opens limits start stream.old
-        → Rewrites limits start stream.new.remaining (W.written sink) (W.written result.1)
-        (W.failures sink) (W.failures result.1) result.0 }
+        → Rewrites require_mark limits start stream.new.remaining (W.written sink)
+        (W.written result.1) (W.failures sink) (W.failures result.1) result.0 }
     ensures handed_on { OnOk result.0 (W.held_back result.1 ≡ Some []) }
     ensures devices { TellsFailures stream.old.failures stream.new.failures (W.failures sink)
         (W.failures result.1) result.0 }
@@ -171,7 +194,7 @@ fn copy_stream<R: Source, W: Sink>(
         Ok(writer) => writer,
         Err((fault, sink)) => return (Err(Stop::Write(fault)), sink),
     };
-    match copy_batches(alloc, stream, &mut writer) {
+    match copy_batches(alloc, require_mark, stream, &mut writer) {
         Ok(()) => end_stream(writer),
         Err(stop) => (Err(stop), writer.into_inner()),
     }
@@ -201,7 +224,7 @@ pub fn rewrite<R: Source, W: Sink>(
 ) -> (Result<(), Stop>, R, W)
     // At Ok what was taken denotes a table, and what was sent is that table with the mark. At a
     // fault, why reading or writing broke off there, and the messages that were sent before.
-    ensures rewrites { Rewrites limits (R.remaining source) (R.remaining result.1)
+    ensures rewrites { Rewrites false limits (R.remaining source) (R.remaining result.1)
         (W.written sink) (W.written result.2) (W.failures sink) (W.failures result.2) result.0 }
     // At Ok the sink holds nothing back.
     ensures handed_on { OnOk result.0 (W.held_back result.2 ≡ Some []) }
@@ -222,21 +245,26 @@ pub fn rewrite<R: Source, W: Sink>(
         → AnswersTable (raised_of limits) t (W.written sink) (W.written result.2)
         (W.failures sink) (W.failures result.2) result.0 }
 {
-    rewrite_with_seed(alloc, Seed::Fixed, limits, source, sink)
+    rewrite_with_seed(alloc, Seed::Fixed, false, limits, source, sink)
 }
 
 /// Rewrites a stream as `rewrite` does, but hashes the values of dictionaries with this seed.
 /// Nobody who does not know a random seed can choose values whose hashes collide.
+///
+/// With `require_mark`, a stream that ends without the end-of-stream mark is refused with F4 and
+/// the number of the message after its last one. Its batches were sent then, and no mark.
 pub fn rewrite_with_seed<R: Source, W: Sink>(
     alloc: Global,
     seed: Seed,
+    require_mark: bool,
     limits: Limits,
     source: R,
     sink: W,
 ) -> (Result<(), Stop>, R, W)
-    // At Ok what was taken denotes a table, and what was sent is that table with the mark. At a
-    // fault, why reading or writing broke off there, and the messages that were sent before.
-    ensures rewrites { Rewrites limits (R.remaining source) (R.remaining result.1)
+    // At Ok what was taken denotes a table, with its mark if that is required, and what was sent is
+    // that table with the mark. At a fault, why reading or writing broke off there, and the
+    // messages that were sent before.
+    ensures rewrites { Rewrites require_mark limits (R.remaining source) (R.remaining result.1)
         (W.written sink) (W.written result.2) (W.failures sink) (W.failures result.2) result.0 }
     // At Ok the sink holds nothing back.
     ensures handed_on { OnOk result.0 (W.held_back result.2 ≡ Some []) }
@@ -251,8 +279,8 @@ pub fn rewrite_with_seed<R: Source, W: Sink>(
         → R.failures result.1 ≡ 0
         → AnswersTable (raised_of limits) t (W.written sink) (W.written result.2)
         (W.failures sink) (W.failures result.2) result.0 }
-    // So is one without a mark where nothing follows.
-    ensures closed { (x : List ℕ) (t : Table)
+    // So is one without a mark where nothing follows, if no mark is required.
+    ensures closed { (x : List ℕ) (t : Table) → require_mark ≡ false
         → R.remaining source ≡ Some x → Denotes limits x t Closed → R.failures result.1 ≡ 0
         → AnswersTable (raised_of limits) t (W.written sink) (W.written result.2)
         (W.failures sink) (W.failures result.2) result.0 }
@@ -260,7 +288,7 @@ pub fn rewrite_with_seed<R: Source, W: Sink>(
     match StreamReader::open(alloc, limits, source) {
         Ok(stream) => {
             let mut stream = stream;
-            let (result, sink) = copy_stream(alloc, seed, &mut stream, sink);
+            let (result, sink) = copy_stream(alloc, seed, require_mark, &mut stream, sink);
             (result, stream.into_inner(), sink)
         }
         Err((fault, source)) => (Err(Stop::Read(fault, 0)), source, sink),

@@ -37,6 +37,7 @@ const RECORDS: &[u8] = b"a\n1\n\\N\n3\n";
 // The job of a case.
 #[derive(Clone, Copy)]
 enum Asked {
+    Schema,
     Check,
     Show,
     ToCsv,
@@ -49,7 +50,17 @@ enum Asked {
 // end.
 type Case = (Asked, &'static [u8], u64, u64, Option<&'static [u8]>);
 
-const CASES: [Case; 5] = [
+const CASES: [Case; 6] = [
+    (
+        Asked::Schema,
+        &STREAM,
+        120,
+        1,
+        Some(
+            b"{\"fields\":[{\"children\":0,\"dictionary\":null,\
+\"metadata\":[],\"name\":\"a\",\"nullable\":true,\"type\":[\"int\",32]}],\"metadata\":[]}\n",
+        ),
+    ),
     (
         Asked::Check,
         &STREAM,
@@ -72,13 +83,24 @@ fn job_of(alloc: Global, asked: Asked) -> Job
 {
     let limits = Limits::standard();
     match asked {
-        Asked::Check => Job::Check(limits),
+        Asked::Schema => Job::Schema(limits),
+        Asked::Check => Job::Check {
+            limits,
+            marked: true,
+        },
         Asked::Show => Job::Show {
             limits,
             pairs: false,
+            marked: true,
         },
-        Asked::ToCsv => Job::ToCsv(limits),
-        Asked::Rewrite => Job::Rewrite(limits),
+        Asked::ToCsv => Job::ToCsv {
+            limits,
+            marked: true,
+        },
+        Asked::Rewrite => Job::Rewrite {
+            limits,
+            marked: true,
+        },
         Asked::FromCsv => Job::FromCsv {
             schema: String::new(alloc),
             batch: 2,

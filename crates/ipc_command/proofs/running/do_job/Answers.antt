@@ -1,8 +1,9 @@
-use Rattle.ipc_command.proofs.running.do_job.Goals.{in-Check, in-Show, in-ToCsv, in-Rewrite}
+use Rattle.ipc_command.proofs.running.do_job.Goals.{in-Schema, in-Check, in-Show, in-ToCsv, in-Rewrite}
 use Rattle.ipc_command.proofs.running.do_job.Goals as goal
 
 pub returns-clause-answers : goal.returns-clause-answers
 returns-clause-answers g c = elim c.match-job.branch [
+  | in-Schema w ↦ rw (w.in-Schema.is, w.result-is) w.schema_job.ensures.answers
   | in-Check w ↦ rw (w.in-Check.is, w.result-is) w.print_job.ensures.answers
   | in-Show w ↦ rw (w.in-Show.is, w.result-is) w.print_job-in-Show.ensures.answers
   | in-ToCsv w ↦ rw (w.in-ToCsv.is, w.result-is) w.print_job-in-ToCsv.ensures.answers

@@ -2,17 +2,11 @@ use Rattle.std.proofs.Common.{inl, inr}
 use Rattle.ipc_command.proofs.LineWords.{limits_wrong}
 use Rattle.ipc_command.proofs.words.read_job.Goals as goal
 
-pub returns-in_err-read_limits-in-check-clause-refused :
-    goal.returns-in_err-read_limits-in-check-clause-refused
-returns-in_err-read_limits-in-check-clause-refused c =
-    limits_wrong _ _ _ c.from_residual.result (inl c.in-check.is) c.from_residual.ensures.1
-    c.in_err-read_limits-in-check.ensures.refused
-
 pub returns-in_err-read_limits-in-show-clause-refused :
     goal.returns-in_err-read_limits-in-show-clause-refused
 returns-in_err-read_limits-in-show-clause-refused c =
-    limits_wrong _ _ _ c.from_residual-in_err-read_limits-in-show.result (inr (inl c.in-show.is))
-    c.from_residual-in_err-read_limits-in-show.ensures.1 c.in_err-read_limits-in-show.ensures.refused
+    limits_wrong _ _ _ c.from_residual.result (inr (inl c.in-show.is))
+    c.from_residual.ensures.1 c.in_err-read_limits-in-show.ensures.refused
 
 pub returns-in_err-read_limits-in-text-clause-refused :
     goal.returns-in_err-read_limits-in-text-clause-refused

@@ -6,4 +6,5 @@ pub returns : goal.returns
 returns c =
     let one = added_arg _ _ _ _ _ c.requires c.number.ensures.rule c.number.ensures.own c.in_ok-arg.ensures in
     let two = added_arg _ _ _ _ _ one c.number-2.ensures.rule c.number-2.ensures.own c.in_ok-arg-2.ensures in
-    IfOk-weaker c.arg-3.result _ _ (λ r h. added_arg _ _ _ _ _ two c.number-3.ensures.rule c.number-3.ensures.own h) c.arg-3.ensures
+    let three = added_arg _ _ _ _ _ two c.number-3.ensures.rule c.number-3.ensures.own c.in_ok-arg-3.ensures in
+    IfOk-weaker c.arg-4.result _ _ (λ r h. added_arg _ _ _ _ _ three c.flag.ensures.rule c.flag.ensures.own h) c.arg-4.ensures

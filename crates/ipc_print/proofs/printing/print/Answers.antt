@@ -6,41 +6,41 @@ use Rattle.ipc_print.proofs.printing.print.Goals as goal
 
 pub returns-in-Ok-clause-prints : goal.returns-in-Ok-clause-prints
 returns-in-Ok-clause-prints g c =
-    prints_all c.args.form _ _ c.in-Ok.stream _ _ _ _ _ c.print_open-result.result c.in-Ok.ensures.opened c.into_inner.ensures.remaining
+    prints_all c.args.options _ _ c.in-Ok.stream _ _ _ _ _ c.print_open-result.result c.in-Ok.ensures.opened c.into_inner.ensures.remaining
     c.print_open-result.ensures.prints
 
 pub returns-in-Err-clause-prints : goal.returns-in-Err-clause-prints
-returns-in-Err-clause-prints g c = prints_none c.args.form _ _ _ c.in-Err.fault c.in-Err.ensures.refused
+returns-in-Err-clause-prints g c = prints_none c.args.options.form c.args.options.require_mark _ _ _ c.in-Err.fault c.in-Err.ensures.refused
 
 pub returns-in-Ok-clause-part : goal.returns-in-Ok-clause-part
-returns-in-Ok-clause-part g c = part_of c.args.form _ _ _ _ c.print_open-result.result
-    (prints_all c.args.form _ _ c.in-Ok.stream _ _ _ _ _ c.print_open-result.result c.in-Ok.ensures.opened c.into_inner.ensures.remaining
+returns-in-Ok-clause-part g c = part_of c.args.options _ _ _ _ c.print_open-result.result
+    (prints_all c.args.options _ _ c.in-Ok.stream _ _ _ _ _ c.print_open-result.result c.in-Ok.ensures.opened c.into_inner.ensures.remaining
     c.print_open-result.ensures.prints)
 
 pub returns-in-Err-clause-part : goal.returns-in-Err-clause-part
-returns-in-Err-clause-part g c = part_of c.args.form _ _ _ _ (Err (Read c.in-Err.fault 0))
-    (prints_none c.args.form _ _ _ c.in-Err.fault c.in-Err.ensures.refused)
+returns-in-Err-clause-part g c = part_of c.args.options _ _ _ _ (Err (Read c.in-Err.fault 0))
+    (prints_none c.args.options.form c.args.options.require_mark _ _ _ c.in-Err.fault c.in-Err.ensures.refused)
 
 pub returns-in-Ok-clause-marked : goal.returns-in-Ok-clause-marked
 returns-in-Ok-clause-marked g c = λ x rest t is d none.
-    printed_marked c.args.form _ _ _ _ _ _ (sym c.into_inner.ensures.failures ∙ none) c.print_open-result.result
-    (stream_tells c.args.form _ _ _ _ c.print_open-result.result c.print_open-result.ensures.prints)
-    (prints_all c.args.form _ _ c.in-Ok.stream _ _ _ _ _ c.print_open-result.result c.in-Ok.ensures.opened c.into_inner.ensures.remaining
+    printed_marked c.args.options _ _ _ _ _ _ (sym c.into_inner.ensures.failures ∙ none) c.print_open-result.result
+    (stream_tells c.args.options _ _ _ _ c.print_open-result.result c.print_open-result.ensures.prints)
+    (prints_all c.args.options _ _ c.in-Ok.stream _ _ _ _ _ c.print_open-result.result c.in-Ok.ensures.opened c.into_inner.ensures.remaining
     c.print_open-result.ensures.prints) x rest t is d
 
 pub returns-in-Err-clause-marked : goal.returns-in-Err-clause-marked
 returns-in-Err-clause-marked g c = λ x rest t is d none.
-    printed_marked c.args.form _ _ None None _ _ none (Err (Read c.in-Err.fault 0)) c.in-Err.ensures.failures
-    (prints_none c.args.form _ _ None c.in-Err.fault c.in-Err.ensures.refused) x rest t is d
+    printed_marked c.args.options _ _ None None _ _ none (Err (Read c.in-Err.fault 0)) c.in-Err.ensures.failures
+    (prints_none c.args.options.form c.args.options.require_mark _ _ None c.in-Err.fault c.in-Err.ensures.refused) x rest t is d
 
 pub returns-in-Ok-clause-closed : goal.returns-in-Ok-clause-closed
-returns-in-Ok-clause-closed g c = λ x t is d none.
-    printed_closed c.args.form _ _ _ _ _ _ (sym c.into_inner.ensures.failures ∙ none) c.print_open-result.result
-    (stream_tells c.args.form _ _ _ _ c.print_open-result.result c.print_open-result.ensures.prints)
-    (prints_all c.args.form _ _ c.in-Ok.stream _ _ _ _ _ c.print_open-result.result c.in-Ok.ensures.opened c.into_inner.ensures.remaining
-    c.print_open-result.ensures.prints) x t is d
+returns-in-Ok-clause-closed g c = λ x t free is d none.
+    printed_closed c.args.options _ _ _ _ _ _ (sym c.into_inner.ensures.failures ∙ none) c.print_open-result.result
+    (stream_tells c.args.options _ _ _ _ c.print_open-result.result c.print_open-result.ensures.prints)
+    (prints_all c.args.options _ _ c.in-Ok.stream _ _ _ _ _ c.print_open-result.result c.in-Ok.ensures.opened c.into_inner.ensures.remaining
+    c.print_open-result.ensures.prints) x t free is d
 
 pub returns-in-Err-clause-closed : goal.returns-in-Err-clause-closed
-returns-in-Err-clause-closed g c = λ x t is d none.
-    printed_closed c.args.form _ _ None None _ _ none (Err (Read c.in-Err.fault 0)) c.in-Err.ensures.failures
-    (prints_none c.args.form _ _ None c.in-Err.fault c.in-Err.ensures.refused) x t is d
+returns-in-Err-clause-closed g c = λ x t free is d none.
+    printed_closed c.args.options _ _ None None _ _ none (Err (Read c.in-Err.fault 0)) c.in-Err.ensures.failures
+    (prints_none c.args.options.form c.args.options.require_mark _ _ None c.in-Err.fault c.in-Err.ensures.refused) x t free is d

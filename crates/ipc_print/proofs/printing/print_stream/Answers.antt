@@ -7,19 +7,19 @@ use Rattle.ipc_print.proofs.printing.print_stream.Goals as goal
 pub returns-in_err-lines-clause-prints : goal.returns-in_err-lines-clause-prints
 returns-in_err-lines-clause-prints g c =
     let p = err_from_is_err_and c.from_residual.result c.from_residual.ensures.1 in
-    rw (p.1, p.2) (part_none c.args.form _ c.args.stream.now _ refl)
+    rw (p.1, p.2) (part_none c.args.options.form _ c.args.stream.now _ refl)
 
 pub returns-in_err-print_front-clause-prints : goal.returns-in_err-print_front-clause-prints
 returns-in_err-print_front-clause-prints g c =
     let p = err_from_is_err_and c.from_residual-in_err-print_front.result c.from_residual-in_err-print_front.ensures.1 in
-    rw (p.1, p.2) (part_front c.args.form _ c.args.stream.now _ _ _ _ refl
+    rw (p.1, p.2) (part_front c.args.options.form _ c.args.stream.now _ _ _ _ refl
     (rw (c.in_ok-lines.ensures, c.schema.ensures) at c.in_err-print_front.ensures.puts))
 
 pub returns-in_err-flush-clause-prints : goal.returns-in_err-flush-clause-prints
 returns-in_err-flush-clause-prints g c =
     let p = err_from_is_err_and c.from_residual-in_err-flush.result c.from_residual-in_err-flush.ensures.1 in
     let puts = rw (c.in_ok-lines.ensures, c.schema.ensures) at c.in_ok-print_front.ensures.puts in
-    rw (p.1, p.2, c.in_err-flush.ensures.works) (front_unsent c.args.form _ c.args.stream.now _ _ _ _ refl puts
+    rw (p.1, p.2, c.in_err-flush.ensures.works) (front_unsent c.args.options.form _ c.args.stream.now _ _ _ _ refl puts
     (rw c.in_err-flush.ensures.works at c.in_err-flush.ensures.puts))
 
 pub returns-in_err-outcome-clause-prints : goal.returns-in_err-outcome-clause-prints
@@ -27,7 +27,7 @@ returns-in_err-outcome-clause-prints g c =
     let p = err_from_is_err_and c.from_residual-in_err-outcome.result c.from_residual-in_err-outcome.ensures.1 in
     let puts = front_sent _ _ _ _ _ _ (rw (c.in_ok-lines.ensures, c.schema.ensures) at c.in_ok-print_front.ensures.puts)
     c.in_ok-flush.ensures.puts c.in_ok-flush.ensures.empty in
-    rw (p.1, p.2) (behind_front c.args.form _ c.args.stream.now c.print_rows.new.stream _ _
+    rw (p.1, p.2) (behind_front c.args.options _ c.args.stream.now c.print_rows.new.stream _ _
     (output (g.W.Sink.written c.print_rows.new.sink) (g.W.Sink.failures c.print_rows.new.sink) c.print_rows.new.lines)
     (Err c.in_err-outcome.field-0.0) puts
     c.in_err-outcome.ensures.prints)
@@ -37,11 +37,11 @@ returns-in_err-print_tail-clause-prints g c =
     let p = err_from_is_err_and c.from_residual-in_err-print_tail.result c.from_residual-in_err-print_tail.ensures.1 in
     let puts = front_sent _ _ _ _ _ _ (rw (c.in_ok-lines.ensures, c.schema.ensures) at c.in_ok-print_front.ensures.puts)
     c.in_ok-flush.ensures.puts c.in_ok-flush.ensures.empty in
-    let prints = behind_front c.args.form _ c.args.stream.now c.print_rows.new.stream _ _
+    let prints = behind_front c.args.options _ c.args.stream.now c.print_rows.new.stream _ _
     (output (g.W.Sink.written c.print_rows.new.sink) (g.W.Sink.failures c.print_rows.new.sink) c.print_rows.new.lines)
     (Ok c.in_ok-outcome.outcome) puts
     c.in_ok-outcome.ensures.prints in
-    rw (p.1, p.2) (tail_cut c.args.form _ c.args.stream.now c.print_rows.new.stream _
+    rw (p.1, p.2) (tail_cut c.args.options _ c.args.stream.now c.print_rows.new.stream _
     (output (g.W.Sink.written c.print_rows.new.sink) (g.W.Sink.failures c.print_rows.new.sink) c.print_rows.new.lines)
     c.in_ok-outcome.outcome _ _ _
     c.in_err-print_tail.ensures.whole prints (rw c.taken.ensures at c.in_err-print_tail.ensures.puts))
@@ -51,11 +51,11 @@ returns-in_err-flush-2-clause-prints g c =
     let p = err_from_is_err_and c.from_residual-in_err-flush-2.result c.from_residual-in_err-flush-2.ensures.1 in
     let puts = front_sent _ _ _ _ _ _ (rw (c.in_ok-lines.ensures, c.schema.ensures) at c.in_ok-print_front.ensures.puts)
     c.in_ok-flush.ensures.puts c.in_ok-flush.ensures.empty in
-    let prints = behind_front c.args.form _ c.args.stream.now c.print_rows.new.stream _ _
+    let prints = behind_front c.args.options _ c.args.stream.now c.print_rows.new.stream _ _
     (output (g.W.Sink.written c.print_rows.new.sink) (g.W.Sink.failures c.print_rows.new.sink) c.print_rows.new.lines)
     (Ok c.in_ok-outcome.outcome) puts
     c.in_ok-outcome.ensures.prints in
-    rw (p.1, p.2, c.in_err-flush-2.ensures.works) (unflushed c.args.form _ c.args.stream.now c.print_rows.new.stream _
+    rw (p.1, p.2, c.in_err-flush-2.ensures.works) (unflushed c.args.options _ c.args.stream.now c.print_rows.new.stream _
     (output (g.W.Sink.written c.print_rows.new.sink) (g.W.Sink.failures c.print_rows.new.sink) c.print_rows.new.lines)
     c.in_ok-outcome.outcome _ _ _ prints (rw c.taken.ensures at c.in_ok-print_tail.ensures.puts)
     (rw c.in_err-flush-2.ensures.works at c.in_err-flush-2.ensures.puts))
@@ -64,11 +64,11 @@ pub returns-clause-prints : goal.returns-clause-prints
 returns-clause-prints g c =
     let puts = front_sent _ _ _ _ _ _ (rw (c.in_ok-lines.ensures, c.schema.ensures) at c.in_ok-print_front.ensures.puts)
     c.in_ok-flush.ensures.puts c.in_ok-flush.ensures.empty in
-    let prints = behind_front c.args.form _ c.args.stream.now c.print_rows.new.stream _ _
+    let prints = behind_front c.args.options _ c.args.stream.now c.print_rows.new.stream _ _
     (output (g.W.Sink.written c.print_rows.new.sink) (g.W.Sink.failures c.print_rows.new.sink) c.print_rows.new.lines)
     (Ok c.in_ok-outcome.outcome) puts
     c.in_ok-outcome.ensures.prints in
-    flushed c.args.form _ c.args.stream.now c.print_rows.new.stream _
+    flushed c.args.options _ c.args.stream.now c.print_rows.new.stream _
     (output (g.W.Sink.written c.print_rows.new.sink) (g.W.Sink.failures c.print_rows.new.sink) c.print_rows.new.lines)
     c.in_ok-outcome.outcome _ _ refl prints
     (rw c.taken.ensures at c.in_ok-print_tail.ensures.puts) c.in_ok-flush-2.ensures.puts

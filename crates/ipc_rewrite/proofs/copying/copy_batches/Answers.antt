@@ -1,5 +1,6 @@
+use Rattle.std.proofs.Common.{◌∙◌, sym}
 use Rattle.std.proofs.lemmas.Result.{err_from_is_err_and}
-use Rattle.ipc_rewrite.proofs.Batches.{copied_refused, copied_end, copied_break}
+use Rattle.ipc_rewrite.proofs.Batches.{copied_refused, copied_end, copied_unmarked, copied_break}
 use Rattle.ipc_rewrite.proofs.copying.copy_batches.Goals as goal
 
 pub returns-in_err-copy_batch-in-Ok-Some-clause-copies : goal.returns-in_err-copy_batch-in-Ok-Some-clause-copies
@@ -10,10 +11,17 @@ returns-in_err-copy_batch-in-Ok-Some-clause-copies g c =
     c.in_err-copy_batch-in-Ok-Some.field-0.0 next c.in_err-copy_batch-in-Ok-Some.ensures.sends
     c.in_err-copy_batch-in-Ok-Some.ensures.judged)
 
-pub returns-in-Ok-None-clause-copies : goal.returns-in-Ok-None-clause-copies
-returns-in-Ok-None-clause-copies g c =
-    copied_end _ _ _ _ _ c.loop-batch.invariant (rw c.in-Ok-None.field-0-is at c.in-Ok-None.ensures.next)
+pub returns-in-Ok-clause-copies : goal.returns-in-Ok-clause-copies
+returns-in-Ok-clause-copies g c =
+    copied_end _ _ _ _ _ c.loop-batch.invariant c.args.require_mark c.end.result c.unwrap_or.result _
+    (rw c.in-Ok-None.field-0-is at c.in-Ok-None.ensures.next) c.end.ensures c.unwrap_or.ensures (sym c.check_end.ensures ∙ c.in-Ok.is)
+
+pub returns-in-Err-check_end-clause-copies : goal.returns-in-Err-check_end-clause-copies
+returns-in-Err-check_end-clause-copies g c =
+    rw c.messages.ensures (copied_unmarked _ _ _ _ _ c.loop-batch.invariant c.args.require_mark c.end.result c.unwrap_or.result
+    c.in-Err-check_end.missing (rw c.in-Ok-None.field-0-is at c.in-Ok-None.ensures.next) c.end.ensures c.unwrap_or.ensures
+    (sym c.check_end.ensures ∙ c.in-Err-check_end.is))
 
 pub returns-in-Err-clause-copies : goal.returns-in-Err-clause-copies
 returns-in-Err-clause-copies g c =
-    (copied_break _ _ _ _ _ c.loop-batch.invariant c.in-Err.fault c.in-Err.ensures.next, c.messages.ensures)
+    rw c.messages-in-Err.ensures (copied_break _ _ _ _ _ c.loop-batch.invariant c.args.require_mark c.in-Err.fault c.in-Err.ensures.next)

@@ -9,10 +9,11 @@ pub returns-in-Ok-copy_batches-clause-rewrites : goal.returns-in-Ok-copy_batches
 returns-in-Ok-copy_batches-clause-rewrites g c = λ limits start o.
     let begun = rw (c.limits.ensures, c.schema.ensures) at c.in-Ok.ensures.started in
     let copies = c.in-Ok-copy_batches.ensures.copies in
-    stream_ended start _ _ _ _ _ o begun _ copies.0 _ _ c.end_stream.result.0 copies.1 c.end_stream.ensures.ends
+    stream_ended start _ _ _ _ _ o begun c.args.require_mark _ copies.0 _ _ c.end_stream.result.0 copies.1 copies.2
+    c.end_stream.ensures.ends
 
 pub returns-in-Err-copy_batches-clause-rewrites : goal.returns-in-Err-copy_batches-clause-rewrites
 returns-in-Err-copy_batches-clause-rewrites g c = λ limits start o.
     let begun = rw (c.limits.ensures, c.schema.ensures) at c.in-Ok.ensures.started in
-    batches_broken start _ _ _ _ _ o begun _ _ _ c.in-Err-copy_batches.stop c.into_inner.ensures.written c.into_inner.ensures.failures
-    c.in-Err-copy_batches.ensures.copies
+    batches_broken start _ _ _ _ _ o begun c.args.require_mark _ _ _ c.in-Err-copy_batches.stop c.into_inner.ensures.written
+    c.into_inner.ensures.failures c.in-Err-copy_batches.ensures.copies
