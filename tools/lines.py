@@ -55,7 +55,7 @@ def code_files():
         for path in TOP.glob(f"crates/*/{folder}/**/*"):
             if path.suffix in (".rt", ".antt"):
                 yield path
-    for folder in ("bin", "tools", "bench"):
+    for folder in ("bin", "tests", "tools", "bench"):
         yield from (path for path in TOP.glob(f"{folder}/*") if path.suffix != ".md")
 
 
