@@ -4,7 +4,7 @@ use crate::columns::cell_of;
 use crate::dictionaries::schema_of;
 use crate::lists::{Parts, batch_under, over};
 use ipc_column::{Batch, Cell};
-use ipc_dict::Dictionaries;
+use ipc_dictionaries::Dictionaries;
 use ipc_model::{DataType, Dictionary, Fault, Field, IndexType, IntBits};
 use std::alloc::{AllocError, Global};
 use std::collections::BTreeMap;

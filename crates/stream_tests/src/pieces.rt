@@ -4,7 +4,7 @@ use crate::scripts::{Step, stream_of};
 use crate::tables::{A, B, Column};
 use ipc_model::{Fault, Limits};
 use ipc_stream::{Decoder, End, Event};
-use std::alloc::Global;
+use std::alloc::{AllocError, Global};
 use std::test::Fail;
 
 /// The stream of samples/int64.arrows: a schema of 120 bytes, a batch of 160 with a body of 24, and
@@ -22,6 +22,35 @@ pub const STREAM: [u8; 288] = [
     255, 255, 255, 255, 255, 255, 255, 255, 255, 255, 255, 255, 255, 127, 255, 255, 255, 255, 0, 0,
     0, 0,
 ];
+
+// The bytes by which samples/int32.arrows differs, with their positions: the field's nullability
+// and width; the null count, the length of the bitmap, and the offset and length of the values; and
+// the body, which has the bitmap 101 and the values 1, 0 and 3.
+const NULLABLE: [(usize, &[u8]); 7] = [
+    (84, &[1]),
+    (108, &[32]),
+    (208, &[1]),
+    (232, &[1]),
+    (240, &[8]),
+    (248, &[12]),
+    (
+        256,
+        &[
+            5, 0, 0, 0, 0, 0, 0, 0, 1, 0, 0, 0, 0, 0, 0, 0, 3, 0, 0, 0, 0, 0, 0, 0,
+        ],
+    ),
+];
+
+/// The stream of samples/int32.arrows. Its messages have the lengths of those above.
+pub fn nullable_stream(alloc: Global) -> Result<Vec<u8>, AllocError> {
+    let mut bytes = Vec::new(alloc);
+    for (at, others) in NULLABLE {
+        bytes.extend_from_slice(STREAM.get(bytes.len()..at).unwrap_or_default())?;
+        bytes.extend_from_slice(others)?;
+    }
+    bytes.extend_from_slice(&STREAM[280..])?;
+    Ok(bytes)
+}
 
 // The stream of samples/no_fields.arrows, and two bytes after its mark.
 const NO_FIELDS: [u8; 58] = [
@@ -56,8 +85,9 @@ fn fresh(alloc: Global) -> Decoder {
 #[test]
 fn bytes_before_each_decision(rt: HostRuntime) -> Result<(), Fail> {
     let of_none = are_wanted(&mut fresh(rt.alloc()), &NO_FIELDS, &[4, 4, 40, 4, 4])?;
+    let bytes = nullable_stream(rt.alloc())?;
     let numbers = [4, 4, 112, 4, 4, 128, 24, 4, 4];
-    let of_one = are_wanted(&mut fresh(rt.alloc()), &STREAM, &numbers)?;
+    let of_one = are_wanted(&mut fresh(rt.alloc()), &bytes, &numbers)?;
     assert!(rt; of_none && of_one);
     Ok(())
 }

@@ -3,9 +3,10 @@
 ghost use Rattle.std.specs.Prelude.{◌≤◌, ◌+◌, length, IfOk};
 ghost use Rattle.std.specs.Io.KnownBytes.{ReadConsumes};
 
-use crate::pieces::STREAM;
-use ipc_model::{Fault, Limits};
-use ipc_stream::{End, Failed, Limited, Memory, Source, StreamReader};
+use crate::pieces::{STREAM, nullable_stream};
+use crate::tables::{Column, NUMBERS};
+use ipc_model::{Fault, Limits, Table};
+use ipc_stream::{End, Failed, Limited, Memory, Source, StreamReader, read_table};
 use std::alloc::{AllocError, Global};
 use std::test::Fail;
 
@@ -88,9 +89,9 @@ fn wanted(calls: u64) -> Heard {
 }
 
 // The first number of calls for which a reader returns something else, if there is one.
-fn heard_otherwise(alloc: Global) -> Result<Option<u64>, AllocError> {
+fn heard_otherwise(alloc: Global, bytes: &[u8]) -> Result<Option<u64>, AllocError> {
     for calls in 0..=289 {
-        if heard(alloc, Vec::from_slice(alloc, &STREAM)?, calls) != wanted(calls) {
+        if heard(alloc, Vec::from_slice(alloc, bytes)?, calls) != wanted(calls) {
             return Ok(Some(calls));
         }
     }
@@ -111,9 +112,30 @@ fn stays_refused(alloc: Global) -> Result<bool, AllocError> {
     Ok(heard(alloc, bytes, u64::MAX) == Ok((said, None, 240, 1, 240)))
 }
 
+// Whether the stream's table is read from a source that gives at most `step` bytes in each call.
+fn is_read(alloc: Global, step: usize, table: &Table) -> Result<bool, Fault> {
+    let memory = Memory::new(Vec::from_slice(alloc, &STREAM)?);
+    let mut source = Limited::new(memory, step.max(1), u64::MAX);
+    let (read, end) = read_table(alloc, &Limits::standard(), &mut source)?;
+    Ok(read.is_same(table) && end == End::Mark)
+}
+
+// The first step by which something else is read, if there is one.
+fn read_otherwise(alloc: Global, table: &Table) -> Result<Option<usize>, Fault> {
+    for step in 1..=STREAM.len() {
+        if !is_read(alloc, step, table)? {
+            return Ok(Some(step));
+        }
+    }
+    Ok(None)
+}
+
 #[test]
 fn sources_that_fail_or_give_few_bytes(rt: HostRuntime) -> Result<(), Fail> {
-    assert!(rt; heard_otherwise(rt.alloc())? == None);
+    let bytes = nullable_stream(rt.alloc())?;
+    let table = Column::Numbers.table(rt.alloc(), NUMBERS, false)?;
+    assert!(rt; heard_otherwise(rt.alloc(), &bytes)? == None);
     assert!(rt; stays_refused(rt.alloc())?);
+    assert!(rt; read_otherwise(rt.alloc(), &table)? == None);
     Ok(())
 }
