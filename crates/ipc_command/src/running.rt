@@ -142,18 +142,30 @@ fn do_job<P: Source, S: Source, W: Sink>(
 {
     let (result, input, sink) = match job {
         Job::Schema(limits) => schema_job(alloc, limits, input, sink),
-        Job::Check { limits, marked } => {
-            print_job(alloc, Form::Counts, marked, limits, input, sink)
-        }
+        Job::Check {
+            limits,
+            require_mark,
+        } => { print_job(alloc, Form::Counts, require_mark, limits, input, sink) }
         Job::Show {
             limits,
             pairs,
-            marked,
-        } => print_job(alloc, Form::Rows { pairs }, marked, limits, input, sink),
-        Job::ToCsv { limits, marked } => {
-            print_job(alloc, Form::Records, marked, limits, input, sink)
-        }
-        Job::Rewrite { limits, marked } => rewrite_job(alloc, seed, marked, limits, input, sink),
+            require_mark,
+        } => print_job(
+            alloc,
+            Form::Rows { pairs },
+            require_mark,
+            limits,
+            input,
+            sink,
+        ),
+        Job::ToCsv {
+            limits,
+            require_mark,
+        } => { print_job(alloc, Form::Records, require_mark, limits, input, sink) }
+        Job::Rewrite {
+            limits,
+            require_mark,
+        } => rewrite_job(alloc, seed, require_mark, limits, input, sink),
         Job::FromCsv { schema: _, batch } => return csv_job(
             alloc, seed, schema, batch, input, sink,
         ),

@@ -25,7 +25,7 @@ pub enum Job {
         /// The limits of the stream.
         limits: Limits,
         /// Whether the end-of-stream mark is required.
-        marked: bool,
+        require_mark: bool,
     },
     /// Print each row of a stream as a JSON array on a line of its own.
     Show {
@@ -34,21 +34,21 @@ pub enum Job {
         /// Whether to print a line with its pairs before the rows of each batch.
         pairs: bool,
         /// Whether the end-of-stream mark is required.
-        marked: bool,
+        require_mark: bool,
     },
     /// Print a stream as CSV.
     ToCsv {
         /// The limits of the stream.
         limits: Limits,
         /// Whether the end-of-stream mark is required.
-        marked: bool,
+        require_mark: bool,
     },
     /// Rewrite a stream in canonical layout, with its schema, batches and rows.
     Rewrite {
         /// The limits of the stream.
         limits: Limits,
         /// Whether the end-of-stream mark is required.
-        marked: bool,
+        require_mark: bool,
     },
     /// Write CSV records as a stream.
     FromCsv {
@@ -446,7 +446,7 @@ fn read_check(alloc: Global, options: &ArgMatches<'_>) -> Result<Job, Usage>
     }
     Ok(Job::Check {
         limits,
-        marked: has_flag(options, "require-mark"),
+        require_mark: has_flag(options, "require-mark"),
     })
 }
 
@@ -462,16 +462,16 @@ fn read_job(alloc: Global, name: &str, options: &ArgMatches<'_>) -> Result<Job, 
         "show" => Ok(Job::Show {
             limits: read_limits(alloc, options)?,
             pairs: has_flag(options, "pairs"),
-            marked: has_flag(options, "require-mark"),
+            require_mark: has_flag(options, "require-mark"),
         }),
         "to-csv" => Ok(Job::ToCsv {
             limits: read_limits(alloc, options)?,
-            marked: has_flag(options, "require-mark"),
+            require_mark: has_flag(options, "require-mark"),
         }),
         "from-csv" => read_from_csv(alloc, options),
         "rewrite" => Ok(Job::Rewrite {
             limits: read_limits(alloc, options)?,
-            marked: has_flag(options, "require-mark"),
+            require_mark: has_flag(options, "require-mark"),
         }),
         _ => Err(wrong(alloc, "error: no subcommand\n")),
     }

@@ -86,20 +86,20 @@ fn job_of(alloc: Global, asked: Asked) -> Job
         Asked::Schema => Job::Schema(limits),
         Asked::Check => Job::Check {
             limits,
-            marked: true,
+            require_mark: true,
         },
         Asked::Show => Job::Show {
             limits,
             pairs: false,
-            marked: true,
+            require_mark: true,
         },
         Asked::ToCsv => Job::ToCsv {
             limits,
-            marked: true,
+            require_mark: true,
         },
         Asked::Rewrite => Job::Rewrite {
             limits,
-            marked: true,
+            require_mark: true,
         },
         Asked::FromCsv => Job::FromCsv {
             schema: String::new(alloc),
