@@ -68,6 +68,7 @@ pub then_sent : (a b : Output) (w : Option (List ℕ)) (n : ℕ) (t : List ℕ) 
 then_sent a b w n t (Ok _) p q = put_at a (output w n []) _ _ (append-nil t) (puts_then a b (output w n []) t [] p q)
 then_sent a b w n t (Err e) p q = not_at a w n _ _ e (append-nil t) (puts_not_then a b w n t [] e p q)
 
+-- the front was put, and the sink failed when it was sent
 pub front_unsent : (form : Form) (front : List ℕ) (r : Reader) (before mid : Output) (w : Option (List ℕ)) (n : ℕ) → before.kept ≡ []
     → Puts before mid front → PutFails mid w n [] Write → PrintsPart form front r r before w n Write
 front_unsent form front r before mid w n empty p q =

@@ -111,9 +111,9 @@ pub data Stops (form : Form) (limits : Limits) (old new written_old written_new 
       ++ lines (line_of form table.schema.fields) (take count last.rows)))
       → Stops form limits old new written_old written_new fault
 
--- for each result: a beginning of the text of the batches that were read was printed. What is not
--- printed is at most the text of the last batch and of the end; so the text of all batches before
--- the last one was printed, and the front, if there is a batch
+-- for each result: a beginning of the text of some batches was printed, with which the bytes that
+-- were taken begin; what is missing is at most the text of the last of them and of the end. `rest`
+-- may hold more batches, so nothing is stated of when a text is printed
 pub data PrintsSome (form : Form) (limits : Limits) (old new written_old written_new : Option
     (List ℕ)) : Type 0 where
   nothing : (x : List ℕ) → Consumes old new x → Keeps written_old written_new
