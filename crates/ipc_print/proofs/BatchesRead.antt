@@ -267,6 +267,7 @@ module _ (options : PrintOptions) (tally : Tally) (old now new : Reader) (before
           ap length (last_lines_more line (head_of options.form) [] b.batches (rows_of found)),
           length-append (last_lines [] (head_of options.form) line (b.batches ++ rows_of found ∷ [])) [],
         );
+        last = inl refl;
         works = λ other z. works ∙ (b.counts ∙ z);
       }
 

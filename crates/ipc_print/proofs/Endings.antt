@@ -18,7 +18,9 @@ use Rattle.ipc_print.specs.Forms.{head_of, line_of, tail_of, tail_text}
 use Rattle.ipc_print.specs.Output.{Output, output, PrintsAs, Puts, PutFails}
 use Rattle.std.specs.Prelude.{⊤}
 use Rattle.ipc_print.specs.Rows.{lines, batch_lines, last_lines}
-use Rattle.ipc_print.specs.Streams.{PrintsRows, PrintsPart, PrintsBatches}
+use Rattle.std.proofs.lemmas.List.{nil_from_length}
+use Rattle.std.proofs.Common.{◌≤◌}
+use Rattle.ipc_print.specs.Streams.{AreLast, PrintsRows, PrintsPart, PrintsBatches}
 use Rattle.ipc_print.proofs.Puts.{puts_then, puts_not_then, puts_never, missing_all, missing_at, missing_more, missing_then}
 use Rattle.ipc_print.proofs.Lines.{put_at, not_at}
 use Rattle.ipc_print.proofs.Texts.{batch_lines_more, head_rest, last_lines_front, last_lines_more}
@@ -47,6 +49,7 @@ part_front form front r before w n e empty q =
       ends = inl refl;
       puts = missing.0;
       few = omega (arith, missing.1, length-append front []);
+      last = inl refl;
       works = λ other z. z;
     }
 
@@ -119,32 +122,45 @@ module _ (options : PrintOptions) (front : List ℕ) (old new : Reader) where
         },
         q.1,
       )
-  behind_front before mid after (Err e) p q =
-      let texts = batch_lines (head_of options.form) line_in q.batches in
-      let most = length (last_lines [] (head_of options.form) line_in q.batches ++ q.tail) in
-      let missing = missing_at before after.written after.failures _ _ e most (sym (append_assoc front texts q.tail))
-      (missing_then before mid after.written after.failures front (texts ++ q.tail) e most p (q.puts, q.few)) in
-      record {
-        x = q.x;
-        batches = q.batches;
-        bytes = q.bytes;
-        rest = q.rest;
-        whole = q.whole;
-        joined = q.joined;
-        state = q.state;
-        run = q.run;
-        tail = q.tail;
-        ends = q.ends;
-        puts = missing.0;
-        few = omega (
-          arith,
-          missing.1,
-          last_lines_front line_in (head_of options.form) front q.batches,
-          length-append (last_lines [] (head_of options.form) line_in q.batches) q.tail,
-          length-append (last_lines front (head_of options.form) line_in q.batches) q.tail,
-        );
-        works = q.works;
-      }
+  behind_front before mid after (Err e) p q = by_last q.last
+    where
+      cut : (most : ℕ) → length q.puts.behind ≤ most → most ≤ length (last_lines [] (head_of options.form) line_in q.batches ++ q.tail)
+          → ((b : List ℕ) → length b ≤ most → AreLast old.limits q.state q.rest new.remaining b)
+          → PrintsPart options.form front old new before after.written after.failures e
+      cut most small fits last =
+          let texts = batch_lines (head_of options.form) line_in q.batches in
+          let missing = missing_at before after.written after.failures _ _ e most (sym (append_assoc front texts q.tail))
+          (missing_then before mid after.written after.failures front (texts ++ q.tail) e most p (q.puts, small)) in
+          record {
+            x = q.x;
+            batches = q.batches;
+            bytes = q.bytes;
+            rest = q.rest;
+            whole = q.whole;
+            joined = q.joined;
+            state = q.state;
+            run = q.run;
+            tail = q.tail;
+            ends = q.ends;
+            puts = missing.0;
+            few = omega (
+              arith,
+              missing.1,
+              fits,
+              last_lines_front line_in (head_of options.form) front q.batches,
+              length-append (last_lines [] (head_of options.form) line_in q.batches) q.tail,
+              length-append (last_lines front (head_of options.form) line_in q.batches) q.tail,
+            );
+            last = last missing.0.behind missing.1;
+            works = q.works;
+          }
+
+      by_last : AreLast old.limits q.state q.rest new.remaining q.puts.behind
+          → PrintsPart options.form front old new before after.written after.failures e
+      by_last (inl none) = cut _ q.few (omega arith) (λ b few. inl none)
+      by_last (inr (inl all)) =
+          cut 0 (omega (arith, ap length all)) (omega arith) (λ b few. inr (inl (nil_from_length b (omega (arith, few)))))
+      by_last (inr (inr end)) = cut _ q.few (omega arith) (λ b few. inr (inr end))
 
   module _ (before mid : Output) where
     rows_flushed : (r : Result End Fault) (after : Output) → after.kept ≡ [] → PrintsRows options.form front old new before mid r
@@ -219,6 +235,7 @@ module _ (options : PrintOptions) (front : List ℕ) (old new : Reader) where
           ends = inl refl;
           puts = missing.0;
           few = omega (arith, missing.1);
+          last = inr (inl (nil_from_length missing.0.behind (omega (arith, missing.1))));
           works = λ other. absurd (other refl);
         }
 
@@ -257,6 +274,7 @@ module _ (options : PrintOptions) (front : List ℕ) (old new : Reader) where
           ends = inr (end, (new.taken, tail_is end tally r.batches p.0.1));
           puts = missing.0;
           few = omega (arith, missing.1, length-append (last_lines front (head_of options.form) line_in r.batches) tail);
+          last = inr (inr (end, r.reads.ends));
           works = λ other. p.2;
         }
     tail_cut (Broken f) w n e is p q = absurd is
@@ -300,5 +318,6 @@ module _ (options : PrintOptions) (front : List ℕ) (old new : Reader) where
             ap length (last_lines_more line_in (head_of options.form) front h.batches h.last),
             length-append (last_lines front (head_of options.form) line_in (h.batches ++ h.last ∷ [])) [],
           );
+          last = inl refl;
           works = λ other. absurd (other refl);
         }

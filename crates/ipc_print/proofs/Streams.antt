@@ -26,7 +26,8 @@ use Rattle.ipc_decode.specs.Counts.{count_up, messages_in}
 use Rattle.std.specs.Prelude.{length}
 use Rattle.ipc_print.specs.Output.{Output, output, Grows, Puts, PutFails}
 use Rattle.ipc_print.specs.Rows.{lines, batch_lines}
-use Rattle.ipc_print.specs.Streams.{PrintsTable, Breaks, unopened, broken, Stops, unfit, refused, PrintsSome, nothing, some, PrintsStream}
+use Rattle.ipc_print.specs.Streams.{PrintsTable, Breaks, unopened, broken, Stops, unfit, refused, PrintsStream}
+use Rattle.ipc_print.specs.Streams.{AreLast, PrintsSome, alone, some, unread}
 use Rattle.ipc_print.specs.Streams.{Prints, PrintsRows, PrintsPart, RefusesRow, write_fault}
 use Rattle.ipc_print.specs.Streams.{PrintsSchema, printed, last_printed, schema_line}
 use Rattle.ipc_print.proofs.Messages.{ReadsCounted}
@@ -128,7 +129,7 @@ module _ {limits : Limits} (options : PrintOptions) (old : Option (List ℕ)) (s
       (Consumes-trans old s.remaining t.remaining o.x r.x o.bytes r.bytes))
       (run_then None (Some (in_force_of s)) r.state o.x r.whole (schema s.schema ∷ []) (map batch r.batches) o.run
       (subst (λ l. Run l (Some (in_force_of s)) r.whole (map batch r.batches) r.state) o.same_limits r.run))
-      r.ends r.puts.bytes r.few
+      r.ends r.puts.bytes r.few (subst (λ l. AreLast l r.state r.rest t.remaining r.puts.behind) o.same_limits r.last)
 
   prints_rows : (r : Result ⊤ Stop) → PrintsStream options s t (output w0 n0 []) (output w1 n1 []) r
       → Prints options limits old t.remaining w0 w1 r
@@ -188,11 +189,11 @@ reads_opened x y t left answer opens reads =
 -- why a stream isn't read to its end, as what was printed
 broken_part : {limits : Limits} → (form : Form) (mark : Bool) (old new w0 w1 : Option (List ℕ)) (fault : Fault) (n : ℕ)
     → Breaks form mark limits old new w0 w1 fault n → PrintsSome form limits old new w0 w1
-broken_part form mark old new w0 w1 fault n (unopened x bytes reads number kept) = nothing x bytes kept
+broken_part form mark old new w0 w1 fault n (unopened x bytes reads number kept) = unread x fault bytes reads kept
 broken_part form mark old new w0 w1 fault n (broken x y t answer bytes opens behind required number have text) =
     let reads = reads_opened x y t new answer opens behind in
     some reads.whole reads.rest [] [] t reads.state (subst (λ (z : List ℕ). Consumes old new z) reads.joined bytes) reads.run (inl refl)
-    (appends_grows w0 w1 _ (subst (λ (z : List ℕ). Appends w0 w1 z) (sym (append-nil _)) text)) (omega arith)
+    (appends_grows w0 w1 _ (subst (λ (z : List ℕ). Appends w0 w1 z) (sym (append-nil _)) text)) (omega arith) (inr (inl refl))
 
 -- the text of batches and of the first rows of one more is a beginning of the text with all its rows
 all_rows : (form : Form) (t : Table) (rows : BatchRows) (count : ℕ)
@@ -213,7 +214,7 @@ all_rows form t rows count =
 -- why a table isn't printed to its end, as what was printed
 stopped_part : {limits : Limits} → (form : Form) (old new w0 w1 : Option (List ℕ)) (fault : TextFault)
     → Stops form limits old new w0 w1 fault → PrintsSome form limits old new w0 w1
-stopped_part form old new w0 w1 fault (unfit x s σ bytes run why kept) = nothing x bytes kept
+stopped_part form old new w0 w1 fault (unfit x s σ bytes run why kept) = alone x s σ bytes run kept
 stopped_part {limits} form old new w0 w1 fault (refused x t rows count σ bytes run have refuses text) =
     let line = line_of form t.schema.fields in
     let rest = lines line (drop count rows.rows) in
@@ -229,7 +230,7 @@ stopped_part {limits} form old new w0 w1 fault (refused x t rows count σ bytes 
       length-append (head_of form rows.pairs ++ lines line (take count rows.rows)) rest,
       ap length (last_lines_more line (head_of form) (front_text form t.schema) t.batches rows),
       length-append (last_printed form t.schema (t.batches ++ rows ∷ [])) [],
-    ))
+    )) (inl refl)
 
 table_part : {limits : Limits} → (form : Form) (mark : Bool) (old new w0 w1 : Option (List ℕ)) → PrintsTable form mark limits old new w0 w1
     → PrintsSome form limits old new w0 w1
@@ -237,9 +238,9 @@ table_part {limits} form mark old new w0 w1 s = by_end s.end s.denotes
   where
     by_end : (end : End) → Denotes limits s.x s.table end → PrintsSome form limits old new w0 w1
     by_end Mark d = some d.0 _ [] _ s.table d.2.0 (subst (λ (z : List ℕ). Consumes old new z) d.1 s.bytes) d.2.1
-        (inr (s.end, (count_up 0 (length s.x), refl))) (appends_grows w0 w1 _ s.text) (omega arith)
+        (inr (s.end, (count_up 0 (length s.x), refl))) (appends_grows w0 w1 _ s.text) (omega arith) (inr (inl refl))
     by_end Closed d = some s.x [] [] _ s.table d.0 (subst (λ (z : List ℕ). Consumes old new z) (sym (append-nil s.x)) s.bytes) d.1
-        (inr (s.end, (count_up 0 (length s.x), refl))) (appends_grows w0 w1 _ s.text) (omega arith)
+        (inr (s.end, (count_up 0 (length s.x), refl))) (appends_grows w0 w1 _ s.text) (omega arith) (inr (inl refl))
 
 -- whatever the answer, a beginning of the text of the batches that were read was printed
 pub part_of : {limits : Limits} → (options : PrintOptions) (old new w0 w1 : Option (List ℕ)) (r : Result ⊤ Stop)

@@ -19,7 +19,7 @@ use Rattle.ipc_decode.specs.declared.end.End.TheVariants.{Closed, Mark}
 use Rattle.ipc_decode.specs.Stream.{State, schema, batch, begun, Run, events_of, Denotes}
 use Rattle.ipc_decode.specs.Stream.{OpensStream}
 use Rattle.ipc_decode.specs.Failures.{Tells}
-use Rattle.ipc_decode.specs.Reasons.{IsOutside, Reads}
+use Rattle.ipc_decode.specs.Reasons.{Ends, IsOutside, Reads}
 use Rattle.ipc_decode.specs.Reader.{Reader, in_force_of}
 use Rattle.ipc_decode.specs.Counts.{count_up, messages_in}
 use Rattle.ipc_json.specs.SchemaJson.{schema_text}
@@ -111,17 +111,30 @@ pub data Stops (form : Form) (limits : Limits) (old new written_old written_new 
       ++ lines (line_of form table.schema.fields) (take count last.rows)))
       → Stops form limits old new written_old written_new fault
 
--- for each result: a beginning of the text of some batches was printed, with which the bytes that
--- were taken begin; what is missing is at most the text of the last of them and of the end. `rest`
--- may hold more batches, so nothing is stated of when a text is printed
+-- after these batches either nothing was taken, or the end of the stream; or none of their text is
+-- missing
+abbrev pub AreLast : Limits → State → List ℕ → Option (List ℕ) → List ℕ → Type 0
+AreLast limits σ rest left missing = (rest ≡ []) ⊎ ((missing ≡ [])
+    ⊎ ((end : End) × Ends limits σ rest left (Ok end)))
+
+-- for each result: a beginning of the text of batches that were read was printed. What is missing
+-- is at most the text of the last of them and of the end, and no batch was read behind one whose
+-- text is missing in part
 pub data PrintsSome (form : Form) (limits : Limits) (old new written_old written_new : Option
     (List ℕ)) : Type 0 where
-  nothing : (x : List ℕ) → Consumes old new x → Keeps written_old written_new
+  -- no schema was read
+  unread : (x : List ℕ) (fault : Fault) → Consumes old new x
+      → Reads limits None x new [] (Err fault) → Keeps written_old written_new
+      → PrintsSome form limits old new written_old written_new
+  -- the schema alone was read, and nothing was printed
+  alone : (x : List ℕ) (s : Schema) (σ : State) → Consumes old new x
+      → Run limits None x (schema s ∷ []) σ → Keeps written_old written_new
       → PrintsSome form limits old new written_old written_new
   some : (x rest behind tail : List ℕ) (table : Table) (σ : State) → Consumes old new (x ++ rest)
       → Run limits None x (events_of table) σ → IsTail form table.batches tail
       → Grows written_old [] written_new behind (printed form table.schema table.batches ++ tail)
       → length behind ≤ length (last_printed form table.schema table.batches ++ tail)
+      → AreLast limits σ rest new behind
       → PrintsSome form limits old new written_old written_new
 
 -- the exit status of a refusal of texts
@@ -301,6 +314,7 @@ module _ (form : Form) (front : List ℕ) (old new : Reader) (before : Output) w
         PutFails before written failures
         ((front ++ batch_lines (head_of form) line batches) ++ tail) fault
     pub few : length puts.behind ≤ length (last_lines front (head_of form) line batches ++ tail)
+    pub last : AreLast old.limits state rest new.remaining puts.behind
     pub works : fault ≢ p.Write → old.failures ≡ 0 → new.failures ≡ 0
 
   -- all batches were read after the schema; `front`, all their rows and the text at the end were

@@ -277,7 +277,8 @@ pub fn print<R: Source, W: Sink>(
     // came before was printed. The number of the message is the count of the messages before it.
     ensures prints { Prints options limits (R.remaining source) (R.remaining result.1)
         (W.written sink.old) (W.written sink.new) result.0 }
-    // Whatever the answer, a beginning of the text of what was read was printed.
+    // Whatever the answer, a beginning of the text of what was read was printed, and no batch was
+    // read before the text of the one before it was printed.
     ensures part { PrintsSome options.form limits (R.remaining source) (R.remaining result.1)
         (W.written sink.old) (W.written sink.new) }
     // With devices that had not failed before, W9 is answered exactly where the sink failed in this
