@@ -10,41 +10,44 @@ use Rattle.ipc_model.specs.declared.value.Value.{Value, out-Value, roll-Value, r
 use Rattle.ipc_model.specs.declared.value.Value.TheOpen.{Value-F}
 use Rattle.ipc_model.proofs.FitsLemmas.{fits_parts}
 use Rattle.ipc_csv.specs.CsvRows.{StandsFor, ReadsAs}
+use Rattle.ipc_csv.specs.declared.dialect.Dialect.{Dialect}
 use Rattle.ipc_csv.specs.RowCsv.{null_text, is_nested}
 
 -- what a text stands for has no values inside it
-inner_fits : (kind : DataType) (fs : List Field) (text : List ℕ) (w : Value-F Value) → StandsFor kind text w → InnerFit Fits kind fs w
-inner_fits t.List (f ∷ fs) text (Value-F.List vs) s = absurd cc
-inner_fits (t.FixedSizeList size) (f ∷ fs) text (Value-F.List vs) s = absurd cc
-inner_fits t.Struct fs text (Value-F.Struct vs) s = absurd cc
-inner_fits _ [] text w s = tt
-inner_fits _ (f ∷ fs) text w s = tt
+inner_fits : (d : Dialect) (kind : DataType) (fs : List Field) (text : List ℕ) (w : Value-F Value) → StandsFor d kind text w
+    → InnerFit Fits kind fs w
+inner_fits d t.List (f ∷ fs) text (Value-F.List vs) s = absurd cc
+inner_fits d (t.FixedSizeList size) (f ∷ fs) text (Value-F.List vs) s = absurd cc
+inner_fits d t.Struct fs text (Value-F.Struct vs) s = absurd cc
+inner_fits d _ [] text w s = tt
+inner_fits d _ (f ∷ fs) text w s = tt
 
 -- a text reads as a field's own value that it stands for
-pub reads_own : (f : Field) (text : List ℕ) (v : Value)
+pub reads_own : (d : Dialect) (f : Field) (text : List ℕ) (v : Value)
     → IsOwn (out-Field f).kind (out-Field f).nullable (length (out-Field f).children) (out-Value v)
-    → StandsFor (out-Field f).kind text (out-Value v) → ReadsAs f text v
-reads_own f text v own s =
-    (subst (λ T. T) (sym (fits_parts f v)) (own, inner_fits (out-Field f).kind (out-Field f).children text (out-Value v) s), s)
+    → StandsFor d (out-Field f).kind text (out-Value v) → ReadsAs d f text v
+reads_own d f text v own s =
+    (subst (λ T. T) (sym (fits_parts f v)) (own, inner_fits d (out-Field f).kind (out-Field f).children text (out-Value v) s), s)
 
 -- where both were told of what was read, it reads as it
-pub read_both : {E : Type 0} → (f : Field) (text : List ℕ) (v : Value) (r : Result Bool E)
+pub read_both : {E : Type 0} → (d : Dialect) (f : Field) (text : List ℕ) (v : Value) (r : Result Bool E)
     → IfOk r (λ read. IsTrue read → IsOwn (out-Field f).kind (out-Field f).nullable (length (out-Field f).children) (out-Value v))
-    → IfOk r (λ read. IsTrue read → StandsFor (out-Field f).kind text (out-Value v))
-    → IfOk r (λ read. IsTrue read → ReadsAs f text v)
-read_both f text v (Ok read) own stands = λ h. reads_own f text v (own h) (stands h)
-read_both f text v (Err fault) own stands = tt
+    → IfOk r (λ read. IsTrue read → StandsFor d (out-Field f).kind text (out-Value v))
+    → IfOk r (λ read. IsTrue read → ReadsAs d f text v)
+read_both d f text v (Ok read) own stands = λ h. reads_own d f text v (own h) (stands h)
+read_both d f text v (Err fault) own stands = tt
 
-of_kind : (kind : DataType) (nullable : Bool) (n : ℕ) (text : List ℕ) (w : Value-F Value) → text ≢ null_text → IsOwn kind nullable n w
-    → StandsFor kind text w → IsOfKind kind n w
-of_kind kind nullable n text Value-F.Null other own s = absurd (other (sym (same_Some _ _ s)))
-of_kind kind nullable n text (Value-F.Bool b) other own s = own
-of_kind kind nullable n text (Value-F.Int z) other own s = own
-of_kind kind nullable n text (Value-F.UInt m) other own s = own
-of_kind kind nullable n text (Value-F.Bytes bytes) other own s = own
-of_kind kind nullable n text (Value-F.Text chars) other own s = own
-of_kind kind nullable n text (Value-F.List vs) other own s = own
-of_kind kind nullable n text (Value-F.Struct vs) other own s = own
+of_kind : (d : Dialect) (kind : DataType) (nullable : Bool) (n : ℕ) (text : List ℕ) (w : Value-F Value) → text ≢ null_text d
+    → IsOwn kind nullable n w
+    → StandsFor d kind text w → IsOfKind kind n w
+of_kind d kind nullable n text Value-F.Null other own s = absurd (other (sym (same_Some _ _ s)))
+of_kind d kind nullable n text (Value-F.Bool b) other own s = own
+of_kind d kind nullable n text (Value-F.Int z) other own s = own
+of_kind d kind nullable n text (Value-F.UInt m) other own s = own
+of_kind d kind nullable n text (Value-F.Bytes bytes) other own s = own
+of_kind d kind nullable n text (Value-F.Text chars) other own s = own
+of_kind d kind nullable n text (Value-F.List vs) other own s = own
+of_kind d kind nullable n text (Value-F.Struct vs) other own s = own
 
 -- what fits a field is one of its own
 pub own_of_fits : (f : Field) (v : Value) → Fits f v
@@ -56,11 +59,11 @@ pub out_same : (v w : Value) → out-Value v ≡ out-Value w → v ≡ w
 out_same v w e = sym (roll-out-Value v) ∙ ap roll-Value e ∙ roll-out-Value w
 
 -- a text that isn't that of null reads as no null
-pub read_any : {E : Type 0} → (f : Field) (text : List ℕ) (new : Value) (r : Result Bool E) → text ≢ null_text
+pub read_any : {E : Type 0} → (d : Dialect) (f : Field) (text : List ℕ) (new : Value) (r : Result Bool E) → text ≢ null_text d
     → IfOk r (λ read. (v : Value) → IsOfKind (out-Field f).kind (length (out-Field f).children) (out-Value v)
-    → StandsFor (out-Field f).kind text (out-Value v) → IsTrue read × (new ≡ v))
-    → IfOk r (λ read. is_nested (out-Field f).kind ≡ false → (v : Value) → ReadsAs f text v → IsTrue read × (new ≡ v))
-read_any f text new (Ok read) other all = λ flat v h.
+    → StandsFor d (out-Field f).kind text (out-Value v) → IsTrue read × (new ≡ v))
+    → IfOk r (λ read. is_nested (out-Field f).kind ≡ false → (v : Value) → ReadsAs d f text v → IsTrue read × (new ≡ v))
+read_any d f text new (Ok read) other all = λ flat v h.
     let own = own_of_fits f v h.0 in
-    all v (of_kind (out-Field f).kind (out-Field f).nullable (length (out-Field f).children) text (out-Value v) other own h.1) h.1
-read_any f text new (Err fault) other all = tt
+    all v (of_kind d (out-Field f).kind (out-Field f).nullable (length (out-Field f).children) text (out-Value v) other own h.1) h.1
+read_any d f text new (Err fault) other all = tt

@@ -6,8 +6,9 @@ use Rattle.std.proofs.lemmas.Bool.Decides.{nat_tests}
 use Rattle.std.proofs.Math.Seq.{take-append_seam}
 use Rattle.std.proofs.lemmas.Bool.{cases_Bool}
 use Rattle.std.proofs.lemmas.List.Folds.{list_any-append}
-use Rattle.csv.specs.Writing.{escaped, needs_quotes, needs_byte, default_writer, quote_mark}
-use Rattle.ipc_csv.specs.RowCsv.{BeginsWith}
+use Rattle.csv.specs.Writing.{escaped, quoted, needs_quotes, needs_byte, default_writer, quote_mark}
+use Rattle.ipc_csv.specs.Dialects.{writer}
+use Rattle.ipc_csv.specs.RowCsv.{BeginsWith, with_field}
 
 -- two texts are escaped one after the other
 pub escaped_both : (xs ys : List ℕ) → escaped default_writer (xs ++ ys) ≡ escaped default_writer xs ++ escaped default_writer ys
@@ -18,10 +19,29 @@ escaped_both (b ∷ xs) ys = elim (cases_Bool (b == quote_mark)) [
   | inr other ↦ rw other (ap (λ zs. b ∷ zs) (escaped_both xs ys))
 ]
 
+-- between quotes the delimiter has no other form
+pub escaped_alike : (c : ℕ) (xs : List ℕ) → escaped (writer c) xs ≡ escaped default_writer xs
+unfolding escaped
+escaped_alike c [] = refl
+escaped_alike c (b ∷ xs) = elim (cases_Bool (b == quote_mark)) [
+  | inl quote ↦ rw quote (ap (λ zs. quote_mark ∷ b ∷ zs) (escaped_alike c xs))
+  | inr other ↦ rw other (ap (λ zs. b ∷ zs) (escaped_alike c xs))
+]
+
 -- two texts call for quotes where one of them does
-pub quotes_both : (xs ys : List ℕ)
-    → needs_quotes default_writer (xs ++ ys) ≡ (needs_quotes default_writer xs || needs_quotes default_writer ys)
-quotes_both xs ys = list_any-append (needs_byte default_writer) xs ys
+quotes_both : (c : ℕ) (xs ys : List ℕ)
+    → needs_quotes (writer c) (xs ++ ys) ≡ (needs_quotes (writer c) xs || needs_quotes (writer c) ys)
+quotes_both c xs ys = list_any-append (needs_byte (writer c)) xs ys
+
+-- then both are one field in quotes
+pub field_quoted : (c : ℕ) (text xs ys : List ℕ) → (needs_quotes (writer c) xs || needs_quotes (writer c) ys) ≡ true
+    → text ++ quoted default_writer (xs ++ ys) ≡ with_field c text (xs ++ ys)
+field_quoted c text xs ys needs = rw (quotes_both c xs ys, needs, escaped_alike c (xs ++ ys)) refl
+
+-- and otherwise they are one as they stand
+pub field_plain : (c : ℕ) (text xs ys : List ℕ) → (needs_quotes (writer c) xs || needs_quotes (writer c) ys) ≡ false
+    → text ++ xs ++ ys ≡ with_field c text (xs ++ ys)
+field_plain c text xs ys needs = rw (quotes_both c xs ys, needs) (append_assoc text xs ys)
 
 -- what begins with a text is that text where it is cut to its length
 pub cut_back : (old new : List ℕ) → BeginsWith old new → take (length old) new ≡ old

@@ -1,4 +1,4 @@
--- The rows that records of CSV denote.
+-- The rows that records of CSV denote in a dialect.
 use Rattle.std.specs.Prelude.{◌≡◌, ◌≢◌, ◌⊎◌, ⊤, ℕ, ◌+◌, List, [], ◌∷◌, length, Some, None}
 use Rattle.std.specs.Str.{IsUtf8}
 use Rattle.hex.specs.Hex.{IsBytes}
@@ -8,59 +8,61 @@ use Rattle.ipc_model.specs.declared.schema.Field.{Field, out-Field}
 use Rattle.ipc_model.specs.declared.value.Value.{Value, out-Value}
 use Rattle.ipc_model.specs.declared.value.Value.TheOpen.{Value-F}
 use Rattle.ipc_csv.specs.CsvCells.{bytes_of}
-use Rattle.ipc_csv.specs.RowCsv.{value_text, backslashed, flat_fault}
+use Rattle.ipc_csv.specs.RowCsv.{value_text, chars_text, null_text, flat_fault}
+use Rattle.ipc_csv.specs.declared.dialect.Dialect.{Dialect}
 use Rattle.ipc_moments.specs.declared.fault.TextFault.{TextFault}
 use Rattle.ipc_moments.specs.declared.fault.TextFault.TheVariants.{OutOfMemory, BadField}
 use Rattle.ipc_moments.specs.declared.fault.TextFault.TheVariants.{WrongFieldCount}
 
 -- a value is the text that is written as this field
-abbrev pub IsCharsOf : List ℕ → Value-F Value → Type 0
-IsCharsOf text v =
-    (chars : List ℕ) × (v ≡ Value-F.Text chars) × IsUtf8 chars × (backslashed chars ≡ text)
+abbrev pub IsCharsOf : Dialect → List ℕ → Value-F Value → Type 0
+IsCharsOf d text v =
+    (chars : List ℕ) × (v ≡ Value-F.Text chars) × IsUtf8 chars × (chars_text d chars ≡ Some text)
 
 -- a text denotes a value of this type: it is the text that is written for it; hexadecimal digits
--- may be of either case
-abbrev pub StandsFor : DataType → List ℕ → Value-F Value → Type 0
-StandsFor kind text (Value-F.Bytes bytes) = bytes_of text ≡ Some bytes
-StandsFor kind text (Value-F.Text chars) = IsUtf8 chars × (backslashed chars ≡ text)
-StandsFor kind text v = value_text kind v ≡ Some text
+-- may be of either case, but not those of the text of null
+abbrev pub StandsFor : Dialect → DataType → List ℕ → Value-F Value → Type 0
+StandsFor d kind text (Value-F.Bytes bytes) =
+    (bytes_of text ≡ Some bytes) × (text ≢ null_text d)
+StandsFor d kind text (Value-F.Text chars) = IsUtf8 chars × (chars_text d chars ≡ Some text)
+StandsFor d kind text v = value_text d kind v ≡ Some text
 
 -- a text reads as a value of a field: it denotes the value, and the value fits the field
-abbrev pub ReadsAs : Field → List ℕ → Value → Type 0
-ReadsAs f text v = Fits f v × StandsFor (out-Field f).kind text (out-Value v)
+abbrev pub ReadsAs : Dialect → Field → List ℕ → Value → Type 0
+ReadsAs d f text v = Fits f v × StandsFor d (out-Field f).kind text (out-Value v)
 
 -- the texts of a record read as the values of a row, one for each column
-abbrev pub EachReadsAs : List Field → List (List ℕ) → List Value → Type 0
-EachReadsAs [] [] [] = ⊤
-EachReadsAs (f ∷ fs) (text ∷ texts) (v ∷ vs) = ReadsAs f text v × EachReadsAs fs texts vs
-EachReadsAs fs texts vs = ⊥
+abbrev pub EachReadsAs : Dialect → List Field → List (List ℕ) → List Value → Type 0
+EachReadsAs d [] [] [] = ⊤
+EachReadsAs d (f ∷ fs) (text ∷ texts) (v ∷ vs) = ReadsAs d f text v × EachReadsAs d fs texts vs
+EachReadsAs d fs texts vs = ⊥
 
 -- the texts of a record read as a row, and its columns can be written as CSV
-abbrev pub RecordReadsAs : List Field → List (List ℕ) → List Value → Type 0
-RecordReadsAs fields texts row = (flat_fault fields ≡ None) × EachReadsAs fields texts row
+abbrev pub RecordReadsAs : Dialect → List Field → List (List ℕ) → List Value → Type 0
+RecordReadsAs d fields texts row = (flat_fault fields ≡ None) × EachReadsAs d fields texts row
 
 -- the first column whose text reads as no value; the columns are numbered from `number` on
-abbrev pub IsFirstBad : ℕ → List Field → List (List ℕ) → ℕ → Type 0
-IsFirstBad number (f ∷ fs) (text ∷ texts) column =
-    ((column ≡ number) × ((v : Value) → ¬ ReadsAs f text v))
-    ⊎ (((v : Value) × ReadsAs f text v) × IsFirstBad (number + 1) fs texts column)
-IsFirstBad number fs texts column = ⊥
+abbrev pub IsFirstBad : Dialect → ℕ → List Field → List (List ℕ) → ℕ → Type 0
+IsFirstBad d number (f ∷ fs) (text ∷ texts) column =
+    ((column ≡ number) × ((v : Value) → ¬ ReadsAs d f text v))
+    ⊎ (((v : Value) × ReadsAs d f text v) × IsFirstBad d (number + 1) fs texts column)
+IsFirstBad d number fs texts column = ⊥
 
 -- the fault X4, with the number of the record and its first bad column; or out of memory
-abbrev pub IsBadField : ℕ → List Field → List (List ℕ) → TextFault → Type 0
-IsBadField number fields texts fault =
+abbrev pub IsBadField : Dialect → ℕ → List Field → List (List ℕ) → TextFault → Type 0
+IsBadField d number fields texts fault =
     (fault ≡ OutOfMemory)
-    ⊎ ((column : ℕ) × (fault ≡ BadField number column) × IsFirstBad 0 fields texts column)
+    ⊎ ((column : ℕ) × (fault ≡ BadField number column) × IsFirstBad d 0 fields texts column)
 
 -- why the texts of the record with this number do not read as a row; memory may run out at any time
-abbrev pub IsRecordFault : ℕ → List Field → List (List ℕ) → TextFault → Type 0
-IsRecordFault number fields texts OutOfMemory = ⊤
-IsRecordFault number fields texts (WrongFieldCount line) =
+abbrev pub IsRecordFault : Dialect → ℕ → List Field → List (List ℕ) → TextFault → Type 0
+IsRecordFault d number fields texts OutOfMemory = ⊤
+IsRecordFault d number fields texts (WrongFieldCount line) =
     (flat_fault fields ≡ None) × (line ≡ number) × (length texts ≢ length fields)
-IsRecordFault number fields texts (BadField line column) =
+IsRecordFault d number fields texts (BadField line column) =
     (flat_fault fields ≡ None) × (line ≡ number) × (length texts ≡ length fields)
-    × IsFirstBad 0 fields texts column
-IsRecordFault number fields texts fault = flat_fault fields ≡ Some fault
+    × IsFirstBad d 0 fields texts column
+IsRecordFault d number fields texts fault = flat_fault fields ≡ Some fault
 
 -- the first column whose name differs from the header's; the columns are numbered from `number` on
 abbrev pub IsFirstUnlike : ℕ → List Field → List (List ℕ) → ℕ → Type 0

@@ -1,3 +1,4 @@
+pub mod Dialects
 pub mod RowCsv
 pub mod CsvCells
 pub mod CsvRows

@@ -1,11 +1,13 @@
 //! Reads values from the texts of CSV fields, each in the one spelling that is written.
 ghost use Rattle.std.specs.Prelude.{◌≡◌, ℤ, ℕ, List, ◌<◌, ◌^◌, IfSome, Some, FitsSigned, decimal};
-ghost use Rattle.std.specs.Prelude.{Bool, IfOk, IfErr, IsSome, None, option_map, false, IsTrue};
+ghost use Rattle.std.specs.Prelude.{Bool, IfOk, IfErr, MatchOption, None, option_map, false};
+ghost use Rattle.std.specs.Prelude.{IsTrue};
 ghost use Rattle.std.specs.Int.{w64};
 ghost use Rattle.std.specs.Fmt.{signed_decimal};
-ghost use Rattle.ipc_csv.specs.RowCsv.{bool_text, backslashed};
+ghost use Rattle.ipc_csv.specs.RowCsv.{bool_text, backslashed, chars_text};
 ghost use Rattle.ipc_csv.specs.CsvCells.{bytes_of};
 
+use crate::dialect::Dialect;
 use crate::hexadecimal::decode_pairs;
 use ipc_moments::TextFault;
 use itoa::Buffer;
@@ -56,11 +58,11 @@ pub fn read_bool(text: &str) -> Option<bool>
     }
 }
 
-/// Reads a text from its CSV field: of two leading backslashes one is removed. Returns `None` for a
-/// field with exactly one leading backslash, as null has.
-pub fn read_text(field: &[u8]) -> Option<&[u8]>
+// Reads a text from its field, where null is `\N`.
+fn read_backslashed(field: &[u8]) -> Option<&[u8]>
     ensures only { IfSome result (λ text. backslashed text.now ≡ field.now) }
-    ensures all { (t : List ℕ) → backslashed t ≡ field.now → IsSome result }
+    ensures all { (t : List ℕ) → backslashed t ≡ field.now
+        → MatchOption result ⊥ (λ text. text.now ≡ t) }
 {
     if field.first() != Some(&b'\\') {
         return Some(field);
@@ -71,6 +73,24 @@ pub fn read_text(field: &[u8]) -> Option<&[u8]>
     } else {
         None
     }
+}
+
+/// Reads a text from its CSV field: if null is `\N`, one of two leading backslashes is removed.
+/// Returns `None` for the text of null, and, if that is `\N`, for any field with exactly one
+/// leading backslash.
+pub fn read_text<'a>(dialect: Dialect<'_>, field: &'a [u8]) -> Option<&'a [u8]>
+    ensures only { IfSome result
+        (λ text. chars_text dialect.entry text.now ≡ Some field.now) }
+    ensures all { (t : List ℕ) → chars_text dialect.entry t ≡ Some field.now
+        → MatchOption result ⊥ (λ text. text.now ≡ t) }
+{
+    if dialect.escapes_backslash() {
+        return read_backslashed(field);
+    }
+    if field == dialect.null().as_bytes() {
+        return None;
+    }
+    Some(field)
 }
 
 /// Reads bytes from their hexadecimal digits, in either case. Returns `None` for any other text.

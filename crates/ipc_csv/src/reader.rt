@@ -1,5 +1,6 @@
 //! Reads a row from the fields of a CSV record.
-ghost use Rattle.std.specs.Prelude.{◌≡◌, ◌<◌, ◌^◌, ℕ, ℤ, List, IfOk, IfErr, IfSome, MatchResult};
+ghost use Rattle.std.specs.Prelude.{◌≡◌, ◌≢◌, ◌<◌, ◌^◌, ℕ, ℤ, List, IfOk, IfErr, IfSome};
+ghost use Rattle.std.specs.Prelude.{MatchResult};
 ghost use Rattle.std.specs.Prelude.{Some, Bool, FitsSigned, decimal, option_map, length, OnOk};
 ghost use Rattle.std.specs.Prelude.{None, Ok};
 ghost use Rattle.std.specs.Prelude.{IsTrue, IsSome, ◌↔◌, false};
@@ -19,12 +20,13 @@ ghost use Rattle.ipc_csv.specs.CsvRows.{StandsFor, ReadsAs, RecordReadsAs, IsRec
 ghost use Rattle.ipc_csv.specs.CsvRows.{IsCharsOf, EachReadsAs, IsBadField, IsFirstUnlike};
 ghost use Rattle.ipc_csv.specs.CsvRows.{IsHeaderFault, IsStored};
 ghost use Rattle.ipc_moments.specs.Moments.{date_text, time_text, timestamp_text};
-ghost use Rattle.ipc_csv.specs.RowCsv.{int_text, bool_text, backslashed, names, flat_fault};
-ghost use Rattle.ipc_csv.specs.RowCsv.{row_texts};
+ghost use Rattle.ipc_csv.specs.RowCsv.{int_text, bool_text, chars_text, names, flat_fault};
+ghost use Rattle.ipc_csv.specs.RowCsv.{null_text, row_texts};
 ghost use Rattle.ipc_csv.specs.RowCsv as spec;
 
 use crate::ascii::text_of;
 use crate::cell::{decode_bytes, read_int, read_text, read_uint};
+use crate::dialect::Dialect;
 use crate::digits::{read_short, read_short_signed};
 use crate::instants::{read_day, read_instant};
 use crate::record::{check_flat, is_nested};
@@ -108,13 +110,19 @@ fn put_new_text(alloc: Global, chars: &str, place: &mut Value) -> Result<(), All
 // Puts the text whose field this is in the place of a value, in its room where that is a text, and
 // says whether there is one.
 #[inline(never)]
-fn put_chars(alloc: Global, text: &[u8], place: &mut Value) -> Result<bool, AllocError>
-    ensures only { IfOk result (λ read. IsTrue read → IsCharsOf text.now (out-Value place.new)) }
+fn put_chars(
+    alloc: Global,
+    dialect: Dialect<'_>,
+    text: &[u8],
+    place: &mut Value,
+) -> Result<bool, AllocError>
+    ensures only { IfOk result (λ read. IsTrue read
+        → IsCharsOf dialect.entry text.now (out-Value place.new)) }
     ensures all { IfOk result (λ read. (chars : List ℕ) → IsUtf8 chars
-        → backslashed chars ≡ text.now
+        → chars_text dialect.entry chars ≡ Some text.now
         → IsTrue read × (out-Value place.new ≡ Value-F.Text chars)) }
 {
-    let Some(chars) = read_text(text) else {
+    let Some(chars) = read_text(dialect, text) else {
         return Ok(false);
     };
     let Some(chars) = text_of(chars) else {
@@ -319,20 +327,22 @@ fn put_time(field: &Field, unit: TimeUnit, text: &[u8], place: &mut Value) -> bo
 #[inline(always)]
 fn read_own(
     alloc: Global,
+    dialect: Dialect<'_>,
     field: &Field,
     text: &[u8],
     place: &mut Value,
 ) -> Result<bool, AllocError>
+    requires { text.now ≢ null_text dialect }
     ensures own { IfOk result (λ read. IsTrue read
         → IsOwn (out-Field field.now).kind (out-Field field.now).nullable
         (length (out-Field field.now).children) (out-Value place.new)) }
     ensures flat { IfOk result (λ read. IsTrue read
         → spec.is_nested (out-Field field.now).kind ≡ false) }
     ensures stands { IfOk result (λ read. IsTrue read
-        → StandsFor (out-Field field.now).kind text.now (out-Value place.new)) }
+        → StandsFor dialect.entry (out-Field field.now).kind text.now (out-Value place.new)) }
     ensures all { IfOk result (λ read. (v : Value)
         → IsOfKind (out-Field field.now).kind (length (out-Field field.now).children) (out-Value v)
-        → StandsFor (out-Field field.now).kind text.now (out-Value v)
+        → StandsFor dialect.entry (out-Field field.now).kind text.now (out-Value v)
         → IsTrue read × (place.new ≡ v)) }
 {
     let read = match &field.kind {
@@ -349,7 +359,7 @@ fn read_own(
         DataType::Timestamp { unit, timezone } => {
             put_int(read_instant(*unit, timezone, text), place)
         }
-        DataType::Utf8 => put_chars(alloc, text, place)?,
+        DataType::Utf8 => put_chars(alloc, dialect, text, place)?,
         DataType::Binary => put_binary(alloc, text, place)?,
         DataType::FixedSizeBinary(size) => {
             put_binary(alloc, text, place)? && has_size(*size, place)
@@ -363,20 +373,23 @@ fn read_own(
 #[inline(always)]
 fn read_field(
     alloc: Global,
+    dialect: Dialect<'_>,
     field: &Field,
     text: &[u8],
     place: &mut Value,
 ) -> Result<bool, AllocError>
-    ensures only { IfOk result (λ read. IsTrue read → ReadsAs field.now text.now place.new) }
+    ensures only { IfOk result (λ read. IsTrue read
+        → ReadsAs dialect.entry field.now text.now place.new) }
     ensures flat { IfOk result (λ read. IsTrue read
         → spec.is_nested (out-Field field.now).kind ≡ false) }
     ensures all { IfOk result (λ read. spec.is_nested (out-Field field.now).kind ≡ false
-        → (v : Value) → ReadsAs field.now text.now v → IsTrue read × (place.new ≡ v)) }
+        → (v : Value) → ReadsAs dialect.entry field.now text.now v
+        → IsTrue read × (place.new ≡ v)) }
 {
-    if text == b"\\N".as_slice() {
+    if text == dialect.null().as_bytes() {
         return Ok(put_null(field, place));
     }
-    read_own(alloc, field, text, place)
+    read_own(alloc, dialect, field, text, place)
 }
 
 // Gives a row `count` values. Values that were there remain at the front.
@@ -405,6 +418,7 @@ fn bad_field(number: u64, column: usize) -> TextFault
 // the earlier value of its column. If all are read, no column is a list or a struct.
 fn read_fields(
     alloc: Global,
+    dialect: Dialect<'_>,
     columns: &[Field],
     number: u64,
     fields: &ByteRecord,
@@ -415,18 +429,19 @@ fn read_fields(
     ensures flat { OnOk result
         (list_any (λ f. spec.is_nested (out-Field f).kind) columns.now ≡ false) }
     ensures read { OnOk result
-        (EachReadsAs columns.now (fields_of fields.now) row.new.items) }
+        (EachReadsAs dialect.entry columns.now (fields_of fields.now) row.new.items) }
     ensures all { OnOk result ((wanted : List Value)
-        → EachReadsAs columns.now (fields_of fields.now) wanted → row.new.items ≡ wanted) }
+        → EachReadsAs dialect.entry columns.now (fields_of fields.now) wanted
+        → row.new.items ≡ wanted) }
     ensures refused { IfErr result (λ fault.
         list_any (λ f. spec.is_nested (out-Field f).kind) columns.now ≡ false
-        → IsBadField number columns.now (fields_of fields.now) fault) }
+        → IsBadField dialect.entry number columns.now (fields_of fields.now) fault) }
 {
     for (column, field) in columns.iter().enumerate() {
         let Some(text) = fields.get(column) else {
             return Err(bad_field(number, column));
         };
-        if !read_field(alloc, field, text, &mut row[column])? {
+        if !read_field(alloc, dialect, field, text, &mut row[column])? {
             return Err(bad_field(number, column));
         }
     }
@@ -435,9 +450,10 @@ fn read_fields(
 
 /// Reads the row of the CSV record with this number. Each value fits its column.
 ///
-/// Null is `\N`, and booleans are `true` and `false`. Numbers are decimal, without plus sign,
-/// leading zero or `-0`. Bytes are hexadecimal digits in either case. Dates, times and timestamps
-/// have one spelling. A text that begins with a backslash begins with two.
+/// A field with the dialect's text of null is null. Booleans are `true` and `false`. Numbers are
+/// decimal, without plus sign, leading zero or `-0`. Bytes are hexadecimal digits in either case.
+/// Dates, times and timestamps have one spelling. If null is `\N`, a text that begins with a
+/// backslash begins with two.
 ///
 /// Errors, in this order of precedence:
 ///
@@ -449,22 +465,25 @@ fn read_fields(
 /// bytes.
 pub fn row_from_csv(
     alloc: Global,
+    dialect: Dialect<'_>,
     schema: &Schema,
     number: u64,
     fields: &ByteRecord,
 ) -> Result<Row, TextFault>
-    ensures read { IfOk result (λ row. RecordReadsAs schema.now.fields (fields_of fields.now) row) }
-    ensures all { (row : List Value) → RecordReadsAs schema.now.fields (fields_of fields.now) row
+    ensures read { IfOk result
+        (λ row. RecordReadsAs dialect.entry schema.now.fields (fields_of fields.now) row) }
+    ensures all { (row : List Value)
+        → RecordReadsAs dialect.entry schema.now.fields (fields_of fields.now) row
         → MatchResult result (λ read. read ≡ row) (λ fault. fault ≡ TextFault.OutOfMemory) }
     ensures back { (row : List Value) → flat_fault schema.now.fields ≡ None
         → RowFits schema.now.fields row → AllByRecursion (λ v. IsStored (out-Value v)) row
-        → row_texts schema.now.fields row ≡ Ok (fields_of fields.now)
+        → row_texts dialect.entry schema.now.fields row ≡ Ok (fields_of fields.now)
         → MatchResult result (λ read. read ≡ row) (λ fault. fault ≡ TextFault.OutOfMemory) }
     ensures refused { IfErr result
-        (IsRecordFault number schema.now.fields (fields_of fields.now)) }
+        (IsRecordFault dialect.entry number schema.now.fields (fields_of fields.now)) }
 {
     let mut row = Items::from_vec(Vec::with_capacity(alloc, schema.fields.len())?);
-    fill_row_from_csv(alloc, schema, number, fields, &mut row)?;
+    fill_row_from_csv(alloc, dialect, schema, number, fields, &mut row)?;
     Ok(row)
 }
 
@@ -482,22 +501,23 @@ pub fn row_from_csv(
 /// than all earlier ones of their column.
 pub fn fill_row_from_csv(
     alloc: Global,
+    dialect: Dialect<'_>,
     schema: &Schema,
     number: u64,
     fields: &ByteRecord,
     row: &mut Row,
 ) -> Result<(), TextFault>
     ensures read { OnOk result
-        (RecordReadsAs schema.now.fields (fields_of fields.now) row.new) }
+        (RecordReadsAs dialect.entry schema.now.fields (fields_of fields.now) row.new) }
     ensures all { (wanted : List Value)
-        → RecordReadsAs schema.now.fields (fields_of fields.now) wanted
+        → RecordReadsAs dialect.entry schema.now.fields (fields_of fields.now) wanted
         → MatchResult result (λ _. row.new ≡ wanted) (λ fault. fault ≡ TextFault.OutOfMemory) }
     ensures back { (wanted : List Value) → flat_fault schema.now.fields ≡ None
         → RowFits schema.now.fields wanted → AllByRecursion (λ v. IsStored (out-Value v)) wanted
-        → row_texts schema.now.fields wanted ≡ Ok (fields_of fields.now)
+        → row_texts dialect.entry schema.now.fields wanted ≡ Ok (fields_of fields.now)
         → MatchResult result (λ _. row.new ≡ wanted) (λ fault. fault ≡ TextFault.OutOfMemory) }
     ensures refused { IfErr result
-        (IsRecordFault number schema.now.fields (fields_of fields.now)) }
+        (IsRecordFault dialect.entry number schema.now.fields (fields_of fields.now)) }
 {
     if schema.fields.is_empty() || fields.len() != schema.fields.len() {
         check_flat(schema)?;
@@ -505,7 +525,8 @@ pub fn fill_row_from_csv(
     }
     let mut values = mem::replace(row, Items::new(alloc)).into_vec();
     resize(&mut values, schema.fields.len())?;
-    if let Err(fault) = read_fields(alloc, schema.fields.as_slice(), number, fields, &mut values) {
+    let columns = schema.fields.as_slice();
+    if let Err(fault) = read_fields(alloc, dialect, columns, number, fields, &mut values) {
         check_flat(schema)?;
         return Err(fault);
     }

@@ -1,6 +1,7 @@
 -- Texts of dates, times and points in time are plain.
-use Rattle.std.proofs.Common.{◌≡◌, ℕ, ℤ, pos, ◌<◌, ◌≤◌, ◌/◌, ◌%◌, List, [], ◌∷◌, ◌++◌, Option, Some, None, refl, sym, subst, arith}
-use Rattle.std.proofs.Common.{unsigned_abs}
+use Rattle.std.proofs.Common.{◌≡◌, ℕ, ℤ, pos, ◌+◌, ◌<◌, ◌≤◌, ◌/◌, ◌%◌, List, [], ◌∷◌, ◌++◌, Option, Some, None, refl, sym, subst, arith}
+use Rattle.std.proofs.Common.{true, unsigned_abs}
+use Rattle.std.proofs.lemmas.Bool.Decides.{nat_tests}
 use Rattle.std.specs.Prelude.{IfSome, option_map}
 use Rattle.std.specs.Int.{int_div_euclid, int_rem_euclid}
 use Rattle.ipc_model.specs.Ranges.{ticks_in_a_day}
@@ -12,7 +13,7 @@ use Rattle.ipc_model.specs.declared.schema.TimeUnit.TheVariants as u
 use Rattle.ipc_moments.specs.Calendar.{Civil, two_digits, four_digits, civil_text, day_text}
 use Rattle.ipc_moments.specs.Moments.{per_second, three_digits, fraction_text, clock_text, time_of_day, zone_text}
 use Rattle.ipc_moments.specs.Moments.{date_text, time_text, timestamp_text, moment_text}
-use Rattle.ipc_moments.specs.ShortTexts.{IsPlain}
+use Rattle.ipc_moments.specs.ShortTexts.{IsPlain, is_plain}
 use Rattle.ipc_moments.proofs.Dates.{date_of, split}
 use Rattle.ipc_moments.proofs.Days.{day_of}
 use Rattle.ipc_moments.proofs.Times.{time_of}
@@ -21,25 +22,28 @@ joined : (a b : List ℕ) → IsPlain a → IsPlain b → IsPlain (a ++ b)
 joined [] b p q = q
 joined (x ∷ a) b p q = (p.0, joined a b p.1 q)
 
+digit : (d : ℕ) → d < 10 → is_plain (48 + d) ≡ true
+digit d small = grind (arith, nat_tests)
+
 two : (n : ℕ) → n < 100 → IsPlain (two_digits n)
-two n small = ((omega (arith, small), omega (arith, small)), ((omega (arith, small), omega (arith, small)), tt))
+two n small = (digit (n / 10) (omega (arith, small)), (digit (n % 10) (omega arith), tt))
 
 three : (n : ℕ) → n < 1_000 → IsPlain (three_digits n)
-three n small = ((omega (arith, small), omega (arith, small)), two (n % 100) (omega arith))
+three n small = (digit (n / 100) (omega (arith, small)), two (n % 100) (omega arith))
 
 four : (n : ℕ) → n < 10_000 → IsPlain (four_digits n)
 four n small =
     joined (two_digits (n / 100)) (two_digits (n % 100)) (two (n / 100) (omega (arith, small))) (two (n % 100) (omega arith))
 
--- a byte from `-` to `Z` in front of two digits
-marked : (b n : ℕ) → (45 ≤ b) × (b ≤ 90) → n < 100 → IsPlain (b ∷ two_digits n)
+-- a mark in front of two digits
+marked : (b n : ℕ) → is_plain b ≡ true → n < 100 → IsPlain (b ∷ two_digits n)
 marked b n plain small = (plain, two n small)
 
 civil : (c : Civil) → c.year < 10_000 → c.month < 100 → c.day < 100 → IsPlain (civil_text c)
 civil c y m d =
     joined (four_digits c.year ++ 45 ∷ two_digits c.month) (45 ∷ two_digits c.day)
-    (joined (four_digits c.year) (45 ∷ two_digits c.month) (four c.year y) (marked 45 c.month (omega arith, omega arith) m))
-    (marked 45 c.day (omega arith, omega arith) d)
+    (joined (four_digits c.year) (45 ∷ two_digits c.month) (four c.year y) (marked 45 c.month refl m))
+    (marked 45 c.day refl d)
 
 if_some : (o : Option (List ℕ)) → ((text : List ℕ) → o ≡ Some text → IsPlain text) → IfSome o IsPlain
 if_some None h = tt
@@ -52,19 +56,19 @@ clock : (s : ℕ) → s < 86_400 → IsPlain (clock_text s)
 clock s small =
     joined (two_digits (s / 3_600) ++ 58 ∷ two_digits (s / 60 % 60)) (58 ∷ two_digits (s % 60))
     (joined (two_digits (s / 3_600)) (58 ∷ two_digits (s / 60 % 60)) (two (s / 3_600) (omega (arith, small)))
-    (marked 58 (s / 60 % 60) (omega arith, omega arith) (omega arith)))
-    (marked 58 (s % 60) (omega arith, omega arith) (omega arith))
+    (marked 58 (s / 60 % 60) refl (omega arith)))
+    (marked 58 (s % 60) refl (omega arith))
 
 fraction : (unit : TimeUnit) (n : ℕ) → n < per_second unit → IsPlain (fraction_text unit n)
 fraction u.Second n small = tt
-fraction u.Millisecond n small = ((omega arith, omega arith), three n small)
+fraction u.Millisecond n small = (refl, three n small)
 fraction u.Microsecond n small =
     joined (46 ∷ three_digits (n / 1_000)) (three_digits (n % 1_000))
-    ((omega arith, omega arith), three (n / 1_000) (omega (arith, small))) (three (n % 1_000) (omega arith))
+    (refl, three (n / 1_000) (omega (arith, small))) (three (n % 1_000) (omega arith))
 fraction u.Nanosecond n small =
     joined (46 ∷ three_digits (n / 1_000_000) ++ three_digits (n / 1_000 % 1_000)) (three_digits (n % 1_000))
     (joined (46 ∷ three_digits (n / 1_000_000)) (three_digits (n / 1_000 % 1_000))
-    ((omega arith, omega arith), three (n / 1_000_000) (omega (arith, small))) (three (n / 1_000 % 1_000) (omega arith)))
+    (refl, three (n / 1_000_000) (omega (arith, small))) (three (n / 1_000 % 1_000) (omega arith)))
     (three (n % 1_000) (omega arith))
 
 seconds_within : (unit : TimeUnit) (n : ℕ) → n < ticks_in_a_day unit
@@ -83,7 +87,7 @@ clock_and_fraction unit n small =
 zone : (timezone : Option (List ℕ)) → IsPlain (zone_text timezone)
 zone None = tt
 zone (Some []) = tt
-zone (Some (b ∷ bs)) = ((omega arith, omega arith), tt)
+zone (Some (b ∷ bs)) = (refl, tt)
 
 -- the text of a date is plain
 pub date_plain : (unit : DateUnit) (z : ℤ) → IfSome (date_text unit z) IsPlain
@@ -100,7 +104,7 @@ behind_day : (day : Option (List ℕ)) (time behind : List ℕ) → IfSome day I
     → IfSome (option_map (λ d. d ++ 84 ∷ time ++ behind) day) IsPlain
 behind_day None time behind d t b = tt
 behind_day (Some day) time behind d t b =
-    joined (day ++ 84 ∷ time) behind (joined day (84 ∷ time) d ((omega arith, omega arith), t)) b
+    joined (day ++ 84 ∷ time) behind (joined day (84 ∷ time) d (refl, t)) b
 
 -- so is that of a point in time
 pub timestamp_plain : (unit : TimeUnit) (timezone : Option (List ℕ)) (z : ℤ) → IfSome (timestamp_text unit timezone z) IsPlain

@@ -27,7 +27,7 @@ pub fn date_text(unit: DateUnit, number: i64) -> Option<ShortText>
 /// Returns the text of a time of day: `hh:mm:ss`, followed by a point and 3, 6 or 9 digits if the
 /// unit is not seconds. `number` counts units after midnight. Returns `None` below 0 and from 24
 /// hours on.
-#[tactic(auto, using(crate::proofs::Plain::time_plain, crate::proofs::Times::time_has_text))]
+#[tactic(auto, using(crate::proofs::Times::time_has_text))]
 pub fn time_text(unit: TimeUnit, number: i64) -> Option<ShortText>
     ensures text { result ≡ spec.time_text unit number }
     ensures conforming { IsSome result ↔ IsTimeOfDay unit number }

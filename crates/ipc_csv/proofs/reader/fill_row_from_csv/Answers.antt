@@ -12,7 +12,7 @@ use Rattle.ipc_csv.proofs.reader.fill_row_from_csv.Goals as goal
 
 pub returns-then-is_empty-clause-all : goal.returns-then-is_empty-clause-all
 returns-then-is_empty-clause-all c row h =
-    let many = as_many c.args.schema.now.fields (fields_of c.args.fields.now) row h.1 in
+    let many = as_many c.args.dialect c.args.schema.now.fields (fields_of c.args.fields.now) row h.1 in
     elim c.then-is_empty.branch [
       | then-is_empty-via-then-is_empty w ↦
           let is = c.is_empty.ensures in
@@ -23,23 +23,24 @@ returns-then-is_empty-clause-all c row h =
 
 pub returns-then-is_empty-clause-back : goal.returns-then-is_empty-clause-back
 returns-then-is_empty-clause-back c row flat fits stored e =
-    let r = each_back 0 c.args.schema.now.fields (fields_of c.args.fields.now) row fits.0 fits.1 stored e in
+    let r = each_back c.args.dialect 0 c.args.schema.now.fields (fields_of c.args.fields.now) row fits.0 fits.1 stored e in
     returns-then-is_empty-clause-all c row (flat, r)
 
 pub returns-in-Err-clause-all : goal.returns-in-Err-clause-all
 returns-in-Err-clause-all c row h =
-    let flat = subst (λ fs. list_any (λ f. is_nested (out-Field f).kind) fs ≡ false) (sym c.as_slice.ensures)
+    let flat = subst (λ fs. list_any (λ f. is_nested (out-Field f).kind) fs ≡ false) (sym c.as_slice-columns.ensures)
     (flat_columns c.args.schema.now.fields h.0) in
-    memory_alone c.args.number c.as_slice.result.now (fields_of c.args.fields.now) _ (c.in-Err.ensures.refused flat) row
-    (subst (λ fs. EachReadsAs fs (fields_of c.args.fields.now) row) (sym c.as_slice.ensures) h.1)
+    memory_alone c.args.dialect c.args.number c.as_slice-columns.result.now (fields_of c.args.fields.now) _ (c.in-Err.ensures.refused flat)
+    row
+    (subst (λ fs. EachReadsAs c.args.dialect fs (fields_of c.args.fields.now) row) (sym c.as_slice-columns.ensures) h.1)
 
 pub returns-in-Err-clause-back : goal.returns-in-Err-clause-back
 returns-in-Err-clause-back c row flat fits stored e =
-    let r = each_back 0 c.args.schema.now.fields (fields_of c.args.fields.now) row fits.0 fits.1 stored e in
+    let r = each_back c.args.dialect 0 c.args.schema.now.fields (fields_of c.args.fields.now) row fits.0 fits.1 stored e in
     returns-in-Err-clause-all c row (flat, r)
 
 pub returns-clause-back : goal.returns-clause-back
 returns-clause-back c row flat fits stored e =
-    let r = each_back 0 c.args.schema.now.fields (fields_of c.args.fields.now) row fits.0 fits.1 stored e in
+    let r = each_back c.args.dialect 0 c.args.schema.now.fields (fields_of c.args.fields.now) row fits.0 fits.1 stored e in
     c.from_vec.ensures ∙ c.in_default.ensures.all row
-    (subst (λ fs. EachReadsAs fs (fields_of c.args.fields.now) row) (sym c.as_slice.ensures) r)
+    (subst (λ fs. EachReadsAs c.args.dialect fs (fields_of c.args.fields.now) row) (sym c.as_slice-columns.ensures) r)

@@ -17,9 +17,9 @@ returns-clause-read c =
     let h = c.requires.fields in
     let p = drop_all c.loop-column.column c.args.columns.now (omega arith) in
     let q = drop_all c.loop-column.column (fields_of c.args.fields.now) (omega arith) in
-    subst (EachReadsAs c.args.columns.now (fields_of c.args.fields.now))
+    subst (EachReadsAs c.args.dialect c.args.columns.now (fields_of c.args.fields.now))
     (take_all c.loop-column.column c.loop-column.row.items (omega (arith, c.loop-column.invariant.long)))
-    (read_all _ _ _ _ (take c.loop-column.column c.loop-column.row.items) p q c.loop-column.invariant.read)
+    (read_all c.args.dialect _ _ _ _ (take c.loop-column.column c.loop-column.row.items) p q c.loop-column.invariant.read)
 
 pub returns-clause-flat : goal.returns-clause-flat
 returns-clause-flat c = c.loop-column.invariant.flat (rw (drop_all c.loop-column.column c.args.columns.now (omega arith)) refl)
@@ -30,7 +30,7 @@ returns-clause-all c row h =
     let p = drop_all c.loop-column.column c.args.columns.now (omega arith) in
     let q = drop_all c.loop-column.column (fields_of c.args.fields.now) (omega arith) in
     sym (take_all c.loop-column.column c.loop-column.row.items (omega (arith, c.loop-column.invariant.long)))
-    ∙ all_read _ _ _ _ (take c.loop-column.column c.loop-column.row.items) p q c.loop-column.invariant.all row h
+    ∙ all_read c.args.dialect _ _ _ _ (take c.loop-column.column c.loop-column.row.items) p q c.loop-column.invariant.all row h
 
 pub returns-then-not-branch-clause-refused : goal.returns-then-not-branch-clause-refused
 returns-then-not-branch-clause-refused c flat =
@@ -42,7 +42,7 @@ returns-then-not-branch-clause-refused c flat =
       c.loop-column.column,
       c.bad_field-then-not-branch.ensures,
       c.loop-column.invariant.bad c.loop-column.column
-          (bad_here p q c.loop-column.column (λ v h. let read = (c.in_ok-read_field.ensures.all one v h).0 in cc)),
+          (bad_here c.args.dialect p q c.loop-column.column (λ v h. let read = (c.in_ok-read_field.ensures.all one v h).0 in cc)),
     )
 
 pub loop-column-preserved : goal.loop-column-preserved
@@ -59,10 +59,10 @@ loop-column-preserved c =
     let e = take_more_set row at v inside in
     record {
       long = length-set row at v ∙ i.long;
-      read = read_more p q c.args.columns.now (fields_of c.args.fields.now) (take at row) _ v r e i.read;
-      all = all_more p q c.args.columns.now (fields_of c.args.fields.now) (take at row) _ v
+      read = read_more c.args.dialect p q c.args.columns.now (fields_of c.args.fields.now) (take at row) _ v r e i.read;
+      all = all_more c.args.dialect p q c.args.columns.now (fields_of c.args.fields.now) (take at row) _ v
           (λ w h. (c.in_ok-read_field.ensures.all one w h).1) e i.all;
       flat = flat_front c.args.columns.now _ _ _ p one i.flat;
       behind = λ are. (flat_behind _ _ _ p (i.behind are)).1;
-      bad = λ column h. i.bad column (bad_behind p q at column v r h);
+      bad = λ column h. i.bad column (bad_behind c.args.dialect p q at column v r h);
     }

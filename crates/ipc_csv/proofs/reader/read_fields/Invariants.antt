@@ -10,15 +10,15 @@ use Rattle.ipc_csv.proofs.reader.read_fields.Given as goal
 abbrev pub invariant-loop-column : goal.invariant-loop-column
 invariant-loop-column l = record {
   long : length l.row.items ≡ length l.columns;
-  read : (rest : List Value) → EachReadsAs (drop l.column l.columns) (drop l.column (fields_of l.fields)) rest
-      → EachReadsAs l.columns (fields_of l.fields) (take l.column l.row.items ++ rest);
-  all : (row : List Value) → EachReadsAs l.columns (fields_of l.fields) row
+  read : (rest : List Value) → EachReadsAs l.dialect (drop l.column l.columns) (drop l.column (fields_of l.fields)) rest
+      → EachReadsAs l.dialect l.columns (fields_of l.fields) (take l.column l.row.items ++ rest);
+  all : (row : List Value) → EachReadsAs l.dialect l.columns (fields_of l.fields) row
       → (rest : List Value) × (row ≡ take l.column l.row.items ++ rest)
-      × EachReadsAs (drop l.column l.columns) (drop l.column (fields_of l.fields)) rest;
+      × EachReadsAs l.dialect (drop l.column l.columns) (drop l.column (fields_of l.fields)) rest;
   flat : list_any (λ f. is_nested (out-Field f).kind) (drop l.column l.columns) ≡ false
       → list_any (λ f. is_nested (out-Field f).kind) l.columns ≡ false;
   behind : list_any (λ f. is_nested (out-Field f).kind) l.columns ≡ false
       → list_any (λ f. is_nested (out-Field f).kind) (drop l.column l.columns) ≡ false;
-  bad : (column : ℕ) → IsFirstBad l.column (drop l.column l.columns) (drop l.column (fields_of l.fields)) column
-      → IsFirstBad 0 l.columns (fields_of l.fields) column;
+  bad : (column : ℕ) → IsFirstBad l.dialect l.column (drop l.column l.columns) (drop l.column (fields_of l.fields)) column
+      → IsFirstBad l.dialect 0 l.columns (fields_of l.fields) column;
 }

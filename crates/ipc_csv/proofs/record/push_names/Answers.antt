@@ -10,11 +10,12 @@ loop-column-preserved c =
     let n = c.loop-column.column in
     let front = names_from c.args.fields.now n c.index-fields-column.result (omega arith) c.index-fields-column.is in
     let pushed = rw (c.as_bytes.ensures.value, c.as_str.ensures) at c.in_ok-push_field.ensures.ok in
-    ap (λ t. t ++ body_from (n + 1) (map (λ f. (out-Field f).name) (drop (n + 1) c.args.fields.now))) pushed
-    ∙ name_more n _ _ _ _ c.in_ok-push_comma.ensures.ok ∙ ap (λ ts. c.loop-column.out.items ++ body_from n ts) (sym front)
+    ap (λ t. t ++ body_from c.args.dialect.delimiter (n + 1) (map (λ f. (out-Field f).name) (drop (n + 1) c.args.fields.now))) pushed
+    ∙ name_more c.args.dialect.delimiter n _ _ _ _ c.in_ok-push_delimiter.ensures.ok ∙ ap (λ ts. c.loop-column.out.items ++ body_from
+    c.args.dialect.delimiter n ts) (sym front)
     ∙ c.loop-column.invariant
 
 pub returns : goal.returns
 returns c =
     let i = rw (drop_all c.loop-column.column c.args.fields.now c.loop-column-test.false) at c.loop-column.invariant in
-    sym (no_more c.loop-column.column c.loop-column.out.items) ∙ i
+    sym (no_more c.args.dialect.delimiter c.loop-column.column c.loop-column.out.items) ∙ i

@@ -4,5 +4,5 @@ use Rattle.ipc_csv.specs.RowCsv.{body_from}
 use Rattle.ipc_csv.proofs.record.push_names.Given as goal
 
 abbrev pub invariant-loop-column : goal.invariant-loop-column
-invariant-loop-column l = l.out.items ++ body_from l.column (map (λ f. (out-Field f).name) (drop l.column l.fields))
-    ≡ l.initial.out.items ++ body_from 0 (map (λ f. (out-Field f).name) l.fields)
+invariant-loop-column l = l.out.items ++ body_from l.dialect.delimiter l.column (map (λ f. (out-Field f).name) (drop l.column l.fields))
+    ≡ l.initial.out.items ++ body_from l.dialect.delimiter 0 (map (λ f. (out-Field f).name) l.fields)
