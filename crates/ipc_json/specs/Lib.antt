@@ -1,3 +1,4 @@
 pub mod RowJson
+pub mod RowTokens
 pub mod SchemaJson
 pub mod SchemaTexts

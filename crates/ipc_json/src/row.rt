@@ -8,13 +8,23 @@ ghost use Rattle.json.specs.Written.{WritesFront};
 ghost use Rattle.serde_json.specs.Data.{array};
 ghost use Rattle.serde_json.specs.Written.{outline, items_outline};
 ghost use Rattle.ipc_json.specs.RowJson as spec;
-ghost use Rattle.ipc_json.specs.RowJson.{cell_json, int_json, each_json, items_json, row_text};
-ghost use Rattle.ipc_json.specs.RowJson.{list_json};
+ghost use Rattle.ipc_json.specs.RowJson.{cell_json, int_json, items_json, list_json, printed};
+ghost use Rattle.ipc_json.specs.RowJson.{row_text};
+ghost use Rattle.ipc_json.specs.RowTokens.{closing, name_tokens, opening};
 
 use ipc_model::{DataType, Field, Schema, Value};
 use ipc_moments::{TextFault, moment_text, push_digits};
 use json::Writer;
 use std::alloc::{AllocError, Global};
+
+/// How the values of a row are written, and those of a struct in it.
+#[derive(Clone, Copy, Debug, PartialEq, Eq)]
+pub enum RowShape {
+    /// An array.
+    Array,
+    /// An object, whose keys are the names of the columns, or of the struct's children.
+    Object,
+}
 
 /// Appends a signed number of a field of this type to a JSON writer. A date, a time or a timestamp
 /// is written as its text if it has one; any other number is written as a number. If memory ran
@@ -44,19 +54,57 @@ pub fn put_bytes(out: &mut Writer, digits: &mut Vec<u8>, bytes: &[u8]) -> Result
     out.string(unsafe { str::from_utf8_unchecked(digits.as_slice()) })
 }
 
+// The opening bracket of a row or a struct.
+fn begin_values(out: &mut Writer, shape: RowShape) -> Result<(), AllocError>
+    ensures ok { OnOk result (out.new.tokens ≡ out.old.tokens ++ opening shape ∷ []) }
+    ensures refused { OnErr result (out.new.tokens ≡ out.old.tokens) }
+    ensures before { out.new.before ≡ out.old.before }
+{
+    match shape {
+        RowShape::Array => out.begin_array(),
+        RowShape::Object => out.begin_object(),
+    }
+}
+
+// In an object, the name of the next value's field.
+fn put_name(out: &mut Writer, shape: RowShape, name: &str) -> Result<(), AllocError>
+    ensures ok { OnOk result (out.new.tokens ≡ out.old.tokens ++ name_tokens shape name.now) }
+    ensures refused { OnErr result (out.new.tokens ≡ out.old.tokens) }
+    ensures before { out.new.before ≡ out.old.before }
+{
+    match shape {
+        RowShape::Array => Ok(()),
+        RowShape::Object => out.key(name),
+    }
+}
+
+// The closing bracket of a row or a struct.
+fn end_values(out: &mut Writer, shape: RowShape) -> Result<(), AllocError>
+    ensures ok { OnOk result (out.new.tokens ≡ out.old.tokens ++ closing shape ∷ []) }
+    ensures refused { OnErr result (out.new.tokens ≡ out.old.tokens) }
+    ensures before { out.new.before ≡ out.old.before }
+{
+    match shape {
+        RowShape::Array => out.end_array(),
+        RowShape::Object => out.end_object(),
+    }
+}
+
 #[cycle(cell)]
 fn put_cell(
     out: &mut Writer,
     digits: &mut Vec<u8>,
+    shape: RowShape,
     field: &Field,
     value: &Value,
 ) -> Result<(), AllocError>
     ensures ok { OnOk result (out.new.tokens
-        ≡ out.old.tokens ++ json_tokens (outline (cell_json field.now value.now))) }
+        ≡ out.old.tokens ++ json_tokens (outline (cell_json shape field.now value.now))) }
     ensures refused { OnErr result (WritesFront out.old.tokens out.new.tokens
-        (json_tokens (outline (cell_json field.now value.now)))) }
+        (json_tokens (outline (cell_json shape field.now value.now)))) }
     ensures before { out.new.before ≡ out.old.before }
 {
+    let children = field.children.as_slice();
     match value {
         Value::Null => out.null(),
         Value::Bool(truth) => out.boolean(*truth),
@@ -64,8 +112,8 @@ fn put_cell(
         Value::UInt(number) => out.u64(*number),
         Value::Bytes(bytes) => put_bytes(out, digits, bytes.as_slice()),
         Value::Text(text) => out.string(text.as_str()),
-        Value::List(values) => put_list(out, digits, field.children.as_slice(), values.as_slice()),
-        Value::Struct(values) => put_row(out, digits, field.children.as_slice(), values.as_slice()),
+        Value::List(values) => put_list(out, digits, shape, children, values.as_slice()),
+        Value::Struct(values) => put_values(out, digits, shape, children, values.as_slice()),
     }
 }
 
@@ -74,19 +122,21 @@ fn put_cell(
 fn put_list(
     out: &mut Writer,
     digits: &mut Vec<u8>,
+    shape: RowShape,
     children: &[Field],
     values: &[Value],
 ) -> Result<(), AllocError>
     ensures ok { OnOk result (out.new.tokens
         ≡ out.old.tokens ++ json_tokens
-        (outline (array (list_json (map cell_json children.now) values.now)))) }
+        (outline (array (list_json (map (printed shape) children.now) values.now)))) }
     ensures refused { OnErr result (WritesFront out.old.tokens out.new.tokens
-        (json_tokens (outline (array (list_json (map cell_json children.now) values.now))))) }
+        (json_tokens (outline (array
+        (list_json (map (printed shape) children.now) values.now))))) }
     ensures before { out.new.before ≡ out.old.before }
 {
     out.begin_array()?;
     match children.first() {
-        Some(child) => put_items(out, digits, child, values),
+        Some(child) => put_items(out, digits, shape, child, values),
         None => out.end_array(),
     }
 }
@@ -96,65 +146,50 @@ fn put_list(
 fn put_items(
     out: &mut Writer,
     digits: &mut Vec<u8>,
+    shape: RowShape,
     child: &Field,
     values: &[Value],
 ) -> Result<(), AllocError>
     ensures ok { OnOk result (out.new.tokens
         ≡ out.old.tokens ++ items_tokens
-        (items_outline (items_json (cell_json child.now) values.now))) }
+        (items_outline (items_json (cell_json shape child.now) values.now))) }
     ensures refused { OnErr result (WritesFront out.old.tokens out.new.tokens
-        (items_tokens (items_outline (items_json (cell_json child.now) values.now)))) }
+        (items_tokens (items_outline (items_json (cell_json shape child.now) values.now)))) }
     ensures before { out.new.before ≡ out.old.before }
 {
     for value in values {
-        put_cell(out, digits, child, value)?;
-    }
-    out.end_array()
-}
-
-// Values beside their fields and the closing bracket.
-#[cycle(cell)]
-fn put_each(
-    out: &mut Writer,
-    digits: &mut Vec<u8>,
-    fields: &[Field],
-    values: &[Value],
-) -> Result<(), AllocError>
-    ensures ok { OnOk result (out.new.tokens
-        ≡ out.old.tokens ++ items_tokens
-        (items_outline (each_json (map cell_json fields.now) values.now))) }
-    ensures refused { OnErr result (WritesFront out.old.tokens out.new.tokens
-        (items_tokens (items_outline (each_json (map cell_json fields.now) values.now)))) }
-    ensures before { out.new.before ≡ out.old.before }
-{
-    for (number, field) in fields.iter().enumerate() {
-        let Some(value) = values.get(number) else {
-            return out.end_array();
-        };
-        put_cell(out, digits, field, value)?;
+        put_cell(out, digits, shape, child, value)?;
     }
     out.end_array()
 }
 
 // Values beside their fields, as those of a row and of a struct are.
 #[cycle(cell)]
-fn put_row(
+fn put_values(
     out: &mut Writer,
     digits: &mut Vec<u8>,
+    shape: RowShape,
     fields: &[Field],
-    row: &[Value],
+    values: &[Value],
 ) -> Result<(), AllocError>
     ensures ok { OnOk result (out.new.tokens
-        ≡ out.old.tokens ++ json_tokens (outline (spec.row_json fields.now row.now))) }
+        ≡ out.old.tokens ++ json_tokens (outline (spec.row_json shape fields.now values.now))) }
     ensures refused { OnErr result (WritesFront out.old.tokens out.new.tokens
-        (json_tokens (outline (spec.row_json fields.now row.now)))) }
+        (json_tokens (outline (spec.row_json shape fields.now values.now)))) }
     ensures before { out.new.before ≡ out.old.before }
 {
-    out.begin_array()?;
-    put_each(out, digits, fields, row)
+    begin_values(out, shape)?;
+    for (number, field) in fields.iter().enumerate() {
+        let Some(value) = values.get(number) else {
+            return end_values(out, shape);
+        };
+        put_name(out, shape, field.name.as_str())?;
+        put_cell(out, digits, shape, field, value)?;
+    }
+    end_values(out, shape)
 }
 
-/// Appends a row to a JSON writer.
+/// Appends a row to a JSON writer, in this shape.
 ///
 /// The row must have values of the kinds of its columns. It need not conform in every way: nulls in
 /// columns that are not nullable, milliseconds of a date that are no whole days, and times outside
@@ -163,30 +198,44 @@ fn put_row(
 pub fn put_row_json(
     out: &mut Writer,
     digits: &mut Vec<u8>,
+    shape: RowShape,
     schema: &Schema,
     row: &[Value],
 ) -> Result<(), AllocError>
     ensures ok { OnOk result (out.new.tokens
-        ≡ out.old.tokens ++ json_tokens (outline (spec.row_json schema.now.fields row.now))) }
+        ≡ out.old.tokens ++ json_tokens (outline (spec.row_json shape schema.now.fields row.now))) }
     ensures refused { OnErr result (WritesFront out.old.tokens out.new.tokens
-        (json_tokens (outline (spec.row_json schema.now.fields row.now)))) }
+        (json_tokens (outline (spec.row_json shape schema.now.fields row.now)))) }
     ensures before { out.new.before ≡ out.old.before }
 {
-    put_row(out, digits, schema.fields.as_slice(), row)
+    put_values(out, digits, shape, schema.fields.as_slice(), row)
 }
 
-/// Returns a row as a compact JSON array of its values (RFC 8259).
+/// Returns a row as compact JSON (RFC 8259), in this shape: an array of its values, or an object
+/// with the names of its columns as keys, in their order. Names that repeat are not joined.
 ///
-/// Numbers and durations are integers, bytes are strings of lower-case hexadecimal digits, and
-/// lists and structs are arrays. A date, a time or a timestamp is its text if it has one, and else
-/// an integer. Errors: `OutOfMemory` only.
-pub fn row_json(alloc: Global, schema: &Schema, row: &[Value]) -> Result<String, TextFault>
-    ensures text { IfOk result (λ text. string_bytes text ≡ row_text schema.now.fields row.now) }
+/// Numbers and durations are integers, bytes are strings of lower-case hexadecimal digits, lists
+/// are arrays, and structs have the shape of the row. A date, a time or a timestamp is its text if
+/// it has one, and else an integer. Errors: `OutOfMemory` only.
+pub fn row_json(
+    alloc: Global,
+    shape: RowShape,
+    schema: &Schema,
+    row: &[Value],
+) -> Result<String, TextFault>
+    ensures text { IfOk result
+        (λ text. string_bytes text ≡ row_text shape schema.now.fields row.now) }
     ensures refused { IfErr result (λ fault. fault ≡ TextFault.OutOfMemory) }
 {
     let mut writer = Writer::new(Vec::new(alloc));
     let mut digits = Vec::new(alloc);
-    put_row(&mut writer, &mut digits, schema.fields.as_slice(), row)?;
+    put_values(
+        &mut writer,
+        &mut digits,
+        shape,
+        schema.fields.as_slice(),
+        row,
+    )?;
     let bytes = writer.into_inner();
     Ok(unsafe { String::from_utf8_unchecked(bytes) })
 }

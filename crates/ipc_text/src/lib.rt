@@ -3,12 +3,12 @@
 #![tactic(auto)]
 
 pub use ipc_csv::{
-    check_flat, check_header, csv_header, csv_record, end_record, fill_row_from_csv, push_bool,
-    push_bytes, push_comma, push_field, push_int, push_null, push_text, push_uint, push_value,
-    read_bool, read_bytes, read_int, read_text, read_uint, row_from_csv,
+    Dialect, check_flat, check_header, csv_header, csv_record, end_record, fill_row_from_csv,
+    push_bool, push_bytes, push_delimiter, push_field, push_int, push_null, push_text, push_uint,
+    push_value, read_bool, read_bytes, read_int, read_text, read_uint, row_from_csv,
 };
 pub use ipc_json::{
-    pairs_json, put_bytes, put_int, put_row_json, row_json, schema_from_json, schema_json,
+    RowShape, pairs_json, put_bytes, put_int, put_row_json, row_json, schema_from_json, schema_json,
 };
 pub use ipc_moments::{
     ShortText, TextFault, date_text, moment_text, read_date, read_time, read_timestamp, time_text,
