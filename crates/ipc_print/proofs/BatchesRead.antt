@@ -10,32 +10,35 @@ use Rattle.ipc_model.specs.declared.value.Value.{Value}
 use Rattle.ipc_decode.specs.Found.{Found, rows_of}
 use Rattle.ipc_decode.specs.declared.end.End.{End}
 use Rattle.ipc_decode.specs.declared.phase.Phase.{Phase}
-use Rattle.ipc_decode.specs.declared.phase.Phase.TheVariants.{Reading, Ended, Refused}
+use Rattle.ipc_decode.specs.declared.phase.Phase.TheVariants.{Reading}
 use Rattle.ipc_decode.specs.Failures.{Tells}
-use Rattle.ipc_decode.specs.Reader.{EndsBehind, LeadsTo, Reader, in_force_of, NextAnswer, NextCall, end_of}
+use Rattle.ipc_decode.specs.Reader.{EndsBehind, Reader, in_force_of, NextCall, end_of}
 use Rattle.ipc_decode.specs.Stream.{batch, Run, done}
 use Rattle.ipc_print.specs.declared.rows.PrintFault.{PrintFault}
 use Rattle.ipc_print.specs.declared.rows.PrintFault.TheVariants.{Write}
 use Rattle.ipc_model.specs.declared.schema.Field.{Field}
 use Rattle.ipc_model.specs.declared.schema.Schema.{Schema}
 use Rattle.ipc_moments.specs.declared.fault.TextFault.{TextFault}
-use Rattle.ipc_print.specs.declared.form.Form.{Form}
 use Rattle.ipc_print.specs.declared.form.PrintOptions.{PrintOptions}
-use Rattle.ipc_print.specs.declared.stop.Outcome.TheVariants.{Whole, Broken, Refused as Lacking}
+use Rattle.ipc_print.specs.declared.stop.Outcome.TheVariants.{Whole, Limited, Broken, Refused as Lacking}
 use Rattle.ipc_print.specs.Columns.{AreShownColumns}
+use Rattle.ipc_print.specs.FirstRows.{shortened, within, AreWanted, HasReached, IsBelow, wanted_rows}
 use Rattle.ipc_print.specs.Forms.{head_of, line_of, HaveLines, HaveAllLines, row_count}
 use Rattle.ipc_print.specs.Output.{Output, output, Puts, PutFails}
 use Rattle.ipc_print.specs.Rows.{AreShownRows, lines, batch_lines, last_lines}
 use Rattle.ipc_print.specs.Streams.{PrintsRows, PrintsPart, PrintsBatches, PutsRows, as_required}
+use Rattle.ipc_print.proofs.FirstRows.{within_none, within_all, within_more, wanted_more, wanted_none, wanted_within, below_refused}
+use Rattle.ipc_print.proofs.FirstRows.{refuses_all, row_count_last, take_fewer}
 use Rattle.ipc_print.proofs.Puts.{puts_then, puts_not_then, puts_none, missing_all, missing_at, missing_then}
 use Rattle.ipc_print.proofs.Shown.{all_more}
 use Rattle.ipc_print.proofs.Lines.{put_at, not_at}
 use Rattle.ipc_print.proofs.Messages.{Came, Counted, ReadsCounted, came, counted_then, ends_counted, reads_then}
+use Rattle.ipc_print.proofs.Messages.{broke, ended, gave}
 use Rattle.ipc_print.proofs.Texts.{batch_lines_more, last_lines_more}
 use Rattle.ipc_print.proofs.BatchesShown.{batch_shown}
-use Rattle.std.proofs.Common.{◌+◌, length, inl, arith}
+use Rattle.std.proofs.Common.{◌+◌, ◌<◌, length, inl, arith}
 use Rattle.std.specs.Prelude.{Bool, IsTrue, false, true, unwrap_or}
-use Rattle.std.proofs.lemmas.List.{length-append}
+use Rattle.std.proofs.lemmas.List.{length-append, length-take}
 use Rattle.ipc_decode.specs.declared.end.End.TheVariants.{Closed, Mark}
 use Rattle.ipc_model.specs.declared.fault.Fault.TheVariants.{Read, Truncated}
 use Rattle.ipc_decode.specs.Reader.{end_of}
@@ -44,8 +47,8 @@ use Rattle.ipc_print.specs.declared.stop.Tally.{Tally}
 use Rattle.ipc_print.specs.Forms.{row_count}
 use Rattle.ipc_print.specs.Streams.{IsTally}
 
--- these batches were read behind the schema and printed, and nothing of them is kept
-pub record Batches (form : Form) (tally : Tally) (old now : Reader) (before after : Output) : Type 0 where
+-- these batches were read behind the schema and printed up to the limit, and nothing of them is kept
+pub record Batches (options : PrintOptions) (tally : Tally) (old now : Reader) (before after : Output) : Type 0 where
   pub x : List ℕ
   pub batches : List BatchRows
   pub bytes : Consumes old.remaining now.remaining x
@@ -57,8 +60,10 @@ pub record Batches (form : Form) (tally : Tally) (old now : Reader) (before afte
   pub counted : (k : ℕ) → old.taken ≡ count_up 0 k → now.taken ≡ count_up 0 (k + length x)
   pub numbered : (k : ℕ) → old.messages ≡ count_up 0 k → now.messages ≡ count_up 0 (k + messages_in run)
   pub tallies : IsTally tally batches
-  pub have : HaveAllLines form old.schema.fields batches
-  pub puts : Puts before after (batch_lines (head_of form) (line_of form old.schema.fields) batches)
+  pub wanted : AreWanted options.limit batches
+  pub have : HaveAllLines options.form old.schema.fields (within options.limit batches)
+  pub puts : Puts before after
+      (batch_lines (head_of options.form) (line_of options.form old.schema.fields) (within options.limit batches))
   pub sent : after.kept ≡ []
 
 -- an end that is taken where the mark is required is the mark
@@ -77,9 +82,9 @@ zero_more : (k : ℕ) → k + 0 ≡ k
 zero_more k = omega arith
 
 -- before the first batch nothing was read and nothing printed
-pub batches_none : (form : Form) (r : Reader) (o : Output) → r.phase ≡ Reading → o.kept ≡ []
-    → Batches form (record { batches = 0; rows = 0 }) r r o o
-batches_none form r o reading empty = record {
+pub batches_none : (options : PrintOptions) (r : Reader) (o : Output) → r.phase ≡ Reading → o.kept ≡ []
+    → Batches options (record { batches = 0; rows = 0 }) r r o o
+batches_none options r o reading empty = record {
   x = [];
   batches = [];
   bytes = Consumes-nil r.remaining;
@@ -91,54 +96,74 @@ batches_none form r o reading empty = record {
   counted = λ k is. is ∙ ap (count_up 0) (sym (zero_more k));
   numbered = λ k is. is ∙ ap (count_up 0) (sym (zero_more k));
   tallies = (omega arith, omega arith);
-  have = tt;
-  puts = puts_none o;
+  wanted = wanted_none options.limit;
+  have = subst (HaveAllLines options.form r.schema.fields) (sym (within_none options.limit)) tt;
+  puts = put_at o o _ _
+      (ap (batch_lines (head_of options.form) (line_of options.form r.schema.fields)) (sym (within_none options.limit))) (puts_none o);
   sent = empty;
 }
 
--- one batch more is counted
-row_count_more : (batches : List BatchRows) (rows : BatchRows)
-    → row_count (batches ++ rows ∷ []) ≡ row_count batches + length rows.rows
-row_count_more [] rows = omega arith
-row_count_more (b ∷ bs) rows = let more = row_count_more bs rows in omega (arith, more)
+-- where the batches that were printed reach the limit, its rows were
+pub batches_limited : (options : PrintOptions) (tally : Tally) (old now : Reader) (before after : Output)
+    → Batches options tally old now before after → HasReached options.limit tally.rows
+    → PrintsBatches options [] old now before after (Ok Limited)
+batches_limited options tally old now before after b reached = (
+  record {
+    x = b.x;
+    batches = b.batches;
+    bytes = b.bytes;
+    state = Some (in_force_of now);
+    run = b.run;
+    reached = reached_tally options.limit tally.rows (row_count b.batches) b.tallies.1 reached;
+    wanted = b.wanted;
+    have = b.have;
+    puts = b.puts;
+    sent = b.sent;
+  },
+  λ z. b.counts ∙ z,
+)
+  where
+    reached_tally : (limit : Option ℕ) (counted rows : ℕ) → counted ≡ count_up 0 rows → HasReached limit counted → HasReached limit rows
+    reached_tally None counted rows is reached = reached
+    reached_tally (Some n) counted rows is reached = omega (arith, is, reached)
 
+-- one batch more is counted
 tally_more : (tally next : Tally) (batches : List BatchRows) (rows : BatchRows) → IsTally tally batches
     → next.batches ≡ count_up tally.batches 1 → next.rows ≡ count_up tally.rows (length rows.rows)
     → IsTally next (batches ++ rows ∷ [])
 tally_more tally next batches rows (some, few) one all =
     let long = length-append batches (rows ∷ []) in
-    let sum = row_count_more batches rows in
+    let sum = row_count_last batches rows in
     (omega (arith, some, one, long), omega (arith, few, all, sum))
 
--- what a call that gave a batch says, where the reader was reading
-gave : (now new : Reader) (p q : Phase) (x : List ℕ) (found : Found) → p ≡ Reading → NextAnswer now new p x (Ok (Some found)) q
-    → (q ≡ Reading) × LeadsTo now new x (batch (rows_of found))
-gave now new Reading Reading x found is h = (refl, h)
-gave now new Reading (Ended e) x found is h = absurd h
-gave now new Reading Refused x found is h = absurd h
-gave now new (Ended e) q x found is h = absurd (cc)
-gave now new Refused q x found is h = absurd (cc)
-
-ended : (now new : Reader) (p q : Phase) (x : List ℕ) → p ≡ Reading → NextAnswer now new p x (Ok None) q
-    → (e : End) × EndsBehind now new x (Ok e) × (q ≡ Ended e)
-ended now new Reading Reading x is h = absurd h
-ended now new Reading (Ended e) x is h = (e, h, refl)
-ended now new Reading Refused x is h = absurd h
-ended now new (Ended e) q x is h = absurd (cc)
-ended now new Refused q x is h = absurd (cc)
-
-broke : (now new : Reader) (p q : Phase) (x : List ℕ) (f : Fault) → p ≡ Reading → NextAnswer now new p x (Err f) q
-    → EndsBehind now new x (Err f)
-broke now new Reading Reading x f is h = absurd h
-broke now new Reading (Ended e) x f is h = absurd h
-broke now new Reading Refused x f is h = h
-broke now new (Ended e) q x f is h = absurd (cc)
-broke now new Refused q x f is h = absurd (cc)
-
 module _ (options : PrintOptions) (tally : Tally) (old now new : Reader) (before after : Output)
-    (b : Batches options.form tally old now before after) where
+    (b : Batches options tally old now before after) (below : IsBelow options.limit (row_count b.batches)) where
   abbrev line : List Value → List ℕ
   line = line_of options.form old.schema.fields
+
+  -- all rows of the batches before were printed
+  all_before : within options.limit b.batches ≡ b.batches
+  all_before = within_all options.limit b.batches below
+
+  puts_before : Puts before after (batch_lines (head_of options.form) line b.batches)
+  puts_before = put_at before after _ _ (ap (batch_lines (head_of options.form) line) all_before) b.puts
+
+  have_before : HaveAllLines options.form old.schema.fields b.batches
+  have_before = subst (HaveAllLines options.form old.schema.fields) all_before b.have
+
+  -- the batch that came, with its rows up to the limit, and the text of it behind that of the batches before
+  abbrev pub IsCount : Found → ℕ → Type 0
+  IsCount found count = count ≡ wanted_rows options.limit (row_count b.batches) (length found.0.rows)
+
+  all_now : (found : Found) (count : ℕ) → IsCount found count
+      → within options.limit (b.batches ++ rows_of found ∷ []) ≡ b.batches ++ shortened count (rows_of found) ∷ []
+  all_now found count is = within_more options.limit b.batches (rows_of found) count below is
+
+  text_now : (found : Found) (count : ℕ) → IsCount found count
+      → batch_lines (head_of options.form) line b.batches ++ (head_of options.form found.1 ++ lines line (take count found.0.rows))
+      ≡ batch_lines (head_of options.form) line (within options.limit (b.batches ++ rows_of found ∷ []))
+  text_now found count is = batch_lines_more line (head_of options.form) b.batches (shortened count (rows_of found))
+      ∙ ap (batch_lines (head_of options.form) line) (sym (all_now found count is))
 
   -- the batch that came, under the limits that the reader was opened with
   found_run : (found : Found) → (t : NextCall now new (Ok (Some found)))
@@ -163,11 +188,12 @@ module _ (options : PrintOptions) (tally : Tally) (old now new : Reader) (before
       (counted_then _ _ _ b.x t.x (map batch b.batches) (batch (rows_of found) ∷ []) _ _ (b.run, refl) came.run)
 
   -- what was put of a batch, by the fields that are in force
-  same_puts : (fields : List Field) (found : Found) (w : Option (List ℕ)) (n : ℕ) (k : List ℕ) (r : Result (Option TextFault) PrintFault)
-      → fields ≡ old.schema.fields → PutsRows options.form fields (head_of options.form found.1) found.0.rows after w n k r
-      → PutsRows options.form old.schema.fields (head_of options.form found.1) found.0.rows after w n k r
-  same_puts fields found w n k r is p =
-      subst (λ (fs : List Field). PutsRows options.form fs (head_of options.form found.1) found.0.rows after w n k r) is p
+  same_puts : (fields : List Field) (found : Found) (count : ℕ) (w : Option (List ℕ)) (n : ℕ) (k : List ℕ)
+      (r : Result (Option TextFault) PrintFault)
+      → fields ≡ old.schema.fields → PutsRows options.form fields (head_of options.form found.1) (take count found.0.rows) after w n k r
+      → PutsRows options.form old.schema.fields (head_of options.form found.1) (take count found.0.rows) after w n k r
+  same_puts fields found count w n k r is p =
+      subst (λ (fs : List Field). PutsRows options.form fs (head_of options.form found.1) (take count found.0.rows) after w n k r) is p
 
   counted_more : (found : Found) (t : NextCall now new (Ok (Some found))) (k : ℕ) → old.taken ≡ count_up 0 k
       → new.taken ≡ count_up 0 (k + length (b.x ++ t.x))
@@ -181,15 +207,16 @@ module _ (options : PrintOptions) (tally : Tally) (old now new : Reader) (before
   numbered_more found t k is = omega (arith, b.numbered k is, (found_run found t).1.messages, (more_run found t).1)
 
   -- where one batch more is read, its rows are put and what is kept is sent, the batches that were printed are those from before and it
-  pub batches_more : (fields : List Field) (found : Found) (next : Tally) (w : Option (List ℕ)) (n : ℕ) (k : List ℕ)
-      (last : Output) → next.batches ≡ count_up tally.batches 1 → next.rows ≡ count_up tally.rows (length found.0.rows)
+  pub batches_more : (fields : List Field) (found : Found) (count : ℕ) (next : Tally) (w : Option (List ℕ)) (n : ℕ) (k : List ℕ)
+      (last : Output) → IsCount found count → next.batches ≡ count_up tally.batches 1
+      → next.rows ≡ count_up tally.rows (length found.0.rows)
       → fields ≡ old.schema.fields → NextCall now new (Ok (Some found)) → new.failures ≡ now.failures
-      → PutsRows options.form fields (head_of options.form found.1) found.0.rows after w n k (Ok None)
+      → PutsRows options.form fields (head_of options.form found.1) (take count found.0.rows) after w n k (Ok None)
       → Puts (output w n k) last [] → last.kept ≡ []
-      → Batches options.form next old new before last
-  batches_more fields found next w n k last one all is t works p flushed empty =
-      let q = same_puts fields found w n k (Ok None) is p in
-      let rows = head_of options.form found.1 ++ lines line found.0.rows in
+      → Batches options next old new before last
+  batches_more fields found count next w n k last wants one all is t works p flushed empty =
+      let q = same_puts fields found count w n k (Ok None) is p in
+      let rows = head_of options.form found.1 ++ lines line (take count found.0.rows) in
       record {
         x = b.x ++ t.x;
         batches = b.batches ++ rows_of found ∷ [];
@@ -202,20 +229,27 @@ module _ (options : PrintOptions) (tally : Tally) (old now new : Reader) (before
         counted = counted_more found t;
         numbered = numbered_more found t;
         tallies = tally_more tally next b.batches (rows_of found) b.tallies one all;
-        have = all_more (λ q. HaveLines options.form old.schema.fields q.rows) b.batches (rows_of found) b.have q.0;
-        puts = put_at before last _ _ (batch_lines_more line (head_of options.form) b.batches (rows_of found))
-            (puts_then before after last (batch_lines (head_of options.form) line b.batches) rows b.puts
+        wanted = wanted_more options.limit b.batches (rows_of found) below;
+        have = subst (HaveAllLines options.form old.schema.fields) (sym (all_now found count wants))
+            (all_more (λ q. HaveLines options.form old.schema.fields q.rows) b.batches (shortened count (rows_of found)) have_before q.0);
+        puts = put_at before last _ _ (text_now found count wants)
+            (puts_then before after last (batch_lines (head_of options.form) line b.batches) rows puts_before
             (put_at after last _ _ (append-nil rows) (puts_then after (output w n k) last rows [] q.1 flushed)));
         sent = empty;
       }
 
   -- a row of the batch that came isn't printed, and those before it were
-  pub batches_refused : (fields : List Field) (found : Found) (w : Option (List ℕ)) (n : ℕ) (k : List ℕ) (fault : TextFault)
-      → fields ≡ old.schema.fields → NextCall now new (Ok (Some found)) → new.failures ≡ now.failures
-      → PutsRows options.form fields (head_of options.form found.1) found.0.rows after w n k (Ok (Some fault))
+  pub batches_refused : (fields : List Field) (found : Found) (count : ℕ) (w : Option (List ℕ)) (n : ℕ) (k : List ℕ) (fault : TextFault)
+      → IsCount found count → fields ≡ old.schema.fields → NextCall now new (Ok (Some found)) → new.failures ≡ now.failures
+      → PutsRows options.form fields (head_of options.form found.1) (take count found.0.rows) after w n k (Ok (Some fault))
       → PrintsBatches options [] old new before (output w n k) (Ok (Lacking fault))
-  batches_refused fields found w n k fault is t works p =
-      let q = same_puts fields found w n k (Ok (Some fault)) is p in (
+  batches_refused fields found count w n k fault wants is t works p =
+      let q = same_puts fields found count w n k (Ok (Some fault)) is p in
+      let size = length-take count found.0.rows in
+      let less : q.0 < count = omega (arith, q.1.inside, size) in
+      let fewer = take_fewer q.0 count found.0.rows (omega (arith, q.1.inside)) in
+      let put =
+      subst (λ (rows : List (List Value)). Puts after (output w n k) (head_of options.form found.1 ++ lines line rows)) fewer q.2 in (
         record {
           x = b.x ++ t.x;
           batches = b.batches;
@@ -224,12 +258,13 @@ module _ (options : PrintOptions) (tally : Tally) (old now new : Reader) (before
           bytes = Consumes-trans old.remaining now.remaining new.remaining b.x t.x b.bytes t.bytes;
           state = Some (in_force_of new);
           run = (more_run found t).0;
-          have = b.have;
-          refuses = q.1;
-          puts = puts_then before after (output w n k) (batch_lines (head_of options.form) line b.batches) _ b.puts q.2;
+          below = below_refused options.limit (row_count b.batches) count (length found.0.rows) q.0 below wants less;
+          have = have_before;
+          refuses = refuses_all options.form old.schema.fields found.0.rows count q.0 fault q.1;
+          puts = puts_then before after (output w n k) (batch_lines (head_of options.form) line b.batches) _ puts_before put;
           few = omega (
             arith,
-            q.2.few,
+            put.few,
             ap length b.sent,
             length-append after.kept (head_of options.form found.1 ++ lines line (take q.0 found.0.rows)),
           );
@@ -238,16 +273,15 @@ module _ (options : PrintOptions) (tally : Tally) (old now new : Reader) (before
       )
 
   -- the rows of the batch that came weren't all printed
-  pub batches_cut : (fields : List Field) (found : Found) (w : Option (List ℕ)) (n : ℕ) (k : List ℕ) (e : PrintFault)
-      → fields ≡ old.schema.fields → NextCall now new (Ok (Some found)) → new.failures ≡ now.failures
-      → PutsRows options.form fields (head_of options.form found.1) found.0.rows after w n k (Err e)
-      → PrintsPart options.form [] old new before w n e
-  batches_cut fields found w n k e is t works p =
-      let q = same_puts fields found w n k (Err e) is p in
-      let rows = head_of options.form found.1 ++ lines line found.0.rows in
-      let missing = missing_at before w n _ _ e (length rows)
-      (batch_lines_more line (head_of options.form) b.batches (rows_of found) ∙ sym (append-nil _))
-      (missing_then before after w n (batch_lines (head_of options.form) line b.batches) rows e (length rows) b.puts
+  pub batches_cut : (fields : List Field) (found : Found) (count : ℕ) (w : Option (List ℕ)) (n : ℕ) (k : List ℕ) (e : PrintFault)
+      → IsCount found count → fields ≡ old.schema.fields → NextCall now new (Ok (Some found)) → new.failures ≡ now.failures
+      → PutsRows options.form fields (head_of options.form found.1) (take count found.0.rows) after w n k (Err e)
+      → PrintsPart options [] old new before w n e
+  batches_cut fields found count w n k e wants is t works p =
+      let q = same_puts fields found count w n k (Err e) is p in
+      let rows = head_of options.form found.1 ++ lines line (take count found.0.rows) in
+      let missing = missing_at before w n _ _ e (length rows) (text_now found count wants ∙ sym (append-nil _))
+      (missing_then before after w n (batch_lines (head_of options.form) line b.batches) rows e (length rows) puts_before
       (missing_all after w n rows e b.sent q)) in
       record {
         x = b.x ++ t.x;
@@ -259,27 +293,29 @@ module _ (options : PrintOptions) (tally : Tally) (old now new : Reader) (before
         state = Some (in_force_of new);
         run = (more_run found t).0;
         tail = [];
+        inside = wanted_within options.limit _ (wanted_more options.limit b.batches (rows_of found) below);
         ends = inl refl;
         puts = missing.0;
         few = omega (
           arith,
           missing.1,
-          ap length (last_lines_more line (head_of options.form) [] b.batches (rows_of found)),
-          length-append (last_lines [] (head_of options.form) line (b.batches ++ rows_of found ∷ [])) [],
+          ap (λ (bs : List BatchRows). length (last_lines [] (head_of options.form) line bs)) (all_now found count wants),
+          ap length (last_lines_more line (head_of options.form) [] b.batches (shortened count (rows_of found))),
+          length-append (last_lines [] (head_of options.form) line (within options.limit (b.batches ++ rows_of found ∷ []))) [],
         );
         last = inl refl;
         works = λ other z. works ∙ (b.counts ∙ z);
       }
 
   -- they were, and what is kept was not sent
-  pub batches_unsent : (fields : List Field) (found : Found) (w v : Option (List ℕ)) (n m : ℕ) (k : List ℕ)
-      → fields ≡ old.schema.fields → NextCall now new (Ok (Some found)) → new.failures ≡ now.failures
-      → PutsRows options.form fields (head_of options.form found.1) found.0.rows after w n k (Ok None)
+  pub batches_unsent : (fields : List Field) (found : Found) (count : ℕ) (w v : Option (List ℕ)) (n m : ℕ) (k : List ℕ)
+      → IsCount found count → fields ≡ old.schema.fields → NextCall now new (Ok (Some found)) → new.failures ≡ now.failures
+      → PutsRows options.form fields (head_of options.form found.1) (take count found.0.rows) after w n k (Ok None)
       → PutFails (output w n k) v m [] Write
-      → PrintsPart options.form [] old new before v m Write
-  batches_unsent fields found w v n m k is t works p q =
-      let rows = head_of options.form found.1 ++ lines (line_of options.form fields) found.0.rows in
-      batches_cut fields found v m [] Write is t works
+      → PrintsPart options [] old new before v m Write
+  batches_unsent fields found count w v n m k wants is t works p q =
+      let rows = head_of options.form found.1 ++ lines (line_of options.form fields) (take count found.0.rows) in
+      batches_cut fields found count v m [] Write wants is t works
       (not_at after v m _ _ Write (append-nil rows) (puts_not_then after (output w n k) v m rows [] Write p.1 q))
 
   behind : (y : List ℕ) (r : Result End Fault) (h : EndsBehind now new y r)
@@ -293,7 +329,7 @@ module _ (options : PrintOptions) (tally : Tally) (old now new : Reader) (before
       (ends_counted now new y r h)))
 
   printed : (y : List ℕ) (r : Result End Fault) → Consumes now.remaining new.remaining y → new.taken ≡ count_up now.taken (length y)
-      → EndsBehind now new y r → PrintsRows options.form [] old new before after r
+      → EndsBehind now new y r → PrintsRows options [] old new before after r
   printed y r bytes more h = record {
     x = b.x ++ y;
     batches = b.batches;
@@ -304,19 +340,20 @@ module _ (options : PrintOptions) (tally : Tally) (old now new : Reader) (before
         let long = length-append b.x y in
         omega (arith, before, long, more);
     numbered = λ k is. omega (arith, b.numbered k is, h.messages, (behind y r h).1);
-    have = b.have;
-    puts = b.puts;
+    below = below;
+    have = have_before;
+    puts = puts_before;
     sent = b.sent;
   }
 
   ended_rows : (found : Option End) (e : End) → NextCall now new (Ok None) → found ≡ end_of new.phase → e ≡ unwrap_or found Closed
-      → (rows : PrintsRows options.form [] old new before after (Ok e)) × IsTally tally rows.batches
+      → (rows : PrintsRows options [] old new before after (Ok e)) × IsTally tally rows.batches
   unfolding printed
   ended_rows found e t is given =
       let h = ended now new now.phase new.phase t.x b.reading t.gives in
       let same : e ≡ h.0 =
       given ∙ (ap (λ (o : Option End). unwrap_or o Closed) is ∙ ap (λ (q : Phase). unwrap_or (end_of q) Closed) h.2) in
-      subst (λ (e : End). (rows : PrintsRows options.form [] old new before after (Ok e)) × IsTally tally rows.batches) (sym same)
+      subst (λ (e : End). (rows : PrintsRows options [] old new before after (Ok e)) × IsTally tally rows.batches) (sym same)
       (printed t.x (Ok h.0) t.bytes t.counted h.1, b.tallies)
 
   -- where the end is read behind the batches that were printed, all rows of the stream were

@@ -2,7 +2,8 @@
 use Rattle.std.proofs.Common.{◌≡◌, ◌∙◌, sym, ap, ℕ, ◌+◌, ◌≤◌, Bool, true, false, List, ◌++◌, length, take, arith}
 use Rattle.std.proofs.Common.{get_or-take, length-take-le, take-take, take_at}
 use Rattle.std.proofs.Math.Seq.{take-append-add}
-use Rattle.csv.specs.Writing.{needs_byte, needs_quotes, default_writer}
+use Rattle.csv.specs.Writing.{needs_byte, needs_quotes}
+use Rattle.ipc_csv.specs.Dialects.{writer}
 use Rattle.ipc_print.specs.Unquoted.{NeedNone}
 use Rattle.ipc_print.proofs.SetApart.{none_on_true}
 use Rattle.std.specs.Bool.{OnTrue}
@@ -42,15 +43,15 @@ pub front_plain : (b : Bool) (bytes : List ℕ) (len n : ℕ) → len ≤ n → 
 front_plain true bytes len n few long plain = escape_on_plain true (take len bytes) (first_plain bytes len n few long plain)
 front_plain false bytes len n few long plain = tt
 
-first_none : (bytes : List ℕ) (len n : ℕ) → len ≤ n → n ≤ length bytes → NeedNone bytes 0 n
-    → NeedNone (take len bytes) 0 (length (take len bytes))
-first_none bytes len n few long none k low high =
+first_none : (c : ℕ) (bytes : List ℕ) (len n : ℕ) → len ≤ n → n ≤ length bytes → NeedNone c bytes 0 n
+    → NeedNone c (take len bytes) 0 (length (take len bytes))
+first_none c bytes len n few long none k low high =
     let size : length (take len bytes) ≡ len = length-take-le len bytes (omega (arith, few, long)) in
-    ap (needs_byte default_writer) (get_or-take len bytes k 0 (omega (arith, size, high)))
+    ap (needs_byte (writer c)) (get_or-take len bytes k 0 (omega (arith, size, high)))
     ∙ none k low (omega (arith, size, high, few))
 
 -- where none of the bytes calls for quotes, the first of them need none
-pub front_none : (b : Bool) (bytes : List ℕ) (len n : ℕ) → len ≤ n → n ≤ length bytes → OnTrue b (NeedNone bytes 0 n)
-    → OnTrue b (needs_quotes default_writer (take len bytes) ≡ false)
-front_none true bytes len n few long none = none_on_true true (take len bytes) (first_none bytes len n few long none)
-front_none false bytes len n few long none = tt
+pub front_none : (c : ℕ) (b : Bool) (bytes : List ℕ) (len n : ℕ) → len ≤ n → n ≤ length bytes → OnTrue b (NeedNone c bytes 0 n)
+    → OnTrue b (needs_quotes (writer c) (take len bytes) ≡ false)
+front_none c true bytes len n few long none = none_on_true c true (take len bytes) (first_none c bytes len n few long none)
+front_none c false bytes len n few long none = tt

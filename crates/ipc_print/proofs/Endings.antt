@@ -1,27 +1,26 @@
 -- The front and the tail around the rows of batches.
 use Rattle.ipc_model.specs.declared.table.BatchRows.{BatchRows}
-use Rattle.std.proofs.Common.{◌≡◌, ◌∙◌, refl, sym, ap, subst, ℕ, List, [], ◌∷◌, ◌++◌, take, drop, Option, Some}
+use Rattle.std.proofs.Common.{◌≡◌, ◌∙◌, refl, sym, ap, ℕ, List, [], ◌∷◌, ◌++◌, take, drop, Option}
 use Rattle.std.proofs.Common.{Result, Ok, Err, append_assoc, append-nil, length-append, arith, ◌+◌}
-use Rattle.std.proofs.KnownBytes.{Consumes-nil}
 use Rattle.ipc_model.specs.declared.fault.Fault.{Fault}
 use Rattle.ipc_model.specs.declared.value.Value.{Value}
 use Rattle.ipc_decode.specs.declared.end.End.{End}
-use Rattle.ipc_decode.specs.Reader.{Reader, in_force_of}
-use Rattle.ipc_decode.specs.Stream.{done}
+use Rattle.ipc_decode.specs.Reader.{Reader}
 use Rattle.ipc_print.specs.declared.rows.PrintFault.{PrintFault}
-use Rattle.ipc_print.specs.declared.rows.PrintFault.TheVariants.{Write, OutOfMemory}
-use Rattle.ipc_print.specs.declared.form.Form.{Form}
+use Rattle.ipc_print.specs.declared.rows.PrintFault.TheVariants.{Write}
 use Rattle.ipc_print.specs.declared.form.PrintOptions.{PrintOptions}
 use Rattle.ipc_print.specs.declared.stop.Outcome.{Outcome}
-use Rattle.ipc_print.specs.declared.stop.Outcome.TheVariants.{Whole, Broken, Refused as Lacking}
-use Rattle.ipc_print.specs.Forms.{head_of, line_of, tail_of, tail_text}
-use Rattle.ipc_print.specs.Output.{Output, output, PrintsAs, Puts, PutFails}
-use Rattle.std.specs.Prelude.{⊤}
+use Rattle.ipc_print.specs.declared.stop.Outcome.TheVariants.{Whole, Limited, Broken, Refused as Lacking}
+use Rattle.ipc_print.specs.FirstRows.{shortened, within, IsBelow, wanted_rows}
+use Rattle.ipc_print.specs.Forms.{head_of, line_of, row_count, tail_of, tail_text}
+use Rattle.ipc_print.specs.Output.{Output, Puts, PutFails}
 use Rattle.ipc_print.specs.Rows.{lines, batch_lines, last_lines}
 use Rattle.std.proofs.lemmas.List.{nil_from_length}
 use Rattle.std.proofs.Common.{◌≤◌}
 use Rattle.ipc_print.specs.Streams.{AreLast, PrintsRows, PrintsPart, PrintsBatches}
-use Rattle.ipc_print.proofs.Puts.{puts_then, puts_not_then, puts_never, missing_all, missing_at, missing_more, missing_then}
+use Rattle.ipc_print.proofs.FirstRows.{below_less, below_within, refused_inside, take_fewer, wanted_more, wanted_within}
+use Rattle.ipc_print.proofs.FirstRows.{within_all, within_more}
+use Rattle.ipc_print.proofs.Puts.{puts_then, puts_not_then, missing_all, missing_at, missing_more, missing_then}
 use Rattle.ipc_print.proofs.Lines.{put_at, not_at}
 use Rattle.ipc_print.proofs.Texts.{batch_lines_more, head_rest, last_lines_front, last_lines_more}
 use Rattle.std.proofs.Common.{length, inl, inr}
@@ -30,60 +29,12 @@ use Rattle.ipc_print.specs.declared.stop.Tally.{Tally}
 use Rattle.ipc_print.specs.Forms.{tail_of, tail_text}
 use Rattle.ipc_print.specs.Streams.{IsTally, IsWhole, PrintsAll, outcome_tail}
 
--- nothing was read, and of the front a beginning was printed
-pub part_front : (form : Form) (front : List ℕ) (r : Reader) (before : Output) (w : Option (List ℕ)) (n : ℕ) (e : PrintFault)
-    → before.kept ≡ [] → PutFails before w n front e → PrintsPart form front r r before w n e
-part_front form front r before w n e empty q =
-    let missing = missing_at before w n _ _ e (length front) (sym (append-nil front) ∙ sym (append-nil (front ++ [])))
-    (missing_all before w n front e empty q) in
-    record {
-      x = [];
-      batches = [];
-      bytes = Consumes-nil r.remaining;
-      rest = [];
-      whole = [];
-      joined = refl;
-      state = Some (in_force_of r);
-      run = done;
-      tail = [];
-      ends = inl refl;
-      puts = missing.0;
-      few = omega (arith, missing.1, length-append front []);
-      last = inl refl;
-      works = λ other z. z;
-    }
-
--- nothing was read and printed, since memory ran out
-pub part_none : (form : Form) (front : List ℕ) (r : Reader) (o : Output) → o.kept ≡ []
-    → PrintsPart form front r r o o.written o.failures OutOfMemory
-part_none form front r o empty = part_front form front r o o.written o.failures OutOfMemory empty (puts_never o front)
-
--- the front was put, and it was sent, or the sink failed
-pub front_sent : (before mid : Output) (w : Option (List ℕ)) (n : ℕ) (k front : List ℕ) → Puts before mid front
-    → Puts mid (output w n []) [] → k ≡ [] → Puts before (output w n k) front
-front_sent before mid w n k front p q empty =
-    subst (λ (z : List ℕ). Puts before (output w n z) front) (sym empty)
-    (put_at before (output w n []) _ _ (append-nil front) (puts_then before mid (output w n []) front [] p q))
-
--- a text was put, and then what is kept was sent, or the sink failed
-pub then_sent : (a b : Output) (w : Option (List ℕ)) (n : ℕ) (t : List ℕ) (r : Result ⊤ PrintFault) → Puts a b t
-    → PrintsAs b w n [] [] r → PrintsAs a w n [] t r
-then_sent a b w n t (Ok _) p q = put_at a (output w n []) _ _ (append-nil t) (puts_then a b (output w n []) t [] p q)
-then_sent a b w n t (Err e) p q = not_at a w n _ _ e (append-nil t) (puts_not_then a b w n t [] e p q)
-
--- the front was put, and the sink failed when it was sent
-pub front_unsent : (form : Form) (front : List ℕ) (r : Reader) (before mid : Output) (w : Option (List ℕ)) (n : ℕ) → before.kept ≡ []
-    → Puts before mid front → PutFails mid w n [] Write → PrintsPart form front r r before w n Write
-front_unsent form front r before mid w n empty p q =
-    part_front form front r before w n Write empty
-    (not_at before w n _ _ Write (append-nil front) (puts_not_then before mid w n front [] Write p q))
-
 module _ (options : PrintOptions) (front : List ℕ) (old new : Reader) where
   abbrev line_in : List Value → List ℕ
   line_in = line_of options.form old.schema.fields
 
-  rows_behind : (r : Result End Fault) (before mid after : Output) → Puts before mid front → PrintsRows options.form [] old new mid after r
-      → PrintsRows options.form front old new before after r
+  rows_behind : (r : Result End Fault) (before mid after : Output) → Puts before mid front → PrintsRows options [] old new mid after r
+      → PrintsRows options front old new before after r
   rows_behind r before mid after p q = record {
     x = q.x;
     batches = q.batches;
@@ -91,6 +42,7 @@ module _ (options : PrintOptions) (front : List ℕ) (old new : Reader) where
     reads = q.reads;
     counted = q.counted;
     numbered = q.numbered;
+    below = q.below;
     have = q.have;
     puts = puts_then before mid after front (batch_lines (head_of options.form) line_in q.batches) p q.puts;
     sent = q.sent;
@@ -101,6 +53,22 @@ module _ (options : PrintOptions) (front : List ℕ) (old new : Reader) where
       → PrintsBatches options [] old new mid after r → PrintsBatches options front old new before after r
   unfolding rows_behind
   behind_front before mid after (Ok (Whole e tally)) p q = ((rows_behind (Ok e) before mid after p q.0.0, q.0.1), q.1, q.2)
+  behind_front before mid after (Ok Limited) p q =
+      let h = q.0 in (
+        record {
+          x = h.x;
+          batches = h.batches;
+          bytes = h.bytes;
+          state = h.state;
+          run = h.run;
+          reached = h.reached;
+          wanted = h.wanted;
+          have = h.have;
+          puts = puts_then before mid after front _ p h.puts;
+          sent = h.sent;
+        },
+        q.1,
+      )
   behind_front before mid after (Ok (Broken f)) p q = (q.0, rows_behind q.0 before mid after p q.1, q.2, q.3)
   behind_front before mid after (Ok (Lacking f)) p q =
       let h = q.0 in (
@@ -112,6 +80,7 @@ module _ (options : PrintOptions) (front : List ℕ) (old new : Reader) where
           bytes = h.bytes;
           state = h.state;
           run = h.run;
+          below = h.below;
           have = h.have;
           refuses = h.refuses;
           puts = put_at before after _ _
@@ -124,11 +93,13 @@ module _ (options : PrintOptions) (front : List ℕ) (old new : Reader) where
       )
   behind_front before mid after (Err e) p q = by_last q.last
     where
-      cut : (most : ℕ) → length q.puts.behind ≤ most → most ≤ length (last_lines [] (head_of options.form) line_in q.batches ++ q.tail)
+      cut : (most : ℕ) → length q.puts.behind ≤ most
+          → most ≤ length (last_lines [] (head_of options.form) line_in (within options.limit q.batches) ++ q.tail)
           → ((b : List ℕ) → length b ≤ most → AreLast old.limits q.state q.rest new.remaining b)
-          → PrintsPart options.form front old new before after.written after.failures e
+          → PrintsPart options front old new before after.written after.failures e
       cut most small fits last =
-          let texts = batch_lines (head_of options.form) line_in q.batches in
+          let shown = within options.limit q.batches in
+          let texts = batch_lines (head_of options.form) line_in shown in
           let missing = missing_at before after.written after.failures _ _ e most (sym (append_assoc front texts q.tail))
           (missing_then before mid after.written after.failures front (texts ++ q.tail) e most p (q.puts, small)) in
           record {
@@ -141,30 +112,31 @@ module _ (options : PrintOptions) (front : List ℕ) (old new : Reader) where
             state = q.state;
             run = q.run;
             tail = q.tail;
+            inside = q.inside;
             ends = q.ends;
             puts = missing.0;
             few = omega (
               arith,
               missing.1,
               fits,
-              last_lines_front line_in (head_of options.form) front q.batches,
-              length-append (last_lines [] (head_of options.form) line_in q.batches) q.tail,
-              length-append (last_lines front (head_of options.form) line_in q.batches) q.tail,
+              last_lines_front line_in (head_of options.form) front shown,
+              length-append (last_lines [] (head_of options.form) line_in shown) q.tail,
+              length-append (last_lines front (head_of options.form) line_in shown) q.tail,
             );
             last = last missing.0.behind missing.1;
             works = q.works;
           }
 
       by_last : AreLast old.limits q.state q.rest new.remaining q.puts.behind
-          → PrintsPart options.form front old new before after.written after.failures e
+          → PrintsPart options front old new before after.written after.failures e
       by_last (inl none) = cut _ q.few (omega arith) (λ b few. inl none)
       by_last (inr (inl all)) =
           cut 0 (omega (arith, ap length all)) (omega arith) (λ b few. inr (inl (nil_from_length b (omega (arith, few)))))
       by_last (inr (inr end)) = cut _ q.few (omega arith) (λ b few. inr (inr end))
 
   module _ (before mid : Output) where
-    rows_flushed : (r : Result End Fault) (after : Output) → after.kept ≡ [] → PrintsRows options.form front old new before mid r
-        → Puts mid after [] → PrintsRows options.form front old new before after r
+    rows_flushed : (r : Result End Fault) (after : Output) → after.kept ≡ [] → PrintsRows options front old new before mid r
+        → Puts mid after [] → PrintsRows options front old new before after r
     rows_flushed r after empty p q = record {
       x = p.x;
       batches = p.batches;
@@ -172,6 +144,7 @@ module _ (options : PrintOptions) (front : List ℕ) (old new : Reader) where
       reads = p.reads;
       counted = p.counted;
       numbered = p.numbered;
+      below = p.below;
       have = p.have;
       puts = put_at before after _ _ (append-nil (front ++ batch_lines (head_of options.form) line_in p.batches))
           (puts_then before mid after _ [] p.puts q);
@@ -198,6 +171,22 @@ module _ (options : PrintOptions) (front : List ℕ) (old new : Reader) where
       p.1,
       p.2,
     )
+    flushed Limited last after empty p tail q =
+        let h = p.0 in (
+          record {
+            x = h.x;
+            batches = h.batches;
+            bytes = h.bytes;
+            state = h.state;
+            run = h.run;
+            reached = h.reached;
+            wanted = h.wanted;
+            have = h.have;
+            puts = put_at before after _ _ (append-nil _) (puts_then before mid after _ [] h.puts (puts_then mid last after [] [] tail q));
+            sent = empty;
+          },
+          p.1,
+        )
     flushed (Broken f) last after empty p tail q =
         (p.0, rows_flushed p.0 after empty p.1 (puts_then mid last after [] [] tail q), p.2, p.3)
     flushed (Lacking f) last after empty p tail q =
@@ -210,6 +199,7 @@ module _ (options : PrintOptions) (front : List ℕ) (old new : Reader) where
             bytes = h.bytes;
             state = h.state;
             run = h.run;
+            below = h.below;
             have = h.have;
             refuses = h.refuses;
             puts = put_at before after _ _ (append-nil _) (puts_then before mid after _ [] h.puts (puts_then mid last after [] [] tail q));
@@ -218,10 +208,19 @@ module _ (options : PrintOptions) (front : List ℕ) (old new : Reader) where
           p.1,
         )
 
-    rows_unflushed : (r : Result End Fault) (w : Option (List ℕ)) (n : ℕ) → PrintsRows options.form front old new before mid r
-        → PutFails mid w n [] Write → PrintsPart options.form front old new before w n Write
+    -- the text of batches whose rows are below the limit
+    all_shown : (batches : List BatchRows) → IsBelow options.limit (row_count batches) → (tail : List ℕ)
+        → (front ++ batch_lines (head_of options.form) line_in batches) ++ tail
+        ≡ (front ++ batch_lines (head_of options.form) line_in (within options.limit batches)) ++ tail
+    all_shown batches below tail =
+        ap (λ (bs : List BatchRows). (front ++ batch_lines (head_of options.form) line_in bs) ++ tail)
+        (sym (within_all options.limit batches below))
+
+    rows_unflushed : (r : Result End Fault) (w : Option (List ℕ)) (n : ℕ) → PrintsRows options front old new before mid r
+        → PutFails mid w n [] Write → PrintsPart options front old new before w n Write
     rows_unflushed r w n p q =
-        let missing = missing_then before mid w n _ [] Write 0 p.puts (missing_all mid w n [] Write p.sent q) in
+        let missing = missing_at before w n _ _ Write 0 (all_shown p.batches p.below [])
+        (missing_then before mid w n _ [] Write 0 p.puts (missing_all mid w n [] Write p.sent q)) in
         record {
           x = p.x;
           batches = p.batches;
@@ -232,6 +231,7 @@ module _ (options : PrintOptions) (front : List ℕ) (old new : Reader) where
           state = p.reads.state;
           run = p.reads.run;
           tail = [];
+          inside = below_within options.limit p.batches p.reads.rest [] p.below;
           ends = inl refl;
           puts = missing.0;
           few = omega (arith, missing.1);
@@ -256,11 +256,12 @@ module _ (options : PrintOptions) (front : List ℕ) (old new : Reader) where
     -- the tail of a stream that was read to its end was not put
     pub tail_cut : (outcome : Outcome) (w : Option (List ℕ)) (n : ℕ) (e : PrintFault) → IsWhole outcome
         → PrintsBatches options front old new before mid (Ok outcome) → PutFails mid w n (outcome_tail options.form outcome new.taken) e
-        → PrintsPart options.form front old new before w n e
+        → PrintsPart options front old new before w n e
     tail_cut (Whole end tally) w n e is p q =
         let r = p.0.0 in
         let tail = outcome_tail options.form (Whole end tally) new.taken in
-        let missing = missing_then before mid w n _ tail e (length tail) r.puts (missing_all mid w n tail e r.sent q) in
+        let missing = missing_at before w n _ _ e (length tail) (all_shown r.batches r.below tail)
+        (missing_then before mid w n _ tail e (length tail) r.puts (missing_all mid w n tail e r.sent q)) in
         record {
           x = r.x;
           batches = r.batches;
@@ -271,31 +272,72 @@ module _ (options : PrintOptions) (front : List ℕ) (old new : Reader) where
           state = r.reads.state;
           run = r.reads.run;
           tail = tail;
+          inside = below_within options.limit r.batches r.reads.rest tail r.below;
           ends = inr (end, (new.taken, tail_is end tally r.batches p.0.1));
           puts = missing.0;
-          few = omega (arith, missing.1, length-append (last_lines front (head_of options.form) line_in r.batches) tail);
+          few = omega (
+            arith,
+            missing.1,
+            length-append (last_lines front (head_of options.form) line_in (within options.limit r.batches)) tail,
+          );
           last = inr (inr (end, r.reads.ends));
           works = λ other. p.2;
         }
+    tail_cut Limited w n e is p q = absurd is
     tail_cut (Broken f) w n e is p q = absurd is
     tail_cut (Lacking f) w n e is p q = absurd is
 
     -- what was kept did not go out
     pub unflushed : (outcome : Outcome) (last : Output) (w : Option (List ℕ)) (n : ℕ)
         → PrintsBatches options front old new before mid (Ok outcome) → Puts mid last (outcome_tail options.form outcome new.taken)
-        → PutFails last w n [] Write → PrintsPart options.form front old new before w n Write
+        → PutFails last w n [] Write → PrintsPart options front old new before w n Write
     unflushed (Whole e tally) last w n p tail q =
         tail_cut (Whole e tally) w n Write tt p (not_at mid w n _ _ Write (append-nil _) (puts_not_then mid last w n _ [] Write tail q))
+    unflushed Limited last w n p tail q =
+        let h = p.0 in
+        let shown = within options.limit h.batches in
+        let cut = puts_not_then mid last w n [] [] Write tail q in
+        let missing = missing_at before w n _ _ Write 0 refl
+        (missing_then before mid w n (front ++ batch_lines (head_of options.form) line_in shown) [] Write 0 h.puts
+        (missing_all mid w n [] Write h.sent cut)) in
+        record {
+          x = h.x;
+          batches = h.batches;
+          bytes = h.bytes;
+          rest = [];
+          whole = h.x;
+          joined = sym (append-nil h.x);
+          state = h.state;
+          run = h.run;
+          tail = [];
+          inside = wanted_within options.limit h.batches h.wanted;
+          ends = inl refl;
+          puts = missing.0;
+          few = omega (arith, missing.1);
+          last = inl refl;
+          works = λ other. absurd (other refl);
+        }
     unflushed (Broken f) last w n p tail q = rows_unflushed p.0 w n p.1 (puts_not_then mid last w n [] [] Write tail q)
     unflushed (Lacking f) last w n p tail q =
         let h = p.0 in
-        let sent = head_of options.form h.last.pairs ++ lines line_in (take h.count h.last.rows) in
-        let unsent = lines line_in (drop h.count h.last.rows) in
+        let k = wanted_rows options.limit (row_count h.batches) (length h.last.rows) in
+        let cut_last = shortened k h.last in
+        let below = below_less options.limit (row_count h.batches) (row_count h.batches + h.count) (omega arith) h.below in
+        let shown = within_more options.limit h.batches h.last k below refl in
+        let first_lines = head_of options.form h.last.pairs ++ lines line_in (take h.count h.last.rows) in
+        let same : first_lines ≡ head_of options.form h.last.pairs ++ lines line_in (take h.count cut_last.rows) =
+        ap (λ (rows : List (List Value)). head_of options.form h.last.pairs ++ lines line_in rows)
+        (sym (take_fewer h.count k h.last.rows
+        (refused_inside options.limit (row_count h.batches) h.count h.last.rows h.below h.refuses.inside))) in
+        let unsent = lines line_in (drop h.count cut_last.rows) in
         let cut = puts_not_then mid last w n [] [] Write tail q in
-        let first = missing_at before w n _ _ Write (length mid.kept) (append-nil _)
+        let text = front ++ batch_lines (head_of options.form) line_in h.batches in
+        let first = missing_at before w n _ _ Write (length mid.kept)
+        (append-nil _ ∙ ap (λ (t : List ℕ). text ++ t) same)
         (missing_then before mid w n _ [] Write (length mid.kept) h.puts (cut, omega (arith, cut.few, length-append mid.kept []))) in
         let missing = missing_at before w n _ _ Write (length mid.kept + length unsent)
-        (sym (all_rows h.batches h.last h.count) ∙ sym (append-nil _))
+        (sym (all_rows h.batches cut_last h.count)
+        ∙ (ap (λ (bs : List BatchRows). front ++ batch_lines (head_of options.form) line_in bs) (sym shown) ∙ sym (append-nil _)))
         (missing_more before w n _ unsent Write (length mid.kept) first) in
         record {
           x = h.x;
@@ -307,16 +349,19 @@ module _ (options : PrintOptions) (front : List ℕ) (old new : Reader) where
           state = h.state;
           run = h.run;
           tail = [];
+          inside = wanted_within options.limit _ (wanted_more options.limit h.batches h.last below);
           ends = inl refl;
           puts = missing.0;
           few = omega (
             arith,
             missing.1,
             h.few,
-            length-append sent unsent,
-            ap length (head_rest line_in (head_of options.form h.last.pairs) h.last.rows h.count),
-            ap length (last_lines_more line_in (head_of options.form) front h.batches h.last),
-            length-append (last_lines front (head_of options.form) line_in (h.batches ++ h.last ∷ [])) [],
+            ap length same,
+            length-append (head_of options.form h.last.pairs ++ lines line_in (take h.count cut_last.rows)) unsent,
+            ap length (head_rest line_in (head_of options.form h.last.pairs) cut_last.rows h.count),
+            ap length (last_lines_more line_in (head_of options.form) front h.batches cut_last),
+            ap (λ (bs : List BatchRows). length (last_lines front (head_of options.form) line_in bs)) shown,
+            length-append (last_lines front (head_of options.form) line_in (within options.limit (h.batches ++ h.last ∷ []))) [],
           );
           last = inl refl;
           works = λ other. absurd (other refl);

@@ -1,12 +1,16 @@
--- How many messages were read.
-use Rattle.std.proofs.Common.{◌≡◌, ◌∙◌, refl, sym, ap, subst, ℕ, suc, ◌+◌, List, [], ◌∷◌, ◌++◌, Option, Some, Result, append_assoc, arith}
+-- What calls of a reader gave, and how many messages were read.
+use Rattle.std.proofs.Common.{◌≡◌, ◌∙◌, refl, sym, ap, subst, ℕ, suc, ◌+◌, List, [], ◌∷◌, ◌++◌, Option, Some, None, Result, Ok, Err}
+use Rattle.std.proofs.Common.{append_assoc, arith}
 use Rattle.ipc_model.specs.declared.fault.Fault.{Fault}
 use Rattle.ipc_model.specs.declared.limits.Limits.{Limits}
 use Rattle.ipc_model.specs.declared.table.BatchRows.{BatchRows}
 use Rattle.ipc_decode.specs.declared.end.End.{End}
+use Rattle.ipc_decode.specs.declared.phase.Phase.{Phase}
+use Rattle.ipc_decode.specs.declared.phase.Phase.TheVariants.{Reading, Ended, Refused}
 use Rattle.ipc_decode.specs.Counts.{count_up, messages_in}
 use Rattle.ipc_decode.specs.Decoding.{TellsLast}
-use Rattle.ipc_decode.specs.Reader.{EndsBehind, LeadsTo, Reader, in_force_of}
+use Rattle.ipc_decode.specs.Found.{Found, rows_of}
+use Rattle.ipc_decode.specs.Reader.{EndsBehind, LeadsTo, NextAnswer, Reader, in_force_of}
 use Rattle.ipc_decode.specs.Reasons.{Reads}
 use Rattle.ipc_decode.specs.Stream.{State, Event, batch, Run}
 use Rattle.ipc_decode.proofs.Runs.{run_one, run_then, messages_one, messages_then}
@@ -81,3 +85,28 @@ ends_counted now new x r h = (
   },
   refl,
 )
+
+-- what a call that gave a batch says, where the reader was reading
+pub gave : (now new : Reader) (p q : Phase) (x : List ℕ) (found : Found) → p ≡ Reading → NextAnswer now new p x (Ok (Some found)) q
+    → (q ≡ Reading) × LeadsTo now new x (batch (rows_of found))
+gave now new Reading Reading x found is h = (refl, h)
+gave now new Reading (Ended e) x found is h = absurd h
+gave now new Reading Refused x found is h = absurd h
+gave now new (Ended e) q x found is h = absurd (cc)
+gave now new Refused q x found is h = absurd (cc)
+
+pub ended : (now new : Reader) (p q : Phase) (x : List ℕ) → p ≡ Reading → NextAnswer now new p x (Ok None) q
+    → (e : End) × EndsBehind now new x (Ok e) × (q ≡ Ended e)
+ended now new Reading Reading x is h = absurd h
+ended now new Reading (Ended e) x is h = (e, h, refl)
+ended now new Reading Refused x is h = absurd h
+ended now new (Ended e) q x is h = absurd (cc)
+ended now new Refused q x is h = absurd (cc)
+
+pub broke : (now new : Reader) (p q : Phase) (x : List ℕ) (f : Fault) → p ≡ Reading → NextAnswer now new p x (Err f) q
+    → EndsBehind now new x (Err f)
+broke now new Reading Reading x f is h = absurd h
+broke now new Reading (Ended e) x f is h = absurd h
+broke now new Reading Refused x f is h = h
+broke now new (Ended e) q x f is h = absurd (cc)
+broke now new Refused q x f is h = absurd (cc)

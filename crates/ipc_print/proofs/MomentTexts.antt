@@ -7,6 +7,7 @@ use Rattle.std.proofs.lemmas.Option.{same_Some}
 use Rattle.serde_json.specs.Written.{compact_text}
 use Rattle.ipc_moments.specs.ShortTexts.{IsPlain}
 use Rattle.ipc_json.specs.RowJson.{text_or_number}
+use Rattle.ipc_csv.specs.declared.dialect.Dialect.{Dialect}
 use Rattle.ipc_csv.specs.RowCsv.{Appended, LacksText}
 use Rattle.ipc_moments.specs.declared.fault.TextFault.TheVariants.{NoTextForm}
 use Rattle.ipc_print.proofs.OwnBytes.{own_moment}
@@ -32,10 +33,10 @@ shown_number before after digits None z is text = text ∙ ap (λ t. digits ++ t
 shown_number before after digits (Some m) z is text = absurd cc
 
 -- a text is a field of CSV
-pub field_moment : (before after : List ℕ) (moment : Option (List ℕ)) → IfSome moment IsPlain
-    → Some after ≡ option_map (λ m. before ++ m) moment → Appended before moment after
-field_moment before after None plain is = absurd cc
-field_moment before after (Some m) plain is = rw (moment_as_it_stands m plain) is
+pub field_moment : (d : Dialect) (before after : List ℕ) (moment : Option (List ℕ)) → IfSome moment IsPlain
+    → Some after ≡ option_map (λ m. before ++ m) moment → Appended d.delimiter before moment after
+field_moment d before after None plain is = absurd cc
+field_moment d before after (Some m) plain is = rw (moment_as_it_stands d.delimiter d.allowed.apart m plain) is
 
 -- where there is none, CSV has no text
 pub lacks_moment : (before : List ℕ) (column : ℕ) (moment : Option (List ℕ)) → None ≡ option_map (λ m. before ++ m) moment

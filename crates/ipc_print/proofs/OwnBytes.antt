@@ -4,7 +4,7 @@ use Rattle.std.specs.Bool.{OnTrue}
 use Rattle.std.proofs.lemmas.Bool.{agree_below_at, or_parts}
 use Rattle.hex.specs.Hex.{IsBytes, encode_with, encode_lower, lower_digits}
 use Rattle.json.specs.Print.{escape, escape_byte}
-use Rattle.ipc_moments.specs.ShortTexts.{IsPlain}
+use Rattle.ipc_moments.specs.ShortTexts.{IsPlain, is_plain}
 use Rattle.std.proofs.lemmas.Bool.Decides.{nat_tests}
 use Rattle.ipc_print.specs.Escaped.{is_escaped, has_escaped}
 
@@ -33,12 +33,12 @@ encoded_own (b ∷ bs) bytes =
 pub own_digits : (bs : List ℕ) → IsBytes bs → escape (encode_lower bs) ≡ encode_lower bs
 own_digits bs bytes = own_bytes (encode_lower bs) (encoded_own bs bytes)
 
-letter_own : (b : ℕ) → 45 ≤ b → b ≤ 90 → is_escaped b ≡ false
-letter_own b low high = grind (arith, nat_tests)
+letter_own : (b : ℕ) → is_plain b ≡ true → is_escaped b ≡ false
+letter_own b plain = grind (arith, nat_tests)
 
 short_own : (bs : List ℕ) → IsPlain bs → has_escaped bs ≡ false
 short_own [] plain = refl
-short_own (b ∷ bs) plain = rw (letter_own b plain.0.0 plain.0.1, short_own bs plain.1) refl
+short_own (b ∷ bs) plain = rw (letter_own b plain.0, short_own bs plain.1) refl
 
 -- the texts of dates and times stand in a text of JSON as they are
 pub own_moment : (bs : List ℕ) → IsPlain bs → escape bs ≡ bs

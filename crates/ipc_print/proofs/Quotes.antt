@@ -1,10 +1,14 @@
 -- Fields of CSV between quotes.
-use Rattle.std.proofs.Common.{◌≡◌, ◌∙◌, refl, sym, ap, ℕ, suc, ◌+◌, ◌<◌, ◌≤◌, ◌==◌, Bool, true, false, List, [], ◌∷◌, ◌++◌, length, drop}
+use Rattle.std.proofs.Common.{◌≡◌, ◌∙◌, refl, sym, ap, ℕ, suc, ◌+◌, ◌<◌, ◌≤◌, ◌==◌, ◌||◌, Bool, true, false, List, [], ◌∷◌, ◌++◌, length}
+use Rattle.std.proofs.Common.{drop}
 use Rattle.std.proofs.Common.{drop-cons, get_or, add-one, append-nil, append_assoc}
 use Rattle.std.specs.Prelude.{if◌then◌else◌}
 use Rattle.std.proofs.lemmas.List.{drop_all}
-use Rattle.csv.specs.Writing.{default_writer, escaped, needs_quotes}
+use Rattle.csv.specs.Writing.{default_writer, escaped, needs_byte, needs_quotes}
+use Rattle.std.proofs.lemmas.List.Folds.{list_any-append}
+use Rattle.ipc_csv.specs.Dialects.{writer}
 use Rattle.ipc_csv.specs.RowCsv.{with_field}
+use Rattle.ipc_csv.proofs.Quoted.{escaped_alike}
 
 -- a byte, doubled where it is a quote, in front of others
 doubled : (quote : Bool) (b : ℕ) (bs : List ℕ)
@@ -35,6 +39,21 @@ unfolding escaped
 backslash_between bs = refl
 
 -- a text behind a backslash that needs quotes, between them
-pub backslash_quoted : (text field : List ℕ) → needs_quotes default_writer field ≡ true
-    → text ++ (34 ∷ 92 ∷ []) ++ escaped default_writer field ++ 34 ∷ [] ≡ with_field text (92 ∷ field)
-backslash_quoted text field needs = rw (needs, backslash_between field) (simp append_assoc refl)
+either_needs : (c : ℕ) (field : List ℕ)
+    → needs_quotes (writer c) (92 ∷ field) ≡ (needs_quotes (writer c) (92 ∷ []) || needs_quotes (writer c) field)
+either_needs c field = list_any-append (needs_byte (writer c)) (92 ∷ []) field
+
+pub backslash_quoted : (c : ℕ) (text field : List ℕ) → (needs_quotes (writer c) (92 ∷ []) || needs_quotes (writer c) field) ≡ true
+    → text ++ (34 ∷ 92 ∷ []) ++ escaped default_writer field ++ 34 ∷ [] ≡ with_field c text (92 ∷ field)
+backslash_quoted c text field needs =
+    rw (either_needs c field, needs, escaped_alike c (92 ∷ field), backslash_between field) (simp append_assoc refl)
+
+-- and one that needs none
+pub backslash_plain : (c : ℕ) (text field : List ℕ) → (needs_quotes (writer c) (92 ∷ []) || needs_quotes (writer c) field) ≡ false
+    → (text ++ 92 ∷ []) ++ field ≡ with_field c text (92 ∷ field)
+backslash_plain c text field needs = rw (either_needs c field, needs) (append_assoc text (92 ∷ []) field)
+
+-- a field that needs quotes, between them
+pub field_quoted : (c : ℕ) (text field : List ℕ) → needs_quotes (writer c) field ≡ true
+    → text ++ (34 ∷ []) ++ escaped default_writer field ++ 34 ∷ [] ≡ with_field c text field
+field_quoted c text field needs = rw (needs, escaped_alike c field) (simp append_assoc refl)

@@ -1,7 +1,9 @@
 -- What ends a record.
 use Rattle.std.proofs.Common.{◌≡◌, ◌<◌, ◌==◌, ℕ, suc, false, List, [], ◌∷◌, length, refl, sym, ap, arith, None, Result, Ok, Err}
 use Rattle.std.proofs.lemmas.Bool.Decides.{nat_tests}
-use Rattle.csv.specs.Writing.{row_body, default_writer}
+use Rattle.csv.specs.Writing.{row_body}
+use Rattle.ipc_csv.specs.Dialects.{writer}
+use Rattle.ipc_csv.specs.declared.dialect.Dialect.{Dialect}
 use Rattle.ipc_model.specs.declared.schema.Field.{Field}
 use Rattle.ipc_model.specs.declared.value.Value.{Value}
 use Rattle.ipc_moments.specs.declared.fault.TextFault.{TextFault}
@@ -20,14 +22,14 @@ pub end_of_some : (text : List ℕ) → 0 < length text → end_behind 0 text �
 end_of_some [] some = absurd (omega (arith, some))
 end_of_some (b ∷ bs) some = rw (some_byte (length bs)) refl
 
-whole_record : (r : Result (List (List ℕ)) TextFault) (text record_text : List ℕ) → with_fields 0 [] r ≡ Ok text → Ended 0 text record_text
-    → record_of r ≡ Ok record_text
-whole_record (Ok texts) text record_text put end =
-    let body : text ≡ row_body default_writer texts = cc in
+whole_record : (d : Dialect) (r : Result (List (List ℕ)) TextFault) (text record_text : List ℕ) → with_fields d.delimiter 0 [] r ≡ Ok text
+    → Ended d.delimiter 0 text record_text → record_of d r ≡ Ok record_text
+whole_record d (Ok texts) text record_text put end =
+    let body : text ≡ row_body (writer d.delimiter) texts = cc in
     ap Ok (sym (end [] texts refl body))
-whole_record (Err fault) text record_text put end = absurd (cc)
+whole_record d (Err fault) text record_text put end = absurd (cc)
 
 -- a row's fields that are ended are its record
-pub row_record : (fs : List Field) (row : List Value) (text record_text : List ℕ) → flat_fault fs ≡ None
-    → put_texts [] fs row ≡ Ok text → Ended 0 text record_text → row_csv fs row ≡ Ok record_text
-row_record fs row text record_text flat put end = rw flat (whole_record (row_texts fs row) text record_text put end)
+pub row_record : (d : Dialect) (fs : List Field) (row : List Value) (text record_text : List ℕ) → flat_fault fs ≡ None
+    → put_texts d [] fs row ≡ Ok text → Ended d.delimiter 0 text record_text → row_csv d fs row ≡ Ok record_text
+row_record d fs row text record_text flat put end = rw flat (whole_record d (row_texts d fs row) text record_text put end)

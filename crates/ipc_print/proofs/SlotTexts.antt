@@ -22,12 +22,14 @@ use Rattle.ipc_column.specs.Views.{columns, column_of, children_of}
 use Rattle.ipc_column.proofs.Leads.{slot_shows}
 use Rattle.ipc_column.proofs.Parts.{children_out}
 use Rattle.ipc_column.proofs.Slots.{items_length}
-use Rattle.serde_json.specs.Data.{no_items, null}
+use Rattle.serde_json.specs.Data.{null}
 use Rattle.ipc_column.proofs.Cells.{row_length}
 use Rattle.std.proofs.Common.{Bor, take}
 use Rattle.ipc_model.specs.declared.schema.DataType.{DataType}
+use Rattle.ipc_csv.specs.declared.dialect.Dialect.{Dialect}
 use Rattle.ipc_csv.specs.RowCsv.{text_in, value_text}
-use Rattle.ipc_json.specs.RowJson.{Printed, cell_json, each_json, field_json, value_json}
+use Rattle.ipc_json.specs.declared.row.RowShape.{RowShape}
+use Rattle.ipc_json.specs.RowJson.{Printed, cell_json, field_json, printed, value_json}
 use Rattle.ipc_print.specs.LentSlots.{HaveSlot, LeadsTo, list_values, slot_value, values_between}
 
 -- what a slot shows, in the open form of values
@@ -54,44 +56,48 @@ out_slot below i (slot.List from to) =
 out_slot below i slot.Struct = ap out-Value (sym (v.rolls-Struct (below i))) ∙ out-roll-Value (Value-F.Struct (below i))
 
 -- the JSON of what a slot shows
-pub json_shown : (f : Field) (below : ℕ → List Value) (i : ℕ) (s : Slot)
-    → cell_json f (shown below i s) ≡ value_json (out-Field f).kind (map cell_json (out-Field f).children) (open_slot below i s)
-json_shown f below i s =
-    ap (λ (print : Printed). print (shown below i s)) (fold_out-Field Printed field_json f)
-    ∙ ap (value_json (out-Field f).kind (map cell_json (out-Field f).children)) (out_slot below i s)
+pub json_shown : (shape : RowShape) (f : Field) (below : ℕ → List Value) (i : ℕ) (s : Slot)
+    → cell_json shape f (shown below i s)
+    ≡ value_json shape (out-Field f).kind (map (printed shape) (out-Field f).children) (open_slot below i s)
+json_shown shape f below i s =
+    ap (λ (p : Printed). p.json (shown below i s)) (fold_out-Field Printed (field_json shape) f)
+    ∙ ap (value_json shape (out-Field f).kind (map (printed shape) (out-Field f).children)) (out_slot below i s)
 
 -- the JSON of a slot, by what it was found to hold
-pub slot_json : (f : Field) (n : Nested) (i : ℕ) (s : Slot) → slice_get (slot_values n) i ≡ Some (shown (row (below n)) i s)
-    → cell_json f (slot_value n i)
-    ≡ value_json (out-Field f).kind (map cell_json (out-Field f).children) (open_slot (row (below n)) i s)
-slot_json f n i s h =
-    ap (cell_json f) (get_or_from_slice_get (slot_values n) i (shown (row (below n)) i s) v.Null h) ∙ json_shown f (row (below n)) i s
+pub slot_json : (shape : RowShape) (f : Field) (n : Nested) (i : ℕ) (s : Slot)
+    → slice_get (slot_values n) i ≡ Some (shown (row (below n)) i s)
+    → cell_json shape f (slot_value n i)
+    ≡ value_json shape (out-Field f).kind (map (printed shape) (out-Field f).children) (open_slot (row (below n)) i s)
+slot_json shape f n i s h =
+    ap (cell_json shape f) (get_or_from_slice_get (slot_values n) i (shown (row (below n)) i s) v.Null h)
+    ∙ json_shown shape f (row (below n)) i s
 
 -- the text in CSV of a slot, by what it was found to hold
-pub slot_csv : (kind : DataType) (n : Nested) (i : ℕ) (s : Slot) → slice_get (slot_values n) i ≡ Some (shown (row (below n)) i s)
-    → text_in kind (slot_value n i) ≡ value_text kind (open_slot (row (below n)) i s)
-slot_csv kind n i s h =
-    ap (text_in kind) (get_or_from_slice_get (slot_values n) i (shown (row (below n)) i s) v.Null h)
-    ∙ ap (value_text kind) (out_slot (row (below n)) i s)
+pub slot_csv : (d : Dialect) (kind : DataType) (n : Nested) (i : ℕ) (s : Slot)
+    → slice_get (slot_values n) i ≡ Some (shown (row (below n)) i s)
+    → text_in d kind (slot_value n i) ≡ value_text d kind (open_slot (row (below n)) i s)
+slot_csv d kind n i s h =
+    ap (text_in d kind) (get_or_from_slice_get (slot_values n) i (shown (row (below n)) i s) v.Null h)
+    ∙ ap (value_text d kind) (out_slot (row (below n)) i s)
 
 -- the JSON of a slot whose text was told
-pub told_json : (f : Field) (n : Nested) (i : ℕ) (bytes : Bor (List ℕ)) (len : ℕ)
+pub told_json : (shape : RowShape) (f : Field) (n : Nested) (i : ℕ) (bytes : Bor (List ℕ)) (len : ℕ)
     → slice_get (slot_values n) i ≡ Some (v.Text (take len bytes.now))
-    → cell_json f (slot_value n i)
-    ≡ value_json (out-Field f).kind (map cell_json (out-Field f).children) (Value-F.Text (take len bytes.now))
-told_json f n i bytes len h =
-    ap (cell_json f) (get_or_from_slice_get (slot_values n) i (v.Text (take len bytes.now)) v.Null h)
-    ∙ (ap (λ (print : Printed). print (v.Text (take len bytes.now))) (fold_out-Field Printed field_json f)
-    ∙ ap (value_json (out-Field f).kind (map cell_json (out-Field f).children))
+    → cell_json shape f (slot_value n i)
+    ≡ value_json shape (out-Field f).kind (map (printed shape) (out-Field f).children) (Value-F.Text (take len bytes.now))
+told_json shape f n i bytes len h =
+    ap (cell_json shape f) (get_or_from_slice_get (slot_values n) i (v.Text (take len bytes.now)) v.Null h)
+    ∙ (ap (λ (p : Printed). p.json (v.Text (take len bytes.now))) (fold_out-Field Printed (field_json shape) f)
+    ∙ ap (value_json shape (out-Field f).kind (map (printed shape) (out-Field f).children))
     (ap out-Value (sym (v.rolls-Text (take len bytes.now))) ∙ out-roll-Value (Value-F.Text (take len bytes.now))))
 
 -- the text in CSV of a slot whose text was told
-pub told_csv : (kind : DataType) (n : Nested) (i : ℕ) (bytes : Bor (List ℕ)) (len : ℕ)
+pub told_csv : (d : Dialect) (kind : DataType) (n : Nested) (i : ℕ) (bytes : Bor (List ℕ)) (len : ℕ)
     → slice_get (slot_values n) i ≡ Some (v.Text (take len bytes.now))
-    → text_in kind (slot_value n i) ≡ value_text kind (Value-F.Text (take len bytes.now))
-told_csv kind n i bytes len h =
-    ap (text_in kind) (get_or_from_slice_get (slot_values n) i (v.Text (take len bytes.now)) v.Null h)
-    ∙ ap (value_text kind) (ap out-Value (sym (v.rolls-Text (take len bytes.now))) ∙ out-roll-Value (Value-F.Text (take len bytes.now)))
+    → text_in d kind (slot_value n i) ≡ value_text d kind (Value-F.Text (take len bytes.now))
+told_csv d kind n i bytes len h =
+    ap (text_in d kind) (get_or_from_slice_get (slot_values n) i (v.Text (take len bytes.now)) v.Null h)
+    ∙ ap (value_text d kind) (ap out-Value (sym (v.rolls-Text (take len bytes.now))) ∙ out-roll-Value (Value-F.Text (take len bytes.now)))
 
 -- a child has the slots of its column
 slots_length : (body : List ℕ) (p : ColumnRanges) → length (slot_values (nested body p)) ≡ (column_of body p).slots
@@ -170,8 +176,8 @@ pub struct_child : (n child : Nested) (i k : ℕ) → slice_get (nested_in n) k 
 struct_child n child i k e h = struct_at n.body n.children child i k e h
 
 -- null's JSON
-pub json_null : (f : Field) → cell_json f v.Null ≡ null
-json_null f = json_shown f (λ _. []) 0 slot.Null
+pub json_null : (shape : RowShape) (f : Field) → cell_json shape f v.Null ≡ null
+json_null shape f = json_shown shape f (λ _. []) 0 slot.Null
 
 pub later_next : (n : ℕ) → nat_lt 0 (n + 1) ≡ true
 later_next n = le-leb 1 (n + 1) (omega arith)
@@ -190,7 +196,3 @@ slots_done n from count i h =
 -- behind the children of a struct it has no values
 pub children_done : (n : Nested) (slot i : ℕ) → length n.children ≤ i → drop i (row (below n) slot) ≡ []
 children_done n slot i h = drop_all i (row (below n) slot) (let size = row_length n.body n.children slot in omega (arith, size, h))
-
-pub each_none : (prints : List Printed) → each_json prints [] ≡ no_items
-each_none [] = refl
-each_none (print ∷ prints) = refl

@@ -1,12 +1,13 @@
 -- A whole stream, from its schema on.
 use Rattle.ipc_model.specs.declared.table.BatchRows.{BatchRows}
 use Rattle.std.proofs.Common.{refl, ◌≡◌, ◌≢◌, ◌∙◌, sym, ap, subst, ℕ, inl, inr, List, [], ◌∷◌, ◌++◌, map, take, drop, Option, Some, None}
-use Rattle.std.proofs.Common.{Result, Ok, Err, append_assoc, append-nil, arith}
-use Rattle.std.specs.Prelude.{⊤, Bool}
+use Rattle.std.proofs.Common.{Result, Ok, Err, append_assoc, append-nil, arith, ◌+◌}
+use Rattle.std.specs.Prelude.{⊤}
 use Rattle.std.specs.Io.KnownBytes.{Appends, Consumes, IsAtEnd, Keeps}
 use Rattle.std.proofs.KnownBytes.{Consumes-trans, Keeps-refl}
 use Rattle.ipc_model.specs.declared.fault.Fault.{Fault}
 use Rattle.ipc_model.specs.declared.table.Table.{Table}
+use Rattle.ipc_model.specs.declared.value.Value.{Value}
 use Rattle.ipc_decode.specs.declared.end.End.{End}
 use Rattle.ipc_decode.specs.declared.end.End.TheVariants.{Mark, Closed}
 use Rattle.ipc_decode.specs.Reader.{Reader, in_force_of, Opens, OpenFails}
@@ -21,15 +22,18 @@ use Rattle.ipc_print.specs.declared.rows.PrintFault.{PrintFault}
 use Rattle.ipc_print.specs.declared.rows.PrintFault.TheVariants as p
 use Rattle.ipc_print.specs.declared.stop.Stop.{Stop}
 use Rattle.ipc_print.specs.declared.stop.Stop.TheVariants as stop
-use Rattle.ipc_print.specs.Forms.{front_text, head_of, line_of, tail_text}
+use Rattle.ipc_print.specs.FirstRows.{shortened, within, IsBelow, wanted_rows}
+use Rattle.ipc_print.specs.Forms.{row_count, form_fault, front_text, head_of, line_of, tail_text}
 use Rattle.ipc_decode.specs.Counts.{count_up, messages_in}
 use Rattle.std.specs.Prelude.{length}
 use Rattle.ipc_print.specs.Output.{Output, output, Grows, Puts, PutFails}
 use Rattle.ipc_print.specs.Rows.{lines, batch_lines}
-use Rattle.ipc_print.specs.Streams.{PrintsTable, Breaks, unopened, broken, Stops, unfit, refused, PrintsStream}
+use Rattle.ipc_print.specs.Streams.{PrintsTable, PrintsFirst, Breaks, unopened, broken, Stops, unfit, refused, PrintsStream}
 use Rattle.ipc_print.specs.Streams.{AreLast, PrintsSome, alone, some, unread}
-use Rattle.ipc_print.specs.Streams.{Prints, PrintsRows, PrintsPart, RefusesRow, write_fault}
+use Rattle.ipc_print.specs.Streams.{Prints, PrintsLimited, PrintsRows, PrintsPart, RefusesRow, write_fault}
 use Rattle.ipc_print.specs.Streams.{PrintsSchema, printed, last_printed, schema_line}
+use Rattle.ipc_print.proofs.FirstRows.{below_less, below_within, refused_inside, take_fewer, wanted_more, wanted_within}
+use Rattle.ipc_print.proofs.FirstRows.{within_all, within_more}
 use Rattle.ipc_print.proofs.Messages.{ReadsCounted}
 use Rattle.ipc_print.proofs.Puts.{grows_more, grows_then}
 use Rattle.ipc_print.proofs.Texts.{batch_lines_more, head_rest, last_lines_more}
@@ -88,7 +92,7 @@ module _ {limits : Limits} (options : PrintOptions) (old : Option (List ℕ)) (s
   opened : OpensStream limits s.schema o.x
   opened = schema_opened old s o
 
-  module _ (after : Output) (a : Result End Fault) (r : PrintsRows options.form front s t (output w0 n0 []) after a) where
+  module _ (after : Output) (a : Result End Fault) (r : PrintsRows options front s t (output w0 n0 []) after a) where
     abbrev table : Table
     table = record { schema = s.schema; batches = r.batches }
 
@@ -111,35 +115,53 @@ module _ {limits : Limits} (options : PrintOptions) (old : Option (List ℕ)) (s
         let counted = r.numbered 1 (omega (arith, o.one_message)) in
         omega (arith, counted, reads_behind.1)
 
-  rows_refused : (fault : TextFault) → RefusesRow options.form front s t (output w0 n0 []) (output w1 n1 []) fault
-      → Stops options.form limits old t.remaining w0 w1 fault
+  rows_refused : (fault : TextFault) → RefusesRow options front s t (output w0 n0 []) (output w1 n1 []) fault
+      → Stops options limits old t.remaining w0 w1 fault
   rows_refused fault r =
       let whole : Table = record { schema = s.schema; batches = r.batches } in
       refused (o.x ++ r.x) whole r.last r.count r.state (Consumes-trans old s.remaining t.remaining o.x r.x o.bytes r.bytes)
       (subst (λ (es : List Event). Run limits None (o.x ++ r.x) es r.state) (one_more whole r.last)
       (run_then None (Some (in_force_of s)) r.state o.x r.x (schema s.schema ∷ []) (map batch (r.batches ++ r.last ∷ [])) o.run
       (subst (λ l. Run l (Some (in_force_of s)) r.x (map batch (r.batches ++ r.last ∷ [])) r.state) o.same_limits r.run)))
-      r.have r.refuses (grows_appends w0 w1 _ r.puts.bytes)
+      r.below r.have r.refuses (grows_appends w0 w1 _ r.puts.bytes)
 
-  part : (why : PrintFault) → PrintsPart options.form front s t (output w0 n0 []) w1 n1 why
-      → PrintsSome options.form limits old t.remaining w0 w1
+  -- the rows up to the limit
+  rows_limited : form_fault options.form s.schema.fields ≡ None → PrintsLimited options front s t (output w0 n0 []) (output w1 n1 [])
+      → PrintsFirst options limits old t.remaining w0 w1
+  rows_limited fits r = record {
+    x = o.x ++ r.x;
+    table = record { schema = s.schema; batches = r.batches };
+    state = r.state;
+    bytes = Consumes-trans old s.remaining t.remaining o.x r.x o.bytes r.bytes;
+    run = run_then None (Some (in_force_of s)) r.state o.x r.x (schema s.schema ∷ []) (map batch r.batches) o.run
+        (subst (λ l. Run l (Some (in_force_of s)) r.x (map batch r.batches) r.state) o.same_limits r.run);
+    reached = r.reached;
+    wanted = r.wanted;
+    fits = fits;
+    rows = r.have;
+    text = grows_appends w0 w1 _ r.puts.bytes;
+  }
+
+  part : (why : PrintFault) → PrintsPart options front s t (output w0 n0 []) w1 n1 why
+      → PrintsSome options limits old t.remaining w0 w1
   part why r =
       some (o.x ++ r.whole) r.rest r.puts.behind r.tail (record { schema = s.schema; batches = r.batches }) r.state
       (subst (λ (z : List ℕ). Consumes old t.remaining z) (ap (λ (z : List ℕ). o.x ++ z) r.joined ∙ sym (append_assoc o.x r.whole r.rest))
       (Consumes-trans old s.remaining t.remaining o.x r.x o.bytes r.bytes))
       (run_then None (Some (in_force_of s)) r.state o.x r.whole (schema s.schema ∷ []) (map batch r.batches) o.run
       (subst (λ l. Run l (Some (in_force_of s)) r.whole (map batch r.batches) r.state) o.same_limits r.run))
-      r.ends r.puts.bytes r.few (subst (λ l. AreLast l r.state r.rest t.remaining r.puts.behind) o.same_limits r.last)
+      r.inside r.ends r.puts.bytes r.few (subst (λ l. AreLast l r.state r.rest t.remaining r.puts.behind) o.same_limits r.last)
 
   prints_rows : (r : Result ⊤ Stop) → PrintsStream options s t (output w0 n0 []) (output w1 n1 []) r
       → Prints options limits old t.remaining w0 w1 r
-  prints_rows (Ok done) (fits, (end, all, marked)) =
+  prints_rows (Ok done) (fits, inr r) = inr (rows_limited fits r)
+  prints_rows (Ok done) (fits, inl (end, all, marked)) =
       let r = all.rows in
       let reads = all_reads all.middle (Ok end) r in
       let long = length-append o.x r.x in
       let taken : t.taken ≡ count_up 0 (length (o.x ++ r.x)) =
       r.counted (length o.x) o.counted ∙ ap (count_up 0) (sym long) in
-      record {
+      inl record {
         x = o.x ++ r.x;
         table = record { schema = s.schema; batches = r.batches };
         end = end;
@@ -148,6 +170,7 @@ module _ {limits : Limits} (options : PrintOptions) (old : Option (List ℕ)) (s
             (record { schema = s.schema; batches = r.batches }) reads.state t.remaining end reads.joined reads.run reads.ends;
         closed = at_end limits reads.state reads.rest t.remaining end reads.ends;
         marked = marked;
+        below = r.below;
         fits = fits;
         rows = r.have;
         text = subst (λ (n : ℕ). Appends w0 w1 (printed options.form s.schema r.batches ++ tail_text options.form end n r.batches)) taken
@@ -156,7 +179,7 @@ module _ {limits : Limits} (options : PrintOptions) (old : Option (List ℕ)) (s
   prints_rows (Err (stop.Read fault n)) (answer, r, ends, tells, number) =
       let after = output w1 n1 [] in
       broken o.x r.x (record { schema = s.schema; batches = r.batches }) answer (all_bytes after answer r) opened
-      (reads_behind after answer r).0 ends (number ∙ numbered after answer r) r.have
+      (reads_behind after answer r).0 ends (number ∙ numbered after answer r) r.below r.have
       (grows_appends w0 w1 (printed options.form s.schema r.batches) r.puts.bytes)
   prints_rows (Err (stop.Text fault)) (inl other) =
       let taken : Consumes old t.remaining o.x = subst (λ (z : Reader). Consumes old z.remaining o.x) (sym other.same) o.bytes in
@@ -175,9 +198,9 @@ prints_all {limits} options old new s t w0 w1 n0 n1 r o is h =
     subst (λ (z : Option (List ℕ)). Prints options limits old z w0 w1 r) (sym is) (prints_rows options old s t o w0 w1 n0 n1 r h)
 
 -- no schema was read
-pub prints_none : {limits : Limits} → (form : Form) (mark : Bool) (old new w : Option (List ℕ)) (fault : Fault)
-    → OpenFails limits old new fault → Breaks form mark limits old new w w fault 0
-prints_none form mark old new w fault o = unopened o.x o.bytes o.reads refl (Keeps-refl w)
+pub prints_none : {limits : Limits} → (options : PrintOptions) (old new w : Option (List ℕ)) (fault : Fault)
+    → OpenFails limits old new fault → Breaks options limits old new w w fault 0
+prints_none options old new w fault o = unopened o.x o.bytes o.reads refl (Keeps-refl w)
 
 -- what was read after a schema's message, as what was read from the first byte on
 pub reads_opened : {limits : Limits} → (x y : List ℕ) (t : Table) (left : Option (List ℕ)) (answer : Result End Fault)
@@ -186,14 +209,23 @@ pub reads_opened : {limits : Limits} → (x y : List ℕ) (t : Table) (left : Op
 reads_opened x y t left answer opens reads =
     reads_after None (Some (begun t.schema)) x y left (schema t.schema ∷ []) (map batch t.batches) answer opens reads
 
+-- the text of a table whose rows are below the limit, with a tail
+whole_text : (options : PrintOptions) (t : Table) → IsBelow options.limit (row_count t.batches) → (tail : List ℕ) {text : List ℕ}
+    → printed options.form t.schema t.batches ++ tail ≡ text
+    → text ≡ printed options.form t.schema (within options.limit t.batches) ++ tail
+whole_text options t below tail is =
+    sym is ∙ ap (λ (bs : List BatchRows). printed options.form t.schema bs ++ tail) (sym (within_all options.limit t.batches below))
+
 -- why a stream isn't read to its end, as what was printed
-broken_part : {limits : Limits} → (form : Form) (mark : Bool) (old new w0 w1 : Option (List ℕ)) (fault : Fault) (n : ℕ)
-    → Breaks form mark limits old new w0 w1 fault n → PrintsSome form limits old new w0 w1
-broken_part form mark old new w0 w1 fault n (unopened x bytes reads number kept) = unread x fault bytes reads kept
-broken_part form mark old new w0 w1 fault n (broken x y t answer bytes opens behind required number have text) =
+broken_part : {limits : Limits} → (options : PrintOptions) (old new w0 w1 : Option (List ℕ)) (fault : Fault) (n : ℕ)
+    → Breaks options limits old new w0 w1 fault n → PrintsSome options limits old new w0 w1
+broken_part options old new w0 w1 fault n (unopened x bytes reads number kept) = unread x fault bytes reads kept
+broken_part options old new w0 w1 fault n (broken x y t answer bytes opens behind required number below have text) =
     let reads = reads_opened x y t new answer opens behind in
-    some reads.whole reads.rest [] [] t reads.state (subst (λ (z : List ℕ). Consumes old new z) reads.joined bytes) reads.run (inl refl)
-    (appends_grows w0 w1 _ (subst (λ (z : List ℕ). Appends w0 w1 z) (sym (append-nil _)) text)) (omega arith) (inr (inl refl))
+    some reads.whole reads.rest [] [] t reads.state (subst (λ (z : List ℕ). Consumes old new z) reads.joined bytes) reads.run
+    (below_within options.limit t.batches reads.rest [] below) (inl refl)
+    (appends_grows w0 w1 _ (subst (λ (z : List ℕ). Appends w0 w1 z) (whole_text options t below []
+    (append-nil (printed options.form t.schema t.batches))) text)) (omega arith) (inr (inl refl))
 
 -- the text of batches and of the first rows of one more is a beginning of the text with all its rows
 all_rows : (form : Form) (t : Table) (rows : BatchRows) (count : ℕ)
@@ -212,42 +244,68 @@ all_rows form t rows count =
     ∙ ap (λ (x : List ℕ). front ++ x) (batch_lines_more line (head_of form) t.batches rows)))
 
 -- why a table isn't printed to its end, as what was printed
-stopped_part : {limits : Limits} → (form : Form) (old new w0 w1 : Option (List ℕ)) (fault : TextFault)
-    → Stops form limits old new w0 w1 fault → PrintsSome form limits old new w0 w1
-stopped_part form old new w0 w1 fault (unfit x s σ bytes run why kept) = alone x s σ bytes run kept
-stopped_part {limits} form old new w0 w1 fault (refused x t rows count σ bytes run have refuses text) =
+stopped_part : {limits : Limits} → (options : PrintOptions) (old new w0 w1 : Option (List ℕ)) (fault : TextFault)
+    → Stops options limits old new w0 w1 fault → PrintsSome options limits old new w0 w1
+stopped_part options old new w0 w1 fault (unfit x s σ bytes run why kept) = alone x s σ bytes run kept
+stopped_part {limits} options old new w0 w1 fault (refused x t rows count σ bytes run below have refuses text) =
+    let form = options.form in
     let line = line_of form t.schema.fields in
-    let rest = lines line (drop count rows.rows) in
+    let k = wanted_rows options.limit (row_count t.batches) (length rows.rows) in
+    let first = shortened k rows in
+    let wants = below_less options.limit (row_count t.batches) (row_count t.batches + count) (omega arith) below in
+    let shown = within_more options.limit t.batches rows k wants refl in
+    let fewer = take_fewer count k rows.rows (refused_inside options.limit (row_count t.batches) count rows.rows below refuses.inside) in
+    let rest = lines line (drop count first.rows) in
+    let start = printed form t.schema t.batches in
+    let here : Appends w0 w1 (start ++ (head_of form rows.pairs ++ lines line (take count first.rows))) =
+    subst (λ (rs : List (List Value)). Appends w0 w1 (start ++ (head_of form rows.pairs ++ lines line rs))) (sym fewer) text in
     some x [] rest [] (record { schema = t.schema; batches = t.batches ++ rows ∷ [] }) σ
     (subst (λ (z : List ℕ). Consumes old new z) (sym (append-nil x)) bytes)
-    (subst (λ (es : List Event). Run limits None x es σ) (sym (one_more t rows)) run) (inl refl)
-    (subst (λ (z : List ℕ). Grows w0 [] w1 rest z) (all_rows form t rows count ∙ sym (append-nil _))
-    (grows_more w0 w1 [] [] (printed form t.schema t.batches ++ (head_of form rows.pairs ++ lines line (take count rows.rows))) rest
-    (appends_grows w0 w1 _ text)))
+    (subst (λ (es : List Event). Run limits None x es σ) (sym (one_more t rows)) run)
+    (wanted_within options.limit _ (wanted_more options.limit t.batches rows wants)) (inl refl)
+    (subst (λ (z : List ℕ). Grows w0 [] w1 rest z)
+    (all_rows form t first count ∙ (ap (printed form t.schema) (sym shown) ∙ sym (append-nil _)))
+    (grows_more w0 w1 [] [] (start ++ (head_of form rows.pairs ++ lines line (take count first.rows))) rest
+    (appends_grows w0 w1 _ here)))
     (omega (
       arith,
-      ap length (head_rest line (head_of form rows.pairs) rows.rows count),
-      length-append (head_of form rows.pairs ++ lines line (take count rows.rows)) rest,
-      ap length (last_lines_more line (head_of form) (front_text form t.schema) t.batches rows),
-      length-append (last_printed form t.schema (t.batches ++ rows ∷ [])) [],
+      ap length (head_rest line (head_of form rows.pairs) first.rows count),
+      length-append (head_of form rows.pairs ++ lines line (take count first.rows)) rest,
+      ap length (last_lines_more line (head_of form) (front_text form t.schema) t.batches first),
+      ap (λ (bs : List BatchRows). length (last_printed form t.schema bs)) shown,
+      length-append (last_printed form t.schema (within options.limit (t.batches ++ rows ∷ []))) [],
     )) (inl refl)
 
-table_part : {limits : Limits} → (form : Form) (mark : Bool) (old new w0 w1 : Option (List ℕ)) → PrintsTable form mark limits old new w0 w1
-    → PrintsSome form limits old new w0 w1
-table_part {limits} form mark old new w0 w1 s = by_end s.end s.denotes
+table_part : {limits : Limits} → (options : PrintOptions) (old new w0 w1 : Option (List ℕ)) → PrintsTable options limits old new w0 w1
+    → PrintsSome options limits old new w0 w1
+table_part {limits} options old new w0 w1 s = by_end s.end s.denotes
   where
-    by_end : (end : End) → Denotes limits s.x s.table end → PrintsSome form limits old new w0 w1
+    text : Appends w0 w1 (printed options.form s.table.schema (within options.limit s.table.batches)
+        ++ tail_text options.form s.end (count_up 0 (length s.x)) s.table.batches)
+    text = subst (λ (z : List ℕ). Appends w0 w1 z) (whole_text options s.table s.below _ refl) s.text
+
+    by_end : (end : End) → Denotes limits s.x s.table end → PrintsSome options limits old new w0 w1
     by_end Mark d = some d.0 _ [] _ s.table d.2.0 (subst (λ (z : List ℕ). Consumes old new z) d.1 s.bytes) d.2.1
-        (inr (s.end, (count_up 0 (length s.x), refl))) (appends_grows w0 w1 _ s.text) (omega arith) (inr (inl refl))
+        (below_within options.limit s.table.batches _ _ s.below) (inr (s.end, (count_up 0 (length s.x), refl)))
+        (appends_grows w0 w1 _ text) (omega arith) (inr (inl refl))
     by_end Closed d = some s.x [] [] _ s.table d.0 (subst (λ (z : List ℕ). Consumes old new z) (sym (append-nil s.x)) s.bytes) d.1
-        (inr (s.end, (count_up 0 (length s.x), refl))) (appends_grows w0 w1 _ s.text) (omega arith) (inr (inl refl))
+        (below_within options.limit s.table.batches [] _ s.below) (inr (s.end, (count_up 0 (length s.x), refl)))
+        (appends_grows w0 w1 _ text) (omega arith) (inr (inl refl))
+
+first_part : {limits : Limits} → (options : PrintOptions) (old new w0 w1 : Option (List ℕ)) → PrintsFirst options limits old new w0 w1
+    → PrintsSome options limits old new w0 w1
+first_part options old new w0 w1 s =
+    some s.x [] [] [] s.table s.state (subst (λ (z : List ℕ). Consumes old new z) (sym (append-nil s.x)) s.bytes) s.run
+    (wanted_within options.limit s.table.batches s.wanted) (inl refl)
+    (appends_grows w0 w1 _ (subst (λ (z : List ℕ). Appends w0 w1 z) (sym (append-nil _)) s.text)) (omega arith) (inl refl)
 
 -- whatever the answer, a beginning of the text of the batches that were read was printed
 pub part_of : {limits : Limits} → (options : PrintOptions) (old new w0 w1 : Option (List ℕ)) (r : Result ⊤ Stop)
-    → Prints options limits old new w0 w1 r → PrintsSome options.form limits old new w0 w1
-part_of options old new w0 w1 (Ok done) h = table_part options.form options.require_mark old new w0 w1 h
-part_of options old new w0 w1 (Err (stop.Read fault n)) h = broken_part options.form options.require_mark old new w0 w1 fault n h
-part_of options old new w0 w1 (Err (stop.Text fault)) h = stopped_part options.form old new w0 w1 fault h
+    → Prints options limits old new w0 w1 r → PrintsSome options limits old new w0 w1
+part_of options old new w0 w1 (Ok done) (inl h) = table_part options old new w0 w1 h
+part_of options old new w0 w1 (Ok done) (inr h) = first_part options old new w0 w1 h
+part_of options old new w0 w1 (Err (stop.Read fault n)) h = broken_part options old new w0 w1 fault n h
+part_of options old new w0 w1 (Err (stop.Text fault)) h = stopped_part options old new w0 w1 fault h
 part_of options old new w0 w1 (Err (stop.Write fault)) h = h.1
 
 -- the schema of a stream, as its line was printed

@@ -5,6 +5,8 @@ use Rattle.std.specs.Int.{from_bool, to_le_bytes, w64}
 use Rattle.std.proofs.Math.Seq.{take-append-add}
 use Rattle.serde_json.specs.Data.{boolean}
 use Rattle.serde_json.specs.Written.{compact_text}
+use Rattle.ipc_csv.specs.declared.dialect.Dialect.{Dialect}
+use Rattle.ipc_csv.proofs.PlainDigits.{all_plain}
 use Rattle.ipc_csv.specs.RowCsv.{bool_text, with_field}
 use Rattle.ipc_print.specs.declared.truth.TheConstants.{WORDS}
 
@@ -24,9 +26,9 @@ truth_json true = refl
 truth_json false = refl
 
 -- a field of CSV
-pub truth_field : (text : List ℕ) (truth : Bool) → with_field text (bool_text truth) ≡ text ++ bool_text truth
-truth_field text true = refl
-truth_field text false = refl
+pub truth_field : (d : Dialect) (text : List ℕ) (truth : Bool) → with_field d.delimiter text (bool_text truth) ≡ text ++ bool_text truth
+truth_field d text true = rw (all_plain d.delimiter (bool_text true) d.allowed.apart refl) refl
+truth_field d text false = rw (all_plain d.delimiter (bool_text false) d.allowed.apart refl) refl
 
 -- a word that was written with what is left of five bytes behind it
 pub truth_written : (truth : Bool) (old new five : List ℕ) (at less end : ℕ) → at ≤ length old → length five ≡ 5

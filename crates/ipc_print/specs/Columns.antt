@@ -8,7 +8,8 @@ use Rattle.ipc_model.specs.declared.schema.IntBits.TheVariants.{B64}
 use Rattle.ipc_model.specs.declared.schema.Field.{Field, out-Field}
 use Rattle.ipc_model.specs.declared.value.Value.{Value}
 use Rattle.ipc_model.specs.declared.value.Value.TheVariants.{Int}
-use Rattle.csv.specs.Writing.{default_writer, row_text}
+use Rattle.csv.specs.Writing.{row_text}
+use Rattle.ipc_csv.specs.Dialects.{writer}
 use Rattle.ipc_print.specs.Rows.{cell_text}
 
 -- a column of signed 64-bit numbers, without a dictionary (Schema.fbs, table Int)
@@ -25,9 +26,9 @@ AreShownColumns fields = AllByRecursion IsShownColumn fields
 abbrev pub number_in : List ℕ → Value
 number_in bytes = Int (cast_signed w64 (from_le_bytes w64 bytes))
 
--- a CSV record of signed numbers (RFC 4180)
-abbrev pub number_record : List Value → List ℕ
-number_record row = row_text default_writer (map cell_text row)
+-- a CSV record of signed numbers (RFC 4180), with this delimiter between them
+abbrev pub number_record : ℕ → List Value → List ℕ
+number_record delimiter row = row_text (writer delimiter) (map cell_text row)
 
 -- the numbers of one column of the rows, eight bytes each
 pub record IsLane (rows : List (List Value)) (column : ℕ) (lane : List (List ℕ)) : Type 0 where

@@ -27,14 +27,14 @@ text_or_none (Err fault) = []
 -- column
 abbrev pub form_fault : Form → List Field → Option TextFault
 form_fault Counts fields = None
-form_fault (Rows pairs) fields = None
-form_fault Records fields = flat_fault fields
+form_fault (Rows shape pairs) fields = None
+form_fault (Records d) fields = flat_fault fields
 
 -- the text before the rows: the schema as JSON before the counts, and a header in CSV
 abbrev pub front_text : Form → Schema → List ℕ
 front_text Counts s = schema_text s ++ 10 ∷ []
-front_text (Rows pairs) s = []
-front_text Records s = text_or_none (header_text s.fields)
+front_text (Rows shape pairs) s = []
+front_text (Records d) s = text_or_none (header_text d s.fields)
 
 -- the line of a batch's pairs: a JSON object with the one member `metadata`
 abbrev pub pairs_line : List (List ℕ × List ℕ) → List ℕ
@@ -43,27 +43,27 @@ pairs_line pairs = codes "{\"metadata\":" ++ pairs_text pairs ++ codes "}\n"
 -- the text before a batch's rows: the line of its pairs, if rows are printed with pairs
 abbrev pub head_of : Form → List (List ℕ × List ℕ) → List ℕ
 head_of Counts pairs = []
-head_of (Rows true) pairs = pairs_line pairs
-head_of (Rows false) pairs = []
-head_of Records pairs = []
+head_of (Rows shape true) pairs = pairs_line pairs
+head_of (Rows shape false) pairs = []
+head_of (Records d) pairs = []
 
 -- the text of a row: its JSON text and a line feed, or its record in CSV, if it has one
 abbrev pub line_of : Form → List Field → List Value → List ℕ
 line_of Counts fields row = []
-line_of (Rows pairs) fields row = row_text fields row ++ 10 ∷ []
-line_of Records fields row = text_or_none (row_csv fields row)
+line_of (Rows shape pairs) fields row = row_text shape fields row ++ 10 ∷ []
+line_of (Records d) fields row = text_or_none (row_csv d fields row)
 
 -- why a row cannot be printed: CSV has no record for it
 abbrev pub Lacks : Form → List Field → List Value → TextFault → Type 0
 Lacks Counts fields row fault = ⊥
-Lacks (Rows pairs) fields row fault = ⊥
-Lacks Records fields row fault = row_csv fields row ≡ Err fault
+Lacks (Rows shape pairs) fields row fault = ⊥
+Lacks (Records d) fields row fault = row_csv d fields row ≡ Err fault
 
 -- the row can be printed: JSON has a text for each row; CSV must have a record for this one
 abbrev pub HasLine : Form → List Field → List Value → Type 0
 HasLine Counts fields row = ⊤
-HasLine (Rows pairs) fields row = ⊤
-HasLine Records fields row = row_csv fields row ≡ Ok (line_of Records fields row)
+HasLine (Rows shape pairs) fields row = ⊤
+HasLine (Records d) fields row = row_csv d fields row ≡ Ok (line_of (Records d) fields row)
 
 -- each of the rows can be printed
 abbrev pub HaveLines : Form → List Field → List (List Value) → Type 0
@@ -99,8 +99,8 @@ counts_text end bytes batches rows =
 -- the text at the end of a stream with this many bytes, batches and rows
 abbrev pub tail_of : Form → End → ℕ → ℕ → ℕ → List ℕ
 tail_of Counts end bytes batches rows = counts_text end bytes batches rows
-tail_of (Rows pairs) end bytes batches rows = []
-tail_of Records end bytes batches rows = []
+tail_of (Rows shape pairs) end bytes batches rows = []
+tail_of (Records d) end bytes batches rows = []
 
 -- the text at the end of a stream with these batches; a count stops at 2^64 - 1
 abbrev pub tail_text : Form → End → ℕ → List BatchRows → List ℕ

@@ -2,10 +2,12 @@ pub mod Columns
 pub mod LentRows
 pub mod Digits
 pub mod Escaped
+pub mod FirstRows
 pub mod Forms
 pub mod Kinds
 pub mod Entries
 pub mod Output
+pub mod RowTexts
 pub mod Rows
 pub mod Streams
 pub mod TreeFalls

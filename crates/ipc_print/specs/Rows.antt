@@ -33,10 +33,14 @@ text_in _ = []
 abbrev pub cell_text : Value → List ℕ
 cell_text value = text_in (out-Value value)
 
--- the text between n values and the next one: a comma, or nothing if n is 0
+-- the text between n values and the next one: this byte, or nothing if n is 0
+abbrev pub separator : ℕ → ℕ → List ℕ
+separator byte zero = []
+separator byte (suc n) = byte ∷ []
+
+-- the text between n values and the next one in JSON: a comma, or nothing if n is 0
 abbrev pub comma : ℕ → List ℕ
-comma zero = []
-comma (suc n) = codes ","
+comma n = separator 44 n
 
 -- values, each after a comma
 abbrev pub behind_commas : List Value → List ℕ

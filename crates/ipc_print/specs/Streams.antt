@@ -34,6 +34,7 @@ use Rattle.ipc_print.specs.declared.stop.Stop.TheVariants as stop
 use Rattle.ipc_print.specs.declared.stop.Outcome.{Outcome}
 use Rattle.ipc_print.specs.declared.stop.Tally.{Tally}
 use Rattle.ipc_print.specs.declared.stop.Outcome.TheVariants as o
+use Rattle.ipc_print.specs.FirstRows.{within, AreWanted, HasReached, IsBelow, IsWithin}
 use Rattle.ipc_print.specs.Forms.{form_fault, front_text, head_of, line_of, HaveLines, IsTail}
 use Rattle.ipc_print.specs.Forms.{row_count, tail_of, tail_text}
 use Rattle.ipc_print.specs.Forms.{HaveAllLines, Refuses}
@@ -59,8 +60,9 @@ as_required true (Ok Closed) = Err Truncated
 as_required false (Ok Closed) = Ok Closed
 
 -- the bytes that were taken denote a table and its end, which is the end mark if that is required,
--- and exactly its text was printed: the front, the rows in order, and the text at the end
-pub record PrintsTable (form : Form) (mark : Bool) (limits : Limits)
+-- and exactly its text was printed: the front, the rows in order, and the text at the end. Under a
+-- limit, the table has fewer rows
+pub record PrintsTable (options : PrintOptions) (limits : Limits)
     (old new written_old written_new : Option (List ℕ)) : Type 0 where
   pub x : List ℕ
   pub table : Table
@@ -68,48 +70,71 @@ pub record PrintsTable (form : Form) (mark : Bool) (limits : Limits)
   pub bytes : Consumes old new x
   pub denotes : Denotes limits x table end
   pub closed : end ≡ Closed → IsAtEnd new
-  pub marked : IsTrue mark → end ≡ Mark
-  pub fits : form_fault form table.schema.fields ≡ None
-  pub rows : HaveAllLines form table.schema.fields table.batches
-  pub text : Appends written_old written_new (printed form table.schema table.batches
-      ++ tail_text form end (count_up 0 (length x)) table.batches)
+  pub marked : IsTrue options.require_mark → end ≡ Mark
+  pub below : IsBelow options.limit (row_count table.batches)
+  pub fits : form_fault options.form table.schema.fields ≡ None
+  pub rows : HaveAllLines options.form table.schema.fields table.batches
+  pub text : Appends written_old written_new (printed options.form table.schema table.batches
+      ++ tail_text options.form end (count_up 0 (length x)) table.batches)
+
+-- the bytes that were taken are the messages of a schema, and of batches up to that one in which
+-- the rows reach the limit. Exactly the text of these rows was printed: the front, and the rows up
+-- to the limit in order
+pub record PrintsFirst (options : PrintOptions) (limits : Limits)
+    (old new written_old written_new : Option (List ℕ)) : Type 0 where
+  pub x : List ℕ
+  pub table : Table
+  pub state : State
+  pub bytes : Consumes old new x
+  pub run : Run limits None x (events_of table) state
+  pub reached : HasReached options.limit (row_count table.batches)
+  pub wanted : AreWanted options.limit table.batches
+  pub fits : form_fault options.form table.schema.fields ≡ None
+  pub rows : HaveAllLines options.form table.schema.fields (within options.limit table.batches)
+  pub text : Appends written_old written_new
+      (printed options.form table.schema (within options.limit table.batches))
 
 -- why a stream is not read to its end, what was printed before, and the number of the message at
 -- which reading broke off: the count of the messages before it
-pub data Breaks (form : Form) (mark : Bool) (limits : Limits)
+pub data Breaks (options : PrintOptions) (limits : Limits)
     (old new written_old written_new : Option (List ℕ)) (fault : Fault) (message : ℕ) : Type 0 where
   -- no schema was read, and nothing was printed
   unopened : (x : List ℕ) → Consumes old new x → Reads limits None x new [] (Err fault)
       → message ≡ 0 → Keeps written_old written_new
-      → Breaks form mark limits old new written_old written_new fault message
+      → Breaks options limits old new written_old written_new fault message
   -- reading broke off after a schema and batches, whose text was printed, or it ended there without
-  -- the mark that is required; the messages that were read are counted, the schema's included
+  -- the mark that is required; the messages that were read are counted, the schema's included. The
+  -- rows are below the limit
   broken : (x y : List ℕ) (table : Table) (answer : Result End Fault) → Consumes old new (x ++ y)
       → OpensStream limits table.schema x
       → (reads : Reads limits (Some (begun table.schema)) y new (map batch table.batches)
-      answer) → as_required mark answer ≡ Err fault → message ≡ count_up 1 (messages_in reads.run)
-      → HaveAllLines form table.schema.fields table.batches
-      → Appends written_old written_new (printed form table.schema table.batches)
-      → Breaks form mark limits old new written_old written_new fault message
+      answer) → as_required options.require_mark answer ≡ Err fault
+      → message ≡ count_up 1 (messages_in reads.run)
+      → IsBelow options.limit (row_count table.batches)
+      → HaveAllLines options.form table.schema.fields table.batches
+      → Appends written_old written_new (printed options.form table.schema table.batches)
+      → Breaks options limits old new written_old written_new fault message
 
 -- why a table that is read is not printed to its end, and what was printed before
-pub data Stops (form : Form) (limits : Limits) (old new written_old written_new : Option (List ℕ))
-    (fault : TextFault) : Type 0 where
+pub data Stops (options : PrintOptions) (limits : Limits)
+    (old new written_old written_new : Option (List ℕ)) (fault : TextFault) : Type 0 where
   -- the columns cannot be printed in this form
   unfit : (x : List ℕ) (s : Schema) (σ : State) → Consumes old new x
-      → Run limits None x (schema s ∷ []) σ → form_fault form s.fields ≡ Some fault
-      → Keeps written_old written_new → Stops form limits old new written_old written_new fault
-  -- a row of the last batch that was read has no text; all the text before it was printed
+      → Run limits None x (schema s ∷ []) σ → form_fault options.form s.fields ≡ Some fault
+      → Keeps written_old written_new → Stops options limits old new written_old written_new fault
+  -- a row of the last batch that was read, below the limit, has no text; all the text before it was
+  -- printed
   refused : (x : List ℕ) (table : Table) (last : BatchRows) (count : ℕ) (σ : State)
       → Consumes old new x
       → Run limits None x (events_of table ++ batch last ∷ []) σ
-      → HaveAllLines form table.schema.fields table.batches
-      → Refuses form table.schema.fields last.rows count fault
+      → IsBelow options.limit (row_count table.batches + count)
+      → HaveAllLines options.form table.schema.fields table.batches
+      → Refuses options.form table.schema.fields last.rows count fault
       → Appends written_old written_new
-      (printed form table.schema table.batches
-      ++ (head_of form last.pairs
-      ++ lines (line_of form table.schema.fields) (take count last.rows)))
-      → Stops form limits old new written_old written_new fault
+      (printed options.form table.schema table.batches
+      ++ (head_of options.form last.pairs
+      ++ lines (line_of options.form table.schema.fields) (take count last.rows)))
+      → Stops options limits old new written_old written_new fault
 
 -- after these batches either nothing was taken, or the end of the stream; or none of their text is
 -- missing
@@ -117,25 +142,28 @@ abbrev pub AreLast : Limits → State → List ℕ → Option (List ℕ) → Lis
 AreLast limits σ rest left missing = (rest ≡ []) ⊎ ((missing ≡ [])
     ⊎ ((end : End) × Ends limits σ rest left (Ok end)))
 
--- for each result: a beginning of the text of batches that were read was printed. What is missing
--- is at most the text of the last of them and of the end, and no batch was read behind one whose
--- text is missing in part
-pub data PrintsSome (form : Form) (limits : Limits) (old new written_old written_new : Option
-    (List ℕ)) : Type 0 where
+-- for each result: a beginning of the text of batches that were read was printed, up to the limit.
+-- What is missing is at most the text of the last of them and of the end. No batch was read behind
+-- one whose text is missing in part, and none behind the limit
+pub data PrintsSome (options : PrintOptions) (limits : Limits)
+    (old new written_old written_new : Option (List ℕ)) : Type 0 where
   -- no schema was read
   unread : (x : List ℕ) (fault : Fault) → Consumes old new x
       → Reads limits None x new [] (Err fault) → Keeps written_old written_new
-      → PrintsSome form limits old new written_old written_new
+      → PrintsSome options limits old new written_old written_new
   -- the schema alone was read, and nothing was printed
   alone : (x : List ℕ) (s : Schema) (σ : State) → Consumes old new x
       → Run limits None x (schema s ∷ []) σ → Keeps written_old written_new
-      → PrintsSome form limits old new written_old written_new
+      → PrintsSome options limits old new written_old written_new
   some : (x rest behind tail : List ℕ) (table : Table) (σ : State) → Consumes old new (x ++ rest)
-      → Run limits None x (events_of table) σ → IsTail form table.batches tail
-      → Grows written_old [] written_new behind (printed form table.schema table.batches ++ tail)
-      → length behind ≤ length (last_printed form table.schema table.batches ++ tail)
+      → Run limits None x (events_of table) σ → IsWithin options.limit table.batches rest tail
+      → IsTail options.form table.batches tail
+      → Grows written_old [] written_new behind
+      (printed options.form table.schema (within options.limit table.batches) ++ tail)
+      → length behind
+      ≤ length (last_printed options.form table.schema (within options.limit table.batches) ++ tail)
       → AreLast limits σ rest new behind
-      → PrintsSome form limits old new written_old written_new
+      → PrintsSome options limits old new written_old written_new
 
 -- the exit status of a refusal of texts
 abbrev pub text_status : TextFault → ℕ
@@ -175,18 +203,19 @@ TellsFailures source_old source_new sink_old sink_new (Err (stop.Text fault)) =
 TellsFailures source_old source_new sink_old sink_new (Err (stop.Write fault)) =
     (source_old ≡ 0) × (fault ≢ w.Write → source_new ≡ 0) × TellsSink sink_old sink_new fault
 
--- what a result states about a stream that is printed; if printing stopped, a beginning of the text
--- was printed
+-- what a result states about a stream that is printed. At Ok the whole table was printed, or its
+-- rows up to the limit; if printing stopped, a beginning of the text was printed
 abbrev pub Prints : PrintOptions → Limits → Option (List ℕ) → Option (List ℕ) → Option (List ℕ)
     → Option (List ℕ) → Result ⊤ Stop → Type 0
 Prints options limits old new written_old written_new (Ok done) =
-    PrintsTable options.form options.require_mark limits old new written_old written_new
+    PrintsTable options limits old new written_old written_new
+    ⊎ PrintsFirst options limits old new written_old written_new
 Prints options limits old new written_old written_new (Err (stop.Read fault message)) =
-    Breaks options.form options.require_mark limits old new written_old written_new fault message
+    Breaks options limits old new written_old written_new fault message
 Prints options limits old new written_old written_new (Err (stop.Text fault)) =
-    Stops options.form limits old new written_old written_new fault
+    Stops options limits old new written_old written_new fault
 Prints options limits old new written_old written_new (Err (stop.Write fault)) =
-    (write_fault_status fault ≢ 1) × PrintsSome options.form limits old new written_old written_new
+    (write_fault_status fault ≢ 1) × PrintsSome options limits old new written_old written_new
 
 -- the line of a schema: its JSON text and a line feed
 abbrev pub schema_line : Schema → List ℕ
@@ -218,24 +247,35 @@ AnswersSchema s written_old written_new (Err (stop.Read fault message)) = IsOuts
 AnswersSchema s written_old written_new (Err (stop.Text fault)) = ⊥
 AnswersSchema s written_old written_new (Err (stop.Write fault)) = write_fault_status fault ≢ 1
 
--- the columns of a table cannot be printed in the form, or some row cannot, which is the first one
--- of its batch
-abbrev pub LacksText : Form → Table → TextFault → Type 0
-LacksText form t fault = (form_fault form t.schema.fields ≡ Some fault)
-    ⊎ ((b : BatchRows) × ((count : ℕ)
-    × (Contains t.batches b × Refuses form t.schema.fields b.rows count fault)))
+-- the columns of a table cannot be printed in the form, or some row up to the limit cannot, which
+-- is the first one of its batch
+abbrev pub LacksText : PrintOptions → Table → TextFault → Type 0
+LacksText options t fault = (form_fault options.form t.schema.fields ≡ Some fault)
+    ⊎ ((b : BatchRows) × ((count : ℕ) × (Contains (within options.limit t.batches) b
+    × Refuses options.form t.schema.fields b.rows count fault)))
+
+-- the whole text of a table and its end, of this many bytes, was printed; if its rows reach the
+-- limit, the text of the rows up to it
+abbrev pub PrintsText : PrintOptions → Table → End → ℕ → Option (List ℕ) → Option (List ℕ) → Type 0
+PrintsText options t end bytes written_old written_new =
+    (IsBelow options.limit (row_count t.batches)
+    × Appends written_old written_new (printed options.form t.schema t.batches
+    ++ tail_text options.form end (count_up 0 bytes) t.batches))
+    ⊎ (HasReached options.limit (row_count t.batches)
+    × Appends written_old written_new
+    (printed options.form t.schema (within options.limit t.batches)))
 
 -- the result if the source contains a table and its end, of this many bytes, and does not fail. The
 -- text was printed, or the fault is in the table, or the sink failed or memory ran out
-abbrev pub AnswersTable : Form → Table → End → ℕ → Option (List ℕ) → Option (List ℕ)
+abbrev pub AnswersTable : PrintOptions → Table → End → ℕ → Option (List ℕ) → Option (List ℕ)
     → Result ⊤ Stop → Type 0
-AnswersTable form t end bytes written_old written_new (Ok done) = Appends written_old written_new
-    (printed form t.schema t.batches ++ tail_text form end (count_up 0 bytes) t.batches)
-AnswersTable form t end bytes written_old written_new (Err (stop.Read fault message)) =
+AnswersTable options t end bytes written_old written_new (Ok done) =
+    PrintsText options t end bytes written_old written_new
+AnswersTable options t end bytes written_old written_new (Err (stop.Read fault message)) =
     fault ≡ OutOfMemory
-AnswersTable form t end bytes written_old written_new (Err (stop.Text fault)) =
-    LacksText form t fault
-AnswersTable form t end bytes written_old written_new (Err (stop.Write fault)) =
+AnswersTable options t end bytes written_old written_new (Err (stop.Text fault)) =
+    LacksText options t fault
+AnswersTable options t end bytes written_old written_new (Err (stop.Write fault)) =
     write_fault_status fault ≢ 1
 
 -- ---- the steps in between
@@ -245,25 +285,27 @@ abbrev pub IsTally : Tally → List BatchRows → Type 0
 IsTally tally batches = (tally.batches ≡ count_up 0 (length batches))
     × (tally.rows ≡ count_up 0 (row_count batches))
 
--- the text at the end, for an outcome of printing rows and this many bytes; none if reading broke
--- off or a row was refused
+-- the text at the end, for an outcome of printing rows and this many bytes; none if the limit was
+-- reached, reading broke off or a row was refused
 abbrev pub outcome_tail : Form → Outcome → ℕ → List ℕ
 outcome_tail form (o.Whole end tally) bytes = tail_of form end bytes tally.batches tally.rows
+outcome_tail form o.Limited bytes = []
 outcome_tail form (o.Broken fault) bytes = []
 outcome_tail form (o.Refused fault) bytes = []
 
 -- the stream was read to its end
 abbrev pub IsWhole : Outcome → Type 0
 IsWhole (o.Whole end tally) = ⊤
+IsWhole o.Limited = ⊥
 IsWhole (o.Broken fault) = ⊥
 IsWhole (o.Refused fault) = ⊥
 
-module _ (form : Form) (front : List ℕ) (old new : Reader) (before : Output) where
+module _ (options : PrintOptions) (front : List ℕ) (old new : Reader) (before : Output) where
   abbrev line : List Value → List ℕ
-  line = line_of form old.schema.fields
+  line = line_of options.form old.schema.fields
 
-  -- the batches that were read after the schema, how reading ended, and that their rows were put
-  -- after `front`; nothing of them is kept
+  -- the batches that were read after the schema, how reading ended below the limit, and that their
+  -- rows were put after `front`; nothing of them is kept
   pub record PrintsRows (after : Output) (answer : Result End Fault) : Type 0 where
     pub x : List ℕ
     pub batches : List BatchRows
@@ -274,12 +316,28 @@ module _ (form : Form) (front : List ℕ) (old new : Reader) (before : Output) w
         (k : ℕ) → old.taken ≡ count_up 0 k → new.taken ≡ count_up 0 (k + length x)
     pub numbered : (k : ℕ) → old.messages ≡ count_up 0 k → new.messages ≡ count_up 0 (k
         + messages_in reads.run)
-    pub have : HaveAllLines form old.schema.fields batches
-    pub puts : Puts before after (front ++ batch_lines (head_of form) line batches)
+    pub below : IsBelow options.limit (row_count batches)
+    pub have : HaveAllLines options.form old.schema.fields batches
+    pub puts : Puts before after (front ++ batch_lines (head_of options.form) line batches)
     pub sent : after.kept ≡ []
 
-  -- the batches that were read after the schema, and a row of the last of them that cannot be
-  -- printed; all text before it was put, and at most that of the last batch is kept
+  -- the batches that were read after the schema, whose rows reach the limit, and that the rows up
+  -- to it were put after `front`; nothing of them is kept
+  pub record PrintsLimited (after : Output) : Type 0 where
+    pub x : List ℕ
+    pub batches : List BatchRows
+    pub bytes : Consumes old.remaining new.remaining x
+    pub state : State
+    pub run : Run old.limits (Some (in_force_of old)) x (map batch batches) state
+    pub reached : HasReached options.limit (row_count batches)
+    pub wanted : AreWanted options.limit batches
+    pub have : HaveAllLines options.form old.schema.fields (within options.limit batches)
+    pub puts : Puts before after
+        (front ++ batch_lines (head_of options.form) line (within options.limit batches))
+    pub sent : after.kept ≡ []
+
+  -- the batches that were read after the schema, and a row of the last of them, below the limit,
+  -- that cannot be printed; all text before it was put, and at most that of the last batch is kept
   pub record RefusesRow (after : Output) (fault : TextFault) : Type 0 where
     pub x : List ℕ
     pub batches : List BatchRows
@@ -288,13 +346,14 @@ module _ (form : Form) (front : List ℕ) (old new : Reader) (before : Output) w
     pub bytes : Consumes old.remaining new.remaining x
     pub state : State
     pub run : Run old.limits (Some (in_force_of old)) x (map batch (batches ++ last ∷ [])) state
-    pub have : HaveAllLines form old.schema.fields batches
-    pub refuses : Refuses form old.schema.fields last.rows count fault
+    pub below : IsBelow options.limit (row_count batches + count)
+    pub have : HaveAllLines options.form old.schema.fields batches
+    pub refuses : Refuses options.form old.schema.fields last.rows count fault
     pub puts : Puts before after
-        ((front ++ batch_lines (head_of form) line batches)
-        ++ (head_of form last.pairs ++ lines line (take count last.rows)))
-    pub few :
-        length after.kept ≤ length (head_of form last.pairs ++ lines line (take count last.rows))
+        ((front ++ batch_lines (head_of options.form) line batches)
+        ++ (head_of options.form last.pairs ++ lines line (take count last.rows)))
+    pub few : length after.kept ≤ length
+        (head_of options.form last.pairs ++ lines line (take count last.rows))
 
   -- batches that were read after the schema; the output failed while `front`, their text or the
   -- text at the end was put, and only the last part of it is missing
@@ -309,11 +368,14 @@ module _ (form : Form) (front : List ℕ) (old new : Reader) (before : Output) w
     pub state : State
     pub run : Run old.limits (Some (in_force_of old)) whole (map batch batches) state
     pub tail : List ℕ
-    pub ends : IsTail form batches tail
+    pub inside : IsWithin options.limit batches rest tail
+    pub ends : IsTail options.form batches tail
     pub puts :
         PutFails before written failures
-        ((front ++ batch_lines (head_of form) line batches) ++ tail) fault
-    pub few : length puts.behind ≤ length (last_lines front (head_of form) line batches ++ tail)
+        ((front ++ batch_lines (head_of options.form) line (within options.limit batches)) ++ tail)
+        fault
+    pub few : length puts.behind ≤ length
+        (last_lines front (head_of options.form) line (within options.limit batches) ++ tail)
     pub last : AreLast old.limits state rest new.remaining puts.behind
     pub works : fault ≢ p.Write → old.failures ≡ 0 → new.failures ≡ 0
 
@@ -322,7 +384,7 @@ module _ (form : Form) (front : List ℕ) (old new : Reader) (before : Output) w
   pub record PrintsWhole (after : Output) (end : End) : Type 0 where
     pub middle : Output
     pub rows : PrintsRows middle (Ok end)
-    pub tail : Puts middle after (tail_text form end new.taken rows.batches)
+    pub tail : Puts middle after (tail_text options.form end new.taken rows.batches)
 
 -- the columns cannot be printed in the form; nothing was taken and nothing was printed
 pub record Unfit (form : Form) (old new : Reader) (before after : Output)
@@ -335,24 +397,26 @@ pub record Unfit (form : Form) (old new : Reader) (before after : Output)
 abbrev pub PrintsBatches : PrintOptions → List ℕ → Reader → Reader → Output → Output
     → Result Outcome PrintFault → Type 0
 PrintsBatches options front old new before after (Ok (o.Whole end tally)) =
-    ((rows : PrintsRows options.form front old new before after (Ok end))
+    ((rows : PrintsRows options front old new before after (Ok end))
     × IsTally tally rows.batches) × (IsTrue options.require_mark → end ≡ Mark)
     × (old.failures ≡ 0 → new.failures ≡ 0)
+PrintsBatches options front old new before after (Ok o.Limited) =
+    PrintsLimited options front old new before after × (old.failures ≡ 0 → new.failures ≡ 0)
 PrintsBatches options front old new before after (Ok (o.Broken fault)) =
-    (answer : Result End Fault) × PrintsRows options.form front old new before after answer
+    (answer : Result End Fault) × PrintsRows options front old new before after answer
     × (as_required options.require_mark answer ≡ Err fault)
     × Tells old.failures new.failures fault
 PrintsBatches options front old new before after (Ok (o.Refused fault)) =
-    RefusesRow options.form front old new before after fault
+    RefusesRow options front old new before after fault
     × (old.failures ≡ 0 → new.failures ≡ 0)
 PrintsBatches options front old new before after (Err fault) =
-    PrintsPart options.form front old new before after.written after.failures fault
+    PrintsPart options front old new before after.written after.failures fault
 
 -- what a result states about the rows and the text at the end that are printed after `front`
 abbrev pub PrintsAll : PrintOptions → List ℕ → Reader → Reader → Output → Output
     → Result Outcome PrintFault → Type 0
 PrintsAll options front old new before after (Ok (o.Whole end tally)) =
-    PrintsWhole options.form front old new before after end
+    PrintsWhole options front old new before after end
     × (IsTrue options.require_mark → end ≡ Mark) × (old.failures ≡ 0 → new.failures ≡ 0)
 PrintsAll options front old new before after answer =
     PrintsBatches options front old new before after answer
@@ -366,19 +430,20 @@ write_fault p.OutOfMemory = w.OutOfMemory
 abbrev pub PrintsStream : PrintOptions → Reader → Reader → Output → Output → Result ⊤ Stop → Type 0
 PrintsStream options old new before after (Ok done) =
     (form_fault options.form old.schema.fields ≡ None)
-    × ((end : End) × PrintsWhole options.form (front_text options.form old.schema) old new before
-    after end × (IsTrue options.require_mark → end ≡ Mark))
+    × (((end : End) × PrintsWhole options (front_text options.form old.schema) old new before after
+    end × (IsTrue options.require_mark → end ≡ Mark))
+    ⊎ PrintsLimited options (front_text options.form old.schema) old new before after)
 PrintsStream options old new before after (Err (stop.Read fault message)) =
     (answer : Result End Fault)
-    × PrintsRows options.form (front_text options.form old.schema) old new before after answer
+    × PrintsRows options (front_text options.form old.schema) old new before after answer
     × (as_required options.require_mark answer ≡ Err fault)
     × Tells old.failures new.failures fault × (message ≡ new.messages)
 PrintsStream options old new before after (Err (stop.Text fault)) =
     Unfit options.form old new before after fault
-    ⊎ RefusesRow options.form (front_text options.form old.schema) old new before after fault
+    ⊎ RefusesRow options (front_text options.form old.schema) old new before after fault
 PrintsStream options old new before after (Err (stop.Write fault)) =
     (why : PrintFault) × (fault ≡ write_fault why)
-    × PrintsPart options.form (front_text options.form old.schema) old new before after.written
+    × PrintsPart options (front_text options.form old.schema) old new before after.written
     after.failures why
 
 -- the result of printing a batch: its head and all its rows were put, or those before the first one

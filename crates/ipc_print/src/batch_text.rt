@@ -1,6 +1,8 @@
 //! The rows of a batch as text, in each form.
-ghost use Rattle.std.specs.Prelude.{◌≡◌, [], length, Bool, IfOk, IsTrue, None};
+ghost use Rattle.std.specs.Prelude.{◌≡◌, ◌≤◌, [], length, take, Bool, IfOk, IfSome, IsSome, IsTrue};
+ghost use Rattle.std.specs.Prelude.{None};
 ghost use Rattle.ipc_csv.specs.RowCsv.{flat_fault};
+ghost use Rattle.ipc_json.specs.declared.row.RowShape.TheVariants.{Array};
 ghost use Rattle.ipc_print.specs.Columns.{AreShownColumns};
 ghost use Rattle.ipc_print.specs.LentRows.{AreColumns};
 ghost use Rattle.ipc_print.specs.Forms.{form_fault, head_of, pairs_line};
@@ -14,7 +16,8 @@ use crate::line::{LINE, fitted_line_of};
 use crate::rows::{Lines, PrintFault, numbers_of};
 use crate::types::are_numbers;
 use ipc_column::Batch;
-use ipc_json::pairs_json;
+use ipc_csv::Dialect;
+use ipc_json::{RowShape, pairs_json};
 use ipc_model::{Field, Text};
 use ipc_moments::TextFault;
 use ipc_stream::Sink;
@@ -32,24 +35,26 @@ fn columns_of(alloc: Global, batch: &Batch) -> Result<Vec<Column<'_>>, AllocErro
     Ok(columns)
 }
 
-// Adds the rows of a batch, line by line, as `print_batch`.
+// Adds the first `count` rows of a batch, line by line, as `print_batch`.
 fn print_lines<W: Sink>(
     alloc: Global,
-    form: Form,
+    form: Form<'_>,
     fields: &[Field],
     batch: &Batch,
+    count: usize,
     lines: &mut Lines,
     sink: &mut W,
 ) -> Result<Option<TextFault>, PrintFault>
     requires columns { batch.now.columns ≡ length fields.now }
+    requires count { count ≤ length batch.now.rows }
     requires fits { form_fault form fields.now ≡ None }
-    ensures { PutsRows form fields.now [] batch.now.rows
+    ensures { PutsRows form.entry fields.now [] (take count batch.now.rows)
         (output (W.written sink.old) (W.failures sink.old) lines.old) (W.written sink.new)
         (W.failures sink.new) lines.new result }
 {
     let columns = columns_of(alloc, batch)?;
     let mut text = vec![in alloc; 0u8; LINE]?;
-    for row in 0..batch.rows() {
+    for row in 0..count {
         if lines.put_line(form, fields, &columns, row) {
             continue;
         }
@@ -64,18 +69,24 @@ fn print_lines<W: Sink>(
 }
 
 // Whether nothing is printed of a row.
-fn is_silent(form: Form) -> bool
-    ensures { IsTrue result → form ≡ Form.Counts }
+fn is_silent(form: Form<'_>) -> bool
+    ensures { IsTrue result → form.entry ≡ Form.Counts }
 {
     matches!(form, Form::Counts)
 }
 
 // Whether rows of these columns are printed in bulk.
-fn is_numeric(form: Form, fields: &[Field]) -> bool
-    ensures rows { IsTrue result → (pairs : Bool) × (form ≡ Form.Rows pairs) }
+fn is_numeric(form: Form<'_>, fields: &[Field]) -> bool
+    ensures rows { IsTrue result → (pairs : Bool) × (form.entry ≡ Form.Rows Array pairs) }
     ensures shown { IsTrue result → AreShownColumns fields.now }
 {
-    matches!(form, Form::Rows { .. }) && are_numbers(fields)
+    matches!(
+        form,
+        Form::Rows {
+            shape: RowShape::Array,
+            ..
+        }
+    ) && are_numbers(fields)
 }
 
 // The line of a batch's pairs: a JSON object with the one member `metadata`.
@@ -89,18 +100,26 @@ fn line_of_pairs(alloc: Global, pairs: &[(Text, Text)]) -> Result<Vec<u8>, TextF
     Ok(line)
 }
 
-// Whether rows of these columns are printed as records of numbers.
-fn is_recorded(form: Form, fields: &[Field]) -> bool
-    ensures form { IsTrue result → form ≡ Form.Records }
-    ensures shown { IsTrue result → AreShownColumns fields.now }
+// The dialect of CSV in which rows of these columns are printed as records of numbers, if they are.
+fn recorded<'a>(form: Form<'a>, fields: &[Field]) -> Option<Dialect<'a>>
+    ensures form { IfSome result (λ d. form.entry ≡ Form.Records d) }
+    ensures shown { IsSome result → AreShownColumns fields.now }
 {
-    matches!(form, Form::Records) && are_numbers(fields)
+    let Form::Records(dialect) = form else {
+        return None;
+    };
+    if are_numbers(fields) {
+        Some(dialect)
+    } else {
+        None
+    }
 }
 
 // Adds the rows of a batch of numbers as records of CSV: at once where each column lends its
 // numbers.
 fn print_records<W: Sink>(
     alloc: Global,
+    dialect: Dialect<'_>,
     fields: &[Field],
     batch: &Batch,
     lines: &mut Lines,
@@ -109,44 +128,52 @@ fn print_records<W: Sink>(
     requires columns { batch.now.columns ≡ length fields.now }
     requires fits { flat_fault fields.now ≡ None }
     requires shown { AreShownColumns fields.now }
-    ensures { PutsRows Form.Records fields.now [] batch.now.rows
+    ensures { PutsRows (Form.Records dialect.entry) fields.now [] batch.now.rows
         (output (W.written sink.old) (W.failures sink.old) lines.old) (W.written sink.new)
         (W.failures sink.new) lines.new result }
 {
     let _columns = batch.columns();
     match numbers_of(alloc, batch)? {
         Some(columns) => {
-            lines.put_records(sink, &columns, batch)?;
+            lines.put_records(sink, dialect, &columns, batch)?;
             Ok(None)
         }
-        None => print_lines(alloc, Form::Records, fields, batch, lines, sink),
+        None => print_lines(
+            alloc,
+            Form::Records(dialect),
+            fields,
+            batch,
+            batch.rows(),
+            lines,
+            sink,
+        ),
     }
 }
 
 // Adds what stands in front of a batch's rows.
 fn print_head<W: Sink>(
     alloc: Global,
-    form: Form,
+    form: Form<'_>,
     pairs: &[(Text, Text)],
     lines: &mut Lines,
     sink: &mut W,
 ) -> Result<(), PrintFault>
     ensures { PrintsAs (output (W.written sink.old) (W.failures sink.old) lines.old)
-        (W.written sink.new) (W.failures sink.new) lines.new (head_of form pairs.now) result }
+        (W.written sink.new) (W.failures sink.new) lines.new (head_of form.entry pairs.now) result }
 {
     match form {
-        Form::Rows { pairs: true } => match line_of_pairs(alloc, pairs) {
+        Form::Rows { pairs: true, .. } => match line_of_pairs(alloc, pairs) {
             Ok(line) => lines.put(sink, line.as_slice()),
             Err(_) => Err(PrintFault::OutOfMemory),
         },
-        Form::Counts | Form::Rows { pairs: false } | Form::Records => Ok(()),
+        Form::Counts | Form::Rows { pairs: false, .. } | Form::Records(_) => Ok(()),
     }
 }
 
-// Adds the rows of a batch, as `print_batch`.
-fn print_rows<W: Sink>(
+// Adds all rows of a batch, as `print_batch`.
+fn print_all<W: Sink>(
     alloc: Global,
-    form: Form,
+    form: Form<'_>,
     fields: &[Field],
     batch: &Batch,
     lines: &mut Lines,
@@ -155,47 +182,74 @@ fn print_rows<W: Sink>(
     requires columns { batch.now.columns ≡ length fields.now }
     requires fits { form_fault form fields.now ≡ None }
     requires numbers { AreShownColumns fields.now → AreShownRows batch.now.rows }
-    ensures { PutsRows form fields.now [] batch.now.rows
+    ensures { PutsRows form.entry fields.now [] batch.now.rows
+        (output (W.written sink.old) (W.failures sink.old) lines.old) (W.written sink.new)
+        (W.failures sink.new) lines.new result }
+{
+    if is_numeric(form, fields) {
+        let _columns = batch.columns();
+        lines.put_numbers(alloc, sink, batch)?;
+        return Ok(None);
+    }
+    if let Some(dialect) = recorded(form, fields) {
+        return print_records(alloc, dialect, fields, batch, lines, sink);
+    }
+    print_lines(alloc, form, fields, batch, batch.rows(), lines, sink)
+}
+
+// Adds the first `count` rows of a batch, as `print_batch`.
+fn print_rows<W: Sink>(
+    alloc: Global,
+    form: Form<'_>,
+    fields: &[Field],
+    batch: &Batch,
+    count: usize,
+    lines: &mut Lines,
+    sink: &mut W,
+) -> Result<Option<TextFault>, PrintFault>
+    requires columns { batch.now.columns ≡ length fields.now }
+    requires count { count ≤ length batch.now.rows }
+    requires fits { form_fault form fields.now ≡ None }
+    requires numbers { AreShownColumns fields.now → AreShownRows batch.now.rows }
+    ensures { PutsRows form.entry fields.now [] (take count batch.now.rows)
         (output (W.written sink.old) (W.failures sink.old) lines.old) (W.written sink.new)
         (W.failures sink.new) lines.new result }
 {
     if is_silent(form) {
         return Ok(None);
     }
-    if is_numeric(form, fields) {
-        let _columns = batch.columns();
-        lines.put_numbers(alloc, sink, batch)?;
-        return Ok(None);
+    if count < batch.rows() {
+        return print_lines(alloc, form, fields, batch, count, lines, sink);
     }
-    if is_recorded(form, fields) {
-        return print_records(alloc, fields, batch, lines, sink);
-    }
-    print_lines(alloc, form, fields, batch, lines, sink)
+    print_all(alloc, form, fields, batch, lines, sink)
 }
 
-/// Adds a batch in this form: its head, which tells its pairs where the form has them, and each of
-/// its rows. Answers why a row isn't added, if one isn't: X3 in CSV. Then the rows before it were
-/// added.
+/// Adds a batch in this form: its head, which has its pairs if the form prints them, and its first
+/// `count` rows. Returns why a row isn't added, if one isn't: X3 in CSV. Then the rows before it
+/// were added.
 ///
-/// The caller gives the fields of the batch's columns, which the form has a place for. `Write` is
-/// answered where the sink failed, and `OutOfMemory` where a line found no room; then a beginning
-/// of the batch's text went out, and what was kept is lost.
+/// The caller gives at most the number of the batch's rows, and the fields of the batch's columns,
+/// which the form has a place for. `Write` is returned if the sink failed, and `OutOfMemory` if a
+/// line found no room. Then a beginning of the batch's text went out, and what was kept is lost.
 pub fn print_batch<W: Sink>(
     alloc: Global,
-    form: Form,
+    form: Form<'_>,
     fields: &[Field],
     pairs: &[(Text, Text)],
     batch: &Batch,
+    count: usize,
     lines: &mut Lines,
     sink: &mut W,
 ) -> Result<Option<TextFault>, PrintFault>
     requires columns { batch.now.columns ≡ length fields.now }
+    requires count { count ≤ length batch.now.rows }
     requires fits { form_fault form fields.now ≡ None }
     requires numbers { AreShownColumns fields.now → AreShownRows batch.now.rows }
-    ensures { PutsRows form fields.now (head_of form pairs.now) batch.now.rows
+    ensures { PutsRows form.entry fields.now (head_of form.entry pairs.now) (take count
+        batch.now.rows)
         (output (W.written sink.old) (W.failures sink.old) lines.old) (W.written sink.new)
         (W.failures sink.new) lines.new result }
 {
     print_head(alloc, form, pairs, lines, sink)?;
-    print_rows(alloc, form, fields, batch, lines, sink)
+    print_rows(alloc, form, fields, batch, count, lines, sink)
 }

@@ -1,7 +1,7 @@
 //! A row of lent cells as a record of CSV.
 ghost use Rattle.std.specs.Prelude.{◌≡◌, ◌≤◌, ◌<◌, ◌+◌, ◌++◌, [], length, take, IfErr, IfOk};
 ghost use Rattle.std.specs.Prelude.{None, Ok, Some, slice_get, true};
-ghost use Rattle.csv.specs.Writing.{default_writer, next_sep};
+ghost use Rattle.csv.specs.Writing.{next_sep};
 ghost use Rattle.ipc_column.specs.Nested.{below, slot_values};
 ghost use Rattle.ipc_column.specs.Slots.{shown};
 ghost use Rattle.ipc_column.specs.Values.{row};
@@ -10,39 +10,42 @@ ghost use Rattle.ipc_print.specs.LentRows.{HaveRow, row_at};
 ghost use Rattle.ipc_model.specs.declared.schema.DataType.{DataType};
 ghost use Rattle.ipc_moments.specs.Moments.{moment_text};
 ghost use Rattle.ipc_csv.specs.RowCsv.{Appended, IsRefusal, LacksText, flat_fault, int_text};
-ghost use Rattle.ipc_csv.specs.RowCsv.{bool_text, null_text, put_texts, row_csv, text_in};
+ghost use Rattle.ipc_csv.specs.declared.dialect.Dialect.{Dialect};
+ghost use Rattle.ipc_csv.specs.Dialects.{writer};
+ghost use Rattle.ipc_csv.specs.RowCsv.{bool_text, put_texts, row_csv, text_in};
 ghost use Rattle.ipc_csv.specs.RowCsv.{with_field};
 
 use crate::column::Column;
 use crate::entry::Entry;
 use crate::fields::{
-    put_bytes_field, put_end, put_front_field, put_signed_field, put_text_field, put_unsigned_field,
+    put_bytes_field, put_end, put_front_field, put_null, put_signed_field, put_text_field,
+    put_unsigned_field,
 };
 use crate::kind::Kind;
 use crate::room::{put, reserve};
 use crate::tree::ColumnTree;
 use crate::truth::put_truth;
 use ipc_column::Slot;
+use ipc_csv::Dialect;
 use ipc_model::{DataType, Field, IntBits, Layout};
 use ipc_moments::TextFault;
-use std::alloc::AllocError;
 
-// More than a comma and any value but a text or bytes take.
+// More than a delimiter and any value but null, a text or bytes take.
 const ROOM: usize = 64;
 
-// The comma in front of the column with this number, of which the first has none.
+// The delimiter in front of the column with this number, of which the first has none.
 #[inline(always)]
-fn put_comma(text: &mut [u8], at: usize, column: usize) -> usize
+fn put_delimiter(text: &mut [u8], at: usize, delimiter: u8, column: usize) -> usize
     requires { at + 1 ≤ length text.old }
     ensures end { result ≤ at + 1 }
     ensures same_room { length text.new ≡ length text.old }
     ensures text { take result text.new
-        ≡ take at text.old ++ next_sep default_writer column }
+        ≡ take at text.old ++ next_sep (writer delimiter) column }
 {
     if column == 0 {
         return at;
     }
-    put(text, at, b",")
+    put(text, at, &[delimiter])
 }
 
 // A date, a time or a point in time.
@@ -56,7 +59,7 @@ fn put_moment(
 ) -> Result<usize, TextFault>
     requires { at + 32 ≤ length text.old }
     ensures inside { IfOk result (λ end. end ≤ length text.new) }
-    ensures ok { IfOk result (λ end. Appended (take at text.old)
+    ensures ok { (d : Dialect) → IfOk result (λ end. Appended d.delimiter (take at text.old)
         (moment_text kind.now number) (take end text.new)) }
     ensures refused { IfErr result (LacksText column (moment_text kind.now number)) }
 {
@@ -77,7 +80,7 @@ fn put_int(
 ) -> Result<usize, TextFault>
     requires { at + 32 ≤ length text.old }
     ensures inside { IfOk result (λ end. end ≤ length text.new) }
-    ensures ok { IfOk result (λ end. Appended (take at text.old)
+    ensures ok { (d : Dialect) → IfOk result (λ end. Appended d.delimiter (take at text.old)
         (int_text kind.now number) (take end text.new)) }
     ensures refused { IfErr result (LacksText column (int_text kind.now number)) }
 {
@@ -90,20 +93,11 @@ fn put_int(
 }
 
 #[inline(always)]
-fn put_null(text: &mut [u8], at: usize) -> usize
-    requires { at + 2 ≤ length text.old }
-    ensures inside { result ≤ length text.new }
-    ensures text { take result text.new ≡ with_field (take at text.old) null_text }
-{
-    put(text, at, b"\\N")
-}
-
-#[inline(always)]
 fn put_bool(text: &mut [u8], at: usize, truth: bool) -> usize
     requires { at + 5 ≤ length text.old }
     ensures inside { result ≤ length text.new }
-    ensures text { take result text.new
-        ≡ with_field (take at text.old) (bool_text truth) }
+    ensures text { (d : Dialect) → take result text.new
+        ≡ with_field d.delimiter (take at text.old) (bool_text truth) }
 {
     put_truth(text, at, truth)
 }
@@ -113,6 +107,7 @@ fn put_bool(text: &mut [u8], at: usize, truth: bool) -> usize
 fn put_held(
     text: &mut [u8],
     at: usize,
+    dialect: &Dialect<'_>,
     column: u64,
     kind: &DataType,
     tree: &ColumnTree<'_>,
@@ -124,18 +119,18 @@ fn put_held(
     requires held { slice_get (slot_values tree.now) slot
         ≡ Some (shown (row (below tree.now)) slot held) }
     ensures inside { IfOk result (λ end. end ≤ length text.new) }
-    ensures ok { IfOk result (λ end. Appended (take at text.old)
-        (text_in kind.now (slot_value tree.now slot)) (take end text.new)) }
+    ensures ok { IfOk result (λ end. Appended dialect.now.delimiter (take at text.old)
+        (text_in dialect.now kind.now (slot_value tree.now slot)) (take end text.new)) }
     ensures refused { IfErr result
-        (LacksText column (text_in kind.now (slot_value tree.now slot))) }
+        (LacksText column (text_in dialect.now kind.now (slot_value tree.now slot))) }
 {
     match held {
-        Slot::Null => Ok(put_null(text, at)),
+        Slot::Null => Ok(put_null(text, at, dialect)?),
         Slot::Bool(truth) => Ok(put_bool(text, at, truth)),
         Slot::Int(number) => put_int(text, at, column, kind, number),
         Slot::UInt(number) => Ok(put_unsigned_field(text, at, number)),
-        Slot::Bytes(bytes) => Ok(put_bytes_field(text, at, bytes)?),
-        Slot::Text(chars) => Ok(put_text_field(text, at, chars)?),
+        Slot::Bytes(bytes) => put_bytes_field(text, at, dialect, column, bytes),
+        Slot::Text(chars) => put_text_field(text, at, dialect, column, chars),
         // A record has no place for the values of a list or of a struct.
         Slot::List { .. } => Err(TextFault::NoTextForm { column }),
         Slot::Struct => Err(TextFault::NoTextForm { column }),
@@ -148,6 +143,7 @@ fn put_held(
 fn put_other(
     text: &mut [u8],
     at: usize,
+    dialect: &Dialect<'_>,
     column: u64,
     kind: &DataType,
     tree: &ColumnTree<'_>,
@@ -156,15 +152,15 @@ fn put_other(
     requires room { at + 32 ≤ length text.old }
     requires slot { slot < length (slot_values tree.now) }
     ensures inside { IfOk result (λ end. end ≤ length text.new) }
-    ensures ok { IfOk result (λ end. Appended (take at text.old)
-        (text_in kind.now (slot_value tree.now slot)) (take end text.new)) }
+    ensures ok { IfOk result (λ end. Appended dialect.now.delimiter (take at text.old)
+        (text_in dialect.now kind.now (slot_value tree.now slot)) (take end text.new)) }
     ensures refused { IfErr result
-        (LacksText column (text_in kind.now (slot_value tree.now slot))) }
+        (LacksText column (text_in dialect.now kind.now (slot_value tree.now slot))) }
 {
     match tree.entry_at(slot) {
-        Entry::Text(bytes, len) => Ok(put_front_field(text, at, bytes, len)?),
-        Entry::Null => Ok(put_null(text, at)),
-        Entry::Others => put_held(text, at, column, kind, tree, slot, tree.at(slot)),
+        Entry::Text(bytes, len) => put_front_field(text, at, dialect, column, bytes, len),
+        Entry::Null => Ok(put_null(text, at, dialect)?),
+        Entry::Others => put_held(text, at, dialect, column, kind, tree, slot, tree.at(slot)),
     }
 }
 
@@ -173,6 +169,7 @@ fn put_other(
 fn put_held_number(
     text: &mut [u8],
     at: usize,
+    dialect: &Dialect<'_>,
     column: u64,
     kind: &DataType,
     tree: &ColumnTree<'_>,
@@ -184,15 +181,15 @@ fn put_held_number(
     requires held { slice_get (slot_values tree.now) slot
         ≡ Some (shown (row (below tree.now)) slot held) }
     ensures inside { IfOk result (λ end. end ≤ length text.new) }
-    ensures ok { IfOk result (λ end. Appended (take at text.old)
-        (text_in kind.now (slot_value tree.now slot)) (take end text.new)) }
+    ensures ok { IfOk result (λ end. Appended dialect.now.delimiter (take at text.old)
+        (text_in dialect.now kind.now (slot_value tree.now slot)) (take end text.new)) }
     ensures refused { IfErr result
-        (LacksText column (text_in kind.now (slot_value tree.now slot))) }
+        (LacksText column (text_in dialect.now kind.now (slot_value tree.now slot))) }
 {
     match held {
         Slot::Int(number) => put_int(text, at, column, kind, number),
-        Slot::Null => Ok(put_null(text, at)),
-        _ => put_other(text, at, column, kind, tree, slot),
+        Slot::Null => Ok(put_null(text, at, dialect)?),
+        _ => put_other(text, at, dialect, column, kind, tree, slot),
     }
 }
 
@@ -201,6 +198,7 @@ fn put_held_number(
 fn put_held_truth(
     text: &mut [u8],
     at: usize,
+    dialect: &Dialect<'_>,
     column: u64,
     kind: &DataType,
     tree: &ColumnTree<'_>,
@@ -212,15 +210,15 @@ fn put_held_truth(
     requires held { slice_get (slot_values tree.now) slot
         ≡ Some (shown (row (below tree.now)) slot held) }
     ensures inside { IfOk result (λ end. end ≤ length text.new) }
-    ensures ok { IfOk result (λ end. Appended (take at text.old)
-        (text_in kind.now (slot_value tree.now slot)) (take end text.new)) }
+    ensures ok { IfOk result (λ end. Appended dialect.now.delimiter (take at text.old)
+        (text_in dialect.now kind.now (slot_value tree.now slot)) (take end text.new)) }
     ensures refused { IfErr result
-        (LacksText column (text_in kind.now (slot_value tree.now slot))) }
+        (LacksText column (text_in dialect.now kind.now (slot_value tree.now slot))) }
 {
     match held {
         Slot::Bool(truth) => Ok(put_bool(text, at, truth)),
-        Slot::Null => Ok(put_null(text, at)),
-        _ => put_other(text, at, column, kind, tree, slot),
+        Slot::Null => Ok(put_null(text, at, dialect)?),
+        _ => put_other(text, at, dialect, column, kind, tree, slot),
     }
 }
 
@@ -229,6 +227,7 @@ fn put_held_truth(
 fn put_held_bytes(
     text: &mut [u8],
     at: usize,
+    dialect: &Dialect<'_>,
     column: u64,
     kind: &DataType,
     tree: &ColumnTree<'_>,
@@ -240,15 +239,15 @@ fn put_held_bytes(
     requires held { slice_get (slot_values tree.now) slot
         ≡ Some (shown (row (below tree.now)) slot held) }
     ensures inside { IfOk result (λ end. end ≤ length text.new) }
-    ensures ok { IfOk result (λ end. Appended (take at text.old)
-        (text_in kind.now (slot_value tree.now slot)) (take end text.new)) }
+    ensures ok { IfOk result (λ end. Appended dialect.now.delimiter (take at text.old)
+        (text_in dialect.now kind.now (slot_value tree.now slot)) (take end text.new)) }
     ensures refused { IfErr result
-        (LacksText column (text_in kind.now (slot_value tree.now slot))) }
+        (LacksText column (text_in dialect.now kind.now (slot_value tree.now slot))) }
 {
     match held {
-        Slot::Bytes(bytes) => Ok(put_bytes_field(text, at, bytes)?),
-        Slot::Null => Ok(put_null(text, at)),
-        _ => put_other(text, at, column, kind, tree, slot),
+        Slot::Bytes(bytes) => put_bytes_field(text, at, dialect, column, bytes),
+        Slot::Null => Ok(put_null(text, at, dialect)?),
+        _ => put_other(text, at, dialect, column, kind, tree, slot),
     }
 }
 
@@ -257,19 +256,24 @@ fn put_held_bytes(
 fn put_held_text(
     text: &mut [u8],
     at: usize,
+    dialect: &Dialect<'_>,
+    column: u64,
     tree: &ColumnTree<'_>,
     slot: usize,
-) -> Result<usize, AllocError>
+) -> Result<usize, TextFault>
     requires room { at + 32 ≤ length text.old }
     requires layout { tree.now.column.layout ≡ Layout.VariableBytes true }
     requires slot { slot < length (slot_values tree.now) }
     ensures inside { IfOk result (λ end. end ≤ length text.new) }
-    ensures ok { (kind : DataType) → IfOk result (λ end. Appended (take at text.old)
-        (text_in kind (slot_value tree.now slot)) (take end text.new)) }
+    ensures ok { (kind : DataType) → IfOk result (λ end. Appended dialect.now.delimiter
+        (take at text.old) (text_in dialect.now kind (slot_value tree.now slot))
+        (take end text.new)) }
+    ensures refused { (kind : DataType) → IfErr result
+        (LacksText column (text_in dialect.now kind (slot_value tree.now slot))) }
 {
     match tree.text_at(slot) {
-        Some((bytes, len)) => put_front_field(text, at, bytes, len),
-        None => Ok(put_null(text, at)),
+        Some((bytes, len)) => put_front_field(text, at, dialect, column, bytes, len),
+        None => Ok(put_null(text, at, dialect)?),
     }
 }
 
@@ -278,6 +282,7 @@ fn put_held_text(
 fn put_cell(
     text: &mut [u8],
     at: usize,
+    dialect: &Dialect<'_>,
     column: u64,
     kind: &DataType,
     tree: &ColumnTree<'_>,
@@ -286,10 +291,10 @@ fn put_cell(
     requires room { at + 32 ≤ length text.old }
     requires slot { slot < length (slot_values tree.now) }
     ensures inside { IfOk result (λ end. end ≤ length text.new) }
-    ensures ok { IfOk result (λ end. Appended (take at text.old)
-        (text_in kind.now (slot_value tree.now slot)) (take end text.new)) }
+    ensures ok { IfOk result (λ end. Appended dialect.now.delimiter (take at text.old)
+        (text_in dialect.now kind.now (slot_value tree.now slot)) (take end text.new)) }
     ensures refused { IfErr result
-        (LacksText column (text_in kind.now (slot_value tree.now slot))) }
+        (LacksText column (text_in dialect.now kind.now (slot_value tree.now slot))) }
 {
     match tree.kind() {
         Kind::Longs => {
@@ -300,7 +305,7 @@ fn put_cell(
                 },
                 slot,
             );
-            put_held_number(text, at, column, kind, tree, slot, held)
+            put_held_number(text, at, dialect, column, kind, tree, slot, held)
         }
         Kind::Ints => {
             let held = tree.at_layout(
@@ -310,38 +315,44 @@ fn put_cell(
                 },
                 slot,
             );
-            put_held_number(text, at, column, kind, tree, slot, held)
+            put_held_number(text, at, dialect, column, kind, tree, slot, held)
         }
         Kind::Truths => {
             let held = tree.at_layout(Layout::Bits, slot);
-            put_held_truth(text, at, column, kind, tree, slot, held)
+            put_held_truth(text, at, dialect, column, kind, tree, slot, held)
         }
-        Kind::Texts => Ok(put_held_text(text, at, tree, slot)?),
+        Kind::Texts => put_held_text(text, at, dialect, column, tree, slot),
         Kind::Bytes(width) => {
             let held = tree.at_layout(Layout::FixedBytes(width), slot);
-            put_held_bytes(text, at, column, kind, tree, slot, held)
+            put_held_bytes(text, at, dialect, column, kind, tree, slot, held)
         }
-        Kind::Others => put_other(text, at, column, kind, tree, slot),
+        Kind::Others => put_other(text, at, dialect, column, kind, tree, slot),
     }
 }
 
-// Sees to the room of a value, and writes the comma in front of the column with this number.
+// Sees to the room of a value, and writes the delimiter in front of the column with this number.
 #[inline(always)]
-fn start_field(text: &mut [u8], start: usize, column: usize) -> Result<usize, TextFault>
+fn start_field(
+    text: &mut [u8],
+    start: usize,
+    delimiter: u8,
+    column: usize,
+) -> Result<usize, TextFault>
     requires { start ≤ length text.old }
     ensures room { IfOk result (λ at. at + 32 ≤ length text.new) }
     ensures text { IfOk result (λ at. take at text.new
-        ≡ take start text.old ++ next_sep default_writer column) }
+        ≡ take start text.old ++ next_sep (writer delimiter) column) }
     ensures refused { IfErr result (λ fault. fault ≡ TextFault.OutOfMemory) }
 {
     reserve(text, start, ROOM)?;
-    Ok(put_comma(text, start, column))
+    Ok(put_delimiter(text, start, delimiter, column))
 }
 
 // The fields of a row of a batch, of which each column is lent, from the front of the buffer on.
 #[tactic(auto, using(crate::proofs::Cells::no_fields))]
 fn put_cells(
     text: &mut [u8],
+    dialect: &Dialect<'_>,
     fields: &[Field],
     columns: &[Column<'_>],
     row: usize,
@@ -349,9 +360,9 @@ fn put_cells(
     requires columns { length columns.now ≡ length fields.now }
     requires row { HaveRow columns.now row }
     ensures inside { IfOk result (λ end. end ≤ length text.new) }
-    ensures ok { IfOk result (λ end. put_texts [] fields.now
+    ensures ok { IfOk result (λ end. put_texts dialect.now [] fields.now
         (row_at columns.now row) ≡ Ok (take end text.new)) }
-    ensures refused { IfErr result (IsRefusal (put_texts [] fields.now
+    ensures refused { IfErr result (IsRefusal (put_texts dialect.now [] fields.now
         (row_at columns.now row))) }
 {
     let mut at = 0;
@@ -359,8 +370,16 @@ fn put_cells(
     let mut fields = fields;
     let mut columns = columns;
     while let ([field, more_fields @ ..], [column, more_columns @ ..]) = (fields, columns) {
-        let place = start_field(text, at, number)?;
-        at = put_cell(text, place, number as u64, &field.kind, column.tree(), row)?;
+        let place = start_field(text, at, dialect.delimiter(), number)?;
+        at = put_cell(
+            text,
+            place,
+            dialect,
+            number as u64,
+            &field.kind,
+            column.tree(),
+            row,
+        )?;
         number += 1;
         fields = more_fields;
         columns = more_columns;
@@ -368,15 +387,16 @@ fn put_cells(
     Ok(at)
 }
 
-/// Writes the record of a row to the front of a buffer, its fields and a line feed, and returns
-/// where it ends. What the buffer holds before means nothing: it is room to be used again. X3 with
-/// the first column whose value has no text. `OutOfMemory` where the buffer
-/// ends before the line.
+/// Writes the record of a row in a dialect to the front of a buffer, its fields and a line feed,
+/// and returns where it ends. What the buffer holds before means nothing: it is room to be used
+/// again. X3 with the first column whose value has no text. `OutOfMemory` where the buffer ends
+/// before the line.
 ///
 /// The caller gives the columns of a batch, a row below its `rows`, and the fields of the columns,
 /// which CSV has a place for.
 pub fn csv_line(
     text: &mut [u8],
+    dialect: &Dialect<'_>,
     fields: &[Field],
     columns: &[Column<'_>],
     row: usize,
@@ -385,11 +405,11 @@ pub fn csv_line(
     requires row { HaveRow columns.now row }
     requires fits { flat_fault fields.now ≡ None }
     ensures inside { IfOk result (λ end. end ≤ length text.new) }
-    ensures ok { IfOk result (λ end. row_csv fields.now (row_at columns.now row)
+    ensures ok { IfOk result (λ end. row_csv dialect.now fields.now (row_at columns.now row)
         ≡ Ok (take end text.new)) }
     ensures refused { IfErr result
-        (IsRefusal (row_csv fields.now (row_at columns.now row))) }
+        (IsRefusal (row_csv dialect.now fields.now (row_at columns.now row))) }
 {
-    let at = put_cells(text, fields, columns, row)?;
+    let at = put_cells(text, dialect, fields, columns, row)?;
     Ok(put_end(text, at)?)
 }

@@ -1,26 +1,33 @@
 //! Fields of CSV at a place: one look at the bytes and one copy, where none calls for quotes.
 ghost use Rattle.std.specs.Prelude.{◌≡◌, ◌≤◌, ◌+◌, ◌++◌, ◌∷◌, [], length, take, decimal};
-ghost use Rattle.std.specs.Prelude.{IfOk, IsTrue};
+ghost use Rattle.std.specs.Prelude.{IfErr, IfOk, IsTrue, Some};
 ghost use Rattle.std.specs.Fmt.{signed_decimal};
 ghost use Rattle.csv.specs.Writing as csv;
 ghost use Rattle.csv.specs.Writing.{default_writer};
 ghost use Rattle.hex.specs.Hex.{encode_lower};
-ghost use Rattle.ipc_csv.specs.RowCsv.{backslashed, with_field, Ended};
+ghost use Rattle.ipc_csv.specs.declared.dialect.Dialect.{Dialect};
+ghost use Rattle.ipc_csv.specs.Dialects.{writer};
+ghost use Rattle.ipc_csv.specs.RowCsv.{Appended, Ended, LacksText, backslashed, chars_text};
+ghost use Rattle.ipc_csv.specs.RowCsv.{null_text};
+ghost use Rattle.ipc_csv.specs.RowCsv.{unless_null, with_field};
+ghost use Rattle.std.specs.Prelude.{ℕ};
+ghost use Rattle.ipc_print.specs.Unquoted.{BeginsApart};
 
+use crate::copies::put_few;
 use crate::digits::{put_signed, put_unsigned};
 use crate::hexadecimal::put_hexadecimal;
 use crate::room::{put, reserve};
 use crate::rows::put_word;
 use crate::unquoted::{put_front_if_unquoted, put_if_unquoted};
+use ipc_csv::Dialect;
+use ipc_moments::TextFault;
 use std::alloc::AllocError;
 
 // Whether a field stands in quotes.
-fn needs_quotes(field: &[u8]) -> bool
-    ensures { result ≡ csv.needs_quotes default_writer field.now }
+fn needs_quotes(delimiter: u8, field: &[u8]) -> bool
+    ensures { result ≡ csv.needs_quotes (writer delimiter) field.now }
 {
-    field
-        .iter()
-        .any(|byte| matches!(*byte, b',' | b'"' | b'\r' | b'\n'))
+    field.iter().any(|byte| *byte == delimiter || matches!(*byte, b'"' | b'\r' | b'\n'))
 }
 
 // Writes a byte that stands between quotes from `at` on, a quote as two, and returns where it ends.
@@ -71,13 +78,18 @@ fn put_quoted(text: &mut [u8], at: usize, opening: &[u8], field: &[u8]) -> Resul
 // quotes, and returns where it ends.
 #[cold]
 #[inline(never)]
-fn put_looked_at(text: &mut [u8], at: usize, field: &[u8]) -> Result<usize, AllocError>
+fn put_looked_at(
+    text: &mut [u8],
+    at: usize,
+    delimiter: u8,
+    field: &[u8],
+) -> Result<usize, AllocError>
     requires { at ≤ length text.old }
     ensures inside { IfOk result (λ end. end ≤ length text.new) }
     ensures text { IfOk result
-        (λ end. take end text.new ≡ with_field (take at text.old) field.now) }
+        (λ end. take end text.new ≡ with_field delimiter (take at text.old) field.now) }
 {
-    if needs_quotes(field) {
+    if needs_quotes(delimiter, field) {
         return put_quoted(text, at, b"\"", field);
     }
     reserve(text, at, field.len())?;
@@ -86,30 +98,60 @@ fn put_looked_at(text: &mut [u8], at: usize, field: &[u8]) -> Result<usize, Allo
 
 // Writes a field of CSV from `at` on, in quotes where it needs them, and returns where it ends.
 #[inline(always)]
-pub(crate) fn put_field(text: &mut [u8], at: usize, field: &[u8]) -> Result<usize, AllocError>
+pub(crate) fn put_field(
+    text: &mut [u8],
+    at: usize,
+    delimiter: u8,
+    field: &[u8],
+) -> Result<usize, AllocError>
     requires { at ≤ length text.old }
     ensures inside { IfOk result (λ end. end ≤ length text.new) }
     ensures text { IfOk result
-        (λ end. take end text.new ≡ with_field (take at text.old) field.now) }
+        (λ end. take end text.new ≡ with_field delimiter (take at text.old) field.now) }
 {
     reserve(text, at, field.len())?;
-    if put_if_unquoted(text, at, field) {
+    if put_if_unquoted(text, at, delimiter, field) {
         return Ok(at + field.len());
     }
-    put_looked_at(text, at, field)
+    put_looked_at(text, at, delimiter, field)
+}
+
+// Writes null as a field of CSV from `at` on, and returns where it ends.
+#[inline(always)]
+pub(crate) fn put_null(
+    text: &mut [u8],
+    at: usize,
+    dialect: &Dialect<'_>,
+) -> Result<usize, AllocError>
+    requires { at + 32 ≤ length text.old }
+    ensures inside { IfOk result (λ end. end ≤ length text.new) }
+    ensures text { IfOk result (λ end. take end text.new
+        ≡ with_field dialect.now.delimiter (take at text.old) (null_text dialect.now)) }
+{
+    let null = dialect.null().as_bytes();
+    if null.len() < 4 {
+        return Ok(put_few(text, at, null));
+    }
+    reserve(text, at, null.len())?;
+    Ok(put(text, at, null))
 }
 
 // Writes a text that begins with a backslash as a field of CSV from `at` on, with one more in
 // front, and returns where it ends.
 #[cold]
 #[inline(never)]
-fn put_backslashed(text: &mut [u8], at: usize, chars: &[u8]) -> Result<usize, AllocError>
+fn put_backslashed(
+    text: &mut [u8],
+    at: usize,
+    delimiter: u8,
+    chars: &[u8],
+) -> Result<usize, AllocError>
     requires { at ≤ length text.old }
     ensures inside { IfOk result (λ end. end ≤ length text.new) }
     ensures text { IfOk result
-        (λ end. take end text.new ≡ with_field (take at text.old) (92 ∷ chars.now)) }
+        (λ end. take end text.new ≡ with_field delimiter (take at text.old) (92 ∷ chars.now)) }
 {
-    if needs_quotes(chars) {
+    if needs_quotes(delimiter, b"\\") || needs_quotes(delimiter, chars) {
         return put_quoted(text, at, b"\"\\", chars);
     }
     reserve(text, at, 1)?;
@@ -118,67 +160,136 @@ fn put_backslashed(text: &mut [u8], at: usize, chars: &[u8]) -> Result<usize, Al
     Ok(put(text, start, chars))
 }
 
-// Writes a text as a field of CSV from `at` on, and returns where it ends.
-#[inline(always)]
-pub(crate) fn put_text_field(text: &mut [u8], at: usize, chars: &[u8]) -> Result<usize, AllocError>
+// Writes a text as a field of CSV from `at` on, where null is `\N`, and returns where it ends.
+fn put_doubled(text: &mut [u8], at: usize, delimiter: u8, chars: &[u8]) -> Result<usize, AllocError>
     requires { at ≤ length text.old }
     ensures inside { IfOk result (λ end. end ≤ length text.new) }
     ensures text { IfOk result (λ end. take end text.new
-        ≡ with_field (take at text.old) (backslashed chars.now)) }
+        ≡ with_field delimiter (take at text.old) (backslashed chars.now)) }
 {
     if chars.first() == Some(&b'\\') {
-        return put_backslashed(text, at, chars);
+        return put_backslashed(text, at, delimiter, chars);
     }
-    put_field(text, at, chars)
+    put_field(text, at, delimiter, chars)
 }
 
-// Whether bytes begin with a text, of this length, that has no backslash in front.
-#[inline(always)]
-fn begins_plainly(bytes: &[u8], len: usize) -> bool
-    requires { len ≤ length bytes.now }
-    ensures { IsTrue result → backslashed (take len bytes.now) ≡ take len bytes.now }
+// Writes a text as a field of CSV from `at` on, where it may begin as the text of null does, and
+// returns where it ends. X3 where it is the text of null, other than `\N`.
+#[cold]
+#[inline(never)]
+fn put_like_null(
+    text: &mut [u8],
+    at: usize,
+    dialect: &Dialect<'_>,
+    column: u64,
+    chars: &[u8],
+) -> Result<usize, TextFault>
+    requires { at ≤ length text.old }
+    ensures inside { IfOk result (λ end. end ≤ length text.new) }
+    ensures ok { IfOk result (λ end. Appended dialect.now.delimiter (take at text.old)
+        (chars_text dialect.now chars.now) (take end text.new)) }
+    ensures refused { IfErr result (LacksText column (chars_text dialect.now chars.now)) }
 {
-    match bytes.first() {
-        Some(first) => *first != b'\\',
-        None => true,
+    if dialect.escapes_backslash() {
+        return Ok(put_doubled(text, at, dialect.delimiter(), chars)?);
     }
+    if chars == dialect.null().as_bytes() {
+        return Err(TextFault::NoTextForm { column });
+    }
+    Ok(put_field(text, at, dialect.delimiter(), chars)?)
+}
+
+// Whether bytes begin with a text, of this length, that does not begin as this text of null does.
+#[inline(always)]
+fn begins_apart(null: &[u8], bytes: &[u8], len: usize) -> bool
+    requires { len ≤ length bytes.now }
+    ensures { IsTrue result → BeginsApart null.now (take len bytes.now) }
+{
+    match (null, bytes) {
+        ([], _) => len > 0,
+        ([_, ..], []) => true,
+        ([null, ..], [first, ..]) => *first != *null,
+    }
+}
+
+// The same in a dialect, in which the text is then its field unchanged.
+#[inline(always)]
+fn begins_plainly(dialect: &Dialect<'_>, bytes: &[u8], len: usize) -> bool
+    requires { len ≤ length bytes.now }
+    ensures { IsTrue result
+        → chars_text dialect.now (take len bytes.now) ≡ Some (take len bytes.now) }
+{
+    begins_apart(dialect.null().as_bytes(), bytes, len)
+}
+
+// Writes a text as a field of CSV from `at` on, and returns where it ends. X3 where it is the text
+// of null, other than `\N`.
+#[inline(always)]
+pub(crate) fn put_text_field(
+    text: &mut [u8],
+    at: usize,
+    dialect: &Dialect<'_>,
+    column: u64,
+    chars: &[u8],
+) -> Result<usize, TextFault>
+    requires { at ≤ length text.old }
+    ensures inside { IfOk result (λ end. end ≤ length text.new) }
+    ensures ok { IfOk result (λ end. Appended dialect.now.delimiter (take at text.old)
+        (chars_text dialect.now chars.now) (take end text.new)) }
+    ensures refused { IfErr result (LacksText column (chars_text dialect.now chars.now)) }
+{
+    if !begins_plainly(dialect, chars, chars.len()) {
+        return put_like_null(text, at, dialect, column, chars);
+    }
+    Ok(put_field(text, at, dialect.delimiter(), chars)?)
 }
 
 // Writes a text of any length as a field of CSV, in a function of its own.
 #[inline(never)]
-fn put_long_text(text: &mut [u8], at: usize, chars: &[u8]) -> Result<usize, AllocError>
+fn put_long_text(
+    text: &mut [u8],
+    at: usize,
+    dialect: &Dialect<'_>,
+    column: u64,
+    chars: &[u8],
+) -> Result<usize, TextFault>
     requires { at ≤ length text.old }
     ensures inside { IfOk result (λ end. end ≤ length text.new) }
-    ensures text { IfOk result (λ end. take end text.new
-        ≡ with_field (take at text.old) (backslashed chars.now)) }
+    ensures ok { IfOk result (λ end. Appended dialect.now.delimiter (take at text.old)
+        (chars_text dialect.now chars.now) (take end text.new)) }
+    ensures refused { IfErr result (LacksText column (chars_text dialect.now chars.now)) }
 {
-    put_text_field(text, at, chars)
+    put_text_field(text, at, dialect, column, chars)
 }
 
 // Writes a text as a field of CSV from `at` on, and returns where it ends. The caller gives bytes
 // that begin with the text, and how many of them it has: a short text is copied by one load of
-// sixteen, so that no branch hangs on its length.
+// sixteen, so that no branch hangs on its length. X3 where it is the text of null, other than `\N`.
 #[inline(always)]
 pub(crate) fn put_front_field(
     text: &mut [u8],
     at: usize,
+    dialect: &Dialect<'_>,
+    column: u64,
     bytes: &[u8],
     len: usize,
-) -> Result<usize, AllocError>
+) -> Result<usize, TextFault>
     requires room { at + 16 ≤ length text.old }
     requires inside { len ≤ length bytes.now }
     ensures inside { IfOk result (λ end. end ≤ length text.new) }
-    ensures text { IfOk result (λ end. take end text.new
-        ≡ with_field (take at text.old) (backslashed (take len bytes.now))) }
+    ensures ok { IfOk result (λ end. Appended dialect.now.delimiter (take at text.old)
+        (chars_text dialect.now (take len bytes.now)) (take end text.new)) }
+    ensures refused { IfErr result
+        (LacksText column (chars_text dialect.now (take len bytes.now))) }
 {
     if len <= 16
         && 16 <= bytes.len()
-        && begins_plainly(bytes, len)
-        && put_front_if_unquoted(text, at, bytes, len)
+        && begins_plainly(dialect, bytes, len)
+        && put_front_if_unquoted(text, at, dialect.delimiter(), bytes, len)
     {
         return Ok(at + len);
     }
-    put_long_text(text, at, &bytes[..len])
+    put_long_text(text, at, dialect, column, &bytes[..len])
 }
 
 // Writes a signed number as a field of CSV from `at` on, and returns where it ends.
@@ -186,8 +297,8 @@ pub(crate) fn put_front_field(
 pub(crate) fn put_signed_field(text: &mut [u8], at: usize, number: i64) -> usize
     requires { at + 25 ≤ length text.old }
     ensures inside { result ≤ length text.new }
-    ensures text { take result text.new
-        ≡ with_field (take at text.old) (signed_decimal number) }
+    ensures text { (d : Dialect) → take result text.new
+        ≡ with_field d.delimiter (take at text.old) (signed_decimal number) }
 {
     put_signed(text, at, number)
 }
@@ -197,22 +308,33 @@ pub(crate) fn put_signed_field(text: &mut [u8], at: usize, number: i64) -> usize
 pub(crate) fn put_unsigned_field(text: &mut [u8], at: usize, number: u64) -> usize
     requires { at + 24 ≤ length text.old }
     ensures inside { result ≤ length text.new }
-    ensures text { take result text.new
-        ≡ with_field (take at text.old) (decimal number) }
+    ensures text { (d : Dialect) → take result text.new
+        ≡ with_field d.delimiter (take at text.old) (decimal number) }
 {
     put_unsigned(text, at, number)
 }
 
 // Writes bytes as a field of CSV from `at` on, two lower-case hexadecimal digits for each, and
-// returns where it ends.
+// returns where it ends. X3 where there are none and the text of null is empty.
 #[inline(always)]
-pub(crate) fn put_bytes_field(text: &mut [u8], at: usize, bytes: &[u8]) -> Result<usize, AllocError>
+pub(crate) fn put_bytes_field(
+    text: &mut [u8],
+    at: usize,
+    dialect: &Dialect<'_>,
+    column: u64,
+    bytes: &[u8],
+) -> Result<usize, TextFault>
     requires { at ≤ length text.old }
     ensures inside { IfOk result (λ end. end ≤ length text.new) }
-    ensures text { IfOk result (λ end. take end text.new
-        ≡ with_field (take at text.old) (encode_lower bytes.now)) }
+    ensures ok { IfOk result (λ end. Appended dialect.now.delimiter (take at text.old)
+        (unless_null dialect.now (encode_lower bytes.now)) (take end text.new)) }
+    ensures refused { IfErr result
+        (LacksText column (unless_null dialect.now (encode_lower bytes.now))) }
 {
-    put_hexadecimal(text, at, bytes)
+    if bytes.is_empty() && dialect.null().is_empty() {
+        return Err(TextFault::NoTextForm { column });
+    }
+    Ok(put_hexadecimal(text, at, bytes)?)
 }
 
 // Ends a record whose fields are the first `at` bytes, and returns where it ends: a line feed,
@@ -220,8 +342,8 @@ pub(crate) fn put_bytes_field(text: &mut [u8], at: usize, bytes: &[u8]) -> Resul
 pub(crate) fn put_end(text: &mut [u8], at: usize) -> Result<usize, AllocError>
     requires { at ≤ length text.old }
     ensures inside { IfOk result (λ end. end ≤ length text.new) }
-    ensures ended { IfOk result
-        (λ end. Ended 0 (take at text.old) (take end text.new)) }
+    ensures ended { (delimiter : ℕ) → IfOk result
+        (λ end. Ended delimiter 0 (take at text.old) (take end text.new)) }
 {
     reserve(text, at, 3)?;
     if at == 0 {

@@ -1,25 +1,32 @@
 //! The forms in which a stream is printed, and the options of printing.
+use ipc_csv::Dialect;
+use ipc_json::RowShape;
 
 /// What is printed of a table.
 #[derive(Clone, Copy, Debug, PartialEq, Eq)]
-pub enum Form {
+pub enum Form<'a> {
     /// The schema as JSON, and behind the batches how many bytes, batches and rows there are.
     Counts,
-    /// Each row as a JSON array on a line of its own.
+    /// Each row as JSON on a line of its own.
     Rows {
+        /// Whether a row is an array of its values, or an object with the columns' names as keys.
+        shape: RowShape,
         /// Whether a line with its pairs of key and value stands in front of each batch's rows: a
         /// JSON object with the one member `metadata`.
         pairs: bool,
     },
-    /// A header and records of CSV.
-    Records,
+    /// A header and records of CSV, in this dialect.
+    Records(Dialect<'a>),
 }
 
-/// What is printed of a stream, and how the stream must end.
+/// What is printed of a stream, how much of it, and how the stream must end.
 #[derive(Clone, Copy, Debug, PartialEq, Eq)]
-pub struct PrintOptions {
+pub struct PrintOptions<'a> {
     /// The form of the text.
-    pub form: Form,
-    /// Whether a stream that ends without the end-of-stream mark is refused.
+    pub form: Form<'a>,
+    /// Whether a stream that ends without the end-of-stream mark is refused. It has no effect if
+    /// the rows reach the limit.
     pub require_mark: bool,
+    /// How many rows are printed at most. All are printed if it is `None`.
+    pub limit: Option<u64>,
 }

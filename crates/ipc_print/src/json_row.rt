@@ -3,7 +3,7 @@ ghost use Rattle.std.specs.Prelude.{◌≡◌, ◌≤◌, ◌<◌, ◌+◌, ◌+
 ghost use Rattle.std.specs.Prelude.{IfOk, Some, replicate, slice_get, true};
 ghost use Rattle.std.specs.Fmt.{signed_decimal};
 ghost use Rattle.hex.specs.Hex.{encode_lower};
-ghost use Rattle.json.specs.Print.{quoted};
+ghost use Rattle.json.specs.Print.{quoted, token_text};
 ghost use Rattle.serde_json.specs.Data.{array, boolean, null};
 ghost use Rattle.serde_json.specs.Written.{comma_if, compact_text, items_text};
 ghost use Rattle.ipc_model.specs.declared.schema.Field.{Field};
@@ -14,8 +14,11 @@ ghost use Rattle.ipc_column.specs.Values.{row};
 ghost use Rattle.ipc_print.specs.LentRows.{HaveRow, row_at};
 ghost use Rattle.ipc_print.specs.LentSlots.{HaveSlot, LeadsTo, list_values, slot_value};
 ghost use Rattle.ipc_print.specs.LentSlots.{values_between};
-ghost use Rattle.ipc_json.specs.RowJson.{cell_json, each_json, int_json, items_json, list_json};
-ghost use Rattle.ipc_json.specs.RowJson.{row_text};
+ghost use Rattle.ipc_print.specs.RowTexts.{name_text};
+ghost use Rattle.ipc_json.specs.RowJson.{cell_json, int_json, items_json, list_json, printed};
+ghost use Rattle.ipc_json.specs.RowJson.{row_json, row_text, values_json};
+ghost use Rattle.ipc_json.specs.RowTokens.{closing, opening};
+ghost use Rattle.ipc_json.specs.declared.row.RowShape.{RowShape};
 
 use crate::column::Column;
 use crate::digits::{put_signed, put_unsigned};
@@ -27,6 +30,7 @@ use crate::strings::{put_front, put_string};
 use crate::tree::ColumnTree;
 use crate::truth::put_truth;
 use ipc_column::Slot;
+use ipc_json::RowShape;
 use ipc_model::{DataType, Field, IntBits, Layout};
 use ipc_moments::put_moment;
 use std::alloc::AllocError;
@@ -133,16 +137,67 @@ fn start_item(text: &mut [u8], start: usize, later: bool) -> Result<usize, Alloc
     Ok(put_comma(text, start, later))
 }
 
+// The name of a member and a colon, with room for the value.
+#[inline(never)]
+fn put_name(text: &mut [u8], at: usize, name: &[u8]) -> Result<usize, AllocError>
+    requires { at ≤ length text.old }
+    ensures room { IfOk result (λ end. end + 34 ≤ length text.new) }
+    ensures text { IfOk result
+        (λ end. take end text.new ≡ take at text.old ++ name_text RowShape.Object name.now) }
+{
+    let end = put_string(text, at, name)?;
+    reserve(text, end, ROOM)?;
+    Ok(put(text, end, b":"))
+}
+
+// Sees to the room of a value of a row or a struct, and writes what precedes the value: a comma
+// where something stands before it, and in an object its field's name.
+#[inline(always)]
+fn start_value(
+    text: &mut [u8],
+    start: usize,
+    shape: RowShape,
+    field: &Field,
+    later: bool,
+) -> Result<usize, AllocError>
+    requires { start ≤ length text.old }
+    ensures room { IfOk result (λ at. at + 34 ≤ length text.new) }
+    ensures text { IfOk result (λ at. take at text.new ≡ take start text.old
+        ++ comma_if later ++ name_text shape (printed shape field.now).name) }
+{
+    let at = start_item(text, start, later)?;
+    match shape {
+        RowShape::Array => Ok(at),
+        RowShape::Object => put_name(text, at, field.name.as_str().as_bytes()),
+    }
+}
+
+// The opening bracket of a row or a struct.
+#[inline(always)]
+fn put_start(text: &mut [u8], at: usize, shape: RowShape) -> usize
+    requires { at + 1 ≤ length text.old }
+    ensures inside { result ≤ length text.new }
+    ensures text { take result text.new ≡ take at text.old ++ token_text (opening shape) }
+{
+    match shape {
+        RowShape::Array => put(text, at, b"["),
+        RowShape::Object => put(text, at, b"{"),
+    }
+}
+
 // The closing bracket.
 #[inline(always)]
-fn put_end(text: &mut [u8], at: usize) -> Result<usize, AllocError>
+fn put_end(text: &mut [u8], at: usize, shape: RowShape) -> Result<usize, AllocError>
     requires { at ≤ length text.old }
     ensures inside { IfOk result (λ end. end ≤ length text.new) }
     ensures text { IfOk result
-        (λ end. take end text.new ≡ take at text.old ++ 93 ∷ []) }
+        (λ end. take end text.new ≡ take at text.old ++ token_text (closing shape)) }
 {
     reserve(text, at, 1)?;
-    Ok(put(text, at, b"]"))
+    match shape {
+        RowShape::Array => Ok(put(text, at, b"]")),
+        RowShape::Object => Ok(put(text, at, b"}")),
+    }
 }
 
 // What a slot of a column holds, by the column's field.
@@ -150,6 +205,7 @@ fn put_end(text: &mut [u8], at: usize) -> Result<usize, AllocError>
 fn put_slot(
     text: &mut [u8],
     at: usize,
+    shape: RowShape,
     field: &Field,
     column: &ColumnTree<'_>,
     slot: usize,
@@ -158,7 +214,7 @@ fn put_slot(
     requires slot { slot < length (slot_values column.now) }
     ensures inside { IfOk result (λ end. end ≤ length text.new) }
     ensures text { IfOk result (λ end. take end text.new ≡ take at text.old
-        ++ compact_text (cell_json field.now (slot_value column.now slot))) }
+        ++ compact_text (cell_json shape field.now (slot_value column.now slot))) }
 {
     if let Kind::Texts = column.kind() {
         return put_held_text(text, at, column, slot);
@@ -171,9 +227,9 @@ fn put_slot(
         Slot::Bytes(bytes) => put_bytes(text, at, bytes),
         Slot::Text(chars) => put_string(text, at, chars),
         Slot::List { from, to } => {
-            put_list(text, at, field.children.as_slice(), column, from, to)
+            put_list(text, at, shape, field.children.as_slice(), column, from, to)
         }
-        Slot::Struct => put_struct(text, at, field.children.as_slice(), column, slot),
+        Slot::Struct => put_struct(text, at, shape, field.children.as_slice(), column, slot),
     }
 }
 
@@ -182,6 +238,7 @@ fn put_slot(
 fn put_list(
     text: &mut [u8],
     at: usize,
+    shape: RowShape,
     children: &[Field],
     column: &ColumnTree<'_>,
     from: usize,
@@ -191,13 +248,13 @@ fn put_list(
     requires slots { LeadsTo column.now from to }
     ensures inside { IfOk result (λ end. end ≤ length text.new) }
     ensures text { IfOk result (λ end. take end text.new ≡ take at text.old
-        ++ compact_text (array (list_json (map cell_json children.now)
+        ++ compact_text (array (list_json (map (printed shape) children.now)
         (list_values column.now from to)))) }
 {
     let start = put(text, at, b"[");
     match children.first() {
-        Some(child) => put_items(text, start, child, column, from, to),
-        None => put_end(text, start),
+        Some(child) => put_items(text, start, shape, child, column, from, to),
+        None => put_end(text, start, RowShape::Array),
     }
 }
 
@@ -206,6 +263,7 @@ fn put_list(
 fn put_items(
     text: &mut [u8],
     start: usize,
+    shape: RowShape,
     child: &Field,
     column: &ColumnTree<'_>,
     from: usize,
@@ -215,28 +273,29 @@ fn put_items(
     requires slots { LeadsTo column.now from to }
     ensures inside { IfOk result (λ end. end ≤ length text.new) }
     ensures text { IfOk result (λ end. take end text.new ≡ take start text.old
-        ++ items_text false (items_json (cell_json child.now) (list_values column.now from to))) }
+        ++ items_text false (items_json (cell_json shape child.now)
+        (list_values column.now from to))) }
 {
     if column.children() == 0 {
         return put_nulls(text, start, to - from);
     }
-    put_slots(text, start, child, column.child(0), from, to - from)
+    put_slots(text, start, shape, child, column.child(0), from, to - from)
 }
 
 // So many nulls and the closing bracket.
 fn put_nulls(text: &mut [u8], start: usize, count: usize) -> Result<usize, AllocError>
     requires start { start ≤ length text.old }
     ensures inside { IfOk result (λ end. end ≤ length text.new) }
-    ensures text { (field : Field) → IfOk result
+    ensures text { (shape : RowShape) → (field : Field) → IfOk result
         (λ end. take end text.new ≡ take start text.old
-        ++ items_text false (items_json (cell_json field) (replicate count v.Null))) }
+        ++ items_text false (items_json (cell_json shape field) (replicate count v.Null))) }
 {
     let mut at = start;
     for number in 0..count {
         let place = start_item(text, at, 0 < number)?;
         at = put_null(text, place);
     }
-    put_end(text, at)
+    put_end(text, at, RowShape::Array)
 }
 
 // What so many slots of a column hold, and the closing bracket.
@@ -244,6 +303,7 @@ fn put_nulls(text: &mut [u8], start: usize, count: usize) -> Result<usize, Alloc
 fn put_slots(
     text: &mut [u8],
     start: usize,
+    shape: RowShape,
     field: &Field,
     column: &ColumnTree<'_>,
     from: usize,
@@ -253,7 +313,7 @@ fn put_slots(
     requires slots { from + count ≤ length (slot_values column.now) }
     ensures inside { IfOk result (λ end. end ≤ length text.new) }
     ensures text { IfOk result (λ end. take end text.new ≡ take start text.old
-        ++ items_text false (items_json (cell_json field.now)
+        ++ items_text false (items_json (cell_json shape field.now)
         (values_between column.now from count))) }
 {
     let _slots = column.len();
@@ -261,58 +321,40 @@ fn put_slots(
     let mut later = false;
     for number in 0..count {
         let place = start_item(text, at, later)?;
-        at = put_slot(text, place, field, column, from + number)?;
+        at = put_slot(text, place, shape, field, column, from + number)?;
         later = true;
     }
-    put_end(text, at)
+    put_end(text, at, RowShape::Array)
 }
 
 // The values of a struct, each by its child of the field.
 #[cycle(slot)]
 fn put_struct(
     text: &mut [u8],
-    at: usize,
+    start: usize,
+    shape: RowShape,
     children: &[Field],
     column: &ColumnTree<'_>,
     slot: usize,
 ) -> Result<usize, AllocError>
-    requires room { at + 34 ≤ length text.old }
-    requires slot { HaveSlot column.now slot }
-    ensures inside { IfOk result (λ end. end ≤ length text.new) }
-    ensures text { IfOk result (λ end. take end text.new ≡ take at text.old
-        ++ compact_text (array (each_json (map cell_json children.now)
-        (row (below column.now) slot)))) }
-{
-    let start = put(text, at, b"[");
-    put_each(text, start, children, column, slot)
-}
-
-// Values beside their fields and the closing bracket.
-#[cycle(slot)]
-fn put_each(
-    text: &mut [u8],
-    start: usize,
-    fields: &[Field],
-    column: &ColumnTree<'_>,
-    slot: usize,
-) -> Result<usize, AllocError>
-    requires start { start ≤ length text.old }
+    requires room { start + 34 ≤ length text.old }
     requires slot { HaveSlot column.now slot }
     ensures inside { IfOk result (λ end. end ≤ length text.new) }
     ensures text { IfOk result (λ end. take end text.new ≡ take start text.old
-        ++ items_text false (each_json (map cell_json fields.now) (row (below column.now) slot))) }
+        ++ compact_text (values_json shape (map (printed shape) children.now)
+        (row (below column.now) slot))) }
 {
-    let mut at = start;
+    let mut at = put_start(text, start, shape);
     let mut later = false;
-    for (number, field) in fields.iter().enumerate() {
+    for (number, field) in children.iter().enumerate() {
         if number >= column.children() {
-            return put_end(text, at);
+            return put_end(text, at, shape);
         }
-        let place = start_item(text, at, later)?;
-        at = put_slot(text, place, field, column.child(number), slot)?;
+        let place = start_value(text, at, shape, field, later)?;
+        at = put_slot(text, place, shape, field, column.child(number), slot)?;
         later = true;
     }
-    put_end(text, at)
+    put_end(text, at, shape)
 }
 
 // What a slot of a row holds, read in a function of its own, so that the loop over the columns
@@ -321,6 +363,7 @@ fn put_each(
 fn put_other(
     text: &mut [u8],
     at: usize,
+    shape: RowShape,
     field: &Field,
     column: &ColumnTree<'_>,
     slot: usize,
@@ -329,12 +372,12 @@ fn put_other(
     requires slot { slot < length (slot_values column.now) }
     ensures inside { IfOk result (λ end. end ≤ length text.new) }
     ensures text { IfOk result (λ end. take end text.new ≡ take at text.old
-        ++ compact_text (cell_json field.now (slot_value column.now slot))) }
+        ++ compact_text (cell_json shape field.now (slot_value column.now slot))) }
 {
     match column.entry_at(slot) {
         Entry::Text(bytes, len) => put_front(text, at, bytes, len),
         Entry::Null => Ok(put_null(text, at)),
-        Entry::Others => put_slot(text, at, field, column, slot),
+        Entry::Others => put_slot(text, at, shape, field, column, slot),
     }
 }
 
@@ -343,6 +386,7 @@ fn put_other(
 fn put_held_number(
     text: &mut [u8],
     at: usize,
+    shape: RowShape,
     field: &Field,
     column: &ColumnTree<'_>,
     slot: usize,
@@ -354,12 +398,12 @@ fn put_held_number(
         ≡ Some (shown (row (below column.now)) slot held) }
     ensures inside { IfOk result (λ end. end ≤ length text.new) }
     ensures text { IfOk result (λ end. take end text.new ≡ take at text.old
-        ++ compact_text (cell_json field.now (slot_value column.now slot))) }
+        ++ compact_text (cell_json shape field.now (slot_value column.now slot))) }
 {
     match held {
         Slot::Int(number) => Ok(put_int(text, at, &field.kind, number)),
         Slot::Null => Ok(put_null(text, at)),
-        _ => put_other(text, at, field, column, slot),
+        _ => put_other(text, at, shape, field, column, slot),
     }
 }
 
@@ -368,6 +412,7 @@ fn put_held_number(
 fn put_held_truth(
     text: &mut [u8],
     at: usize,
+    shape: RowShape,
     field: &Field,
     column: &ColumnTree<'_>,
     slot: usize,
@@ -379,12 +424,12 @@ fn put_held_truth(
         ≡ Some (shown (row (below column.now)) slot held) }
     ensures inside { IfOk result (λ end. end ≤ length text.new) }
     ensures text { IfOk result (λ end. take end text.new ≡ take at text.old
-        ++ compact_text (cell_json field.now (slot_value column.now slot))) }
+        ++ compact_text (cell_json shape field.now (slot_value column.now slot))) }
 {
     match held {
         Slot::Bool(truth) => Ok(put_bool(text, at, truth)),
         Slot::Null => Ok(put_null(text, at)),
-        _ => put_other(text, at, field, column, slot),
+        _ => put_other(text, at, shape, field, column, slot),
     }
 }
 
@@ -393,6 +438,7 @@ fn put_held_truth(
 fn put_held_bytes(
     text: &mut [u8],
     at: usize,
+    shape: RowShape,
     field: &Field,
     column: &ColumnTree<'_>,
     slot: usize,
@@ -404,12 +450,12 @@ fn put_held_bytes(
         ≡ Some (shown (row (below column.now)) slot held) }
     ensures inside { IfOk result (λ end. end ≤ length text.new) }
     ensures text { IfOk result (λ end. take end text.new ≡ take at text.old
-        ++ compact_text (cell_json field.now (slot_value column.now slot))) }
+        ++ compact_text (cell_json shape field.now (slot_value column.now slot))) }
 {
     match held {
         Slot::Bytes(bytes) => put_bytes(text, at, bytes),
         Slot::Null => Ok(put_null(text, at)),
-        _ => put_other(text, at, field, column, slot),
+        _ => put_other(text, at, shape, field, column, slot),
     }
 }
 
@@ -425,8 +471,9 @@ fn put_held_text(
     requires layout { column.now.column.layout ≡ Layout.VariableBytes true }
     requires slot { slot < length (slot_values column.now) }
     ensures inside { IfOk result (λ end. end ≤ length text.new) }
-    ensures text { (field : Field) → IfOk result (λ end. take end text.new ≡ take at text.old
-        ++ compact_text (cell_json field (slot_value column.now slot))) }
+    ensures text { (shape : RowShape) → (field : Field) → IfOk result
+        (λ end. take end text.new ≡ take at text.old
+        ++ compact_text (cell_json shape field (slot_value column.now slot))) }
 {
     match column.text_at(slot) {
         Some((bytes, len)) => put_front(text, at, bytes, len),
@@ -439,6 +486,7 @@ fn put_held_text(
 fn put_cell(
     text: &mut [u8],
     at: usize,
+    shape: RowShape,
     field: &Field,
     column: &ColumnTree<'_>,
     slot: usize,
@@ -447,7 +495,7 @@ fn put_cell(
     requires slot { slot < length (slot_values column.now) }
     ensures inside { IfOk result (λ end. end ≤ length text.new) }
     ensures text { IfOk result (λ end. take end text.new ≡ take at text.old
-        ++ compact_text (cell_json field.now (slot_value column.now slot))) }
+        ++ compact_text (cell_json shape field.now (slot_value column.now slot))) }
 {
     match column.kind() {
         Kind::Longs => {
@@ -458,7 +506,7 @@ fn put_cell(
                 },
                 slot,
             );
-            put_held_number(text, at, field, column, slot, held)
+            put_held_number(text, at, shape, field, column, slot, held)
         }
         Kind::Ints => {
             let held = column.at_layout(
@@ -468,58 +516,26 @@ fn put_cell(
                 },
                 slot,
             );
-            put_held_number(text, at, field, column, slot, held)
+            put_held_number(text, at, shape, field, column, slot, held)
         }
         Kind::Truths => {
             let held = column.at_layout(Layout::Bits, slot);
-            put_held_truth(text, at, field, column, slot, held)
+            put_held_truth(text, at, shape, field, column, slot, held)
         }
         Kind::Texts => put_held_text(text, at, column, slot),
         Kind::Bytes(width) => {
             let held = column.at_layout(Layout::FixedBytes(width), slot);
-            put_held_bytes(text, at, field, column, slot, held)
+            put_held_bytes(text, at, shape, field, column, slot, held)
         }
-        Kind::Others => put_other(text, at, field, column, slot),
+        Kind::Others => put_other(text, at, shape, field, column, slot),
     }
 }
 
-// The cells of a row and the closing bracket.
-fn put_cells(
+// The cells of a row in its brackets and a line feed, at the front of a buffer.
+#[inline(always)]
+fn put_line(
     text: &mut [u8],
-    start: usize,
-    fields: &[Field],
-    columns: &[Column<'_>],
-    row: usize,
-) -> Result<usize, AllocError>
-    requires columns { length columns.now ≡ length fields.now }
-    requires row { HaveRow columns.now row }
-    requires start { start ≤ length text.old }
-    ensures inside { IfOk result (λ end. end ≤ length text.new) }
-    ensures text { IfOk result (λ end. take end text.new ≡ take start text.old
-        ++ items_text false (each_json (map cell_json fields.now)
-        (row_at columns.now row))) }
-{
-    let mut at = start;
-    let mut later = false;
-    let mut fields = fields;
-    let mut columns = columns;
-    while let ([field, more_fields @ ..], [column, more_columns @ ..]) = (fields, columns) {
-        let place = start_item(text, at, later)?;
-        at = put_cell(text, place, field, column.tree(), row)?;
-        later = true;
-        fields = more_fields;
-        columns = more_columns;
-    }
-    put_end(text, at)
-}
-
-/// Writes the JSON text of a row and a line feed to the front of a buffer, and returns where it
-/// ends. What the buffer holds before means nothing: it is room to be used again. It refuses only
-/// where the buffer ends before the line.
-///
-/// The caller gives the columns of a batch, a row below its `rows`, and the fields of the columns.
-pub fn json_line(
-    text: &mut [u8],
+    shape: RowShape,
     fields: &[Field],
     columns: &[Column<'_>],
     row: usize,
@@ -528,11 +544,46 @@ pub fn json_line(
     requires row { HaveRow columns.now row }
     ensures inside { IfOk result (λ end. end ≤ length text.new) }
     ensures text { IfOk result (λ end. take end text.new
-        ≡ row_text fields.now (row_at columns.now row) ++ 10 ∷ []) }
+        ≡ row_text shape fields.now (row_at columns.now row) ++ 10 ∷ []) }
 {
     reserve(text, 0, 1)?;
-    let at = put(text, 0, b"[");
-    let at = put_cells(text, at, fields, columns, row)?;
+    let mut at = put_start(text, 0, shape);
+    let mut later = false;
+    let mut fields = fields;
+    let mut columns = columns;
+    while let ([field, more_fields @ ..], [column, more_columns @ ..]) = (fields, columns) {
+        let place = start_value(text, at, shape, field, later)?;
+        at = put_cell(text, place, shape, field, column.tree(), row)?;
+        later = true;
+        fields = more_fields;
+        columns = more_columns;
+    }
+    let at = put_end(text, at, shape)?;
     reserve(text, at, 1)?;
     Ok(put(text, at, b"\n"))
+}
+
+/// Writes the JSON text of a row, in this shape, and a line feed to the front of a buffer, and
+/// returns where it ends. What the buffer holds before means nothing: it is room to be used again.
+/// It refuses only where the buffer ends before the line.
+///
+/// The caller gives the columns of a batch, a row below its `rows`, and the fields of the columns.
+pub fn json_line(
+    text: &mut [u8],
+    shape: RowShape,
+    fields: &[Field],
+    columns: &[Column<'_>],
+    row: usize,
+) -> Result<usize, AllocError>
+    requires columns { length columns.now ≡ length fields.now }
+    requires row { HaveRow columns.now row }
+    ensures inside { IfOk result (λ end. end ≤ length text.new) }
+    ensures text { IfOk result (λ end. take end text.new
+        ≡ row_text shape fields.now (row_at columns.now row) ++ 10 ∷ []) }
+{
+    // Each arm is compiled for its shape, so that no value asks for it.
+    match shape {
+        RowShape::Array => put_line(text, RowShape::Array, fields, columns, row),
+        RowShape::Object => put_line(text, RowShape::Object, fields, columns, row),
+    }
 }

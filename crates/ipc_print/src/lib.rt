@@ -13,6 +13,7 @@ mod form;
 mod hexadecimal;
 mod json_row;
 mod kind;
+mod limit;
 mod line;
 mod plain;
 mod printing;

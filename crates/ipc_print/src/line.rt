@@ -19,7 +19,7 @@ pub(crate) const LINE: usize = 1 << 12;
 // Writes the line of a row to the front of a buffer, and returns where it ends. `OutOfMemory` where
 // the buffer is too short.
 fn line_of(
-    form: Form,
+    form: Form<'_>,
     text: &mut [u8],
     fields: &[Field],
     columns: &[Column<'_>],
@@ -30,15 +30,15 @@ fn line_of(
     requires fits { form_fault form fields.now ≡ None }
     ensures inside { IfOk result (λ end. end ≤ length text.new) }
     ensures text { IfOk result (λ end. take end text.new
-        ≡ spec.line_of form fields.now (row_at columns.now row)) }
-    ensures ok { IfOk result (λ end. HasLine form fields.now (row_at columns.now row)) }
+        ≡ spec.line_of form.entry fields.now (row_at columns.now row)) }
+    ensures ok { IfOk result (λ end. HasLine form.entry fields.now (row_at columns.now row)) }
     ensures refused { IfErr result (λ fault. fault ≢ OutOfMemory
-        → Lacks form fields.now (row_at columns.now row) fault) }
+        → Lacks form.entry fields.now (row_at columns.now row) fault) }
 {
     match form {
         Form::Counts => Ok(0),
-        Form::Rows { .. } => Ok(json_line(text, fields, columns, row)?),
-        Form::Records => csv_line(text, fields, columns, row),
+        Form::Rows { shape, .. } => Ok(json_line(text, shape, fields, columns, row)?),
+        Form::Records(dialect) => csv_line(text, &dialect, fields, columns, row),
     }
 }
 
@@ -57,7 +57,7 @@ const DOUBLINGS: usize = 64;
 #[cold]
 #[inline(never)]
 fn long_line_of(
-    form: Form,
+    form: Form<'_>,
     text: &mut Vec<u8>,
     fields: &[Field],
     columns: &[Column<'_>],
@@ -68,10 +68,10 @@ fn long_line_of(
     requires fits { form_fault form fields.now ≡ None }
     ensures inside { IfOk result (λ end. end ≤ length text.new.items) }
     ensures text { IfOk result (λ end. take end text.new.items
-        ≡ spec.line_of form fields.now (row_at columns.now row)) }
-    ensures ok { IfOk result (λ end. HasLine form fields.now (row_at columns.now row)) }
+        ≡ spec.line_of form.entry fields.now (row_at columns.now row)) }
+    ensures ok { IfOk result (λ end. HasLine form.entry fields.now (row_at columns.now row)) }
     ensures refused { IfErr result (λ fault. fault ≢ OutOfMemory
-        → Lacks form fields.now (row_at columns.now row) fault) }
+        → Lacks form.entry fields.now (row_at columns.now row) fault) }
 {
     for _ in 0..DOUBLINGS {
         double(text)?;
@@ -85,7 +85,7 @@ fn long_line_of(
 
 /// The same, where most lines fit.
 pub(crate) fn fitted_line_of(
-    form: Form,
+    form: Form<'_>,
     text: &mut Vec<u8>,
     fields: &[Field],
     columns: &[Column<'_>],
@@ -96,10 +96,10 @@ pub(crate) fn fitted_line_of(
     requires fits { form_fault form fields.now ≡ None }
     ensures inside { IfOk result (λ end. end ≤ length text.new.items) }
     ensures text { IfOk result (λ end. take end text.new.items
-        ≡ spec.line_of form fields.now (row_at columns.now row)) }
-    ensures ok { IfOk result (λ end. HasLine form fields.now (row_at columns.now row)) }
+        ≡ spec.line_of form.entry fields.now (row_at columns.now row)) }
+    ensures ok { IfOk result (λ end. HasLine form.entry fields.now (row_at columns.now row)) }
     ensures refused { IfErr result (λ fault. fault ≢ OutOfMemory
-        → Lacks form fields.now (row_at columns.now row) fault) }
+        → Lacks form.entry fields.now (row_at columns.now row) fault) }
 {
     match line_of(form, text.as_mut_slice(), fields, columns, row) {
         Err(TextFault::OutOfMemory) => long_line_of(form, text, fields, columns, row),
@@ -110,7 +110,7 @@ pub(crate) fn fitted_line_of(
 /// Writes the line of a row behind the first `at` bytes of a buffer, and returns where it ends.
 /// `OutOfMemory` where the buffer is too short.
 pub(crate) fn add_line(
-    form: Form,
+    form: Form<'_>,
     text: &mut [u8],
     at: usize,
     fields: &[Field],
@@ -124,8 +124,8 @@ pub(crate) fn add_line(
     ensures front { take at text.new ≡ take at text.old }
     ensures inside { IfOk result (λ end. end ≤ length text.new) }
     ensures text { IfOk result (λ end. take end text.new
-        ≡ take at text.old ++ spec.line_of form fields.now (row_at columns.now row)) }
-    ensures ok { IfOk result (λ end. HasLine form fields.now (row_at columns.now row)) }
+        ≡ take at text.old ++ spec.line_of form.entry fields.now (row_at columns.now row)) }
+    ensures ok { IfOk result (λ end. HasLine form.entry fields.now (row_at columns.now row)) }
 {
     let end = line_of(form, &mut text[at..], fields, columns, row)?;
     Ok(at + end)

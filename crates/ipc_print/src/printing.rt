@@ -16,6 +16,7 @@ ghost use Rattle.ipc_print.specs.Streams.{exit_status, outcome_tail, write_fault
 
 use crate::batch_text::print_batch;
 use crate::form::{Form, PrintOptions};
+use crate::limit::{count_wanted, has_reached};
 use crate::rows::{Lines, PrintFault};
 use crate::stop::{Outcome, Stop, Tally};
 use ipc_csv::{check_flat, csv_header};
@@ -41,11 +42,11 @@ fn check_end(end: End, require_mark: bool) -> Result<End, Fault>
     }
 }
 
-// Prints the rows of a stream, and tells how that ended. The text of each batch is sent before the
-// next one is read.
+// Prints the rows of a stream up to the limit, and tells how that ended. The text of each batch is
+// sent before the next one is read.
 fn print_rows<R: Source, W: Sink>(
     alloc: Global,
-    options: PrintOptions,
+    options: PrintOptions<'_>,
     stream: &mut StreamReader<R>,
     lines: &mut Lines,
     sink: &mut W,
@@ -55,17 +56,21 @@ fn print_rows<R: Source, W: Sink>(
     requires empty { lines.old ≡ [] }
     ensures schema { stream.new.schema ≡ stream.old.schema }
     ensures limits { stream.new.limits ≡ stream.old.limits }
-    ensures prints { PrintsBatches options [] stream.old stream.new
+    ensures prints { PrintsBatches options.entry [] stream.old stream.new
         (output (W.written sink.old) (W.failures sink.old) lines.old)
         (output (W.written sink.new) (W.failures sink.new) lines.new) result }
 {
     let form = options.form;
     let mut tally = Tally::none();
     loop {
+        if has_reached(options.limit, tally.rows) {
+            return Ok(Outcome::Limited);
+        }
         match stream.next() {
             Ok(Some((batch, pairs))) => {
                 let fields = stream.fields();
-                let refused = print_batch(alloc, form, fields, &pairs, &batch, lines, sink)?;
+                let count = count_wanted(options.limit, tally.rows, batch.rows());
+                let refused = print_batch(alloc, form, fields, &pairs, &batch, count, lines, sink)?;
                 if let Some(fault) = refused {
                     return Ok(Outcome::Refused(fault));
                 }
@@ -122,14 +127,14 @@ fn counts_line(alloc: Global, end: End, bytes: u64, tally: Tally) -> Result<Vec<
 // Prints what stands behind the rows, once they ended.
 fn print_tail<W: Sink>(
     alloc: Global,
-    form: Form,
+    form: Form<'_>,
     outcome: Outcome,
     bytes: u64,
     lines: &mut Lines,
     sink: &mut W,
 ) -> Result<(), PrintFault>
     ensures puts { PrintsAs (output (W.written sink.old) (W.failures sink.old) lines.old)
-        (W.written sink.new) (W.failures sink.new) lines.new (outcome_tail form outcome bytes)
+        (W.written sink.new) (W.failures sink.new) lines.new (outcome_tail form.entry outcome bytes)
         result }
     ensures whole { IfErr result (λ fault. IsWhole outcome) }
 {
@@ -141,21 +146,21 @@ fn print_tail<W: Sink>(
             let line = counts_line(alloc, end, bytes, tally)?;
             lines.put(sink, line.as_slice())
         }
-        Form::Rows { .. } | Form::Records => Ok(()),
+        Form::Rows { .. } | Form::Records(_) => Ok(()),
     }
 }
 
 /// Prints what stands in front of the rows.
 pub(crate) fn print_front<W: Sink>(
     alloc: Global,
-    form: Form,
+    form: Form<'_>,
     schema: &Schema,
     lines: &mut Lines,
     sink: &mut W,
 ) -> Result<(), PrintFault>
     requires fits { form_fault form schema.now.fields ≡ None }
     ensures puts { PrintsAs (output (W.written sink.old) (W.failures sink.old) lines.old)
-        (W.written sink.new) (W.failures sink.new) lines.new (front_text form schema.now)
+        (W.written sink.new) (W.failures sink.new) lines.new (front_text form.entry schema.now)
         result }
 {
     match form {
@@ -164,7 +169,7 @@ pub(crate) fn print_front<W: Sink>(
             Err(_) => Err(PrintFault::OutOfMemory),
         },
         Form::Rows { .. } => Ok(()),
-        Form::Records => match csv_header(alloc, schema) {
+        Form::Records(dialect) => match csv_header(alloc, dialect, schema) {
             Ok(header) => lines.put(sink, header.as_slice()),
             Err(_) => Err(PrintFault::OutOfMemory),
         },
@@ -175,7 +180,7 @@ pub(crate) fn print_front<W: Sink>(
 // is read, and what comes before a fault before that is returned.
 fn print_stream<R: Source, W: Sink>(
     alloc: Global,
-    options: PrintOptions,
+    options: PrintOptions<'_>,
     stream: &mut StreamReader<R>,
     sink: &mut W,
 ) -> Result<Outcome, PrintFault>
@@ -183,7 +188,8 @@ fn print_stream<R: Source, W: Sink>(
     requires fits { form_fault options.form stream.old.schema.fields ≡ None }
     ensures works { IfOk result (λ outcome. W.failures sink.new ≡ 0) }
     ensures handed_on { IfOk result (λ outcome. W.held_back sink.new ≡ Some []) }
-    ensures prints { PrintsAll options (front_text options.form stream.old.schema) stream.old
+    ensures prints { PrintsAll options.entry (front_text options.entry.form stream.old.schema)
+        stream.old
         stream.new (output (W.written sink.old) (W.failures sink.old) [])
         (output (W.written sink.new) (W.failures sink.new) []) result }
 {
@@ -204,12 +210,12 @@ fn print_stream<R: Source, W: Sink>(
 }
 
 // Whether the form has a place for the columns.
-fn check_form(form: Form, schema: &Schema) -> Result<(), TextFault>
-    ensures { result ≡ unless_fault (form_fault form schema.now.fields) (Ok tt) }
+fn check_form(form: Form<'_>, schema: &Schema) -> Result<(), TextFault>
+    ensures { result ≡ unless_fault (form_fault form.entry schema.now.fields) (Ok tt) }
 {
     match form {
         Form::Counts | Form::Rows { .. } => Ok(()),
-        Form::Records => check_flat(schema),
+        Form::Records(_) => check_flat(schema),
     }
 }
 
@@ -226,13 +232,13 @@ pub(crate) fn write_fault_of(fault: PrintFault) -> WriteFault
 // Prints a stream whose schema was read.
 fn print_open<R: Source, W: Sink>(
     alloc: Global,
-    options: PrintOptions,
+    options: PrintOptions<'_>,
     stream: &mut StreamReader<R>,
     sink: &mut W,
 ) -> Result<(), Stop>
     requires { stream.old.phase ≡ Reading }
     ensures handed_on { OnOk result (W.held_back sink.new ≡ Some []) }
-    ensures prints { PrintsStream options stream.old stream.new
+    ensures prints { PrintsStream options.entry stream.old stream.new
         (output (W.written sink.old) (W.failures sink.old) [])
         (output (W.written sink.new) (W.failures sink.new) []) result }
     ensures devices { stream.old.failures ≡ 0 → TellsFailures stream.old.failures
@@ -242,7 +248,7 @@ fn print_open<R: Source, W: Sink>(
         return Err(Stop::Text(fault));
     }
     match print_stream(alloc, options, stream, sink) {
-        Ok(Outcome::Whole(..)) => Ok(()),
+        Ok(Outcome::Whole(..) | Outcome::Limited) => Ok(()),
         Ok(Outcome::Broken(fault)) => Err(Stop::Read(fault, stream.messages())),
         Ok(Outcome::Refused(fault)) => Err(Stop::Text(fault)),
         Err(fault) => Err(Stop::Write(write_fault_of(fault))),
@@ -256,6 +262,11 @@ fn print_open<R: Source, W: Sink>(
 /// The text of the schema and of each batch is written, and the sink is flushed, before the next
 /// batch is read. A batch takes one write for each 64 KiB of its text, and at least one.
 ///
+/// With a limit of rows, printing ends with Ok at the last of them. The batch that has it is read
+/// whole, and no message after it; at limit 0 only the schema is read. No end-of-stream mark is
+/// required then, and `Form::Counts` prints no counts. A stream with fewer rows is printed as
+/// without a limit.
+///
 /// # Errors
 ///
 /// - `Read`: the stream is refused, the source failed, or memory ran out in reading. It has the
@@ -266,37 +277,39 @@ fn print_open<R: Source, W: Sink>(
 pub fn print<R: Source, W: Sink>(
     alloc: Global,
     limits: Limits,
-    options: PrintOptions,
+    options: PrintOptions<'_>,
     source: R,
     sink: &mut W,
 ) -> (Result<(), Stop>, R)
     // At Ok the sink holds nothing back.
     ensures handed_on { OnOk result.0 (W.held_back sink.new ≡ Some []) }
     // At Ok the bytes that were taken denote a table with its end, which is the mark if that is
-    // required, and exactly its text was printed; at a fault its cause is true, and exactly what
-    // came before was printed. The number of the message is the count of the messages before it.
-    ensures prints { Prints options limits (R.remaining source) (R.remaining result.1)
+    // required, and exactly its text was printed. Or they are the messages up to the batch in which
+    // the rows reach the limit, and exactly the text up to that row was printed. At a fault its
+    // cause is true, and exactly what came before was printed. The number of the message is the
+    // count of the messages before it.
+    ensures prints { Prints options.entry limits (R.remaining source) (R.remaining result.1)
         (W.written sink.old) (W.written sink.new) result.0 }
-    // Whatever the answer, a beginning of the text of what was read was printed, and no batch was
-    // read before the text of the one before it was printed.
-    ensures part { PrintsSome options.form limits (R.remaining source) (R.remaining result.1)
+    // Whatever the answer, a beginning of the text of what was read was printed, up to the limit.
+    // No batch was read before the text of the one before it was printed, and none after the limit.
+    ensures part { PrintsSome options.entry limits (R.remaining source) (R.remaining result.1)
         (W.written sink.old) (W.written sink.new) }
     // With devices that had not failed before, W9 is answered exactly where the sink failed in this
     // call, and F36 exactly where the source did and the sink did not. If a device had failed
     // before, the answer is no success, and its count stays 1.
     ensures devices { TellsFailures (R.failures source) (R.failures result.1)
         (W.failures sink.old) (W.failures sink.new) result.0 }
-    // A table with its mark is printed whatever follows it, unless its columns or a row have no
-    // text, the source or the sink fails, or memory runs out.
+    // A table with its mark is printed, up to the limit, whatever follows it, unless its columns or
+    // such a row have no text, the source or the sink fails, or memory runs out.
     ensures marked { (x rest : List ℕ) (t : Table)
         → R.remaining source ≡ Some (x ++ rest) → Denotes limits x t Mark
         → R.failures result.1 ≡ 0
-        → AnswersTable options.form t Mark (length x) (W.written sink.old) (W.written sink.new)
+        → AnswersTable options.entry t Mark (length x) (W.written sink.old) (W.written sink.new)
         result.0 }
     // So is one without a mark where nothing follows, if no mark is required.
-    ensures closed { (x : List ℕ) (t : Table) → options.require_mark ≡ false
+    ensures closed { (x : List ℕ) (t : Table) → options.entry.require_mark ≡ false
         → R.remaining source ≡ Some x → Denotes limits x t Closed → R.failures result.1 ≡ 0
-        → AnswersTable options.form t Closed (length x) (W.written sink.old) (W.written sink.new)
+        → AnswersTable options.entry t Closed (length x) (W.written sink.old) (W.written sink.new)
         result.0 }
 {
     match StreamReader::open(alloc, limits, source) {

@@ -2,7 +2,7 @@
 //! line of its own.
 ghost use Rattle.std.specs.Prelude.{◌≡◌, ◌≤◌, ◌<◌, ◌+◌, ◌++◌, ◌∷◌, [], length, take, vec_len};
 ghost use Rattle.std.specs.Prelude.{slice_index_or, IfErr, IfOk, IfSome, MatchResult, Some, OnOk};
-ghost use Rattle.std.specs.Prelude.{ℕ, List, IsFalse, IsTrue, None};
+ghost use Rattle.std.specs.Prelude.{ℕ, List, IsFalse, IsTrue, None, true};
 ghost use Rattle.std.specs.Fmt.{signed_decimal};
 ghost use Rattle.std.specs.Int.{cast_signed, from_le_bytes, w64};
 ghost use Rattle.ipc_model.specs.declared.value.Value.{Value};
@@ -15,7 +15,8 @@ ghost use Rattle.ipc_print.specs.Forms.{HasLine, form_fault, line_of};
 ghost use Rattle.ipc_print.specs.LentRows.{HaveRow, row_at};
 ghost use Rattle.ipc_print.specs.Output.{PrintsAs, PrintsAt, output};
 ghost use Rattle.ipc_print.specs.Rows.{AreShownRows, IsShown, cell_text, closed, comma, line};
-ghost use Rattle.ipc_print.specs.Rows.{lines};
+ghost use Rattle.ipc_print.specs.Rows.{lines, separator};
+ghost use Rattle.ipc_csv.specs.Dialects.{is_delimiter};
 
 use crate::column::Column;
 use crate::digits::put_i64;
@@ -23,6 +24,7 @@ use crate::form::Form;
 use crate::line::add_line;
 use crate::short_rows::{has_room, print_short_records, print_short_rows};
 use ipc_column::{Batch, Cell, Numbers};
+use ipc_csv::Dialect;
 use ipc_model::{Field, IntBits};
 use ipc_stream::Sink;
 use std::alloc::{AllocError, Global};
@@ -124,17 +126,17 @@ fn put_text<W: Sink>(
     Ok(0)
 }
 
-// A comma before each cell but the first.
+// A byte before each cell but the first.
 #[inline(always)]
-pub(crate) fn put_comma(text: &mut [u8], at: usize, column: usize) -> usize
+pub(crate) fn put_separator(text: &mut [u8], at: usize, byte: u8, column: usize) -> usize
     requires { at + 1 ≤ length text.old }
     ensures end { result ≤ at + 1 }
-    ensures text { take result text.new ≡ take at text.old ++ comma column }
+    ensures text { take result text.new ≡ take at text.old ++ separator byte column }
 {
     if column == 0 {
         return at;
     }
-    put_word(text, at, b",")
+    put_word(text, at, &[byte])
 }
 
 // A number or `null`: the caller knows that the cell is one of both.
@@ -200,7 +202,7 @@ fn print_cell<W: Sink>(
         (comma column ++ cell_text (cell_value cell.entry)) result }
 {
     let at = make_room(sink, text, start)?;
-    let at = put_comma(text, at, column);
+    let at = put_separator(text, at, b',', column);
     Ok(put_cell(text, at, cell))
 }
 
@@ -379,13 +381,14 @@ fn print_long_rows<W: Sink>(
     Ok(at)
 }
 
-// Prints a number from `start` on, behind a comma where it isn't the first, and returns where it
-// ends.
+// Prints a number from `start` on, behind a delimiter where it isn't the first, and returns where
+// it ends.
 #[inline(always)]
 fn print_next<W: Sink>(
     sink: &mut W,
     text: &mut [u8],
     start: usize,
+    delimiter: u8,
     column: usize,
     number: i64,
 ) -> Result<usize, PrintFault>
@@ -394,10 +397,10 @@ fn print_next<W: Sink>(
     ensures inside { IfOk result (λ end. end ≤ length text.new) }
     ensures puts { PrintsAt (output (W.written sink.old) (W.failures sink.old)
         (take start text.old)) (W.written sink.new) (W.failures sink.new) text.new
-        (comma column ++ signed_decimal number) result }
+        (separator delimiter column ++ signed_decimal number) result }
 {
     let at = make_room(sink, text, start)?;
-    let at = put_comma(text, at, column);
+    let at = put_separator(text, at, delimiter, column);
     Ok(put_i64(text, at, number))
 }
 
@@ -407,9 +410,11 @@ fn print_number_record<W: Sink>(
     sink: &mut W,
     text: &mut [u8],
     start: usize,
+    delimiter: u8,
     columns: &[&[[u8; 8]]],
     row: usize,
 ) -> Result<usize, PrintFault>
+    requires apart { is_delimiter delimiter ≡ true }
     requires some { 0 < length columns.now }
     requires long { AreLong (λ c. c.now) columns.now (row + 1) }
     requires start { start ≤ length text.old }
@@ -417,11 +422,11 @@ fn print_number_record<W: Sink>(
     ensures inside { IfOk result (λ end. end ≤ length text.new) }
     ensures puts { PrintsAt (output (W.written sink.old) (W.failures sink.old)
         (take start text.old)) (W.written sink.new) (W.failures sink.new) text.new
-        (number_record (row_in (λ c. c.now) columns.now row)) result }
+        (number_record delimiter (row_in (λ c. c.now) columns.now row)) result }
 {
     let mut at = start;
     for (column, numbers) in columns.iter().enumerate() {
-        at = print_next(sink, text, at, column, number_at(numbers, row))?;
+        at = print_next(sink, text, at, delimiter, column, number_at(numbers, row))?;
     }
     print_word(sink, text, at, b"\n")
 }
@@ -433,20 +438,22 @@ fn print_long_records<W: Sink>(
     sink: &mut W,
     text: &mut [u8],
     start: usize,
+    delimiter: u8,
     columns: &[&[[u8; 8]]],
     batch: &Batch,
 ) -> Result<usize, PrintFault>
+    requires apart { is_delimiter delimiter ≡ true }
     requires lent { AreLent (λ c. c.now) columns.now batch.now.rows }
     requires start { start ≤ length text.old }
     requires room { 32 ≤ length text.old }
     ensures inside { IfOk result (λ end. end ≤ length text.new) }
     ensures puts { PrintsAt (output (W.written sink.old) (W.failures sink.old)
         (take start text.old)) (W.written sink.new) (W.failures sink.new) text.new
-        (lines number_record batch.now.rows) result }
+        (lines (number_record delimiter) batch.now.rows) result }
 {
     let mut at = start;
     for row in 0..batch.rows() {
-        at = print_number_record(sink, text, at, columns, row)?;
+        at = print_number_record(sink, text, at, delimiter, columns, row)?;
     }
     Ok(at)
 }
@@ -479,21 +486,23 @@ fn print_number_records<W: Sink>(
     sink: &mut W,
     text: &mut [u8],
     start: usize,
+    delimiter: u8,
     columns: &[&[[u8; 8]]],
     batch: &Batch,
 ) -> Result<usize, PrintFault>
+    requires apart { is_delimiter delimiter ≡ true }
     requires lent { AreLent (λ c. c.now) columns.now batch.now.rows }
     requires start { start ≤ length text.old }
     requires room { 32 ≤ length text.old }
     ensures inside { IfOk result (λ end. end ≤ length text.new) }
     ensures puts { PrintsAt (output (W.written sink.old) (W.failures sink.old)
         (take start text.old)) (W.written sink.new) (W.failures sink.new) text.new
-        (lines number_record batch.now.rows) result }
+        (lines (number_record delimiter) batch.now.rows) result }
 {
     if has_room(text.len(), columns.len()) {
-        return print_short_records(sink, text, start, columns, batch);
+        return print_short_records(sink, text, start, delimiter, columns, batch);
     }
-    print_long_records(sink, text, start, columns, batch)
+    print_long_records(sink, text, start, delimiter, columns, batch)
 }
 
 // Prints the rows of a batch from `start` on, and returns where the last one ends.
@@ -567,7 +576,7 @@ impl Lines {
     /// columns, which the form has a place for.
     pub fn put_line(
         &mut self,
-        form: Form,
+        form: Form<'_>,
         fields: &[Field],
         columns: &[Column<'_>],
         row: usize,
@@ -576,8 +585,8 @@ impl Lines {
         requires row { HaveRow columns.now row }
         requires fits { form_fault form fields.now ≡ None }
         ensures line { IsTrue result
-            → self.new ≡ self.old ++ line_of form fields.now (row_at columns.now row) }
-        ensures ok { IsTrue result → HasLine form fields.now (row_at columns.now row) }
+            → self.new ≡ self.old ++ line_of form.entry fields.now (row_at columns.now row) }
+        ensures ok { IsTrue result → HasLine form.entry fields.now (row_at columns.now row) }
         ensures none { IsFalse result → self.new ≡ self.old }
     {
         match add_line(form, &mut self.text, self.at, fields, columns, row) {
@@ -608,21 +617,23 @@ impl Lines {
         Ok(())
     }
 
-    /// Adds each row of a batch, whose columns have these numbers, as a record of CSV. Full text
-    /// goes to the sink. `Write` is answered where the sink failed, and nothing else; then a
-    /// beginning of the records went out, and what was kept is lost.
+    /// Adds each row of a batch, whose columns have these numbers, as a record of CSV in this
+    /// dialect. Full text goes to the sink. `Write` is answered where the sink failed, and nothing
+    /// else; then a beginning of the records went out, and what was kept is lost.
     pub fn put_records<W: Sink>(
         &mut self,
         sink: &mut W,
+        dialect: Dialect<'_>,
         columns: &[&[[u8; 8]]],
         batch: &Batch,
     ) -> Result<(), PrintFault>
         requires { AreLent (λ c. c.now) columns.now batch.now.rows }
         ensures { PrintsAs (output (W.written sink.old) (W.failures sink.old) self.old)
             (W.written sink.new) (W.failures sink.new) self.new
-            (lines number_record batch.now.rows) result }
+            (lines (number_record dialect.entry.delimiter) batch.now.rows) result }
     {
-        self.at = print_number_records(sink, &mut self.text, self.at, columns, batch)?;
+        let delimiter = dialect.delimiter();
+        self.at = print_number_records(sink, &mut self.text, self.at, delimiter, columns, batch)?;
         Ok(())
     }
 

@@ -1,13 +1,15 @@
 //! Rows of signed 64-bit numbers that are short beside the text that is kept: room is asked for
 //! once for a row, and not for each number.
 ghost use Rattle.std.specs.Prelude.{◌≡◌, ◌≤◌, ◌<◌, ◌+◌, ◌*◌, ◌++◌, [], length, take, IfOk, IsTrue};
+ghost use Rattle.std.specs.Prelude.{true};
+ghost use Rattle.ipc_csv.specs.Dialects.{is_delimiter};
 ghost use Rattle.ipc_print.specs.Columns.{AreLent, AreLong, number_record, row_in};
 ghost use Rattle.ipc_print.specs.Output.{PrintsAt, output};
-ghost use Rattle.ipc_print.specs.Rows.{comma, line, lines};
+ghost use Rattle.ipc_print.specs.Rows.{line, lines};
 
 use crate::bytes::{put_array, put_byte};
 use crate::digits::put_i64;
-use crate::rows::{PrintFault, number_at, put_comma, send};
+use crate::rows::{PrintFault, number_at, put_separator, send};
 use ipc_column::Batch;
 use ipc_stream::Sink;
 
@@ -112,17 +114,24 @@ pub(crate) fn print_short_rows<W: Sink>(
 // Writes a row of numbers as a record of CSV from `start` on, where there is room for all of it,
 // and returns where it ends.
 #[inline(always)]
-fn put_record(text: &mut [u8], start: usize, columns: &[&[[u8; 8]]], row: usize) -> usize
+fn put_record(
+    text: &mut [u8],
+    start: usize,
+    delimiter: u8,
+    columns: &[&[[u8; 8]]],
+    row: usize,
+) -> usize
+    requires apart { is_delimiter delimiter ≡ true }
     requires some { 0 < length columns.now }
     requires long { AreLong (λ c. c.now) columns.now (row + 1) }
     requires room { start + (26 * length columns.now + 2) ≤ length text.old }
     ensures inside { result ≤ length text.new }
     ensures text { take result text.new
-        ≡ take start text.old ++ number_record (row_in (λ c. c.now) columns.now row) }
+        ≡ take start text.old ++ number_record delimiter (row_in (λ c. c.now) columns.now row) }
 {
     let mut at = start;
     for (column, numbers) in columns.iter().enumerate() {
-        at = put_comma(text, at, column);
+        at = put_separator(text, at, delimiter, column);
         at = put_i64(text, at, number_at(numbers, row));
     }
     put_byte(text, at, b'\n')
@@ -134,9 +143,11 @@ fn print_record<W: Sink>(
     sink: &mut W,
     text: &mut [u8],
     start: usize,
+    delimiter: u8,
     columns: &[&[[u8; 8]]],
     row: usize,
 ) -> Result<usize, PrintFault>
+    requires apart { is_delimiter delimiter ≡ true }
     requires some { 0 < length columns.now }
     requires long { AreLong (λ c. c.now) columns.now (row + 1) }
     requires start { start ≤ length text.old }
@@ -144,10 +155,10 @@ fn print_record<W: Sink>(
     ensures inside { IfOk result (λ end. end ≤ length text.new) }
     ensures puts { PrintsAt (output (W.written sink.old) (W.failures sink.old)
         (take start text.old)) (W.written sink.new) (W.failures sink.new) text.new
-        (number_record (row_in (λ c. c.now) columns.now row)) result }
+        (number_record delimiter (row_in (λ c. c.now) columns.now row)) result }
 {
     let at = make_row_room(sink, text, start, 26 * columns.len() + 2)?;
-    Ok(put_record(text, at, columns, row))
+    Ok(put_record(text, at, delimiter, columns, row))
 }
 
 /// Prints the rows of a batch as records of CSV, given its columns' numbers, from `start` on, and
@@ -157,20 +168,22 @@ pub(crate) fn print_short_records<W: Sink>(
     sink: &mut W,
     text: &mut [u8],
     start: usize,
+    delimiter: u8,
     columns: &[&[[u8; 8]]],
     batch: &Batch,
 ) -> Result<usize, PrintFault>
+    requires apart { is_delimiter delimiter ≡ true }
     requires lent { AreLent (λ c. c.now) columns.now batch.now.rows }
     requires start { start ≤ length text.old }
     requires room { 26 * length columns.now + 2 ≤ length text.old }
     ensures inside { IfOk result (λ end. end ≤ length text.new) }
     ensures puts { PrintsAt (output (W.written sink.old) (W.failures sink.old)
         (take start text.old)) (W.written sink.new) (W.failures sink.new) text.new
-        (lines number_record batch.now.rows) result }
+        (lines (number_record delimiter) batch.now.rows) result }
 {
     let mut at = start;
     for row in 0..batch.rows() {
-        at = print_record(sink, text, at, columns, row)?;
+        at = print_record(sink, text, at, delimiter, columns, row)?;
     }
     Ok(at)
 }

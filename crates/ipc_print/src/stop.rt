@@ -55,6 +55,8 @@ impl Tally {
 pub enum Outcome {
     /// At the stream's end, behind so many batches and rows.
     Whole(End, Tally),
+    /// Where the limit of rows was reached.
+    Limited,
     /// Where reading broke off.
     Broken(Fault),
     /// At a row that has no text.

@@ -7,7 +7,8 @@ use Rattle.ipc_print.proofs.batch_text.print_lines.Given as goal
 -- the first rows were put
 abbrev pub invariant-loop-row : goal.invariant-loop-row
 invariant-loop-row g l = record {
-  have : HaveLines l.form l.fields (take l.row l.batch.rows);
+  have : HaveLines l.form l.fields (take l.row (take l.count l.batch.rows));
   put : Puts (output (g.W.Sink.written l.fn.sink) (g.W.Sink.failures l.fn.sink) l.fn.lines)
-      (output (g.W.Sink.written l.sink) (g.W.Sink.failures l.sink) l.lines) (lines (line_of l.form l.fields) (take l.row l.batch.rows));
+      (output (g.W.Sink.written l.sink) (g.W.Sink.failures l.sink) l.lines)
+      (lines (line_of l.form l.fields) (take l.row (take l.count l.batch.rows)));
 }

@@ -2,4 +2,4 @@ use Rattle.ipc_print.proofs.Truths.{truth_field}
 use Rattle.ipc_print.proofs.csv_row.put_bool.Goals as goal
 
 pub returns-clause-text : goal.returns-clause-text
-returns-clause-text c = rw (truth_field _ c.args.truth) c.put_truth.ensures.text
+returns-clause-text c d = rw (truth_field d _ c.args.truth) c.put_truth.ensures.text

@@ -1,4 +1,7 @@
 use Rattle.ipc_print.proofs.csv_row.put_cell.Goals as goal
 
-pub returns-in_ok-put_held_text-in-Texts-clause-ok : goal.returns-in_ok-put_held_text-in-Texts-clause-ok
-returns-in_ok-put_held_text-in-Texts-clause-ok c = c.in_ok-put_held_text-in-Texts.ensures.ok c.args.kind.now
+pub returns-in-Texts-clause-ok : goal.returns-in-Texts-clause-ok
+returns-in-Texts-clause-ok c = c.put_held_text.ensures.ok c.args.kind.now
+
+pub returns-in-Texts-clause-refused : goal.returns-in-Texts-clause-refused
+returns-in-Texts-clause-refused c = c.put_held_text.ensures.refused c.args.kind.now

@@ -8,9 +8,11 @@ use Rattle.ipc_print.proofs.csv_row.put_cells.Goals as goal
 pub loop-fields-preserved : goal.loop-fields-preserved
 loop-fields-preserved c =
     let k = c.loop-fields in
-    let h = first_appended k.fields.now k.columns.now c.args.row c.field-item.result c.column-item.result _ k.number _ _ _ _
+    let h = first_appended c.args.dialect.now k.fields.now k.columns.now c.args.row c.field-item.result c.column-item.result _ k.number _ _
+    _ _
     (search rules) (search rules) k.invariant.columns k.invariant.row c.field-item.is c.column-item.is
-    (ap (λ (vs : List Value). slice_index_or vs c.args.row v.Null) c.tree.ensures) k.invariant.text c.in_ok-place.ensures.text
+    (ap (λ (vs : List Value). slice_index_or vs c.args.row v.Null) c.tree.ensures) k.invariant.text
+    (rw c.delimiter.ensures at c.in_ok-place.ensures.text)
     c.in_ok-at.ensures.ok in
     let left = h.left in
     let number = k.invariant.number in

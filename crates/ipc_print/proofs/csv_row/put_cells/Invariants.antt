@@ -10,8 +10,9 @@ invariant-loop-fields l = record {
   row : HaveRow l.columns l.row;
   number : l.number + length l.fields ≡ length l.fn.fields;
   inside : l.at ≤ length l.text;
-  text : with_fields l.number (take l.at l.text) (all_texts l.number (each_text l.fields (row_at l.columns l.row)))
-      ≡ with_fields 0 [] (all_texts 0 (each_text l.fn.fields (row_at l.fn.columns l.row)));
+  text : with_fields l.dialect.delimiter l.number (take l.at l.text) (all_texts l.number (each_text l.dialect l.fields (row_at l.columns
+      l.row)))
+      ≡ with_fields l.dialect.delimiter 0 [] (all_texts 0 (each_text l.dialect l.fn.fields (row_at l.fn.columns l.row)));
 }
 
 abbrev pub decreases-loop-fields : goal.decreases-loop-fields

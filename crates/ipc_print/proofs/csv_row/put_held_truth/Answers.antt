@@ -4,9 +4,10 @@ use Rattle.ipc_print.proofs.SlotTexts.{slot_csv}
 use Rattle.ipc_print.proofs.csv_row.put_held_truth.Goals as goal
 
 pub returns-in-Bool-clause-ok : goal.returns-in-Bool-clause-ok
-returns-in-Bool-clause-ok c = rw (slot_csv c.args.kind.now c.args.tree.now c.args.slot (slot.Bool c.in-Bool.truth)
-    (rw c.in-Bool.is at c.requires.held)) (ap Some c.put_bool.ensures.text)
+returns-in-Bool-clause-ok c = rw (slot_csv c.args.dialect.now c.args.kind.now c.args.tree.now c.args.slot (slot.Bool c.in-Bool.truth)
+    (rw c.in-Bool.is at c.requires.held)) (ap Some (c.put_bool.ensures.text c.args.dialect.now))
 
-pub returns-in-Null-clause-ok : goal.returns-in-Null-clause-ok
-returns-in-Null-clause-ok c = rw (slot_csv c.args.kind.now c.args.tree.now c.args.slot slot.Null (rw c.in-Null.is at c.requires.held))
-    (ap Some c.put_null.ensures.text)
+pub returns-in_ok-put_null-in-Null-clause-ok : goal.returns-in_ok-put_null-in-Null-clause-ok
+returns-in_ok-put_null-in-Null-clause-ok c = rw (slot_csv c.args.dialect.now c.args.kind.now c.args.tree.now c.args.slot slot.Null (rw
+    c.in-Null.is at c.requires.held))
+    (ap Some c.in_ok-put_null-in-Null.ensures.text)

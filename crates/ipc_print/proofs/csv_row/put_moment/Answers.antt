@@ -5,10 +5,10 @@ use Rattle.ipc_print.proofs.MomentTexts.{field_moment, lacks_moment}
 use Rattle.ipc_print.proofs.csv_row.put_moment.Goals as goal
 
 pub returns-in-Some-clause-ok : goal.returns-in-Some-clause-ok
-returns-in-Some-clause-ok c =
+returns-in-Some-clause-ok c d =
     let fits : FitsSigned w64 c.args.number = search rules in
     let z = to_z-of_z w64 c.args.number fits in
-    field_moment _ _ (moment_text c.args.kind.now c.args.number) (rw z at c.put_moment.ensures.plain)
+    field_moment d _ _ (moment_text c.args.kind.now c.args.number) (rw z at c.put_moment.ensures.plain)
     (rw (c.in-Some.is, z) at c.put_moment.ensures.text)
 
 pub returns-in-None-clause-refused : goal.returns-in-None-clause-refused

@@ -5,16 +5,16 @@ use Rattle.ipc_print.proofs.RecordEnds.{end_of_none, end_of_some}
 use Rattle.ipc_print.proofs.fields.put_end.Goals as goal
 
 pub returns-then-at-eq0-clause-ended : goal.returns-then-at-eq0-clause-ended
-returns-then-at-eq0-clause-ended c =
+returns-then-at-eq0-clause-ended c delimiter =
     let before = take c.args.at c.args.text.now in
     let none : length before ≡ 0 = length-take-le c.args.at c.args.text.now c.requires ∙ c.if-at-eq0.true in
     let zero = c.if-at-eq0.true in
-    ended 0 before _ (c.put.ensures.text ∙ (rw zero refl ∙ ap (λ (t : List ℕ). before ++ t) (sym (end_of_none before none))))
+    ended delimiter 0 before _ (c.put.ensures.text ∙ (rw zero refl ∙ ap (λ (t : List ℕ). before ++ t) (sym (end_of_none before none))))
 
 pub returns-clause-ended : goal.returns-clause-ended
-returns-clause-ended c =
+returns-clause-ended c delimiter =
     let before = take c.args.at c.args.text.now in
     let size : length before ≡ c.args.at = length-take-le c.args.at c.args.text.now c.requires in
     let other = c.if-at-eq0.false in
     let some : 0 < length before = omega (arith, size, other) in
-    ended 0 before _ (c.put-2.ensures.text ∙ ap (λ (t : List ℕ). before ++ t) (sym (end_of_some before some)))
+    ended delimiter 0 before _ (c.put-2.ensures.text ∙ ap (λ (t : List ℕ). before ++ t) (sym (end_of_some before some)))

@@ -4,5 +4,6 @@ use Rattle.ipc_print.proofs.NumberFields.{signed_as_it_stands}
 use Rattle.ipc_print.proofs.fields.put_signed_field.Goals as goal
 
 pub returns-clause-text : goal.returns-clause-text
-returns-clause-text c =
-    rw (signed_as_it_stands c.args.number c.ranges.number) (rw (to_z-of_z w64 c.args.number c.ranges.number) at c.put_signed.ensures.text)
+returns-clause-text c d =
+    rw (signed_as_it_stands d.delimiter d.allowed.apart c.args.number c.ranges.number) (rw (to_z-of_z w64 c.args.number c.ranges.number) at
+    c.put_signed.ensures.text)

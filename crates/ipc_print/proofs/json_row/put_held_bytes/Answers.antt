@@ -4,9 +4,11 @@ use Rattle.ipc_print.proofs.json_row.put_held_bytes.Goals as goal
 
 pub returns-in-Bytes-clause-text : goal.returns-in-Bytes-clause-text
 returns-in-Bytes-clause-text c =
-    rw (slot_json c.args.field.now c.args.column.now c.args.slot (slot.Bytes c.in-Bytes.bytes) (rw c.in-Bytes.is at c.requires.held))
+    rw (slot_json c.args.shape c.args.field.now c.args.column.now c.args.slot (slot.Bytes c.in-Bytes.bytes)
+    (rw c.in-Bytes.is at c.requires.held))
     c.put_bytes.ensures.text
 
 pub returns-in-Null-clause-text : goal.returns-in-Null-clause-text
 returns-in-Null-clause-text c =
-    rw (slot_json c.args.field.now c.args.column.now c.args.slot slot.Null (rw c.in-Null.is at c.requires.held)) c.put_null.ensures.text
+    rw (slot_json c.args.shape c.args.field.now c.args.column.now c.args.slot slot.Null
+    (rw c.in-Null.is at c.requires.held)) c.put_null.ensures.text

@@ -7,9 +7,11 @@ use Rattle.ipc_print.proofs.json_row.put_held_number.Goals as goal
 pub returns-in-Int-clause-text : goal.returns-in-Int-clause-text
 returns-in-Int-clause-text c =
     let fits : FitsSigned w64 c.in-Int.number = search rules in
-    rw (slot_json c.args.field.now c.args.column.now c.args.slot (slot.Int c.in-Int.number) (rw c.in-Int.is at c.requires.held))
+    rw (slot_json c.args.shape c.args.field.now c.args.column.now c.args.slot (slot.Int c.in-Int.number)
+    (rw c.in-Int.is at c.requires.held))
     (rw (to_z-of_z w64 c.in-Int.number fits) at c.put_int.ensures.text)
 
 pub returns-in-Null-clause-text : goal.returns-in-Null-clause-text
 returns-in-Null-clause-text c =
-    rw (slot_json c.args.field.now c.args.column.now c.args.slot slot.Null (rw c.in-Null.is at c.requires.held)) c.put_null.ensures.text
+    rw (slot_json c.args.shape c.args.field.now c.args.column.now c.args.slot slot.Null
+    (rw c.in-Null.is at c.requires.held)) c.put_null.ensures.text

@@ -4,9 +4,11 @@ use Rattle.ipc_print.proofs.json_row.put_held_truth.Goals as goal
 
 pub returns-in-Bool-clause-text : goal.returns-in-Bool-clause-text
 returns-in-Bool-clause-text c =
-    rw (slot_json c.args.field.now c.args.column.now c.args.slot (slot.Bool c.in-Bool.truth) (rw c.in-Bool.is at c.requires.held))
+    rw (slot_json c.args.shape c.args.field.now c.args.column.now c.args.slot (slot.Bool c.in-Bool.truth)
+    (rw c.in-Bool.is at c.requires.held))
     c.put_bool.ensures.text
 
 pub returns-in-Null-clause-text : goal.returns-in-Null-clause-text
 returns-in-Null-clause-text c =
-    rw (slot_json c.args.field.now c.args.column.now c.args.slot slot.Null (rw c.in-Null.is at c.requires.held)) c.put_null.ensures.text
+    rw (slot_json c.args.shape c.args.field.now c.args.column.now c.args.slot slot.Null
+    (rw c.in-Null.is at c.requires.held)) c.put_null.ensures.text

@@ -3,6 +3,7 @@ use Rattle.std.specs.Prelude.{nat_lt}
 use Rattle.serde_json.specs.Written.{items_text}
 use Rattle.ipc_model.specs.declared.schema.Field.{Field}
 use Rattle.ipc_model.specs.declared.value.Value.TheVariants as v
+use Rattle.ipc_json.specs.declared.row.RowShape.{RowShape}
 use Rattle.ipc_json.specs.RowJson.{cell_json, items_json}
 use Rattle.ipc_print.proofs.json_row.put_nulls.Given as goal
 
@@ -10,7 +11,7 @@ use Rattle.ipc_print.proofs.json_row.put_nulls.Given as goal
 abbrev pub invariant-loop-number : goal.invariant-loop-number
 invariant-loop-number l = record {
   inside : l.at ≤ length l.text;
-  text : (field : Field) → take l.at l.text
-      ++ items_text (nat_lt 0 l.number) (items_json (cell_json field) (drop l.number (replicate l.count v.Null)))
-      ≡ take l.start l.initial.text ++ items_text false (items_json (cell_json field) (replicate l.count v.Null));
+  text : (shape : RowShape) → (field : Field) → take l.at l.text
+      ++ items_text (nat_lt 0 l.number) (items_json (cell_json shape field) (drop l.number (replicate l.count v.Null)))
+      ≡ take l.start l.initial.text ++ items_text false (items_json (cell_json shape field) (replicate l.count v.Null));
 }

@@ -10,7 +10,7 @@ returns-in-Ok-clause-prints g c =
     c.print_open-result.ensures.prints
 
 pub returns-in-Err-clause-prints : goal.returns-in-Err-clause-prints
-returns-in-Err-clause-prints g c = prints_none c.args.options.form c.args.options.require_mark _ _ _ c.in-Err.fault c.in-Err.ensures.refused
+returns-in-Err-clause-prints g c = prints_none c.args.options _ _ _ c.in-Err.fault c.in-Err.ensures.refused
 
 pub returns-in-Ok-clause-part : goal.returns-in-Ok-clause-part
 returns-in-Ok-clause-part g c = part_of c.args.options _ _ _ _ c.print_open-result.result
@@ -19,7 +19,7 @@ returns-in-Ok-clause-part g c = part_of c.args.options _ _ _ _ c.print_open-resu
 
 pub returns-in-Err-clause-part : goal.returns-in-Err-clause-part
 returns-in-Err-clause-part g c = part_of c.args.options _ _ _ _ (Err (Read c.in-Err.fault 0))
-    (prints_none c.args.options.form c.args.options.require_mark _ _ _ c.in-Err.fault c.in-Err.ensures.refused)
+    (prints_none c.args.options _ _ _ c.in-Err.fault c.in-Err.ensures.refused)
 
 pub returns-in-Ok-clause-marked : goal.returns-in-Ok-clause-marked
 returns-in-Ok-clause-marked g c = λ x rest t is d none.
@@ -31,7 +31,7 @@ returns-in-Ok-clause-marked g c = λ x rest t is d none.
 pub returns-in-Err-clause-marked : goal.returns-in-Err-clause-marked
 returns-in-Err-clause-marked g c = λ x rest t is d none.
     printed_marked c.args.options _ _ None None _ _ none (Err (Read c.in-Err.fault 0)) c.in-Err.ensures.failures
-    (prints_none c.args.options.form c.args.options.require_mark _ _ None c.in-Err.fault c.in-Err.ensures.refused) x rest t is d
+    (prints_none c.args.options _ _ None c.in-Err.fault c.in-Err.ensures.refused) x rest t is d
 
 pub returns-in-Ok-clause-closed : goal.returns-in-Ok-clause-closed
 returns-in-Ok-clause-closed g c = λ x t free is d none.
@@ -43,4 +43,4 @@ returns-in-Ok-clause-closed g c = λ x t free is d none.
 pub returns-in-Err-clause-closed : goal.returns-in-Err-clause-closed
 returns-in-Err-clause-closed g c = λ x t free is d none.
     printed_closed c.args.options _ _ None None _ _ none (Err (Read c.in-Err.fault 0)) c.in-Err.ensures.failures
-    (prints_none c.args.options.form c.args.options.require_mark _ _ None c.in-Err.fault c.in-Err.ensures.refused) x t free is d
+    (prints_none c.args.options _ _ None c.in-Err.fault c.in-Err.ensures.refused) x t free is d

@@ -1,25 +1,26 @@
 use Rattle.std.proofs.Common.{Ok, Err, refl}
 use Rattle.std.proofs.lemmas.Result.{err_from_is_err_and}
 use Rattle.ipc_print.specs.Output.{output}
-use Rattle.ipc_print.proofs.Endings.{part_none, part_front, front_sent, front_unsent, behind_front, flushed, unflushed, tail_cut}
+use Rattle.ipc_print.proofs.Endings.{behind_front, flushed, unflushed, tail_cut}
+use Rattle.ipc_print.proofs.FrontPuts.{part_none, part_front, front_sent, front_unsent}
 use Rattle.ipc_print.proofs.printing.print_stream.Goals as goal
 
 pub returns-in_err-lines-clause-prints : goal.returns-in_err-lines-clause-prints
 returns-in_err-lines-clause-prints g c =
     let p = err_from_is_err_and c.from_residual.result c.from_residual.ensures.1 in
-    rw (p.1, p.2) (part_none c.args.options.form _ c.args.stream.now _ refl)
+    rw (p.1, p.2) (part_none c.args.options _ c.args.stream.now _ refl)
 
 pub returns-in_err-print_front-clause-prints : goal.returns-in_err-print_front-clause-prints
 returns-in_err-print_front-clause-prints g c =
     let p = err_from_is_err_and c.from_residual-in_err-print_front.result c.from_residual-in_err-print_front.ensures.1 in
-    rw (p.1, p.2) (part_front c.args.options.form _ c.args.stream.now _ _ _ _ refl
+    rw (p.1, p.2) (part_front c.args.options _ c.args.stream.now _ _ _ _ refl
     (rw (c.in_ok-lines.ensures, c.schema.ensures) at c.in_err-print_front.ensures.puts))
 
 pub returns-in_err-flush-clause-prints : goal.returns-in_err-flush-clause-prints
 returns-in_err-flush-clause-prints g c =
     let p = err_from_is_err_and c.from_residual-in_err-flush.result c.from_residual-in_err-flush.ensures.1 in
     let puts = rw (c.in_ok-lines.ensures, c.schema.ensures) at c.in_ok-print_front.ensures.puts in
-    rw (p.1, p.2, c.in_err-flush.ensures.works) (front_unsent c.args.options.form _ c.args.stream.now _ _ _ _ refl puts
+    rw (p.1, p.2, c.in_err-flush.ensures.works) (front_unsent c.args.options _ c.args.stream.now _ _ _ _ refl puts
     (rw c.in_err-flush.ensures.works at c.in_err-flush.ensures.puts))
 
 pub returns-in_err-outcome-clause-prints : goal.returns-in_err-outcome-clause-prints

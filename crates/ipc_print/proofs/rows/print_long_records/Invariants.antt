@@ -9,5 +9,6 @@ abbrev pub invariant-loop-row : goal.invariant-loop-row
 invariant-loop-row g l = record {
   inside : l.at ≤ length l.text;
   put : Puts (output (g.W.Sink.written l.fn.sink) (g.W.Sink.failures l.fn.sink) (take l.fn.start l.fn.text))
-      (output (g.W.Sink.written l.sink) (g.W.Sink.failures l.sink) (take l.at l.text)) (lines number_record (take l.row l.batch.rows));
+      (output (g.W.Sink.written l.sink) (g.W.Sink.failures l.sink) (take l.at l.text)) (lines (number_record l.delimiter) (take l.row
+      l.batch.rows));
 }

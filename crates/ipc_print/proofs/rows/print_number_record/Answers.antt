@@ -42,8 +42,10 @@ loop-column-preserved g c =
     let number = got c.args.columns.now c.args.row c.loop-column.column c.number_at.result c.loop-column-test.true c.number_at.ensures in
     record {
       inside = c.in_ok-at.ensures.inside;
-      some = λ _. some_more (row_in at c.args.columns.now c.args.row) c.loop-column.column c.number_at.result here number fits;
-      put = record_next (row_in at c.args.columns.now c.args.row) _ _ _ c.loop-column.column c.number_at.result here number fits
+      some = λ _. some_more c.args.delimiter c.requires.apart (row_in at c.args.columns.now c.args.row) c.loop-column.column
+          c.number_at.result here number fits;
+      put = record_next c.args.delimiter c.requires.apart (row_in at c.args.columns.now c.args.row) _ _ _ c.loop-column.column
+          c.number_at.result here number fits
           c.loop-column.invariant.put (rw (to_z-of_z w64 c.number_at.result fits) at c.in_ok-at.ensures.puts);
     }
 
@@ -53,7 +55,8 @@ returns-in_err-at-clause-puts g c =
     let fits : FitsSigned w64 c.number_at.result = search rules in
     let here = wide c.args.columns.now c.args.row c.loop-column.column c.loop-column-test.true in
     let number = got c.args.columns.now c.args.row c.loop-column.column c.number_at.result c.loop-column-test.true c.number_at.ensures in
-    rw (p.1, p.2) (record_cut (row_in at c.args.columns.now c.args.row) _ _ _ _ c.loop-column.column c.number_at.result _ here number fits
+    rw (p.1, p.2) (record_cut c.args.delimiter c.requires.apart (row_in at c.args.columns.now c.args.row) _ _ _ _ c.loop-column.column
+    c.number_at.result _ here number fits
     c.loop-column.invariant.put (rw (to_z-of_z w64 c.number_at.result fits) at c.in_err-at.ensures.puts))
 
 pub returns-clause-puts : goal.returns-clause-puts
@@ -61,5 +64,6 @@ returns-clause-puts g c =
     let size : length (row_in at c.args.columns.now c.args.row) ≡ c.loop-column.column =
     omega (arith, length-map c.args.columns.now (λ b. number_in (slice_index_or (at b) c.args.row []))) in
     let some : 0 < c.loop-column.column = omega arith in
-    record_ends (row_in at c.args.columns.now c.args.row) _ _ _ _ c.loop-column.column _ c.print_word.result size
+    record_ends c.args.delimiter c.requires.apart (row_in at c.args.columns.now c.args.row) _ _ _ _ c.loop-column.column _
+    c.print_word.result size
     (c.loop-column.invariant.some some) c.loop-column.invariant.put c.print_word.ensures.puts

@@ -1,5 +1,5 @@
 use Rattle.std.proofs.lemmas.Result.{err_from_is_err_and}
-use Rattle.ipc_print.proofs.Endings.{then_sent}
+use Rattle.ipc_print.proofs.FrontPuts.{then_sent}
 use Rattle.ipc_print.proofs.Puts.{puts_never}
 use Rattle.ipc_print.proofs.schema.send_schema.Goals as goal
 

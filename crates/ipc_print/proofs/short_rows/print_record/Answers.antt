@@ -7,5 +7,6 @@ use Rattle.ipc_print.proofs.short_rows.print_record.Goals as goal
 pub returns-in_err-at-clause-puts : goal.returns-in_err-at-clause-puts
 returns-in_err-at-clause-puts g c =
     let p = err_from_is_err_and c.from_residual.result c.from_residual.ensures.1 in
-    rw (p.1, p.2) (puts_not_more _ _ _ [] (number_record (row_in (λ (b : Bor (List (List ℕ))). b.now) c.args.columns.now c.args.row)) _
+    rw (p.1, p.2) (puts_not_more _ _ _ [] (number_record c.args.delimiter (row_in (λ (b : Bor (List (List ℕ))). b.now) c.args.columns.now
+    c.args.row)) _
     c.in_err-at.ensures.puts)

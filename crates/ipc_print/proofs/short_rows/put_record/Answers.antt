@@ -23,7 +23,7 @@ use Rattle.std.proofs.Common.{
   take,
 }
 use Rattle.std.specs.Fmt.{signed_decimal}
-use Rattle.ipc_print.specs.Rows.{comma}
+use Rattle.ipc_print.specs.Rows.{separator}
 use Rattle.std.specs.Prelude.{ℤ, slice_get, slice_index_or}
 use Rattle.std.specs.Int.{cast_signed, from_le_bytes}
 use Rattle.std.proofs.lemmas.Int.{to_z-of_z}
@@ -66,13 +66,16 @@ loop-column-preserved c =
     let here = wide c.args.columns.now c.args.row c.loop-column.column c.loop-column-test.true in
     let number = got c.args.columns.now c.args.row c.loop-column.column c.number_at.result c.loop-column-test.true c.number_at.ensures in
     record {
-      room = omega (arith, c.put_i64-at.ensures.end, c.put_comma-at.ensures.end, c.loop-column.invariant.room, c.loop-column-test.true);
-      some = λ _. some_more (row_in at c.args.columns.now c.args.row) c.loop-column.column c.number_at.result here number fits;
-      put = record_next (row_in at c.args.columns.now c.args.row) _ _ _ c.loop-column.column c.number_at.result here number fits
+      room = omega (arith, c.put_i64-at.ensures.end, c.put_separator-at.ensures.end, c.loop-column.invariant.room, c.loop-column-test.true);
+      some = λ _. some_more c.args.delimiter c.requires.apart (row_in at c.args.columns.now c.args.row) c.loop-column.column
+          c.number_at.result here number fits;
+      put = record_next c.args.delimiter c.requires.apart (row_in at c.args.columns.now c.args.row) _ _ _ c.loop-column.column
+          c.number_at.result here number fits
           c.loop-column.invariant.put
           (puts_kept (Some []) 0 _ _ _
-          (rw (to_z-of_z w64 c.number_at.result fits, c.put_comma-at.ensures.text) at c.put_i64-at.ensures.text
-          ∙ append_assoc (take c.loop-column.at c.loop-column.text) (comma c.loop-column.column) (signed_decimal c.number_at.result)));
+          (rw (to_z-of_z w64 c.number_at.result fits, c.put_separator-at.ensures.text) at c.put_i64-at.ensures.text
+          ∙ append_assoc (take c.loop-column.at c.loop-column.text) (separator c.args.delimiter c.loop-column.column) (signed_decimal
+          c.number_at.result)));
     }
 
 pub returns-clause-text : goal.returns-clause-text
@@ -80,5 +83,6 @@ returns-clause-text c =
     let size : length (row_in at c.args.columns.now c.args.row) ≡ c.loop-column.column =
     omega (arith, length-map c.args.columns.now (λ b. number_in (slice_index_or (at b) c.args.row []))) in
     let some : 0 < c.loop-column.column = omega arith in
-    (record_ends (row_in at c.args.columns.now c.args.row) _ _ _ _ c.loop-column.column _ (Ok c.put_byte.result) size
+    (record_ends c.args.delimiter c.requires.apart (row_in at c.args.columns.now c.args.row) _ _ _ _ c.loop-column.column _ (Ok
+    c.put_byte.result) size
     (c.loop-column.invariant.some some) c.loop-column.invariant.put (puts_kept (Some []) 0 _ _ _ c.put_byte.ensures.text)).bytes

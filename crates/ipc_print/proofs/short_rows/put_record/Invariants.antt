@@ -9,7 +9,8 @@ use Rattle.ipc_print.proofs.short_rows.put_record.Given as goal
 abbrev pub invariant-loop-column : goal.invariant-loop-column
 invariant-loop-column l = record {
   room : l.at + (26 * (length l.columns - l.column) + 2) ≤ length l.text;
-  some : 0 < l.column → 0 < length (body (map cell_text (take l.column (row_in (λ (c : Bor (List (List ℕ))). c.now) l.columns l.row))));
+  some : 0 < l.column → 0 < length (body l.delimiter (map cell_text (take l.column (row_in (λ (c : Bor (List (List ℕ))). c.now) l.columns
+      l.row))));
   put : Puts (output (Some []) 0 (take l.start l.initial.text)) (output (Some []) 0 (take l.at l.text))
-      (body (map cell_text (take l.column (row_in (λ (c : Bor (List (List ℕ))). c.now) l.columns l.row))));
+      (body l.delimiter (map cell_text (take l.column (row_in (λ (c : Bor (List (List ℕ))). c.now) l.columns l.row))));
 }

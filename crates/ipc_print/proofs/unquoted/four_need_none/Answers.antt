@@ -3,4 +3,4 @@ use Rattle.ipc_print.proofs.SetApart.{none_in_lanes}
 use Rattle.ipc_print.proofs.unquoted.four_need_none.Goals as goal
 
 pub returns : goal.returns
-returns c = none_in_lanes c.args.field.now c.args.at 4 c.requires (omega arith) c.type_inv.field
+returns c = none_in_lanes c.args.delimiter c.args.field.now c.args.at 4 c.requires (omega arith)

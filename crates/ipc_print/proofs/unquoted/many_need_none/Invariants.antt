@@ -4,7 +4,7 @@ use Rattle.ipc_print.proofs.unquoted.many_need_none.Given as goal
 
 -- the first bytes call for none
 abbrev pub invariant-loop-at : goal.invariant-loop-at
-invariant-loop-at l = (l.at ≤ length l.field) × NeedNone l.field 0 l.at
+invariant-loop-at l = (l.at ≤ length l.field) × NeedNone l.delimiter l.field 0 l.at
 
 -- the bytes that are left
 abbrev pub decreases-loop-at : goal.decreases-loop-at

@@ -4,7 +4,8 @@ use Rattle.ipc_print.proofs.unquoted.put_front_if_unquoted.Goals as goal
 
 pub returns-clause-none : goal.returns-clause-none
 returns-clause-none c =
-    front_none c.sixteen_need_none.result c.args.bytes.now c.args.len 16 c.requires.few c.requires.sixteen c.sixteen_need_none.ensures
+    front_none c.args.delimiter c.sixteen_need_none.result c.args.bytes.now c.args.len 16 c.requires.few c.requires.sixteen
+    c.sixteen_need_none.ensures
 
 pub returns-clause-text : goal.returns-clause-text
 returns-clause-text c =
