@@ -29,27 +29,28 @@ use Rattle.ipc_from_csv.specs.declared.rows.RowReader.{RowReader}
 use Rattle.ipc_from_csv.specs.declared.stop.Stop.{Stop}
 use Rattle.ipc_from_csv.proofs.Reading.{are_first}
 use Rattle.ipc_from_csv.proofs.Sending.{all_accepted, as_out, came_before, came_fill, came_filled}
+use Rattle.ipc_csv.specs.declared.dialect.Dialect.{Dialect}
 
 -- ---- what isn't sent of a batch that is refused
 
 -- a writer that works doesn't answer that it failed before
-pub not_failed : (IsWhole : List ℕ → Type 0) (kept : _) (old new : Writer) (fault : WriteFault) → old.failed ≡ false
+pub not_failed : (d : Dialect) (IsWhole : List ℕ → Type 0) (kept : _) (old new : Writer) (fault : WriteFault) → old.failed ≡ false
     → Leaves IsWhole kept old new (Err fault) → ¬ (fault ≡ w.Failed)
-not_failed IsWhole kept old new fault works leaves = λ is.
+not_failed d IsWhole kept old new fault works leaves = λ is.
     let before = subst (λ f. Leaves IsWhole kept old new (Err f)) is leaves in
     false≢true (sym works ∙ before.0)
 
 -- what isn't out where a call of a writer that works is refused
-pub leaves_unsent : (IsWhole : List ℕ → Type 0) (kept : _) (old new : Writer) (fault : WriteFault) → old.failed ≡ false
+pub leaves_unsent : (d : Dialect) (IsWhole : List ℕ → Type 0) (kept : _) (old new : Writer) (fault : WriteFault) → old.failed ≡ false
     → Leaves IsWhole kept old new (Err fault) → NotSentWhole IsWhole old.written new.written old.failures new.failures fault
-leaves_unsent IsWhole kept old new w.BadSchema works leaves = (ap (λ v. v.written) leaves.1, ap (λ v. v.failures) leaves.1)
-leaves_unsent IsWhole kept old new (w.Row row cause) works leaves = (ap (λ v. v.written) leaves.1, ap (λ v. v.failures) leaves.1)
-leaves_unsent IsWhole kept old new w.TooLong works leaves = (ap (λ v. v.written) leaves.1, ap (λ v. v.failures) leaves.1)
-leaves_unsent IsWhole kept old new w.DictionaryFull works leaves = (ap (λ v. v.written) leaves.1, ap (λ v. v.failures) leaves.1)
-leaves_unsent IsWhole kept old new w.TooManyRows works leaves = (ap (λ v. v.written) leaves.1, ap (λ v. v.failures) leaves.1)
-leaves_unsent IsWhole kept old new w.Write works leaves = leaves.1
-leaves_unsent IsWhole kept old new w.Failed works leaves = absurd (false≢true (sym works ∙ leaves.0))
-leaves_unsent IsWhole kept old new w.OutOfMemory works leaves = (ap (λ v. v.written) leaves.1, ap (λ v. v.failures) leaves.1)
+leaves_unsent d IsWhole kept old new w.BadSchema works leaves = (ap (λ v. v.written) leaves.1, ap (λ v. v.failures) leaves.1)
+leaves_unsent d IsWhole kept old new (w.Row row cause) works leaves = (ap (λ v. v.written) leaves.1, ap (λ v. v.failures) leaves.1)
+leaves_unsent d IsWhole kept old new w.TooLong works leaves = (ap (λ v. v.written) leaves.1, ap (λ v. v.failures) leaves.1)
+leaves_unsent d IsWhole kept old new w.DictionaryFull works leaves = (ap (λ v. v.written) leaves.1, ap (λ v. v.failures) leaves.1)
+leaves_unsent d IsWhole kept old new w.TooManyRows works leaves = (ap (λ v. v.written) leaves.1, ap (λ v. v.failures) leaves.1)
+leaves_unsent d IsWhole kept old new w.Write works leaves = leaves.1
+leaves_unsent d IsWhole kept old new w.Failed works leaves = absurd (false≢true (sym works ∙ leaves.0))
+leaves_unsent d IsWhole kept old new w.OutOfMemory works leaves = (ap (λ v. v.written) leaves.1, ap (λ v. v.failures) leaves.1)
 
 module _ (IsWhole : List ℕ → Type 0) (limits : Limits) (s : Schema) (b : BatchRows) (old new : Writer) where
   -- nothing is out where a row isn't taken
@@ -117,11 +118,12 @@ first_out s batches more old failures writer out = record {
 }
 
 -- where the batch behind those that are out is refused, writing the table with it broke off before it
-pub batch_breaks : (s : Schema) (batches : List BatchRows) (old : Option (List ℕ)) (failures : ℕ) (writer new : Writer) (b : BatchRows)
+pub batch_breaks : (d : Dialect) (s : Schema) (batches : List BatchRows) (old : Option (List ℕ)) (failures : ℕ) (writer new : Writer) (b :
+    BatchRows)
     (fault : WriteFault) → IsOut s batches old failures writer → RefusesBatch writer.limits s b fault
     → NotSentWhole (SendsBatch writer.limits s (kept_after s.fields (none_sent s) batches) b) writer.written new.written writer.failures
     new.failures fault → BreaksOff writer.limits (table_of s (batches ++ b ∷ [])) old new.written failures new.failures fault
-batch_breaks s batches old failures writer new b fault out refuses unsent =
+batch_breaks d s batches old failures writer new b fault out refuses unsent =
     let long = length_push batches b in
     tables.batch_breaks (table_of s (batches ++ b ∷ [])) old writer.written new.written failures writer.failures new.failures
     (length batches) (first_out s batches (b ∷ []) old failures writer out) b (omega (arith, long))
@@ -134,20 +136,21 @@ pub last_is : (left : List (List Value)) → 0 < length left → last_batch left
 last_is [] some = absurd (omega (arith, some))
 last_is (r ∷ left) some = refl
 
-module _ {R : Type 0} (remaining : R → Option (List ℕ)) (input : Option (List ℕ)) (s : Schema) (size : ℕ) (old : Option (List ℕ))
+module _ (d : Dialect) {R : Type 0} (remaining : R → Option (List ℕ)) (input : Option (List ℕ)) (s : Schema) (size : ℕ) (old : Option (List
+    ℕ))
     (failures : ℕ) (now : RowReader R) (writer : Writer) where
-  module _ (left : List (List Value)) (came : Came remaining input s size old failures now writer left)
+  module _ (left : List (List Value)) (came : Came d remaining input s size old failures now writer left)
       (accepts : 0 < length left → AcceptsBatch writer.limits s (batch_of left)) (few : length left < size) where
     -- ---- the next record isn't read as a row
 
     -- the full batches are out
-    full_sent : SendsFull s size came.records old writer.written failures writer.failures
+    full_sent : SendsFull d s size came.records old writer.written failures writer.failures
     full_sent = record {
       limits = writer.limits;
       standard = came.out.standard;
       batches = came.batches;
       left = left;
-      batched = came_fill remaining input s size old failures now writer left came few;
+      batched = came_fill d remaining input s size old failures now writer left came few;
       accepts = record {
         schema = came.out.accepts_schema;
         batches = all_accepted (AcceptsBatch writer.limits s) came.batches left came.out.accepts accepts;
@@ -162,22 +165,22 @@ module _ {R : Type 0} (remaining : R → Option (List ℕ)) (input : Option (Lis
       };
     }
 
-    stops_here : StopsBehind input s size old writer.written failures writer.failures
+    stops_here : StopsBehind d input s size old writer.written failures writer.failures
     stops_here = record {
       records = came.records;
-      there = are_first remaining input (names s.fields ∷ came.records) now.reader came.read.stands;
+      there = are_first d remaining input (names s.fields ∷ came.records) now.reader came.read.stands;
       sent = full_sent;
     }
 
     -- a conversion stops where no next row is read
-    pub next_stops : (why : Stop) → RefusesNext input s came.records why
-        → StopsFor input s size old writer.written failures writer.failures why
+    pub next_stops : (why : Stop) → RefusesNext d input s came.records why
+        → StopsFor d input s size old writer.written failures writer.failures why
     next_stops why (inl is) =
-        subst (λ z. StopsFor input s size old writer.written failures writer.failures z) (sym is) (behind stops_here)
+        subst (λ z. StopsFor d input s size old writer.written failures writer.failures z) (sym is) (behind stops_here)
     next_stops why (inr (inl is)) =
-        subst (λ z. StopsFor input s size old writer.written failures writer.failures z) (sym is) (exhausted_behind refl stops_here)
+        subst (λ z. StopsFor d input s size old writer.written failures writer.failures z) (sym is) (exhausted_behind refl stops_here)
     next_stops why (inr (inr (texts, fault, is, there, cause))) =
-        subst (λ z. StopsFor input s size old writer.written failures writer.failures z) (sym is) (in_record (record {
+        subst (λ z. StopsFor d input s size old writer.written failures writer.failures z) (sym is) (in_record (record {
           before = came.records;
           texts = texts;
           there = there;
@@ -187,25 +190,26 @@ module _ {R : Type 0} (remaining : R → Option (List ℕ)) (input : Option (Lis
 
   -- ---- the batch is refused
 
-  module _ (left : List (List Value)) (came : Came remaining input s size old failures now writer left) (new : Writer) (fault : WriteFault)
+  module _ (left : List (List Value)) (came : Came d remaining input s size old failures now writer left) (new : Writer) (fault :
+      WriteFault)
       (refuses : RefusesBatch writer.limits s (batch_of left) fault)
       (unsent : NotSentWhole (SendsBatch writer.limits s (kept_after s.fields (none_sent s) came.batches) (batch_of left)) writer.written
       new.written writer.failures new.failures fault)
       (first : IsOfLengths fault → (before : List (List (List ℕ))) (texts : List (List ℕ)) → came.records ≡ before ++ texts ∷ []
-      → AreAccepted writer.limits s size before) where
+      → AreAccepted d writer.limits s size before) where
     breaks_here : BreaksOff writer.limits (table_of s (came.batches ++ batch_of left ∷ [])) old new.written failures new.failures fault
-    breaks_here = batch_breaks s came.batches old failures writer new (batch_of left) fault came.out refuses unsent
+    breaks_here = batch_breaks d s came.batches old failures writer new (batch_of left) fault came.out refuses unsent
 
     -- a conversion stops where a full batch is refused
-    pub full_stops : 0 < size → length left ≡ size → StopsWriting input s size old new.written failures new.failures fault
+    pub full_stops : 0 < size → length left ≡ size → StopsWriting d input s size old new.written failures new.failures fault
     full_stops some full = record {
       limits = writer.limits;
       standard = came.out.standard;
       records = came.records;
-      there = are_first remaining input (names s.fields ∷ came.records) now.reader came.read.stands;
+      there = are_first d remaining input (names s.fields ∷ came.records) now.reader came.read.stands;
       batches = came.batches ++ batch_of left ∷ [];
       left = [];
-      batched = came_filled remaining input s size old failures now writer left came some full;
+      batched = came_filled d remaining input s size old failures now writer left came some full;
       breaks = subst (λ bs. BreaksOff writer.limits (table_of s bs) old new.written failures new.failures fault)
           (sym (append-nil (came.batches ++ batch_of left ∷ []))) breaks_here;
       all = λ _ some_left. absurd (some_left refl);
@@ -214,31 +218,31 @@ module _ {R : Type 0} (remaining : R → Option (List ℕ)) (input : Option (Lis
 
     -- and where one with fewer rows is
     pub few_stops : 0 < length left → length left < size
-        → (fault ≡ w.Write → AreRecordsOf input (names s.fields ∷ came.records))
-        → StopsWriting input s size old new.written failures new.failures fault
+        → (fault ≡ w.Write → AreRecordsOf d input (names s.fields ∷ came.records))
+        → StopsWriting d input s size old new.written failures new.failures fault
     few_stops some few all = record {
       limits = writer.limits;
       standard = came.out.standard;
       records = came.records;
-      there = are_first remaining input (names s.fields ∷ came.records) now.reader came.read.stands;
+      there = are_first d remaining input (names s.fields ∷ came.records) now.reader came.read.stands;
       batches = came.batches;
       left = left;
-      batched = came_fill remaining input s size old failures now writer left came few;
+      batched = came_fill d remaining input s size old failures now writer left came few;
       breaks = subst (λ bs. BreaksOff writer.limits (table_of s (came.batches ++ bs)) old new.written failures new.failures fault)
           (sym (last_is left some)) breaks_here;
       all = λ written _. all written;
       first = first;
     }
 
-  module _ (left : List (List Value)) (row : List Value) (came : Came remaining input s size old failures now writer (left ++ row ∷ []))
+  module _ (left : List (List Value)) (row : List Value) (came : Came d remaining input s size old failures now writer (left ++ row ∷ []))
       (accepts : 0 < length left → AcceptsBatch writer.limits s (batch_of left)) (room : length left < size) where
     -- without the last record the table is accepted
     accepts_before : (before : List (List (List ℕ))) (texts : List (List ℕ)) → came.records ≡ before ++ texts ∷ []
-        → AreAccepted writer.limits s size before
+        → AreAccepted d writer.limits s size before
     accepts_before before texts is = record {
       batches = came.batches;
       left = left;
-      batched = came_before remaining input s size old failures now writer left row came room before texts is;
+      batched = came_before d remaining input s size old failures now writer left row came room before texts is;
       accepts = record {
         schema = came.out.accepts_schema;
         batches = all_accepted (AcceptsBatch writer.limits s) came.batches left came.out.accepts accepts;
@@ -248,7 +252,7 @@ module _ {R : Type 0} (remaining : R → Option (List ℕ)) (input : Option (Lis
     row_refused : (new : Writer) (fault : WriteFault) → RefusesBatch writer.limits s (batch_of (left ++ row ∷ [])) fault
         → NotSentWhole (SendsBatch writer.limits s (kept_after s.fields (none_sent s) came.batches) (batch_of (left ++ row ∷ [])))
         writer.written new.written writer.failures new.failures fault → ¬ (fault ≡ w.Write)
-        → (length left + 1 ≡ size) ⊎ (length left + 1 < size) → StopsWriting input s size old new.written failures new.failures fault
+        → (length left + 1 ≡ size) ⊎ (length left + 1 < size) → StopsWriting d input s size old new.written failures new.failures fault
     row_refused new fault refuses unsent other (inl full) =
         let longer = length_push left row in
         full_stops (left ++ row ∷ []) came new fault refuses unsent (λ _. accepts_before) (omega (arith, full))
@@ -265,7 +269,7 @@ module _ {R : Type 0} (remaining : R → Option (List ℕ)) (input : Option (Lis
 
     -- a conversion stops where the last row isn't taken
     pub row_stops : (new : Writer) (fault : WriteFault) → RefusesHeld writer.limits writer.schema (batch_of (left ++ row ∷ []))
-        writer.failed fault → StaysAt writer new fault → StopsWriting input s size old new.written failures new.failures fault
+        writer.failed fault → StaysAt writer new fault → StopsWriting d input s size old new.written failures new.failures fault
     row_stops new fault refuses stays =
         let same = subst (λ z. RefusesHeld writer.limits z (batch_of (left ++ row ∷ [])) writer.failed fault) came.out.same_schema
         refuses in
@@ -275,9 +279,9 @@ module _ {R : Type 0} (remaining : R → Option (List ℕ)) (input : Option (Lis
         (held_unwritten writer.limits s (batch_of (left ++ row ∷ [])) writer.failed fault same) at_size
 
   -- a conversion stops where no batch is begun for the first row
-  pub begin_stops : (row : List Value) → Came remaining input s size old failures now writer (row ∷ []) → 0 < size → (new : Writer)
+  pub begin_stops : (row : List Value) → Came d remaining input s size old failures now writer (row ∷ []) → 0 < size → (new : Writer)
       (fault : WriteFault) → RefusesHeld writer.limits writer.schema (no_rows []) writer.failed fault → StaysAt writer new fault
-      → StopsWriting input s size old new.written failures new.failures fault
+      → StopsWriting d input s size old new.written failures new.failures fault
   begin_stops row came some new fault refuses stays =
       let same = subst (λ z. RefusesHeld writer.limits z (no_rows []) writer.failed fault) came.out.same_schema refuses in
       row_refused [] row came (λ none. absurd (omega (arith, none))) some new fault
@@ -287,21 +291,21 @@ module _ {R : Type 0} (remaining : R → Option (List ℕ)) (input : Option (Lis
       (held_unwritten writer.limits s (no_rows []) writer.failed fault same) (eq-or-lt_of_le (omega (arith, some)))
 
   -- a conversion stops where an accepted batch isn't sent
-  pub send_stops : (left : List (List Value)) (came : Came remaining input s size old failures now writer left) (new : Writer)
+  pub send_stops : (left : List (List Value)) (came : Came d remaining input s size old failures now writer left) (new : Writer)
       (fault : WriteFault) → 0 < size → AcceptsBatch writer.limits s (batch_of left)
       → LeavesBatch writer (batch_of left) new (Err fault)
       → (¬ (fault ≡ w.Failed) → RefusesBatch writer.limits writer.schema (batch_of left) fault)
       → (length left ≡ size)
-      ⊎ ((0 < length left) × (length left < size) × AreRecordsOf input (names s.fields ∷ came.records))
-      → StopsWriting input s size old new.written failures new.failures fault
+      ⊎ ((0 < length left) × (length left < size) × AreRecordsOf d input (names s.fields ∷ came.records))
+      → StopsWriting d input s size old new.written failures new.failures fault
   send_stops left came new fault some accepts leaves judged whole =
       let sent = kept_after writer.schema.fields writer.kept (batch_of left ∷ []) in
       let refuses = subst (λ z. RefusesBatch writer.limits z (batch_of left) fault) came.out.same_schema
-      (judged (not_failed _ sent writer new fault came.out.works leaves)) in
+      (judged (not_failed d _ sent writer new fault came.out.works leaves)) in
       let unsent = as_out s came.batches old failures writer new came.out (batch_of left)
       (λ z. NotSentWhole (SendsBatch z.limits z.schema z.kept (batch_of left)) writer.written new.written writer.failures new.failures
       fault)
-      (leaves_unsent _ sent writer new fault came.out.works leaves) in
+      (leaves_unsent d _ sent writer new fault came.out.works leaves) in
       let other = accepted_other writer.limits s (batch_of left) fault accepts refuses in
       elim whole [
         | inl full ↦ full_stops left came new fault refuses unsent (λ is. absurd (other is)) some full

@@ -32,61 +32,64 @@ use Rattle.ipc_from_csv.proofs.Breaking.{first_out, last_is, send_stops}
 use Rattle.ipc_from_csv.proofs.Pushing.{holds_accepted}
 use Rattle.ipc_from_csv.proofs.Reading.{are_first}
 use Rattle.ipc_from_csv.proofs.Sending.{batch_out, came_fill, came_sent}
+use Rattle.ipc_csv.specs.declared.dialect.Dialect.{Dialect}
 
-module _ {R : Type 0} (remaining : R → Option (List ℕ)) (input : Option (List ℕ)) (s : Schema) (size : ℕ) (old : Option (List ℕ))
+module _ (d : Dialect) {R : Type 0} (remaining : R → Option (List ℕ)) (input : Option (List ℕ)) (s : Schema) (size : ℕ) (old : Option (List
+    ℕ))
     (failures : ℕ) (now : RowReader R) (writer : Writer) (left : List (List Value))
-    (came : Came remaining input s size old failures now writer left) (few : length left < size)
-    (all : AreRecordsOf input (names s.fields ∷ came.records)) where
-  all_sent : (new : Writer) → IsOut s (came.batches ++ last_batch left) old failures new → SendsAll input s size old failures new
+    (came : Came d remaining input s size old failures now writer left) (few : length left < size)
+    (all : AreRecordsOf d input (names s.fields ∷ came.records)) where
+  all_sent : (new : Writer) → IsOut s (came.batches ++ last_batch left) old failures new → SendsAll d input s size old failures new
   all_sent new out = record {
     records = came.records;
     all = all;
-    there = are_first remaining input (names s.fields ∷ came.records) now.reader came.read.stands;
+    there = are_first d remaining input (names s.fields ∷ came.records) now.reader came.read.stands;
     batches = came.batches;
     left = left;
-    batched = came_fill remaining input s size old failures now writer left came few;
+    batched = came_fill d remaining input s size old failures now writer left came few;
     out = out;
   }
 
   -- where no row is left over, all is out
-  pub ends_full : left ≡ [] → SendsAll input s size old failures writer
+  pub ends_full : left ≡ [] → SendsAll d input s size old failures writer
   ends_full none = all_sent writer (subst (λ bs. IsOut s bs old failures writer)
       (sym (ap (λ l. came.batches ++ last_batch l) none ∙ append-nil came.batches)) came.out)
 
   -- where the last batch was sent, all is out
   pub ends_last : (new : Writer) → 0 < length left → LeavesBatch writer (batch_of left) new (Ok tt)
-      → AcceptsBatch writer.limits writer.schema (batch_of left) → SendsAll input s size old failures new
+      → AcceptsBatch writer.limits writer.schema (batch_of left) → SendsAll d input s size old failures new
   ends_last new some leaves accepts = all_sent new (subst (λ bs. IsOut s (came.batches ++ bs) old failures new)
       (sym (last_is left some)) (batch_out s came.batches old failures writer new came.out (batch_of left) leaves accepts))
 
-module _ {R : Type 0} (remaining : R → Option (List ℕ)) (input : Option (List ℕ)) (s : Schema) (size : ℕ) (old : Option (List ℕ))
+module _ (d : Dialect) {R : Type 0} (remaining : R → Option (List ℕ)) (input : Option (List ℕ)) (s : Schema) (size : ℕ) (old : Option (List
+    ℕ))
     (failures : ℕ) (now : RowReader R) (writer new : Writer) (held : PushedRows) where
   -- how far a conversion came where the rows that are held went out
-  pub held_sent : (full : Bool) → HoldsLast remaining input s size old failures now writer held full → 0 < size
+  pub held_sent : (full : Bool) → HoldsLast d remaining input s size old failures now writer held full → 0 < size
       → ((b : BatchRows) → HoldsBatch writer.limits writer.schema b held
       → LeavesBatch writer b new (Ok tt))
       → ((b : BatchRows) → HoldsBatch writer.limits writer.schema b held → AcceptsBatch writer.limits writer.schema b)
-      → SendsBatch remaining input s size old failures now new (Ok full)
+      → SendsBatch d remaining input s size old failures now new (Ok full)
   held_sent true (left, holds, full) some leaves accepts =
-      came_sent remaining input s size old failures now writer left holds.came new some full (leaves _ holds.held_rows)
+      came_sent d remaining input s size old failures now writer left holds.came new some full (leaves _ holds.held_rows)
       (accepts _ holds.held_rows)
   held_sent false (last, left, holds, some_left, few, all) some leaves accepts =
-      ends_last remaining input s size old failures last writer left holds.came few all new some_left (leaves _ holds.held_rows)
+      ends_last d remaining input s size old failures last writer left holds.came few all new some_left (leaves _ holds.held_rows)
       (accepts _ holds.held_rows)
 
   -- and why it stops where they did not
-  pub held_unsent : (full : Bool) → HoldsLast remaining input s size old failures now writer held full → 0 < size → (fault : WriteFault)
+  pub held_unsent : (full : Bool) → HoldsLast d remaining input s size old failures now writer held full → 0 < size → (fault : WriteFault)
       → ((b : BatchRows) → HoldsBatch writer.limits writer.schema b held
       → LeavesBatch writer b new (Err fault))
       → ((b : BatchRows) → HoldsBatch writer.limits writer.schema b held → ¬ (fault ≡ w.Failed)
-      → RefusesBatch writer.limits writer.schema b fault) → StopsWriting input s size old new.written failures new.failures fault
+      → RefusesBatch writer.limits writer.schema b fault) → StopsWriting d input s size old new.written failures new.failures fault
   held_unsent true (left, holds, full) some fault leaves judged =
-      send_stops remaining input s size old failures now writer left holds.came new fault some
-      (holds_accepted remaining input s size old failures now writer held left holds) (leaves _ holds.held_rows)
+      send_stops d remaining input s size old failures now writer left holds.came new fault some
+      (holds_accepted d remaining input s size old failures now writer held left holds) (leaves _ holds.held_rows)
       (judged _ holds.held_rows) (inl full)
   held_unsent false (last, left, holds, some_left, few, all) some fault leaves judged =
-      send_stops remaining input s size old failures last writer left holds.came new fault some
-      (holds_accepted remaining input s size old failures last writer held left holds) (leaves _ holds.held_rows)
+      send_stops d remaining input s size old failures last writer left holds.came new fault some
+      (holds_accepted d remaining input s size old failures last writer held left holds) (leaves _ holds.held_rows)
       (judged _ holds.held_rows) (inr (some_left, few, all))
 
 -- ---- the start and the end of the stream
@@ -96,15 +99,16 @@ none_last [] x is = cc
 none_last (y ∷ front) x is = cc
 
 -- a conversion stops where the schema is refused
-pub start_stops : {R : Type 0} (remaining : R → Option (List ℕ)) (input : Option (List ℕ)) (s : Schema) (size : ℕ)
+pub start_stops : (d : Dialect) {R : Type 0} (remaining : R → Option (List ℕ)) (input : Option (List ℕ)) (s : Schema) (size : ℕ)
     (old new : Option (List ℕ)) (f0 f1 : ℕ) (reader : Reader R) (limits : Limits) (fault : WriteFault) → IsStandard limits
-    → 0 < size → flat_fault s.fields ≡ None → Stands remaining input (names s.fields ∷ []) reader → StartFails limits s old new f0 f1 fault
-    → StopsWriting input s size old new f0 f1 fault
-start_stops remaining input s size old new f0 f1 reader limits fault standard some flat stands fails = record {
+    → 0 < size → flat_fault s.fields ≡ None → Stands d remaining input (names s.fields ∷ []) reader
+    → StartFails limits s old new f0 f1 fault
+    → StopsWriting d input s size old new f0 f1 fault
+start_stops d remaining input s size old new f0 f1 reader limits fault standard some flat stands fails = record {
   limits = limits;
   standard = standard;
   records = [];
-  there = are_first remaining input (names s.fields ∷ []) reader stands;
+  there = are_first d remaining input (names s.fields ∷ []) reader stands;
   batches = [];
   left = [];
   batched = record { flat = flat; rows = []; read = tt; fill = record { full = tt; few = some; joined = refl } };
@@ -113,11 +117,11 @@ start_stops remaining input s size old new f0 f1 reader limits fault standard so
   first = λ _ front texts is. absurd (none_last front texts is);
 }
 
-module _ (input : Option (List ℕ)) (s : Schema) (size : ℕ) (old : Option (List ℕ)) (failures : ℕ) (writer : Writer)
-    (sends : SendsAll input s size old failures writer) where
+module _ (d : Dialect) (input : Option (List ℕ)) (s : Schema) (size : ℕ) (old : Option (List ℕ)) (failures : ℕ) (writer : Writer)
+    (sends : SendsAll d input s size old failures writer) where
   -- where the end mark is out behind all rows, all is converted
   pub all_converts : (new held_back : Option (List ℕ)) (failures_new : ℕ) → Finishes writer new held_back failures_new
-      → Converts input s size old new failures failures_new
+      → Converts d input s size old new failures failures_new
   all_converts new held_back failures_new finishes = record {
     limits = writer.limits;
     standard = sends.out.standard;
@@ -150,7 +154,7 @@ module _ (input : Option (List ℕ)) (s : Schema) (size : ℕ) (old : Option (Li
       (omega arith) (Err w.Write) cut refl
 
   cut_stops : (new : Option (List ℕ)) (failures_new : ℕ) → CutShort EndsStream writer.written new failures_new
-      → StopsWriting input s size old new failures failures_new w.Write
+      → StopsWriting d input s size old new failures failures_new w.Write
   cut_stops new failures_new cut = record {
     limits = writer.limits;
     standard = sends.out.standard;
@@ -166,7 +170,7 @@ module _ (input : Option (List ℕ)) (s : Schema) (size : ℕ) (old : Option (Li
 
   -- a conversion stops where the end mark isn't out whole
   pub end_stops : (new : Option (List ℕ)) (failures_new : ℕ) (fault : WriteFault) → FinishFails writer new failures_new fault
-      → StopsWriting input s size old new failures failures_new fault
+      → StopsWriting d input s size old new failures failures_new fault
   end_stops new failures_new w.Write fails = cut_stops new failures_new fails.1
   end_stops new failures_new w.Failed fails = absurd (false≢true (sym sends.out.works ∙ fails.0))
   end_stops new failures_new w.BadSchema fails = absurd fails
@@ -180,23 +184,25 @@ module _ (input : Option (List ℕ)) (s : Schema) (size : ℕ) (old : Option (Li
   pub answers_end : (new held_back : Option (List ℕ)) (failures_new : ℕ) (r : Result Unit Stop)
       → OnOk r (Finishes writer new held_back failures_new)
       → IfErr r (λ why. (fault : WriteFault) × (why ≡ stop.Write fault) × FinishFails writer new failures_new fault)
-      → Answers input s size old new failures failures_new r
+      → Answers d input s size old new failures failures_new r
   answers_end new held_back failures_new (Ok x) ended refused = all_converts new held_back failures_new ended
   answers_end new held_back failures_new (Err why) ended refused =
-      subst (λ z. StopsFor input s size old new failures failures_new z) (sym refused.1) (end_stops new failures_new refused.0 refused.2)
+      subst (λ z. StopsFor d input s size old new failures failures_new z) (sym refused.1) (end_stops new failures_new refused.0 refused.2)
 
 -- ---- the header
 
 -- a conversion stops where the header is refused, and nothing is out
-pub header_stops : {R : Type 0} (remaining : R → Option (List ℕ)) (input : Option (List ℕ)) (s : Schema) (size : ℕ) (old : Option (List ℕ))
-    (failures : ℕ) (reader : Reader R) (why : Stop) → AnswersHeader remaining input s.fields reader (Err why)
-    → StopsFor input s size old old failures failures why
-header_stops remaining input s size old failures reader stop.Input answers = before answers (refl, refl)
-header_stops remaining input s size old failures reader (stop.Text fault) answers = in_header answers (refl, refl)
-header_stops remaining input s size old failures reader (stop.Write fault) answers = absurd answers
+pub header_stops : (d : Dialect) {R : Type 0} (remaining : R → Option (List ℕ)) (input : Option (List ℕ)) (s : Schema) (size : ℕ) (old :
+    Option (List ℕ))
+    (failures : ℕ) (reader : Reader R) (why : Stop) → AnswersHeader d remaining input s.fields reader (Err why)
+    → StopsFor d input s size old old failures failures why
+header_stops d remaining input s size old failures reader stop.Input answers = before answers (refl, refl)
+header_stops d remaining input s size old failures reader (stop.Text fault) answers = in_header answers (refl, refl)
+header_stops d remaining input s size old failures reader (stop.Write fault) answers = absurd answers
 
 -- the same, where the reader says what the bytes are of
-pub header_told : {R : Type 0} (reader : Reader R) (remaining : R → Option (List ℕ)) (input : Option (List ℕ)) (s : Schema) (size : ℕ)
-    (old : Option (List ℕ)) (failures : ℕ) (why : Stop) → AnswersHeader remaining input s.fields reader (Err why)
-    → StopsFor input s size old old failures failures why
-header_told reader remaining input s size old failures why answers = header_stops remaining input s size old failures reader why answers
+pub header_told : (d : Dialect) {R : Type 0} (reader : Reader R) (remaining : R
+    → Option (List ℕ)) (input : Option (List ℕ)) (s : Schema) (size : ℕ)
+    (old : Option (List ℕ)) (failures : ℕ) (why : Stop) → AnswersHeader d remaining input s.fields reader (Err why)
+    → StopsFor d input s size old old failures failures why
+header_told d reader remaining input s size old failures why answers = header_stops d remaining input s size old failures reader why answers

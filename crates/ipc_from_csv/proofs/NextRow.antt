@@ -19,39 +19,42 @@ use Rattle.ipc_from_csv.specs.Records.{Stands}
 use Rattle.ipc_from_csv.specs.Steps.{FindsRow, HasRead}
 use Rattle.ipc_from_csv.specs.declared.rows.RowReader.{RowReader}
 use Rattle.ipc_from_csv.proofs.Sending.{each_push}
+use Rattle.ipc_csv.specs.declared.dialect.Dialect.{Dialect}
 
 -- behind the header no record was read
-pub header_read : {R : Type 0} (remaining : R → Option (List ℕ)) (input : Option (List ℕ)) (s : Schema) (reader : Reader R)
-    (now : RowReader R) → flat_fault s.fields ≡ None → Stands remaining input (names s.fields ∷ []) reader → now.reader ≡ reader
-    → now.count ≡ 0 → HasRead remaining input s [] [] now
-header_read remaining input s reader now flat stands is none = record {
+pub header_read : (d : Dialect) {R : Type 0} (remaining : R → Option (List ℕ)) (input : Option (List ℕ)) (s : Schema) (reader : Reader R)
+    (now : RowReader R) → flat_fault s.fields ≡ None → Stands d remaining input (names s.fields ∷ []) reader → now.reader ≡ reader
+    → now.count ≡ 0 → HasRead d remaining input s [] [] now
+header_read d remaining input s reader now flat stands is none = record {
   flat = flat;
-  stands = subst (Stands remaining input (names s.fields ∷ [])) (sym is) stands;
+  stands = subst (Stands d remaining input (names s.fields ∷ [])) (sym is) stands;
   counted = none;
   read = tt;
 }
 
 -- a record that was found and counted, and reads as the kept row
-pub finds_row : {R : Type 0} (remaining : R → Option (List ℕ)) (input : Option (List ℕ)) (s : Schema) (records : List (List (List ℕ)))
-    (rows : List (List Value)) (old new : RowReader R) (texts : List (List ℕ)) → HasRead remaining input s records rows old
-    → Stands remaining input (names s.fields ∷ records ++ texts ∷ []) new.reader → new.count ≡ old.count + 1
-    → RecordReadsAs s.fields texts new.row → FindsRow remaining input s records rows new true
-finds_row remaining input s records rows old new texts has stands counted reads = (
+pub finds_row : (d : Dialect) {R : Type 0} (remaining : R → Option (List ℕ)) (input : Option (List ℕ)) (s : Schema) (records : List (List
+    (List ℕ)))
+    (rows : List (List Value)) (old new : RowReader R) (texts : List (List ℕ)) → HasRead d remaining input s records rows old
+    → Stands d remaining input (names s.fields ∷ records ++ texts ∷ []) new.reader → new.count ≡ old.count + 1
+    → RecordReadsAs d s.fields texts new.row → FindsRow d remaining input s records rows new true
+finds_row d remaining input s records rows old new texts has stands counted reads = (
   texts,
   record {
     flat = has.flat;
     stands = stands;
     counted = omega (arith, counted, has.counted, length_push records texts);
-    read = each_push s.fields records rows texts new.row has.read reads;
+    read = each_push d s.fields records rows texts new.row has.read reads;
   },
 )
 
 -- a reader that stands at the start of bytes that are kept stands at the start of those that were known
-pub stands_kept : {R : Type 0} (remaining : R → Option (List ℕ)) (known input : Option (List ℕ)) (reader : Reader R) → Keeps known input
-    → Stands remaining input [] reader → Stands remaining known [] reader
-stands_kept remaining None input reader same stands = tt
-stands_kept remaining (Some xs) None reader same stands = absurd same
-stands_kept remaining (Some xs) (Some ys) reader same stands = subst (λ bytes. Stands remaining (Some bytes) [] reader) same stands
+pub stands_kept : (d : Dialect) {R : Type 0} (remaining : R → Option (List ℕ)) (known input : Option (List ℕ)) (reader : Reader R)
+    → Keeps known input
+    → Stands d remaining input [] reader → Stands d remaining known [] reader
+stands_kept d remaining None input reader same stands = tt
+stands_kept d remaining (Some xs) None reader same stands = absurd same
+stands_kept d remaining (Some xs) (Some ys) reader same stands = subst (λ bytes. Stands d remaining (Some bytes) [] reader) same stands
 
 -- why no row is read tells of the source what the stop does
 pub told_next : (failures : ℕ) (why : NoRow) → TellsNext failures (let r : Result ⊤ NoRow = Err why in r)
@@ -60,12 +63,13 @@ told_next failures none.Input tells = tells
 told_next failures (none.Text fault) tells = tells
 
 -- what is answered of the whole conversion, at Ok and at a refusal
-pub answers_ok : (input : Option (List ℕ)) (s : Schema) (size : ℕ) (old new : Option (List ℕ)) (f0 f1 : ℕ) (r : Result ⊤ Stop)
-    → Answers input s size old new f0 f1 r → OnOk r (Converts input s size old new f0 f1)
-answers_ok input s size old new f0 f1 (Ok x) h = h
-answers_ok input s size old new f0 f1 (Err why) h = tt
+pub answers_ok : (d : Dialect) (input : Option (List ℕ)) (s : Schema) (size : ℕ) (old new : Option (List ℕ)) (f0 f1 : ℕ) (r : Result ⊤ Stop)
+    → Answers d input s size old new f0 f1 r → OnOk r (Converts d input s size old new f0 f1)
+answers_ok d input s size old new f0 f1 (Ok x) h = h
+answers_ok d input s size old new f0 f1 (Err why) h = tt
 
-pub answers_err : (input : Option (List ℕ)) (s : Schema) (size : ℕ) (old new : Option (List ℕ)) (f0 f1 : ℕ) (r : Result ⊤ Stop)
-    → Answers input s size old new f0 f1 r → IfErr r (StopsFor input s size old new f0 f1)
-answers_err input s size old new f0 f1 (Ok x) h = tt
-answers_err input s size old new f0 f1 (Err why) h = h
+pub answers_err : (d : Dialect) (input : Option (List ℕ)) (s : Schema) (size : ℕ) (old new : Option (List ℕ)) (f0 f1 : ℕ) (r : Result ⊤
+    Stop)
+    → Answers d input s size old new f0 f1 r → IfErr r (StopsFor d input s size old new f0 f1)
+answers_err d input s size old new f0 f1 (Ok x) h = tt
+answers_err d input s size old new f0 f1 (Err why) h = h

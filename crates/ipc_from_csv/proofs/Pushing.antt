@@ -15,15 +15,17 @@ use Rattle.ipc_from_csv.specs.declared.rows.RowReader.{RowReader}
 use Rattle.ipc_from_csv.specs.declared.stop.Stop.{Stop}
 use Rattle.ipc_from_csv.proofs.Breaking.{next_stops, row_stops}
 use Rattle.ipc_from_csv.proofs.Sending.{came_more}
+use Rattle.ipc_csv.specs.declared.dialect.Dialect.{Dialect}
 
-module _ {R : Type 0} (remaining : R → Option (List ℕ)) (input : Option (List ℕ)) (s : Schema) (size : ℕ) (old : Option (List ℕ))
+module _ (d : Dialect) {R : Type 0} (remaining : R → Option (List ℕ)) (input : Option (List ℕ)) (s : Schema) (size : ℕ) (old : Option (List
+    ℕ))
     (failures : ℕ) where
   module _ (now : RowReader R) (writer : Writer) (left : List (List Value)) (row given : List Value) (same : given ≡ row)
-      (came : Came remaining input s size old failures now writer (left ++ row ∷ [])) (new : Writer) where
+      (came : Came d remaining input s size old failures now writer (left ++ row ∷ [])) (new : Writer) where
     -- a row that was taken is held with those before it
     pub holds_pushed : (held : PushedRows) → new ≡ writer → HoldsBatch writer.limits writer.schema (with_row (batch_of left) given) held
-        → Holds remaining input s size old failures now new held (left ++ row ∷ [])
-    holds_pushed held is holds = subst (λ z. Holds remaining input s size old failures now z held (left ++ row ∷ [])) (sym is)
+        → Holds d remaining input s size old failures now new held (left ++ row ∷ [])
+    holds_pushed held is holds = subst (λ z. Holds d remaining input s size old failures now z held (left ++ row ∷ [])) (sym is)
         (record {
           came = came;
           held_rows = subst (λ z. HoldsBatch writer.limits writer.schema (with_row (batch_of left) z) held) same holds;
@@ -32,26 +34,26 @@ module _ {R : Type 0} (remaining : R → Option (List ℕ)) (input : Option (Lis
     -- a conversion stops where it wasn't taken
     pub pushed_stops : (0 < length left → AcceptsBatch writer.limits s (batch_of left)) → length left < size → (fault : WriteFault)
         → RefusesHeld writer.limits writer.schema (with_row (batch_of left) given) writer.failed fault → StaysAt writer new fault
-        → StopsWriting input s size old new.written failures new.failures fault
+        → StopsWriting d input s size old new.written failures new.failures fault
     pushed_stops accepts room fault refuses stays =
-        row_stops remaining input s size old failures now writer left row came accepts room new fault
+        row_stops d remaining input s size old failures now writer left row came accepts room new fault
         (subst (λ z. RefusesHeld writer.limits writer.schema (with_row (batch_of left) z) writer.failed fault) same refuses) stays
 
   module _ (now : RowReader R) (writer : Writer) (held : PushedRows) (left : List (List Value))
-      (holds : Holds remaining input s size old failures now writer held left) where
+      (holds : Holds d remaining input s size old failures now writer held left) where
     -- rows that are held are accepted
     pub holds_accepted : AcceptsBatch writer.limits s (batch_of left)
     holds_accepted = subst (λ z. AcceptsBatch writer.limits z (batch_of left)) holds.came.out.same_schema holds.held_rows.accepted
 
     -- a conversion stops where no next row is read
-    pub held_stops : length left < size → (why : Stop) → RefusesNext input s holds.came.records why
-        → StopsFor input s size old writer.written failures writer.failures why
+    pub held_stops : length left < size → (why : Stop) → RefusesNext d input s holds.came.records why
+        → StopsFor d input s size old writer.written failures writer.failures why
     held_stops few why refuses =
-        next_stops remaining input s size old failures now writer left holds.came (λ _. holds_accepted) few why refuses
+        next_stops d remaining input s size old failures now writer left holds.came (λ _. holds_accepted) few why refuses
 
     -- one record more was read
     pub held_more : (new : RowReader R) (found : Bool) → found ≡ true
-        → FindsRow remaining input s holds.came.records holds.came.rows new found
-        → Came remaining input s size old failures new writer (left ++ new.row ∷ [])
-    held_more new found is finds = came_more remaining input s size old failures now writer left holds.came new
-        (subst (FindsRow remaining input s holds.came.records holds.came.rows new) is finds)
+        → FindsRow d remaining input s holds.came.records holds.came.rows new found
+        → Came d remaining input s size old failures new writer (left ++ new.row ∷ [])
+    held_more new found is finds = came_more d remaining input s size old failures now writer left holds.came new
+        (subst (FindsRow d remaining input s holds.came.records holds.came.rows new) is finds)

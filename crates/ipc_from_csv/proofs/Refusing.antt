@@ -20,32 +20,36 @@ use Rattle.ipc_from_csv.specs.Records.{EachRecordReadsAs}
 use Rattle.ipc_from_csv.specs.declared.stop.Stop.{Stop}
 use Rattle.ipc_from_csv.specs.declared.stop.Stop.TheVariants as stop
 use Rattle.ipc_from_csv.proofs.FlatNodes.{AreFlat, are_flat, flat_rows}
+use Rattle.ipc_csv.specs.declared.dialect.Dialect.{Dialect}
 
 -- ---- rows that were read fit
 
-each_fits : (fields : List Field) (texts : List (List ℕ)) (row : List Value) → EachReadsAs fields texts row → EachFits Fits fields row
-each_fits [] [] [] read = tt
-each_fits [] [] (v ∷ row) read = absurd read
-each_fits [] (t ∷ texts) row read = absurd read
-each_fits (f ∷ fields) [] row read = absurd read
-each_fits (f ∷ fields) (t ∷ texts) [] read = absurd read
-each_fits (f ∷ fields) (t ∷ texts) (v ∷ row) read = (read.0.0, each_fits fields texts row read.1)
+each_fits : (d : Dialect) (fields : List Field) (texts : List (List ℕ)) (row : List Value) → EachReadsAs d fields texts row
+    → EachFits Fits fields row
+each_fits d [] [] [] read = tt
+each_fits d [] [] (v ∷ row) read = absurd read
+each_fits d [] (t ∷ texts) row read = absurd read
+each_fits d (f ∷ fields) [] row read = absurd read
+each_fits d (f ∷ fields) (t ∷ texts) [] read = absurd read
+each_fits d (f ∷ fields) (t ∷ texts) (v ∷ row) read = (read.0.0, each_fits d fields texts row read.1)
 
-as_many : (fields : List Field) (texts : List (List ℕ)) (row : List Value) → EachReadsAs fields texts row → length row ≡ length fields
-as_many [] [] [] read = refl
-as_many [] [] (v ∷ row) read = absurd read
-as_many [] (t ∷ texts) row read = absurd read
-as_many (f ∷ fields) [] row read = absurd read
-as_many (f ∷ fields) (t ∷ texts) [] read = absurd read
-as_many (f ∷ fields) (t ∷ texts) (v ∷ row) read = ap suc (as_many fields texts row read.1)
+as_many : (d : Dialect) (fields : List Field) (texts : List (List ℕ)) (row : List Value) → EachReadsAs d fields texts row
+    → length row ≡ length fields
+as_many d [] [] [] read = refl
+as_many d [] [] (v ∷ row) read = absurd read
+as_many d [] (t ∷ texts) row read = absurd read
+as_many d (f ∷ fields) [] row read = absurd read
+as_many d (f ∷ fields) (t ∷ texts) [] read = absurd read
+as_many d (f ∷ fields) (t ∷ texts) (v ∷ row) read = ap suc (as_many d fields texts row read.1)
 
-rows_fit : (fields : List Field) (records : List (List (List ℕ))) (rows : List (List Value)) → EachRecordReadsAs fields records rows
+rows_fit : (d : Dialect) (fields : List Field) (records : List (List (List ℕ))) (rows : List (List Value))
+    → EachRecordReadsAs d fields records rows
     → AllByRecursion (RowFits fields) rows
-rows_fit fields [] [] read = tt
-rows_fit fields [] (row ∷ rows) read = absurd read
-rows_fit fields (texts ∷ records) [] read = absurd read
-rows_fit fields (texts ∷ records) (row ∷ rows) read =
-    ((as_many fields texts row read.0.1, each_fits fields texts row read.0.1), rows_fit fields records rows read.1)
+rows_fit d fields [] [] read = tt
+rows_fit d fields [] (row ∷ rows) read = absurd read
+rows_fit d fields (texts ∷ records) [] read = absurd read
+rows_fit d fields (texts ∷ records) (row ∷ rows) read =
+    ((as_many d fields texts row read.0.1, each_fits d fields texts row read.0.1), rows_fit d fields records rows read.1)
 
 -- ---- lists
 
@@ -118,28 +122,30 @@ first_left : (limits : Limits) (s : Schema) (size : ℕ) → AreFlat s.fields �
 first_left limits s size flat within [] good fault r = subst (IsLeftToRefuse s) (sym r) tt
 first_left limits s size flat within (b ∷ batches) good fault r = batch_left limits s size flat within b good.0 fault r
 
-next_left : (limits : Limits) (s : Schema) (size : ℕ) → AreFlat s.fields → size ≤ limits.slots → (batches : List BatchRows)
+next_left : (d : Dialect) (limits : Limits) (s : Schema) (size : ℕ) → AreFlat s.fields → size ≤ limits.slots → (batches : List BatchRows)
     → AllByRecursion (IsGood s.fields size) batches → (count : ℕ) (fault : WriteFault) → RefusesNext limits (table_of s batches) count fault
     → IsLeftToRefuse s fault
-next_left limits s size flat within batches good zero fault r = schema_left limits s fault r
-next_left limits s size flat within batches good (suc count) fault r =
+next_left d limits s size flat within batches good zero fault r = schema_left limits s fault r
+next_left d limits s size flat within batches good (suc count) fault r =
     first_left limits s size flat within (drop count batches) (all_drop (IsGood s.fields size) batches count good) fault r
 
 -- of the rows of records the writer refuses only what is left
-pub left_to_refuse : (input : Option (List ℕ)) (s : Schema) (size : ℕ) (old new : Option (List ℕ)) (f0 f1 : ℕ) (fault : WriteFault)
-    → size ≤ 2 ^ 31 - 1 → StopsWriting input s size old new f0 f1 fault → IsLeftToRefuse s fault
-left_to_refuse input s size old new f0 f1 fault within stops =
+pub left_to_refuse : (d : Dialect) (input : Option (List ℕ)) (s : Schema) (size : ℕ) (old new : Option (List ℕ)) (f0 f1 : ℕ) (fault :
+    WriteFault)
+    → size ≤ 2 ^ 31 - 1 → StopsWriting d input s size old new f0 f1 fault → IsLeftToRefuse s fault
+left_to_refuse d input s size old new f0 f1 fault within stops =
     let fill = stops.batched.fill in
-    let fit = rows_fit s.fields stops.records stops.batched.rows stops.batched.read in
+    let fit = rows_fit d s.fields stops.records stops.batched.rows stops.batched.read in
     let good = good_batches s.fields size stops.batches stops.left (omega (arith, fill.few)) fill.full
     (subst (AllByRecursion (RowFits s.fields)) (sym fill.joined) fit) in
-    next_left stops.limits s size (are_flat s.fields stops.batched.flat) (omega (arith, within, stops.standard.slots))
+    next_left d stops.limits s size (are_flat s.fields stops.batched.flat) (omega (arith, within, stops.standard.slots))
     (stops.batches ++ last_batch stops.left) good stops.breaks.count fault stops.breaks.refuses
 
 -- the same of an answer
-pub answers_left : (input : Option (List ℕ)) (s : Schema) (size : ℕ) (old new : Option (List ℕ)) (f0 f1 : ℕ) (r : Result Unit Stop)
-    → size ≤ 2 ^ 31 - 1 → Answers input s size old new f0 f1 r
+pub answers_left : (d : Dialect) (input : Option (List ℕ)) (s : Schema) (size : ℕ) (old new : Option (List ℕ)) (f0 f1 : ℕ) (r : Result Unit
+    Stop)
+    → size ≤ 2 ^ 31 - 1 → Answers d input s size old new f0 f1 r
     → IfErr r (λ why. (fault : WriteFault) → why ≡ stop.Write fault → IsLeftToRefuse s fault)
-answers_left input s size old new f0 f1 (Ok x) within answers = tt
-answers_left input s size old new f0 f1 (Err why) within answers = λ fault is.
-    left_to_refuse input s size old new f0 f1 fault within (subst (λ z. StopsFor input s size old new f0 f1 z) is answers)
+answers_left d input s size old new f0 f1 (Ok x) within answers = tt
+answers_left d input s size old new f0 f1 (Err why) within answers = λ fault is.
+    left_to_refuse d input s size old new f0 f1 fault within (subst (λ z. StopsFor d input s size old new f0 f1 z) is answers)

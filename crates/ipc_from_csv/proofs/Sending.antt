@@ -22,6 +22,7 @@ use Rattle.ipc_from_csv.specs.Conversion.{table_of}
 use Rattle.ipc_from_csv.specs.Records.{EachRecordReadsAs}
 use Rattle.ipc_from_csv.specs.Steps.{Begins, Came, FindsRow, IsOut}
 use Rattle.ipc_from_csv.specs.declared.rows.RowReader.{RowReader}
+use Rattle.ipc_csv.specs.declared.dialect.Dialect.{Dialect}
 
 -- ---- lists
 
@@ -31,23 +32,24 @@ all_push P [] x all one = (one, tt)
 all_push P (y ∷ xs) x all one = (all.0, all_push P xs x all.1 one)
 
 -- one more record reads as one more row
-pub each_push : (fields : List Field) (records : List (List (List ℕ))) (rows : List (List Value)) (texts : List (List ℕ)) (row : List Value)
-    → EachRecordReadsAs fields records rows → RecordReadsAs fields texts row
-    → EachRecordReadsAs fields (records ++ texts ∷ []) (rows ++ row ∷ [])
-each_push fields [] [] texts row each one = (one, tt)
-each_push fields [] (r ∷ rows) texts row each one = absurd each
-each_push fields (t ∷ records) [] texts row each one = absurd each
-each_push fields (t ∷ records) (r ∷ rows) texts row each one = (each.0, each_push fields records rows texts row each.1 one)
+pub each_push : (d : Dialect) (fields : List Field) (records : List (List (List ℕ))) (rows : List (List Value)) (texts : List (List ℕ))
+    (row : List Value)
+    → EachRecordReadsAs d fields records rows → RecordReadsAs d fields texts row
+    → EachRecordReadsAs d fields (records ++ texts ∷ []) (rows ++ row ∷ [])
+each_push d fields [] [] texts row each one = (one, tt)
+each_push d fields [] (r ∷ rows) texts row each one = absurd each
+each_push d fields (t ∷ records) [] texts row each one = absurd each
+each_push d fields (t ∷ records) (r ∷ rows) texts row each one = (each.0, each_push d fields records rows texts row each.1 one)
 
 -- the records but for the last read as the rows but for the last
-pub each_front : (fields : List Field) (records : List (List (List ℕ))) (rows : List (List Value)) (texts : List (List ℕ))
-    (row : List Value) → EachRecordReadsAs fields (records ++ texts ∷ []) (rows ++ row ∷ []) → EachRecordReadsAs fields records rows
-each_front fields [] [] texts row each = tt
-each_front fields [] (r ∷ []) texts row each = absurd each.1
-each_front fields [] (r ∷ q ∷ rows) texts row each = absurd each.1
-each_front fields (t ∷ []) [] texts row each = absurd each.1
-each_front fields (t ∷ u ∷ records) [] texts row each = absurd each.1
-each_front fields (t ∷ records) (r ∷ rows) texts row each = (each.0, each_front fields records rows texts row each.1)
+pub each_front : (d : Dialect) (fields : List Field) (records : List (List (List ℕ))) (rows : List (List Value)) (texts : List (List ℕ))
+    (row : List Value) → EachRecordReadsAs d fields (records ++ texts ∷ []) (rows ++ row ∷ []) → EachRecordReadsAs d fields records rows
+each_front d fields [] [] texts row each = tt
+each_front d fields [] (r ∷ []) texts row each = absurd each.1
+each_front d fields [] (r ∷ q ∷ rows) texts row each = absurd each.1
+each_front d fields (t ∷ []) [] texts row each = absurd each.1
+each_front d fields (t ∷ u ∷ records) [] texts row each = absurd each.1
+each_front d fields (t ∷ records) (r ∷ rows) texts row each = (each.0, each_front d fields records rows texts row each.1)
 
 -- ---- the messages that are out
 
@@ -115,10 +117,11 @@ all_accepted P batches (row ∷ left) all one = all_push P batches (batch_of (ro
 
 -- ---- the records so far
 
-module _ {R : Type 0} (remaining : R → Option (List ℕ)) (input : Option (List ℕ)) (s : Schema) (size : ℕ) (old : Option (List ℕ))
+module _ (d : Dialect) {R : Type 0} (remaining : R → Option (List ℕ)) (input : Option (List ℕ)) (s : Schema) (size : ℕ) (old : Option (List
+    ℕ))
     (failures : ℕ) (now : RowReader R) (writer : Writer) where
   -- at first none was read
-  pub came_none : Begins remaining input s old failures now writer → Came remaining input s size old failures now writer []
+  pub came_none : Begins d remaining input s old failures now writer → Came d remaining input s size old failures now writer []
   came_none begins = record {
     records = [];
     rows = [];
@@ -129,10 +132,10 @@ module _ {R : Type 0} (remaining : R → Option (List ℕ)) (input : Option (Lis
     out = begins.1;
   }
 
-  module _ (left : List (List Value)) (came : Came remaining input s size old failures now writer left) where
+  module _ (left : List (List Value)) (came : Came d remaining input s size old failures now writer left) where
     -- one record more, whose row is kept
-    pub came_more : (new : RowReader R) → FindsRow remaining input s came.records came.rows new true
-        → Came remaining input s size old failures new writer (left ++ new.row ∷ [])
+    pub came_more : (new : RowReader R) → FindsRow d remaining input s came.records came.rows new true
+        → Came d remaining input s size old failures new writer (left ++ new.row ∷ [])
     came_more new finds = record {
       records = came.records ++ finds.0 ∷ [];
       rows = came.rows ++ new.row ∷ [];
@@ -144,7 +147,7 @@ module _ {R : Type 0} (remaining : R → Option (List ℕ)) (input : Option (Lis
     }
 
     -- where as many rows are left as a batch has, they are one full batch more
-    pub came_filled : 0 < size → length left ≡ size → AreBatched s size came.records (came.batches ++ batch_of left ∷ []) []
+    pub came_filled : 0 < size → length left ≡ size → AreBatched d s size came.records (came.batches ++ batch_of left ∷ []) []
     came_filled some full = record {
       flat = came.read.flat;
       rows = came.rows;
@@ -161,7 +164,7 @@ module _ {R : Type 0} (remaining : R → Option (List ℕ)) (input : Option (Lis
     -- the rows that were left went out as a full batch
     pub came_sent : (new : Writer) → 0 < size → length left ≡ size
         → LeavesBatch writer (batch_of left) new (Ok tt)
-        → AcceptsBatch writer.limits writer.schema (batch_of left) → Came remaining input s size old failures now new []
+        → AcceptsBatch writer.limits writer.schema (batch_of left) → Came d remaining input s size old failures now new []
     unfolding came_filled
     came_sent new some full leaves accepts = record {
       records = came.records;
@@ -174,7 +177,7 @@ module _ {R : Type 0} (remaining : R → Option (List ℕ)) (input : Option (Lis
     }
 
     -- where fewer rows are left than a batch has, the rows fill the batches that are out
-    pub came_fill : length left < size → AreBatched s size came.records came.batches left
+    pub came_fill : length left < size → AreBatched d s size came.records came.batches left
     came_fill few = record {
       flat = came.read.flat;
       rows = came.rows;
@@ -183,17 +186,17 @@ module _ {R : Type 0} (remaining : R → Option (List ℕ)) (input : Option (Lis
     }
 
   -- without the last record, the rows without the last fill the batches that are out
-  pub came_before : (left : List (List Value)) (row : List Value) (came : Came remaining input s size old failures now writer
+  pub came_before : (left : List (List Value)) (row : List Value) (came : Came d remaining input s size old failures now writer
       (left ++ row ∷ [])) → length left < size → (before : List (List (List ℕ))) (texts : List (List ℕ))
-      → came.records ≡ before ++ texts ∷ [] → AreBatched s size before came.batches left
+      → came.records ≡ before ++ texts ∷ [] → AreBatched d s size before came.batches left
   came_before left row came few before texts is =
       let rows : came.rows ≡ (flat_map (λ b. b.rows) came.batches ++ left) ++ row ∷ [] =
       sym came.joined ∙ sym (append_assoc (flat_map (λ b. b.rows) came.batches) left (row ∷ [])) in
       record {
         flat = came.read.flat;
         rows = flat_map (λ b. b.rows) came.batches ++ left;
-        read = each_front s.fields before (flat_map (λ b. b.rows) came.batches ++ left) texts row
-            (subst (λ z. EachRecordReadsAs s.fields (before ++ texts ∷ []) z) rows
-            (subst (λ z. EachRecordReadsAs s.fields z came.rows) is came.read.read));
+        read = each_front d s.fields before (flat_map (λ b. b.rows) came.batches ++ left) texts row
+            (subst (λ z. EachRecordReadsAs d s.fields (before ++ texts ∷ []) z) rows
+            (subst (λ z. EachRecordReadsAs d s.fields z came.rows) is came.read.read));
         fill = record { full = came.full; few = few; joined = refl };
       }

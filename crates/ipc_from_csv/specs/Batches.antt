@@ -7,6 +7,7 @@ use Rattle.ipc_model.specs.declared.table.BatchRows.{BatchRows}
 use Rattle.ipc_model.specs.declared.value.Value.{Value}
 use Rattle.ipc_csv.specs.RowCsv.{flat_fault}
 use Rattle.ipc_from_csv.specs.Records.{EachRecordReadsAs}
+use Rattle.ipc_csv.specs.declared.dialect.Dialect.{Dialect}
 
 -- a batch without pairs that has exactly `size` rows
 pub record IsFull (size : ℕ) (b : BatchRows) : Type 0 where
@@ -23,11 +24,11 @@ pub record Fill (size : ℕ) (rows : List (List Value)) (batches : List BatchRow
 
 -- the columns can be written as CSV, and each of these records reads as a row; the rows fill these
 -- batches, and these rows are left over
-pub record AreBatched (s : Schema) (size : ℕ) (records : List (List (List ℕ)))
+pub record AreBatched (d : Dialect) (s : Schema) (size : ℕ) (records : List (List (List ℕ)))
     (batches : List BatchRows) (left : List (List Value)) : Type 0 where
   pub flat : flat_fault s.fields ≡ None
   pub rows : List (List Value)
-  pub read : EachRecordReadsAs s.fields records rows
+  pub read : EachRecordReadsAs d s.fields records rows
   pub fill : Fill size rows batches left
 
 -- the batch of these rows, without pairs

@@ -23,6 +23,7 @@ use Rattle.ipc_from_csv.specs.Batches.{AreBatched, last_batch}
 use Rattle.ipc_from_csv.specs.Records.{AreFirstRecordsOf, AreRecordsOf, Stands}
 use Rattle.ipc_from_csv.specs.declared.stop.Stop.{Stop}
 use Rattle.ipc_from_csv.specs.declared.stop.Stop.TheVariants as stop
+use Rattle.ipc_csv.specs.declared.dialect.Dialect.{Dialect}
 
 -- the table of a schema and batches
 abbrev pub table_of : Schema → List BatchRows → Table
@@ -31,27 +32,28 @@ table_of s batches = record { schema = s; batches = batches }
 -- the header and all records of the input were read, and the stream of their table was sent, with
 -- its end mark. Each batch has exactly `size` rows; a last one has the rows that are left over, if
 -- there are any
-pub record Converts (input : Option (List ℕ)) (s : Schema) (size : ℕ) (old new : Option (List ℕ))
+pub record Converts (d : Dialect) (input : Option (List ℕ)) (s : Schema) (size : ℕ) (old new :
+    Option (List ℕ))
     (failures_old failures_new : ℕ) : Type 0 where
   pub limits : Limits
   pub standard : IsStandard limits
   pub records : List (List (List ℕ))
-  pub all : AreRecordsOf input (names s.fields ∷ records)
+  pub all : AreRecordsOf d input (names s.fields ∷ records)
   pub batches : List BatchRows
   pub left : List (List Value)
-  pub batched : AreBatched s size records batches left
+  pub batched : AreBatched d s size records batches left
   pub sent : Sent (λ x. Denotes limits x (table_of s (batches ++ last_batch left)) Mark) old new
       failures_old failures_new
 
 -- the rows of these records make a table that is accepted; its schema and the batches that they
 -- fill were sent, and nothing else
-pub record SendsFull (s : Schema) (size : ℕ) (records : List (List (List ℕ)))
+pub record SendsFull (d : Dialect) (s : Schema) (size : ℕ) (records : List (List (List ℕ)))
     (old new : Option (List ℕ)) (failures_old failures_new : ℕ) : Type 0 where
   pub limits : Limits
   pub standard : IsStandard limits
   pub batches : List BatchRows
   pub left : List (List Value)
-  pub batched : AreBatched s size records batches left
+  pub batched : AreBatched d s size records batches left
   pub accepts : AcceptsTable limits (table_of s (batches ++ last_batch left))
   pub sent : Sent (λ x. Denotes limits x (table_of s batches) Closed) old new failures_old
       failures_new
@@ -61,59 +63,62 @@ abbrev pub Unsent : Option (List ℕ) → Option (List ℕ) → ℕ → ℕ → 
 Unsent old new failures_old failures_new = (new ≡ old) × (failures_new ≡ failures_old)
 
 -- some first records of the input read as rows, and the batches that these fill were sent
-pub record StopsBehind (input : Option (List ℕ)) (s : Schema) (size : ℕ) (old new : Option (List ℕ))
+pub record StopsBehind (d : Dialect) (input : Option (List ℕ)) (s : Schema) (size : ℕ) (old new :
+    Option (List ℕ))
     (failures_old failures_new : ℕ) : Type 0 where
   pub records : List (List (List ℕ))
-  pub there : AreFirstRecordsOf input (names s.fields ∷ records)
-  pub sent : SendsFull s size records old new failures_old failures_new
+  pub there : AreFirstRecordsOf d input (names s.fields ∷ records)
+  pub sent : SendsFull d s size records old new failures_old failures_new
 
 -- why nothing is sent: the columns cannot be written as CSV, there is no header, it names other
 -- columns, or memory ran out
-pub data RefusesHeader (input : Option (List ℕ)) (fields : List Field)
+pub data RefusesHeader (d : Dialect) (input : Option (List ℕ)) (fields : List Field)
     (fault : TextFault) : Type 0 where
-  columns : flat_fault fields ≡ Some fault → RefusesHeader input fields fault
-  missing : flat_fault fields ≡ None → AreRecordsOf input [] → fault ≡ WrongFieldCount 0
-      → RefusesHeader input fields fault
-  other : (header : List (List ℕ)) → AreFirstRecordsOf input (header ∷ [])
-      → IsHeaderFault fields header fault → RefusesHeader input fields fault
-  exhausted : flat_fault fields ≡ None → fault ≡ OutOfMemory → RefusesHeader input fields fault
+  columns : flat_fault fields ≡ Some fault → RefusesHeader d input fields fault
+  missing : flat_fault fields ≡ None → AreRecordsOf d input [] → fault ≡ WrongFieldCount 0
+      → RefusesHeader d input fields fault
+  other : (header : List (List ℕ)) → AreFirstRecordsOf d input (header ∷ [])
+      → IsHeaderFault fields header fault → RefusesHeader d input fields fault
+  exhausted : flat_fault fields ≡ None → fault ≡ OutOfMemory → RefusesHeader d input fields fault
 
 -- the header is right, and the record after these does not read as a row; the batches that these
 -- fill were sent. The header is record 0
-pub record RefusesRecord (input : Option (List ℕ)) (s : Schema) (size : ℕ)
+pub record RefusesRecord (d : Dialect) (input : Option (List ℕ)) (s : Schema) (size : ℕ)
     (old new : Option (List ℕ)) (failures_old failures_new : ℕ) (fault : TextFault) : Type 0 where
   pub before : List (List (List ℕ))
   pub texts : List (List ℕ)
-  pub there : AreFirstRecordsOf input (names s.fields ∷ before ++ texts ∷ [])
-  pub cause : IsRecordFault (length before + 1) s.fields texts fault
-  pub sent : SendsFull s size before old new failures_old failures_new
+  pub there : AreFirstRecordsOf d input (names s.fields ∷ before ++ texts ∷ [])
+  pub cause : IsRecordFault d (length before + 1) s.fields texts fault
+  pub sent : SendsFull d s size before old new failures_old failures_new
 
 -- a refusal of the header or of a record, or memory ran out after some records
-pub data RefusesText (input : Option (List ℕ)) (s : Schema) (size : ℕ) (old new : Option (List ℕ))
+pub data RefusesText (d : Dialect) (input : Option (List ℕ)) (s : Schema) (size : ℕ) (old new :
+    Option (List ℕ))
     (failures_old failures_new : ℕ) (fault : TextFault) : Type 0 where
-  in_header : RefusesHeader input s.fields fault → Unsent old new failures_old failures_new
-      → RefusesText input s size old new failures_old failures_new fault
-  in_record : RefusesRecord input s size old new failures_old failures_new fault
-      → RefusesText input s size old new failures_old failures_new fault
+  in_header : RefusesHeader d input s.fields fault → Unsent old new failures_old failures_new
+      → RefusesText d input s size old new failures_old failures_new fault
+  in_record : RefusesRecord d input s size old new failures_old failures_new fault
+      → RefusesText d input s size old new failures_old failures_new fault
   exhausted_behind : fault ≡ OutOfMemory
-      → StopsBehind input s size old new failures_old failures_new
-      → RefusesText input s size old new failures_old failures_new fault
+      → StopsBehind d input s size old new failures_old failures_new
+      → RefusesText d input s size old new failures_old failures_new fault
 
 -- the source of the input failed: before the header was read, and nothing was sent, or after some
 -- records
-pub data StopsReading (input : Option (List ℕ)) (s : Schema) (size : ℕ) (old new : Option (List ℕ))
+pub data StopsReading (d : Dialect) (input : Option (List ℕ)) (s : Schema) (size : ℕ) (old new :
+    Option (List ℕ))
     (failures_old failures_new : ℕ) : Type 0 where
   before : flat_fault s.fields ≡ None → Unsent old new failures_old failures_new
-      → StopsReading input s size old new failures_old failures_new
-  behind : StopsBehind input s size old new failures_old failures_new
-      → StopsReading input s size old new failures_old failures_new
+      → StopsReading d input s size old new failures_old failures_new
+  behind : StopsBehind d input s size old new failures_old failures_new
+      → StopsReading d input s size old new failures_old failures_new
 
 -- the rows of these records make a table that is accepted
-pub record AreAccepted (limits : Limits) (s : Schema) (size : ℕ)
+pub record AreAccepted (d : Dialect) (limits : Limits) (s : Schema) (size : ℕ)
     (records : List (List (List ℕ))) : Type 0 where
   pub batches : List BatchRows
   pub left : List (List Value)
-  pub batched : AreBatched s size records batches left
+  pub batched : AreBatched d s size records batches left
   pub accepts : AcceptsTable limits (table_of s (batches ++ last_batch left))
 
 -- the faults of rows that fit: a batch or the values of a dictionary are too long or too many (W6
@@ -127,21 +132,22 @@ IsOfLengths fault = ⊥
 -- writing the table of some first records broke off. At W6 to W8 the last of these records is the
 -- cause: the table of those before it is accepted. W9 occurs only if the last batch is full or all
 -- records were read
-pub record StopsWriting (input : Option (List ℕ)) (s : Schema) (size : ℕ) (old new : Option
+pub record StopsWriting (d : Dialect) (input : Option (List ℕ)) (s : Schema) (size : ℕ) (old new :
+    Option
     (List ℕ))
     (failures_old failures_new : ℕ) (fault : WriteFault) : Type 0 where
   pub limits : Limits
   pub standard : IsStandard limits
   pub records : List (List (List ℕ))
-  pub there : AreFirstRecordsOf input (names s.fields ∷ records)
+  pub there : AreFirstRecordsOf d input (names s.fields ∷ records)
   pub batches : List BatchRows
   pub left : List (List Value)
-  pub batched : AreBatched s size records batches left
+  pub batched : AreBatched d s size records batches left
   pub breaks : BreaksOff limits (table_of s (batches ++ last_batch left)) old new failures_old
       failures_new fault
-  pub all : fault ≡ write.Write → left ≢ [] → AreRecordsOf input (names s.fields ∷ records)
+  pub all : fault ≡ write.Write → left ≢ [] → AreRecordsOf d input (names s.fields ∷ records)
   pub first : IsOfLengths fault → (before : List (List (List ℕ))) (texts : List (List ℕ))
-      → records ≡ before ++ texts ∷ [] → AreAccepted limits s size before
+      → records ≡ before ++ texts ∷ [] → AreAccepted d limits s size before
 
 -- what the writer may still refuse if rows fit and batches are not too large: the schema (W1, W6),
 -- a batch that is too long (W6), a failed sink (W9) or memory (W11). If the schema names a
@@ -156,29 +162,32 @@ IsLeftToRefuse s write.OutOfMemory = ⊤
 IsLeftToRefuse s fault = ⊥
 
 -- why the whole stream was not sent, and what was sent
-abbrev pub StopsFor : Option (List ℕ) → Schema → ℕ → Option (List ℕ) → Option (List ℕ) → ℕ → ℕ
+abbrev pub StopsFor : Dialect → Option (List ℕ) → Schema → ℕ → Option (List ℕ) → Option (List ℕ)
+    → ℕ → ℕ
     → Stop → Type 0
-StopsFor input s size old new failures_old failures_new stop.Input =
-    StopsReading input s size old new failures_old failures_new
-StopsFor input s size old new failures_old failures_new (stop.Text fault) =
-    RefusesText input s size old new failures_old failures_new fault
-StopsFor input s size old new failures_old failures_new (stop.Write fault) =
-    StopsWriting input s size old new failures_old failures_new fault
+StopsFor d input s size old new failures_old failures_new stop.Input =
+    StopsReading d input s size old new failures_old failures_new
+StopsFor d input s size old new failures_old failures_new (stop.Text fault) =
+    RefusesText d input s size old new failures_old failures_new fault
+StopsFor d input s size old new failures_old failures_new (stop.Write fault) =
+    StopsWriting d input s size old new failures_old failures_new fault
 
 -- the whole stream was sent, or why it was not
-abbrev pub Answers : Option (List ℕ) → Schema → ℕ → Option (List ℕ) → Option (List ℕ) → ℕ → ℕ
+abbrev pub Answers : Dialect → Option (List ℕ) → Schema → ℕ → Option (List ℕ) → Option (List ℕ)
+    → ℕ → ℕ
     → Result Unit Stop → Type 0
-Answers input s size old new failures_old failures_new (Ok x) =
-    Converts input s size old new failures_old failures_new
-Answers input s size old new failures_old failures_new (Err why) =
-    StopsFor input s size old new failures_old failures_new why
+Answers d input s size old new failures_old failures_new (Ok x) =
+    Converts d input s size old new failures_old failures_new
+Answers d input s size old new failures_old failures_new (Err why) =
+    StopsFor d input s size old new failures_old failures_new why
 
 -- the header was read and names the columns, or why it was not
-abbrev pub AnswersHeader : {R : Type 0} → (R → Option (List ℕ)) → Option (List ℕ) → List Field
+abbrev pub AnswersHeader : {R : Type 0} → Dialect → (R → Option (List ℕ)) → Option (List ℕ)
+    → List Field
     → Reader R → Result Unit Stop → Type 0
-AnswersHeader remaining input fields reader (Ok x) =
-    (flat_fault fields ≡ None) × Stands remaining input (names fields ∷ []) reader
-AnswersHeader remaining input fields reader (Err stop.Input) = flat_fault fields ≡ None
-AnswersHeader remaining input fields reader (Err (stop.Text fault)) =
-    RefusesHeader input fields fault
-AnswersHeader remaining input fields reader (Err (stop.Write fault)) = ⊥
+AnswersHeader d remaining input fields reader (Ok x) =
+    (flat_fault fields ≡ None) × Stands d remaining input (names fields ∷ []) reader
+AnswersHeader d remaining input fields reader (Err stop.Input) = flat_fault fields ≡ None
+AnswersHeader d remaining input fields reader (Err (stop.Text fault)) =
+    RefusesHeader d input fields fault
+AnswersHeader d remaining input fields reader (Err (stop.Write fault)) = ⊥

@@ -20,32 +20,35 @@ use Rattle.ipc_from_csv.specs.Records.{AreFirstRecordsOf, AreRecordsOf, EachReco
 use Rattle.ipc_from_csv.specs.declared.rows.RowReader.{RowReader}
 use Rattle.ipc_from_csv.specs.declared.stop.Stop.{Stop}
 use Rattle.ipc_from_csv.specs.declared.stop.Stop.TheVariants as stop
+use Rattle.ipc_csv.specs.declared.dialect.Dialect.{Dialect}
 
 -- ---- records read as rows
 
 -- these records after the header were read and counted, and read as these rows
-pub record HasRead {R : Type 0} (remaining : R → Option (List ℕ)) (input : Option (List ℕ))
+pub record HasRead {R : Type 0} (d : Dialect) (remaining : R
+    → Option (List ℕ)) (input : Option (List ℕ))
     (s : Schema) (records : List (List (List ℕ))) (rows : List (List Value))
     (now : RowReader R) : Type 0 where
   pub flat : flat_fault s.fields ≡ None
-  pub stands : Stands remaining input (names s.fields ∷ records) now.reader
+  pub stands : Stands d remaining input (names s.fields ∷ records) now.reader
   pub counted : now.count ≡ length records
-  pub read : EachRecordReadsAs s.fields records rows
+  pub read : EachRecordReadsAs d s.fields records rows
 
 -- after these records there was one more, whose row is stored in the reader; or these are all
-abbrev pub FindsRow : {R : Type 0} → (R → Option (List ℕ)) → Option (List ℕ) → Schema
+abbrev pub FindsRow : {R : Type 0} → Dialect → (R → Option (List ℕ)) → Option (List ℕ) → Schema
     → List (List (List ℕ)) → List (List Value) → RowReader R → Bool → Type 0
-FindsRow remaining input s records rows now true = (texts : List (List ℕ))
-    × HasRead remaining input s (records ++ texts ∷ []) (rows ++ now.row ∷ []) now
-FindsRow remaining input s records rows now false = AreRecordsOf input (names s.fields ∷ records)
+FindsRow d remaining input s records rows now true = (texts : List (List ℕ))
+    × HasRead d remaining input s (records ++ texts ∷ []) (rows ++ now.row ∷ []) now
+FindsRow d remaining input s records rows now false =
+    AreRecordsOf d input (names s.fields ∷ records)
 
 -- why no row is read after these records: the source failed, memory ran out, or the next record
 -- does not read as a row
-abbrev pub RefusesNext : Option (List ℕ) → Schema → List (List (List ℕ)) → Stop → Type 0
-RefusesNext input s records why = (why ≡ stop.Input) ⊎ (why ≡ stop.Text OutOfMemory)
+abbrev pub RefusesNext : Dialect → Option (List ℕ) → Schema → List (List (List ℕ)) → Stop → Type 0
+RefusesNext d input s records why = (why ≡ stop.Input) ⊎ (why ≡ stop.Text OutOfMemory)
     ⊎ ((texts : List (List ℕ)) × (fault : _) × (why ≡ stop.Text fault)
-    × AreFirstRecordsOf input (names s.fields ∷ records ++ texts ∷ [])
-    × IsRecordFault (length records + 1) s.fields texts fault)
+    × AreFirstRecordsOf d input (names s.fields ∷ records ++ texts ∷ [])
+    × IsRecordFault d (length records + 1) s.fields texts fault)
 
 -- ---- rows sent in batches
 
@@ -63,77 +66,82 @@ pub record IsOut (s : Schema) (batches : List BatchRows) (old : Option (List ℕ
   pub accepts : AllByRecursion (AcceptsBatch writer.limits s) batches
 
 -- the header was read and the schema was sent, and nothing else
-abbrev pub Begins : {R : Type 0} → (R → Option (List ℕ)) → Option (List ℕ) → Schema
+abbrev pub Begins : {R : Type 0} → Dialect → (R → Option (List ℕ)) → Option (List ℕ) → Schema
     → Option (List ℕ) → ℕ → RowReader R → Writer → Type 0
-Begins remaining input s old failures now writer =
-    HasRead remaining input s [] [] now × IsOut s [] old failures writer
+Begins d remaining input s old failures now writer =
+    HasRead d remaining input s [] [] now × IsOut s [] old failures writer
 
 -- records were read; their rows fill the batches that were sent, and `left` are the rows after
 -- these
-pub record Came {R : Type 0} (remaining : R → Option (List ℕ)) (input : Option (List ℕ))
+pub record Came {R : Type 0} (d : Dialect) (remaining : R
+    → Option (List ℕ)) (input : Option (List ℕ))
     (s : Schema) (size : ℕ) (old : Option (List ℕ)) (failures : ℕ) (now : RowReader R)
     (writer : Writer) (left : List (List Value)) : Type 0 where
   pub records : List (List (List ℕ))
   pub rows : List (List Value)
-  pub read : HasRead remaining input s records rows now
+  pub read : HasRead d remaining input s records rows now
   pub batches : List BatchRows
   pub full : AllByRecursion (IsFull size) batches
   pub joined : flat_map (λ b. b.rows) batches ++ left ≡ rows
   pub out : IsOut s batches old failures writer
 
 -- the rows after the batches that were sent are stored for the next batch
-pub record Holds {R : Type 0} (remaining : R → Option (List ℕ)) (input : Option (List ℕ))
+pub record Holds {R : Type 0} (d : Dialect) (remaining : R
+    → Option (List ℕ)) (input : Option (List ℕ))
     (s : Schema) (size : ℕ) (old : Option (List ℕ)) (failures : ℕ) (now : RowReader R)
     (writer : Writer) (held : PushedRows) (left : List (List Value)) : Type 0 where
-  pub came : Came remaining input s size old failures now writer left
+  pub came : Came d remaining input s size old failures now writer left
   pub held_rows : HoldsBatch writer.limits writer.schema (batch_of left) held
 
 -- the rows that are stored fill a batch; or all records were read, and fewer rows are stored, but
 -- at least one
-abbrev pub HoldsLast : {R : Type 0} → (R → Option (List ℕ)) → Option (List ℕ) → Schema → ℕ
+abbrev pub HoldsLast : {R : Type 0} → Dialect → (R → Option (List ℕ)) → Option (List ℕ) → Schema → ℕ
     → Option (List ℕ) → ℕ → RowReader R → Writer → PushedRows → Bool → Type 0
-HoldsLast remaining input s size old failures now writer held true =
-    (left : List (List Value)) × Holds remaining input s size old failures now writer held left
+HoldsLast d remaining input s size old failures now writer held true =
+    (left : List (List Value)) × Holds d remaining input s size old failures now writer held left
     × (length left ≡ size)
-HoldsLast {R} remaining input s size old failures now writer held false =
+HoldsLast {R} d remaining input s size old failures now writer held false =
     (before : RowReader R) × (left : List (List Value))
-    × (holds : Holds remaining input s size old failures before writer held left)
+    × (holds : Holds d remaining input s size old failures before writer held left)
     × (0 < length left) × (length left < size)
-    × AreRecordsOf input (names s.fields ∷ holds.came.records)
+    × AreRecordsOf d input (names s.fields ∷ holds.came.records)
 
 -- the rows of a batch are stored as `HoldsLast` states, or why not
-abbrev pub PushesRows : {R : Type 0} → (R → Option (List ℕ)) → Option (List ℕ) → Schema → ℕ
+abbrev pub PushesRows : {R : Type 0} → Dialect → (R → Option (List ℕ)) → Option (List ℕ)
+    → Schema → ℕ
     → Option (List ℕ) → ℕ → RowReader R → Writer → PushedRows → Result Bool Stop → Type 0
-PushesRows remaining input s size old failures now writer held (Ok more) =
-    HoldsLast remaining input s size old failures now writer held more
-PushesRows remaining input s size old failures now writer held (Err why) =
-    StopsFor input s size old writer.written failures writer.failures why
+PushesRows d remaining input s size old failures now writer held (Ok more) =
+    HoldsLast d remaining input s size old failures now writer held more
+PushesRows d remaining input s size old failures now writer held (Err why) =
+    StopsFor d input s size old writer.written failures writer.failures why
 
 -- all records after the header were read, and their rows were sent in batches
-pub record SendsAll (input : Option (List ℕ)) (s : Schema) (size : ℕ) (old : Option (List ℕ))
+pub record SendsAll (d : Dialect) (input : Option (List ℕ)) (s : Schema) (size : ℕ) (old : Option
+    (List ℕ))
     (failures : ℕ) (writer : Writer) : Type 0 where
   pub records : List (List (List ℕ))
-  pub all : AreRecordsOf input (names s.fields ∷ records)
-  pub there : AreFirstRecordsOf input (names s.fields ∷ records)
+  pub all : AreRecordsOf d input (names s.fields ∷ records)
+  pub there : AreFirstRecordsOf d input (names s.fields ∷ records)
   pub batches : List BatchRows
   pub left : List (List Value)
-  pub batched : AreBatched s size records batches left
+  pub batched : AreBatched d s size records batches left
   pub out : IsOut s (batches ++ last_batch left) old failures writer
 
 -- a batch was sent, after which no row is left over: there may be more records, or these were all;
 -- or why it was not sent
-abbrev pub SendsBatch : {R : Type 0} → (R → Option (List ℕ)) → Option (List ℕ) → Schema → ℕ
+abbrev pub SendsBatch : {R : Type 0} → Dialect → (R → Option (List ℕ)) → Option (List ℕ)
+    → Schema → ℕ
     → Option (List ℕ) → ℕ → RowReader R → Writer → Result Bool Stop → Type 0
-SendsBatch remaining input s size old failures now writer (Ok true) =
-    Came remaining input s size old failures now writer []
-SendsBatch remaining input s size old failures now writer (Ok false) =
-    SendsAll input s size old failures writer
-SendsBatch remaining input s size old failures now writer (Err why) =
-    StopsFor input s size old writer.written failures writer.failures why
+SendsBatch d remaining input s size old failures now writer (Ok true) =
+    Came d remaining input s size old failures now writer []
+SendsBatch d remaining input s size old failures now writer (Ok false) =
+    SendsAll d input s size old failures writer
+SendsBatch d remaining input s size old failures now writer (Err why) =
+    StopsFor d input s size old writer.written failures writer.failures why
 
 -- all rows were sent, or why not
-abbrev pub SendsRecords : Option (List ℕ) → Schema → ℕ → Option (List ℕ) → ℕ → Writer
+abbrev pub SendsRecords : Dialect → Option (List ℕ) → Schema → ℕ → Option (List ℕ) → ℕ → Writer
     → Result Unit Stop → Type 0
-SendsRecords input s size old failures writer (Ok x) = SendsAll input s size old failures writer
-SendsRecords input s size old failures writer (Err why) =
-    StopsFor input s size old writer.written failures writer.failures why
+SendsRecords d input s size old failures writer (Ok x) = SendsAll d input s size old failures writer
+SendsRecords d input s size old failures writer (Err why) =
+    StopsFor d input s size old writer.written failures writer.failures why

@@ -17,7 +17,7 @@ use crate::rows::RowReader;
 use crate::source_reader::{SourceReader, Watched};
 use crate::stop::Stop;
 use csv::ByteRecord;
-use ipc_csv::check_flat;
+use ipc_csv::{Dialect, check_flat};
 use ipc_model::{Items, Limits, Schema, WriteFault};
 use ipc_stream::{BatchWriter, Seed, Sink, Source, StreamWriter};
 use std::alloc::Global;
@@ -27,29 +27,32 @@ use std::io::Read;
 // record remains. Returns whether the batch is full.
 fn push_rows<R: Read + Watched, W: Sink>(
     alloc: Global,
+    dialect: Dialect<'_>,
     rows: &mut RowReader<R>,
     schema: &Schema,
     size: u64,
     batch: &mut BatchWriter<'_, W>,
 ) -> Result<bool, Stop>
     requires some { 0 < size }
-    requires set_up { IsSetUp rows.old.reader }
+    requires set_up { IsSetUp dialect rows.old.reader }
     requires works { R.failures (reader_source rows.old.reader) ≡ 0 }
     ensures device { TellsInput (R.failures (reader_source rows.new.reader)) result }
-    ensures set_up { OnOk result (IsSetUp rows.new.reader) }
+    ensures set_up { OnOk result (IsSetUp dialect.entry rows.new.reader) }
     ensures counted { OnOk result (rows.old.count ≤ rows.new.count) }
     ensures same_reference { batch.new.writer.ghost_name ≡ batch.old.writer.ghost_name }
     ensures pushes { (input old : Option (List ℕ)) (failures : ℕ)
-        → Came R.remaining input schema.now size old failures rows.old batch.old.writer.now
+        → Came dialect.entry R.remaining input schema.now size old failures rows.old
+        batch.old.writer.now
         (rows.old.row ∷ [])
         → HoldsBatch batch.old.writer.now.limits batch.old.writer.now.schema (no_rows [])
         batch.old.batch
-        → PushesRows R.remaining input schema.now size old failures rows.new batch.new.writer.now
+        → PushesRows dialect.entry R.remaining input schema.now size old failures rows.new
+        batch.new.writer.now
         batch.new.batch result }
 {
     batch.push(rows.row.as_slice())?;
     for _ in 1..size {
-        if !rows.next(alloc, schema)? {
+        if !rows.next(alloc, dialect, schema)? {
             return Ok(false);
         }
         batch.push(rows.row.as_slice())?;
@@ -60,24 +63,26 @@ fn push_rows<R: Read + Watched, W: Sink>(
 // Sends a batch of the kept row and those of the next records, and says whether it was full.
 fn send_batch<R: Read + Watched, W: Sink>(
     alloc: Global,
+    dialect: Dialect<'_>,
     rows: &mut RowReader<R>,
     stream: &mut StreamWriter<W>,
     schema: &Schema,
     size: u64,
 ) -> Result<bool, Stop>
     requires some { 0 < size }
-    requires set_up { IsSetUp rows.old.reader }
+    requires set_up { IsSetUp dialect rows.old.reader }
     requires works { R.failures (reader_source rows.old.reader) ≡ 0 }
     ensures device { TellsInput (R.failures (reader_source rows.new.reader)) result }
-    ensures set_up { OnOk result (IsSetUp rows.new.reader) }
+    ensures set_up { OnOk result (IsSetUp dialect.entry rows.new.reader) }
     ensures counted { OnOk result (rows.old.count ≤ rows.new.count) }
     ensures sends { (input old : Option (List ℕ)) (failures : ℕ)
-        → Came R.remaining input schema.now size old failures rows.old stream.old
+        → Came dialect.entry R.remaining input schema.now size old failures rows.old stream.old
         (rows.old.row ∷ [])
-        → SendsBatch R.remaining input schema.now size old failures rows.new stream.new result }
+        → SendsBatch dialect.entry R.remaining input schema.now size old failures rows.new
+        stream.new result }
 {
     let mut batch = stream.batch(Items::new(alloc))?;
-    let full = push_rows(alloc, rows, schema, size, &mut batch)?;
+    let full = push_rows(alloc, dialect, rows, schema, size, &mut batch)?;
     batch.send()?;
     Ok(full)
 }
@@ -86,21 +91,22 @@ fn send_batch<R: Read + Watched, W: Sink>(
 // may have fewer.
 fn send_records<R: Read + Watched, W: Sink>(
     alloc: Global,
+    dialect: Dialect<'_>,
     rows: &mut RowReader<R>,
     stream: &mut StreamWriter<W>,
     schema: &Schema,
     size: u64,
 ) -> Result<(), Stop>
     requires some { 0 < size }
-    requires set_up { IsSetUp rows.old.reader }
+    requires set_up { IsSetUp dialect rows.old.reader }
     requires works { R.failures (reader_source rows.old.reader) ≡ 0 }
     ensures device { TellsInput (R.failures (reader_source rows.new.reader)) result }
     ensures sends { (input old : Option (List ℕ)) (failures : ℕ)
-        → Begins R.remaining input schema.now old failures rows.old stream.old
-        → SendsRecords input schema.now size old failures stream.new result }
+        → Begins dialect.entry R.remaining input schema.now old failures rows.old stream.old
+        → SendsRecords dialect.entry input schema.now size old failures stream.new result }
 {
-    while rows.next(alloc, schema)? {
-        if !send_batch(alloc, rows, stream, schema, size)? {
+    while rows.next(alloc, dialect, schema)? {
+        if !send_batch(alloc, dialect, rows, stream, schema, size)? {
             return Ok(());
         }
     }
@@ -143,25 +149,27 @@ fn begin_stream<W: Sink>(
 fn send_stream<R: Read + Watched, W: Sink>(
     alloc: Global,
     seed: Seed,
+    dialect: Dialect<'_>,
     rows: &mut RowReader<R>,
     sink: W,
     schema: &Schema,
     batch: u64,
 ) -> (Result<(), Stop>, W)
     requires some { 0 < batch }
-    requires set_up { IsSetUp rows.old.reader }
+    requires set_up { IsSetUp dialect rows.old.reader }
     requires works { R.failures (reader_source rows.old.reader) ≡ 0 }
     ensures device { TellsInput (R.failures (reader_source rows.new.reader)) result.0 }
     ensures converts { (input : Option (List ℕ))
-        → HasRead R.remaining input schema.now [] [] rows.old
-        → Answers input schema.now batch (W.written sink) (W.written result.1) (W.failures sink)
+        → HasRead dialect.entry R.remaining input schema.now [] [] rows.old
+        → Answers dialect.entry input schema.now batch (W.written sink) (W.written result.1)
+        (W.failures sink)
         (W.failures result.1) result.0 }
     ensures handed_on { OnOk result.0 (W.held_back result.1 ≡ Some []) }
 {
     match begin_stream(alloc, seed, Limits::standard(), sink, schema) {
         Ok(stream) => {
             let mut stream = stream;
-            match send_records(alloc, rows, &mut stream, schema, batch) {
+            match send_records(alloc, dialect, rows, &mut stream, schema, batch) {
                 Ok(()) => end_stream(stream),
                 Err(why) => (Err(why), stream.into_inner()),
             }
@@ -170,9 +178,9 @@ fn send_stream<R: Read + Watched, W: Sink>(
     }
 }
 
-/// Reads CSV records from `input` and writes them to `sink` as a stream, in batches of `batch`
-/// rows. The last batch may have fewer. Returns `input` and `sink` with the result. `batch` must be
-/// from 1 to 2^31 - 1.
+/// Reads CSV records from `input` in a dialect and writes them to `sink` as a stream, in batches of
+/// `batch` rows. The last batch may have fewer. Returns `input` and `sink` with the result. `batch`
+/// must be from 1 to 2^31 - 1.
 ///
 /// A byte order mark at the start is dropped, and blank lines are no records. The first record is
 /// the header, with the names of the columns in order. Each record after it becomes a row, as
@@ -203,6 +211,7 @@ fn send_stream<R: Read + Watched, W: Sink>(
 /// Faults at a record come before the next record is read.
 pub fn from_csv<R: Source, W: Sink>(
     alloc: Global,
+    dialect: Dialect<'_>,
     input: R,
     sink: W,
     schema: &Schema,
@@ -211,12 +220,14 @@ pub fn from_csv<R: Source, W: Sink>(
     requires some { 0 < batch }
     requires within { batch ≤ 2 ^ 31 - 1 }
     // What went out is the stream of a table whose batches are the rows of all records.
-    ensures converts { OnOk result.0 (Converts (R.remaining input) schema.now batch (W.written sink)
+    ensures converts { OnOk result.0 (Converts dialect.entry (R.remaining input) schema.now batch
+        (W.written sink)
         (W.written result.2) (W.failures sink) (W.failures result.2)) }
     // Nothing is held back.
     ensures handed_on { OnOk result.0 (W.held_back result.2 ≡ Some []) }
     // At a refusal, its cause, and exactly what went out before it.
-    ensures stopped { IfErr result.0 (λ why. StopsFor (R.remaining input) schema.now batch
+    ensures stopped { IfErr result.0 (λ why. StopsFor dialect.entry (R.remaining input) schema.now
+        batch
         (W.written sink) (W.written result.2) (W.failures sink) (W.failures result.2) why) }
     // The rows fit and the batches aren't too large, so W2 to W5 don't come, and W7 and W8 only of
     // the values of a dictionary.
@@ -230,7 +241,7 @@ pub fn from_csv<R: Source, W: Sink>(
     // `Input` comes exactly where the source failed.
     ensures device { TellsSource (R.failures input) (R.failures result.1) result.0 }
 {
-    from_csv_with_seed(alloc, Seed::Fixed, input, sink, schema, batch)
+    from_csv_with_seed(alloc, Seed::Fixed, dialect, input, sink, schema, batch)
 }
 
 /// Converts CSV to a stream as `from_csv` does, but hashes the values of dictionaries with this
@@ -238,6 +249,7 @@ pub fn from_csv<R: Source, W: Sink>(
 pub fn from_csv_with_seed<R: Source, W: Sink>(
     alloc: Global,
     seed: Seed,
+    dialect: Dialect<'_>,
     input: R,
     sink: W,
     schema: &Schema,
@@ -246,12 +258,14 @@ pub fn from_csv_with_seed<R: Source, W: Sink>(
     requires some { 0 < batch }
     requires within { batch ≤ 2 ^ 31 - 1 }
     // What went out is the stream of a table whose batches are the rows of all records.
-    ensures converts { OnOk result.0 (Converts (R.remaining input) schema.now batch (W.written sink)
+    ensures converts { OnOk result.0 (Converts dialect.entry (R.remaining input) schema.now batch
+        (W.written sink)
         (W.written result.2) (W.failures sink) (W.failures result.2)) }
     // Nothing is held back.
     ensures handed_on { OnOk result.0 (W.held_back result.2 ≡ Some []) }
     // At a refusal, its cause, and exactly what went out before it.
-    ensures stopped { IfErr result.0 (λ why. StopsFor (R.remaining input) schema.now batch
+    ensures stopped { IfErr result.0 (λ why. StopsFor dialect.entry (R.remaining input) schema.now
+        batch
         (W.written sink) (W.written result.2) (W.failures sink) (W.failures result.2) why) }
     // The rows fit and the batches aren't too large, so W2 to W5 don't come, and W7 and W8 only of
     // the values of a dictionary.
@@ -268,12 +282,12 @@ pub fn from_csv_with_seed<R: Source, W: Sink>(
     if let Err(fault) = check_flat(schema) {
         return (Err(Stop::Text(fault)), input, sink);
     }
-    let mut reader = reader_of(alloc, SourceReader::new(input));
+    let mut reader = reader_of(alloc, dialect, SourceReader::new(input));
     let mut fields = ByteRecord::new(alloc);
     if let Err(why) = read_header(&mut reader, &mut fields, schema) {
         return (Err(why), reader.into_inner().into_inner(), sink);
     }
     let mut rows = RowReader::new(alloc, reader, fields);
-    let (result, sink) = send_stream(alloc, seed, &mut rows, sink, schema, batch);
+    let (result, sink) = send_stream(alloc, seed, dialect, &mut rows, sink, schema, batch);
     (result, rows.into_inner().into_inner(), sink)
 }

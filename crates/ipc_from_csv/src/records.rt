@@ -3,6 +3,7 @@ ghost use Rattle.std.specs.Prelude.{◌≡◌, ◌⊎◌, ℕ, List, [], Option,
 ghost use Rattle.std.specs.Io.KnownBytes.{Keeps};
 ghost use Rattle.csv.specs.Reading.{reader_source};
 ghost use Rattle.csv.specs.Records.{fields_of};
+ghost use Rattle.ipc_csv.specs.declared.dialect.Dialect.{Dialect};
 ghost use Rattle.ipc_csv.specs.RowCsv.{flat_fault};
 ghost use Rattle.ipc_moments.specs.declared.fault.TextFault.TheVariants.{OutOfMemory};
 ghost use Rattle.ipc_from_csv.specs.declared.stop.NoRow.TheVariants as none;
@@ -13,19 +14,20 @@ ghost use Rattle.ipc_from_csv.specs.Stops.{TellsInput, TellsNext};
 use crate::source_reader::Watched;
 use crate::stop::{NoRow, Stop};
 use csv::{ByteRecord, Reader, ReaderBuilder};
-use ipc_csv::check_header;
+use ipc_csv::{Dialect, check_header};
 use ipc_model::Schema;
 use ipc_moments::TextFault;
 use std::alloc::Global;
 use std::io::Read;
 
 // A reader of all records of an input, the header's among them, however many fields each has.
-pub fn reader_of<R: Read>(alloc: Global, input: R) -> Reader<R>
-    ensures set_up { IsSetUp result }
+pub fn reader_of<R: Read>(alloc: Global, dialect: Dialect<'_>, input: R) -> Reader<R>
+    ensures set_up { IsSetUp dialect.entry result }
     ensures stands { (known : Option (List ℕ)) → Keeps known (R.remaining input)
-        → Stands R.remaining known [] result }
+        → Stands dialect.entry R.remaining known [] result }
 {
     ReaderBuilder::new()
+        .delimiter(dialect.delimiter())
         .has_headers(false)
         .flexible(true)
         .from_reader(alloc, input)
@@ -37,11 +39,11 @@ pub fn next_record<R: Read + Watched>(
     reader: &mut Reader<R>,
     fields: &mut ByteRecord,
 ) -> Result<bool, NoRow>
-    requires { IsSetUp reader.old }
-    ensures set_up { OnOk result (IsSetUp reader.new) }
-    ensures finds { IfOk result (λ found. (input : Option (List ℕ)) (records : List (List (List ℕ)))
-        → Stands R.remaining input records reader.old
-        → Finds R.remaining input records reader.new found (fields_of fields.new)) }
+    ensures set_up { (d : Dialect) → IsSetUp d reader.old → OnOk result (IsSetUp d reader.new) }
+    ensures finds { (d : Dialect) → IsSetUp d reader.old → IfOk result (λ found.
+        (input : Option (List ℕ)) (records : List (List (List ℕ)))
+        → Stands d R.remaining input records reader.old
+        → Finds d R.remaining input records reader.new found (fields_of fields.new)) }
     ensures stopped { IfErr result (λ why. (why ≡ none.Input) ⊎ (why ≡ none.Text OutOfMemory)) }
     ensures device { TellsNext (R.failures (reader_source reader.new)) result }
 {
@@ -61,12 +63,12 @@ pub fn read_header<R: Read + Watched>(
     fields: &mut ByteRecord,
     schema: &Schema,
 ) -> Result<(), Stop>
-    requires set_up { IsSetUp reader.old }
     requires flat { flat_fault schema.now.fields ≡ None }
-    ensures set_up { OnOk result (IsSetUp reader.new) }
+    ensures set_up { (d : Dialect) → IsSetUp d reader.old → OnOk result (IsSetUp d reader.new) }
     ensures device { TellsInput (R.failures (reader_source reader.new)) result }
-    ensures answers { (input : Option (List ℕ)) → Stands R.remaining input [] reader.old
-        → AnswersHeader R.remaining input schema.now.fields reader.new result }
+    ensures answers { (d : Dialect) (input : Option (List ℕ)) → IsSetUp d reader.old
+        → Stands d R.remaining input [] reader.old
+        → AnswersHeader d R.remaining input schema.now.fields reader.new result }
 {
     if !next_record(reader, fields)? {
         return Err(Stop::Text(TextFault::WrongFieldCount { record: 0 }));

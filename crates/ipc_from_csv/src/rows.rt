@@ -11,7 +11,7 @@ use crate::records::next_record;
 use crate::source_reader::Watched;
 use crate::stop::NoRow;
 use csv::{ByteRecord, Reader};
-use ipc_csv::fill_row_from_csv;
+use ipc_csv::{Dialect, fill_row_from_csv};
 use ipc_model::{Items, Row, Schema};
 use ipc_moments::TextFault;
 use std::alloc::Global;
@@ -42,17 +42,22 @@ impl<R: Read + Watched> RowReader<R> {
 
     // Reads the next record and makes the kept row the one as which it reads, and says whether
     // there was a record. A record above 2^64 - 1 has no number, which counts as a want of memory.
-    pub fn next(&mut self, alloc: Global, schema: &Schema) -> Result<bool, NoRow>
-        requires set_up { IsSetUp self.old.reader }
-        ensures set_up { OnOk result (IsSetUp self.new.reader) }
+    pub fn next(
+        &mut self,
+        alloc: Global,
+        dialect: Dialect<'_>,
+        schema: &Schema,
+    ) -> Result<bool, NoRow>
+        requires set_up { IsSetUp dialect self.old.reader }
+        ensures set_up { OnOk result (IsSetUp dialect.entry self.new.reader) }
         ensures finds { IfOk result (λ found. (input : Option (List ℕ))
             (records : List (List (List ℕ))) (rows : List (List Value))
-            → HasRead R.remaining input schema.now records rows self.old
-            → FindsRow R.remaining input schema.now records rows self.new found) }
+            → HasRead dialect.entry R.remaining input schema.now records rows self.old
+            → FindsRow dialect.entry R.remaining input schema.now records rows self.new found) }
         ensures refused { IfErr result (λ why. (input : Option (List ℕ))
             (records : List (List (List ℕ))) (rows : List (List Value))
-            → HasRead R.remaining input schema.now records rows self.old
-            → RefusesNext input schema.now records (stop_of why)) }
+            → HasRead dialect.entry R.remaining input schema.now records rows self.old
+            → RefusesNext dialect.entry input schema.now records (stop_of why)) }
         ensures counted { IfOk result (λ found. found ≡ true
             → (self.new.count ≡ self.old.count + 1) × (self.new.count < 2 ^ 64)) }
         ensures stayed { IfOk result (λ found. found ≡ false → self.new.count ≡ self.old.count) }
@@ -65,7 +70,7 @@ impl<R: Read + Watched> RowReader<R> {
             return Err(NoRow::Text(TextFault::OutOfMemory));
         };
         self.count = count;
-        fill_row_from_csv(alloc, schema, count, &self.fields, &mut self.row)?;
+        fill_row_from_csv(alloc, dialect, schema, count, &self.fields, &mut self.row)?;
         Ok(true)
     }
 

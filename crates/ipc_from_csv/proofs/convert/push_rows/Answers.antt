@@ -7,7 +7,7 @@ use Rattle.ipc_from_csv.proofs.convert.push_rows.Goals as goal
 pub returns-in_err-push-clause-pushes : goal.returns-in_err-push-clause-pushes
 returns-in_err-push-clause-pushes g c = λ input old failures came held.
     let p = err_from_is_err_and c.from_residual.result c.from_residual.ensures.1 in
-    rw (p.1, p.2) (pushed_stops _ _ _ _ _ _ _ _ [] c.args.rows.now.row c.as_slice.result.now c.as_slice.ensures came
+    rw (p.1, p.2) (pushed_stops c.args.dialect _ _ _ _ _ _ _ _ [] c.args.rows.now.row c.as_slice.result.now c.as_slice.ensures came
     c.push.new.self.writer.now (λ none. absurd (omega (arith, none))) c.requires.some c.in_err-push.field-0.0
     (c.in_err-push.ensures.judged _ held) c.in_err-push.ensures.stays)
 
@@ -20,7 +20,8 @@ loop-init g c = (
   omega (arith, c.requires.some),
   λ input old failures came held. (
     c.args.rows.now.row ∷ [],
-    holds_pushed _ _ _ _ _ _ _ _ [] c.args.rows.now.row c.as_slice.result.now c.as_slice.ensures came c.push.new.self.writer.now _
+    holds_pushed c.args.dialect _ _ _ _ _ _ _ _ [] c.args.rows.now.row c.as_slice.result.now c.as_slice.ensures came
+        c.push.new.self.writer.now _
         c.in_ok-push.ensures.stays.1 (c.in_ok-push.ensures.judged _ held),
     refl,
   ),
@@ -37,7 +38,7 @@ pub returns-in_err-next-clause-pushes : goal.returns-in_err-next-clause-pushes
 returns-in_err-next-clause-pushes g c = λ input old failures came held.
     let p = err_from_is_err_and c.from_residual-in_err-next.result c.from_residual-in_err-next.ensures.1 in
     let (left, holds, many) = c.loop.invariant.5 input old failures came held in
-    rw (p.1, p.2) (held_stops _ _ _ _ _ _ _ _ _ left holds (omega (arith, many, c.loop-test.true)) _
+    rw (p.1, p.2) (held_stops c.args.dialect _ _ _ _ _ _ _ _ _ left holds (omega (arith, many, c.loop-test.true)) _
     (c.in_err-next.ensures.refused input _ _ holds.came.read))
 
 pub returns-then-not-branch-clause-counted : goal.returns-then-not-branch-clause-counted
@@ -66,10 +67,15 @@ pub returns-in_err-push-2-clause-pushes : goal.returns-in_err-push-2-clause-push
 returns-in_err-push-2-clause-pushes g c = λ input old failures came held.
     let p = err_from_is_err_and c.from_residual-in_err-push-2.result c.from_residual-in_err-push-2.ensures.1 in
     let (left, holds, many) = c.loop.invariant.5 input old failures came held in
-    let more = held_more _ _ _ _ _ _ _ _ _ left holds c.next.new.self _ c.if-not-branch.false
+    let more = held_more c.args.dialect _ _ _ _ _ _ _ _ _ left holds c.next.new.self _ c.if-not-branch.false
     (c.in_ok-next.ensures.finds input _ _ holds.came.read) in
-    rw (p.1, p.2) (pushed_stops _ _ _ _ _ _ _ _ left c.next.new.self.row c.as_slice-in-loop.result.now c.as_slice-in-loop.ensures more
-    c.push-in-loop.new.self.writer.now (λ _. holds_accepted _ _ _ _ _ _ _ _ _ left holds) (omega (arith, many, c.loop-test.true))
+    rw (p.1, p.2) (pushed_stops c.args.dialect _ _ _ _ _ _ _ _ left c.next.new.self.row c.as_slice-in-loop.result.now
+    c.as_slice-in-loop.ensures more
+    c.push-in-loop.new.self.writer.now (λ _. holds_accepted c.args.dialect _ _ _ _ _ _ _ _ _ left holds) (omega (
+      arith,
+      many,
+      c.loop-test.true,
+    ))
     c.in_err-push-2.field-0.0 (c.in_err-push-2.ensures.judged _ holds.held_rows) c.in_err-push-2.ensures.stays)
 
 pub loop-preserved : goal.loop-preserved
@@ -81,10 +87,10 @@ loop-preserved g c = (
   omega (arith, c.loop-test.true),
   λ input old failures came held.
       let (left, holds, many) = c.loop.invariant.5 input old failures came held in
-      let more = held_more _ _ _ _ _ _ _ _ _ left holds c.next.new.self _ c.if-not-branch.false
+      let more = held_more c.args.dialect _ _ _ _ _ _ _ _ _ left holds c.next.new.self _ c.if-not-branch.false
       (c.in_ok-next.ensures.finds input _ _ holds.came.read) in (
         left ++ c.next.new.self.row ∷ [],
-        holds_pushed _ _ _ _ _ _ _ _ left c.next.new.self.row c.as_slice-in-loop.result.now c.as_slice-in-loop.ensures more
+        holds_pushed c.args.dialect _ _ _ _ _ _ _ _ left c.next.new.self.row c.as_slice-in-loop.result.now c.as_slice-in-loop.ensures more
             c.push-in-loop.new.self.writer.now _ c.in_ok-push-2.ensures.stays.1 (c.in_ok-push-2.ensures.judged _ holds.held_rows),
         length_push left c.next.new.self.row ∙ ap (λ n. n + 1) many,
       ),

@@ -7,14 +7,14 @@ use Rattle.ipc_from_csv.proofs.Sending.{came_more, came_none}
 use Rattle.ipc_from_csv.proofs.convert.send_records.Goals as goal
 
 pub loop-alloc-init : goal.loop-alloc-init
-loop-alloc-init g c = (c.requires.set_up, λ input old failures begins. came_none _ _ _ _ _ _ _ _ begins, c.requires.works)
+loop-alloc-init g c = (c.requires.set_up, λ input old failures begins. came_none c.args.dialect _ _ _ _ _ _ _ _ begins, c.requires.works)
 
 pub returns-in_err-next : goal.returns-in_err-next
 returns-in_err-next g c = record {
   sends = λ input old failures begins.
       let p = err_from_is_err_and c.from_residual.result c.from_residual.ensures.1 in
       let came = c.loop-alloc.invariant.1 input old failures begins in
-      rw (p.1, p.2) (next_stops _ _ _ _ _ _ _ _ [] came (λ none. absurd (omega (arith, none))) c.requires.some _
+      rw (p.1, p.2) (next_stops c.args.dialect _ _ _ _ _ _ _ _ [] came (λ none. absurd (omega (arith, none))) c.requires.some _
       (c.in_err-next.ensures.refused input _ _ came.read));
   device =
       let p = err_from_is_err_and c.from_residual.result c.from_residual.ensures.1 in
@@ -26,7 +26,7 @@ returns-in_err-send_batch g c = record {
   sends = λ input old failures begins.
       let p = err_from_is_err_and c.from_residual-in_err-send_batch.result c.from_residual-in_err-send_batch.ensures.1 in
       let came = c.loop-alloc.invariant.1 input old failures begins in
-      let more = came_more _ _ _ _ _ _ _ _ [] came c.next.new.self (rw c.if-branch.true at
+      let more = came_more c.args.dialect _ _ _ _ _ _ _ _ [] came c.next.new.self (rw c.if-branch.true at
       (c.in_ok-next.ensures.finds input _ _ came.read)) in
       rw (p.1, p.2) (c.in_err-send_batch.ensures.sends input old failures more);
   device =
@@ -38,7 +38,7 @@ pub returns-then-not-branch : goal.returns-then-not-branch
 returns-then-not-branch g c = record {
   sends = λ input old failures begins.
       let came = c.loop-alloc.invariant.1 input old failures begins in
-      let more = came_more _ _ _ _ _ _ _ _ [] came c.next.new.self (rw c.if-branch.true at
+      let more = came_more c.args.dialect _ _ _ _ _ _ _ _ [] came c.next.new.self (rw c.if-branch.true at
       (c.in_ok-next.ensures.finds input _ _ came.read)) in
       rw c.if-not-branch.true at (c.in_ok-send_batch.ensures.sends input old failures more);
   device = c.in_ok-send_batch.ensures.device;
@@ -54,7 +54,7 @@ loop-alloc-preserved g c = (
   c.in_ok-send_batch.ensures.set_up,
   λ input old failures begins.
       let came = c.loop-alloc.invariant.1 input old failures begins in
-      let more = came_more _ _ _ _ _ _ _ _ [] came c.next.new.self (rw c.if-branch.true at
+      let more = came_more c.args.dialect _ _ _ _ _ _ _ _ [] came c.next.new.self (rw c.if-branch.true at
       (c.in_ok-next.ensures.finds input _ _ came.read)) in
       rw c.if-not-branch.false at (c.in_ok-send_batch.ensures.sends input old failures more),
   c.in_ok-send_batch.ensures.device,
@@ -64,6 +64,7 @@ pub returns : goal.returns
 returns g c = record {
   sends = λ input old failures begins.
       let came = c.loop-alloc.invariant.1 input old failures begins in
-      ends_full _ _ _ _ _ _ _ _ [] came c.requires.some (rw c.if-branch.false at (c.in_ok-next.ensures.finds input _ _ came.read)) refl;
+      ends_full c.args.dialect _ _ _ _ _ _ _ _ [] came c.requires.some (rw c.if-branch.false at (c.in_ok-next.ensures.finds input _ _
+      came.read)) refl;
   device = c.in_ok-next.ensures.device;
 }

@@ -7,9 +7,9 @@ use Rattle.ipc_from_csv.proofs.convert.send_records.Given as goal
 -- the rows of the records so far were sent in full batches
 abbrev pub invariant-loop-alloc : goal.invariant-loop-alloc
 invariant-loop-alloc g l =
-    IsSetUp l.rows.reader
-    × ((input old : Option (List ℕ)) (failures : ℕ) → Begins g.R.Read.remaining input l.schema old failures l.fn.rows l.fn.stream
-    → Came g.R.Read.remaining input l.schema l.size old failures l.rows l.stream [])
+    IsSetUp l.dialect l.rows.reader
+    × ((input old : Option (List ℕ)) (failures : ℕ) → Begins l.dialect g.R.Read.remaining input l.schema old failures l.fn.rows l.fn.stream
+    → Came l.dialect g.R.Read.remaining input l.schema l.size old failures l.rows l.stream [])
     × (g.R.Watched.failures (reader_source l.rows.reader) ≡ 0)
 
 -- each batch takes records, of which no more are counted than an integer of 64 bits holds

@@ -4,5 +4,5 @@ use Rattle.ipc_from_csv.proofs.records.reader_of.Goals as goal
 
 pub returns-clause-stands : goal.returns-clause-stands
 returns-clause-stands g c = λ known kept.
-    stands_kept g.R.Read.remaining known (g.R.Read.remaining c.args.input) c.from_reader.result kept
-    (leaves_all _ _ _ c.from_reader.ensures.state c.from_reader.ensures.source)
+    stands_kept c.args.dialect g.R.Read.remaining known (g.R.Read.remaining c.args.input) c.from_reader.result kept
+    (leaves_all c.args.dialect _ _ _ c.from_reader.ensures.state c.from_reader.ensures.source)
