@@ -2,6 +2,7 @@
 use Rattle.std.proofs.Common.{◌≡◌, ℕ, List, Option, inr, Result, Ok, Err}
 use Rattle.std.specs.Prelude.{IfErr, OnOk, ⊤}
 use Rattle.ipc_model.specs.declared.schema.Schema.{Schema}
+use Rattle.ipc_csv.specs.declared.dialect.Dialect.{Dialect}
 use Rattle.ipc_from_csv.specs.Conversion.{Converts, StopsFor}
 use Rattle.ipc_from_csv.specs.Stops.{TellsSource}
 use Rattle.ipc_from_csv.specs.declared.stop.Stop.{Stop as CsvStop}
@@ -9,13 +10,14 @@ use Rattle.ipc_command.specs.declared.stop.Stop.{Stop}
 use Rattle.ipc_command.specs.Jobs.{AnswersCsv, IsSchemaOf, TellsSink, lifted, stop_of_csv}
 
 -- what becomes of records of CSV by a schema is what becomes of the job
-pub csv_answers : (bytes input old new : Option (List ℕ)) (s : Schema) (failures size failures_old failures_new : ℕ)
+pub csv_answers : (d : Dialect) (bytes input old new : Option (List ℕ)) (s : Schema) (failures size failures_old failures_new : ℕ)
     (source_old source_new : ℕ) (p : Result ⊤ CsvStop) (r : Result ⊤ Stop) → IsSchemaOf bytes s → failures ≡ 0 → r ≡ lifted stop_of_csv p
-    → OnOk p (Converts input s size old new failures_old failures_new)
-    → IfErr p (StopsFor input s size old new failures_old failures_new) → TellsSource source_old source_new p
+    → OnOk p (Converts d input s size old new failures_old failures_new)
+    → IfErr p (StopsFor d input s size old new failures_old failures_new) → TellsSource source_old source_new p
     → TellsSink failures_old failures_new p
-    → AnswersCsv bytes failures size input old new source_old source_new failures_old failures_new r
-csv_answers bytes input old new s failures size sink_old sink_new source_old source_new (Ok x) r is works same converts stops told tells =
+    → AnswersCsv d bytes failures size input old new source_old source_new failures_old failures_new r
+csv_answers d bytes input old new s failures size sink_old sink_new source_old source_new (Ok x) r is works same converts stops told tells =
     inr (s, is, works, Ok x, same, converts, told, tells)
-csv_answers bytes input old new s failures size sink_old sink_new source_old source_new (Err e) r is works same converts stops told tells =
+csv_answers d bytes input old new s failures size sink_old sink_new source_old source_new (Err e) r is works same converts stops told
+    tells =
     inr (s, is, works, Err e, same, stops, told, tells)

@@ -18,7 +18,7 @@ use Rattle.clap.specs.declared.parser.matches.ArgMatches.{ArgMatches}
 use Rattle.clap.specs.declared.parser.matches.ArgMatches.TheViews.{out-ArgMatches}
 use Rattle.clap.proofs.WalkLemmas.{first_value-rows, one_text-rows}
 use Rattle.ipc_command.specs.CommandLine.{arrowstream}
-use Rattle.ipc_command.specs.Words.{Asks, AsksNoJob, HasFlag, HasLimits, HasNumber, HasWrongLimit, HasWrongValue, IsCommand}
+use Rattle.ipc_command.specs.Words.{Asks, AsksNoJob, HasFlag, HasNumber, HasWrongValue, IsCommand}
 use Rattle.ipc_command.specs.Words.{IsHint, IsJobFound, IsUsageOf, IsWrong, IsWrongFor, IsWrongFound, LacksNumber}
 use Rattle.ipc_command.specs.declared.words.Job.{Job}
 use Rattle.ipc_command.specs.declared.words.Usage.{Usage}
@@ -157,12 +157,12 @@ refused_by words c {e} is (Err x) same kinds =
     err_is : (x y : Error) → (let r : Result ArgMatches Error = Err x in r) ≡ Err y → x ≡ y
     err_is x y h = cc
 
--- a subcommand with limits, of which one is wrong
-pub limits_wrong : (name : Text) (rows : List Row) (why : Usage) (r : Result Job Usage) → HasLimits name → IsErrAnd r (λ y. y ≡ why)
-    → IsWrongFor (HasWrongLimit rows) why → IfErr r (IsWrongFor (HasWrongValue name rows))
-limits_wrong name rows why (Ok j) has same wrong = absurd same
-limits_wrong name rows why (Err e) has same wrong =
-    subst (IsWrongFor (HasWrongValue name rows)) (sym same) (wrong_more why (λ h. inl (has, h)) wrong)
+-- a usage that says that the words are wrong is also one for a value that is none of its option's
+pub value_wrong : {cause : Type 0} (name : Text) (rows : List Row) (why : Usage) (r : Result Job Usage) → (cause → HasWrongValue name rows)
+    → IsErrAnd r (λ y. y ≡ why) → IsWrongFor cause why → IfErr r (IsWrongFor (HasWrongValue name rows))
+value_wrong name rows why (Ok j) follows same wrong = absurd same
+value_wrong name rows why (Err e) follows same wrong =
+    subst (IsWrongFor (HasWrongValue name rows)) (sym same) (wrong_more why follows wrong)
 
 -- the subcommand that was found is the one that the words name
 pub found_by : (words : List Text) (c : Command) (m : ArgMatches) → IsCommand arrowstream c → HasMatchesOf (app_of c) words m

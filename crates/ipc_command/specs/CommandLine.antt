@@ -16,6 +16,10 @@ number name least greatest usual = record (option name) {
   parser = Some (Unsigned least greatest);
 }
 
+-- an option with a text, and the one that it has if it is not given
+abbrev pub text : Text → Text → Rule
+text name usual = record (option name) { defaults = usual ∷ [] }
+
 -- an option without a value
 abbrev pub flag : Text → Rule
 flag name = record (new_rule name) { long = Some name; action = Some SetTrue }
@@ -23,6 +27,10 @@ flag name = record (new_rule name) { long = Some name; action = Some SetTrue }
 -- an option that must be given
 abbrev pub needed : Text → Rule
 needed name = record (option name) { required = true }
+
+-- an option whose value is a number in this range, without a default
+abbrev pub count : Text → ℕ → ℕ → Rule
+count name least greatest = record (option name) { parser = Some (Unsigned least greatest) }
 
 -- a subcommand with the options for limits and for the end of a stream
 abbrev pub with_limits : App → App
@@ -36,13 +44,23 @@ with_limits a = with_rule (with_rule (with_rule (with_rule a
 abbrev pub check : App
 check = with_limits (with_rule (new_app (codes "check")) (flag (codes "schema")))
 
+-- the option with the number of rows that are printed
+abbrev pub limit : Rule
+limit = count (codes "limit") 0 (2 ^ 64 - 1)
+
 -- the subcommand that prints rows as JSON
 abbrev pub show : App
-show = with_limits (with_rule (new_app (codes "show")) (flag (codes "pairs")))
+show = with_limits (with_rule (with_rule (with_rule (new_app (codes "show"))
+    (flag (codes "objects"))) (flag (codes "pairs"))) limit)
+
+-- a subcommand with the options for the dialect of CSV
+abbrev pub with_dialect : App → App
+with_dialect a = with_rule (with_rule a (text (codes "delimiter") (codes ",")))
+    (text (codes "null") (codes "\\N"))
 
 -- the subcommand that prints records of CSV
 abbrev pub to_csv : App
-to_csv = with_limits (new_app (codes "to-csv"))
+to_csv = with_limits (with_rule (with_dialect (new_app (codes "to-csv"))) limit)
 
 -- the option with the number of rows of a batch
 abbrev pub batch : Rule
@@ -50,7 +68,9 @@ batch = number (codes "batch") 1 (2 ^ 31 - 1) (codes "65536")
 
 -- the subcommand that makes a stream of records of CSV
 abbrev pub from_csv : App
-from_csv = with_rule (with_rule (new_app (codes "from-csv")) (needed (codes "schema"))) batch
+from_csv =
+    with_dialect (with_rule (with_rule (new_app (codes "from-csv")) (needed (codes "schema")))
+    batch)
 
 -- the subcommand that writes a stream in canonical layout
 abbrev pub rewrite : App

@@ -1,6 +1,6 @@
 -- What the jobs read and send, and the exit statuses.
 use Rattle.std.specs.Prelude.{◌≡◌, ◌≢◌, ◌⊎◌, ℕ, List, Option, Some, Result, Ok, Err, ⊤}
-use Rattle.std.specs.Prelude.{Bool, IfSome, None, option_and_then}
+use Rattle.std.specs.Prelude.{Bool, IfSome, None, option_and_then, string_bytes, true, false}
 use Rattle.std.specs.List.{AllByRecursion}
 use Rattle.std.specs.Str.{IsUtf8}
 use Rattle.serde_json.specs.Read.{read}
@@ -17,7 +17,11 @@ use Rattle.ipc_json.specs.SchemaTexts.{HasWideId}
 use Rattle.ipc_moments.specs.declared.fault.TextFault.{TextFault}
 use Rattle.ipc_moments.specs.declared.fault.TextFault.TheVariants as x
 use Rattle.ipc_print.specs.Streams.{Prints, PrintsSchema, TellsFailures as PrintTells}
-use Rattle.ipc_print.specs.declared.form.Form.{Form}
+use Rattle.ipc_csv.specs.RowCsv.{null_text}
+use Rattle.ipc_csv.specs.declared.dialect.Dialect.{Dialect}
+use Rattle.ipc_json.specs.declared.row.RowShape.{RowShape}
+use Rattle.ipc_json.specs.declared.row.RowShape.TheVariants.{Array, Object}
+use Rattle.ipc_print.specs.declared.form.PrintOptions.{PrintOptions}
 use Rattle.ipc_print.specs.declared.form.Form.TheVariants.{Counts, Rows, Records}
 use Rattle.ipc_print.specs.declared.stop.Stop.{Stop as PrintStop}
 use Rattle.ipc_print.specs.declared.stop.Stop.TheVariants as print
@@ -28,6 +32,7 @@ use Rattle.ipc_from_csv.specs.Conversion as csv
 use Rattle.ipc_from_csv.specs.Stops.{TellsSource}
 use Rattle.ipc_from_csv.specs.declared.stop.Stop.{Stop as CsvStop}
 use Rattle.ipc_from_csv.specs.declared.stop.Stop.TheVariants as from_csv
+use Rattle.ipc_command.specs.declared.csv_dialect.CsvDialect.{CsvDialect}
 use Rattle.ipc_command.specs.declared.stop.Stop.{Stop}
 use Rattle.ipc_command.specs.declared.stop.Stop.TheVariants as stop
 use Rattle.ipc_command.specs.declared.words.Job.{Job}
@@ -74,6 +79,15 @@ abbrev pub lifted : {A : Type 0} → (A → Stop) → Result ⊤ A → Result �
 lifted stop_of (Ok done) = Ok done
 lifted stop_of (Err why) = Err (stop_of why)
 
+-- the dialect of CSV with this delimiter and text of null
+abbrev pub IsDialectOf : CsvDialect → Dialect → Type 0
+IsDialectOf c d = (d.delimiter ≡ c.delimiter) × (null_text d ≡ string_bytes c.null)
+
+-- the shape of rows: objects or arrays
+abbrev pub shape_of : Bool → RowShape
+shape_of true = Object
+shape_of false = Array
+
 -- what a result states about the schema of a stream that is printed
 abbrev pub AnswersSchema : Limits → Option (List ℕ) → Option (List ℕ) → Option (List ℕ)
     → Option (List ℕ) → ℕ → ℕ → ℕ → ℕ → Result ⊤ Stop → Type 0
@@ -82,13 +96,13 @@ AnswersSchema limits old new written_old written_new source_old source_new sink_
     × PrintsSchema limits old new written_old written_new p
     × PrintTells source_old source_new sink_old sink_new p
 
--- what a result states about a stream that is printed in a form. When W9 and F36 come, the counts
--- of failures of sink and source tell, as `print` states it
-abbrev pub AnswersPrint : Form → Bool → Limits → Option (List ℕ) → Option (List ℕ)
+-- what a result states about a stream that is printed by these options. When W9 and F36 come, the
+-- counts of failures of sink and source tell, as `print` states it
+abbrev pub AnswersPrint : PrintOptions → Limits → Option (List ℕ) → Option (List ℕ)
     → Option (List ℕ) → Option (List ℕ) → ℕ → ℕ → ℕ → ℕ → Result ⊤ Stop → Type 0
-AnswersPrint form mark limits old new written_old written_new source_old source_new sink_old
-    sink_new r = (p : Result ⊤ PrintStop) × (r ≡ lifted stop_of_print p)
-    × Prints (record { form = form; require_mark = mark }) limits old new written_old written_new p
+AnswersPrint options limits old new written_old written_new source_old source_new sink_old sink_new
+    r = (p : Result ⊤ PrintStop) × (r ≡ lifted stop_of_print p)
+    × Prints options limits old new written_old written_new p
     × PrintTells source_old source_new sink_old sink_new p
 
 -- what a result states about a stream that is rewritten. When W9 and F36 come, the counts of
@@ -149,14 +163,15 @@ pub record TellsSink (old new : ℕ) (r : Result ⊤ CsvStop) : Type 0 where
 -- what a result states about records of CSV. Either there was no schema, and neither the source nor
 -- the sink was called; or the records were converted by the file's schema to a stream with batches
 -- of `size` rows, or that broke off
-abbrev pub AnswersCsv : Option (List ℕ) → ℕ → ℕ → Option (List ℕ) → Option (List ℕ)
+abbrev pub AnswersCsv : Dialect → Option (List ℕ) → ℕ → ℕ → Option (List ℕ) → Option (List ℕ)
     → Option (List ℕ) → ℕ → ℕ → ℕ → ℕ → Result ⊤ Stop → Type 0
-AnswersCsv bytes failures size input written_old written_new source_old source_new sink_old sink_new
+AnswersCsv d bytes failures size input written_old written_new source_old source_new sink_old
+    sink_new
     r = ((why : Stop) × (r ≡ Err why) × HasNoSchema bytes failures why
     × (written_new ≡ written_old) × (source_new ≡ source_old) × (sink_new ≡ sink_old))
     ⊎ ((s : Schema) × IsSchemaOf bytes s × (failures ≡ 0) × (p : Result ⊤ CsvStop)
     × (r ≡ lifted stop_of_csv p)
-    × csv.Answers input s size written_old written_new sink_old sink_new p
+    × csv.Answers d input s size written_old written_new sink_old sink_new p
     × TellsSource source_old source_new p × TellsSink sink_old sink_new p)
 
 -- what a result states about a job: what was read of the input, what was sent, and which device
@@ -167,17 +182,23 @@ Answers (job.Schema limits) bytes failures old new written_old written_new sourc
     sink_old sink_new r = AnswersSchema limits old new written_old written_new source_old source_new
     sink_old sink_new r
 Answers (job.Check limits mark) bytes failures old new written_old written_new source_old source_new
-    sink_old sink_new r = AnswersPrint Counts mark limits old new written_old written_new source_old
-    source_new sink_old sink_new r
-Answers (job.Show limits pairs mark) bytes failures old new written_old written_new source_old
-    source_new sink_old sink_new r = AnswersPrint (Rows pairs) mark limits old new written_old
-    written_new source_old source_new sink_old sink_new r
-Answers (job.ToCsv limits mark) bytes failures old new written_old written_new source_old source_new
-    sink_old sink_new r = AnswersPrint Records mark limits old new written_old written_new
-    source_old source_new sink_old sink_new r
+    sink_old sink_new r =
+    AnswersPrint (record { form = Counts; require_mark = mark; limit = None }) limits old new
+    written_old written_new source_old source_new sink_old sink_new r
+Answers (job.Show limits objects pairs count mark) bytes failures old new written_old written_new
+    source_old source_new sink_old sink_new r = AnswersPrint (record {
+      form = Rows (shape_of objects) pairs;
+      require_mark = mark;
+      limit = count;
+    }) limits old new written_old written_new source_old source_new sink_old sink_new r
+Answers (job.ToCsv limits dialect count mark) bytes failures old new written_old written_new
+    source_old source_new sink_old sink_new r = (d : Dialect) × IsDialectOf dialect d
+    × AnswersPrint (record { form = Records d; require_mark = mark; limit = count }) limits old new
+    written_old written_new source_old source_new sink_old sink_new r
 Answers (job.Rewrite limits mark) bytes failures old new written_old written_new source_old
     source_new sink_old sink_new r = AnswersRewrite mark limits old new written_old written_new
     source_old source_new sink_old sink_new r
-Answers (job.FromCsv path size) bytes failures old new written_old written_new source_old source_new
-    sink_old sink_new r = AnswersCsv bytes failures size old written_old written_new source_old
-    source_new sink_old sink_new r
+Answers (job.FromCsv path size dialect) bytes failures old new written_old written_new source_old
+    source_new sink_old sink_new r = (d : Dialect) × IsDialectOf dialect d
+    × AnswersCsv d bytes failures size old written_old written_new source_old source_new sink_old
+    sink_new r

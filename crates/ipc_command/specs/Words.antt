@@ -1,5 +1,5 @@
 -- What a command line asks for.
-use Rattle.std.specs.Prelude.{◌≡◌, ◌≢◌, ◌⊎◌, ◌↔◌, ◌≤◌, ℕ, ◌^◌, ◌-◌, Bool, IsTrue, List, []}
+use Rattle.std.specs.Prelude.{◌≡◌, ◌≢◌, ◌⊎◌, ◌↔◌, ◌≤◌, ℕ, ◌^◌, ◌-◌, Bool, IsTrue, List, [], ◌∷◌}
 use Rattle.std.specs.Prelude.{Option, None, Some, ⊤, codes, false, true, string_bytes, ◌++◌, ◌==◌}
 use Rattle.std.specs.List.{starts_with}
 use Rattle.std.specs.Str.Parse.{IsNumeral, digits_value, without_leading_plus}
@@ -9,8 +9,10 @@ use Rattle.clap.specs.declared.builder.command.Command.{Command}
 use Rattle.clap.specs.declared.builder.command.Command.TheViews.{out-Command}
 use Rattle.clap.specs.declared.error.kind.ErrorKind.{ErrorKind}
 use Rattle.clap.specs.declared.error.kind.ErrorKind.TheVariants as kind
+use Rattle.ipc_csv.specs.Dialects.{IsDialect}
 use Rattle.ipc_model.specs.declared.limits.Limits.{Limits}
 use Rattle.ipc_command.specs.CommandLine.{arrowstream}
+use Rattle.ipc_command.specs.declared.csv_dialect.CsvDialect.{CsvDialect}
 use Rattle.ipc_command.specs.declared.words.Job.{Job}
 use Rattle.ipc_command.specs.declared.words.Job.TheVariants as job
 use Rattle.ipc_command.specs.declared.words.Usage.{Usage}
@@ -29,6 +31,16 @@ pub record HasNumber (name : Text) (least greatest : ℕ) (rows : List Row) (n :
 -- the option has no such number
 abbrev pub LacksNumber : Text → ℕ → ℕ → List Row → Type 0
 LacksNumber name least greatest rows = (n : ℕ) → HasNumber name least greatest rows n → ⊥
+
+-- the option has this number, if the words have the option
+abbrev pub HasCount : Text → ℕ → ℕ → List Row → Option ℕ → Type 0
+HasCount name least greatest rows None = first_of name rows ≡ None
+HasCount name least greatest rows (Some n) = HasNumber name least greatest rows n
+
+-- the words have the option, but with no number in its range
+abbrev pub LacksCount : Text → ℕ → ℕ → List Row → Type 0
+LacksCount name least greatest rows =
+    (first_of name rows ≢ None) × LacksNumber name least greatest rows
 
 -- the flag is `true` exactly where the words have it
 abbrev pub HasFlag : Text → List Row → Bool → Type 0
@@ -50,6 +62,17 @@ HasWrongLimit rows = LacksNumber (codes "max-metadata") 0 (2 ^ 28) rows
     ⊎ (LacksNumber (codes "max-body") 0 (2 ^ 42) rows
     ⊎ LacksNumber (codes "max-rows") 0 (2 ^ 31 - 1) rows)
 
+-- the options ask for this dialect of CSV: the delimiter is one byte
+pub record AskForDialect (rows : List Row) (dialect : CsvDialect) : Type 0 where
+  pub delimiter : first_of (codes "delimiter") rows ≡ Some (dialect.delimiter ∷ [])
+  pub null : first_of (codes "null") rows ≡ Some (string_bytes dialect.null)
+
+-- the options ask for no dialect that is allowed
+abbrev pub HasWrongDialect : List Row → Type 0
+HasWrongDialect rows = (delimiter : ℕ) (null : Text)
+    → first_of (codes "delimiter") rows ≡ Some (delimiter ∷ [])
+    → first_of (codes "null") rows ≡ Some null → IsDialect delimiter null → ⊥
+
 -- a number of rows that a batch may be asked to have
 abbrev pub IsBatchSize : ℕ → Type 0
 IsBatchSize size = (1 ≤ size) × (size ≤ 2 ^ 31 - 1)
@@ -58,10 +81,10 @@ IsBatchSize size = (1 ≤ size) × (size ≤ 2 ^ 31 - 1)
 abbrev pub HasGoodSize : Job → Type 0
 HasGoodSize (job.Schema limits) = ⊤
 HasGoodSize (job.Check limits mark) = ⊤
-HasGoodSize (job.Show limits pairs mark) = ⊤
-HasGoodSize (job.ToCsv limits mark) = ⊤
+HasGoodSize (job.Show limits objects pairs count mark) = ⊤
+HasGoodSize (job.ToCsv limits dialect count mark) = ⊤
 HasGoodSize (job.Rewrite limits mark) = ⊤
-HasGoodSize (job.FromCsv path size) = IsBatchSize size
+HasGoodSize (job.FromCsv path size dialect) = IsBatchSize size
 
 -- the subcommand of this name, with what was found for its options, asks for this job
 abbrev pub IsJobOf : Text → List Row → Job → Type 0
@@ -70,34 +93,51 @@ IsJobOf name rows (job.Schema limits) =
 IsJobOf name rows (job.Check limits mark) =
     (name ≡ codes "check") × AskForLimits rows limits × HasFlag (codes "schema") rows false
     × HasFlag (codes "require-mark") rows mark
-IsJobOf name rows (job.Show limits pairs mark) =
-    (name ≡ codes "show") × AskForLimits rows limits × HasFlag (codes "pairs") rows pairs
+IsJobOf name rows (job.Show limits objects pairs count mark) =
+    (name ≡ codes "show") × AskForLimits rows limits × HasFlag (codes "objects") rows objects
+    × HasFlag (codes "pairs") rows pairs × HasCount (codes "limit") 0 (2 ^ 64 - 1) rows count
     × HasFlag (codes "require-mark") rows mark
-IsJobOf name rows (job.ToCsv limits mark) =
-    (name ≡ codes "to-csv") × AskForLimits rows limits × HasFlag (codes "require-mark") rows mark
+IsJobOf name rows (job.ToCsv limits dialect count mark) =
+    (name ≡ codes "to-csv") × AskForLimits rows limits × AskForDialect rows dialect
+    × HasCount (codes "limit") 0 (2 ^ 64 - 1) rows count × HasFlag (codes "require-mark") rows mark
 IsJobOf name rows (job.Rewrite limits mark) =
     (name ≡ codes "rewrite") × AskForLimits rows limits × HasFlag (codes "require-mark") rows mark
-IsJobOf name rows (job.FromCsv path size) = (name ≡ codes "from-csv")
+IsJobOf name rows (job.FromCsv path size dialect) = (name ≡ codes "from-csv")
     × (first_of (codes "schema") rows ≡ Some (string_bytes path))
-    × HasNumber (codes "batch") 1 (2 ^ 31 - 1) rows size
+    × HasNumber (codes "batch") 1 (2 ^ 31 - 1) rows size × AskForDialect rows dialect
 
 -- the subcommand of this name has options for limits
 abbrev pub HasLimits : Text → Type 0
 HasLimits name = (name ≡ codes "check")
     ⊎ ((name ≡ codes "show") ⊎ ((name ≡ codes "to-csv") ⊎ (name ≡ codes "rewrite")))
 
+-- the subcommand of this name has an option for the number of rows that are printed
+abbrev pub HasLimit : Text → Type 0
+HasLimit name = (name ≡ codes "show") ⊎ (name ≡ codes "to-csv")
+
+-- the subcommand of this name has options for the dialect of CSV
+abbrev pub HasDialect : Text → Type 0
+HasDialect name = (name ≡ codes "to-csv") ⊎ (name ≡ codes "from-csv")
+
 -- no subcommand has this name
 abbrev pub IsNoSubcommand : Text → Type 0
 IsNoSubcommand name = (HasLimits name → ⊥) × (name ≢ codes "from-csv")
 
--- an option of the subcommand of this name has none of its values: a limit is out of its range;
--- `from-csv` has no path, or its batch size is no number from 1 to 2^31 - 1; or there is no such
--- subcommand
-abbrev pub HasWrongValue : Text → List Row → Type 0
-HasWrongValue name rows = (HasLimits name × HasWrongLimit rows)
-    ⊎ (((name ≡ codes "from-csv") × ((first_of (codes "schema") rows ≡ None)
-    ⊎ LacksNumber (codes "batch") 1 (2 ^ 31 - 1) rows))
-    ⊎ IsNoSubcommand name)
+-- an option of the subcommand of this name has none of its values
+pub data HasWrongValue (name : Text) (rows : List Row) : Type 0 where
+  -- a limit is out of its range
+  limit : HasLimits name → HasWrongLimit rows → HasWrongValue name rows
+  -- the number of rows to print is no number of 64 bits
+  count : HasLimit name → LacksCount (codes "limit") 0 (2 ^ 64 - 1) rows → HasWrongValue name rows
+  -- the dialect of CSV is not allowed
+  dialect : HasDialect name → HasWrongDialect rows → HasWrongValue name rows
+  -- `from-csv` has no path
+  path : name ≡ codes "from-csv" → first_of (codes "schema") rows ≡ None → HasWrongValue name rows
+  -- its batch size is no number from 1 to 2^31 - 1
+  size : name ≡ codes "from-csv" → LacksNumber (codes "batch") 1 (2 ^ 31 - 1) rows
+      → HasWrongValue name rows
+  -- there is no such subcommand
+  other : IsNoSubcommand name → HasWrongValue name rows
 
 -- the words ask for this job: `clap` finds no fault in them, and they name a subcommand that asks
 -- for it

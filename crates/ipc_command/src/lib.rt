@@ -1,12 +1,15 @@
 //! The command `arrowstream`: reads its arguments, and does each job between an input and a sink.
 #![tactic(auto)]
 
+mod command_line;
+mod csv_dialect;
 mod line;
 mod running;
 mod schema_file;
 mod stop;
 mod words;
 
+pub use csv_dialect::CsvDialect;
 pub use running::{run, run_with_seed};
 pub use stop::Stop;
 pub use words::{Job, Usage, read_words};

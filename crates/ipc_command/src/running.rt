@@ -1,7 +1,7 @@
 //! Does jobs, each between an input and a sink.
 ghost use Rattle.std.specs.Prelude.{◌≡◌, ◌≢◌, ◌⊎◌, [], Result, Some, OnOk, is_some, ⊤};
 ghost use Rattle.ipc_command.specs.Jobs.{Answers, AnswersCsv, AnswersPrint, AnswersRewrite};
-ghost use Rattle.ipc_command.specs.Jobs.{AnswersSchema};
+ghost use Rattle.ipc_command.specs.Jobs.{AnswersSchema, shape_of};
 ghost use Rattle.ipc_command.specs.Jobs.{bytes_of, exit_status, failures_of, lifted, stop_of_csv};
 ghost use Rattle.ipc_command.specs.Lines.{TellsStop};
 ghost use Rattle.ipc_command.specs.Words.{HasGoodSize, IsBatchSize};
@@ -10,7 +10,9 @@ ghost use Rattle.ipc_command.specs.declared.stop.Stop.{Stop};
 use crate::schema_file::read_schema;
 use crate::stop::Stop;
 use crate::words::Job;
+use ipc_csv::Dialect;
 use ipc_from_csv::from_csv_with_seed;
+use ipc_json::RowShape;
 use ipc_model::Limits;
 use ipc_print::{Form, PrintOptions, print, print_schema};
 use ipc_rewrite::rewrite_with_seed;
@@ -39,23 +41,21 @@ fn schema_job<S: Source, W: Sink>(
     (result, source, sink)
 }
 
-// Prints a stream in a form.
+// Prints a stream by these options.
 fn print_job<S: Source, W: Sink>(
     alloc: Global,
-    form: Form,
-    require_mark: bool,
+    options: PrintOptions<'_>,
     limits: Limits,
     input: S,
     sink: W,
 ) -> (Result<(), Stop>, S, W)
-    ensures answers { AnswersPrint form require_mark limits (S.remaining input)
-        (S.remaining result.1) (W.written sink) (W.written result.2) (S.failures input)
-        (S.failures result.1) (W.failures sink) (W.failures result.2) result.0 }
+    ensures answers { AnswersPrint options.entry limits (S.remaining input) (S.remaining result.1)
+        (W.written sink) (W.written result.2) (S.failures input) (S.failures result.1)
+        (W.failures sink) (W.failures result.2) result.0 }
     ensures handed_on { OnOk result.0 (W.held_back result.2 ≡ Some []) }
     ensures works { exit_status result.0 ≢ 3 → W.failures sink ≡ 0 → W.failures result.2 ≡ 0 }
 {
     let mut sink = sink;
-    let options = PrintOptions { form, require_mark };
     let (result, source) = print(alloc, limits, options, input, &mut sink);
     let result = match result {
         Ok(()) => Ok(()),
@@ -101,15 +101,17 @@ fn csv_result(answer: Result<(), ipc_from_csv::Stop>) -> Result<(), Stop>
 fn csv_job<P: Source, S: Source, W: Sink>(
     alloc: Global,
     seed: Seed,
+    dialect: Dialect<'_>,
     file: Option<P>,
     batch: u64,
     input: S,
     sink: W,
 ) -> (Result<(), Stop>, S, W, Option<P>)
     requires { IsBatchSize batch }
-    ensures answers { AnswersCsv (bytes_of P.remaining file) (failures_of P.failures result.3)
-        batch (S.remaining input) (W.written sink) (W.written result.2) (S.failures input)
-        (S.failures result.1) (W.failures sink) (W.failures result.2) result.0 }
+    ensures answers { AnswersCsv dialect.entry (bytes_of P.remaining file)
+        (failures_of P.failures result.3) batch (S.remaining input) (W.written sink)
+        (W.written result.2) (S.failures input) (S.failures result.1) (W.failures sink)
+        (W.failures result.2) result.0 }
     ensures handed_on { OnOk result.0 (W.held_back result.2 ≡ Some []) }
     ensures works { exit_status result.0 ≢ 3 → W.failures sink ≡ 0 → W.failures result.2 ≡ 0 }
     ensures file { is_some result.3 ≡ is_some file }
@@ -119,8 +121,21 @@ fn csv_job<P: Source, S: Source, W: Sink>(
         Ok(schema) => schema,
         Err(why) => return (Err(why), input, sink, file),
     };
-    let (result, input, sink) = from_csv_with_seed(alloc, seed, input, sink, &schema, batch);
+    let (result, input, sink) = from_csv_with_seed(
+        alloc, seed, dialect, input, sink, &schema, batch,
+    );
     (csv_result(result), input, sink, file)
+}
+
+// The shape of rows that are printed as objects, or not.
+fn shape_of(objects: bool) -> RowShape
+    ensures { result ≡ shape_of objects }
+{
+    if objects {
+        RowShape::Object
+    } else {
+        RowShape::Array
+    }
 }
 
 // Does a job, as `run`.
@@ -145,30 +160,53 @@ fn do_job<P: Source, S: Source, W: Sink>(
         Job::Check {
             limits,
             require_mark,
-        } => { print_job(alloc, Form::Counts, require_mark, limits, input, sink) }
+        } => {
+            let options = PrintOptions {
+                form: Form::Counts,
+                require_mark,
+                limit: None,
+            };
+            print_job(alloc, options, limits, input, sink)
+        }
         Job::Show {
             limits,
+            objects,
             pairs,
+            limit,
             require_mark,
-        } => print_job(
-            alloc,
-            Form::Rows { pairs },
-            require_mark,
-            limits,
-            input,
-            sink,
-        ),
+        } => {
+            let options = PrintOptions {
+                form: Form::Rows {
+                    shape: shape_of(objects),
+                    pairs,
+                },
+                require_mark,
+                limit,
+            };
+            print_job(alloc, options, limits, input, sink)
+        }
         Job::ToCsv {
             limits,
+            dialect,
+            limit,
             require_mark,
-        } => { print_job(alloc, Form::Records, require_mark, limits, input, sink) }
+        } => {
+            let options = PrintOptions {
+                form: Form::Records(dialect.dialect()),
+                require_mark,
+                limit,
+            };
+            print_job(alloc, options, limits, input, sink)
+        }
         Job::Rewrite {
             limits,
             require_mark,
         } => rewrite_job(alloc, seed, require_mark, limits, input, sink),
-        Job::FromCsv { schema: _, batch } => return csv_job(
-            alloc, seed, schema, batch, input, sink,
-        ),
+        Job::FromCsv {
+            schema: _,
+            batch,
+            dialect,
+        } => return csv_job(alloc, seed, dialect.dialect(), schema, batch, input, sink),
     };
     (result, input, sink, schema)
 }

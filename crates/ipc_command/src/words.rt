@@ -1,17 +1,19 @@
 //! Reads the arguments of a command line.
-ghost use Rattle.std.specs.Prelude.{◌≡◌, IfErr, IfOk, IfSome, None, codes, false, map};
-ghost use Rattle.std.specs.Prelude.{string_bytes};
-ghost use Rattle.clap.specs.Words.{app_of, found_of, kind_of, new_app, rows_of, rule_of};
+ghost use Rattle.std.specs.Prelude.{◌≡◌, ◌≢◌, ◌^◌, ◌-◌, ◌∷◌, [], ℕ, IfErr, IfOk};
+ghost use Rattle.std.specs.Prelude.{IfSome, None, codes, false, map, string_bytes};
+ghost use Rattle.clap.specs.Words.{found_of, kind_of, rows_of};
 ghost use Rattle.clap.specs.Words.{subcommand_rows_of};
-ghost use Rattle.ipc_command.specs.CommandLine as line;
+ghost use Rattle.ipc_command.specs.Words.{AskForDialect, HasWrongDialect};
 ghost use Rattle.ipc_command.specs.Words.{AskForLimits, Asks, AsksNoJob, HasFlag, HasGoodSize};
 ghost use Rattle.ipc_command.specs.Words.{HasNumber, HasWrongLimit, HasWrongValue, IsCommand};
 ghost use Rattle.ipc_command.specs.Words.{IsHint, IsJobFound, IsJobOf, IsUsageOf, IsWrong};
-ghost use Rattle.ipc_command.specs.Words.{IsWrongFor, IsWrongFound, LacksNumber};
+ghost use Rattle.ipc_command.specs.Words.{HasCount, IsWrongFor, IsWrongFound, LacksCount};
+ghost use Rattle.ipc_command.specs.Words.{LacksNumber};
 
-use clap::builder::ValueParser;
+use crate::command_line::{GREATEST_BODY, GREATEST_METADATA, GREATEST_ROWS, command};
+use crate::csv_dialect::CsvDialect;
 use clap::error::ErrorKind;
-use clap::{Arg, ArgAction, ArgMatches, Command, Error};
+use clap::{ArgMatches, Command, Error};
 use ipc_model::Limits;
 use std::alloc::{AllocError, Global};
 
@@ -27,12 +29,16 @@ pub enum Job {
         /// Whether the end-of-stream mark is required.
         require_mark: bool,
     },
-    /// Print each row of a stream as a JSON array on a line of its own.
+    /// Print each row of a stream as JSON on a line of its own.
     Show {
         /// The limits of the stream.
         limits: Limits,
+        /// Whether each row is an object with the columns' names as keys, and no array.
+        objects: bool,
         /// Whether to print a line with its pairs before the rows of each batch.
         pairs: bool,
+        /// The number of rows to print at most, or `None` for all of them.
+        limit: Option<u64>,
         /// Whether the end-of-stream mark is required.
         require_mark: bool,
     },
@@ -40,6 +46,10 @@ pub enum Job {
     ToCsv {
         /// The limits of the stream.
         limits: Limits,
+        /// The dialect of CSV.
+        dialect: CsvDialect,
+        /// The number of rows to print at most, or `None` for all of them.
+        limit: Option<u64>,
         /// Whether the end-of-stream mark is required.
         require_mark: bool,
     },
@@ -56,6 +66,8 @@ pub enum Job {
         schema: String,
         /// The number of rows of a batch; the last batch may have fewer.
         batch: u64,
+        /// The dialect of CSV.
+        dialect: CsvDialect,
     },
 }
 
@@ -81,245 +93,20 @@ impl From<AllocError> for Usage {
     }
 }
 
-// The greatest values of the options, each of which the help shows.
-const GREATEST_METADATA: u64 = 1 << 28;
-
-const GREATEST_BODY: u64 = 1 << 42;
-
-const GREATEST_ROWS: u64 = 0x7fff_ffff;
-
-const EXAMPLES: &str = "\
-Each subcommand reads standard input and writes to standard output.
-
-Examples:
-  arrowstream check < trades.arrows
-  arrowstream show < trades.arrows
-  arrowstream to-csv < trades.arrows > trades.csv
-  arrowstream from-csv --schema trades.json < trades.csv > trades.arrows
-  arrowstream rewrite < other.arrows > trades.arrows
-  arrowstream show --max-body 1000000 < upload.arrows
-
-Exit status:
-  0  success
-  1  the input was refused; standard error has the reason
-  2  the command line is wrong
-  3  standard input, standard output or the schema's file failed
-  4  out of memory";
-
-const CHECK_EXAMPLES: &str = "\
-Prints the schema as JSON, and then how the stream ended and its numbers of bytes, batches and rows.
-With --schema, it prints the schema alone, and reads nothing after the schema's message.
-
-Examples:
-  arrowstream check < trades.arrows
-  arrowstream check --schema < trades.arrows > trades.json
-  arrowstream check --max-rows 1000000 < upload.arrows";
-
-const SHOW_EXAMPLES: &str = "\
-With --pairs, a line {\"metadata\":P} precedes the rows of each batch. P is an array of [key,value]
-arrays.
-
-Examples:
-  arrowstream show < trades.arrows
-  arrowstream show --pairs < trades.arrows
-  arrowstream show < trades.arrows | head -n 3";
-
-const TO_CSV_EXAMPLES: &str = "\
-Null is \\N, and bytes are hexadecimal digits. Columns of lists and structs have no form in CSV.
-
-Examples:
-  arrowstream to-csv < trades.arrows > trades.csv
-  arrowstream to-csv --max-rows 1000000 < upload.arrows";
-
-const REWRITE_EXAMPLES: &str = "\
-The schema, the batches, their pairs and their rows stay the same. Each batch is laid out as this
-program does it, and the stream ends with the end-of-stream mark. A limit below its default is
-raised to the default for writing.
-
-Examples:
-  arrowstream rewrite < other.arrows > trades.arrows
-  arrowstream rewrite --max-rows 1000000 < upload.arrows > trades.arrows";
-
-const FROM_CSV_EXAMPLES: &str = "\
-The first record is the header: the names of the schema's columns, in order. A field \\N is null.
-The schema is JSON in the form of the first line that check prints; SCHEMA.md in the documents
-describes it. Each batch is sent as soon as it is full.
-
-Examples:
-  arrowstream check --schema < trades.arrows > trades.json
-  arrowstream from-csv --schema trades.json < trades.csv > trades.arrows
-  arrowstream from-csv --schema trades.json --batch 1000 < trades.csv > trades.arrows";
-
-// An option of this name with a value, for which its help shows this word.
-fn option<'a>(alloc: Global, name: &'a str, value: &'a str) -> Arg<'a>
-    ensures rule { rule_of result ≡ line.option name.entry.now }
-    ensures own { result.global ≡ false }
-{
-    let option = Arg::new(alloc, name).long(name);
-    option.value_name(value).action(ArgAction::Set)
-}
-
-// An option with a number from a least one up to a greatest one, and the one that it has where it
-// isn't given.
-fn number<'a>(
-    alloc: Global,
-    name: &'a str,
-    least: u64,
-    greatest: u64,
-    usual: &'a str,
-    help: &'a str,
-) -> Arg<'a>
-    ensures rule { rule_of result ≡ line.number name.entry.now least greatest usual.entry.now }
-    ensures own { result.global ≡ false }
-{
-    let number = option(alloc, name, "N").default_value(usual);
-    let parser = ValueParser::unsigned(least, greatest);
-    number.value_parser(parser).help(help)
-}
-
-// An option without a value.
-fn flag<'a>(alloc: Global, name: &'a str, help: &'a str) -> Arg<'a>
-    ensures rule { rule_of result ≡ line.flag name.entry.now }
-    ensures own { result.global ≡ false }
-{
-    let flag = Arg::new(alloc, name).long(name);
-    flag.action(ArgAction::SetTrue).help(help)
-}
-
-// The options that say how much a stream may hold, and how it must end.
-fn with_limits<'a>(alloc: Global, command: Command<'a>) -> Result<Command<'a>, AllocError>
-    requires { IsCommand (app_of command) command }
-    ensures { IfOk result (IsCommand (line.with_limits (app_of command.entry))) }
-{
-    command
-        .arg(number(
-            alloc,
-            "max-metadata",
-            0,
-            GREATEST_METADATA,
-            "16777216",
-            "Maximum bytes of a message's metadata",
-        ))?
-        .arg(number(
-            alloc,
-            "max-body",
-            0,
-            GREATEST_BODY,
-            "1099511627776",
-            "Maximum bytes of a message's body",
-        ))?
-        .arg(number(
-            alloc,
-            "max-rows",
-            0,
-            GREATEST_ROWS,
-            "2147483647",
-            "Maximum rows of a batch",
-        ))?
-        .arg(flag(
-            alloc,
-            "require-mark",
-            "Refuse a stream that ends without the end-of-stream mark",
-        ))
-}
-
-// A subcommand with this help and no options.
-fn described<'a>(alloc: Global, name: &'a str, about: &'a str, examples: &'a str) -> Command<'a>
-    ensures { IsCommand (new_app name.entry.now) result }
-{
-    let job = Command::new(alloc, name);
-    job.about(about).after_help(examples)
-}
-
-// A subcommand that reads a stream to its end.
-fn check<'a>(alloc: Global) -> Result<Command<'a>, AllocError>
-    ensures { IfOk result (IsCommand line.check) }
-{
-    let about = "Reads an Arrow IPC stream to its end, and prints its schema and counts";
-    let check = described(alloc, "check", about, CHECK_EXAMPLES);
-    let help = "Print the schema alone, and read nothing after its message";
-    with_limits(alloc, check.arg(flag(alloc, "schema", help))?)
-}
-
-// The subcommand that prints rows.
-fn show<'a>(alloc: Global) -> Result<Command<'a>, AllocError>
-    ensures { IfOk result (IsCommand line.show) }
-{
-    let about = "Prints each row of an Arrow IPC stream as a JSON array on a line of its own";
-    let show = described(alloc, "show", about, SHOW_EXAMPLES);
-    let help = "Print the pairs of key and value of each batch on a line before its rows";
-    with_limits(alloc, show.arg(flag(alloc, "pairs", help))?)
-}
-
-// The subcommand that prints a stream as CSV.
-fn to_csv<'a>(alloc: Global) -> Result<Command<'a>, AllocError>
-    ensures { IfOk result (IsCommand line.to_csv) }
-{
-    let about = "Prints an Arrow IPC stream as CSV with a header";
-    with_limits(alloc, described(alloc, "to-csv", about, TO_CSV_EXAMPLES))
-}
-
-// The option that names the file with the schema.
-fn schema<'a>(alloc: Global) -> Arg<'a>
-    ensures rule { rule_of result ≡ line.needed (codes "schema") }
-    ensures own { result.global ≡ false }
-{
-    let schema = option(alloc, "schema", "PATH").required(true);
-    schema.help("A file with the schema as JSON")
-}
-
-// The option that says how many rows a batch has.
-fn batch<'a>(alloc: Global) -> Arg<'a>
-    ensures rule { rule_of result ≡ line.batch }
-    ensures own { result.global ≡ false }
-{
-    let help = "Rows of a batch; the last batch may have fewer";
-    number(alloc, "batch", 1, GREATEST_ROWS, "65536", help)
-}
-
-// The subcommand that writes a stream of CSV.
-fn from_csv<'a>(alloc: Global) -> Result<Command<'a>, AllocError>
-    ensures { IfOk result (IsCommand line.from_csv) }
-{
-    let about = "Converts CSV to an Arrow IPC stream";
-    let from_csv = described(alloc, "from-csv", about, FROM_CSV_EXAMPLES);
-    from_csv.arg(schema(alloc))?.arg(batch(alloc))
-}
-
-// The subcommand that writes a stream anew.
-fn rewrite<'a>(alloc: Global) -> Result<Command<'a>, AllocError>
-    ensures { IfOk result (IsCommand line.rewrite) }
-{
-    let about = "Rewrites an Arrow IPC stream in canonical layout, batch by batch";
-    with_limits(alloc, described(alloc, "rewrite", about, REWRITE_EXAMPLES))
-}
-
-// The program's words without its subcommands.
-fn program<'a>(alloc: Global) -> Command<'a>
-    ensures { IsCommand line.program result }
-{
-    let about = "Reads and writes Apache Arrow IPC streams";
-    let program = described(alloc, "arrowstream", about, EXAMPLES);
-    program.version("0.1.0").subcommand_required(true)
-}
-
-// The arguments of the program. The help lists the subcommands in the order in which they are
-// added.
-fn command<'a>(alloc: Global) -> Result<Command<'a>, AllocError>
-    ensures { IfOk result (IsCommand line.arrowstream) }
-{
-    let command = program(alloc).subcommand(check(alloc)?)?;
-    let command = command.subcommand(show(alloc)?)?;
-    let command = command.subcommand(to_csv(alloc)?)?;
-    let command = command.subcommand(from_csv(alloc)?)?;
-    command.subcommand(rewrite(alloc)?)
-}
-
 // The beginning of the message for an unexpected option.
 const OPTION: &[u8] = b"error: unexpected argument '-";
 
 // The end of the message for any other unexpected word.
 const HINT: &str = "\nInput is read from standard input: arrowstream check < FILE\n";
+
+// The message for a dialect of CSV in which a value could not be told from null, or a field from
+// two.
+const DIALECT: &str = "\
+error: with this --delimiter and --null, a value could be taken for null or for two fields
+The delimiter is no letter, digit, '-', '.', ':', '\"' or end of a line. The text of null has no
+delimiter, '\"' or end of a line in it. It does not begin with a digit, or with '-' and a digit. It
+is not true, false or pairs of hexadecimal digits.
+";
 
 // The message for an unexpected word. If the word is no option, it ends with how a file is read.
 fn unexpected(text: String) -> Usage
@@ -414,6 +201,86 @@ fn read_limits(alloc: Global, options: &ArgMatches<'_>) -> Result<Limits, Usage>
     }
 }
 
+// The number of rows that are printed at most, if the words say one.
+fn read_limit(alloc: Global, options: &ArgMatches<'_>) -> Result<Option<u64>, Usage>
+    ensures asked { IfOk result
+        (HasCount (codes "limit") 0 (2 ^ 64 - 1) (rows_of (found_of options.now))) }
+    ensures refused { IfErr result (IsWrongFor
+        (LacksCount (codes "limit") 0 (2 ^ 64 - 1) (rows_of (found_of options.now)))) }
+{
+    let Some(_text) = options.get_str("limit") else {
+        return Ok(None);
+    };
+    match number_of(options, "limit", 0, u64::MAX) {
+        Some(count) => Ok(Some(count)),
+        None => Err(wrong(alloc, "error: --limit is no number of 64 bits\n")),
+    }
+}
+
+// The only byte of a text that has one.
+fn only_byte(text: &str) -> Option<u8>
+    ensures some { IfSome result (λ byte. text.now ≡ byte ∷ []) }
+    ensures none { result ≡ None → (byte : ℕ) → text.now ≢ byte ∷ [] }
+{
+    match text.as_bytes() {
+        [byte] => Some(*byte),
+        _ => None,
+    }
+}
+
+// The dialect of CSV that the words ask for.
+fn read_dialect(alloc: Global, options: &ArgMatches<'_>) -> Result<CsvDialect, Usage>
+    ensures asked { IfOk result (AskForDialect (rows_of (found_of options.now))) }
+    ensures refused { IfErr result
+        (IsWrongFor (HasWrongDialect (rows_of (found_of options.now)))) }
+{
+    let Some(delimiter) = options.get_str("delimiter") else {
+        return Err(wrong(alloc, "error: no delimiter\n"));
+    };
+    let Some(null) = options.get_str("null") else {
+        return Err(wrong(alloc, "error: no text of null\n"));
+    };
+    let Some(byte) = only_byte(delimiter) else {
+        return Err(wrong(alloc, "error: --delimiter takes one ASCII character\n"));
+    };
+    let null = String::from_str(alloc, null)?;
+    match CsvDialect::new(byte, null) {
+        Some(dialect) => Ok(dialect),
+        None => Err(wrong(alloc, DIALECT)),
+    }
+}
+
+// The job of `show` that is given these options.
+fn read_show(alloc: Global, options: &ArgMatches<'_>) -> Result<Job, Usage>
+    ensures asked { IfOk result (IsJobOf (codes "show") (rows_of (found_of options.now))) }
+    ensures refused { IfErr result
+        (IsWrongFor (HasWrongValue (codes "show") (rows_of (found_of options.now)))) }
+    ensures size { IfOk result HasGoodSize }
+{
+    Ok(Job::Show {
+        limits: read_limits(alloc, options)?,
+        objects: has_flag(options, "objects"),
+        pairs: has_flag(options, "pairs"),
+        limit: read_limit(alloc, options)?,
+        require_mark: has_flag(options, "require-mark"),
+    })
+}
+
+// The job of `to-csv` that is given these options.
+fn read_to_csv(alloc: Global, options: &ArgMatches<'_>) -> Result<Job, Usage>
+    ensures asked { IfOk result (IsJobOf (codes "to-csv") (rows_of (found_of options.now))) }
+    ensures refused { IfErr result
+        (IsWrongFor (HasWrongValue (codes "to-csv") (rows_of (found_of options.now)))) }
+    ensures size { IfOk result HasGoodSize }
+{
+    Ok(Job::ToCsv {
+        limits: read_limits(alloc, options)?,
+        dialect: read_dialect(alloc, options)?,
+        limit: read_limit(alloc, options)?,
+        require_mark: has_flag(options, "require-mark"),
+    })
+}
+
 // The schema's path and the batch size that `from-csv` is given.
 fn read_from_csv(alloc: Global, options: &ArgMatches<'_>) -> Result<Job, Usage>
     ensures asked { IfOk result (IsJobOf (codes "from-csv") (rows_of (found_of options.now))) }
@@ -430,6 +297,7 @@ fn read_from_csv(alloc: Global, options: &ArgMatches<'_>) -> Result<Job, Usage>
     Ok(Job::FromCsv {
         schema: String::from_str(alloc, path)?,
         batch,
+        dialect: read_dialect(alloc, options)?,
     })
 }
 
@@ -459,15 +327,8 @@ fn read_job(alloc: Global, name: &str, options: &ArgMatches<'_>) -> Result<Job, 
 {
     match name {
         "check" => read_check(alloc, options),
-        "show" => Ok(Job::Show {
-            limits: read_limits(alloc, options)?,
-            pairs: has_flag(options, "pairs"),
-            require_mark: has_flag(options, "require-mark"),
-        }),
-        "to-csv" => Ok(Job::ToCsv {
-            limits: read_limits(alloc, options)?,
-            require_mark: has_flag(options, "require-mark"),
-        }),
+        "show" => read_show(alloc, options),
+        "to-csv" => read_to_csv(alloc, options),
         "from-csv" => read_from_csv(alloc, options),
         "rewrite" => Ok(Job::Rewrite {
             limits: read_limits(alloc, options)?,

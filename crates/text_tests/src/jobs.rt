@@ -8,7 +8,7 @@ use std::alloc::{AllocError, Global};
 use std::test::Fail;
 
 // The stream of samples/int32.arrows: a schema of 120 bytes, a batch of 160, and the end mark.
-const STREAM: [u8; 288] = [
+pub(crate) const STREAM: [u8; 288] = [
     255, 255, 255, 255, 112, 0, 0, 0, 16, 0, 0, 0, 10, 0, 12, 0, 8, 0, 10, 0, 4, 0, 0, 0, 12, 0, 0,
     0, 16, 0, 0, 0, 4, 0, 1, 0, 8, 0, 8, 0, 0, 0, 4, 0, 8, 0, 0, 0, 4, 0, 0, 0, 1, 0, 0, 0, 16, 0,
     0, 0, 12, 0, 16, 0, 4, 0, 12, 0, 13, 0, 8, 0, 12, 0, 0, 0, 12, 0, 0, 0, 24, 0, 0, 0, 1, 2, 0,
@@ -22,7 +22,7 @@ const STREAM: [u8; 288] = [
 ];
 
 // A schema without fields, in 48 bytes, and a batch. The number of its rows begins at byte 104.
-const EMPTY_ROWS: [u8; 112] = [
+pub(crate) const EMPTY_ROWS: [u8; 112] = [
     255, 255, 255, 255, 40, 0, 0, 0, 16, 0, 0, 0, 10, 0, 12, 0, 8, 0, 10, 0, 4, 0, 0, 0, 12, 0, 0,
     0, 12, 0, 0, 0, 4, 0, 1, 0, 4, 0, 4, 0, 4, 0, 0, 0, 0, 0, 0, 0, 255, 255, 255, 255, 56, 0, 0,
     0, 16, 0, 0, 0, 10, 0, 12, 0, 8, 0, 10, 0, 4, 0, 0, 0, 12, 0, 0, 0, 20, 0, 0, 0, 4, 0, 3, 0, 6,

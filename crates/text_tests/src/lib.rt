@@ -2,6 +2,8 @@
 #![tactic(auto)]
 
 #[cfg(test)]
+mod first_rows;
+#[cfg(test)]
 mod jobs;
 #[cfg(test)]
 mod texts;

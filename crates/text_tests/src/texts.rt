@@ -1,12 +1,13 @@
 //! Texts whose right form is given.
 use csv::ByteRecord;
-use ipc_model::{DateUnit, Row, Schema, TimeUnit};
+use ipc_model::{DateUnit, Items, Row, Schema, Text, TimeUnit, Value};
 use ipc_text::{
-    ShortText, TextFault, check_header, csv_header, csv_record, date_text, fill_row_from_csv,
-    pairs_json, read_bool, read_bytes, read_date, read_int, read_text, read_time, read_timestamp,
-    read_uint, row_from_csv, row_json, schema_from_json, schema_json, time_text, timestamp_text,
+    Dialect, RowShape, ShortText, TextFault, check_header, csv_header, csv_record, date_text,
+    fill_row_from_csv, pairs_json, read_bool, read_bytes, read_date, read_int, read_text,
+    read_time, read_timestamp, read_uint, row_from_csv, row_json, schema_from_json, schema_json,
+    time_text, timestamp_text,
 };
-use std::alloc::Global;
+use std::alloc::{AllocError, Global};
 use std::test::Fail;
 
 // A schema of five columns, and pairs.
@@ -37,6 +38,15 @@ const NESTED: &str = "{\"fields\":[\
 \"nullable\":true,\"type\":[\"utf8\"]}],\
 \"metadata\":[]}";
 
+// Columns whose names are empty, repeated, and of control characters.
+const NAMES: &str = "{\"fields\":[\
+{\"children\":0,\"dictionary\":null,\"metadata\":[],\"name\":\"\",\"nullable\":true,\
+\"type\":[\"bool\"]},\
+{\"children\":0,\"dictionary\":null,\"metadata\":[],\"name\":\"\",\"nullable\":true,\
+\"type\":[\"bool\"]},\
+{\"children\":0,\"dictionary\":null,\"metadata\":[],\"name\":\"\\u0001\\n\",\"nullable\":true,\
+\"type\":[\"bool\"]}],\"metadata\":[]}";
+
 // What is asked under a schema.
 #[derive(Clone, Copy)]
 enum Ask {
@@ -48,9 +58,9 @@ enum Ask {
     Header,
     // Nothing, where the record is that header.
     IsHeader,
-    // The record's row as JSON.
-    Json,
-    // The same, of a row that is read over that of `FIELDS`.
+    // The record's row as JSON, in this shape.
+    Json(RowShape),
+    // The same as an array, of a row that is read over that of `FIELDS`.
     JsonOver,
     // The record's row as a record again.
     Record,
@@ -58,24 +68,35 @@ enum Ask {
 
 // Record 3 as a row.
 fn row_of(alloc: Global, schema: &Schema, fields: &[&[u8]]) -> Result<Row, TextFault> {
-    row_from_csv(alloc, schema, 3, &ByteRecord::from_fields(alloc, fields)?)
+    row_from_csv(
+        alloc,
+        Dialect::standard(),
+        schema,
+        3,
+        &ByteRecord::from_fields(alloc, fields)?,
+    )
 }
 
-fn json_of(alloc: Global, schema: &Schema, fields: &[&[u8]]) -> Result<String, TextFault> {
+fn json_of(
+    alloc: Global,
+    shape: RowShape,
+    schema: &Schema,
+    fields: &[&[u8]],
+) -> Result<String, TextFault> {
     let row = row_of(alloc, schema, fields)?;
-    row_json(alloc, schema, row.as_slice())
+    row_json(alloc, shape, schema, row.as_slice())
 }
 
 fn json_over(alloc: Global, schema: &Schema, fields: &[&[u8]]) -> Result<String, TextFault> {
     let fields = ByteRecord::from_fields(alloc, fields)?;
     let mut row = row_of(alloc, schema, &FIELDS)?;
-    fill_row_from_csv(alloc, schema, 4, &fields, &mut row)?;
-    row_json(alloc, schema, row.as_slice())
+    fill_row_from_csv(alloc, Dialect::standard(), schema, 4, &fields, &mut row)?;
+    row_json(alloc, RowShape::Array, schema, row.as_slice())
 }
 
 fn record_of(alloc: Global, schema: &Schema, fields: &[&[u8]]) -> Result<Vec<u8>, TextFault> {
     let row = row_of(alloc, schema, fields)?;
-    csv_record(alloc, schema, row.as_slice())
+    csv_record(alloc, Dialect::standard(), schema, row.as_slice())
 }
 
 fn judge(alloc: Global, schema: &Schema, fields: &[&[u8]]) -> Result<Vec<u8>, TextFault> {
@@ -94,9 +115,9 @@ fn answer(alloc: Global, schema: &Schema, case: &Case) -> Result<Vec<u8>, TextFa
     match case.ask {
         Ask::Schema => bytes_of(schema_json(alloc, schema)),
         Ask::Pairs => bytes_of(pairs_json(alloc, schema.metadata.as_slice())),
-        Ask::Header => csv_header(alloc, schema),
+        Ask::Header => csv_header(alloc, Dialect::standard(), schema),
         Ask::IsHeader => judge(alloc, schema, case.fields),
-        Ask::Json => bytes_of(json_of(alloc, schema, case.fields)),
+        Ask::Json(shape) => bytes_of(json_of(alloc, shape, schema, case.fields)),
         Ask::JsonOver => bytes_of(json_over(alloc, schema, case.fields)),
         Ask::Record => record_of(alloc, schema, case.fields),
     }
@@ -128,7 +149,7 @@ const FIELDS: [&[u8]; 5] = [
     b"1969-12-31T23:59:59.999999Z",
 ];
 
-const CASES: [Case; 14] = [
+const CASES: [Case; 16] = [
     Case {
         schema: FLAT,
         ask: Ask::Schema,
@@ -189,9 +210,24 @@ const CASES: [Case; 14] = [
     },
     Case {
         schema: FLAT,
-        ask: Ask::Json,
+        ask: Ask::Json(RowShape::Array),
         fields: &FIELDS,
         wanted: Ok("[-7,\"\\\\N\",\"2000-02-29\",\"00ab\",\"1969-12-31T23:59:59.999999Z\"]"),
+    },
+    Case {
+        schema: FLAT,
+        ask: Ask::Json(RowShape::Object),
+        fields: &FIELDS,
+        wanted: Ok(
+            "{\"id\":-7,\"\\\"n\\\"\":\"\\\\N\",\"day\":\"2000-02-29\",\"raw\":\"00ab\",\
+\"at\":\"1969-12-31T23:59:59.999999Z\"}",
+        ),
+    },
+    Case {
+        schema: NAMES,
+        ask: Ask::Json(RowShape::Object),
+        fields: &[b"true", b"false", b"\\N"],
+        wanted: Ok("{\"\":true,\"\":false,\"\\u0001\\n\":null}"),
     },
     Case {
         schema: FLAT,
@@ -207,7 +243,7 @@ const CASES: [Case; 14] = [
     },
     Case {
         schema: FLAT,
-        ask: Ask::Json,
+        ask: Ask::Json(RowShape::Array),
         fields: &[b"-7", b"\\x", b"x", b"00ab", b""],
         wanted: Err(TextFault::BadField {
             record: 3,
@@ -216,7 +252,7 @@ const CASES: [Case; 14] = [
     },
     Case {
         schema: FLAT,
-        ask: Ask::Json,
+        ask: Ask::Json(RowShape::Array),
         fields: &[b"-7", b"\\x", b"x", b"00ab"],
         wanted: Err(TextFault::WrongFieldCount { record: 3 }),
     },
@@ -227,6 +263,36 @@ fn grows_schemas_and_records(rt: HostRuntime) -> Result<(), Fail> {
     for (number, case) in CASES.iter().enumerate() {
         assert!(rt; is_answered(rt.alloc(), case)?, "case {number}");
     }
+    Ok(())
+}
+
+// A row of `NESTED`: a list of two structs, and a text.
+fn nested_row(alloc: Global) -> Result<Row, AllocError> {
+    let first = vec![in alloc; Value::Int(45_296_000_000_007), Value::Int(-5)]?;
+    let second = vec![in alloc; Value::Null, Value::Null]?;
+    let first = Value::Struct(Items::from_vec(first));
+    let structs = vec![in alloc; first, Value::Struct(Items::from_vec(second))]?;
+    let text = Text::from_string(String::from_str(alloc, "x")?);
+    let row = vec![in alloc; Value::List(Items::from_vec(structs)), Value::Text(text)]?;
+    Ok(Items::from_vec(row))
+}
+
+#[test]
+fn objects(rt: HostRuntime) -> Result<(), Fail> {
+    let alloc = rt.alloc();
+    let schema = schema_from_json(alloc, NESTED)?;
+    let text = row_json(
+        alloc,
+        RowShape::Object,
+        &schema,
+        nested_row(alloc)?.as_slice(),
+    )?;
+    let wanted =
+        "{\"l\":[{\"t\":\"12:34:56.000000007\",\"d\":-5},{\"t\":null,\"d\":null}],\"\":\"x\"}";
+    assert!(rt; text.as_str() == wanted);
+    let schema = schema_from_json(alloc, "{\"fields\":[],\"metadata\":[]}")?;
+    let text = row_json(alloc, RowShape::Object, &schema, &[])?;
+    assert!(rt; text.as_str() == "{}");
     Ok(())
 }
 
@@ -320,6 +386,9 @@ fn fields(rt: HostRuntime) {
     assert!(rt; read_int("-9223372036854775808") == Some(i64::MIN) && read_int("-0").is_none());
     assert!(rt; read_uint("18446744073709551615") == Some(u64::MAX));
     assert!(rt; read_bool("false") == Some(false));
-    assert!(rt; read_text(b"\\\\x") == Some(b"\\x".as_slice()) && read_text(b"\\x").is_none());
+    assert!(rt;
+        read_text(Dialect::standard(), b"\\\\x") == Some(b"\\x".as_slice())
+            && read_text(Dialect::standard(), b"\\x").is_none()
+    );
     assert!(rt; matches!(is_read(rt.alloc(), b"00aB", &[0, 171]), Ok(true)));
 }

@@ -1,14 +1,20 @@
 use Rattle.std.proofs.Common.{rules, refl, inl, inr}
+use Rattle.ipc_command.specs.Words.{HasWrongValue}
 use Rattle.ipc_command.proofs.LineWords.{no_text, text_found, wrong_for}
 use Rattle.ipc_command.proofs.words.read_from_csv.Goals as goal
 
 pub returns-in_default-clause-refused : goal.returns-in_default-clause-refused
 returns-in_default-clause-refused c =
-    wrong_for _ c.wrong.ensures (inr (inl (refl, inl (no_text _ _ _ c.get_str.ensures (search rules)))))
+    wrong_for _ c.wrong.ensures (HasWrongValue.path refl (no_text _ _ _ c.get_str.ensures (search rules)))
 
 pub returns-in_default-number_of-clause-refused : goal.returns-in_default-number_of-clause-refused
 returns-in_default-number_of-clause-refused c =
-    wrong_for _ c.wrong-in_default-number_of.ensures (inr (inl (refl, inr (c.number_of.ensures.none (search rules)))))
+    wrong_for _ c.wrong-in_default-number_of.ensures (HasWrongValue.size refl (c.number_of.ensures.none (search rules)))
 
 pub returns-clause-asked : goal.returns-clause-asked
-returns-clause-asked c = (refl, text_found _ _ _ _ c.get_str.ensures (search rules), c.in-Some-number_of.ensures.some)
+returns-clause-asked c = (
+  refl,
+  text_found _ _ _ _ c.get_str.ensures (search rules),
+  c.in-Some-number_of.ensures.some,
+  c.in_ok-read_dialect.ensures.asked,
+)

@@ -1,6 +1,6 @@
 use Rattle.std.proofs.lemmas.Result.{IfOk-weaker}
 use Rattle.ipc_command.proofs.LineWords.{added_subcommand}
-use Rattle.ipc_command.proofs.words.command.Goals as goal
+use Rattle.ipc_command.proofs.command_line.command.Goals as goal
 
 pub returns : goal.returns
 returns c =
