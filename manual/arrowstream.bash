@@ -7,13 +7,13 @@ _arrowstream() {
     "from-csv --schema") compopt -o filenames
       mapfile -t COMPREPLY < <(compgen -f -- "$current")
       return ;;
-    *" --batch"|*" --max-body"|*" --max-metadata"|*" --max-rows") return ;;
+    *" --batch"|*" --delimiter"|*" --limit"|*" --max-body"|*" --max-metadata"|*" --max-rows"|*" --null") return ;;
   esac
   case "${COMP_WORDS[1]}" in
     check) words='--schema --max-metadata --max-body --max-rows --require-mark --help' ;;
-    show) words='--pairs --max-metadata --max-body --max-rows --require-mark --help' ;;
-    to-csv) words='--max-metadata --max-body --max-rows --require-mark --help' ;;
-    from-csv) words='--schema --batch --help' ;;
+    show) words='--objects --pairs --limit --max-metadata --max-body --max-rows --require-mark --help' ;;
+    to-csv) words='--delimiter --null --limit --max-metadata --max-body --max-rows --require-mark --help' ;;
+    from-csv) words='--schema --batch --delimiter --null --help' ;;
     rewrite) words='--max-metadata --max-body --max-rows --require-mark --help' ;;
     help) words='check show to-csv from-csv rewrite' ;;
   esac

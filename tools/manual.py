@@ -98,7 +98,9 @@ def bash(top, pages):
         (page.name, option, value) for page in pages for option, value, _ in page.long_options()
     ]
     paths = "|".join(f'"{name} {option}"' for name, option, value in options if value == "PATH")
-    numbers = "|".join(sorted({f'*" {option}"' for _, option, value in options if value == "N"}))
+    others = "|".join(
+        sorted({f'*" {option}"' for _, option, value in options if value not in (None, "PATH")})
+    )
     cases = [
         f"    {page.name}) words='{' '.join(option for option, _, _ in page.long_options())}' ;;"
         for page in pages
@@ -115,7 +117,7 @@ def bash(top, pages):
             f"    {paths}) compopt -o filenames",
             '      mapfile -t COMPREPLY < <(compgen -f -- "$current")',
             "      return ;;",
-            f"    {numbers}) return ;;",
+            f"    {others}) return ;;",
             "  esac",
             '  case "${COMP_WORDS[1]}" in',
             *cases,
@@ -156,7 +158,7 @@ def zsh_options(page):
     shown = []
     for option, value, text in page.long_options():
         text = text.replace("[", "(").replace("]", ")")
-        message = {None: "", "PATH": ":file:_files"}.get(value, ":number: ")
+        message = {None: "", "PATH": ":file:_files", "N": ":number: "}.get(value, ":text: ")
         shown.append("    " + quoted(f"{option}[{text}]{message}"))
     return f"  {page.name}) _arguments \\\n" + " \\\n".join(shown) + " ;;"
 

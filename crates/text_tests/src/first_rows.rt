@@ -3,23 +3,35 @@ use crate::jobs::{EMPTY_ROWS, STREAM};
 use ipc_model::Limits;
 use ipc_print::{Form, PrintOptions, print};
 use ipc_stream::Memory;
+use ipc_text::{Dialect, RowShape};
 use std::alloc::{AllocError, Global};
 use std::test::Fail;
 
-// A form, a limit, what is printed, and how many bytes of the stream are not read.
-type Case = (Form, Option<u64>, &'static str, usize);
+// What is printed of a stream.
+#[derive(Clone, Copy, Debug)]
+enum Shown {
+    Counts,
+    Arrays,
+    ArraysAndPairs,
+    Objects,
+    Records,
+}
+
+// What is asked for, a limit, what is printed, and how many bytes of the stream are not read.
+type Case = (Shown, Option<u64>, &'static str, usize);
 
 // Of a column with two batches of 3 rows. The stream has 448 bytes, and its mark 8.
-const NUMBERS: [Case; 8] = [
-    (Form::Records, Some(0), "a\n", 328),
-    (Form::Records, Some(2), "a\n1\n\\N\n", 168),
-    (Form::Records, Some(3), "a\n1\n\\N\n3\n", 168),
-    (Form::Records, Some(4), "a\n1\n\\N\n3\n1\n", 8),
-    (Form::Records, Some(6), "a\n1\n\\N\n3\n1\n\\N\n3\n", 8),
-    (Form::Records, Some(7), "a\n1\n\\N\n3\n1\n\\N\n3\n", 0),
-    (Form::Records, None, "a\n1\n\\N\n3\n1\n\\N\n3\n", 0),
+const NUMBERS: [Case; 9] = [
+    (Shown::Records, Some(0), "a\n", 328),
+    (Shown::Records, Some(2), "a\n1\n\\N\n", 168),
+    (Shown::Records, Some(3), "a\n1\n\\N\n3\n", 168),
+    (Shown::Records, Some(4), "a\n1\n\\N\n3\n1\n", 8),
+    (Shown::Records, Some(6), "a\n1\n\\N\n3\n1\n\\N\n3\n", 8),
+    (Shown::Records, Some(7), "a\n1\n\\N\n3\n1\n\\N\n3\n", 0),
+    (Shown::Records, None, "a\n1\n\\N\n3\n1\n\\N\n3\n", 0),
+    (Shown::Objects, Some(2), "{\"a\":1}\n{\"a\":null}\n", 168),
     (
-        Form::Counts,
+        Shown::Counts,
         Some(6),
         "{\"fields\":[{\"children\":0,\"dictionary\":null,\"metadata\":[],\"name\":\"a\",\
 \"nullable\":true,\"type\":[\"int\",32]}],\"metadata\":[]}\n",
@@ -29,33 +41,39 @@ const NUMBERS: [Case; 8] = [
 
 // Of batches without columns, of 3, 0 and 2 rows, in 64 bytes each, and the mark.
 const EMPTY: [Case; 5] = [
-    (Form::Rows { pairs: false }, Some(0), "", 200),
-    (Form::Rows { pairs: false }, Some(2), "[]\n[]\n", 136),
+    (Shown::Arrays, Some(0), "", 200),
+    (Shown::Arrays, Some(2), "[]\n[]\n", 136),
     (
-        Form::Rows { pairs: true },
+        Shown::ArraysAndPairs,
         Some(3),
         "{\"metadata\":[]}\n[]\n[]\n[]\n",
         136,
     ),
     (
-        Form::Rows { pairs: true },
+        Shown::ArraysAndPairs,
         Some(4),
         "{\"metadata\":[]}\n[]\n[]\n[]\n{\"metadata\":[]}\n{\"metadata\":[]}\n[]\n",
         8,
     ),
-    (
-        Form::Rows { pairs: false },
-        Some(u64::MAX),
-        "[]\n[]\n[]\n[]\n[]\n",
-        0,
-    ),
+    (Shown::Arrays, Some(u64::MAX), "[]\n[]\n[]\n[]\n[]\n", 0),
 ];
+
+fn form_of(shown: Shown) -> Form<'static> {
+    let (shape, pairs) = match shown {
+        Shown::Counts => return Form::Counts,
+        Shown::Records => return Form::Records(Dialect::standard()),
+        Shown::Arrays => (RowShape::Array, false),
+        Shown::ArraysAndPairs => (RowShape::Array, true),
+        Shown::Objects => (RowShape::Object, false),
+    };
+    Form::Rows { shape, pairs }
+}
 
 // Whether a stream is printed so.
 fn is_printed(alloc: Global, stream: &[u8], case: Case) -> Result<bool, AllocError> {
-    let (form, limit, wanted, unread) = case;
+    let (shown, limit, wanted, unread) = case;
     let options = PrintOptions {
-        form,
+        form: form_of(shown),
         require_mark: true,
         limit,
     };
@@ -90,7 +108,7 @@ fn first_rows(rt: HostRuntime) -> Result<(), Fail> {
     let cut = is_printed(
         rt.alloc(),
         &STREAM[..280],
-        (Form::Records, Some(1), "a\n1\n", 0),
+        (Shown::Records, Some(1), "a\n1\n", 0),
     )?;
     assert!(rt; cut);
     Ok(())

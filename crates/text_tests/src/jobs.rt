@@ -1,7 +1,8 @@
 //! Jobs of the command between devices that fail at each of their calls in turn.
+ghost use Rattle.std.specs.Prelude.{IfOk};
 ghost use Rattle.ipc_command.specs.Words.{HasGoodSize};
 
-use ipc_command::{Job, run};
+use ipc_command::{CsvDialect, Job, run};
 use ipc_model::Limits;
 use ipc_stream::{Limited, Memory};
 use std::alloc::{AllocError, Global};
@@ -78,11 +79,19 @@ mark 288 bytes 1 batches 3 rows\n",
     (Asked::FromCsv, RECORDS, 10, 1, None),
 ];
 
-fn job_of(alloc: Global, asked: Asked) -> Job
-    ensures { HasGoodSize result }
+// The standard dialect of CSV.
+fn commas(alloc: Global) -> Result<CsvDialect, AllocError> {
+    match CsvDialect::new(b',', String::from_str(alloc, "\\N")?) {
+        Some(dialect) => Ok(dialect),
+        None => Err(AllocError),
+    }
+}
+
+fn job_of(alloc: Global, asked: Asked) -> Result<Job, AllocError>
+    ensures { IfOk result HasGoodSize }
 {
     let limits = Limits::standard();
-    match asked {
+    Ok(match asked {
         Asked::Schema => Job::Schema(limits),
         Asked::Check => Job::Check {
             limits,
@@ -90,11 +99,15 @@ fn job_of(alloc: Global, asked: Asked) -> Job
         },
         Asked::Show => Job::Show {
             limits,
+            objects: false,
             pairs: false,
+            limit: None,
             require_mark: true,
         },
         Asked::ToCsv => Job::ToCsv {
             limits,
+            dialect: commas(alloc)?,
+            limit: None,
             require_mark: true,
         },
         Asked::Rewrite => Job::Rewrite {
@@ -104,8 +117,9 @@ fn job_of(alloc: Global, asked: Asked) -> Job
         Asked::FromCsv => Job::FromCsv {
             schema: String::new(alloc),
             batch: 2,
+            dialect: commas(alloc)?,
         },
-    }
+    })
 }
 
 // A device of which `calls` calls succeed. It moves one byte in each, or any number if none fails.
@@ -126,7 +140,7 @@ fn done(
     let input = limited(Vec::from_slice(alloc, input)?, reads);
     let sink = limited(Vec::new(alloc), writes);
     let mut messages = Memory::new(Vec::new(alloc));
-    let job = job_of(alloc, asked);
+    let job = job_of(alloc, asked)?;
     let (status, _, sink, _) = run(alloc, job, Some(schema), input, sink, &mut messages);
     Ok((
         status,
