@@ -16,11 +16,13 @@ use std::alloc::{AllocError, Global};
 use std::collections::BTreeMap;
 use std::rc::Rc;
 
-/// A number of nodes and a number of buffers.
+/// A position in the nodes and buffers of a record batch (Message.fbs, table RecordBatch).
 #[derive(Clone, Copy, Debug, PartialEq, Eq, Drop)]
-pub(crate) struct Cursor {
-    pub(crate) node: usize,
-    pub(crate) buffer: usize,
+pub struct Cursor {
+    /// The number of nodes before it.
+    pub node: usize,
+    /// The number of buffers before it.
+    pub buffer: usize,
 }
 
 // What a field needs, children included, beside what others need before it.
@@ -40,9 +42,11 @@ fn count_field(field: &Field, before: Cursor) -> Cursor
     count(field.children.as_slice(), below)
 }
 
-/// Returns the nodes and buffers that the fields need, added to `before`.
+/// Returns the position after the nodes and buffers of these fields and their children, if those of
+/// the first field begin at `before` (Arrow Columnar Format, "RecordBatch message"). A field with a
+/// dictionary has the buffers of its indices. It takes no memory.
 #[cycle(count)]
-pub(crate) fn count(fields: &[Field], before: Cursor) -> Cursor
+pub fn count(fields: &[Field], before: Cursor) -> Cursor
     requires nodes { before.node + nodes_in (shape_of fields.now) < 2 ^ 60 }
     requires buffers { before.buffer + buffers_in (shape_of fields.now) < 2 ^ 60 }
     ensures nodes { result.node ≡ before.node + nodes_in (shape_of fields.now) }

@@ -25,6 +25,7 @@ mod validate;
 mod view;
 mod visit;
 
+pub use assign::{Cursor, count};
 pub use batch::{Batch, one_list_of_rows};
 pub use buffers::Buffers;
 pub use cell::{Cell, ListCell, StructCell};

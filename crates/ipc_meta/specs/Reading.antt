@@ -6,6 +6,7 @@ use Rattle.std.specs.Prelude.{Some, Result, Ok, Err}
 use Rattle.ipc_flat.specs.Views.{TableView, table_from, scalar, field}
 use Rattle.ipc_model.specs.Answers.{◌>>=◌}
 use Rattle.ipc_model.specs.Entries.{kind_text}
+use Rattle.ipc_model.specs.declared.limits.Limits.{Limits}
 use Rattle.ipc_model.specs.declared.fault.Fault.{Fault}
 use Rattle.ipc_model.specs.declared.fault.Fault.TheVariants.{TooDeep, Compressed}
 use Rattle.ipc_scalar.specs.Bytes.{int64}
@@ -73,6 +74,14 @@ field_read (suc depth) t left =
       }),
       children.1,
     )
+
+-- the field that a Field table states, read as the only one of a schema under these limits
+abbrev pub only_field : Limits → TableView → Result Field Fault
+only_field limits t = field_read limits.depth t (record {
+    fields = limits.fields;
+    text = limits.text;
+    pairs = limits.pairs;
+  }) >>= λ f. Ok f.0
 
 -- the result, unless there is a BodyCompression table: then the fault Compressed
 abbrev pub when_plain : {X : Type 0} → Option TableView → Result X Fault → Result X Fault

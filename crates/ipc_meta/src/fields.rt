@@ -1,12 +1,13 @@
 ghost use Rattle.std.specs.Prelude.{◌≡◌};
 ghost use Rattle.ipc_model.specs.Answers.{AnswersUnlessOutOfMemory};
 ghost use Rattle.ipc_meta.specs.Reading.{text_read, pair_read, pairs_read, fields_read, field_read};
+ghost use Rattle.ipc_meta.specs.Reading.{only_field};
 
 use crate::budget::Budget;
 use crate::lifted::lifted;
 use crate::types::{read_counted_type, read_dictionary, read_flag};
 use ipc_flat::TableRef;
-use ipc_model::{Fault, Field, Items, Text};
+use ipc_model::{Fault, Field, Items, Limits, Text};
 use std::alloc::Global;
 
 // The text in a field, copied and counted; an absent text is empty.
@@ -115,4 +116,25 @@ fn read_field(
         children,
         metadata,
     })
+}
+
+/// Reads one Field table (Schema.fbs) and all below it, as if it were the only field of a schema.
+/// Use it to find the field for which `read_message` refuses a schema.
+///
+/// Errors: F5, F13 to F19 and F22 as in `read_message`, if this field alone has that fault;
+/// `OutOfMemory` (F37).
+#[tactic(auto, unfolding(crate::specs::Reading::only_field))]
+pub fn read_only_field(
+    alloc: Global,
+    limits: &Limits,
+    table: &TableRef<'_>,
+) -> Result<Field, Fault>
+    ensures { AnswersUnlessOutOfMemory (λ f. f) result (only_field limits.now table.now) }
+{
+    let mut left = Budget {
+        fields: limits.fields,
+        text: limits.text,
+        pairs: limits.pairs,
+    };
+    read_field(alloc, table, limits.depth, &mut left)
 }

@@ -16,6 +16,7 @@ mod types;
 mod version;
 mod write;
 
+pub use fields::read_only_field;
 pub use head::{BatchHead, Head};
 pub use laws::{dictionary_room_by_counts, one_head_per_metadata, room_by_counts};
 pub use message::read_message;
