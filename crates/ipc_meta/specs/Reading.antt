@@ -78,10 +78,10 @@ field_read (suc depth) t left =
 -- the field that a Field table states, read as the only one of a schema under these limits
 abbrev pub only_field : Limits → TableView → Result Field Fault
 only_field limits t = field_read limits.depth t (record {
-    fields = limits.fields;
-    text = limits.text;
-    pairs = limits.pairs;
-  }) >>= λ f. Ok f.0
+  fields = limits.fields;
+  text = limits.text;
+  pairs = limits.pairs;
+}) >>= λ f. Ok f.0
 
 -- the result, unless there is a BodyCompression table: then the fault Compressed
 abbrev pub when_plain : {X : Type 0} → Option TableView → Result X Fault → Result X Fault

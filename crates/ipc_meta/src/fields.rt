@@ -124,11 +124,7 @@ fn read_field(
 /// Errors: F5, F13 to F19 and F22 as in `read_message`, if this field alone has that fault;
 /// `OutOfMemory` (F37).
 #[tactic(auto, unfolding(crate::specs::Reading::only_field))]
-pub fn read_only_field(
-    alloc: Global,
-    limits: &Limits,
-    table: &TableRef<'_>,
-) -> Result<Field, Fault>
+pub fn read_only_field(alloc: Global, limits: &Limits, table: &TableRef<'_>) -> Result<Field, Fault>
     ensures { AnswersUnlessOutOfMemory (λ f. f) result (only_field limits.now table.now) }
 {
     let mut left = Budget {

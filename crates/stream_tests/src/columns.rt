@@ -11,7 +11,7 @@ use ipc_stream::{Batch, Memory, StreamReader, StreamWriter};
 use std::alloc::{AllocError, Global};
 use std::test::Fail;
 
-// How many types there are whose columns are told to fit by how they lie.
+// The number of types whose columns are known to fit by their layout.
 const PLAIN: usize = 10;
 
 // One of these types.

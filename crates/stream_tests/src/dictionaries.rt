@@ -9,11 +9,11 @@ use ipc_model::{Fault, Limits, Table, WriteFault};
 use std::alloc::{AllocError, Global};
 use std::test::Fail;
 
-// A message behind the schema's: the id of the dictionary that it sets, or None of a batch's; and
+// A message after the schema's: the id of the dictionary that it sets, or None of a batch's; and
 // its body.
 type Sent = (Option<i64>, &'static [u8]);
 
-// Batches that are written one after another, and the messages behind the schema's.
+// Batches that are written one after another, and the messages after the schema's.
 struct Script {
     column: Column,
     batches: &'static [Rows<'static>],
@@ -28,7 +28,7 @@ const C: Option<i64> = Some(b'c' as i64);
 
 const D: Option<i64> = Some(b'd' as i64);
 
-// The values of dictionary 7: their offsets, and behind them their bytes.
+// The values of dictionary 7: their offsets, and then their bytes.
 const NONE: Sent = (Some(7), &[0; 8]);
 
 const A_B: Sent = (
@@ -61,7 +61,7 @@ const A_B_C: Sent = (
 
 const SCRIPTS: [Script; 4] = [
     // A dictionary is sent where none was, or where the last one lacks a value. The indices stand
-    // behind a bitmap where there is a null.
+    // after a bitmap where there is a null.
     Script {
         column: Column::Letters,
         batches: &[
@@ -98,7 +98,7 @@ const SCRIPTS: [Script; 4] = [
             (None, &[0, 1, 0, 0, 0, 0, 0, 0, 1, 2, 0, 0, 0, 0, 0, 0]),
         ],
     },
-    // The indices of a list's child stand behind its bitmap and its offsets.
+    // The indices of a list's child come after its bitmap and its offsets.
     Script {
         column: Column::LetterLists,
         batches: &[&[AB, None, BC], &[BC]],
@@ -141,7 +141,7 @@ fn taken(frames: &mut Frames, bytes: &[u8], wanted: Sent) -> Result<usize, Fault
     Ok(if is_wanted(&frame, wanted) { count } else { 0 })
 }
 
-// Whether the messages behind the schema's are the wanted ones, and the end mark.
+// Whether the messages after the schema's are the wanted ones, and the end mark.
 fn are_sent(frames: &mut Frames, bytes: &[u8], wanted: &[Sent]) -> Result<bool, Fault> {
     let (count, _schema) = frames.feed(bytes)?;
     let mut rest = bytes.get(count..).unwrap_or_default();

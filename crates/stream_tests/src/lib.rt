@@ -1,6 +1,6 @@
 //! Tests of streams that need Rust: devices that fail, limits of calls, bytes in pieces, refusals
 //! of the writer, dictionaries that it sends, and what comes after a refusal. What the library
-//! answers to streams stands in `cases/`.
+//! answers to streams is in `cases/`.
 #![tactic(auto)]
 
 #[cfg(test)]

@@ -68,8 +68,8 @@ fn are_wanted(decoder: &mut Decoder, bytes: &[u8], numbers: &[usize]) -> Result<
             if decoder.wants() != number.saturating_sub(missing) {
                 return Ok(false);
             }
-            let behind = bytes.get(taken..).unwrap_or_default();
-            let (count, _) = decoder.feed(behind.get(..1).unwrap_or_default())?;
+            let rest = bytes.get(taken..).unwrap_or_default();
+            let (count, _) = decoder.feed(rest.get(..1).unwrap_or_default())?;
             taken = taken.saturating_add(count);
         }
     }
@@ -129,8 +129,8 @@ fn has_failed(decoder: &mut Decoder, stream: &[u8]) -> bool {
     again == Some(Fault::Failed) && decoder.close() == Err(Fault::Failed)
 }
 
-// Whether a decoder gives so many events, at most 4, and takes so many messages of a stream. After
-// a refused growth it must have failed. Then the result is that refusal.
+// Whether a decoder gives this number of events, at most 4, and takes this number of messages.
+// After a refused growth it must have failed. Then the result is that refusal.
 fn is_fed(alloc: Global, stream: &[u8], (events, messages): (usize, u64)) -> Result<bool, Fault> {
     // With this room each later growth is one of the decoder.
     let mut given = Vec::with_capacity(alloc, 4)?;

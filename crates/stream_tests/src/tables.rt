@@ -30,7 +30,7 @@ pub enum Column {
     LetterLists,
 }
 
-/// The numbers of rows: None stands for null.
+/// The numbers of rows; None is null.
 pub type Rows<'a> = &'a [Option<i64>];
 
 /// The numbers 1, -2 and the greatest of 64 bits.

@@ -1,5 +1,5 @@
 //! What writers refuse, alone and under limits, and what they send all the same: it is what another
-//! writer sends of the rows that are left. What a reader answers under limits stands in `cases/`.
+//! writer sends of the rows that are left. What a reader answers under limits is in `cases/`.
 
 use crate::scripts::{Step, ended, sent, started, stream_of};
 use crate::tables::{AB, BC, CD, Column, NUMBERS, empty};
@@ -21,7 +21,7 @@ struct Script {
 const WIDE: [u64; 7] = [1 << 24, 1 << 20, 1000, 10, 4, 1000, 10];
 
 const SCRIPTS: [Script; 15] = [
-    // A row that doesn't fit is told with the number that it would have, and the others are sent.
+    // A row that doesn't fit is refused with the number that it would have; the others are sent.
     Script {
         limits: WIDE,
         column: Column::Bytes,
@@ -36,7 +36,7 @@ const SCRIPTS: [Script; 15] = [
         told: "",
         same: &[Step::Write(&[])],
     },
-    // Nothing of a batch that is let go goes out, alone or with the next one.
+    // Nothing of a batch that is dropped is sent, alone or with the next one.
     Script {
         limits: WIDE,
         column: Column::Bytes,

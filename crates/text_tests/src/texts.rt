@@ -296,7 +296,7 @@ fn objects(rt: HostRuntime) -> Result<(), Fail> {
     Ok(())
 }
 
-// What has a text that tells a day, a time of day or a point in time.
+// What has a text that names a day, a time of day or a point in time.
 #[derive(Clone, Copy)]
 enum Moment {
     Date(DateUnit),
